@@ -1,0 +1,26 @@
+//! The values that every layer speaks of: rows and texts, sessions, the operator's answers and the
+//! utility's options, and finite maps over them.
+#![tactic(auto)]
+
+/// Bytes, seen as a list.
+pub mod bytes;
+/// What the operator answers.
+pub mod control;
+/// Locks of keys, as they are kept.
+pub mod kept;
+/// Maps from numbers, seen as finite maps.
+pub mod map;
+/// Want of memory.
+pub mod no_memory;
+/// The options of the utility, and what it drains.
+pub mod options;
+/// Rows.
+pub mod row;
+/// Sessions and the classes of their claims.
+pub mod session;
+/// The sets of a volume.
+pub mod set;
+#[cfg(test)]
+mod tests;
+/// The text of a row.
+pub mod text;

@@ -1,0 +1,71 @@
+use crate::bytes::Bytes;
+use crate::map::NumberMap;
+use crate::no_memory::NoMemory;
+use crate::row::Row;
+use crate::text::Text;
+use std::alloc::Global;
+use std::test::Fail;
+
+// A map of these keys, each with ten times itself.
+fn tens(alloc: Global, keys: &[u64]) -> Result<NumberMap<u64>, NoMemory> {
+    let mut map = NumberMap::new(alloc);
+    for &key in keys {
+        map.insert(key, key.wrapping_mul(10))?;
+    }
+    Ok(map)
+}
+
+#[test]
+fn maps_numbers(rt: HostRuntime) -> Result<(), Fail> {
+    let mut map = NumberMap::new(rt.alloc());
+    assert_eq!(rt; (map.len(), map.remove(7)), (0, None));
+    for (key, value, before, len) in [(7, 1, None, 1), (7, 2, Some(1), 1), (u64::MAX, 3, None, 2)] {
+        assert_eq!(rt; map.insert(key, value)?, before, "at {key}");
+        assert_eq!(rt; map.get(key).copied(), Some(value), "at {key}");
+        assert_eq!(rt; map.len(), len, "at {key}");
+    }
+    assert_eq!(rt; map.remove(7), Some(2));
+    assert!(rt; !map.contains_key(7) && map.contains_key(u64::MAX));
+    assert_eq!(rt; (map.remove(7), map.len()), (None, 1));
+    Ok(())
+}
+
+#[test]
+fn retains_keys(rt: HostRuntime) -> Result<(), Fail> {
+    let mut map = tens(rt.alloc(), &[1, 2, 3, 4])?;
+    let odd = 1;
+    map.retain(|key, &value| key % 2 == odd && value < 30);
+    assert_eq!(rt; map.len(), 1);
+    assert_eq!(rt; map.get(1).copied(), Some(10));
+    Ok(())
+}
+
+#[test]
+fn copies_rows(rt: HostRuntime) -> Result<(), Fail> {
+    let row = Row {
+        key: 5,
+        clus: 50,
+        cat: 1,
+        text: Text::new(b"!a~".to_vec(rt.alloc())?),
+    };
+    let copy = row.copy(rt.alloc())?;
+    assert_eq!(rt; (copy.key, copy.clus, copy.cat), (5, 50, 1));
+    assert_eq!(rt; copy.text.as_slice(), b"!a~".as_slice());
+    assert_eq!(rt; copy.text.into_vec().as_slice(), b"!a~".as_slice());
+    Ok(())
+}
+
+#[test]
+fn hands_bytes_back(rt: HostRuntime) -> Result<(), Fail> {
+    let bytes = Bytes::new([0, 255, 10].to_vec(rt.alloc())?);
+    assert_eq!(rt; bytes.as_slice(), [0, 255, 10].as_slice());
+    assert_eq!(rt; bytes.into_vec().as_slice(), [0, 255, 10].as_slice());
+    Ok(())
+}
+
+#[test]
+fn says_what_was_wanting(rt: HostRuntime) -> Result<(), Fail> {
+    let text = format!(in rt.alloc(); "{NoMemory}")?;
+    assert_eq!(rt; text.as_str(), "out of memory");
+    Ok(())
+}
