@@ -1,0 +1,7 @@
+pub mod Calls
+pub mod Capacities
+pub mod Faults
+pub mod Made
+pub mod Moments
+pub mod Pair
+pub mod Told

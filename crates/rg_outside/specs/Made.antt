@@ -1,0 +1,52 @@
+-- Which call was made, by what it answered.
+use Rattle.std.specs.Prelude.{ℕ, ◌≡◌, List, ◌∷◌, Option, Some, None, Result, Ok, Err}
+use Rattle.rg_base.specs.declared.set.Set.{Set}
+use Rattle.rg_outside.specs.Calls.{Call, Read, Wrote, Synced, FailedRead, FailedWrite, FailedSync, Refused, Told}
+use Rattle.rg_outside.specs.declared.source.Failed.{Failed}
+
+-- one call more
+abbrev pub then_call : Told → Call → Told
+then_call told call = record told { calls = call ∷ told.calls }
+
+-- this call was made, where the volume still tells
+abbrev pub Made : Option Told → Call → Option Told → Type 0
+Made old call None = Unit {0}
+Made old call (Some after) = (before : Told) × (old ≡ Some before) × (after ≡ then_call before call)
+
+abbrev pub IsReadCall : Result (Unit {0}) Failed → Call → Type 0
+IsReadCall (Ok x) Read = Unit {0}
+IsReadCall (Err e) FailedRead = Unit {0}
+IsReadCall (Err e) Refused = Unit {0}
+IsReadCall result call = ⊥
+
+abbrev pub IsSyncCall : Result (Unit {0}) Failed → Call → Type 0
+IsSyncCall (Ok x) Synced = Unit {0}
+IsSyncCall (Err e) FailedSync = Unit {0}
+IsSyncCall (Err e) Refused = Unit {0}
+IsSyncCall result call = ⊥
+
+-- a write that failed may leave the old content or the new one to a read, and either to a crash
+abbrev pub IsWriteCall : Result (Unit {0}) Failed → Set → ℕ → List ℕ → Call → Type 0
+IsWriteCall (Ok x) set page bytes (Wrote s p b) = (s ≡ set) × (p ≡ page) × (b ≡ bytes)
+IsWriteCall (Err e) set page bytes (FailedWrite s p b reads) = (s ≡ set) × (p ≡ page) × (b ≡ bytes)
+IsWriteCall (Err e) set page bytes Refused = Unit {0}
+IsWriteCall result set page bytes call = ⊥
+
+-- a call of this kind was made
+abbrev pub MadeOne : (Call → Type 0) → Option Told → Option Told → Type 0
+MadeOne Kind old new = (call : Call) × Kind call × Made old call new
+
+abbrev pub MadeRead : Result (Unit {0}) Failed → Option Told → Option Told → Type 0
+MadeRead result old new = MadeOne (IsReadCall result) old new
+
+abbrev pub MadeWrite : Result (Unit {0}) Failed → Option Told → Set → ℕ → List ℕ → Option Told → Type 0
+MadeWrite result old set page bytes new = MadeOne (IsWriteCall result set page bytes) old new
+
+abbrev pub MadeSync : Result (Unit {0}) Failed → Option Told → Option Told → Type 0
+MadeSync result old new = MadeOne (IsSyncCall result) old new
+
+-- a call that writes this content to this page alone
+abbrev pub WritesOnly : Set → ℕ → List ℕ → Call → Type 0
+WritesOnly set page bytes (Wrote s p b) = (s ≡ set) × (p ≡ page) × (b ≡ bytes)
+WritesOnly set page bytes (FailedWrite s p b reads) = (s ≡ set) × (p ≡ page) × (b ≡ bytes)
+WritesOnly set page bytes call = Unit {0}

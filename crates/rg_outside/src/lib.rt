@@ -1,0 +1,20 @@
+//! What stands outside the engine: where a deck comes from, where a print goes, the volume of pages and
+//! the operator. Each is a trait, whose clauses say what a call may do.
+#![tactic(auto)]
+
+/// An operator behind a pointer.
+pub mod boxed;
+/// What holds of every volume that tells its contents.
+pub mod laws;
+/// Who answers the utility before each step.
+pub mod operator;
+/// Two pages, written and made certain: a worked example.
+pub mod pair;
+/// Where bytes go.
+pub mod sink;
+/// Where bytes come from.
+pub mod source;
+#[cfg(test)]
+mod tests;
+/// The pages of the log and of both copies of the table.
+pub mod volume;

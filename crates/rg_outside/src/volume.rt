@@ -1,0 +1,51 @@
+ghost use Rattle.std.specs.Prelude.{◌≡◌, ◌≤◌, ℕ, Option, OnOk};
+ghost use Rattle.rg_outside.specs.Calls.{Told, read_of};
+ghost use Rattle.rg_outside.specs.Capacities.{Capacities, capacity_of, IsPage};
+ghost use Rattle.rg_outside.specs.Faults.{HasCause};
+ghost use Rattle.rg_outside.specs.Made.{MadeRead, MadeWrite, MadeSync};
+ghost use Rattle.rg_outside.specs.Moments.{IfTold};
+
+use crate::source::Failed;
+use rg_base::set::Set;
+
+/// The pages of the log and of both copies of the table. The pages of a set are numbered from 1 to its
+/// capacity, which never changes. A page has 4,096 bytes.
+pub trait Volume {
+    /// How many pages each set has.
+    ghost capacities: { Self → Capacities };
+
+    /// The contents when the volume was made and the calls since, where they are told.
+    ghost told: { Self → Option Told };
+
+    /// How often a call has failed. It stands still at 2 ^ 64 - 1.
+    ghost faults: { Self → ℕ };
+
+    /// How many pages the set has. It is no call of the device.
+    fn capacity(&self, set: Set) -> u32
+        ensures { result ≡ capacity_of (capacities self.now) set };
+
+    /// Reads a page. Where the contents are told, it is the page as it reads.
+    fn read(&mut self, set: Set, page: u32, into: &mut [u8; 4096]) -> Result<(), Failed>
+        requires { IsPage (capacities self.old) set page }
+        ensures made { MadeRead result (told self.old) (told self.new) }
+        ensures content { OnOk result (IfTold (told self.new) (λ t. into.new ≡ read_of t.first t.calls set page)) }
+        ensures capacities { capacities self.new ≡ capacities self.old }
+        ensures cause { HasCause (faults self.old) (faults self.new) result };
+
+    /// Writes a page. One that failed leaves the old content or the new one, and a crash may leave either;
+    /// or it was refused whole.
+    fn write(&mut self, set: Set, page: u32, from: &[u8; 4096]) -> Result<(), Failed>
+        requires { IsPage (capacities self.old) set page }
+        ensures made { MadeWrite result (told self.old) set page from.now (told self.new) }
+        ensures capacities { capacities self.new ≡ capacities self.old }
+        ensures cause { HasCause (faults self.old) (faults self.new) result };
+
+    /// Makes certain what is read. One that failed makes nothing certain.
+    fn sync(&mut self) -> Result<(), Failed>
+        ensures made { MadeSync result (told self.old) (told self.new) }
+        ensures capacities { capacities self.new ≡ capacities self.old }
+        ensures cause { HasCause (faults self.old) (faults self.new) result };
+
+    /// What is told has the volume's own capacities.
+    ghost told_capacities: { (volume : Self) → IfTold (told volume) (λ t. t.capacities ≡ capacities volume) };
+}
