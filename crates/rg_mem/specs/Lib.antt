@@ -1,0 +1,6 @@
+pub mod Listed
+pub mod Script
+pub mod Shown
+pub mod Sink
+pub mod Source
+pub mod Tally

@@ -1,0 +1,18 @@
+//! What stands outside the engine, as objects in memory whose states are told: a source and a sink whose
+//! calls fail where they are asked to, an operator with a script, and a volume of pages with its crashes.
+#![tactic(auto)]
+
+// Which calls fail, and how many did.
+mod calls;
+// Calls as a volume keeps them.
+mod noted;
+/// An operator that answers by a script.
+pub mod script;
+/// Sinks that hold the bytes that they are given.
+pub mod sink;
+/// Sources over bytes.
+pub mod source;
+#[cfg(test)]
+mod tests;
+/// A volume of pages.
+pub mod volume;

@@ -1,0 +1,424 @@
+ghost use Rattle.std.specs.Bool.{OnTrue, OnFalse};
+ghost use Rattle.std.specs.Prelude.{◌≡◌, ◌==◌, find, ℕ, ◌≤◌, ◌<◌, ◌^◌, ◌+◌, ◌-◌, [], slice_index_or, ◌∷◌, ◌++◌, length, All, IfOk, OnOk, is_err, IsTrue, vec_len, vec_capacity, ◌↔◌};
+ghost use Rattle.rg_mem.specs.Listed.{writes_needed, noted_write, zero_page};
+
+use crate::noted::Noted;
+use rg_base::no_memory::NoMemory;
+use rg_base::set::Set;
+use rg_outside::source::Failed;
+use rg_outside::volume::Volume;
+use std::alloc::Global;
+
+type Page = [u8; 4096];
+
+/// A call that is to fail, by its number, counted from 1. `written` says that a write leaves its content to a
+/// read all the same.
+#[derive(Clone, Copy, Debug)]
+pub struct Failing {
+    pub call: u64,
+    pub written: bool,
+}
+
+/// A volume in memory. It keeps the list of all its calls, in room for a stated number of calls and of
+/// writes that it takes when it is made. A call past that room fails and is refused whole, and so is every
+/// call after it.
+#[derive(Drop)]
+pub struct MemVolume {
+    log: Vec<Page>,
+    first: Vec<Page>,
+    second: Vec<Page>,
+    calls: Vec<Noted>,
+    writes: Vec<Page>,
+    past: u64,
+    failing: Vec<Failing>,
+    stop: Option<u64>,
+    faults: u64,
+    ghost there: { All (λ call. writes_needed call ≤ length writes.items) calls.items },
+    ghost small_log: { length log.items < 2 ^ 32 },
+    ghost small_first: { length first.items < 2 ^ 32 },
+    ghost small_second: { length second.items < 2 ^ 32 },
+}
+
+impl MemVolume {
+    ghost use Rattle.rg_outside.specs.Calls.{Call, Read, Synced, Wrote, FailedRead, FailedSync, FailedWrite, Refused, effect_of, read_after, read_of, left_after, left_of};
+    ghost use Rattle.rg_outside.specs.Capacities.{IsPage, capacity_of};
+    ghost use Rattle.rg_outside.specs.Faults.{Rose};
+    ghost use Rattle.rg_outside.specs.Made.{Made};
+    ghost use Rattle.rg_outside.specs.Moments.{IsImage};
+    ghost use Rattle.rg_mem.specs.Listed.{call_of, calls_of, image_of, write_call, content_at, zero_page};
+    ghost use Rattle.rg_mem.specs.Shown.{capacities_of, shown, told_of, has_room, fault_of, IsFresh, HoldsPages, Keeps, KeepsAs};
+
+    /// A volume of zero pages, with room for so many calls and writes. After `stop` calls all fail, and leave
+    /// the old content to a read.
+    pub fn new(
+        alloc: Global,
+        log: u32,
+        first: u32,
+        second: u32,
+        calls: u32,
+        writes: u32,
+        failing: &[Failing],
+        stop: Option<u64>,
+    ) -> Result<MemVolume, NoMemory>
+        ensures capacities { IfOk result (λ v. capacities_of v ≡ record { log = log; first = first; second = second }) }
+        ensures fresh { IfOk result IsFresh }
+        ensures keeps { IfOk result (Keeps calls writes failing.now stop) }
+        ensures zero { IfOk result (λ v. HoldsPages v (λ set page. zero_page)) }
+    {
+        Ok(MemVolume {
+            log: zero_pages(alloc, log)?,
+            first: zero_pages(alloc, first)?,
+            second: zero_pages(alloc, second)?,
+            calls: Vec::with_capacity(alloc, calls as usize)?,
+            writes: Vec::with_capacity(alloc, writes as usize)?,
+            past: 0,
+            failing: failing.to_vec(alloc)?,
+            stop,
+            faults: 0,
+        })
+    }
+
+    /// What a crash leaves: a volume of the same room without failing calls. Page p holds, of the contents
+    /// that a crash may leave it, numbered from 0 with the oldest first, the one numbered `pick + p`, counted
+    /// round.
+    pub fn crash(&self, pick: u64) -> Result<MemVolume, NoMemory>
+        ensures capacities { IfOk result (λ v. capacities_of v ≡ capacities_of self.now) }
+        ensures fresh { IfOk result IsFresh }
+        ensures keeps { IfOk result (Keeps (vec_capacity self.now.calls) (vec_capacity self.now.writes) [] None) }
+        ensures picked { IfOk result (λ v. HoldsPages v (λ set page. content_at (left_of (shown self.now).first (shown self.now).calls set page) (pick + page))) }
+        ensures image { IfOk result (λ v. IsImage (shown self.now) (shown v).first) }
+    {
+        let alloc = *self.calls.allocator();
+        Ok(MemVolume {
+            log: self.picked(alloc, Set::Log, pick)?,
+            first: self.picked(alloc, Set::First, pick)?,
+            second: self.picked(alloc, Set::Second, pick)?,
+            calls: Vec::with_capacity(alloc, self.calls.capacity())?,
+            writes: Vec::with_capacity(alloc, self.writes.capacity())?,
+            past: 0,
+            failing: Vec::new(alloc),
+            stop: None,
+            faults: 0,
+        })
+    }
+
+    // The pages of a set that a crash leaves.
+    fn picked(&self, alloc: Global, set: Set, pick: u64) -> Result<Vec<Page>, NoMemory>
+        ensures len { IfOk result (λ pages. length pages.items ≡ capacity_of (capacities_of self.now) set) }
+        ensures each { IfOk result (λ pages. (page : ℕ) → IsPage (capacities_of self.now) set page →
+            slice_index_or pages.items (page - 1) [] ≡ content_at (left_of (shown self.now).first (shown self.now).calls set page) (pick + page)) }
+    {
+        let mut pages = Vec::new(alloc);
+        for n in 0..self.capacity(set) {
+            pages.push(self.pick(alloc, set, n + 1, pick)?)?;
+        }
+        Ok(pages)
+    }
+
+    fn pick(&self, alloc: Global, set: Set, page: u32, pick: u64) -> Result<Page, NoMemory>
+        requires { IsPage (capacities_of self.now) set page }
+        ensures { IfOk result (λ bytes. bytes ≡ content_at (left_of (shown self.now).first (shown self.now).calls set page) (pick + page)) }
+    {
+        let left = self.left(alloc, set, page)?;
+        let n = (pick as u128 + page as u128) % left.len() as u128;
+        Ok(left[n as usize])
+    }
+
+    // The page as it reads: the newest write that a read gives, or the content from the beginning.
+    fn content(&self, set: Set, page: u32) -> &Page
+        requires { IsPage (capacities_of self.now) set page }
+        ensures { result.now ≡ read_of (image_of self.now.log.items self.now.first.items self.now.second.items) (calls_of self.now.writes.items self.now.calls.items) set page }
+    {
+        let mut n = self.calls.len();
+        while n > 0 {
+            n -= 1;
+            match self.calls[n] {
+                Noted::Wrote {
+                    set: s,
+                    page: p,
+                    at,
+                }
+                | Noted::FailedWrite {
+                    set: s,
+                    page: p,
+                    at,
+                    reads: true,
+                } => {
+                    if s == set && p == page {
+                        return &self.writes[at];
+                    }
+                }
+                _ => {}
+            }
+        }
+        match set {
+            Set::Log => &self.log[page as usize - 1],
+            Set::First => &self.first[page as usize - 1],
+            Set::Second => &self.second[page as usize - 1],
+        }
+    }
+
+    // The contents that a crash may leave a page, the oldest first.
+    fn left(&self, alloc: Global, set: Set, page: u32) -> Result<Vec<Page>, NoMemory>
+        requires { IsPage (capacities_of self.now) set page }
+        ensures left { IfOk result (λ left. left.items ≡ left_of (image_of self.now.log.items self.now.first.items self.now.second.items) (calls_of self.now.writes.items self.now.calls.items) set page) }
+        ensures some { IfOk result (λ left. 0 < vec_len left) }
+    {
+        let mut read = match set {
+            Set::Log => self.log[page as usize - 1],
+            Set::First => self.first[page as usize - 1],
+            Set::Second => self.second[page as usize - 1],
+        };
+        let mut left = Vec::new(alloc);
+        left.push(read)?;
+        for call in &self.calls {
+            self.follow(call, set, page, &mut left, &mut read)?;
+        }
+        Ok(left)
+    }
+
+    // What one more call makes of the contents that a crash may leave, and of the one that reads.
+    fn follow(
+        &self,
+        call: &Noted,
+        set: Set,
+        page: u32,
+        left: &mut Vec<Page>,
+        read: &mut Page,
+    ) -> Result<(), NoMemory>
+        requires { writes_needed call.now ≤ length self.now.writes.items }
+        ensures left { OnOk result (left.new.items ≡ left_after (effect_of (call_of self.now.writes.items call.now)) left.old.items read.old set page) }
+        ensures read { OnOk result (read.new ≡ read_after (effect_of (call_of self.now.writes.items call.now)) read.old set page) }
+    {
+        match call {
+            Noted::Wrote {
+                set: s,
+                page: p,
+                at,
+            } => {
+                if *s == set && *p == page {
+                    left.push(self.writes[*at])?;
+                    *read = self.writes[*at];
+                }
+                Ok(())
+            }
+            Noted::FailedWrite {
+                set: s,
+                page: p,
+                at,
+                reads,
+            } => {
+                if *s == set && *p == page {
+                    left.push(self.writes[*at])?;
+                    if *reads {
+                        *read = self.writes[*at];
+                    }
+                }
+                Ok(())
+            }
+            Noted::Synced => {
+                left.clear();
+                left.push(*read)?;
+                Ok(())
+            }
+            Noted::Read | Noted::FailedRead | Noted::FailedSync => Ok(()),
+        }
+    }
+
+    // There is room for one more call.
+    fn has_room(&self) -> bool
+        ensures room { IsTrue result ↔ ((self.now.past ≡ 0) × (vec_len self.now.calls < vec_capacity self.now.calls)) }
+        ensures value { result ≡ has_room self.now }
+    {
+        self.past == 0 && self.calls.len() < self.calls.capacity()
+    }
+
+    // How the next call is to fail, if it is.
+    fn fault(&self) -> Option<Failing>
+        ensures { result ≡ fault_of self.now }
+    {
+        let number = self.calls.len() as u64 + 1;
+        match self.stop {
+            Some(last) if last < number => Some(Failing {
+                call: number,
+                written: false,
+            }),
+            _ => failing_at(&self.failing, number),
+        }
+    }
+
+    // Keeps a call that writes nothing new.
+    fn note(&mut self, call: Noted)
+        requires past { self.old.past ≡ 0 }
+        requires room { vec_len self.old.calls < vec_capacity self.old.calls }
+        requires there { writes_needed call ≤ length self.old.writes.items }
+        ensures made { Made (told_of self.old) (call_of self.old.writes.items call) (told_of self.new) }
+        ensures capacities { capacities_of self.new ≡ capacities_of self.old }
+        ensures keeps { KeepsAs self.old self.new }
+        ensures faults { self.new.faults ≡ self.old.faults }
+    {
+        self.calls.push_reserved(call);
+    }
+
+    // Keeps a write with its bytes.
+    fn note_write(&mut self, set: Set, page: u32, from: &Page, fault: Option<Failing>)
+        requires past { self.old.past ≡ 0 }
+        requires room { vec_len self.old.calls < vec_capacity self.old.calls }
+        requires write_room { vec_len self.old.writes < vec_capacity self.old.writes }
+        ensures made { Made (told_of self.old) (write_call set page from.now fault) (told_of self.new) }
+        ensures capacities { capacities_of self.new ≡ capacities_of self.old }
+        ensures keeps { KeepsAs self.old self.new }
+        ensures faults { self.new.faults ≡ self.old.faults }
+    {
+        let at = self.writes.len();
+        self.writes.push_reserved(*from);
+        self.calls.push_reserved(noted_write(set, page, at, fault));
+    }
+
+    // A call past the room.
+    fn refuse(&mut self)
+        ensures made { Made (told_of self.old) Refused (told_of self.new) }
+        ensures capacities { capacities_of self.new ≡ capacities_of self.old }
+        ensures keeps { KeepsAs self.old self.new }
+        ensures later { self.old.faults ≤ self.new.faults }
+        ensures rose { Rose self.old.faults self.new.faults }
+    {
+        self.raise();
+        if self.past < u64::MAX {
+            self.past += 1;
+        }
+    }
+
+    fn raise(&mut self)
+        ensures told { told_of self.new ≡ told_of self.old }
+        ensures capacities { capacities_of self.new ≡ capacities_of self.old }
+        ensures keeps { KeepsAs self.old self.new }
+        ensures later { self.old.faults ≤ self.new.faults }
+        ensures rose { Rose self.old.faults self.new.faults }
+    {
+        self.faults = self.faults.saturating_add(1);
+    }
+}
+
+impl Volume for MemVolume {
+    ghost use Rattle.rg_outside.specs.Calls.{read_of};
+    ghost use Rattle.rg_outside.specs.Capacities.{IsPage};
+    ghost use Rattle.rg_outside.specs.Faults.{HasCause};
+    ghost use Rattle.rg_outside.specs.Made.{MadeRead, MadeWrite, MadeSync};
+    ghost use Rattle.rg_outside.specs.Moments.{IfTold};
+    ghost use Rattle.rg_mem.specs.Shown.{capacities_of, told_of, own_capacities, fails, write_fails, KeepsAs};
+
+    ghost capacities = { capacities_of };
+
+    ghost told = { told_of };
+
+    ghost faults = { λ m. m.faults };
+
+    fn capacity(&self, set: Set) -> u32 {
+        match set {
+            Set::Log => self.log.len() as u32,
+            Set::First => self.first.len() as u32,
+            Set::Second => self.second.len() as u32,
+        }
+    }
+
+    fn read(&mut self, set: Set, page: u32, into: &mut Page) -> Result<(), Failed>
+        requires { IsPage (capacities_of self.old) set page }
+        ensures made { MadeRead result (told_of self.old) (told_of self.new) }
+        ensures content { OnOk result (IfTold (told_of self.new) (λ t. into.new ≡ read_of t.first t.calls set page)) }
+        ensures capacities { capacities_of self.new ≡ capacities_of self.old }
+        ensures keeps { KeepsAs self.old self.new }
+        ensures cause { HasCause self.old.faults self.new.faults result }
+        ensures exact { is_err result ≡ fails self.old }
+    {
+        if !self.has_room() {
+            self.refuse();
+            return Err(Failed);
+        }
+        if self.fault().is_some() {
+            self.note(Noted::FailedRead);
+            self.raise();
+            return Err(Failed);
+        }
+        *into = *self.content(set, page);
+        self.note(Noted::Read);
+        Ok(())
+    }
+
+    fn write(&mut self, set: Set, page: u32, from: &Page) -> Result<(), Failed>
+        requires { IsPage (capacities_of self.old) set page }
+        ensures made { MadeWrite result (told_of self.old) set page from.now (told_of self.new) }
+        ensures capacities { capacities_of self.new ≡ capacities_of self.old }
+        ensures keeps { KeepsAs self.old self.new }
+        ensures cause { HasCause self.old.faults self.new.faults result }
+        ensures exact { is_err result ≡ write_fails self.old }
+    {
+        if !self.has_room() || self.writes.len() >= self.writes.capacity() {
+            self.refuse();
+            return Err(Failed);
+        }
+        let fault = self.fault();
+        self.note_write(set, page, from, fault);
+        if fault.is_some() {
+            self.raise();
+            return Err(Failed);
+        }
+        Ok(())
+    }
+
+    fn sync(&mut self) -> Result<(), Failed>
+        ensures made { MadeSync result (told_of self.old) (told_of self.new) }
+        ensures capacities { capacities_of self.new ≡ capacities_of self.old }
+        ensures keeps { KeepsAs self.old self.new }
+        ensures cause { HasCause self.old.faults self.new.faults result }
+        ensures exact { is_err result ≡ fails self.old }
+    {
+        if !self.has_room() {
+            self.refuse();
+            return Err(Failed);
+        }
+        if self.fault().is_some() {
+            self.note(Noted::FailedSync);
+            self.raise();
+            return Err(Failed);
+        }
+        self.note(Noted::Synced);
+        Ok(())
+    }
+
+    ghost told_capacities = { own_capacities };
+}
+
+fn zero_pages(alloc: Global, count: u32) -> Result<Vec<Page>, NoMemory>
+    ensures len { IfOk result (λ pages. length pages.items ≡ count) }
+    ensures zero { IfOk result (λ pages. (n : ℕ) → n < count → slice_index_or pages.items n [] ≡ zero_page) }
+{
+    let mut pages = Vec::new(alloc);
+    for _ in 0..count {
+        pages.push([0; 4096])?;
+    }
+    Ok(pages)
+}
+
+fn failing_at(failing: &[Failing], number: u64) -> Option<Failing>
+    ensures { result ≡ find (λ f. f.call == number) failing.now }
+{
+    failing.iter().copied().find(|f| f.call == number)
+}
+
+fn noted_write(set: Set, page: u32, at: usize, fault: Option<Failing>) -> Noted
+    ensures { result ≡ noted_write set page at fault }
+{
+    match fault {
+        None => Noted::Wrote { set, page, at },
+        Some(failing) => Noted::FailedWrite {
+            set,
+            page,
+            at,
+            reads: failing.written,
+        },
+    }
+}
+
+#[cfg(test)]
+mod tests;
