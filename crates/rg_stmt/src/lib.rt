@@ -1,0 +1,11 @@
+//! Statements and their replies, the events of a run and its trace, and the lines of a deck.
+#![tactic(auto)]
+
+/// What happens, and who makes it happen.
+pub mod event;
+/// The lines of a deck.
+pub mod line;
+/// Statements and replies.
+pub mod stmt;
+#[cfg(test)]
+mod tests;

@@ -1,0 +1,32 @@
+use crate::event::{Actor, Entry, Event};
+use crate::stmt::{Reply, Stmt};
+use rg_base::session::Session;
+
+#[test]
+fn makes_entries(rt: HostRuntime) {
+    let opened = Entry::opened(2, 30, 4, 500, 6);
+    let (copy, rows, pages, used) = match opened.event {
+        Event::Opened {
+            copy,
+            rows,
+            pages,
+            used,
+        } => (copy, rows, pages, used),
+        Event::Said { .. } => (0, 0, 0, 0),
+    };
+    assert_eq!(rt; (copy, rows, pages, used), (2, 30, 4, 500));
+    assert_eq!(rt; opened.actor, Actor::System);
+    assert_eq!(rt; (opened.answer, opened.calls), (None, 6));
+
+    let said = Entry::said(Session(1), Stmt::Select(5), Reply::Absent, 7);
+    let is_absent = matches!(
+        said.event,
+        Event::Said {
+            stmt: Stmt::Select(5),
+            reply: Reply::Absent,
+        }
+    );
+    assert!(rt; is_absent);
+    assert_eq!(rt; said.actor, Actor::Session(Session(1)));
+    assert_eq!(rt; (said.answer, said.calls), (None, 7));
+}
