@@ -1,0 +1,9 @@
+pub mod Claims
+pub mod Committed
+pub mod Legal
+pub mod Plain
+pub mod PlainState
+pub mod Possible
+pub mod Run
+pub mod Same
+pub mod State
