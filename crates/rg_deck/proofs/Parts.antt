@@ -1,0 +1,48 @@
+-- Rows, statements and lines, from their words.
+use Rattle.std.proofs.Common.{ℕ, ◌≡◌, ◌≢◌, List, ◌∷◌, ◌++◌, arith, refl, ◌∙◌}
+use Rattle.std.specs.Fmt.{decimal}
+use Rattle.rg_base.specs.Text.{IsText}
+use Rattle.rg_base.specs.declared.row.Row.{Row}
+use Rattle.rg_base.specs.declared.session.Session.{Session}
+use Rattle.rg_stmt.specs.declared.line.Line.{Line}
+use Rattle.rg_stmt.specs.declared.line.Line.TheVariants.{Said}
+use Rattle.rg_stmt.specs.declared.stmt.Stmt.{Stmt}
+use Rattle.rg_stmt.specs.declared.stmt.Stmt.TheVariants.{Insert, Select, Commit}
+use Rattle.rg_deck.specs.Grammar.{IsRow, IsStmt, IsLine, text_word, line_text}
+use Rattle.rg_deck.specs.Reading.{BeginsWithNumber, row_spelling, stmt_spelling}
+use Rattle.rg_deck.proofs.Words.{number_once}
+
+pub no_row_clus : (bytes rest : List ℕ) (key : ℕ) → BeginsWithNumber bytes key rest → ((n : ℕ) (more : List ℕ) → BeginsWithNumber rest n more → ⊥) → (row : Row) → IsRow row → bytes ≢ row_spelling row
+no_row_clus bytes rest key a none row is e =
+    let one = number_once bytes rest _ key row.key a is.key e in
+    none row.clus _ (is.clus, one.1)
+
+pub no_row_cat : (bytes rest after : List ℕ) (key clus : ℕ) → BeginsWithNumber bytes key rest → BeginsWithNumber rest clus after → ((n : ℕ) (more : List ℕ) → BeginsWithNumber after n more → ⊥) → (row : Row) → IsRow row → bytes ≢ row_spelling row
+no_row_cat bytes rest after key clus a b none row is e =
+    let one = number_once bytes rest _ key row.key a is.key e in
+    let two = number_once rest after _ clus row.clus b is.clus one.1 in
+    none row.cat _ (is.cat, two.1)
+
+pub no_row_text : (bytes rest after word : List ℕ) (key clus cat : ℕ) → BeginsWithNumber bytes key rest → BeginsWithNumber rest clus after → BeginsWithNumber after cat word → ((text : List ℕ) → IsText text → word ≢ text_word text) → (row : Row) → IsRow row → bytes ≢ row_spelling row
+no_row_text bytes rest after word key clus cat a b d none row is e =
+    let one = number_once bytes rest _ key row.key a is.key e in
+    let two = number_once rest after _ clus row.clus b is.clus one.1 in
+    let three = number_once after word _ cat row.cat d is.cat two.1 in
+    none row.text is.text three.1
+
+-- a line is its session's number, a space and its statement
+pub line_said : (session : Session) (stmt : Stmt) → line_text (Said session stmt) ≡ decimal session.0 ++ 32 ∷ stmt_spelling stmt
+line_said session (Insert row) = refl
+line_said session (Select key) = refl
+line_said session Commit = refl
+
+pub no_line_number : (bytes : List ℕ) → ((n : ℕ) (rest : List ℕ) → BeginsWithNumber bytes n rest → ⊥) → (line : Line) → IsLine line → bytes ≢ line_text line
+no_line_number bytes none (Said session stmt) is e = none session.0 (stmt_spelling stmt) (omega (arith, is.0), e ∙ line_said session stmt)
+
+pub no_line_session : (bytes rest : List ℕ) (number : ℕ) → BeginsWithNumber bytes number rest → number ≢ 1 → (line : Line) → IsLine line → bytes ≢ line_text line
+no_line_session bytes rest number a other (Said session stmt) is e =
+    other ((number_once bytes rest (stmt_spelling stmt) number session.0 a (omega (arith, is.0)) (e ∙ line_said session stmt)).0 ∙ is.0)
+
+pub no_line_stmt : (bytes rest : List ℕ) (number : ℕ) → BeginsWithNumber bytes number rest → ((stmt : Stmt) → IsStmt stmt → rest ≢ stmt_spelling stmt) → (line : Line) → IsLine line → bytes ≢ line_text line
+no_line_stmt bytes rest number a none (Said session stmt) is e =
+    none stmt is.1 (number_once bytes rest (stmt_spelling stmt) number session.0 a (omega (arith, is.0)) (e ∙ line_said session stmt)).1

@@ -1,0 +1,4 @@
+pub mod Grammar
+pub mod Print
+pub mod Reading
+pub mod Refuses

@@ -1,0 +1,39 @@
+-- What the parts of the reader find.
+use Rattle.std.specs.Prelude.{ℕ, ◌≡◌, ◌≢◌, ◌<◌, ◌^◌, ◌⊎◌, List, [], ◌∷◌, ◌++◌, length, slice_index, Option, None, Some}
+use Rattle.std.specs.Fmt.{decimal}
+use Rattle.std.specs.List.{AllByRecursion, join_with_byte}
+use Rattle.rg_base.specs.declared.row.Row.{Row}
+use Rattle.rg_stmt.specs.declared.stmt.Stmt.{Stmt}
+use Rattle.rg_stmt.specs.declared.line.Line.{Line}
+use Rattle.rg_deck.specs.Grammar.{row_words, stmt_words, deck_text}
+
+-- the bytes have no such byte
+abbrev pub Lacks : ℕ → List ℕ → Type 0
+Lacks mark bytes = AllByRecursion (λ b. b ≢ mark) bytes
+
+-- there is a byte, and no zero stands before another
+abbrev pub IsUnpadded : List ℕ → Type 0
+IsUnpadded word = (0 < length word) × (slice_index word 0 ≡ 48 → length word ≡ 1)
+
+-- a value that the bytes spell, or that they spell none
+abbrev pub Finds : {T : Type 0} → (T → Type 0) → (T → List ℕ) → List ℕ → Option T → Type 0
+Finds IsValue spelling bytes None = (x : _) → IsValue x → bytes ≢ spelling x
+Finds IsValue spelling bytes (Some x) = IsValue x × (bytes ≡ spelling x)
+
+abbrev pub row_spelling : Row → List ℕ
+row_spelling row = join_with_byte 32 (row_words row)
+
+abbrev pub stmt_spelling : Stmt → List ℕ
+stmt_spelling stmt = join_with_byte 32 (stmt_words stmt)
+
+-- the bytes begin with this number and a space, and then come these
+abbrev pub BeginsWithNumber : List ℕ → ℕ → List ℕ → Type 0
+BeginsWithNumber bytes number rest = (number < 2 ^ 64) × (bytes ≡ decimal number ++ 32 ∷ rest)
+
+-- The bytes are a line with its line feed and a rest, or the last line, which lacks it.
+abbrev pub CutsLine : List ℕ → List ℕ → List ℕ → Type 0
+CutsLine bytes line rest = Lacks 10 line × ((bytes ≡ line ++ 10 ∷ rest) ⊎ ((bytes ≡ line) × (rest ≡ [])))
+
+-- The bytes are these lines and a rest. Where no rest is left, the last line may lack its line feed.
+abbrev pub Reads : List ℕ → List Line → List ℕ → Type 0
+Reads bytes lines rest = (bytes ≡ deck_text lines ++ rest) ⊎ ((rest ≡ []) × (bytes ++ 10 ∷ [] ≡ deck_text lines))

@@ -1,0 +1,56 @@
+ghost use Rattle.std.specs.Prelude.{◌≤◌, length, IfOk, IfErr};
+ghost use Rattle.rg_deck.specs.Grammar.{Lines};
+ghost use Rattle.rg_deck.specs.Reading.{CutsLine};
+ghost use Rattle.rg_deck.specs.Refuses.{Refuses};
+
+use crate::line::read_line;
+use crate::word::split_at_byte;
+use rg_stmt::line::Line;
+use std::alloc::Global;
+use thiserror::Error;
+
+/// Why a deck was not read.
+#[derive(Clone, Copy, Debug, PartialEq, Eq, Error)]
+pub enum DeckFault {
+    /// Line `number`, counted from 1, is the first outside the grammar.
+    #[error("line {number} of the deck is outside the grammar")]
+    Line { number: u32 },
+    #[error("out of memory")]
+    NoMemory,
+}
+
+// The first line without its line feed, and what follows.
+fn split_line(bytes: &[u8]) -> (&[u8], &[u8])
+    ensures { CutsLine bytes.now result.0.now result.1.now }
+{
+    match split_at_byte(bytes, b'\n') {
+        Some(parts) => parts,
+        None => (bytes, &[]),
+    }
+}
+
+/// The lines of a deck, in order.
+pub fn read_deck(alloc: Global, bytes: &[u8]) -> Result<Vec<Line>, DeckFault>
+    requires { length bytes.now ≤ 16777216 }
+    ensures lines { IfOk result (λ lines. Lines bytes.now lines.items) }
+    ensures fault { IfErr result (Refuses bytes.now) }
+{
+    let mut lines = Vec::new(alloc);
+    let mut rest = bytes;
+    let mut number: u32 = 0;
+    while !rest.is_empty() {
+        number += 1;
+        let (line, after) = split_line(rest);
+        match read_line(alloc, line) {
+            Err(_) => return Err(DeckFault::NoMemory),
+            Ok(None) => return Err(DeckFault::Line { number }),
+            Ok(Some(line)) => {
+                if lines.push(line).is_err() {
+                    return Err(DeckFault::NoMemory);
+                }
+            }
+        }
+        rest = after;
+    }
+    Ok(lines)
+}

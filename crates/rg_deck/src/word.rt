@@ -1,0 +1,102 @@
+ghost use Rattle.std.specs.Prelude.{ℕ, List, ◌≡◌, ◌≢◌, ◌<◌, ◌^◌, ◌++◌, ◌∷◌, ◌↔◌, MatchOption, SomeIff, IsTrue, IfOk, IfSome, IfNone};
+ghost use Rattle.std.specs.Fmt.{decimal};
+ghost use Rattle.std.specs.Str.Parse.{AllDigits, digits_value};
+ghost use Rattle.rg_base.specs.Text.{IsText};
+ghost use Rattle.rg_deck.specs.Grammar.{text_word, is_dashes};
+ghost use Rattle.rg_deck.specs.Reading.{Lacks, IsUnpadded, Finds, BeginsWithNumber};
+
+use rg_base::no_memory::NoMemory;
+use rg_base::text::{TEXT_LIMIT, Text};
+use std::alloc::Global;
+
+// The bytes before the first `mark`, and those after it.
+pub fn split_at_byte(bytes: &[u8], mark: u8) -> Option<(&[u8], &[u8])>
+    ensures none { IfNone result (Lacks mark bytes.now) }
+    ensures front { IfSome result (λ parts. Lacks mark parts.0.now) }
+    ensures whole { IfSome result (λ parts. bytes.now ≡ parts.0.now ++ mark ∷ parts.1.now) }
+{
+    for (i, byte) in bytes.iter().enumerate() {
+        if *byte == mark {
+            return Some((&bytes[..i], &bytes[i + 1..]));
+        }
+    }
+    None
+}
+
+// The number that digits stand for, where 64 bits hold it.
+#[tactic(auto, using(crate::proofs::Words::value_so_far))]
+fn value_of(digits: &[u8]) -> Option<u64>
+    ensures { SomeIff result (AllDigits 10 digits.now × (digits_value 10 digits.now < 2 ^ 64)) (digits_value 10 digits.now) }
+{
+    let mut value: u64 = 0;
+    for byte in digits {
+        let digit = char::from(*byte).to_digit(10)?;
+        value = value.checked_mul(10)?.checked_add(u64::from(digit))?;
+    }
+    Some(value)
+}
+
+// There is a byte, and no zero stands before another.
+fn is_unpadded(word: &[u8]) -> bool
+    ensures { IsTrue result ↔ IsUnpadded word.now }
+{
+    !word.is_empty() && (word[0] != b'0' || word.len() == 1)
+}
+
+// A number without a sign or a leading zero.
+#[tactic(auto, using(crate::proofs::Words::number_from_value, crate::proofs::Words::no_number_unpadded))]
+pub fn read_number(word: &[u8]) -> Option<u64>
+    ensures { Finds (λ n. n < 2 ^ 64) decimal word.now result }
+{
+    if !is_unpadded(word) {
+        return None;
+    }
+    value_of(word)
+}
+
+// A number and what stands behind the space after it.
+#[tactic(auto, using(crate::proofs::Words::no_number_lacks))]
+pub fn split_number(bytes: &[u8]) -> Option<(u64, &[u8])>
+    ensures none { IfNone result ((n : ℕ) (rest : List ℕ) → BeginsWithNumber bytes.now n rest → ⊥) }
+    ensures found { IfSome result (λ found. BeginsWithNumber bytes.now found.0 found.1.now) }
+{
+    let (word, rest) = split_at_byte(bytes, b' ')?;
+    Some((read_number(word)?, rest))
+}
+
+// The bytes are a text.
+fn is_text(bytes: &[u8]) -> bool
+    ensures { IsTrue result ↔ IsText bytes.now }
+{
+    bytes.len() <= TEXT_LIMIT && bytes.iter().all(|byte| matches!(byte, b'!'..=b'~'))
+}
+
+// Each byte is `-`.
+pub fn is_dashes(bytes: &[u8]) -> bool
+    ensures { result ≡ is_dashes bytes.now }
+{
+    bytes.iter().all(|byte| *byte == b'-')
+}
+
+// The bytes that this word is of: its own, or all but the first where each is `-`.
+#[tactic(auto, using(crate::proofs::Words::dashes_but_one))]
+fn unescape(word: &[u8]) -> Option<&[u8]>
+    ensures none { IfNone result ((text : List ℕ) → word.now ≢ text_word text) }
+    ensures found { IfSome result (λ text. word.now ≡ text_word text.now) }
+{
+    if is_dashes(word) {
+        word.get(1..)
+    } else {
+        Some(word)
+    }
+}
+
+// A text of 0 to 800 bytes.
+pub fn read_text(alloc: Global, word: &[u8]) -> Result<Option<Text>, NoMemory>
+    ensures { IfOk result (Finds IsText text_word word.now) }
+{
+    match unescape(word) {
+        Some(text) if is_text(text) => Ok(Some(Text::new(text.to_vec(alloc)?))),
+        _ => Ok(None),
+    }
+}
