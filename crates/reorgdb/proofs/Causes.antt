@@ -1,0 +1,146 @@
+-- What follows from an answer for each status.
+use Rattle.std.proofs.Common.{◌≡◌, ◌≢◌, ◌<◌, ◌≤◌, ◌⊎◌, inl, inr, ℕ, List, [], ◌∷◌, ◌++◌, Option, Some, None, length, refl, sym, ◌∙◌, ap, subst, arith, append-nil, length-append}
+use Rattle.std.specs.List.{Contains}
+use Rattle.std.specs.Io.KnownBytes.{Consumes, Appends, IsAtEnd}
+use Rattle.rg_deck.specs.Grammar.{Lines}
+use Rattle.rg_outside.specs.Faults.{Rose}
+use Rattle.rg_stmt.specs.declared.event.Entry.{Entry}
+use Rattle.reorgdb.specs.Answer.{Seen, IsPlay, Comes, Answers, output_of}
+use Rattle.reorgdb.specs.Causes.{Plays, ReadsNoDeck, IsDue, GivesDue}
+use Rattle.reorgdb.specs.Reading.{TakesTooMany}
+use Rattle.reorgdb.specs.Refusals.{status_of}
+use Rattle.reorgdb.specs.declared.outcome.Outcome.{Outcome}
+use Rattle.reorgdb.specs.declared.outcome.Outcome.TheVariants.{Played, Words, Deck, Source, Long, NoMemory}
+
+same_outcome : (a b : Outcome) → status_of a ≡ status_of b → a ≡ b
+same_outcome Played Played e = refl
+same_outcome Words Words e = refl
+same_outcome Deck Deck e = refl
+same_outcome Source Source e = refl
+same_outcome Long Long e = refl
+same_outcome NoMemory NoMemory e = refl
+same_outcome _ _ e = absurd (omega arith)
+
+not_four : (a : Outcome) → status_of a ≢ 4
+not_four Played e = omega arith
+not_four Words e = omega arith
+not_four Deck e = omega arith
+not_four Source e = omega arith
+not_four Long e = omega arith
+not_four NoMemory e = omega arith
+
+-- what was read to the end is all that was told
+whole_read : (before after : Option (List ℕ)) (read bytes : List ℕ) → before ≡ Some bytes → Consumes before after read → IsAtEnd after → read ≡ bytes
+whole_read None after read bytes told taken end = absurd (cc (told))
+whole_read (Some all) None read bytes told taken end = absurd taken
+whole_read (Some all) (Some left) read bytes told taken end =
+    let same : all ≡ bytes = cc (told) in
+    sym (append-nil read) ∙ ap (λ rest. read ++ rest) (sym end) ∙ sym taken ∙ same
+
+short_and_long : (read bytes : List ℕ) → read ≡ bytes → length read ≤ 16777216 → 16777216 < length bytes → ⊥
+short_and_long read bytes same short long = let lengths : length read ≡ length bytes = ap length same in omega arith
+
+-- one byte more than the limit is not taken from fewer
+too_many : (before after : Option (List ℕ)) (taken bytes : List ℕ) → before ≡ Some bytes → Consumes before after taken → length taken ≡ 16777217 → length bytes ≤ 16777216 → ⊥
+too_many None after taken bytes told consumed many short = absurd (cc (told))
+too_many (Some all) None taken bytes told consumed many short = absurd consumed
+too_many (Some all) (Some left) taken bytes told consumed many short =
+    let same : all ≡ bytes = cc (told) in
+    let lengths : length all ≡ length (taken ++ left) = ap length consumed in
+    let again : length all ≡ length bytes = ap length same in
+    omega (arith, length-append taken left)
+
+module _ (words : List (List ℕ)) (source source_after sink sink_after : Seen) (status : ℕ) (trace : List Entry) where
+  -- a status but 4 and 8 is the outcome's
+  by_status : (due : Outcome) → status_of due ≢ 8 → status ≡ status_of due → (a : Answers words source source_after sink sink_after status trace)
+      → Comes due words source source_after trace a.print × Appends sink.bytes sink_after.bytes (output_of due a.print)
+  by_status due below is a = elim a.delivered [
+    | inl whole ↦
+        subst (λ o. Comes o words source source_after trace a.print × Appends sink.bytes sink_after.bytes (output_of o a.print))
+        (same_outcome a.outcome due (sym whole.0 ∙ is)) (a.comes, whole.1)
+    | inr front ↦ elim front [ inl failed ↦ absurd (not_four due (sym is ∙ failed.0)) | inr wanted ↦ absurd (below (sym is ∙ wanted.0)) ]
+  ]
+
+  pub plays : Answers words source source_after sink sink_after status trace → status ≡ 0 → Plays source source_after sink sink_after trace
+  plays a is =
+      let (comes, shown) = by_status Played (λ e. omega arith) is a in
+      let (lines, spelled, printed) = comes.3 in
+      record {
+        bytes = comes.1;
+        lines = lines;
+        rows = printed.rows;
+        read = comes.2;
+        spelled = spelled;
+        entries = printed.entries;
+        counted = printed.counted;
+        shown = subst (Appends sink.bytes sink_after.bytes) printed.printed shown;
+      }
+
+  pub no_words : Answers words source source_after sink sink_after status trace → status ≡ 1 → IsPlay words → ⊥
+  no_words a is = (by_status Words (λ e. omega arith) is a).0.0
+
+  pub no_deck : Answers words source source_after sink sink_after status trace → status ≡ 2 → ReadsNoDeck source source_after
+  no_deck a is = let comes = (by_status Deck (λ e. omega arith) is a).0 in (comes.1, comes.2, comes.3.0)
+
+  pub no_source : Answers words source source_after sink sink_after status trace → status ≡ 3 → Rose source.faults source_after.faults
+  no_source a is = (by_status Source (λ e. omega arith) is a).0.1
+
+  pub too_long : Answers words source source_after sink sink_after status trace → status ≡ 7 → TakesTooMany source.bytes source_after.bytes
+  too_long a is = (by_status Long (λ e. omega arith) is a).0.1
+
+  pub no_sink : Answers words source source_after sink sink_after status trace → status ≡ 4 → Rose sink.faults sink_after.faults
+  no_sink a is = elim a.delivered [
+    | inl whole ↦ absurd (not_four a.outcome (sym whole.0 ∙ is))
+    | inr front ↦ elim front [ inl failed ↦ failed.1 | inr wanted ↦ absurd (omega arith) ]
+  ]
+
+  pub other_words : Answers words source source_after sink sink_after status trace → (IsPlay words → ⊥) → Contains (1 ∷ 4 ∷ 8 ∷ []) status
+  other_words a other = elim a.delivered [
+    | inl whole ↦ (0, omega arith, sym (whole.0 ∙ ap status_of (refused a.outcome a.print a.comes)))
+    | inr front ↦ elim front [ inl failed ↦ (1, omega arith, sym failed.0) | inr wanted ↦ (2, omega arith, sym wanted.0) ]
+  ]
+    where
+      refused : (outcome : Outcome) (print : List ℕ) → Comes outcome words source source_after trace print → outcome ≡ Words
+      refused Words print comes = refl
+      refused Played print comes = absurd (other comes.0)
+      refused Deck print comes = absurd (other comes.0)
+      refused Source print comes = absurd (other comes.0)
+      refused Long print comes = absurd (other comes.0)
+      refused NoMemory print comes = absurd (other comes.0)
+
+  -- what comes where nothing fails is what is due, or want of memory
+  due_outcome : (outcome due : Outcome) (bytes print : List ℕ) → source.bytes ≡ Some bytes → IsDue due words bytes → (Rose source.faults source_after.faults → ⊥)
+      → Comes outcome words source source_after trace print → (outcome ≡ due) ⊎ (outcome ≡ NoMemory)
+  due_outcome NoMemory due bytes print told is_due sure comes = inr refl
+  due_outcome Source due bytes print told is_due sure comes = absurd (sure comes.1)
+  due_outcome outcome Source bytes print told is_due sure comes = absurd is_due
+  due_outcome outcome NoMemory bytes print told is_due sure comes = absurd is_due
+  due_outcome Words Words bytes print told is_due sure comes = inl refl
+  due_outcome Words Played bytes print told is_due sure comes = absurd (comes.0 is_due.0)
+  due_outcome Words Deck bytes print told is_due sure comes = absurd (comes.0 is_due.0)
+  due_outcome Words Long bytes print told is_due sure comes = absurd (comes.0 is_due.0)
+  due_outcome Played Words bytes print told is_due sure comes = absurd (is_due comes.0)
+  due_outcome Deck Words bytes print told is_due sure comes = absurd (is_due comes.0)
+  due_outcome Long Words bytes print told is_due sure comes = absurd (is_due comes.0)
+  due_outcome Played Played bytes print told is_due sure comes = inl refl
+  due_outcome Deck Deck bytes print told is_due sure comes = inl refl
+  due_outcome Long Long bytes print told is_due sure comes = inl refl
+  due_outcome Played Deck bytes print told is_due sure comes =
+      absurd (is_due.2 comes.3.0 (subst (λ b. Lines b comes.3.0) (whole_read source.bytes source_after.bytes comes.1 bytes told comes.2.taken comes.2.end) comes.3.1))
+  due_outcome Deck Played bytes print told is_due sure comes =
+      absurd (comes.3.0 is_due.2 (subst (λ b. Lines b is_due.2) (sym (whole_read source.bytes source_after.bytes comes.1 bytes told comes.2.taken comes.2.end)) is_due.3))
+  due_outcome Played Long bytes print told is_due sure comes =
+      absurd (short_and_long comes.1 bytes (whole_read source.bytes source_after.bytes comes.1 bytes told comes.2.taken comes.2.end) comes.2.short is_due.1)
+  due_outcome Deck Long bytes print told is_due sure comes =
+      absurd (short_and_long comes.1 bytes (whole_read source.bytes source_after.bytes comes.1 bytes told comes.2.taken comes.2.end) comes.2.short is_due.1)
+  due_outcome Long Played bytes print told is_due sure comes = absurd (too_many source.bytes source_after.bytes comes.1.0 bytes told comes.1.2 comes.1.1 is_due.1)
+  due_outcome Long Deck bytes print told is_due sure comes = absurd (too_many source.bytes source_after.bytes comes.1.0 bytes told comes.1.2 comes.1.1 is_due.1)
+
+  pub gives_due : Answers words source source_after sink sink_after status trace → GivesDue words source source_after sink sink_after status
+  gives_due a due bytes told is_due sure_source sure_sink = elim a.delivered [
+    | inl whole ↦ elim (due_outcome a.outcome due bytes a.print told is_due sure_source a.comes) [
+      | inl same ↦ inl (whole.0 ∙ ap status_of same)
+      | inr none ↦ inr (whole.0 ∙ ap status_of none)
+    ]
+    | inr front ↦ elim front [ inl failed ↦ absurd (sure_sink failed.1) | inr wanted ↦ inr wanted.0 ]
+  ]

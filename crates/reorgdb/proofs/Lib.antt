@@ -1,0 +1,5 @@
+mod Causes
+mod Deals
+mod Pieces
+mod Plays
+mod Steps

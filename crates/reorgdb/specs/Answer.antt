@@ -1,0 +1,93 @@
+-- What a call of the program comes to, and how its output is given.
+use Rattle.std.specs.Prelude.{ℕ, ◌≡◌, ◌≤◌, ◌⊎◌, false, List, [], ◌∷◌, Option, length, codes}
+use Rattle.std.specs.Io.KnownBytes.{Consumes, Appends, IsAtEnd}
+use Rattle.rg_deck.specs.Grammar.{Lines}
+use Rattle.rg_deck.specs.Print.{print_text}
+use Rattle.rg_deck.specs.declared.print.Close.TheVariants as closes
+use Rattle.rg_outside.specs.Faults.{Rose}
+use Rattle.rg_stmt.specs.declared.event.Entry.{Entry}
+use Rattle.rg_stmt.specs.declared.line.Line.{Line}
+use Rattle.reorgdb.specs.Giving.{GivesFront}
+use Rattle.reorgdb.specs.Played.{TraceOf, TraceOfFront, EndsWithRows}
+use Rattle.reorgdb.specs.Reading.{TakesTooMany}
+use Rattle.reorgdb.specs.Refusals.{status_of, refusal_text}
+use Rattle.reorgdb.specs.declared.outcome.Outcome.{Outcome}
+use Rattle.reorgdb.specs.declared.outcome.Outcome.TheVariants.{Played, Words, Deck, Source, Long, NoMemory}
+
+-- what is told of a source or a sink at one moment: the bytes that it has left or holds, and its count of faults
+pub record Seen : Type 0 where
+  pub bytes : Option (List ℕ)
+  pub faults : ℕ
+
+-- the words are the one word `play`
+abbrev pub IsPlay : List (List ℕ) → Type 0
+IsPlay words = words ≡ codes "play" ∷ []
+
+-- the bytes are no lines
+abbrev pub IsNoDeck : List ℕ → Type 0
+IsNoDeck bytes = (lines : List Line) → Lines bytes lines → ⊥
+
+-- the source was read to its end, and these bytes are not more than the limit
+pub record ReadsDeck (before : Seen) (bytes : List ℕ) (after : Seen) : Type 0 where
+  pub short : length bytes ≤ 16777216
+  pub taken : Consumes before.bytes after.bytes bytes
+  pub end : IsAtEnd after.bytes
+
+-- the trace has an entry for each line, and the print is the trace with the number of committed rows at its end
+pub record PrintsPlayed (lines : List Line) (trace : List Entry) (print : List ℕ) : Type 0 where
+  pub entries : TraceOf lines trace
+  pub rows : ℕ
+  pub counted : EndsWithRows trace rows
+  pub printed : print ≡ print_text trace false (closes.Rows rows)
+
+-- what becomes of lines that were read
+abbrev pub DealsWithLines : List Line → Outcome → List Entry → List ℕ → Type 0
+DealsWithLines lines Played trace print = PrintsPlayed lines trace print
+DealsWithLines lines NoMemory trace print = (trace ≡ []) ⊎ TraceOfFront lines trace
+DealsWithLines lines Words trace print = ⊥
+DealsWithLines lines Deck trace print = ⊥
+DealsWithLines lines Source trace print = ⊥
+DealsWithLines lines Long trace print = ⊥
+
+-- what becomes of bytes that were read
+abbrev pub DealsWithBytes : List ℕ → Outcome → List Entry → List ℕ → Type 0
+DealsWithBytes bytes Played trace print = (lines : List Line) × Lines bytes lines × PrintsPlayed lines trace print
+DealsWithBytes bytes Deck trace print = IsNoDeck bytes × (trace ≡ [])
+DealsWithBytes bytes NoMemory trace print = (trace ≡ []) ⊎ ((lines : List Line) × Lines bytes lines × TraceOfFront lines trace)
+DealsWithBytes bytes Words trace print = ⊥
+DealsWithBytes bytes Source trace print = ⊥
+DealsWithBytes bytes Long trace print = ⊥
+
+-- What each outcome says of the call before its output is given.
+abbrev pub Comes : Outcome → List (List ℕ) → Seen → Seen → List Entry → List ℕ → Type 0
+Comes Played words before after trace print = IsPlay words × (bytes : List ℕ) × ReadsDeck before bytes after × DealsWithBytes bytes Played trace print
+Comes Words words before after trace print = (IsPlay words → ⊥) × (after ≡ before) × (trace ≡ [])
+Comes Deck words before after trace print = IsPlay words × (bytes : List ℕ) × ReadsDeck before bytes after × DealsWithBytes bytes Deck trace print
+Comes Source words before after trace print = IsPlay words × Rose before.faults after.faults × (trace ≡ [])
+Comes Long words before after trace print = IsPlay words × TakesTooMany before.bytes after.bytes × (trace ≡ [])
+Comes NoMemory words before after trace print =
+    IsPlay words × ((trace ≡ []) ⊎ ((bytes : List ℕ) × ReadsDeck before bytes after × DealsWithBytes bytes NoMemory trace print))
+
+-- the whole output
+abbrev pub output_of : Outcome → List ℕ → List ℕ
+output_of Played print = print
+output_of Words print = refusal_text Words
+output_of Deck print = refusal_text Deck
+output_of Source print = refusal_text Source
+output_of Long print = refusal_text Long
+output_of NoMemory print = refusal_text NoMemory
+
+-- The sink has the whole text, and the status is the outcome's. Or it has a front of the text: its count of faults rose and the status is 4, or memory was
+-- wanting and the status is 8.
+abbrev pub Delivers : Outcome → List ℕ → Seen → Seen → ℕ → Type 0
+Delivers outcome text before after status =
+    ((status ≡ status_of outcome) × Appends before.bytes after.bytes text)
+    ⊎ (((status ≡ 4) × Rose before.faults after.faults × GivesFront text before.bytes after.bytes)
+    ⊎ ((status ≡ 8) × GivesFront text before.bytes after.bytes))
+
+-- What a call leaves, by the words, the source and the sink before and after it.
+pub record Answers (words : List (List ℕ)) (source source_after sink sink_after : Seen) (status : ℕ) (trace : List Entry) : Type 0 where
+  pub outcome : Outcome
+  pub print : List ℕ
+  pub comes : Comes outcome words source source_after trace print
+  pub delivered : Delivers outcome (output_of outcome print) sink sink_after status

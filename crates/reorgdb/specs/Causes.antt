@@ -1,0 +1,44 @@
+-- What each status of a call says, and which status is due.
+use Rattle.std.specs.Prelude.{ℕ, ◌≡◌, ◌<◌, ◌≤◌, ◌⊎◌, false, List, Some, length}
+use Rattle.std.specs.Io.KnownBytes.{Appends}
+use Rattle.rg_deck.specs.Grammar.{Lines}
+use Rattle.rg_deck.specs.Print.{print_text}
+use Rattle.rg_deck.specs.declared.print.Close.TheVariants as closes
+use Rattle.rg_outside.specs.Faults.{Rose}
+use Rattle.rg_stmt.specs.declared.event.Entry.{Entry}
+use Rattle.rg_stmt.specs.declared.line.Line.{Line}
+use Rattle.reorgdb.specs.Answer.{Seen, IsPlay, IsNoDeck, ReadsDeck}
+use Rattle.reorgdb.specs.Played.{TraceOf, EndsWithRows}
+use Rattle.reorgdb.specs.Refusals.{status_of}
+use Rattle.reorgdb.specs.declared.outcome.Outcome.{Outcome}
+use Rattle.reorgdb.specs.declared.outcome.Outcome.TheVariants as outcomes
+
+-- Status 0: the source was read to its end, its bytes are lines, the trace is theirs, and the sink holds the print behind what it held.
+pub record Plays (source source_after sink sink_after : Seen) (trace : List Entry) : Type 0 where
+  pub bytes : List ℕ
+  pub lines : List Line
+  pub rows : ℕ
+  pub read : ReadsDeck source bytes source_after
+  pub spelled : Lines bytes lines
+  pub entries : TraceOf lines trace
+  pub counted : EndsWithRows trace rows
+  pub shown : Appends sink.bytes sink_after.bytes (print_text trace false (closes.Rows rows))
+
+-- Status 2: the source was read to its end, and its bytes are no lines.
+abbrev pub ReadsNoDeck : Seen → Seen → Type 0
+ReadsNoDeck before after = (bytes : List ℕ) × ReadsDeck before bytes after × IsNoDeck bytes
+
+-- what is due for these words and these bytes of the source, where nothing fails
+abbrev pub IsDue : Outcome → List (List ℕ) → List ℕ → Type 0
+IsDue outcomes.Played words bytes = IsPlay words × (length bytes ≤ 16777216) × (lines : List Line) × Lines bytes lines
+IsDue outcomes.Words words bytes = IsPlay words → ⊥
+IsDue outcomes.Deck words bytes = IsPlay words × (length bytes ≤ 16777216) × IsNoDeck bytes
+IsDue outcomes.Long words bytes = IsPlay words × (16777216 < length bytes)
+IsDue outcomes.Source words bytes = ⊥
+IsDue outcomes.NoMemory words bytes = ⊥
+
+-- Where source and sink don't fail, the status is the one that is due, or memory was wanting.
+abbrev pub GivesDue : List (List ℕ) → Seen → Seen → Seen → Seen → ℕ → Type 0
+GivesDue words source source_after sink sink_after status =
+    (due : Outcome) (bytes : List ℕ) → source.bytes ≡ Some bytes → IsDue due words bytes → (Rose source.faults source_after.faults → ⊥) → (Rose sink.faults sink_after.faults → ⊥)
+    → (status ≡ status_of due) ⊎ (status ≡ 8)

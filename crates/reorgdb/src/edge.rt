@@ -1,0 +1,202 @@
+ghost use Rattle.std.specs.Prelude.{◌≡◌, ◌<◌, ◌≤◌, length, take, None, IfSome, IfNone, IfOk, IfErr, OnErr};
+ghost use Rattle.std.specs.Io.KnownBytes.{Consumes, Appends, Keeps, IsAtEnd};
+ghost use Rattle.rg_base.specs.declared.control.Command.TheVariants.{Nothing};
+ghost use Rattle.rg_outside.specs.Capacities.{Capacities};
+ghost use Rattle.rg_outside.specs.Faults.{Rose, HasCause, HasGiveCause};
+ghost use Rattle.rg_outside.specs.Told.{Answers, Hands};
+
+use rg_base::control::{Answer, Command};
+use rg_base::set::Set;
+use rg_outside::operator::Operator;
+use rg_outside::sink::{GiveFault, Sink};
+use rg_outside::source::{Failed, Source};
+use rg_outside::volume::Volume;
+use std::io::{ErrorKind, Read, Write};
+
+/// A source over a reader. It tells nothing of its bytes; each call says what it took from a reader that
+/// tells them.
+#[derive(Drop)]
+pub struct ReaderSource<R> {
+    reader: R,
+    faults: u64,
+}
+
+impl<R: Read> ReaderSource<R> {
+    pub fn new(reader: R) -> Self
+        ensures { result ≡ record { reader = reader; faults = 0 } }
+    {
+        ReaderSource { reader, faults: 0 }
+    }
+}
+
+impl<R: Read> Source for ReaderSource<R> {
+    ghost left = { λ _. None };
+
+    ghost faults = { λ s. s.faults };
+
+    fn take(&mut self, into: &mut [u8]) -> Result<usize, Failed>
+        ensures count { IfOk result (λ n. n ≤ length into.old) }
+        ensures taken { IfOk result (λ n. Consumes (R.remaining self.old.reader) (R.remaining self.new.reader) (take n into.new)) }
+        ensures end { IfOk result (λ n. 0 < length into.old → n ≡ 0 → IsAtEnd (R.remaining self.new.reader)) }
+        ensures failed { OnErr result (Keeps (R.remaining self.old.reader) (R.remaining self.new.reader)) }
+        ensures cause { HasCause self.old.faults self.new.faults result }
+    {
+        if let Some(n) = read_through(&mut self.reader, into) {
+            return Ok(n);
+        }
+        self.faults = self.faults.saturating_add(1);
+        Err(Failed)
+    }
+}
+
+// Reads once, and again where a signal came in between.
+fn read_through<R: Read>(reader: &mut R, into: &mut [u8]) -> Option<usize>
+    ensures count { IfSome result (λ n. n ≤ length into.old) }
+    ensures taken { IfSome result (λ n. Consumes (R.remaining reader.old) (R.remaining reader.new) (take n into.new)) }
+    ensures end { IfSome result (λ n. 0 < length into.old → n ≡ 0 → IsAtEnd (R.remaining reader.new)) }
+    ensures failed { IfNone result (Keeps (R.remaining reader.old) (R.remaining reader.new)) }
+{
+    for _ in 0..u64::MAX {
+        match reader.read(into) {
+            Ok(n) => return Some(n),
+            Err(error) if error.kind() == ErrorKind::Interrupted => {}
+            Err(_) => return None,
+        }
+    }
+    None
+}
+
+/// A sink over a writer. It tells nothing of its bytes; each call says what it gave to a writer that tells
+/// them. It takes no memory.
+#[derive(Drop)]
+pub struct WriterSink<W> {
+    writer: W,
+    faults: u64,
+}
+
+impl<W: Write> WriterSink<W> {
+    pub fn new(writer: W) -> Self
+        ensures { result ≡ record { writer = writer; faults = 0 } }
+    {
+        WriterSink { writer, faults: 0 }
+    }
+}
+
+impl<W: Write> Sink for WriterSink<W> {
+    ghost held = { λ _. None };
+
+    ghost faults = { λ s. s.faults };
+
+    fn give(&mut self, from: &[u8]) -> Result<usize, GiveFault>
+        ensures count { IfOk result (λ n. n ≤ length from.now) }
+        ensures kept { IfOk result (λ n. Appends (W.contents self.old.writer) (W.contents self.new.writer) (take n from.now)) }
+        ensures refused { OnErr result (Keeps (W.contents self.old.writer) (W.contents self.new.writer)) }
+        ensures failed { IfErr result (λ fault. fault ≡ GiveFault.Failed) }
+        ensures cause { HasGiveCause self.old.faults self.new.faults (length from.now) result }
+    {
+        let given = write_through(&mut self.writer, from);
+        if let Some(n) = given
+            && (n > 0 || from.is_empty())
+        {
+            return Ok(n);
+        }
+        self.faults = self.faults.saturating_add(1);
+        given.ok_or(GiveFault::Failed)
+    }
+}
+
+// Writes once, and again where a signal came in between.
+fn write_through<W: Write>(writer: &mut W, from: &[u8]) -> Option<usize>
+    ensures count { IfSome result (λ n. n ≤ length from.now) }
+    ensures kept { IfSome result (λ n. Appends (W.contents writer.old) (W.contents writer.new) (take n from.now)) }
+    ensures refused { IfNone result (Keeps (W.contents writer.old) (W.contents writer.new)) }
+{
+    for _ in 0..u64::MAX {
+        match writer.write(from) {
+            Ok(n) => return Some(n),
+            Err(error) if error.kind() == ErrorKind::Interrupted => {}
+            Err(_) => return None,
+        }
+    }
+    None
+}
+
+/// A volume of the sizes that the program will have, each of whose calls fails.
+#[derive(Drop)]
+pub struct AbsentVolume {
+    faults: u64,
+}
+
+impl AbsentVolume {
+    pub fn new() -> Self
+        ensures { result ≡ record { faults = 0 } }
+    {
+        AbsentVolume { faults: 0 }
+    }
+
+    fn fail(&mut self) -> Failed
+        ensures later { self.old.faults ≤ self.new.faults }
+        ensures rose { Rose self.old.faults self.new.faults }
+    {
+        self.faults = self.faults.saturating_add(1);
+        Failed
+    }
+}
+
+impl Volume for AbsentVolume {
+    ghost capacities = { λ _. record { log = 8192; first = 4096; second = 4096 } };
+
+    ghost told = { λ _. None };
+
+    ghost faults = { λ v. v.faults };
+
+    fn capacity(&self, set: Set) -> u32 {
+        match set {
+            Set::Log => 8192,
+            Set::First | Set::Second => 4096,
+        }
+    }
+
+    fn read(&mut self, _set: Set, _page: u32, _into: &mut [u8; 4096]) -> Result<(), Failed>
+        ensures failed { result ≡ Err (record {}) }
+        ensures cause { HasCause self.old.faults self.new.faults result }
+    {
+        Err(self.fail())
+    }
+
+    fn write(&mut self, _set: Set, _page: u32, _from: &[u8; 4096]) -> Result<(), Failed>
+        ensures failed { result ≡ Err (record {}) }
+        ensures cause { HasCause self.old.faults self.new.faults result }
+    {
+        Err(self.fail())
+    }
+
+    fn sync(&mut self) -> Result<(), Failed>
+        ensures failed { result ≡ Err (record {}) }
+        ensures cause { HasCause self.old.faults self.new.faults result }
+    {
+        Err(self.fail())
+    }
+
+    ghost told_capacities = { λ _. tt };
+}
+
+/// An operator that wants nothing, at moment 0 and with an estimate of 0.
+#[derive(Drop)]
+pub struct IdleOperator;
+
+impl Operator for IdleOperator {
+    ghost answers = { λ _. None };
+
+    ghost last = { λ _. None };
+
+    fn ask(&mut self, _left: u64) -> Answer
+        ensures { result ≡ record { now = 0; estimate = 0; command = Nothing } }
+    {
+        Answer {
+            now: 0,
+            estimate: 0,
+            command: Command::Nothing,
+        }
+    }
+}

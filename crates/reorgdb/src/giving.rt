@@ -1,0 +1,31 @@
+ghost use Rattle.std.specs.Prelude.{◌≤◌};
+ghost use Rattle.reorgdb.specs.Giving.{Gives};
+
+use rg_outside::sink::{GiveFault, Sink};
+
+/// How far a text was given.
+#[derive(Clone, Copy, Debug, PartialEq, Eq)]
+pub enum Given {
+    /// The sink has the whole text.
+    Whole,
+    /// The sink failed, or took nothing of what was left. It has a front of the text.
+    Failed,
+    /// Memory was wanting. The sink has a front of the text.
+    NoMemory,
+}
+
+/// Gives a text to a sink, in as many calls as it takes.
+pub fn give_all<K: Sink>(sink: &mut K, text: &[u8]) -> Given
+    ensures gives { Gives text.now (K.held sink.old) (K.held sink.new) (K.faults sink.old) (K.faults sink.new) result }
+    ensures later { K.faults sink.old ≤ K.faults sink.new }
+{
+    let mut rest = text;
+    while !rest.is_empty() {
+        match sink.give(rest) {
+            Ok(0) | Err(GiveFault::Failed) => return Given::Failed,
+            Ok(n) => rest = rest.split_at(n).1,
+            Err(GiveFault::NoMemory) => return Given::NoMemory,
+        }
+    }
+    Given::Whole
+}

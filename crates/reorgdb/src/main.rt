@@ -1,0 +1,53 @@
+//! Plays a deck of statements, read from standard input, and prints every reply.
+#![tactic(auto)]
+
+use edge::{AbsentVolume, IdleOperator, ReaderSource, WriterSink};
+use std::process::ExitCode;
+use std::rt::Env;
+use std::{env, io};
+use top::reorg_main;
+
+/// What stands outside the program.
+mod edge;
+/// Giving the output to the sink.
+mod giving;
+/// What a call comes to.
+mod outcome;
+/// One table in memory, and what it answers.
+mod plain_table;
+/// The run of a deck.
+mod play;
+/// Reading the deck from the source.
+mod reading;
+#[cfg(test)]
+mod tests;
+/// The public call.
+mod top;
+/// A call up to its output.
+mod work;
+
+// The words after the program's name.
+fn words<R: Env + AllocGlobal>(rt: &R) -> io::Result<Vec<String>> {
+    Ok(env::args(rt)?.skip(1).collect(rt.alloc())?)
+}
+
+// Want of memory before the call ends with status 8, as it does within.
+fn main(rt: HostRuntime) -> ExitCode {
+    let alloc = rt.alloc();
+    let Ok(words) = words(&rt) else {
+        return ExitCode::from(8);
+    };
+    let Ok(operator) = Box::new(alloc, IdleOperator) else {
+        return ExitCode::from(8);
+    };
+    let finished = reorg_main(
+        &rt,
+        alloc,
+        &words,
+        &mut ReaderSource::new(rt.stdin()),
+        &mut WriterSink::new(rt.stdout()),
+        AbsentVolume::new(),
+        operator,
+    );
+    ExitCode::from(finished.status)
+}

@@ -1,0 +1,304 @@
+use crate::edge::IdleOperator;
+use crate::top::{Finished, reorg_alone, reorg_main};
+use outside::{BytesSink, BytesSource, CountingVolume, RubbishSource};
+use rg_outside::sink::{GiveFault, Sink};
+use rg_outside::source::Source;
+use std::alloc::{AllocError, Global};
+use std::test::Fail;
+
+mod outside;
+
+const ALL: usize = usize::MAX;
+
+const NEVER: u64 = 0;
+
+const PLAY: [&str; 1] = ["play"];
+
+const FIRST_DECK: &[u8] = b"1 INSERT 5 50 1 abc\n1 SELECT 5\n1 COMMIT\n";
+
+const FIRST_PRINT: &[u8] =
+    b"0 - OPENED copy=1 rows=0 pages=0\n1 1 OK\n2 1 ROW 5 50 1 abc\n3 1 OK\nEND entries=4 rows=1\n";
+
+// The status, the number of entries of the trace, and the number of calls of the volume.
+type Came = (u8, usize, u64);
+
+fn came(finished: Finished<CountingVolume>) -> Came {
+    (
+        finished.status,
+        finished.trace.len(),
+        finished.volume.calls(),
+    )
+}
+
+fn owned(alloc: Global, words: &[&str]) -> Result<Vec<String>, AllocError> {
+    let mut owned = Vec::new(alloc);
+    for word in words {
+        owned.push(String::from_str(alloc, word)?)?;
+    }
+    Ok(owned)
+}
+
+fn call<S: Source, K: Sink>(
+    alloc: Global,
+    words: &[&str],
+    source: &mut S,
+    sink: &mut K,
+) -> Result<Came, AllocError> {
+    let words = owned(alloc, words)?;
+    let operator = Box::new(alloc, IdleOperator)?;
+    let volume = CountingVolume::new();
+    Ok(came(reorg_alone(alloc, &words, source, sink, volume, operator)))
+}
+
+fn whole(alloc: Global, most: usize) -> BytesSink {
+    BytesSink::new(alloc, most, NEVER, GiveFault::Failed)
+}
+
+#[test]
+fn plays_decks(rt: HostRuntime) -> Result<(), Fail> {
+    for (deck, entries, print) in [
+        (
+            b"".as_slice(),
+            1,
+            b"0 - OPENED copy=1 rows=0 pages=0\nEND entries=1 rows=0\n".as_slice(),
+        ),
+        (FIRST_DECK, 4, FIRST_PRINT),
+        (b"1 INSERT 5 50 1 abc\n1 SELECT 5\n1 COMMIT", 4, FIRST_PRINT),
+        (
+            b"1 INSERT 7 1 1 a\n1 INSERT 7 2 2 b\n1 SELECT 7\n1 SELECT 8\n",
+            5,
+            b"0 - OPENED copy=1 rows=0 pages=0\n1 1 OK\n2 1 -803 DUPLICATE\n3 1 ROW 7 1 1 a\n4 1 100 NONE\nEND entries=5 rows=0\n",
+        ),
+        (
+            b"1 INSERT 0 0 0 -\n1 SELECT 0\n1 INSERT 18446744073709551615 18446744073709551615 18446744073709551615 --\n1 SELECT 18446744073709551615\n1 COMMIT\n",
+            6,
+            b"0 - OPENED copy=1 rows=0 pages=0\n1 1 OK\n2 1 ROW 0 0 0 -\n3 1 OK\n4 1 ROW 18446744073709551615 18446744073709551615 18446744073709551615 --\n5 1 OK\nEND entries=6 rows=2\n",
+        ),
+    ] {
+        for (taken, kept) in [(ALL, ALL), (1, ALL), (ALL, 1), (7, 5)] {
+            let mut source = BytesSource::new(deck, taken, NEVER);
+            let mut sink = whole(rt.alloc(), kept);
+            let came = call(rt.alloc(), &PLAY, &mut source, &mut sink)?;
+            assert_eq!(rt; came, (0, entries, 0), "at {deck:?}");
+            assert_eq!(rt; sink.held(), print);
+        }
+    }
+    Ok(())
+}
+
+// A deck that inserts a row, whose text is spelled by so many equal bytes, and selects it.
+fn deck_of(alloc: Global, byte: u8, count: usize) -> Result<Vec<u8>, AllocError> {
+    let mut deck = b"1 INSERT 1 2 3 ".to_vec(alloc)?;
+    for _ in 0..count {
+        deck.push(byte)?;
+    }
+    deck.extend_from_slice(b"\n1 SELECT 1")?;
+    Ok(deck)
+}
+
+#[test]
+fn bounds_words(rt: HostRuntime) -> Result<(), Fail> {
+    for (byte, count, status) in [
+        (b'x', 800, 0),
+        (b'x', 801, 2),
+        (b'-', 801, 0),
+        (b'-', 802, 2),
+    ] {
+        let deck = deck_of(rt.alloc(), byte, count)?;
+        let mut sink = whole(rt.alloc(), ALL);
+        let mut source = BytesSource::new(&deck, ALL, NEVER);
+        let came = call(rt.alloc(), &PLAY, &mut source, &mut sink)?;
+        if status == 0 {
+            assert_eq!(rt; came, (0, 3, 0), "at {count} of {byte}");
+            let mut print = b"0 - OPENED copy=1 rows=0 pages=0\n1 1 OK\n2 1 ROW 1 2 3 ".to_vec(
+                rt.alloc(),
+            )?;
+            for _ in 0..count {
+                print.push(byte)?;
+            }
+            print.extend_from_slice(b"\nEND entries=3 rows=0\n")?;
+            assert_eq!(rt; sink.held(), print.as_slice());
+        } else {
+            assert_eq!(rt; came, (2, 0, 0), "at {count} of {byte}");
+            assert_eq!(rt; sink.held(), b"REFUSED deck\n".as_slice());
+        }
+    }
+    Ok(())
+}
+
+#[test]
+fn refuses(rt: HostRuntime) -> Result<(), Fail> {
+    for (words, deck, most, fails_at, status, output, calls) in [
+        (
+            &[].as_slice(),
+            FIRST_DECK,
+            ALL,
+            NEVER,
+            1,
+            b"REFUSED words\n".as_slice(),
+            0,
+        ),
+        (
+            &["play", "--layout", "wide"].as_slice(),
+            FIRST_DECK,
+            ALL,
+            NEVER,
+            1,
+            b"REFUSED words\n",
+            0,
+        ),
+        (
+            &["plays"].as_slice(),
+            FIRST_DECK,
+            ALL,
+            NEVER,
+            1,
+            b"REFUSED words\n",
+            0,
+        ),
+        (
+            &["play", "play"].as_slice(),
+            FIRST_DECK,
+            ALL,
+            NEVER,
+            1,
+            b"REFUSED words\n",
+            0,
+        ),
+        (
+            &["play"].as_slice(),
+            b"1 SELECT 18446744073709551616\n",
+            ALL,
+            NEVER,
+            2,
+            b"REFUSED deck\n",
+            2,
+        ),
+        (
+            &["play"].as_slice(),
+            FIRST_DECK,
+            ALL,
+            1,
+            3,
+            b"REFUSED source\n",
+            1,
+        ),
+        (
+            &["play"].as_slice(),
+            FIRST_DECK,
+            1,
+            2,
+            3,
+            b"REFUSED source\n",
+            2,
+        ),
+        (
+            &["play"].as_slice(),
+            FIRST_DECK,
+            ALL,
+            2,
+            3,
+            b"REFUSED source\n",
+            2,
+        ),
+    ] {
+        let mut source = BytesSource::new(deck, most, fails_at);
+        let mut sink = whole(rt.alloc(), ALL);
+        let came = call(rt.alloc(), words, &mut source, &mut sink)?;
+        assert_eq!(rt; came, (status, 0, 0), "at {words:?}");
+        assert_eq!(rt; sink.held(), output);
+        assert_eq!(rt; source.calls(), calls);
+    }
+    Ok(())
+}
+
+#[test]
+fn bounds_decks(rt: HostRuntime) -> Result<(), Fail> {
+    for (count, status, output) in [
+        (16_777_216, 2, b"REFUSED deck\n".as_slice()),
+        (16_777_217, 7, b"REFUSED deck long\n"),
+        (16_777_219, 7, b"REFUSED deck long\n"),
+    ] {
+        let mut source = RubbishSource::new(count);
+        let mut sink = whole(rt.alloc(), ALL);
+        let came = call(rt.alloc(), &PLAY, &mut source, &mut sink)?;
+        assert_eq!(rt; came, (status, 0, 0), "at {count}");
+        assert_eq!(rt; sink.held(), output);
+        assert_eq!(rt; source.left(), count.saturating_sub(16_777_217));
+    }
+    Ok(())
+}
+
+#[test]
+fn stops_at_sink(rt: HostRuntime) -> Result<(), Fail> {
+    for (words, most, fails_at, fault, came_to, held) in [
+        (
+            PLAY.as_slice(),
+            0,
+            NEVER,
+            GiveFault::Failed,
+            (4, 4, 0),
+            b"".as_slice(),
+        ),
+        (
+            PLAY.as_slice(),
+            5,
+            2,
+            GiveFault::Failed,
+            (4, 4, 0),
+            b"0 - O",
+        ),
+        (PLAY.as_slice(), ALL, 1, GiveFault::NoMemory, (8, 4, 0), b""),
+        (
+            PLAY.as_slice(),
+            5,
+            3,
+            GiveFault::NoMemory,
+            (8, 4, 0),
+            b"0 - OPENED",
+        ),
+        (
+            ["plays"].as_slice(),
+            0,
+            NEVER,
+            GiveFault::Failed,
+            (4, 0, 0),
+            b"",
+        ),
+        (
+            ["plays"].as_slice(),
+            5,
+            2,
+            GiveFault::Failed,
+            (4, 0, 0),
+            b"REFUS",
+        ),
+    ] {
+        let mut source = BytesSource::new(FIRST_DECK, ALL, NEVER);
+        let mut sink = BytesSink::new(rt.alloc(), most, fails_at, fault);
+        let came = call(rt.alloc(), words, &mut source, &mut sink)?;
+        assert_eq!(rt; came, came_to, "at {most}");
+        assert_eq!(rt; sink.held(), held);
+    }
+    Ok(())
+}
+
+#[test]
+fn first_session(rt: HostRuntime) -> Result<(), Fail> {
+    let words = owned(rt.alloc(), &PLAY)?;
+    let operator = Box::new(rt.alloc(), IdleOperator)?;
+    let mut source = BytesSource::new(FIRST_DECK, ALL, NEVER);
+    let mut sink = whole(rt.alloc(), ALL);
+    let finished = reorg_main(
+        &rt,
+        rt.alloc(),
+        &words,
+        &mut source,
+        &mut sink,
+        CountingVolume::new(),
+        operator,
+    );
+    assert_eq!(rt; came(finished), (0, 4, 0));
+    assert_eq!(rt; sink.held(), FIRST_PRINT);
+    Ok(())
+}
