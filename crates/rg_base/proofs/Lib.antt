@@ -1,1 +1,2 @@
+pub mod FirstView
 pub mod MapView

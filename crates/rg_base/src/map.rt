@@ -3,7 +3,8 @@ ghost use Rattle.std.specs.Prelude.{◌≡◌, ℕ, Bool, OnOk, OnErr, IfOk, Non
 ghost use Rattle.std.specs.Ordering.{nat_cmp};
 ghost use Rattle.std.specs.FinMap as map;
 ghost use Rattle.std.specs.Coded.{coded_ℕ};
-ghost use Rattle.std.specs.Option.{option_copied};
+ghost use Rattle.std.specs.Option.{option_copied, option_map};
+ghost use Rattle.rg_base.specs.First.{IsFirstFrom};
 ghost use Rattle.rg_base.specs.Retained.{Tests, retained};
 
 use crate::no_memory::NoMemory;
@@ -45,6 +46,16 @@ impl<V: Drop> NumberMap<V> {
         ensures { option_copied result ≡ map.get self.now key }
     {
         self.entries.get(&key)
+    }
+
+    /// The entry with the least key at or above `from`. It searches for it, and doesn't walk the keys below.
+    pub fn first_from(&self, from: u64) -> Option<(u64, &V)>
+        ensures { IsFirstFrom self.now from (option_map (λ entry. (entry.0, entry.1.now)) result) }
+    {
+        match self.entries.range(from..).next() {
+            Some((key, value)) => Some((*key, value)),
+            None => None,
+        }
     }
 
     pub fn contains_key(&self, key: u64) -> bool

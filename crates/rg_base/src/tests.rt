@@ -31,6 +31,32 @@ fn maps_numbers(rt: HostRuntime) -> Result<(), Fail> {
 }
 
 #[test]
+fn finds_first_keys(rt: HostRuntime) -> Result<(), Fail> {
+    let map = tens(rt.alloc(), &[7, 3, 9])?;
+    for (from, first) in [
+        (0, Some(3)),
+        (3, Some(3)),
+        (4, Some(7)),
+        (9, Some(9)),
+        (10, None),
+        (u64::MAX, None),
+    ] {
+        assert_eq!(rt;
+            map.first_from(from).map(|(key, _)| key),
+            first,
+            "from {from}"
+        );
+    }
+    let highest = tens(rt.alloc(), &[u64::MAX])?;
+    assert_eq!(rt;
+        highest.first_from(u64::MAX).map(|(key, _)| key),
+        Some(u64::MAX)
+    );
+    assert_eq!(rt; map.first_from(8).map(|(_, &value)| value), Some(90));
+    Ok(())
+}
+
+#[test]
 fn retains_keys(rt: HostRuntime) -> Result<(), Fail> {
     let mut map = tens(rt.alloc(), &[1, 2, 3, 4])?;
     let odd = 1;
