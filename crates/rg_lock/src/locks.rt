@@ -126,7 +126,7 @@ impl Locks {
         None
     }
 
-    /// Drops a session's locks. It takes no memory.
+    /// Drops a session's locks. It takes no memory, and walks the locks of all sessions.
     pub fn end(&mut self, session: Session)
         ensures { self.new ≡ without session self.old }
     {

@@ -1,9 +1,10 @@
 -- What a volume in memory tells.
 use Rattle.std.specs.Prelude.{ℕ, ◌+◌, ◌==◌, ◌&&◌, ◌||◌, not, is_some, find, vec_len, vec_capacity, ◌≡◌, ◌-◌, ◌^◌, nat_lt, Bool, true, false, List, [], ◌++◌, replicate, length, refl, Option, Some, None, if◌then◌else◌}
-use Rattle.rg_outside.specs.Calls.{Image, Told, Refused}
+use Rattle.rg_base.specs.declared.set.Set.{Set}
+use Rattle.rg_outside.specs.Calls.{Image, Call, Read, Synced, FailedRead, FailedSync, Told, Refused}
 use Rattle.rg_outside.specs.Moments.{IfTold, SamePages}
 use Rattle.rg_outside.specs.Capacities.{Capacities}
-use Rattle.rg_mem.specs.Listed.{calls_of, image_of}
+use Rattle.rg_mem.specs.Listed.{calls_of, image_of, write_call}
 use Rattle.rg_mem.specs.declared.volume.Failing.{Failing}
 use Rattle.rg_mem.specs.declared.volume.MemVolume.{MemVolume}
 
@@ -59,6 +60,16 @@ fails m = not (has_room m) || is_some (fault_of m)
 -- the next write fails: likewise, or its bytes are past the room
 abbrev pub write_fails : MemVolume → Bool
 write_fails m = not (has_room m && nat_lt (vec_len m.writes) (vec_capacity m.writes)) || is_some (fault_of m)
+
+-- what the next read, sync or write is told as
+abbrev pub next_read : MemVolume → Call
+next_read m = if has_room m then (if is_some (fault_of m) then FailedRead else Read) else Refused
+
+abbrev pub next_sync : MemVolume → Call
+next_sync m = if has_room m then (if is_some (fault_of m) then FailedSync else Synced) else Refused
+
+abbrev pub next_write : MemVolume → Set → ℕ → List ℕ → Call
+next_write m set page bytes = if has_room m && nat_lt (vec_len m.writes) (vec_capacity m.writes) then write_call set page bytes (fault_of m) else Refused
 
 -- It has room for so many calls and writes, and these calls are to fail: those numbers, and each past the stop.
 pub record Keeps (calls writes : ℕ) (failing : List Failing) (stop : Option ℕ) (m : MemVolume) : Type 0 where

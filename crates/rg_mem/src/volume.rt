@@ -1,5 +1,6 @@
 ghost use Rattle.std.specs.Bool.{OnTrue, OnFalse};
-ghost use Rattle.std.specs.Prelude.{◌≡◌, ◌==◌, find, ℕ, ◌≤◌, ◌<◌, ◌^◌, ◌+◌, ◌-◌, [], slice_index_or, ◌∷◌, ◌++◌, length, All, IfOk, OnOk, is_err, IsTrue, vec_len, vec_capacity, ◌↔◌};
+ghost use Rattle.std.specs.Prelude.{◌≡◌, ◌==◌, find, ℕ, ◌≤◌, ◌<◌, ◌^◌, ◌+◌, ◌-◌, [], slice_index_or, ◌∷◌, ◌++◌, length, All, IfOk, OnOk, is_err, IsTrue, vec_len, vec_capacity, if◌then◌else◌, ◌↔◌};
+ghost use Rattle.rg_mem.specs.Tally.{count_after};
 ghost use Rattle.rg_mem.specs.Listed.{writes_needed, noted_write, zero_page};
 
 use crate::noted::Noted;
@@ -281,6 +282,7 @@ impl MemVolume {
         ensures capacities { capacities_of self.new ≡ capacities_of self.old }
         ensures keeps { KeepsAs self.old self.new }
         ensures later { self.old.faults ≤ self.new.faults }
+        ensures count { self.new.faults ≡ count_after self.old.faults }
         ensures rose { Rose self.old.faults self.new.faults }
     {
         self.raise();
@@ -294,6 +296,7 @@ impl MemVolume {
         ensures capacities { capacities_of self.new ≡ capacities_of self.old }
         ensures keeps { KeepsAs self.old self.new }
         ensures later { self.old.faults ≤ self.new.faults }
+        ensures count { self.new.faults ≡ count_after self.old.faults }
         ensures rose { Rose self.old.faults self.new.faults }
     {
         self.faults = self.faults.saturating_add(1);
@@ -304,9 +307,9 @@ impl Volume for MemVolume {
     ghost use Rattle.rg_outside.specs.Calls.{read_of};
     ghost use Rattle.rg_outside.specs.Capacities.{IsPage};
     ghost use Rattle.rg_outside.specs.Faults.{HasCause};
-    ghost use Rattle.rg_outside.specs.Made.{MadeRead, MadeWrite, MadeSync};
+    ghost use Rattle.rg_outside.specs.Made.{Made, MadeRead, MadeWrite, MadeSync};
     ghost use Rattle.rg_outside.specs.Moments.{IfTold};
-    ghost use Rattle.rg_mem.specs.Shown.{capacities_of, told_of, own_capacities, fails, write_fails, KeepsAs};
+    ghost use Rattle.rg_mem.specs.Shown.{capacities_of, told_of, own_capacities, next_read, next_write, next_sync, fails, write_fails, KeepsAs};
 
     ghost capacities = { capacities_of };
 
@@ -324,10 +327,12 @@ impl Volume for MemVolume {
 
     fn read(&mut self, set: Set, page: u32, into: &mut Page) -> Result<(), Failed>
         requires { IsPage (capacities_of self.old) set page }
+        ensures call { Made (told_of self.old) (next_read self.old) (told_of self.new) }
         ensures made { MadeRead result (told_of self.old) (told_of self.new) }
         ensures content { OnOk result (IfTold (told_of self.new) (λ t. into.new ≡ read_of t.first t.calls set page)) }
         ensures capacities { capacities_of self.new ≡ capacities_of self.old }
         ensures keeps { KeepsAs self.old self.new }
+        ensures count { self.new.faults ≡ (if is_err result then count_after self.old.faults else self.old.faults) }
         ensures cause { HasCause self.old.faults self.new.faults result }
         ensures exact { is_err result ≡ fails self.old }
     {
@@ -347,9 +352,11 @@ impl Volume for MemVolume {
 
     fn write(&mut self, set: Set, page: u32, from: &Page) -> Result<(), Failed>
         requires { IsPage (capacities_of self.old) set page }
+        ensures call { Made (told_of self.old) (next_write self.old set page from.now) (told_of self.new) }
         ensures made { MadeWrite result (told_of self.old) set page from.now (told_of self.new) }
         ensures capacities { capacities_of self.new ≡ capacities_of self.old }
         ensures keeps { KeepsAs self.old self.new }
+        ensures count { self.new.faults ≡ (if is_err result then count_after self.old.faults else self.old.faults) }
         ensures cause { HasCause self.old.faults self.new.faults result }
         ensures exact { is_err result ≡ write_fails self.old }
     {
@@ -367,9 +374,11 @@ impl Volume for MemVolume {
     }
 
     fn sync(&mut self) -> Result<(), Failed>
+        ensures call { Made (told_of self.old) (next_sync self.old) (told_of self.new) }
         ensures made { MadeSync result (told_of self.old) (told_of self.new) }
         ensures capacities { capacities_of self.new ≡ capacities_of self.old }
         ensures keeps { KeepsAs self.old self.new }
+        ensures count { self.new.faults ≡ (if is_err result then count_after self.old.faults else self.old.faults) }
         ensures cause { HasCause self.old.faults self.new.faults result }
         ensures exact { is_err result ≡ fails self.old }
     {

@@ -2,6 +2,7 @@ ghost use Rattle.std.specs.Prelude.{◌≡◌, ◌≤◌};
 ghost use Rattle.rg_outside.specs.Capacities.{IsPage};
 
 use super::*;
+use rg_outside::pair::write_pair;
 use std::test::Fail;
 
 fn page_of(byte: u8) -> Page {
@@ -114,5 +115,15 @@ fn no_room_refuses(rt: HostRuntime) -> Result<(), Fail> {
     let mut left = two.crash(0)?;
     assert_eq!(rt; byte_at(&mut left, Set::Log, 1), Some(1));
     assert_eq!(rt; left.capacity(Set::Log), 1);
+    Ok(())
+}
+
+#[test]
+fn keeps_a_pair(rt: HostRuntime) -> Result<(), Fail> {
+    let mut volume = MemVolume::new(rt.alloc(), 0, 2, 0, 9, 9, &[], None)?;
+    assert!(rt; write_pair(&mut volume, Set::First, 1, &page_of(1), 2, &page_of(2)).is_ok());
+    let mut left = volume.crash(1)?;
+    assert_eq!(rt; byte_at(&mut left, Set::First, 1), Some(1));
+    assert_eq!(rt; byte_at(&mut left, Set::First, 2), Some(2));
     Ok(())
 }
