@@ -1,2 +1,4 @@
+pub mod Dashes
 pub mod FirstView
 pub mod MapView
+pub mod Walk

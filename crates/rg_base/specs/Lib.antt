@@ -1,3 +1,4 @@
 pub mod First
 pub mod Retained
 pub mod Text
+pub mod Words

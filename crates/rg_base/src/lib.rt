@@ -14,6 +14,8 @@ pub mod map;
 pub mod no_memory;
 /// The options of the utility, and what it drains.
 pub mod options;
+/// Places in a copy of the table.
+pub mod place;
 /// Rows.
 pub mod row;
 /// Sessions and the classes of their claims.
@@ -24,3 +26,7 @@ pub mod set;
 mod tests;
 /// The text of a row.
 pub mod text;
+/// What the utility decides.
+pub mod verdict;
+/// The indexes of the table.
+pub mod which;

@@ -1,5 +1,5 @@
 // A map from numbers, seen as a finite map.
-ghost use Rattle.std.specs.Prelude.{◌≡◌, ℕ, Bool, OnOk, OnErr, IfOk, None};
+ghost use Rattle.std.specs.Prelude.{◌≡◌, ℕ, ◌+◌, Bool, OnOk, OnErr, IfOk, None};
 ghost use Rattle.std.specs.Ordering.{nat_cmp};
 ghost use Rattle.std.specs.FinMap as map;
 ghost use Rattle.std.specs.Coded.{coded_ℕ};
@@ -11,6 +11,7 @@ use crate::no_memory::NoMemory;
 use std::alloc::Global;
 use std::collections::BTreeMap;
 use std::marker::Model;
+use std::ops::Bound;
 
 /// A map from numbers to values, in the order of the numbers. It is seen as a finite map.
 #[derive(Drop)]
@@ -53,6 +54,20 @@ impl<V: Drop> NumberMap<V> {
         ensures { IsFirstFrom self.now from (option_map (λ entry. (entry.0, entry.1.now)) result) }
     {
         match self.entries.range(from..).next() {
+            Some((key, value)) => Some((*key, value)),
+            None => None,
+        }
+    }
+
+    /// The entry with the least key above `key`. It searches for it, and doesn't walk the keys below.
+    pub fn first_after(&self, key: u64) -> Option<(u64, &V)>
+        ensures { IsFirstFrom self.now (key + 1) (option_map (λ entry. (entry.0, entry.1.now)) result) }
+    {
+        match self
+            .entries
+            .range((Bound::Excluded(key), Bound::Unbounded))
+            .next()
+        {
             Some((key, value)) => Some((*key, value)),
             None => None,
         }

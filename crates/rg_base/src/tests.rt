@@ -2,7 +2,7 @@ use crate::bytes::Bytes;
 use crate::map::NumberMap;
 use crate::no_memory::NoMemory;
 use crate::row::Row;
-use crate::text::Text;
+use crate::text::{Text, is_dashes};
 use std::alloc::Global;
 use std::test::Fail;
 
@@ -57,6 +57,26 @@ fn finds_first_keys(rt: HostRuntime) -> Result<(), Fail> {
 }
 
 #[test]
+fn finds_keys_behind(rt: HostRuntime) -> Result<(), Fail> {
+    let map = tens(rt.alloc(), &[7, 3, u64::MAX])?;
+    for (key, first) in [
+        (0, Some(3)),
+        (3, Some(7)),
+        (7, Some(u64::MAX)),
+        (u64::MAX - 1, Some(u64::MAX)),
+        (u64::MAX, None),
+    ] {
+        assert_eq!(rt;
+            map.first_after(key).map(|(key, _)| key),
+            first,
+            "behind {key}"
+        );
+    }
+    assert_eq!(rt; map.first_after(3).map(|(_, &value)| value), Some(70));
+    Ok(())
+}
+
+#[test]
 fn retains_keys(rt: HostRuntime) -> Result<(), Fail> {
     let mut map = tens(rt.alloc(), &[1, 2, 3, 4])?;
     let odd = 1;
@@ -94,4 +114,17 @@ fn says_what_was_wanting(rt: HostRuntime) -> Result<(), Fail> {
     let text = format!(in rt.alloc(); "{NoMemory}")?;
     assert_eq!(rt; text.as_str(), "out of memory");
     Ok(())
+}
+
+#[test]
+fn tells_dashes(rt: HostRuntime) {
+    for (bytes, want) in [
+        (b"".as_slice(), true),
+        (b"-".as_slice(), true),
+        (b"--".as_slice(), true),
+        (b"-a".as_slice(), false),
+        (b"a-".as_slice(), false),
+    ] {
+        assert_eq!(rt; is_dashes(bytes), want);
+    }
 }

@@ -1,5 +1,6 @@
 ghost use Rattle.std.specs.Prelude.{◌≡◌, IfOk};
 ghost use Rattle.rg_base.specs.Text.{IsText};
+ghost use Rattle.rg_base.specs.Words.{is_dashes};
 
 use crate::no_memory::NoMemory;
 use std::alloc::Global;
@@ -57,4 +58,11 @@ impl Text {
         let Text { bytes } = self;
         bytes
     }
+}
+
+/// Each byte is `-`, as it is where there is none. A text like this is written with one `-` more.
+pub fn is_dashes(bytes: &[u8]) -> bool
+    ensures { result ≡ is_dashes bytes.now }
+{
+    bytes.iter().all(|byte| *byte == b'-')
 }

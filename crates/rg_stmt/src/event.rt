@@ -1,8 +1,12 @@
 ghost use Rattle.std.specs.Prelude.{◌≡◌};
 
+use crate::layout::{Side, Sides};
 use crate::stmt::{Reply, Stmt};
 use rg_base::control::Answer;
+use rg_base::options::{DrainFor, Options};
 use rg_base::session::Session;
+use rg_base::verdict::{StopReason, Verdict};
+use rg_base::which::Which;
 
 /// Who makes an event.
 #[derive(Clone, Copy, Debug, PartialEq, Eq)]
@@ -28,6 +32,95 @@ pub enum Event {
         stmt: Stmt,
         reply: Reply,
     },
+    /// The utility began, over this copy and so many pages.
+    Started {
+        options: Options,
+        copy: u8,
+        pages: u32,
+    },
+    /// A control statement came while a utility ran.
+    Active,
+    /// The log had no room for the utility: so many bytes were needed, and so many left.
+    StartLogFull {
+        need: u32,
+        left: u32,
+    },
+    /// A control statement came while the engine was down.
+    StartDown,
+    /// Memory was wanting for the utility.
+    StartNoMemory,
+    /// A step, and no utility runs.
+    Idle,
+    /// A step while the engine was down.
+    StepDown,
+    /// A page was copied with its rows.
+    Unload {
+        page: u32,
+        rows: u16,
+    },
+    /// A page of the new copy was filled.
+    Reload {
+        page: u32,
+        rows: u16,
+    },
+    /// The entries of an index were sorted.
+    Sort(Which),
+    /// An index of the new copy was built.
+    Build(Which),
+    /// A part of an iteration over the log: so many changes were taken, and so many are left.
+    Log {
+        iteration: u64,
+        took: u8,
+        left: u64,
+        verdict: Verdict,
+    },
+    /// The drain waits for a session.
+    Wait(Session),
+    /// The drain was granted.
+    Granted(DrainFor),
+    /// The drain was given up for the so-manieth time.
+    GiveUp(u32),
+    /// A part of the last iteration.
+    Last {
+        took: u8,
+        left: u64,
+    },
+    /// The new copy was written and synced.
+    Written {
+        pages: u32,
+    },
+    /// The new copy is current.
+    Switched {
+        copy: u8,
+        sides: Sides,
+    },
+    /// The utility is over.
+    Ended,
+    /// The utility stopped.
+    Stop(StopReason),
+    /// A page was written.
+    Flush {
+        page: u32,
+    },
+    /// No page was to be written.
+    Clean,
+    /// A flush in which a call of the volume failed.
+    FlushDevice,
+    /// A flush while the engine was down.
+    FlushDown,
+    /// Memory was wanting for a flush.
+    FlushNoMemory,
+    /// The layout was shown.
+    Layout {
+        copy: u8,
+        side: Side,
+    },
+    /// A layout in which a call of the volume failed.
+    LayoutDevice,
+    /// A layout while the engine was down.
+    LayoutDown,
+    /// Memory was wanting for a layout.
+    LayoutNoMemory,
 }
 
 /// An event in the trace of a run. `answer` is the operator's, where the event is a step that asked it.

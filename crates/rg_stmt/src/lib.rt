@@ -3,8 +3,12 @@
 
 /// What happens, and who makes it happen.
 pub mod event;
+/// Where the rows of a copy lie.
+pub mod layout;
 /// The lines of a deck.
 pub mod line;
+/// Rows and keys in a reply.
+pub mod rows;
 /// Statements and replies.
 pub mod stmt;
 #[cfg(test)]

@@ -1,4 +1,5 @@
 use crate::stmt::Stmt;
+use rg_base::options::Options;
 use rg_base::session::Session;
 
 /// A line of a deck.
@@ -6,4 +7,14 @@ use rg_base::session::Session;
 pub enum Line {
     /// One statement of a session.
     Said { session: Session, stmt: Stmt },
+    /// The control statement of the utility.
+    Reorg(Options),
+    /// One step of the utility.
+    Step,
+    /// One flush.
+    Flush,
+    /// The layout.
+    Show,
+    /// The death of the process, and a new opening.
+    Death,
 }

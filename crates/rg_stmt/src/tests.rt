@@ -12,7 +12,7 @@ fn makes_entries(rt: HostRuntime) {
             pages,
             used,
         } => (copy, rows, pages, used),
-        Event::Said { .. } => (0, 0, 0, 0),
+        _ => (0, 0, 0, 0),
     };
     assert_eq!(rt; (copy, rows, pages, used), (2, 30, 4, 500));
     assert_eq!(rt; opened.actor, Actor::System);

@@ -1,0 +1,7 @@
+/// The indexes of the table: over its rows' `key`, `clus` and `cat`.
+#[derive(Clone, Copy, Debug, PartialEq, Eq)]
+pub enum Which {
+    Key,
+    Clus,
+    Cat,
+}
