@@ -1,17 +1,19 @@
 -- Maps after changes at one key.
-use Rattle.std.proofs.Common.{◌≡◌, ◌==◌, ℕ, Bool, true, false, cond, not, Option, Some, None, refl, sym, ◌∙◌, ap}
+use Rattle.std.proofs.Common.{◌≡◌, ◌==◌, ℕ, Bool, true, false, cond, not, Option, Some, None, refl, sym, ◌∙◌, ap, arith}
 use Rattle.std.specs.FinMap as map
 use Rattle.std.specs.FinMap.{FinMap, same_map, nat_cmp-IsAntisymmetric, get-insert, get-remove}
 use Rattle.std.specs.Option.{is_some}
 use Rattle.std.specs.Ordering.{nat_cmp, eq_by_cmp}
 use Rattle.std.proofs.lemmas.Cmp.{nat_cmp_total}
+use Rattle.std.proofs.lemmas.Bool.Decides.{nat_tests}
 use Rattle.rg_base.specs.Retained.{passes, retained}
 use Rattle.rg_base.specs.declared.kept.Kept.{Kept}
 use Rattle.rg_base.specs.declared.session.Class.{Class}
 use Rattle.rg_base.specs.declared.session.Class.TheVariants.{Reader}
 use Rattle.rg_base.specs.declared.session.Session.{Session}
 use Rattle.rg_model.specs.Claims.{claim_with}
-use Rattle.rg_model.specs.Committed.{is_others, without}
+use Rattle.rg_model.specs.Committed.{without}
+use Rattle.rg_model.specs.Held.{is_others}
 use Rattle.rg_model.specs.State.{Claims, Locks}
 use Rattle.rg_model.proofs.Overlay.{key_of}
 
@@ -46,6 +48,27 @@ module _ {V : Type 0} (m : FinMap nat_cmp V) (k : ℕ) where
       ∙ ap (λ o. cond (eq_by_cmp nat_cmp q k) (Some w) o) (get-insert nat_cmp_total m k v q)
       ∙ at_twice v w (map.get m q) (eq_by_cmp nat_cmp q k)
       ∙ sym (get-insert nat_cmp_total m k w q))
+
+at_same : {V : Type 0} (found : Option V) (value : V) (b : Bool) → (b ≡ true → found ≡ Some value) → cond b (Some value) found ≡ found
+at_same found value true same = sym (same refl)
+at_same found value false same = refl
+
+module _ {V : Type 0} (m : FinMap nat_cmp V) (k : ℕ) where
+  -- the value that is there
+  insert-held : (v : V) → map.get m k ≡ Some v → map.insert m k v ≡ m
+  insert-held v there = same_map nat_cmp_total nat_cmp-IsAntisymmetric (map.insert m k v) m
+      (λ q. get-insert nat_cmp_total m k v q ∙ at_same (map.get m q) v (eq_by_cmp nat_cmp q k) (λ e. ap (map.get m) (key_of q k e) ∙ there))
+
+  pub contains_key-insert : (v : V) → map.contains_key (map.insert m k v) k ≡ true
+  contains_key-insert v = ap is_some (get-insert nat_cmp_total m k v k ∙ ap (λ b. cond b (Some v) (map.get m k)) (same k)) where
+    same : (n : ℕ) → eq_by_cmp nat_cmp n n ≡ true
+    same n = grind (arith, nat_tests)
+
+  -- the value from before is given back
+  pub given_back : (v : V) (before : Option V) (mid new : FinMap nat_cmp V) → mid ≡ map.insert m k v → before ≡ map.get m k
+      → (before ≡ None → new ≡ map.remove mid k) → ((w : V) → before ≡ Some w → new ≡ map.insert mid k w) → new ≡ m
+  given_back v None mid new changed was gone back = gone refl ∙ ap (λ n. map.remove n k) changed ∙ remove-insert m k v (ap is_some (sym was))
+  given_back v (Some w) mid new changed was gone back = back w refl ∙ ap (λ n. map.insert n k w) changed ∙ insert-insert m k v w ∙ insert-held w (sym was)
 
 at_claim : (found there : Option Class) (b : Bool) → is_some found ≡ true → (b ≡ true → there ≡ found) → cond b (Some (claim_with found Reader)) there ≡ there
 at_claim None there b some same = absurd (cc (some))

@@ -1,6 +1,9 @@
 pub mod Changed
+pub mod Ends
 pub mod Members
 pub mod OneState
 pub mod Overlay
 pub mod RunPossible
 pub mod RunPush
+pub mod Turned
+pub mod Walked

@@ -10,7 +10,8 @@ use Rattle.std.proofs.lemmas.Cmp.{nat_cmp_total}
 use Rattle.rg_base.specs.declared.kept.Kept.{Kept}
 use Rattle.rg_base.specs.declared.row.Row.{Row}
 use Rattle.rg_base.specs.declared.session.Session.{Session}
-use Rattle.rg_model.specs.Committed.{set_to, put_back, committed, is_others, without}
+use Rattle.rg_model.specs.Committed.{set_to, put_back, committed, without}
+use Rattle.rg_model.specs.Held.{is_others}
 use Rattle.rg_model.specs.Plain.{locked, written}
 use Rattle.rg_model.specs.State.{State, Table, Locks, at_rest}
 
@@ -27,7 +28,7 @@ by_test : (b : Bool) (kept : Kept) (found : Option Kept) (row : Option Row) → 
 by_test true kept found row = refl
 by_test false kept found row = refl
 
-get-put_back : (locks : List (ℕ × Kept)) (table : Table) (q : ℕ) → map.get (put_back locks table) q ≡ kept_or (find nat_cmp q locks) (map.get table q)
+pub get-put_back : (locks : List (ℕ × Kept)) (table : Table) (q : ℕ) → map.get (put_back locks table) q ≡ kept_or (find nat_cmp q locks) (map.get table q)
 get-put_back [] table q = refl
 get-put_back (lock ∷ locks) table q =
     get-set_to (put_back locks table) lock.0 lock.1.row q

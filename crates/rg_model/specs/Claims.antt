@@ -1,4 +1,4 @@
--- Claims and drains, as the manual's rules on claims and drains have them.
+-- Claims and drains. That a drain waits for the claims of a class and keeps new ones out is what the Db2 utilities' manual says of them.
 use Rattle.std.specs.Prelude.{◌&&◌, Bool, true, false, not, List, [], ◌∷◌, Option, Some, None}
 use Rattle.std.specs.FinMap as map
 use Rattle.std.specs.List.{list_any}
@@ -10,14 +10,19 @@ use Rattle.rg_base.specs.declared.session.Class.{Class}
 use Rattle.rg_base.specs.declared.session.Class.TheVariants.{Reader, Writer}
 use Rattle.rg_base.specs.declared.session.Session.{Session}
 use Rattle.rg_stmt.specs.declared.stmt.Stmt.{Stmt}
-use Rattle.rg_stmt.specs.declared.stmt.Stmt.TheVariants.{Insert, Select, Commit}
+use Rattle.rg_stmt.specs.declared.stmt.Stmt.TheVariants.{Insert, Update, Delete, Select, Scan, Find, Commit, Rollback}
 use Rattle.rg_model.specs.State.{State}
 
 -- every statement but the end of a unit needs Reader; one that writes needs Writer too
 abbrev pub classes_needed : Stmt → List Class
 classes_needed (Insert row) = Reader ∷ Writer ∷ []
+classes_needed (Update row) = Reader ∷ Writer ∷ []
+classes_needed (Delete key) = Reader ∷ Writer ∷ []
 classes_needed (Select key) = Reader ∷ []
+classes_needed (Scan lo hi) = Reader ∷ []
+classes_needed (Find cat) = Reader ∷ []
 classes_needed Commit = []
+classes_needed Rollback = []
 
 -- a drain for WRITERS covers Writer, one for ALL covers both classes
 abbrev pub is_covered_for : DrainFor → Class → Bool

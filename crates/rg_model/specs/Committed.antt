@@ -1,9 +1,10 @@
 -- The table without what is not committed.
-use Rattle.std.specs.Prelude.{ℕ, ◌==◌, Bool, true, not, List, [], ◌∷◌, Option, Some, None}
+use Rattle.std.specs.Prelude.{ℕ, not, List, [], ◌∷◌, Option, Some, None}
 use Rattle.std.specs.FinMap as map
 use Rattle.rg_base.specs.declared.kept.Kept.{Kept}
 use Rattle.rg_base.specs.declared.row.Row.{Row}
 use Rattle.rg_base.specs.declared.session.Session.{Session}
+use Rattle.rg_model.specs.Held.{is_others}
 use Rattle.rg_model.specs.State.{State, Table, Locks}
 
 abbrev pub set_to : Table → ℕ → Option Row → Table
@@ -19,13 +20,13 @@ put_back (lock ∷ locks) table = set_to (put_back locks table) lock.0 lock.1.ro
 abbrev pub committed : State → Table
 committed st = put_back (map.entries st.locks) st.table
 
-abbrev pub is_others : Session → Option Kept → Bool
-is_others session None = true
-is_others session (Some kept) = not (kept.owner.0 == session.0)
-
 -- the locks of the other sessions
 abbrev pub without : Session → Locks → Locks
 without session locks = map.retain_keys locks (λ key. is_others session (map.get locks key))
+
+-- the locks of the session
+abbrev pub own : Session → Locks → Locks
+own session locks = map.retain_keys locks (λ key. not (is_others session (map.get locks key)))
 
 -- the same after the locks of a session are dropped
 abbrev pub committed_with : State → Session → Table

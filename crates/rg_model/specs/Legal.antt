@@ -1,17 +1,29 @@
 -- Which traces are legal.
-use Rattle.std.specs.Prelude.{◌≡◌, ◌≢◌, Bool, false, List, [], is_some}
+use Rattle.std.specs.Prelude.{◌≡◌, ◌≢◌, Bool, true, false, List, [], is_some}
 use Rattle.std.specs.List.{AllByRecursion}
 use Rattle.std.specs.List.Sorted.{IsNonDecreasingBy}
 use Rattle.rg_stmt.specs.declared.event.Entry.{Entry}
 use Rattle.rg_stmt.specs.declared.event.Event.{Event}
-use Rattle.rg_stmt.specs.declared.event.Event.TheVariants.{Opened, Said}
+use Rattle.rg_stmt.specs.declared.event.Event.TheVariants as events
 use Rattle.rg_model.specs.Possible.{possible}
 use Rattle.rg_model.specs.State.{Table}
 
--- the operator is asked in a step of the utility alone, and no event is one yet
+-- The operator is asked in each step that finds a utility running and the engine not down. Lines that start a utility, and steps that are refused, ask nobody.
 abbrev pub asks : Event → Bool
-asks (Opened copy rows pages used) = false
-asks (Said stmt reply) = false
+asks (events.Unload page rows) = true
+asks (events.Reload page rows) = true
+asks (events.Sort which) = true
+asks (events.Build which) = true
+asks (events.Log iteration took left verdict) = true
+asks (events.Wait session) = true
+asks (events.Granted what) = true
+asks (events.GiveUp count) = true
+asks (events.Last took left) = true
+asks (events.Written pages) = true
+asks (events.Switched copy sides) = true
+asks events.Ended = true
+asks (events.Stop reason) = true
+asks event = false
 
 -- Each entry is allowed after those before it (where one is not, no state is possible from there on), the number of calls never falls, and an answer of the
 -- operator stands exactly where it was asked.

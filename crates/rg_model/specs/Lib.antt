@@ -1,9 +1,14 @@
 pub mod Claims
 pub mod Committed
+pub mod Held
+pub mod Layout
 pub mod Legal
 pub mod Plain
 pub mod PlainState
 pub mod Possible
 pub mod Run
+pub mod Said
 pub mod Same
+pub mod Start
 pub mod State
+pub mod Utility

@@ -1,22 +1,21 @@
 -- The states that a trace allows, as a list.
-use Rattle.std.specs.Prelude.{ℕ, ◌==◌, ◌||◌, ◌&&◌, ◌-◌, Bool, true, false, List, [], ◌∷◌, Option, Some, None, if◌then◌else◌, map, filter}
+use Rattle.std.specs.Prelude.{ℕ, ◌==◌, ◌||◌, ◌&&◌, ◌-◌, Bool, not, List, [], ◌∷◌, Option, Some, None, if◌then◌else◌, map, filter, is_some}
 use Rattle.std.specs.FinMap as fin
 use Rattle.std.specs.List.{flat_map}
+use Rattle.rg_base.specs.declared.control.Answer.{Answer}
+use Rattle.rg_base.specs.declared.options.Options.{Options}
 use Rattle.rg_base.specs.declared.session.Session.{Session}
 use Rattle.rg_stmt.specs.declared.event.Actor.{Actor}
 use Rattle.rg_stmt.specs.declared.event.Actor.TheVariants as actors
 use Rattle.rg_stmt.specs.declared.event.Entry.{Entry}
 use Rattle.rg_stmt.specs.declared.event.Event.{Event}
-use Rattle.rg_stmt.specs.declared.event.Event.TheVariants.{Opened, Said}
-use Rattle.rg_stmt.specs.declared.stmt.Reply.{Reply}
-use Rattle.rg_stmt.specs.declared.stmt.Reply.TheVariants.{NoMemory}
-use Rattle.rg_stmt.specs.declared.stmt.Stmt.{Stmt}
-use Rattle.rg_stmt.specs.declared.stmt.Stmt.TheVariants.{Insert, Select, Commit}
-use Rattle.rg_model.specs.Claims.{is_drained}
+use Rattle.rg_stmt.specs.declared.event.Event.TheVariants as events
+use Rattle.rg_stmt.specs.declared.layout.Side.{Side}
 use Rattle.rg_model.specs.Committed.{committed, committed_with}
-use Rattle.rg_model.specs.Plain.{plain_reply, answered}
-use Rattle.rg_model.specs.Same.{same_reply}
-use Rattle.rg_model.specs.State.{State, Table, at_rest}
+use Rattle.rg_model.specs.Layout.{is_right_side}
+use Rattle.rg_model.specs.Said.{chosen, state_said}
+use Rattle.rg_model.specs.State.{State, Table, Utility, at_rest}
+use Rattle.rg_model.specs.Utility.{started, state_stepped}
 
 -- process death keeps the committed rows; a COMMIT in doubt may be in
 abbrev pub tables_left : State → Option Session → List Table
@@ -32,36 +31,79 @@ abbrev pub states_opened : State → ℕ → ℕ → List State
 states_opened st copy rows =
     if is_copy_left st copy then map (λ table. at_rest table copy) (filter (λ table. fin.len table == rows) (tables_left st st.doubt)) else []
 
--- the end of a unit takes no memory
-abbrev pub may_want_memory : Stmt → Bool
-may_want_memory (Insert row) = true
-may_want_memory (Select key) = true
-may_want_memory Commit = false
+-- what changes nothing and comes while the engine is not down
+abbrev pub state_up : State → Option State
+state_up st = chosen (not st.down) st
 
--- the plain table's reply, or want of memory, which changes nothing
-abbrev pub states_answered : State → Session → Stmt → Reply → List State
-states_answered st session stmt NoMemory = if may_want_memory stmt then st ∷ [] else []
-states_answered st session stmt reply = if same_reply reply (plain_reply st session stmt) then answered st session stmt reply ∷ [] else []
+-- what is refused exactly while the engine is down
+abbrev pub state_down : State → Option State
+state_down st = chosen st.down st
 
--- no reply tells of an engine that is down or of a drain yet
-abbrev pub states_said : State → Session → Stmt → Reply → List State
-states_said st session stmt reply = if st.down || is_drained st session stmt then [] else states_answered st session stmt reply
+-- a layout is that of the current copy, and right for the table
+abbrev pub state_shown : State → ℕ → Side → Option State
+state_shown st copy side = chosen (not st.down && ((copy == st.copy) && is_right_side st.table side)) st
 
--- an event whose actor isn't its own allows nothing
-abbrev pub states_after : Actor → Event → State → List State
-states_after actors.System (Opened copy rows pages used) st = states_opened st copy rows
-states_after (actors.Session session) (Said stmt reply) st = states_said st session stmt reply
-states_after actor event st = []
+-- a utility starts where none runs, over the current copy
+abbrev pub state_started : State → Options → ℕ → ℕ → Option State
+state_started st options copy pages = chosen (not st.down && (not (is_some st.utility) && (copy == st.copy))) (started st options pages)
 
-abbrev pub states_from : List State → List Entry → List State
-states_from states [] = states
-states_from states (entry ∷ entries) = states_from (flat_map (states_after entry.actor entry.event) states) entries
+-- it is refused where none runs
+abbrev pub state_not_started : State → Option State
+state_not_started st = chosen (not st.down && not (is_some st.utility)) st
+
+abbrev pub state_active : State → Option State
+state_active st = chosen (not st.down && is_some st.utility) st
+
+-- a step finds no utility
+abbrev pub state_idle : State → Option State
+state_idle st = chosen (not st.down && not (is_some st.utility)) st
+
+-- a step of the utility that runs, by the entries before and the operator's answer
+abbrev pub state_after_step : List Entry → Option Answer → Event → State → Option Utility → Option State
+state_after_step past answer event st None = None
+state_after_step past answer event st (Some utility) = if st.down then None else state_stepped past answer event st utility
+
+-- The state after an event, but for an opening. An event whose actor isn't its own allows nothing. `past` are the entries before, the newest first.
+abbrev pub next_state : List Entry → Option Answer → Actor → Event → State → Option State
+next_state past answer (actors.Session session) (events.Said stmt reply) st = state_said st session stmt reply
+next_state past answer (actors.Session session) event st = None
+next_state past answer actors.System (events.Flush page) st = state_up st
+next_state past answer actors.System events.Clean st = state_up st
+next_state past answer actors.System events.FlushDevice st = state_up st
+next_state past answer actors.System events.FlushDown st = state_down st
+next_state past answer actors.System events.FlushNoMemory st = state_up st
+next_state past answer actors.System (events.Layout copy side) st = state_shown st copy side
+next_state past answer actors.System events.LayoutDevice st = state_up st
+next_state past answer actors.System events.LayoutDown st = state_down st
+next_state past answer actors.System events.LayoutNoMemory st = state_up st
+next_state past answer actors.System event st = None
+next_state past answer actors.Utility (events.Started options copy pages) st = state_started st options copy pages
+next_state past answer actors.Utility events.Active st = state_active st
+next_state past answer actors.Utility (events.StartLogFull need left) st = state_not_started st
+next_state past answer actors.Utility events.StartDown st = state_down st
+next_state past answer actors.Utility events.StartNoMemory st = state_not_started st
+next_state past answer actors.Utility events.Idle st = state_idle st
+next_state past answer actors.Utility events.StepDown st = state_down st
+next_state past answer actors.Utility event st = state_after_step past answer event st st.utility
+
+abbrev pub one_state : Option State → List State
+one_state None = []
+one_state (Some st) = st ∷ []
+
+-- an opening may find one table of two
+abbrev pub states_after : List Entry → Option Answer → Actor → Event → State → List State
+states_after past answer actors.System (events.Opened copy rows pages used) st = states_opened st copy rows
+states_after past answer actor event st = one_state (next_state past answer actor event st)
+
+abbrev pub states_from : List Entry → List State → List Entry → List State
+states_from past states [] = states
+states_from past states (entry ∷ entries) = states_from (entry ∷ past) (flat_map (states_after past entry.answer entry.actor entry.event) states) entries
 
 -- entry 0 opens the table at copy 1 or 2
 abbrev pub states_before : Table → Event → List State
-states_before start (Opened copy rows pages used) = if copy == 1 || copy == 2 then at_rest start copy ∷ [] else []
+states_before start (events.Opened copy rows pages used) = if copy == 1 || copy == 2 then at_rest start copy ∷ [] else []
 states_before start event = []
 
 abbrev pub possible : Table → List Entry → List State
 possible start [] = at_rest start 1 ∷ []
-possible start (entry ∷ entries) = states_from (states_before start entry.event) (entry ∷ entries)
+possible start (entry ∷ entries) = states_from [] (states_before start entry.event) (entry ∷ entries)

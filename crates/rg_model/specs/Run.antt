@@ -1,7 +1,8 @@
 -- One next state of each event: what the proofs of the engine go by. Each run ends in a state that is possible.
-use Rattle.std.specs.Prelude.{ℕ, ◌≡◌, ◌||◌, true, false, List, [], ◌∷◌}
+use Rattle.std.specs.Prelude.{ℕ, ◌≡◌, true, false, List, [], ◌∷◌, Option, Some}
 use Rattle.std.specs.FinMap as fin
 use Rattle.std.specs.List.{Contains}
+use Rattle.rg_base.specs.declared.control.Answer.{Answer}
 use Rattle.rg_base.specs.declared.session.Session.{Session}
 use Rattle.rg_stmt.specs.declared.event.Actor.{Actor}
 use Rattle.rg_stmt.specs.declared.event.Actor.TheVariants as actors
@@ -9,22 +10,30 @@ use Rattle.rg_stmt.specs.declared.event.Entry.{Entry}
 use Rattle.rg_stmt.specs.declared.event.Event.{Event}
 use Rattle.rg_stmt.specs.declared.event.Event.TheVariants.{Opened, Said}
 use Rattle.rg_stmt.specs.declared.stmt.Reply.{Reply}
-use Rattle.rg_stmt.specs.declared.stmt.Reply.TheVariants.{NoMemory}
+use Rattle.rg_stmt.specs.declared.stmt.Reply.TheVariants.{Held, Victim, Drained, Full, LogFull, Device, Down, NoMemory}
 use Rattle.rg_stmt.specs.declared.stmt.Stmt.{Stmt}
 use Rattle.rg_model.specs.Claims.{is_drained}
-use Rattle.rg_model.specs.Plain.{plain_reply, answered}
-use Rattle.rg_model.specs.Possible.{may_want_memory, tables_left, is_copy_left}
+use Rattle.rg_model.specs.Plain.{plain_reply, answered, is_done, after_rollback}
+use Rattle.rg_model.specs.Possible.{tables_left, is_copy_left, next_state}
+use Rattle.rg_model.specs.Said.{may_want_memory, may_want_room, may_want_log, state_refused}
 use Rattle.rg_model.specs.State.{State, Table, at_rest}
 
 -- the statement may be answered so, and leaves this state
 abbrev pub Answers : State → Session → Stmt → Reply → State → Type 0
 Answers st session stmt NoMemory new = (may_want_memory stmt ≡ true) × (new ≡ st)
+Answers st session stmt (Victim owner) new = (plain_reply st session stmt ≡ Held owner) × (new ≡ after_rollback st session)
+Answers st session stmt (Full need) new = (may_want_room stmt ≡ true) × (is_done (plain_reply st session stmt) ≡ true) × (new ≡ st)
+Answers st session stmt (LogFull need left) new = (may_want_log stmt ≡ true) × (is_done (plain_reply st session stmt) ≡ true) × (new ≡ st)
+Answers st session stmt Device new = state_refused st session stmt (plain_reply st session stmt) ≡ Some new
+Answers st session stmt Drained new = ⊥
+Answers st session stmt Down new = ⊥
 Answers st session stmt reply new = (reply ≡ plain_reply st session stmt) × (new ≡ answered st session stmt reply)
 
--- neither down nor drained, it is answered
-pub record Says (st : State) (session : Session) (stmt : Stmt) (reply : Reply) (new : State) : Type 0 where
-  pub admitted : (st.down || is_drained st session stmt) ≡ false
-  pub answers : Answers st session stmt reply new
+-- an engine that is down says so, a drain is told of, and else the statement is answered
+abbrev pub Says : State → Session → Stmt → Reply → State → Type 0
+Says st session stmt Down new = (st.down ≡ true) × (new ≡ st)
+Says st session stmt Drained new = (st.down ≡ false) × (is_drained st session stmt ≡ true) × (new ≡ st)
+Says st session stmt reply new = (st.down ≡ false) × (is_drained st session stmt ≡ false) × Answers st session stmt reply new
 
 -- an opening that finds this copy and as many committed rows
 pub record Reopens (st : State) (copy rows : ℕ) (new : State) : Type 0 where
@@ -34,12 +43,13 @@ pub record Reopens (st : State) (copy rows : ℕ) (new : State) : Type 0 where
   pub counted : fin.len table ≡ rows
   pub at_rest : new ≡ at_rest table copy
 
-abbrev pub Allows : State → Actor → Event → State → Type 0
-Allows st actors.System (Opened copy rows pages used) new = Reopens st copy rows new
-Allows st (actors.Session session) (Said stmt reply) new = Says st session stmt reply new
-Allows st actor event new = ⊥
+-- an opening and a statement are told of by relations, any other event by the state that it leaves
+abbrev pub Allows : List Entry → Option Answer → Actor → Event → State → State → Type 0
+Allows past answer actors.System (Opened copy rows pages used) st new = Reopens st copy rows new
+Allows past answer (actors.Session session) (Said stmt reply) st new = Says st session stmt reply new
+Allows past answer actor event st new = next_state past answer actor event st ≡ Some new
 
--- the entries lead from one state to another
-abbrev pub Run : State → List Entry → State → Type 0
-Run st [] new = new ≡ st
-Run st (entry ∷ entries) new = (mid : State) × Allows st entry.actor entry.event mid × Run mid entries new
+-- The entries lead from one state to another. `past` are the entries before them, the newest first.
+abbrev pub Run : List Entry → State → List Entry → State → Type 0
+Run past st [] new = new ≡ st
+Run past st (entry ∷ entries) new = (mid : State) × Allows past entry.answer entry.actor entry.event st mid × Run (entry ∷ past) mid entries new

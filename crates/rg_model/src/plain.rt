@@ -1,11 +1,15 @@
-ghost use Rattle.std.specs.Prelude.{◌≡◌, ◌∷◌, [], OnOk, OnErr, IfOk, Some, false, not};
+ghost use Rattle.std.specs.Prelude.{◌≡◌, ◌∷◌, [], OnOk, OnErr, IfOk, Some, None, not};
 ghost use Rattle.std.specs.FinMap as map;
 ghost use Rattle.rg_model.specs.Claims.{claimed};
-ghost use Rattle.rg_model.specs.Plain.{after_commit, locked, answered};
+ghost use Rattle.rg_model.specs.Committed.{set_to};
+ghost use Rattle.rg_model.specs.Held.{holder};
+ghost use Rattle.rg_model.specs.Plain.{after_commit, after_rollback, locked, written};
 ghost use Rattle.rg_model.specs.PlainState.{state_of};
 ghost use Rattle.rg_model.specs.Run.{Says};
 ghost use Rattle.rg_model.specs.State.{at_rest};
 
+use crate::plain::parts::{copy_of, drop_locks, give_back, is_others, set_row};
+use crate::plain::walks::{find_holder, keys_with_cat, rolled_back, rows_between, scan_holder};
 use rg_base::kept::Kept;
 use rg_base::map::NumberMap;
 use rg_base::no_memory::NoMemory;
@@ -13,6 +17,9 @@ use rg_base::row::Row;
 use rg_base::session::{Class, Session};
 use rg_stmt::stmt::{Reply, Stmt};
 use std::alloc::Global;
+
+mod parts;
+mod walks;
 
 /// A plain table with its locks and claims, in memory. It computes what the definitions say, slowly.
 #[derive(Drop)]
@@ -42,21 +49,62 @@ impl PlainState {
     {
         match stmt {
             Stmt::Insert(row) => self.insert(alloc, session, row),
+            Stmt::Update(row) => self.update(alloc, session, row),
+            Stmt::Delete(key) => self.delete(alloc, session, *key),
             Stmt::Select(key) => self.select(alloc, session, *key),
+            Stmt::Scan { lo, hi } => self.scan(alloc, session, *lo, *hi),
+            Stmt::Find(cat) => self.find(alloc, session, *cat),
             Stmt::Commit => self.commit(session),
+            Stmt::Rollback => self.rollback(alloc, session),
         }
     }
 
     fn insert(&mut self, alloc: Global, session: Session, row: &Row) -> Reply
         ensures { Says (state_of self.old) session (Stmt.Insert row.now) result (state_of self.new) }
     {
+        if let Some(owner) = self.holder(session, row.key) {
+            return Reply::Held(owner);
+        }
         if self.table.contains_key(row.key) {
             return Reply::Duplicate;
         }
         let Ok(copy) = row.copy(alloc) else {
             return Reply::NoMemory;
         };
-        match self.add(alloc, session, copy) {
+        match self.write(alloc, session, row.key, Some(copy)) {
+            Ok(()) => Reply::Done,
+            Err(_) => Reply::NoMemory,
+        }
+    }
+
+    fn update(&mut self, alloc: Global, session: Session, row: &Row) -> Reply
+        ensures { Says (state_of self.old) session (Stmt.Update row.now) result (state_of self.new) }
+    {
+        if let Some(owner) = self.holder(session, row.key) {
+            return Reply::Held(owner);
+        }
+        if !self.table.contains_key(row.key) {
+            return Reply::Absent;
+        }
+        let Ok(copy) = row.copy(alloc) else {
+            return Reply::NoMemory;
+        };
+        match self.write(alloc, session, row.key, Some(copy)) {
+            Ok(()) => Reply::Done,
+            Err(_) => Reply::NoMemory,
+        }
+    }
+
+    fn delete(&mut self, alloc: Global, session: Session, key: u64) -> Reply
+        ensures { Says (state_of self.old) session (Stmt.Delete key) result (state_of self.new) }
+    {
+        if let Some(owner) = self.holder(session, key) {
+            return Reply::Held(owner);
+        }
+        if !self.table.contains_key(key) {
+            return Reply::Absent;
+        }
+        match self.write(alloc, session, key, None) {
             Ok(()) => Reply::Done,
             Err(_) => Reply::NoMemory,
         }
@@ -65,7 +113,10 @@ impl PlainState {
     fn select(&mut self, alloc: Global, session: Session, key: u64) -> Reply
         ensures { Says (state_of self.old) session (Stmt.Select key) result (state_of self.new) }
     {
-        let row = match self.row(alloc, key) {
+        if let Some(owner) = self.holder(session, key) {
+            return Reply::Held(owner);
+        }
+        let row = match copy_of(self.table.get(key), alloc) {
             Ok(Some(row)) => row,
             Ok(None) => return Reply::Absent,
             Err(_) => return Reply::NoMemory,
@@ -76,33 +127,78 @@ impl PlainState {
         }
     }
 
-    fn commit(&mut self, session: Session) -> Reply
-        ensures { Says (state_of self.old) session Stmt.Commit result (state_of self.new) }
+    fn scan(&mut self, alloc: Global, session: Session, lo: u64, hi: u64) -> Reply
+        ensures { Says (state_of self.old) session (Stmt.Scan lo hi) result (state_of self.new) }
     {
-        self.locks.retain(|_, kept| kept.owner.0 != session.0);
-        self.claims.remove(u64::from(session.0));
-        Reply::Done
-    }
-
-    // An equal row of the key, where it has one.
-    fn row(&self, alloc: Global, key: u64) -> Result<Option<Row>, NoMemory>
-        ensures { IfOk result (λ row. row ≡ map.get self.now.table key) }
-    {
-        match self.table.get(key) {
-            None => Ok(None),
-            Some(row) => Ok(Some(row.copy(alloc)?)),
+        if let Some(owner) = scan_holder(&self.locks, session, lo, hi) {
+            return Reply::Held(owner);
+        }
+        let Ok(rows) = rows_between(&self.table, alloc, lo, hi) else {
+            return Reply::NoMemory;
+        };
+        match self.claim_reader(session) {
+            Ok(()) => Reply::Listed(rows),
+            Err(_) => Reply::NoMemory,
         }
     }
 
-    // Adds a row whose key is absent, with its lock and its session's claim.
-    fn add(&mut self, alloc: Global, session: Session, row: Row) -> Result<(), NoMemory>
-        requires { map.contains_key self.old.table row.key ≡ false }
-        ensures ok { OnOk result (state_of self.new ≡ answered (state_of self.old) session (Stmt.Insert row) Reply.Done) }
-        ensures err { OnErr result (self.new ≡ self.old) }
+    fn find(&mut self, alloc: Global, session: Session, cat: u64) -> Reply
+        ensures { Says (state_of self.old) session (Stmt.Find cat) result (state_of self.new) }
     {
-        let key = row.key;
+        if let Some(owner) = find_holder(&self.table, &self.locks, session, cat) {
+            return Reply::Held(owner);
+        }
+        let Ok(keys) = keys_with_cat(&self.table, alloc, cat) else {
+            return Reply::NoMemory;
+        };
+        match self.claim_reader(session) {
+            Ok(()) => Reply::Keyed(keys),
+            Err(_) => Reply::NoMemory,
+        }
+    }
+
+    fn commit(&mut self, session: Session) -> Reply
+        ensures { Says (state_of self.old) session Stmt.Commit result (state_of self.new) }
+    {
+        self.end(session);
+        Reply::Done
+    }
+
+    fn rollback(&mut self, alloc: Global, session: Session) -> Reply
+        ensures { Says (state_of self.old) session Stmt.Rollback result (state_of self.new) }
+    {
+        let Ok(table) = rolled_back(&self.table, &self.locks, alloc, session) else {
+            return Reply::NoMemory;
+        };
+        self.table = table;
+        self.end(session);
+        Reply::Done
+    }
+
+    // Another session that has locked the key.
+    fn holder(&self, session: Session, key: u64) -> Option<Session>
+        ensures { result ≡ holder self.now.locks session key }
+    {
+        let kept = self.locks.get(key)?;
+        if is_others(session, kept) {
+            return Some(kept.owner);
+        }
+        None
+    }
+
+    // Sets the row of a key, or removes it, with the lock and the claim of the session.
+    fn write(
+        &mut self,
+        alloc: Global,
+        session: Session,
+        key: u64,
+        row: Option<Row>,
+    ) -> Result<(), NoMemory>
+        ensures ok { OnOk result (state_of self.new ≡ claimed (written (state_of self.old) session key row) session (Class.Reader ∷ Class.Writer ∷ [])) }
+        ensures err { OnErr result (state_of self.new ≡ state_of self.old) }
+    {
         let fresh = self.lock(alloc, session, key)?;
-        if let Err(error) = self.put(session, row) {
+        if let Err(error) = self.put(session, key, row) {
             if fresh {
                 self.locks.remove(key);
             }
@@ -113,14 +209,14 @@ impl PlainState {
 
     // Locks the key, where it isn't locked. Says whether it took the lock.
     fn lock(&mut self, alloc: Global, session: Session, key: u64) -> Result<bool, NoMemory>
-        ensures ok { OnOk result (self.new ≡ record self.old { locks = locked (state_of self.old) session key }) }
+        ensures ok { OnOk result (state_of self.new ≡ record (state_of self.old) { locks = locked (state_of self.old) session key }) }
         ensures fresh { IfOk result (λ fresh. fresh ≡ not (map.contains_key self.old.locks key)) }
-        ensures err { OnErr result (self.new ≡ self.old) }
+        ensures err { OnErr result (state_of self.new ≡ state_of self.old) }
     {
         if self.locks.contains_key(key) {
             return Ok(false);
         }
-        let row = self.row(alloc, key)?;
+        let row = copy_of(self.table.get(key), alloc)?;
         self.locks.insert(
             key,
             Kept {
@@ -131,16 +227,15 @@ impl PlainState {
         Ok(true)
     }
 
-    // Puts a row whose key is absent, and its session's claim.
-    fn put(&mut self, session: Session, row: Row) -> Result<(), NoMemory>
-        requires { map.contains_key self.old.table row.key ≡ false }
-        ensures ok { OnOk result (self.new ≡ record self.old { table = map.insert self.old.table row.key row; claims = map.insert self.old.claims session.0 Class.Writer }) }
-        ensures err { OnErr result (self.new ≡ self.old) }
+    // Sets the row of a key, or removes it, with the claim of a writer.
+    fn put(&mut self, session: Session, key: u64, row: Option<Row>) -> Result<(), NoMemory>
+        ensures ok { OnOk result (state_of self.new ≡ record (state_of self.old) { table = set_to self.old.table key row; claims = map.insert self.old.claims session.0 Class.Writer }) }
+        ensures err { OnErr result (state_of self.new ≡ state_of self.old) }
     {
-        let key = row.key;
-        self.table.insert(key, row)?;
-        if let Err(error) = self.claims.insert(u64::from(session.0), Class::Writer) {
-            self.table.remove(key);
+        let number = u64::from(session.0);
+        let before = self.claims.insert(number, Class::Writer)?;
+        if let Err(error) = set_row(&mut self.table, key, row) {
+            give_back(&mut self.claims, number, before);
             return Err(error);
         }
         Ok(())
@@ -149,7 +244,7 @@ impl PlainState {
     // Claims to read, where the session has no claim.
     fn claim_reader(&mut self, session: Session) -> Result<(), NoMemory>
         ensures ok { OnOk result (state_of self.new ≡ claimed (state_of self.old) session (Class.Reader ∷ [])) }
-        ensures err { OnErr result (self.new ≡ self.old) }
+        ensures err { OnErr result (state_of self.new ≡ state_of self.old) }
     {
         let number = u64::from(session.0);
         if self.claims.contains_key(number) {
@@ -157,5 +252,13 @@ impl PlainState {
         }
         self.claims.insert(number, Class::Reader)?;
         Ok(())
+    }
+
+    // Drops the locks and the claim of a session.
+    fn end(&mut self, session: Session)
+        ensures { state_of self.new ≡ after_commit (state_of self.old) session }
+    {
+        drop_locks(&mut self.locks, session);
+        self.claims.remove(u64::from(session.0));
     }
 }

@@ -1,5 +1,5 @@
-use Rattle.rg_model.proofs.OneState.{one_state}
+use Rattle.rg_model.proofs.OneState.{one_next}
 use Rattle.rg_model.proofs.laws.plain_is_one.Goals as goal
 
 pub returns : goal.returns
-returns c = one_state
+returns c = one_next
