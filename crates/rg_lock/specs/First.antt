@@ -2,7 +2,7 @@
 use Rattle.std.specs.Prelude.{◌≡◌, ℕ, ◌≤◌, ◌<◌, Option, Some, None}
 use Rattle.std.specs.FinMap as map
 use Rattle.rg_base.specs.declared.session.Session.{Session}
-use Rattle.rg_lock.specs.Held.{other_owner}
+use Rattle.rg_model.specs.Held.{other_owner}
 use Rattle.rg_model.specs.State.{Locks}
 
 -- no other session has a key from the one number up to the other, that one included

@@ -8,7 +8,7 @@ use Rattle.rg_base.specs.declared.row.Row.{Row}
 use Rattle.rg_base.specs.declared.session.Session.{Session}
 use Rattle.rg_lock.specs.declared.locks.LockFault.{LockFault}
 use Rattle.rg_lock.specs.declared.locks.LockFault.TheVariants.{Held, NoMemory}
-use Rattle.rg_lock.specs.Held.{other_owner}
+use Rattle.rg_model.specs.Held.{other_owner}
 use Rattle.rg_model.specs.State.{Locks}
 
 -- a key that is locked keeps its lock, and another gets the session as its owner and the row as its kept one

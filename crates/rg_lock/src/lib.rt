@@ -5,5 +5,7 @@
 pub mod laws;
 /// The locks of keys.
 pub mod locks;
+// The lists of the keys that sessions took.
+mod owned;
 #[cfg(test)]
 mod tests;

@@ -1,13 +1,17 @@
-ghost use Rattle.std.specs.Prelude.{◌≡◌, ◌↔◌, Some, Err, OnOk, OnErr};
+ghost use Rattle.std.specs.Prelude.{◌≡◌, ◌↔◌, Some, Err, OnOk, OnErr, IfOk};
 ghost use Rattle.std.specs.FinMap as map;
 ghost use Rattle.std.specs.Option.{option_copied};
 ghost use Rattle.rg_model.specs.Committed.{without};
 ghost use Rattle.rg_lock.specs.First.{IsFirstHeld};
-ghost use Rattle.rg_lock.specs.Held.{owner_of, row_of, other_owner};
+ghost use Rattle.rg_lock.specs.Held.{row_of};
+ghost use Rattle.rg_model.specs.Held.{owner_of, other_owner};
+ghost use Rattle.rg_lock.specs.Released.{Releases, ReleasesKey};
 ghost use Rattle.rg_lock.specs.Taken.{taken, Answers};
 
+use crate::owned::{empty_lists, pop_key, push_key};
 use rg_base::kept::Kept;
 use rg_base::map::NumberMap;
+use rg_base::no_memory::NoMemory;
 use rg_base::row::Row;
 use rg_base::session::Session;
 use std::alloc::Global;
@@ -28,6 +32,8 @@ pub enum LockFault {
 #[derive(Drop)]
 pub struct Locks {
     locks: NumberMap<Kept>,
+    // The keys of each session's locks, so that its end need not look at those of others.
+    owned: Vec<Vec<u64>>,
 }
 
 impl Model for Locks {
@@ -40,17 +46,36 @@ impl Model for Locks {
 
     ghost coded = { map.code coded_ℕ kept.the_row.coded };
 
+    ghost use Rattle.rg_lock.specs.Owned as lists;
+
     ghost view = { λ s. s.locks };
+
+    ghost invariant = { λ s. lists.HasLists s.locks s.owned };
+}
+
+// Takes the lock of a key off, where the session has it, and hands back the row that it kept.
+fn release_key(locks: &mut NumberMap<Kept>, session: Session, key: u64) -> Option<Option<Row>>
+    ensures { ReleasesKey session locks.old locks.new key result }
+{
+    let lock = locks.get(key)?;
+    if lock.owner.0 != session.0 {
+        return None;
+    }
+    match locks.remove(key) {
+        Some(kept) => Some(kept.row),
+        None => None,
+    }
 }
 
 impl Locks {
-    /// No locks. It takes no memory.
-    pub fn new(alloc: Global) -> Self
-        ensures { result ≡ map.empty }
+    /// No locks. It takes memory for an empty list of keys for each number that a session can have.
+    pub fn new(alloc: Global) -> Result<Self, NoMemory>
+        ensures { IfOk result (λ locks. locks ≡ map.empty) }
     {
-        Locks {
+        Ok(Locks {
             locks: NumberMap::new(alloc),
-        }
+            owned: empty_lists(alloc)?,
+        })
     }
 
     /// Locks a key for a session, with the committed row of the key. A key that the session has keeps the row of its
@@ -76,10 +101,14 @@ impl Locks {
             owner: session,
             row: committed,
         };
-        match self.locks.insert(key, kept) {
-            Ok(_) => Ok(()),
-            Err(_) => Err(LockFault::NoMemory),
+        if let Err(NoMemory) = self.locks.insert(key, kept) {
+            return Err(LockFault::NoMemory);
         }
+        if let Err(NoMemory) = push_key(&mut self.owned, session, key) {
+            self.locks.remove(key);
+            return Err(LockFault::NoMemory);
+        }
+        Ok(())
     }
 
     /// The session that has a key.
@@ -126,10 +155,23 @@ impl Locks {
         None
     }
 
-    /// Drops a session's locks. It takes no memory, and walks the locks of all sessions.
+    /// Takes one of a session's locks off, and hands back its key and the row that it kept; which of them comes first is
+    /// not said. None where the session has no lock. It takes no memory.
+    pub fn release(&mut self, session: Session) -> Option<(u64, Option<Row>)>
+        ensures { Releases session self.old self.new result }
+    {
+        while let Some(key) = pop_key(&mut self.owned, session) {
+            if let Some(row) = release_key(&mut self.locks, session, key) {
+                return Some((key, row));
+            }
+        }
+        None
+    }
+
+    /// Drops a session's locks. It takes no memory, and looks at the session's own locks alone.
     pub fn end(&mut self, session: Session)
         ensures { self.new ≡ without session self.old }
     {
-        self.locks.retain(|_, kept| kept.owner.0 != session.0);
+        while let Some(_released) = self.release(session) {}
     }
 }

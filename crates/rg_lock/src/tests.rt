@@ -18,19 +18,19 @@ fn row_of(alloc: Global, key: u64, clus: u64) -> Result<Row, NoMemory> {
 }
 
 // Locks of these sessions on these keys, without rows.
-fn locked(rt: &impl Abort, alloc: Global, taken: &[(u8, u64)]) -> Locks {
-    let mut locks = Locks::new(alloc);
+fn locked(rt: &impl Abort, alloc: Global, taken: &[(u8, u64)]) -> Result<Locks, NoMemory> {
+    let mut locks = Locks::new(alloc)?;
     for &(session, key) in taken {
         locks
             .take(Session(session), key, None)
             .expect(rt, "the key is free");
     }
-    locks
+    Ok(locks)
 }
 
 #[test]
 fn takes_keys(rt: HostRuntime) -> Result<(), Fail> {
-    let mut locks = Locks::new(rt.alloc());
+    let mut locks = Locks::new(rt.alloc())?;
     assert_eq!(rt; (locks.owner(5), locks.kept(5).is_none()), (None, true));
     let first = row_of(rt.alloc(), 5, 50)?;
     assert_eq!(rt; locks.take(Session(1), 5, Some(first)), Ok(()));
@@ -58,7 +58,7 @@ fn finds_first_held(rt: HostRuntime) -> Result<(), Fail> {
         &rt,
         rt.alloc(),
         &[(1, 0), (2, 3), (1, 4), (3, 7), (2, u64::MAX)],
-    );
+    )?;
     let cases = [
         // (session, from, to, key and owner)
         (1, 0, u64::MAX, Some((3, 2))),
@@ -84,7 +84,7 @@ fn finds_first_held(rt: HostRuntime) -> Result<(), Fail> {
 
 #[test]
 fn ends_units(rt: HostRuntime) -> Result<(), Fail> {
-    let mut locks = locked(&rt, rt.alloc(), &[(1, 1), (2, 2), (1, 3)]);
+    let mut locks = locked(&rt, rt.alloc(), &[(1, 1), (2, 2), (1, 3)])?;
     locks.end(Session(3));
     assert_eq!(rt;
         (locks.owner(1), locks.owner(2)),
@@ -96,6 +96,62 @@ fn ends_units(rt: HostRuntime) -> Result<(), Fail> {
         (None, Some(Session(2)), None)
     );
     assert_eq!(rt; locks.take(Session(2), 1, None), Ok(()));
+    // What the session takes after its end is its own again.
+    assert_eq!(rt; locks.take(Session(1), 3, None), Ok(()));
+    locks.end(Session(2));
+    assert_eq!(rt;
+        (locks.owner(1), locks.owner(2), locks.owner(3)),
+        (None, None, Some(Session(1)))
+    );
+    Ok(())
+}
+
+#[test]
+fn releases_locks(rt: HostRuntime) -> Result<(), Fail> {
+    // (session, key, cluster value of the committed row)
+    let taken = [
+        (1, 1, Some(10)),
+        (2, 2, Some(20)),
+        (1, 3, None),
+        (255, 4, Some(40)),
+        (1, 5, Some(50)),
+        (2, u64::MAX, None),
+    ];
+    let mut locks = Locks::new(rt.alloc())?;
+    for (session, key, clus) in taken {
+        let row = match clus {
+            Some(clus) => Some(row_of(rt.alloc(), key, clus)?),
+            None => None,
+        };
+        assert_eq!(rt; locks.take(Session(session), key, row), Ok(()));
+    }
+    // A later taking of the same key changes nothing.
+    let own = row_of(rt.alloc(), 1, 11)?;
+    assert_eq!(rt; locks.take(Session(1), 1, Some(own)), Ok(()));
+    let second = Some(Session(2));
+    let cases = [
+        // (session, how many locks it has, who has key 2 without them)
+        (3, 0, second),
+        (1, 3, second),
+        (1, 0, second),
+        (255, 1, second),
+        (2, 2, None),
+    ];
+    for (session, count, owner) in cases {
+        for _ in 0..count {
+            let (key, row) = locks
+                .release(Session(session))
+                .expect(&rt, "the session has a lock");
+            let released = (session, key, row.map(|row| row.clus));
+            assert!(rt; taken.contains(&released), "{released:?}");
+            assert_eq!(rt; locks.owner(key), None, "key {key}");
+        }
+        assert!(rt;
+            locks.release(Session(session)).is_none(),
+            "session {session}"
+        );
+        assert_eq!(rt; locks.owner(2), owner, "session {session}");
+    }
     Ok(())
 }
 

@@ -1,12 +1,18 @@
-use Rattle.std.proofs.Common.{◌==◌, not, rules, ◌∙◌, ap}
-use Rattle.rg_base.specs.declared.kept.Kept.{Kept}
-use Rattle.rg_model.specs.Committed.{without}
-use Rattle.rg_model.proofs.Changed.{retained-others}
+use Rattle.std.proofs.Common.{◌∙◌}
+use Rattle.rg_lock.proofs.Ended.{released-without, released-fewer, released-all}
 use Rattle.rg_lock.proofs.locks.Locks.end.Goals as goal
 
+pub loop-released-smaller-in-Some : goal.loop-released-smaller-in-Some
+loop-released-smaller-in-Some c = released-fewer c.args.session c.loop-released.self c.release.new.self c.in-Some._released c.in-Some.ensures
+
+pub loop-released-preserved-in-Some : goal.loop-released-preserved-in-Some
+loop-released-preserved-in-Some c = released-without c.args.session c.loop-released.self c.release.new.self c.in-Some._released c.in-Some.ensures ∙ c.loop-released.invariant
+
+pub loop-released-smaller : goal.loop-released-smaller
+loop-released-smaller c = released-fewer c.args.session c.loop-released.self c.release.new.self c.in-Some._released c.in-Some.ensures
+
+pub loop-released-preserved : goal.loop-released-preserved
+loop-released-preserved c = released-without c.args.session c.loop-released.self c.release.new.self c.in-Some._released c.in-Some.ensures ∙ c.loop-released.invariant
+
 pub returns : goal.returns
-returns c =
-    let session = c.args.session in
-    c.retain.ensures (λ key (kept : Kept). not (kept.owner.0 == session.0)) (λ key kept answer met. search rules)
-    ∙ retained-others session c.self.inside.locks
-    ∙ ap (without session) c.self.view_is
+returns c = released-all c.args.session c.loop-released.self c.release.new.self c.in_default.ensures ∙ c.loop-released.invariant

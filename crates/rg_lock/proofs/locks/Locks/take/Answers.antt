@@ -1,0 +1,40 @@
+use Rattle.std.proofs.Common.{◌≡◌, sym, subst, ap, ◌∙◌}
+use Rattle.std.specs.FinMap as map
+use Rattle.std.specs.Option.{is_some}
+use Rattle.rg_base.specs.declared.kept.Kept.{Kept}
+use Rattle.rg_model.proofs.Changed.{remove-insert}
+use Rattle.rg_lock.specs.Owned.{IsCovered}
+use Rattle.rg_lock.proofs.Covered.{covered-same, covered-inserted}
+use Rattle.rg_lock.proofs.locks.Locks.take.Goals as goal
+use Rattle.rg_lock.proofs.locks.Locks.take.Goals.{Joined-remove}
+
+-- the lock that was put in is gone
+undone : (c : Joined-remove) → c.remove.new.self ≡ c.self.inside.locks
+undone c =
+    let kept : Kept = record { owner = c.args.session; row = c.args.committed } in
+    c.remove.ensures.removed
+    ∙ ap (λ locks. map.remove locks c.args.key) c.in_default-insert.ensures.ok
+    ∙ remove-insert c.self.inside.locks c.args.key kept (ap is_some (sym c.in_default.ensures))
+
+pub invariant_of-self-in-Err-push_key : goal.invariant_of-self-in-Err-push_key
+invariant_of-self-in-Err-push_key c =
+    let old = c.self.inside.owned.items in
+    let new = c.push_key.new.lists.items in
+    record {
+      len = c.in-Err-push_key.ensures.len;
+      covered = subst (λ locks. IsCovered locks new) (sym (undone c)) (covered-same c.self.inside.locks old new c.in-Err-push_key.ensures.err c.self.invariant.covered);
+    }
+
+pub returns-in-Err-push_key-clause-err : goal.returns-in-Err-push_key-clause-err
+returns-in-Err-push_key-clause-err c = undone c ∙ c.self.view_is
+
+pub invariant_of-self-in_default-push_key : goal.invariant_of-self-in_default-push_key
+invariant_of-self-in_default-push_key c =
+    let kept : Kept = record { owner = c.args.session; row = c.args.committed } in
+    let old = c.self.inside.owned.items in
+    let new = c.push_key.new.lists.items in
+    record {
+      len = c.in_default-push_key.ensures.len;
+      covered = subst (λ locks. IsCovered locks new) (sym c.in_default-insert.ensures.ok)
+          (covered-inserted c.self.inside.locks old new kept c.args.key c.in_default-push_key.ensures.ok c.self.invariant.covered);
+    }
