@@ -1,6 +1,5 @@
 pub mod Bytes
 pub mod Deck
 pub mod Parts
-mod PrintText
 pub mod Readings
 pub mod Words

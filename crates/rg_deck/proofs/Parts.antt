@@ -1,15 +1,17 @@
 -- Rows, statements and lines, from their words.
-use Rattle.std.proofs.Common.{ℕ, ◌≡◌, ◌≢◌, List, ◌∷◌, ◌++◌, arith, refl, ◌∙◌}
+use Rattle.std.proofs.Common.{ℕ, ◌≡◌, ◌≢◌, ◌≤◌, List, ◌∷◌, ◌++◌, arith, refl, ◌∙◌}
 use Rattle.std.specs.Fmt.{decimal}
 use Rattle.rg_base.specs.Text.{IsText}
+use Rattle.rg_base.specs.Words.{text_word}
 use Rattle.rg_base.specs.declared.row.Row.{Row}
 use Rattle.rg_base.specs.declared.session.Session.{Session}
 use Rattle.rg_stmt.specs.declared.line.Line.{Line}
 use Rattle.rg_stmt.specs.declared.line.Line.TheVariants.{Said}
 use Rattle.rg_stmt.specs.declared.stmt.Stmt.{Stmt}
-use Rattle.rg_stmt.specs.declared.stmt.Stmt.TheVariants.{Insert, Select, Commit}
-use Rattle.rg_deck.specs.Grammar.{IsRow, IsStmt, IsLine, text_word, line_text}
+use Rattle.rg_stmt.specs.declared.stmt.Stmt.TheVariants.{Insert, Update, Delete, Select, Scan, Find, Commit, Rollback}
+use Rattle.rg_deck.specs.Grammar.{IsRow, IsStmt, IsAdmitted, line_text}
 use Rattle.rg_deck.specs.Reading.{BeginsWithNumber, row_spelling, stmt_spelling}
+use Rattle.rg_deck.specs.declared.read.Admits.TheVariants.{Statements}
 use Rattle.rg_deck.proofs.Words.{number_once}
 
 pub no_row_clus : (bytes rest : List ℕ) (key : ℕ) → BeginsWithNumber bytes key rest → ((n : ℕ) (more : List ℕ) → BeginsWithNumber rest n more → ⊥) → (row : Row) → IsRow row → bytes ≢ row_spelling row
@@ -30,19 +32,28 @@ no_row_text bytes rest after word key clus cat a b d none row is e =
     let three = number_once after word _ cat row.cat d is.cat two.1 in
     none row.text is.text three.1
 
--- a line is its session's number, a space and its statement
+-- a line that is a statement is its session's number, a space and the statement
 pub line_said : (session : Session) (stmt : Stmt) → line_text (Said session stmt) ≡ decimal session.0 ++ 32 ∷ stmt_spelling stmt
 line_said session (Insert row) = refl
+line_said session (Update row) = refl
+line_said session (Delete key) = refl
 line_said session (Select key) = refl
+line_said session (Scan lo hi) = refl
+line_said session (Find cat) = refl
 line_said session Commit = refl
+line_said session Rollback = refl
 
-pub no_line_number : (bytes : List ℕ) → ((n : ℕ) (rest : List ℕ) → BeginsWithNumber bytes n rest → ⊥) → (line : Line) → IsLine line → bytes ≢ line_text line
-no_line_number bytes none (Said session stmt) is e = none session.0 (stmt_spelling stmt) (omega (arith, is.0), e ∙ line_said session stmt)
+pub no_said_number : (bytes : List ℕ) → ((n : ℕ) (rest : List ℕ) → BeginsWithNumber bytes n rest → ⊥) → (line : Line) → IsAdmitted Statements line → bytes ≢ line_text line
+no_said_number bytes none (Said session stmt) is e = none session.0 (stmt_spelling stmt) (omega (arith, is.0.1), e ∙ line_said session stmt)
+no_said_number bytes none other is e = cc
 
-pub no_line_session : (bytes rest : List ℕ) (number : ℕ) → BeginsWithNumber bytes number rest → number ≢ 1 → (line : Line) → IsLine line → bytes ≢ line_text line
-no_line_session bytes rest number a other (Said session stmt) is e =
-    other ((number_once bytes rest (stmt_spelling stmt) number session.0 a (omega (arith, is.0)) (e ∙ line_said session stmt)).0 ∙ is.0)
+pub no_said_session : (bytes rest : List ℕ) (number : ℕ) → BeginsWithNumber bytes number rest → (1 ≤ number → number ≤ 99 → ⊥) → (line : Line) → IsAdmitted Statements line → bytes ≢ line_text line
+no_said_session bytes rest number a out (Said session stmt) is e =
+    let same = (number_once bytes rest (stmt_spelling stmt) number session.0 a (omega (arith, is.0.1)) (e ∙ line_said session stmt)).0 in
+    out (omega (arith, is.0.0, same)) (omega (arith, is.0.1, same))
+no_said_session bytes rest number a out other is e = cc
 
-pub no_line_stmt : (bytes rest : List ℕ) (number : ℕ) → BeginsWithNumber bytes number rest → ((stmt : Stmt) → IsStmt stmt → rest ≢ stmt_spelling stmt) → (line : Line) → IsLine line → bytes ≢ line_text line
-no_line_stmt bytes rest number a none (Said session stmt) is e =
-    none stmt is.1 (number_once bytes rest (stmt_spelling stmt) number session.0 a (omega (arith, is.0)) (e ∙ line_said session stmt)).1
+pub no_said_stmt : (bytes rest : List ℕ) (number : ℕ) → BeginsWithNumber bytes number rest → ((stmt : Stmt) → IsStmt stmt → rest ≢ stmt_spelling stmt) → (line : Line) → IsAdmitted Statements line → bytes ≢ line_text line
+no_said_stmt bytes rest number a none (Said session stmt) is e =
+    none stmt is.0.2 (number_once bytes rest (stmt_spelling stmt) number session.0 a (omega (arith, is.0.1)) (e ∙ line_said session stmt)).1
+no_said_stmt bytes rest number a none other is e = cc

@@ -1,15 +1,14 @@
 -- Numbers and texts, as words.
-use Rattle.std.proofs.Common.{ℕ, ◌≡◌, ◌≢◌, ◌<◌, ◌≤◌, ◌+◌, ◌*◌, ◌^◌, ◌==◌, ◌&&◌, true, List, [], ◌∷◌, ◌++◌, length, get_or, drop, Option, Some, None, arith, refl, ap, sym, ◌∙◌, SomeIff}
+use Rattle.std.proofs.Common.{ℕ, ◌≡◌, ◌≢◌, ◌<◌, ◌≤◌, ◌+◌, ◌*◌, ◌^◌, true, List, [], ◌∷◌, ◌++◌, length, get_or, drop, Option, Some, None, arith, ap, sym, ◌∙◌, SomeIff}
 use Rattle.std.specs.Char.{digit_value}
 use Rattle.std.specs.Fmt.{decimal}
-use Rattle.std.specs.List.{list_all}
 use Rattle.std.specs.Str.Parse.{AllDigits, digits_value, digits_value_after}
 use Rattle.std.proofs.lemmas.Str.Parse.{IsNumeralModel, numerals_by_value, tells_digits, digit_from_value}
 use Rattle.std.proofs.lemmas.Fmt.{digits_decimal, digits_value-decimal, decimal-digits_value, decimal_nonempty, length-decimal-le, first_decimal, decimal_injective}
 use Rattle.std.proofs.lemmas.List.{at_drop_more}
 use Rattle.std.proofs.lemmas.Bool.Decides.{nat_tests}
-use Rattle.rg_deck.specs.Grammar.{is_dashes, text_word}
-use Rattle.rg_deck.specs.Reading.{Lacks, IsUnpadded, Finds, BeginsWithNumber}
+use Rattle.rg_base.specs.Words.{is_dashes, text_word}
+use Rattle.rg_deck.specs.Reading.{Lacks, IsUnpadded, Finds, BeginsWithNumber, IsRange}
 use Rattle.rg_deck.proofs.Bytes.{first_place, no_place}
 
 own : IsNumeralModel (AllDigits 10) (digits_value 10)
@@ -60,11 +59,12 @@ pub no_number_word : (bytes word after : List ℕ) → Lacks 32 word → bytes �
 no_number_word bytes word after lacks e none n rest b =
     none n b.0 (first_place 32 word (decimal n) after rest lacks (Lacks-decimal 32 n (omega arith) b.0) (sym e ∙ b.1)).0
 
+pub no_range : (bytes rest : List ℕ) (lo : ℕ) → BeginsWithNumber bytes lo rest → ((n : ℕ) → n < 2 ^ 64 → rest ≢ decimal n) → (other hi : ℕ) → IsRange bytes other hi → ⊥
+no_range bytes rest lo a none other hi is =
+    let one = number_once bytes rest (decimal hi) lo other a is.0 is.2 in
+    none hi is.1 one.1
+
 -- the word of a text that is all `-` has one more
 pub dashes_but_one : (word : List ℕ) → is_dashes word ≡ true → 0 < length word → word ≡ text_word (drop 1 word)
 dashes_but_one [] h some = absurd (omega arith)
 dashes_but_one (b ∷ bs) h some = grind (arith, nat_tests)
-
-pub is_dashes-list_all : (bytes : List ℕ) → is_dashes bytes ≡ list_all (λ b. b == 45) bytes
-is_dashes-list_all [] = refl
-is_dashes-list_all (b ∷ bs) = ap (λ rest. (b == 45) && rest) (is_dashes-list_all bs)

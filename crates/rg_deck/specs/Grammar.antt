@@ -1,31 +1,35 @@
 -- The lines of a deck and their spelling.
-use Rattle.std.specs.Prelude.{ℕ, ◌≡◌, ◌≢◌, ◌==◌, ◌+◌, ◌<◌, ◌^◌, ◌⊎◌, Bool, if◌then◌else◌, List, [], ◌∷◌, ◌++◌, length, codes}
+use Rattle.std.specs.Prelude.{ℕ, ◌≡◌, ◌≢◌, ◌+◌, ◌<◌, ◌≤◌, ◌^◌, ◌⊎◌, Bool, true, false, List, [], ◌∷◌, ◌++◌, length, codes, IsTrue}
 use Rattle.std.specs.Fmt.{decimal}
-use Rattle.std.specs.List.{AllByRecursion, flat_map, join_with_byte, list_all}
+use Rattle.std.specs.List.{AllByRecursion, flat_map, join_with_byte}
 use Rattle.rg_base.specs.Text.{IsText}
+use Rattle.rg_base.specs.Words.{row_words}
 use Rattle.rg_base.specs.declared.row.Row.{Row}
 use Rattle.rg_stmt.specs.declared.line.Line.{Line}
-use Rattle.rg_stmt.specs.declared.line.Line.TheVariants.{Said}
+use Rattle.rg_stmt.specs.declared.line.Line.TheVariants.{Said, Reorg, Step, Flush, Show, Death}
 use Rattle.rg_stmt.specs.declared.stmt.Stmt.{Stmt}
-use Rattle.rg_stmt.specs.declared.stmt.Stmt.TheVariants.{Insert, Select, Commit}
-
-abbrev pub is_dashes : List ℕ → Bool
-is_dashes text = list_all (λ b. b == 45) text
-
--- A text is one word. One made only of `-`, the empty one included, is written with one `-` more; any other as it is.
-abbrev pub text_word : List ℕ → List ℕ
-text_word text = if is_dashes text then 45 ∷ text else text
-
-abbrev pub row_words : Row → List (List ℕ)
-row_words row = decimal row.key ∷ decimal row.clus ∷ decimal row.cat ∷ text_word row.text ∷ []
+use Rattle.rg_stmt.specs.declared.stmt.Stmt.TheVariants.{Insert, Update, Delete, Select, Scan, Find, Commit, Rollback}
+use Rattle.rg_deck.specs.declared.read.Admits.{Admits}
+use Rattle.rg_deck.specs.declared.read.Admits.TheVariants.{Every, Statements}
 
 abbrev pub stmt_words : Stmt → List (List ℕ)
 stmt_words (Insert row) = codes "INSERT" ∷ row_words row
+stmt_words (Update row) = codes "UPDATE" ∷ row_words row
+stmt_words (Delete key) = codes "DELETE" ∷ decimal key ∷ []
 stmt_words (Select key) = codes "SELECT" ∷ decimal key ∷ []
+stmt_words (Scan lo hi) = codes "SCAN" ∷ decimal lo ∷ decimal hi ∷ []
+stmt_words (Find cat) = codes "FIND" ∷ decimal cat ∷ []
 stmt_words Commit = codes "COMMIT" ∷ []
+stmt_words Rollback = codes "ROLLBACK" ∷ []
 
+-- the utility's control statement has no words, since no deck has it (`IsLine`)
 abbrev pub line_words : Line → List (List ℕ)
 line_words (Said session stmt) = decimal session.0 ∷ stmt_words stmt
+line_words (Reorg options) = []
+line_words Step = codes "U" ∷ []
+line_words Flush = codes "F" ∷ []
+line_words Show = codes "L" ∷ []
+line_words Death = codes "X" ∷ []
 
 -- words are parted by one space, with none at either end
 abbrev pub line_text : Line → List ℕ
@@ -44,31 +48,58 @@ pub record IsRow (row : Row) : Type 0 where
 
 abbrev pub IsStmt : Stmt → Type 0
 IsStmt (Insert row) = IsRow row
+IsStmt (Update row) = IsRow row
+IsStmt (Delete key) = key < 2 ^ 64
 IsStmt (Select key) = key < 2 ^ 64
+IsStmt (Scan lo hi) = (lo < 2 ^ 64) × (hi < 2 ^ 64)
+IsStmt (Find cat) = cat < 2 ^ 64
 IsStmt Commit = Unit {0}
+IsStmt Rollback = Unit {0}
 
--- only session 1 speaks
+-- sessions 1 to 99 speak; no deck has the utility's control statement
 abbrev pub IsLine : Line → Type 0
-IsLine (Said session stmt) = (session.0 ≡ 1) × IsStmt stmt
+IsLine (Said session stmt) = (1 ≤ session.0) × (session.0 ≤ 99) × IsStmt stmt
+IsLine (Reorg options) = ⊥
+IsLine Step = Unit {0}
+IsLine Flush = Unit {0}
+IsLine Show = Unit {0}
+IsLine Death = Unit {0}
 
--- The bytes are these lines. The last line may lack its line feed.
-pub record Lines (bytes : List ℕ) (lines : List Line) : Type 0 where
-  pub each : AllByRecursion IsLine lines
+-- which lines are taken
+abbrev pub admits : Admits → Line → Bool
+admits Every line = true
+admits Statements (Said session stmt) = true
+admits Statements (Reorg options) = false
+admits Statements Step = false
+admits Statements Flush = false
+admits Statements Show = false
+admits Statements Death = false
+
+-- a line of the grammar that is taken
+abbrev pub IsAdmitted : Admits → Line → Type 0
+IsAdmitted admitted line = IsLine line × IsTrue (admits admitted line)
+
+-- The bytes are these lines, each of them taken. The last line may lack its line feed.
+pub record LinesOf (admitted : Admits) (bytes : List ℕ) (lines : List Line) : Type 0 where
+  pub each : AllByRecursion (IsAdmitted admitted) lines
   pub spelled : (bytes ≡ deck_text lines) ⊎ (bytes ++ 10 ∷ [] ≡ deck_text lines)
+
+abbrev pub Lines : List ℕ → List Line → Type 0
+Lines bytes lines = LinesOf Every bytes lines
 
 -- a line ends at a line feed, or with the bytes where it is not empty
 abbrev pub EndsLine : List ℕ → List ℕ → Type 0
 EndsLine line [] = 0 < length line
 EndsLine line (b ∷ after) = b ≡ 10
 
--- Line `number`, counted from 1, is the first outside the grammar.
-pub record IsFirstOutside (bytes : List ℕ) (number : ℕ) : Type 0 where
+-- Line `number`, counted from 1, is the first that is outside the grammar or not taken.
+pub record IsFirstOutside (admitted : Admits) (bytes : List ℕ) (number : ℕ) : Type 0 where
   pub before : List Line
   pub line : List ℕ
   pub after : List ℕ
   pub counted : number ≡ length before + 1
   pub whole : bytes ≡ deck_text before ++ (line ++ after)
-  pub each : AllByRecursion IsLine before
+  pub each : AllByRecursion (IsAdmitted admitted) before
   pub no_feed : AllByRecursion (λ b. b ≢ 10) line
   pub ends : EndsLine line after
-  pub outside : (other : Line) → IsLine other → line ≢ line_text other
+  pub outside : (other : Line) → IsAdmitted admitted other → line ≢ line_text other

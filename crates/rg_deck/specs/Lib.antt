@@ -1,4 +1,3 @@
 pub mod Grammar
-pub mod Print
 pub mod Reading
 pub mod Refuses

@@ -1,11 +1,13 @@
 -- What the parts of the reader find.
-use Rattle.std.specs.Prelude.{ℕ, ◌≡◌, ◌≢◌, ◌<◌, ◌^◌, ◌⊎◌, List, [], ◌∷◌, ◌++◌, length, slice_index, Option, None, Some}
+use Rattle.std.specs.Prelude.{ℕ, ◌≡◌, ◌≢◌, ◌<◌, ◌^◌, ◌⊎◌, List, [], ◌∷◌, ◌++◌, length, slice_index, Option, None, Some, IsFalse}
 use Rattle.std.specs.Fmt.{decimal}
 use Rattle.std.specs.List.{AllByRecursion, join_with_byte}
+use Rattle.rg_base.specs.Words.{row_words}
 use Rattle.rg_base.specs.declared.row.Row.{Row}
 use Rattle.rg_stmt.specs.declared.stmt.Stmt.{Stmt}
 use Rattle.rg_stmt.specs.declared.line.Line.{Line}
-use Rattle.rg_deck.specs.Grammar.{row_words, stmt_words, deck_text}
+use Rattle.rg_deck.specs.Grammar.{IsLine, admits, stmt_words, deck_text}
+use Rattle.rg_deck.specs.declared.read.Admits.TheVariants.{Statements}
 
 -- the bytes have no such byte
 abbrev pub Lacks : ℕ → List ℕ → Type 0
@@ -25,6 +27,14 @@ row_spelling row = join_with_byte 32 (row_words row)
 
 abbrev pub stmt_spelling : Stmt → List ℕ
 stmt_spelling stmt = join_with_byte 32 (stmt_words stmt)
+
+-- the bytes are these two numbers
+abbrev pub IsRange : List ℕ → ℕ → ℕ → Type 0
+IsRange bytes lo hi = (lo < 2 ^ 64) × (hi < 2 ^ 64) × (bytes ≡ decimal lo ++ 32 ∷ decimal hi)
+
+-- a line of the grammar that is no statement
+abbrev pub IsControl : Line → Type 0
+IsControl line = IsLine line × IsFalse (admits Statements line)
 
 -- the bytes begin with this number and a space, and then come these
 abbrev pub BeginsWithNumber : List ℕ → ℕ → List ℕ → Type 0

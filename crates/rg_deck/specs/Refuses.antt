@@ -1,10 +1,12 @@
 use Rattle.std.specs.Prelude.{ℕ, List}
 use Rattle.rg_stmt.specs.declared.line.Line.{Line}
-use Rattle.rg_deck.specs.Grammar.{Lines, IsFirstOutside}
+use Rattle.rg_deck.specs.Grammar.{LinesOf, IsFirstOutside}
+use Rattle.rg_deck.specs.declared.read.Admits.{Admits}
 use Rattle.rg_deck.specs.declared.read.DeckFault.{DeckFault}
 use Rattle.rg_deck.specs.declared.read.DeckFault.TheVariants as faults
 
--- why a deck was not read: this line is the first outside the grammar, so the bytes are no lines; want of memory says nothing
-abbrev pub Refuses : List ℕ → DeckFault → Type 0
-Refuses bytes (faults.Line number) = IsFirstOutside bytes number × ((lines : List Line) → Lines bytes lines → ⊥)
-Refuses bytes faults.NoMemory = Unit {0}
+-- why a deck was not read: this line is the first that is outside the grammar or not taken, so the bytes are no lines that
+-- are; want of memory says nothing
+abbrev pub Refuses : Admits → List ℕ → DeckFault → Type 0
+Refuses admitted bytes (faults.Line number) = IsFirstOutside admitted bytes number × ((lines : List Line) → LinesOf admitted bytes lines → ⊥)
+Refuses admitted bytes faults.NoMemory = Unit {0}

@@ -1,4 +1,4 @@
-//! Decks and prints: the bytes of a deck as its lines, and a trace as the text that shows it.
+//! Decks: the bytes of a deck as its lines.
 #![tactic(auto)]
 
 /// What holds of decks.
@@ -6,8 +6,6 @@ pub mod laws;
 mod line;
 /// The lines of a deck.
 pub mod read;
-/// The text of a trace.
-pub mod print;
 #[cfg(test)]
 mod tests;
 mod word;

@@ -1,8 +1,10 @@
-ghost use Rattle.std.specs.Prelude.{ℕ, ◌≡◌, IfOk};
-ghost use Rattle.rg_deck.specs.Grammar.{IsRow, IsStmt, IsLine, line_text};
-ghost use Rattle.rg_deck.specs.Reading.{Finds, row_spelling, stmt_spelling};
+ghost use Rattle.std.specs.Prelude.{◌≡◌, ◌≤◌, IfOk, IfSome, IfNone};
+ghost use Rattle.rg_deck.specs.Grammar.{IsRow, IsStmt, IsAdmitted, line_text};
+ghost use Rattle.rg_deck.specs.Reading.{Finds, IsControl, row_spelling, stmt_spelling};
+ghost use Rattle.rg_deck.specs.declared.read.Admits.TheVariants.{Statements};
 
-use crate::word::{read_number, read_text, split_number};
+use crate::read::Admits;
+use crate::word::{read_number, read_range, read_text, split_number};
 use rg_base::no_memory::NoMemory;
 use rg_base::row::Row;
 use rg_base::session::Session;
@@ -39,31 +41,83 @@ fn read_stmt(alloc: Global, bytes: &[u8]) -> Result<Option<Stmt>, NoMemory>
     if bytes == b"COMMIT".as_slice() {
         return Ok(Some(Stmt::Commit));
     }
+    if bytes == b"ROLLBACK".as_slice() {
+        return Ok(Some(Stmt::Rollback));
+    }
     if let Some(key) = bytes.strip_prefix(b"SELECT ") {
         return Ok(read_number(key).map(Stmt::Select));
     }
     if let Some(row) = bytes.strip_prefix(b"INSERT ") {
         return Ok(read_row(alloc, row)?.map(Stmt::Insert));
     }
+    if let Some(row) = bytes.strip_prefix(b"UPDATE ") {
+        return Ok(read_row(alloc, row)?.map(Stmt::Update));
+    }
+    if let Some(key) = bytes.strip_prefix(b"DELETE ") {
+        return Ok(read_number(key).map(Stmt::Delete));
+    }
+    if let Some(range) = bytes.strip_prefix(b"SCAN ") {
+        let Some((lo, hi)) = read_range(range) else {
+            return Ok(None);
+        };
+        return Ok(Some(Stmt::Scan { lo, hi }));
+    }
+    if let Some(cat) = bytes.strip_prefix(b"FIND ") {
+        return Ok(read_number(cat).map(Stmt::Find));
+    }
     Ok(None)
 }
 
-// One line, without its line feed.
-#[tactic(auto, using(crate::proofs::Parts::no_line_number, crate::proofs::Parts::line_said))]
-pub fn read_line(alloc: Global, bytes: &[u8]) -> Result<Option<Line>, NoMemory>
-    ensures { IfOk result (Finds IsLine line_text bytes.now) }
+// The session of this number.
+fn session_of(number: u64) -> Option<Session>
+    ensures none { IfNone result (1 ≤ number → number ≤ 99 → ⊥) }
+    ensures found { IfSome result (λ session. (1 ≤ number) × (number ≤ 99) × (session.0 ≡ number)) }
 {
-    let Some((session, stmt)) = split_number(bytes) else {
-        return Ok(None);
-    };
-    if session != 1 {
-        return Ok(None);
+    match number {
+        1..=99 => Some(Session(number as u8)),
+        _ => None,
     }
-    let Some(stmt) = read_stmt(alloc, stmt)? else {
+}
+
+// One statement of a session, without its line feed.
+#[tactic(auto, using(crate::proofs::Parts::no_said_number, crate::proofs::Parts::line_said))]
+fn read_said(alloc: Global, bytes: &[u8]) -> Result<Option<Line>, NoMemory>
+    ensures { IfOk result (Finds (IsAdmitted Statements) line_text bytes.now) }
+{
+    let Some((number, rest)) = split_number(bytes) else {
         return Ok(None);
     };
-    Ok(Some(Line::Said {
-        session: Session(1),
-        stmt,
-    }))
+    let Some(session) = session_of(number) else {
+        return Ok(None);
+    };
+    let Some(stmt) = read_stmt(alloc, rest)? else {
+        return Ok(None);
+    };
+    Ok(Some(Line::Said { session, stmt }))
+}
+
+// A line of one letter.
+fn read_control(bytes: &[u8]) -> Option<Line>
+    ensures { Finds IsControl line_text bytes.now result }
+{
+    match bytes {
+        b"U" => Some(Line::Step),
+        b"F" => Some(Line::Flush),
+        b"L" => Some(Line::Show),
+        b"X" => Some(Line::Death),
+        _ => None,
+    }
+}
+
+// One line, without its line feed.
+pub fn read_line(alloc: Global, bytes: &[u8], admits: Admits) -> Result<Option<Line>, NoMemory>
+    ensures { IfOk result (Finds (IsAdmitted admits) line_text bytes.now) }
+{
+    match admits {
+        Admits::Statements => read_said(alloc, bytes),
+        Admits::Every => match read_control(bytes) {
+            Some(line) => Ok(Some(line)),
+            None => read_said(alloc, bytes),
+        },
+    }
 }

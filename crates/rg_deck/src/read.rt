@@ -1,7 +1,8 @@
 ghost use Rattle.std.specs.Prelude.{◌≤◌, length, IfOk, IfErr};
-ghost use Rattle.rg_deck.specs.Grammar.{Lines};
+ghost use Rattle.rg_deck.specs.Grammar.{Lines, LinesOf};
 ghost use Rattle.rg_deck.specs.Reading.{CutsLine};
 ghost use Rattle.rg_deck.specs.Refuses.{Refuses};
+ghost use Rattle.rg_deck.specs.declared.read.Admits.TheVariants.{Every};
 
 use crate::line::read_line;
 use crate::word::split_at_byte;
@@ -9,10 +10,19 @@ use rg_stmt::line::Line;
 use std::alloc::Global;
 use thiserror::Error;
 
+/// Which lines of the grammar a deck may have.
+#[derive(Clone, Copy, Debug, PartialEq, Eq)]
+pub enum Admits {
+    /// Each of them.
+    Every,
+    /// Statements alone.
+    Statements,
+}
+
 /// Why a deck was not read.
 #[derive(Clone, Copy, Debug, PartialEq, Eq, Error)]
 pub enum DeckFault {
-    /// Line `number`, counted from 1, is the first outside the grammar.
+    /// Line `number`, counted from 1, is the first that is outside the grammar or that the deck may not have.
     #[error("line {number} of the deck is outside the grammar")]
     Line { number: u32 },
     #[error("out of memory")]
@@ -29,11 +39,20 @@ fn split_line(bytes: &[u8]) -> (&[u8], &[u8])
     }
 }
 
-/// The lines of a deck, in order.
+/// The lines of a deck, in order, each of the grammar.
 pub fn read_deck(alloc: Global, bytes: &[u8]) -> Result<Vec<Line>, DeckFault>
     requires { length bytes.now ≤ 16777216 }
     ensures lines { IfOk result (λ lines. Lines bytes.now lines.items) }
-    ensures fault { IfErr result (Refuses bytes.now) }
+    ensures fault { IfErr result (Refuses Every bytes.now) }
+{
+    read_admitted(alloc, bytes, Admits::Every)
+}
+
+/// The lines of a deck, in order, each of the grammar and admitted.
+pub fn read_admitted(alloc: Global, bytes: &[u8], admits: Admits) -> Result<Vec<Line>, DeckFault>
+    requires { length bytes.now ≤ 16777216 }
+    ensures lines { IfOk result (λ lines. LinesOf admits bytes.now lines.items) }
+    ensures fault { IfErr result (Refuses admits bytes.now) }
 {
     let mut lines = Vec::new(alloc);
     let mut rest = bytes;
@@ -41,7 +60,7 @@ pub fn read_deck(alloc: Global, bytes: &[u8]) -> Result<Vec<Line>, DeckFault>
     while !rest.is_empty() {
         number += 1;
         let (line, after) = split_line(rest);
-        match read_line(alloc, line) {
+        match read_line(alloc, line, admits) {
             Err(_) => return Err(DeckFault::NoMemory),
             Ok(None) => return Err(DeckFault::Line { number }),
             Ok(Some(line)) => {

@@ -1,13 +1,6 @@
-use crate::print::{Close, print};
-use crate::read::{DeckFault, read_deck};
-use rg_base::no_memory::NoMemory;
-use rg_base::row::Row;
-use rg_base::session::Session;
-use rg_base::set::Set;
-use rg_base::text::Text;
-use rg_stmt::event::Entry;
+use crate::read::{Admits, DeckFault, read_admitted, read_deck};
 use rg_stmt::line::Line;
-use rg_stmt::stmt::{Reply, Stmt};
+use rg_stmt::stmt::Stmt;
 use std::alloc::{AllocError, Global};
 use std::process::Abort;
 use std::test::Fail;
@@ -17,19 +10,23 @@ fn lines_of(rt: &impl Abort, alloc: Global, deck: &[u8]) -> Result<Vec<Line>, De
     read_deck(alloc, deck)
 }
 
-// The row of a deck that inserts one and does nothing else.
-fn row_of(rt: &impl Abort, alloc: Global, deck: &[u8]) -> Result<Option<Row>, DeckFault> {
-    let mut lines = lines_of(rt, alloc, deck)?;
-    let last = lines.pop();
-    assert!(rt; lines.is_empty());
-    match last {
-        Some(
+// How many lines a deck of statements has.
+fn count_statements(rt: &impl Abort, alloc: Global, deck: &[u8]) -> Result<usize, DeckFault> {
+    assert!(rt; deck.len() <= 16_777_216);
+    Ok(read_admitted(alloc, deck, Admits::Statements)?.len())
+}
+
+// How long the text is of the row that a deck inserts, where it does nothing else.
+fn text_length(rt: &impl Abort, alloc: Global, deck: &[u8]) -> Result<usize, DeckFault> {
+    let lines = lines_of(rt, alloc, deck)?;
+    match lines.as_slice() {
+        [
             Line::Said {
                 stmt: Stmt::Insert(row),
                 ..
             },
-        ) => Ok(Some(row)),
-        _ => Ok(None),
+        ] => Ok(row.text.as_slice().len()),
+        _ => Err(DeckFault::Line { number: 0 }),
     }
 }
 
@@ -43,151 +40,161 @@ fn deck_of(alloc: Global, byte: u8, count: usize) -> Result<Vec<u8>, AllocError>
 }
 
 #[test]
-fn counts_lines(rt: HostRuntime) {
-    let first = Err(DeckFault::Line { number: 1 });
+fn reads_each_line(rt: HostRuntime) -> Result<(), Fail> {
+    let alloc = rt.alloc();
     for (deck, want) in [
-        (b"".as_slice(), Ok(0)),
-        (b"1 INSERT 5 50 1 abc\n1 SELECT 5\n1 COMMIT", Ok(3)),
-        (b"1 INSERT 5 50 1 abc\n1 SELECT 5\n1 COMMIT\n", Ok(3)),
-        (b"1 SELECT 0", Ok(1)),
-        (b"1 SELECT 18446744073709551615", Ok(1)),
-        (b"1 SELECT 18446744073709551616", first),
-        (b"1 SELECT ", first),
-        (b"1 SELECT +5", first),
-        (b"1 SELECT 05", first),
-        (b"1 SELECT  5", first),
-        (b"1 INSERT 01 1 1 a", first),
-        (b"1 INSERT 1 1 1", first),
-        (b"1 INSERT 1 1 1 ", first),
-        (b"1 INSERT 1 1 1 a b", first),
-        (b"1 INSERT 1 1 1 a\x7f", first),
-        (b"1 COMMIT ", first),
-        (b" 1 COMMIT", first),
-        (b"1 commit", first),
-        (b"2 COMMIT", first),
-        (b"01 COMMIT", first),
-        (b"1 COMMIT\r\n", first),
-        (b"\n", first),
-        (b"1 COMMIT\n\n1 COMMIT", Err(DeckFault::Line { number: 2 })),
-        (b"1 COMMIT\n1 COMMIT\n1", Err(DeckFault::Line { number: 3 })),
+        (
+            b"1 INSERT 5 50 1 ab".as_slice(),
+            "[Said { session: Session(1), stmt: Insert(Row { key: 5, clus: 50, cat: 1, text: Text { bytes: [97, 98] } }) }]",
+        ),
+        (
+            b"99 UPDATE 5 50 1 -\n",
+            "[Said { session: Session(99), stmt: Update(Row { key: 5, clus: 50, cat: 1, text: Text { bytes: [] } }) }]",
+        ),
+        (
+            b"10 INSERT 0 0 0 --",
+            "[Said { session: Session(10), stmt: Insert(Row { key: 0, clus: 0, cat: 0, text: Text { bytes: [45] } }) }]",
+        ),
+        (
+            b"2 INSERT 0 0 0 -~!",
+            "[Said { session: Session(2), stmt: Insert(Row { key: 0, clus: 0, cat: 0, text: Text { bytes: [45, 126, 33] } }) }]",
+        ),
+        (
+            b"7 DELETE 10",
+            "[Said { session: Session(7), stmt: Delete(10) }]",
+        ),
+        (
+            b"1 SELECT 18446744073709551615",
+            "[Said { session: Session(1), stmt: Select(18446744073709551615) }]",
+        ),
+        (
+            b"1 SCAN 9 1",
+            "[Said { session: Session(1), stmt: Scan { lo: 9, hi: 1 } }]",
+        ),
+        (b"1 FIND 0", "[Said { session: Session(1), stmt: Find(0) }]"),
+        (b"1 COMMIT", "[Said { session: Session(1), stmt: Commit }]"),
+        (
+            b"1 ROLLBACK",
+            "[Said { session: Session(1), stmt: Rollback }]",
+        ),
+        (b"U\nF\nL\nX\n", "[Step, Flush, Show, Death]"),
+        (
+            b"U\n3 COMMIT\nX",
+            "[Step, Said { session: Session(3), stmt: Commit }, Death]",
+        ),
+        (b"", "[]"),
+    ] {
+        let lines = lines_of(&rt, alloc, deck)?;
+        let found = format!(in alloc; "{lines:?}")?;
+        assert_eq!(rt; found.as_str(), want);
+    }
+    Ok(())
+}
+
+#[test]
+fn refuses_lines(rt: HostRuntime) {
+    for deck in [
+        b"1 INSERT 01 1 1 a".as_slice(),
+        b"1 INSERT 1 1 1",
+        b"1 INSERT 1 1 1 ",
+        b"1 INSERT 1 1 1 a b",
+        b"1 INSERT 1 1 1 a\x7f",
+        b"1 INSERT 1 1 1 a\t",
+        b"1 INSERT 1 1 18446744073709551616 a",
+        b"1 SELECT 18446744073709551616",
+        b"1 SELECT 99999999999999999999",
+        b"1 SELECT ",
+        b"1 SELECT",
+        b"1 SELECT +5",
+        b"1 SELECT -5",
+        b"1 SELECT 05",
+        b"1 SELECT  5",
+        b"1 SELECT 5 ",
+        b"1 SELECT 5 6",
+        b"1 SCAN 1",
+        b"1 SCAN 1 2 3",
+        b"1 SCAN 1  2",
+        b"1 FIND",
+        b"1 COMMIT ",
+        b"1 COMMIT 1",
+        b"1 ROLLBACK 1",
+        b"1  COMMIT",
+        b" 1 COMMIT",
+        b"COMMIT",
+        b" COMMIT",
+        b"1",
+        b"1 ",
+        b"1 commit",
+        b"1 COMMITS",
+        b"1 DROP 5",
+        b"0 COMMIT",
+        b"100 COMMIT",
+        b"01 COMMIT",
+        b"257 COMMIT",
+        b"18446744073709551617 COMMIT",
+        b"1 COMMIT\r\n",
+        b"u",
+        b"U ",
+        b" U",
+        b"U U",
+        b"1 U",
+        b"UF",
+        b"REORG",
+        b"REORG SHRLEVEL CHANGE",
+        b"1 REORG",
+        b"\n",
+        b" ",
+        b" \n",
     ] {
         let found = lines_of(&rt, rt.alloc(), deck).map(|lines| lines.len());
-        assert_eq!(rt; found, want, "at {deck:?}");
+        assert_eq!(rt; found, Err(DeckFault::Line { number: 1 }), "at {deck:?}");
     }
 }
 
 #[test]
-fn reads_rows(rt: HostRuntime) -> Result<(), Fail> {
-    for (deck, text) in [
-        (b"1 INSERT 5 50 1 abc".as_slice(), b"abc".as_slice()),
-        (b"1 INSERT 5 50 1 -", b""),
-        (b"1 INSERT 5 50 1 --\n", b"-"),
-        (b"1 INSERT 5 50 1 -a", b"-a"),
+fn counts_lines(rt: HostRuntime) {
+    for (deck, every, statements) in [
+        (
+            b"1 INSERT 5 50 1 abc\n2 SELECT 5\n1 COMMIT".as_slice(),
+            Ok(3),
+            Ok(3),
+        ),
+        (b"1 COMMIT\n\n1 COMMIT", Err(2), Err(2)),
+        (b"1 COMMIT\n1 COMMIT\n1", Err(3), Err(3)),
+        (b"1 COMMIT\n1 COMMIT\n\n", Err(3), Err(3)),
+        (b"U\n1 COMMIT", Ok(2), Err(1)),
+        (b"1 COMMIT\nF\n", Ok(2), Err(2)),
+        (b"1 COMMIT\n1 COMMIT\nL", Ok(3), Err(3)),
+        (b"1 COMMIT\nX\n1", Err(3), Err(2)),
+        (b"1 COMMIT\n1\nX", Err(2), Err(2)),
     ] {
-        let row = row_of(&rt, rt.alloc(), deck)?.ok_or("no row")?;
-        assert_eq!(rt; (row.key, row.clus, row.cat), (5, 50, 1));
-        assert_eq!(rt; row.text.as_slice(), text);
+        let found = lines_of(&rt, rt.alloc(), deck).map(|lines| lines.len());
+        assert_eq!(rt;
+            found,
+            every.map_err(|number| DeckFault::Line { number }),
+            "at {deck:?}"
+        );
+        let found = count_statements(&rt, rt.alloc(), deck);
+        assert_eq!(rt;
+            found,
+            statements.map_err(|number| DeckFault::Line { number }),
+            "at {deck:?}"
+        );
     }
-    Ok(())
 }
 
 #[test]
 fn bounds_texts(rt: HostRuntime) -> Result<(), Fail> {
+    let first = Err(DeckFault::Line { number: 1 });
     for (byte, count, want) in [
-        (b'x', 800, Some(800)),
-        (b'x', 801, None),
-        (b'-', 800, Some(799)),
-        (b'-', 801, Some(800)),
-        (b'-', 802, None),
+        (b'x', 800, Ok(800)),
+        (b'x', 801, first),
+        (b'-', 800, Ok(799)),
+        (b'-', 801, Ok(800)),
+        (b'-', 802, first),
     ] {
         let deck = deck_of(rt.alloc(), byte, count)?;
-        let length = match row_of(&rt, rt.alloc(), &deck) {
-            Ok(Some(row)) => Some(row.text.as_slice().len()),
-            _ => None,
-        };
-        assert_eq!(rt; length, want);
-    }
-    Ok(())
-}
-
-// The trace of an opening and of one SELECT for each of these replies.
-fn trace_of(alloc: Global, replies: Vec<Reply>) -> Result<Vec<Entry>, NoMemory> {
-    let mut trace = Vec::new(alloc);
-    trace.push(Entry::opened(1, 0, 0, 0, 0))?;
-    for reply in replies {
-        trace.push(Entry::said(Session(1), Stmt::Select(5), reply, 0))?;
-    }
-    Ok(trace)
-}
-
-fn found(text: Text) -> Reply {
-    Reply::Found(Row {
-        key: 5,
-        clus: 50,
-        cat: 1,
-        text,
-    })
-}
-
-#[test]
-fn prints_entries(rt: HostRuntime) -> Result<(), Fail> {
-    let alloc = rt.alloc();
-    let replies = vec![in alloc;
-        Reply::Done,
-        found(Text::new(b"abc".to_vec(alloc)?)),
-        found(Text::new(Vec::new(alloc))),
-        found(Text::new(b"-".to_vec(alloc)?)),
-        found(Text::new(b"a-".to_vec(alloc)?)),
-        Reply::Absent,
-        Reply::Duplicate,
-        Reply::NoMemory,
-    ]?;
-    let trace = trace_of(alloc, replies)?;
-    let text = print(alloc, &trace, false, Close::Rows(3))?;
-    let want = b"0 - OPENED copy=1 rows=0 pages=0
-1 1 OK
-2 1 ROW 5 50 1 abc
-3 1 ROW 5 50 1 -
-4 1 ROW 5 50 1 --
-5 1 ROW 5 50 1 a-
-6 1 100 NONE
-7 1 -803 DUPLICATE
-8 1 5 NOMEMORY
-END entries=9 rows=3
-";
-    assert_eq!(rt; text.as_slice(), want.as_slice());
-    Ok(())
-}
-
-#[test]
-fn prints_closes(rt: HostRuntime) -> Result<(), Fail> {
-    for (close, want) in [
-        (Close::Rows(0), b"END entries=0 rows=0\n".as_slice()),
-        (Close::Down, b"END entries=0 DOWN\n"),
-        (
-            Close::Damaged {
-                set: Set::Log,
-                page: 7,
-            },
-            b"REFUSED volume damaged LOG 7\n",
-        ),
-        (
-            Close::Damaged {
-                set: Set::First,
-                page: 7,
-            },
-            b"REFUSED volume damaged FIRST 7\n",
-        ),
-        (
-            Close::Damaged {
-                set: Set::Second,
-                page: 7,
-            },
-            b"REFUSED volume damaged SECOND 7\n",
-        ),
-    ] {
-        let text = print(rt.alloc(), &[], true, close)?;
-        assert_eq!(rt; text.as_slice(), want, "at {close:?}");
+        assert_eq!(rt; text_length(&rt, rt.alloc(), &deck), want);
     }
     Ok(())
 }

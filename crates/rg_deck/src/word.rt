@@ -2,11 +2,11 @@ ghost use Rattle.std.specs.Prelude.{ℕ, List, ◌≡◌, ◌≢◌, ◌<◌, �
 ghost use Rattle.std.specs.Fmt.{decimal};
 ghost use Rattle.std.specs.Str.Parse.{AllDigits, digits_value};
 ghost use Rattle.rg_base.specs.Text.{IsText};
-ghost use Rattle.rg_deck.specs.Grammar.{text_word, is_dashes};
-ghost use Rattle.rg_deck.specs.Reading.{Lacks, IsUnpadded, Finds, BeginsWithNumber};
+ghost use Rattle.rg_base.specs.Words.{text_word};
+ghost use Rattle.rg_deck.specs.Reading.{Lacks, IsUnpadded, Finds, BeginsWithNumber, IsRange};
 
 use rg_base::no_memory::NoMemory;
-use rg_base::text::{TEXT_LIMIT, Text};
+use rg_base::text::{TEXT_LIMIT, Text, is_dashes};
 use std::alloc::Global;
 
 // The bytes before the first `mark`, and those after it.
@@ -64,18 +64,20 @@ pub fn split_number(bytes: &[u8]) -> Option<(u64, &[u8])>
     Some((read_number(word)?, rest))
 }
 
+// Two numbers.
+pub fn read_range(bytes: &[u8]) -> Option<(u64, u64)>
+    ensures none { IfNone result ((lo hi : ℕ) → IsRange bytes.now lo hi → ⊥) }
+    ensures found { IfSome result (λ range. IsRange bytes.now range.0 range.1) }
+{
+    let (lo, rest) = split_number(bytes)?;
+    Some((lo, read_number(rest)?))
+}
+
 // The bytes are a text.
 fn is_text(bytes: &[u8]) -> bool
     ensures { IsTrue result ↔ IsText bytes.now }
 {
     bytes.len() <= TEXT_LIMIT && bytes.iter().all(|byte| matches!(byte, b'!'..=b'~'))
-}
-
-// Each byte is `-`.
-pub fn is_dashes(bytes: &[u8]) -> bool
-    ensures { result ≡ is_dashes bytes.now }
-{
-    bytes.iter().all(|byte| *byte == b'-')
 }
 
 // The bytes that this word is of: its own, or all but the first where each is `-`.

@@ -1,0 +1,4 @@
+pub mod Layout
+pub mod Print
+pub mod Reply
+pub mod Utility
