@@ -1,0 +1,14 @@
+use Rattle.std.proofs.Common.{◌≡◌, ◌++◌, length}
+use Rattle.std.specs.List.{AllByRecursion}
+use Rattle.std.specs.Vec.Iter.{into_iter_items, into_iter_len}
+use Rattle.rg_run.specs.Played.{IsPlayed, Goes}
+use Rattle.rg_run.proofs.run.play.Given as goal
+
+abbrev pub invariant-loop-line : goal.invariant-loop-line
+invariant-loop-line l =
+    record {
+      going : Goes l.yielded l.trace.items l.store;
+      rest : l.yielded ++ into_iter_items l.line-iterator ≡ l.fn.lines.items;
+      left : into_iter_len l.line-iterator ≡ length (into_iter_items l.line-iterator);
+      lines : AllByRecursion IsPlayed (into_iter_items l.line-iterator);
+    }

@@ -1,0 +1,7 @@
+use Rattle.rg_run.proofs.Plays.{Goes-push}
+use Rattle.rg_run.proofs.run.play_line.Goals as goal
+
+pub returns-clause-goes : goal.returns-clause-goes
+returns-clause-goes c = λ lines goes.
+    rw (c.push_reserved.ensures.items, c.in_ok-reserve.ensures.items, c.said.ensures, c.in-Said.is)
+    (Goes-push lines c.args.trace.now.items c.args.store.now c.say-reply.new.self c.in-Said.session c.in-Said.stmt c.say-reply.result c.say-reply.ensures goes)

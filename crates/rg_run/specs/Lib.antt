@@ -1,0 +1,4 @@
+pub mod Played
+pub mod Rows
+pub mod Shows
+pub mod Writes
