@@ -2,29 +2,19 @@
 use Rattle.std.proofs.Common.{◌≡◌, ◌≢◌, ◌<◌, ◌≤◌, ◌⊎◌, inl, inr, ℕ, List, [], ◌∷◌, ◌++◌, Option, Some, None, length, refl, sym, ◌∙◌, ap, subst, arith, append-nil, length-append}
 use Rattle.std.specs.List.{Contains}
 use Rattle.std.specs.Io.KnownBytes.{Consumes, Appends, IsAtEnd}
-use Rattle.rg_deck.specs.Grammar.{Lines}
 use Rattle.rg_outside.specs.Faults.{Rose}
 use Rattle.rg_stmt.specs.declared.event.Entry.{Entry}
-use Rattle.reorgdb.specs.Answer.{Seen, IsPlay, Comes, Answers, output_of}
-use Rattle.reorgdb.specs.Causes.{Plays, ReadsNoDeck, IsDue, GivesDue}
+use Rattle.reorgdb.specs.Answer.{Seen, IsPlay, IsDeck, ReadsDeck, Comes, Answers, output_of}
+use Rattle.reorgdb.specs.Causes.{Plays, RefusesDeck, IsDue, GivesDue}
 use Rattle.reorgdb.specs.Reading.{TakesTooMany}
 use Rattle.reorgdb.specs.Refusals.{status_of}
 use Rattle.reorgdb.specs.declared.outcome.Outcome.{Outcome}
 use Rattle.reorgdb.specs.declared.outcome.Outcome.TheVariants.{Played, Words, Deck, Source, Long, NoMemory}
 
-same_outcome : (a b : Outcome) → status_of a ≡ status_of b → a ≡ b
-same_outcome Played Played e = refl
-same_outcome Words Words e = refl
-same_outcome Deck Deck e = refl
-same_outcome Source Source e = refl
-same_outcome Long Long e = refl
-same_outcome NoMemory NoMemory e = refl
-same_outcome _ _ e = absurd (omega arith)
-
 not_four : (a : Outcome) → status_of a ≢ 4
 not_four Played e = omega arith
 not_four Words e = omega arith
-not_four Deck e = omega arith
+not_four (Deck line) e = omega arith
 not_four Source e = omega arith
 not_four Long e = omega arith
 not_four NoMemory e = omega arith
@@ -52,41 +42,66 @@ too_many (Some all) (Some left) taken bytes told consumed many short =
 
 module _ (words : List (List ℕ)) (source source_after sink sink_after : Seen) (status : ℕ) (trace : List Entry) where
   -- a status but 4 and 8 is the outcome's
-  by_status : (due : Outcome) → status_of due ≢ 8 → status ≡ status_of due → (a : Answers words source source_after sink sink_after status trace)
-      → Comes due words source source_after trace a.print × Appends sink.bytes sink_after.bytes (output_of due a.print)
-  by_status due below is a = elim a.delivered [
-    | inl whole ↦
-        subst (λ o. Comes o words source source_after trace a.print × Appends sink.bytes sink_after.bytes (output_of o a.print))
-        (same_outcome a.outcome due (sym whole.0 ∙ is)) (a.comes, whole.1)
-    | inr front ↦ elim front [ inl failed ↦ absurd (not_four due (sym is ∙ failed.0)) | inr wanted ↦ absurd (below (sym is ∙ wanted.0)) ]
+  record OfStatus (outcome : Outcome) (print : List ℕ) : Type 0 where
+    is : status ≡ status_of outcome
+    comes : Comes outcome words source source_after trace print
+    shown : Appends sink.bytes sink_after.bytes (output_of outcome print)
+
+  by_status : status ≢ 4 → status ≢ 8 → (a : Answers words source source_after sink sink_after status trace) → OfStatus a.outcome a.print
+  by_status four eight a = elim a.delivered [
+    | inl whole ↦ record { is = whole.0; comes = a.comes; shown = whole.1 }
+    | inr front ↦ elim front [ inl failed ↦ absurd (four failed.0) | inr wanted ↦ absurd (eight wanted.0) ]
   ]
 
-  pub plays : Answers words source source_after sink sink_after status trace → status ≡ 0 → Plays source source_after sink sink_after trace
-  plays a is =
-      let (comes, shown) = by_status Played (λ e. omega arith) is a in
-      let (lines, spelled, printed) = comes.3 in
+  played_of : (outcome : Outcome) (print : List ℕ) → status ≡ 0 → OfStatus outcome print → Plays source source_after sink sink_after trace
+  played_of Played print is of =
+      let (play, bytes, read, deals) = of.comes in
+      let (lines, spelled, printed) = deals in
       record {
-        bytes = comes.1;
+        bytes = bytes;
         lines = lines;
         rows = printed.rows;
-        read = comes.2;
+        read = read;
         spelled = spelled;
         entries = printed.entries;
         counted = printed.counted;
-        shown = subst (Appends sink.bytes sink_after.bytes) printed.printed shown;
+        shown = subst (Appends sink.bytes sink_after.bytes) printed.printed of.shown;
       }
+  played_of outcome print is of = absurd (omega (arith, of.is, is))
+
+  pub plays : Answers words source source_after sink sink_after status trace → status ≡ 0 → Plays source source_after sink sink_after trace
+  plays a is = played_of a.outcome a.print is (by_status (λ e. omega arith) (λ e. omega arith) a)
+
+  words_of : (outcome : Outcome) (print : List ℕ) → status ≡ 1 → OfStatus outcome print → IsPlay words → ⊥
+  words_of Words print is of = of.comes.0
+  words_of outcome print is of = absurd (omega (arith, of.is, is))
 
   pub no_words : Answers words source source_after sink sink_after status trace → status ≡ 1 → IsPlay words → ⊥
-  no_words a is = (by_status Words (λ e. omega arith) is a).0.0
+  no_words a is = words_of a.outcome a.print is (by_status (λ e. omega arith) (λ e. omega arith) a)
 
-  pub no_deck : Answers words source source_after sink sink_after status trace → status ≡ 2 → ReadsNoDeck source source_after
-  no_deck a is = let comes = (by_status Deck (λ e. omega arith) is a).0 in (comes.1, comes.2, comes.3.0)
+  deck_of : (outcome : Outcome) (print : List ℕ) → status ≡ 2 → OfStatus outcome print → RefusesDeck source source_after sink sink_after
+  deck_of (Deck line) print is of =
+      let (play, bytes, read, deals) = of.comes in
+      let (refused, none, printed) = deals in
+      record { bytes = bytes; line = line; read = read; refused = refused; shown = subst (Appends sink.bytes sink_after.bytes) printed of.shown }
+  deck_of outcome print is of = absurd (omega (arith, of.is, is))
+
+  pub no_deck : Answers words source source_after sink sink_after status trace → status ≡ 2 → RefusesDeck source source_after sink sink_after
+  no_deck a is = deck_of a.outcome a.print is (by_status (λ e. omega arith) (λ e. omega arith) a)
+
+  source_of : (outcome : Outcome) (print : List ℕ) → status ≡ 3 → OfStatus outcome print → Rose source.faults source_after.faults
+  source_of Source print is of = of.comes.1
+  source_of outcome print is of = absurd (omega (arith, of.is, is))
 
   pub no_source : Answers words source source_after sink sink_after status trace → status ≡ 3 → Rose source.faults source_after.faults
-  no_source a is = (by_status Source (λ e. omega arith) is a).0.1
+  no_source a is = source_of a.outcome a.print is (by_status (λ e. omega arith) (λ e. omega arith) a)
+
+  long_of : (outcome : Outcome) (print : List ℕ) → status ≡ 7 → OfStatus outcome print → TakesTooMany source.bytes source_after.bytes
+  long_of Long print is of = of.comes.1
+  long_of outcome print is of = absurd (omega (arith, of.is, is))
 
   pub too_long : Answers words source source_after sink sink_after status trace → status ≡ 7 → TakesTooMany source.bytes source_after.bytes
-  too_long a is = (by_status Long (λ e. omega arith) is a).0.1
+  too_long a is = long_of a.outcome a.print is (by_status (λ e. omega arith) (λ e. omega arith) a)
 
   pub no_sink : Answers words source source_after sink sink_after status trace → status ≡ 4 → Rose sink.faults sink_after.faults
   no_sink a is = elim a.delivered [
@@ -103,43 +118,51 @@ module _ (words : List (List ℕ)) (source source_after sink sink_after : Seen) 
       refused : (outcome : Outcome) (print : List ℕ) → Comes outcome words source source_after trace print → outcome ≡ Words
       refused Words print comes = refl
       refused Played print comes = absurd (other comes.0)
-      refused Deck print comes = absurd (other comes.0)
+      refused (Deck line) print comes = absurd (other comes.0)
       refused Source print comes = absurd (other comes.0)
       refused Long print comes = absurd (other comes.0)
       refused NoMemory print comes = absurd (other comes.0)
 
-  -- what comes where nothing fails is what is due, or want of memory
+  -- what was read to the end is what the source told
+  all_read : (read bytes : List ℕ) → source.bytes ≡ Some bytes → ReadsDeck source read source_after → read ≡ bytes
+  all_read read bytes told reads = whole_read source.bytes source_after.bytes read bytes told reads.taken reads.end
+
+  -- what comes where nothing fails has the status of what is due, or is want of memory
   due_outcome : (outcome due : Outcome) (bytes print : List ℕ) → source.bytes ≡ Some bytes → IsDue due words bytes → (Rose source.faults source_after.faults → ⊥)
-      → Comes outcome words source source_after trace print → (outcome ≡ due) ⊎ (outcome ≡ NoMemory)
+      → Comes outcome words source source_after trace print → (status_of outcome ≡ status_of due) ⊎ (outcome ≡ NoMemory)
   due_outcome NoMemory due bytes print told is_due sure comes = inr refl
   due_outcome Source due bytes print told is_due sure comes = absurd (sure comes.1)
   due_outcome outcome Source bytes print told is_due sure comes = absurd is_due
   due_outcome outcome NoMemory bytes print told is_due sure comes = absurd is_due
   due_outcome Words Words bytes print told is_due sure comes = inl refl
   due_outcome Words Played bytes print told is_due sure comes = absurd (comes.0 is_due.0)
-  due_outcome Words Deck bytes print told is_due sure comes = absurd (comes.0 is_due.0)
+  due_outcome Words (Deck line) bytes print told is_due sure comes = absurd (comes.0 is_due.0)
   due_outcome Words Long bytes print told is_due sure comes = absurd (comes.0 is_due.0)
   due_outcome Played Words bytes print told is_due sure comes = absurd (is_due comes.0)
-  due_outcome Deck Words bytes print told is_due sure comes = absurd (is_due comes.0)
+  due_outcome (Deck line) Words bytes print told is_due sure comes = absurd (is_due comes.0)
   due_outcome Long Words bytes print told is_due sure comes = absurd (is_due comes.0)
   due_outcome Played Played bytes print told is_due sure comes = inl refl
-  due_outcome Deck Deck bytes print told is_due sure comes = inl refl
+  due_outcome (Deck line) (Deck other) bytes print told is_due sure comes = inl refl
   due_outcome Long Long bytes print told is_due sure comes = inl refl
-  due_outcome Played Deck bytes print told is_due sure comes =
-      absurd (is_due.2 comes.3.0 (subst (λ b. Lines b comes.3.0) (whole_read source.bytes source_after.bytes comes.1 bytes told comes.2.taken comes.2.end) comes.3.1))
-  due_outcome Deck Played bytes print told is_due sure comes =
-      absurd (comes.3.0 is_due.2 (subst (λ b. Lines b is_due.2) (sym (whole_read source.bytes source_after.bytes comes.1 bytes told comes.2.taken comes.2.end)) is_due.3))
+  due_outcome Played (Deck line) bytes print told is_due sure comes =
+      let (play, read, reads, deals) = comes in
+      let (lines, spelled, printed) = deals in
+      absurd (is_due.2 lines (subst (λ b. IsDeck b lines) (all_read read bytes told reads) spelled))
+  due_outcome (Deck line) Played bytes print told is_due sure comes =
+      let (play, read, reads, deals) = comes in
+      let (refused, none, printed) = deals in
+      absurd (refused.1 is_due.2 (subst (λ b. IsDeck b is_due.2) (sym (all_read read bytes told reads)) is_due.3))
   due_outcome Played Long bytes print told is_due sure comes =
-      absurd (short_and_long comes.1 bytes (whole_read source.bytes source_after.bytes comes.1 bytes told comes.2.taken comes.2.end) comes.2.short is_due.1)
-  due_outcome Deck Long bytes print told is_due sure comes =
-      absurd (short_and_long comes.1 bytes (whole_read source.bytes source_after.bytes comes.1 bytes told comes.2.taken comes.2.end) comes.2.short is_due.1)
+      absurd (short_and_long comes.1 bytes (all_read comes.1 bytes told comes.2) comes.2.short is_due.1)
+  due_outcome (Deck line) Long bytes print told is_due sure comes =
+      absurd (short_and_long comes.1 bytes (all_read comes.1 bytes told comes.2) comes.2.short is_due.1)
   due_outcome Long Played bytes print told is_due sure comes = absurd (too_many source.bytes source_after.bytes comes.1.0 bytes told comes.1.2 comes.1.1 is_due.1)
-  due_outcome Long Deck bytes print told is_due sure comes = absurd (too_many source.bytes source_after.bytes comes.1.0 bytes told comes.1.2 comes.1.1 is_due.1)
+  due_outcome Long (Deck line) bytes print told is_due sure comes = absurd (too_many source.bytes source_after.bytes comes.1.0 bytes told comes.1.2 comes.1.1 is_due.1)
 
   pub gives_due : Answers words source source_after sink sink_after status trace → GivesDue words source source_after sink sink_after status
   gives_due a due bytes told is_due sure_source sure_sink = elim a.delivered [
     | inl whole ↦ elim (due_outcome a.outcome due bytes a.print told is_due sure_source a.comes) [
-      | inl same ↦ inl (whole.0 ∙ ap status_of same)
+      | inl same ↦ inl (whole.0 ∙ same)
       | inr none ↦ inr (whole.0 ∙ ap status_of none)
     ]
     | inr front ↦ elim front [ inl failed ↦ absurd (sure_sink failed.1) | inr wanted ↦ inr wanted.0 ]

@@ -1,5 +1,3 @@
 mod Causes
 mod Deals
 mod Pieces
-mod Plays
-mod Steps

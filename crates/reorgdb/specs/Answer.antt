@@ -1,16 +1,17 @@
 -- What a call of the program comes to, and how its output is given.
 use Rattle.std.specs.Prelude.{ℕ, ◌≡◌, ◌≤◌, ◌⊎◌, false, List, [], ◌∷◌, Option, length, codes}
 use Rattle.std.specs.Io.KnownBytes.{Consumes, Appends, IsAtEnd}
-use Rattle.rg_deck.specs.Grammar.{Lines}
-use Rattle.rg_deck.specs.Print.{print_text}
-use Rattle.rg_deck.specs.declared.print.Close.TheVariants as closes
+use Rattle.rg_deck.specs.Grammar.{LinesOf, IsFirstOutside}
+use Rattle.rg_deck.specs.declared.read.Admits.TheVariants.{Statements}
 use Rattle.rg_outside.specs.Faults.{Rose}
+use Rattle.rg_print.specs.Print.{print_text}
+use Rattle.rg_print.specs.declared.print.Close.TheVariants as closes
+use Rattle.rg_run.specs.Played.{TraceOf, TraceOfFront, EndsWithRows}
 use Rattle.rg_stmt.specs.declared.event.Entry.{Entry}
 use Rattle.rg_stmt.specs.declared.line.Line.{Line}
 use Rattle.reorgdb.specs.Giving.{GivesFront}
-use Rattle.reorgdb.specs.Played.{TraceOf, TraceOfFront, EndsWithRows}
 use Rattle.reorgdb.specs.Reading.{TakesTooMany}
-use Rattle.reorgdb.specs.Refusals.{status_of, refusal_text}
+use Rattle.reorgdb.specs.Refusals.{status_of, fixed_text, deck_refusal}
 use Rattle.reorgdb.specs.declared.outcome.Outcome.{Outcome}
 use Rattle.reorgdb.specs.declared.outcome.Outcome.TheVariants.{Played, Words, Deck, Source, Long, NoMemory}
 
@@ -23,9 +24,17 @@ pub record Seen : Type 0 where
 abbrev pub IsPlay : List (List ℕ) → Type 0
 IsPlay words = words ≡ codes "play" ∷ []
 
--- the bytes are no lines
+-- the bytes are statements, one to a line
+abbrev pub IsDeck : List ℕ → List Line → Type 0
+IsDeck bytes lines = LinesOf Statements bytes lines
+
+-- the bytes are no such lines
 abbrev pub IsNoDeck : List ℕ → Type 0
-IsNoDeck bytes = (lines : List Line) → Lines bytes lines → ⊥
+IsNoDeck bytes = (lines : List Line) → IsDeck bytes lines → ⊥
+
+-- this line is the first that is outside the grammar or no statement
+abbrev pub IsRefusedAt : List ℕ → ℕ → Type 0
+IsRefusedAt bytes line = IsFirstOutside Statements bytes line × IsNoDeck bytes
 
 -- the source was read to its end, and these bytes are not more than the limit
 pub record ReadsDeck (before : Seen) (bytes : List ℕ) (after : Seen) : Type 0 where
@@ -45,15 +54,15 @@ abbrev pub DealsWithLines : List Line → Outcome → List Entry → List ℕ �
 DealsWithLines lines Played trace print = PrintsPlayed lines trace print
 DealsWithLines lines NoMemory trace print = (trace ≡ []) ⊎ TraceOfFront lines trace
 DealsWithLines lines Words trace print = ⊥
-DealsWithLines lines Deck trace print = ⊥
+DealsWithLines lines (Deck line) trace print = ⊥
 DealsWithLines lines Source trace print = ⊥
 DealsWithLines lines Long trace print = ⊥
 
 -- what becomes of bytes that were read
 abbrev pub DealsWithBytes : List ℕ → Outcome → List Entry → List ℕ → Type 0
-DealsWithBytes bytes Played trace print = (lines : List Line) × Lines bytes lines × PrintsPlayed lines trace print
-DealsWithBytes bytes Deck trace print = IsNoDeck bytes × (trace ≡ [])
-DealsWithBytes bytes NoMemory trace print = (trace ≡ []) ⊎ ((lines : List Line) × Lines bytes lines × TraceOfFront lines trace)
+DealsWithBytes bytes Played trace print = (lines : List Line) × IsDeck bytes lines × PrintsPlayed lines trace print
+DealsWithBytes bytes (Deck line) trace print = IsRefusedAt bytes line × (trace ≡ []) × (print ≡ deck_refusal line)
+DealsWithBytes bytes NoMemory trace print = (trace ≡ []) ⊎ ((lines : List Line) × IsDeck bytes lines × TraceOfFront lines trace)
 DealsWithBytes bytes Words trace print = ⊥
 DealsWithBytes bytes Source trace print = ⊥
 DealsWithBytes bytes Long trace print = ⊥
@@ -62,7 +71,7 @@ DealsWithBytes bytes Long trace print = ⊥
 abbrev pub Comes : Outcome → List (List ℕ) → Seen → Seen → List Entry → List ℕ → Type 0
 Comes Played words before after trace print = IsPlay words × (bytes : List ℕ) × ReadsDeck before bytes after × DealsWithBytes bytes Played trace print
 Comes Words words before after trace print = (IsPlay words → ⊥) × (after ≡ before) × (trace ≡ [])
-Comes Deck words before after trace print = IsPlay words × (bytes : List ℕ) × ReadsDeck before bytes after × DealsWithBytes bytes Deck trace print
+Comes (Deck line) words before after trace print = IsPlay words × (bytes : List ℕ) × ReadsDeck before bytes after × DealsWithBytes bytes (Deck line) trace print
 Comes Source words before after trace print = IsPlay words × Rose before.faults after.faults × (trace ≡ [])
 Comes Long words before after trace print = IsPlay words × TakesTooMany before.bytes after.bytes × (trace ≡ [])
 Comes NoMemory words before after trace print =
@@ -71,11 +80,8 @@ Comes NoMemory words before after trace print =
 -- the whole output
 abbrev pub output_of : Outcome → List ℕ → List ℕ
 output_of Played print = print
-output_of Words print = refusal_text Words
-output_of Deck print = refusal_text Deck
-output_of Source print = refusal_text Source
-output_of Long print = refusal_text Long
-output_of NoMemory print = refusal_text NoMemory
+output_of (Deck line) print = print
+output_of outcome print = fixed_text outcome
 
 -- The sink has the whole text, and the status is the outcome's. Or it has a front of the text: its count of faults rose and the status is 4, or memory was
 -- wanting and the status is 8.

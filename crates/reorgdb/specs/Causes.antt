@@ -1,38 +1,41 @@
 -- What each status of a call says, and which status is due.
 use Rattle.std.specs.Prelude.{ℕ, ◌≡◌, ◌<◌, ◌≤◌, ◌⊎◌, false, List, Some, length}
 use Rattle.std.specs.Io.KnownBytes.{Appends}
-use Rattle.rg_deck.specs.Grammar.{Lines}
-use Rattle.rg_deck.specs.Print.{print_text}
-use Rattle.rg_deck.specs.declared.print.Close.TheVariants as closes
 use Rattle.rg_outside.specs.Faults.{Rose}
+use Rattle.rg_print.specs.Print.{print_text}
+use Rattle.rg_print.specs.declared.print.Close.TheVariants as closes
+use Rattle.rg_run.specs.Played.{TraceOf, EndsWithRows}
 use Rattle.rg_stmt.specs.declared.event.Entry.{Entry}
 use Rattle.rg_stmt.specs.declared.line.Line.{Line}
-use Rattle.reorgdb.specs.Answer.{Seen, IsPlay, IsNoDeck, ReadsDeck}
-use Rattle.reorgdb.specs.Played.{TraceOf, EndsWithRows}
-use Rattle.reorgdb.specs.Refusals.{status_of}
+use Rattle.reorgdb.specs.Answer.{Seen, IsPlay, IsDeck, IsNoDeck, IsRefusedAt, ReadsDeck}
+use Rattle.reorgdb.specs.Refusals.{status_of, deck_refusal}
 use Rattle.reorgdb.specs.declared.outcome.Outcome.{Outcome}
 use Rattle.reorgdb.specs.declared.outcome.Outcome.TheVariants as outcomes
 
--- Status 0: the source was read to its end, its bytes are lines, the trace is theirs, and the sink holds the print behind what it held.
+-- Status 0: the source was read to its end, its bytes are statements, the trace is theirs, and the sink holds the print behind what it held.
 pub record Plays (source source_after sink sink_after : Seen) (trace : List Entry) : Type 0 where
   pub bytes : List ℕ
   pub lines : List Line
   pub rows : ℕ
   pub read : ReadsDeck source bytes source_after
-  pub spelled : Lines bytes lines
+  pub spelled : IsDeck bytes lines
   pub entries : TraceOf lines trace
   pub counted : EndsWithRows trace rows
   pub shown : Appends sink.bytes sink_after.bytes (print_text trace false (closes.Rows rows))
 
--- Status 2: the source was read to its end, and its bytes are no lines.
-abbrev pub ReadsNoDeck : Seen → Seen → Type 0
-ReadsNoDeck before after = (bytes : List ℕ) × ReadsDeck before bytes after × IsNoDeck bytes
+-- Status 2: the source was read to its end, and the sink holds the number of the first line that is outside the grammar or no statement.
+pub record RefusesDeck (source source_after sink sink_after : Seen) : Type 0 where
+  pub bytes : List ℕ
+  pub line : ℕ
+  pub read : ReadsDeck source bytes source_after
+  pub refused : IsRefusedAt bytes line
+  pub shown : Appends sink.bytes sink_after.bytes (deck_refusal line)
 
 -- what is due for these words and these bytes of the source, where nothing fails
 abbrev pub IsDue : Outcome → List (List ℕ) → List ℕ → Type 0
-IsDue outcomes.Played words bytes = IsPlay words × (length bytes ≤ 16777216) × (lines : List Line) × Lines bytes lines
+IsDue outcomes.Played words bytes = IsPlay words × (length bytes ≤ 16777216) × (lines : List Line) × IsDeck bytes lines
 IsDue outcomes.Words words bytes = IsPlay words → ⊥
-IsDue outcomes.Deck words bytes = IsPlay words × (length bytes ≤ 16777216) × IsNoDeck bytes
+IsDue (outcomes.Deck line) words bytes = IsPlay words × (length bytes ≤ 16777216) × IsNoDeck bytes
 IsDue outcomes.Long words bytes = IsPlay words × (16777216 < length bytes)
 IsDue outcomes.Source words bytes = ⊥
 IsDue outcomes.NoMemory words bytes = ⊥

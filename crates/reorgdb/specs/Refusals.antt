@@ -1,21 +1,26 @@
 -- The statuses and the texts of refusals.
-use Rattle.std.specs.Prelude.{ℕ, List, codes}
+use Rattle.std.specs.Prelude.{ℕ, List, ◌++◌, codes}
+use Rattle.std.specs.Fmt.{decimal}
 use Rattle.reorgdb.specs.declared.outcome.Outcome.{Outcome}
 use Rattle.reorgdb.specs.declared.outcome.Outcome.TheVariants as outcomes
 
 abbrev pub status_of : Outcome → ℕ
 status_of outcomes.Played = 0
 status_of outcomes.Words = 1
-status_of outcomes.Deck = 2
+status_of (outcomes.Deck line) = 2
 status_of outcomes.Source = 3
 status_of outcomes.Long = 7
 status_of outcomes.NoMemory = 8
 
--- the whole output of a refusal
-abbrev pub refusal_text : Outcome → List ℕ
-refusal_text outcomes.Played = codes ""
-refusal_text outcomes.Words = codes "REFUSED words\n"
-refusal_text outcomes.Deck = codes "REFUSED deck\n"
-refusal_text outcomes.Source = codes "REFUSED source\n"
-refusal_text outcomes.Long = codes "REFUSED deck long\n"
-refusal_text outcomes.NoMemory = codes ""
+-- the whole output of a refusal that has no number in it
+abbrev pub fixed_text : Outcome → List ℕ
+fixed_text outcomes.Played = codes ""
+fixed_text outcomes.Words = codes "REFUSED words\n"
+fixed_text (outcomes.Deck line) = codes ""
+fixed_text outcomes.Source = codes "REFUSED source\n"
+fixed_text outcomes.Long = codes "REFUSED deck long\n"
+fixed_text outcomes.NoMemory = codes ""
+
+-- a deck is refused by the number of its first line that is refused
+abbrev pub deck_refusal : ℕ → List ℕ
+deck_refusal line = codes "REFUSED deck line " ++ decimal line ++ codes "\n"

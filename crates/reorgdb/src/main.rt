@@ -13,10 +13,6 @@ mod edge;
 mod giving;
 /// What a call comes to.
 mod outcome;
-/// One table in memory, and what it answers.
-mod plain_table;
-/// The run of a deck.
-mod play;
 /// Reading the deck from the source.
 mod reading;
 #[cfg(test)]

@@ -1,5 +1,10 @@
-ghost use Rattle.std.specs.Prelude.{◌≡◌};
-ghost use Rattle.reorgdb.specs.Refusals.{status_of, refusal_text};
+ghost use Rattle.std.specs.Prelude.{◌≡◌, IfOk};
+ghost use Rattle.reorgdb.specs.Refusals.{status_of, fixed_text, deck_refusal};
+
+use rg_base::bytes::Bytes;
+use rg_base::no_memory::NoMemory;
+use std::alloc::Global;
+use std::io::Write;
 
 /// What a call comes to, before its output is given.
 #[derive(Clone, Copy, Debug, PartialEq, Eq)]
@@ -8,8 +13,8 @@ pub enum Outcome {
     Played,
     /// The words are not those of a command. Status 1.
     Words,
-    /// The bytes are no deck. Status 2.
-    Deck,
+    /// Line `line` of the deck, counted from 1, is the first that is outside the grammar or no statement. Status 2.
+    Deck { line: u32 },
     /// The source failed. Status 3.
     Source,
     /// The deck is longer than its limit. Status 7.
@@ -25,23 +30,33 @@ impl Outcome {
         match self {
             Outcome::Played => 0,
             Outcome::Words => 1,
-            Outcome::Deck => 2,
+            Outcome::Deck { .. } => 2,
             Outcome::Source => 3,
             Outcome::Long => 7,
             Outcome::NoMemory => 8,
         }
     }
 
-    /// The whole output of a refusal. The other outcomes have no fixed text.
-    pub fn refusal(self) -> &'static [u8]
-        ensures { result.now ≡ refusal_text self }
+    /// The whole output of a refusal that has no number in it. The other outcomes have no such text.
+    pub fn fixed_text(self) -> &'static [u8]
+        ensures { result.now ≡ fixed_text self }
     {
         match self {
             Outcome::Words => b"REFUSED words\n",
-            Outcome::Deck => b"REFUSED deck\n",
             Outcome::Source => b"REFUSED source\n",
             Outcome::Long => b"REFUSED deck long\n",
-            Outcome::Played | Outcome::NoMemory => b"",
+            Outcome::Played | Outcome::Deck { .. } | Outcome::NoMemory => b"",
         }
+    }
+}
+
+/// The whole output of the refusal of a deck.
+pub fn deck_refusal(alloc: Global, line: u32) -> Result<Bytes, NoMemory>
+    ensures { IfOk result (λ text. text ≡ deck_refusal line) }
+{
+    let mut out = Vec::new(alloc);
+    match writeln!(out, "REFUSED deck line {line}") {
+        Ok(()) => Ok(Bytes::new(out)),
+        Err(_) => Err(NoMemory),
     }
 }

@@ -6,6 +6,7 @@ use rg_outside::source::Source;
 use std::alloc::{AllocError, Global};
 use std::test::Fail;
 
+mod decks;
 mod outside;
 
 const ALL: usize = usize::MAX;
@@ -120,7 +121,7 @@ fn bounds_words(rt: HostRuntime) -> Result<(), Fail> {
             assert_eq!(rt; sink.held(), print.as_slice());
         } else {
             assert_eq!(rt; came, (2, 0, 0), "at {count} of {byte}");
-            assert_eq!(rt; sink.held(), b"REFUSED deck\n".as_slice());
+            assert_eq!(rt; sink.held(), b"REFUSED deck line 1\n".as_slice());
         }
     }
     Ok(())
@@ -171,7 +172,7 @@ fn refuses(rt: HostRuntime) -> Result<(), Fail> {
             ALL,
             NEVER,
             2,
-            b"REFUSED deck\n",
+            b"REFUSED deck line 1\n",
             2,
         ),
         (
@@ -215,7 +216,7 @@ fn refuses(rt: HostRuntime) -> Result<(), Fail> {
 #[test]
 fn bounds_decks(rt: HostRuntime) -> Result<(), Fail> {
     for (count, status, output) in [
-        (16_777_216, 2, b"REFUSED deck\n".as_slice()),
+        (16_777_216, 2, b"REFUSED deck line 1\n".as_slice()),
         (16_777_217, 7, b"REFUSED deck long\n"),
         (16_777_219, 7, b"REFUSED deck long\n"),
     ] {

@@ -3,8 +3,8 @@ ghost use Rattle.std.specs.List.{Contains};
 ghost use Rattle.rg_outside.specs.Faults.{Rose};
 ghost use Rattle.rg_model.specs.Legal.{Legal};
 ghost use Rattle.reorgdb.specs.Answer.{Seen, IsPlay, Answers, Delivers, output_of};
-ghost use Rattle.reorgdb.specs.Causes.{Plays, ReadsNoDeck, GivesDue};
-ghost use Rattle.reorgdb.specs.Played.{no_rows};
+ghost use Rattle.rg_run.specs.Played.{no_rows};
+ghost use Rattle.reorgdb.specs.Causes.{Plays, RefusesDeck, GivesDue};
 ghost use Rattle.reorgdb.specs.Reading.{TakesAtMost, TakesTooMany};
 
 use crate::giving::{Given, give_all};
@@ -61,10 +61,13 @@ pub fn reorg_main<R: Threads + Wait + Clock + Sync, S: Source, K: Sink, V: Volum
     ensures words { result.status ≡ 1 → IsPlay (map string_bytes words.now) → ⊥ }
     ensures other_words { (IsPlay (map string_bytes words.now) → ⊥) → Contains (1 ∷ 4 ∷ 8 ∷ []) result.status }
 
-    // Status 2: the bytes were read to their end and are no lines.
-    ensures deck { result.status ≡ 2 → ReadsNoDeck
+    // Status 2: the bytes were read to their end, and the first line that is outside the grammar or no statement was
+    // named.
+    ensures deck { result.status ≡ 2 → RefusesDeck
         (record { bytes = S.left source.old; faults = S.faults source.old })
-        (record { bytes = S.left source.new; faults = S.faults source.new }) }
+        (record { bytes = S.left source.new; faults = S.faults source.new })
+        (record { bytes = K.held sink.old; faults = K.faults sink.old })
+        (record { bytes = K.held sink.new; faults = K.faults sink.new }) }
 
     // Statuses 3 and 4 come only where the source and the sink failed in this call.
     ensures source { result.status ≡ 3 → Rose (S.faults source.old) (S.faults source.new) }
@@ -118,10 +121,13 @@ pub fn reorg_alone<S: Source, K: Sink, V: Volume + Send>(
     ensures words { result.status ≡ 1 → IsPlay (map string_bytes words.now) → ⊥ }
     ensures other_words { (IsPlay (map string_bytes words.now) → ⊥) → Contains (1 ∷ 4 ∷ 8 ∷ []) result.status }
 
-    // Status 2: the bytes were read to their end and are no lines.
-    ensures deck { result.status ≡ 2 → ReadsNoDeck
+    // Status 2: the bytes were read to their end, and the first line that is outside the grammar or no statement was
+    // named.
+    ensures deck { result.status ≡ 2 → RefusesDeck
         (record { bytes = S.left source.old; faults = S.faults source.old })
-        (record { bytes = S.left source.new; faults = S.faults source.new }) }
+        (record { bytes = S.left source.new; faults = S.faults source.new })
+        (record { bytes = K.held sink.old; faults = K.faults sink.old })
+        (record { bytes = K.held sink.new; faults = K.faults sink.new }) }
 
     // Statuses 3 and 4 come only where the source and the sink failed in this call.
     ensures source { result.status ≡ 3 → Rose (S.faults source.old) (S.faults source.new) }
@@ -143,7 +149,7 @@ pub fn reorg_alone<S: Source, K: Sink, V: Volume + Send>(
     ensures volume { result.volume ≡ volume }
     ensures operator { result.operator ≡ operator }
 {
-    let (status, trace) = answer(alloc, words, source, sink);
+    let (status, trace, volume, operator) = answer(alloc, words, source, sink, volume, operator);
     Finished {
         status,
         trace,
@@ -153,7 +159,7 @@ pub fn reorg_alone<S: Source, K: Sink, V: Volume + Send>(
 }
 
 // Gives the output, and answers the status.
-fn deliver<K: Sink>(sink: &mut K, work: &Work) -> u8
+fn deliver<K: Sink, V, O>(sink: &mut K, work: &Work<V, O>) -> u8
     ensures delivered { Delivers work.now.outcome (output_of work.now.outcome work.now.print)
         (record { bytes = K.held sink.old; faults = K.faults sink.old })
         (record { bytes = K.held sink.new; faults = K.faults sink.new }) result }
@@ -165,13 +171,15 @@ fn deliver<K: Sink>(sink: &mut K, work: &Work) -> u8
     }
 }
 
-// Reads, plays and gives.
-fn answer<S: Source, K: Sink>(
+// Reads, plays and gives. The operator is of any type, since of a boxed one nothing can be said.
+fn answer<S: Source, K: Sink, V: Volume, O: Operator>(
     alloc: Global,
     words: &[String],
     source: &mut S,
     sink: &mut K,
-) -> (u8, Vec<Entry>)
+    volume: V,
+    operator: O,
+) -> (u8, Vec<Entry>, V, O)
     ensures answers { Answers (map string_bytes words.now)
         (record { bytes = S.left source.old; faults = S.faults source.old })
         (record { bytes = S.left source.new; faults = S.faults source.new })
@@ -179,8 +187,16 @@ fn answer<S: Source, K: Sink>(
         (record { bytes = K.held sink.new; faults = K.faults sink.new }) result.0 result.1.items }
     ensures legal { Legal no_rows result.1.items }
     ensures bounded { TakesAtMost 16777217 (S.left source.old) (S.left source.new) }
+    ensures volume { result.2 ≡ volume }
+    ensures operator { result.3 ≡ operator }
 {
-    let work = carry_out(alloc, words, source);
+    let work = carry_out(alloc, words, source, volume, operator);
     let status = deliver(sink, &work);
-    (status, work.trace)
+    let Work {
+        trace,
+        volume,
+        operator,
+        ..
+    } = work;
+    (status, trace, volume, operator)
 }

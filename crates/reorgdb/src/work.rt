@@ -1,47 +1,65 @@
-ghost use Rattle.std.specs.Prelude.{◌≡◌, ◌≤◌, ◌↔◌, List, length, map, IsTrue, string_bytes, []};
+ghost use Rattle.std.specs.Prelude.{ℕ, ◌≡◌, ◌≤◌, ◌↔◌, List, length, map, IsTrue, string_bytes, []};
 ghost use Rattle.rg_stmt.specs.declared.line.Line.{Line};
 ghost use Rattle.rg_model.specs.Legal.{Legal};
-ghost use Rattle.reorgdb.specs.Answer.{Seen, IsPlay, DealsWithLines, DealsWithBytes, Comes, output_of};
-ghost use Rattle.reorgdb.specs.Played.{no_rows, Ends};
+ghost use Rattle.rg_run.specs.Played.{no_rows, Ends};
+ghost use Rattle.reorgdb.specs.Answer.{Seen, IsPlay, IsRefusedAt, DealsWithLines, DealsWithBytes, Comes, output_of};
 ghost use Rattle.reorgdb.specs.Reading.{TakesAtMost};
 
-use crate::outcome::Outcome;
-use crate::play::{Played, RunEnd, play};
+use crate::outcome::{Outcome, deck_refusal};
 use crate::reading::{ReadFault, read_source};
 use rg_base::bytes::Bytes;
-use rg_deck::print::{Close, print};
-use rg_deck::read::{DeckFault, read_deck};
+use rg_deck::read::{Admits, DeckFault, read_admitted};
+use rg_outside::operator::Operator;
 use rg_outside::source::Source;
+use rg_outside::volume::Volume;
+use rg_print::print::{Close, print};
+use rg_run::played::{Played, RunEnd};
+use rg_run::run::run;
 use rg_stmt::event::Entry;
 use std::alloc::Global;
 
-/// A call before its output is given: what it comes to, the trace, and the print where there is one.
+/// A call before its output is given: what it comes to, the trace, the print or the refusal of a deck, and the volume
+/// and the operator that it was handed.
 #[derive(Drop)]
-pub struct Work {
+pub struct Work<V, O> {
     pub outcome: Outcome,
     pub trace: Vec<Entry>,
     pub print: Bytes,
+    pub volume: V,
+    pub operator: O,
 }
 
-impl Work {
+impl<V, O> Work<V, O> {
     // The outcome with a trace, and no print. It takes no memory.
-    fn with_trace(alloc: Global, outcome: Outcome, trace: Vec<Entry>) -> Work
+    fn with_trace(
+        alloc: Global,
+        outcome: Outcome,
+        trace: Vec<Entry>,
+        volume: V,
+        operator: O,
+    ) -> Work<V, O>
         ensures outcome { result.outcome ≡ outcome }
         ensures trace { result.trace ≡ trace }
+        ensures volume { result.volume ≡ volume }
+        ensures operator { result.operator ≡ operator }
     {
         Work {
             outcome,
             trace,
             print: Bytes::new(Vec::new(alloc)),
+            volume,
+            operator,
         }
     }
 
     // The outcome without a trace.
-    fn bare(alloc: Global, outcome: Outcome) -> Work
+    fn bare(alloc: Global, outcome: Outcome, volume: V, operator: O) -> Work<V, O>
         ensures outcome { result.outcome ≡ outcome }
         ensures trace { result.trace.items ≡ [] }
+        ensures volume { result.volume ≡ volume }
+        ensures operator { result.operator ≡ operator }
     {
-        Work::with_trace(alloc, outcome, Vec::new(alloc))
+        Work::with_trace(alloc, outcome, Vec::new(alloc), volume, operator)
     }
 
     /// The whole output.
@@ -49,29 +67,37 @@ impl Work {
         ensures { result.now ≡ output_of self.now.outcome self.now.print }
     {
         match self.outcome {
-            Outcome::Played => self.print.as_slice(),
-            refused => refused.refusal(),
+            Outcome::Played | Outcome::Deck { .. } => self.print.as_slice(),
+            other => other.fixed_text(),
         }
     }
 }
 
 /// Reads the words, then the whole deck, and plays it.
-pub fn carry_out<S: Source>(alloc: Global, words: &[String], source: &mut S) -> Work
+pub fn carry_out<S: Source, V: Volume, O: Operator>(
+    alloc: Global,
+    words: &[String],
+    source: &mut S,
+    volume: V,
+    operator: O,
+) -> Work<V, O>
     ensures comes { Comes result.outcome (map string_bytes words.now)
         (record { bytes = S.left source.old; faults = S.faults source.old })
         (record { bytes = S.left source.new; faults = S.faults source.new }) result.trace.items result.print }
     ensures legal { Legal no_rows result.trace.items }
     ensures bounded { TakesAtMost 16777217 (S.left source.old) (S.left source.new) }
     ensures later { S.faults source.old ≤ S.faults source.new }
+    ensures volume { result.volume ≡ volume }
+    ensures operator { result.operator ≡ operator }
 {
     if !is_play(words) {
-        return Work::bare(alloc, Outcome::Words);
+        return Work::bare(alloc, Outcome::Words, volume, operator);
     }
     match read_source(alloc, source) {
-        Ok(bytes) => play_bytes(alloc, &bytes),
-        Err(ReadFault::Failed) => Work::bare(alloc, Outcome::Source),
-        Err(ReadFault::Long) => Work::bare(alloc, Outcome::Long),
-        Err(ReadFault::NoMemory) => Work::bare(alloc, Outcome::NoMemory),
+        Ok(bytes) => play_bytes(alloc, &bytes, volume, operator),
+        Err(ReadFault::Failed) => Work::bare(alloc, Outcome::Source, volume, operator),
+        Err(ReadFault::Long) => Work::bare(alloc, Outcome::Long, volume, operator),
+        Err(ReadFault::NoMemory) => Work::bare(alloc, Outcome::NoMemory, volume, operator),
     }
 }
 
@@ -84,33 +110,68 @@ fn is_play(words: &[String]) -> bool
     }
 }
 
-fn play_bytes(alloc: Global, bytes: &[u8]) -> Work
+fn play_bytes<V: Volume, O: Operator>(
+    alloc: Global,
+    bytes: &[u8],
+    volume: V,
+    operator: O,
+) -> Work<V, O>
     requires { length bytes.now ≤ 16777216 }
     ensures deals { DealsWithBytes bytes.now result.outcome result.trace.items result.print }
     ensures legal { Legal no_rows result.trace.items }
+    ensures volume { result.volume ≡ volume }
+    ensures operator { result.operator ≡ operator }
 {
-    match read_deck(alloc, bytes) {
-        Ok(lines) => print_played(alloc, play(alloc, lines)),
-        Err(DeckFault::Line { .. }) => Work::bare(alloc, Outcome::Deck),
-        Err(DeckFault::NoMemory) => Work::bare(alloc, Outcome::NoMemory),
+    match read_admitted(alloc, bytes, Admits::Statements) {
+        Ok(lines) => print_played(alloc, run(alloc, volume, operator, lines)),
+        Err(DeckFault::Line { number }) => refuse_line(alloc, number, volume, operator),
+        Err(DeckFault::NoMemory) => Work::bare(alloc, Outcome::NoMemory, volume, operator),
     }
 }
 
-fn print_played(alloc: Global, played: Played) -> Work
+// The refusal of a deck by the number of a line.
+fn refuse_line<V, O>(alloc: Global, line: u32, volume: V, operator: O) -> Work<V, O>
+    ensures deals { (bytes : List ℕ) → IsRefusedAt bytes line → DealsWithBytes bytes result.outcome result.trace.items result.print }
+    ensures trace { result.trace.items ≡ [] }
+    ensures volume { result.volume ≡ volume }
+    ensures operator { result.operator ≡ operator }
+{
+    match deck_refusal(alloc, line) {
+        Ok(print) => Work {
+            outcome: Outcome::Deck { line },
+            trace: Vec::new(alloc),
+            print,
+            volume,
+            operator,
+        },
+        Err(_) => Work::bare(alloc, Outcome::NoMemory, volume, operator),
+    }
+}
+
+fn print_played<V, O>(alloc: Global, played: Played<V, O>) -> Work<V, O>
     ensures deals { (lines : List Line) → Ends lines played.trace.items played.end →
         DealsWithLines lines result.outcome result.trace.items result.print }
     ensures trace { result.trace.items ≡ played.trace.items }
+    ensures volume { result.volume ≡ played.volume }
+    ensures operator { result.operator ≡ played.operator }
 {
-    let Played { trace, end } = played;
+    let Played {
+        volume,
+        operator,
+        trace,
+        end,
+    } = played;
     match end {
-        RunEnd::NoMemory => Work::with_trace(alloc, Outcome::NoMemory, trace),
+        RunEnd::NoMemory => Work::with_trace(alloc, Outcome::NoMemory, trace, volume, operator),
         RunEnd::Whole { rows } => match print(alloc, &trace, false, Close::Rows(rows)) {
             Ok(print) => Work {
                 outcome: Outcome::Played,
                 trace,
                 print,
+                volume,
+                operator,
             },
-            Err(_) => Work::with_trace(alloc, Outcome::NoMemory, trace),
+            Err(_) => Work::with_trace(alloc, Outcome::NoMemory, trace, volume, operator),
         },
     }
 }
