@@ -13,9 +13,11 @@ use Rattle.reorgdb.specs.Giving.{GivesFront}
 use Rattle.reorgdb.specs.Reading.{TakesTooMany}
 use Rattle.reorgdb.specs.Refusals.{status_of, fixed_text, deck_refusal}
 use Rattle.reorgdb.specs.declared.outcome.Outcome.{Outcome}
-use Rattle.reorgdb.specs.declared.outcome.Outcome.TheVariants.{Played, Words, Deck, Source, Long, NoMemory}
+use Rattle.reorgdb.specs.declared.outcome.Outcome.TheVariants.{Played, Words, Deck, Source, Long}
+use Rattle.reorgdb.specs.declared.outcome.Outcome.TheVariants.{NoMemory}
 
--- what is told of a source or a sink at one moment: the bytes that it has left or holds, and its count of faults
+-- what is told of a source or a sink at one moment: the bytes that it has left or holds, and its
+-- count of faults
 pub record Seen : Type 0 where
   pub bytes : Option (List ℕ)
   pub faults : ℕ
@@ -42,7 +44,8 @@ pub record ReadsDeck (before : Seen) (bytes : List ℕ) (after : Seen) : Type 0 
   pub taken : Consumes before.bytes after.bytes bytes
   pub end : IsAtEnd after.bytes
 
--- the trace has an entry for each line, and the print is the trace with the number of committed rows at its end
+-- the trace has an entry for each line, and the print is the trace with the number of committed
+-- rows at its end
 pub record PrintsPlayed (lines : List Line) (trace : List Entry) (print : List ℕ) : Type 0 where
   pub entries : TraceOf lines trace
   pub rows : ℕ
@@ -83,8 +86,8 @@ output_of Played print = print
 output_of (Deck line) print = print
 output_of outcome print = fixed_text outcome
 
--- The sink has the whole text, and the status is the outcome's. Or it has a front of the text: its count of faults rose and the status is 4, or memory was
--- wanting and the status is 8.
+-- The sink has the whole text, and the status is the outcome's. Or it has a front of the text: its
+-- count of faults rose and the status is 4, or memory was wanting and the status is 8.
 abbrev pub Delivers : Outcome → List ℕ → Seen → Seen → ℕ → Type 0
 Delivers outcome text before after status =
     ((status ≡ status_of outcome) × Appends before.bytes after.bytes text)

@@ -12,7 +12,8 @@ use Rattle.reorgdb.specs.Refusals.{status_of, deck_refusal}
 use Rattle.reorgdb.specs.declared.outcome.Outcome.{Outcome}
 use Rattle.reorgdb.specs.declared.outcome.Outcome.TheVariants as outcomes
 
--- Status 0: the source was read to its end, its bytes are statements, the trace is theirs, and the sink holds the print behind what it held.
+-- Status 0: the source was read to its end, its bytes are statements, the trace is theirs, and the
+-- sink holds the print behind what it held.
 pub record Plays (source source_after sink sink_after : Seen) (trace : List Entry) : Type 0 where
   pub bytes : List ℕ
   pub lines : List Line
@@ -23,7 +24,8 @@ pub record Plays (source source_after sink sink_after : Seen) (trace : List Entr
   pub counted : EndsWithRows trace rows
   pub shown : Appends sink.bytes sink_after.bytes (print_text trace false (closes.Rows rows))
 
--- Status 2: the source was read to its end, and the sink holds the number of the first line that is outside the grammar or no statement.
+-- Status 2: the source was read to its end, and the sink holds the number of the first line that is
+-- outside the grammar or no statement.
 pub record RefusesDeck (source source_after sink sink_after : Seen) : Type 0 where
   pub bytes : List ℕ
   pub line : ℕ

@@ -13,7 +13,8 @@ TakesAtMost most before after = (bytes : List ℕ) × (length bytes ≤ most) ×
 abbrev pub TakesTooMany : Option (List ℕ) → Option (List ℕ) → Type 0
 TakesTooMany before after = (bytes : List ℕ) × (length bytes ≡ 16777217) × Consumes before after bytes
 
--- the source failed where its count of faults rose, a deck is long where more bytes were read than the limit, and want of memory says nothing
+-- the source failed where its count of faults rose, a deck is long where more bytes were read than
+-- the limit, and want of memory says nothing
 abbrev pub ReadsUpTo : Option (List ℕ) → Option (List ℕ) → ℕ → ℕ → ReadFault → Type 0
 ReadsUpTo before after faults_before faults_after faults.Failed = Rose faults_before faults_after
 ReadsUpTo before after faults_before faults_after faults.Long = TakesTooMany before after
@@ -24,7 +25,8 @@ abbrev pub TakesBehind : Option (List ℕ) → Option (List ℕ) → List ℕ �
 TakesBehind before after old new n =
     (taken : List ℕ) × (length taken ≡ n) × (new ≡ old ++ taken) × Consumes before after taken × (n ≡ 0 → IsAtEnd after)
 
--- how a piece may not be had: the source failed and took nothing, or there was no memory for what was taken
+-- how a piece may not be had: the source failed and took nothing, or there was no memory for what
+-- was taken
 abbrev pub StopsAtPiece : ℕ → Option (List ℕ) → Option (List ℕ) → ℕ → ℕ → ReadFault → Type 0
 StopsAtPiece most before after faults_before faults_after faults.Failed = Rose faults_before faults_after × (after ≡ before)
 StopsAtPiece most before after faults_before faults_after faults.Long = ⊥

@@ -1,4 +1,5 @@
-ghost use Rattle.std.specs.Prelude.{◌≡◌, ◌<◌, ◌≤◌, length, take, None, IfSome, IfNone, IfOk, IfErr, OnErr};
+ghost use Rattle.std.specs.Prelude.{◌≡◌, ◌<◌, ◌≤◌, length, take, None, IfSome, IfNone, IfOk, IfErr};
+ghost use Rattle.std.specs.Prelude.{OnErr};
 ghost use Rattle.std.specs.Io.KnownBytes.{Consumes, Appends, Keeps, IsAtEnd};
 ghost use Rattle.rg_base.specs.declared.control.Command.TheVariants.{Nothing};
 ghost use Rattle.rg_outside.specs.Capacities.{Capacities};
@@ -13,8 +14,8 @@ use rg_outside::source::{Failed, Source};
 use rg_outside::volume::Volume;
 use std::io::{ErrorKind, Read, Write};
 
-/// A source over a reader. It tells nothing of its bytes; each call says what it took from a reader that
-/// tells them.
+/// A source over a reader. It tells nothing of its bytes; each call says what it took from a reader
+/// that tells them.
 #[derive(Drop)]
 pub struct ReaderSource<R> {
     reader: R,
@@ -66,8 +67,8 @@ fn read_through<R: Read>(reader: &mut R, into: &mut [u8]) -> Option<usize>
     None
 }
 
-/// A sink over a writer. It tells nothing of its bytes; each call says what it gave to a writer that tells
-/// them. It takes no memory.
+/// A sink over a writer. It tells nothing of its bytes; each call says what it gave to a writer
+/// that tells them. It takes no memory.
 #[derive(Drop)]
 pub struct WriterSink<W> {
     writer: W,

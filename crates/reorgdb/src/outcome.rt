@@ -13,7 +13,8 @@ pub enum Outcome {
     Played,
     /// The words are not those of a command. Status 1.
     Words,
-    /// Line `line` of the deck, counted from 1, is the first that is outside the grammar or no statement. Status 2.
+    /// Line `line` of the deck, counted from 1, is the first that is outside the grammar or no
+    /// statement. Status 2.
     Deck { line: u32 },
     /// The source failed. Status 3.
     Source,
@@ -37,7 +38,8 @@ impl Outcome {
         }
     }
 
-    /// The whole output of a refusal that has no number in it. The other outcomes have no such text.
+    /// The whole output of a refusal that has no number in it. The other outcomes have no such
+    /// text.
     pub fn fixed_text(self) -> &'static [u8]
         ensures { result.now ≡ fixed_text self }
     {

@@ -22,8 +22,8 @@ pub enum ReadFault {
     NoMemory,
 }
 
-/// Reads a source to its end, piece by piece. Each turn takes at least one byte or is the last, and no more
-/// than one byte past the limit is taken.
+/// Reads a source to its end, piece by piece. Each turn takes at least one byte or is the last, and
+/// no more than one byte past the limit is taken.
 pub fn read_source<S: Source>(alloc: Global, source: &mut S) -> Result<Vec<u8>, ReadFault>
     ensures short { IfOk result (λ bytes. length bytes.items ≤ 16777216) }
     ensures read { IfOk result (λ bytes. Consumes (S.left source.old) (S.left source.new) bytes.items) }
@@ -47,7 +47,8 @@ pub fn read_source<S: Source>(alloc: Global, source: &mut S) -> Result<Vec<u8>, 
     Err(ReadFault::Long)
 }
 
-// Takes the next bytes behind those that were read, and answers how many; `piece` holds them on the way.
+// Takes the next bytes behind those that were read, and answers how many; `piece` holds them on the
+// way.
 fn take_piece<S: Source>(
     source: &mut S,
     piece: &mut [u8],

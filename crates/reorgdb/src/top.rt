@@ -19,8 +19,8 @@ use std::rt::Clock;
 use std::sync::Wait;
 use std::thread::Threads;
 
-/// What a call of the program leaves: its status, its trace, and the volume and the operator that it was
-/// handed.
+/// What a call of the program leaves: its status, its trace, and the volume and the operator that
+/// it was handed.
 #[derive(Drop)]
 pub struct Finished<V> {
     pub status: u8,
@@ -29,9 +29,9 @@ pub struct Finished<V> {
     pub operator: Box<dyn Operator + Send>,
 }
 
-/// The call of the program: reads the words, then the whole deck from the source, plays it over a table
-/// without rows, and gives the whole print to the sink. It is `reorg_alone`, with a runtime that no
-/// command uses yet.
+/// The call of the program: reads the words, then the whole deck from the source, plays it over a
+/// table without rows, and gives the whole print to the sink. It is `reorg_alone`, with a runtime
+/// that no command uses yet.
 pub fn reorg_main<R: Threads + Wait + Clock + Sync, S: Source, K: Sink, V: Volume + Send>(
     rt: &R,
     alloc: Global,
@@ -41,8 +41,8 @@ pub fn reorg_main<R: Threads + Wait + Clock + Sync, S: Source, K: Sink, V: Volum
     volume: V,
     operator: Box<dyn Operator + Send>,
 ) -> Finished<V>
-    // What the call comes to, up to its output, and how that is given: at status 4 all holds that is said of
-    // the status in whose place it stands, but that the sink has a front of the text.
+    // What the call comes to, up to its output, and how that is given: at status 4 all holds that
+    // is said of the status in whose place it stands, but that the sink has a front of the text.
     ensures answers { Answers (map string_bytes words.now)
         (record { bytes = S.left source.old; faults = S.faults source.old })
         (record { bytes = S.left source.new; faults = S.faults source.new })
@@ -57,12 +57,13 @@ pub fn reorg_main<R: Threads + Wait + Clock + Sync, S: Source, K: Sink, V: Volum
         (record { bytes = K.held sink.old; faults = K.faults sink.old })
         (record { bytes = K.held sink.new; faults = K.faults sink.new }) result.trace.items }
 
-    // Status 1 comes exactly where the words are not `play`, a failing sink and want of memory aside.
+    // Status 1 comes exactly where the words are not `play`, a failing sink and want of memory
+    // aside.
     ensures words { result.status ≡ 1 → IsPlay (map string_bytes words.now) → ⊥ }
     ensures other_words { (IsPlay (map string_bytes words.now) → ⊥) → Contains (1 ∷ 4 ∷ 8 ∷ []) result.status }
 
-    // Status 2: the bytes were read to their end, and the first line that is outside the grammar or no statement was
-    // named.
+    // Status 2: the bytes were read to their end, and the first line that is outside the grammar or
+    // no statement was named.
     ensures deck { result.status ≡ 2 → RefusesDeck
         (record { bytes = S.left source.old; faults = S.faults source.old })
         (record { bytes = S.left source.new; faults = S.faults source.new })
@@ -76,8 +77,8 @@ pub fn reorg_main<R: Threads + Wait + Clock + Sync, S: Source, K: Sink, V: Volum
     // Status 7: one byte more than the limit was read.
     ensures long { result.status ≡ 7 → TakesTooMany (S.left source.old) (S.left source.new) }
 
-    // Where the source tells its bytes and nothing fails, the status is the one that is due, or memory was
-    // wanting.
+    // Where the source tells its bytes and nothing fails, the status is the one that is due, or
+    // memory was wanting.
     ensures due { GivesDue (map string_bytes words.now)
         (record { bytes = S.left source.old; faults = S.faults source.old })
         (record { bytes = S.left source.new; faults = S.faults source.new })
@@ -101,8 +102,8 @@ pub fn reorg_alone<S: Source, K: Sink, V: Volume + Send>(
     volume: V,
     operator: Box<dyn Operator + Send>,
 ) -> Finished<V>
-    // What the call comes to, up to its output, and how that is given: at status 4 all holds that is said of
-    // the status in whose place it stands, but that the sink has a front of the text.
+    // What the call comes to, up to its output, and how that is given: at status 4 all holds that
+    // is said of the status in whose place it stands, but that the sink has a front of the text.
     ensures answers { Answers (map string_bytes words.now)
         (record { bytes = S.left source.old; faults = S.faults source.old })
         (record { bytes = S.left source.new; faults = S.faults source.new })
@@ -117,12 +118,13 @@ pub fn reorg_alone<S: Source, K: Sink, V: Volume + Send>(
         (record { bytes = K.held sink.old; faults = K.faults sink.old })
         (record { bytes = K.held sink.new; faults = K.faults sink.new }) result.trace.items }
 
-    // Status 1 comes exactly where the words are not `play`, a failing sink and want of memory aside.
+    // Status 1 comes exactly where the words are not `play`, a failing sink and want of memory
+    // aside.
     ensures words { result.status ≡ 1 → IsPlay (map string_bytes words.now) → ⊥ }
     ensures other_words { (IsPlay (map string_bytes words.now) → ⊥) → Contains (1 ∷ 4 ∷ 8 ∷ []) result.status }
 
-    // Status 2: the bytes were read to their end, and the first line that is outside the grammar or no statement was
-    // named.
+    // Status 2: the bytes were read to their end, and the first line that is outside the grammar or
+    // no statement was named.
     ensures deck { result.status ≡ 2 → RefusesDeck
         (record { bytes = S.left source.old; faults = S.faults source.old })
         (record { bytes = S.left source.new; faults = S.faults source.new })
@@ -136,8 +138,8 @@ pub fn reorg_alone<S: Source, K: Sink, V: Volume + Send>(
     // Status 7: one byte more than the limit was read.
     ensures long { result.status ≡ 7 → TakesTooMany (S.left source.old) (S.left source.new) }
 
-    // Where the source tells its bytes and nothing fails, the status is the one that is due, or memory was
-    // wanting.
+    // Where the source tells its bytes and nothing fails, the status is the one that is due, or
+    // memory was wanting.
     ensures due { GivesDue (map string_bytes words.now)
         (record { bytes = S.left source.old; faults = S.faults source.old })
         (record { bytes = S.left source.new; faults = S.faults source.new })

@@ -2,7 +2,8 @@ ghost use Rattle.std.specs.Prelude.{ℕ, ◌≡◌, ◌≤◌, ◌↔◌, List, 
 ghost use Rattle.rg_stmt.specs.declared.line.Line.{Line};
 ghost use Rattle.rg_model.specs.Legal.{Legal};
 ghost use Rattle.rg_run.specs.Played.{no_rows, Ends};
-ghost use Rattle.reorgdb.specs.Answer.{Seen, IsPlay, IsRefusedAt, DealsWithLines, DealsWithBytes, Comes, output_of};
+ghost use Rattle.reorgdb.specs.Answer.{Seen, IsPlay, IsRefusedAt, DealsWithLines, DealsWithBytes};
+ghost use Rattle.reorgdb.specs.Answer.{Comes, output_of};
 ghost use Rattle.reorgdb.specs.Reading.{TakesAtMost};
 
 use crate::outcome::{Outcome, deck_refusal};
@@ -18,8 +19,8 @@ use rg_run::run::run;
 use rg_stmt::event::Entry;
 use std::alloc::Global;
 
-/// A call before its output is given: what it comes to, the trace, the print or the refusal of a deck, and the volume
-/// and the operator that it was handed.
+/// A call before its output is given: what it comes to, the trace, the print or the refusal of a
+/// deck, and the volume and the operator that it was handed.
 #[derive(Drop)]
 pub struct Work<V, O> {
     pub outcome: Outcome,

@@ -1,4 +1,5 @@
 pub mod First
 pub mod Retained
+pub mod Session
 pub mod Text
 pub mod Words

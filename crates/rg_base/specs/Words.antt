@@ -7,7 +7,8 @@ use Rattle.rg_base.specs.declared.row.Row.{Row}
 abbrev pub is_dashes : List ℕ → Bool
 is_dashes text = list_all (λ b. b == 45) text
 
--- A text is one word. One made only of `-`, the empty one included, is written with one `-` more; any other as it is.
+-- A text is one word. One made only of `-`, the empty one included, is written with one `-` more;
+-- any other as it is.
 abbrev pub text_word : List ℕ → List ℕ
 text_word text = if is_dashes text then 45 ∷ text else text
 

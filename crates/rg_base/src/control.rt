@@ -38,8 +38,8 @@ pub enum Command {
     Alter(Alteration),
 }
 
-/// What the operator answers before a step of the utility: the present moment, and how long the rest of
-/// the log is thought to take, both in whole seconds.
+/// What the operator answers before a step of the utility: the present moment, and how long the
+/// rest of the log is thought to take, both in whole seconds.
 #[derive(Clone, Copy, Debug, PartialEq, Eq)]
 pub struct Answer {
     pub now: u32,

@@ -4,6 +4,8 @@
 
 /// Bytes, seen as a list.
 pub mod bytes;
+/// What a write made of a row.
+pub mod change;
 /// What the operator answers.
 pub mod control;
 /// Locks of keys, as they are kept.
@@ -16,12 +18,16 @@ pub mod no_memory;
 pub mod options;
 /// Places in a copy of the table.
 pub mod place;
+/// Positions in the log.
+pub mod position;
 /// Rows.
 pub mod row;
 /// Sessions and the classes of their claims.
 pub mod session;
 /// The sets of a volume.
 pub mod set;
+/// The stages of the utility.
+pub mod step;
 #[cfg(test)]
 mod tests;
 /// The text of a row.

@@ -49,7 +49,8 @@ impl<V: Drop> NumberMap<V> {
         self.entries.get(&key)
     }
 
-    /// The entry with the least key at or above `from`. It searches for it, and doesn't walk the keys below.
+    /// The entry with the least key at or above `from`. It searches for it, and doesn't walk the
+    /// keys below.
     pub fn first_from(&self, from: u64) -> Option<(u64, &V)>
         ensures { IsFirstFrom self.now from (option_map (λ entry. (entry.0, entry.1.now)) result) }
     {
@@ -59,7 +60,8 @@ impl<V: Drop> NumberMap<V> {
         }
     }
 
-    /// The entry with the least key above `key`. It searches for it, and doesn't walk the keys below.
+    /// The entry with the least key above `key`. It searches for it, and doesn't walk the keys
+    /// below.
     pub fn first_after(&self, key: u64) -> Option<(u64, &V)>
         ensures { IsFirstFrom self.now (key + 1) (option_map (λ entry. (entry.0, entry.1.now)) result) }
     {
@@ -79,8 +81,8 @@ impl<V: Drop> NumberMap<V> {
         self.entries.contains_key(&key)
     }
 
-    /// Sets the value of a key, and answers the one before. Memory is wanting only for a key that is not
-    /// there, and then nothing changes.
+    /// Sets the value of a key, and answers the one before. Memory is wanting only for a key that
+    /// is not there, and then nothing changes.
     pub fn insert(&mut self, key: u64, value: V) -> Result<Option<V>, NoMemory>
         ensures before { IfOk result (λ before. before ≡ map.get self.old key) }
         ensures ok { OnOk result (self.new ≡ map.insert self.old key value) }

@@ -4,8 +4,8 @@ use crate::no_memory::NoMemory;
 use crate::text::Text;
 use std::alloc::Global;
 
-/// A row of the table. `key` is its unique key, `clus` the value that clusters it, `cat` the value of
-/// its third index.
+/// A row of the table. `key` is its unique key, `clus` the value that clusters it, `cat` the value
+/// of its third index.
 #[derive(Debug, Drop)]
 pub struct Row {
     pub key: u64,

@@ -1,5 +1,6 @@
 -- What the parts of the reader find.
-use Rattle.std.specs.Prelude.{ℕ, ◌≡◌, ◌≢◌, ◌<◌, ◌^◌, ◌⊎◌, List, [], ◌∷◌, ◌++◌, length, slice_index, Option, None, Some, IsFalse}
+use Rattle.std.specs.Prelude.{ℕ, ◌≡◌, ◌≢◌, ◌<◌, ◌^◌, ◌⊎◌, List, [], ◌∷◌, ◌++◌, length, slice_index}
+use Rattle.std.specs.Prelude.{Option, None, Some, IsFalse}
 use Rattle.std.specs.Fmt.{decimal}
 use Rattle.std.specs.List.{AllByRecursion, join_with_byte}
 use Rattle.rg_base.specs.Words.{row_words}
@@ -44,6 +45,7 @@ BeginsWithNumber bytes number rest = (number < 2 ^ 64) × (bytes ≡ decimal num
 abbrev pub CutsLine : List ℕ → List ℕ → List ℕ → Type 0
 CutsLine bytes line rest = Lacks 10 line × ((bytes ≡ line ++ 10 ∷ rest) ⊎ ((bytes ≡ line) × (rest ≡ [])))
 
--- The bytes are these lines and a rest. Where no rest is left, the last line may lack its line feed.
+-- The bytes are these lines and a rest. Where no rest is left, the last line may lack its line
+-- feed.
 abbrev pub Reads : List ℕ → List Line → List ℕ → Type 0
 Reads bytes lines rest = (bytes ≡ deck_text lines ++ rest) ⊎ ((rest ≡ []) × (bytes ++ 10 ∷ [] ≡ deck_text lines))

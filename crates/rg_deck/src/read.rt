@@ -22,7 +22,8 @@ pub enum Admits {
 /// Why a deck was not read.
 #[derive(Clone, Copy, Debug, PartialEq, Eq, Error)]
 pub enum DeckFault {
-    /// Line `number`, counted from 1, is the first that is outside the grammar or that the deck may not have.
+    /// Line `number`, counted from 1, is the first that is outside the grammar or that the deck may
+    /// not have.
     #[error("line {number} of the deck is outside the grammar")]
     Line { number: u32 },
     #[error("out of memory")]

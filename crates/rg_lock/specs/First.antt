@@ -13,7 +13,8 @@ IsFreeUpTo locks session lo hi = (key : ℕ) → lo ≤ key → key ≤ hi → o
 abbrev pub IsFreeBefore : Locks → Session → ℕ → ℕ → Type 0
 IsFreeBefore locks session lo end = (key : ℕ) → lo ≤ key → key < end → other_owner session (map.get locks key) ≡ None
 
--- the least key from the one number up to the other, both included, that another session has, with that session, or none where no other session has one
+-- the least key from the one number up to the other, both included, that another session has, with
+-- that session, or none where no other session has one
 abbrev pub IsFirstHeld : Locks → Session → ℕ → ℕ → Option (ℕ × Session) → Type 0
 IsFirstHeld locks session lo hi None = IsFreeUpTo locks session lo hi
 IsFirstHeld locks session lo hi (Some held) = (lo ≤ held.0) × (held.0 ≤ hi) × (other_owner session (map.get locks held.0) ≡ Some held.1) × IsFreeBefore locks session lo held.0

@@ -27,8 +27,8 @@ pub enum LockFault {
     NoMemory,
 }
 
-/// The locks of keys. A lock is held from the first write of its key to the end of its session's unit, and keeps the
-/// committed row of the key meanwhile.
+/// The locks of keys. A lock is held from the first write of its key to the end of its session's
+/// unit, and keeps the committed row of the key meanwhile.
 #[derive(Drop)]
 pub struct Locks {
     locks: NumberMap<Kept>,
@@ -78,8 +78,8 @@ impl Locks {
         })
     }
 
-    /// Locks a key for a session, with the committed row of the key. A key that the session has keeps the row of its
-    /// first taking, for what is in the table since then is its own.
+    /// Locks a key for a session, with the committed row of the key. A key that the session has
+    /// keeps the row of its first taking, for what is in the table since then is its own.
     pub fn take(
         &mut self,
         session: Session,
@@ -121,7 +121,8 @@ impl Locks {
         }
     }
 
-    /// The row that the lock of a key keeps. Without a lock, and where no row was there, it is none.
+    /// The row that the lock of a key keeps. Without a lock, and where no row was there, it is
+    /// none.
     pub fn kept(&self, key: u64) -> Option<&Row>
         ensures { option_copied result ≡ row_of (map.get self.now key) }
     {
@@ -131,8 +132,8 @@ impl Locks {
         }
     }
 
-    /// The least key from `lo` to `hi`, both included, that another session has, with that session. It looks at the
-    /// session's own locks between them, and at no others.
+    /// The least key from `lo` to `hi`, both included, that another session has, with that session.
+    /// It looks at the session's own locks between them, and at no others.
     pub fn first_held(&self, session: Session, lo: u64, hi: u64) -> Option<(u64, Session)>
         ensures { IsFirstHeld self.now session lo hi result }
     {
@@ -155,8 +156,8 @@ impl Locks {
         None
     }
 
-    /// Takes one of a session's locks off, and hands back its key and the row that it kept; which of them comes first is
-    /// not said. None where the session has no lock. It takes no memory.
+    /// Takes one of a session's locks off, and hands back its key and the row that it kept; which
+    /// of them comes first is not said. None where the session has no lock. It takes no memory.
     pub fn release(&mut self, session: Session) -> Option<(u64, Option<Row>)>
         ensures { Releases session self.old self.new result }
     {

@@ -1,8 +1,10 @@
 -- The calls that a volume in memory keeps, as it tells them.
-use Rattle.std.specs.Prelude.{ℕ, ◌+◌, ◌-◌, ◌%◌, List, [], Option, Some, None, length, slice_index_or, map, replicate, reverse}
+use Rattle.std.specs.Prelude.{ℕ, ◌+◌, ◌-◌, ◌%◌, List, [], Option, Some, None, length}
+use Rattle.std.specs.Prelude.{slice_index_or, map, replicate, reverse}
 use Rattle.rg_base.specs.declared.set.Set.{Set}
 use Rattle.rg_base.specs.declared.set.Set.TheVariants.{Log, First, Second}
-use Rattle.rg_outside.specs.Calls.{Image, Call, Read, Wrote, Synced, FailedRead, FailedWrite, FailedSync}
+use Rattle.rg_outside.specs.Calls.{Image, Call, Read, Wrote, Synced, FailedRead, FailedWrite}
+use Rattle.rg_outside.specs.Calls.{FailedSync}
 use Rattle.rg_mem.specs.declared.noted.Noted.{Noted}
 use Rattle.rg_mem.specs.declared.volume.Failing.{Failing}
 use Rattle.rg_mem.specs.declared.noted.Noted.TheVariants as noted

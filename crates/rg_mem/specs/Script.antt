@@ -1,4 +1,5 @@
-use Rattle.std.specs.Prelude.{ℕ, ◌-◌, ◌^◌, ◌==◌, nat_lt, List, [], ◌∷◌, ◌++◌, length, slice_index_or, Option, Some, None, if◌then◌else◌}
+use Rattle.std.specs.Prelude.{ℕ, ◌-◌, ◌^◌, ◌==◌, nat_lt, List, [], ◌∷◌, ◌++◌, length}
+use Rattle.std.specs.Prelude.{slice_index_or, Option, Some, None, if◌then◌else◌}
 use Rattle.std.proofs.Common.{zero, suc}
 use Rattle.rg_base.specs.declared.control.Answer.{Answer}
 use Rattle.rg_base.specs.declared.control.Command.TheVariants.{Nothing}
@@ -30,6 +31,7 @@ answers_to lines (suc n) = answers_to lines n ++ answer_at lines n ∷ []
 abbrev pub told_answers : Script → Option (List Answer)
 told_answers s = if nat_lt s.asks (2 ^ 64 - 1) then Some (answers_to s.lines s.asks) else None
 
--- the changes last told to be left, told once it was asked and while the number of asks is below its type's end
+-- the changes last told to be left, told once it was asked and while the number of asks is below
+-- its type's end
 abbrev pub told_left : Script → Option ℕ
 told_left s = if s.asks == 0 then None else (if nat_lt s.asks (2 ^ 64 - 1) then Some s.left else None)

@@ -1,5 +1,7 @@
 -- What a volume in memory tells.
-use Rattle.std.specs.Prelude.{ℕ, ◌+◌, ◌==◌, ◌&&◌, ◌||◌, not, is_some, find, vec_len, vec_capacity, ◌≡◌, ◌-◌, ◌^◌, nat_lt, Bool, true, false, List, [], ◌++◌, replicate, length, refl, Option, Some, None, if◌then◌else◌}
+use Rattle.std.specs.Prelude.{ℕ, ◌+◌, ◌==◌, ◌&&◌, ◌||◌, not, is_some, find, vec_len, vec_capacity}
+use Rattle.std.specs.Prelude.{◌≡◌, ◌-◌, ◌^◌, nat_lt, Bool, true, false, List, [], ◌++◌, replicate}
+use Rattle.std.specs.Prelude.{length, refl, Option, Some, None, if◌then◌else◌}
 use Rattle.rg_base.specs.declared.set.Set.{Set}
 use Rattle.rg_outside.specs.Calls.{Image, Call, Read, Synced, FailedRead, FailedSync, Told, Refused}
 use Rattle.rg_outside.specs.Moments.{IfTold, SamePages}
@@ -44,7 +46,8 @@ abbrev pub is_past : Option ℕ → ℕ → Bool
 is_past None number = false
 is_past (Some last) number = nat_lt last number
 
--- How the next call is to fail, if it is. Past the stop each fails, and leaves the old content to a read.
+-- How the next call is to fail, if it is. Past the stop each fails, and leaves the old content to a
+-- read.
 abbrev pub fault_of : MemVolume → Option Failing
 fault_of m =
     let number = length m.calls.items + 1 in
@@ -71,7 +74,8 @@ next_sync m = if has_room m then (if is_some (fault_of m) then FailedSync else S
 abbrev pub next_write : MemVolume → Set → ℕ → List ℕ → Call
 next_write m set page bytes = if has_room m && nat_lt (vec_len m.writes) (vec_capacity m.writes) then write_call set page bytes (fault_of m) else Refused
 
--- It has room for so many calls and writes, and these calls are to fail: those numbers, and each past the stop.
+-- It has room for so many calls and writes, and these calls are to fail: those numbers, and each
+-- past the stop.
 pub record Keeps (calls writes : ℕ) (failing : List Failing) (stop : Option ℕ) (m : MemVolume) : Type 0 where
   pub call_room : vec_capacity m.calls ≡ calls
   pub write_room : vec_capacity m.writes ≡ writes

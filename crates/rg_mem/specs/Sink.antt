@@ -9,7 +9,8 @@ pub record SinkState : Type 0 where
   pub most : ℕ
   pub calls : Tally
 
--- whether a call with a piece of this length is a fault: it failed, or kept 0 of a piece of some length
+-- whether a call with a piece of this length is a fault: it failed, or kept 0 of a piece of some
+-- length
 abbrev pub is_give_fault : ℕ → Result ℕ GiveFault → Bool
 is_give_fault len (Ok n) = n == 0 && nat_lt 0 len
 is_give_fault len (Err Failed) = true

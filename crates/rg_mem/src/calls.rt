@@ -4,8 +4,8 @@ ghost use Rattle.rg_mem.specs.Tally.{tally_before, count_after, next_fails, afte
 use std::alloc::{AllocError, Global};
 use std::marker::Model;
 
-// Which calls fail, by their numbers from 1, how many were made, and how many faults there were. Both
-// counts stand still at the end of their type.
+// Which calls fail, by their numbers from 1, how many were made, and how many faults there were.
+// Both counts stand still at the end of their type.
 #[derive(Drop)]
 pub struct Calls {
     failing: Vec<u64>,

@@ -1,4 +1,5 @@
-ghost use Rattle.std.specs.Prelude.{◌≡◌, ◌<◌, ◌≤◌, ◌↔◌, [], ◌++◌, length, take, min, IsTrue, IfOk, OnOk, IfErr, OnErr};
+ghost use Rattle.std.specs.Prelude.{◌≡◌, ◌<◌, ◌≤◌, ◌↔◌, [], ◌++◌, length, take, min, IsTrue, IfOk};
+ghost use Rattle.std.specs.Prelude.{OnOk, IfErr, OnErr};
 ghost use Rattle.rg_mem.specs.Tally.{tally_before, next_fails, after_call};
 ghost use Rattle.rg_mem.specs.Sink.{is_give_fault};
 
@@ -77,8 +78,8 @@ impl Model for MemSink {
 }
 
 impl MemSink {
-    /// The calls of `give` whose numbers, counted from 1, stand in `failing` fail. The others keep at most
-    /// `most` bytes of the piece.
+    /// The calls of `give` whose numbers, counted from 1, stand in `failing` fail. The others keep
+    /// at most `most` bytes of the piece.
     pub fn new(alloc: Global, failing: &[u64], most: u32) -> Result<MemSink, NoMemory>
         ensures held { IfOk result (λ sink. sink.held ≡ []) }
         ensures most { IfOk result (λ sink. sink.most ≡ most) }

@@ -1,4 +1,5 @@
-ghost use Rattle.std.specs.Prelude.{◌≡◌, ◌≤◌, ◌++◌, length, take, drop, min, is_err, IsOk, IfOk, OnErr};
+ghost use Rattle.std.specs.Prelude.{◌≡◌, ◌≤◌, ◌++◌, length, take, drop, min, is_err, IsOk, IfOk};
+ghost use Rattle.std.specs.Prelude.{OnErr};
 ghost use Rattle.rg_mem.specs.Tally.{tally_before, next_fails, after_call};
 
 use crate::calls::Calls;

@@ -13,8 +13,8 @@ use rg_outside::source::{Failed, Source};
 use std::alloc::{AllocError, Global};
 use std::test::Fail;
 
-// What the calls give through a buffer of this length: the bytes of each and then a bar, or `!` and a bar
-// where it failed.
+// What the calls give through a buffer of this length: the bytes of each and then a bar, or `!` and
+// a bar where it failed.
 fn reading<S: Source>(
     alloc: Global,
     source: &mut S,

@@ -1,5 +1,7 @@
 ghost use Rattle.std.specs.Bool.{OnTrue, OnFalse};
-ghost use Rattle.std.specs.Prelude.{◌≡◌, ◌==◌, find, ℕ, ◌≤◌, ◌<◌, ◌^◌, ◌+◌, ◌-◌, [], slice_index_or, ◌∷◌, ◌++◌, length, All, IfOk, OnOk, is_err, IsTrue, vec_len, vec_capacity, if◌then◌else◌, ◌↔◌};
+ghost use Rattle.std.specs.Prelude.{◌≡◌, ◌==◌, find, ℕ, ◌≤◌, ◌<◌, ◌^◌, ◌+◌, ◌-◌, []};
+ghost use Rattle.std.specs.Prelude.{slice_index_or, ◌∷◌, ◌++◌, length, All, IfOk, OnOk, is_err};
+ghost use Rattle.std.specs.Prelude.{IsTrue, vec_len, vec_capacity, if◌then◌else◌, ◌↔◌};
 ghost use Rattle.rg_mem.specs.Tally.{count_after};
 ghost use Rattle.rg_mem.specs.Listed.{writes_needed, noted_write, zero_page};
 
@@ -12,17 +14,17 @@ use std::alloc::Global;
 
 type Page = [u8; 4096];
 
-/// A call that is to fail, by its number, counted from 1. `written` says that a write leaves its content to a
-/// read all the same.
+/// A call that is to fail, by its number, counted from 1. `written` says that a write leaves its
+/// content to a read all the same.
 #[derive(Clone, Copy, Debug)]
 pub struct Failing {
     pub call: u64,
     pub written: bool,
 }
 
-/// A volume in memory. It keeps the list of all its calls, in room for a stated number of calls and of
-/// writes that it takes when it is made. A call past that room fails and is refused whole, and so is every
-/// call after it.
+/// A volume in memory. It keeps the list of all its calls, in room for a stated number of calls and
+/// of writes that it takes when it is made. A call past that room fails and is refused whole, and
+/// so is every call after it.
 #[derive(Drop)]
 pub struct MemVolume {
     log: Vec<Page>,
@@ -41,16 +43,20 @@ pub struct MemVolume {
 }
 
 impl MemVolume {
-    ghost use Rattle.rg_outside.specs.Calls.{Call, Read, Synced, Wrote, FailedRead, FailedSync, FailedWrite, Refused, effect_of, read_after, read_of, left_after, left_of};
+    ghost use Rattle.rg_outside.specs.Calls.{Call, Read, Synced, Wrote, FailedRead, FailedSync};
+    ghost use Rattle.rg_outside.specs.Calls.{FailedWrite, Refused, effect_of, read_after, read_of};
+    ghost use Rattle.rg_outside.specs.Calls.{left_after, left_of};
     ghost use Rattle.rg_outside.specs.Capacities.{IsPage, capacity_of};
     ghost use Rattle.rg_outside.specs.Faults.{Rose};
     ghost use Rattle.rg_outside.specs.Made.{Made};
     ghost use Rattle.rg_outside.specs.Moments.{IsImage};
-    ghost use Rattle.rg_mem.specs.Listed.{call_of, calls_of, image_of, write_call, content_at, zero_page};
-    ghost use Rattle.rg_mem.specs.Shown.{capacities_of, shown, told_of, has_room, fault_of, IsFresh, HoldsPages, Keeps, KeepsAs};
+    ghost use Rattle.rg_mem.specs.Listed.{call_of, calls_of, image_of, write_call, content_at};
+    ghost use Rattle.rg_mem.specs.Listed.{zero_page};
+    ghost use Rattle.rg_mem.specs.Shown.{capacities_of, shown, told_of, has_room, fault_of};
+    ghost use Rattle.rg_mem.specs.Shown.{IsFresh, HoldsPages, Keeps, KeepsAs};
 
-    /// A volume of zero pages, with room for so many calls and writes. After `stop` calls all fail, and leave
-    /// the old content to a read.
+    /// A volume of zero pages, with room for so many calls and writes. After `stop` calls all fail,
+    /// and leave the old content to a read.
     pub fn new(
         alloc: Global,
         log: u32,
@@ -79,9 +85,9 @@ impl MemVolume {
         })
     }
 
-    /// What a crash leaves: a volume of the same room without failing calls. Page p holds, of the contents
-    /// that a crash may leave it, numbered from 0 with the oldest first, the one numbered `pick + p`, counted
-    /// round.
+    /// What a crash leaves: a volume of the same room without failing calls. Page p holds, of the
+    /// contents that a crash may leave it, numbered from 0 with the oldest first, the one numbered
+    /// `pick + p`, counted round.
     pub fn crash(&self, pick: u64) -> Result<MemVolume, NoMemory>
         ensures capacities { IfOk result (λ v. capacities_of v ≡ capacities_of self.now) }
         ensures fresh { IfOk result IsFresh }
@@ -309,7 +315,8 @@ impl Volume for MemVolume {
     ghost use Rattle.rg_outside.specs.Faults.{HasCause};
     ghost use Rattle.rg_outside.specs.Made.{Made, MadeRead, MadeWrite, MadeSync};
     ghost use Rattle.rg_outside.specs.Moments.{IfTold};
-    ghost use Rattle.rg_mem.specs.Shown.{capacities_of, told_of, own_capacities, next_read, next_write, next_sync, fails, write_fails, KeepsAs};
+    ghost use Rattle.rg_mem.specs.Shown.{capacities_of, told_of, own_capacities, next_read};
+    ghost use Rattle.rg_mem.specs.Shown.{next_write, next_sync, fails, write_fails, KeepsAs};
 
     ghost capacities = { capacities_of };
 

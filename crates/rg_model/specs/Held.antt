@@ -1,10 +1,11 @@
 -- Which other session holds a statement up.
-use Rattle.std.specs.Prelude.{ℕ, ◌==◌, ◌&&◌, ◌||◌, nat_le, Bool, true, false, not, List, [], ◌∷◌, Option, Some, None, if◌then◌else◌, filter}
+use Rattle.std.specs.Prelude.{ℕ, ◌==◌, ◌&&◌, ◌||◌, nat_le, Bool, true, false, not, List, [], ◌∷◌}
+use Rattle.std.specs.Prelude.{Option, Some, None, if◌then◌else◌, filter}
 use Rattle.std.specs.FinMap as fin
 use Rattle.rg_base.specs.declared.kept.Kept.{Kept}
 use Rattle.rg_base.specs.declared.row.Row.{Row}
 use Rattle.rg_base.specs.declared.session.Session.{Session}
-use Rattle.rg_model.specs.State.{Table, Locks}
+use Rattle.rg_model.specs.State.{Table, Locks, row_of}
 
 -- the session that has the key, where it is locked
 abbrev pub owner_of : Option Kept → Option Session
@@ -43,7 +44,7 @@ has_cat cat (Some row) = row.cat == cat
 
 -- another session has locked this key, and its present row or its kept one has the `cat`
 abbrev pub is_held_with_cat : Table → Session → ℕ → ℕ × Kept → Bool
-is_held_with_cat table session cat lock = is_others session (Some lock.1) && (has_cat cat (fin.get table lock.0) || has_cat cat lock.1.row)
+is_held_with_cat table session cat lock = is_others session (Some lock.1) && (has_cat cat (row_of table lock.0) || has_cat cat lock.1.row)
 
 -- the owner of the least key, locked by another session, whose present or kept row has the `cat`
 abbrev pub find_holder : Table → Locks → Session → ℕ → Option Session

@@ -1,6 +1,6 @@
 -- When the layout of a copy is right for a table.
-use Rattle.std.specs.Prelude.{ℕ, ◌==◌, ◌&&◌, ◌||◌, ◌+◌, nat_le, Bool, true, false, not, List, [], ◌∷◌, ◌++◌, Option, Some, None, if◌then◌else◌, length, map, filter}
-use Rattle.std.specs.FinMap as fin
+use Rattle.std.specs.Prelude.{ℕ, ◌==◌, ◌&&◌, ◌||◌, ◌+◌, nat_le, Bool, true, false, not, List, []}
+use Rattle.std.specs.Prelude.{◌∷◌, ◌++◌, Option, Some, None, if◌then◌else◌, length, map, filter}
 use Rattle.std.specs.List.{flat_map, list_all}
 use Rattle.rg_base.specs.declared.place.Place.{Place}
 use Rattle.rg_base.specs.declared.row.Row.{Row}
@@ -9,7 +9,7 @@ use Rattle.rg_base.specs.declared.which.Which.TheVariants.{Key, Clus, Cat}
 use Rattle.rg_stmt.specs.declared.layout.Side.{Side}
 use Rattle.rg_stmt.specs.declared.layout.Spot.{Spot}
 use Rattle.rg_model.specs.Same.{same_list}
-use Rattle.rg_model.specs.State.{Table}
+use Rattle.rg_model.specs.State.{Table, row_of, entries_of}
 
 abbrev pub same_place : Place → Place → Bool
 same_place a b = a.page == b.page && a.slot == b.slot
@@ -54,8 +54,8 @@ has_clus clus (Some row) = row.clus == clus
 -- each key of the table is in exactly one spot, no other key is, and its `clus` is its row's
 abbrev pub are_spots_of : Table → List Spot → Bool
 are_spots_of table spots =
-    list_all (λ entry. length (filter (λ spot. spot.key == entry.0) spots) == 1) (fin.entries table)
-    && list_all (λ spot. has_clus spot.clus (fin.get table spot.key)) spots
+    list_all (λ entry. length (filter (λ spot. spot.key == entry.0) spots) == 1) (entries_of table)
+    && list_all (λ spot. has_clus spot.clus (row_of table spot.key)) spots
 
 -- the value that an index lists
 abbrev pub value_of : Which → Row → ℕ
@@ -78,7 +78,7 @@ sorted_entries (e ∷ es) = put_entry e (sorted_entries es)
 
 -- the sorted list of the values and places of the rows that have these spots
 abbrev pub listing : Which → Table → List Spot → List (ℕ × Place)
-listing which table spots = sorted_entries (flat_map (λ spot. listed_entry which spot.place (fin.get table spot.key)) spots)
+listing which table spots = sorted_entries (flat_map (λ spot. listed_entry which spot.place (row_of table spot.key)) spots)
 
 abbrev pub same_entry : ℕ × Place → ℕ × Place → Bool
 same_entry a b = a.0 == b.0 && same_place a.1 b.1
@@ -86,7 +86,8 @@ same_entry a b = a.0 == b.0 && same_place a.1 b.1
 abbrev pub is_listing : Which → Table → Side → List (ℕ × Place) → Bool
 is_listing which table side entries = same_list same_entry entries (listing which table side.spots)
 
--- Homes rise. Homes and the places of moved rows are on the copy's pages, and no place stands twice. The spots are the table's, and so is each listing.
+-- Homes rise. Homes and the places of moved rows are on the copy's pages, and no place stands
+-- twice. The spots are the table's, and so is each listing.
 abbrev pub is_right_side : Table → Side → Bool
 is_right_side table side =
     are_rising (homes side.spots)

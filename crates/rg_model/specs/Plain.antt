@@ -1,16 +1,21 @@
--- What a statement is answered and leaves, as if there were one plain table: no pages, no claims and no utility.
-use Rattle.std.specs.Prelude.{ℕ, ◌==◌, ◌&&◌, nat_le, Bool, true, false, List, Option, Some, None, if◌then◌else◌, map, filter}
+-- What a statement is answered and leaves, as if there were one plain table: no pages, no claims
+-- and no utility.
+use Rattle.std.specs.Prelude.{ℕ, ◌==◌, ◌&&◌, nat_le, Bool, true, false, List, Option, Some, None}
+use Rattle.std.specs.Prelude.{if◌then◌else◌, map, filter}
 use Rattle.std.specs.FinMap as fin
 use Rattle.rg_base.specs.declared.row.Row.{Row}
 use Rattle.rg_base.specs.declared.session.Session.{Session}
 use Rattle.rg_stmt.specs.declared.stmt.Reply.{Reply}
-use Rattle.rg_stmt.specs.declared.stmt.Reply.TheVariants.{Done, Found, Listed, Keyed, Absent, Duplicate, Held, Victim, Drained, Full, LogFull, Device, Down, NoMemory}
+use Rattle.rg_stmt.specs.declared.stmt.Reply.TheVariants.{Done, Found, Listed, Keyed, Absent}
+use Rattle.rg_stmt.specs.declared.stmt.Reply.TheVariants.{Duplicate, Held, Victim, Drained, Full}
+use Rattle.rg_stmt.specs.declared.stmt.Reply.TheVariants.{LogFull, Device, Down, NoMemory}
 use Rattle.rg_stmt.specs.declared.stmt.Stmt.{Stmt}
-use Rattle.rg_stmt.specs.declared.stmt.Stmt.TheVariants.{Insert, Update, Delete, Select, Scan, Find, Commit, Rollback}
+use Rattle.rg_stmt.specs.declared.stmt.Stmt.TheVariants.{Insert, Update, Delete, Select, Scan, Find}
+use Rattle.rg_stmt.specs.declared.stmt.Stmt.TheVariants.{Commit, Rollback}
 use Rattle.rg_model.specs.Claims.{classes_needed, claimed}
 use Rattle.rg_model.specs.Committed.{set_to, put_back, without, own}
 use Rattle.rg_model.specs.Held.{holder, scan_holder, find_holder}
-use Rattle.rg_model.specs.State.{State, Table, Locks}
+use Rattle.rg_model.specs.State.{State, Table, Locks, row_of, is_present, entries_of}
 
 -- HELD by another session comes before any other reply
 abbrev pub unless_held : Option Session → Reply → Reply
@@ -32,18 +37,18 @@ row_reply (Some row) = Found row
 
 -- the rows of the keys from `lo` to `hi`, by rising key
 abbrev pub rows_between : ℕ → ℕ → Table → List Row
-rows_between lo hi table = map (λ entry. entry.1) (filter (λ entry. nat_le lo entry.0 && nat_le entry.0 hi) (fin.entries table))
+rows_between lo hi table = map (λ entry. entry.1) (filter (λ entry. nat_le lo entry.0 && nat_le entry.0 hi) (entries_of table))
 
 -- the rising keys of the rows with this `cat`
 abbrev pub keys_with_cat : ℕ → Table → List ℕ
-keys_with_cat cat table = map (λ entry. entry.0) (filter (λ entry. entry.1.cat == cat) (fin.entries table))
+keys_with_cat cat table = map (λ entry. entry.0) (filter (λ entry. entry.1.cat == cat) (entries_of table))
 
 -- the first case that applies
 abbrev pub plain_reply : State → Session → Stmt → Reply
-plain_reply st session (Insert row) = unless_held (holder st.locks session row.key) (insert_reply (fin.contains_key st.table row.key))
-plain_reply st session (Update row) = unless_held (holder st.locks session row.key) (change_reply (fin.contains_key st.table row.key))
-plain_reply st session (Delete key) = unless_held (holder st.locks session key) (change_reply (fin.contains_key st.table key))
-plain_reply st session (Select key) = unless_held (holder st.locks session key) (row_reply (fin.get st.table key))
+plain_reply st session (Insert row) = unless_held (holder st.locks session row.key) (insert_reply (is_present st.table row.key))
+plain_reply st session (Update row) = unless_held (holder st.locks session row.key) (change_reply (is_present st.table row.key))
+plain_reply st session (Delete key) = unless_held (holder st.locks session key) (change_reply (is_present st.table key))
+plain_reply st session (Select key) = unless_held (holder st.locks session key) (row_reply (row_of st.table key))
 plain_reply st session (Scan lo hi) = unless_held (scan_holder st.locks session lo hi) (Listed (rows_between lo hi st.table))
 plain_reply st session (Find cat) = unless_held (find_holder st.table st.locks session cat) (Keyed (keys_with_cat cat st.table))
 plain_reply st session Commit = Done
@@ -52,7 +57,7 @@ plain_reply st session Rollback = Done
 -- a write locks its key, and keeps the row or absence from before where the key was not locked
 abbrev pub locked : State → Session → ℕ → Locks
 locked st session key =
-    if fin.contains_key st.locks key then st.locks else fin.insert st.locks key (record { owner = session; row = fin.get st.table key })
+    if fin.contains_key st.locks key then st.locks else fin.insert st.locks key (record { owner = session; row = row_of st.table key })
 
 abbrev pub written : State → Session → ℕ → Option Row → State
 written st session key row = record st { table = set_to st.table key row; locks = locked st session key }
@@ -94,6 +99,7 @@ is_done Device = false
 is_done Down = false
 is_done NoMemory = false
 
--- a statement that is answered with number 0 acts and registers its classes; any other leaves the state as it is
+-- a statement that is answered with number 0 acts and registers its classes; any other leaves the
+-- state as it is
 abbrev pub answered : State → Session → Stmt → Reply → State
 answered st session stmt reply = if is_done reply then claimed (after st session stmt) session (classes_needed stmt) else st

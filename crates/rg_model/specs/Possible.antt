@@ -1,6 +1,6 @@
 -- The states that a trace allows, as a list.
-use Rattle.std.specs.Prelude.{ℕ, ◌==◌, ◌||◌, ◌&&◌, ◌-◌, Bool, not, List, [], ◌∷◌, Option, Some, None, if◌then◌else◌, map, filter, is_some}
-use Rattle.std.specs.FinMap as fin
+use Rattle.std.specs.Prelude.{ℕ, ◌==◌, ◌||◌, ◌&&◌, ◌-◌, Bool, not, List, [], ◌∷◌, Option, Some}
+use Rattle.std.specs.Prelude.{None, if◌then◌else◌, map, filter, is_some}
 use Rattle.std.specs.List.{flat_map}
 use Rattle.rg_base.specs.declared.control.Answer.{Answer}
 use Rattle.rg_base.specs.declared.options.Options.{Options}
@@ -14,8 +14,8 @@ use Rattle.rg_stmt.specs.declared.layout.Side.{Side}
 use Rattle.rg_model.specs.Committed.{committed, committed_with}
 use Rattle.rg_model.specs.Layout.{is_right_side}
 use Rattle.rg_model.specs.Said.{chosen, state_said}
-use Rattle.rg_model.specs.State.{State, Table, Utility, at_rest}
-use Rattle.rg_model.specs.Utility.{started, state_stepped}
+use Rattle.rg_model.specs.State.{State, Table, Utility, at_rest, row_count}
+use Rattle.rg_model.specs.Utility.{start_utility, state_stepped}
 
 -- process death keeps the committed rows; a COMMIT in doubt may be in
 abbrev pub tables_left : State → Option Session → List Table
@@ -29,7 +29,7 @@ is_copy_left st copy = copy == st.copy || (st.copydoubt && (copy == 3 - st.copy)
 -- an opening finds the copy, and the number of its committed rows
 abbrev pub states_opened : State → ℕ → ℕ → List State
 states_opened st copy rows =
-    if is_copy_left st copy then map (λ table. at_rest table copy) (filter (λ table. fin.len table == rows) (tables_left st st.doubt)) else []
+    if is_copy_left st copy then map (λ table. at_rest table copy) (filter (λ table. row_count table == rows) (tables_left st st.doubt)) else []
 
 -- what changes nothing and comes while the engine is not down
 abbrev pub state_up : State → Option State
@@ -45,7 +45,7 @@ state_shown st copy side = chosen (not st.down && ((copy == st.copy) && is_right
 
 -- a utility starts where none runs, over the current copy
 abbrev pub state_started : State → Options → ℕ → ℕ → Option State
-state_started st options copy pages = chosen (not st.down && (not (is_some st.utility) && (copy == st.copy))) (started st options pages)
+state_started st options copy pages = chosen (not st.down && (not (is_some st.utility) && (copy == st.copy))) (start_utility st options pages)
 
 -- it is refused where none runs
 abbrev pub state_not_started : State → Option State
@@ -63,7 +63,8 @@ abbrev pub state_after_step : List Entry → Option Answer → Event → State �
 state_after_step past answer event st None = None
 state_after_step past answer event st (Some utility) = if st.down then None else state_stepped past answer event st utility
 
--- The state after an event, but for an opening. An event whose actor isn't its own allows nothing. `past` are the entries before, the newest first.
+-- The state after an event, but for an opening. An event whose actor isn't its own allows nothing.
+-- `past` are the entries before, the newest first.
 abbrev pub next_state : List Entry → Option Answer → Actor → Event → State → Option State
 next_state past answer (actors.Session session) (events.Said stmt reply) st = state_said st session stmt reply
 next_state past answer (actors.Session session) event st = None

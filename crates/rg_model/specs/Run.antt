@@ -1,6 +1,6 @@
--- One next state of each event: what the proofs of the engine go by. Each run ends in a state that is possible.
+-- One next state of each event: what the proofs of the engine go by. Each run ends in a state that
+-- is possible.
 use Rattle.std.specs.Prelude.{ℕ, ◌≡◌, true, false, List, [], ◌∷◌, Option, Some}
-use Rattle.std.specs.FinMap as fin
 use Rattle.std.specs.List.{Contains}
 use Rattle.rg_base.specs.declared.control.Answer.{Answer}
 use Rattle.rg_base.specs.declared.session.Session.{Session}
@@ -10,13 +10,14 @@ use Rattle.rg_stmt.specs.declared.event.Entry.{Entry}
 use Rattle.rg_stmt.specs.declared.event.Event.{Event}
 use Rattle.rg_stmt.specs.declared.event.Event.TheVariants.{Opened, Said}
 use Rattle.rg_stmt.specs.declared.stmt.Reply.{Reply}
-use Rattle.rg_stmt.specs.declared.stmt.Reply.TheVariants.{Held, Victim, Drained, Full, LogFull, Device, Down, NoMemory}
+use Rattle.rg_stmt.specs.declared.stmt.Reply.TheVariants.{Held, Victim, Drained, Full, LogFull}
+use Rattle.rg_stmt.specs.declared.stmt.Reply.TheVariants.{Device, Down, NoMemory}
 use Rattle.rg_stmt.specs.declared.stmt.Stmt.{Stmt}
 use Rattle.rg_model.specs.Claims.{is_drained}
 use Rattle.rg_model.specs.Plain.{plain_reply, answered, is_done, after_rollback}
 use Rattle.rg_model.specs.Possible.{tables_left, is_copy_left, next_state}
 use Rattle.rg_model.specs.Said.{may_want_memory, may_want_room, may_want_log, state_refused}
-use Rattle.rg_model.specs.State.{State, Table, at_rest}
+use Rattle.rg_model.specs.State.{State, Table, at_rest, row_count}
 
 -- the statement may be answered so, and leaves this state
 abbrev pub Answers : State → Session → Stmt → Reply → State → Type 0
@@ -40,7 +41,7 @@ pub record Reopens (st : State) (copy rows : ℕ) (new : State) : Type 0 where
   pub table : Table
   pub left : Contains (tables_left st st.doubt) table
   pub copy_left : is_copy_left st copy ≡ true
-  pub counted : fin.len table ≡ rows
+  pub counted : row_count table ≡ rows
   pub at_rest : new ≡ at_rest table copy
 
 -- an opening and a statement are told of by relations, any other event by the state that it leaves

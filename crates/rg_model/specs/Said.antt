@@ -4,7 +4,8 @@ use Rattle.std.specs.FinMap as fin
 use Rattle.std.specs.List.{list_any}
 use Rattle.rg_base.specs.declared.session.Session.{Session}
 use Rattle.rg_stmt.specs.declared.stmt.Reply.{Reply}
-use Rattle.rg_stmt.specs.declared.stmt.Reply.TheVariants.{Held, Victim, Drained, Full, LogFull, Device, Down, NoMemory}
+use Rattle.rg_stmt.specs.declared.stmt.Reply.TheVariants.{Held, Victim, Drained, Full, LogFull}
+use Rattle.rg_stmt.specs.declared.stmt.Reply.TheVariants.{Device, Down, NoMemory}
 use Rattle.rg_stmt.specs.declared.stmt.Stmt.{Stmt}
 use Rattle.rg_stmt.specs.declared.stmt.Stmt.TheVariants.{Insert, Update, Delete, Commit, Rollback}
 use Rattle.rg_model.specs.Claims.{is_drained}
@@ -38,8 +39,8 @@ may_want_log stmt = false
 abbrev pub has_locks : Locks → Session → Bool
 has_locks locks session = list_any (λ lock. lock.1.owner.0 == session.0) (fin.entries locks)
 
--- Where the device refuses the end of a unit the engine is down, and of a COMMIT it is open whether it is in. A COMMIT of a unit without writes calls no
--- device.
+-- Where the device refuses the end of a unit the engine is down, and of a COMMIT it is open whether
+-- it is in. A COMMIT of a unit without writes calls no device.
 abbrev pub state_failed : State → Session → Stmt → Option State
 state_failed st session Commit = chosen (has_locks st.locks session) (record st { down = true; doubt = Some session })
 state_failed st session Rollback = Some (record st { down = true })

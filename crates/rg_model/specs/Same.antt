@@ -1,9 +1,19 @@
--- Which replies are the same.
+-- Tests of sameness that compute: of replies, and of what a utility's events name.
 use Rattle.std.specs.Prelude.{ℕ, ◌==◌, ◌&&◌, Bool, true, false, List, [], ◌∷◌}
 use Rattle.std.specs.Str.{bytes_eq}
+use Rattle.rg_base.specs.declared.options.DrainFor.{DrainFor}
+use Rattle.rg_base.specs.declared.options.DrainFor.TheVariants as what
 use Rattle.rg_base.specs.declared.row.Row.{Row}
+use Rattle.rg_base.specs.declared.verdict.StopReason.{StopReason}
+use Rattle.rg_base.specs.declared.verdict.StopReason.TheVariants as reasons
+use Rattle.rg_base.specs.declared.verdict.Verdict.{Verdict}
+use Rattle.rg_base.specs.declared.verdict.Verdict.TheVariants as verdicts
+use Rattle.rg_base.specs.declared.which.Which.{Which}
+use Rattle.rg_base.specs.declared.which.Which.TheVariants.{Key, Clus, Cat}
 use Rattle.rg_stmt.specs.declared.stmt.Reply.{Reply}
-use Rattle.rg_stmt.specs.declared.stmt.Reply.TheVariants.{Done, Found, Listed, Keyed, Absent, Duplicate, Held, Victim, Drained, Full, LogFull, Device, Down, NoMemory}
+use Rattle.rg_stmt.specs.declared.stmt.Reply.TheVariants.{Done, Found, Listed, Keyed, Absent}
+use Rattle.rg_stmt.specs.declared.stmt.Reply.TheVariants.{Duplicate, Held, Victim, Drained, Full}
+use Rattle.rg_stmt.specs.declared.stmt.Reply.TheVariants.{LogFull, Device, Down, NoMemory}
 
 -- element for element
 abbrev pub same_list : {X : Type 0} → (X → X → Bool) → List X → List X → Bool
@@ -34,3 +44,32 @@ same_reply Device Device = true
 same_reply Down Down = true
 same_reply NoMemory NoMemory = true
 same_reply a b = false
+
+abbrev pub same_which : Which → Which → Bool
+same_which Key Key = true
+same_which Clus Clus = true
+same_which Cat Cat = true
+same_which a b = false
+
+abbrev pub same_drain : DrainFor → DrainFor → Bool
+same_drain what.Writers what.Writers = true
+same_drain what.All what.All = true
+same_drain a b = false
+
+abbrev pub same_reason : StopReason → StopReason → Bool
+same_reason reasons.Term reasons.Term = true
+same_reason reasons.Deadline reasons.Deadline = true
+same_reason reasons.Longlog reasons.Longlog = true
+same_reason reasons.Drain reasons.Drain = true
+same_reason reasons.NoSpace reasons.NoSpace = true
+same_reason reasons.Device reasons.Device = true
+same_reason reasons.NoMemory reasons.NoMemory = true
+same_reason a b = false
+
+abbrev pub same_verdict : Verdict → Verdict → Bool
+same_verdict verdicts.More verdicts.More = true
+same_verdict verdicts.Next verdicts.Next = true
+same_verdict verdicts.Message verdicts.Message = true
+same_verdict (verdicts.Drain a) (verdicts.Drain b) = same_drain a b
+same_verdict (verdicts.Stop a) (verdicts.Stop b) = same_reason a b
+same_verdict a b = false

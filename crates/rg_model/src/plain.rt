@@ -21,7 +21,8 @@ use std::alloc::Global;
 mod parts;
 mod walks;
 
-/// A plain table with its locks and claims, in memory. It computes what the definitions say, slowly.
+/// A plain table with its locks and claims, in memory. It computes what the definitions say,
+/// slowly.
 #[derive(Drop)]
 pub struct PlainState {
     pub table: NumberMap<Row>,

@@ -19,8 +19,8 @@ enum Ask {
     Rollback,
 }
 
-// The session, what it asks, the number and the numbers of the reply, and how many locks and claims there
-// are then.
+// The session, what it asks, the number and the numbers of the reply, and how many locks and claims
+// there are then.
 type Step = (u8, Ask, i32, &'static [u64], (usize, usize));
 
 const NONE: &[u64] = &[];
@@ -70,8 +70,8 @@ fn number_of(reply: &Reply) -> i32 {
     }
 }
 
-// The `clus` of the row that was found, the keys of those that were listed, or the session that holds the
-// statement up.
+// The `clus` of the row that was found, the keys of those that were listed, or the session that
+// holds the statement up.
 fn told_of(alloc: Global, reply: &Reply) -> Result<Vec<u64>, AllocError> {
     let mut told = Vec::new(alloc);
     match reply {
@@ -122,7 +122,8 @@ fn plain_with_three(rt: &impl Abort, alloc: Global) -> Result<PlainState, AllocE
     Ok(plain)
 }
 
-// A key that another session has locked comes before any other reply, and an own lock never holds up.
+// A key that another session has locked comes before any other reply, and an own lock never holds
+// up.
 #[test]
 fn answers_at_one_key(rt: HostRuntime) -> Result<(), Fail> {
     let mut plain = PlainState::new(rt.alloc(), 1);

@@ -1,5 +1,6 @@
 -- What the calls of a volume make of its contents.
-use Rattle.std.specs.Prelude.{ℕ, ◌==◌, ◌&&◌, Bool, true, false, if◌then◌else◌, List, [], ◌∷◌, ◌++◌, count_by}
+use Rattle.std.specs.Prelude.{ℕ, ◌==◌, ◌&&◌, Bool, true, false, if◌then◌else◌, List, [], ◌∷◌, ◌++◌}
+use Rattle.std.specs.Prelude.{count_by}
 use Rattle.rg_base.specs.declared.set.Set.{Set}
 use Rattle.rg_base.specs.declared.set.Set.TheVariants.{Log, First, Second}
 use Rattle.rg_outside.specs.Capacities.{Capacities}
@@ -8,8 +9,9 @@ use Rattle.rg_outside.specs.Capacities.{Capacities}
 abbrev pub Image : Type 0
 Image = Set → ℕ → List ℕ
 
--- One call of a volume, by what it was, what it answered and what it wrote. A failed write says whether a read gives its content from then on. A failed call may
--- also have been refused whole: it did nothing.
+-- One call of a volume, by what it was, what it answered and what it wrote. A failed write says
+-- whether a read gives its content from then on. A failed call may also have been refused whole: it
+-- did nothing.
 pub data Call : Type 0 where
   Read : Call
   Wrote : Set → ℕ → List ℕ → Call
@@ -19,7 +21,8 @@ pub data Call : Type 0 where
   FailedSync : Call
   Refused : Call
 
--- What a call leaves: nothing new, this content of this page (and whether a read gives it), or that what is read is certain.
+-- What a call leaves: nothing new, this content of this page (and whether a read gives it), or that
+-- what is read is certain.
 pub data Effect : Type 0 where
   Nothing : Effect
   Content : Set → ℕ → List ℕ → Bool → Effect
@@ -43,7 +46,8 @@ is_failed (FailedWrite set page bytes reads) = true
 is_failed FailedSync = true
 is_failed Refused = true
 
--- what a volume tells: its capacities, its contents when it was made, and its calls since, the newest first
+-- what a volume tells: its capacities, its contents when it was made, and its calls since, the
+-- newest first
 pub record Told : Type 0 where
   pub capacities : Capacities
   pub first : Image
@@ -70,14 +74,16 @@ abbrev pub read_of : Image → List Call → Image
 read_of first [] s p = first s p
 read_of first (call ∷ calls) s p = read_after (effect_of call) (read_of first calls s p) s p
 
--- what a crash may leave of a page after one more call, from what it might have left and what was read
+-- what a crash may leave of a page after one more call, from what it might have left and what was
+-- read
 abbrev pub left_after : Effect → List (List ℕ) → List ℕ → Set → ℕ → List (List ℕ)
 left_after Nothing left read s p = left
 left_after (Content set page bytes reads) left read s p = if is_same_page set page s p then left ++ bytes ∷ [] else left
 left_after Certain left read s p = read ∷ []
 
--- The contents of a page that a crash may leave, the oldest first: those that it has had since the last successful sync, that sync's own included. Each write
--- counts as one, also a failed one, and also where it is equal to another.
+-- The contents of a page that a crash may leave, the oldest first: those that it has had since the
+-- last successful sync, that sync's own included. Each write counts as one, also a failed one, and
+-- also where it is equal to another.
 abbrev pub left_of : Image → List Call → Set → ℕ → List (List ℕ)
 left_of first [] s p = first s p ∷ []
 left_of first (call ∷ calls) s p = left_after (effect_of call) (left_of first calls s p) (read_of first calls s p) s p

@@ -11,7 +11,8 @@ pub record HasCause {T E : Type 0} (before now : ℕ) (result : Result T E) : Ty
   pub later : before ≤ now
   pub failed : OnErr result (Rose before now)
 
--- when a sink's count of faults rises: it failed, or took 0 of a piece of some length; want of memory is no fault
+-- when a sink's count of faults rises: it failed, or took 0 of a piece of some length; want of
+-- memory is no fault
 abbrev pub GiveRose : ℕ → ℕ → ℕ → Result ℕ GiveFault → Type 0
 GiveRose before now len (Ok n) = 0 < len → n ≡ 0 → Rose before now
 GiveRose before now len (Err Failed) = Rose before now

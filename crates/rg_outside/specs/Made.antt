@@ -1,7 +1,8 @@
 -- Which call was made, by what it answered.
 use Rattle.std.specs.Prelude.{ℕ, ◌≡◌, List, ◌∷◌, Option, Some, None, Result, Ok, Err}
 use Rattle.rg_base.specs.declared.set.Set.{Set}
-use Rattle.rg_outside.specs.Calls.{Call, Read, Wrote, Synced, FailedRead, FailedWrite, FailedSync, Refused, Told}
+use Rattle.rg_outside.specs.Calls.{Call, Read, Wrote, Synced, FailedRead, FailedWrite, FailedSync}
+use Rattle.rg_outside.specs.Calls.{Refused, Told}
 use Rattle.rg_outside.specs.declared.source.Failed.{Failed}
 
 -- one call more

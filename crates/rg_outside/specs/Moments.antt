@@ -1,5 +1,7 @@
--- The moments of a volume that tells its contents, by the number of its calls, and what holds at each.
-use Rattle.std.specs.Prelude.{ℕ, ◌≡◌, ◌≤◌, ◌-◌, if◌then◌else◌, List, [], ◌++◌, Option, Some, None, length, drop}
+-- The moments of a volume that tells its contents, by the number of its calls, and what holds at
+-- each.
+use Rattle.std.specs.Prelude.{ℕ, ◌≡◌, ◌≤◌, ◌-◌, if◌then◌else◌, List, [], ◌++◌, Option, Some, None}
+use Rattle.std.specs.Prelude.{length, drop}
 use Rattle.std.specs.List.{AllByRecursion, Contains}
 use Rattle.rg_base.specs.declared.set.Set.{Set}
 use Rattle.rg_outside.specs.Calls.{Image, Call, Told, is_same_page, read_of, left_of, faults_of}
@@ -13,7 +15,8 @@ IsImage told i = (s : Set) (p : ℕ) → IsPage told.capacities s p → Contains
 abbrev pub moment : Told → ℕ → Told
 moment told c = record told { calls = drop (length told.calls - c) told.calls }
 
--- the image as it read after c calls, those that a crash might then have left, and how many calls had failed
+-- the image as it read after c calls, those that a crash might then have left, and how many calls
+-- had failed
 abbrev pub read_at : Told → ℕ → Image
 read_at told c = read_of told.first (moment told c).calls
 
@@ -32,7 +35,8 @@ IfTold (Some told) P = P told
 abbrev pub HoldsSince : ℕ → Told → (Told → Type 0) → Type 0
 HoldsSince n told P = (c : ℕ) → n ≤ c → c ≤ length told.calls → P (moment told c)
 
--- From one moment to another: the earlier one stays as it was, and P holds at both and at each moment between.
+-- From one moment to another: the earlier one stays as it was, and P holds at both and at each
+-- moment between.
 pub record Throughout (before after : Told) (P : Told → Type 0) : Type 0 where
   pub longer : length before.calls ≤ length after.calls
   pub earlier : moment after (length before.calls) ≡ before

@@ -1,7 +1,10 @@
-ghost use Rattle.std.specs.Prelude.{◌≡◌, ◌≤◌, ◌+◌, ℕ, Bool, List, [], ◌∷◌, ◌++◌, length, if◌then◌else◌};
+ghost use Rattle.std.specs.Prelude.{◌≡◌, ◌≤◌, ◌+◌, ℕ, Bool, List, [], ◌∷◌, ◌++◌, length};
+ghost use Rattle.std.specs.Prelude.{if◌then◌else◌};
 ghost use Rattle.std.specs.List.{AllByRecursion};
 ghost use Rattle.rg_base.specs.declared.set.Set.{Set};
-ghost use Rattle.rg_outside.specs.Calls.{Image, Call, Synced, Nothing, Content, effect_of, is_failed, Told, is_same_page, read_of, left_of, faults_of};
+ghost use Rattle.rg_outside.specs.Calls.{Image, Call, Synced, Nothing, Content, effect_of};
+ghost use Rattle.rg_outside.specs.Calls.{is_failed, Told, is_same_page, read_of, left_of};
+ghost use Rattle.rg_outside.specs.Calls.{faults_of};
 ghost use Rattle.rg_outside.specs.Made.{then_call};
 ghost use Rattle.rg_outside.specs.Moments.{IsImage, IsImageAt, moment, read_at, SamePages};
 
@@ -10,7 +13,8 @@ pub fn what_reads_is_left()
     ensures { (told : Told) (c : ℕ) → IsImageAt told c (read_at told c) }
 {}
 
-/// After a sync that succeeded, and as long as nothing is written, a crash leaves the pages as they read.
+/// After a sync that succeeded, and as long as nothing is written, a crash leaves the pages as they
+/// read.
 pub fn sync_makes_certain()
     ensures { (told : Told) (since : List Call) (i : Image) → AllByRecursion (λ call. effect_of call ≡ Nothing) since →
         IsImage (record told { calls = since ++ Synced ∷ told.calls }) i → SamePages told.capacities (read_of told.first told.calls) i }

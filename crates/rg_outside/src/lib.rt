@@ -1,5 +1,5 @@
-//! What stands outside the engine: where a deck comes from, where a print goes, the volume of pages and
-//! the operator. Each is a trait, whose clauses say what a call may do.
+//! What stands outside the engine: where a deck comes from, where a print goes, the volume of pages
+//! and the operator. Each is a trait, whose clauses say what a call may do.
 #![tactic(auto)]
 
 /// An operator behind a pointer.

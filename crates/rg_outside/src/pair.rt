@@ -8,8 +8,8 @@ use crate::source::Failed;
 use crate::volume::Volume;
 use rg_base::set::Set;
 
-/// Writes two pages of a set, and makes them certain. Nothing may be pending on them. It is the worked
-/// example of a caller of a volume: what each image has is carried from call to call.
+/// Writes two pages of a set, and makes them certain. Nothing may be pending on them. It is the
+/// worked example of a caller of a volume: what each image has is carried from call to call.
 pub fn write_pair<V: Volume>(
     volume: &mut V,
     set: Set,

@@ -1,4 +1,5 @@
-ghost use Rattle.std.specs.Prelude.{◌≡◌, ◌<◌, ◌≤◌, List, ℕ, Option, length, take, IfOk, IfErr, OnErr};
+ghost use Rattle.std.specs.Prelude.{◌≡◌, ◌<◌, ◌≤◌, List, ℕ, Option, length, take, IfOk, IfErr};
+ghost use Rattle.std.specs.Prelude.{OnErr};
 ghost use Rattle.rg_outside.specs.Faults.{HasGiveCause};
 ghost use Rattle.std.specs.Io.KnownBytes.{Appends};
 
@@ -20,7 +21,8 @@ pub trait Sink {
     /// 2 ^ 64 - 1.
     ghost faults: { Self → ℕ };
 
-    /// Keeps bytes from the front of `from`, and answers how many. A call that was refused kept nothing.
+    /// Keeps bytes from the front of `from`, and answers how many. A call that was refused kept
+    /// nothing.
     fn give(&mut self, from: &[u8]) -> Result<usize, GiveFault>
         ensures count { IfOk result (λ n. n ≤ length from.now) }
         ensures kept { IfOk result (λ n. Appends (held self.old) (held self.new) (take n from.now)) }

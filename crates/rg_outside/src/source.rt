@@ -14,8 +14,8 @@ pub trait Source {
     /// How often a call has failed. It stands still at 2 ^ 64 - 1.
     ghost faults: { Self → ℕ };
 
-    /// Puts the next bytes at the front of `into`, and answers how many; 0 for a non-empty `into` is the
-    /// end. A call that failed took nothing.
+    /// Puts the next bytes at the front of `into`, and answers how many; 0 for a non-empty `into`
+    /// is the end. A call that failed took nothing.
     fn take(&mut self, into: &mut [u8]) -> Result<usize, Failed>
         ensures count { IfOk result (λ n. n ≤ length into.old) }
         ensures taken { IfOk result (λ n. Consumes (left self.old) (left self.new) (take n into.new)) }

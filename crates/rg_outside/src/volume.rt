@@ -8,8 +8,8 @@ ghost use Rattle.rg_outside.specs.Moments.{IfTold};
 use crate::source::Failed;
 use rg_base::set::Set;
 
-/// The pages of the log and of both copies of the table. The pages of a set are numbered from 1 to its
-/// capacity, which never changes. A page has 4,096 bytes.
+/// The pages of the log and of both copies of the table. The pages of a set are numbered from 1 to
+/// its capacity, which never changes. A page has 4,096 bytes.
 pub trait Volume {
     /// How many pages each set has.
     ghost capacities: { Self → Capacities };
@@ -32,8 +32,8 @@ pub trait Volume {
         ensures capacities { capacities self.new ≡ capacities self.old }
         ensures cause { HasCause (faults self.old) (faults self.new) result };
 
-    /// Writes a page. One that failed leaves the old content or the new one, and a crash may leave either;
-    /// or it was refused whole.
+    /// Writes a page. One that failed leaves the old content or the new one, and a crash may leave
+    /// either; or it was refused whole.
     fn write(&mut self, set: Set, page: u32, from: &[u8; 4096]) -> Result<(), Failed>
         requires { IsPage (capacities self.old) set page }
         ensures made { MadeWrite result (told self.old) set page from.now (told self.new) }

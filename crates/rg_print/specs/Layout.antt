@@ -1,5 +1,6 @@
 -- The texts of layouts. A side's lines each begin with the end of the line before and two spaces.
-use Rattle.std.specs.Prelude.{ℕ, Bool, if◌then◌else◌, Option, Some, None, is_some, List, [], ◌++◌, length, codes, count_by, flat_map}
+use Rattle.std.specs.Prelude.{ℕ, Bool, if◌then◌else◌, Option, Some, None, is_some, List, [], ◌++◌}
+use Rattle.std.specs.Prelude.{length, codes, count_by, flat_map}
 use Rattle.std.specs.Fmt.{decimal}
 use Rattle.rg_base.specs.declared.place.Place.{Place}
 use Rattle.rg_base.specs.declared.which.Which.{Which}

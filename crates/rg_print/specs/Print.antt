@@ -11,7 +11,8 @@ use Rattle.rg_stmt.specs.declared.event.Event.TheVariants as events
 use Rattle.rg_stmt.specs.declared.layout.Side.{Side}
 use Rattle.rg_print.specs.Layout.{layout_text, switched_text, which_text}
 use Rattle.rg_print.specs.Reply.{reply_text}
-use Rattle.rg_print.specs.Utility.{started_text, unload_text, reload_text, drain_text, stop_text, log_text, last_text}
+use Rattle.rg_print.specs.Utility.{started_text, unload_text, reload_text, drain_text, stop_text}
+use Rattle.rg_print.specs.Utility.{log_text, last_text}
 use Rattle.rg_print.specs.declared.print.Close.{Close}
 use Rattle.rg_print.specs.declared.print.Close.TheVariants as closes
 
@@ -25,7 +26,8 @@ actor_text actors.Utility = codes "U"
 abbrev pub opened_text : ℕ → ℕ → ℕ → List ℕ
 opened_text copy rows pages = codes "OPENED copy=" ++ decimal copy ++ codes " rows=" ++ decimal rows ++ codes " pages=" ++ decimal pages
 
--- What happened, with layouts in full or in brief. A further line is begun by the end of the line before it.
+-- What happened, with layouts in full or in brief. A further line is begun by the end of the line
+-- before it.
 abbrev pub event_text : Bool → Event → List ℕ
 event_text full (events.Opened copy rows pages used) = opened_text copy rows pages
 event_text full (events.Said stmt reply) = reply_text reply

@@ -1,5 +1,7 @@
 ghost use Rattle.std.specs.Prelude.{◌≡◌, ◌++◌, OnOk, count_by, flat_map};
-ghost use Rattle.rg_print.specs.Layout.{is_over, layout_text, listing_line, over_text, place_text, side_details, side_line, side_text, spot_line, switched_text, which_text};
+ghost use Rattle.rg_print.specs.Layout.{is_over, layout_text, listing_line, over_text, place_text};
+ghost use Rattle.rg_print.specs.Layout.{side_details, side_line, side_text, spot_line};
+ghost use Rattle.rg_print.specs.Layout.{switched_text, which_text};
 
 use crate::push::{push, push_named, push_word};
 use rg_base::no_memory::NoMemory;

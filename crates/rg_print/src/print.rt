@@ -1,5 +1,7 @@
 ghost use Rattle.std.specs.Prelude.{◌≡◌, ◌++◌, OnOk, IfOk};
-ghost use Rattle.rg_print.specs.Print.{actor_text, close_text, damaged_text, end_down_text, end_text, entry_text, event_text, opened_text, print_layout_text, print_text, set_text};
+ghost use Rattle.rg_print.specs.Print.{actor_text, close_text, damaged_text, end_down_text};
+ghost use Rattle.rg_print.specs.Print.{end_text, entry_text, event_text, opened_text};
+ghost use Rattle.rg_print.specs.Print.{print_layout_text, print_text, set_text};
 
 use crate::layout::{push_layout, push_switched, which_name};
 use crate::push::{push, push_named, push_number, push_word};
@@ -15,8 +17,8 @@ use rg_stmt::layout::Side;
 use std::alloc::Global;
 use std::io::Write;
 
-/// What the last line of a print says: the number of committed rows, that the engine is down, or the
-/// page of the volume that was found damaged.
+/// What the last line of a print says: the number of committed rows, that the engine is down, or
+/// the page of the volume that was found damaged.
 #[derive(Clone, Copy, Debug, PartialEq, Eq)]
 pub enum Close {
     Rows(u64),
@@ -36,7 +38,8 @@ pub fn print(alloc: Global, trace: &[Entry], full: bool, close: Close) -> Result
     Ok(Bytes::new(out))
 }
 
-/// The layout of a copy alone, in full: no entry's number stands before it, and no last line follows.
+/// The layout of a copy alone, in full: no entry's number stands before it, and no last line
+/// follows.
 pub fn print_layout(alloc: Global, copy: u8, side: &Side) -> Result<Bytes, NoMemory>
     ensures { IfOk result (λ text. text ≡ print_layout_text copy side.now) }
 {

@@ -1,5 +1,6 @@
 ghost use Rattle.std.specs.Prelude.{◌≡◌, ◌++◌, OnOk};
-ghost use Rattle.rg_print.specs.Utility.{drain_text, last_text, log_text, reload_text, started_text, stop_text, unload_text, verdict_text};
+ghost use Rattle.rg_print.specs.Utility.{drain_text, last_text, log_text, reload_text};
+ghost use Rattle.rg_print.specs.Utility.{started_text, stop_text, unload_text, verdict_text};
 
 use rg_base::no_memory::NoMemory;
 use rg_base::options::DrainFor;

@@ -33,7 +33,8 @@ IsPlayed Flush = ⊥
 IsPlayed Show = ⊥
 IsPlayed Death = ⊥
 
--- The entry of a line has its session and its statement, and a reply of a table; nobody was asked and the volume was not called.
+-- The entry of a line has its session and its statement, and a reply of a table; nobody was asked
+-- and the volume was not called.
 abbrev pub EntryOf : Line → Entry → Type 0
 EntryOf (Said session stmt) entry = (reply : Reply) × (entry ≡ said_entry session stmt reply 0) × (is_of_table stmt reply ≡ true)
 EntryOf (Reorg options) entry = ⊥
@@ -55,7 +56,8 @@ TraceOfFront lines trace = (front : List Line) × (rest : List Line) × (lines �
 abbrev pub EndsWithRows : List Entry → ℕ → Type 0
 EndsWithRows trace rows = (state : State) × Contains (possible no_rows trace) state × (rows ≡ map.len (committed state))
 
--- a whole run has an entry for each line; one that memory was wanting for has those of some first lines, or none at all
+-- a whole run has an entry for each line; one that memory was wanting for has those of some first
+-- lines, or none at all
 abbrev pub Ends : List Line → List Entry → RunEnd → Type 0
 Ends lines trace (Whole rows) = TraceOf lines trace × EndsWithRows trace rows
 Ends lines trace NoMemory = (trace ≡ []) ⊎ TraceOfFront lines trace

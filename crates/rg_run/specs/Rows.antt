@@ -7,7 +7,8 @@ use Rattle.rg_model.specs.Committed.{set_to}
 use Rattle.rg_model.specs.Held.{has_cat}
 use Rattle.rg_model.specs.State.{Table, Locks}
 
--- Each key that is held has its row, or the room for one. The room of a locked key stands until its unit ends, so that a rollback takes none.
+-- Each key that is held has its row, or the room for one. The room of a locked key stands until its
+-- unit ends, so that a rollback takes none.
 abbrev pub Slots : Type 0
 Slots = map.FinMap nat_cmp (Option Row)
 

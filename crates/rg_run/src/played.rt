@@ -3,8 +3,8 @@ use rg_stmt::event::Entry;
 /// How a run ended.
 #[derive(Clone, Copy, Debug, PartialEq, Eq)]
 pub enum RunEnd {
-    /// Each line has its entry. `rows` is the number of committed rows: those of a unit that is still open are not
-    /// among them.
+    /// Each line has its entry. `rows` is the number of committed rows: those of a unit that is
+    /// still open are not among them.
     Whole { rows: u64 },
     /// Memory was wanting for an entry, and nothing of its line was done.
     NoMemory,

@@ -14,8 +14,8 @@ use rg_stmt::event::Entry;
 use rg_stmt::line::Line;
 use std::alloc::Global;
 
-/// Plays the lines in order over a table without rows. The volume is handed back as it was, since the table lies in
-/// memory, and nobody is asked.
+/// Plays the lines in order over a table without rows. The volume is handed back as it was, since
+/// the table lies in memory, and nobody is asked.
 pub fn run<V: Volume, O: Operator>(
     alloc: Global,
     volume: V,

@@ -1,5 +1,6 @@
-// The rows of the table in memory. Each held key has its row, or none: the room of a key whose row was removed stays
-// until the end of the unit that removed it, so that its row can be put back without memory.
+// The rows of the table in memory. Each held key has its row, or none: the room of a key whose row
+// was removed stays until the end of the unit that removed it, so that its row can be put back
+// without memory.
 ghost use Rattle.std.specs.Prelude.{◌≡◌, true, OnOk, OnErr, IfOk, not};
 ghost use Rattle.std.specs.FinMap as map;
 ghost use Rattle.std.specs.Option.{option_copied};
@@ -35,7 +36,8 @@ pub fn hold(slots: &mut NumberMap<Option<Row>>, key: u64) -> Result<bool, NoMemo
     Ok(true)
 }
 
-/// Sets the row of a key for which there is room, or removes it and keeps the room. It takes no memory.
+/// Sets the row of a key for which there is room, or removes it and keeps the room. It takes no
+/// memory.
 pub fn set(slots: &mut NumberMap<Option<Row>>, key: u64, row: Option<Row>)
     requires { map.contains_key slots.old key ≡ true }
     ensures { slots.new ≡ map.insert slots.old key row }

@@ -1,4 +1,5 @@
-ghost use Rattle.std.specs.Prelude.{◌≡◌, ◌≤◌, ◌<◌, ◌-◌, ◌^◌, ◌||◌, if◌then◌else◌, false, OnOk, OnErr, IfOk, Some, None};
+ghost use Rattle.std.specs.Prelude.{◌≡◌, ◌≤◌, ◌<◌, ◌-◌, ◌^◌, ◌||◌, if◌then◌else◌, false, OnOk};
+ghost use Rattle.std.specs.Prelude.{OnErr, IfOk, Some, None};
 ghost use Rattle.std.specs.FinMap as map;
 ghost use Rattle.std.specs.Option.{is_some};
 ghost use Rattle.rg_lock.specs.Taken.{taken};

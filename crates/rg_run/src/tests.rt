@@ -30,7 +30,8 @@ enum Ask {
     Rollback,
 }
 
-// The session, what it asks, the number and the numbers of the reply, and how many committed rows there are then.
+// The session, what it asks, the number and the numbers of the reply, and how many committed rows
+// there are then.
 type Step = (u8, Ask, i32, &'static [u64], u64);
 
 const NOTHING: &[u64] = &[];
@@ -144,7 +145,8 @@ fn store_with_three(rt: &impl Abort, alloc: Global) -> Result<SoundStore, Fail> 
     Ok(store)
 }
 
-// A key that another session has locked comes before any other reply, and an own lock never holds up.
+// A key that another session has locked comes before any other reply, and an own lock never holds
+// up.
 #[test]
 fn answers_at_one_key(rt: HostRuntime) -> Result<(), Fail> {
     let mut store = SoundStore::new(rt.alloc())?;
@@ -419,7 +421,8 @@ impl Draws {
     }
 }
 
-// The plain program computes what the definitions say, without slots and without lists of owned keys.
+// The plain program computes what the definitions say, without slots and without lists of owned
+// keys.
 #[test]
 fn answers_as_the_plain_program(rt: HostRuntime) -> Result<(), Fail> {
     let mut store = SoundStore::new(rt.alloc())?;

@@ -10,8 +10,8 @@ use rg_base::no_memory::NoMemory;
 use rg_base::row::Row;
 use std::alloc::Global;
 
-/// The rows of the keys from `lo` to `hi`, both included, by rising key. It looks at the held keys between them, and
-/// at no others.
+/// The rows of the keys from `lo` to `hi`, both included, by rising key. It looks at the held keys
+/// between them, and at no others.
 pub fn rows_between(
     slots: &NumberMap<Option<Row>>,
     alloc: Global,

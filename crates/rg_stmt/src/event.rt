@@ -19,8 +19,8 @@ pub enum Actor {
 /// One atomic step of a run.
 #[derive(Debug, Drop)]
 pub enum Event {
-    /// The volume was opened: which copy of the table is current, how many committed rows and pages it
-    /// has, and how many bytes of the log are used.
+    /// The volume was opened: which copy of the table is current, how many committed rows and pages
+    /// it has, and how many bytes of the log are used.
     Opened {
         copy: u8,
         rows: u64,
@@ -123,9 +123,9 @@ pub enum Event {
     LayoutNoMemory,
 }
 
-/// An event in the trace of a run. `answer` is the operator's, where the event is a step that asked it.
-/// `calls` is the number of calls of the volume from the run's begin to the end of this event; it stands
-/// still at 2 ^ 64 - 1.
+/// An event in the trace of a run. `answer` is the operator's, where the event is a step that asked
+/// it. `calls` is the number of calls of the volume from the run's begin to the end of this event;
+/// it stands still at 2 ^ 64 - 1.
 #[derive(Debug, Drop)]
 pub struct Entry {
     pub actor: Actor,

@@ -3,8 +3,8 @@ ghost use Rattle.std.specs.Prelude.{◌≡◌};
 use rg_base::place::Place;
 use std::marker::Model;
 
-/// Where a row lies: its home, its key and `clus`, and the place to which it was moved, where it doesn't lie
-/// at home.
+/// Where a row lies: its home, its key and `clus`, and the place to which it was moved, where it
+/// doesn't lie at home.
 #[derive(Clone, Copy, Debug, PartialEq, Eq)]
 pub struct Spot {
     pub place: Place,
@@ -87,7 +87,8 @@ impl Listing {
     }
 }
 
-/// The layout of a copy of the table: its pages, where its rows lie, and what its three indexes list.
+/// The layout of a copy of the table: its pages, where its rows lie, and what its three indexes
+/// list.
 #[derive(Debug, Drop)]
 pub struct Side {
     pub pages: u32,

@@ -23,8 +23,8 @@ pub enum Stmt {
     Rollback,
 }
 
-/// What a session is answered. Number 0 says that the statement was done; after any other the table is as
-/// before, but for the rollback of a victim.
+/// What a session is answered. Number 0 says that the statement was done; after any other the table
+/// is as before, but for the rollback of a victim.
 #[derive(Debug, Drop)]
 pub enum Reply {
     /// Done, number 0.
@@ -41,7 +41,8 @@ pub enum Reply {
     Duplicate,
     /// This session has locked the key, number -913.
     Held(Session),
-    /// This session held the statement up as often as it may be; the unit was rolled back, number -911.
+    /// This session held the statement up as often as it may be; the unit was rolled back, number
+    /// -911.
     Victim(Session),
     /// A drain covers a class that the statement needs and its session doesn't hold, number -904.
     Drained,

@@ -7,8 +7,8 @@ use rg_outside::source::{Failed, Source};
 use rg_outside::volume::Volume;
 use std::alloc::Global;
 
-/// A source over bytes. A call gives at most `most` of them, and 1 at least. Call `fails_at`, counted from
-/// 1, fails.
+/// A source over bytes. A call gives at most `most` of them, and 1 at least. Call `fails_at`,
+/// counted from 1, fails.
 #[derive(Drop)]
 pub struct BytesSource<'a> {
     rest: &'a [u8],
@@ -84,8 +84,8 @@ impl Source for RubbishSource {
     }
 }
 
-/// A sink over bytes. A call keeps at most `most` of them, which may be none. Call `fails_at`, counted from
-/// 1, is answered `fault`.
+/// A sink over bytes. A call keeps at most `most` of them, which may be none. Call `fails_at`,
+/// counted from 1, is answered `fault`.
 #[derive(Drop)]
 pub struct BytesSink {
     held: Vec<u8>,

@@ -4,7 +4,8 @@ ghost use Rattle.std.specs.FinMap as map;
 ghost use Rattle.std.specs.Option.{option_copied, option_map};
 ghost use Rattle.rg_base.specs.First.{IsFirstFrom};
 ghost use Rattle.rg_model.specs.Committed.{set_to, put_back, own};
-ghost use Rattle.rg_model.specs.Held.{is_others, has_cat, is_held_between, is_held_with_cat, scan_holder, find_holder};
+ghost use Rattle.rg_model.specs.Held.{is_others, has_cat, is_held_between, is_held_with_cat};
+ghost use Rattle.rg_model.specs.Held.{scan_holder, find_holder};
 ghost use Rattle.rg_model.specs.Plain.{rows_between, keys_with_cat};
 ghost use Rattle.rg_model.specs.Start.{start_of};
 
