@@ -40,7 +40,7 @@ DealsWithLines-unprinted lines played end rows outcome trace print is none same 
 
 -- statements are played
 each_played : (line : Line) → IsAdmitted Statements line → IsPlayed line
-each_played (Said session stmt) is = tt
+each_played (Said session stmt) is = is.0.0
 each_played line is = absurd (cc (is.1))
 
 pub all_played : (lines : List Line) → AllByRecursion (IsAdmitted Statements) lines → AllByRecursion IsPlayed lines

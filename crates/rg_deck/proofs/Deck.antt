@@ -67,7 +67,7 @@ Lacks-stmt Rollback is = search rules
 
 pub Lacks-line : (line : Line) → IsLine line → Lacks 10 (line_text line)
 Lacks-line (Said session stmt) is =
-    rw (line_said session stmt) (Lacks-parts _ _ (Lacks-number session.0 (omega (arith, is.1))) (Lacks-stmt stmt is.2))
+    rw (line_said session stmt) (Lacks-parts _ _ (Lacks-number session.0 (omega (arith, is.0.most))) (Lacks-stmt stmt is.1))
 Lacks-line (Reorg options) is = absurd is
 Lacks-line other is = search rules
 

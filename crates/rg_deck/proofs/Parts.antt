@@ -44,16 +44,16 @@ line_said session Commit = refl
 line_said session Rollback = refl
 
 pub no_said_number : (bytes : List ℕ) → ((n : ℕ) (rest : List ℕ) → BeginsWithNumber bytes n rest → ⊥) → (line : Line) → IsAdmitted Statements line → bytes ≢ line_text line
-no_said_number bytes none (Said session stmt) is e = none session.0 (stmt_spelling stmt) (omega (arith, is.0.1), e ∙ line_said session stmt)
+no_said_number bytes none (Said session stmt) is e = none session.0 (stmt_spelling stmt) (omega (arith, is.0.0.most), e ∙ line_said session stmt)
 no_said_number bytes none other is e = cc
 
 pub no_said_session : (bytes rest : List ℕ) (number : ℕ) → BeginsWithNumber bytes number rest → (1 ≤ number → number ≤ 99 → ⊥) → (line : Line) → IsAdmitted Statements line → bytes ≢ line_text line
 no_said_session bytes rest number a out (Said session stmt) is e =
-    let same = (number_once bytes rest (stmt_spelling stmt) number session.0 a (omega (arith, is.0.1)) (e ∙ line_said session stmt)).0 in
-    out (omega (arith, is.0.0, same)) (omega (arith, is.0.1, same))
+    let same = (number_once bytes rest (stmt_spelling stmt) number session.0 a (omega (arith, is.0.0.most)) (e ∙ line_said session stmt)).0 in
+    out (omega (arith, is.0.0.least, same)) (omega (arith, is.0.0.most, same))
 no_said_session bytes rest number a out other is e = cc
 
 pub no_said_stmt : (bytes rest : List ℕ) (number : ℕ) → BeginsWithNumber bytes number rest → ((stmt : Stmt) → IsStmt stmt → rest ≢ stmt_spelling stmt) → (line : Line) → IsAdmitted Statements line → bytes ≢ line_text line
 no_said_stmt bytes rest number a none (Said session stmt) is e =
-    none stmt is.0.2 (number_once bytes rest (stmt_spelling stmt) number session.0 a (omega (arith, is.0.1)) (e ∙ line_said session stmt)).1
+    none stmt is.0.1 (number_once bytes rest (stmt_spelling stmt) number session.0 a (omega (arith, is.0.0.most)) (e ∙ line_said session stmt)).1
 no_said_stmt bytes rest number a none other is e = cc

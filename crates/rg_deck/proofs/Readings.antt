@@ -58,9 +58,9 @@ same_stmt a b ia ib e = absurd (omega (arith, ap mark e))
 
 same_said : (m n : Session) (a b : Stmt) → IsLine (Said m a) → IsLine (Said n b) → line_text (Said m a) ≡ line_text (Said n b) → Said m a ≡ Said n b
 same_said m n a b ia ib e =
-    let parts = number_once (line_text (Said m a)) (stmt_spelling a) (stmt_spelling b) m.0 n.0 (omega (arith, ia.1), line_said m a) (omega (arith, ib.1)) (e ∙ line_said n b) in
+    let parts = number_once (line_text (Said m a)) (stmt_spelling a) (stmt_spelling b) m.0 n.0 (omega (arith, ia.0.most), line_said m a) (omega (arith, ib.0.most)) (e ∙ line_said n b) in
     let session : m ≡ n = λ i. record { 0 = parts.0 i } in
-    let stmt = same_stmt a b ia.2 ib.2 parts.1 in
+    let stmt = same_stmt a b ia.1 ib.1 parts.1 in
     cc
 
 -- a line that is a statement has a space, and no other has

@@ -3,6 +3,7 @@ use Rattle.std.specs.Prelude.{ℕ, ◌≡◌, ◌≢◌, ◌+◌, ◌<◌, ◌�
 use Rattle.std.specs.Prelude.{◌∷◌, ◌++◌, length, codes, IsTrue}
 use Rattle.std.specs.Fmt.{decimal}
 use Rattle.std.specs.List.{AllByRecursion, flat_map, join_with_byte}
+use Rattle.rg_base.specs.Session.{IsSession}
 use Rattle.rg_base.specs.Text.{IsText}
 use Rattle.rg_base.specs.Words.{row_words}
 use Rattle.rg_base.specs.declared.row.Row.{Row}
@@ -58,9 +59,9 @@ IsStmt (Find cat) = cat < 2 ^ 64
 IsStmt Commit = Unit {0}
 IsStmt Rollback = Unit {0}
 
--- sessions 1 to 99 speak; no deck has the utility's control statement
+-- no deck has the utility's control statement
 abbrev pub IsLine : Line → Type 0
-IsLine (Said session stmt) = (1 ≤ session.0) × (session.0 ≤ 99) × IsStmt stmt
+IsLine (Said session stmt) = IsSession session × IsStmt stmt
 IsLine (Reorg options) = ⊥
 IsLine Step = Unit {0}
 IsLine Flush = Unit {0}

@@ -1,4 +1,5 @@
 ghost use Rattle.std.specs.Prelude.{◌≡◌, ◌≤◌, IfOk, IfSome, IfNone};
+ghost use Rattle.rg_base.specs.Session.{IsSession};
 ghost use Rattle.rg_deck.specs.Grammar.{IsRow, IsStmt, IsAdmitted, line_text};
 ghost use Rattle.rg_deck.specs.Reading.{Finds, IsControl, row_spelling, stmt_spelling};
 ghost use Rattle.rg_deck.specs.declared.read.Admits.TheVariants.{Statements};
@@ -71,7 +72,7 @@ fn read_stmt(alloc: Global, bytes: &[u8]) -> Result<Option<Stmt>, NoMemory>
 // The session of this number.
 fn session_of(number: u64) -> Option<Session>
     ensures none { IfNone result (1 ≤ number → number ≤ 99 → ⊥) }
-    ensures found { IfSome result (λ session. (1 ≤ number) × (number ≤ 99) × (session.0 ≡ number)) }
+    ensures found { IfSome result (λ session. IsSession session × (session.0 ≡ number)) }
 {
     match number {
         1..=99 => Some(Session(number as u8)),

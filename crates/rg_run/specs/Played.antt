@@ -1,16 +1,16 @@
 -- What the run of a deck leaves.
 use Rattle.std.specs.Prelude.{ℕ, ◌≡◌, ◌⊎◌, true, List, [], ◌∷◌, ◌++◌}
 use Rattle.std.specs.FinMap as map
-use Rattle.std.specs.List.{AllZip, Contains}
+use Rattle.std.specs.List.{AllByRecursion, AllZip}
+use Rattle.rg_base.specs.Session.{IsSession}
 use Rattle.rg_stmt.specs.declared.event.Entry.{Entry}
 use Rattle.rg_stmt.specs.declared.line.Line.{Line}
 use Rattle.rg_stmt.specs.declared.line.Line.TheVariants.{Said, Reorg, Step, Flush, Show, Death}
 use Rattle.rg_stmt.specs.declared.stmt.Reply.{Reply}
 use Rattle.rg_stmt.specs.Entries.{opened_entry, said_entry}
 use Rattle.rg_model.specs.Committed.{committed}
-use Rattle.rg_model.specs.Possible.{possible}
 use Rattle.rg_model.specs.Run.{Run}
-use Rattle.rg_model.specs.State.{State, Table, at_rest}
+use Rattle.rg_model.specs.State.{State, Table, at_rest, row_count}
 use Rattle.rg_run.specs.Shows.{Shows, is_of_table}
 use Rattle.rg_run.specs.declared.played.RunEnd.{RunEnd}
 use Rattle.rg_run.specs.declared.played.RunEnd.TheVariants.{Whole, NoMemory}
@@ -26,7 +26,7 @@ first_entry = opened_entry 1 0 0 0 0
 
 -- statements are played, and no other line is yet
 abbrev pub IsPlayed : Line → Type 0
-IsPlayed (Said session stmt) = Unit {0}
+IsPlayed (Said session stmt) = IsSession session
 IsPlayed (Reorg options) = ⊥
 IsPlayed Step = ⊥
 IsPlayed Flush = ⊥
@@ -52,9 +52,11 @@ TraceOf lines (entry ∷ entries) = (entry ≡ first_entry) × AllZip EntryOf li
 abbrev pub TraceOfFront : List Line → List Entry → Type 0
 TraceOfFront lines trace = (front : List Line) × (rest : List Line) × (lines ≡ front ++ rest) × TraceOf front trace
 
--- a state in which the trace may end has so many committed rows
+-- The trace leads from the table without rows to a last state, and that has so many committed rows. Nothing is in
+-- doubt on the way, so no other state can be the last.
 abbrev pub EndsWithRows : List Entry → ℕ → Type 0
-EndsWithRows trace rows = (state : State) × Contains (possible no_rows trace) state × (rows ≡ map.len (committed state))
+EndsWithRows trace rows =
+    (state : State) × Run [] (at_rest no_rows 1) trace state × (rows ≡ row_count (committed state))
 
 -- a whole run has an entry for each line; one that memory was wanting for has those of some first
 -- lines, or none at all
@@ -67,4 +69,5 @@ pub record Goes (lines : List Line) (trace : List Entry) (store : Store) : Type 
   pub state : State
   pub run : Run [] (at_rest no_rows 1) trace state
   pub shown : Shows state store
+  pub each : AllByRecursion IsPlayed lines
   pub entries : TraceOf lines trace

@@ -1,3 +1,4 @@
+ghost use Rattle.std.specs.Prelude.{◌≤◌};
 ghost use Rattle.rg_run.specs.Played.{IsPlayed};
 
 use crate::played::RunEnd;
@@ -446,6 +447,8 @@ fn answers_as_the_plain_program(rt: HostRuntime) -> Result<(), Fail> {
 }
 
 fn said(session: u8, stmt: Stmt) -> Line
+    requires least { 1 ≤ session }
+    requires most { session ≤ 99 }
     ensures { IsPlayed result }
 {
     Line::Said {
