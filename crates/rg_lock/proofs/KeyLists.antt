@@ -14,6 +14,13 @@ use Rattle.rg_lock.specs.Owned.{keys_in, IsAppended, SameKeys, is_listed}
 next_same : (a b : ℕ) → (a == b) ≡ (suc a == suc b)
 next_same a b = grind (arith, nat_tests)
 
+-- an empty list more
+pub keys_in-push : (lists : List (Vec ℕ Global)) (list : Vec ℕ Global) → ((n : ℕ) → keys_in lists n ≡ []) → list.items ≡ [] → (n : ℕ) → keys_in (lists ++ list ∷ []) n ≡ []
+keys_in-push [] list none empty zero = empty
+keys_in-push [] list none empty (suc n) = refl
+keys_in-push (first ∷ lists) list none empty zero = none 0
+keys_in-push (first ∷ lists) list none empty (suc n) = keys_in-push lists list (λ k. none (suc k)) empty n
+
 -- one list is replaced
 pub keys_in-set : (lists : List (Vec ℕ Global)) (number : ℕ) (list : Vec ℕ Global) (n : ℕ) → number < length lists
     → keys_in (set lists number list) n ≡ cond (n == number) list.items (keys_in lists n)
@@ -49,7 +56,7 @@ has-appended true key k keys = list_any-append (λ listed. listed == k) keys (ke
 has-appended false key k keys = sym (or_false (list_any (λ listed. listed == k) keys))
 
 module _ (shorter longer : List (Vec ℕ Global)) (number key : ℕ) (appended : IsAppended shorter longer number key) where
-  listed-appended : (session : Session) (k : ℕ) → is_listed longer session k ≡ (is_listed shorter session k || ((session.0 == number) && (key == k)))
+  pub listed-appended : (session : Session) (k : ℕ) → is_listed longer session k ≡ (is_listed shorter session k || ((session.0 == number) && (key == k)))
   listed-appended session k =
       ap (list_any (λ listed. listed == k)) (appended session.0) ∙ has-appended (session.0 == number) key k (keys_in shorter session.0)
 

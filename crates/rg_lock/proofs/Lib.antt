@@ -1,3 +1,3 @@
-pub mod Covered
+pub mod Exact
 pub mod Ended
 pub mod KeyLists

@@ -14,8 +14,3 @@ HasNone session locks = (key : ℕ) → is_others session (map.get locks key) �
 abbrev pub Releases : Session → Locks → Locks → Option (ℕ × Option Row) → Type 0
 Releases session old new None = (new ≡ old) × HasNone session old
 Releases session old new (Some released) = (map.get old released.0 ≡ Some (record { owner = session; row = released.1 })) × (new ≡ map.remove old released.0)
-
--- the lock of this key is taken off, where the session has it
-abbrev pub ReleasesKey : Session → Locks → Locks → ℕ → Option (Option Row) → Type 0
-ReleasesKey session old new key None = (new ≡ old) × (is_others session (map.get old key) ≡ true)
-ReleasesKey session old new key (Some row) = (map.get old key ≡ Some (record { owner = session; row = row })) × (new ≡ map.remove old key)

@@ -5,7 +5,7 @@ ghost use Rattle.rg_model.specs.Committed.{without};
 ghost use Rattle.rg_lock.specs.First.{IsFirstHeld};
 ghost use Rattle.rg_lock.specs.Held.{row_of};
 ghost use Rattle.rg_model.specs.Held.{owner_of, other_owner};
-ghost use Rattle.rg_lock.specs.Released.{Releases, ReleasesKey};
+ghost use Rattle.rg_lock.specs.Released.{Releases};
 ghost use Rattle.rg_lock.specs.Taken.{taken, Answers};
 
 use crate::owned::{empty_lists, pop_key, push_key};
@@ -51,20 +51,6 @@ impl Model for Locks {
     ghost view = { λ s. s.locks };
 
     ghost invariant = { λ s. lists.HasLists s.locks s.owned };
-}
-
-// Takes the lock of a key off, where the session has it, and hands back the row that it kept.
-fn release_key(locks: &mut NumberMap<Kept>, session: Session, key: u64) -> Option<Option<Row>>
-    ensures { ReleasesKey session locks.old locks.new key result }
-{
-    let lock = locks.get(key)?;
-    if lock.owner.0 != session.0 {
-        return None;
-    }
-    match locks.remove(key) {
-        Some(kept) => Some(kept.row),
-        None => None,
-    }
 }
 
 impl Locks {
@@ -161,12 +147,9 @@ impl Locks {
     pub fn release(&mut self, session: Session) -> Option<(u64, Option<Row>)>
         ensures { Releases session self.old self.new result }
     {
-        while let Some(key) = pop_key(&mut self.owned, session) {
-            if let Some(row) = release_key(&mut self.locks, session, key) {
-                return Some((key, row));
-            }
-        }
-        None
+        let key = pop_key(&mut self.owned, session)?;
+        let kept = self.locks.remove(key)?;
+        Some((key, kept.row))
     }
 
     /// Drops a session's locks. It takes no memory, and looks at the session's own locks alone.

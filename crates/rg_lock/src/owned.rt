@@ -8,7 +8,8 @@ use std::alloc::Global;
 
 /// An empty list for each number that a session can have.
 pub fn empty_lists(alloc: Global) -> Result<Vec<Vec<u64>>, NoMemory>
-    ensures { IfOk result (λ lists. vec_len lists ≡ 256) }
+    ensures len { IfOk result (λ lists. vec_len lists ≡ 256) }
+    ensures none { IfOk result (λ lists. (n : ℕ) → keys_in lists.items n ≡ []) }
 {
     let mut lists = Vec::with_capacity(alloc, 256)?;
     for _number in 0..256usize {

@@ -1,5 +1,5 @@
 -- The list of calls that a volume in memory keeps, over one more call.
-use Rattle.std.proofs.Common.{◌≡◌, ◌%◌, ◌<◌, ◌≤◌, ◌+◌, ◌-◌, ℕ, zero, suc, inl, inr, replicate, Bool, true, false, List, [], ◌∷◌, ◌++◌, Option, Some, None, is_some, Ok, Err, length, map, reverse, slice_index_or, take, get_or, refl, sym, ◌∙◌, ap, subst, arith, if◌then◌else◌}
+use Rattle.std.proofs.Common.{◌≡◌, ◌^◌, ◌%◌, ◌<◌, ◌≤◌, ◌+◌, ◌-◌, ℕ, zero, suc, inl, inr, replicate, Bool, true, false, List, [], ◌∷◌, ◌++◌, Option, Some, None, is_some, Ok, Err, length, map, reverse, slice_index_or, take, get_or, refl, sym, ◌∙◌, ap, subst, arith, if◌then◌else◌}
 use Rattle.std.proofs.lemmas.List.{get_or_read, take_more, map-append, reverse-append, get_or_append_left}
 use Rattle.std.proofs.lemmas.Bool.{cases_eq}
 use Rattle.std.proofs.lemmas.List.Elements.{recursion_from_All}
@@ -63,10 +63,14 @@ pub made_kept : (tells : Bool) (before after : Told) (call : Call) → after ≡
 made_kept true before after call is = (before, refl, is)
 made_kept false before after call is = tt
 
-pub made_last : (tells tells_on : Bool) (before after : Told) (call : Call) → tells ≡ true → after ≡ then_call before call → Made (if tells then Some before else None) call (if tells_on then Some after else None)
-made_last true true before after call e is = (before, refl, is)
-made_last true false before after call e is = tt
-made_last false tells_on before after call e is = absurd (cc (e))
+pub long : (n : ℕ) (calls : List Call) → n ≤ length (replicate n Refused ++ calls)
+long zero calls = omega arith
+long (suc n) calls = let h = long n calls in omega (arith, h)
+
+pub made_last : (tells tells_on : Bool) (before after : Told) (call : Call) → tells ≡ true → (tells_on ≡ false → 2 ^ 64 - 1 ≤ length before.calls + 1) → after ≡ then_call before call → Made (if tells then Some before else None) call (if tells_on then Some after else None)
+made_last true true before after call e far is = (before, refl, is)
+made_last true false before after call e far is = far refl
+made_last false tells_on before after call e far is = absurd (cc (e))
 
 -- what is told, where it is
 pub told_if : (tells : Bool) (t : Told) (P : Told → Type 0) → P t → IfTold (if tells then Some t else None) P
@@ -113,14 +117,14 @@ content_among contents n some =
 pub content_read : (contents : List (List ℕ)) (n : ℕ) (found : List ℕ) → 0 < length contents → found ≡ slice_index_or contents (n % length contents) found → found ≡ content_at contents n
 content_read contents n found some is = get_or_read contents (n % length contents) found (below_length n (length contents) some) is []
 
--- an image of contents that each page might have been left
-pub image_of-picked : (t : Told) (pick : ℕ) (log first second : List (List ℕ))
-    → ((page : ℕ) → IsPage t.capacities Log page → slice_index_or log (page - 1) [] ≡ content_at (left_of t.first t.calls Log page) (pick + page))
-    → ((page : ℕ) → IsPage t.capacities First page → slice_index_or first (page - 1) [] ≡ content_at (left_of t.first t.calls First page) (pick + page))
-    → ((page : ℕ) → IsPage t.capacities Second page → slice_index_or second (page - 1) [] ≡ content_at (left_of t.first t.calls Second page) (pick + page))
+-- an image of contents that each page might have been left, each by its number
+pub image_of-picked : (t : Told) (number : Set → ℕ → ℕ) (log first second : List (List ℕ))
+    → ((page : ℕ) → IsPage t.capacities Log page → slice_index_or log (page - 1) [] ≡ content_at (left_of t.first t.calls Log page) (number Log page))
+    → ((page : ℕ) → IsPage t.capacities First page → slice_index_or first (page - 1) [] ≡ content_at (left_of t.first t.calls First page) (number First page))
+    → ((page : ℕ) → IsPage t.capacities Second page → slice_index_or second (page - 1) [] ≡ content_at (left_of t.first t.calls Second page) (number Second page))
     → IsImage t (image_of log first second)
-image_of-picked t pick log first second in_log in_first in_second s p in_set =
-    let among = λ (set : Set). content_among (left_of t.first t.calls set p) (pick + p) (let here = read_is_left t.first t.calls set p in omega (arith, here.1)) in
+image_of-picked t number log first second in_log in_first in_second s p in_set =
+    let among = λ (set : Set). content_among (left_of t.first t.calls set p) (number set p) (let here = read_is_left t.first t.calls set p in omega (arith, here.1)) in
     elim s as (λ set. IsPage t.capacities set p → Contains (left_of t.first t.calls set p) (image_of log first second set p)) [
       | Log ↦ λ h. subst (Contains (left_of t.first t.calls Log p)) (sym (in_log p h)) (among Log)
       | First ↦ λ h. subst (Contains (left_of t.first t.calls First p)) (sym (in_first p h)) (among First)

@@ -4,3 +4,4 @@ pub mod Shown
 pub mod Sink
 pub mod Source
 pub mod Tally
+pub mod Whole

@@ -3,6 +3,7 @@ use Rattle.std.specs.Prelude.{ℕ, ◌+◌, ◌-◌, ◌%◌, List, [], Option, 
 use Rattle.std.specs.Prelude.{slice_index_or, map, replicate, reverse}
 use Rattle.rg_base.specs.declared.set.Set.{Set}
 use Rattle.rg_base.specs.declared.set.Set.TheVariants.{Log, First, Second}
+use Rattle.rg_outside.specs.Capacities.{Capacities}
 use Rattle.rg_outside.specs.Calls.{Image, Call, Read, Wrote, Synced, FailedRead, FailedWrite}
 use Rattle.rg_outside.specs.Calls.{FailedSync}
 use Rattle.rg_mem.specs.declared.noted.Noted.{Noted}
@@ -40,6 +41,16 @@ image_of log first second Second page = slice_index_or second (page - 1) []
 -- the content with this number, counted round
 abbrev pub content_at : List (List ℕ) → ℕ → List ℕ
 content_at contents n = slice_index_or contents (n % length contents) []
+
+-- the pick with this number, or 0 past the picks
+abbrev pub pick_at : List ℕ → ℕ → ℕ
+pick_at picks n = slice_index_or picks n 0
+
+-- where a page stands among those of all sets, in the order Log, First, Second
+abbrev pub page_index : Capacities → Set → ℕ → ℕ
+page_index c Log page = page - 1
+page_index c First page = c.log + (page - 1)
+page_index c Second page = (c.log + c.first) + (page - 1)
 
 -- a write, and whether it is to fail
 abbrev pub write_call : Set → ℕ → List ℕ → Option Failing → Call

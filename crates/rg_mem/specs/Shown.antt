@@ -18,6 +18,7 @@ abbrev pub shown : MemVolume → Told
 shown m = record {
   capacities = capacities_of m;
   first = image_of m.log.items m.first.items m.second.items;
+  start = 0;
   calls = replicate m.past Refused ++ calls_of m.writes.items m.calls.items;
 }
 

@@ -47,7 +47,7 @@ impl Operator for ScriptOperator {
         ensures answer { result ≡ answer_at self.old.lines self.old.asks }
         ensures after { self.new ≡ record self.old { asks = count_after self.old.asks; left = left } }
         ensures answered { Answers (told_answers self.old) result (told_answers self.new) }
-        ensures handed { Hands left (told_left self.new) }
+        ensures handed { Hands left (told_answers self.new) (told_left self.new) }
     {
         let answer = line_at(&self.lines, self.asks);
         self.left = left;

@@ -1,9 +1,9 @@
 ghost use Rattle.std.specs.Bool.{OnTrue, OnFalse};
 ghost use Rattle.std.specs.Prelude.{◌≡◌, ◌==◌, find, ℕ, ◌≤◌, ◌<◌, ◌^◌, ◌+◌, ◌-◌, []};
-ghost use Rattle.std.specs.Prelude.{slice_index_or, ◌∷◌, ◌++◌, length, All, IfOk, OnOk, is_err};
+ghost use Rattle.std.specs.Prelude.{slice_index_or, ◌∷◌, ◌++◌, length, All, IfOk, OnOk, OnErr, is_err};
 ghost use Rattle.std.specs.Prelude.{IsTrue, vec_len, vec_capacity, if◌then◌else◌, ◌↔◌};
 ghost use Rattle.rg_mem.specs.Tally.{count_after};
-ghost use Rattle.rg_mem.specs.Listed.{writes_needed, noted_write, zero_page};
+ghost use Rattle.rg_mem.specs.Listed.{writes_needed, noted_write, zero_page, pick_at};
 
 use crate::noted::Noted;
 use rg_base::no_memory::NoMemory;
@@ -36,6 +36,10 @@ pub struct MemVolume {
     failing: Vec<Failing>,
     stop: Option<u64>,
     faults: u64,
+    ghost whole_log: { All (λ page. length page ≡ 4096) log.items },
+    ghost whole_first: { All (λ page. length page ≡ 4096) first.items },
+    ghost whole_second: { All (λ page. length page ≡ 4096) second.items },
+    ghost whole_writes: { All (λ page. length page ≡ 4096) writes.items },
     ghost there: { All (λ call. writes_needed call ≤ length writes.items) calls.items },
     ghost small_log: { length log.items < 2 ^ 32 },
     ghost small_first: { length first.items < 2 ^ 32 },
@@ -51,7 +55,7 @@ impl MemVolume {
     ghost use Rattle.rg_outside.specs.Made.{Made};
     ghost use Rattle.rg_outside.specs.Moments.{IsImage};
     ghost use Rattle.rg_mem.specs.Listed.{call_of, calls_of, image_of, write_call, content_at};
-    ghost use Rattle.rg_mem.specs.Listed.{zero_page};
+    ghost use Rattle.rg_mem.specs.Listed.{zero_page, pick_at, page_index};
     ghost use Rattle.rg_mem.specs.Shown.{capacities_of, shown, told_of, has_room, fault_of};
     ghost use Rattle.rg_mem.specs.Shown.{IsFresh, HoldsPages, Keeps, KeepsAs};
 
@@ -109,25 +113,80 @@ impl MemVolume {
         })
     }
 
+    /// What a crash leaves: a volume of the same room without failing calls. The pages of set Log, of
+    /// First and of Second stand in this order, and the n-th of them holds, of the contents that a
+    /// crash may leave it, numbered from 0 with the oldest first, the one numbered by the n-th of
+    /// `picks`, counted round. A page without a pick holds the oldest. So each image that a crash may
+    /// leave comes of some picks.
+    pub fn crash_with(&self, picks: &[u64]) -> Result<MemVolume, NoMemory>
+        ensures capacities { IfOk result (λ v. capacities_of v ≡ capacities_of self.now) }
+        ensures fresh { IfOk result IsFresh }
+        ensures keeps { IfOk result (Keeps (vec_capacity self.now.calls) (vec_capacity self.now.writes) [] None) }
+        ensures picked { IfOk result (λ v. HoldsPages v (λ set page.
+            content_at (left_of (shown self.now).first (shown self.now).calls set page)
+            (pick_at picks.now (page_index (capacities_of self.now) set page)))) }
+        ensures image { IfOk result (λ v. IsImage (shown self.now) (shown v).first) }
+    {
+        let alloc = *self.calls.allocator();
+        let first = self.log.len();
+        let second = first + self.first.len();
+        Ok(MemVolume {
+            log: self.picked_from(alloc, Set::Log, picks, 0)?,
+            first: self.picked_from(alloc, Set::First, picks, first)?,
+            second: self.picked_from(alloc, Set::Second, picks, second)?,
+            calls: Vec::with_capacity(alloc, self.calls.capacity())?,
+            writes: Vec::with_capacity(alloc, self.writes.capacity())?,
+            past: 0,
+            failing: Vec::new(alloc),
+            stop: None,
+            faults: 0,
+        })
+    }
+
+    // The pages of a set that a crash leaves, by the picks from a place on.
+    fn picked_from(
+        &self,
+        alloc: Global,
+        set: Set,
+        picks: &[u64],
+        start: usize,
+    ) -> Result<Vec<Page>, NoMemory>
+        requires { start < 2 ^ 33 }
+        ensures len { IfOk result (λ pages. length pages.items ≡ capacity_of (capacities_of self.now) set) }
+        ensures whole { IfOk result (λ pages. All (λ page. length page ≡ 4096) pages.items) }
+        ensures each { IfOk result (λ pages. (page : ℕ) → IsPage (capacities_of self.now) set page →
+            slice_index_or pages.items (page - 1) [] ≡ content_at (left_of (shown self.now).first (shown self.now).calls set page) (pick_at picks.now (start + (page - 1)))) }
+    {
+        let mut pages = Vec::new(alloc);
+        for n in 0..self.capacity(set) {
+            let number = pick_at(picks, start + n as usize);
+            pages.push(self.pick(alloc, set, n + 1, number as u128)?)?;
+        }
+        Ok(pages)
+    }
+
     // The pages of a set that a crash leaves.
     fn picked(&self, alloc: Global, set: Set, pick: u64) -> Result<Vec<Page>, NoMemory>
         ensures len { IfOk result (λ pages. length pages.items ≡ capacity_of (capacities_of self.now) set) }
+        ensures whole { IfOk result (λ pages. All (λ page. length page ≡ 4096) pages.items) }
         ensures each { IfOk result (λ pages. (page : ℕ) → IsPage (capacities_of self.now) set page →
             slice_index_or pages.items (page - 1) [] ≡ content_at (left_of (shown self.now).first (shown self.now).calls set page) (pick + page)) }
     {
         let mut pages = Vec::new(alloc);
         for n in 0..self.capacity(set) {
-            pages.push(self.pick(alloc, set, n + 1, pick)?)?;
+            let page = n + 1;
+            pages.push(self.pick(alloc, set, page, pick as u128 + page as u128)?)?;
         }
         Ok(pages)
     }
 
-    fn pick(&self, alloc: Global, set: Set, page: u32, pick: u64) -> Result<Page, NoMemory>
+    // Of the contents that a crash may leave a page, the one with this number, counted round.
+    fn pick(&self, alloc: Global, set: Set, page: u32, number: u128) -> Result<Page, NoMemory>
         requires { IsPage (capacities_of self.now) set page }
-        ensures { IfOk result (λ bytes. bytes ≡ content_at (left_of (shown self.now).first (shown self.now).calls set page) (pick + page)) }
+        ensures { IfOk result (λ bytes. bytes ≡ content_at (left_of (shown self.now).first (shown self.now).calls set page) number) }
     {
         let left = self.left(alloc, set, page)?;
-        let n = (pick as u128 + page as u128) % left.len() as u128;
+        let n = number % left.len() as u128;
         Ok(left[n as usize])
     }
 
@@ -316,6 +375,7 @@ impl Volume for MemVolume {
     ghost use Rattle.rg_outside.specs.Made.{Made, MadeRead, MadeWrite, MadeSync};
     ghost use Rattle.rg_outside.specs.Moments.{IfTold};
     ghost use Rattle.rg_mem.specs.Shown.{capacities_of, told_of, own_capacities, next_read};
+    ghost use Rattle.rg_mem.specs.Whole.{own_pages};
     ghost use Rattle.rg_mem.specs.Shown.{next_write, next_sync, fails, write_fails, KeepsAs};
 
     ghost capacities = { capacities_of };
@@ -337,6 +397,7 @@ impl Volume for MemVolume {
         ensures call { Made (told_of self.old) (next_read self.old) (told_of self.new) }
         ensures made { MadeRead result (told_of self.old) (told_of self.new) }
         ensures content { OnOk result (IfTold (told_of self.new) (λ t. into.new ≡ read_of t.first t.calls set page)) }
+        ensures kept { OnErr result (into.new ≡ into.old) }
         ensures capacities { capacities_of self.new ≡ capacities_of self.old }
         ensures keeps { KeepsAs self.old self.new }
         ensures count { self.new.faults ≡ (if is_err result then count_after self.old.faults else self.old.faults) }
@@ -403,10 +464,13 @@ impl Volume for MemVolume {
     }
 
     ghost told_capacities = { own_capacities };
+
+    ghost whole_pages = { own_pages };
 }
 
 fn zero_pages(alloc: Global, count: u32) -> Result<Vec<Page>, NoMemory>
     ensures len { IfOk result (λ pages. length pages.items ≡ count) }
+    ensures whole { IfOk result (λ pages. All (λ page. length page ≡ 4096) pages.items) }
     ensures zero { IfOk result (λ pages. (n : ℕ) → n < count → slice_index_or pages.items n [] ≡ zero_page) }
 {
     let mut pages = Vec::new(alloc);
@@ -414,6 +478,16 @@ fn zero_pages(alloc: Global, count: u32) -> Result<Vec<Page>, NoMemory>
         pages.push([0; 4096])?;
     }
     Ok(pages)
+}
+
+// The pick with this number, or 0 past the picks.
+fn pick_at(picks: &[u64], n: usize) -> u64
+    ensures { result ≡ pick_at picks.now n }
+{
+    match picks.get(n) {
+        Some(pick) => *pick,
+        None => 0,
+    }
 }
 
 fn failing_at(failing: &[Failing], number: u64) -> Option<Failing>

@@ -1,5 +1,7 @@
 pub mod Brings
+pub mod Counting
 pub mod Every
+pub mod Failing
 pub mod Frame
 pub mod Images
 pub mod Pages

@@ -1,17 +1,22 @@
--- What the calls of a volume make of its contents.
+-- What the calls of a volume make of its contents: the disk model.
+-- (1) A volume reports its capacities, its contents when it was made, and the list of its calls since. All else
+--     is computed from that list.
+-- (2) Writing a page is atomic. A write that failed leaves the old content or the new one.
+-- (3) After a crash each page holds one of the contents that it has had since the last successful sync, that
+--     sync's own included.
+-- (4) A sync that failed makes nothing durable. A call may also be refused whole: it does nothing.
 use Rattle.std.specs.Prelude.{ℕ, ◌==◌, ◌&&◌, Bool, true, false, if◌then◌else◌, List, [], ◌∷◌, ◌++◌}
 use Rattle.std.specs.Prelude.{count_by}
 use Rattle.rg_base.specs.declared.set.Set.{Set}
 use Rattle.rg_base.specs.declared.set.Set.TheVariants.{Log, First, Second}
 use Rattle.rg_outside.specs.Capacities.{Capacities}
 
--- a content for every page; only those of pages 1 to the capacity of their set are looked at
+-- a content for every page; only pages 1 to the capacity of their set are looked at
 abbrev pub Image : Type 0
 Image = Set → ℕ → List ℕ
 
--- One call of a volume, by what it was, what it answered and what it wrote. A failed write says
--- whether a read gives its content from then on. A failed call may also have been refused whole: it
--- did nothing.
+-- One call of a volume, by what it was, what it answered and what it wrote. A failed write says whether a read
+-- gives its content from then on.
 pub data Call : Type 0 where
   Read : Call
   Wrote : Set → ℕ → List ℕ → Call
@@ -21,8 +26,8 @@ pub data Call : Type 0 where
   FailedSync : Call
   Refused : Call
 
--- What a call leaves: nothing new, this content of this page (and whether a read gives it), or that
--- what is read is certain.
+-- What a call leaves: nothing new, this content of this page (and whether a read gives it), or that what reads is
+-- durable.
 pub data Effect : Type 0 where
   Nothing : Effect
   Content : Set → ℕ → List ℕ → Bool → Effect
@@ -46,11 +51,12 @@ is_failed (FailedWrite set page bytes reads) = true
 is_failed FailedSync = true
 is_failed Refused = true
 
--- what a volume tells: its capacities, its contents when it was made, and its calls since, the
--- newest first
+-- What a volume reports: its capacities, its contents when it was made, and its calls since, the newest first.
+-- `start` says how many of these had been made when somebody began to count; it is 0 where nobody counts.
 pub record Told : Type 0 where
   pub capacities : Capacities
   pub first : Image
+  pub start : ℕ
   pub calls : List Call
 
 abbrev pub is_same_set : Set → Set → Bool
@@ -74,19 +80,19 @@ abbrev pub read_of : Image → List Call → Image
 read_of first [] s p = first s p
 read_of first (call ∷ calls) s p = read_after (effect_of call) (read_of first calls s p) s p
 
--- what a crash may leave of a page after one more call, from what it might have left and what was
--- read
+-- what a crash may leave of a page after one more call, from what it might have left and what read
 abbrev pub left_after : Effect → List (List ℕ) → List ℕ → Set → ℕ → List (List ℕ)
 left_after Nothing left read s p = left
-left_after (Content set page bytes reads) left read s p = if is_same_page set page s p then left ++ bytes ∷ [] else left
+left_after (Content set page bytes reads) left read s p =
+    if is_same_page set page s p then left ++ bytes ∷ [] else left
 left_after Certain left read s p = read ∷ []
 
--- The contents of a page that a crash may leave, the oldest first: those that it has had since the
--- last successful sync, that sync's own included. Each write counts as one, also a failed one, and
--- also where it is equal to another.
+-- The contents of a page that a crash may leave, the oldest first. Each write counts as one, a failed write too,
+-- and also where its content is equal to another.
 abbrev pub left_of : Image → List Call → Set → ℕ → List (List ℕ)
 left_of first [] s p = first s p ∷ []
-left_of first (call ∷ calls) s p = left_after (effect_of call) (left_of first calls s p) (read_of first calls s p) s p
+left_of first (call ∷ calls) s p =
+    left_after (effect_of call) (left_of first calls s p) (read_of first calls s p) s p
 
 -- how many calls failed
 abbrev pub faults_of : List Call → ℕ

@@ -1,5 +1,6 @@
 pub mod Calls
 pub mod Capacities
+pub mod Counts
 pub mod Faults
 pub mod Made
 pub mod Moments

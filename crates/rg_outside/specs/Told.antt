@@ -1,12 +1,18 @@
-use Rattle.std.specs.Prelude.{ℕ, ◌≡◌, List, [], ◌∷◌, ◌++◌, Option, Some, None}
+-- What an operator reports.
+use Rattle.std.specs.Prelude.{ℕ, ◌≡◌, ◌≤◌, ◌+◌, ◌-◌, ◌^◌, List, [], ◌∷◌, ◌++◌, length, Option, Some, None}
 use Rattle.rg_base.specs.declared.control.Answer.{Answer}
 
--- the list of answers is longer by this one, where it is told now
+-- an operator may stop reporting its answers only with answer 2 ^ 64 - 1, or a later one
+abbrev pub MayStopAnswers : Option (List Answer) → Type 0
+MayStopAnswers None = Unit {0}
+MayStopAnswers (Some before) = 2 ^ 64 - 1 ≤ length before + 1
+
+-- the list of answers is longer by this one, where it is known
 abbrev pub Answers : Option (List Answer) → Answer → Option (List Answer) → Type 0
-Answers old answer None = Unit {0}
+Answers old answer None = MayStopAnswers old
 Answers old answer (Some after) = (before : List Answer) × (old ≡ Some before) × (after ≡ before ++ answer ∷ [])
 
--- this was handed last, where that is told
-abbrev pub Hands : ℕ → Option ℕ → Type 0
-Hands left None = Unit {0}
-Hands left (Some last) = last ≡ left
+-- this was handed over last; it is known where the answers are
+abbrev pub Hands : ℕ → Option (List Answer) → Option ℕ → Type 0
+Hands left answers None = answers ≡ None
+Hands left answers (Some last) = last ≡ left

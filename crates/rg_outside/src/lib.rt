@@ -4,11 +4,13 @@
 
 /// An operator behind a pointer.
 pub mod boxed;
-/// What holds of every volume that tells its contents.
+/// A volume whose calls are counted.
+pub mod counted;
+/// What holds of every known volume.
 pub mod laws;
 /// Who answers the utility before each step.
 pub mod operator;
-/// Two pages, written and made certain: a worked example.
+/// Two pages, written and made durable: a worked example.
 pub mod pair;
 /// Where bytes go.
 pub mod sink;

@@ -136,6 +136,8 @@ impl Volume for Slate {
     }
 
     ghost told_capacities = { λ _. tt };
+
+    ghost whole_pages = { λ _. tt };
 }
 
 // Thinks that each change takes a second.

@@ -1,20 +1,23 @@
-ghost use Rattle.std.specs.Prelude.{◌≡◌, ◌≤◌, ℕ, Option, OnOk};
+ghost use Rattle.std.specs.Prelude.{◌≡◌, ◌≤◌, ℕ, Option, OnOk, OnErr};
 ghost use Rattle.rg_outside.specs.Calls.{Told, read_of};
 ghost use Rattle.rg_outside.specs.Capacities.{Capacities, capacity_of, IsPage};
 ghost use Rattle.rg_outside.specs.Faults.{HasCause};
 ghost use Rattle.rg_outside.specs.Made.{MadeRead, MadeWrite, MadeSync};
-ghost use Rattle.rg_outside.specs.Moments.{IfTold};
+ghost use Rattle.rg_outside.specs.Moments.{IfTold, HasWholePages};
 
 use crate::source::Failed;
 use rg_base::set::Set;
 
 /// The pages of the log and of both copies of the table. The pages of a set are numbered from 1 to
 /// its capacity, which never changes. A page has 4,096 bytes.
+///
+/// A volume may report its contents and its calls. Such a volume is called known, and what is said of
+/// contents is said of a known volume.
 pub trait Volume {
     /// How many pages each set has.
     ghost capacities: { Self → Capacities };
 
-    /// The contents when the volume was made and the calls since, where they are told.
+    /// The contents when the volume was made and the calls since, where it reports them.
     ghost told: { Self → Option Told };
 
     /// How often a call has failed. It stands still at 2 ^ 64 - 1.
@@ -24,15 +27,16 @@ pub trait Volume {
     fn capacity(&self, set: Set) -> u32
         ensures { result ≡ capacity_of (capacities self.now) set };
 
-    /// Reads a page. Where the contents are told, it is the page as it reads.
+    /// Reads a page: of a known volume, its content as it reads. A read that failed leaves `into` as it was.
     fn read(&mut self, set: Set, page: u32, into: &mut [u8; 4096]) -> Result<(), Failed>
         requires { IsPage (capacities self.old) set page }
         ensures made { MadeRead result (told self.old) (told self.new) }
         ensures content { OnOk result (IfTold (told self.new) (λ t. into.new ≡ read_of t.first t.calls set page)) }
+        ensures kept { OnErr result (into.new ≡ into.old) }
         ensures capacities { capacities self.new ≡ capacities self.old }
         ensures cause { HasCause (faults self.old) (faults self.new) result };
 
-    /// Writes a page. One that failed leaves the old content or the new one, and a crash may leave
+    /// Writes a page. A write that failed leaves the old content or the new one, and a crash may leave
     /// either; or it was refused whole.
     fn write(&mut self, set: Set, page: u32, from: &[u8; 4096]) -> Result<(), Failed>
         requires { IsPage (capacities self.old) set page }
@@ -40,12 +44,15 @@ pub trait Volume {
         ensures capacities { capacities self.new ≡ capacities self.old }
         ensures cause { HasCause (faults self.old) (faults self.new) result };
 
-    /// Makes certain what is read. One that failed makes nothing certain.
+    /// Makes durable what reads. A sync that failed makes nothing durable.
     fn sync(&mut self) -> Result<(), Failed>
         ensures made { MadeSync result (told self.old) (told self.new) }
         ensures capacities { capacities self.new ≡ capacities self.old }
         ensures cause { HasCause (faults self.old) (faults self.new) result };
 
-    /// What is told has the volume's own capacities.
+    /// A known volume reports its own capacities.
     ghost told_capacities: { (volume : Self) → IfTold (told volume) (λ t. t.capacities ≡ capacities volume) };
+
+    /// The pages of a known volume have 4,096 bytes.
+    ghost whole_pages: { (volume : Self) → IfTold (told volume) HasWholePages };
 }

@@ -2,6 +2,7 @@ ghost use Rattle.std.specs.Prelude.{◌≡◌, ◌≤◌};
 ghost use Rattle.rg_outside.specs.Capacities.{IsPage};
 
 use super::*;
+use rg_outside::counted::{Counted, Counts};
 use rg_outside::pair::write_pair;
 use std::test::Fail;
 
@@ -125,5 +126,52 @@ fn keeps_a_pair(rt: HostRuntime) -> Result<(), Fail> {
     let mut left = volume.crash(1)?;
     assert_eq!(rt; byte_at(&mut left, Set::First, 1), Some(1));
     assert_eq!(rt; byte_at(&mut left, Set::First, 2), Some(2));
+    Ok(())
+}
+
+#[test]
+fn crash_with_leaves_each_image(rt: HostRuntime) -> Result<(), Fail> {
+    let mut volume = MemVolume::new(rt.alloc(), 1, 2, 0, 9, 9, &[], None)?;
+    assert!(rt; volume.write(Set::First, 1, &page_of(1)).is_ok());
+    assert!(rt; volume.write(Set::First, 2, &page_of(2)).is_ok());
+    // (the picks of the page of the log and of both pages of the copy, what these hold)
+    let cases = [
+        ([0, 0, 0], 0, 0),
+        ([0, 0, 1], 0, 2),
+        ([7, 1, 0], 1, 0),
+        ([0, 1, 1], 1, 2),
+        ([0, 2, 3], 0, 2),
+    ];
+    for (picks, one, two) in cases {
+        let mut left = volume.crash_with(&picks)?;
+        assert_eq!(rt; byte_at(&mut left, Set::Log, 1), Some(0), "{picks:?}");
+        assert_eq!(rt; byte_at(&mut left, Set::First, 1), Some(one), "{picks:?}");
+        assert_eq!(rt; byte_at(&mut left, Set::First, 2), Some(two), "{picks:?}");
+    }
+    // A page without a pick holds its oldest content.
+    let mut left = volume.crash_with(&[0, 1])?;
+    assert_eq!(rt; byte_at(&mut left, Set::First, 1), Some(1));
+    assert_eq!(rt; byte_at(&mut left, Set::First, 2), Some(0));
+    Ok(())
+}
+
+#[test]
+fn counts_calls(rt: HostRuntime) -> Result<(), Fail> {
+    let failing = [Failing {
+        call: 4,
+        written: false,
+    }];
+    let mut volume = MemVolume::new(rt.alloc(), 1, 0, 0, 9, 9, &failing, None)?;
+    assert!(rt; volume.sync().is_ok());
+    let mut counted = Counted::new(volume);
+    assert_eq!(rt; counted.calls(), 0);
+    assert!(rt; counted.write(Set::Log, 1, &page_of(3)).is_ok());
+    assert_eq!(rt; byte_at(&mut counted, Set::Log, 1), Some(3));
+    // A call that fails is counted too.
+    assert!(rt; counted.sync().is_err());
+    assert_eq!(rt; counted.calls(), 3);
+    assert_eq!(rt; counted.capacity(Set::Log), 1);
+    let mut below = counted.into_volume();
+    assert_eq!(rt; byte_at(&mut below, Set::Log, 1), Some(3));
     Ok(())
 }

@@ -3,8 +3,8 @@ use Rattle.std.specs.FinMap as map
 use Rattle.std.specs.Option.{is_some}
 use Rattle.rg_base.specs.declared.kept.Kept.{Kept}
 use Rattle.rg_model.proofs.Changed.{remove-insert}
-use Rattle.rg_lock.specs.Owned.{IsCovered}
-use Rattle.rg_lock.proofs.Covered.{covered-same, covered-inserted}
+use Rattle.rg_lock.specs.Owned.{IsExact}
+use Rattle.rg_lock.proofs.Exact.{exact-same, once-same, exact-inserted, once-inserted}
 use Rattle.rg_lock.proofs.locks.Locks.take.Goals as goal
 use Rattle.rg_lock.proofs.locks.Locks.take.Goals.{Joined-remove}
 
@@ -22,7 +22,8 @@ invariant_of-self-in-Err-push_key c =
     let new = c.push_key.new.lists.items in
     record {
       len = c.in-Err-push_key.ensures.len;
-      covered = subst (λ locks. IsCovered locks new) (sym (undone c)) (covered-same c.self.inside.locks old new c.in-Err-push_key.ensures.err c.self.invariant.covered);
+      exact = subst (λ locks. IsExact locks new) (sym (undone c)) (exact-same c.self.inside.locks old new c.in-Err-push_key.ensures.err c.self.invariant.exact);
+      once = once-same old new c.in-Err-push_key.ensures.err c.self.invariant.once;
     }
 
 pub returns-in-Err-push_key-clause-err : goal.returns-in-Err-push_key-clause-err
@@ -33,8 +34,10 @@ invariant_of-self-in_default-push_key c =
     let kept : Kept = record { owner = c.args.session; row = c.args.committed } in
     let old = c.self.inside.owned.items in
     let new = c.push_key.new.lists.items in
+    let locks = c.self.inside.locks in
     record {
       len = c.in_default-push_key.ensures.len;
-      covered = subst (λ locks. IsCovered locks new) (sym c.in_default-insert.ensures.ok)
-          (covered-inserted c.self.inside.locks old new kept c.args.key c.in_default-push_key.ensures.ok c.self.invariant.covered);
+      exact = subst (λ locks. IsExact locks new) (sym c.in_default-insert.ensures.ok)
+          (exact-inserted locks old new kept c.args.key c.in_default-push_key.ensures.ok (sym c.in_default.ensures) c.self.invariant.exact);
+      once = once-inserted locks old new c.args.session c.args.key c.in_default-push_key.ensures.ok (sym c.in_default.ensures) c.self.invariant.exact c.self.invariant.once;
     }

@@ -7,7 +7,7 @@ pub returns : goal.returns
 returns c =
     let m = c.args.self.now in
     let found = c.in_ok-left.left.items in
-    let n = c.args.pick + c.args.page in
+    let n = c.args.number in
     let some : 0 < length found = omega (arith, c.in_ok-left.ensures.some, c.in_ok-left.left.ok.0) in
     let at : c.index.result.now ≡ slice_index_or found (n % length found) c.index.result.now =
     subst (λ k. c.index.result.now ≡ slice_index_or found (n % k) c.index.result.now) (c.len.ensures ∙ c.in_ok-left.left.ok.0) c.index.ensures in

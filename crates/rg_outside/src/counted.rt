@@ -1,0 +1,90 @@
+ghost use Rattle.std.specs.Prelude.{◌≡◌, ◌+◌, length};
+ghost use Rattle.rg_outside.specs.Moments.{IfTold};
+
+use crate::source::Failed;
+use crate::volume::Volume;
+use rg_base::set::Set;
+use std::marker::Model;
+
+/// A volume whose calls are counted from some moment on.
+pub trait Counts: Volume {
+    /// The number of calls since then. It stays at 2 ^ 64 - 1 once it stands there.
+    fn calls(&self) -> u64
+        ensures { IfTold (Self.told self.now) (λ t. length t.calls ≡ t.start + result) };
+}
+
+/// A volume with a counter. It is known as long as the volume below is and the counter is not at its
+/// end.
+#[derive(Drop)]
+pub struct Counted<V: Volume> {
+    volume: V,
+    calls: u64,
+}
+
+impl<V: Volume> Model for Counted<V> {
+    ghost use Rattle.std.specs.Prelude.{◌≤◌, length};
+    ghost use Rattle.rg_outside.specs.Moments.{IfTold};
+    ghost use Rattle.rg_outside.specs.Counts.{CountedCalls};
+
+    ghost Value = { CountedCalls V };
+
+    ghost view = { λ c. record { volume = c.volume; calls = c.calls } };
+
+    ghost invariant = { λ c. IfTold (V.told c.volume) (λ t. c.calls ≤ length t.calls) };
+}
+
+impl<V: Volume> Counted<V> {
+    /// Begins to count.
+    pub fn new(volume: V) -> Counted<V>
+        ensures { result ≡ record { volume = volume; calls = 0 } }
+    {
+        Counted { volume, calls: 0 }
+    }
+
+    /// The volume below.
+    pub fn into_volume(self) -> V
+        ensures { result ≡ self.volume }
+    {
+        let Counted { volume, calls: _ } = self;
+        volume
+    }
+}
+
+impl<V: Volume> Volume for Counted<V> {
+    ghost use Rattle.rg_outside.specs.Counts.{counted, counted_capacities, counted_pages};
+
+    ghost capacities = { λ c. V.capacities c.volume };
+
+    ghost told = { λ c. counted (V.told c.volume) c.calls };
+
+    ghost faults = { λ c. V.faults c.volume };
+
+    fn capacity(&self, set: Set) -> u32 {
+        self.volume.capacity(set)
+    }
+
+    fn read(&mut self, set: Set, page: u32, into: &mut [u8; 4096]) -> Result<(), Failed> {
+        self.calls = self.calls.saturating_add(1);
+        self.volume.read(set, page, into)
+    }
+
+    fn write(&mut self, set: Set, page: u32, from: &[u8; 4096]) -> Result<(), Failed> {
+        self.calls = self.calls.saturating_add(1);
+        self.volume.write(set, page, from)
+    }
+
+    fn sync(&mut self) -> Result<(), Failed> {
+        self.calls = self.calls.saturating_add(1);
+        self.volume.sync()
+    }
+
+    ghost told_capacities = { λ c. counted_capacities (V.told c.volume) (V.capacities c.volume) c.calls (V.told_capacities c.volume) };
+
+    ghost whole_pages = { λ c. counted_pages (V.told c.volume) c.calls (V.whole_pages c.volume) };
+}
+
+impl<V: Volume> Counts for Counted<V> {
+    fn calls(&self) -> u64 {
+        self.calls
+    }
+}
