@@ -4,7 +4,7 @@ ghost use Rattle.std.specs.Io.KnownBytes.{Consumes, Appends, Keeps, IsAtEnd};
 ghost use Rattle.rg_base.specs.declared.control.Command.TheVariants.{Nothing};
 ghost use Rattle.rg_outside.specs.Capacities.{Capacities};
 ghost use Rattle.rg_outside.specs.Faults.{Rose, HasCause, HasGiveCause};
-ghost use Rattle.rg_outside.specs.Told.{Answers, Hands};
+ghost use Rattle.rg_outside.specs.Told.{AddsAnswer, HandsOver};
 
 use rg_base::control::{Answer, Command};
 use rg_base::set::Set;
@@ -84,7 +84,7 @@ impl<W: Write> WriterSink<W> {
 }
 
 impl<W: Write> Sink for WriterSink<W> {
-    ghost held = { λ _. None };
+    ghost contents = { λ _. None };
 
     ghost faults = { λ s. s.faults };
 
@@ -180,6 +180,8 @@ impl Volume for AbsentVolume {
     }
 
     ghost told_capacities = { λ _. tt };
+
+    ghost whole_pages = { λ _. tt };
 }
 
 /// An operator that wants nothing, at moment 0 and with an estimate of 0.

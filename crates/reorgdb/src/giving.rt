@@ -16,7 +16,7 @@ pub enum Given {
 
 /// Gives a text to a sink, in as many calls as it takes.
 pub fn give_all<K: Sink>(sink: &mut K, text: &[u8]) -> Given
-    ensures gives { Gives text.now (K.held sink.old) (K.held sink.new) (K.faults sink.old) (K.faults sink.new) result }
+    ensures gives { Gives text.now (K.contents sink.old) (K.contents sink.new) (K.faults sink.old) (K.faults sink.new) result }
     ensures later { K.faults sink.old ≤ K.faults sink.new }
 {
     let mut rest = text;

@@ -46,16 +46,16 @@ pub fn reorg_main<R: Threads + Wait + Clock + Sync, S: Source, K: Sink, V: Volum
     ensures answers { Answers (map string_bytes words.now)
         (record { bytes = S.left source.old; faults = S.faults source.old })
         (record { bytes = S.left source.new; faults = S.faults source.new })
-        (record { bytes = K.held sink.old; faults = K.faults sink.old })
-        (record { bytes = K.held sink.new; faults = K.faults sink.new }) result.status result.trace.items }
+        (record { bytes = K.contents sink.old; faults = K.faults sink.old })
+        (record { bytes = K.contents sink.new; faults = K.faults sink.new }) result.status result.trace.items }
     ensures legal { Legal no_rows result.trace.items }
 
     // Status 0: the deck was played, and its print given.
     ensures played { result.status ≡ 0 → Plays
         (record { bytes = S.left source.old; faults = S.faults source.old })
         (record { bytes = S.left source.new; faults = S.faults source.new })
-        (record { bytes = K.held sink.old; faults = K.faults sink.old })
-        (record { bytes = K.held sink.new; faults = K.faults sink.new }) result.trace.items }
+        (record { bytes = K.contents sink.old; faults = K.faults sink.old })
+        (record { bytes = K.contents sink.new; faults = K.faults sink.new }) result.trace.items }
 
     // Status 1 comes exactly where the words are not `play`, a failing sink and want of memory
     // aside.
@@ -67,8 +67,8 @@ pub fn reorg_main<R: Threads + Wait + Clock + Sync, S: Source, K: Sink, V: Volum
     ensures deck { result.status ≡ 2 → RefusesDeck
         (record { bytes = S.left source.old; faults = S.faults source.old })
         (record { bytes = S.left source.new; faults = S.faults source.new })
-        (record { bytes = K.held sink.old; faults = K.faults sink.old })
-        (record { bytes = K.held sink.new; faults = K.faults sink.new }) }
+        (record { bytes = K.contents sink.old; faults = K.faults sink.old })
+        (record { bytes = K.contents sink.new; faults = K.faults sink.new }) }
 
     // Statuses 3 and 4 come only where the source and the sink failed in this call.
     ensures source { result.status ≡ 3 → Rose (S.faults source.old) (S.faults source.new) }
@@ -82,8 +82,8 @@ pub fn reorg_main<R: Threads + Wait + Clock + Sync, S: Source, K: Sink, V: Volum
     ensures due { GivesDue (map string_bytes words.now)
         (record { bytes = S.left source.old; faults = S.faults source.old })
         (record { bytes = S.left source.new; faults = S.faults source.new })
-        (record { bytes = K.held sink.old; faults = K.faults sink.old })
-        (record { bytes = K.held sink.new; faults = K.faults sink.new }) result.status }
+        (record { bytes = K.contents sink.old; faults = K.faults sink.old })
+        (record { bytes = K.contents sink.new; faults = K.faults sink.new }) result.status }
     ensures bounded { TakesAtMost 16777217 (S.left source.old) (S.left source.new) }
 
     // The volume is not called, and nobody is asked.
@@ -107,16 +107,16 @@ pub fn reorg_alone<S: Source, K: Sink, V: Volume + Send>(
     ensures answers { Answers (map string_bytes words.now)
         (record { bytes = S.left source.old; faults = S.faults source.old })
         (record { bytes = S.left source.new; faults = S.faults source.new })
-        (record { bytes = K.held sink.old; faults = K.faults sink.old })
-        (record { bytes = K.held sink.new; faults = K.faults sink.new }) result.status result.trace.items }
+        (record { bytes = K.contents sink.old; faults = K.faults sink.old })
+        (record { bytes = K.contents sink.new; faults = K.faults sink.new }) result.status result.trace.items }
     ensures legal { Legal no_rows result.trace.items }
 
     // Status 0: the deck was played, and its print given.
     ensures played { result.status ≡ 0 → Plays
         (record { bytes = S.left source.old; faults = S.faults source.old })
         (record { bytes = S.left source.new; faults = S.faults source.new })
-        (record { bytes = K.held sink.old; faults = K.faults sink.old })
-        (record { bytes = K.held sink.new; faults = K.faults sink.new }) result.trace.items }
+        (record { bytes = K.contents sink.old; faults = K.faults sink.old })
+        (record { bytes = K.contents sink.new; faults = K.faults sink.new }) result.trace.items }
 
     // Status 1 comes exactly where the words are not `play`, a failing sink and want of memory
     // aside.
@@ -128,8 +128,8 @@ pub fn reorg_alone<S: Source, K: Sink, V: Volume + Send>(
     ensures deck { result.status ≡ 2 → RefusesDeck
         (record { bytes = S.left source.old; faults = S.faults source.old })
         (record { bytes = S.left source.new; faults = S.faults source.new })
-        (record { bytes = K.held sink.old; faults = K.faults sink.old })
-        (record { bytes = K.held sink.new; faults = K.faults sink.new }) }
+        (record { bytes = K.contents sink.old; faults = K.faults sink.old })
+        (record { bytes = K.contents sink.new; faults = K.faults sink.new }) }
 
     // Statuses 3 and 4 come only where the source and the sink failed in this call.
     ensures source { result.status ≡ 3 → Rose (S.faults source.old) (S.faults source.new) }
@@ -143,8 +143,8 @@ pub fn reorg_alone<S: Source, K: Sink, V: Volume + Send>(
     ensures due { GivesDue (map string_bytes words.now)
         (record { bytes = S.left source.old; faults = S.faults source.old })
         (record { bytes = S.left source.new; faults = S.faults source.new })
-        (record { bytes = K.held sink.old; faults = K.faults sink.old })
-        (record { bytes = K.held sink.new; faults = K.faults sink.new }) result.status }
+        (record { bytes = K.contents sink.old; faults = K.faults sink.old })
+        (record { bytes = K.contents sink.new; faults = K.faults sink.new }) result.status }
     ensures bounded { TakesAtMost 16777217 (S.left source.old) (S.left source.new) }
 
     // The volume is not called, and nobody is asked.
@@ -163,8 +163,8 @@ pub fn reorg_alone<S: Source, K: Sink, V: Volume + Send>(
 // Gives the output, and answers the status.
 fn deliver<K: Sink, V, O>(sink: &mut K, work: &Work<V, O>) -> u8
     ensures delivered { Delivers work.now.outcome (output_of work.now.outcome work.now.print)
-        (record { bytes = K.held sink.old; faults = K.faults sink.old })
-        (record { bytes = K.held sink.new; faults = K.faults sink.new }) result }
+        (record { bytes = K.contents sink.old; faults = K.faults sink.old })
+        (record { bytes = K.contents sink.new; faults = K.faults sink.new }) result }
 {
     match give_all(sink, work.output()) {
         Given::Whole => work.outcome.status(),
@@ -185,8 +185,8 @@ fn answer<S: Source, K: Sink, V: Volume, O: Operator>(
     ensures answers { Answers (map string_bytes words.now)
         (record { bytes = S.left source.old; faults = S.faults source.old })
         (record { bytes = S.left source.new; faults = S.faults source.new })
-        (record { bytes = K.held sink.old; faults = K.faults sink.old })
-        (record { bytes = K.held sink.new; faults = K.faults sink.new }) result.0 result.1.items }
+        (record { bytes = K.contents sink.old; faults = K.faults sink.old })
+        (record { bytes = K.contents sink.new; faults = K.faults sink.new }) result.0 result.1.items }
     ensures legal { Legal no_rows result.1.items }
     ensures bounded { TakesAtMost 16777217 (S.left source.old) (S.left source.new) }
     ensures volume { result.2 ≡ volume }

@@ -12,7 +12,7 @@ use Rattle.std.specs.FinMap.{FinMap, find, is_sorted, same_map, nat_cmp-IsAntisy
 use Rattle.std.specs.FinMap.Entries.{below_all}
 use Rattle.std.specs.Map.{lookup, keys_of}
 use Rattle.std.specs.BTreeMap.{BTreeMap, get, is_at, Updates}
-use Rattle.rg_base.specs.Retained.{passes, retained}
+use Rattle.rg_base.specs.Retained.{passes, retain_entries}
 
 find-lookup : {V : Type 0} (es : List (ℕ × V)) (q : ℕ) → find nat_cmp q es ≡ lookup (is_at (nat_cmp q)) es
 find-lookup [] q = refl
@@ -109,10 +109,10 @@ module _ {V : Type 0} where
 
   -- entries that pass are those of the keys that pass
   pub retain-view : (es : List (ℕ × V)) (test : ℕ → V → Bool) → IsStrictlySortedBy nat_cmp (keys_of es)
-      → map.from_entries {R = nat_cmp} (filter (λ e. test e.0 e.1) es) ≡ retained test (map.from_entries es)
+      → map.from_entries {R = nat_cmp} (filter (λ e. test e.0 e.1) es) ≡ retain_entries test (map.from_entries es)
   retain-view es test sorted =
       let m = map.from_entries {R = nat_cmp} es in
-      same_map nat_cmp_total nat_cmp-IsAntisymmetric _ (retained test m)
+      same_map nat_cmp_total nat_cmp-IsAntisymmetric _ (retain_entries test m)
       (λ q. get-from_entries nat_cmp_total (filter (λ e. test e.0 e.1) es) q ∙ find-filter test q es sorted
       ∙ ap (λ found. cond (passes test q found) found None) (sym (get-from_entries nat_cmp_total es q))
       ∙ sym (get-retain_keys m (λ key. passes test key (map.get m key)) q (λ x e. ap (λ k. passes test k (map.get m k)) (sym (nat_cmp-IsAntisymmetric q x e)))))

@@ -14,4 +14,6 @@ IsEmptyBetween entries from end = (key : ℕ) → from ≤ key → key < end →
 -- the entry with the least key at or above this number, or none where no such key has a value
 abbrev pub IsFirstFrom : {V : Type 0} → map.FinMap nat_cmp V → ℕ → Option (ℕ × V) → Type 0
 IsFirstFrom entries from None = IsEmptyFrom entries from
-IsFirstFrom entries from (Some entry) = (from ≤ entry.0) × (map.get entries entry.0 ≡ Some entry.1) × IsEmptyBetween entries from entry.0
+IsFirstFrom entries from (Some entry) =
+    (from ≤ entry.0) × (map.get entries entry.0 ≡ Some entry.1)
+    × IsEmptyBetween entries from entry.0

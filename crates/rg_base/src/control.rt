@@ -1,12 +1,12 @@
-/// How long the last iteration over the log may be thought to last, in seconds, or that no drain is
-/// asked by itself.
+/// MAXRO: how long the last iteration over the log may take by the operator's estimate, in seconds.
+/// `Defer` never asks the drain on its own; LONGLOG DRAIN still does.
 #[derive(Clone, Copy, Debug, PartialEq, Eq)]
 pub enum Maxro {
     Within(u32),
     Defer,
 }
 
-/// What the utility does where the log doesn't grow shorter.
+/// LONGLOG: what the utility does when the log does not grow shorter.
 #[derive(Clone, Copy, Debug, PartialEq, Eq)]
 pub enum Longlog {
     Continue,
@@ -14,14 +14,14 @@ pub enum Longlog {
     Drain,
 }
 
-/// The moment by which the utility must be done, on the operator's scale.
+/// DEADLINE: the moment by which the utility must be done, on the operator's scale.
 #[derive(Clone, Copy, Debug, PartialEq, Eq)]
 pub enum Deadline {
     Never,
     At(u32),
 }
 
-/// The options that an operator replaces in a running utility: those that are there.
+/// ALTER: the options that the operator replaces in a running utility.
 #[derive(Clone, Copy, Debug, PartialEq, Eq)]
 pub struct Alteration {
     pub maxro: Option<Maxro>,
@@ -38,8 +38,8 @@ pub enum Command {
     Alter(Alteration),
 }
 
-/// What the operator answers before a step of the utility: the present moment, and how long the
-/// rest of the log is thought to take, both in whole seconds.
+/// The operator's answer before a step of the utility: the present moment, and an estimate of how
+/// long the rest of the log will take, both in whole seconds.
 #[derive(Clone, Copy, Debug, PartialEq, Eq)]
 pub struct Answer {
     pub now: u32,

@@ -8,11 +8,11 @@ pub mod bytes;
 pub mod change;
 /// What the operator answers.
 pub mod control;
-/// Locks of keys, as they are kept.
-pub mod kept;
+/// Locks of keys.
+pub mod lock;
 /// Maps from numbers, seen as finite maps.
 pub mod map;
-/// Want of memory.
+/// Out of memory.
 pub mod no_memory;
 /// The options of the utility, and what it drains.
 pub mod options;

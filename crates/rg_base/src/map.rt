@@ -5,7 +5,7 @@ ghost use Rattle.std.specs.FinMap as map;
 ghost use Rattle.std.specs.Coded.{coded_ℕ};
 ghost use Rattle.std.specs.Option.{option_copied, option_map};
 ghost use Rattle.rg_base.specs.First.{IsFirstFrom};
-ghost use Rattle.rg_base.specs.Retained.{Tests, retained};
+ghost use Rattle.rg_base.specs.Retained.{Tests, retain_entries};
 
 use crate::no_memory::NoMemory;
 use std::alloc::Global;
@@ -63,7 +63,8 @@ impl<V: Drop> NumberMap<V> {
     /// The entry with the least key above `key`. It searches for it, and doesn't walk the keys
     /// below.
     pub fn first_after(&self, key: u64) -> Option<(u64, &V)>
-        ensures { IsFirstFrom self.now (key + 1) (option_map (λ entry. (entry.0, entry.1.now)) result) }
+        ensures { IsFirstFrom self.now (key + 1)
+            (option_map (λ entry. (entry.0, entry.1.now)) result) }
     {
         match self
             .entries
@@ -81,8 +82,8 @@ impl<V: Drop> NumberMap<V> {
         self.entries.contains_key(&key)
     }
 
-    /// Sets the value of a key, and answers the one before. Memory is wanting only for a key that
-    /// is not there, and then nothing changes.
+    /// Sets the value of a key, and returns the one before. It can be out of memory only for a key
+    /// that is not there, and then nothing changes.
     pub fn insert(&mut self, key: u64, value: V) -> Result<Option<V>, NoMemory>
         ensures before { IfOk result (λ before. before ≡ map.get self.old key) }
         ensures ok { OnOk result (self.new ≡ map.insert self.old key value) }
@@ -95,7 +96,7 @@ impl<V: Drop> NumberMap<V> {
         }
     }
 
-    /// Removes a key, and answers the value that it had.
+    /// Removes a key, and returns its value.
     pub fn remove(&mut self, key: u64) -> Option<V>
         ensures before { result ≡ map.get self.old key }
         ensures removed { self.new ≡ map.remove self.old key }
@@ -103,10 +104,11 @@ impl<V: Drop> NumberMap<V> {
         self.entries.remove(&key)
     }
 
-    /// Keeps the keys at which `keep` answers `true` of the key and its value. It takes no memory.
+    /// Keeps the entries for which `keep` returns `true`. It takes no memory.
     pub fn retain<F: Fn(u64, &V) -> bool + Drop>(&mut self, keep: F)
         requires { F.IsAlwaysCallable keep }
-        ensures { (test : ℕ → V → Bool) → Tests F.Fn keep test → self.new ≡ retained test self.old }
+        ensures { (test : ℕ → V → Bool) → Tests F.Fn keep test
+            → self.new ≡ retain_entries test self.old }
     {
         self.entries.retain(|key, value| keep(*key, value));
     }

@@ -2,7 +2,7 @@ use std::alloc::{AllocError, AllocFailed};
 use std::error::Error;
 use std::fmt;
 
-/// Memory was wanting. It is the one refusal that may come at any time.
+/// Out of memory. It is the one refusal that may come at any time.
 #[derive(Clone, Copy, Debug, PartialEq, Eq)]
 pub struct NoMemory;
 

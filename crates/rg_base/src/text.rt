@@ -60,7 +60,7 @@ impl Text {
     }
 }
 
-/// Each byte is `-`, as it is where there is none. A text like this is written with one `-` more.
+/// Each byte is `-`, or there is none. Such a text is written with one `-` more.
 pub fn is_dashes(bytes: &[u8]) -> bool
     ensures { result ≡ is_dashes bytes.now }
 {

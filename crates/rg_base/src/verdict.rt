@@ -16,7 +16,7 @@ pub enum StopReason {
     NoSpace,
     /// A call of the volume failed.
     Device,
-    /// Memory was wanting.
+    /// Out of memory.
     NoMemory,
 }
 
@@ -42,7 +42,7 @@ pub enum DrainVerdict {
     Wait(Session),
     /// It is granted.
     Granted,
-    /// It is given up for now.
+    /// It is abandoned for now.
     GiveUp,
     /// The end.
     Stop(StopReason),

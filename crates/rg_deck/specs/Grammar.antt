@@ -1,4 +1,10 @@
--- The lines of a deck and their spelling.
+-- Lines: the grammar of a deck, as a spelling.
+-- (1) A deck is lines ended by a line feed; the last may lack it.
+-- (2) Words are parted by one space, with none at either end.
+-- (3) Numbers are decimal, without a sign or a leading zero, and end at 64 bits. Sessions are 1 to
+--     99.
+-- (4) A text made only of `-`, the empty one included, is written with one `-` more; any other as
+--     it is.
 use Rattle.std.specs.Prelude.{ℕ, ◌≡◌, ◌≢◌, ◌+◌, ◌<◌, ◌≤◌, ◌^◌, ◌⊎◌, Bool, true, false, List, []}
 use Rattle.std.specs.Prelude.{◌∷◌, ◌++◌, length, codes, IsTrue}
 use Rattle.std.specs.Fmt.{decimal}
@@ -34,15 +40,15 @@ line_words Flush = codes "F" ∷ []
 line_words Show = codes "L" ∷ []
 line_words Death = codes "X" ∷ []
 
--- words are parted by one space, with none at either end
+-- the bytes of a line
 abbrev pub line_text : Line → List ℕ
 line_text line = join_with_byte 32 (line_words line)
 
--- each line is ended by a line feed
+-- the bytes of lines
 abbrev pub deck_text : List Line → List ℕ
 deck_text lines = flat_map (λ line. line_text line ++ 10 ∷ []) lines
 
--- a row that can be: its numbers end at 64 bits
+-- a row of the grammar
 pub record IsRow (row : Row) : Type 0 where
   pub key : row.key < 2 ^ 64
   pub clus : row.clus < 2 ^ 64
@@ -68,7 +74,7 @@ IsLine Flush = Unit {0}
 IsLine Show = Unit {0}
 IsLine Death = Unit {0}
 
--- which lines are taken
+-- which lines the caller takes
 abbrev pub admits : Admits → Line → Bool
 admits Every line = true
 admits Statements (Said session stmt) = true

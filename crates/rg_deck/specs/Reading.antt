@@ -43,9 +43,11 @@ BeginsWithNumber bytes number rest = (number < 2 ^ 64) × (bytes ≡ decimal num
 
 -- The bytes are a line with its line feed and a rest, or the last line, which lacks it.
 abbrev pub CutsLine : List ℕ → List ℕ → List ℕ → Type 0
-CutsLine bytes line rest = Lacks 10 line × ((bytes ≡ line ++ 10 ∷ rest) ⊎ ((bytes ≡ line) × (rest ≡ [])))
+CutsLine bytes line rest =
+    Lacks 10 line × ((bytes ≡ line ++ 10 ∷ rest) ⊎ ((bytes ≡ line) × (rest ≡ [])))
 
 -- The bytes are these lines and a rest. Where no rest is left, the last line may lack its line
 -- feed.
 abbrev pub Reads : List ℕ → List Line → List ℕ → Type 0
-Reads bytes lines rest = (bytes ≡ deck_text lines ++ rest) ⊎ ((rest ≡ []) × (bytes ++ 10 ∷ [] ≡ deck_text lines))
+Reads bytes lines rest =
+    (bytes ≡ deck_text lines ++ rest) ⊎ ((rest ≡ []) × (bytes ++ 10 ∷ [] ≡ deck_text lines))

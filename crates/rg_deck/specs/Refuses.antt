@@ -6,7 +6,8 @@ use Rattle.rg_deck.specs.declared.read.DeckFault.{DeckFault}
 use Rattle.rg_deck.specs.declared.read.DeckFault.TheVariants as faults
 
 -- why a deck was not read: this line is the first that is outside the grammar or not taken, so the
--- bytes are no lines that are; want of memory says nothing
+-- bytes are no deck; out of memory says nothing of the bytes
 abbrev pub Refuses : Admits → List ℕ → DeckFault → Type 0
-Refuses admitted bytes (faults.Line number) = IsFirstOutside admitted bytes number × ((lines : List Line) → LinesOf admitted bytes lines → ⊥)
+Refuses admitted bytes (faults.Line number) =
+    IsFirstOutside admitted bytes number × ((lines : List Line) → LinesOf admitted bytes lines → ⊥)
 Refuses admitted bytes faults.NoMemory = Unit {0}

@@ -5,10 +5,12 @@ ghost use Rattle.rg_deck.specs.declared.read.Admits.{Admits};
 
 /// Bytes spell one list of lines at most, whichever lines are taken.
 pub fn one_reading()
-    ensures { (admitted : Admits) (bytes : List ℕ) (a b : List Line) → LinesOf admitted bytes a → LinesOf admitted bytes b → a ≡ b }
+    ensures { (admitted : Admits) (bytes : List ℕ) (a b : List Line) → LinesOf admitted bytes a
+        → LinesOf admitted bytes b → a ≡ b }
 {}
 
 /// One line at most is the first that is outside.
 pub fn first_outside_is_one()
-    ensures { (admitted : Admits) (bytes : List ℕ) (a b : ℕ) → IsFirstOutside admitted bytes a → IsFirstOutside admitted bytes b → a ≡ b }
+    ensures { (admitted : Admits) (bytes : List ℕ) (a b : ℕ) → IsFirstOutside admitted bytes a
+        → IsFirstOutside admitted bytes b → a ≡ b }
 {}

@@ -1,7 +1,7 @@
 //! Decks: the bytes of a deck as its lines.
 #![tactic(auto)]
 
-/// What holds of decks.
+/// Laws of the grammar.
 pub mod laws;
 mod line;
 /// The lines of a deck.

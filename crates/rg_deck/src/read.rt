@@ -13,9 +13,9 @@ use thiserror::Error;
 /// Which lines of the grammar a deck may have.
 #[derive(Clone, Copy, Debug, PartialEq, Eq)]
 pub enum Admits {
-    /// Each of them.
+    /// All lines.
     Every,
-    /// Statements alone.
+    /// Only statements.
     Statements,
 }
 

@@ -45,19 +45,23 @@ fn reads_each_line(rt: HostRuntime) -> Result<(), Fail> {
     for (deck, want) in [
         (
             b"1 INSERT 5 50 1 ab".as_slice(),
-            "[Said { session: Session(1), stmt: Insert(Row { key: 5, clus: 50, cat: 1, text: Text { bytes: [97, 98] } }) }]",
+            "[Said { session: Session(1), stmt: Insert(Row { key: 5, clus: 50, cat: 1, \
+             text: Text { bytes: [97, 98] } }) }]",
         ),
         (
             b"99 UPDATE 5 50 1 -\n",
-            "[Said { session: Session(99), stmt: Update(Row { key: 5, clus: 50, cat: 1, text: Text { bytes: [] } }) }]",
+            "[Said { session: Session(99), stmt: Update(Row { key: 5, clus: 50, cat: 1, \
+             text: Text { bytes: [] } }) }]",
         ),
         (
             b"10 INSERT 0 0 0 --",
-            "[Said { session: Session(10), stmt: Insert(Row { key: 0, clus: 0, cat: 0, text: Text { bytes: [45] } }) }]",
+            "[Said { session: Session(10), stmt: Insert(Row { key: 0, clus: 0, cat: 0, \
+             text: Text { bytes: [45] } }) }]",
         ),
         (
             b"2 INSERT 0 0 0 -~!",
-            "[Said { session: Session(2), stmt: Insert(Row { key: 0, clus: 0, cat: 0, text: Text { bytes: [45, 126, 33] } }) }]",
+            "[Said { session: Session(2), stmt: Insert(Row { key: 0, clus: 0, cat: 0, \
+             text: Text { bytes: [45, 126, 33] } }) }]",
         ),
         (
             b"7 DELETE 10",

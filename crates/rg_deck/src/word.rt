@@ -27,7 +27,8 @@ pub fn split_at_byte(bytes: &[u8], mark: u8) -> Option<(&[u8], &[u8])>
 // The number that digits stand for, where 64 bits hold it.
 #[tactic(auto, using(crate::proofs::Words::value_so_far))]
 fn value_of(digits: &[u8]) -> Option<u64>
-    ensures { SomeIff result (AllDigits 10 digits.now × (digits_value 10 digits.now < 2 ^ 64)) (digits_value 10 digits.now) }
+    ensures { SomeIff result (AllDigits 10 digits.now × (digits_value 10 digits.now < 2 ^ 64))
+        (digits_value 10 digits.now) }
 {
     let mut value: u64 = 0;
     for byte in digits {

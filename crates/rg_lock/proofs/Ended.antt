@@ -7,10 +7,10 @@ use Rattle.std.specs.Ordering.{nat_cmp, eq_by_cmp}
 use Rattle.std.proofs.lemmas.Cmp.{nat_cmp_total}
 use Rattle.std.proofs.lemmas.Bool.Decides.{Decides-eqb}
 use Rattle.std.proofs.lemmas.Option.{none-some}
-use Rattle.rg_base.specs.declared.kept.Kept.{Kept}
+use Rattle.rg_base.specs.declared.lock.Lock.{Lock}
 use Rattle.rg_base.specs.declared.row.Row.{Row}
 use Rattle.rg_base.specs.declared.session.Session.{Session}
-use Rattle.rg_model.specs.Committed.{without}
+use Rattle.rg_model.specs.Committed.{locks_without}
 use Rattle.rg_model.specs.Held.{is_others}
 use Rattle.rg_model.specs.State.{Locks}
 use Rattle.rg_model.proofs.Overlay.{key_of, get-without}
@@ -19,7 +19,7 @@ use Rattle.rg_lock.specs.Released.{Releases}
 own_lock : (session : Session) (row : Option Row) → is_others session (Some (record { owner = session; row = row })) ≡ false
 own_lock session row = ap not ((Decides-eqb session.0 session.0).1 refl)
 
-at_key : (session : Session) (own : Kept) (b : Bool) (there : Option Kept) → is_others session (Some own) ≡ false → (b ≡ true → there ≡ Some own)
+at_key : (session : Session) (own : Lock) (b : Bool) (there : Option Lock) → is_others session (Some own) ≡ false → (b ≡ true → there ≡ Some own)
     → cond (is_others session (cond b None there)) (cond b None there) None ≡ cond (is_others session there) there None
 at_key session own true there mine same =
     sym (ap (λ lock. cond (is_others session lock) lock None) (same refl) ∙ ap (λ others. cond others (Some own) None) mine)
@@ -31,10 +31,10 @@ fewer (suc n) less some is = omega arith
 
 module _ (session : Session) (old new : Locks) where
   -- the locks of others stay
-  pub released-without : (released : ℕ × Option Row) → Releases session old new (Some released) → without session new ≡ without session old
+  pub released-without : (released : ℕ × Option Row) → Releases session old new (Some released) → locks_without session new ≡ locks_without session old
   released-without released releases =
-      let own : Kept = record { owner = session; row = released.1 } in
-      ap (without session) releases.1
+      let own : Lock = record { owner = session; row = released.1 } in
+      ap (locks_without session) releases.1
       ∙ same_map nat_cmp_total nat_cmp-IsAntisymmetric _ _
       (λ q. get-without session (map.remove old released.0) q
       ∙ ap (λ lock. cond (is_others session lock) lock None) (get-remove nat_cmp_total old released.0 q)
@@ -45,14 +45,14 @@ module _ (session : Session) (old new : Locks) where
   -- there is one lock less
   pub released-fewer : (released : ℕ × Option Row) → Releases session old new (Some released) → map.len new < map.len old
   released-fewer released releases =
-      let own : Kept = record { owner = session; row = released.1 } in
+      let own : Lock = record { owner = session; row = released.1 } in
       fewer (map.len old) (map.len new)
       (λ none. none-some own (sym (get-empty nat_cmp released.0) ∙ ap (λ m. map.get m released.0) (sym (empty_of_len old none)) ∙ releases.0))
       (ap map.len releases.1 ∙ len-remove nat_cmp_total old released.0 ∙ ap (λ lock. cond (is_some lock) (map.len old - 1) (map.len old)) releases.0)
 
   -- all of the session's locks are gone
-  pub released-all : Releases session old new None → new ≡ without session old
+  pub released-all : Releases session old new None → new ≡ locks_without session old
   released-all releases =
       releases.0
-      ∙ same_map nat_cmp_total nat_cmp-IsAntisymmetric old (without session old)
+      ∙ same_map nat_cmp_total nat_cmp-IsAntisymmetric old (locks_without session old)
       (λ q. sym (get-without session old q ∙ ap (λ others. cond others (map.get old q) None) (releases.1 q)))

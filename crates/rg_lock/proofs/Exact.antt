@@ -10,7 +10,7 @@ use Rattle.std.proofs.lemmas.Cmp.{nat_cmp_total}
 use Rattle.std.proofs.lemmas.Bool.{cases_eq, ne_eqb, eqb-true}
 use Rattle.std.proofs.lemmas.Bool.Decides.{nat_tests, Decides-eqb}
 use Rattle.std.proofs.lemmas.List.Folds.{list_any-append}
-use Rattle.rg_base.specs.declared.kept.Kept.{Kept}
+use Rattle.rg_base.specs.declared.lock.Lock.{Lock}
 use Rattle.rg_base.specs.declared.session.Session.{Session}
 use Rattle.rg_model.specs.Held.{is_others}
 use Rattle.rg_model.specs.State.{Locks}
@@ -19,7 +19,7 @@ use Rattle.rg_lock.specs.Released.{HasNone}
 use Rattle.rg_lock.proofs.KeyLists.{listed-appended}
 
 -- the session has this lock
-abbrev is_own : Session → Option Kept → Bool
+abbrev is_own : Session → Option Lock → Bool
 is_own session found = not (is_others session found)
 
 swapped : (a b : ℕ) → (a == b) ≡ (b == a)
@@ -62,7 +62,7 @@ exact-same locks old new same exact session key = ap (list_any (λ listed. liste
 pub once-same : (old new : List (Vec ℕ Global)) → SameKeys old new → AreOnce old → AreOnce new
 once-same old new same once number = ap stands_once (same number) ∙ once number
 
-inserted_at : (session : Session) (fresh : Kept) (b : Bool) (there : Option Kept) → (b ≡ true → there ≡ None)
+inserted_at : (session : Session) (fresh : Lock) (b : Bool) (there : Option Lock) → (b ≡ true → there ≡ None)
     → (is_own session there || ((session.0 == fresh.owner.0) && b)) ≡ is_own session (cond b (Some fresh) there)
 inserted_at session fresh true there none =
     ap (λ found. is_own session found || ((session.0 == fresh.owner.0) && true)) (none refl)
@@ -71,7 +71,7 @@ inserted_at session fresh false there none =
     ap (λ (b : Bool). is_own session there || b) (and_false (session.0 == fresh.owner.0)) ∙ or_false (is_own session there)
 
 -- a lock is put in for a key that had none, and the key is listed
-pub exact-inserted : (locks : Locks) (old new : List (Vec ℕ Global)) (fresh : Kept) (key : ℕ) → IsAppended old new fresh.owner.0 key → map.get locks key ≡ None → IsExact locks old
+pub exact-inserted : (locks : Locks) (old new : List (Vec ℕ Global)) (fresh : Lock) (key : ℕ) → IsAppended old new fresh.owner.0 key → map.get locks key ≡ None → IsExact locks old
     → IsExact (map.insert locks key fresh) new
 exact-inserted locks old new fresh key appended none exact session k =
     listed-appended old new fresh.owner.0 key appended session k
@@ -141,11 +141,11 @@ module _ (locks : Locks) (old new : List (Vec ℕ Global)) (session : Session) (
       ∙ ap (λ (b : Bool). is_listed new session key || (b && (key == key))) ((Decides-eqb session.0 session.0).1 refl)
       ∙ ap (λ (b : Bool). is_listed new session key || b) ((Decides-eqb key key).1 refl)
       ∙ or_true (is_listed new session key) where
-    or_true : (b : Bool) → (b || true) ≡ true
-    or_true true = refl
-    or_true false = refl
+        or_true : (b : Bool) → (b || true) ≡ true
+        or_true true = refl
+        or_true false = refl
 
-  owner_is : (found : Option Kept) → is_own session found ≡ true → (other : Session) → (other.0 == session.0) ≡ false → is_own other found ≡ false
+  owner_is : (found : Option Lock) → is_own session found ≡ true → (other : Session) → (other.0 == session.0) ≡ false → is_own other found ≡ false
   owner_is None own other apart = absurd (cc (own))
   owner_is (Some kept) own other apart =
       let mine : kept.owner.0 ≡ session.0 = eqb-true kept.owner.0 session.0 (sym (not_not (kept.owner.0 == session.0)) ∙ own) in
@@ -184,7 +184,7 @@ none_left locks lists session exact none key =
     sym (not_not (is_others session (map.get locks key))) ∙ ap not (sym (exact session key) ∙ ap (list_any (λ listed. listed == key)) none)
 
 -- a lock of the session
-pub own_kept : (session : Session) (kept : Kept) → is_own session (Some kept) ≡ true → kept ≡ record { owner = session; row = kept.row }
+pub own_kept : (session : Session) (kept : Lock) → is_own session (Some kept) ≡ true → kept ≡ record { owner = session; row = kept.row }
 own_kept session kept own =
     let same : kept.owner.0 ≡ session.0 = eqb-true kept.owner.0 session.0 (sym (not_not (kept.owner.0 == session.0)) ∙ own) in
     λ i. record { owner = record { 0 = same i }; row = kept.row }

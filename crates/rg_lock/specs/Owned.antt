@@ -18,7 +18,8 @@ keys_in (list ∷ lists) (suc number) = keys_in lists number
 -- the list with this number has this key at its end, and the others are the same
 abbrev pub IsAppended : List (Vec ℕ Global) → List (Vec ℕ Global) → ℕ → ℕ → Type 0
 IsAppended shorter longer number key =
-    (n : ℕ) → keys_in longer n ≡ (if n == number then keys_in shorter n ++ key ∷ [] else keys_in shorter n)
+    (n : ℕ)
+    → keys_in longer n ≡ (if n == number then keys_in shorter n ++ key ∷ [] else keys_in shorter n)
 
 -- each list is the same
 abbrev pub SameKeys : List (Vec ℕ Global) → List (Vec ℕ Global) → Type 0
@@ -31,7 +32,8 @@ is_listed lists session key = list_any (λ listed. listed == key) (keys_in lists
 -- each session's list has exactly the keys that it has locked
 abbrev pub IsExact : Locks → List (Vec ℕ Global) → Type 0
 IsExact locks lists =
-    (session : Session) (key : ℕ) → is_listed lists session key ≡ not (is_others session (map.get locks key))
+    (session : Session) (key : ℕ)
+    → is_listed lists session key ≡ not (is_others session (map.get locks key))
 
 -- no key stands twice
 abbrev pub stands_once : List ℕ → Bool
@@ -41,7 +43,8 @@ stands_once (key ∷ keys) = not (list_any (λ other. other == key) keys) && sta
 abbrev pub AreOnce : List (Vec ℕ Global) → Type 0
 AreOnce lists = (number : ℕ) → stands_once (keys_in lists number) ≡ true
 
--- There is a list for each number that a session can have. It has the keys that the session has locked, each once.
+-- There is a list for each number that a session can have. It has the keys that the session has
+-- locked, each once.
 pub record HasLists (locks : Locks) (lists : Vec (Vec ℕ Global) Global) : Type 0 where
   pub len : vec_len lists ≡ 256
   pub exact : IsExact locks lists.items

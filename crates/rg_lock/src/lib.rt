@@ -1,4 +1,4 @@
-//! Row locks: who has each key, and what the key had before.
+//! Row locks: which session holds each key, and the committed row of the key.
 #![tactic(auto)]
 
 /// Laws of the definitions.

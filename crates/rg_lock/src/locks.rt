@@ -1,15 +1,15 @@
 ghost use Rattle.std.specs.Prelude.{◌≡◌, ◌↔◌, Some, Err, OnOk, OnErr, IfOk};
 ghost use Rattle.std.specs.FinMap as map;
 ghost use Rattle.std.specs.Option.{option_copied};
-ghost use Rattle.rg_model.specs.Committed.{without};
+ghost use Rattle.rg_model.specs.Committed.{locks_without};
 ghost use Rattle.rg_lock.specs.First.{IsFirstHeld};
-ghost use Rattle.rg_lock.specs.Held.{row_of};
+ghost use Rattle.rg_lock.specs.Held.{kept_row};
 ghost use Rattle.rg_model.specs.Held.{owner_of, other_owner};
 ghost use Rattle.rg_lock.specs.Released.{Releases};
-ghost use Rattle.rg_lock.specs.Taken.{taken, Answers};
+ghost use Rattle.rg_lock.specs.Taken.{take_key, TakeResult};
 
 use crate::owned::{empty_lists, pop_key, push_key};
-use rg_base::kept::Kept;
+use rg_base::lock::Lock;
 use rg_base::map::NumberMap;
 use rg_base::no_memory::NoMemory;
 use rg_base::row::Row;
@@ -18,7 +18,7 @@ use std::alloc::Global;
 use std::marker::Model;
 use thiserror::Error;
 
-/// Why a lock was not taken.
+/// Why a key was not locked.
 #[derive(Clone, Copy, Debug, PartialEq, Eq, Error)]
 pub enum LockFault {
     #[error("session {} has the lock", owner.0)]
@@ -28,10 +28,10 @@ pub enum LockFault {
 }
 
 /// The locks of keys. A lock is held from the first write of its key to the end of its session's
-/// unit, and keeps the committed row of the key meanwhile.
+/// unit, and keeps the committed row of the key until then.
 #[derive(Drop)]
 pub struct Locks {
-    locks: NumberMap<Kept>,
+    locks: NumberMap<Lock>,
     // The keys of each session's locks, so that its end need not look at those of others.
     owned: Vec<Vec<u64>>,
 }
@@ -39,7 +39,7 @@ pub struct Locks {
 impl Model for Locks {
     ghost use Rattle.std.specs.Coded.{coded_ℕ};
     ghost use Rattle.std.specs.FinMap as map;
-    ghost use Rattle.rg_base.specs.contracts.kept.Kept as kept;
+    ghost use Rattle.rg_base.specs.contracts.lock.Lock as kept;
     ghost use Rattle.rg_model.specs.State as model;
 
     ghost Value = { model.Locks };
@@ -54,7 +54,7 @@ impl Model for Locks {
 }
 
 impl Locks {
-    /// No locks. It takes memory for an empty list of keys for each number that a session can have.
+    /// No locks. It takes memory for one empty list of keys for each session number.
     pub fn new(alloc: Global) -> Result<Self, NoMemory>
         ensures { IfOk result (λ locks. locks ≡ map.empty) }
     {
@@ -64,17 +64,20 @@ impl Locks {
         })
     }
 
-    /// Locks a key for a session, with the committed row of the key. A key that the session has
-    /// keeps the row of its first taking, for what is in the table since then is its own.
+    /// Locks a key for a session, and keeps the committed row of the key. A key that the session
+    /// has locked already keeps the row of the first time: what is in the table since then is the
+    /// session's own.
     pub fn take(
         &mut self,
         session: Session,
         key: u64,
         committed: Option<Row>,
     ) -> Result<(), LockFault>
-        ensures ok { OnOk result (self.new ≡ taken self.old session key committed) }
-        ensures answer { Answers session (map.get self.old key) result }
-        ensures held { (owner : Session) → (result ≡ Err (LockFault.Held owner)) ↔ (other_owner session (map.get self.old key) ≡ Some owner) }
+        ensures ok { OnOk result (self.new ≡ take_key self.old session key committed) }
+        ensures answer { TakeResult session (map.get self.old key) result }
+        ensures held { (owner : Session)
+            → (result ≡ Err (LockFault.Held owner))
+            ↔ (other_owner session (map.get self.old key) ≡ Some owner) }
         ensures err { OnErr result (self.new ≡ self.old) }
     {
         if let Some(kept) = self.locks.get(key) {
@@ -83,7 +86,7 @@ impl Locks {
             }
             return Err(LockFault::Held { owner: kept.owner });
         }
-        let kept = Kept {
+        let kept = Lock {
             owner: session,
             row: committed,
         };
@@ -97,7 +100,7 @@ impl Locks {
         Ok(())
     }
 
-    /// The session that has a key.
+    /// The session that holds a key.
     pub fn owner(&self, key: u64) -> Option<Session>
         ensures { result ≡ owner_of (map.get self.now key) }
     {
@@ -107,10 +110,9 @@ impl Locks {
         }
     }
 
-    /// The row that the lock of a key keeps. Without a lock, and where no row was there, it is
-    /// none.
+    /// The row that the lock of a key keeps. None if the key is not locked, or had no row.
     pub fn kept(&self, key: u64) -> Option<&Row>
-        ensures { option_copied result ≡ row_of (map.get self.now key) }
+        ensures { option_copied result ≡ kept_row (map.get self.now key) }
     {
         match self.locks.get(key) {
             Some(kept) => kept.row.as_ref(),
@@ -118,8 +120,8 @@ impl Locks {
         }
     }
 
-    /// The least key from `lo` to `hi`, both included, that another session has, with that session.
-    /// It looks at the session's own locks between them, and at no others.
+    /// The least key from `lo` to `hi`, both included, that another session has locked, with that
+    /// session. On the way it looks at the session's own locks only.
     pub fn first_held(&self, session: Session, lo: u64, hi: u64) -> Option<(u64, Session)>
         ensures { IsFirstHeld self.now session lo hi result }
     {
@@ -142,8 +144,8 @@ impl Locks {
         None
     }
 
-    /// Takes one of a session's locks off, and hands back its key and the row that it kept; which
-    /// of them comes first is not said. None where the session has no lock. It takes no memory.
+    /// Releases one of a session's locks, and returns its key and the row that it kept; the order
+    /// is not specified. None if the session has no lock. It takes no memory.
     pub fn release(&mut self, session: Session) -> Option<(u64, Option<Row>)>
         ensures { Releases session self.old self.new result }
     {
@@ -152,9 +154,9 @@ impl Locks {
         Some((key, kept.row))
     }
 
-    /// Drops a session's locks. It takes no memory, and looks at the session's own locks alone.
+    /// Releases all locks of a session. It takes no memory, and looks at this session's locks only.
     pub fn end(&mut self, session: Session)
-        ensures { self.new ≡ without session self.old }
+        ensures { self.new ≡ locks_without session self.old }
     {
         while let Some(_released) = self.release(session) {}
     }

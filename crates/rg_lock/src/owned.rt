@@ -1,4 +1,7 @@
-// The lists of the keys that sessions took, one for each number that a session can have.
+// The keys of each session's locks, in one list for each session number.
+// (1) A session's list has exactly the keys that it has locked, each once; so the end of a unit
+//     looks at its own locks only.
+// (2) A list keeps its room when a key is taken off.
 ghost use Rattle.std.specs.Prelude.{◌≡◌, ℕ, vec_len, [], OnOk, OnErr, IfOk, MatchOption};
 ghost use Rattle.rg_lock.specs.Owned.{keys_in, IsAppended, SameKeys};
 

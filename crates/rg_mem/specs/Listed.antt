@@ -16,7 +16,8 @@ call_of writes noted.Read = Read
 call_of writes (noted.Wrote set page at) = Wrote set page (slice_index_or writes at [])
 call_of writes noted.Synced = Synced
 call_of writes noted.FailedRead = FailedRead
-call_of writes (noted.FailedWrite set page at reads) = FailedWrite set page (slice_index_or writes at []) reads
+call_of writes (noted.FailedWrite set page at reads) =
+    FailedWrite set page (slice_index_or writes at []) reads
 call_of writes noted.FailedSync = FailedSync
 
 -- the calls, the newest first

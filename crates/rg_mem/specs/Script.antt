@@ -16,7 +16,8 @@ idle_answer = record { now = 0; estimate = 0; command = Nothing }
 
 -- the last line without its command
 abbrev pub last_without_command : List Answer → Answer
-last_without_command lines = record (slice_index_or lines (length lines - 1) idle_answer) { command = Nothing }
+last_without_command lines =
+    record (slice_index_or lines (length lines - 1) idle_answer) { command = Nothing }
 
 -- the answer after n others: the line there, or behind the lines the last one without its command
 abbrev pub answer_at : List Answer → ℕ → Answer
@@ -34,4 +35,5 @@ told_answers s = if nat_lt s.asks (2 ^ 64 - 1) then Some (answers_to s.lines s.a
 -- the changes last told to be left, told once it was asked and while the number of asks is below
 -- its type's end
 abbrev pub told_left : Script → Option ℕ
-told_left s = if s.asks == 0 then None else (if nat_lt s.asks (2 ^ 64 - 1) then Some s.left else None)
+told_left s =
+    if s.asks == 0 then None else (if nat_lt s.asks (2 ^ 64 - 1) then Some s.left else None)

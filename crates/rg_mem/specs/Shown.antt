@@ -1,9 +1,13 @@
--- What a volume in memory tells.
+-- What a volume in memory reports, and when its calls fail.
+-- (1) It reports its contents when it was made and all its calls, refused ones too.
+-- (2) A call fails if it is one of those that were to fail, or past the stop, or past the room.
+-- (3) A call past the room is refused whole, and so is every call after it.
 use Rattle.std.specs.Prelude.{ℕ, ◌+◌, ◌==◌, ◌&&◌, ◌||◌, not, is_some, find, vec_len, vec_capacity}
 use Rattle.std.specs.Prelude.{◌≡◌, ◌-◌, ◌^◌, nat_lt, Bool, true, false, List, [], ◌++◌, replicate}
 use Rattle.std.specs.Prelude.{length, refl, Option, Some, None, if◌then◌else◌}
 use Rattle.rg_base.specs.declared.set.Set.{Set}
 use Rattle.rg_outside.specs.Calls.{Image, Call, Read, Synced, FailedRead, FailedSync, Told, Refused}
+use Rattle.rg_outside.specs.Calls.{left_of}
 use Rattle.rg_outside.specs.Moments.{IfTold, SamePages}
 use Rattle.rg_outside.specs.Capacities.{Capacities}
 use Rattle.rg_mem.specs.Listed.{calls_of, image_of, write_call}
@@ -11,7 +15,11 @@ use Rattle.rg_mem.specs.declared.volume.Failing.{Failing}
 use Rattle.rg_mem.specs.declared.volume.MemVolume.{MemVolume}
 
 abbrev pub capacities_of : MemVolume → Capacities
-capacities_of m = record { log = length m.log.items; first = length m.first.items; second = length m.second.items }
+capacities_of m = record {
+  log = length m.log.items;
+  first = length m.first.items;
+  second = length m.second.items;
+}
 
 -- its contents when it was made, and its calls: those past the room were refused whole
 abbrev pub shown : MemVolume → Told
@@ -22,18 +30,25 @@ shown m = record {
   calls = replicate m.past Refused ++ calls_of m.writes.items m.calls.items;
 }
 
--- it tells no more once the counter of calls past the room stands at its end
+-- the contents that a crash may leave of a page, the oldest first
+abbrev pub contents_left : MemVolume → Set → ℕ → List (List ℕ)
+contents_left m set page = left_of (shown m).first (shown m).calls set page
+
+-- it reports no more once the counter of calls past the room stands at its end
 abbrev pub told_of : MemVolume → Option Told
 told_of m = if nat_lt m.past (2 ^ 64 - 1) then Some (shown m) else None
 
-own : (t : Bool) (m : MemVolume) → IfTold (if t then Some (shown m) else None) (λ told. told.capacities ≡ capacities_of m)
+own :
+    (t : Bool) (m : MemVolume)
+    → IfTold (if t then Some (shown m) else None) (λ told. told.capacities ≡ capacities_of m)
 own true m = refl
 own false m = tt
 
-pub own_capacities : (m : MemVolume) → IfTold (told_of m) (λ told. told.capacities ≡ capacities_of m)
+pub own_capacities :
+    (m : MemVolume) → IfTold (told_of m) (λ told. told.capacities ≡ capacities_of m)
 own_capacities m = own (nat_lt m.past (2 ^ 64 - 1)) m
 
--- it has no call yet, and tells
+-- it has no call yet, and is known
 pub record IsFresh (m : MemVolume) : Type 0 where
   pub told : told_of m ≡ Some (shown m)
   pub calls : (shown m).calls ≡ []
@@ -52,7 +67,9 @@ is_past (Some last) number = nat_lt last number
 abbrev pub fault_of : MemVolume → Option Failing
 fault_of m =
     let number = length m.calls.items + 1 in
-    if is_past m.stop number then Some (record { call = number; written = false }) else find (λ f. f.call == number) m.failing.items
+    if is_past m.stop number
+    then Some (record { call = number; written = false })
+    else find (λ f. f.call == number) m.failing.items
 
 abbrev pub has_room : MemVolume → Bool
 has_room m = m.past == 0 && nat_lt (vec_len m.calls) (vec_capacity m.calls)
@@ -63,7 +80,8 @@ fails m = not (has_room m) || is_some (fault_of m)
 
 -- the next write fails: likewise, or its bytes are past the room
 abbrev pub write_fails : MemVolume → Bool
-write_fails m = not (has_room m && nat_lt (vec_len m.writes) (vec_capacity m.writes)) || is_some (fault_of m)
+write_fails m =
+    not (has_room m && nat_lt (vec_len m.writes) (vec_capacity m.writes)) || is_some (fault_of m)
 
 -- what the next read, sync or write is told as
 abbrev pub next_read : MemVolume → Call
@@ -73,11 +91,15 @@ abbrev pub next_sync : MemVolume → Call
 next_sync m = if has_room m then (if is_some (fault_of m) then FailedSync else Synced) else Refused
 
 abbrev pub next_write : MemVolume → Set → ℕ → List ℕ → Call
-next_write m set page bytes = if has_room m && nat_lt (vec_len m.writes) (vec_capacity m.writes) then write_call set page bytes (fault_of m) else Refused
+next_write m set page bytes =
+    if has_room m && nat_lt (vec_len m.writes) (vec_capacity m.writes)
+    then write_call set page bytes (fault_of m)
+    else Refused
 
 -- It has room for so many calls and writes, and these calls are to fail: those numbers, and each
 -- past the stop.
-pub record Keeps (calls writes : ℕ) (failing : List Failing) (stop : Option ℕ) (m : MemVolume) : Type 0 where
+pub record Keeps (calls writes : ℕ) (failing : List Failing) (stop : Option ℕ) (m : MemVolume) :
+    Type 0 where
   pub call_room : vec_capacity m.calls ≡ calls
   pub write_room : vec_capacity m.writes ≡ writes
   pub to_fail : m.failing.items ≡ failing
@@ -85,4 +107,6 @@ pub record Keeps (calls writes : ℕ) (failing : List Failing) (stop : Option �
 
 -- the same as another
 abbrev pub KeepsAs : MemVolume → MemVolume → Type 0
-KeepsAs before m = Keeps (vec_capacity before.calls) (vec_capacity before.writes) before.failing.items before.stop m
+KeepsAs before m =
+    Keeps (vec_capacity before.calls) (vec_capacity before.writes) before.failing.items before.stop
+    m

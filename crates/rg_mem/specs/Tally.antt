@@ -22,4 +22,8 @@ next_fails t = list_any (λ k. k == count_after t.made) t.failing
 
 -- one more call was made, and was a fault or not
 abbrev pub after_call : Bool → Tally → Tally
-after_call is_fault t = record t { made = count_after t.made; faults = (if is_fault then count_after t.faults else t.faults) }
+after_call is_fault t =
+    record t {
+      made = count_after t.made;
+      faults = (if is_fault then count_after t.faults else t.faults);
+    }

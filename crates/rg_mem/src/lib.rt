@@ -1,6 +1,6 @@
-//! What stands outside the engine, as objects in memory whose states are told: a source and a sink
-//! whose calls fail where they are asked to, an operator with a script, and a volume of pages with
-//! its crashes.
+//! What stands outside the engine, in memory and with known states: a source and a sink that fail
+//! exactly at the call numbers they were configured with, an operator with a script, and a volume
+//! of pages with its crashes.
 #![tactic(auto)]
 
 // Which calls fail, and how many did.

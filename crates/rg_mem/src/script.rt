@@ -1,5 +1,5 @@
 ghost use Rattle.std.specs.Prelude.{◌≡◌, IfOk};
-ghost use Rattle.rg_outside.specs.Told.{Answers, Hands};
+ghost use Rattle.rg_outside.specs.Told.{AddsAnswer, HandsOver};
 ghost use Rattle.rg_mem.specs.Tally.{count_after};
 ghost use Rattle.rg_mem.specs.Script.{answer_at, told_answers, told_left};
 
@@ -28,7 +28,8 @@ impl Model for ScriptOperator {
 impl ScriptOperator {
     /// With no line it wants nothing, at moment 0 and with an estimate of 0.
     pub fn new(alloc: Global, lines: &[Answer]) -> Result<ScriptOperator, NoMemory>
-        ensures { IfOk result (λ operator. operator ≡ record { lines = lines.now; asks = 0; left = 0 }) }
+        ensures { IfOk result
+            (λ operator. operator ≡ record { lines = lines.now; asks = 0; left = 0 }) }
     {
         Ok(ScriptOperator {
             lines: Vec::from_slice(alloc, lines)?,
@@ -45,9 +46,10 @@ impl Operator for ScriptOperator {
 
     fn ask(&mut self, left: u64) -> Answer
         ensures answer { result ≡ answer_at self.old.lines self.old.asks }
-        ensures after { self.new ≡ record self.old { asks = count_after self.old.asks; left = left } }
-        ensures answered { Answers (told_answers self.old) result (told_answers self.new) }
-        ensures handed { Hands left (told_answers self.new) (told_left self.new) }
+        ensures after { self.new
+            ≡ record self.old { asks = count_after self.old.asks; left = left } }
+        ensures answered { AddsAnswer (told_answers self.old) result (told_answers self.new) }
+        ensures handed { HandsOver left (told_answers self.new) (told_left self.new) }
     {
         let answer = line_at(&self.lines, self.asks);
         self.left = left;

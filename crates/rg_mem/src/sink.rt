@@ -43,7 +43,7 @@ impl SureSink {
 impl Sink for SureSink {
     ghost use Rattle.std.specs.Prelude.{Some};
 
-    ghost held = { λ s. Some s };
+    ghost contents = { λ s. Some s };
 
     ghost faults = { λ _. 0 };
 
@@ -103,14 +103,16 @@ impl MemSink {
 impl Sink for MemSink {
     ghost use Rattle.std.specs.Prelude.{Some};
 
-    ghost held = { λ s. Some s.held };
+    ghost contents = { λ s. Some s.held };
 
     ghost faults = { λ s. s.calls.faults };
 
     fn give(&mut self, from: &[u8]) -> Result<usize, GiveFault>
         ensures failed { (result ≡ Err GiveFault.Failed) ↔ IsTrue (next_fails self.old.calls) }
-        ensures wanting { result ≡ Err GiveFault.NoMemory → 0 < min (length from.now) self.old.most }
-        ensures calls { self.new.calls ≡ after_call (is_give_fault (length from.now) result) self.old.calls }
+        ensures wanting { result ≡ Err GiveFault.NoMemory
+            → 0 < min (length from.now) self.old.most }
+        ensures calls { self.new.calls
+            ≡ after_call (is_give_fault (length from.now) result) self.old.calls }
         ensures later { self.old.calls.faults ≤ self.new.calls.faults }
 
         ensures count { IfOk result (λ n. n ≡ min (length from.now) self.old.most) }

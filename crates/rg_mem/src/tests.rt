@@ -165,7 +165,8 @@ fn take_whole(source: &mut MemSource, into: &mut [u8]) -> usize
 
 // What is known of one call by the trait alone.
 fn take_once<S: Source>(source: &mut S, into: &mut [u8]) -> Result<usize, Failed>
-    ensures taken { IfOk result (λ n. Consumes (S.left source.old) (S.left source.new) (take n into.new)) }
+    ensures taken { IfOk result
+        (λ n. Consumes (S.left source.old) (S.left source.new) (take n into.new)) }
     ensures cause { HasCause (S.faults source.old) (S.faults source.new) result }
 {
     source.take(into)

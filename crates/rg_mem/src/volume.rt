@@ -1,6 +1,7 @@
 ghost use Rattle.std.specs.Bool.{OnTrue, OnFalse};
 ghost use Rattle.std.specs.Prelude.{◌≡◌, ◌==◌, find, ℕ, ◌≤◌, ◌<◌, ◌^◌, ◌+◌, ◌-◌, []};
-ghost use Rattle.std.specs.Prelude.{slice_index_or, ◌∷◌, ◌++◌, length, All, IfOk, OnOk, OnErr, is_err};
+ghost use Rattle.std.specs.Prelude.{slice_index_or, ◌∷◌, ◌++◌, length, All, IfOk, OnOk, OnErr};
+ghost use Rattle.std.specs.Prelude.{is_err};
 ghost use Rattle.std.specs.Prelude.{IsTrue, vec_len, vec_capacity, if◌then◌else◌, ◌↔◌};
 ghost use Rattle.rg_mem.specs.Tally.{count_after};
 ghost use Rattle.rg_mem.specs.Listed.{writes_needed, noted_write, zero_page, pick_at};
@@ -57,6 +58,7 @@ impl MemVolume {
     ghost use Rattle.rg_mem.specs.Listed.{call_of, calls_of, image_of, write_call, content_at};
     ghost use Rattle.rg_mem.specs.Listed.{zero_page, pick_at, page_index};
     ghost use Rattle.rg_mem.specs.Shown.{capacities_of, shown, told_of, has_room, fault_of};
+    ghost use Rattle.rg_mem.specs.Shown.{contents_left};
     ghost use Rattle.rg_mem.specs.Shown.{IsFresh, HoldsPages, Keeps, KeepsAs};
 
     /// A volume of zero pages, with room for so many calls and writes. After `stop` calls all fail,
@@ -71,7 +73,8 @@ impl MemVolume {
         failing: &[Failing],
         stop: Option<u64>,
     ) -> Result<MemVolume, NoMemory>
-        ensures capacities { IfOk result (λ v. capacities_of v ≡ record { log = log; first = first; second = second }) }
+        ensures capacities { IfOk result
+            (λ v. capacities_of v ≡ record { log = log; first = first; second = second }) }
         ensures fresh { IfOk result IsFresh }
         ensures keeps { IfOk result (Keeps calls writes failing.now stop) }
         ensures zero { IfOk result (λ v. HoldsPages v (λ set page. zero_page)) }
@@ -95,8 +98,11 @@ impl MemVolume {
     pub fn crash(&self, pick: u64) -> Result<MemVolume, NoMemory>
         ensures capacities { IfOk result (λ v. capacities_of v ≡ capacities_of self.now) }
         ensures fresh { IfOk result IsFresh }
-        ensures keeps { IfOk result (Keeps (vec_capacity self.now.calls) (vec_capacity self.now.writes) [] None) }
-        ensures picked { IfOk result (λ v. HoldsPages v (λ set page. content_at (left_of (shown self.now).first (shown self.now).calls set page) (pick + page))) }
+        ensures keeps { IfOk result
+            (Keeps (vec_capacity self.now.calls) (vec_capacity self.now.writes) [] None) }
+        ensures picked { IfOk result
+            (λ v. HoldsPages v (λ set page.
+            content_at (contents_left self.now set page) (pick + page))) }
         ensures image { IfOk result (λ v. IsImage (shown self.now) (shown v).first) }
     {
         let alloc = *self.calls.allocator();
@@ -113,17 +119,18 @@ impl MemVolume {
         })
     }
 
-    /// What a crash leaves: a volume of the same room without failing calls. The pages of set Log, of
-    /// First and of Second stand in this order, and the n-th of them holds, of the contents that a
-    /// crash may leave it, numbered from 0 with the oldest first, the one numbered by the n-th of
-    /// `picks`, counted round. A page without a pick holds the oldest. So each image that a crash may
-    /// leave comes of some picks.
+    /// What a crash leaves: a volume of the same room without failing calls. The pages of set Log,
+    /// of First and of Second stand in this order, and the n-th of them holds, of the contents that
+    /// a crash may leave it, numbered from 0 with the oldest first, the one numbered by the n-th of
+    /// `picks`, counted round. A page without a pick holds the oldest. So each image that a crash
+    /// may leave comes of some picks.
     pub fn crash_with(&self, picks: &[u64]) -> Result<MemVolume, NoMemory>
         ensures capacities { IfOk result (λ v. capacities_of v ≡ capacities_of self.now) }
         ensures fresh { IfOk result IsFresh }
-        ensures keeps { IfOk result (Keeps (vec_capacity self.now.calls) (vec_capacity self.now.writes) [] None) }
+        ensures keeps { IfOk result
+            (Keeps (vec_capacity self.now.calls) (vec_capacity self.now.writes) [] None) }
         ensures picked { IfOk result (λ v. HoldsPages v (λ set page.
-            content_at (left_of (shown self.now).first (shown self.now).calls set page)
+            content_at (contents_left self.now set page)
             (pick_at picks.now (page_index (capacities_of self.now) set page)))) }
         ensures image { IfOk result (λ v. IsImage (shown self.now) (shown v).first) }
     {
@@ -152,10 +159,13 @@ impl MemVolume {
         start: usize,
     ) -> Result<Vec<Page>, NoMemory>
         requires { start < 2 ^ 33 }
-        ensures len { IfOk result (λ pages. length pages.items ≡ capacity_of (capacities_of self.now) set) }
+        ensures len { IfOk result
+            (λ pages. length pages.items ≡ capacity_of (capacities_of self.now) set) }
         ensures whole { IfOk result (λ pages. All (λ page. length page ≡ 4096) pages.items) }
         ensures each { IfOk result (λ pages. (page : ℕ) → IsPage (capacities_of self.now) set page →
-            slice_index_or pages.items (page - 1) [] ≡ content_at (left_of (shown self.now).first (shown self.now).calls set page) (pick_at picks.now (start + (page - 1)))) }
+            slice_index_or pages.items (page - 1) []
+            ≡ content_at (contents_left self.now set page)
+            (pick_at picks.now (start + (page - 1)))) }
     {
         let mut pages = Vec::new(alloc);
         for n in 0..self.capacity(set) {
@@ -167,10 +177,12 @@ impl MemVolume {
 
     // The pages of a set that a crash leaves.
     fn picked(&self, alloc: Global, set: Set, pick: u64) -> Result<Vec<Page>, NoMemory>
-        ensures len { IfOk result (λ pages. length pages.items ≡ capacity_of (capacities_of self.now) set) }
+        ensures len { IfOk result
+            (λ pages. length pages.items ≡ capacity_of (capacities_of self.now) set) }
         ensures whole { IfOk result (λ pages. All (λ page. length page ≡ 4096) pages.items) }
         ensures each { IfOk result (λ pages. (page : ℕ) → IsPage (capacities_of self.now) set page →
-            slice_index_or pages.items (page - 1) [] ≡ content_at (left_of (shown self.now).first (shown self.now).calls set page) (pick + page)) }
+            slice_index_or pages.items (page - 1) []
+            ≡ content_at (contents_left self.now set page) (pick + page)) }
     {
         let mut pages = Vec::new(alloc);
         for n in 0..self.capacity(set) {
@@ -183,7 +195,8 @@ impl MemVolume {
     // Of the contents that a crash may leave a page, the one with this number, counted round.
     fn pick(&self, alloc: Global, set: Set, page: u32, number: u128) -> Result<Page, NoMemory>
         requires { IsPage (capacities_of self.now) set page }
-        ensures { IfOk result (λ bytes. bytes ≡ content_at (left_of (shown self.now).first (shown self.now).calls set page) number) }
+        ensures { IfOk result
+            (λ bytes. bytes ≡ content_at (contents_left self.now set page) number) }
     {
         let left = self.left(alloc, set, page)?;
         let n = number % left.len() as u128;
@@ -193,7 +206,9 @@ impl MemVolume {
     // The page as it reads: the newest write that a read gives, or the content from the beginning.
     fn content(&self, set: Set, page: u32) -> &Page
         requires { IsPage (capacities_of self.now) set page }
-        ensures { result.now ≡ read_of (image_of self.now.log.items self.now.first.items self.now.second.items) (calls_of self.now.writes.items self.now.calls.items) set page }
+        ensures { result.now
+            ≡ read_of (image_of self.now.log.items self.now.first.items self.now.second.items)
+            (calls_of self.now.writes.items self.now.calls.items) set page }
     {
         let mut n = self.calls.len();
         while n > 0 {
@@ -227,7 +242,9 @@ impl MemVolume {
     // The contents that a crash may leave a page, the oldest first.
     fn left(&self, alloc: Global, set: Set, page: u32) -> Result<Vec<Page>, NoMemory>
         requires { IsPage (capacities_of self.now) set page }
-        ensures left { IfOk result (λ left. left.items ≡ left_of (image_of self.now.log.items self.now.first.items self.now.second.items) (calls_of self.now.writes.items self.now.calls.items) set page) }
+        ensures left { IfOk result (λ left. left.items ≡ left_of
+            (image_of self.now.log.items self.now.first.items self.now.second.items)
+            (calls_of self.now.writes.items self.now.calls.items) set page) }
         ensures some { IfOk result (λ left. 0 < vec_len left) }
     {
         let mut read = match set {
@@ -253,8 +270,13 @@ impl MemVolume {
         read: &mut Page,
     ) -> Result<(), NoMemory>
         requires { writes_needed call.now ≤ length self.now.writes.items }
-        ensures left { OnOk result (left.new.items ≡ left_after (effect_of (call_of self.now.writes.items call.now)) left.old.items read.old set page) }
-        ensures read { OnOk result (read.new ≡ read_after (effect_of (call_of self.now.writes.items call.now)) read.old set page) }
+        ensures left { OnOk result
+            (left.new.items
+            ≡ left_after (effect_of (call_of self.now.writes.items call.now)) left.old.items
+            read.old set page) }
+        ensures read { OnOk result
+            (read.new
+            ≡ read_after (effect_of (call_of self.now.writes.items call.now)) read.old set page) }
     {
         match call {
             Noted::Wrote {
@@ -293,7 +315,8 @@ impl MemVolume {
 
     // There is room for one more call.
     fn has_room(&self) -> bool
-        ensures room { IsTrue result ↔ ((self.now.past ≡ 0) × (vec_len self.now.calls < vec_capacity self.now.calls)) }
+        ensures room { IsTrue result
+            ↔ ((self.now.past ≡ 0) × (vec_len self.now.calls < vec_capacity self.now.calls)) }
         ensures value { result ≡ has_room self.now }
     {
         self.past == 0 && self.calls.len() < self.calls.capacity()
@@ -318,7 +341,8 @@ impl MemVolume {
         requires past { self.old.past ≡ 0 }
         requires room { vec_len self.old.calls < vec_capacity self.old.calls }
         requires there { writes_needed call ≤ length self.old.writes.items }
-        ensures made { Made (told_of self.old) (call_of self.old.writes.items call) (told_of self.new) }
+        ensures made { Made (told_of self.old) (call_of self.old.writes.items call)
+            (told_of self.new) }
         ensures capacities { capacities_of self.new ≡ capacities_of self.old }
         ensures keeps { KeepsAs self.old self.new }
         ensures faults { self.new.faults ≡ self.old.faults }
@@ -331,7 +355,8 @@ impl MemVolume {
         requires past { self.old.past ≡ 0 }
         requires room { vec_len self.old.calls < vec_capacity self.old.calls }
         requires write_room { vec_len self.old.writes < vec_capacity self.old.writes }
-        ensures made { Made (told_of self.old) (write_call set page from.now fault) (told_of self.new) }
+        ensures made { Made (told_of self.old) (write_call set page from.now fault)
+            (told_of self.new) }
         ensures capacities { capacities_of self.new ≡ capacities_of self.old }
         ensures keeps { KeepsAs self.old self.new }
         ensures faults { self.new.faults ≡ self.old.faults }
@@ -396,11 +421,13 @@ impl Volume for MemVolume {
         requires { IsPage (capacities_of self.old) set page }
         ensures call { Made (told_of self.old) (next_read self.old) (told_of self.new) }
         ensures made { MadeRead result (told_of self.old) (told_of self.new) }
-        ensures content { OnOk result (IfTold (told_of self.new) (λ t. into.new ≡ read_of t.first t.calls set page)) }
+        ensures content { OnOk result
+            (IfTold (told_of self.new) (λ t. into.new ≡ read_of t.first t.calls set page)) }
         ensures kept { OnErr result (into.new ≡ into.old) }
         ensures capacities { capacities_of self.new ≡ capacities_of self.old }
         ensures keeps { KeepsAs self.old self.new }
-        ensures count { self.new.faults ≡ (if is_err result then count_after self.old.faults else self.old.faults) }
+        ensures count { self.new.faults
+            ≡ (if is_err result then count_after self.old.faults else self.old.faults) }
         ensures cause { HasCause self.old.faults self.new.faults result }
         ensures exact { is_err result ≡ fails self.old }
     {
@@ -420,11 +447,13 @@ impl Volume for MemVolume {
 
     fn write(&mut self, set: Set, page: u32, from: &Page) -> Result<(), Failed>
         requires { IsPage (capacities_of self.old) set page }
-        ensures call { Made (told_of self.old) (next_write self.old set page from.now) (told_of self.new) }
+        ensures call { Made (told_of self.old) (next_write self.old set page from.now)
+            (told_of self.new) }
         ensures made { MadeWrite result (told_of self.old) set page from.now (told_of self.new) }
         ensures capacities { capacities_of self.new ≡ capacities_of self.old }
         ensures keeps { KeepsAs self.old self.new }
-        ensures count { self.new.faults ≡ (if is_err result then count_after self.old.faults else self.old.faults) }
+        ensures count { self.new.faults
+            ≡ (if is_err result then count_after self.old.faults else self.old.faults) }
         ensures cause { HasCause self.old.faults self.new.faults result }
         ensures exact { is_err result ≡ write_fails self.old }
     {
@@ -446,7 +475,8 @@ impl Volume for MemVolume {
         ensures made { MadeSync result (told_of self.old) (told_of self.new) }
         ensures capacities { capacities_of self.new ≡ capacities_of self.old }
         ensures keeps { KeepsAs self.old self.new }
-        ensures count { self.new.faults ≡ (if is_err result then count_after self.old.faults else self.old.faults) }
+        ensures count { self.new.faults
+            ≡ (if is_err result then count_after self.old.faults else self.old.faults) }
         ensures cause { HasCause self.old.faults self.new.faults result }
         ensures exact { is_err result ≡ fails self.old }
     {
@@ -471,7 +501,8 @@ impl Volume for MemVolume {
 fn zero_pages(alloc: Global, count: u32) -> Result<Vec<Page>, NoMemory>
     ensures len { IfOk result (λ pages. length pages.items ≡ count) }
     ensures whole { IfOk result (λ pages. All (λ page. length page ≡ 4096) pages.items) }
-    ensures zero { IfOk result (λ pages. (n : ℕ) → n < count → slice_index_or pages.items n [] ≡ zero_page) }
+    ensures zero { IfOk result
+        (λ pages. (n : ℕ) → n < count → slice_index_or pages.items n [] ≡ zero_page) }
 {
     let mut pages = Vec::new(alloc);
     for _ in 0..count {

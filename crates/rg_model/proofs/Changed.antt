@@ -6,13 +6,13 @@ use Rattle.std.specs.Option.{is_some}
 use Rattle.std.specs.Ordering.{nat_cmp, eq_by_cmp}
 use Rattle.std.proofs.lemmas.Cmp.{nat_cmp_total}
 use Rattle.std.proofs.lemmas.Bool.Decides.{nat_tests}
-use Rattle.rg_base.specs.Retained.{passes, retained}
-use Rattle.rg_base.specs.declared.kept.Kept.{Kept}
+use Rattle.rg_base.specs.Retained.{passes, retain_entries}
+use Rattle.rg_base.specs.declared.lock.Lock.{Lock}
 use Rattle.rg_base.specs.declared.session.Class.{Class}
 use Rattle.rg_base.specs.declared.session.Class.TheVariants.{Reader}
 use Rattle.rg_base.specs.declared.session.Session.{Session}
 use Rattle.rg_model.specs.Claims.{claim_with}
-use Rattle.rg_model.specs.Committed.{without}
+use Rattle.rg_model.specs.Committed.{locks_without}
 use Rattle.rg_model.specs.Held.{is_others}
 use Rattle.rg_model.specs.State.{Claims, Locks}
 use Rattle.rg_model.proofs.Overlay.{key_of}
@@ -81,10 +81,10 @@ claim-held claims k there = same_map nat_cmp_total nat_cmp-IsAntisymmetric _ cla
     (λ q. get-insert nat_cmp_total claims k (claim_with (map.get claims k) Reader) q
     ∙ at_claim (map.get claims k) (map.get claims q) (eq_by_cmp nat_cmp q k) there (λ e. ap (map.get claims) (key_of q k e)))
 
-owned : (session : Session) (key : ℕ) (found : Option Kept) → passes (λ _ kept. not (kept.owner.0 == session.0)) key found ≡ is_others session found
+owned : (session : Session) (key : ℕ) (found : Option Lock) → passes (λ _ kept. not (kept.owner.0 == session.0)) key found ≡ is_others session found
 owned session key None = refl
 owned session key (Some kept) = refl
 
 -- the locks that another session owns are those of the others
-pub retained-others : (session : Session) (locks : Locks) → retained (λ _ kept. not (kept.owner.0 == session.0)) locks ≡ without session locks
+pub retained-others : (session : Session) (locks : Locks) → retain_entries (λ _ kept. not (kept.owner.0 == session.0)) locks ≡ locks_without session locks
 retained-others session locks = λ i. map.retain_keys locks (λ key. owned session key (map.get locks key) i)

@@ -82,25 +82,25 @@ module _
     (one : map.get table 1 ≡ Some (row 1 20 1 97))
     (two : map.get table 2 ≡ Some (row 2 10 2 98))
     (three : map.get table 3 ≡ Some (row 3 10 1 99))
-    where
-  abbrev st : State
-  st = record (at_rest table 1) { claims = claims }
+  where
+    abbrev st : State
+    st = record (at_rest table 1) { claims = claims }
 
-  clustering_restored : is_right_switch past st options (record { old = old; new = clustered }) ≡ true
-  clustering_restored = rw (rows, one, two, three, unclaimed) refl
+    clustering_restored : is_right_switch past st options (record { old = old; new = clustered }) ≡ true
+    clustering_restored = rw (rows, one, two, three, unclaimed) refl
 
-  -- the order in which the rows were unloaded is refused, also where another key changed since
-  unload_order_kept : is_right_switch past st options (record { old = old; new = old }) ≡ false
-  unload_order_kept = rw (rows, one, two, three, unclaimed) refl
+    -- the order in which the rows were unloaded is refused, also where another key changed since
+    unload_order_kept : is_right_switch past st options (record { old = old; new = old }) ≡ false
+    unload_order_kept = rw (rows, one, two, three, unclaimed) refl
 
-  unload_order_kept_beside_a_writer : is_right_switch busy st options (record { old = old; new = old }) ≡ false
-  unload_order_kept_beside_a_writer = rw (rows, one, two, three, unclaimed) refl
+    unload_order_kept_beside_a_writer : is_right_switch busy st options (record { old = old; new = old }) ≡ false
+    unload_order_kept_beside_a_writer = rw (rows, one, two, three, unclaimed) refl
 
-  -- an index that lists an earlier value is refused
-  stale_index_entry : is_right_switch past st options
-      (record { old = old; new = record clustered { cats = (1, place 1) ∷ (1, place 2) ∷ (3, place 0) ∷ [] } }) ≡ false
-  stale_index_entry = rw (rows, one, two, three) refl
+    -- an index that lists an earlier value is refused
+    stale_index_entry : is_right_switch past st options
+        (record { old = old; new = record clustered { cats = (1, place 1) ∷ (1, place 2) ∷ (3, place 0) ∷ [] } }) ≡ false
+    stale_index_entry = rw (rows, one, two, three) refl
 
-  -- so is a layout whose indexes list nothing
-  no_listings : state_shown st 1 (record old { keys = []; cluses = []; cats = [] }) ≡ None
-  no_listings = rw (rows, one, two, three) refl
+    -- so is a layout whose indexes list nothing
+    no_listings : state_shown st 1 (record old { keys = []; cluses = []; cats = [] }) ≡ None
+    no_listings = rw (rows, one, two, three) refl

@@ -30,14 +30,40 @@ trace =
     ∷ now (events.Build Key) ∷ now (events.Build Clus) ∷ now (events.Build Cat)
     ∷ step (answer 40 10 Nothing) (events.Log 1 0 0 Next)
     ∷ step (answer 40 10 (Alter (record { maxro = Some (Within 10); longlog = None; delay = None; deadline = None })))
-        (events.Log 2 0 0 (Drain Writers))
+    (events.Log 2 0 0 (Drain Writers))
     ∷ step (answer 41 10 Nothing) (events.Stop reasons.Deadline)
     ∷ []
 
 deadline_and_alter : Run [] (at_rest map.empty 1) trace (at_rest map.empty 1)
-deadline_and_alter =
-    (_, refl, (_, refl, (_, refl, (_, refl, (_, refl, (_, refl, (_, refl,
-    (_, refl, (_, refl, (_, refl, refl))))))))))
+deadline_and_alter = (
+  _,
+  refl,
+  (
+    _,
+    refl,
+    (
+      _,
+      refl,
+      (
+        _,
+        refl,
+        (
+          _,
+          refl,
+          (
+            _,
+            refl,
+            (
+              _,
+              refl,
+              (_, refl, (_, refl, (_, refl, refl))),
+            ),
+          ),
+        ),
+      ),
+    ),
+  ),
+)
 
 -- a second control statement finds the first running, and TERM ends that
 abbrev active : List Entry

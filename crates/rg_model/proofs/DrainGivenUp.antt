@@ -89,13 +89,36 @@ module _ (table : model.Table) (claims : model.Claims) (reads : map.entries clai
 
   drain_given_up : Run before (state (Granted Writers) (numbers 1 0 None 0 0 true false)) trace
       (stop_utility (state Free (numbers 3 7 (Some 5) 1 1 true true)))
-  drain_given_up =
-      (state (Asked All) (numbers 1 0 None 0 1 true true), refl,
-      (state (Asked All) (numbers 1 0 None 0 1 true true), waits,
-      (state Free (numbers 2 0 (Some 5) 1 1 false false), gives_up,
-      (state Free (numbers 3 0 (Some 5) 1 1 false false), refl,
-      (state (Asked Writers) (numbers 3 7 (Some 5) 1 1 false false), refl,
-      (state (Granted Writers) (numbers 3 7 (Some 5) 1 1 false false), grants,
-      (state (Granted Writers) (numbers 3 7 (Some 5) 1 1 true false), refl,
-      (state (Asked All) (numbers 3 7 (Some 5) 1 1 true true), refl,
-      (stop_utility (state Free (numbers 3 7 (Some 5) 1 1 true true)), stops, refl)))))))))
+  drain_given_up = (
+    state (Asked All) (numbers 1 0 None 0 1 true true),
+    refl,
+    (
+      state (Asked All) (numbers 1 0 None 0 1 true true),
+      waits,
+      (
+        state Free (numbers 2 0 (Some 5) 1 1 false false),
+        gives_up,
+        (
+          state Free (numbers 3 0 (Some 5) 1 1 false false),
+          refl,
+          (
+            state (Asked Writers) (numbers 3 7 (Some 5) 1 1 false false),
+            refl,
+            (
+              state (Granted Writers) (numbers 3 7 (Some 5) 1 1 false false),
+              grants,
+              (
+                state (Granted Writers) (numbers 3 7 (Some 5) 1 1 true false),
+                refl,
+                (
+                  state (Asked All) (numbers 3 7 (Some 5) 1 1 true true),
+                  refl,
+                  (stop_utility (state Free (numbers 3 7 (Some 5) 1 1 true true)), stops, refl),
+                ),
+              ),
+            ),
+          ),
+        ),
+      ),
+    ),
+  )

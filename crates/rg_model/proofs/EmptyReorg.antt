@@ -86,14 +86,51 @@ ended = (at_rest map.empty 2, refl, (at_rest map.empty 2, refl, refl))
 from_drain : Run drained (state 1 (Asked Writers) false false false)
     (now (events.Granted Writers) ∷ now (events.Last 0 0) ∷ now (events.Written 0) ∷ now (events.Granted All)
     ∷ now (events.Switched 2 sides) ∷ now events.Ended ∷ line events.Idle ∷ []) (at_rest map.empty 2)
-from_drain =
-    (state 1 (Granted Writers) false false false, granted_writers,
-    (state 1 (Granted Writers) true false false, refl,
-    (state 1 (Asked All) true true false, refl,
-    (state 1 (Granted All) true true false, granted_all,
-    (state 2 Free true true true, switched, ended)))))
+from_drain = (
+  state 1 (Granted Writers) false false false,
+  granted_writers,
+  (
+    state 1 (Granted Writers) true false false,
+    refl,
+    (
+      state 1 (Asked All) true true false,
+      refl,
+      (
+        state 1 (Granted All) true true false,
+        granted_all,
+        (state 2 Free true true true, switched, ended),
+      ),
+    ),
+  ),
+)
 
 empty_reorg : Run [] (at_rest map.empty 1) trace (at_rest map.empty 2)
-empty_reorg =
-    (_, refl, (_, refl, (_, refl, (_, refl, (_, refl, (_, refl, (_, refl,
-    (state 1 (Asked Writers) false false false, refl, from_drain))))))))
+empty_reorg = (
+  _,
+  refl,
+  (
+    _,
+    refl,
+    (
+      _,
+      refl,
+      (
+        _,
+        refl,
+        (
+          _,
+          refl,
+          (
+            _,
+            refl,
+            (
+              _,
+              refl,
+              (state 1 (Asked Writers) false false false, refl, from_drain),
+            ),
+          ),
+        ),
+      ),
+    ),
+  ),
+)

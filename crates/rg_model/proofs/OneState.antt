@@ -7,7 +7,7 @@ use Rattle.rg_stmt.specs.declared.event.Entry.{Entry}
 use Rattle.rg_stmt.specs.declared.event.Event.{Event}
 use Rattle.rg_stmt.specs.declared.event.Event.TheVariants.{Opened}
 use Rattle.std.specs.FinMap as fin
-use Rattle.rg_model.specs.Committed.{committed}
+use Rattle.rg_model.specs.Committed.{committed_table}
 use Rattle.rg_model.specs.Possible.{tables_left, is_copy_left, states_opened, next_state, one_state, states_after}
 use Rattle.rg_model.specs.State.{State, Table, at_rest}
 
@@ -23,7 +23,7 @@ one_opened : (st : State) (copy rows : ℕ) → st.doubt ≡ None → length (st
 one_opened st copy rows sure =
     let states : List Table → List State = λ tables. map (λ table. at_rest table copy) (filter (λ table. fin.len table == rows) tables) in
     these_or_none (is_copy_left st copy) _
-    (subst (λ doubt. length (states (tables_left st doubt)) ≤ 1) (sym sure) (map_one (λ table. at_rest table copy) (fin.len (committed st) == rows) (committed st)))
+    (subst (λ doubt. length (states (tables_left st doubt)) ≤ 1) (sym sure) (map_one (λ table. at_rest table copy) (fin.len (committed_table st) == rows) (committed_table st)))
 
 one_at_most : (next : Option State) → length (one_state next) ≤ 1
 one_at_most None = omega arith

@@ -61,56 +61,70 @@ module _
     (locks : model.Locks)
     (claims : model.Claims)
     (writes : map.entries claims ≡ (1, Writer) ∷ [])
-    where
-  has_claim : map.contains_key claims 1 ≡ true
-  has_claim = rw (get-entries claims 1, writes) refl
+  where
+    has_claim : map.contains_key claims 1 ≡ true
+    has_claim = rw (get-entries claims 1, writes) refl
 
-  one_claim : map.len claims ≡ 1
-  one_claim = map.len-entries claims ∙ ap length writes
+    one_claim : map.len claims ≡ 1
+    one_claim = map.len-entries claims ∙ ap length writes
 
-  -- the claim went with the unit
-  no_claims : map.entries (map.remove claims 1) ≡ []
-  no_claims =
-      no_items _
-      (sym (map.len-entries (map.remove claims 1))
-      ∙ len-remove nat_cmp_total claims 1
-      ∙ ap (λ (b : Bool). cond b (map.len claims - 1) (map.len claims)) has_claim
-      ∙ ap (λ n. n - 1) one_claim)
+    -- the claim went with the unit
+    no_claims : map.entries (map.remove claims 1) ≡ []
+    no_claims =
+        no_items _
+        (sym (map.len-entries (map.remove claims 1))
+        ∙ len-remove nat_cmp_total claims 1
+        ∙ ap (λ (b : Bool). cond b (map.len claims - 1) (map.len claims)) has_claim
+        ∙ ap (λ n. n - 1) one_claim)
 
-  abbrev before : DrainState → model.Utility → State
-  before drain utility = beside table locks claims drain utility
+    abbrev before : DrainState → model.Utility → State
+    before drain utility = beside table locks claims drain utility
 
-  abbrev after : DrainState → model.Utility → State
-  after drain utility = after_rollback (before drain utility) (session 1)
+    abbrev after : DrainState → model.Utility → State
+    after drain utility = after_rollback (before drain utility) (session 1)
 
-  waits : next_state past (Some (at 0)) Utility (events.Wait (session 1)) (before (Asked Writers) (numbers 0 0 0 false false))
-      ≡ Some (before (Asked Writers) (numbers 0 0 0 false false))
-  waits = rw writes refl
+    waits : next_state past (Some (at 0)) Utility (events.Wait (session 1)) (before (Asked Writers) (numbers 0 0 0 false false))
+        ≡ Some (before (Asked Writers) (numbers 0 0 0 false false))
+    waits = rw writes refl
 
-  grants : next_state waited (Some (at 0)) Utility (events.Granted Writers) (after (Asked Writers) (numbers 0 0 0 false false))
-      ≡ Some (after (Granted Writers) (numbers 0 0 0 false false))
-  grants = rw no_claims refl
+    grants : next_state waited (Some (at 0)) Utility (events.Granted Writers) (after (Asked Writers) (numbers 0 0 0 false false))
+        ≡ Some (after (Granted Writers) (numbers 0 0 0 false false))
+    grants = rw no_claims refl
 
-  grants_all : next_state written (Some (at 0)) Utility (events.Granted All) (after (Asked All) (numbers 1 1 1 true true))
-      ≡ Some (after (Granted All) (numbers 1 1 1 true true))
-  grants_all = rw no_claims refl
+    grants_all : next_state written (Some (at 0)) Utility (events.Granted All) (after (Asked All) (numbers 1 1 1 true true))
+        ≡ Some (after (Granted All) (numbers 1 1 1 true true))
+    grants_all = rw no_claims refl
 
-  abbrev trace : List Entry
-  trace =
-      step (at 0) (events.Wait (session 1))
-      ∷ said 1 Rollback Done
-      ∷ step (at 0) (events.Granted Writers)
-      ∷ step (at 0) (events.Last 1 0)
-      ∷ step (at 0) (events.Written 1)
-      ∷ step (at 0) (events.Granted All)
-      ∷ []
+    abbrev trace : List Entry
+    trace =
+        step (at 0) (events.Wait (session 1))
+        ∷ said 1 Rollback Done
+        ∷ step (at 0) (events.Granted Writers)
+        ∷ step (at 0) (events.Last 1 0)
+        ∷ step (at 0) (events.Written 1)
+        ∷ step (at 0) (events.Granted All)
+        ∷ []
 
-  rollback_under_the_drain : Run past (before (Asked Writers) (numbers 0 0 0 false false)) trace
-      (after (Granted All) (numbers 1 1 1 true true))
-  rollback_under_the_drain =
-      (before (Asked Writers) (numbers 0 0 0 false false), waits,
-      (after (Asked Writers) (numbers 0 0 0 false false), (refl, refl, (refl, refl)),
-      (after (Granted Writers) (numbers 0 0 0 false false), grants,
-      (after (Granted Writers) (numbers 1 1 0 true false), refl,
-      (after (Asked All) (numbers 1 1 1 true true), refl,
-      (after (Granted All) (numbers 1 1 1 true true), grants_all, refl))))))
+    rollback_under_the_drain : Run past (before (Asked Writers) (numbers 0 0 0 false false)) trace
+        (after (Granted All) (numbers 1 1 1 true true))
+    rollback_under_the_drain = (
+      before (Asked Writers) (numbers 0 0 0 false false),
+      waits,
+      (
+        after (Asked Writers) (numbers 0 0 0 false false),
+        (refl, refl, (refl, refl)),
+        (
+          after (Granted Writers) (numbers 0 0 0 false false),
+          grants,
+          (
+            after (Granted Writers) (numbers 1 1 0 true false),
+            refl,
+            (
+              after (Asked All) (numbers 1 1 1 true true),
+              refl,
+              (after (Granted All) (numbers 1 1 1 true true), grants_all, refl),
+            ),
+          ),
+        ),
+      ),
+    )

@@ -16,10 +16,10 @@ use Rattle.rg_stmt.specs.declared.stmt.Reply.{Reply}
 use Rattle.rg_stmt.specs.declared.stmt.Reply.TheVariants.{Done, Found, Listed, Keyed, Absent, Duplicate, Held, Victim, Drained, Full, LogFull, Device, Down, NoMemory}
 use Rattle.rg_stmt.specs.declared.stmt.Stmt.{Stmt}
 use Rattle.rg_model.specs.Claims.{is_drained}
-use Rattle.rg_model.specs.Plain.{plain_reply, answered, is_done}
+use Rattle.rg_model.specs.Plain.{plain_reply, after_answer, is_done}
 use Rattle.rg_model.specs.Possible.{tables_left, states_opened, next_state, one_state, states_after, states_from, states_before, possible}
-use Rattle.rg_model.specs.Run.{Answers, Says, Reopens, Allows, Run}
-use Rattle.rg_model.specs.Said.{chosen, may_want_room, may_want_log, state_answered, state_admitted, state_said}
+use Rattle.rg_model.specs.Run.{MayAnswer, Says, Reopens, Allows, Run}
+use Rattle.rg_model.specs.Said.{if_allowed, may_want_room, may_want_log, state_answered, state_admitted, state_said}
 use Rattle.rg_model.specs.Same.{same_list, same_number, same_row, same_reply}
 use Rattle.rg_model.specs.State.{State, Table, at_rest}
 use Rattle.rg_model.proofs.Members.{only_one, Contains-map_filter, Contains-flat_map}
@@ -50,7 +50,7 @@ same_reply-refl Device = refl
 same_reply-refl Down = refl
 same_reply-refl NoMemory = refl
 
-is_chosen : (b : Bool) (st new : State) → b ≡ true → new ≡ st → chosen b st ≡ Some new
+is_chosen : (b : Bool) (st new : State) → b ≡ true → new ≡ st → if_allowed b st ≡ Some new
 is_chosen b st new passes e = rw (passes, e) refl
 
 both : (a b : Bool) → a ≡ true → b ≡ true → (a && b) ≡ true
@@ -59,11 +59,11 @@ both a b e f = rw e f
 same_as : (reply plain : Reply) → reply ≡ plain → same_reply reply plain ≡ true
 same_as reply plain e = ap (same_reply reply) (sym e) ∙ same_reply-refl reply
 
-as_plain : (st new : State) (session : Session) (stmt : Stmt) (reply : Reply) → (reply ≡ plain_reply st session stmt) × (new ≡ answered st session stmt reply)
-    → chosen (same_reply reply (plain_reply st session stmt)) (answered st session stmt reply) ≡ Some new
+as_plain : (st new : State) (session : Session) (stmt : Stmt) (reply : Reply) → (reply ≡ plain_reply st session stmt) × (new ≡ after_answer st session stmt reply)
+    → if_allowed (same_reply reply (plain_reply st session stmt)) (after_answer st session stmt reply) ≡ Some new
 as_plain st new session stmt reply a = is_chosen _ _ new (same_as reply (plain_reply st session stmt) a.0) a.1
 
-answers_is : (st new : State) (session : Session) (stmt : Stmt) (reply : Reply) → Answers st session stmt reply new → state_answered st session stmt reply ≡ Some new
+answers_is : (st new : State) (session : Session) (stmt : Stmt) (reply : Reply) → MayAnswer st session stmt reply new → state_answered st session stmt reply ≡ Some new
 answers_is st new session stmt NoMemory a = is_chosen _ st new a.0 a.1
 answers_is st new session stmt (Victim owner) a = is_chosen _ _ new (same_as (Held owner) (plain_reply st session stmt) (sym a.0)) a.1
 answers_is st new session stmt (Full need) a = is_chosen _ st new (both (may_want_room stmt) (is_done (plain_reply st session stmt)) a.0 a.1) a.2
@@ -79,21 +79,21 @@ answers_is st new session stmt Absent a = as_plain st new session stmt Absent a
 answers_is st new session stmt Duplicate a = as_plain st new session stmt Duplicate a
 answers_is st new session stmt (Held owner) a = as_plain st new session stmt (Held owner) a
 
-admitted_is : (st new : State) (session : Session) (stmt : Stmt) (reply : Reply) → st.down ≡ false → is_drained st session stmt ≡ false → Answers st session stmt reply new
+admitted_is : (st new : State) (session : Session) (stmt : Stmt) (reply : Reply) → st.down ≡ false → is_drained st session stmt ≡ false → MayAnswer st session stmt reply new
     → state_said st session stmt reply ≡ Some new
 admitted_is st new session stmt reply up free a =
-    ap (λ (b : Bool). if b then chosen (same_reply reply Down) st else state_admitted st session stmt reply) up
-    ∙ ap (λ (b : Bool). if b then chosen (same_reply reply Drained) st else state_answered st session stmt reply) free
+    ap (λ (b : Bool). if b then if_allowed (same_reply reply Down) st else state_admitted st session stmt reply) up
+    ∙ ap (λ (b : Bool). if b then if_allowed (same_reply reply Drained) st else state_answered st session stmt reply) free
     ∙ answers_is st new session stmt reply a
 
 drained_is : (st new : State) (session : Session) (stmt : Stmt) → st.down ≡ false → is_drained st session stmt ≡ true → new ≡ st → state_said st session stmt Drained ≡ Some new
 drained_is st new session stmt up covered e =
-    ap (λ (b : Bool). if b then chosen false st else state_admitted st session stmt Drained) up
-    ∙ ap (λ (b : Bool). if b then chosen true st else None) covered
+    ap (λ (b : Bool). if b then if_allowed false st else state_admitted st session stmt Drained) up
+    ∙ ap (λ (b : Bool). if b then if_allowed true st else None) covered
     ∙ ap Some (sym e)
 
 down_is : (st new : State) (session : Session) (stmt : Stmt) → st.down ≡ true → new ≡ st → state_said st session stmt Down ≡ Some new
-down_is st new session stmt down e = ap (λ (b : Bool). if b then chosen true st else state_admitted st session stmt Down) down ∙ ap Some (sym e)
+down_is st new session stmt down e = ap (λ (b : Bool). if b then if_allowed true st else state_admitted st session stmt Down) down ∙ ap Some (sym e)
 
 pub says_is : (st new : State) (session : Session) (stmt : Stmt) (reply : Reply) → Says st session stmt reply new → state_said st session stmt reply ≡ Some new
 says_is st new session stmt Down s = down_is st new session stmt s.0 s.1

@@ -3,7 +3,7 @@ use Rattle.std.proofs.Common.{◌≡◌, ◌==◌, ◌&&◌, ◌+◌, nat_le, �
 use Rattle.std.specs.Ordering.{nat_cmp}
 use Rattle.std.specs.FinMap as fin
 use Rattle.rg_base.specs.First.{IsEmptyFrom, IsFirstFrom}
-use Rattle.rg_base.specs.declared.kept.Kept.{Kept}
+use Rattle.rg_base.specs.declared.lock.Lock.{Lock}
 use Rattle.rg_base.specs.declared.row.Row.{Row}
 use Rattle.rg_base.specs.declared.session.Session.{Session}
 use Rattle.rg_base.proofs.Walk.{passing_from, walk_ends, walk_goes}
@@ -43,12 +43,12 @@ rows_from lo hi table from = mapped_from (λ (entry : ℕ × Row). entry.1) (λ 
 abbrev pub keys_from : ℕ → Table → ℕ → List ℕ
 keys_from cat table from = mapped_from (λ (entry : ℕ × Row). entry.0) (λ (entry : ℕ × Row). entry.1.cat == cat) table from
 
-module _ (p : ℕ × Kept → Bool) (locks : Locks) (from : ℕ) (owner : Option Session) (so_far : first_owner (passing_from p from (fin.entries locks)) ≡ owner) where
+module _ (p : ℕ × Lock → Bool) (locks : Locks) (from : ℕ) (owner : Option Session) (so_far : first_owner (passing_from p from (fin.entries locks)) ≡ owner) where
   -- the first lock that passes is the one looked for
-  pub owner-found : (e : ℕ × Kept) → IsFirstFrom locks from (Some e) → p e ≡ true → Some e.1.owner ≡ owner
+  pub owner-found : (e : ℕ × Lock) → IsFirstFrom locks from (Some e) → p e ≡ true → Some e.1.owner ≡ owner
   owner-found e is passes = ap first_owner (sym (next-passes p locks from e is passes)) ∙ so_far
 
-  pub owner-behind : (e : ℕ × Kept) → IsFirstFrom locks from (Some e) → p e ≡ false → first_owner (passing_from p (e.0 + 1) (fin.entries locks)) ≡ owner
+  pub owner-behind : (e : ℕ × Lock) → IsFirstFrom locks from (Some e) → p e ≡ false → first_owner (passing_from p (e.0 + 1) (fin.entries locks)) ≡ owner
   owner-behind e is fails = ap first_owner (sym (next-fails p locks from e is fails)) ∙ so_far
 
   pub owner-none : IsEmptyFrom locks from → None ≡ owner

@@ -32,7 +32,8 @@ is_unit_end Commit Done = true
 is_unit_end stmt reply = is_rollback stmt reply
 
 abbrev pub writes_after : Stmt → Reply → ℕ → ℕ
-writes_after stmt reply before = if is_unit_end stmt reply then 0 else (if is_write stmt reply then before + 1 else before)
+writes_after stmt reply before =
+    if is_unit_end stmt reply then 0 else (if is_write stmt reply then before + 1 else before)
 
 -- the writes of the open unit of a session, by one entry and their number before it
 abbrev pub unit_writes_after : (session : ℕ) → Actor → Event → ℕ → ℕ
@@ -43,12 +44,15 @@ unit_writes_after session actor event before = before
 
 abbrev pub unit_writes : (session : ℕ) → List Entry → ℕ
 unit_writes session [] = 0
-unit_writes session (entry ∷ past) = unit_writes_after session entry.actor entry.event (unit_writes session past)
+unit_writes session (entry ∷ past) =
+    unit_writes_after session entry.actor entry.event (unit_writes session past)
 
 -- the changes of one entry
 abbrev pub changes_of : Actor → Event → List Entry → ℕ
 changes_of (actors.Session session) (events.Said stmt reply) past =
-    if is_write stmt reply then 1 else (if is_rollback stmt reply then unit_writes session.0 past else 0)
+    if is_write stmt reply
+    then 1
+    else (if is_rollback stmt reply then unit_writes session.0 past else 0)
 changes_of actor event past = 0
 
 abbrev pub changes_after : Actor → Event → List Entry → ℕ → ℕ

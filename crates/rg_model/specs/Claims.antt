@@ -47,18 +47,20 @@ is_covered (Asked what) class = is_covered_for what class
 is_covered (Granted what) class = is_covered_for what class
 
 -- Writer includes Reader
-abbrev pub is_held : Option Class → Class → Bool
-is_held None class = false
-is_held (Some Writer) class = true
-is_held (Some Reader) Reader = true
-is_held (Some Reader) Writer = false
+abbrev pub has_class : Option Class → Class → Bool
+has_class None class = false
+has_class (Some Writer) class = true
+has_class (Some Reader) Reader = true
+has_class (Some Reader) Writer = false
 
 -- the drain covers one of these classes, and the claim does not have it
 abbrev pub is_kept_out : DrainState → Option Class → List Class → Bool
-is_kept_out drain claim classes = list_any (λ class. is_covered drain class && not (is_held claim class)) classes
+is_kept_out drain claim classes =
+    list_any (λ class. is_covered drain class && not (has_class claim class)) classes
 
 abbrev pub is_drained : State → Session → Stmt → Bool
-is_drained st session stmt = is_kept_out st.drain (map.get st.claims session.0) (classes_needed stmt)
+is_drained st session stmt =
+    is_kept_out st.drain (map.get st.claims session.0) (classes_needed stmt)
 
 abbrev pub claim_with : Option Class → Class → Class
 claim_with claim Writer = Writer
@@ -69,16 +71,17 @@ claim_with (Some class) Reader = class
 abbrev pub claims_with : Claims → Session → List Class → Claims
 claims_with claims session [] = claims
 claims_with claims session (class ∷ classes) =
-    claims_with (map.insert claims session.0 (claim_with (map.get claims session.0) class)) session classes
+    claims_with (map.insert claims session.0 (claim_with (map.get claims session.0) class)) session
+    classes
 
-abbrev pub claimed : State → Session → List Class → State
-claimed st session classes = record st { claims = claims_with st.claims session classes }
+abbrev pub claim_classes : State → Session → List Class → State
+claim_classes st session classes = record st { claims = claims_with st.claims session classes }
 
 -- this session holds a class that the drain covers
 abbrev pub is_holder : DrainState → ℕ × Class → Bool
 is_holder drain claim =
-    (is_covered drain Reader && is_held (Some claim.1) Reader)
-    || (is_covered drain Writer && is_held (Some claim.1) Writer)
+    (is_covered drain Reader && has_class (Some claim.1) Reader)
+    || (is_covered drain Writer && has_class (Some claim.1) Writer)
 
 abbrev pub first_session : List (ℕ × Class) → Option Session
 first_session [] = None

@@ -1,4 +1,8 @@
--- When the layout of a copy is right for a table.
+-- Right side: when the layout of a copy is right for a table.
+-- (1) The homes of the spots rise. They and the places of moved rows are on pages 1 to `pages`, and
+--     no place stands twice.
+-- (2) Each key of the table is in exactly one spot, no other key is, and its `clus` is its row's.
+-- (3) Each listing is the sorted list of the rows' values with their homes.
 use Rattle.std.specs.Prelude.{ℕ, ◌==◌, ◌&&◌, ◌||◌, ◌+◌, nat_le, Bool, true, false, not, List, []}
 use Rattle.std.specs.Prelude.{◌∷◌, ◌++◌, Option, Some, None, if◌then◌else◌, length, map, filter}
 use Rattle.std.specs.List.{flat_map, list_all}
@@ -25,12 +29,14 @@ is_entry_before a b = nat_le (a.0 + 1) b.0 || (a.0 == b.0 && is_place_before a.1
 -- each place is behind the one before it
 abbrev pub are_rising : List Place → Bool
 are_rising [] = true
-are_rising (place ∷ places) = list_all (λ later. is_place_before place later) places && are_rising places
+are_rising (place ∷ places) =
+    list_all (λ later. is_place_before place later) places && are_rising places
 
 -- no place stands twice
 abbrev pub are_different : List Place → Bool
 are_different [] = true
-are_different (place ∷ places) = list_all (λ later. not (same_place place later)) places && are_different places
+are_different (place ∷ places) =
+    list_all (λ later. not (same_place place later)) places && are_different places
 
 abbrev pub one_place : Option Place → List Place
 one_place None = []
@@ -70,7 +76,8 @@ listed_entry which place (Some row) = (value_of which row, place) ∷ []
 -- in its place
 abbrev pub put_entry : ℕ × Place → List (ℕ × Place) → List (ℕ × Place)
 put_entry entry [] = entry ∷ []
-put_entry entry (e ∷ es) = if is_entry_before entry e then entry ∷ e ∷ es else e ∷ put_entry entry es
+put_entry entry (e ∷ es) =
+    if is_entry_before entry e then entry ∷ e ∷ es else e ∷ put_entry entry es
 
 abbrev pub sorted_entries : List (ℕ × Place) → List (ℕ × Place)
 sorted_entries [] = []
@@ -78,7 +85,8 @@ sorted_entries (e ∷ es) = put_entry e (sorted_entries es)
 
 -- the sorted list of the values and places of the rows that have these spots
 abbrev pub listing : Which → Table → List Spot → List (ℕ × Place)
-listing which table spots = sorted_entries (flat_map (λ spot. listed_entry which spot.place (row_of table spot.key)) spots)
+listing which table spots =
+    sorted_entries (flat_map (λ spot. listed_entry which spot.place (row_of table spot.key)) spots)
 
 abbrev pub same_entry : ℕ × Place → ℕ × Place → Bool
 same_entry a b = a.0 == b.0 && same_place a.1 b.1

@@ -41,7 +41,12 @@ clustered_rows (row ∷ rows) = put_row row (clustered_rows rows)
 -- a row at home
 abbrev pub home_spot : (page slot : ℕ) → Row → Spot
 home_spot page slot row =
-    record { place = record { page = page; slot = slot }; key = row.key; clus = row.clus; over = None }
+    record {
+      place = record { page = page; slot = slot };
+      key = row.key;
+      clus = row.clus;
+      over = None;
+    }
 
 -- the spots of rows from the k-th filled page on, of which so many slots are used and so many bytes
 -- free
@@ -50,14 +55,16 @@ spots_from options k slot free [] = []
 spots_from options k slot free (row ∷ rows) =
     if nat_le (free_part options + area_of row) free
     then home_spot (page_at options.freepage k) slot row
-        ∷ spots_from options k (slot + 1) (free - area_of row) rows
+    ∷ spots_from options k (slot + 1) (free - area_of row) rows
     else home_spot (page_at options.freepage (k + 1)) 0 row
-        ∷ spots_from options (k + 1) 1 (4064 - area_of row) rows
+    ∷ spots_from options (k + 1) 1 (4064 - area_of row) rows
 
 abbrev pub packed_spots : Options → Table → List Spot
-packed_spots options table = spots_from options 0 0 0 (clustered_rows (map (λ entry. entry.1) (entries_of table)))
+packed_spots options table =
+    spots_from options 0 0 0 (clustered_rows (map (λ entry. entry.1) (entries_of table)))
 
 -- each filled page has one slot 0
 abbrev pub packed_pages : Options → Table → ℕ
 packed_pages options table =
-    page_count options.freepage (length (filter (λ spot. spot.place.slot == 0) (packed_spots options table)))
+    page_count options.freepage
+    (length (filter (λ spot. spot.place.slot == 0) (packed_spots options table)))

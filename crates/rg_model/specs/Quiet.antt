@@ -42,11 +42,14 @@ is_locked_by key over actor event before = before over
 -- `over` are the sessions that ended a unit since.
 abbrev pub is_locked_in : (key : ℕ) → (over : List ℕ) → List Entry → Bool
 is_locked_in key over [] = false
-is_locked_in key over (entry ∷ past) = is_locked_by key over entry.actor entry.event (λ over. is_locked_in key over past)
+is_locked_in key over (entry ∷ past) =
+    is_locked_by key over entry.actor entry.event (λ over. is_locked_in key over past)
 
 abbrev pub is_quiet_by : (key : ℕ) → Actor → Event → List Entry → Bool → Bool
-is_quiet_by key actor (events.Started options copy pages) past before = not (is_locked_in key [] past)
-is_quiet_by key (actors.Session session) (events.Said stmt reply) past before = not (is_write_of key stmt reply) && before
+is_quiet_by key actor (events.Started options copy pages) past before =
+    not (is_locked_in key [] past)
+is_quiet_by key (actors.Session session) (events.Said stmt reply) past before =
+    not (is_write_of key stmt reply) && before
 is_quiet_by key actor event past before = before
 
 -- a key of the present table is quiet

@@ -34,15 +34,18 @@ abbrev pub quiet_spots : List Entry → List Spot → List Spot
 quiet_spots past spots = filter (λ spot. is_quiet spot.key past) spots
 
 abbrev pub are_quiet_right : List Entry → List Spot → Bool
-are_quiet_right past spots = list_all is_at_home (quiet_spots past spots) && are_clustered (quiet_spots past spots)
+are_quiet_right past spots =
+    list_all is_at_home (quiet_spots past spots) && are_clustered (quiet_spots past spots)
 
 abbrev pub same_home_spot : Spot → Spot → Bool
 same_home_spot a b =
-    same_place a.place b.place && (a.key == b.key && (a.clus == b.clus && (is_at_home a && is_at_home b)))
+    same_place a.place b.place
+    && (a.key == b.key && (a.clus == b.clus && (is_at_home a && is_at_home b)))
 
 abbrev pub is_packed : Options → Table → Side → Bool
 is_packed options table side =
-    side.pages == packed_pages options table && same_list same_home_spot side.spots (packed_spots options table)
+    side.pages == packed_pages options table
+    && same_list same_home_spot side.spots (packed_spots options table)
 
 -- `options` are those of the utility's start
 abbrev pub is_right_switch : List Entry → State → Options → Sides → Bool

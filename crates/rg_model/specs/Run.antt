@@ -1,5 +1,5 @@
--- One next state of each event: what the proofs of the engine go by. Each run ends in a state that
--- is possible.
+-- Run: one next state of each event, as a relation. The engine's proofs go by it, and each run ends
+-- in a state that is possible.
 use Rattle.std.specs.Prelude.{ℕ, ◌≡◌, true, false, List, [], ◌∷◌, Option, Some}
 use Rattle.std.specs.List.{Contains}
 use Rattle.rg_base.specs.declared.control.Answer.{Answer}
@@ -14,27 +14,34 @@ use Rattle.rg_stmt.specs.declared.stmt.Reply.TheVariants.{Held, Victim, Drained,
 use Rattle.rg_stmt.specs.declared.stmt.Reply.TheVariants.{Device, Down, NoMemory}
 use Rattle.rg_stmt.specs.declared.stmt.Stmt.{Stmt}
 use Rattle.rg_model.specs.Claims.{is_drained}
-use Rattle.rg_model.specs.Plain.{plain_reply, answered, is_done, after_rollback}
+use Rattle.rg_model.specs.Plain.{plain_reply, after_answer, is_done, after_rollback}
 use Rattle.rg_model.specs.Possible.{tables_left, is_copy_left, next_state}
 use Rattle.rg_model.specs.Said.{may_want_memory, may_want_room, may_want_log, state_refused}
 use Rattle.rg_model.specs.State.{State, Table, at_rest, row_count}
 
 -- the statement may be answered so, and leaves this state
-abbrev pub Answers : State → Session → Stmt → Reply → State → Type 0
-Answers st session stmt NoMemory new = (may_want_memory stmt ≡ true) × (new ≡ st)
-Answers st session stmt (Victim owner) new = (plain_reply st session stmt ≡ Held owner) × (new ≡ after_rollback st session)
-Answers st session stmt (Full need) new = (may_want_room stmt ≡ true) × (is_done (plain_reply st session stmt) ≡ true) × (new ≡ st)
-Answers st session stmt (LogFull need left) new = (may_want_log stmt ≡ true) × (is_done (plain_reply st session stmt) ≡ true) × (new ≡ st)
-Answers st session stmt Device new = state_refused st session stmt (plain_reply st session stmt) ≡ Some new
-Answers st session stmt Drained new = ⊥
-Answers st session stmt Down new = ⊥
-Answers st session stmt reply new = (reply ≡ plain_reply st session stmt) × (new ≡ answered st session stmt reply)
+abbrev pub MayAnswer : State → Session → Stmt → Reply → State → Type 0
+MayAnswer st session stmt NoMemory new = (may_want_memory stmt ≡ true) × (new ≡ st)
+MayAnswer st session stmt (Victim owner) new =
+    (plain_reply st session stmt ≡ Held owner) × (new ≡ after_rollback st session)
+MayAnswer st session stmt (Full need) new =
+    (may_want_room stmt ≡ true) × (is_done (plain_reply st session stmt) ≡ true) × (new ≡ st)
+MayAnswer st session stmt (LogFull need left) new =
+    (may_want_log stmt ≡ true) × (is_done (plain_reply st session stmt) ≡ true) × (new ≡ st)
+MayAnswer st session stmt Device new =
+    state_refused st session stmt (plain_reply st session stmt) ≡ Some new
+MayAnswer st session stmt Drained new = ⊥
+MayAnswer st session stmt Down new = ⊥
+MayAnswer st session stmt reply new =
+    (reply ≡ plain_reply st session stmt) × (new ≡ after_answer st session stmt reply)
 
--- an engine that is down says so, a drain is told of, and else the statement is answered
+-- DOWN, DRAINED, or an answer
 abbrev pub Says : State → Session → Stmt → Reply → State → Type 0
 Says st session stmt Down new = (st.down ≡ true) × (new ≡ st)
-Says st session stmt Drained new = (st.down ≡ false) × (is_drained st session stmt ≡ true) × (new ≡ st)
-Says st session stmt reply new = (st.down ≡ false) × (is_drained st session stmt ≡ false) × Answers st session stmt reply new
+Says st session stmt Drained new =
+    (st.down ≡ false) × (is_drained st session stmt ≡ true) × (new ≡ st)
+Says st session stmt reply new =
+    (st.down ≡ false) × (is_drained st session stmt ≡ false) × MayAnswer st session stmt reply new
 
 -- an opening that finds this copy and as many committed rows
 pub record Reopens (st : State) (copy rows : ℕ) (new : State) : Type 0 where
@@ -44,13 +51,16 @@ pub record Reopens (st : State) (copy rows : ℕ) (new : State) : Type 0 where
   pub counted : row_count table ≡ rows
   pub at_rest : new ≡ at_rest table copy
 
--- an opening and a statement are told of by relations, any other event by the state that it leaves
+-- openings and statements by a relation, any other event by the state that it leaves
 abbrev pub Allows : List Entry → Option Answer → Actor → Event → State → State → Type 0
 Allows past answer actors.System (Opened copy rows pages used) st new = Reopens st copy rows new
-Allows past answer (actors.Session session) (Said stmt reply) st new = Says st session stmt reply new
+Allows past answer (actors.Session session) (Said stmt reply) st new =
+    Says st session stmt reply new
 Allows past answer actor event st new = next_state past answer actor event st ≡ Some new
 
 -- The entries lead from one state to another. `past` are the entries before them, the newest first.
 abbrev pub Run : List Entry → State → List Entry → State → Type 0
 Run past st [] new = new ≡ st
-Run past st (entry ∷ entries) new = (mid : State) × Allows past entry.answer entry.actor entry.event st mid × Run (entry ∷ past) mid entries new
+Run past st (entry ∷ entries) new =
+    (mid : State) × Allows past entry.answer entry.actor entry.event st mid
+    × Run (entry ∷ past) mid entries new

@@ -3,7 +3,7 @@
 use Rattle.std.specs.Prelude.{ℕ, Bool, false, List, Option, None}
 use Rattle.std.specs.Ordering.{nat_cmp}
 use Rattle.std.specs.FinMap as map
-use Rattle.rg_base.specs.declared.kept.Kept.{Kept}
+use Rattle.rg_base.specs.declared.lock.Lock.{Lock}
 use Rattle.rg_base.specs.declared.options.DrainState.{DrainState}
 use Rattle.rg_base.specs.declared.options.DrainState.TheVariants.{Free}
 use Rattle.rg_base.specs.declared.options.Options.{Options}
@@ -31,7 +31,7 @@ row_count table = map.len table
 
 -- the locks of keys, and the claims of sessions by their numbers, where Writer includes Reader
 abbrev pub Locks : Type 0
-Locks = map.FinMap nat_cmp Kept
+Locks = map.FinMap nat_cmp Lock
 
 abbrev pub Claims : Type 0
 Claims = map.FinMap nat_cmp Class

@@ -48,7 +48,8 @@ pub data Turn : Type 0 where
 
 -- under a drain that is granted
 abbrev pub step_under : Utility → DrainFor → Step
-step_under u granted = if not u.last then steps.Last else (if not u.written then steps.Write granted else steps.Switch)
+step_under u granted =
+    if not u.last then steps.Last else (if not u.written then steps.Write granted else steps.Switch)
 
 -- once the new copy has its indexes
 abbrev pub step_by_drain : Utility → DrainState → Step
@@ -90,7 +91,8 @@ unload_turn u drain event = early_stop event
 abbrev pub reload_turn : Utility → DrainState → Event → Option Turn
 reload_turn u drain (events.Reload page rows) =
     turn_if
-    (page == page_at u.options.freepage (u.filled + 1) && (nat_le 1 rows && nat_le rows (u.unloaded - u.reloaded)))
+    (page == page_at u.options.freepage (u.filled + 1)
+    && (nat_le 1 rows && nat_le rows (u.unloaded - u.reloaded)))
     (Runs (record u { filled = u.filled + 1; reloaded = u.reloaded + rows }) drain)
 reload_turn u drain event = space_stop event
 
@@ -100,7 +102,8 @@ nth_which n = if n == 0 then Key else (if n == 1 then Clus else Cat)
 
 abbrev pub sort_turn : Utility → DrainState → Event → Option Turn
 sort_turn u drain (events.Sort which) =
-    turn_if (same_which which (nth_which u.sorted)) (Runs (record u { sorted = u.sorted + 1 }) drain)
+    turn_if (same_which which (nth_which u.sorted))
+    (Runs (record u { sorted = u.sorted + 1 }) drain)
 sort_turn u drain event = early_stop event
 
 -- one iteration more, with all changes so far as its target
@@ -109,7 +112,10 @@ next_iteration all u = record u { iteration = u.iteration + 1; target = all; siz
 
 -- BUILD CAT begins iteration 1
 abbrev pub build_next : (all : ℕ) → Utility → Utility
-build_next all u = if u.built == 2 then next_iteration all (record u { built = 3 }) else record u { built = u.built + 1 }
+build_next all u =
+    if u.built == 2
+    then next_iteration all (record u { built = 3 })
+    else record u { built = u.built + 1 }
 
 abbrev pub build_turn : (all : ℕ) → Utility → DrainState → Event → Option Turn
 build_turn all u drain (events.Build which) =
@@ -122,8 +128,10 @@ abbrev pub verdict_turn : (all now : ℕ) → (slow : Bool) → Utility → Drai
 verdict_turn all now slow u drain verdicts.More = Runs u drain
 verdict_turn all now slow u drain verdicts.Next =
     Runs (next_iteration all (if slow then u else record u { message = None })) drain
-verdict_turn all now slow u drain verdicts.Message = Runs (next_iteration all (record u { message = Some now })) drain
-verdict_turn all now slow u drain (verdicts.Drain asked) = Runs (record u { asked = now }) (drains.Asked asked)
+verdict_turn all now slow u drain verdicts.Message =
+    Runs (next_iteration all (record u { message = Some now })) drain
+verdict_turn all now slow u drain (verdicts.Drain asked) =
+    Runs (record u { asked = now }) (drains.Asked asked)
 verdict_turn all now slow u drain (verdicts.Stop reason) = Stops
 
 -- MORE, as long as the iteration's target is not reached
@@ -148,10 +156,13 @@ log_turn all answer u drain event = space_stop event
 -- no more
 abbrev pub give_up : (all now : ℕ) → Utility → Utility
 give_up all now u =
-    next_iteration all (record u { failed = u.failed + 1; gave_up = Some now; last = false; written = false })
+    next_iteration all
+    (record u { failed = u.failed + 1; gave_up = Some now; last = false; written = false })
 
 -- a drain that was asked comes to its verdict
-abbrev pub wait_turn : (all : ℕ) → Answer → Utility → DrainState → (asked : DrainFor) → DrainVerdict → Event → Option Turn
+abbrev pub wait_turn :
+    (all : ℕ) → Answer → Utility → DrainState → (asked : DrainFor) → DrainVerdict → Event
+    → Option Turn
 wait_turn all answer u drain asked (waits.Wait session) (events.Wait named) =
     turn_if (named.0 == session.0) (Runs u drain)
 wait_turn all answer u drain asked waits.Granted (events.Granted named) =
@@ -180,7 +191,8 @@ write_turn answer u drain granted (events.Written pages) =
 write_turn answer u drain granted event = early_stop event
 
 abbrev pub switch_turn : Utility → Event → Option Turn
-switch_turn u (events.Switched copy sides) = Some (Switches copy sides (record u { switched = true }))
+switch_turn u (events.Switched copy sides) =
+    Some (Switches copy sides (record u { switched = true }))
 switch_turn u (events.Stop reasons.Device) = Some Falls
 switch_turn u event = early_stop event
 
@@ -190,7 +202,8 @@ end_turn event = early_stop event
 
 -- by the stage
 abbrev pub turn_at :
-    Step → (all : ℕ) → (blocker : Option Session) → Answer → Utility → DrainState → Event → Option Turn
+    Step → (all : ℕ) → (blocker : Option Session) → Answer → Utility → DrainState → Event
+    → Option Turn
 turn_at steps.Unload all blocker answer u drain event = unload_turn u drain event
 turn_at steps.Reload all blocker answer u drain event = reload_turn u drain event
 turn_at steps.Sort all blocker answer u drain event = sort_turn u drain event
@@ -200,7 +213,8 @@ turn_at (steps.Wait asked) all blocker answer u drain event =
     wait_turn all answer u drain asked
     (drain_verdict u.options u.asked u.failed blocker answer.now answer.estimate) event
 turn_at steps.Last all blocker answer u drain event = last_turn all u drain event
-turn_at (steps.Write granted) all blocker answer u drain event = write_turn answer u drain granted event
+turn_at (steps.Write granted) all blocker answer u drain event =
+    write_turn answer u drain granted event
 turn_at steps.Switch all blocker answer u drain event = switch_turn u event
 turn_at steps.End all blocker answer u drain event = end_turn event
 
@@ -227,8 +241,10 @@ alter u (commands.Alter a) = record u {
 alter u command = u
 
 -- the turn of an event of a running utility, or none where the event is not its next
-abbrev pub turn_of : (all : ℕ) → (blocker : Option Session) → Answer → Utility → DrainState → Event → Option Turn
+abbrev pub turn_of :
+    (all : ℕ) → (blocker : Option Session) → Answer → Utility → DrainState → Event → Option Turn
 turn_of all blocker answer u drain event =
     if u.switched then end_turn event
     else (if is_term answer.command then term_turn event
-    else (let v = alter u answer.command in turn_at (step_of v drain) all blocker answer v drain event))
+    else
+    (let v = alter u answer.command in turn_at (step_of v drain) all blocker answer v drain event))

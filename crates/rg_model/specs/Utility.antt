@@ -8,7 +8,7 @@ use Rattle.rg_stmt.specs.declared.event.Event.{Event}
 use Rattle.rg_model.specs.Changes.{changes}
 use Rattle.rg_model.specs.Claims.{least_holder}
 use Rattle.rg_model.specs.Right.{is_right_switch}
-use Rattle.rg_model.specs.Said.{chosen}
+use Rattle.rg_model.specs.Said.{if_allowed}
 use Rattle.rg_model.specs.State.{State, Utility}
 use Rattle.rg_model.specs.Turn.{Turn, Runs, Switches, Stops, Falls, turn_of}
 
@@ -49,8 +49,9 @@ stop_utility st = record st { drain = Free; utility = None }
 abbrev pub state_of_turn : List Entry → State → Utility → Turn → Option State
 state_of_turn past st u (Runs v drain) = Some (record st { drain = drain; utility = Some v })
 state_of_turn past st u (Switches copy sides v) =
-    chosen
-    (copy == 3 - st.copy && (sides.new.pages == u.shadow && is_right_switch past st u.options sides))
+    if_allowed
+    (copy == 3 - st.copy
+    && (sides.new.pages == u.shadow && is_right_switch past st u.options sides))
     (record st { copy = copy; drain = Free; utility = Some v })
 state_of_turn past st u Stops = Some (stop_utility st)
 state_of_turn past st u Falls = Some (record (stop_utility st) { down = true; copydoubt = true })

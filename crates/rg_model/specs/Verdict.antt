@@ -53,25 +53,31 @@ slow_verdict options gave_up (Some moment) now =
 
 -- The end of an iteration that had `size` changes: `left` are left, and a drain was last given up
 -- at `gave_up`.
-abbrev pub iteration_verdict : Options → (left size : ℕ) → (gave_up message : Option ℕ) → (now estimate : ℕ) → Verdict
+abbrev pub iteration_verdict :
+    Options → (left size : ℕ) → (gave_up message : Option ℕ) → (now estimate : ℕ) → Verdict
 iteration_verdict options left size gave_up message now estimate =
     if is_late options.deadline now estimate then verdicts.Stop reasons.Deadline
-    else (if is_short options.maxro estimate && may_drain options.pause gave_up now then verdicts.Drain options.drain
+    else
+    (if is_short options.maxro estimate && may_drain options.pause gave_up now
+    then verdicts.Drain options.drain
     else (if is_slow left size then slow_verdict options gave_up message now
     else verdicts.Next))
 
 -- RETRY: a try more has failed
 abbrev pub retry_verdict : Options → (failed : ℕ) → DrainVerdict
-retry_verdict options failed = if nat_lt options.retry (failed + 1) then drains.Stop reasons.Drain else drains.GiveUp
+retry_verdict options failed =
+    if nat_lt options.retry (failed + 1) then drains.Stop reasons.Drain else drains.GiveUp
 
 -- DRAIN_WAIT: `blocker` is the least session that holds a class which the drain covers
-abbrev pub wait_verdict : Options → (asked failed : ℕ) → (blocker : Option Session) → (now : ℕ) → DrainVerdict
+abbrev pub wait_verdict :
+    Options → (asked failed : ℕ) → (blocker : Option Session) → (now : ℕ) → DrainVerdict
 wait_verdict options asked failed None now = drains.Granted
 wait_verdict options asked failed (Some session) now =
     if nat_le (asked + options.wait) now then retry_verdict options failed else drains.Wait session
 
 -- a drain that was asked at `asked`, after so many tries that failed
-abbrev pub drain_verdict : Options → (asked failed : ℕ) → (blocker : Option Session) → (now estimate : ℕ) → DrainVerdict
+abbrev pub drain_verdict :
+    Options → (asked failed : ℕ) → (blocker : Option Session) → (now estimate : ℕ) → DrainVerdict
 drain_verdict options asked failed blocker now estimate =
     if is_late options.deadline now estimate then drains.Stop reasons.Deadline
     else wait_verdict options asked failed blocker now

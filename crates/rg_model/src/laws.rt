@@ -12,7 +12,8 @@ ghost use Rattle.rg_model.specs.State.{State, Table, at_rest};
 pub fn run_is_possible()
     ensures { (start : Table) (copy : ℕ) (entry : Entry) (entries : List Entry) (end : State) →
         states_before start entry.event ≡ at_rest start copy ∷ [] →
-        Run [] (at_rest start copy) (entry ∷ entries) end → Contains (possible start (entry ∷ entries)) end }
+        Run [] (at_rest start copy) (entry ∷ entries) end →
+        Contains (possible start (entry ∷ entries)) end }
 {}
 
 /// From a state without doubt an event leads to one state at most.

@@ -1,16 +1,17 @@
-ghost use Rattle.std.specs.Prelude.{◌≡◌, ◌∷◌, [], OnOk, OnErr, IfOk, Some, None, not};
+ghost use Rattle.std.specs.Prelude.{◌≡◌, ◌∷◌, [], OnOk, OnErr, IfOk, Some, None, not, true};
 ghost use Rattle.std.specs.FinMap as map;
-ghost use Rattle.rg_model.specs.Claims.{claimed};
+ghost use Rattle.rg_model.specs.Claims.{claim_classes};
 ghost use Rattle.rg_model.specs.Committed.{set_to};
 ghost use Rattle.rg_model.specs.Held.{holder};
-ghost use Rattle.rg_model.specs.Plain.{after_commit, after_rollback, locked, written};
+ghost use Rattle.rg_model.specs.Plain.{after_commit, after_rollback, is_table_reply, lock_key};
+ghost use Rattle.rg_model.specs.Plain.{write_key};
 ghost use Rattle.rg_model.specs.PlainState.{state_of};
 ghost use Rattle.rg_model.specs.Run.{Says};
 ghost use Rattle.rg_model.specs.State.{at_rest};
 
 use crate::plain::parts::{copy_of, drop_locks, give_back, is_others, set_row};
 use crate::plain::walks::{find_holder, keys_with_cat, rolled_back, rows_between, scan_holder};
-use rg_base::kept::Kept;
+use rg_base::lock::Lock;
 use rg_base::map::NumberMap;
 use rg_base::no_memory::NoMemory;
 use rg_base::row::Row;
@@ -26,7 +27,7 @@ mod walks;
 #[derive(Drop)]
 pub struct PlainState {
     pub table: NumberMap<Row>,
-    pub locks: NumberMap<Kept>,
+    pub locks: NumberMap<Lock>,
     pub claims: NumberMap<Class>,
     pub copy: u8,
 }
@@ -44,9 +45,10 @@ impl PlainState {
         }
     }
 
-    /// Answers a statement of a session, and does it.
+    /// Answers a statement of a session, and does it. The reply is the plain table's, or out of memory.
     pub fn say(&mut self, alloc: Global, session: Session, stmt: &Stmt) -> Reply
-        ensures { Says (state_of self.old) session stmt.now result (state_of self.new) }
+        ensures plain { is_table_reply result ≡ true }
+        ensures says { Says (state_of self.old) session stmt.now result (state_of self.new) }
     {
         match stmt {
             Stmt::Insert(row) => self.insert(alloc, session, row),
@@ -61,7 +63,9 @@ impl PlainState {
     }
 
     fn insert(&mut self, alloc: Global, session: Session, row: &Row) -> Reply
-        ensures { Says (state_of self.old) session (Stmt.Insert row.now) result (state_of self.new) }
+        ensures plain { is_table_reply result ≡ true }
+        ensures says { Says (state_of self.old) session (Stmt.Insert row.now) result
+            (state_of self.new) }
     {
         if let Some(owner) = self.holder(session, row.key) {
             return Reply::Held(owner);
@@ -79,7 +83,9 @@ impl PlainState {
     }
 
     fn update(&mut self, alloc: Global, session: Session, row: &Row) -> Reply
-        ensures { Says (state_of self.old) session (Stmt.Update row.now) result (state_of self.new) }
+        ensures plain { is_table_reply result ≡ true }
+        ensures says { Says (state_of self.old) session (Stmt.Update row.now) result
+            (state_of self.new) }
     {
         if let Some(owner) = self.holder(session, row.key) {
             return Reply::Held(owner);
@@ -97,7 +103,8 @@ impl PlainState {
     }
 
     fn delete(&mut self, alloc: Global, session: Session, key: u64) -> Reply
-        ensures { Says (state_of self.old) session (Stmt.Delete key) result (state_of self.new) }
+        ensures plain { is_table_reply result ≡ true }
+        ensures says { Says (state_of self.old) session (Stmt.Delete key) result (state_of self.new) }
     {
         if let Some(owner) = self.holder(session, key) {
             return Reply::Held(owner);
@@ -112,7 +119,8 @@ impl PlainState {
     }
 
     fn select(&mut self, alloc: Global, session: Session, key: u64) -> Reply
-        ensures { Says (state_of self.old) session (Stmt.Select key) result (state_of self.new) }
+        ensures plain { is_table_reply result ≡ true }
+        ensures says { Says (state_of self.old) session (Stmt.Select key) result (state_of self.new) }
     {
         if let Some(owner) = self.holder(session, key) {
             return Reply::Held(owner);
@@ -129,7 +137,8 @@ impl PlainState {
     }
 
     fn scan(&mut self, alloc: Global, session: Session, lo: u64, hi: u64) -> Reply
-        ensures { Says (state_of self.old) session (Stmt.Scan lo hi) result (state_of self.new) }
+        ensures plain { is_table_reply result ≡ true }
+        ensures says { Says (state_of self.old) session (Stmt.Scan lo hi) result (state_of self.new) }
     {
         if let Some(owner) = scan_holder(&self.locks, session, lo, hi) {
             return Reply::Held(owner);
@@ -144,7 +153,8 @@ impl PlainState {
     }
 
     fn find(&mut self, alloc: Global, session: Session, cat: u64) -> Reply
-        ensures { Says (state_of self.old) session (Stmt.Find cat) result (state_of self.new) }
+        ensures plain { is_table_reply result ≡ true }
+        ensures says { Says (state_of self.old) session (Stmt.Find cat) result (state_of self.new) }
     {
         if let Some(owner) = find_holder(&self.table, &self.locks, session, cat) {
             return Reply::Held(owner);
@@ -159,14 +169,16 @@ impl PlainState {
     }
 
     fn commit(&mut self, session: Session) -> Reply
-        ensures { Says (state_of self.old) session Stmt.Commit result (state_of self.new) }
+        ensures plain { is_table_reply result ≡ true }
+        ensures says { Says (state_of self.old) session Stmt.Commit result (state_of self.new) }
     {
         self.end(session);
         Reply::Done
     }
 
     fn rollback(&mut self, alloc: Global, session: Session) -> Reply
-        ensures { Says (state_of self.old) session Stmt.Rollback result (state_of self.new) }
+        ensures plain { is_table_reply result ≡ true }
+        ensures says { Says (state_of self.old) session Stmt.Rollback result (state_of self.new) }
     {
         let Ok(table) = rolled_back(&self.table, &self.locks, alloc, session) else {
             return Reply::NoMemory;
@@ -195,7 +207,10 @@ impl PlainState {
         key: u64,
         row: Option<Row>,
     ) -> Result<(), NoMemory>
-        ensures ok { OnOk result (state_of self.new ≡ claimed (written (state_of self.old) session key row) session (Class.Reader ∷ Class.Writer ∷ [])) }
+        ensures ok { OnOk result
+            (state_of self.new
+            ≡ claim_classes (write_key (state_of self.old) session key row) session
+            (Class.Reader ∷ Class.Writer ∷ [])) }
         ensures err { OnErr result (state_of self.new ≡ state_of self.old) }
     {
         let fresh = self.lock(alloc, session, key)?;
@@ -210,7 +225,9 @@ impl PlainState {
 
     // Locks the key, where it isn't locked. Says whether it took the lock.
     fn lock(&mut self, alloc: Global, session: Session, key: u64) -> Result<bool, NoMemory>
-        ensures ok { OnOk result (state_of self.new ≡ record (state_of self.old) { locks = locked (state_of self.old) session key }) }
+        ensures ok { OnOk result
+            (state_of self.new
+            ≡ record (state_of self.old) { locks = lock_key (state_of self.old) session key }) }
         ensures fresh { IfOk result (λ fresh. fresh ≡ not (map.contains_key self.old.locks key)) }
         ensures err { OnErr result (state_of self.new ≡ state_of self.old) }
     {
@@ -220,7 +237,7 @@ impl PlainState {
         let row = copy_of(self.table.get(key), alloc)?;
         self.locks.insert(
             key,
-            Kept {
+            Lock {
                 owner: session,
                 row,
             },
@@ -230,7 +247,11 @@ impl PlainState {
 
     // Sets the row of a key, or removes it, with the claim of a writer.
     fn put(&mut self, session: Session, key: u64, row: Option<Row>) -> Result<(), NoMemory>
-        ensures ok { OnOk result (state_of self.new ≡ record (state_of self.old) { table = set_to self.old.table key row; claims = map.insert self.old.claims session.0 Class.Writer }) }
+        ensures ok { OnOk result
+            (state_of self.new ≡ record (state_of self.old) {
+              table = set_to self.old.table key row;
+              claims = map.insert self.old.claims session.0 Class.Writer;
+            }) }
         ensures err { OnErr result (state_of self.new ≡ state_of self.old) }
     {
         let number = u64::from(session.0);
@@ -244,7 +265,8 @@ impl PlainState {
 
     // Claims to read, where the session has no claim.
     fn claim_reader(&mut self, session: Session) -> Result<(), NoMemory>
-        ensures ok { OnOk result (state_of self.new ≡ claimed (state_of self.old) session (Class.Reader ∷ [])) }
+        ensures ok { OnOk result
+            (state_of self.new ≡ claim_classes (state_of self.old) session (Class.Reader ∷ [])) }
         ensures err { OnErr result (state_of self.new ≡ state_of self.old) }
     {
         let number = u64::from(session.0);

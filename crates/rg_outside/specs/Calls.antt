@@ -1,9 +1,9 @@
 -- What the calls of a volume make of its contents: the disk model.
--- (1) A volume reports its capacities, its contents when it was made, and the list of its calls since. All else
---     is computed from that list.
+-- (1) A volume reports its capacities, its contents when it was made, and the list of its calls
+--     since. All else is computed from that list.
 -- (2) Writing a page is atomic. A write that failed leaves the old content or the new one.
--- (3) After a crash each page holds one of the contents that it has had since the last successful sync, that
---     sync's own included.
+-- (3) After a crash each page holds one of the contents that it has had since the last successful
+--     sync, that sync's own included.
 -- (4) A sync that failed makes nothing durable. A call may also be refused whole: it does nothing.
 use Rattle.std.specs.Prelude.{ℕ, ◌==◌, ◌&&◌, Bool, true, false, if◌then◌else◌, List, [], ◌∷◌, ◌++◌}
 use Rattle.std.specs.Prelude.{count_by}
@@ -15,8 +15,8 @@ use Rattle.rg_outside.specs.Capacities.{Capacities}
 abbrev pub Image : Type 0
 Image = Set → ℕ → List ℕ
 
--- One call of a volume, by what it was, what it answered and what it wrote. A failed write says whether a read
--- gives its content from then on.
+-- One call of a volume, by what it was, what it answered and what it wrote. A failed write says
+-- whether a read gives its content from then on.
 pub data Call : Type 0 where
   Read : Call
   Wrote : Set → ℕ → List ℕ → Call
@@ -26,8 +26,8 @@ pub data Call : Type 0 where
   FailedSync : Call
   Refused : Call
 
--- What a call leaves: nothing new, this content of this page (and whether a read gives it), or that what reads is
--- durable.
+-- What a call leaves: nothing new, this content of this page (and whether a read gives it), or that
+-- what reads is durable.
 pub data Effect : Type 0 where
   Nothing : Effect
   Content : Set → ℕ → List ℕ → Bool → Effect
@@ -51,8 +51,9 @@ is_failed (FailedWrite set page bytes reads) = true
 is_failed FailedSync = true
 is_failed Refused = true
 
--- What a volume reports: its capacities, its contents when it was made, and its calls since, the newest first.
--- `start` says how many of these had been made when somebody began to count; it is 0 where nobody counts.
+-- What a volume reports: its capacities, its contents when it was made, and its calls since, the
+-- newest first. `start` says how many of these had been made when somebody began to count; it is 0
+-- where nobody counts.
 pub record Told : Type 0 where
   pub capacities : Capacities
   pub first : Image
@@ -71,7 +72,8 @@ is_same_page set page s p = is_same_set set s && (page == p)
 -- the content of a page as it reads after one more call
 abbrev pub read_after : Effect → List ℕ → Set → ℕ → List ℕ
 read_after Nothing read s p = read
-read_after (Content set page bytes true) read s p = if is_same_page set page s p then bytes else read
+read_after (Content set page bytes true) read s p =
+    if is_same_page set page s p then bytes else read
 read_after (Content set page bytes false) read s p = read
 read_after Certain read s p = read
 
@@ -87,8 +89,8 @@ left_after (Content set page bytes reads) left read s p =
     if is_same_page set page s p then left ++ bytes ∷ [] else left
 left_after Certain left read s p = read ∷ []
 
--- The contents of a page that a crash may leave, the oldest first. Each write counts as one, a failed write too,
--- and also where its content is equal to another.
+-- The contents of a page that a crash may leave, the oldest first. Each write counts as one, a
+-- failed write too, and also where its content is equal to another.
 abbrev pub left_of : Image → List Call → Set → ℕ → List (List ℕ)
 left_of first [] s p = first s p ∷ []
 left_of first (call ∷ calls) s p =

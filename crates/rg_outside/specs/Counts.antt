@@ -1,5 +1,6 @@
 -- A volume whose calls are counted from some moment on.
-use Rattle.std.specs.Prelude.{ℕ, ◌≡◌, ◌-◌, ◌^◌, nat_lt, Bool, true, false, Option, Some, None, length}
+use Rattle.std.specs.Prelude.{ℕ, ◌≡◌, ◌-◌, ◌^◌, nat_lt, Bool, true, false, Option, Some, None}
+use Rattle.std.specs.Prelude.{length}
 use Rattle.rg_outside.specs.Calls.{Told}
 use Rattle.rg_outside.specs.Capacities.{Capacities}
 use Rattle.rg_outside.specs.Moments.{IfTold, HasWholePages}
@@ -13,7 +14,8 @@ abbrev pub counted_if : Bool → Told → ℕ → Option Told
 counted_if true t n = Some (record t { start = length t.calls - n })
 counted_if false t n = None
 
--- What a counted volume reports: where its count began. It reports no more once the counter stands at its end.
+-- What a counted volume reports: where its count began. It reports no more once the counter stands
+-- at its end.
 abbrev pub counted : Option Told → ℕ → Option Told
 counted None n = None
 counted (Some t) n = counted_if (nat_lt n (2 ^ 64 - 1)) t n
@@ -26,8 +28,10 @@ told_counted P (Some t) n here =
     elim (nat_lt n (2 ^ 64 - 1)) as (λ b. IfTold (counted_if b t n) P) [ true ↦ here | false ↦ tt ]
 
 pub counted_capacities : (told : Option Told) (capacities : Capacities) (n : ℕ)
-    → IfTold told (λ t. t.capacities ≡ capacities) → IfTold (counted told n) (λ t. t.capacities ≡ capacities)
+    → IfTold told (λ t. t.capacities ≡ capacities)
+    → IfTold (counted told n) (λ t. t.capacities ≡ capacities)
 counted_capacities told capacities n own = told_counted (λ t. t.capacities ≡ capacities) told n own
 
-pub counted_pages : (told : Option Told) (n : ℕ) → IfTold told HasWholePages → IfTold (counted told n) HasWholePages
+pub counted_pages :
+    (told : Option Told) (n : ℕ) → IfTold told HasWholePages → IfTold (counted told n) HasWholePages
 counted_pages told n whole = told_counted HasWholePages told n whole

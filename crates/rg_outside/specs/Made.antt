@@ -1,8 +1,9 @@
 -- Which call was made, by what it answered.
 -- (1) A call makes the list of calls longer by one call, of a kind that fits the answer.
--- (2) A known volume may stop reporting only at the end of the type that counts its calls, so what was known at
---     the entry of a run of fewer calls is known at its end.
-use Rattle.std.specs.Prelude.{ℕ, ◌≡◌, ◌≤◌, ◌<◌, ◌+◌, ◌-◌, ◌^◌, List, ◌∷◌, length, Option, Some, None}
+-- (2) A known volume may stop reporting only at the end of the type that counts its calls, so what
+--     was known at the entry of a run of fewer calls is known at its end.
+use Rattle.std.specs.Prelude.{ℕ, ◌≡◌, ◌≤◌, ◌<◌, ◌+◌, ◌-◌, ◌^◌, List, ◌∷◌, length, Option, Some}
+use Rattle.std.specs.Prelude.{None}
 use Rattle.std.specs.Prelude.{Result, Ok, Err}
 use Rattle.rg_base.specs.declared.set.Set.{Set}
 use Rattle.rg_outside.specs.Calls.{Call, Read, Wrote, Synced, FailedRead, FailedWrite, FailedSync}
@@ -49,7 +50,8 @@ MadeOne Kind old new = (call : Call) × Kind call × Made old call new
 abbrev pub MadeRead : Result (Unit {0}) Failed → Option Told → Option Told → Type 0
 MadeRead result old new = MadeOne (IsReadCall result) old new
 
-abbrev pub MadeWrite : Result (Unit {0}) Failed → Option Told → Set → ℕ → List ℕ → Option Told → Type 0
+abbrev pub MadeWrite :
+    Result (Unit {0}) Failed → Option Told → Set → ℕ → List ℕ → Option Told → Type 0
 MadeWrite result old set page bytes new = MadeOne (IsWriteCall result set page bytes) old new
 
 abbrev pub MadeSync : Result (Unit {0}) Failed → Option Told → Option Told → Type 0
@@ -67,8 +69,9 @@ WritesIn set (Wrote s p b) = s ≡ set
 WritesIn set (FailedWrite s p b reads) = s ≡ set
 WritesIn set call = Unit {0}
 
--- A call failed meanwhile. Over a known volume it shows in the list; the count of faults says nothing more once it
--- stands at its type's end.
+-- A call failed meanwhile. Over a known volume it shows in the list; the count of faults says
+-- nothing more once it stands at its type's end.
 abbrev pub FaultShows : Option Told → Option Told → Type 0
 FaultShows old None = Unit {0}
-FaultShows old (Some after) = (before : Told) × (old ≡ Some before) × (faults_of before.calls < faults_of after.calls)
+FaultShows old (Some after) =
+    (before : Told) × (old ≡ Some before) × (faults_of before.calls < faults_of after.calls)

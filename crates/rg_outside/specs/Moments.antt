@@ -9,13 +9,15 @@ use Rattle.rg_outside.specs.Capacities.{Capacities, IsPage}
 -- a crash may leave this image: each page has one of the contents that a crash may leave it
 abbrev pub IsImage : Told → Image → Type 0
 IsImage told i =
-    (s : Set) (p : ℕ) → IsPage told.capacities s p → Contains (left_of told.first told.calls s p) (i s p)
+    (s : Set) (p : ℕ) → IsPage told.capacities s p
+    → Contains (left_of told.first told.calls s p) (i s p)
 
 -- what it reported after its first c calls
 abbrev pub moment : Told → ℕ → Told
 moment told c = record told { calls = drop (length told.calls - c) told.calls }
 
--- the image as it read after c calls, those that a crash might then have left, and how many calls had failed
+-- the image as it read after c calls, those that a crash might then have left, and how many calls
+-- had failed
 abbrev pub read_at : Told → ℕ → Image
 read_at told c = read_of told.first (moment told c).calls
 
@@ -34,7 +36,8 @@ IfTold (Some told) P = P told
 abbrev pub HoldsSince : ℕ → Told → (Told → Type 0) → Type 0
 HoldsSince n told P = (c : ℕ) → n ≤ c → c ≤ length told.calls → P (moment told c)
 
--- From one moment to another: the earlier one stays as it was, and P holds at both and at each moment between.
+-- From one moment to another: the earlier one stays as it was, and P holds at both and at each
+-- moment between.
 pub record Throughout (before after : Told) (P : Told → Type 0) : Type 0 where
   pub longer : length before.calls ≤ length after.calls
   pub earlier : moment after (length before.calls) ≡ before
@@ -43,9 +46,11 @@ pub record Throughout (before after : Told) (P : Told → Type 0) : Type 0 where
 -- the same of a call, where the volume still reports
 abbrev pub HoldsThroughout : Option Told → Option Told → (Told → Type 0) → Type 0
 HoldsThroughout old None P = Unit {0}
-HoldsThroughout old (Some after) P = (before : Told) × (old ≡ Some before) × Throughout before after P
+HoldsThroughout old (Some after) P =
+    (before : Told) × (old ≡ Some before) × Throughout before after P
 
--- a volume that was known stopped reporting: calls with P brought their number to the end of its type
+-- a volume that was known stopped reporting: calls with P brought their number to the end of its
+-- type
 abbrev pub HasStopped : Option Told → (Call → Type 0) → Type 0
 HasStopped None P = Unit {0}
 HasStopped (Some before) P =
@@ -64,12 +69,14 @@ EachImage P told = (i : Image) → IsImage told i → P i
 
 -- whatever a crash leaves of this page has P
 abbrev pub CrashLeaves : Set → ℕ → (List ℕ → Type 0) → Told → Type 0
-CrashLeaves s p P told = (bytes : List ℕ) → Contains (left_of told.first told.calls s p) bytes → P bytes
+CrashLeaves s p P told =
+    (bytes : List ℕ) → Contains (left_of told.first told.calls s p) bytes → P bytes
 
 -- pages have 4,096 bytes, whatever a crash leaves of them
 abbrev pub HasWholePages : Told → Type 0
 HasWholePages told =
-    (s : Set) (p : ℕ) → IsPage told.capacities s p → CrashLeaves s p (λ bytes. length bytes ≡ 4096) told
+    (s : Set) (p : ℕ) → IsPage told.capacities s p
+    → CrashLeaves s p (λ bytes. length bytes ≡ 4096) told
 
 -- the content of a page as it reads, where known
 abbrev pub page_at : Option Told → Set → ℕ → List ℕ

@@ -9,4 +9,5 @@ HasBoth set page bytes other other_bytes i = (i set page ≡ bytes) × (i set ot
 -- the image has of each page the old content or the new one
 abbrev pub HasOldOrNew : Set → ℕ → List ℕ → List ℕ → ℕ → List ℕ → List ℕ → Image → Type 0
 HasOldOrNew set page old new other other_old other_new i =
-    ((i set page ≡ old) ⊎ (i set page ≡ new)) × ((i set other ≡ other_old) ⊎ (i set other ≡ other_new))
+    ((i set page ≡ old) ⊎ (i set page ≡ new))
+    × ((i set other ≡ other_old) ⊎ (i set other ≡ other_new))

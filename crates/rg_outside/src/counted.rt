@@ -13,8 +13,8 @@ pub trait Counts: Volume {
         ensures { IfTold (Self.told self.now) (λ t. length t.calls ≡ t.start + result) };
 }
 
-/// A volume with a counter. It is known as long as the volume below is and the counter is not at its
-/// end.
+/// A volume with a counter. It is known as long as the volume below is and the counter is not at
+/// its end.
 #[derive(Drop)]
 pub struct Counted<V: Volume> {
     volume: V,
@@ -78,7 +78,8 @@ impl<V: Volume> Volume for Counted<V> {
         self.volume.sync()
     }
 
-    ghost told_capacities = { λ c. counted_capacities (V.told c.volume) (V.capacities c.volume) c.calls (V.told_capacities c.volume) };
+    ghost told_capacities = { λ c. counted_capacities
+        (V.told c.volume) (V.capacities c.volume) c.calls (V.told_capacities c.volume) };
 
     ghost whole_pages = { λ c. counted_pages (V.told c.volume) c.calls (V.whole_pages c.volume) };
 }

@@ -2,15 +2,16 @@ ghost use Rattle.std.specs.Prelude.{◌≡◌, ◌≢◌, ◌⊎◌, OnOk, OnErr
 ghost use Rattle.rg_outside.specs.Capacities.{IsPage};
 ghost use Rattle.rg_outside.specs.Faults.{Rose};
 ghost use Rattle.rg_outside.specs.Made.{WritesOnly, FaultShows};
-ghost use Rattle.rg_outside.specs.Moments.{EachCall, IfTold, IsSure, EachImage, HoldsThroughout, page_at};
+ghost use Rattle.rg_outside.specs.Moments.{EachCall, IfTold, IsSure, EachImage, HoldsThroughout};
+ghost use Rattle.rg_outside.specs.Moments.{page_at};
 ghost use Rattle.rg_outside.specs.Pair.{HasBoth, HasOldOrNew};
 
 use crate::source::Failed;
 use crate::volume::Volume;
 use rg_base::set::Set;
 
-/// Writes two pages of a set, and makes them durable. Nothing may be pending on them. It is the worked
-/// example of a caller of a volume: what each image has is carried from call to call.
+/// Writes two pages of a set, and makes them durable. Nothing may be pending on them. It is the
+/// worked example of a caller of a volume: what each image has is carried from call to call.
 pub fn write_pair<V: Volume>(
     volume: &mut V,
     set: Set,

@@ -54,7 +54,7 @@ struct Pocket {
 impl Sink for Pocket {
     ghost use Rattle.std.specs.Prelude.{Some};
 
-    ghost held = { λ s. Some s.bytes.items };
+    ghost contents = { λ s. Some s.bytes.items };
 
     ghost faults = { λ s. s.faults };
 

@@ -11,8 +11,8 @@ use rg_base::set::Set;
 /// The pages of the log and of both copies of the table. The pages of a set are numbered from 1 to
 /// its capacity, which never changes. A page has 4,096 bytes.
 ///
-/// A volume may report its contents and its calls. Such a volume is called known, and what is said of
-/// contents is said of a known volume.
+/// A volume may report its contents and its calls. Such a volume is called known, and what is said
+/// of contents is said of a known volume.
 pub trait Volume {
     /// How many pages each set has.
     ghost capacities: { Self → Capacities };
@@ -27,17 +27,19 @@ pub trait Volume {
     fn capacity(&self, set: Set) -> u32
         ensures { result ≡ capacity_of (capacities self.now) set };
 
-    /// Reads a page: of a known volume, its content as it reads. A read that failed leaves `into` as it was.
+    /// Reads a page: of a known volume, its content as it reads. A read that failed leaves `into`
+    /// as it was.
     fn read(&mut self, set: Set, page: u32, into: &mut [u8; 4096]) -> Result<(), Failed>
         requires { IsPage (capacities self.old) set page }
         ensures made { MadeRead result (told self.old) (told self.new) }
-        ensures content { OnOk result (IfTold (told self.new) (λ t. into.new ≡ read_of t.first t.calls set page)) }
+        ensures content { OnOk result
+            (IfTold (told self.new) (λ t. into.new ≡ read_of t.first t.calls set page)) }
         ensures kept { OnErr result (into.new ≡ into.old) }
         ensures capacities { capacities self.new ≡ capacities self.old }
         ensures cause { HasCause (faults self.old) (faults self.new) result };
 
-    /// Writes a page. A write that failed leaves the old content or the new one, and a crash may leave
-    /// either; or it was refused whole.
+    /// Writes a page. A write that failed leaves the old content or the new one, and a crash may
+    /// leave either; or it was refused whole.
     fn write(&mut self, set: Set, page: u32, from: &[u8; 4096]) -> Result<(), Failed>
         requires { IsPage (capacities self.old) set page }
         ensures made { MadeWrite result (told self.old) set page from.now (told self.new) }
@@ -51,7 +53,8 @@ pub trait Volume {
         ensures cause { HasCause (faults self.old) (faults self.new) result };
 
     /// A known volume reports its own capacities.
-    ghost told_capacities: { (volume : Self) → IfTold (told volume) (λ t. t.capacities ≡ capacities volume) };
+    ghost told_capacities: { (volume : Self) →
+        IfTold (told volume) (λ t. t.capacities ≡ capacities volume) };
 
     /// The pages of a known volume have 4,096 bytes.
     ghost whole_pages: { (volume : Self) → IfTold (told volume) HasWholePages };

@@ -20,7 +20,9 @@ over_text (Some place) = codes "OVER " ++ place_text place
 
 -- a spot: its home, its key and clus, and where its row lies
 abbrev pub spot_line : Spot → List ℕ
-spot_line spot = codes "\n  SPOT " ++ place_text spot.place ++ codes " " ++ decimal spot.key ++ codes " " ++ decimal spot.clus ++ codes " " ++ over_text spot.over
+spot_line spot =
+    codes "\n  SPOT " ++ place_text spot.place ++ codes " " ++ decimal spot.key ++ codes " "
+    ++ decimal spot.clus ++ codes " " ++ over_text spot.over
 
 -- the name of an index
 abbrev pub which_text : Which → List ℕ
@@ -30,7 +32,9 @@ which_text Cat = codes "CAT"
 
 -- an entry of an index: the value and the place
 abbrev pub listing_line : Which → ℕ × Place → List ℕ
-listing_line which entry = codes "\n  " ++ which_text which ++ codes " " ++ decimal entry.0 ++ codes " " ++ place_text entry.1
+listing_line which entry =
+    codes "\n  " ++ which_text which ++ codes " " ++ decimal entry.0 ++ codes " "
+    ++ place_text entry.1
 
 -- whether a row was moved
 abbrev pub is_over : Spot → Bool
@@ -38,11 +42,15 @@ is_over spot = is_some spot.over
 
 -- the pages, the spots and the moved rows of a side, by their numbers
 abbrev pub side_line : List ℕ → Side → List ℕ
-side_line name side = codes "\n  " ++ name ++ codes " pages=" ++ decimal side.pages ++ codes " rows=" ++ decimal (length side.spots) ++ codes " over=" ++ decimal (count_by is_over side.spots)
+side_line name side =
+    codes "\n  " ++ name ++ codes " pages=" ++ decimal side.pages ++ codes " rows="
+    ++ decimal (length side.spots) ++ codes " over=" ++ decimal (count_by is_over side.spots)
 
 -- each spot and each entry of the three indexes, in their orders
 abbrev pub side_details : Side → List ℕ
-side_details side = flat_map spot_line side.spots ++ flat_map (listing_line Key) side.keys ++ flat_map (listing_line Clus) side.cluses ++ flat_map (listing_line Cat) side.cats
+side_details side =
+    flat_map spot_line side.spots ++ flat_map (listing_line Key) side.keys
+    ++ flat_map (listing_line Clus) side.cluses ++ flat_map (listing_line Cat) side.cats
 
 -- a side, in full or in brief
 abbrev pub side_text : Bool → List ℕ → Side → List ℕ
@@ -50,8 +58,11 @@ side_text full name side = side_line name side ++ (if full then side_details sid
 
 -- a layout that was shown
 abbrev pub layout_text : Bool → ℕ → Side → List ℕ
-layout_text full copy side = codes "LAYOUT copy=" ++ decimal copy ++ side_text full (codes "NOW") side
+layout_text full copy side =
+    codes "LAYOUT copy=" ++ decimal copy ++ side_text full (codes "NOW") side
 
 -- a switch: the copy that is current now, and the layouts before and after
 abbrev pub switched_text : Bool → ℕ → Sides → List ℕ
-switched_text full copy sides = codes "SWITCHED copy=" ++ decimal copy ++ side_text full (codes "OLD") sides.old ++ side_text full (codes "NEW") sides.new
+switched_text full copy sides =
+    codes "SWITCHED copy=" ++ decimal copy ++ side_text full (codes "OLD") sides.old
+    ++ side_text full (codes "NEW") sides.new

@@ -1,4 +1,9 @@
--- The text of a trace.
+-- Print: the text of a trace.
+-- (1) An entry is its number, from 0 on, its actor and its text, parted by spaces.
+-- (2) An actor is the session's number, `U` for the utility or `-` for the system.
+-- (3) Each further line of an entry begins with two spaces.
+-- (4) The last line counts the entries, and the committed rows unless the engine is down; the
+--     damage line stands in its place.
 use Rattle.std.specs.Prelude.{ℕ, ◌+◌, Bool, true, List, [], ◌∷◌, ◌++◌, length, codes}
 use Rattle.std.specs.Fmt.{decimal}
 use Rattle.rg_base.specs.declared.set.Set.{Set}
@@ -16,18 +21,20 @@ use Rattle.rg_print.specs.Utility.{log_text, last_text}
 use Rattle.rg_print.specs.declared.print.Close.{Close}
 use Rattle.rg_print.specs.declared.print.Close.TheVariants as closes
 
--- who made an event: the system, a session by its number, or the utility
+-- the actor
 abbrev pub actor_text : Actor → List ℕ
 actor_text actors.System = codes "-"
 actor_text (actors.Session session) = decimal session.0
 actor_text actors.Utility = codes "U"
 
--- an opening; how much of the log is used is not shown
+-- an opening; how much of the log is used is not printed
 abbrev pub opened_text : ℕ → ℕ → ℕ → List ℕ
-opened_text copy rows pages = codes "OPENED copy=" ++ decimal copy ++ codes " rows=" ++ decimal rows ++ codes " pages=" ++ decimal pages
+opened_text copy rows pages =
+    codes "OPENED copy=" ++ decimal copy ++ codes " rows=" ++ decimal rows ++ codes " pages="
+    ++ decimal pages
 
--- What happened, with layouts in full or in brief. A further line is begun by the end of the line
--- before it.
+-- The text of an event, with layouts in full or in brief. A further line begins with the end of the
+-- line before.
 abbrev pub event_text : Bool → Event → List ℕ
 event_text full (events.Opened copy rows pages used) = opened_text copy rows pages
 event_text full (events.Said stmt reply) = reply_text reply
@@ -61,14 +68,17 @@ event_text full events.LayoutDevice = codes "3 DEVICE"
 event_text full events.LayoutDown = codes "4 DOWN"
 event_text full events.LayoutNoMemory = codes "5 NOMEMORY"
 
--- an entry's number, its actor and what happened
+-- an entry, with its number
 abbrev pub entry_text : Bool → ℕ → Entry → List ℕ
-entry_text full number entry = decimal number ++ codes " " ++ actor_text entry.actor ++ codes " " ++ event_text full entry.event ++ codes "\n"
+entry_text full number entry =
+    decimal number ++ codes " " ++ actor_text entry.actor ++ codes " "
+    ++ event_text full entry.event ++ codes "\n"
 
 -- entries, numbered from this one on
 abbrev pub entries_text : Bool → ℕ → List Entry → List ℕ
 entries_text full number [] = []
-entries_text full number (entry ∷ entries) = entry_text full number entry ++ entries_text full (number + 1) entries
+entries_text full number (entry ∷ entries) =
+    entry_text full number entry ++ entries_text full (number + 1) entries
 
 -- the name of a set
 abbrev pub set_text : Set → List ℕ
@@ -78,13 +88,15 @@ set_text sets.Second = codes "SECOND"
 
 -- the page of the volume that was found damaged
 abbrev pub damaged_text : Set → ℕ → List ℕ
-damaged_text set page = codes "REFUSED volume damaged " ++ set_text set ++ codes " " ++ decimal page ++ codes "\n"
+damaged_text set page =
+    codes "REFUSED volume damaged " ++ set_text set ++ codes " " ++ decimal page ++ codes "\n"
 
--- the end of a run, after so many entries, with so many committed rows
+-- the last line of a run, with the committed rows
 abbrev pub end_text : ℕ → ℕ → List ℕ
-end_text entries rows = codes "END entries=" ++ decimal entries ++ codes " rows=" ++ decimal rows ++ codes "\n"
+end_text entries rows =
+    codes "END entries=" ++ decimal entries ++ codes " rows=" ++ decimal rows ++ codes "\n"
 
--- the end of a run whose engine is down
+-- the last line where the engine is down
 abbrev pub end_down_text : ℕ → List ℕ
 end_down_text entries = codes "END entries=" ++ decimal entries ++ codes " DOWN\n"
 

@@ -29,7 +29,7 @@ key_text key = codes " " ++ decimal key
 abbrev pub keyed_text : List ℕ → List ℕ
 keyed_text keys = codes "KEYS " ++ decimal (length keys) ++ codes ":" ++ flat_map key_text keys
 
--- Most begin with the reply's number. What a page or the log wants is not shown.
+-- Most begin with the reply's number. How much room a page or the log lacks is not printed.
 abbrev pub reply_text : Reply → List ℕ
 reply_text Done = codes "OK"
 reply_text (Found row) = row_text row

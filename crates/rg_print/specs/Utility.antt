@@ -8,7 +8,7 @@ use Rattle.rg_base.specs.declared.verdict.StopReason.TheVariants as reasons
 use Rattle.rg_base.specs.declared.verdict.Verdict.{Verdict}
 use Rattle.rg_base.specs.declared.verdict.Verdict.TheVariants as verdicts
 
--- a begin, over this copy and so many pages
+-- the start, over this copy and so many pages
 abbrev pub started_text : ℕ → ℕ → List ℕ
 started_text copy pages = codes "STARTED copy=" ++ decimal copy ++ codes " pages=" ++ decimal pages
 
@@ -49,7 +49,9 @@ verdict_text (verdicts.Stop reason) = stop_text reason
 
 -- a part of an iteration over the log
 abbrev pub log_text : ℕ → ℕ → ℕ → Verdict → List ℕ
-log_text iteration took left verdict = codes "LOG iteration=" ++ decimal iteration ++ codes " took=" ++ decimal took ++ codes " left=" ++ decimal left ++ codes " " ++ verdict_text verdict
+log_text iteration took left verdict =
+    codes "LOG iteration=" ++ decimal iteration ++ codes " took=" ++ decimal took ++ codes " left="
+    ++ decimal left ++ codes " " ++ verdict_text verdict
 
 -- a part of the last iteration
 abbrev pub last_text : ℕ → ℕ → List ℕ

@@ -101,7 +101,8 @@ fn push_place(out: &mut Vec<u8>, place: Place) -> Result<(), NoMemory>
 }
 
 fn push_listing(out: &mut Vec<u8>, which: Which, listing: &Listing) -> Result<(), NoMemory>
-    ensures { OnOk result (out.new.items ≡ out.old.items ++ flat_map (listing_line which) listing.now) }
+    ensures { OnOk result
+        (out.new.items ≡ out.old.items ++ flat_map (listing_line which) listing.now) }
 {
     for entry in listing.as_slice() {
         push_listing_line(out, which, *entry)?;

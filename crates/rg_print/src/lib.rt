@@ -1,4 +1,4 @@
-//! The print of a run: its trace as text.
+//! The print: the text of a trace.
 #![tactic(auto)]
 
 /// The texts of layouts.

@@ -6,10 +6,10 @@ use Rattle.std.specs.Ordering.{nat_cmp}
 use Rattle.std.specs.FinMap as fin
 use Rattle.std.specs.FinMap.{len-entries}
 use Rattle.rg_base.specs.First.{IsFirstFrom}
-use Rattle.rg_base.specs.declared.kept.Kept.{Kept}
+use Rattle.rg_base.specs.declared.lock.Lock.{Lock}
 use Rattle.rg_base.specs.declared.row.Row.{Row}
 use Rattle.rg_base.proofs.Walk.{passing_from, walk_begins, walk_ends, walk_goes, walk_skips, place}
-use Rattle.rg_model.specs.Committed.{put_back, committed}
+use Rattle.rg_model.specs.Committed.{put_back, committed_table}
 use Rattle.rg_model.specs.State.{State, Table, Locks}
 use Rattle.rg_model.proofs.Overlay.{kept_or, get-put_back}
 use Rattle.std.specs.FinMap.{get-entries}
@@ -57,10 +57,10 @@ module _ {V : Type 0} where
 abbrev pub table_of : Store → Table
 table_of store = put_back (fin.entries store.locks) (rows_of store.slots)
 
-pub table_shown : (st : State) (store : Store) → Shows st store → committed st ≡ table_of store
+pub table_shown : (st : State) (store : Store) → Shows st store → committed_table st ≡ table_of store
 table_shown st store s = ap (λ (l : Locks). put_back (fin.entries l) st.table) s.locks ∙ ap (put_back (fin.entries store.locks)) s.rows
 
-same_kept : (lock : Option Kept) (row : Option Row) → kept_or lock row ≡ committed_row lock row
+same_kept : (lock : Option Lock) (row : Option Row) → kept_or lock row ≡ committed_row lock row
 same_kept None row = refl
 same_kept (Some kept) row = refl
 

@@ -3,11 +3,11 @@ use Rattle.std.proofs.Common.{◌≡◌, ◌≤◌, ◌<◌, ◌+◌, ◌^◌, �
 use Rattle.std.specs.FinMap as fin
 use Rattle.std.specs.Option.{is_some}
 use Rattle.std.proofs.lemmas.Bool.Decides.{nat_tests}
-use Rattle.rg_base.specs.declared.kept.Kept.{Kept}
+use Rattle.rg_base.specs.declared.lock.Lock.{Lock}
 use Rattle.rg_base.specs.declared.session.Session.{Session}
 use Rattle.rg_base.proofs.Walk.{passing_from, walk_begins, walk_goes, walk_skips, walk_fails, first_at, place}
 use Rattle.rg_lock.specs.First.{IsFreeUpTo, IsFirstHeld}
-use Rattle.rg_lock.specs.Held.{row_of}
+use Rattle.rg_lock.specs.Held.{kept_row}
 use Rattle.rg_model.specs.Held.{is_others, other_owner, first_owner, is_held_between, scan_holder, has_cat, is_held_with_cat, find_holder}
 use Rattle.rg_model.specs.State.{Table, Locks}
 use Rattle.rg_run.specs.Shows.{IsSound}
@@ -15,26 +15,26 @@ use Rattle.rg_run.specs.declared.store.Store.{Store}
 use Rattle.rg_run.proofs.RowsView.{absent_of}
 
 -- a lock that another session has
-record OthersLock (session : Session) (found : Option Kept) (owner : Session) : Type 0 where
-  lock : Kept
+record OthersLock (session : Session) (found : Option Lock) (owner : Session) : Type 0 where
+  lock : Lock
   there : found ≡ Some lock
   others : is_others session (Some lock) ≡ true
   owned : lock.owner ≡ owner
 
-by_owner : (session owner : Session) (lock : Kept) (b : Bool) → is_others session (Some lock) ≡ b → cond b (Some lock.owner) None ≡ Some owner → OthersLock session (Some lock) owner
+by_owner : (session owner : Session) (lock : Lock) (b : Bool) → is_others session (Some lock) ≡ b → cond b (Some lock.owner) None ≡ Some owner → OthersLock session (Some lock) owner
 by_owner session owner lock true is e = record { lock = lock; there = refl; others = is; owned = cc e }
 by_owner session owner lock false is e = absurd (cc (e))
 
-by_lock : (session owner : Session) (found : Option Kept) → other_owner session found ≡ Some owner → OthersLock session found owner
+by_lock : (session owner : Session) (found : Option Lock) → other_owner session found ≡ Some owner → OthersLock session found owner
 by_lock session owner None e = absurd (cc (e))
 by_lock session owner (Some lock) e = by_owner session owner lock (is_others session (Some lock)) refl e
 
-own_by : (session : Session) (lock : Kept) (b : Bool) → is_others session (Some lock) ≡ b → cond b (Some lock.owner) None ≡ None → b ≡ false
+own_by : (session : Session) (lock : Lock) (b : Bool) → is_others session (Some lock) ≡ b → cond b (Some lock.owner) None ≡ None → b ≡ false
 own_by session lock true is e = absurd (cc (e))
 own_by session lock false is e = refl
 
 -- a lock that no other session has is the session's own
-own_lock : (session : Session) (lock : Kept) (found : Option Kept) → found ≡ Some lock → other_owner session found ≡ None → is_others session (Some lock) ≡ false
+own_lock : (session : Session) (lock : Lock) (found : Option Lock) → found ≡ Some lock → other_owner session found ≡ None → is_others session (Some lock) ≡ false
 own_lock session lock found there none = own_by session lock (is_others session (Some lock)) refl (ap (other_owner session) (sym there) ∙ none)
 
 within : (a b : ℕ) → a ≤ b → nat_le a b ≡ true
@@ -52,7 +52,7 @@ fails_by true false c own = refl
 fails_by false b c own = refl
 
 module _ (locks : Locks) (session : Session) (lo hi : ℕ) where
-  held_list : List (ℕ × Kept) → List (ℕ × Kept)
+  held_list : List (ℕ × Lock) → List (ℕ × Lock)
   held_list es = filter (is_held_between session lo hi) es
 
   pub scan_free : IsFreeUpTo locks session lo hi → scan_holder locks session lo hi ≡ None
@@ -85,7 +85,7 @@ cat_none false b e = refl
 
 module _ (table : Table) (locks : Locks) (session : Session) (cat : ℕ) where
   -- the locks that hold a FIND up, from a key on
-  abbrev pub holding_from : ℕ → List (ℕ × Kept)
+  abbrev pub holding_from : ℕ → List (ℕ × Lock)
   holding_from from = passing_from (is_held_with_cat table session cat) from (fin.entries locks)
 
   pub find_begins : first_owner (holding_from 0) ≡ find_holder table locks session cat
@@ -100,17 +100,17 @@ module _ (table : Table) (locks : Locks) (session : Session) (cat : ℕ) where
         → holding_from held.0 ≡ cond (is_held_with_cat table session cat (held.0, lock.lock)) ((held.0, lock.lock) ∷ []) [] ++ holding_from (held.0 + 1)
     at_held held lock = walk_goes (is_held_with_cat table session cat) locks held.0 (held.0, lock.lock) (first_at (is_held_with_cat table session cat) locks held.0 lock.lock lock.there)
 
-    same_row : (held : ℕ × Session) (lock : OthersLock session (fin.get locks held.0) held.1) (b : Bool) → (has_cat cat (fin.get table held.0) || has_cat cat (row_of (fin.get locks held.0))) ≡ b
+    same_row : (held : ℕ × Session) (lock : OthersLock session (fin.get locks held.0) held.1) (b : Bool) → (has_cat cat (fin.get table held.0) || has_cat cat (kept_row (fin.get locks held.0))) ≡ b
         → (has_cat cat (fin.get table held.0) || has_cat cat lock.lock.row) ≡ b
-    same_row held lock b e = ap (λ found. has_cat cat (fin.get table held.0) || has_cat cat (row_of found)) (sym lock.there) ∙ e
+    same_row held lock b e = ap (λ found. has_cat cat (fin.get table held.0) || has_cat cat (kept_row found)) (sym lock.there) ∙ e
 
-    pub find_held : (held : ℕ × Session) → IsFirstHeld locks session from most (Some held) → (has_cat cat (fin.get table held.0) || has_cat cat (row_of (fin.get locks held.0))) ≡ true → first_owner (holding_from from) ≡ Some held.1
+    pub find_held : (held : ℕ × Session) → IsFirstHeld locks session from most (Some held) → (has_cat cat (fin.get table held.0) || has_cat cat (kept_row (fin.get locks held.0))) ≡ true → first_owner (holding_from from) ≡ Some held.1
     find_held held is has =
         let lock = by_lock session held.1 (fin.get locks held.0) is.2 in
         ap first_owner (up_to held is ∙ at_held held lock ∙ ap (λ b. cond b ((held.0, lock.lock) ∷ []) [] ++ holding_from (held.0 + 1)) (cat_passes (is_others session (Some lock.lock)) _ lock.others (same_row held lock true has)))
         ∙ ap Some lock.owned
 
-    pub find_goes : (held : ℕ × Session) → IsFirstHeld locks session from most (Some held) → (has_cat cat (fin.get table held.0) || has_cat cat (row_of (fin.get locks held.0))) ≡ false
+    pub find_goes : (held : ℕ × Session) → IsFirstHeld locks session from most (Some held) → (has_cat cat (fin.get table held.0) || has_cat cat (kept_row (fin.get locks held.0))) ≡ false
         → first_owner (holding_from from) ≡ first_owner (holding_from (held.0 + 1))
     find_goes held is has =
         let lock = by_lock session held.1 (fin.get locks held.0) is.2 in
@@ -119,7 +119,7 @@ module _ (table : Table) (locks : Locks) (session : Session) (cat : ℕ) where
     pub find_free : ((q : ℕ) → most < q → fin.get locks q ≡ None) → IsFirstHeld locks session from most None → first_owner (holding_from from) ≡ None
     find_free fits free = ap first_owner (walk_fails (is_held_with_cat table session cat) locks from
         (λ q v le there. cat_fails (is_others session (Some v)) _ (by_place q v le there (place most q)))) where
-          by_place : (q : ℕ) (v : Kept) → from ≤ q → fin.get locks q ≡ Some v → (most < q) ⊎ ((q ≡ most) ⊎ (q < most)) → is_others session (Some v) ≡ false
+          by_place : (q : ℕ) (v : Lock) → from ≤ q → fin.get locks q ≡ Some v → (most < q) ⊎ ((q ≡ most) ⊎ (q < most)) → is_others session (Some v) ≡ false
           by_place q v le there (inl past) = absurd (cc (sym there ∙ fits q past))
           by_place q v le there (inr (inl e)) = own_lock session v (fin.get locks q) there (free q le (omega (arith, e)))
           by_place q v le there (inr (inr lt)) = own_lock session v (fin.get locks q) there (free q le (omega (arith, lt)))

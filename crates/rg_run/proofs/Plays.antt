@@ -16,7 +16,7 @@ use Rattle.rg_stmt.specs.declared.line.Line.TheVariants.{Said}
 use Rattle.rg_stmt.specs.declared.stmt.Reply.{Reply}
 use Rattle.rg_stmt.specs.declared.stmt.Stmt.{Stmt}
 use Rattle.rg_stmt.specs.Entries.{said_entry}
-use Rattle.rg_model.specs.Committed.{committed}
+use Rattle.rg_model.specs.Committed.{committed_table}
 use Rattle.rg_model.specs.Legal.{Legal, IsActor, asks}
 use Rattle.rg_model.specs.Possible.{possible, states_before}
 use Rattle.rg_model.specs.Run.{Run}
@@ -57,9 +57,9 @@ Goes-push lines trace store after session stmt reply is says goes =
 
 -- the state after entry 0
 opened : State
-opened = at_rest (committed (at_rest no_rows 1)) 1
+opened = at_rest (committed_table (at_rest no_rows 1)) 1
 
-none : committed (at_rest no_rows 1) ≡ no_rows
+none : committed_table (at_rest no_rows 1) ≡ no_rows
 none = committed-at_rest no_rows 1
 
 pub Goes-start : (store : Store) → Shows (at_rest no_rows 1) store → Goes [] (first_entry ∷ []) store
@@ -70,8 +70,8 @@ Goes-start store s =
       run = (
         opened,
         record {
-          table = committed (at_rest no_rows 1);
-          left = only_one (committed (at_rest no_rows 1)) (committed (at_rest no_rows 1)) refl;
+          table = committed_table (at_rest no_rows 1);
+          left = only_one (committed_table (at_rest no_rows 1)) (committed_table (at_rest no_rows 1)) refl;
           copy_left = refl;
           counted = ap map.len none ∙ len-empty nat_cmp Row;
           at_rest = refl;
@@ -135,7 +135,7 @@ Goes-legal lines trace store goes =
       answers = answers_stand trace quiet;
     }
 
-pub Goes-ends : (lines : List Line) (trace : List Entry) (store : Store) (rows : ℕ) → Goes lines trace store → ((st : State) → Shows st store → rows ≡ map.len (committed st)) → TraceOf lines trace × EndsWithRows trace rows
+pub Goes-ends : (lines : List Line) (trace : List Entry) (store : Store) (rows : ℕ) → Goes lines trace store → ((st : State) → Shows st store → rows ≡ map.len (committed_table st)) → TraceOf lines trace × EndsWithRows trace rows
 Goes-ends lines trace store rows goes counted = (goes.entries, (goes.state, goes.run, counted goes.state goes.shown))
 
 -- a trace of no entries is legal

@@ -3,11 +3,11 @@ use Rattle.std.proofs.Common.{◌≡◌, ◌<◌, ◌^◌, ◌⊎◌, inl, inr, 
 use Rattle.std.specs.Option.{is_some}
 use Rattle.std.specs.FinMap as map
 use Rattle.rg_base.specs.First.{IsEmptyFrom}
-use Rattle.rg_base.specs.declared.kept.Kept.{Kept}
+use Rattle.rg_base.specs.declared.lock.Lock.{Lock}
 use Rattle.rg_base.specs.declared.row.Row.{Row}
 use Rattle.rg_base.specs.declared.session.Session.{Session}
 use Rattle.rg_base.proofs.Walk.{place}
-use Rattle.rg_lock.specs.Taken.{taken}
+use Rattle.rg_lock.specs.Taken.{take_key}
 use Rattle.rg_model.specs.State.{Locks}
 use Rattle.rg_run.specs.Rows.{Slots, HasRoom, HoldsElse}
 use Rattle.rg_run.proofs.RowsView.{absent_of, contains-insert}
@@ -33,9 +33,9 @@ module _ (key : ℕ) (old new : Slots) (others : HoldsElse key old new) where
     by_key (inr apart) = others q apart ∙ room q (sym (same q apart) ∙ there)
 
 -- a key that was taken, and the others
-pub taken_else : (locks : Locks) (session : Session) (key : ℕ) (row : Option Row) (q : ℕ) → (q ≡ key → ⊥) → map.contains_key (taken locks session key row) q ≡ map.contains_key locks q
+pub taken_else : (locks : Locks) (session : Session) (key : ℕ) (row : Option Row) (q : ℕ) → (q ≡ key → ⊥) → map.contains_key (take_key locks session key row) q ≡ map.contains_key locks q
 taken_else locks session key row q apart = by_test (map.contains_key locks key) where
-  fresh : Kept
+  fresh : Lock
   fresh = record { owner = session; row = row }
 
   by_test : (b : Bool) → map.contains_key (if b then locks else map.insert locks key fresh) q ≡ map.contains_key locks q

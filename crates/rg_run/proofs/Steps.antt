@@ -9,10 +9,10 @@ use Rattle.rg_stmt.specs.declared.stmt.Reply.{Reply}
 use Rattle.rg_stmt.specs.declared.stmt.Reply.TheVariants.{Done, Found, Listed, Keyed, Absent, Duplicate, Held, NoMemory}
 use Rattle.rg_stmt.specs.declared.stmt.Stmt.{Stmt}
 use Rattle.rg_stmt.specs.declared.stmt.Stmt.TheVariants.{Insert, Update, Delete, Select, Scan, Find, Commit, Rollback}
-use Rattle.rg_model.specs.Claims.{is_drained, claimed}
+use Rattle.rg_model.specs.Claims.{is_drained, claim_classes}
 use Rattle.rg_model.specs.Committed.{set_to}
 use Rattle.rg_model.specs.Held.{holder, scan_holder, find_holder}
-use Rattle.rg_model.specs.Plain.{plain_reply, unless_held, rows_between, keys_with_cat, written}
+use Rattle.rg_model.specs.Plain.{plain_reply, unless_held, rows_between, keys_with_cat, write_key}
 use Rattle.rg_model.specs.Run.{Says}
 use Rattle.rg_model.specs.Said.{may_want_memory}
 use Rattle.rg_model.specs.State.{State}
@@ -61,7 +61,7 @@ module _ (st : State) (session : Session) (old new : Store) (s : Shows st old) w
   -- a write that is done
   module _ (key : ℕ) (row : Option Row) (w : Writes old session key row new) where
     written_to : State
-    written_to = claimed (written st session key row) session (Reader ∷ Writer ∷ [])
+    written_to = claim_classes (write_key st session key row) session (Reader ∷ Writer ∷ [])
 
     shows_written : Shows written_to new
     unfolding written_to
@@ -99,7 +99,7 @@ module _ (st : State) (session : Session) (store : Store) (s : Shows st store) w
   go_wanting stmt may = (st, (s.up, not_drained st session stmt s.free, (may, refl)), s)
 
   read_from : State
-  read_from = claimed st session (Reader ∷ [])
+  read_from = claim_classes st session (Reader ∷ [])
 
   shows_read : Shows read_from store
   unfolding read_from

@@ -9,7 +9,7 @@ use Rattle.rg_base.proofs.Walk.{place}
 use Rattle.rg_stmt.specs.declared.stmt.Reply.TheVariants.{Done}
 use Rattle.rg_stmt.specs.declared.stmt.Stmt.TheVariants.{Commit, Rollback}
 use Rattle.rg_lock.specs.Released.{Releases}
-use Rattle.rg_model.specs.Committed.{set_to, put_back, own, without}
+use Rattle.rg_model.specs.Committed.{set_to, put_back, own_locks, locks_without}
 use Rattle.rg_model.specs.Plain.{after_commit, after_rollback}
 use Rattle.rg_model.specs.State.{State, Locks}
 use Rattle.rg_model.proofs.Ends.{put_own-remove, put_own-none}
@@ -57,30 +57,30 @@ unreleased_sound session store locks sound releases = subst (λ (l : Locks). IsS
 -- what is left to put back comes to the same
 pub put_back_goes : (session : Session) (store : Store) (slots : Slots) (locks : Locks) (released : ℕ × Option Row) → Releases session store.locks locks (Some released)
     → rows_of slots ≡ set_to (rows_of store.slots) released.0 released.1
-    → put_back (map.entries (own session locks)) (rows_of slots) ≡ put_back (map.entries (own session store.locks)) (rows_of store.slots)
+    → put_back (map.entries (own_locks session locks)) (rows_of slots) ≡ put_back (map.entries (own_locks session store.locks)) (rows_of store.slots)
 put_back_goes session store slots locks released releases rows =
-    ap (λ (l : Locks). put_back (map.entries (own session l)) (rows_of slots)) releases.1
-    ∙ ap (put_back (map.entries (own session (map.remove store.locks released.0)))) rows
+    ap (λ (l : Locks). put_back (map.entries (own_locks session l)) (rows_of slots)) releases.1
+    ∙ ap (put_back (map.entries (own_locks session (map.remove store.locks released.0)))) rows
     ∙ put_own-remove session store.locks released.0 released.1 releases.0 (rows_of store.slots)
 
-pub put_back_ends : (session : Session) (store : Store) (locks : Locks) → Releases session store.locks locks None → put_back (map.entries (own session store.locks)) (rows_of store.slots) ≡ rows_of store.slots
+pub put_back_ends : (session : Session) (store : Store) (locks : Locks) → Releases session store.locks locks None → put_back (map.entries (own_locks session store.locks)) (rows_of store.slots) ≡ rows_of store.slots
 put_back_ends session store locks releases = put_own-none session store.locks releases.1 (rows_of store.slots)
 
 module _ (st : State) (session : Session) (old new : Store) (s : Shows st old) where
-  pub go_commit : rows_of new.slots ≡ rows_of old.slots → new.locks ≡ without session old.locks → IsSound new → Goes st session Commit Done new
+  pub go_commit : rows_of new.slots ≡ rows_of old.slots → new.locks ≡ locks_without session old.locks → IsSound new → Goes st session Commit Done new
   go_commit rows locks sound = (
     after_commit st session,
     (s.up, not_drained st session Commit s.free, (refl, refl)),
-    record { rows = s.rows ∙ sym rows; locks = ap (without session) s.locks ∙ sym locks; sound = sound; up = s.up; free = s.free },
+    record { rows = s.rows ∙ sym rows; locks = ap (locks_without session) s.locks ∙ sym locks; sound = sound; up = s.up; free = s.free },
   )
 
-  pub go_rollback : rows_of new.slots ≡ put_back (map.entries (own session old.locks)) (rows_of old.slots) → new.locks ≡ without session old.locks → IsSound new → Goes st session Rollback Done new
+  pub go_rollback : rows_of new.slots ≡ put_back (map.entries (own_locks session old.locks)) (rows_of old.slots) → new.locks ≡ locks_without session old.locks → IsSound new → Goes st session Rollback Done new
   go_rollback rows locks sound = (
     after_rollback st session,
     (s.up, not_drained st session Rollback s.free, (refl, refl)),
     record {
-      rows = ap (λ (l : Locks). put_back (map.entries (own session l)) st.table) s.locks ∙ ap (put_back (map.entries (own session old.locks))) s.rows ∙ sym rows;
-      locks = ap (without session) s.locks ∙ sym locks;
+      rows = ap (λ (l : Locks). put_back (map.entries (own_locks session l)) st.table) s.locks ∙ ap (put_back (map.entries (own_locks session old.locks))) s.rows ∙ sym rows;
+      locks = ap (locks_without session) s.locks ∙ sym locks;
       sound = sound;
       up = s.up;
       free = s.free;

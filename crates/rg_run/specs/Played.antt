@@ -8,7 +8,7 @@ use Rattle.rg_stmt.specs.declared.line.Line.{Line}
 use Rattle.rg_stmt.specs.declared.line.Line.TheVariants.{Said, Reorg, Step, Flush, Show, Death}
 use Rattle.rg_stmt.specs.declared.stmt.Reply.{Reply}
 use Rattle.rg_stmt.specs.Entries.{opened_entry, said_entry}
-use Rattle.rg_model.specs.Committed.{committed}
+use Rattle.rg_model.specs.Committed.{committed_table}
 use Rattle.rg_model.specs.Run.{Run}
 use Rattle.rg_model.specs.State.{State, Table, at_rest, row_count}
 use Rattle.rg_run.specs.Shows.{Shows, is_of_table}
@@ -33,10 +33,11 @@ IsPlayed Flush = ⊥
 IsPlayed Show = ⊥
 IsPlayed Death = ⊥
 
--- The entry of a line has its session and its statement, and a reply of a table; nobody was asked
--- and the volume was not called.
+-- The entry of a line has its session and its statement, and a reply of a table; neither the
+-- operator nor the volume was called.
 abbrev pub EntryOf : Line → Entry → Type 0
-EntryOf (Said session stmt) entry = (reply : Reply) × (entry ≡ said_entry session stmt reply 0) × (is_of_table stmt reply ≡ true)
+EntryOf (Said session stmt) entry =
+    (reply : Reply) × (entry ≡ said_entry session stmt reply 0) × (is_of_table stmt reply ≡ true)
 EntryOf (Reorg options) entry = ⊥
 EntryOf Step entry = ⊥
 EntryOf Flush entry = ⊥
@@ -50,16 +51,18 @@ TraceOf lines (entry ∷ entries) = (entry ≡ first_entry) × AllZip EntryOf li
 
 -- the trace of some first lines
 abbrev pub TraceOfFront : List Line → List Entry → Type 0
-TraceOfFront lines trace = (front : List Line) × (rest : List Line) × (lines ≡ front ++ rest) × TraceOf front trace
+TraceOfFront lines trace =
+    (front : List Line) × (rest : List Line) × (lines ≡ front ++ rest) × TraceOf front trace
 
--- The trace leads from the table without rows to a last state, and that has so many committed rows. Nothing is in
--- doubt on the way, so no other state can be the last.
+-- The trace leads from the table without rows to a last state, and that has so many committed rows.
+-- Nothing is in doubt on the way, so no other state can be the last.
 abbrev pub EndsWithRows : List Entry → ℕ → Type 0
 EndsWithRows trace rows =
-    (state : State) × Run [] (at_rest no_rows 1) trace state × (rows ≡ row_count (committed state))
+    (state : State) × Run [] (at_rest no_rows 1) trace state
+    × (rows ≡ row_count (committed_table state))
 
--- a whole run has an entry for each line; one that memory was wanting for has those of some first
--- lines, or none at all
+-- a whole run has an entry for each line; one that ran out of memory has those of some first lines,
+-- or none at all
 abbrev pub Ends : List Line → List Entry → RunEnd → Type 0
 Ends lines trace (Whole rows) = TraceOf lines trace × EndsWithRows trace rows
 Ends lines trace NoMemory = (trace ≡ []) ⊎ TraceOfFront lines trace

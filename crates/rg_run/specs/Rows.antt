@@ -22,7 +22,8 @@ rows_of slots = set_all (map.entries slots) map.empty
 
 -- each locked key is held
 abbrev pub HasRoom : Slots → Locks → Type 0
-HasRoom slots locks = (key : ℕ) → map.contains_key locks key ≡ true → map.contains_key slots key ≡ true
+HasRoom slots locks =
+    (key : ℕ) → map.contains_key locks key ≡ true → map.contains_key slots key ≡ true
 
 -- each key but this one is held where it was
 abbrev pub HoldsElse : ℕ → Slots → Slots → Type 0

@@ -14,8 +14,8 @@ use rg_stmt::event::Entry;
 use rg_stmt::line::Line;
 use std::alloc::Global;
 
-/// Plays the lines in order over a table without rows. The volume is handed back as it was, since
-/// the table lies in memory, and nobody is asked.
+/// Plays the lines in order over a table without rows. The table lies in memory, so neither the
+/// volume nor the operator is called.
 pub fn run<V: Volume, O: Operator>(
     alloc: Global,
     volume: V,
@@ -61,7 +61,7 @@ fn play(alloc: Global, lines: Vec<Line>) -> (Vec<Entry>, RunEnd)
     (trace, RunEnd::Whole { rows })
 }
 
-// Makes the entry of a line. Where memory is wanting for the entry, nothing was done.
+// Makes the entry of a line, which is a statement. If there is no memory for the entry, nothing is done.
 fn play_line(
     alloc: Global,
     store: &mut Store,
@@ -70,12 +70,15 @@ fn play_line(
 ) -> Result<(), NoMemory>
     requires line { IsPlayed line }
     requires sound { IsSound store.old }
-    ensures goes { OnOk result ((lines : List Line) → Goes lines trace.old.items store.old → Goes (lines ++ line ∷ []) trace.new.items store.new) }
+    ensures goes { OnOk result
+        ((lines : List Line) → Goes lines trace.old.items store.old
+        → Goes (lines ++ line ∷ []) trace.new.items store.new) }
     ensures err { OnErr result (trace.new.items ≡ trace.old.items) }
 {
     trace.reserve(1)?;
-    let Line::Said { session, stmt } = line else {
-        return Ok(());
+    let (session, stmt) = match line {
+        Line::Said { session, stmt } => (session, stmt),
+        Line::Reorg(_) | Line::Step | Line::Flush | Line::Show | Line::Death => unreachable!(),
     };
     let reply = store.say(alloc, session, &stmt);
     trace.push_reserved(Entry::said(session, stmt, reply, 0));

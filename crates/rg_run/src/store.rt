@@ -2,9 +2,9 @@ ghost use Rattle.std.specs.Prelude.{◌≡◌, ◌≤◌, ◌<◌, ◌-◌, ◌^
 ghost use Rattle.std.specs.Prelude.{OnErr, IfOk, Some, None};
 ghost use Rattle.std.specs.FinMap as map;
 ghost use Rattle.std.specs.Option.{is_some};
-ghost use Rattle.rg_lock.specs.Taken.{taken};
-ghost use Rattle.rg_model.specs.Committed.{committed};
-ghost use Rattle.rg_lock.specs.Held.{row_of};
+ghost use Rattle.rg_lock.specs.Taken.{take_key};
+ghost use Rattle.rg_model.specs.Committed.{committed_table};
+ghost use Rattle.rg_lock.specs.Held.{kept_row};
 ghost use Rattle.rg_model.specs.Held.{holder, find_holder, has_cat};
 ghost use Rattle.rg_model.specs.State.{State, at_rest};
 ghost use Rattle.rg_run.specs.Rows.{rows_of};
@@ -171,7 +171,8 @@ impl Store {
 
     // The other session that has the least key whose present or kept row has the `cat`.
     fn find_holder(&self, session: Session, cat: u64) -> Option<Session>
-        ensures { IsSound self.now → result ≡ find_holder (rows_of self.now.slots) self.now.locks session cat }
+        ensures { IsSound self.now
+            → result ≡ find_holder (rows_of self.now.slots) self.now.locks session cat }
     {
         let mut from = 0;
         while let Some((key, owner)) = self.locks.first_held(session, from, u64::MAX) {
@@ -188,7 +189,9 @@ impl Store {
 
     // The present row of the key, or the one that its lock keeps, has the `cat`.
     fn is_of_cat(&self, key: u64, cat: u64) -> bool
-        ensures { result ≡ (has_cat cat (map.get (rows_of self.now.slots) key) || has_cat cat (row_of (map.get self.now.locks key))) }
+        ensures { result
+            ≡ (has_cat cat (map.get (rows_of self.now.slots) key)
+            || has_cat cat (kept_row (map.get self.now.locks key))) }
     {
         has_cat(row_at(&self.slots, key), cat) || has_cat(self.locks.kept(key), cat)
     }
@@ -226,7 +229,11 @@ impl Store {
     // Locks a key that no other session has, and keeps its row.
     fn lock(&mut self, alloc: Global, session: Session, key: u64) -> Result<(), NoMemory>
         requires { holder self.old.locks session key ≡ None }
-        ensures ok { OnOk result (self.new ≡ record self.old { locks = taken self.old.locks session key (map.get (rows_of self.old.slots) key) }) }
+        ensures ok { OnOk result
+            (self.new ≡ record self.old {
+              locks =
+                  take_key self.old.locks session key (map.get (rows_of self.old.slots) key);
+            }) }
         ensures absent { OnErr result (map.get self.old.locks key ≡ None) }
         ensures err { OnErr result (self.new ≡ self.old) }
     {
@@ -246,7 +253,7 @@ impl Store {
     /// The number of committed rows. It looks at each held key.
     pub fn committed_rows(&self) -> u64
         requires { IsSound self.now }
-        ensures { (st : State) → Shows st self.now → result ≡ map.len (committed st) }
+        ensures { (st : State) → Shows st self.now → result ≡ map.len (committed_table st) }
     {
         let mut count = self.slots.len();
         let mut next = self.slots.first_from(0);

@@ -32,7 +32,7 @@ pub enum Event {
         stmt: Stmt,
         reply: Reply,
     },
-    /// The utility began, over this copy and so many pages.
+    /// The utility started, over this copy and so many pages.
     Started {
         options: Options,
         copy: u8,
@@ -47,9 +47,9 @@ pub enum Event {
     },
     /// A control statement came while the engine was down.
     StartDown,
-    /// Memory was wanting for the utility.
+    /// Out of memory for the utility.
     StartNoMemory,
-    /// A step, and no utility runs.
+    /// A step while no utility runs.
     Idle,
     /// A step while the engine was down.
     StepDown,
@@ -78,7 +78,7 @@ pub enum Event {
     Wait(Session),
     /// The drain was granted.
     Granted(DrainFor),
-    /// The drain was given up for the so-manieth time.
+    /// The drain was abandoned; the number says how often so far.
     GiveUp(u32),
     /// A part of the last iteration.
     Last {
@@ -102,13 +102,13 @@ pub enum Event {
     Flush {
         page: u32,
     },
-    /// No page was to be written.
+    /// A flush that found no dirty page.
     Clean,
     /// A flush in which a call of the volume failed.
     FlushDevice,
     /// A flush while the engine was down.
     FlushDown,
-    /// Memory was wanting for a flush.
+    /// Out of memory for a flush.
     FlushNoMemory,
     /// The layout was shown.
     Layout {
@@ -119,13 +119,13 @@ pub enum Event {
     LayoutDevice,
     /// A layout while the engine was down.
     LayoutDown,
-    /// Memory was wanting for a layout.
+    /// Out of memory for a layout.
     LayoutNoMemory,
 }
 
 /// An event in the trace of a run. `answer` is the operator's, where the event is a step that asked
-/// it. `calls` is the number of calls of the volume from the run's begin to the end of this event;
-/// it stands still at 2 ^ 64 - 1.
+/// it. `calls` is the number of volume calls from the entry of the program's call to the end of
+/// this event; an X does not restart it, and it stays at 2 ^ 64 - 1 once it stands there.
 #[derive(Debug, Drop)]
 pub struct Entry {
     pub actor: Actor,
@@ -137,7 +137,7 @@ pub struct Entry {
 impl Entry {
     ghost use Rattle.rg_stmt.specs.Entries.{opened_entry, said_entry};
 
-    /// The entry of an opening, before which the volume was called so often.
+    /// The entry of an opening, at the end of which the volume had been called `calls` times.
     pub fn opened(copy: u8, rows: u64, pages: u32, used: u32, calls: u64) -> Entry
         ensures { result ≡ opened_entry copy rows pages used calls }
     {

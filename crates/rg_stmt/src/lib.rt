@@ -1,7 +1,7 @@
 //! Statements and their replies, the events of a run and its trace, and the lines of a deck.
 #![tactic(auto)]
 
-/// What happens, and who makes it happen.
+/// Events, who makes them, and the entries of a trace.
 pub mod event;
 /// Where the rows of a copy lie.
 pub mod layout;

@@ -15,6 +15,6 @@ pub enum Line {
     Flush,
     /// The layout.
     Show,
-    /// The death of the process, and a new opening.
+    /// Process death, and a new opening.
     Death,
 }

@@ -23,8 +23,8 @@ pub enum Stmt {
     Rollback,
 }
 
-/// What a session is answered. Number 0 says that the statement was done; after any other the table
-/// is as before, but for the rollback of a victim.
+/// The reply to a statement. Number 0 says that the statement was done. After any other number the
+/// table is as before, except for the rollback of a victim.
 #[derive(Debug, Drop)]
 pub enum Reply {
     /// Done, number 0.
@@ -41,8 +41,8 @@ pub enum Reply {
     Duplicate,
     /// This session has locked the key, number -913.
     Held(Session),
-    /// This session held the statement up as often as it may be; the unit was rolled back, number
-    /// -911.
+    /// This session blocked the statement as often as it may be tried; the unit was rolled back,
+    /// number -911.
     Victim(Session),
     /// A drain covers a class that the statement needs and its session doesn't hold, number -904.
     Drained,
@@ -54,6 +54,6 @@ pub enum Reply {
     Device,
     /// The engine is down since a failed end of a unit or a failed switch, number 4.
     Down,
-    /// Memory was wanting, number 5.
+    /// Out of memory, number 5.
     NoMemory,
 }

@@ -114,7 +114,7 @@ impl BytesSink {
 }
 
 impl Sink for BytesSink {
-    ghost held = { λ s. Some s.held.items };
+    ghost contents = { λ s. Some s.held.items };
 
     ghost faults = { λ s. s.faults };
 

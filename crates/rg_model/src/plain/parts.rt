@@ -2,10 +2,10 @@
 ghost use Rattle.std.specs.Prelude.{◌≡◌, OnOk, OnErr, IfOk, Some, None, true};
 ghost use Rattle.std.specs.FinMap as map;
 ghost use Rattle.std.specs.Option.{option_copied};
-ghost use Rattle.rg_model.specs.Committed.{set_to, without};
+ghost use Rattle.rg_model.specs.Committed.{set_to, locks_without};
 ghost use Rattle.rg_model.specs.Held.{is_others};
 
-use rg_base::kept::Kept;
+use rg_base::lock::Lock;
 use rg_base::map::NumberMap;
 use rg_base::no_memory::NoMemory;
 use rg_base::row::Row;
@@ -13,7 +13,7 @@ use rg_base::session::{Class, Session};
 use std::alloc::Global;
 
 /// The lock is another session's.
-pub fn is_others(session: Session, kept: &Kept) -> bool
+pub fn is_others(session: Session, kept: &Lock) -> bool
     ensures { result ≡ is_others session (Some kept.now) }
 {
     kept.owner.0 != session.0
@@ -46,7 +46,8 @@ pub fn set_row(table: &mut NumberMap<Row>, key: u64, row: Option<Row>) -> Result
 pub fn give_back(claims: &mut NumberMap<Class>, number: u64, before: Option<Class>)
     requires { map.contains_key claims.old number ≡ true }
     ensures gone { before ≡ None → claims.new ≡ map.remove claims.old number }
-    ensures back { (class : Class) → before ≡ Some class → claims.new ≡ map.insert claims.old number class }
+    ensures back { (class : Class) → before ≡ Some class
+        → claims.new ≡ map.insert claims.old number class }
 {
     match before {
         None => {
@@ -59,8 +60,8 @@ pub fn give_back(claims: &mut NumberMap<Class>, number: u64, before: Option<Clas
 }
 
 /// Drops the locks of a session. It takes no memory.
-pub fn drop_locks(locks: &mut NumberMap<Kept>, session: Session)
-    ensures { locks.new ≡ without session locks.old }
+pub fn drop_locks(locks: &mut NumberMap<Lock>, session: Session)
+    ensures { locks.new ≡ locks_without session locks.old }
 {
     locks.retain(|_, kept| kept.owner.0 != session.0);
 }

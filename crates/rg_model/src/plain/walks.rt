@@ -3,14 +3,14 @@ ghost use Rattle.std.specs.Prelude.{◌≡◌, ◌+◌, ◌&&◌, nat_le, OnOk, 
 ghost use Rattle.std.specs.FinMap as map;
 ghost use Rattle.std.specs.Option.{option_copied, option_map};
 ghost use Rattle.rg_base.specs.First.{IsFirstFrom};
-ghost use Rattle.rg_model.specs.Committed.{set_to, put_back, own};
+ghost use Rattle.rg_model.specs.Committed.{set_to, put_back, own_locks};
 ghost use Rattle.rg_model.specs.Held.{is_others, has_cat, is_held_between, is_held_with_cat};
 ghost use Rattle.rg_model.specs.Held.{scan_holder, find_holder};
 ghost use Rattle.rg_model.specs.Plain.{rows_between, keys_with_cat};
 ghost use Rattle.rg_model.specs.Start.{start_of};
 
 use crate::plain::parts::{copy_of, is_others, set_row};
-use rg_base::kept::Kept;
+use rg_base::lock::Lock;
 use rg_base::map::NumberMap;
 use rg_base::no_memory::NoMemory;
 use rg_base::row::Row;
@@ -20,7 +20,8 @@ use std::alloc::Global;
 
 // The entry with the least key, or with the least one above the last key.
 fn entry_behind<V: Drop>(entries: &NumberMap<V>, last: Option<u64>) -> Option<(u64, &V)>
-    ensures { IsFirstFrom entries.now (start_of last) (option_map (λ entry. (entry.0, entry.1.now)) result) }
+    ensures { IsFirstFrom entries.now (start_of last)
+        (option_map (λ entry. (entry.0, entry.1.now)) result) }
 {
     match last {
         Some(key) => entries.first_after(key),
@@ -34,14 +35,14 @@ fn is_between(lo: u64, hi: u64, key: u64) -> bool
     lo <= key && key <= hi
 }
 
-fn is_held_between(session: Session, lo: u64, hi: u64, key: u64, kept: &Kept) -> bool
+fn is_held_between(session: Session, lo: u64, hi: u64, key: u64, kept: &Lock) -> bool
     ensures { result ≡ is_held_between session lo hi (key, kept.now) }
 {
     is_between(lo, hi, key) && is_others(session, kept)
 }
 
 /// The owner of the least key in the range that another session has locked.
-pub fn scan_holder(locks: &NumberMap<Kept>, session: Session, lo: u64, hi: u64) -> Option<Session>
+pub fn scan_holder(locks: &NumberMap<Lock>, session: Session, lo: u64, hi: u64) -> Option<Session>
     ensures { result ≡ scan_holder locks.now session lo hi }
 {
     let mut last = None;
@@ -68,7 +69,7 @@ fn is_held_with_cat(
     session: Session,
     cat: u64,
     key: u64,
-    kept: &Kept,
+    kept: &Lock,
 ) -> bool
     ensures { result ≡ is_held_with_cat table.now session cat (key, kept.now) }
 {
@@ -78,7 +79,7 @@ fn is_held_with_cat(
 /// The owner of the least key, locked by another session, whose present or kept row has the `cat`.
 pub fn find_holder(
     table: &NumberMap<Row>,
-    locks: &NumberMap<Kept>,
+    locks: &NumberMap<Lock>,
     session: Session,
     cat: u64,
 ) -> Option<Session>
@@ -145,11 +146,12 @@ fn copy_table(table: &NumberMap<Row>, alloc: Global) -> Result<NumberMap<Row>, N
 /// The table with the kept rows of a session's locks put back.
 pub fn rolled_back(
     table: &NumberMap<Row>,
-    locks: &NumberMap<Kept>,
+    locks: &NumberMap<Lock>,
     alloc: Global,
     session: Session,
 ) -> Result<NumberMap<Row>, NoMemory>
-    ensures { IfOk result (λ rolled. rolled ≡ put_back (map.entries (own session locks.now)) table.now) }
+    ensures { IfOk result
+        (λ rolled. rolled ≡ put_back (map.entries (own_locks session locks.now)) table.now) }
 {
     let mut rolled = copy_table(table, alloc)?;
     let mut last = None;

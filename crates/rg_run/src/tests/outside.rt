@@ -52,6 +52,8 @@ impl Volume for CountingVolume {
     }
 
     ghost told_capacities = { λ _. tt };
+
+    ghost whole_pages = { λ _. tt };
 }
 
 /// An operator that wants nothing, and counts how often it is asked.

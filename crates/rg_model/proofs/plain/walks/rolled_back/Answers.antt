@@ -1,7 +1,7 @@
 use Rattle.std.proofs.Common.{cond, sym, ◌∙◌, ap}
 use Rattle.std.specs.Ordering.{nat_cmp, eq_by_cmp}
 use Rattle.std.specs.FinMap as map
-use Rattle.rg_model.specs.Committed.{put_back, own}
+use Rattle.rg_model.specs.Committed.{put_back, own_locks}
 use Rattle.rg_model.specs.Held.{is_others}
 use Rattle.rg_model.specs.Start.{start_of}
 use Rattle.rg_model.specs.State.{Table}
@@ -15,7 +15,7 @@ loop-key-preserved-in_ok-set_row c =
     let session = c.args.session in
     let table = c.args.table.now in
     let locks = c.args.locks.now in
-    let after = put_back (map.entries (own session locks)) table in
+    let after = put_back (map.entries (own_locks session locks)) table in
     let rolled = c.loop-key.rolled in
     let key = c.in-Some.key in
     let first = c.in-Some.ensures in
@@ -30,7 +30,7 @@ loop-key-preserved c =
     let session = c.args.session in
     let table = c.args.table.now in
     let locks = c.args.locks.now in
-    let after = put_back (map.entries (own session locks)) table in
+    let after = put_back (map.entries (own_locks session locks)) table in
     let key = c.in-Some.key in
     let first = c.in-Some.ensures in
     turned-kept table after c.loop-key.rolled (start_of c.loop-key.last) key c.loop-key.invariant first.0
@@ -40,5 +40,5 @@ loop-key-preserved c =
 pub returns : goal.returns
 returns c =
     let session = c.args.session in
-    turned-ends c.args.table.now (put_back (map.entries (own session c.args.locks.now)) c.args.table.now) c.loop-key.rolled (start_of c.loop-key.last) 0 c.loop-key.invariant
+    turned-ends c.args.table.now (put_back (map.entries (own_locks session c.args.locks.now)) c.args.table.now) c.loop-key.rolled (start_of c.loop-key.last) 0 c.loop-key.invariant
     (λ key above. put_own-others session c.args.locks.now c.args.table.now key (ap (is_others session) (c.in_default.ensures key above)))

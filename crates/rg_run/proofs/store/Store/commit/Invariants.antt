@@ -1,6 +1,6 @@
 use Rattle.std.proofs.Common.{◌≡◌}
 use Rattle.std.specs.FinMap as map
-use Rattle.rg_model.specs.Committed.{without}
+use Rattle.rg_model.specs.Committed.{locks_without}
 use Rattle.rg_run.specs.Rows.{rows_of}
 use Rattle.rg_run.specs.Shows.{IsSound}
 use Rattle.rg_run.proofs.store.Store.commit.Given as goal
@@ -9,7 +9,7 @@ use Rattle.rg_run.proofs.store.Store.commit.Given as goal
 abbrev pub invariant-loop-key : goal.invariant-loop-key
 invariant-loop-key l = record {
   rows : rows_of l.self.slots ≡ rows_of l.fn.self.slots;
-  locks : without l.session l.self.locks ≡ without l.session l.fn.self.locks;
+  locks : locks_without l.session l.self.locks ≡ locks_without l.session l.fn.self.locks;
   sound : IsSound l.self;
 }
 

@@ -1,6 +1,6 @@
 use Rattle.std.proofs.Common.{◌≡◌, refl, sym, ◌∙◌, ap, subst}
 use Rattle.std.specs.FinMap as map
-use Rattle.rg_lock.specs.Taken.{taken}
+use Rattle.rg_lock.specs.Taken.{take_key}
 use Rattle.rg_model.specs.Committed.{set_to}
 use Rattle.rg_model.specs.State.{Table}
 use Rattle.rg_run.proofs.RowsView.{rows-insert, contains-insert, contains-inserted}
@@ -18,8 +18,8 @@ returns c =
     let locked = c.in-Ok-lock.ensures.ok in
     let slots = ap (λ (s : Store). s.slots) locked in
     let rows = ap rows_of slots ∙ c.in-Ok.ensures.rows in
-    let locks : c.lock.new.self.locks ≡ taken old.locks session key (map.get (rows_of old.slots) key) =
-    ap (λ (s : Store). s.locks) locked ∙ ap (λ (table : Table). taken old.locks session key (map.get table key)) c.in-Ok.ensures.rows in
+    let locks : c.lock.new.self.locks ≡ take_key old.locks session key (map.get (rows_of old.slots) key) =
+    ap (λ (s : Store). s.locks) locked ∙ ap (λ (table : Table). take_key old.locks session key (map.get table key)) c.in-Ok.ensures.rows in
     let others : HoldsElse key old.slots c.set.new.slots =
     λ q apart. ap (λ m. map.contains_key m q) c.set.ensures ∙ contains-insert c.lock.new.self.slots key q apart c.args.row ∙ ap (λ m. map.contains_key m q) slots ∙ c.in-Ok.ensures.others q apart in
     record {
