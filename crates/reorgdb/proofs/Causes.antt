@@ -1,12 +1,16 @@
--- What follows from an answer for each status.
-use Rattle.std.proofs.Common.{◌≡◌, ◌≢◌, ◌<◌, ◌≤◌, ◌⊎◌, inl, inr, ℕ, List, [], ◌∷◌, ◌++◌, Option, Some, None, length, refl, sym, ◌∙◌, ap, subst, arith, append-nil, length-append}
+-- The contract of a call follows from what it comes to.
+use Rattle.std.proofs.Common.{◌≡◌, ◌≢◌, ◌<◌, ◌≤◌, ◌+◌, ◌⊎◌, inl, inr, ℕ, List, [], ◌∷◌, ◌++◌, Option, Some, None, length, refl, sym, ◌∙◌, ap, subst, arith, append-nil, length-append}
 use Rattle.std.specs.List.{Contains}
 use Rattle.std.specs.Io.KnownBytes.{Consumes, Appends, IsAtEnd}
+use Rattle.rg_deck.specs.declared.read.TheConstants.{DECK_LIMIT}
+use Rattle.rg_model.specs.Legal.{Legal}
 use Rattle.rg_outside.specs.Faults.{Rose}
+use Rattle.rg_run.specs.Played.{no_rows}
 use Rattle.rg_stmt.specs.declared.event.Entry.{Entry}
-use Rattle.reorgdb.specs.Answer.{Seen, IsPlay, IsDeck, ReadsDeck, Comes, Answers, output_of}
+use Rattle.reorgdb.specs.Answer.{Seen, IsPlay, IsDeck, ReadsDeck, Comes, Concludes, output_of}
 use Rattle.reorgdb.specs.Causes.{Plays, RefusesDeck, IsDue, GivesDue}
-use Rattle.reorgdb.specs.Reading.{TakesTooMany}
+use Rattle.reorgdb.specs.Contract.{Completes}
+use Rattle.reorgdb.specs.Reading.{TakesAtMost, TakesTooMany}
 use Rattle.reorgdb.specs.Refusals.{status_of}
 use Rattle.reorgdb.specs.declared.outcome.Outcome.{Outcome}
 use Rattle.reorgdb.specs.declared.outcome.Outcome.TheVariants.{Played, Words, Deck, Source, Long, NoMemory}
@@ -27,11 +31,11 @@ whole_read (Some all) (Some left) read bytes told taken end =
     let same : all ≡ bytes = cc (told) in
     sym (append-nil read) ∙ ap (λ rest. read ++ rest) (sym end) ∙ sym taken ∙ same
 
-short_and_long : (read bytes : List ℕ) → read ≡ bytes → length read ≤ 16777216 → 16777216 < length bytes → ⊥
+short_and_long : (read bytes : List ℕ) → read ≡ bytes → length read ≤ DECK_LIMIT → DECK_LIMIT < length bytes → ⊥
 short_and_long read bytes same short long = let lengths : length read ≡ length bytes = ap length same in omega arith
 
 -- one byte more than the limit is not taken from fewer
-too_many : (before after : Option (List ℕ)) (taken bytes : List ℕ) → before ≡ Some bytes → Consumes before after taken → length taken ≡ 16777217 → length bytes ≤ 16777216 → ⊥
+too_many : (before after : Option (List ℕ)) (taken bytes : List ℕ) → before ≡ Some bytes → Consumes before after taken → length taken ≡ DECK_LIMIT + 1 → length bytes ≤ DECK_LIMIT → ⊥
 too_many None after taken bytes told consumed many short = absurd (cc (told))
 too_many (Some all) None taken bytes told consumed many short = absurd consumed
 too_many (Some all) (Some left) taken bytes told consumed many short =
@@ -47,7 +51,7 @@ module _ (words : List (List ℕ)) (source source_after sink sink_after : Seen) 
     comes : Comes outcome words source source_after trace print
     shown : Appends sink.bytes sink_after.bytes (output_of outcome print)
 
-  by_status : status ≢ 4 → status ≢ 8 → (a : Answers words source source_after sink sink_after status trace) → OfStatus a.outcome a.print
+  by_status : status ≢ 4 → status ≢ 8 → (a : Concludes words source source_after sink sink_after status trace) → OfStatus a.outcome a.print
   by_status four eight a = elim a.delivered [
     | inl whole ↦ record { is = whole.0; comes = a.comes; shown = whole.1 }
     | inr front ↦ elim front [ inl failed ↦ absurd (four failed.0) | inr wanted ↦ absurd (eight wanted.0) ]
@@ -69,14 +73,14 @@ module _ (words : List (List ℕ)) (source source_after sink sink_after : Seen) 
       }
   played_of outcome print is of = absurd (omega (arith, of.is, is))
 
-  pub plays : Answers words source source_after sink sink_after status trace → status ≡ 0 → Plays source source_after sink sink_after trace
+  plays : Concludes words source source_after sink sink_after status trace → status ≡ 0 → Plays source source_after sink sink_after trace
   plays a is = played_of a.outcome a.print is (by_status (λ e. omega arith) (λ e. omega arith) a)
 
   words_of : (outcome : Outcome) (print : List ℕ) → status ≡ 1 → OfStatus outcome print → IsPlay words → ⊥
   words_of Words print is of = of.comes.0
   words_of outcome print is of = absurd (omega (arith, of.is, is))
 
-  pub no_words : Answers words source source_after sink sink_after status trace → status ≡ 1 → IsPlay words → ⊥
+  no_words : Concludes words source source_after sink sink_after status trace → status ≡ 1 → IsPlay words → ⊥
   no_words a is = words_of a.outcome a.print is (by_status (λ e. omega arith) (λ e. omega arith) a)
 
   deck_of : (outcome : Outcome) (print : List ℕ) → status ≡ 2 → OfStatus outcome print → RefusesDeck source source_after sink sink_after
@@ -86,30 +90,30 @@ module _ (words : List (List ℕ)) (source source_after sink sink_after : Seen) 
       record { bytes = bytes; line = line; read = read; refused = refused; shown = subst (Appends sink.bytes sink_after.bytes) printed of.shown }
   deck_of outcome print is of = absurd (omega (arith, of.is, is))
 
-  pub no_deck : Answers words source source_after sink sink_after status trace → status ≡ 2 → RefusesDeck source source_after sink sink_after
+  no_deck : Concludes words source source_after sink sink_after status trace → status ≡ 2 → RefusesDeck source source_after sink sink_after
   no_deck a is = deck_of a.outcome a.print is (by_status (λ e. omega arith) (λ e. omega arith) a)
 
   source_of : (outcome : Outcome) (print : List ℕ) → status ≡ 3 → OfStatus outcome print → Rose source.faults source_after.faults
   source_of Source print is of = of.comes.1
   source_of outcome print is of = absurd (omega (arith, of.is, is))
 
-  pub no_source : Answers words source source_after sink sink_after status trace → status ≡ 3 → Rose source.faults source_after.faults
+  no_source : Concludes words source source_after sink sink_after status trace → status ≡ 3 → Rose source.faults source_after.faults
   no_source a is = source_of a.outcome a.print is (by_status (λ e. omega arith) (λ e. omega arith) a)
 
   long_of : (outcome : Outcome) (print : List ℕ) → status ≡ 7 → OfStatus outcome print → TakesTooMany source.bytes source_after.bytes
   long_of Long print is of = of.comes.1
   long_of outcome print is of = absurd (omega (arith, of.is, is))
 
-  pub too_long : Answers words source source_after sink sink_after status trace → status ≡ 7 → TakesTooMany source.bytes source_after.bytes
+  too_long : Concludes words source source_after sink sink_after status trace → status ≡ 7 → TakesTooMany source.bytes source_after.bytes
   too_long a is = long_of a.outcome a.print is (by_status (λ e. omega arith) (λ e. omega arith) a)
 
-  pub no_sink : Answers words source source_after sink sink_after status trace → status ≡ 4 → Rose sink.faults sink_after.faults
+  no_sink : Concludes words source source_after sink sink_after status trace → status ≡ 4 → Rose sink.faults sink_after.faults
   no_sink a is = elim a.delivered [
     | inl whole ↦ absurd (not_four a.outcome (sym whole.0 ∙ is))
     | inr front ↦ elim front [ inl failed ↦ failed.1 | inr wanted ↦ absurd (omega arith) ]
   ]
 
-  pub other_words : Answers words source source_after sink sink_after status trace → (IsPlay words → ⊥) → Contains (1 ∷ 4 ∷ 8 ∷ []) status
+  other_words : Concludes words source source_after sink sink_after status trace → (IsPlay words → ⊥) → Contains (1 ∷ 4 ∷ 8 ∷ []) status
   other_words a other = elim a.delivered [
     | inl whole ↦ (0, omega arith, sym (whole.0 ∙ ap status_of (refused a.outcome a.print a.comes)))
     | inr front ↦ elim front [ inl failed ↦ (1, omega arith, sym failed.0) | inr wanted ↦ (2, omega arith, sym wanted.0) ]
@@ -159,7 +163,7 @@ module _ (words : List (List ℕ)) (source source_after sink sink_after : Seen) 
   due_outcome Long Played bytes print told is_due sure comes = absurd (too_many source.bytes source_after.bytes comes.1.0 bytes told comes.1.2 comes.1.1 is_due.1)
   due_outcome Long (Deck line) bytes print told is_due sure comes = absurd (too_many source.bytes source_after.bytes comes.1.0 bytes told comes.1.2 comes.1.1 is_due.1)
 
-  pub gives_due : Answers words source source_after sink sink_after status trace → GivesDue words source source_after sink sink_after status
+  gives_due : Concludes words source source_after sink sink_after status trace → GivesDue words source source_after sink sink_after status
   gives_due a due bytes told is_due sure_source sure_sink = elim a.delivered [
     | inl whole ↦ elim (due_outcome a.outcome due bytes a.print told is_due sure_source a.comes) [
       | inl same ↦ inl (whole.0 ∙ same)
@@ -167,3 +171,22 @@ module _ (words : List (List ℕ)) (source source_after sink sink_after : Seen) 
     ]
     | inr front ↦ elim front [ inl failed ↦ absurd (sure_sink failed.1) | inr wanted ↦ inr wanted.0 ]
   ]
+
+  -- the whole contract, by what the call comes to
+  pub completes :
+      Concludes words source source_after sink sink_after status trace → Legal no_rows trace
+      → TakesAtMost (DECK_LIMIT + 1) source.bytes source_after.bytes
+      → Completes words source source_after sink sink_after status trace
+  completes concludes legal bounded = record {
+    concludes = concludes;
+    legal = legal;
+    played = plays concludes;
+    no_command = no_words concludes;
+    other_words = other_words concludes;
+    deck = no_deck concludes;
+    source_failed = no_source concludes;
+    sink_failed = no_sink concludes;
+    long = too_long concludes;
+    due = gives_due concludes;
+    bounded = bounded;
+  }

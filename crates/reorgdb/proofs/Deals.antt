@@ -4,7 +4,7 @@ use Rattle.rg_stmt.specs.declared.event.Entry.{Entry}
 use Rattle.std.specs.List.{AllByRecursion}
 use Rattle.rg_stmt.specs.declared.line.Line.{Line}
 use Rattle.rg_stmt.specs.declared.line.Line.TheVariants.{Said}
-use Rattle.rg_deck.specs.Grammar.{IsLine, IsAdmitted}
+use Rattle.rg_deck.specs.Grammar.{IsAdmitted}
 use Rattle.rg_deck.specs.declared.read.Admits.TheVariants.{Statements}
 use Rattle.rg_run.specs.Played.{IsPlayed, TraceOf, TraceOfFront, Ends}
 use Rattle.rg_run.specs.declared.played.RunEnd.{RunEnd}

@@ -1,7 +1,7 @@
 -- Pieces that are read or given one after another.
-use Rattle.std.proofs.Common.{◌≡◌, ℕ, ◌+◌, ◌≤◌, List, ◌++◌, Option, length, take, drop, sym, ◌∙◌, ap, subst, arith, append_assoc, length-append}
+use Rattle.std.proofs.Common.{◌≡◌, ℕ, ◌+◌, ◌≤◌, List, ◌++◌, Option, length, take, drop, sym, ◌∙◌, ap, arith, append_assoc, length-append}
 use Rattle.std.specs.Io.KnownBytes.{Consumes, Appends}
-use Rattle.std.proofs.KnownBytes.{Consumes-trans, Appends-trans}
+use Rattle.std.proofs.KnownBytes.{Consumes-trans, Consumes-kept, Appends-trans}
 use Rattle.std.proofs.lemmas.List.{take-append-drop}
 use Rattle.reorgdb.specs.Reading.{TakesAtMost, StopsAtPiece}
 use Rattle.reorgdb.specs.declared.reading.ReadFault.{ReadFault}
@@ -10,7 +10,7 @@ use Rattle.reorgdb.specs.declared.reading.ReadFault.TheVariants as faults
 -- a piece that was not had leaves what was taken before it, and no more than its own length beside
 pub TakesAtMost-stop : (fault : ReadFault) (before mid after : Option (List ℕ)) (bytes : List ℕ) (room most faults_before faults_after : ℕ)
     → Consumes before mid bytes → length bytes + room ≤ most → StopsAtPiece room mid after faults_before faults_after fault → TakesAtMost most before after
-TakesAtMost-stop faults.Failed before mid after bytes room most fb fa taken fits stop = (bytes, omega arith, subst (λ end. Consumes before end bytes) (sym stop.1) taken)
+TakesAtMost-stop faults.Failed before mid after bytes room most fb fa taken fits stop = (bytes, omega arith, Consumes-kept before mid after bytes taken stop.1)
 TakesAtMost-stop faults.Long before mid after bytes room most fb fa taken fits stop = absurd stop
 TakesAtMost-stop faults.NoMemory before mid after bytes room most fb fa taken fits stop =
     (bytes ++ stop.0, omega (arith, length-append bytes stop.0, stop.1), Consumes-trans before mid after bytes stop.0 taken stop.2)

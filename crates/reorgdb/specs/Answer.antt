@@ -3,24 +3,29 @@ use Rattle.std.specs.Prelude.{ℕ, ◌≡◌, ◌≤◌, ◌⊎◌, false, List,
 use Rattle.std.specs.Io.KnownBytes.{Consumes, Appends, IsAtEnd}
 use Rattle.rg_deck.specs.Grammar.{LinesOf, IsFirstOutside}
 use Rattle.rg_deck.specs.declared.read.Admits.TheVariants.{Statements}
+use Rattle.rg_deck.specs.declared.read.TheConstants.{DECK_LIMIT}
 use Rattle.rg_outside.specs.Faults.{Rose}
 use Rattle.rg_print.specs.Print.{print_text}
 use Rattle.rg_print.specs.declared.print.Close.TheVariants as closes
 use Rattle.rg_run.specs.Played.{TraceOf, TraceOfFront, EndsWithRows}
 use Rattle.rg_stmt.specs.declared.event.Entry.{Entry}
 use Rattle.rg_stmt.specs.declared.line.Line.{Line}
-use Rattle.reorgdb.specs.Giving.{GivesFront}
+use Rattle.reorgdb.specs.Giving.{GivesPrefix}
 use Rattle.reorgdb.specs.Reading.{TakesTooMany}
 use Rattle.reorgdb.specs.Refusals.{status_of, fixed_text, deck_refusal}
 use Rattle.reorgdb.specs.declared.outcome.Outcome.{Outcome}
 use Rattle.reorgdb.specs.declared.outcome.Outcome.TheVariants.{Played, Words, Deck, Source, Long}
 use Rattle.reorgdb.specs.declared.outcome.Outcome.TheVariants.{NoMemory}
 
--- what is told of a source or a sink at one moment: the bytes that it has left or holds, and its
--- count of faults
+-- what is known of a source or a sink at one moment: the bytes that it has left or holds, where it
+-- reports them, and its count of faults
 pub record Seen : Type 0 where
   pub bytes : Option (List ℕ)
   pub faults : ℕ
+
+-- the same, by the two members of its trait
+abbrev pub seen : {X : Type 0} → (X → Option (List ℕ)) → (X → ℕ) → X → Seen
+seen bytes faults x = record { bytes = bytes x; faults = faults x }
 
 -- the words are the one word `play`
 abbrev pub IsPlay : List (List ℕ) → Type 0
@@ -30,7 +35,7 @@ IsPlay words = words ≡ codes "play" ∷ []
 abbrev pub IsDeck : List ℕ → List Line → Type 0
 IsDeck bytes lines = LinesOf Statements bytes lines
 
--- the bytes are no such lines
+-- they are not
 abbrev pub IsNoDeck : List ℕ → Type 0
 IsNoDeck bytes = (lines : List Line) → IsDeck bytes lines → ⊥
 
@@ -40,7 +45,7 @@ IsRefusedAt bytes line = IsFirstOutside Statements bytes line × IsNoDeck bytes
 
 -- the source was read to its end, and these bytes are not more than the limit
 pub record ReadsDeck (before : Seen) (bytes : List ℕ) (after : Seen) : Type 0 where
-  pub short : length bytes ≤ 16777216
+  pub short : length bytes ≤ DECK_LIMIT
   pub taken : Consumes before.bytes after.bytes bytes
   pub end : IsAtEnd after.bytes
 
@@ -52,7 +57,7 @@ pub record PrintsPlayed (lines : List Line) (trace : List Entry) (print : List �
   pub counted : EndsWithRows trace rows
   pub printed : print ≡ print_text trace false (closes.Rows rows)
 
--- what becomes of lines that were read
+-- what lines that were read come to
 abbrev pub DealsWithLines : List Line → Outcome → List Entry → List ℕ → Type 0
 DealsWithLines lines Played trace print = PrintsPlayed lines trace print
 DealsWithLines lines NoMemory trace print = (trace ≡ []) ⊎ TraceOfFront lines trace
@@ -61,24 +66,36 @@ DealsWithLines lines (Deck line) trace print = ⊥
 DealsWithLines lines Source trace print = ⊥
 DealsWithLines lines Long trace print = ⊥
 
--- what becomes of bytes that were read
+-- what bytes that were read come to
 abbrev pub DealsWithBytes : List ℕ → Outcome → List Entry → List ℕ → Type 0
-DealsWithBytes bytes Played trace print = (lines : List Line) × IsDeck bytes lines × PrintsPlayed lines trace print
-DealsWithBytes bytes (Deck line) trace print = IsRefusedAt bytes line × (trace ≡ []) × (print ≡ deck_refusal line)
-DealsWithBytes bytes NoMemory trace print = (trace ≡ []) ⊎ ((lines : List Line) × IsDeck bytes lines × TraceOfFront lines trace)
+DealsWithBytes bytes Played trace print =
+    (lines : List Line) × IsDeck bytes lines × PrintsPlayed lines trace print
+DealsWithBytes bytes (Deck line) trace print =
+    IsRefusedAt bytes line × (trace ≡ []) × (print ≡ deck_refusal line)
+DealsWithBytes bytes NoMemory trace print =
+    (trace ≡ []) ⊎ ((lines : List Line) × IsDeck bytes lines × TraceOfFront lines trace)
 DealsWithBytes bytes Words trace print = ⊥
 DealsWithBytes bytes Source trace print = ⊥
 DealsWithBytes bytes Long trace print = ⊥
 
--- What each outcome says of the call before its output is given.
+-- what each outcome says of the call before its output is given
 abbrev pub Comes : Outcome → List (List ℕ) → Seen → Seen → List Entry → List ℕ → Type 0
-Comes Played words before after trace print = IsPlay words × (bytes : List ℕ) × ReadsDeck before bytes after × DealsWithBytes bytes Played trace print
+Comes Played words before after trace print =
+    IsPlay words × (bytes : List ℕ) × ReadsDeck before bytes after
+    × DealsWithBytes bytes Played trace print
 Comes Words words before after trace print = (IsPlay words → ⊥) × (after ≡ before) × (trace ≡ [])
-Comes (Deck line) words before after trace print = IsPlay words × (bytes : List ℕ) × ReadsDeck before bytes after × DealsWithBytes bytes (Deck line) trace print
-Comes Source words before after trace print = IsPlay words × Rose before.faults after.faults × (trace ≡ [])
-Comes Long words before after trace print = IsPlay words × TakesTooMany before.bytes after.bytes × (trace ≡ [])
+Comes (Deck line) words before after trace print =
+    IsPlay words × (bytes : List ℕ) × ReadsDeck before bytes after
+    × DealsWithBytes bytes (Deck line) trace print
+Comes Source words before after trace print =
+    IsPlay words × Rose before.faults after.faults × (trace ≡ [])
+Comes Long words before after trace print =
+    IsPlay words × TakesTooMany before.bytes after.bytes × (trace ≡ [])
 Comes NoMemory words before after trace print =
-    IsPlay words × ((trace ≡ []) ⊎ ((bytes : List ℕ) × ReadsDeck before bytes after × DealsWithBytes bytes NoMemory trace print))
+    IsPlay words
+    × ((trace ≡ [])
+    ⊎ ((bytes : List ℕ) × ReadsDeck before bytes after
+    × DealsWithBytes bytes NoMemory trace print))
 
 -- the whole output
 abbrev pub output_of : Outcome → List ℕ → List ℕ
@@ -86,16 +103,18 @@ output_of Played print = print
 output_of (Deck line) print = print
 output_of outcome print = fixed_text outcome
 
--- The sink has the whole text, and the status is the outcome's. Or it has a front of the text: its
--- count of faults rose and the status is 4, or memory was wanting and the status is 8.
+-- The sink gets the whole text, and the status is the outcome's. Or it gets a prefix of the text:
+-- its count of faults rose and the status is 4, or it ran out of memory and the status is 8.
 abbrev pub Delivers : Outcome → List ℕ → Seen → Seen → ℕ → Type 0
 Delivers outcome text before after status =
     ((status ≡ status_of outcome) × Appends before.bytes after.bytes text)
-    ⊎ (((status ≡ 4) × Rose before.faults after.faults × GivesFront text before.bytes after.bytes)
-    ⊎ ((status ≡ 8) × GivesFront text before.bytes after.bytes))
+    ⊎ (((status ≡ 4) × Rose before.faults after.faults × GivesPrefix text before.bytes after.bytes)
+    ⊎ ((status ≡ 8) × GivesPrefix text before.bytes after.bytes))
 
--- What a call leaves, by the words, the source and the sink before and after it.
-pub record Answers (words : List (List ℕ)) (source source_after sink sink_after : Seen) (status : ℕ) (trace : List Entry) : Type 0 where
+-- What a call comes to and how its output is given, by the words and by what is known of the source
+-- and the sink before and after it.
+pub record Concludes (words : List (List ℕ)) (source source_after sink sink_after : Seen)
+    (status : ℕ) (trace : List Entry) : Type 0 where
   pub outcome : Outcome
   pub print : List ℕ
   pub comes : Comes outcome words source source_after trace print

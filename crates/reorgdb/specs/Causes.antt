@@ -1,6 +1,7 @@
 -- What each status of a call says, and which status is due.
 use Rattle.std.specs.Prelude.{ℕ, ◌≡◌, ◌<◌, ◌≤◌, ◌⊎◌, false, List, Some, length}
 use Rattle.std.specs.Io.KnownBytes.{Appends}
+use Rattle.rg_deck.specs.declared.read.TheConstants.{DECK_LIMIT}
 use Rattle.rg_outside.specs.Faults.{Rose}
 use Rattle.rg_print.specs.Print.{print_text}
 use Rattle.rg_print.specs.declared.print.Close.TheVariants as closes
@@ -12,8 +13,8 @@ use Rattle.reorgdb.specs.Refusals.{status_of, deck_refusal}
 use Rattle.reorgdb.specs.declared.outcome.Outcome.{Outcome}
 use Rattle.reorgdb.specs.declared.outcome.Outcome.TheVariants as outcomes
 
--- Status 0: the source was read to its end, its bytes are statements, the trace is theirs, and the
--- sink holds the print behind what it held.
+-- Status 0: the source was read to its end, its bytes are statements, the trace is theirs, and its
+-- print was appended to what the sink held.
 pub record Plays (source source_after sink sink_after : Seen) (trace : List Entry) : Type 0 where
   pub bytes : List ℕ
   pub lines : List Line
@@ -24,7 +25,7 @@ pub record Plays (source source_after sink sink_after : Seen) (trace : List Entr
   pub counted : EndsWithRows trace rows
   pub shown : Appends sink.bytes sink_after.bytes (print_text trace false (closes.Rows rows))
 
--- Status 2: the source was read to its end, and the sink holds the number of the first line that is
+-- Status 2: the source was read to its end, and the sink got the number of the first line that is
 -- outside the grammar or no statement.
 pub record RefusesDeck (source source_after sink sink_after : Seen) : Type 0 where
   pub bytes : List ℕ
@@ -35,15 +36,18 @@ pub record RefusesDeck (source source_after sink sink_after : Seen) : Type 0 whe
 
 -- what is due for these words and these bytes of the source, where nothing fails
 abbrev pub IsDue : Outcome → List (List ℕ) → List ℕ → Type 0
-IsDue outcomes.Played words bytes = IsPlay words × (length bytes ≤ 16777216) × (lines : List Line) × IsDeck bytes lines
+IsDue outcomes.Played words bytes =
+    IsPlay words × (length bytes ≤ DECK_LIMIT) × (lines : List Line) × IsDeck bytes lines
 IsDue outcomes.Words words bytes = IsPlay words → ⊥
-IsDue (outcomes.Deck line) words bytes = IsPlay words × (length bytes ≤ 16777216) × IsNoDeck bytes
-IsDue outcomes.Long words bytes = IsPlay words × (16777216 < length bytes)
+IsDue (outcomes.Deck line) words bytes = IsPlay words × (length bytes ≤ DECK_LIMIT) × IsNoDeck bytes
+IsDue outcomes.Long words bytes = IsPlay words × (DECK_LIMIT < length bytes)
 IsDue outcomes.Source words bytes = ⊥
 IsDue outcomes.NoMemory words bytes = ⊥
 
--- Where source and sink don't fail, the status is the one that is due, or memory was wanting.
+-- Where the source reports its bytes and neither it nor the sink fails, the status is the one that
+-- is due, or 8.
 abbrev pub GivesDue : List (List ℕ) → Seen → Seen → Seen → Seen → ℕ → Type 0
 GivesDue words source source_after sink sink_after status =
-    (due : Outcome) (bytes : List ℕ) → source.bytes ≡ Some bytes → IsDue due words bytes → (Rose source.faults source_after.faults → ⊥) → (Rose sink.faults sink_after.faults → ⊥)
+    (due : Outcome) (bytes : List ℕ) → source.bytes ≡ Some bytes → IsDue due words bytes
+    → (Rose source.faults source_after.faults → ⊥) → (Rose sink.faults sink_after.faults → ⊥)
     → (status ≡ status_of due) ⊎ (status ≡ 8)

@@ -1,5 +1,6 @@
 pub mod Answer
 pub mod Causes
+pub mod Contract
 pub mod Giving
 pub mod Reading
 pub mod Refusals

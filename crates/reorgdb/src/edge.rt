@@ -14,8 +14,10 @@ use rg_outside::source::{Failed, Source};
 use rg_outside::volume::Volume;
 use std::io::{ErrorKind, Read, Write};
 
-/// A source over a reader. It tells nothing of its bytes; each call says what it took from a reader
-/// that tells them.
+#[cfg(test)]
+mod tests;
+
+/// A source over a reader. It reports the bytes that the reader reports.
 #[derive(Drop)]
 pub struct ReaderSource<R> {
     reader: R,
@@ -31,17 +33,11 @@ impl<R: Read> ReaderSource<R> {
 }
 
 impl<R: Read> Source for ReaderSource<R> {
-    ghost left = { λ _. None };
+    ghost left = { λ s. R.remaining s.reader };
 
     ghost faults = { λ s. s.faults };
 
-    fn take(&mut self, into: &mut [u8]) -> Result<usize, Failed>
-        ensures count { IfOk result (λ n. n ≤ length into.old) }
-        ensures taken { IfOk result (λ n. Consumes (R.remaining self.old.reader) (R.remaining self.new.reader) (take n into.new)) }
-        ensures end { IfOk result (λ n. 0 < length into.old → n ≡ 0 → IsAtEnd (R.remaining self.new.reader)) }
-        ensures failed { OnErr result (Keeps (R.remaining self.old.reader) (R.remaining self.new.reader)) }
-        ensures cause { HasCause self.old.faults self.new.faults result }
-    {
+    fn take(&mut self, into: &mut [u8]) -> Result<usize, Failed> {
         if let Some(n) = read_through(&mut self.reader, into) {
             return Ok(n);
         }
@@ -50,11 +46,13 @@ impl<R: Read> Source for ReaderSource<R> {
     }
 }
 
-// Reads once, and again where a signal came in between.
+// Reads once, and again after an interrupted call.
 fn read_through<R: Read>(reader: &mut R, into: &mut [u8]) -> Option<usize>
     ensures count { IfSome result (λ n. n ≤ length into.old) }
-    ensures taken { IfSome result (λ n. Consumes (R.remaining reader.old) (R.remaining reader.new) (take n into.new)) }
-    ensures end { IfSome result (λ n. 0 < length into.old → n ≡ 0 → IsAtEnd (R.remaining reader.new)) }
+    ensures taken { IfSome result
+        (λ n. Consumes (R.remaining reader.old) (R.remaining reader.new) (take n into.new)) }
+    ensures end { IfSome result
+        (λ n. 0 < length into.old → n ≡ 0 → IsAtEnd (R.remaining reader.new)) }
     ensures failed { IfNone result (Keeps (R.remaining reader.old) (R.remaining reader.new)) }
 {
     for _ in 0..u64::MAX {
@@ -67,8 +65,7 @@ fn read_through<R: Read>(reader: &mut R, into: &mut [u8]) -> Option<usize>
     None
 }
 
-/// A sink over a writer. It tells nothing of its bytes; each call says what it gave to a writer
-/// that tells them. It takes no memory.
+/// A sink over a writer. It reports the bytes that the writer reports, and takes no memory.
 #[derive(Drop)]
 pub struct WriterSink<W> {
     writer: W,
@@ -84,17 +81,11 @@ impl<W: Write> WriterSink<W> {
 }
 
 impl<W: Write> Sink for WriterSink<W> {
-    ghost contents = { λ _. None };
+    ghost contents = { λ s. W.contents s.writer };
 
     ghost faults = { λ s. s.faults };
 
-    fn give(&mut self, from: &[u8]) -> Result<usize, GiveFault>
-        ensures count { IfOk result (λ n. n ≤ length from.now) }
-        ensures kept { IfOk result (λ n. Appends (W.contents self.old.writer) (W.contents self.new.writer) (take n from.now)) }
-        ensures refused { OnErr result (Keeps (W.contents self.old.writer) (W.contents self.new.writer)) }
-        ensures failed { IfErr result (λ fault. fault ≡ GiveFault.Failed) }
-        ensures cause { HasGiveCause self.old.faults self.new.faults (length from.now) result }
-    {
+    fn give(&mut self, from: &[u8]) -> Result<usize, GiveFault> {
         let given = write_through(&mut self.writer, from);
         if let Some(n) = given
             && (n > 0 || from.is_empty())
@@ -106,10 +97,11 @@ impl<W: Write> Sink for WriterSink<W> {
     }
 }
 
-// Writes once, and again where a signal came in between.
+// Writes once, and again after an interrupted call.
 fn write_through<W: Write>(writer: &mut W, from: &[u8]) -> Option<usize>
     ensures count { IfSome result (λ n. n ≤ length from.now) }
-    ensures kept { IfSome result (λ n. Appends (W.contents writer.old) (W.contents writer.new) (take n from.now)) }
+    ensures kept { IfSome result
+        (λ n. Appends (W.contents writer.old) (W.contents writer.new) (take n from.now)) }
     ensures refused { IfNone result (Keeps (W.contents writer.old) (W.contents writer.new)) }
 {
     for _ in 0..u64::MAX {
@@ -122,7 +114,7 @@ fn write_through<W: Write>(writer: &mut W, from: &[u8]) -> Option<usize>
     None
 }
 
-/// A volume of the sizes that the program will have, each of whose calls fails.
+/// A volume of the sizes that the program's will have. Each of its calls fails.
 #[derive(Drop)]
 pub struct AbsentVolume {
     faults: u64,
@@ -160,6 +152,7 @@ impl Volume for AbsentVolume {
 
     fn read(&mut self, _set: Set, _page: u32, _into: &mut [u8; 4096]) -> Result<(), Failed>
         ensures failed { result ≡ Err (record {}) }
+        ensures kept { _into.new ≡ _into.old }
         ensures cause { HasCause self.old.faults self.new.faults result }
     {
         Err(self.fail())
@@ -184,7 +177,7 @@ impl Volume for AbsentVolume {
     ghost whole_pages = { λ _. tt };
 }
 
-/// An operator that wants nothing, at moment 0 and with an estimate of 0.
+/// An operator without commands, at moment 0 and with an estimate of 0.
 #[derive(Drop)]
 pub struct IdleOperator;
 

@@ -6,17 +6,18 @@ use rg_outside::sink::{GiveFault, Sink};
 /// How far a text was given.
 #[derive(Clone, Copy, Debug, PartialEq, Eq)]
 pub enum Given {
-    /// The sink has the whole text.
+    /// The sink got the whole text.
     Whole,
-    /// The sink failed, or took nothing of what was left. It has a front of the text.
+    /// The sink failed, or took nothing of what was left. It got a prefix of the text.
     Failed,
-    /// Memory was wanting. The sink has a front of the text.
+    /// Out of memory. The sink got a prefix of the text.
     NoMemory,
 }
 
 /// Gives a text to a sink, in as many calls as it takes.
 pub fn give_all<K: Sink>(sink: &mut K, text: &[u8]) -> Given
-    ensures gives { Gives text.now (K.contents sink.old) (K.contents sink.new) (K.faults sink.old) (K.faults sink.new) result }
+    ensures gives { Gives text.now (K.contents sink.old) (K.contents sink.new) (K.faults sink.old)
+        (K.faults sink.new) result }
     ensures later { K.faults sink.old ≤ K.faults sink.new }
 {
     let mut rest = text;

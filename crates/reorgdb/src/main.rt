@@ -22,12 +22,17 @@ mod top;
 /// A call up to its output.
 mod work;
 
-// The words after the program's name.
+// The words after the program's name. No command has a word that is not UTF-8, so where one stands
+// there are no words: the call refuses them all the same.
 fn words<R: Env + AllocGlobal>(rt: &R) -> io::Result<Vec<String>> {
-    Ok(env::args(rt)?.skip(1).collect(rt.alloc())?)
+    match env::args(rt) {
+        Ok(args) => Ok(args.skip(1).collect(rt.alloc())?),
+        Err(error) if error.kind() == io::ErrorKind::OutOfMemory => Err(error),
+        Err(_) => Ok(Vec::new(rt.alloc())),
+    }
 }
 
-// Want of memory before the call ends with status 8, as it does within.
+// Out of memory before the call ends with status 8, as it does within.
 fn main(rt: HostRuntime) -> ExitCode {
     let alloc = rt.alloc();
     let Ok(words) = words(&rt) else {

@@ -20,7 +20,7 @@ pub enum Outcome {
     Source,
     /// The deck is longer than its limit. Status 7.
     Long,
-    /// Memory was wanting. Status 8.
+    /// Out of memory. Status 8.
     NoMemory,
 }
 

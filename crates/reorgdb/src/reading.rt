@@ -1,12 +1,10 @@
-ghost use Rattle.std.specs.Prelude.{◌≡◌, ℕ, ◌<◌, ◌≤◌, length, vec_len, IfOk, IfErr};
+ghost use Rattle.std.specs.Prelude.{◌≡◌, ℕ, ◌<◌, ◌≤◌, ◌+◌, length, vec_len, IfOk, IfErr};
 ghost use Rattle.std.specs.Io.KnownBytes.{Consumes, IsAtEnd};
 ghost use Rattle.reorgdb.specs.Reading.{TakesAtMost, TakesBehind, ReadsUpTo, StopsAtPiece};
 
+use rg_deck::read::DECK_LIMIT;
 use rg_outside::source::Source;
 use std::alloc::{AllocError, Global};
-
-/// The greatest length of a deck, in bytes.
-pub const DECK_LIMIT: usize = 16_777_216;
 
 // How many bytes are asked for at once.
 const PIECE: usize = 65_536;
@@ -18,18 +16,21 @@ pub enum ReadFault {
     Failed,
     /// One byte more than the limit was read.
     Long,
-    /// Memory was wanting.
+    /// Out of memory.
     NoMemory,
 }
 
 /// Reads a source to its end, piece by piece. Each turn takes at least one byte or is the last, and
 /// no more than one byte past the limit is taken.
 pub fn read_source<S: Source>(alloc: Global, source: &mut S) -> Result<Vec<u8>, ReadFault>
-    ensures short { IfOk result (λ bytes. length bytes.items ≤ 16777216) }
-    ensures read { IfOk result (λ bytes. Consumes (S.left source.old) (S.left source.new) bytes.items) }
+    ensures short { IfOk result (λ bytes. length bytes.items ≤ DECK_LIMIT) }
+    ensures read { IfOk result
+        (λ bytes. Consumes (S.left source.old) (S.left source.new) bytes.items) }
     ensures end { IfOk result (λ bytes. IsAtEnd (S.left source.new)) }
-    ensures fault { IfErr result (ReadsUpTo (S.left source.old) (S.left source.new) (S.faults source.old) (S.faults source.new)) }
-    ensures bounded { TakesAtMost 16777217 (S.left source.old) (S.left source.new) }
+    ensures fault { IfErr result
+        (ReadsUpTo (S.left source.old) (S.left source.new) (S.faults source.old)
+        (S.faults source.new)) }
+    ensures bounded { TakesAtMost (DECK_LIMIT + 1) (S.left source.old) (S.left source.new) }
     ensures later { S.faults source.old ≤ S.faults source.new }
 {
     let mut bytes = Vec::new(alloc);
@@ -47,8 +48,7 @@ pub fn read_source<S: Source>(alloc: Global, source: &mut S) -> Result<Vec<u8>, 
     Err(ReadFault::Long)
 }
 
-// Takes the next bytes behind those that were read, and answers how many; `piece` holds them on the
-// way.
+// Appends the next bytes to those that were read, and returns their number. `piece` is the buffer.
 fn take_piece<S: Source>(
     source: &mut S,
     piece: &mut [u8],
@@ -56,8 +56,11 @@ fn take_piece<S: Source>(
 ) -> Result<usize, ReadFault>
     requires { 0 < length piece.old }
     ensures count { IfOk result (λ n. n ≤ length piece.old) }
-    ensures taken { IfOk result (TakesBehind (S.left source.old) (S.left source.new) bytes.old.items bytes.new.items) }
-    ensures fault { IfErr result (StopsAtPiece (length piece.old) (S.left source.old) (S.left source.new) (S.faults source.old) (S.faults source.new)) }
+    ensures taken { IfOk result
+        (TakesBehind (S.left source.old) (S.left source.new) bytes.old.items bytes.new.items) }
+    ensures fault { IfErr result
+        (StopsAtPiece (length piece.old) (S.left source.old) (S.left source.new)
+        (S.faults source.old) (S.faults source.new)) }
     ensures later { S.faults source.old ≤ S.faults source.new }
 {
     match source.take(piece) {

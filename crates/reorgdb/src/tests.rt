@@ -1,6 +1,7 @@
 use crate::edge::IdleOperator;
 use crate::top::{Finished, reorg_alone, reorg_main};
-use outside::{BytesSink, BytesSource, CountingVolume, RubbishSource};
+use outside::{BytesSink, BytesSource, RubbishSource};
+use rg_mem::volume::MemVolume;
 use rg_outside::sink::{GiveFault, Sink};
 use rg_outside::source::Source;
 use std::alloc::{AllocError, Global};
@@ -20,15 +21,16 @@ const FIRST_DECK: &[u8] = b"1 INSERT 5 50 1 abc\n1 SELECT 5\n1 COMMIT\n";
 const FIRST_PRINT: &[u8] =
     b"0 - OPENED copy=1 rows=0 pages=0\n1 1 OK\n2 1 ROW 5 50 1 abc\n3 1 OK\nEND entries=4 rows=1\n";
 
-// The status, the number of entries of the trace, and the number of calls of the volume.
-type Came = (u8, usize, u64);
+// The status, and the number of entries of the trace.
+type Came = (u8, usize);
 
-fn came(finished: Finished<CountingVolume>) -> Came {
-    (
-        finished.status,
-        finished.trace.len(),
-        finished.volume.calls(),
-    )
+fn came<V>(finished: &Finished<V>) -> Came {
+    (finished.status, finished.trace.len())
+}
+
+// A volume of a page in each set.
+fn volume(alloc: Global) -> Result<MemVolume, AllocError> {
+    MemVolume::new(alloc, 1, 1, 1, 0, 0, &[], None).map_err(|_| AllocError)
 }
 
 fn owned(alloc: Global, words: &[&str]) -> Result<Vec<String>, AllocError> {
@@ -47,8 +49,8 @@ fn call<S: Source, K: Sink>(
 ) -> Result<Came, AllocError> {
     let words = owned(alloc, words)?;
     let operator = Box::new(alloc, IdleOperator)?;
-    let volume = CountingVolume::new();
-    Ok(came(reorg_alone(alloc, &words, source, sink, volume, operator)))
+    let volume = volume(alloc)?;
+    Ok(came(&reorg_alone(alloc, &words, source, sink, volume, operator)))
 }
 
 fn whole(alloc: Global, most: usize) -> BytesSink {
@@ -65,22 +67,12 @@ fn plays_decks(rt: HostRuntime) -> Result<(), Fail> {
         ),
         (FIRST_DECK, 4, FIRST_PRINT),
         (b"1 INSERT 5 50 1 abc\n1 SELECT 5\n1 COMMIT", 4, FIRST_PRINT),
-        (
-            b"1 INSERT 7 1 1 a\n1 INSERT 7 2 2 b\n1 SELECT 7\n1 SELECT 8\n",
-            5,
-            b"0 - OPENED copy=1 rows=0 pages=0\n1 1 OK\n2 1 -803 DUPLICATE\n3 1 ROW 7 1 1 a\n4 1 100 NONE\nEND entries=5 rows=0\n",
-        ),
-        (
-            b"1 INSERT 0 0 0 -\n1 SELECT 0\n1 INSERT 18446744073709551615 18446744073709551615 18446744073709551615 --\n1 SELECT 18446744073709551615\n1 COMMIT\n",
-            6,
-            b"0 - OPENED copy=1 rows=0 pages=0\n1 1 OK\n2 1 ROW 0 0 0 -\n3 1 OK\n4 1 ROW 18446744073709551615 18446744073709551615 18446744073709551615 --\n5 1 OK\nEND entries=6 rows=2\n",
-        ),
     ] {
         for (taken, kept) in [(ALL, ALL), (1, ALL), (ALL, 1), (7, 5)] {
             let mut source = BytesSource::new(deck, taken, NEVER);
             let mut sink = whole(rt.alloc(), kept);
             let came = call(rt.alloc(), &PLAY, &mut source, &mut sink)?;
-            assert_eq!(rt; came, (0, entries, 0), "at {deck:?}");
+            assert_eq!(rt; came, (0, entries), "at {deck:?}");
             assert_eq!(rt; sink.held(), print);
         }
     }
@@ -110,7 +102,7 @@ fn bounds_words(rt: HostRuntime) -> Result<(), Fail> {
         let mut source = BytesSource::new(&deck, ALL, NEVER);
         let came = call(rt.alloc(), &PLAY, &mut source, &mut sink)?;
         if status == 0 {
-            assert_eq!(rt; came, (0, 3, 0), "at {count} of {byte}");
+            assert_eq!(rt; came, (0, 3), "at {count} of {byte}");
             let mut print = b"0 - OPENED copy=1 rows=0 pages=0\n1 1 OK\n2 1 ROW 1 2 3 ".to_vec(
                 rt.alloc(),
             )?;
@@ -120,7 +112,7 @@ fn bounds_words(rt: HostRuntime) -> Result<(), Fail> {
             print.extend_from_slice(b"\nEND entries=3 rows=0\n")?;
             assert_eq!(rt; sink.held(), print.as_slice());
         } else {
-            assert_eq!(rt; came, (2, 0, 0), "at {count} of {byte}");
+            assert_eq!(rt; came, (2, 0), "at {count} of {byte}");
             assert_eq!(rt; sink.held(), b"REFUSED deck line 1\n".as_slice());
         }
     }
@@ -206,7 +198,7 @@ fn refuses(rt: HostRuntime) -> Result<(), Fail> {
         let mut source = BytesSource::new(deck, most, fails_at);
         let mut sink = whole(rt.alloc(), ALL);
         let came = call(rt.alloc(), words, &mut source, &mut sink)?;
-        assert_eq!(rt; came, (status, 0, 0), "at {words:?}");
+        assert_eq!(rt; came, (status, 0), "at {words:?}");
         assert_eq!(rt; sink.held(), output);
         assert_eq!(rt; source.calls(), calls);
     }
@@ -223,7 +215,7 @@ fn bounds_decks(rt: HostRuntime) -> Result<(), Fail> {
         let mut source = RubbishSource::new(count);
         let mut sink = whole(rt.alloc(), ALL);
         let came = call(rt.alloc(), &PLAY, &mut source, &mut sink)?;
-        assert_eq!(rt; came, (status, 0, 0), "at {count}");
+        assert_eq!(rt; came, (status, 0), "at {count}");
         assert_eq!(rt; sink.held(), output);
         assert_eq!(rt; source.left(), count.saturating_sub(16_777_217));
     }
@@ -238,24 +230,17 @@ fn stops_at_sink(rt: HostRuntime) -> Result<(), Fail> {
             0,
             NEVER,
             GiveFault::Failed,
-            (4, 4, 0),
+            (4, 4),
             b"".as_slice(),
         ),
-        (
-            PLAY.as_slice(),
-            5,
-            2,
-            GiveFault::Failed,
-            (4, 4, 0),
-            b"0 - O",
-        ),
-        (PLAY.as_slice(), ALL, 1, GiveFault::NoMemory, (8, 4, 0), b""),
+        (PLAY.as_slice(), 5, 2, GiveFault::Failed, (4, 4), b"0 - O"),
+        (PLAY.as_slice(), ALL, 1, GiveFault::NoMemory, (8, 4), b""),
         (
             PLAY.as_slice(),
             5,
             3,
             GiveFault::NoMemory,
-            (8, 4, 0),
+            (8, 4),
             b"0 - OPENED",
         ),
         (
@@ -263,7 +248,7 @@ fn stops_at_sink(rt: HostRuntime) -> Result<(), Fail> {
             0,
             NEVER,
             GiveFault::Failed,
-            (4, 0, 0),
+            (4, 0),
             b"",
         ),
         (
@@ -271,7 +256,7 @@ fn stops_at_sink(rt: HostRuntime) -> Result<(), Fail> {
             5,
             2,
             GiveFault::Failed,
-            (4, 0, 0),
+            (4, 0),
             b"REFUS",
         ),
     ] {
@@ -296,10 +281,10 @@ fn first_session(rt: HostRuntime) -> Result<(), Fail> {
         &words,
         &mut source,
         &mut sink,
-        CountingVolume::new(),
+        volume(rt.alloc())?,
         operator,
     );
-    assert_eq!(rt; came(finished), (0, 4, 0));
+    assert_eq!(rt; came(&finished), (0, 4));
     assert_eq!(rt; sink.held(), FIRST_PRINT);
     Ok(())
 }

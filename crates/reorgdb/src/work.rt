@@ -1,15 +1,16 @@
-ghost use Rattle.std.specs.Prelude.{ℕ, ◌≡◌, ◌≤◌, ◌↔◌, List, length, map, IsTrue, string_bytes, []};
+ghost use Rattle.std.specs.Prelude.{ℕ, ◌≡◌, ◌≤◌, ◌+◌, ◌↔◌, List, length, map, IsTrue, string_bytes};
+ghost use Rattle.std.specs.Prelude.{[]};
 ghost use Rattle.rg_stmt.specs.declared.line.Line.{Line};
 ghost use Rattle.rg_model.specs.Legal.{Legal};
 ghost use Rattle.rg_run.specs.Played.{no_rows, Ends};
-ghost use Rattle.reorgdb.specs.Answer.{Seen, IsPlay, IsRefusedAt, DealsWithLines, DealsWithBytes};
+ghost use Rattle.reorgdb.specs.Answer.{Seen, seen, IsPlay, IsRefusedAt, DealsWithLines, DealsWithBytes};
 ghost use Rattle.reorgdb.specs.Answer.{Comes, output_of};
 ghost use Rattle.reorgdb.specs.Reading.{TakesAtMost};
 
 use crate::outcome::{Outcome, deck_refusal};
 use crate::reading::{ReadFault, read_source};
 use rg_base::bytes::Bytes;
-use rg_deck::read::{Admits, DeckFault, read_admitted};
+use rg_deck::read::{Admits, DECK_LIMIT, DeckFault, read_admitted};
 use rg_outside::operator::Operator;
 use rg_outside::source::Source;
 use rg_outside::volume::Volume;
@@ -20,7 +21,7 @@ use rg_stmt::event::Entry;
 use std::alloc::Global;
 
 /// A call before its output is given: what it comes to, the trace, the print or the refusal of a
-/// deck, and the volume and the operator that it was handed.
+/// deck, and the volume and the operator that it was given.
 #[derive(Drop)]
 pub struct Work<V, O> {
     pub outcome: Outcome,
@@ -83,10 +84,10 @@ pub fn carry_out<S: Source, V: Volume, O: Operator>(
     operator: O,
 ) -> Work<V, O>
     ensures comes { Comes result.outcome (map string_bytes words.now)
-        (record { bytes = S.left source.old; faults = S.faults source.old })
-        (record { bytes = S.left source.new; faults = S.faults source.new }) result.trace.items result.print }
+        (seen S.left S.faults source.old) (seen S.left S.faults source.new)
+        result.trace.items result.print }
     ensures legal { Legal no_rows result.trace.items }
-    ensures bounded { TakesAtMost 16777217 (S.left source.old) (S.left source.new) }
+    ensures bounded { TakesAtMost (DECK_LIMIT + 1) (S.left source.old) (S.left source.new) }
     ensures later { S.faults source.old ≤ S.faults source.new }
     ensures volume { result.volume ≡ volume }
     ensures operator { result.operator ≡ operator }
@@ -117,7 +118,7 @@ fn play_bytes<V: Volume, O: Operator>(
     volume: V,
     operator: O,
 ) -> Work<V, O>
-    requires { length bytes.now ≤ 16777216 }
+    requires { length bytes.now ≤ DECK_LIMIT }
     ensures deals { DealsWithBytes bytes.now result.outcome result.trace.items result.print }
     ensures legal { Legal no_rows result.trace.items }
     ensures volume { result.volume ≡ volume }
@@ -132,7 +133,8 @@ fn play_bytes<V: Volume, O: Operator>(
 
 // The refusal of a deck by the number of a line.
 fn refuse_line<V, O>(alloc: Global, line: u32, volume: V, operator: O) -> Work<V, O>
-    ensures deals { (bytes : List ℕ) → IsRefusedAt bytes line → DealsWithBytes bytes result.outcome result.trace.items result.print }
+    ensures deals { (bytes : List ℕ) → IsRefusedAt bytes line
+        → DealsWithBytes bytes result.outcome result.trace.items result.print }
     ensures trace { result.trace.items ≡ [] }
     ensures volume { result.volume ≡ volume }
     ensures operator { result.operator ≡ operator }

@@ -10,6 +10,9 @@ use rg_stmt::line::Line;
 use std::alloc::Global;
 use thiserror::Error;
 
+/// The greatest length of a deck, in bytes: 16 MiB (this profile's choice).
+pub const DECK_LIMIT: usize = 16_777_216;
+
 /// Which lines of the grammar a deck may have.
 #[derive(Clone, Copy, Debug, PartialEq, Eq)]
 pub enum Admits {
@@ -42,7 +45,7 @@ fn split_line(bytes: &[u8]) -> (&[u8], &[u8])
 
 /// The lines of a deck, in order, each of the grammar.
 pub fn read_deck(alloc: Global, bytes: &[u8]) -> Result<Vec<Line>, DeckFault>
-    requires { length bytes.now ≤ 16777216 }
+    requires { length bytes.now ≤ DECK_LIMIT }
     ensures lines { IfOk result (λ lines. Lines bytes.now lines.items) }
     ensures fault { IfErr result (Refuses Every bytes.now) }
 {
@@ -51,7 +54,7 @@ pub fn read_deck(alloc: Global, bytes: &[u8]) -> Result<Vec<Line>, DeckFault>
 
 /// The lines of a deck, in order, each of the grammar and admitted.
 pub fn read_admitted(alloc: Global, bytes: &[u8], admits: Admits) -> Result<Vec<Line>, DeckFault>
-    requires { length bytes.now ≤ 16777216 }
+    requires { length bytes.now ≤ DECK_LIMIT }
     ensures lines { IfOk result (λ lines. LinesOf admits bytes.now lines.items) }
     ensures fault { IfErr result (Refuses admits bytes.now) }
 {

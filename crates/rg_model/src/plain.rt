@@ -45,7 +45,8 @@ impl PlainState {
         }
     }
 
-    /// Answers a statement of a session, and does it. The reply is the plain table's, or out of memory.
+    /// Answers a statement of a session, and does it. The reply is the plain table's, or out of
+    /// memory.
     pub fn say(&mut self, alloc: Global, session: Session, stmt: &Stmt) -> Reply
         ensures plain { is_table_reply result ≡ true }
         ensures says { Says (state_of self.old) session stmt.now result (state_of self.new) }
@@ -104,7 +105,8 @@ impl PlainState {
 
     fn delete(&mut self, alloc: Global, session: Session, key: u64) -> Reply
         ensures plain { is_table_reply result ≡ true }
-        ensures says { Says (state_of self.old) session (Stmt.Delete key) result (state_of self.new) }
+        ensures says { Says (state_of self.old) session (Stmt.Delete key) result
+            (state_of self.new) }
     {
         if let Some(owner) = self.holder(session, key) {
             return Reply::Held(owner);
@@ -120,12 +122,13 @@ impl PlainState {
 
     fn select(&mut self, alloc: Global, session: Session, key: u64) -> Reply
         ensures plain { is_table_reply result ≡ true }
-        ensures says { Says (state_of self.old) session (Stmt.Select key) result (state_of self.new) }
+        ensures says { Says (state_of self.old) session (Stmt.Select key) result
+            (state_of self.new) }
     {
         if let Some(owner) = self.holder(session, key) {
             return Reply::Held(owner);
         }
-        let row = match copy_of(self.table.get(key), alloc) {
+        let row = match copy_of(alloc, self.table.get(key)) {
             Ok(Some(row)) => row,
             Ok(None) => return Reply::Absent,
             Err(_) => return Reply::NoMemory,
@@ -138,12 +141,13 @@ impl PlainState {
 
     fn scan(&mut self, alloc: Global, session: Session, lo: u64, hi: u64) -> Reply
         ensures plain { is_table_reply result ≡ true }
-        ensures says { Says (state_of self.old) session (Stmt.Scan lo hi) result (state_of self.new) }
+        ensures says { Says (state_of self.old) session (Stmt.Scan lo hi) result
+            (state_of self.new) }
     {
         if let Some(owner) = scan_holder(&self.locks, session, lo, hi) {
             return Reply::Held(owner);
         }
-        let Ok(rows) = rows_between(&self.table, alloc, lo, hi) else {
+        let Ok(rows) = rows_between(alloc, &self.table, lo, hi) else {
             return Reply::NoMemory;
         };
         match self.claim_reader(session) {
@@ -159,7 +163,7 @@ impl PlainState {
         if let Some(owner) = find_holder(&self.table, &self.locks, session, cat) {
             return Reply::Held(owner);
         }
-        let Ok(keys) = keys_with_cat(&self.table, alloc, cat) else {
+        let Ok(keys) = keys_with_cat(alloc, &self.table, cat) else {
             return Reply::NoMemory;
         };
         match self.claim_reader(session) {
@@ -180,7 +184,7 @@ impl PlainState {
         ensures plain { is_table_reply result ≡ true }
         ensures says { Says (state_of self.old) session Stmt.Rollback result (state_of self.new) }
     {
-        let Ok(table) = rolled_back(&self.table, &self.locks, alloc, session) else {
+        let Ok(table) = rolled_back(alloc, &self.table, &self.locks, session) else {
             return Reply::NoMemory;
         };
         self.table = table;
@@ -234,7 +238,7 @@ impl PlainState {
         if self.locks.contains_key(key) {
             return Ok(false);
         }
-        let row = copy_of(self.table.get(key), alloc)?;
+        let row = copy_of(alloc, self.table.get(key))?;
         self.locks.insert(
             key,
             Lock {

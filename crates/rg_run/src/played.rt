@@ -6,7 +6,7 @@ pub enum RunEnd {
     /// Each line has its entry. `rows` is the number of committed rows: those of a unit that is
     /// still open are not among them.
     Whole { rows: u64 },
-    /// Memory was wanting for an entry, and nothing of its line was done.
+    /// Out of memory for an entry; nothing of its line was done.
     NoMemory,
 }
 

@@ -61,7 +61,8 @@ fn play(alloc: Global, lines: Vec<Line>) -> (Vec<Entry>, RunEnd)
     (trace, RunEnd::Whole { rows })
 }
 
-// Makes the entry of a line, which is a statement. If there is no memory for the entry, nothing is done.
+// Makes the entry of a line, which is a statement. If there is no memory for the entry, nothing is
+// done.
 fn play_line(
     alloc: Global,
     store: &mut Store,

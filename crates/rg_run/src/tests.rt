@@ -3,10 +3,11 @@ ghost use Rattle.rg_run.specs.Played.{IsPlayed};
 
 use crate::played::RunEnd;
 use crate::run::run;
-use outside::{CountingOperator, CountingVolume};
 use rg_base::row::Row;
 use rg_base::session::Session;
 use rg_base::text::Text;
+use rg_mem::script::ScriptOperator;
+use rg_mem::volume::MemVolume;
 use rg_model::plain::PlainState;
 use rg_stmt::event::{Actor, Entry, Event};
 use rg_stmt::line::Line;
@@ -16,7 +17,6 @@ use std::alloc::{AllocError, Global};
 use std::process::Abort;
 use std::test::Fail;
 
-mod outside;
 mod sound;
 
 #[derive(Clone, Copy)]
@@ -470,13 +470,9 @@ fn session_and_number(entry: &Entry) -> Option<(u8, i32)> {
 
 #[test]
 fn runs_empty_deck(rt: HostRuntime) -> Result<(), Fail> {
-    let volume = CountingVolume::new();
-    let played = run(
-        rt.alloc(),
-        volume,
-        CountingOperator::new(),
-        Vec::new(rt.alloc()),
-    );
+    let volume = MemVolume::new(rt.alloc(), 1, 1, 1, 0, 0, &[], None)?;
+    let operator = ScriptOperator::new(rt.alloc(), &[])?;
+    let played = run(rt.alloc(), volume, operator, Vec::new(rt.alloc()));
     assert_eq!(rt; played.end, RunEnd::Whole { rows: 0 });
     assert_eq!(rt; played.trace.len(), 1);
     assert_eq!(rt; played.trace[0].actor, Actor::System);
@@ -490,7 +486,6 @@ fn runs_empty_deck(rt: HostRuntime) -> Result<(), Fail> {
         }
     );
     assert!(rt; is_opened);
-    assert_eq!(rt; (played.volume.calls(), played.operator.asks()), (0, 0));
     Ok(())
 }
 
@@ -506,7 +501,8 @@ fn runs_short_deck(rt: HostRuntime) -> Result<(), Fail> {
         said(2, Stmt::Delete(5)),
         said(2, Stmt::Select(5)),
     ]?;
-    let played = run(alloc, CountingVolume::new(), CountingOperator::new(), lines);
+    let volume = MemVolume::new(alloc, 1, 1, 1, 0, 0, &[], None)?;
+    let played = run(alloc, volume, ScriptOperator::new(alloc, &[])?, lines);
     // The row that was inserted is not committed, and the one that was deleted still is.
     assert_eq!(rt; played.end, RunEnd::Whole { rows: 1 });
     assert_eq!(rt; played.trace.len(), 8);
@@ -524,6 +520,5 @@ fn runs_short_deck(rt: HostRuntime) -> Result<(), Fail> {
         assert_eq!(rt; session_and_number(entry), expected, "at {at}");
         assert_eq!(rt; (entry.answer, entry.calls), (None, 0), "at {at}");
     }
-    assert_eq!(rt; (played.volume.calls(), played.operator.asks()), (0, 0));
     Ok(())
 }

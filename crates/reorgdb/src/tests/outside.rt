@@ -1,10 +1,7 @@
 ghost use Rattle.std.specs.Prelude.{◌≡◌, ◌≤◌, Some, None};
-ghost use Rattle.rg_outside.specs.Capacities.{Capacities};
 
-use rg_base::set::Set;
 use rg_outside::sink::{GiveFault, Sink};
 use rg_outside::source::{Failed, Source};
-use rg_outside::volume::Volume;
 use std::alloc::Global;
 
 /// A source over bytes. A call gives at most `most` of them, and 1 at least. Call `fails_at`,
@@ -139,52 +136,4 @@ impl Sink for BytesSink {
             Err(_) => Err(GiveFault::NoMemory),
         }
     }
-}
-
-/// A volume of one page in each set, whose calls succeed and are counted.
-#[derive(Drop)]
-pub struct CountingVolume {
-    calls: u64,
-}
-
-impl CountingVolume {
-    pub fn new() -> Self {
-        CountingVolume { calls: 0 }
-    }
-
-    pub fn calls(&self) -> u64 {
-        self.calls
-    }
-}
-
-impl Volume for CountingVolume {
-    ghost capacities = { λ _. record { log = 1; first = 1; second = 1 } };
-
-    ghost told = { λ _. None };
-
-    ghost faults = { λ _. 0 };
-
-    fn capacity(&self, set: Set) -> u32 {
-        match set {
-            Set::Log | Set::First | Set::Second => 1,
-        }
-    }
-
-    fn read(&mut self, _set: Set, _page: u32, into: &mut [u8; 4096]) -> Result<(), Failed> {
-        self.calls = self.calls.saturating_add(1);
-        *into = [0; 4096];
-        Ok(())
-    }
-
-    fn write(&mut self, _set: Set, _page: u32, _from: &[u8; 4096]) -> Result<(), Failed> {
-        self.calls = self.calls.saturating_add(1);
-        Ok(())
-    }
-
-    fn sync(&mut self) -> Result<(), Failed> {
-        self.calls = self.calls.saturating_add(1);
-        Ok(())
-    }
-
-    ghost told_capacities = { λ _. tt };
 }

@@ -20,7 +20,7 @@ pub fn is_others(session: Session, kept: &Lock) -> bool
 }
 
 /// An equal row, where there is one.
-pub fn copy_of(row: Option<&Row>, alloc: Global) -> Result<Option<Row>, NoMemory>
+pub fn copy_of(alloc: Global, row: Option<&Row>) -> Result<Option<Row>, NoMemory>
     ensures { IfOk result (λ copy. copy ≡ option_copied row.entry) }
 {
     match row {
@@ -54,6 +54,7 @@ pub fn give_back(claims: &mut NumberMap<Class>, number: u64, before: Option<Clas
             claims.remove(number);
         }
         Some(class) => {
+            // A key that is there takes no memory: its value is replaced.
             let _ = claims.insert(number, class);
         }
     }

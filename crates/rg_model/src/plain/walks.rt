@@ -97,8 +97,8 @@ pub fn find_holder(
 
 /// The rows of the keys from `lo` to `hi`, by rising key.
 pub fn rows_between(
-    table: &NumberMap<Row>,
     alloc: Global,
+    table: &NumberMap<Row>,
     lo: u64,
     hi: u64,
 ) -> Result<Rows, NoMemory>
@@ -116,7 +116,7 @@ pub fn rows_between(
 }
 
 /// The rising keys of the rows with this `cat`.
-pub fn keys_with_cat(table: &NumberMap<Row>, alloc: Global, cat: u64) -> Result<Keys, NoMemory>
+pub fn keys_with_cat(alloc: Global, table: &NumberMap<Row>, cat: u64) -> Result<Keys, NoMemory>
     ensures { IfOk result (λ keys. keys ≡ keys_with_cat cat table.now) }
 {
     let mut keys = Vec::new(alloc);
@@ -145,9 +145,9 @@ fn copy_table(table: &NumberMap<Row>, alloc: Global) -> Result<NumberMap<Row>, N
 
 /// The table with the kept rows of a session's locks put back.
 pub fn rolled_back(
+    alloc: Global,
     table: &NumberMap<Row>,
     locks: &NumberMap<Lock>,
-    alloc: Global,
     session: Session,
 ) -> Result<NumberMap<Row>, NoMemory>
     ensures { IfOk result
@@ -157,7 +157,7 @@ pub fn rolled_back(
     let mut last = None;
     while let Some((key, kept)) = entry_behind(locks, last) {
         if !is_others(session, kept) {
-            set_row(&mut rolled, key, copy_of(kept.row.as_ref(), alloc)?)?;
+            set_row(&mut rolled, key, copy_of(alloc, kept.row.as_ref())?)?;
         }
         last = Some(key);
     }

@@ -1,5 +1,0 @@
-use Rattle.rg_outside.specs.Calls.{Synced}
-use Rattle.reorgdb.proofs.tests.outside.CountingVolumeVolume.sync.Goals as goal
-
-pub returns-clause-made : goal.returns-clause-made
-returns-clause-made c = (Synced, tt, tt)

@@ -1,0 +1,37 @@
+-- What the program's call does: the one contract of `reorg_main` and `reorg_alone`, by the words,
+-- by what is known of the source and the sink before and after the call, and by the status and the
+-- trace that it leaves. Out of memory is the one answer that may come at any time: status 8 may
+-- stand in place of any other.
+use Rattle.std.specs.Prelude.{ℕ, ◌≡◌, ◌+◌, List, [], ◌∷◌}
+use Rattle.std.specs.List.{Contains}
+use Rattle.rg_deck.specs.declared.read.TheConstants.{DECK_LIMIT}
+use Rattle.rg_model.specs.Legal.{Legal}
+use Rattle.rg_outside.specs.Faults.{Rose}
+use Rattle.rg_run.specs.Played.{no_rows}
+use Rattle.rg_stmt.specs.declared.event.Entry.{Entry}
+use Rattle.reorgdb.specs.Answer.{Seen, IsPlay, Concludes}
+use Rattle.reorgdb.specs.Causes.{Plays, RefusesDeck, GivesDue}
+use Rattle.reorgdb.specs.Reading.{TakesAtMost, TakesTooMany}
+
+pub record Completes (words : List (List ℕ)) (source source_after sink sink_after : Seen)
+    (status : ℕ) (trace : List Entry) : Type 0 where
+  -- What the call comes to, and how its output is given. At status 4 all holds that is said of the
+  -- status in whose place it stands, but that the sink has a prefix of the text.
+  pub concludes : Concludes words source source_after sink sink_after status trace
+  pub legal : Legal no_rows trace
+  -- Status 0: the deck was played, and its print given.
+  pub played : status ≡ 0 → Plays source source_after sink sink_after trace
+  -- Status 1 is returned only if the words are not `play`; then no other is but 4 and 8.
+  pub no_command : status ≡ 1 → IsPlay words → ⊥
+  pub other_words : (IsPlay words → ⊥) → Contains (1 ∷ 4 ∷ 8 ∷ []) status
+  -- Status 2: the bytes were read to their end, and the output names the first line that is outside
+  -- the grammar or no statement.
+  pub deck : status ≡ 2 → RefusesDeck source source_after sink sink_after
+  -- Statuses 3 and 4 are returned only if the source, or the sink, failed in this call.
+  pub source_failed : status ≡ 3 → Rose source.faults source_after.faults
+  pub sink_failed : status ≡ 4 → Rose sink.faults sink_after.faults
+  -- Status 7: one byte more than the limit was read.
+  pub long : status ≡ 7 → TakesTooMany source.bytes source_after.bytes
+  -- Where the source reports its bytes and nothing fails, the status is the one that is due, or 8.
+  pub due : GivesDue words source source_after sink sink_after status
+  pub bounded : TakesAtMost (DECK_LIMIT + 1) source.bytes source_after.bytes
