@@ -1,4 +1,5 @@
 pub mod Dashes
 pub mod FirstView
 pub mod MapView
+pub mod Numerals
 pub mod Walk

@@ -1,4 +1,5 @@
 pub mod First
+pub mod Number
 pub mod Retained
 pub mod Session
 pub mod Text

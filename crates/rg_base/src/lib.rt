@@ -14,6 +14,8 @@ pub mod lock;
 pub mod map;
 /// Out of memory.
 pub mod no_memory;
+/// Numbers, as words.
+pub mod number;
 /// The options of the utility, and what it drains.
 pub mod options;
 /// Places in a copy of the table.

@@ -1,6 +1,7 @@
 use crate::bytes::Bytes;
 use crate::map::NumberMap;
 use crate::no_memory::NoMemory;
+use crate::number::read_number;
 use crate::row::Row;
 use crate::text::{Text, is_dashes};
 use std::alloc::Global;
@@ -126,5 +127,25 @@ fn tells_dashes(rt: HostRuntime) {
         (b"a-".as_slice(), false),
     ] {
         assert_eq!(rt; is_dashes(bytes), want);
+    }
+}
+
+#[test]
+fn reads_numbers(rt: HostRuntime) {
+    for (word, want) in [
+        ("0", Some(0)),
+        ("7", Some(7)),
+        ("10", Some(10)),
+        ("18446744073709551615", Some(u64::MAX)),
+        ("18446744073709551616", None),
+        ("", None),
+        ("00", None),
+        ("07", None),
+        ("+7", None),
+        ("-7", None),
+        ("7 ", None),
+        ("7a", None),
+    ] {
+        assert_eq!(rt; read_number(word), want, "at {word:?}");
     }
 }

@@ -131,7 +131,7 @@ pub fn keys_with_cat(alloc: Global, table: &NumberMap<Row>, cat: u64) -> Result<
 }
 
 // An equal table.
-fn copy_table(table: &NumberMap<Row>, alloc: Global) -> Result<NumberMap<Row>, NoMemory>
+fn copy_table(alloc: Global, table: &NumberMap<Row>) -> Result<NumberMap<Row>, NoMemory>
     ensures { IfOk result (λ copy. copy ≡ table.now) }
 {
     let mut copy = NumberMap::new(alloc);
@@ -153,7 +153,7 @@ pub fn rolled_back(
     ensures { IfOk result
         (λ rolled. rolled ≡ put_back (map.entries (own_locks session locks.now)) table.now) }
 {
-    let mut rolled = copy_table(table, alloc)?;
+    let mut rolled = copy_table(alloc, table)?;
     let mut last = None;
     while let Some((key, kept)) = entry_behind(locks, last) {
         if !is_others(session, kept) {

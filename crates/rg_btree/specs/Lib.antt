@@ -1,0 +1,5 @@
+pub mod Child
+pub mod Moved
+pub mod Short
+pub mod Spares
+pub mod Tree

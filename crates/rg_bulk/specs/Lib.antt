@@ -1,0 +1,4 @@
+pub mod Branch
+pub mod Falls
+pub mod Shape
+pub mod Share

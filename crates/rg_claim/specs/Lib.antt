@@ -1,0 +1,6 @@
+pub mod Blocking
+pub mod ClaimState
+pub mod Classes
+pub mod Drains
+pub mod Sessions
+pub mod Slots

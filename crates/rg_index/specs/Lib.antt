@@ -1,0 +1,5 @@
+pub mod Entries
+pub mod Indexed
+pub mod Listed
+pub mod RisingPart
+pub mod Split

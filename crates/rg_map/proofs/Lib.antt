@@ -1,0 +1,3 @@
+pub mod OneToOne
+pub mod Places
+pub mod TargetWalk

@@ -1,0 +1,2 @@
+pub mod ByHome
+pub mod Last
