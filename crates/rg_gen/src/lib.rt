@@ -1,0 +1,11 @@
+//! Makes a deck from a seed: rows, a reorganisation, and writers beside it.
+#![tactic(auto)]
+
+// Drawn numbers.
+mod draws;
+/// The deck.
+pub mod make;
+/// The line that sums up a run.
+pub mod summary;
+#[cfg(test)]
+mod tests;
