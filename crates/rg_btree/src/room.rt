@@ -100,10 +100,10 @@ pub fn share_out<T: Drop>(left: &mut Vec<T, Global>, right: &mut Vec<T, Global>)
     requires right_room { length right.old.items < vec_capacity right.old }
     ensures left { left.new.items
         ≡ take (moved (length left.old.items) (length right.old.items))
-            (left.old.items ++ right.old.items) }
+        (left.old.items ++ right.old.items) }
     ensures right { right.new.items
         ≡ drop (moved (length left.old.items) (length right.old.items))
-            (left.old.items ++ right.old.items) }
+        (left.old.items ++ right.old.items) }
     ensures kept_left { vec_capacity left.old ≤ vec_capacity left.new }
     ensures kept_right { vec_capacity right.old ≤ vec_capacity right.new }
 {
