@@ -1,13 +1,15 @@
 //! Plays a deck of statements, read from standard input, and prints every reply.
 #![tactic(auto)]
 
-use edge::{AbsentVolume, IdleOperator, ReaderSource, WriterSink};
+use edge::{AbsentVolume, IdleOperator};
+use rg_file::sink::OutputSink;
+use rg_file::source::InputSource;
 use std::process::ExitCode;
 use std::rt::Env;
 use std::{env, io};
 use top::reorg_main;
 
-/// What stands outside the program.
+/// The volume and the operator, which no line asks yet.
 mod edge;
 /// Giving the output to the sink.
 mod giving;
@@ -45,8 +47,8 @@ fn main(rt: HostRuntime) -> ExitCode {
         &rt,
         alloc,
         &words,
-        &mut ReaderSource::new(rt.stdin()),
-        &mut WriterSink::new(rt.stdout()),
+        &mut InputSource::new(rt.stdin()),
+        &mut OutputSink::new(rt.stdout()),
         AbsentVolume::new(),
         operator,
     );

@@ -1,0 +1,14 @@
+use Rattle.std.proofs.Common.{◌≤◌, ◌-◌, length, take}
+use Rattle.std.specs.Io.KnownBytes.{Consumes}
+use Rattle.rg_file.proofs.volume.fill.Given as goal
+
+abbrev pub invariant-loop-at : goal.invariant-loop-at
+invariant-loop-at g l =
+    record {
+      within : l.at ≤ length l.into;
+      taken : Consumes (g.R.Read.remaining l.fn.reader) (g.R.Read.remaining l.reader) (take l.at l.into);
+      later : l.fn.faults ≤ l.faults;
+    }
+
+abbrev pub decreases-loop-at : goal.decreases-loop-at
+decreases-loop-at g l = length l.into - l.at

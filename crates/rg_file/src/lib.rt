@@ -1,0 +1,19 @@
+//! The edge of the program: a source over a reader, a sink over a writer, a volume over one file,
+//! and an operator over the clock.
+#![tactic(auto)]
+
+// Single calls of the system, and calls that are tried again.
+mod calls;
+// A reader, a writer and a file that fail where a test wants it.
+#[cfg(test)]
+mod faulty;
+/// An operator over the clock.
+pub mod operator;
+/// A sink over a writer.
+pub mod sink;
+/// A source over a reader.
+pub mod source;
+/// A volume over one file.
+pub mod volume;
+
+pub use calls::TRIES;
