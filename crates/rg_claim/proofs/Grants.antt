@@ -1,5 +1,5 @@
 -- No session holds a class that a granted drain covers, whatever is called.
-use Rattle.std.proofs.Common.{◌≡◌, ℕ, Bool, true, false, ◌&&◌, ◌||◌, cond, List, [], ◌∷◌, Option, Some, None, filter, refl, sym, ◌∙◌, ap}
+use Rattle.std.proofs.Common.{◌≡◌, ℕ, Bool, true, false, ◌&&◌, ◌||◌, cond, List, [], ◌∷◌, Option, Some, None, filter, refl, sym, ◌∙◌, ap, subst}
 use Rattle.std.specs.Ordering.{nat_cmp, eq_by_cmp}
 use Rattle.std.specs.FinMap as map
 use Rattle.std.specs.FinMap.{find, same_map, nat_cmp-IsAntisymmetric, get-empty, get-insert, get-remove, get-entries}
@@ -15,7 +15,7 @@ use Rattle.rg_model.specs.State.{Claims}
 use Rattle.rg_claim.specs.Blocking.{is_blocking}
 use Rattle.rg_claim.specs.Classes.{classes_of}
 use Rattle.rg_claim.specs.ClaimState.{ClaimState}
-use Rattle.rg_claim.specs.Drains.{GrantIsKept}
+use Rattle.rg_claim.specs.Drains.{GrantIsKept, drain_granted}
 
 -- a claim that is not refused takes no covered class that was not held
 not_taken : (what : DrainFor) (held : Option Class) (class needed : Class)
@@ -104,6 +104,15 @@ grant-granted seen what asked none other granted q class covered =
     free : is_blocking (Granted what) (map.get seen.claims q) ≡ false
     free = ap (λ found. is_blocking (Granted what) found) (get-entries seen.claims q) ∙ none_holds (Granted what) (map.entries seen.claims) q
         (sym (none ∙ ap (λ drain. first_session (filter (is_holder drain) (map.entries seen.claims))) asked))
+
+-- a drain that was asked is granted, and any other stays, where no session holds what it covers
+pub grants : (seen : ClaimState) → GrantIsKept seen → None ≡ least_holder seen.drain seen.claims → GrantIsKept (record { claims = seen.claims; drain = drain_granted seen.drain })
+grants seen kept none = go seen.drain refl
+  where
+    go : (drain : DrainState) → seen.drain ≡ drain → GrantIsKept (record { claims = seen.claims; drain = drain_granted drain })
+    go Free is = grant-free seen.claims
+    go (Asked what) is = grant-granted seen what is none
+    go (Granted what) is = subst (λ drain. GrantIsKept (record { claims = seen.claims; drain = drain })) is kept
 
 not_held : (claim : Option Class) → has_class claim Reader ≡ false → claim ≡ None
 not_held None apart = refl

@@ -14,7 +14,7 @@ ghost use Rattle.std.specs.Result.{result_err};
 ghost use Rattle.rg_base.specs.Session.{IsSession};
 ghost use Rattle.rg_claim.specs.ClaimState.{no_claims};
 ghost use Rattle.rg_claim.specs.Classes.{classes_of};
-ghost use Rattle.rg_claim.specs.Drains.{GrantIsKept, IsAsked, IsGrantOf};
+ghost use Rattle.rg_claim.specs.Drains.{GrantIsKept, IsAsked, IsGrantOf, drain_granted};
 ghost use Rattle.rg_claim.specs.Sessions.{HasSessions};
 ghost use Rattle.rg_claim.specs.Slots.{entries_from};
 ghost use Rattle.rg_model.specs.Claims.{claims_with, first_session, is_holder, is_kept_out};
@@ -78,6 +78,16 @@ fn find_holder(slots: &[Option<Class>], drain: DrainState) -> Option<Session>
         }
     }
     None
+}
+
+// A drain that is asked is granted.
+fn grant(drain: DrainState) -> DrainState
+    ensures { result ≡ drain_granted drain }
+{
+    match drain {
+        DrainState::Asked(what) => DrainState::Granted(what),
+        DrainState::Free | DrainState::Granted(_) => drain,
+    }
 }
 
 impl Claims {
@@ -162,22 +172,20 @@ impl Claims {
     }
 
     /// Grants the drain that was asked. Where sessions hold a class that it covers, the answer is
-    /// the least of them, and nothing changes.
+    /// the least of them, and nothing changes. Where no drain is asked, nothing changes either.
     pub fn granted(&mut self) -> Result<(), Session>
-        requires { IsAsked self.old.drain }
         ensures blocked { result_err result ≡ least_holder self.old.drain self.old.claims }
         ensures ok { OnOk result (IsGrantOf self.old self.new) }
         ensures err { OnErr result (self.new ≡ self.old) }
         ensures session { IfErr result IsSession }
     {
-        let DrainState::Asked(what) = self.drain else {
-            unreachable!()
-        };
-        if let Some(session) = find_holder(&self.slots, self.drain) {
-            return Err(session);
+        match find_holder(&self.slots, self.drain) {
+            Some(session) => Err(session),
+            None => {
+                self.drain = grant(self.drain);
+                Ok(())
+            }
         }
-        self.drain = DrainState::Granted(what);
-        Ok(())
     }
 
     /// The least session that holds a class that the drain covers; none where no drain is in force.
