@@ -1,3 +1,6 @@
+// The volume and the operator that `main` hands over while no line asks either.
+// (1) Each call of the volume fails, and is counted as a fault.
+// (2) The operator commands nothing.
 ghost use Rattle.std.specs.Prelude.{◌≡◌, ◌≤◌, None};
 ghost use Rattle.rg_base.specs.declared.control.Command.TheVariants.{Nothing};
 ghost use Rattle.rg_outside.specs.Capacities.{Capacities};

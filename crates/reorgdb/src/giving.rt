@@ -1,3 +1,6 @@
+// How the output is given to the sink.
+// (1) What a call didn't take is given again by the next one.
+// (2) A call that fails, or that takes nothing of what is left, is the last.
 ghost use Rattle.std.specs.Prelude.{◌≤◌};
 ghost use Rattle.reorgdb.specs.Giving.{Gives};
 

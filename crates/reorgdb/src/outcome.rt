@@ -1,3 +1,4 @@
+// What a call comes to: its status, and the text of its refusal. Both are in specs/Refusals.antt.
 ghost use Rattle.std.specs.Prelude.{◌≡◌, IfOk};
 ghost use Rattle.reorgdb.specs.Refusals.{status_of, fixed_text, deck_refusal};
 

@@ -1,3 +1,4 @@
+// How the deck is read from the source. The rules are in specs/Reading.antt.
 ghost use Rattle.std.specs.Prelude.{◌≡◌, ℕ, ◌<◌, ◌≤◌, ◌+◌, length, vec_len, IfOk, IfErr};
 ghost use Rattle.std.specs.Io.KnownBytes.{Consumes, IsAtEnd};
 ghost use Rattle.reorgdb.specs.Reading.{TakesAtMost, TakesBehind, ReadsUpTo, StopsAtPiece};

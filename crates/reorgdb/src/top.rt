@@ -1,3 +1,4 @@
+// The program's call. All that it promises is in specs/Contract.antt.
 ghost use Rattle.std.specs.Prelude.{◌≡◌, ◌+◌, map, string_bytes};
 ghost use Rattle.rg_model.specs.Legal.{Legal};
 ghost use Rattle.reorgdb.specs.Answer.{seen, Concludes, Delivers, output_of};

@@ -1,3 +1,8 @@
+// A call up to its output.
+// (1) The words are looked at first. Where they are no command, the source isn't read.
+// (2) The whole deck is read before any line of it is played.
+// (3) The whole output is made before any of it is given.
+// (4) Neither the volume nor the operator is called.
 ghost use Rattle.std.specs.Prelude.{ℕ, ◌≡◌, ◌≤◌, ◌+◌, ◌↔◌, List, length, map, IsTrue, string_bytes};
 ghost use Rattle.std.specs.Prelude.{[]};
 ghost use Rattle.rg_stmt.specs.declared.line.Line.{Line};

@@ -8,19 +8,13 @@ use Rattle.rg_base.specs.declared.session.Class.{Class}
 use Rattle.rg_claim.specs.ClaimState.{ClaimState}
 use Rattle.rg_model.specs.Claims.{is_covered, has_class}
 
--- a drain is asked and not yet granted
-abbrev pub IsAsked : DrainState → Type 0
-IsAsked Free = ⊥
-IsAsked (Asked what) = Unit {0}
-IsAsked (Granted what) = ⊥
-
--- the drain that was asked is granted
+-- a drain that was asked is granted, and any other stays as it is
 abbrev pub drain_granted : DrainState → DrainState
 drain_granted Free = Free
 drain_granted (Asked what) = Granted what
 drain_granted (Granted what) = Granted what
 
--- that is all that changes
+-- no more than that changes
 abbrev pub IsGrantOf : ClaimState → ClaimState → Type 0
 IsGrantOf old new = new ≡ record old { drain = drain_granted old.drain }
 

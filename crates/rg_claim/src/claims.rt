@@ -14,7 +14,7 @@ ghost use Rattle.std.specs.Result.{result_err};
 ghost use Rattle.rg_base.specs.Session.{IsSession};
 ghost use Rattle.rg_claim.specs.ClaimState.{no_claims};
 ghost use Rattle.rg_claim.specs.Classes.{classes_of};
-ghost use Rattle.rg_claim.specs.Drains.{GrantIsKept, IsAsked, IsGrantOf, drain_granted};
+ghost use Rattle.rg_claim.specs.Drains.{GrantIsKept, IsGrantOf, drain_granted};
 ghost use Rattle.rg_claim.specs.Sessions.{HasSessions};
 ghost use Rattle.rg_claim.specs.Slots.{entries_from};
 ghost use Rattle.rg_model.specs.Claims.{claims_with, first_session, is_holder, is_kept_out};
@@ -155,13 +155,6 @@ impl Claims {
         ensures grant { GrantIsKept self.now }
     {
         self.drain
-    }
-
-    /// Whether a drain is asked and not yet granted.
-    pub fn is_asked(&self) -> bool
-        ensures { IsTrue result ↔ IsAsked self.now.drain }
-    {
-        matches!(self.drain, DrainState::Asked(_))
     }
 
     /// Asks a drain, in place of one that is in force.

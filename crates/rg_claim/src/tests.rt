@@ -74,17 +74,14 @@ fn drains_keep_out(rt: HostRuntime) -> Result<(), Fail> {
 #[test]
 fn drains_wait_for_holders(rt: HostRuntime) -> Result<(), Fail> {
     let mut claims = one_reader(rt.alloc())?;
-    assert_eq!(rt; (claims.holder(), claims.is_asked()), (None, false));
+    assert_eq!(rt; (claims.holder(), claims.granted()), (None, Ok(())));
+    assert_eq!(rt; claims.drain(), DrainState::Free);
     claims.ask(DrainFor::Writers);
     assert_eq!(rt; claims.holder(), Some(Session(7)));
-    if claims.is_asked() {
-        assert_eq!(rt; claims.granted(), Err(Session(7)));
-    }
+    assert_eq!(rt; claims.granted(), Err(Session(7)));
     claims.release(Session(7));
     claims.release(Session(99));
-    if claims.is_asked() {
-        assert_eq!(rt; claims.granted(), Ok(()));
-    }
+    assert_eq!(rt; claims.granted(), Ok(()));
     assert_eq!(rt; claims.drain(), DrainState::Granted(DrainFor::Writers));
     claims.ask(DrainFor::All);
     assert_eq!(rt; claims.holder(), Some(Session(3)));

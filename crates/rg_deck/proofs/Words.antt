@@ -40,8 +40,8 @@ pub number_from_value : (word : List ℕ) (r : Option ℕ) → IsUnpadded word �
 number_from_value word None unpadded h = λ n fits e. h (rw e (digits_decimal own n fits), rw (e, digits_value-decimal own n fits) fits)
 number_from_value word (Some n) unpadded h = (omega (arith, h.0.1, h.1), sym (decimal-digits_value own word h.0.0 unpadded.0 unpadded.1 h.0.1) ∙ ap decimal (sym h.1))
 
-pub no_number_unpadded : (word : List ℕ) (n : ℕ) → (IsUnpadded word → ⊥) → n < 2 ^ 64 → word ≢ decimal n
-no_number_unpadded word n not fits e = not (rw e (IsUnpadded-decimal n fits))
+pub no_padded : (word : List ℕ) (n : ℕ) → (IsUnpadded word → ⊥) → n < 2 ^ 64 → word ≢ decimal n
+no_padded word n not fits e = not (rw e (IsUnpadded-decimal n fits))
 
 -- what begins with a number and a space begins with no other
 number_begins : (bytes rest other : List ℕ) (m n : ℕ) → BeginsWithNumber bytes m rest → BeginsWithNumber bytes n other → (m ≡ n) × (rest ≡ other)

@@ -46,7 +46,7 @@ fn is_unpadded(word: &[u8]) -> bool
 }
 
 // A number without a sign or a leading zero.
-#[tactic(auto, using(crate::proofs::Words::number_from_value, crate::proofs::Words::no_number_unpadded))]
+#[tactic(auto, using(crate::proofs::Words::number_from_value, crate::proofs::Words::no_padded))]
 pub fn read_number(word: &[u8]) -> Option<u64>
     ensures { Finds (λ n. n < 2 ^ 64) decimal word.now result }
 {

@@ -62,7 +62,8 @@ fn line(
     let mut out = Vec::new(alloc);
     match writeln!(
         out,
-        "GEN seed={seed} rows={rows} entries={entries} ok={ok} refused={refused} copy={copy} pages={pages} over={over} legal={word}"
+        "GEN seed={seed} rows={rows} entries={entries} ok={ok} refused={refused} \
+         copy={copy} pages={pages} over={over} legal={word}"
     ) {
         Ok(()) => Ok(Bytes::new(out)),
         Err(_) => Err(NoMemory),

@@ -131,7 +131,9 @@ fn sums_up(rt: HostRuntime) -> Result<(), Fail> {
     let text = summary(alloc, u64::MAX, 20_000, &trace, false)?;
     assert_eq!(rt;
         text.as_slice(),
-        b"GEN seed=18446744073709551615 rows=20000 entries=9 ok=3 refused=2 copy=2 pages=5 over=1 legal=no\n".as_slice()
+        b"GEN seed=18446744073709551615 rows=20000 entries=9 ok=3 refused=2 \
+            copy=2 pages=5 over=1 legal=no\n"
+            .as_slice()
     );
     Ok(())
 }

@@ -31,8 +31,8 @@ fn reads_control_statements(rt: HostRuntime) -> Result<(), Fail> {
             },
         ),
         (
-            "REORG TABLESPACE SHRLEVEL CHANGE FREEPAGE 255 PCTFREE 99 RETRY_DELAY 4294967295 RETRY 255 \
-             DRAIN_WAIT 0 DRAIN ALL DEADLINE 50 DELAY 10 LONGLOG TERM MAXRO DEFER",
+            "REORG TABLESPACE SHRLEVEL CHANGE FREEPAGE 255 PCTFREE 99 RETRY_DELAY 4294967295 \
+             RETRY 255 DRAIN_WAIT 0 DRAIN ALL DEADLINE 50 DELAY 10 LONGLOG TERM MAXRO DEFER",
             Options {
                 maxro: Maxro::Defer,
                 longlog: Longlog::Term,
