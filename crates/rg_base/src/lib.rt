@@ -8,6 +8,10 @@ pub mod bytes;
 pub mod change;
 /// What the operator answers.
 pub mod control;
+/// The fields of a format.
+pub mod field;
+/// Rows with the places of their homes.
+pub mod homes;
 /// Locks of keys.
 pub mod lock;
 /// Maps from numbers, seen as finite maps.
@@ -18,12 +22,16 @@ pub mod no_memory;
 pub mod number;
 /// The options of the utility, and what it drains.
 pub mod options;
+/// The parts of a record: what it makes of slots.
+pub mod part;
 /// Places in a copy of the table.
 pub mod place;
 /// Positions in the log.
 pub mod position;
 /// Rows.
 pub mod row;
+/// The bytes of rows.
+pub mod row_bytes;
 /// Sessions and the classes of their claims.
 pub mod session;
 /// The sets of a volume.
@@ -34,6 +42,8 @@ pub mod step;
 mod tests;
 /// The text of a row.
 pub mod text;
+/// The numbers of transactions.
+pub mod tran;
 /// What the utility decides.
 pub mod verdict;
 /// The indexes of the table.

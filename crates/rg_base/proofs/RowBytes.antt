@@ -1,0 +1,131 @@
+-- The bytes of a row, field by field.
+use Rattle.std.proofs.Common.{◌≡◌, ◌≤◌, ◌<◌, ℕ, ◌+◌, ◌-◌, ◌^◌, zero, suc, List, [], ◌∷◌, ◌++◌, length, take, drop, refl, sym, ap, subst, ◌∙◌, arith, length-append, get_or}
+use Rattle.std.proofs.lemmas.List.{append_assoc, take-append-drop, drop-drop, drop_at, get_or-drop, get_or-take, length-drop, length-take-le}
+use Rattle.std.specs.List.{AllByRecursion}
+use Rattle.rg_base.specs.Text.{IsLetter}
+use Rattle.rg_base.specs.declared.row.Row.{Row}
+use Rattle.rg_base.specs.Field.{field}
+use Rattle.byteorder.specs.Endian.{big_number}
+use Rattle.byteorder.specs.Numbers.{big_number-reads_back}
+use Rattle.rg_base.specs.RowBytes.{row_bytes, row_of, row_size, HasLength, IsFirstOther}
+use Rattle.rg_base.proofs.Fields.{length-field, field_one_2, put_next}
+
+pub length-row_bytes : (row : Row) → length (row_bytes row) ≡ row_size row
+length-row_bytes row =
+    simp (length-append, length-field) (omega arith)
+
+-- four fields and the text, each written where the one before it ends
+pub row_written : (row : Row) (text base a b c d e : List ℕ) → text ≡ row.text
+    → a ≡ take 0 base ++ (field 8 row.key ++ drop 8 base)
+    → b ≡ take 8 a ++ (field 8 row.clus ++ drop 16 a)
+    → c ≡ take 16 b ++ (field 8 row.cat ++ drop 24 b)
+    → d ≡ take 24 c ++ (field 2 (length text) ++ drop 26 c)
+    → e ≡ take 26 d ++ (text ++ drop (26 + length text) d)
+    → e ≡ row_bytes row ++ drop (row_size row) base
+row_written row text base a b c d e et ea eb ec ed ee =
+    let f1 : List ℕ = field 8 row.key in
+    let f2 : List ℕ = field 8 row.clus in
+    let f3 : List ℕ = field 8 row.cat in
+    let f4 : List ℕ = field 2 (length text) in
+    let l1 : length f1 ≡ 8 = length-field 8 row.key in
+    let l2 : length (f1 ++ f2) ≡ 16 = length-append f1 f2 ∙ omega (arith, l1, length-field 8 row.clus) in
+    let l3 : length ((f1 ++ f2) ++ f3) ≡ 24 =
+    length-append (f1 ++ f2) f3 ∙ omega (arith, l2, length-field 8 row.cat) in
+    let l4 : length (((f1 ++ f2) ++ f3) ++ f4) ≡ 26 =
+    length-append ((f1 ++ f2) ++ f3) f4 ∙ omega (arith, l3, length-field 2 (length text)) in
+    let s2 : b ≡ (f1 ++ f2) ++ drop 16 base =
+    put_next base a b f1 f2 8 8 l1 (length-field 8 row.clus) ea eb in
+    let s3 : c ≡ ((f1 ++ f2) ++ f3) ++ drop 24 base =
+    put_next base b c (f1 ++ f2) f3 16 8 l2 (length-field 8 row.cat) s2 ec in
+    let s4 : d ≡ (((f1 ++ f2) ++ f3) ++ f4) ++ drop 26 base =
+    put_next base c d ((f1 ++ f2) ++ f3) f4 24 2 l3 (length-field 2 (length text)) s3 ed in
+    let s5 : e ≡ ((((f1 ++ f2) ++ f3) ++ f4) ++ text) ++ drop (26 + length text) base =
+    put_next base d e (((f1 ++ f2) ++ f3) ++ f4) text 26 (length text) l4 refl s4 ee in
+    s5 ∙ rw et (simp append_assoc refl)
+
+-- bytes are their fields and what follows
+pub row_read : (bytes : List ℕ) → 26 ≤ length bytes
+    → take 8 bytes ++ (take 8 (drop 8 bytes) ++ (take 8 (drop 16 bytes)
+    ++ (take 2 (drop 24 bytes) ++ drop 26 bytes))) ≡ bytes
+row_read bytes long =
+    let split : (n m : ℕ) → take m (drop n bytes) ++ drop (n + m) bytes ≡ drop n bytes =
+    λ n m. ap (λ (xs : List ℕ). take m (drop n bytes) ++ xs) (sym (drop-drop m n bytes))
+    ∙ take-append-drop m (drop n bytes) in
+    rw (split 24 2, split 16 8, split 8 8) (take-append-drop 8 bytes)
+
+-- the row whose fields these are
+pub row_made : (row : Row) (bytes : List ℕ) → 26 ≤ length bytes → field 8 row.key ≡ take 8 bytes
+    → field 8 row.clus ≡ take 8 (drop 8 bytes) → field 8 row.cat ≡ take 8 (drop 16 bytes)
+    → field 2 (length row.text) ≡ take 2 (drop 24 bytes) → row.text ≡ drop 26 bytes
+    → row_bytes row ≡ bytes
+row_made row bytes long e1 e2 e3 e4 e5 = rw (e1, e2, e3, e4, e5) (row_read bytes long)
+
+letter_at : (xs : List ℕ) (i : ℕ) → i < length xs → AllByRecursion IsLetter xs → IsLetter (get_or xs i 0)
+letter_at [] i below all = absurd (omega arith)
+letter_at (x ∷ xs) zero below all = all.0
+letter_at (x ∷ xs) (suc i) below all = letter_at xs i (omega arith) all.1
+
+-- the first other byte of the text, as one of all bytes
+pub first_other : (bytes : List ℕ) (n : ℕ) → 26 ≤ length bytes → n < length (drop 26 bytes)
+    → AllByRecursion IsLetter (take n (drop 26 bytes))
+    → (IsLetter (get_or (drop 26 bytes) n 0) → ⊥) → IsFirstOther bytes (26 + n)
+first_other bytes n long within letters other = record {
+  low = omega arith;
+  high = omega (arith, length-drop 26 bytes);
+  other = λ is. other (subst IsLetter (sym (get_or-drop 26 bytes n 0)) is);
+  first = λ k low high.
+      let e : 26 + (k - 26) ≡ k = omega arith in
+      let below : k - 26 < n = omega arith in
+      let there : k - 26 < length (take n (drop 26 bytes)) =
+      omega (arith, length-take-le n (drop 26 bytes) (omega arith)) in
+      let is : IsLetter (get_or (take n (drop 26 bytes)) (k - 26) 0) =
+      letter_at (take n (drop 26 bytes)) (k - 26) there letters in
+      let At : ℕ → Type 0 = λ i. IsLetter (get_or bytes i 0) in
+      subst At e
+      (subst IsLetter (get_or-take n (drop 26 bytes) (k - 26) 0 below ∙ get_or-drop 26 bytes (k - 26) 0) is);
+}
+
+-- bytes whose length is another than the text's have no right length
+pub other_length : (bytes text : List ℕ) (n : ℕ) → n < 2 ^ 16 → field 2 n ≡ take 2 (drop 24 bytes)
+    → length text + 26 ≡ length bytes → (n ≡ length text → ⊥) → HasLength bytes → ⊥
+other_length bytes text n fits e len other has =
+    let short : length bytes ≤ 826 = has.short in
+    let small : length bytes - 26 < 2 ^ 16 = omega arith in
+    let same : n ≡ length bytes - 26 = field_one_2 n (length bytes - 26) fits small (e ∙ has.whole) in
+    other (omega arith)
+
+-- the number that a field starts with
+number_of_field : (n x : ℕ) (rest : List ℕ) → x < 256 ^ n → big_number n (field n x ++ rest) ≡ x
+unfolding field
+number_of_field n x rest fits = big_number-reads_back n x rest fits
+
+same_row : (a b : Row) → a.key ≡ b.key → a.clus ≡ b.clus → a.cat ≡ b.cat → a.text ≡ b.text → a ≡ b
+same_row a b key clus cat text = λ i. record { key = key i; clus = clus i; cat = cat i; text = text i }
+
+-- a row whose numbers fit is the one that its bytes show
+pub row_of-row_bytes : (row : Row) → row.key < 2 ^ 64 → row.clus < 2 ^ 64 → row.cat < 2 ^ 64
+    → row_of (row_bytes row) ≡ row
+unfolding row_of
+row_of-row_bytes row key clus cat =
+    let f1 : List ℕ = field 8 row.key in
+    let f2 : List ℕ = field 8 row.clus in
+    let f3 : List ℕ = field 8 row.cat in
+    let f4 : List ℕ = field 2 (length row.text) in
+    let all : List ℕ = row_bytes row in
+    let d8 : drop 8 all ≡ f2 ++ (f3 ++ (f4 ++ row.text)) = drop_at f1 _ 8 (length-field 8 row.key) in
+    let d16 : drop 16 all ≡ f3 ++ (f4 ++ row.text) =
+    sym (drop-drop 8 8 all) ∙ ap (drop 8) d8 ∙ drop_at f2 _ 8 (length-field 8 row.clus) in
+    let d24 : drop 24 all ≡ f4 ++ row.text =
+    sym (drop-drop 8 16 all) ∙ ap (drop 8) d16 ∙ drop_at f3 _ 8 (length-field 8 row.cat) in
+    let d26 : drop 26 all ≡ row.text =
+    sym (drop-drop 2 24 all) ∙ ap (drop 2) d24 ∙ drop_at f4 _ 2 (length-field 2 (length row.text)) in
+    same_row _ row
+    (number_of_field 8 row.key _ key)
+    (ap (big_number 8) d8 ∙ number_of_field 8 row.clus _ clus)
+    (ap (big_number 8) d16 ∙ number_of_field 8 row.cat _ cat)
+    d26
+
+-- bytes that spell a row show it
+pub row_shown : (row : Row) (bytes : List ℕ) → row.key < 2 ^ 64 → row.clus < 2 ^ 64 → row.cat < 2 ^ 64
+    → row_bytes row ≡ bytes → row ≡ row_of bytes
+row_shown row bytes key clus cat e = sym (row_of-row_bytes row key clus cat) ∙ ap row_of e
