@@ -1,0 +1,132 @@
+-- The plans of a put, a change and a drop.
+use Rattle.std.specs.Prelude.{◌≡◌, ◌==◌, ℕ, ◌+◌, ◌-◌, ◌≤◌, nat_le, nat_lt, zero, suc, Bool, true, false, not, List, [], ◌∷◌, map, length, Option, Some, None, if◌then◌else◌}
+use Rattle.std.specs.List.{position_or_len, list_any}
+use Rattle.rg_base.specs.declared.place.Place.{Place}
+use Rattle.rg_home.specs.Slot.{Slot}
+use Rattle.rg_home.specs.Slot.{Free, Row, Pointer, Over, DeadRow, DeadPointer, DeadOver}
+use Rattle.rg_home.specs.Slots.{slot_at, placed, Fits, capacity_of, is_free, used, trim}
+use Rattle.rg_base.specs.declared.part.Part.{Part}
+use Rattle.rg_home.specs.declared.plan.Plan.{Plan}
+use Rattle.rg_home.specs.declared.plan.Area.{Area}
+use Rattle.rg_home.specs.declared.plan.Fitting.{Fitting}
+use Rattle.rg_home.specs.declared.plan.Look.{Look}
+use Rattle.rg_base.specs.declared.part.SlotOp.{SlotOp}
+use Rattle.rg_base.specs.declared.part.SlotOp.TheVariants as Op
+use Rattle.rg_home.specs.Pages.{page_at, slot_of, part_at}
+use Rattle.rg_home.specs.Rows.{row_at}
+
+-- a dead area whose owner has ended
+abbrev pub is_ended : List ℕ → Slot → Bool
+is_ended live (DeadRow capacity owner) = not (list_any (λ t. t == owner) live)
+is_ended live (DeadPointer capacity other owner) = not (list_any (λ t. t == owner) live)
+is_ended live (DeadOver capacity other owner) = not (list_any (λ t. t == owner) live)
+is_ended live _ = false
+
+abbrev pub swept : List ℕ → Slot → Slot
+swept live s = if is_ended live s then Free else s
+
+-- a page purged
+abbrev pub purged : List ℕ → List Slot → List Slot
+purged live slots = trim (map (swept live) slots)
+
+abbrev pub free : List Slot → ℕ
+free slots = 4064 - used slots
+
+abbrev pub room : List ℕ → List Slot → ℕ
+room live slots = free (purged live slots)
+
+-- a new area fits the page as it stands
+abbrev pub takes : ℕ → List Slot → Bool
+takes b slots = if list_any is_free slots then nat_le b (free slots) else nat_le (b + 18) (free slots)
+
+abbrev pub admits : List ℕ → ℕ → List Slot → Bool
+admits live b slots = takes b (purged live slots)
+
+-- the lowest Free slot, else a new one
+abbrev pub first_free : List Slot → ℕ
+first_free slots = position_or_len is_free slots
+
+-- the first page that admits, counted from 0, else a new one
+abbrev pub first_page : List ℕ → ℕ → List (List Slot) → ℕ
+first_page live b pages = position_or_len (admits live b) pages
+
+abbrev pub area_when : List ℕ → ℕ → List Slot → Bool → Area
+area_when live n slots true = record { place = record { page = n; slot = first_free slots }; purges = false }
+area_when live n slots false = record { place = record { page = n; slot = first_free (purged live slots) }; purges = true }
+
+abbrev pub area_on : List ℕ → ℕ → ℕ → List Slot → Area
+area_on live b n slots = area_when live n slots (takes b slots)
+
+abbrev pub new_area : List ℕ → ℕ → ℕ → List (List Slot) → Option Area
+new_area live b capacity pages = if nat_lt (first_page live b pages) capacity then Some (area_on live b (first_page live b pages + 1) (page_at pages (first_page live b pages + 1))) else None
+
+-- a row of b bytes in an area that is there
+abbrev pub fitting : List ℕ → ℕ → ℕ → List Slot → Option Fitting
+fitting live b capacity slots = if nat_le b capacity then Some (record { capacity = capacity; purges = false }) else (if nat_le (b - capacity) (room live slots) then Some (record { capacity = b; purges = nat_lt (free slots) (b - capacity) }) else None)
+
+abbrev pub purge_from : List ℕ → ℕ → ℕ → List Slot → List Part
+purge_from live n i [] = []
+purge_from live n i (s ∷ slots) = if is_ended live s then part_at (record { page = n; slot = i }) Op.Free ∷ purge_from live n (i + 1) slots else purge_from live n (i + 1) slots
+
+abbrev pub purge_of : List ℕ → List (List Slot) → ℕ → Bool → List Part
+purge_of live pages n purges = if purges then purge_from live n 0 (page_at pages n) else []
+
+-- the part for the Over area that is left
+abbrev pub left_of : List (List Slot) → Place → Slot → List Part
+left_of pages home (Pointer capacity other) = part_at other (Op.DeadOver (capacity_of (slot_of pages other)) home) ∷ []
+left_of pages home _ = []
+
+-- a slot that is a row's home
+abbrev pub is_home : Slot → Bool
+is_home (Row capacity bytes) = true
+is_home (Pointer capacity other) = true
+is_home _ = false
+
+abbrev pub planned_put : List ℕ → ℕ → List (List Slot) → Option Area → Option Plan
+planned_put live b pages None = None
+planned_put live b pages (Some area) = Some (record { home = area.place; before = None; purge = purge_of live pages area.place.page area.purges; parts = part_at area.place (Op.Row b) ∷ [] })
+
+abbrev pub to_home : List ℕ → List (List Slot) → Place → Fitting → Plan
+to_home live pages home f = record { home = home; before = row_at (slot_of pages) home; purge = purge_of live pages home.page f.purges; parts = part_at home (Op.Row f.capacity) ∷ left_of pages home (slot_of pages home) }
+
+abbrev pub in_over : List ℕ → List (List Slot) → Place → Place → Fitting → Plan
+in_over live pages home other f = record { home = home; before = row_at (slot_of pages) home; purge = purge_of live pages other.page f.purges; parts = part_at other (Op.Over f.capacity home) ∷ [] }
+
+abbrev pub to_new : List ℕ → ℕ → List (List Slot) → Place → Option Area → Option Plan
+to_new live b pages home None = None
+to_new live b pages home (Some area) = Some (record {
+  home = home;
+  before = row_at (slot_of pages) home;
+  purge = purge_of live pages area.place.page area.purges;
+  parts = part_at home (Op.Pointer (capacity_of (slot_of pages home)) area.place) ∷ part_at area.place (Op.Over b home) ∷ left_of pages home (slot_of pages home);
+})
+
+abbrev pub from_over : List ℕ → ℕ → ℕ → List (List Slot) → Place → Place → Option Fitting → Option Plan
+from_over live b capacity pages home other (Some f) = Some (in_over live pages home other f)
+from_over live b capacity pages home other None = to_new live b pages home (new_area live b capacity pages)
+
+abbrev pub away : List ℕ → ℕ → ℕ → List (List Slot) → Place → Slot → Option Plan
+away live b capacity pages home (Pointer c other) = from_over live b capacity pages home other (fitting live b (capacity_of (slot_of pages other)) (page_at pages other.page))
+away live b capacity pages home _ = to_new live b pages home (new_area live b capacity pages)
+
+abbrev pub changed : List ℕ → ℕ → ℕ → List (List Slot) → Place → Option Fitting → Option Plan
+changed live b capacity pages home (Some f) = Some (to_home live pages home f)
+changed live b capacity pages home None = away live b capacity pages home (slot_of pages home)
+
+abbrev pub planned_change : List ℕ → ℕ → ℕ → List (List Slot) → Place → Option Plan
+planned_change live b capacity pages home = changed live b capacity pages home (fitting live b (capacity_of (slot_of pages home)) (page_at pages home.page))
+
+abbrev pub planned_drop : List (List Slot) → Place → Slot → Plan
+planned_drop pages home (Pointer capacity other) = record { home = home; before = row_at (slot_of pages) home; purge = []; parts = part_at home (Op.DeadPointer capacity other) ∷ part_at other (Op.DeadOver (capacity_of (slot_of pages other)) home) ∷ [] }
+planned_drop pages home s = record { home = home; before = row_at (slot_of pages) home; purge = []; parts = part_at home (Op.DeadRow (capacity_of s)) ∷ [] }
+
+abbrev pub pointed_to : Slot → Option Place
+pointed_to (Pointer capacity other) = Some other
+pointed_to _ = None
+
+abbrev pub looked : List ℕ → ℕ → List (List Slot) → Place → Look
+looked live b pages p = record { capacity = capacity_of (slot_of pages p); other = pointed_to (slot_of pages p); fitting = fitting live b (capacity_of (slot_of pages p)) (page_at pages p.page) }
+
+abbrev pub listed : Option Part → List Part
+listed None = []
+listed (Some part) = part ∷ []

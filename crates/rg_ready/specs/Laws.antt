@@ -1,0 +1,103 @@
+-- What holds of undo, for every table space: the laws that the calls and the records rest on.
+use Rattle.rg_base.specs.RowBytes.{row_size}
+use Rattle.std.specs.Prelude.{[], ◌≡◌, ℕ, ◌≤◌, List, ◌∷◌, length, Option, Some, None, IfSome, true}
+use Rattle.rg_base.specs.declared.place.Place.{Place}
+use Rattle.rg_base.specs.declared.row.Row.{Row as TableRow}
+use Rattle.rg_home.specs.Slot.{Slot}
+use Rattle.rg_base.specs.declared.part.Part.{Part}
+use Rattle.rg_home.specs.Rows.{row_at, ChangesHome}
+use Rattle.rg_home.specs.Pages.{slot_of, applied, FitsAll, row_or_empty}
+use Rattle.rg_home.specs.Plan.{is_home, purge_of, new_area, planned_put, planned_change, planned_drop}
+use Rattle.rg_home.specs.Written.{Written}
+use Rattle.rg_home.specs.Able.{Undoable, AllUndoable, IsLive, HomeOf, Proper}
+use Rattle.rg_home.specs.Undo.{planned_undo, undone, undone_all, taken_back}
+use Rattle.rg_ready.specs.Ready.{latest, less, only, without, HasHome, NoHome, Ready}
+use Rattle.rg_ready.specs.Dead.{DeadNames}
+use Rattle.rg_ready.specs.Keyed.{LockedRow, Keyed}
+use Rattle.rg_ready.specs.Needed.{NeededInTurn, InsertsAreThere}
+
+abbrev pub change_of : ℕ → Place → Option TableRow → List Part → Written
+change_of t home before parts = record { owner = t; home = home; before = before; parts = parts }
+
+-- the plan of an undo puts the row before back at its home, changes no other row, fits, and adds no page
+abbrev pub UndoDoes : Type 0
+UndoDoes = (c : Written) (pages : List (List Slot)) → Proper pages → Undoable None (slot_of pages) c
+    → ChangesHome (slot_of pages) (slot_of (undone pages c)) c.home c.before
+    × FitsAll c.owner (row_or_empty c.before) (length pages) pages (planned_undo pages c).parts
+    × Proper (undone pages c) × (length (undone pages c) ≡ length pages)
+
+-- an empty table space is proper, and a proper one without live units is ready
+abbrev pub ReadyBegins : Type 0
+ReadyBegins = Proper [] × ((live : List ℕ) (pages : List (List Slot)) → Proper pages → Ready live pages [] (row_at (slot_of pages)))
+
+-- a unit may begin at any time
+abbrev pub UnitBegins : Type 0
+UnitBegins = (live more : List ℕ) (base : Place → Option TableRow) (pages : List (List Slot)) (cs : List Written) → ((u : ℕ) → IsLive live u → IsLive more u) → Ready live pages cs base → Ready more pages cs base
+
+-- a purge keeps a table space ready
+abbrev pub PurgeKeeps : Type 0
+PurgeKeeps = (live : List ℕ) (base : Place → Option TableRow) (pages : List (List Slot)) (cs : List Written) (t n : ℕ) (after : TableRow) → 1 ≤ n → Ready live pages cs base
+    → Ready live (applied t after pages (purge_of live pages n true)) cs base
+
+-- so does a put, and its own undo is possible
+abbrev pub PutKeeps : Type 0
+PutKeeps = (live : List ℕ) (base : Place → Option TableRow) (pages : List (List Slot)) (cs : List Written) (t : ℕ) (after : TableRow) (capacity : ℕ)
+    → Ready live pages cs base → IsLive live t → row_size after ≤ 4046
+    → IfSome (planned_put live (row_size after) pages (new_area live (row_size after) capacity pages))
+    (λ p. Ready live (applied t after (applied t after pages p.purge) p.parts) (change_of t p.home None p.parts ∷ cs) base)
+
+-- so does a change, at a home that no other live unit has
+abbrev pub ChangeKeeps : Type 0
+ChangeKeeps = (live : List ℕ) (base : Place → Option TableRow) (pages : List (List Slot)) (cs : List Written) (t : ℕ) (home : Place) (after : TableRow) (capacity : ℕ)
+    → Ready live pages cs base → IsLive live t → HomeOf t home cs → row_size after ≤ 4046 → length pages ≤ capacity → is_home (slot_of pages home) ≡ true
+    → IfSome (planned_change live (row_size after) capacity pages home)
+    (λ p. Ready live (applied t after (applied t after pages p.purge) p.parts) (change_of t home (row_at (slot_of pages) home) p.parts ∷ cs) base)
+
+-- so does a drop
+abbrev pub DropKeeps : Type 0
+DropKeeps = (live : List ℕ) (base : Place → Option TableRow) (pages : List (List Slot)) (cs : List Written) (t : ℕ) (home : Place) (after : TableRow)
+    → Ready live pages cs base → IsLive live t → HomeOf t home cs → is_home (slot_of pages home) ≡ true
+    → Ready live (applied t after pages (planned_drop pages home (slot_of pages home)).parts) (change_of t home (row_at (slot_of pages) home) (planned_drop pages home (slot_of pages home)).parts ∷ cs) base
+
+-- so does the undo of a unit's latest Written, and of all of a unit's, the latest first
+abbrev pub UndoKeeps : Type 0
+UndoKeeps = (live : List ℕ) (base : Place → Option TableRow) (pages : List (List Slot)) (cs : List Written) (t : ℕ) → Ready live pages cs base
+    → ((c : Written) → latest t cs ≡ Some c → Ready live (undone pages c) (less t cs) base) × AllUndoable None (slot_of pages) (only t cs) × Ready live (undone_all pages (only t cs)) (without t cs) base
+
+-- a unit's end takes its Changes alone with it
+abbrev pub EndKeeps : Type 0
+EndKeeps = (live rest : List ℕ) (base : Place → Option TableRow) (pages : List (List Slot)) (cs : List Written) (t : ℕ) → ((u : ℕ) → IsLive live u → (u ≡ t → ⊥) → IsLive rest u) → Ready live pages cs base
+    → Ready rest pages (without t cs) (λ p. taken_back (without t cs) p (row_at (slot_of pages) p))
+
+-- once a unit is undone each of its homes has its committed row, and no other row has changed
+abbrev pub UnitRows : Type 0
+UnitRows = (live : List ℕ) (base : Place → Option TableRow) (pages : List (List Slot)) (cs : List Written) (t : ℕ) → Ready live pages cs base → (p : Place)
+    → (HasHome t p cs → row_at (slot_of (undone_all pages (only t cs))) p ≡ base p)
+    × (NoHome p (only t cs) → row_at (slot_of (undone_all pages (only t cs))) p ≡ row_at (slot_of pages) p)
+
+-- once it is committed these rows are the committed ones, and elsewhere the earlier ones are
+abbrev pub CommittedRows : Type 0
+CommittedRows = (live : List ℕ) (base : Place → Option TableRow) (pages : List (List Slot)) (cs : List Written) (t : ℕ) → Ready live pages cs base → (p : Place)
+    → (HasHome t p cs → taken_back (without t cs) p (row_at (slot_of pages) p) ≡ row_at (slot_of pages) p)
+    × (NoHome p (only t cs) → taken_back (without t cs) p (row_at (slot_of pages) p) ≡ base p)
+
+-- a DeadPointer of a live unit names an area of its own, which each record keeps
+abbrev pub DeadKept : Type 0
+DeadKept = (live : List ℕ) (t : ℕ) (after : TableRow) (pages : List (List Slot)) → Proper pages → DeadNames live (slot_of pages)
+    → ((n : ℕ) → 1 ≤ n → DeadNames live (slot_of (applied t after pages (purge_of live pages n true))))
+    × ((capacity : ℕ) → IfSome (planned_put live (row_size after) pages (new_area live (row_size after) capacity pages)) (λ p. DeadNames live (slot_of (applied t after (applied t after pages p.purge) p.parts))))
+    × ((home : Place) (capacity : ℕ) → is_home (slot_of pages home) ≡ true → IfSome (planned_change live (row_size after) capacity pages home) (λ p. DeadNames live (slot_of (applied t after (applied t after pages p.purge) p.parts))))
+    × ((home : Place) → is_home (slot_of pages home) ≡ true → DeadNames live (slot_of (applied t after pages (planned_drop pages home (slot_of pages home)).parts)))
+    × ((c : Written) → Undoable (Some c.owner) (slot_of pages) c → DeadNames live (slot_of (undone pages c)))
+
+-- where rows are locked by key, a unit that writes a row finds no other unit's Written at its home, and its own Written keeps this
+abbrev pub LocksKeepApart : Type 0
+LocksKeepApart = (locks : ℕ → Option ℕ) (at after : Place → Slot) (c : Written) (row : Option TableRow) (cs : List Written) → Keyed locks at cs
+    → ((t : ℕ) (home : Place) (found : TableRow) → row_at at home ≡ Some found → ((u : ℕ) → locks found.key ≡ Some u → u ≡ t) → HomeOf t home cs)
+    × (ChangesHome at after c.home row → LockedRow locks c.owner row → LockedRow locks c.owner c.before → HomeOf c.owner c.home cs → Keyed locks after (c ∷ cs))
+
+-- an opening may test each Written at its turn, or all before the first
+abbrev pub TestedBefore : Type 0
+TestedBefore = (cs : List Written) (pages : List (List Slot)) → Proper pages
+    → (NeededInTurn pages cs → AllUndoable None (slot_of pages) cs × InsertsAreThere (row_at (slot_of pages)) cs)
+    × (AllUndoable None (slot_of pages) cs → InsertsAreThere (row_at (slot_of pages)) cs → NeededInTurn pages cs)

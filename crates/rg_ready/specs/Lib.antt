@@ -1,0 +1,5 @@
+pub mod Ready
+pub mod Needed
+pub mod Dead
+pub mod Keyed
+pub mod Laws

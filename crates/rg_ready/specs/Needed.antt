@@ -1,0 +1,34 @@
+-- What an opening tests in undo: each Written at its turn, and the same told before the first.
+use Rattle.std.specs.Prelude.{◌≡◌, true, List, [], ◌∷◌, Option, Some, None, if◌then◌else◌}
+use Rattle.rg_base.specs.declared.place.Place.{Place}
+use Rattle.rg_base.specs.declared.row.Row.{Row as TableRow}
+use Rattle.rg_home.specs.Slot.{Slot}
+use Rattle.rg_home.specs.Rows.{same_place}
+use Rattle.rg_home.specs.Pages.{slot_of}
+use Rattle.rg_home.specs.Plan.{is_home}
+use Rattle.rg_home.specs.Written.{Written}
+use Rattle.rg_home.specs.Able.{Undoable}
+use Rattle.rg_home.specs.Undo.{undone}
+
+-- an insert's row is there
+abbrev pub RowIsThere : Slot → Option TableRow → Type 0
+RowIsThere s None = is_home s ≡ true
+RowIsThere s (Some row) = Unit {0}
+
+-- what the undo of a Written needs at its turn
+abbrev pub Needed : List (List Slot) → Written → Type 0
+Needed pages c = Undoable None (slot_of pages) c × RowIsThere (slot_of pages c.home) c.before
+
+-- of each in its turn, the latest first
+abbrev pub NeededInTurn : List (List Slot) → List Written → Type 0
+NeededInTurn pages [] = Unit {0}
+NeededInTurn pages (c ∷ cs) = Needed pages c × NeededInTurn (undone pages c) cs
+
+-- the same of the rows before: where a Written is an insert, a row is there once the later ones are taken back
+abbrev pub NotNone : Option TableRow → Option TableRow → Type 0
+NotNone None row = row ≡ None → ⊥
+NotNone (Some before) row = Unit {0}
+
+abbrev pub InsertsAreThere : (Place → Option TableRow) → List Written → Type 0
+InsertsAreThere rows [] = Unit {0}
+InsertsAreThere rows (c ∷ cs) = NotNone c.before (rows c.home) × InsertsAreThere (λ p. if same_place p c.home then c.before else rows p) cs
