@@ -4,7 +4,7 @@ use Rattle.rg_base.specs.declared.place.Place.{Place}
 use Rattle.rg_base.specs.declared.row.Row.{Row as TableRow}
 use Rattle.rg_home.specs.Slot.{Slot}
 use Rattle.rg_home.specs.Slot.{Free, Row, Pointer, Over, DeadRow, DeadPointer, DeadOver}
-use Rattle.rg_home.specs.Rows.{same_place, over_row, home_row, row_at, IsOverOf, IsPointerTo, TiesAt, Tied, override, overrides, ChangesHome, is_plain, plain_row}
+use Rattle.rg_home.specs.Rows.{same_place, over_row, home_row, row_at, lies_at, IsOverOf, IsPointerTo, TiesAt, Tied, override, overrides, ChangesHome, is_plain, plain_row}
 use Rattle.rg_home.proofs.Place.{same_place-true, same_place-refl}
 use Rattle.rg_home.proofs.Frame.{Inside, frame}
 
@@ -33,12 +33,13 @@ override_other at p q s e = ap (λ (b : Bool). if b then s else at q) e
 module _ (at after : Place → Slot) (home : Place) (row : Option TableRow) (ps : List Place) where
   -- what is to be shown of a place that is touched
   abbrev pub Good : Place → Type 0
-  Good p = TiesAt after p (after p) × (same_place p home ≡ false → row_at after p ≡ row_at at p)
+  Good p = TiesAt after p (after p) × (same_place p home ≡ false → (row_at after p ≡ row_at at p) × (lies_at p (after p) ≡ lies_at p (at p)))
 
   pub changes_home : Tied at → ((q : Place) → touched ps q ≡ false → after q ≡ at q) → Each (λ p. Inside (touched ps) (at p)) ps → Each Good ps → row_at after home ≡ row → ChangesHome at after home row
   changes_home tied same closed good here = record {
     here = here;
     others = λ q n. other q n (touched ps q) refl;
+    lie = λ q n. lying q n (touched ps q) refl;
     tied = λ q. tie q (touched ps q) refl;
   }
     where
@@ -46,8 +47,12 @@ module _ (at after : Place → Slot) (home : Place) (row : Option TableRow) (ps 
       off = frame at after (touched ps) (λ p. each_at (λ p. Inside (touched ps) (at p)) ps p closed) same tied
 
       other : (q : Place) → same_place q home ≡ false → (b : Bool) → touched ps q ≡ b → row_at after q ≡ row_at at q
-      other q n true e = (each_at Good ps q good e).1 n
+      other q n true e = ((each_at Good ps q good e).1 n).0
       other q n false e = (off q e).0
+
+      lying : (q : Place) → same_place q home ≡ false → (b : Bool) → touched ps q ≡ b → lies_at q (after q) ≡ lies_at q (at q)
+      lying q n true e = ((each_at Good ps q good e).1 n).1
+      lying q n false e = ap (lies_at q) (same q e)
 
       tie : (q : Place) (b : Bool) → touched ps q ≡ b → TiesAt after q (after q)
       tie q true e = (each_at Good ps q good e).0
@@ -90,6 +95,23 @@ row_pointer at p o c d b e f = ap (home_row at) e ∙ ap over_row f
 
 pub row_over : (at : Place → Slot) (o h : Place) (d : ℕ) (b : TableRow) → at o ≡ Over d b h → row_at at o ≡ None
 row_over at o h d b f = ap (home_row at) f
+
+-- no row has its home at an Over area, or at a slot that is neither Pointer nor Over and holds none
+
+pub lies_over : (at : Place → Slot) (o h : Place) (d : ℕ) (b : TableRow) → at o ≡ Over d b h → lies_at o (at o) ≡ None
+lies_over at o h d b f = ap (lies_at o) f
+
+lies_none : (p : Place) (s : Slot) → is_plain s ≡ true → plain_row s ≡ None → lies_at p s ≡ None
+lies_none p Free e f = refl
+lies_none p (Row a b) e f = absurd (cc (f))
+lies_none p (Pointer a b) e f = absurd (cc (e))
+lies_none p (Over a b d) e f = refl
+lies_none p (DeadRow a b) e f = refl
+lies_none p (DeadPointer a b d) e f = refl
+lies_none p (DeadOver a b d) e f = refl
+
+pub lies_plain : (at : Place → Slot) (p : Place) (s : Slot) → at p ≡ s → is_plain s ≡ true → plain_row s ≡ None → lies_at p (at p) ≡ None
+lies_plain at p s e f g = ap (lies_at p) e ∙ lies_none p s f g
 
 pub inside_plain : (t : Place → Bool) (s : Slot) → is_plain s ≡ true → Inside t s
 inside_plain t Free e = tt

@@ -7,7 +7,7 @@ use Rattle.rg_home.specs.Slot.{Free, Row, Pointer, Over, DeadRow, DeadPointer, D
 use Rattle.rg_home.specs.Rows.{same_place, over_row, home_row, row_at, IsOverOf, IsPointerTo, TiesAt, Tied, override, overrides, ChangesHome, is_plain, plain_row}
 use Rattle.rg_home.proofs.Place.{same_place-true, same_place-refl, same_place-sym, apart}
 use Rattle.rg_home.proofs.Frame.{Inside}
-use Rattle.rg_home.proofs.Cases.{touched, changes_home, override_same, override_other, ties_plain, ties_pointer, ties_over, row_plain, row_pointer, row_over, inside_plain}
+use Rattle.rg_home.proofs.Cases.{touched, changes_home, override_same, override_other, ties_plain, ties_pointer, ties_over, row_plain, row_pointer, row_over, lies_over, lies_plain, inside_plain}
 
 -- the Over area that a tied Pointer names
 pub over_of : (p : Place) (s : Slot) → IsOverOf p s → (d : ℕ) × (b : TableRow) × (s ≡ Over d b p)
@@ -64,7 +64,7 @@ module _ (at after : Place → Slot) (home : Place) (tied : Tied at) where
       let ps : List Place = home ∷ o ∷ [] in
       changes_home at after home (Some b) ps tied (λ q e. same q (less home q (o ∷ []) e))
       (subst (Inside (touched ps)) (sym p) (in_more home o (o ∷ []) (in_first o [])), (subst (Inside (touched ps)) (sym was.2) (in_first home (o ∷ [])), tt))
-      ((ties_pointer after home o c d b here there, λ e. no home e), ((ties_over after home o c d b here there, λ e. row_over after o home d b there ∙ sym (row_over at o home was.0 was.1 was.2)), tt))
+      ((ties_pointer after home o c d b here there, λ e. no home e), ((ties_over after home o c d b here there, λ e. (row_over after o home d b there ∙ sym (row_over at o home was.0 was.1 was.2), lies_over after o home d b there ∙ sym (lies_over at o home was.0 was.1 was.2))), tt))
       (row_pointer after home o c d b here there)
 
   -- from home to an area that was Free or dead
@@ -73,7 +73,7 @@ module _ (at after : Place → Slot) (home : Place) (tied : Tied at) where
       let ps : List Place = home ∷ t ∷ [] in
       changes_home at after home (Some b) ps tied same
       (inside_plain _ (at home) was, (inside_plain _ (at t) open1, tt))
-      ((ties_pointer after home t c d b here there, λ e. no home e), ((ties_over after home t c d b here there, λ e. row_over after t home d b there ∙ sym (row_plain at t (at t) refl open1 ∙ empty)), tt))
+      ((ties_pointer after home t c d b here there, λ e. no home e), ((ties_over after home t c d b here there, λ e. (row_over after t home d b there ∙ sym (row_plain at t (at t) refl open1 ∙ empty), lies_over after t home d b there ∙ sym (lies_plain at t (at t) refl open1 empty))), tt))
       (row_pointer after home t c d b here there)
 
   -- home again, or dropped: the Over area is left
@@ -83,7 +83,7 @@ module _ (at after : Place → Slot) (home : Place) (tied : Tied at) where
       let ps : List Place = home ∷ o ∷ [] in
       changes_home at after home (plain_row s) ps tied same
       (subst (Inside (touched ps)) (sym p) (in_more home o (o ∷ []) (in_first o [])), (subst (Inside (touched ps)) (sym was.2) (in_first home (o ∷ [])), tt))
-      ((ties_plain after home s here is, λ e. no home e), ((ties_plain after o left there gone, λ e. row_plain after o left there gone ∙ none ∙ sym (row_over at o home was.0 was.1 was.2)), tt))
+      ((ties_plain after home s here is, λ e. no home e), ((ties_plain after o left there gone, λ e. (row_plain after o left there gone ∙ none ∙ sym (row_over at o home was.0 was.1 was.2), lies_plain after o left there gone none ∙ sym (lies_over at o home was.0 was.1 was.2))), tt))
       (row_plain after home s here is)
 
   -- from one Over area to another that was Free or dead
@@ -93,5 +93,5 @@ module _ (at after : Place → Slot) (home : Place) (tied : Tied at) where
       let ps : List Place = home ∷ t ∷ o ∷ [] in
       changes_home at after home (Some b) ps tied same
       (subst (Inside (touched ps)) (sym p) (in_more home o (t ∷ o ∷ []) (in_more t o (o ∷ []) (in_first o []))), (inside_plain _ (at t) open1, (subst (Inside (touched ps)) (sym was.2) (in_first home (t ∷ o ∷ [])), tt)))
-      ((ties_pointer after home t e d b here there, λ f. no home f), ((ties_over after home t e d b here there, λ f. row_over after t home d b there ∙ sym (row_plain at t (at t) refl open1 ∙ empty)), ((ties_plain after o left back gone, λ f. row_plain after o left back gone ∙ none ∙ sym (row_over at o home was.0 was.1 was.2)), tt)))
+      ((ties_pointer after home t e d b here there, λ f. no home f), ((ties_over after home t e d b here there, λ f. (row_over after t home d b there ∙ sym (row_plain at t (at t) refl open1 ∙ empty), lies_over after t home d b there ∙ sym (lies_plain at t (at t) refl open1 empty))), ((ties_plain after o left back gone, λ f. (row_plain after o left back gone ∙ none ∙ sym (row_over at o home was.0 was.1 was.2), lies_plain after o left back gone none ∙ sym (lies_over at o home was.0 was.1 was.2))), tt)))
       (row_pointer after home t e d b here there)

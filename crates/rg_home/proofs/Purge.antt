@@ -4,7 +4,7 @@ use Rattle.rg_base.specs.declared.place.Place.{Place}
 use Rattle.rg_base.specs.declared.row.Row.{Row as TableRow}
 use Rattle.rg_home.specs.Slot.{Slot}
 use Rattle.rg_home.specs.Slot.{Free, Row, Pointer, Over, DeadRow, DeadPointer, DeadOver}
-use Rattle.rg_home.specs.Rows.{same_place, over_row, home_row, row_at, IsOverOf, IsPointerTo, TiesAt, Tied, is_dead, ChangesHome}
+use Rattle.rg_home.specs.Rows.{same_place, over_row, home_row, row_at, lies_at, IsOverOf, IsPointerTo, TiesAt, Tied, is_dead, ChangesHome}
 
 -- this slot stays, or was dead and is Free
 abbrev pub Sweeps : Slot → Slot → Type 0
@@ -21,6 +21,19 @@ dead_over (Over a b d) e = absurd (cc (e))
 dead_over (DeadRow a b) e = refl
 dead_over (DeadPointer a b d) e = refl
 dead_over (DeadOver a b d) e = refl
+
+dead_lies : (q : Place) (s : Slot) → is_dead s ≡ true → None ≡ lies_at q s
+dead_lies q Free e = refl
+dead_lies q (Row a b) e = absurd (cc (e))
+dead_lies q (Pointer a b) e = absurd (cc (e))
+dead_lies q (Over a b d) e = refl
+dead_lies q (DeadRow a b) e = refl
+dead_lies q (DeadPointer a b d) e = refl
+dead_lies q (DeadOver a b d) e = refl
+
+keeps_lying : (q : Place) (s t : Slot) → Sweeps s t → lies_at q t ≡ lies_at q s
+keeps_lying q s t (inl e) = ap (lies_at q) e
+keeps_lying q s t (inr e) = ap (lies_at q) e.1 ∙ dead_lies q s e.0
 
 keeps_over : (s t : Slot) → Sweeps s t → over_row t ≡ over_row s
 keeps_over s t (inl e) = ap over_row e
@@ -69,6 +82,9 @@ module _ (at after : Place → Slot) (buried : Buried at after) where
   pub buried_rows : Tied at → (q : Place) → row_at after q ≡ row_at at q
   buried_rows tied q = (slot_kept q (at q) (after q) (buried.each q) (tied q)).0
 
+  pub buried_lies : (q : Place) → lies_at q (after q) ≡ lies_at q (at q)
+  buried_lies q = keeps_lying q (at q) (after q) (buried.each q)
+
   pub buried_tied : Tied at → Tied after
   buried_tied tied q = (slot_kept q (at q) (after q) (buried.each q) (tied q)).1
 
@@ -79,5 +95,6 @@ pub buried_then : (at mid after : Place → Slot) (home : Place) (row : Option T
 buried_then at mid after home row tied buried c = record {
   here = c.here;
   others = λ q n. c.others q n ∙ buried_rows at mid buried tied q;
+  lie = λ q n. c.lie q n ∙ buried_lies at mid buried q;
   tied = c.tied;
 }

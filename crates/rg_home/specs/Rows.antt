@@ -42,10 +42,18 @@ Tied at = (p : Place) → TiesAt at p (at p)
 abbrev pub override : (Place → Slot) → Place → Slot → Place → Slot
 override at p s q = if same_place q p then s else at q
 
--- the look-up before and after: the row at home alone is changed, to this
+-- where the row lies whose home p has this slot: at p itself, or in the Over area that p names
+abbrev pub lies_at : Place → Slot → Option Place
+lies_at p (Row capacity row) = Some p
+lies_at p (Pointer capacity other) = Some other
+lies_at p _ = None
+
+-- the look-up before and after: the row at home alone is changed, to this; each other row is the
+-- same and lies where it lay
 pub record ChangesHome (at after : Place → Slot) (home : Place) (row : Option TableRow) : Type 0 where
   pub here : row_at after home ≡ row
   pub others : (q : Place) → same_place q home ≡ false → row_at after q ≡ row_at at q
+  pub lie : (q : Place) → same_place q home ≡ false → lies_at q (after q) ≡ lies_at q (at q)
   pub tied : Tied after
 
 -- a slot that is neither Pointer nor Over

@@ -13,7 +13,7 @@ use Rattle.rg_base.specs.declared.part.SlotOp.TheVariants as Op
 use Rattle.rg_home.specs.Rows.{is_dead, home_row, row_at, Tied, ChangesHome}
 use Rattle.rg_home.specs.Pages.{slot_of, applied, FitsAll, part_at}
 use Rattle.rg_home.specs.Plan.{is_home, purge_of, new_area, planned_put, planned_change, planned_drop}
-use Rattle.rg_home.proofs.Purge.{Buried, buried_rows, buried_alive}
+use Rattle.rg_home.proofs.Purge.{Buried, buried_rows, buried_lies, buried_alive}
 use Rattle.rg_home.proofs.Writes.{wrote_here}
 use Rattle.rg_home.proofs.Planned.{Does, IsOpen, purge_buries, new_open, put_does, change_does, drop_does}
 use Rattle.rg_home.proofs.Fit.{Takes, new_takes, put_fits}
@@ -49,6 +49,7 @@ does_then : (at mid after : Place → Slot) (home : Place) (row : Option TableRo
 does_then at mid after home row tied buried c = record {
   here = c.here;
   others = λ q n. c.others q n ∙ sym (buried_rows at mid buried tied q);
+  lie = λ q n. c.lie q n ∙ sym (buried_lies at mid buried q);
   tied = c.tied;
 }
 
