@@ -2,6 +2,7 @@
 use Rattle.std.specs.Prelude.{◌≡◌, ◌==◌, ℕ, ◌+◌, ◌-◌, ◌≤◌, nat_le, nat_lt, zero, suc, Bool, true, false, not, List, [], ◌∷◌, map, length, Option, Some, None, if◌then◌else◌}
 use Rattle.std.specs.List.{position_or_len, list_any}
 use Rattle.rg_base.specs.declared.place.Place.{Place}
+use Rattle.rg_base.specs.declared.row.Row.{Row as TableRow}
 use Rattle.rg_home.specs.Slot.{Slot}
 use Rattle.rg_home.specs.Slot.{Free, Row, Pointer, Over, DeadRow, DeadPointer, DeadOver}
 use Rattle.rg_home.specs.Slots.{slot_at, placed, Fits, capacity_of, is_free, used, trim}
@@ -12,7 +13,7 @@ use Rattle.rg_home.specs.declared.plan.Fitting.{Fitting}
 use Rattle.rg_home.specs.declared.plan.Look.{Look}
 use Rattle.rg_base.specs.declared.part.SlotOp.{SlotOp}
 use Rattle.rg_base.specs.declared.part.SlotOp.TheVariants as Op
-use Rattle.rg_home.specs.Pages.{page_at, slot_of, part_at}
+use Rattle.rg_home.specs.Pages.{page_at, slot_of, part_at, applied}
 use Rattle.rg_home.specs.Rows.{row_at}
 
 -- a dead area whose owner has ended
@@ -75,6 +76,11 @@ purge_of live pages n purges = if purges then purge_from live n 0 (page_at pages
 abbrev pub left_of : List (List Slot) → Place → Slot → List Part
 left_of pages home (Pointer capacity other) = part_at other (Op.DeadOver (capacity_of (slot_of pages other)) home) ∷ []
 left_of pages home _ = []
+
+-- the pages after a plan: after its purge, and then its parts
+abbrev pub pages_after : ℕ → TableRow → List (List Slot) → Plan → List (List Slot)
+pages_after owner after pages plan =
+    applied owner after (applied owner after pages plan.purge) plan.parts
 
 -- a slot that is a row's home
 abbrev pub is_home : Slot → Bool

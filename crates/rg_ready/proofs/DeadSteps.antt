@@ -26,7 +26,7 @@ use Rattle.rg_ready.proofs.Plans.{IsOurs, change_ours, drop_ours}
 use Rattle.rg_ready.proofs.Steps.{both, home_alive}
 use Rattle.rg_ready.proofs.Dead.{OwnDead, own_home, AllAlive, names_purged, names_alive, alive_change, drop_names, undo_names}
 
-turns_of : (t : ℕ) (home : Place) (after : TableRow) (pages : List (List Slot)) (parts : List Part) → Each (Writes t home) t after pages parts → InTurn (Turns t home) t after pages parts
+pub turns_of : (t : ℕ) (home : Place) (after : TableRow) (pages : List (List Slot)) (parts : List Part) → Each (Writes t home) t after pages parts → InTurn (Turns t home) t after pages parts
 turns_of t home after pages parts each = in_turn_weaker (Writes t home) (Turns t home) (λ p s s2 w. w.0) t after pages parts (in_turn (Writes t home) t after pages parts each)
 
 module _ (live : List ℕ) (t : ℕ) (after : TableRow) (pages : List (List Slot)) (proper : Proper pages) (names : DeadNames live (slot_of pages)) where

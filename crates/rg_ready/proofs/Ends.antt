@@ -16,7 +16,8 @@ use Rattle.rg_home.proofs.Place.{same_place-true}
 use Rattle.rg_home.proofs.Writes.{wrote_here, wrote_there}
 use Rattle.rg_home.specs.Written.{Written}
 use Rattle.rg_home.specs.Able.{IsHomeOf, IsAreaOf, Undoable, IsLive, Holds, AllHold}
-use Rattle.rg_ready.proofs.Keep.{KeepsHome, KeepsArea, undoable_kept}
+use Rattle.rg_ready.specs.Areas.{KeepsHome, KeepsArea, KeepsAreas}
+use Rattle.rg_ready.proofs.Keep.{undoable_kept}
 
 -- this slot stays, or was a dead area of an ended owner and is Free
 abbrev pub Ends : List ℕ → Slot → Slot → Type 0
@@ -96,8 +97,11 @@ module _ (live : List ℕ) (t : ℕ) (l : IsLive live t) where
   ends_area home s s2 (inl e) h = (subst (IsAreaOf (Some t) home) (sym e) h, omega (arith, ap capacity_of e))
   ends_area home s s2 (inr e) h = absurd (area_not home s h e.0)
 
+  pub ends_areas : (at after : Place → Slot) (home : Place) → Ended live at after → KeepsAreas (Some t) home at after
+  ends_areas at after home ended = record { home_kept = ends_home (at home) (after home) (ended.each home); areas_kept = λ q. ends_area home (at q) (after q) (ended.each q) }
+
   pub ends_keep : (at after : Place → Slot) (c : Written) → Ended live at after → Undoable (Some t) at c → Undoable (Some t) after c
-  ends_keep at after c ended u = undoable_kept (Some t) at after c (ends_home (at c.home) (after c.home) (ended.each c.home)) (λ q. ends_area c.home (at q) (after q) (ended.each q)) u
+  ends_keep at after c ended u = undoable_kept (Some t) at after c (ends_areas at after c.home ended) u
 
 ends_held : (live : List ℕ) (s s2 : Slot) → Ends live s s2 → Holds s → Holds s2
 ends_held live s s2 (inl e) h = subst Holds (sym e) h

@@ -14,20 +14,13 @@ use Rattle.rg_home.proofs.Writes.{wrote_here, wrote_there}
 use Rattle.rg_home.specs.Written.{Written}
 use Rattle.rg_home.specs.Undo.{over_before}
 use Rattle.rg_home.specs.Able.{Owned, IsHomeOf, IsAreaOf, AreaHolds, RowFits, Undoable}
+use Rattle.rg_ready.specs.Areas.{KeepsHome, KeepsArea, KeepsAreas}
 use Rattle.rg_ready.proofs.Parts.{InTurn}
 
 -- what unit t may make of a slot for the row of this home: of a Free slot anything; of the home a home of its own, and of
 -- the home's Over area one of its own, neither smaller
 abbrev pub Turns : ℕ → Place → Place → Slot → Slot → Type 0
 Turns t home p s s2 = (s ≡ Free) ⊎ (((p ≡ home) × IsHomeOf None s × IsHomeOf (Some t) s2 × (capacity_of s ≤ capacity_of s2)) ⊎ (IsAreaOf None home s × IsAreaOf (Some t) home s2 × (capacity_of s ≤ capacity_of s2)))
-
--- a home that is kept for by, and an area
-
-abbrev pub KeepsHome : Option ℕ → Slot → Slot → Type 0
-KeepsHome by s s2 = IsHomeOf by s → IsHomeOf by s2 × (capacity_of s ≤ capacity_of s2)
-
-abbrev pub KeepsArea : Option ℕ → Place → Slot → Slot → Type 0
-KeepsArea by home s s2 = IsAreaOf by home s → IsAreaOf by home s2 × (capacity_of s ≤ capacity_of s2)
 
 owned_by : (by : Option ℕ) (t u : ℕ) → Owned by t → u ≡ t → Owned by u
 owned_by None t u o e = tt
@@ -103,12 +96,11 @@ module _ (by : Option ℕ) (t : ℕ) (home mine : Place) (apart : mine ≡ home 
       (subst (λ (q : Place). IsAreaOf by q s2) (sym one) (area_by by t home s2 (apart one) x.1), x.2)
 
 -- an undo is kept where its home and each Over area of its home is
-module _ (by : Option ℕ) (at after : Place → Slot) (c : Written)
-    (homes : KeepsHome by (at c.home) (after c.home)) (areas : (q : Place) → KeepsArea by c.home (at q) (after q)) where
+module _ (by : Option ℕ) (at after : Place → Slot) (c : Written) (kept : KeepsAreas by c.home at after) where
   area_holds : (b : ℕ) (over : Option Place) → AreaHolds by at c.home b over → AreaHolds by after c.home b over
   area_holds b None h = h
   area_holds b (Some q) h =
-      let k = areas q h.0 in
+      let k = kept.areas_kept q h.0 in
       (k.0, omega (arith, h.1, k.1))
 
   row_fits : (row : Option TableRow) (over : Option Place) → capacity_of (at c.home) ≤ capacity_of (after c.home) → RowFits by at c.home row over → RowFits by after c.home row over
@@ -118,35 +110,65 @@ module _ (by : Option ℕ) (at after : Place → Slot) (c : Written)
 
   pub undoable_kept : Undoable by at c → Undoable by after c
   undoable_kept u =
-      let k = homes u.home in
+      let k = kept.home_kept u.home in
       record { home = k.0; fits = row_fits c.before (over_before c.parts) k.1 u.fits }
 
-module _ (by : Option ℕ) (t : ℕ) (home : Place) (c : Written) (apart : c.home ≡ home → Owned by t) where
+-- one step after another, and one slot written
+module _ (by : Option ℕ) (mine : Place) where
+  pub kept_then : (at mid after : Place → Slot) → KeepsAreas by mine at mid → KeepsAreas by mine mid after → KeepsAreas by mine at after
+  kept_then at mid after a b = record { home_kept = home_then; areas_kept = area_then }
+    where
+      home_then : KeepsHome by (at mine) (after mine)
+      home_then h =
+          let x = a.home_kept h in
+          let y = b.home_kept x.0 in
+          (y.0, omega (arith, x.1, y.1))
+
+      area_then : (q : Place) → KeepsArea by mine (at q) (after q)
+      area_then q h =
+          let x = a.areas_kept q h in
+          let y = b.areas_kept q x.0 in
+          (y.0, omega (arith, x.1, y.1))
+
   same_home : (s s2 : Slot) → s2 ≡ s → KeepsHome by s s2
   same_home s s2 e h = (subst (IsHomeOf by) (sym e) h, omega (arith, ap capacity_of e))
 
-  same_area : (s s2 : Slot) → s2 ≡ s → KeepsArea by c.home s s2
-  same_area s s2 e h = (subst (IsAreaOf by c.home) (sym e) h, omega (arith, ap capacity_of e))
+  same_area : (s s2 : Slot) → s2 ≡ s → KeepsArea by mine s s2
+  same_area s s2 e h = (subst (IsAreaOf by mine) (sym e) h, omega (arith, ap capacity_of e))
 
-  write_home : (pages : List (List Slot)) (p : Place) (s : Slot) → 1 ≤ p.page → Turns t home p (slot_of pages p) s → (b : Bool) → same_place c.home p ≡ b → KeepsHome by (slot_of pages c.home) (slot_of (wrote pages p s) c.home)
-  write_home pages p s low turns true e =
-      let is = same_place-true c.home p e in
-      subst (λ (q : Place). KeepsHome by (slot_of pages q) (slot_of (wrote pages p s) q)) (sym is)
-      (subst (λ (x : Slot). KeepsHome by (slot_of pages p) x) (sym (wrote_here pages p s low)) (turned_home by t home c.home apart p (slot_of pages p) s turns (sym is)))
-  write_home pages p s low turns false e = same_home (slot_of pages c.home) (slot_of (wrote pages p s) c.home) (wrote_there pages p s low c.home e)
+  pub kept_same : (at : Place → Slot) → KeepsAreas by mine at at
+  kept_same at = record { home_kept = same_home (at mine) (at mine) refl; areas_kept = λ q. same_area (at q) (at q) refl }
 
-  write_area : (pages : List (List Slot)) (p : Place) (s : Slot) → 1 ≤ p.page → Turns t home p (slot_of pages p) s → (q : Place) (b : Bool) → same_place q p ≡ b → KeepsArea by c.home (slot_of pages q) (slot_of (wrote pages p s) q)
-  write_area pages p s low turns q true e =
-      subst (λ (q : Place). KeepsArea by c.home (slot_of pages q) (slot_of (wrote pages p s) q)) (sym (same_place-true q p e))
-      (subst (λ (x : Slot). KeepsArea by c.home (slot_of pages p) x) (sym (wrote_here pages p s low)) (turned_area by t home c.home apart p (slot_of pages p) s turns))
-  write_area pages p s low turns q false e = same_area (slot_of pages q) (slot_of (wrote pages p s) q) (wrote_there pages p s low q e)
+  module _ (pages : List (List Slot)) (p : Place) (s : Slot) (low : 1 ≤ p.page) where
+    home_wrote : (p ≡ mine → KeepsHome by (slot_of pages p) s) → (b : Bool) → same_place mine p ≡ b → KeepsHome by (slot_of pages mine) (slot_of (wrote pages p s) mine)
+    home_wrote keeps true e =
+        let is = same_place-true mine p e in
+        subst (λ (q : Place). KeepsHome by (slot_of pages q) (slot_of (wrote pages p s) q)) (sym is)
+        (subst (λ (x : Slot). KeepsHome by (slot_of pages p) x) (sym (wrote_here pages p s low)) (keeps (sym is)))
+    home_wrote keeps false e = same_home (slot_of pages mine) (slot_of (wrote pages p s) mine) (wrote_there pages p s low mine e)
 
-  -- parts of unit t at this home keep the undo of a Written of another home, or of the unit
-  pub parts_keep : (after : TableRow) (pages : List (List Slot)) (parts : List Part) → InTurn (Turns t home) t after pages parts → Undoable by (slot_of pages) c → Undoable by (slot_of (applied t after pages parts)) c
-  parts_keep after pages [] turns u = u
-  parts_keep after pages (x ∷ parts) turns u =
-      parts_keep after (wrote pages (place_of x) (made t after x.op)) parts turns.2
-      (undoable_kept by (slot_of pages) (slot_of (wrote pages (place_of x) (made t after x.op))) c
-      (write_home pages (place_of x) (made t after x.op) turns.0 turns.1 (same_place c.home (place_of x)) refl)
-      (λ q. write_area pages (place_of x) (made t after x.op) turns.0 turns.1 q (same_place q (place_of x)) refl)
-      u)
+    area_wrote : KeepsArea by mine (slot_of pages p) s → (q : Place) (b : Bool) → same_place q p ≡ b → KeepsArea by mine (slot_of pages q) (slot_of (wrote pages p s) q)
+    area_wrote keeps q true e =
+        subst (λ (q : Place). KeepsArea by mine (slot_of pages q) (slot_of (wrote pages p s) q)) (sym (same_place-true q p e))
+        (subst (λ (x : Slot). KeepsArea by mine (slot_of pages p) x) (sym (wrote_here pages p s low)) keeps)
+    area_wrote keeps q false e = same_area (slot_of pages q) (slot_of (wrote pages p s) q) (wrote_there pages p s low q e)
+
+    pub kept_wrote : (p ≡ mine → KeepsHome by (slot_of pages p) s) → KeepsArea by mine (slot_of pages p) s → KeepsAreas by mine (slot_of pages) (slot_of (wrote pages p s))
+    kept_wrote home area = record { home_kept = home_wrote home (same_place mine p) refl; areas_kept = λ q. area_wrote area q (same_place q p) refl }
+
+-- parts of unit t at this home keep the areas of another home, and of its own for the unit
+module _ (by : Option ℕ) (t : ℕ) (home mine : Place) (apart : mine ≡ home → Owned by t) where
+  pub parts_kept : (after : TableRow) (pages : List (List Slot)) (parts : List Part) → InTurn (Turns t home) t after pages parts → KeepsAreas by mine (slot_of pages) (slot_of (applied t after pages parts))
+  parts_kept after pages [] turns = kept_same by mine (slot_of pages)
+  parts_kept after pages (x ∷ parts) turns =
+      let next = wrote pages (place_of x) (made t after x.op) in
+      kept_then by mine (slot_of pages) (slot_of next) (slot_of (applied t after next parts))
+      (kept_wrote by mine pages (place_of x) (made t after x.op) turns.0
+      (turned_home by t home mine apart (place_of x) (slot_of pages (place_of x)) (made t after x.op) turns.1)
+      (turned_area by t home mine apart (place_of x) (slot_of pages (place_of x)) (made t after x.op) turns.1))
+      (parts_kept after next parts turns.2)
+
+-- so they keep the undo of what was written at another home, or by the unit
+pub parts_keep : (by : Option ℕ) (t : ℕ) (home : Place) (c : Written) → (c.home ≡ home → Owned by t) → (after : TableRow) (pages : List (List Slot)) (parts : List Part) → InTurn (Turns t home) t after pages parts
+    → Undoable by (slot_of pages) c → Undoable by (slot_of (applied t after pages parts)) c
+parts_keep by t home c apart after pages parts turns u = undoable_kept by (slot_of pages) (slot_of (applied t after pages parts)) c (parts_kept by t home c.home apart after pages parts turns) u

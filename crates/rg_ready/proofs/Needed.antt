@@ -17,7 +17,8 @@ use Rattle.rg_home.specs.Able.{IsHomeOf, IsAreaOf, Undoable, AllUndoable, Proper
 use Rattle.rg_home.specs.Undo.{undone}
 use Rattle.rg_ready.specs.Needed.{RowIsThere, NeededInTurn, NotNone, InsertsAreThere}
 use Rattle.rg_ready.proofs.Parts.{InTurn}
-use Rattle.rg_ready.proofs.Keep.{KeepsHome, KeepsArea, home_area, area_one, undoable_kept}
+use Rattle.rg_ready.specs.Areas.{KeepsHome, KeepsArea, KeepsAreas}
+use Rattle.rg_ready.proofs.Keep.{home_area, area_one, undoable_kept}
 use Rattle.rg_ready.proofs.Shape.{Reuses}
 use Rattle.rg_ready.proofs.Next.{reuses, undo_does, undo_proper, undo_keeps_all, row_changed}
 
@@ -60,8 +61,10 @@ module _ (t : ℕ) (home : Place) (c : Written) where
   parts_back after pages [] r u = u
   parts_back after pages (x ∷ parts) r u =
       undoable_kept None (slot_of (wrote pages (place_of x) (made t after x.op))) (slot_of pages) c
-      (write_home pages (place_of x) (made t after x.op) r.0 r.1 (same_place c.home (place_of x)) refl)
-      (λ q. write_area pages (place_of x) (made t after x.op) r.0 r.1 q (same_place q (place_of x)) refl)
+      (record {
+        home_kept = write_home pages (place_of x) (made t after x.op) r.0 r.1 (same_place c.home (place_of x)) refl;
+        areas_kept = λ q. write_area pages (place_of x) (made t after x.op) r.0 r.1 q (same_place q (place_of x)) refl;
+      })
       (parts_back after (wrote pages (place_of x) (made t after x.op)) parts r.2 u)
 
 undo_back_all : (c : Written) (pages : List (List Slot)) (proper : Proper pages) (can : Undoable None (slot_of pages) c) (cs : List Written) → AllUndoable None (slot_of (undone pages c)) cs → AllUndoable None (slot_of pages) cs

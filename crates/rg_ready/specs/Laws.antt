@@ -1,17 +1,18 @@
 -- What holds of undo, for every table space: the laws that the calls and the records rest on.
 use Rattle.rg_base.specs.RowBytes.{row_size}
-use Rattle.std.specs.Prelude.{[], ◌≡◌, ℕ, ◌≤◌, List, ◌∷◌, length, Option, Some, None, IfSome, true}
+use Rattle.std.specs.Prelude.{◌≡◌, ℕ, ◌≤◌, true, false, List, [], ◌∷◌, length, Option, Some, None, IfSome}
 use Rattle.rg_base.specs.declared.place.Place.{Place}
 use Rattle.rg_base.specs.declared.row.Row.{Row as TableRow}
 use Rattle.rg_home.specs.Slot.{Slot}
 use Rattle.rg_base.specs.declared.part.Part.{Part}
-use Rattle.rg_home.specs.Rows.{row_at, ChangesHome}
+use Rattle.rg_home.specs.Rows.{is_dead, row_at, ChangesHome}
 use Rattle.rg_home.specs.Pages.{slot_of, applied, FitsAll, row_or_empty}
-use Rattle.rg_home.specs.Plan.{is_home, purge_of, new_area, planned_put, planned_change, planned_drop}
+use Rattle.rg_home.specs.Plan.{is_home, purge_of, new_area, planned_put, planned_change, planned_drop, pages_after}
 use Rattle.rg_home.specs.Written.{Written}
 use Rattle.rg_home.specs.Able.{Undoable, AllUndoable, IsLive, HomeOf, Proper}
 use Rattle.rg_home.specs.Undo.{planned_undo, undone, undone_all, taken_back}
 use Rattle.rg_ready.specs.Ready.{latest, less, only, without, HasHome, NoHome, Ready}
+use Rattle.rg_ready.specs.Areas.{KeepsAreas}
 use Rattle.rg_ready.specs.Dead.{DeadNames}
 use Rattle.rg_ready.specs.Keyed.{LockedRow, Keyed}
 use Rattle.rg_ready.specs.Needed.{NeededInTurn, InsertsAreThere}
@@ -89,6 +90,32 @@ DeadKept = (live : List ℕ) (t : ℕ) (after : TableRow) (pages : List (List Sl
     × ((home : Place) (capacity : ℕ) → is_home (slot_of pages home) ≡ true → IfSome (planned_change live (row_size after) capacity pages home) (λ p. DeadNames live (slot_of (applied t after (applied t after pages p.purge) p.parts))))
     × ((home : Place) → is_home (slot_of pages home) ≡ true → DeadNames live (slot_of (applied t after pages (planned_drop pages home (slot_of pages home)).parts)))
     × ((c : Written) → Undoable (Some c.owner) (slot_of pages) c → DeadNames live (slot_of (undone pages c)))
+
+-- no home and no Over area of a live unit u goes away or shrinks: not by a purge, nor by a put, nor by
+-- a change, a drop or an undo of unit t at a home that is another's or where u is t; and a purge
+-- leaves what is not dead as it is
+abbrev pub AreasStay : Type 0
+AreasStay = (live : List ℕ) (t u : ℕ) (after : TableRow) (pages : List (List Slot))
+    → Proper pages → IsLive live u
+    → ((n : ℕ) → 1 ≤ n → (p : Place) →
+        KeepsAreas (Some u) p (slot_of pages)
+            (slot_of (applied t after pages (purge_of live pages n true)))
+        × (is_dead (slot_of pages p) ≡ false
+            → slot_of (applied t after pages (purge_of live pages n true)) p ≡ slot_of pages p))
+    × ((capacity : ℕ)
+        → IfSome (planned_put live (row_size after) pages
+            (new_area live (row_size after) capacity pages))
+        (λ plan. (p : Place)
+            → KeepsAreas (Some u) p (slot_of pages) (slot_of (pages_after t after pages plan))))
+    × ((home : Place) (capacity : ℕ) → is_home (slot_of pages home) ≡ true
+        → IfSome (planned_change live (row_size after) capacity pages home)
+        (λ plan. (p : Place) → (p ≡ home → u ≡ t)
+            → KeepsAreas (Some u) p (slot_of pages) (slot_of (pages_after t after pages plan))))
+    × ((home : Place) → is_home (slot_of pages home) ≡ true → (p : Place) → (p ≡ home → u ≡ t)
+        → KeepsAreas (Some u) p (slot_of pages)
+            (slot_of (applied t after pages (planned_drop pages home (slot_of pages home)).parts)))
+    × ((c : Written) → Undoable None (slot_of pages) c → (p : Place) → (p ≡ c.home → u ≡ c.owner)
+        → KeepsAreas (Some u) p (slot_of pages) (slot_of (undone pages c)))
 
 -- where rows are locked by key, a unit that writes a row finds no other unit's Written at its home, and its own Written keeps this
 abbrev pub LocksKeepApart : Type 0

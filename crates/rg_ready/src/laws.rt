@@ -1,5 +1,5 @@
 //! Each function's contract is a law of the definitions.
-ghost use Rattle.rg_ready.specs.Laws.{UndoDoes, ReadyBegins, UnitBegins, PurgeKeeps, PutKeeps, ChangeKeeps, DropKeeps, UndoKeeps, EndKeeps, UnitRows, CommittedRows, DeadKept, LocksKeepApart, TestedBefore};
+ghost use Rattle.rg_ready.specs.Laws.{UndoDoes, ReadyBegins, UnitBegins, PurgeKeeps, PutKeeps, ChangeKeeps, DropKeeps, UndoKeeps, EndKeeps, UnitRows, CommittedRows, DeadKept, LocksKeepApart, TestedBefore, AreasStay};
 
 pub fn undo_law()
     ensures { UndoDoes }
@@ -23,6 +23,10 @@ pub fn rows_law()
 
 pub fn dead_law()
     ensures { DeadKept }
+{}
+
+pub fn areas_law()
+    ensures { AreasStay }
 {}
 
 pub fn locks_law()
