@@ -92,6 +92,11 @@ purge_fits owner after limit live n i (s ∷ slots) pages low high sound =
     go true f g h = (low, high, f, g)
     go false f g h = h
 
+-- a purge keeps the pages sound
+pub purge_sound : (live : List ℕ) (t : ℕ) (after : TableRow) (pages : List (List Slot)) (n : ℕ) (purges : Bool) → 1 ≤ n → Sound pages → Sound (applied t after pages (purge_of live pages n purges))
+purge_sound live t after pages n true low sound = applied_sound t after n pages _ (purge_fits t after n live n 0 (page_at pages n) pages low (omega arith) sound) sound
+purge_sound live t after pages n false low sound = sound
+
 -- a page that is purged by its parts is the purged page
 pub purged_page : (owner : ℕ) (after : TableRow) (limit : ℕ) (live : List ℕ) (n : ℕ) (pages : List (List Slot)) → 1 ≤ n → n ≤ limit → Sound pages → page_at (applied owner after pages (purge_from live n 0 (page_at pages n))) n ≡ purged live (page_at pages n)
 purged_page owner after limit live n pages low high sound =

@@ -16,3 +16,7 @@ pub mod Full
 pub mod Lights
 pub mod Slots
 pub mod Steps
+pub mod ChangeFits
+pub mod Takes
+pub mod First
+pub mod Whole

@@ -6,3 +6,4 @@ pub mod Plan
 pub mod Written
 pub mod Undo
 pub mod Able
+pub mod Laws

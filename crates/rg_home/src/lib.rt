@@ -2,5 +2,7 @@
 //! their theorems, on which everything above pages stands.
 #![tactic(auto)]
 
+/// The laws, each the contract of a function without a body.
+pub mod laws;
 /// Plans of writes, as values.
 pub mod plan;

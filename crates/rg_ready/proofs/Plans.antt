@@ -21,7 +21,8 @@ use Rattle.rg_home.specs.Able.{RowFits, AllHold}
 use Rattle.rg_home.specs.Undo.{over_before}
 use Rattle.rg_ready.proofs.Parts.{Each}
 use Rattle.rg_ready.proofs.Ends.{purge_ends, ends_hold}
-use Rattle.rg_ready.proofs.Write.{Writes, Written, fitting_holds, row_stays, moved_home, moved_stays, moved_on, row_moves}
+use Rattle.rg_home.proofs.Takes.{fitting_holds}
+use Rattle.rg_ready.proofs.Write.{Writes, Written, row_stays, moved_home, moved_stays, moved_on, row_moves}
 
 module _ (t : ℕ) (after : TableRow) (live : List ℕ) (pages : List (List Slot)) (tied : Tied (slot_of pages)) (holds : AllHold (slot_of pages)) (home : Place) where
   abbrev then_purged : ℕ → Bool → List (List Slot)

@@ -11,7 +11,7 @@ use Rattle.rg_home.specs.Plan.{purge_of}
 use Rattle.rg_home.proofs.Place.{same_place-true, apart}
 use Rattle.rg_home.proofs.Purge.{buried_tied, buried_rows}
 use Rattle.rg_home.proofs.Planned.{purge_buries}
-use Rattle.rg_home.proofs.Fit.{applied_sound, purge_fits}
+use Rattle.rg_home.proofs.Fit.{applied_sound, purge_sound}
 use Rattle.rg_home.specs.Written.{Written}
 use Rattle.rg_home.specs.Able.{Undoable, AllUndoable, IsLive, CanUndo, HomeOf, Apart, AllHold, Proper}
 use Rattle.rg_home.specs.Undo.{undone, undone_all, taken_back}
@@ -19,7 +19,7 @@ use Rattle.rg_ready.specs.Ready.{latest, less, only, kept_when, without, left_wh
 use Rattle.rg_ready.proofs.Parts.{Each, InTurn, in_turn}
 use Rattle.rg_ready.proofs.Keep.{Turns, parts_keep}
 use Rattle.rg_ready.proofs.Ends.{Ended, purge_ends, ends_keep, ends_hold}
-use Rattle.rg_ready.proofs.Size.{held_wrote}
+use Rattle.rg_home.proofs.Takes.{held_wrote}
 use Rattle.rg_ready.proofs.Next.{undoable_any, undo_does, undo_proper, undo_keeps, row_changed, in_turn_weaker, undo_all}
 use Rattle.rg_ready.proofs.Write.{Writes}
 use Rattle.rg_ready.proofs.Lists.{AllApart, latest_apart, latest_can, can_less, apart_less, back_less, only_some, only_none, without_some, without_none, less_length, can_without, apart_without}
@@ -31,10 +31,6 @@ can_ends live at after [] ended can = tt
 can_ends live at after (c ∷ cs) ended can = (ends_keep live c.owner can.1 at after c ended can.0, can.1, can_ends live at after cs ended can.2)
 
 module _ (live : List ℕ) (base : Place → Option TableRow) where
-  pub purge_sound : (t : ℕ) (after : TableRow) (pages : List (List Slot)) (n : ℕ) (purges : Bool) → 1 ≤ n → Sound pages → Sound (applied t after pages (purge_of live pages n purges))
-  purge_sound t after pages n true low sound = applied_sound t after n pages _ (purge_fits t after n live n 0 (page_at pages n) pages low (omega arith) sound) sound
-  purge_sound t after pages n false low sound = sound
-
   pub ready_purged : (t : ℕ) (after : TableRow) (pages : List (List Slot)) (cs : List Written) (n : ℕ) (purges : Bool) → 1 ≤ n → Ready live pages cs base → Ready live (applied t after pages (purge_of live pages n purges)) cs base
   ready_purged t after pages cs n purges low r =
       let buried = purge_buries t after live pages r.proper.tied n purges low in
@@ -42,7 +38,7 @@ module _ (live : List ℕ) (base : Place → Option TableRow) where
       record {
         proper = record {
           tied = buried_tied _ _ buried r.proper.tied;
-          sound = purge_sound t after pages n purges low r.proper.sound;
+          sound = purge_sound live t after pages n purges low r.proper.sound;
           holds = ends_hold live (slot_of pages) _ ended r.proper.holds;
         };
         can = can_ends live (slot_of pages) _ cs ended r.can;
@@ -54,7 +50,7 @@ module _ (live : List ℕ) (base : Place → Option TableRow) where
 
 writes_hold : (t : ℕ) (home : Place) (after : TableRow) (pages : List (List Slot)) (parts : List Part) → InTurn (Writes t home) t after pages parts → AllHold (slot_of pages) → AllHold (slot_of (applied t after pages parts))
 writes_hold t home after pages [] w all = all
-writes_hold t home after pages (x ∷ parts) w all = writes_hold t home after _ parts w.2 (held_wrote pages (place_of x) (made t after x.op) w.0 w.1.1 all)
+writes_hold t home after pages (x ∷ parts) w all = writes_hold t home after _ parts w.2 (held_wrote pages x.page x.slot (made t after x.op) w.1.1 all)
 
 module _ (live : List ℕ) (base : Place → Option TableRow) (c : Written) (after : TableRow) (limit : ℕ) (pages : List (List Slot)) (cs : List Written)
     (r : Ready live pages cs base) (each : Each (Writes c.owner c.home) c.owner after pages c.parts) where

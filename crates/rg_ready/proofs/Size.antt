@@ -13,6 +13,7 @@ use Rattle.rg_home.proofs.PageLists.{wrote-length}
 use Rattle.rg_home.proofs.Range.{slot_below, page_within}
 use Rattle.rg_home.proofs.Fit.{wrote_sound}
 use Rattle.rg_home.proofs.Full.{sized_fits}
+use Rattle.rg_home.proofs.Takes.{held_wrote}
 use Rattle.rg_home.specs.Able.{Holds, AllHold}
 use Rattle.rg_ready.proofs.Parts.{InTurn}
 use Rattle.rg_ready.proofs.Shape.{Reuses}
@@ -38,13 +39,6 @@ module _ (t : ℕ) (after : TableRow) (home : Place) (limit : ℕ) where
       let within = page_within pages x.page x.slot r.1.0 in
       reuses_length (wrote pages (place_of x) (made t after x.op)) parts r.2 ∙ wrote-length pages x.page x.slot (made t after x.op) within.1
 
-held_at : (pages : List (List Slot)) (p q : Place) (s : Slot) (b : Bool) → same_place q p ≡ b → 1 ≤ p.page → Holds s → Holds (slot_of pages q) → Holds (slot_of (wrote pages p s) q)
-held_at pages p q s true e low h was = subst Holds (sym (ap (slot_of (wrote pages p s)) (same_place-true q p e) ∙ wrote_here pages p s low)) h
-held_at pages p q s false e low h was = subst Holds (sym (wrote_there pages p s low q e)) was
-
-pub held_wrote : (pages : List (List Slot)) (p : Place) (s : Slot) → 1 ≤ p.page → Holds s → AllHold (slot_of pages) → AllHold (slot_of (wrote pages p s))
-held_wrote pages p s low h all q = held_at pages p q s (same_place q p) refl low h (all q)
-
 pub reuses_hold : (t : ℕ) (after : TableRow) (home : Place) (pages : List (List Slot)) (parts : List Part) → InTurn (Reuses t home) t after pages parts → AllHold (slot_of pages) → AllHold (slot_of (applied t after pages parts))
 reuses_hold t after home pages [] r all = all
-reuses_hold t after home pages (x ∷ parts) r all = reuses_hold t after home (wrote pages (place_of x) (made t after x.op)) parts r.2 (held_wrote pages (place_of x) (made t after x.op) r.0 r.1.2 all)
+reuses_hold t after home pages (x ∷ parts) r all = reuses_hold t after home (wrote pages (place_of x) (made t after x.op)) parts r.2 (held_wrote pages x.page x.slot (made t after x.op) r.1.2 all)

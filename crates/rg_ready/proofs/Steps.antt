@@ -25,7 +25,7 @@ use Rattle.rg_ready.proofs.Shape.{Reuses, one_home, with_left}
 use Rattle.rg_ready.proofs.Size.{reuses_fit}
 use Rattle.rg_ready.proofs.Write.{Writes}
 use Rattle.rg_ready.proofs.Plans.{IsOurs, change_ours, drop_ours}
-use Rattle.rg_ready.proofs.ChangeFits.{PartsFit, change_fits}
+use Rattle.rg_home.proofs.ChangeFits.{PartsFit, change_fits, drop_fits}
 use Rattle.rg_ready.proofs.Ready.{ready_purged, ready_written, own_kept}
 
 pub both : {A : Type 0} (P Q R : A → Type 0) (o : Option A) → ((x : A) → P x → Q x → R x) → IfSome o P → IfSome o Q → IfSome o R
@@ -85,19 +85,7 @@ module _ (t : ℕ) (after : TableRow) (live : List ℕ) (base : Place → Option
       (change_does t after live pages r.proper.tied home (row_size after) capacity is))
       (change_fits t after live limit pages r.proper.tied r.proper.sound within home capacity small limited is)
 
-  -- a drop needs no space
-  fits_of : (home : Place) (parts : List Part) → Each (Reuses t home) t after pages parts → length pages ≤ limit → FitsAll t after limit pages parts
-  fits_of home parts each l = reuses_fit t after home limit pages parts (in_turn (Reuses t home) t after pages parts each) r.proper.sound l
-
-  drop_fits : (home : Place) (s : Slot) → slot_of pages home ≡ s → is_home s ≡ true → length pages ≤ limit → FitsAll t after limit pages (planned_drop pages home s).parts
-  drop_fits home (Row c b) e is l = fits_of home (part_at home (Op.DeadRow c) ∷ []) (one_home t after pages r.proper.tied home (Row c b) (Op.DeadRow c) e tt refl refl refl refl tt).0 l
-  drop_fits home (Pointer c o) e is l = fits_of home (part_at home (Op.DeadPointer c o) ∷ part_at o (Op.DeadOver (capacity_of (slot_of pages o)) home) ∷ []) (with_left t after pages r.proper.tied home c o (Op.DeadPointer c o) e refl refl refl tt).0 l
-  drop_fits home Free e is l = absurd (cc (is))
-  drop_fits home (Over a b d) e is l = absurd (cc (is))
-  drop_fits home (DeadRow a b) e is l = absurd (cc (is))
-  drop_fits home (DeadPointer a b d) e is l = absurd (cc (is))
-  drop_fits home (DeadOver a b d) e is l = absurd (cc (is))
-
+  -- a drop
   pub ready_dropped : (home : Place) → HomeOf t home cs → is_home (slot_of pages home) ≡ true → length pages ≤ limit
       → Ready live (applied t after pages (planned_drop pages home (slot_of pages home)).parts) (change_of t home (row_at (slot_of pages) home) (planned_drop pages home (slot_of pages home)).parts ∷ cs) base
   ready_dropped home others is l =
@@ -106,7 +94,7 @@ module _ (t : ℕ) (after : TableRow) (live : List ℕ) (base : Place → Option
       let ours = drop_ours t after live pages r.proper.tied r.proper.holds home is in
       let can : Undoable (Some t) (slot_of pages) c = record { home = (home_alive (Some t) (slot_of pages home) is).0; fits = ours.1 } in
       let does : ChangesHome (slot_of pages) (slot_of (applied t after pages parts)) home None = dropped home (slot_of pages home) refl is in
-      ready_written live base c after limit pages cs r ours.0 None (drop_fits home (slot_of pages home) refl is l) does refl (own_kept live base c after limit pages cs r ours.0 can) others lives
+      ready_written live base c after limit pages cs r ours.0 None (drop_fits t after live limit pages r.proper.tied r.proper.sound l home (slot_of pages home) refl is) does refl (own_kept live base c after limit pages cs r ours.0 can) others lives
     where
       dropped : (home : Place) (s : Slot) → slot_of pages home ≡ s → is_home s ≡ true → ChangesHome (slot_of pages) (slot_of (applied t after pages (planned_drop pages home s).parts)) home None
       dropped home (Row c b) e is = drop_does t after pages home (Row c b) r.proper.tied e is

@@ -26,18 +26,6 @@ use Rattle.rg_ready.proofs.Keep.{Turns}
 abbrev pub Writes : ℕ → Place → Place → Slot → Slot → Type 0
 Writes t home p s s2 = Turns t home p s s2 × Holds s2
 
--- an area that takes a row holds it, and doesn't shrink
-pub fitting_holds : (live : List ℕ) (b c : ℕ) (slots : List Slot) → IfSome (fitting live b c slots) (λ f. (c ≤ f.capacity) × (b ≤ f.capacity))
-fitting_holds live b c slots = go (nat_le b c) refl
-  where
-    grown : (g : Bool) → nat_le b c ≡ false → IfSome {T = Fitting} (if g then Some (record { capacity = b; purges = nat_lt (free slots) (b - c) }) else None) (λ f. (c ≤ f.capacity) × (b ≤ f.capacity))
-    grown true e = (omega (arith, leb-false b c e), omega arith)
-    grown false e = tt
-
-    go : (g : Bool) → nat_le b c ≡ g → IfSome {T = Fitting} (if g then Some (record { capacity = c; purges = false }) else (if nat_le (b - c) (room live slots) then Some (record { capacity = b; purges = nat_lt (free slots) (b - c) }) else None)) (λ f. (c ≤ f.capacity) × (b ≤ f.capacity))
-    go true e = (omega arith, leb-true b c e)
-    go false e = grown (nat_le (b - c) (room live slots)) e
-
 module _ (t : ℕ) (after : TableRow) (pages : List (List Slot)) (tied : Tied (slot_of pages)) (holds : AllHold (slot_of pages)) (home : Place) where
   -- the parts write what is theirs, and going back from them is possible
   abbrev pub Written : List Part → Option TableRow → Type 0

@@ -6,7 +6,7 @@ use Rattle.rg_base.specs.declared.row.Row.{Row as TableRow}
 use Rattle.rg_home.specs.Slot.{Slot}
 use Rattle.rg_base.specs.declared.part.Part.{Part}
 use Rattle.rg_home.specs.Rows.{is_dead, row_at, ChangesHome}
-use Rattle.rg_home.specs.Pages.{slot_of, applied, FitsAll, row_or_empty}
+use Rattle.rg_home.specs.Pages.{slot_of, applied, FitsAll, TakesAll, row_or_empty}
 use Rattle.rg_home.specs.Plan.{is_home, purge_of, new_area, planned_put, planned_change, planned_drop, pages_after}
 use Rattle.rg_home.specs.Written.{Written}
 use Rattle.rg_home.specs.Able.{Undoable, AllUndoable, IsLive, HomeOf, Proper}
@@ -20,11 +20,13 @@ use Rattle.rg_ready.specs.Needed.{NeededInTurn, InsertsAreThere}
 abbrev pub change_of : ℕ → Place → Option TableRow → List Part → Written
 change_of t home before parts = record { owner = t; home = home; before = before; parts = parts }
 
--- the plan of an undo puts the row before back at its home, changes no other row, fits, and adds no page
+-- the plan of an undo puts the row before back at its home, changes and moves no other row, fits
+-- where it goes, and adds no page
 abbrev pub UndoDoes : Type 0
 UndoDoes = (c : Written) (pages : List (List Slot)) → Proper pages → Undoable None (slot_of pages) c
     → ChangesHome (slot_of pages) (slot_of (undone pages c)) c.home c.before
     × FitsAll c.owner (row_or_empty c.before) (length pages) pages (planned_undo pages c).parts
+    × TakesAll c.before (planned_undo pages c).parts
     × Proper (undone pages c) × (length (undone pages c) ≡ length pages)
 
 -- an empty table space is proper, and a proper one without live units is ready

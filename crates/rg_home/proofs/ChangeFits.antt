@@ -12,18 +12,18 @@ use Rattle.rg_home.specs.declared.plan.Area.{Area}
 use Rattle.rg_home.specs.declared.plan.Plan.{Plan}
 use Rattle.rg_home.specs.declared.plan.Fitting.{Fitting}
 use Rattle.rg_base.specs.declared.part.SlotOp.TheVariants as Op
-use Rattle.rg_home.specs.Rows.{same_place, is_dead, Tied}
-use Rattle.rg_home.specs.Pages.{page_at, slot_of, wrote, applied, FitsAll, Sound, part_at}
-use Rattle.rg_home.specs.Plan.{is_home, room, free, purged, fitting, purge_of, new_area, left_of, to_new, from_over, away, changed, planned_change}
+use Rattle.rg_home.specs.Rows.{same_place, is_dead, row_at, Tied}
+use Rattle.rg_home.specs.Pages.{page_at, slot_of, wrote, applied, FitsAll, TakesAll, Sound, part_at}
+use Rattle.rg_home.specs.Plan.{is_home, room, free, purged, fitting, purge_of, new_area, left_of, to_new, from_over, away, changed, planned_change, planned_drop}
 use Rattle.rg_home.proofs.Place.{same_place-sym, same_place-refl}
 use Rattle.rg_home.proofs.Look.{wrote_same, wrote_other}
 use Rattle.rg_home.proofs.Writes.{wrote_there}
 use Rattle.rg_home.proofs.Range.{slot_below, page_within}
 use Rattle.rg_home.proofs.Moves.{pointed, differ}
 use Rattle.rg_home.proofs.Planned.{IsOpen, alive_then, new_open, away_from}
-use Rattle.rg_home.proofs.Fit.{Takes, new_takes, purged_page, used-swept, wrote_sound}
+use Rattle.rg_home.proofs.Fit.{Takes, new_takes, purged_page, used-swept, wrote_sound, purge_sound, purge_fits}
 use Rattle.rg_home.proofs.Full.{sized_fits}
-use Rattle.rg_ready.proofs.Ready.{purge_sound}
+use Rattle.rg_home.proofs.Takes.{purge_takes}
 
 -- an area that takes a row has the bytes for it once its page is purged
 grows : (live : List ℕ) (b c : ℕ) (slots : List Slot) → Fits slots → IfSome (fitting live b c slots) (λ f. used (if f.purges then purged live slots else slots) + f.capacity ≤ 4064 + c)
@@ -71,7 +71,7 @@ module _ (t : ℕ) (after : TableRow) (live : List ℕ) (limit : ℕ) (pages : L
   then_purged n purges = applied t after pages (purge_of live pages n purges)
 
   sound_then : (n : ℕ) (purges : Bool) → 1 ≤ n → Sound (then_purged n purges)
-  sound_then n purges low = purge_sound live (λ p. None) t after pages n purges low sound
+  sound_then n purges low = purge_sound live t after pages n purges low sound
 
   page_then : (n : ℕ) (purges : Bool) → 1 ≤ n → page_at (then_purged n purges) n ≡ (if purges then purged live (page_at pages n) else page_at pages n)
   page_then n true low = purged_page t after n live n pages low (omega arith) sound
@@ -232,3 +232,86 @@ module _ (t : ℕ) (after : TableRow) (live : List ℕ) (limit : ℕ) (pages : L
         go : (f : Option Fitting) → IfSome f (λ f. used (if f.purges then purged live (page_at pages home.page) else page_at pages home.page) + f.capacity ≤ 4064 + capacity_of (slot_of pages home)) → IfSome (changed live (row_size after) capacity pages home f) PartsFit
         go (Some f) h = home_fits f (slot_of pages home) refl is h
         go None h = away_fits (slot_of pages home) refl
+
+  -- the purge of a plan
+  purge_of_fits : (n : ℕ) (purges : Bool) → 1 ≤ n → n ≤ limit → FitsAll t after limit pages (purge_of live pages n purges)
+  purge_of_fits n true low high = purge_fits t after limit live n 0 (page_at pages n) pages low high sound
+  purge_of_fits n false low high = tt
+
+  home_inside : (s : Slot) → slot_of pages home ≡ s → is_home s ≡ true → (1 ≤ home.page) × (home.page ≤ limit)
+  home_inside (Row c x) e is = inside home (Row c x) e refl
+  home_inside (Pointer c o) e is = inside home (Pointer c o) e refl
+  home_inside Free e is = absurd (cc (is))
+  home_inside (Over a b d) e is = absurd (cc (is))
+  home_inside (DeadRow a b) e is = absurd (cc (is))
+  home_inside (DeadPointer a b d) e is = absurd (cc (is))
+  home_inside (DeadOver a b d) e is = absurd (cc (is))
+
+  -- what a plan says of itself, and its purge
+  abbrev pub PurgeFits : Plan → Type 0
+  PurgeFits p = (p.home ≡ home) × (p.before ≡ row_at (slot_of pages) home) × FitsAll t after limit pages p.purge × TakesAll (Some after) p.purge
+
+  to_new_purge : (b : ℕ) (area : Option Area) → IfSome area (Takes t after limit live pages sound b) → IfSome (to_new live b pages home area) PurgeFits
+  to_new_purge b None k = tt
+  to_new_purge b (Some area) k = (refl, refl, k.2, purge_takes (Some after) live pages area.place.page area.purges)
+
+  module _ (capacity : ℕ) (small : row_size after ≤ 4046) (limited : capacity ≤ limit) (is : is_home (slot_of pages home) ≡ true) where
+    new_purge : IfSome (to_new live (row_size after) pages home (new_area live (row_size after) capacity pages)) PurgeFits
+    new_purge = to_new_purge (row_size after) (new_area live (row_size after) capacity pages) (new_takes t after limit live pages sound (row_size after) capacity small limited)
+
+    away_purge : (s : Slot) → slot_of pages home ≡ s → IfSome (away live (row_size after) capacity pages home s) PurgeFits
+    away_purge (Pointer c o) e = go (fitting live (row_size after) (capacity_of (slot_of pages o)) (page_at pages o.page))
+      where
+        go : (f : Option Fitting) → IfSome (from_over live (row_size after) capacity pages home o f) PurgeFits
+        go (Some f) =
+            let was = pointed (slot_of pages) home o c tied e in
+            let w = inside o (Over was.0 was.1 home) was.2 refl in
+            (refl, refl, purge_of_fits o.page f.purges w.0 w.1, purge_takes (Some after) live pages o.page f.purges)
+        go None = new_purge
+    away_purge (Row c x) e = new_purge
+    away_purge Free e = new_purge
+    away_purge (Over x y d) e = new_purge
+    away_purge (DeadRow x y) e = new_purge
+    away_purge (DeadPointer x y d) e = new_purge
+    away_purge (DeadOver x y d) e = new_purge
+
+    pub change_purge : IfSome (planned_change live (row_size after) capacity pages home) PurgeFits
+    change_purge = go (fitting live (row_size after) (capacity_of (slot_of pages home)) (page_at pages home.page))
+      where
+        go : (f : Option Fitting) → IfSome (changed live (row_size after) capacity pages home f) PurgeFits
+        go (Some f) =
+            let w = home_inside (slot_of pages home) refl is in
+            (refl, refl, purge_of_fits home.page f.purges w.0 w.1, purge_takes (Some after) live pages home.page f.purges)
+        go None = away_purge (slot_of pages home) refl
+
+  -- a drop needs no space, and purges nothing
+  pub drop_fits : (s : Slot) → slot_of pages home ≡ s → is_home s ≡ true → FitsAll t after limit pages (planned_drop pages home s).parts
+  drop_fits (Row c x) e is =
+      let w = inside home (Row c x) e refl in
+      (w.0, w.1, same_fits pages home (DeadRow c t) sound (ap is_free e) (omega (arith, ap capacity_of e)), tt)
+  drop_fits (Pointer c o) e is =
+      let w = inside home (Pointer c o) e refl in
+      let was = pointed (slot_of pages) home o c tied e in
+      let a = away_from t after pages tied home c o e in
+      let fit = same_fits pages home (DeadPointer c o t) sound (ap is_free e) (omega (arith, ap capacity_of e)) in (
+        w.0,
+        w.1,
+        fit,
+        left_fits (wrote pages home (DeadPointer c o t)) o was.0 was.1 was.2
+            (wrote_there pages home (DeadPointer c o t) w.0 o (same_place-sym home o a.0) ∙ was.2)
+            (wrote_sound pages home.page home.slot (DeadPointer c o t) w.0 fit sound),
+      )
+  drop_fits Free e is = absurd (cc (is))
+  drop_fits (Over a b d) e is = absurd (cc (is))
+  drop_fits (DeadRow a b) e is = absurd (cc (is))
+  drop_fits (DeadPointer a b d) e is = absurd (cc (is))
+  drop_fits (DeadOver a b d) e is = absurd (cc (is))
+
+pub drop_itself : (pages : List (List Slot)) (home : Place) (s : Slot) → ((planned_drop pages home s).home ≡ home) × ((planned_drop pages home s).purge ≡ []) × ((planned_drop pages home s).before ≡ row_at (slot_of pages) home)
+drop_itself pages home (Pointer c o) = (refl, refl, refl)
+drop_itself pages home Free = (refl, refl, refl)
+drop_itself pages home (Row a b) = (refl, refl, refl)
+drop_itself pages home (Over a b d) = (refl, refl, refl)
+drop_itself pages home (DeadRow a b) = (refl, refl, refl)
+drop_itself pages home (DeadPointer a b d) = (refl, refl, refl)
+drop_itself pages home (DeadOver a b d) = (refl, refl, refl)
