@@ -14,7 +14,7 @@ use Rattle.rg_home.specs.Able.{Owned, AreaHolds, RowFits, Undoable, AllUndoable,
 use Rattle.rg_home.specs.Undo.{planned_undo, undone, undone_all, taken_back}
 use Rattle.rg_ready.proofs.Parts.{InTurn, in_turn}
 use Rattle.rg_ready.proofs.Keep.{parts_keep, home_any, area_any}
-use Rattle.rg_ready.proofs.Shape.{Reuses, reuse_turns}
+use Rattle.rg_ready.proofs.Shape.{ReusesOf, Reuses, reuse_turns}
 use Rattle.rg_ready.proofs.Size.{reuses_fit, reuses_length, reuses_hold}
 use Rattle.rg_ready.proofs.Does.{undo_whole}
 
@@ -36,13 +36,17 @@ pub in_turn_weaker : (P Q : Place → Slot → Slot → Type 0) → ((p : Place)
 in_turn_weaker P Q f owner after pages [] h = tt
 in_turn_weaker P Q f owner after pages (x ∷ parts) h = (h.0, f _ _ _ h.1, in_turn_weaker P Q f owner after _ parts h.2)
 
+-- each part of an undo uses again an area that is there: of this owner, where the undo is this owner's
+pub reuses_of : (by : Option ℕ) (c : Written) (pages : List (List Slot)) → Proper pages → Undoable by (slot_of pages) c → InTurn (ReusesOf by c.owner c.home) c.owner (row_or_empty c.before) pages (planned_undo pages c).parts
+reuses_of by c pages proper can = in_turn (ReusesOf by c.owner c.home) c.owner (row_or_empty c.before) pages _ (undo_whole by c pages proper.tied can).0
+
 module _ (c : Written) (pages : List (List Slot)) (proper : Proper pages) (can : Undoable None (slot_of pages) c) where
   pub reuses : InTurn (Reuses c.owner c.home) c.owner (row_or_empty c.before) pages (planned_undo pages c).parts
-  reuses = in_turn (Reuses c.owner c.home) c.owner (row_or_empty c.before) pages _ (undo_whole c pages proper.tied can).0
+  reuses = reuses_of None c pages proper can
 
   -- the row before is back at its home, and no other row changes
   pub undo_does : ChangesHome (slot_of pages) (slot_of (undone pages c)) c.home c.before
-  undo_does = (undo_whole c pages proper.tied can).1
+  undo_does = (undo_whole None c pages proper.tied can).1
 
   -- it never needs space
   pub undo_fits : (limit : ℕ) → length pages ≤ limit → FitsAll c.owner (row_or_empty c.before) limit pages (planned_undo pages c).parts

@@ -19,9 +19,12 @@ use Rattle.rg_home.specs.Able.{IsHomeOf, IsAreaOf, Holds}
 use Rattle.rg_ready.proofs.Parts.{Each}
 use Rattle.rg_ready.proofs.Keep.{Turns, home_area}
 
--- an area that is there is used again, at its size, and holds its row
+-- an area that is there is used again, at its size, and holds its row; if it was dead it was this owner's, or anybody's
+abbrev pub ReusesOf : Option ℕ → ℕ → Place → Place → Slot → Slot → Type 0
+ReusesOf by t home p s s2 = (is_free s ≡ false) × (capacity_of s2 ≡ capacity_of s) × Holds s2 × (((p ≡ home) × IsHomeOf by s × IsHomeOf (Some t) s2) ⊎ (IsAreaOf by home s × IsAreaOf (Some t) home s2))
+
 abbrev pub Reuses : ℕ → Place → Place → Slot → Slot → Type 0
-Reuses t home p s s2 = (is_free s ≡ false) × (capacity_of s2 ≡ capacity_of s) × Holds s2 × (((p ≡ home) × IsHomeOf None s × IsHomeOf (Some t) s2) ⊎ (IsAreaOf None home s × IsAreaOf (Some t) home s2))
+Reuses t home p s s2 = ReusesOf None t home p s s2
 
 pub reuse_turns : (t : ℕ) (home p : Place) (s s2 : Slot) → Reuses t home p s s2 → Turns t home p s s2
 reuse_turns t home p s s2 r = go r.3
@@ -70,26 +73,26 @@ plain_names q (DeadRow a b) e i = i
 plain_names q (DeadPointer a b d) e i = i
 plain_names q (DeadOver a b d) e i = i
 
-module _ (t : ℕ) (after : TableRow) (pages : List (List Slot)) (tied : Tied (slot_of pages)) (home : Place) where
+module _ (by : Option ℕ) (t : ℕ) (after : TableRow) (pages : List (List Slot)) (tied : Tied (slot_of pages)) (home : Place) where
   abbrev pub Whole : List Part → Option TableRow → Type 0
-  Whole parts row = Each (Reuses t home) t after pages parts × ChangesHome (slot_of pages) (slot_of (applied t after pages parts)) home row
+  Whole parts row = Each (ReusesOf by t home) t after pages parts × ChangesHome (slot_of pages) (slot_of (applied t after pages parts)) home row
 
-  pub one_home : (s : Slot) (op : SlotOp) → slot_of pages home ≡ s → IsHomeOf None s → is_plain s ≡ true → is_plain (made t after op) ≡ true → IsHomeOf (Some t) (made t after op) → capacity_of (made t after op) ≡ capacity_of s → Holds (made t after op)
+  pub one_home : (s : Slot) (op : SlotOp) → slot_of pages home ≡ s → IsHomeOf by s → is_plain s ≡ true → is_plain (made t after op) ≡ true → IsHomeOf (Some t) (made t after op) → capacity_of (made t after op) ≡ capacity_of s → Holds (made t after op)
       → Whole (part_at home op ∷ []) (plain_row (made t after op))
   one_home s op e is plain gone mine same holds =
-      let full : is_free (slot_of pages home) ≡ false = ap is_free e ∙ home_full None s is in
+      let full : is_free (slot_of pages home) ≡ false = ap is_free e ∙ home_full by s is in
       let low = full_low pages home full in (
-        (low, (full, same ∙ sym (ap capacity_of e), holds, inl (refl, subst (IsHomeOf None) (sym e) is, mine)), tt, tt),
+        (low, (full, same ∙ sym (ap capacity_of e), holds, inl (refl, subst (IsHomeOf by) (sym e) is, mine)), tt, tt),
         stays (slot_of pages) (slot_of (wrote pages home (made t after op))) home tied (made t after op) (ap is_plain e ∙ plain) gone (wrote_here pages home (made t after op) low) (wrote_off pages home (made t after op) low),
       )
 
-  left_reuses : (c : ℕ) (o : Place) → slot_of pages home ≡ Pointer c o → Reuses t home o (slot_of pages o) (DeadOver (capacity_of (slot_of pages o)) home t)
+  left_reuses : (c : ℕ) (o : Place) → slot_of pages home ≡ Pointer c o → ReusesOf by t home o (slot_of pages o) (DeadOver (capacity_of (slot_of pages o)) home t)
   left_reuses c o e =
       let was = pointed (slot_of pages) home o c tied e in
-      (ap is_free was.2, refl, tt, inr (subst (IsAreaOf None home) (sym was.2) refl, (refl, refl)))
+      (ap is_free was.2, refl, tt, inr (subst (IsAreaOf by home) (sym was.2) refl, (refl, refl)))
 
-  home_reuses : (c : ℕ) (o : Place) (s2 : Slot) → slot_of pages home ≡ Pointer c o → IsHomeOf (Some t) s2 → capacity_of s2 ≡ c → Holds s2 → Reuses t home home (slot_of pages home) s2
-  home_reuses c o s2 e mine same holds = (ap is_free e, same ∙ sym (ap capacity_of e), holds, inl (refl, subst (IsHomeOf None) (sym e) tt, mine))
+  home_reuses : (c : ℕ) (o : Place) (s2 : Slot) → slot_of pages home ≡ Pointer c o → IsHomeOf (Some t) s2 → capacity_of s2 ≡ c → Holds s2 → ReusesOf by t home home (slot_of pages home) s2
+  home_reuses c o s2 e mine same holds = (ap is_free e, same ∙ sym (ap capacity_of e), holds, inl (refl, subst (IsHomeOf by) (sym e) tt, mine))
 
   pub with_left : (c : ℕ) (o : Place) (op : SlotOp) → slot_of pages home ≡ Pointer c o → is_plain (made t after op) ≡ true → IsHomeOf (Some t) (made t after op) → capacity_of (made t after op) ≡ c → Holds (made t after op)
       → Whole (part_at home op ∷ part_at o (Op.DeadOver (capacity_of (slot_of pages o)) home) ∷ []) (plain_row (made t after op))
@@ -104,40 +107,40 @@ module _ (t : ℕ) (after : TableRow) (pages : List (List Slot)) (tied : Tied (s
   in_area c o e l =
       let was = pointed (slot_of pages) home o c tied e in
       let a = away_from t after pages tied home c o e in (
-        (a.2, (ap is_free was.2, refl, l, inr (subst (IsAreaOf None home) (sym was.2) refl, refl)), tt, tt),
+        (a.2, (ap is_free was.2, refl, l, inr (subst (IsAreaOf by home) (sym was.2) refl, refl)), tt, tt),
         over_part t after pages tied home c (capacity_of (slot_of pages o)) o e,
       )
 
-  apart_from : (q : Place) (s : Slot) → slot_of pages home ≡ s → IsHomeOf None s → IsAreaOf None home (slot_of pages q) → same_place home q ≡ false
-  apart_from q s e is area = apart home q (λ (f : home ≡ q). home_area None None home s is (subst (IsAreaOf None home) (sym (ap (slot_of pages) f) ∙ e) area))
+  apart_from : (q : Place) (s : Slot) → slot_of pages home ≡ s → IsHomeOf by s → IsAreaOf by home (slot_of pages q) → same_place home q ≡ false
+  apart_from q s e is area = apart home q (λ (f : home ≡ q). home_area by by home s is (subst (IsAreaOf by home) (sym (ap (slot_of pages) f) ∙ e) area))
 
-  pub to_plain : (q : Place) (s : Slot) → slot_of pages home ≡ s → IsHomeOf None s → is_plain s ≡ true → IsAreaOf None home (slot_of pages q) → row_size after ≤ capacity_of (slot_of pages q)
+  pub to_plain : (q : Place) (s : Slot) → slot_of pages home ≡ s → IsHomeOf by s → is_plain s ≡ true → IsAreaOf by home (slot_of pages q) → row_size after ≤ capacity_of (slot_of pages q)
       → Whole (part_at home (Op.Pointer (capacity_of s) q) ∷ part_at q (Op.Over (capacity_of (slot_of pages q)) home) ∷ []) (Some after)
   to_plain q s e is plain area l =
-      let full : is_free (slot_of pages home) ≡ false = ap is_free e ∙ home_full None s is in
+      let full : is_free (slot_of pages home) ≡ false = ap is_free e ∙ home_full by s is in
       let low = full_low pages home full in
-      let fullq = area_full None home (slot_of pages q) area in
+      let fullq = area_full by home (slot_of pages q) area in
       let lowq = full_low pages q fullq in
       let n = apart_from q s e is area in
-      let dead = area_dead (slot_of pages) home q None (slot_of pages q) (tied q) area (plain_names q (slot_of pages home) (ap is_plain e ∙ plain)) in
+      let dead = area_dead (slot_of pages) home q by (slot_of pages q) (tied q) area (plain_names q (slot_of pages home) (ap is_plain e ∙ plain)) in
       let one = wrote pages home (Pointer (capacity_of s) q) in
       let d = capacity_of (slot_of pages q) in (
-        (low, (full, sym (ap capacity_of e), tt, inl (refl, subst (IsHomeOf None) (sym e) is, tt)), (same_place-sym home q n, tt), (lowq, (fullq, refl, l, inr (area, refl)), tt, tt)),
+        (low, (full, sym (ap capacity_of e), tt, inl (refl, subst (IsHomeOf by) (sym e) is, tt)), (same_place-sym home q n, tt), (lowq, (fullq, refl, l, inr (area, refl)), tt, tt)),
         leaves_home (slot_of pages) _ home tied q (capacity_of s) d after (ap is_plain e ∙ plain) dead.0 dead.1
             (wrote_there one q (Over d after home) lowq home n ∙ wrote_here pages home (Pointer (capacity_of s) q) low)
             (wrote_here one q (Over d after home) lowq)
             (wrote_off2 pages home q (Pointer (capacity_of s) q) (Over d after home) low lowq),
       )
 
-  pub to_moved : (c : ℕ) (o q : Place) → slot_of pages home ≡ Pointer c o → same_place o q ≡ false → IsAreaOf None home (slot_of pages q) → row_size after ≤ capacity_of (slot_of pages q)
+  pub to_moved : (c : ℕ) (o q : Place) → slot_of pages home ≡ Pointer c o → same_place o q ≡ false → IsAreaOf by home (slot_of pages q) → row_size after ≤ capacity_of (slot_of pages q)
       → Whole (part_at home (Op.Pointer c q) ∷ part_at q (Op.Over (capacity_of (slot_of pages q)) home) ∷ part_at o (Op.DeadOver (capacity_of (slot_of pages o)) home) ∷ []) (Some after)
   to_moved c o q e m area l =
       let a = away_from t after pages tied home c o e in
-      let fullq = area_full None home (slot_of pages q) area in
+      let fullq = area_full by home (slot_of pages q) area in
       let lowq = full_low pages q fullq in
       let n = apart_from q (Pointer c o) e tt area in
       let names : IsPointerTo q (slot_of pages home) → ⊥ = λ i. absurd (cc (m, same_place-refl o, ap (same_place o) (subst (IsPointerTo q) e i))) in
-      let dead = area_dead (slot_of pages) home q None (slot_of pages q) (tied q) area names in
+      let dead = area_dead (slot_of pages) home q by (slot_of pages q) (tied q) area names in
       let d = capacity_of (slot_of pages q) in
       let g = capacity_of (slot_of pages o) in
       let one = wrote pages home (Pointer c q) in
