@@ -17,13 +17,12 @@ use Rattle.rg_home.specs.Rows.{same_place, Tied, is_dead}
 use Rattle.rg_home.specs.Pages.{page_at, slot_of, wrote, applied, Sound, part_at}
 use Rattle.rg_home.specs.Plan.{purged, purge_of, first_free, takes, area_when, area_on, new_area, first_page, fitting, room, free, is_home, left_of, in_over, to_new, from_over, away, changed, planned_put, planned_change, planned_drop}
 use Rattle.rg_home.proofs.Purge.{Buried, buried_alive}
-use Rattle.rg_home.proofs.Sweep.{buried_parts, frees_from}
 use Rattle.rg_home.proofs.Moves.{pointed, differ}
 use Rattle.rg_home.proofs.Writes.{page_low, wrote_there}
 use Rattle.rg_home.proofs.Look.{wrote_same, wrote_other}
-use Rattle.rg_home.proofs.Fit.{purged_page, purge_fits, applied_sound}
+use Rattle.rg_home.proofs.Fit.{purged_page, purge_sound}
 use Rattle.rg_home.proofs.Range.{slot_below, page_within}
-use Rattle.rg_home.proofs.Planned.{IsOpen, new_open}
+use Rattle.rg_home.proofs.Planned.{IsOpen, purge_buries, new_open}
 use Rattle.rg_claimed.specs.Claim.{claim_of, claimed_all}
 use Rattle.rg_claimed.proofs.Slots.{claim_capacity}
 use Rattle.rg_claimed.proofs.Pages.{wrote_in, wrote_new, purge_claim}
@@ -60,18 +59,13 @@ module _ (h : ℕ → Bool) (owner : ℕ) (after : TableRow) (live : List ℕ) (
   Claims p k = claimed_all h (applied owner after (applied owner after pages p.purge) p.parts) ≤ claimed_all h pages + k
 
   buries : (n : ℕ) (purges : Bool) → 1 ≤ n → Buried (slot_of pages) (slot_of (then_purged n purges))
-  buries n true low = buried_parts owner after (slot_of pages) pages _ (record { each = λ q. inl refl }) (frees_from live n low (slot_of pages) 0 (page_at pages n) (λ k. ap (λ (j : ℕ). slot_at (page_at pages n) j) (plus k)))
-    where
-      plus : (k : ℕ) → k ≡ 0 + k
-      plus k = omega arith
-  buries n false low = record { each = λ q. inl refl }
+  buries n purges low = purge_buries owner after live pages tied n purges low
 
   stays_then : (n : ℕ) (purges : Bool) (q : Place) (s : Slot) → 1 ≤ n → slot_of pages q ≡ s → is_dead s ≡ false → slot_of (then_purged n purges) q ≡ s
   stays_then n purges q s low e d = buried_alive _ _ (buries n purges low) q (ap is_dead e ∙ d) ∙ e
 
   sound_then : (n : ℕ) (purges : Bool) → 1 ≤ n → Sound (then_purged n purges)
-  sound_then n true low = applied_sound owner after n pages _ (purge_fits owner after n live n 0 (page_at pages n) pages low (omega arith) sound) sound
-  sound_then n false low = sound
+  sound_then n purges low = purge_sound live owner after pages n purges low sound
 
   abbrev At : Area → Type 0
   At area = (1 ≤ area.place.page) × (area.place.slot ≤ length (page_at (then_purged area.place.page area.purges) area.place.page))

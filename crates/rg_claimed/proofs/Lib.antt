@@ -1,0 +1,9 @@
+pub mod Slots
+pub mod Pages
+pub mod Full
+pub mod Plans
+pub mod Undo
+pub mod Total
+pub mod Weight
+pub mod Bound
+pub mod Owners

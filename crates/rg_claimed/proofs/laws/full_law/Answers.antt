@@ -1,0 +1,14 @@
+use Rattle.std.proofs.Common.{ℕ, suc}
+use Rattle.rg_claimed.proofs.Pages.{claimed_all-used}
+use Rattle.rg_claimed.proofs.Full.{full_bound}
+use Rattle.rg_claimed.proofs.Bound.{full_top}
+use Rattle.rg_claimed.proofs.laws.full_law.Goals as goal
+
+pub returns-clause-opened : goal.returns-clause-opened
+returns-clause-opened c holds pages sound = claimed_all-used holds pages (λ k. sound.fits (suc k))
+
+pub returns-clause-bound : goal.returns-clause-bound
+returns-clause-bound c holds live b capacity pages covers small within none = full_bound holds live covers b capacity pages small within none
+
+pub returns-clause-top : goal.returns-clause-top
+returns-clause-top c holds live opening more small b capacity pages covers row least within claims none = full_top holds live covers opening more small capacity b pages row least within claims none
