@@ -21,12 +21,18 @@ use Rattle.rg_home.specs.Plan.{admits, fitting, is_home, new_area, pages_after, 
 use Rattle.rg_home.specs.Able.{Proper}
 
 -- the row that a plan brings is at its home, no other row changes or moves, and all parts fit
-pub record WritesHome (owner limit : ℕ) (pages : List (List Slot)) (row : Option TableRow) (plan : Plan) : Type 0 where
+pub record WritesHome
+    (owner limit : ℕ) (pages : List (List Slot)) (row : Option TableRow) (plan : Plan)
+    : Type 0 where
   pub before : plan.before ≡ row_at (slot_of pages) plan.home
-  pub changes : ChangesHome (slot_of pages) (slot_of (pages_after owner (row_or_empty row) pages plan)) plan.home row
+  pub changes :
+    ChangesHome (slot_of pages) (slot_of (pages_after owner (row_or_empty row) pages plan))
+        plan.home row
   pub takes : TakesAll row plan.parts
   pub purge_fits : FitsAll owner (row_or_empty row) limit pages plan.purge
-  pub parts_fit : FitsAll owner (row_or_empty row) limit (applied owner (row_or_empty row) pages plan.purge) plan.parts
+  pub parts_fit :
+    FitsAll owner (row_or_empty row) limit (applied owner (row_or_empty row) pages plan.purge)
+        plan.parts
   pub proper : Proper (pages_after owner (row_or_empty row) pages plan)
   pub within : length (pages_after owner (row_or_empty row) pages plan) ≤ limit
 
@@ -90,14 +96,19 @@ page_for live pages area =
     else page_at pages area.place.page
 
 -- the first page that admits, or a new one after the last; and there the lowest free slot
-pub record IsFirstFit (live : List ℕ) (b capacity : ℕ) (pages : List (List Slot)) (area : Area) : Type 0 where
+pub record IsFirstFit
+    (live : List ℕ) (b capacity : ℕ) (pages : List (List Slot)) (area : Area)
+    : Type 0 where
   pub low : 1 ≤ area.place.page
   pub within : area.place.page ≤ capacity
   pub next : area.place.page ≤ length pages + 1
-  pub admitted : area.place.page ≤ length pages → admits live b (page_at pages area.place.page) ≡ true
-  pub first : (n : ℕ) → 1 ≤ n → n < area.place.page → admits live b (page_at pages n) ≡ false
+  pub admitted :
+    area.place.page ≤ length pages → admits live b (page_at pages area.place.page) ≡ true
+  pub first :
+    (n : ℕ) → 1 ≤ n → n < area.place.page → admits live b (page_at pages n) ≡ false
   pub free : slot_at (page_for live pages area) area.place.slot ≡ Free
-  pub lowest : (i : ℕ) → i < area.place.slot → is_free (slot_at (page_for live pages area) i) ≡ false
+  pub lowest :
+    (i : ℕ) → i < area.place.slot → is_free (slot_at (page_for live pages area) i) ≡ false
 
 -- a new area is the first fit, and there is none exactly where the pages are all there and none admits
 abbrev pub FirstFit : Type 0

@@ -1,11 +1,16 @@
 -- What lies in a slot of a page.
+--
+-- 1. A row has a home, the slot that it was first put into, and keeps it as long as it is there. Its
+--    index entries and the records of its writes name the home.
+-- 2. A row lies at its home (Row), or has moved (Pointer), and then lies in an Over area that names
+--    the home. Pointer and Over name each other.
+-- 3. An area whose row was dropped, or that a row has left, is dead, of the transaction that did so.
+--    It keeps its bytes, so that the transaction can be undone, until a purge frees it.
 use Rattle.std.specs.Prelude.{ℕ}
 use Rattle.rg_base.specs.declared.place.Place.{Place}
 use Rattle.rg_base.specs.declared.row.Row.{Row as TableRow}
 
--- A slot is Free; or the home of a row, which lies there (Row) or has moved (Pointer, to the place of
--- its Over area); or an Over area, which names its home; or one of these dead, by the transaction
--- that deleted or left it. Each but Free has an area of so many bytes, its capacity.
+-- each slot but a Free one has an area of so many bytes, its capacity
 pub data Slot : Type 0 where
   Free : Slot
   Row : (capacity : ℕ) (row : TableRow) → Slot
