@@ -2,11 +2,11 @@
 --
 -- 1. Headers are counted of the pages as they stand, 18 bytes a slot, Free slots too: a purge may
 --    leave a Free slot before a row, so a count of the purged page would fall behind.
--- 2. Areas are counted as if the pages were purged: a dead area counts where its owner holds it, and
---    otherwise not.
--- 3. A put or a change claims at most 18 bytes and its row's bytes more. A drop, an undo, a purge, and
---    the start or end of a unit claim nothing more. A write is Full only where the pages claim 3,221
---    bytes each. So what has been written bounds when FULL may come.
+-- 2. Areas are counted as if the pages were purged: a dead area counts where its owner holds it,
+--    and otherwise not.
+-- 3. A put or a change claims at most 18 bytes and its row's bytes more. A drop, an undo, a purge,
+--    and the start or end of a unit claim nothing more. A write is Full only where the pages claim
+--    3,221 bytes each. So what has been written bounds when FULL may come.
 use Rattle.std.specs.Prelude.{◌≡◌, ◌==◌, ◌||◌, nat_le, ℕ, ◌+◌, Bool, true, false, List, [], ◌∷◌, if◌then◌else◌}
 use Rattle.std.specs.List.{list_any}
 use Rattle.rg_home.specs.Slot.{Slot}

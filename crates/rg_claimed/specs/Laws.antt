@@ -1,9 +1,10 @@
 -- What holds of the bytes that pages claim, for every list of pages.
 --
 -- 1. Each law speaks of one step, and compares what is claimed after it with what was before.
--- 2. The steps are a put, a change, a drop, an undo and a purge; the start and the end of a unit; and a
---    switch, where the shadow, in which nobody holds a dead area, becomes the space.
--- 3. A log of writes adds these up. So a FULL can be answered by what was written since the opening.
+-- 2. The steps are a put, a change, a drop, an undo and a purge; the start and the end of a unit;
+--    and a switch, where the shadow, in which nobody holds a dead area, becomes the space.
+-- 3. A log of writes adds these up. So a FULL can be answered by what was written since the
+--    opening.
 use Rattle.std.specs.Prelude.{◌≡◌, ℕ, ◌+◌, ◌*◌, ◌≤◌, ◌<◌, Bool, true, false, List, ◌∷◌, [], length, Option, Some, None, IfSome}
 use Rattle.rg_base.specs.RowBytes.{row_size}
 use Rattle.rg_base.specs.declared.place.Place.{Place}
@@ -89,8 +90,8 @@ FullBound =
     → Covers holds live → b ≤ 826 → length pages ≤ capacity
     → new_area live b capacity pages ≡ None → 3221 * capacity ≤ claimed_all holds pages
 
--- so FULL comes only where the pages of the opening and what was added since make 3,200 a page of the
--- smaller copy
+-- so FULL comes only where the pages of the opening and what was added since make 3,200 a page of
+-- the smaller copy
 abbrev pub FullTop : Type 0
 FullTop =
     (holds : ℕ → Bool) (live : List ℕ) (opening more small b capacity : ℕ)

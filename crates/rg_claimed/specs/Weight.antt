@@ -1,10 +1,10 @@
 -- The weight of home rows.
 --
 -- 1. A home row weighs its bytes and the 18 bytes of a slot, wherever it lies.
--- 2. Sums go over the places of pages, 225 to a page, and not over slots: a Free slot at the end of a
---    page that is dropped or padded changes no sum.
--- 3. The rows that a reorganization has still to bring over are measured so, against what their pages
---    claim.
+-- 2. Sums go over the places of pages, 225 to a page, and not over slots: a Free slot at the end of
+--    a page that is dropped or padded changes no sum.
+-- 3. The rows that a reorganization has still to bring over are measured so, against what their
+--    pages claim.
 use Rattle.std.specs.Prelude.{ℕ, ◌+◌, zero, suc, List, [], ◌∷◌, ◌++◌, Option, Some, None}
 use Rattle.rg_base.specs.RowBytes.{row_size}
 use Rattle.rg_base.specs.declared.place.Place.{Place}

@@ -1,12 +1,13 @@
 -- What an undo needs, and what every record leaves.
 --
--- 1. A write can be undone where its home is there, and the row before fits the home or the Over area
---    that it had. This is said of two slots alone, and no undo is run to say it.
+-- 1. A write can be undone where its home is there, and the row before fits the home or the Over
+--    area that it had. This is said of two slots alone, and no undo is run to say it.
 -- 2. Such an area may be dead. Between records it must then be the unit's own, since a purge spares
 --    areas by their owner. Within one undo any owner will do.
--- 3. Writes of units that are live can all be undone, and no two units have written at one home. That
---    is what locks give, and what a rollback and a restart rely on.
--- 4. Pages are proper: tied, within their bytes, and each row within its area. Every record keeps it.
+-- 3. Writes of units that are live can all be undone, and no two units have written at one home.
+--    That is what locks give, and what a rollback and a restart rely on.
+-- 4. Pages are proper: tied, within their bytes, and each row within its area. Every record keeps
+--    it.
 use Rattle.rg_base.specs.RowBytes.{row_size}
 use Rattle.std.specs.Prelude.{◌≡◌, ◌==◌, ℕ, ◌≤◌, ◌⊎◌, true, List, [], ◌∷◌, Option, Some, None}
 use Rattle.std.specs.List.{list_any}

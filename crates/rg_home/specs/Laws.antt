@@ -2,8 +2,9 @@
 --
 -- 1. A plan, carried out, changes the row of its home alone, and no other row moves. A purge, which
 --    may come first, changes no row and moves none.
--- 2. The parts of a plan fit their pages, and each part that brings a row has an area that holds it.
---    So the pages stay proper. Drops need no space; undo needs none either, which rg_ready shows.
+-- 2. The parts of a plan fit their pages, and each part that brings a row has an area that holds
+--    it. So the pages stay proper. Drops need no space; undo needs none either, which rg_ready
+--    shows.
 -- 3. A new area goes to the first page that admits it, there to the lowest free slot. There is none
 --    exactly where the copy has all its pages and none of them admits.
 use Rattle.std.specs.Prelude.{◌≡◌, ℕ, ◌+◌, ◌≤◌, ◌<◌, ◌↔◌, true, false, List, [], length, Option, Some, None, IfSome, if◌then◌else◌}
@@ -110,7 +111,8 @@ pub record IsFirstFit
   pub lowest :
     (i : ℕ) → i < area.place.slot → is_free (slot_at (page_for live pages area) i) ≡ false
 
--- a new area is the first fit, and there is none exactly where the pages are all there and none admits
+-- a new area is the first fit, and there is none exactly where the pages are all there and none
+-- admits
 abbrev pub FirstFit : Type 0
 FirstFit =
     (live : List ℕ) (b capacity : ℕ) (pages : List (List Slot)) → length pages ≤ capacity
@@ -119,7 +121,8 @@ FirstFit =
         → (length pages ≡ capacity) × NoneAdmits live b pages)
     × (length pages ≡ capacity → NoneAdmits live b pages → new_area live b capacity pages ≡ None)
 
--- neither at home nor in the Over area that it has does the row fit, grown as far as the page allows
+-- neither at home nor in the Over area that it has does the row fit, grown as far as the page
+-- allows
 abbrev pub FitsNowhere : List ℕ → ℕ → List (List Slot) → Place → Type 0
 FitsNowhere live b pages home =
     (fitting live b (capacity_of (slot_of pages home)) (page_at pages home.page) ≡ None)

@@ -1,11 +1,11 @@
 -- Pages as a list, and parts applied to them.
 --
--- 1. Pages are numbered from 1. Past the last one all are empty, so a look-up is total, and page 0 is
---    empty and is never written.
--- 2. A part sets one slot of one page. The parts of a record are applied in order, by one function for
---    every kind of record: writes, purges, undo and redo.
--- 3. Each part fits: its page stays within its bytes, and is there or may be added. A part that brings
---    a row has an area that holds it. So the pages stay sound.
+-- 1. Pages are numbered from 1. Past the last one all are empty, so a look-up is total, and page 0
+--    is empty and is never written.
+-- 2. A part sets one slot of one page. The parts of a record are applied in order, by one function
+--    for every kind of record: writes, purges, undo and redo.
+-- 3. Each part fits: its page stays within its bytes, and is there or may be added. A part that
+--    brings a row has an area that holds it. So the pages stay sound.
 use Rattle.std.specs.Prelude.{◌≡◌, ℕ, zero, suc, List, [], ◌∷◌, Option, Some, None, slice_index_or, ◌≤◌, IsSomeAnd}
 use Rattle.rg_base.specs.RowBytes.{row_size}
 use Rattle.rg_base.specs.declared.place.Place.{Place}
@@ -94,8 +94,8 @@ FitsAll owner after limit pages (x ∷ parts) =
     × Fits (placed (page_at pages x.page) x.slot (made owner after x.op))
     × FitsAll owner after limit (wrote pages (place_of x) (made owner after x.op)) parts
 
--- A part fits the page of this number: it is of this page, its area holds the row, and the page stays
--- within its bytes. That bounds its slots too, to 225, since each takes 18 bytes.
+-- A part fits the page of this number: it is of this page, its area holds the row, and the page
+-- stays within its bytes. That bounds its slots too, to 225, since each takes 18 bytes.
 pub record PartFits
     (number : ℕ) (slots : List Slot) (owner : ℕ) (after : Option TableRow) (x : Part)
     : Type 0 where

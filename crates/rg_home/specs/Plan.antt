@@ -1,12 +1,13 @@
 -- The plans of a put, a change and a drop, and first fit.
 --
--- 1. A plan says what a write will do, before anything is written: its home, the row before, the parts
---    that purge one page first, and then those that write. The undo of it needs no more.
+-- 1. A plan says what a write will do, before anything is written: its home, the row before, the
+--    parts that purge one page first, and then those that write. The undo of it needs no more.
 -- 2. A row that grows stays where it lies as long as its page has room. It goes home where it fits
 --    there, else it stays in its Over area, and else it gets a new one.
 -- 3. A new area goes to the first page by number that admits it, and there to the lowest Free slot.
--- 4. A page is purged only where the write that chose it needs the bytes: it frees the dead areas of
---    ended owners, all of them on that page. A dead area of a live unit is what its undo goes back to.
+-- 4. A page is purged only where the write that chose it needs the bytes: it frees the dead areas
+--    of ended owners, all of them on that page. A dead area of a live unit is what its undo goes
+--    back to.
 use Rattle.std.specs.Prelude.{◌==◌, ℕ, ◌+◌, ◌-◌, nat_le, nat_lt, Bool, true, false, not, List, [], ◌∷◌, map, Option, Some, None, if◌then◌else◌}
 use Rattle.std.specs.List.{position_or_len, list_any}
 use Rattle.rg_base.specs.declared.place.Place.{Place}

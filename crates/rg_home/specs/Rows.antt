@@ -1,9 +1,9 @@
 -- Home rows: the row of each home, wherever it lies.
 --
--- 1. All is said of a look-up of slots by place, so it holds of pages in memory, of an image, and of
---    pages between two parts of a record.
--- 2. Pointers and Over areas tie: whatever names a place is named by it. So a row has one home and one
---    place where it lies, and no two homes have the same Over area.
+-- 1. All is said of a look-up of slots by place, so it holds of pages in memory, of an image, and
+--    of pages between two parts of a record.
+-- 2. Pointers and Over areas tie: whatever names a place is named by it. So a row has one home and
+--    one place where it lies, and no two homes have the same Over area.
 -- 3. A write changes the row of its home alone. It moves no other row: an unload, an index, and the
 --    other units rely on finding each row where it was.
 use Rattle.std.specs.Prelude.{◌≡◌, ◌==◌, ◌&&◌, Bool, true, false, List, [], ◌∷◌, Option, Some, None, if◌then◌else◌}

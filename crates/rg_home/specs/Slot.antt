@@ -1,11 +1,11 @@
 -- What lies in a slot of a page.
 --
--- 1. A row has a home, the slot that it was first put into, and keeps it as long as it is there. Its
---    index entries and the records of its writes name the home.
+-- 1. A row has a home, the slot that it was first put into, and keeps it as long as it is there.
+--    Its index entries and the records of its writes name the home.
 -- 2. A row lies at its home (Row), or has moved (Pointer), and then lies in an Over area that names
 --    the home. Pointer and Over name each other.
--- 3. An area whose row was dropped, or that a row has left, is dead, of the transaction that did so.
---    It keeps its bytes, so that the transaction can be undone, until a purge frees it.
+-- 3. An area whose row was dropped, or that a row has left, is dead, of the transaction that did
+--    so. It keeps its bytes, so that the transaction can be undone, until a purge frees it.
 use Rattle.std.specs.Prelude.{ℕ}
 use Rattle.rg_base.specs.declared.place.Place.{Place}
 use Rattle.rg_base.specs.declared.row.Row.{Row as TableRow}

@@ -1,10 +1,11 @@
 -- The plan of an undo, and a unit undone.
 --
--- 1. An undo uses again the areas that are there, at the sizes that they have, so it needs no space.
+-- 1. An undo uses again the areas that are there, at the sizes that they have, so it needs no
+--    space.
 -- 2. A write without a row before is undone as a drop. Any other is undone at home where the row
 --    before fits there, and else in the Over area that it had, which the parts of the write show.
--- 3. A unit is undone by its writes, the latest first. Then each of its homes has the row that it had
---    before the unit wrote there.
+-- 3. A unit is undone by its writes, the latest first. Then each of its homes has the row that it
+--    had before the unit wrote there.
 use Rattle.rg_base.specs.RowBytes.{row_size}
 use Rattle.std.specs.Prelude.{Bool, true, false, nat_le, List, [], ◌∷◌, Option, Some, None, if◌then◌else◌}
 use Rattle.rg_base.specs.declared.place.Place.{Place}

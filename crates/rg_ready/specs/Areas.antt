@@ -2,8 +2,8 @@
 --
 -- 1. An undo goes back to the home of its row, or to an Over area of that home. Either may be dead,
 --    and is then the unit's own.
--- 2. While the unit lives, nothing takes such an area away or makes it smaller: no purge, no write and
---    no undo, by this unit or another. That an undo never needs space rests on this.
+-- 2. While the unit lives, nothing takes such an area away or makes it smaller: no purge, no write
+--    and no undo, by this unit or another. That an undo never needs space rests on this.
 use Rattle.std.specs.Prelude.{ℕ, ◌≤◌, Option}
 use Rattle.rg_base.specs.declared.place.Place.{Place}
 use Rattle.rg_home.specs.Slot.{Slot}
