@@ -3,8 +3,8 @@ use Rattle.std.proofs.Common.{◌≡◌, ℕ, ◌+◌, ◌*◌, ◌≤◌, Bool,
 use Rattle.rg_home.specs.Slot.{Slot}
 use Rattle.rg_home.specs.Slots.{Fits}
 use Rattle.rg_home.specs.Plan.{new_area}
-use Rattle.rg_claimed.specs.Claim.{claimed_all, Covers, Fewer}
-use Rattle.rg_claimed.proofs.Pages.{claimed_all-used, claimed_all-fewer}
+use Rattle.rg_claimed.specs.Claim.{claimed_all, Covers}
+use Rattle.rg_claimed.proofs.Pages.{claimed_all-used}
 use Rattle.rg_claimed.proofs.Full.{full_bound}
 
 -- at an opening the pages claim no more than all their bytes

@@ -7,7 +7,7 @@ use Rattle.rg_home.specs.Slot.{Slot}
 use Rattle.rg_base.specs.declared.place.Place.{Place}
 use Rattle.rg_base.specs.declared.row.Row.{Row as TableRow}
 use Rattle.rg_home.specs.Slot.{Free, Row, Pointer, Over, DeadRow, DeadPointer, DeadOver}
-use Rattle.rg_home.specs.Slots.{slot_at, is_free, capacity_of, trim, placed, IsTrimmed}
+use Rattle.rg_home.specs.Slots.{is_free, capacity_of, trim, placed, IsTrimmed}
 use Rattle.rg_home.proofs.Slots.{put-set, trim-set_full}
 use Rattle.rg_home.specs.declared.plan.Plan.{Plan}
 use Rattle.rg_home.specs.declared.plan.Area.{Area}

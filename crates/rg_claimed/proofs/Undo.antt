@@ -1,11 +1,11 @@
 -- An undo claims no more: each of its parts uses again an area that its owner holds.
-use Rattle.std.proofs.Common.{◌≡◌, ◌⊎◌, inl, inr, ℕ, ◌≤◌, Bool, true, false, List, [], ◌∷◌, Option, Some, refl, sym, ◌∙◌, ap, if◌then◌else◌, arith}
+use Rattle.std.proofs.Common.{◌≡◌, ◌⊎◌, inl, inr, ℕ, ◌≤◌, Bool, true, List, [], ◌∷◌, Some, refl, ◌∙◌, ap, if◌then◌else◌, arith}
 use Rattle.rg_base.specs.declared.place.Place.{Place}
 use Rattle.rg_base.specs.declared.row.Row.{Row as TableRow}
 use Rattle.rg_base.specs.declared.part.Part.{Part}
 use Rattle.rg_home.specs.Slot.{Slot}
 use Rattle.rg_home.specs.Slot.{Free, Row, Pointer, Over, DeadRow, DeadPointer, DeadOver}
-use Rattle.rg_home.specs.Slots.{is_free, capacity_of}
+use Rattle.rg_home.specs.Slots.{capacity_of}
 use Rattle.rg_home.specs.Pages.{slot_of, wrote, made, place_of, row_or_empty}
 use Rattle.rg_home.specs.Written.{Written}
 use Rattle.rg_home.specs.Undo.{undone, planned_undo}

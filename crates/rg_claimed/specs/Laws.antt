@@ -11,7 +11,7 @@ use Rattle.rg_base.specs.declared.place.Place.{Place}
 use Rattle.rg_base.specs.declared.row.Row.{Row as TableRow}
 use Rattle.rg_home.specs.Slot.{Slot}
 use Rattle.rg_home.specs.Rows.{same_place, ChangesHome}
-use Rattle.rg_home.specs.Pages.{slot_of, applied, row_or_empty, Sound}
+use Rattle.rg_home.specs.Pages.{slot_of, applied, Sound}
 use Rattle.rg_home.specs.Plan.{is_home, new_area, pages_after, planned_put, planned_change, planned_drop, purge_of}
 use Rattle.rg_home.specs.Written.{Written}
 use Rattle.rg_home.specs.Able.{IsLive, Proper, Undoable}
@@ -26,7 +26,7 @@ PutClaims =
     (pages : List (List Slot)) → Proper pages
     → IfSome (planned_put live (row_size row) pages (new_area live (row_size row) capacity pages))
     (λ plan. claimed_all holds (pages_after owner row pages plan)
-        ≤ claimed_all holds pages + (18 + row_size row))
+    ≤ claimed_all holds pages + (18 + row_size row))
 
 -- so does a change, in each of its four ways
 abbrev pub ChangeClaims : Type 0
@@ -35,7 +35,7 @@ ChangeClaims =
     (pages : List (List Slot)) (home : Place) → Proper pages → is_home (slot_of pages home) ≡ true
     → IfSome (planned_change live (row_size row) capacity pages home)
     (λ plan. claimed_all holds (pages_after owner row pages plan)
-        ≤ claimed_all holds pages + (18 + row_size row))
+    ≤ claimed_all holds pages + (18 + row_size row))
 
 -- a drop claims nothing more
 abbrev pub DropClaims : Type 0
@@ -43,7 +43,7 @@ DropClaims =
     (holds : ℕ → Bool) (owner : ℕ) (row : TableRow) (pages : List (List Slot)) (home : Place)
     → Proper pages → is_home (slot_of pages home) ≡ true
     → claimed_all holds
-        (pages_after owner row pages (planned_drop pages home (slot_of pages home)))
+    (pages_after owner row pages (planned_drop pages home (slot_of pages home)))
     ≤ claimed_all holds pages
 
 -- an undo claims nothing more, where its owner holds its dead areas
@@ -75,7 +75,7 @@ Holders =
     → Covers (holding live next) live
     × Fewer (holding live next) (holding (next ∷ live) (next + 1))
     × ((rest : List ℕ) → ((t : ℕ) → IsLive rest t → IsLive live t)
-        → Fewer (holding live next) (holding rest next))
+    → Fewer (holding live next) (holding rest next))
 
 -- at an opening the pages claim no more than all their bytes
 abbrev pub OpenedClaims : Type 0
@@ -114,7 +114,7 @@ ChangeWeighs =
     → ChangesHome at after home row
     → (rows_weight after (pages_from n k) ≤ rows_weight at (pages_from n k) + weight row)
     × (((p : Place) → n ≤ p.page → p.page < n + k → same_place p home ≡ false)
-        → rows_weight after (pages_from n k) ≤ rows_weight at (pages_from n k))
+    → rows_weight after (pages_from n k) ≤ rows_weight at (pages_from n k))
 
 -- at a switch nobody is live, and the shadow claims as the space what it did as a shadow
 abbrev pub Switched : Type 0

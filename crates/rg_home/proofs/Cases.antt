@@ -1,10 +1,10 @@
 -- A list of writes changes the row of one home, where each place that it touches is looked at.
-use Rattle.std.proofs.Common.{◌≡◌, ◌&&◌, ℕ, Bool, true, false, List, [], ◌∷◌, Option, Some, None, refl, sym, ◌∙◌, ap, subst, if◌then◌else◌, arith}
+use Rattle.std.proofs.Common.{◌≡◌, ℕ, Bool, true, false, List, [], ◌∷◌, Option, Some, None, refl, sym, ◌∙◌, ap, subst, if◌then◌else◌}
 use Rattle.rg_base.specs.declared.place.Place.{Place}
 use Rattle.rg_base.specs.declared.row.Row.{Row as TableRow}
 use Rattle.rg_home.specs.Slot.{Slot}
 use Rattle.rg_home.specs.Slot.{Free, Row, Pointer, Over, DeadRow, DeadPointer, DeadOver}
-use Rattle.rg_home.specs.Rows.{same_place, over_row, home_row, row_at, lies_at, IsOverOf, IsPointerTo, TiesAt, Tied, override, overrides, ChangesHome, is_plain, plain_row}
+use Rattle.rg_home.specs.Rows.{same_place, over_row, home_row, row_at, lies_at, IsOverOf, IsPointerTo, TiesAt, Tied, override, ChangesHome, is_plain, plain_row}
 use Rattle.rg_home.proofs.Place.{same_place-true, same_place-refl}
 use Rattle.rg_home.proofs.Frame.{Inside, frame}
 

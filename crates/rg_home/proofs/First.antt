@@ -1,17 +1,16 @@
 -- First fit: the page and the slot of a new area, and when there is none.
-use Rattle.std.proofs.Common.{◌≡◌, ◌↔◌, ◌⊎◌, inl, inr, ℕ, ◌+◌, ◌≤◌, ◌<◌, zero, suc, Bool, true, false, nat_lt, nat_le, not, List, [], ◌∷◌, length, get_or, Option, Some, None, IfSome, refl, sym, ◌∙◌, ap, subst, if◌then◌else◌, arith}
-use Rattle.std.proofs.lemmas.Bool.{ltb-true, cases_lt}
+use Rattle.std.proofs.Common.{◌≡◌, ◌↔◌, ℕ, ◌+◌, ◌≤◌, ◌<◌, zero, suc, Bool, true, false, nat_lt, not, List, [], length, get_or, Option, Some, None, IfSome, refl, ◌∙◌, ap, subst, if◌then◌else◌, arith}
+use Rattle.std.proofs.lemmas.Bool.{ltb-true}
 use Rattle.std.proofs.lemmas.List.Sums.{fails_before_first, passes_at_first, prefix_len-le-length}
 use Rattle.rg_base.specs.declared.place.Place.{Place}
 use Rattle.rg_home.specs.Slot.{Slot}
 use Rattle.rg_home.specs.Slot.{Free}
 use Rattle.rg_home.specs.Slots.{slot_at, is_free, capacity_of}
-use Rattle.rg_home.specs.declared.plan.Plan.{Plan}
 use Rattle.rg_home.specs.declared.plan.Area.{Area}
 use Rattle.rg_home.specs.declared.plan.Fitting.{Fitting}
 use Rattle.rg_home.specs.Pages.{page_at, slot_of}
-use Rattle.rg_home.specs.Plan.{admits, takes, purged, first_free, first_page, area_when, area_on, new_area, fitting, room, free, to_new, from_over, away, changed, planned_put, planned_change}
-use Rattle.rg_home.specs.Laws.{NoneAdmits, page_for, IsFirstFit, FitsNowhere}
+use Rattle.rg_home.specs.Plan.{admits, takes, purged, first_free, first_page, area_when, area_on, new_area, fitting, to_new, from_over, away, changed, planned_put, planned_change}
+use Rattle.rg_home.specs.Laws.{NoneAdmits, IsFirstFit, FitsNowhere}
 use Rattle.rg_home.specs.Slot.{Row, Pointer, Over, DeadRow, DeadPointer, DeadOver}
 use Rattle.rg_home.proofs.Sweep.{free_at-first}
 use Rattle.rg_home.proofs.Offers.{page_at-next}

@@ -1,23 +1,20 @@
 -- The parts of a plan fit their pages.
-use Rattle.std.proofs.Common.{◌≡◌, ◌&&◌, ◌||◌, ℕ, ◌+◌, ◌-◌, ◌*◌, ◌≤◌, ◌<◌, ◌⊎◌, inl, inr, zero, suc, Bool, true, false, not, nat_le, nat_lt, List, [], ◌∷◌, ◌++◌, map, take, length, get_or, Option, Some, None, IfSome, refl, sym, ◌∙◌, ap, subst, if◌then◌else◌, cond, arith}
-use Rattle.std.specs.List.{list_any, position_or_len}
+use Rattle.std.proofs.Common.{◌≡◌, ℕ, ◌+◌, ◌≤◌, ◌<◌, ◌⊎◌, inl, inr, zero, suc, Bool, true, false, nat_le, nat_lt, List, [], ◌∷◌, map, length, get_or, Option, Some, None, IfSome, refl, sym, ◌∙◌, ap, subst, if◌then◌else◌, arith}
+use Rattle.std.specs.List.{list_any}
 use Rattle.std.proofs.lemmas.Bool.{leb-true, ltb-true, le-leb, cases_lt, cases_eq}
 use Rattle.std.proofs.lemmas.List.{get_or_past}
 use Rattle.std.proofs.lemmas.List.Sums.{passes_at_first}
 use Rattle.rg_home.specs.Slot.{Slot}
-use Rattle.rg_base.specs.declared.place.Place.{Place}
 use Rattle.rg_base.specs.declared.row.Row.{Row as TableRow}
 use Rattle.rg_home.specs.Slot.{Free, Row, Pointer, Over, DeadRow, DeadPointer, DeadOver}
-use Rattle.rg_home.specs.Slots.{slot_at, is_free, trim, capacity_of, used, cut, cost, put, placed, Fits, IsTrimmed}
-use Rattle.rg_home.proofs.Slots.{free_is, put-set, used-set, trim-put_free, cut-full}
+use Rattle.rg_home.specs.Slots.{slot_at, is_free, trim, capacity_of, used, cut, put, placed, Fits, IsTrimmed}
+use Rattle.rg_home.proofs.Slots.{put-set, used-set, trim-put_free}
 use Rattle.rg_home.proofs.Steps.{trim-trim}
 use Rattle.rg_base.specs.declared.part.Part.{Part}
 use Rattle.rg_home.specs.declared.plan.Area.{Area}
-use Rattle.rg_home.specs.declared.plan.Plan.{Plan}
-use Rattle.rg_base.specs.declared.part.SlotOp.{SlotOp}
 use Rattle.rg_base.specs.declared.part.SlotOp.TheVariants as Op
 use Rattle.rg_home.specs.Plan.{is_ended, swept, purged, free, takes, admits, first_free, area_when, area_on, purge_from, purge_of, planned_put, first_page, new_area}
-use Rattle.rg_home.specs.Pages.{page_at, slot_of, wrote, wrote_page, made, applied, FitsAll, Sound, place_of, part_at}
+use Rattle.rg_home.specs.Pages.{page_at, wrote, wrote_page, made, applied, FitsAll, Sound, place_of, part_at}
 use Rattle.rg_home.proofs.Look.{wrote_same, wrote_other}
 use Rattle.rg_home.proofs.Offers.{used-trim, page_at-next}
 use Rattle.rg_home.proofs.Sweep.{spot, purge_look, slot_at-purged}

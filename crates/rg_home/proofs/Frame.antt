@@ -1,9 +1,9 @@
 -- Where the places that are touched are closed under names, all others keep their rows and ties.
-use Rattle.std.proofs.Common.{◌≡◌, ◌&&◌, ℕ, Bool, true, false, List, [], ◌∷◌, Option, Some, None, refl, sym, ◌∙◌, ap, subst, if◌then◌else◌, arith}
+use Rattle.std.proofs.Common.{◌≡◌, Bool, true, false, refl, sym, ◌∙◌, ap, subst}
 use Rattle.rg_base.specs.declared.place.Place.{Place}
 use Rattle.rg_home.specs.Slot.{Slot}
 use Rattle.rg_home.specs.Slot.{Free, Row, Pointer, Over, DeadRow, DeadPointer, DeadOver}
-use Rattle.rg_home.specs.Rows.{same_place, over_row, home_row, row_at, IsOverOf, IsPointerTo, TiesAt, Tied}
+use Rattle.rg_home.specs.Rows.{over_row, home_row, row_at, IsOverOf, IsPointerTo, TiesAt, Tied}
 
 -- the place that a slot names is touched
 abbrev pub Inside : (Place → Bool) → Slot → Type 0

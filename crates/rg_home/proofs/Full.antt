@@ -1,13 +1,11 @@
 -- A put is Full exactly where no page admits and the copy is at its capacity.
-use Rattle.std.proofs.Common.{◌≡◌, ◌≢◌, ℕ, ◌+◌, ◌-◌, ◌≤◌, ◌<◌, ◌⊎◌, inl, inr, Bool, true, false, nat_le, nat_lt, not, List, [], ◌∷◌, length, get_or, set, Option, Some, None, refl, sym, ◌∙◌, ap, subst, if◌then◌else◌, arith}
-use Rattle.std.specs.List.{position_or_len}
-use Rattle.std.proofs.lemmas.Bool.{ltb-true, ltb-false, lt-ltb, le-ltb, leb-true, leb-false, cases_lt}
-use Rattle.std.proofs.lemmas.List.Sums.{fails_before_first, passes_at_first, position_or_len_is, prefix_len-le-length}
+use Rattle.std.proofs.Common.{◌≡◌, ℕ, ◌+◌, ◌≤◌, ◌<◌, ◌⊎◌, inl, inr, Bool, true, false, nat_lt, not, List, [], length, get_or, Some, None, refl, ap, if◌then◌else◌, arith}
+use Rattle.std.proofs.lemmas.Bool.{ltb-false, le-ltb, cases_lt}
+use Rattle.std.proofs.lemmas.List.Sums.{fails_before_first, position_or_len_is, prefix_len-le-length}
 use Rattle.rg_home.specs.Slot.{Slot}
-use Rattle.rg_home.specs.Slots.{slot_at, capacity_of, used, put, placed, Fits, trim}
+use Rattle.rg_home.specs.Slots.{slot_at, capacity_of, used, put, placed, Fits}
 use Rattle.rg_home.proofs.Slots.{put-set, used-set}
-use Rattle.rg_home.specs.declared.plan.Plan.{Plan}
-use Rattle.rg_home.specs.Plan.{admits, first_page, new_area, area_on, planned_put, free, room, purged, fitting}
+use Rattle.rg_home.specs.Plan.{admits, first_page, new_area, area_on}
 use Rattle.rg_home.specs.Pages.{page_at}
 use Rattle.rg_home.proofs.Offers.{used-trim}
 

@@ -1,13 +1,12 @@
 -- Look-up after a write.
-use Rattle.std.proofs.Common.{◌≡◌, ◌==◌, ◌&&◌, ℕ, ◌≤◌, zero, suc, Bool, true, false, List, [], ◌∷◌, get_or, refl, sym, ◌∙◌, ap, subst, if◌then◌else◌, arith}
-use Rattle.std.proofs.lemmas.Bool.{eqb-true, eq-eqb, ne_eqb, eqb-false}
+use Rattle.std.proofs.Common.{◌≡◌, ◌==◌, ◌&&◌, ℕ, ◌≤◌, zero, suc, Bool, true, false, List, [], ◌∷◌, get_or, refl, sym, ◌∙◌, ap, if◌then◌else◌, arith}
+use Rattle.std.proofs.lemmas.Bool.{eqb-true, eqb-false}
 use Rattle.rg_base.specs.declared.place.Place.{Place}
 use Rattle.rg_home.specs.Slot.{Slot}
 use Rattle.rg_home.specs.Slots.{slot_at, placed}
 use Rattle.rg_home.proofs.Slots.{slot_at-placed_same, slot_at-placed_other}
-use Rattle.rg_home.specs.Rows.{same_place, override}
+use Rattle.rg_home.specs.Rows.{override}
 use Rattle.rg_home.specs.Pages.{page_at, slot_of, altered, wrote_page, wrote}
-use Rattle.rg_home.proofs.Place.{same_place-true}
 
 pub altered_same : {A : Type 0} → (d : A) (f : A → A) (xs : List A) (n : ℕ) → get_or (altered d f xs n) n d ≡ f (get_or xs n d)
 altered_same d f [] zero = refl

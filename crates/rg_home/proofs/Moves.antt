@@ -1,13 +1,13 @@
 -- The ways in which a row moves: each changes the row of its home alone, and keeps the ties.
-use Rattle.std.proofs.Common.{◌≡◌, ◌&&◌, ℕ, Bool, true, false, List, [], ◌∷◌, Option, Some, None, refl, sym, ◌∙◌, ap, subst, if◌then◌else◌, arith}
+use Rattle.std.proofs.Common.{◌≡◌, ℕ, Bool, true, false, List, [], ◌∷◌, Some, None, refl, sym, ◌∙◌, ap, subst, if◌then◌else◌}
 use Rattle.rg_base.specs.declared.place.Place.{Place}
 use Rattle.rg_base.specs.declared.row.Row.{Row as TableRow}
 use Rattle.rg_home.specs.Slot.{Slot}
 use Rattle.rg_home.specs.Slot.{Free, Row, Pointer, Over, DeadRow, DeadPointer, DeadOver}
-use Rattle.rg_home.specs.Rows.{same_place, over_row, home_row, row_at, IsOverOf, IsPointerTo, TiesAt, Tied, override, overrides, ChangesHome, is_plain, plain_row}
-use Rattle.rg_home.proofs.Place.{same_place-true, same_place-refl, same_place-sym, apart}
+use Rattle.rg_home.specs.Rows.{same_place, IsOverOf, TiesAt, Tied, ChangesHome, is_plain, plain_row}
+use Rattle.rg_home.proofs.Place.{same_place-refl, apart}
 use Rattle.rg_home.proofs.Frame.{Inside}
-use Rattle.rg_home.proofs.Cases.{touched, changes_home, override_same, override_other, ties_plain, ties_pointer, ties_over, row_plain, row_pointer, row_over, lies_over, lies_plain, inside_plain}
+use Rattle.rg_home.proofs.Cases.{touched, changes_home, ties_plain, ties_pointer, ties_over, row_plain, row_pointer, row_over, lies_over, lies_plain, inside_plain}
 
 -- the Over area that a tied Pointer names
 pub over_of : (p : Place) (s : Slot) → IsOverOf p s → (d : ℕ) × (b : TableRow) × (s ≡ Over d b p)

@@ -1,10 +1,9 @@
 -- The list of pages, as the code changes it.
-use Rattle.std.proofs.Common.{◌≡◌, ℕ, ◌+◌, ◌-◌, ◌<◌, ◌≤◌, zero, suc, List, [], ◌∷◌, ◌++◌, length, get_or, set, refl, sym, ◌∙◌, ap, arith}
+use Rattle.std.proofs.Common.{◌≡◌, ℕ, ◌-◌, ◌<◌, ◌≤◌, zero, suc, List, [], ◌∷◌, ◌++◌, length, get_or, set, refl, ◌∙◌, ap, arith}
 use Rattle.std.proofs.lemmas.List.{get_or_default}
 use Rattle.rg_home.specs.Slot.{Slot}
-use Rattle.rg_base.specs.declared.place.Place.{Place}
-use Rattle.rg_home.specs.Slots.{placed, slot_at}
-use Rattle.rg_home.specs.Pages.{page_at, altered, wrote_page, wrote, slot_of}
+use Rattle.rg_home.specs.Slots.{placed}
+use Rattle.rg_home.specs.Pages.{page_at, altered, wrote_page}
 
 altered-set : (f : List Slot → List Slot) (pages : List (List Slot)) (n : ℕ) → n < length pages → altered [] f pages n ≡ set pages n (f (get_or pages n []))
 altered-set f [] n h = absurd (omega arith)

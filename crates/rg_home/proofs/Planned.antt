@@ -1,21 +1,18 @@
 -- What the plans do to the home rows.
-use Rattle.std.proofs.Common.{◌≡◌, inl, inr, ◌&&◌, ℕ, ◌+◌, ◌-◌, ◌≤◌, ◌<◌, ◌⊎◌, zero, suc, Bool, true, false, not, nat_le, nat_lt, List, [], ◌∷◌, map, Option, Some, None, IfSome, refl, sym, ◌∙◌, ap, subst, if◌then◌else◌, arith}
+use Rattle.std.proofs.Common.{◌≡◌, inl, ℕ, ◌+◌, ◌≤◌, Bool, true, false, nat_lt, List, ◌∷◌, Option, Some, None, IfSome, refl, sym, ◌∙◌, ap, if◌then◌else◌, arith}
 use Rattle.rg_base.specs.declared.place.Place.{Place}
 use Rattle.rg_base.specs.declared.row.Row.{Row as TableRow}
 use Rattle.rg_home.specs.Slot.{Slot}
 use Rattle.rg_home.specs.Slot.{Free, Row, Pointer, Over, DeadRow, DeadPointer, DeadOver}
-use Rattle.rg_home.specs.Slots.{slot_at, is_free, trim, capacity_of}
-use Rattle.rg_base.specs.declared.part.Part.{Part}
+use Rattle.rg_home.specs.Slots.{slot_at, capacity_of}
 use Rattle.rg_home.specs.declared.plan.Plan.{Plan}
 use Rattle.rg_home.specs.declared.plan.Area.{Area}
 use Rattle.rg_home.specs.declared.plan.Fitting.{Fitting}
-use Rattle.rg_base.specs.declared.part.SlotOp.{SlotOp}
 use Rattle.rg_base.specs.declared.part.SlotOp.TheVariants as Op
-use Rattle.rg_home.specs.Rows.{same_place, is_dead, is_plain, plain_row, row_at, Tied, TiesAt, ChangesHome}
-use Rattle.rg_home.specs.Pages.{page_at, slot_of, wrote, made, applied, part_at}
-use Rattle.rg_home.specs.Plan.{is_ended, swept, purged, purge_from, purge_of, first_free, takes, area_when, is_home, area_on, new_area, first_page, fitting, left_of, to_home, in_over, to_new, from_over, away, changed, planned_put, planned_change, planned_drop}
-use Rattle.rg_home.proofs.Place.{same_place-true, same_place-sym, apart}
-use Rattle.rg_home.proofs.Purge.{Sweeps, Buried, buried_tied, buried_alive, buried_then}
+use Rattle.rg_home.specs.Rows.{same_place, is_dead, is_plain, plain_row, Tied, ChangesHome}
+use Rattle.rg_home.specs.Pages.{page_at, slot_of, wrote, applied, part_at}
+use Rattle.rg_home.specs.Plan.{purged, purge_from, purge_of, first_free, takes, area_when, is_home, area_on, new_area, first_page, fitting, left_of, in_over, to_new, from_over, away, changed, planned_put, planned_change, planned_drop}
+use Rattle.rg_home.proofs.Purge.{Buried, buried_tied, buried_alive, buried_then}
 use Rattle.rg_home.proofs.Sweep.{buried_parts, frees_from, slot_at-purged, free_at-first, purge_look}
 use Rattle.rg_home.proofs.Writes.{page_low, wrote_here, wrote_there, wrote_off, wrote_off2, wrote_off3}
 use Rattle.rg_home.proofs.Moves.{pointed, differ, stays, stays_over, leaves_home, comes_home, goes_over}

@@ -1,10 +1,10 @@
 -- A purge changes no home row and no tie.
-use Rattle.std.proofs.Common.{◌≡◌, inl, inr, ◌&&◌, ℕ, ◌+◌, ◌≤◌, ◌⊎◌, zero, suc, Bool, true, false, List, [], ◌∷◌, Option, Some, None, refl, sym, ◌∙◌, ap, subst, if◌then◌else◌, arith}
+use Rattle.std.proofs.Common.{◌≡◌, inl, inr, ◌⊎◌, true, false, Option, None, refl, sym, ◌∙◌, ap, subst}
 use Rattle.rg_base.specs.declared.place.Place.{Place}
 use Rattle.rg_base.specs.declared.row.Row.{Row as TableRow}
 use Rattle.rg_home.specs.Slot.{Slot}
 use Rattle.rg_home.specs.Slot.{Free, Row, Pointer, Over, DeadRow, DeadPointer, DeadOver}
-use Rattle.rg_home.specs.Rows.{same_place, over_row, home_row, row_at, lies_at, IsOverOf, IsPointerTo, TiesAt, Tied, is_dead, ChangesHome}
+use Rattle.rg_home.specs.Rows.{over_row, home_row, row_at, lies_at, IsOverOf, IsPointerTo, TiesAt, Tied, is_dead, ChangesHome}
 
 -- this slot stays, or was dead and is Free
 abbrev pub Sweeps : Slot → Slot → Type 0

@@ -1,5 +1,5 @@
 -- All that the plan of a put gives.
-use Rattle.std.proofs.Common.{◌≡◌, ℕ, ◌≤◌, List, Option, Some, None, IfSome, subst, arith}
+use Rattle.std.proofs.Common.{◌≡◌, ℕ, ◌≤◌, List, Some, IfSome, subst}
 use Rattle.rg_home.specs.Slot.{Slot}
 use Rattle.rg_base.specs.declared.row.Row.{Row as TableRow}
 use Rattle.rg_home.specs.declared.plan.Plan.{Plan}

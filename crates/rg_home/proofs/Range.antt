@@ -1,10 +1,8 @@
 -- A slot that is not Free is on a page that is there.
-use Rattle.std.proofs.Common.{◌≡◌, ℕ, ◌≤◌, ◌<◌, zero, suc, Bool, true, false, List, [], ◌∷◌, length, get_or, refl, sym, ◌∙◌, ap, arith}
+use Rattle.std.proofs.Common.{◌≡◌, ℕ, ◌≤◌, ◌<◌, zero, suc, false, List, [], ◌∷◌, length, get_or, arith}
 use Rattle.rg_home.specs.Slot.{Slot}
-use Rattle.rg_home.specs.Slot.{Free}
-use Rattle.rg_base.specs.declared.place.Place.{Place}
 use Rattle.rg_home.specs.Slots.{slot_at, is_free}
-use Rattle.rg_home.specs.Pages.{page_at, slot_of}
+use Rattle.rg_home.specs.Pages.{page_at}
 
 pub slot_below : (slots : List Slot) (i : ℕ) → is_free (slot_at slots i) ≡ false → i < length slots
 slot_below [] i e = absurd (cc (e))

@@ -1,8 +1,8 @@
 -- The slots of a page with one set, and with the Free slots at the end dropped.
-use Rattle.std.proofs.Common.{◌≡◌, ℕ, ◌+◌, ◌-◌, ◌*◌, ◌<◌, ◌≤◌, Bool, true, false, zero, suc, List, [], ◌∷◌, ◌++◌, length, get_or, set, refl, sym, ◌∙◌, ap, arith, append_assoc}
+use Rattle.std.proofs.Common.{◌≡◌, ℕ, ◌+◌, ◌*◌, ◌<◌, ◌≤◌, true, false, zero, suc, List, [], ◌∷◌, ◌++◌, length, get_or, set, refl, ◌∙◌, ap, arith}
 use Rattle.rg_home.specs.Slot.{Slot}
 use Rattle.rg_home.specs.Slot.{Free, Row, Pointer, Over, DeadRow, DeadPointer, DeadOver}
-use Rattle.rg_home.specs.Slots.{capacity_of, is_free, cost, used, slot_at, cut, trim, IsTrimmed, put, placed}
+use Rattle.rg_home.specs.Slots.{capacity_of, is_free, used, slot_at, cut, trim, IsTrimmed, put, placed}
 
 -- look-up
 

@@ -1,10 +1,10 @@
 -- What the steps of a page's code rest on.
-use Rattle.std.proofs.Common.{◌≡◌, ℕ, ◌+◌, ◌-◌, ◌*◌, ◌<◌, ◌≤◌, Bool, true, false, zero, suc, List, [], ◌∷◌, ◌++◌, length, get_or, set, take, refl, sym, ◌∙◌, ap, arith}
+use Rattle.std.proofs.Common.{◌≡◌, ℕ, ◌+◌, ◌-◌, ◌*◌, ◌<◌, ◌≤◌, true, false, zero, suc, List, [], ◌∷◌, ◌++◌, length, get_or, set, take, refl, sym, ◌∙◌, ap, arith}
 use Rattle.std.proofs.lemmas.List.{take_more, get_or_default}
 use Rattle.rg_home.specs.Slot.{Slot}
 use Rattle.rg_home.specs.Slot.{Free, Row, Pointer, Over, DeadRow, DeadPointer, DeadOver}
-use Rattle.rg_home.specs.Slots.{capacity_of, is_free, cost, used, slot_at, cut, trim, IsTrimmed, put, placed, Fits}
-use Rattle.rg_home.proofs.Slots.{cut-full, cut-cons, free_is, trim-free, trim-full, trim-put_past, trim-put_free, put-set, put-end, used-append, used-set, used-put_past, used-length, trim-set_full}
+use Rattle.rg_home.specs.Slots.{capacity_of, is_free, used, cut, trim, IsTrimmed, put, placed, Fits}
+use Rattle.rg_home.proofs.Slots.{free_is, trim-free, trim-full, trim-put_past, trim-put_free, put-set, used-append, used-set, used-put_past, trim-set_full}
 
 pub full_of : (s : Slot) → 0 < capacity_of s → is_free s ≡ false
 full_of Free h = absurd (omega arith)

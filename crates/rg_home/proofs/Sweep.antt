@@ -1,17 +1,16 @@
 -- The parts of a purge, applied.
-use Rattle.std.proofs.Common.{◌≡◌, inl, inr, ◌&&◌, ℕ, ◌+◌, ◌≤◌, ◌<◌, ◌⊎◌, zero, suc, Bool, true, false, not, List, [], ◌∷◌, map, Option, Some, None, refl, sym, ◌∙◌, ap, subst, if◌then◌else◌, arith}
-use Rattle.std.specs.List.{position_or_len}
+use Rattle.std.proofs.Common.{◌≡◌, inr, ℕ, ◌+◌, ◌≤◌, ◌<◌, zero, suc, Bool, true, false, List, [], ◌∷◌, map, refl, sym, ◌∙◌, ap, subst, if◌then◌else◌, arith}
 use Rattle.rg_base.specs.declared.place.Place.{Place}
 use Rattle.rg_base.specs.declared.row.Row.{Row as TableRow}
 use Rattle.rg_home.specs.Slot.{Slot}
 use Rattle.rg_home.specs.Slot.{Free, Row, Pointer, Over, DeadRow, DeadPointer, DeadOver}
-use Rattle.rg_home.specs.Slots.{slot_at, is_free, trim}
+use Rattle.rg_home.specs.Slots.{slot_at}
 use Rattle.rg_home.proofs.Slots.{slot_at-trim}
 use Rattle.rg_base.specs.declared.part.Part.{Part}
 use Rattle.rg_base.specs.declared.part.SlotOp.{SlotOp}
 use Rattle.rg_base.specs.declared.part.SlotOp.TheVariants as Op
 use Rattle.rg_home.specs.Rows.{same_place, is_dead}
-use Rattle.rg_home.specs.Pages.{page_at, slot_of, wrote, made, applied, place_of, part_at}
+use Rattle.rg_home.specs.Pages.{slot_of, wrote, made, applied, place_of, part_at}
 use Rattle.rg_home.specs.Plan.{is_ended, swept, purged, purge_from, first_free}
 use Rattle.rg_home.proofs.Place.{same_place-true, apart}
 use Rattle.rg_home.proofs.Purge.{Sweeps, Buried}

@@ -1,5 +1,5 @@
 -- Parts that bring a row hold it: those of each plan do, and such parts leave each row within its area.
-use Rattle.std.proofs.Common.{◌≡◌, inl, inr, ◌⊎◌, ℕ, ◌+◌, ◌-◌, ◌≤◌, nat_le, nat_lt, zero, suc, Bool, true, false, List, [], ◌∷◌, Option, Some, None, IfSome, IsSomeAnd, refl, sym, ap, subst, if◌then◌else◌, arith}
+use Rattle.std.proofs.Common.{◌≡◌, inl, inr, ◌⊎◌, ℕ, ◌+◌, ◌-◌, ◌≤◌, nat_le, nat_lt, zero, suc, Bool, true, false, List, [], ◌∷◌, Option, Some, None, IfSome, refl, sym, subst, if◌then◌else◌, arith}
 use Rattle.std.proofs.lemmas.Bool.{leb-true, leb-false}
 use Rattle.rg_base.specs.RowBytes.{row_size}
 use Rattle.rg_base.specs.declared.place.Place.{Place}
@@ -10,15 +10,14 @@ use Rattle.rg_base.specs.declared.part.SlotOp.TheVariants as Op
 use Rattle.rg_home.specs.Slot.{Slot}
 use Rattle.rg_home.specs.Slot.{Free, Row, Pointer, Over, DeadRow, DeadPointer, DeadOver}
 use Rattle.rg_home.specs.Slots.{capacity_of}
-use Rattle.rg_home.specs.declared.plan.Plan.{Plan}
 use Rattle.rg_home.specs.declared.plan.Area.{Area}
 use Rattle.rg_home.specs.declared.plan.Fitting.{Fitting}
 use Rattle.rg_home.specs.Rows.{same_place}
 use Rattle.rg_home.specs.Pages.{page_at, slot_of, wrote_page, wrote, made, applied, place_of, part_at, row_or_empty, TakesRow, TakesAll}
 use Rattle.rg_home.specs.Plan.{is_ended, purge_from, purge_of, room, free, fitting, new_area, left_of, to_new, from_over, away, changed, planned_put, planned_change, planned_drop}
 use Rattle.rg_home.specs.Written.{Written}
-use Rattle.rg_home.specs.Undo.{over_before, lies_in, to_area, back_from, undo_row, undo_parts, planned_undo}
-use Rattle.rg_home.specs.Able.{IsHomeOf, AreaHolds, RowFits, Undoable, Holds, AllHold}
+use Rattle.rg_home.specs.Undo.{over_before, lies_in, back_from, undo_row, undo_parts, planned_undo}
+use Rattle.rg_home.specs.Able.{AreaHolds, RowFits, Undoable, Holds, AllHold}
 use Rattle.rg_home.proofs.Look.{slot_of-wrote}
 
 -- an area that takes a row holds it, and doesn't shrink

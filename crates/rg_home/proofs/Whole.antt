@@ -1,5 +1,5 @@
 -- All that a plan does, once it is carried out.
-use Rattle.std.proofs.Common.{◌≡◌, ◌⊎◌, inl, inr, ℕ, ◌+◌, ◌-◌, ◌≤◌, ◌<◌, zero, suc, Bool, true, false, List, [], ◌∷◌, length, Option, Some, None, IfSome, refl, sym, ◌∙◌, ap, subst, if◌then◌else◌, arith}
+use Rattle.std.proofs.Common.{◌≡◌, ℕ, ◌+◌, ◌-◌, ◌≤◌, ◌<◌, zero, suc, Bool, true, false, List, [], ◌∷◌, length, Option, Some, None, IfSome, refl, sym, ◌∙◌, ap, if◌then◌else◌, arith}
 use Rattle.rg_base.specs.RowBytes.{row_size}
 use Rattle.rg_base.specs.declared.place.Place.{Place}
 use Rattle.rg_base.specs.declared.row.Row.{Row as TableRow}
@@ -19,8 +19,8 @@ use Rattle.rg_home.proofs.PageLists.{wrote-length}
 use Rattle.rg_home.proofs.Look.{wrote_other}
 use Rattle.rg_home.proofs.Purge.{buried_rows, buried_lies, buried_tied}
 use Rattle.rg_home.proofs.Planned.{Does, IsOpen, purge_buries, new_open, put_does, change_does, drop_does}
-use Rattle.rg_home.proofs.Fit.{Takes, applied_sound, purge_fits, purge_sound, purged_page, new_takes, put_fits}
-use Rattle.rg_home.proofs.ChangeFits.{PartsFit, PurgeFits, change_fits, change_purge, drop_fits, drop_itself}
+use Rattle.rg_home.proofs.Fit.{Takes, applied_sound, purge_sound, purged_page, new_takes, put_fits}
+use Rattle.rg_home.proofs.ChangeFits.{PartsFit, PurgeFits, change_fits, change_purge, drop_fits}
 use Rattle.rg_home.proofs.Takes.{purge_takes, put_takes, change_takes, drop_takes, applied_held}
 
 -- no page past the limit

@@ -27,13 +27,13 @@ pub record WritesHome
     : Type 0 where
   pub before : plan.before ≡ row_at (slot_of pages) plan.home
   pub changes :
-    ChangesHome (slot_of pages) (slot_of (pages_after owner (row_or_empty row) pages plan))
-        plan.home row
+      ChangesHome (slot_of pages) (slot_of (pages_after owner (row_or_empty row) pages plan))
+      plan.home row
   pub takes : TakesAll row plan.parts
   pub purge_fits : FitsAll owner (row_or_empty row) limit pages plan.purge
   pub parts_fit :
-    FitsAll owner (row_or_empty row) limit (applied owner (row_or_empty row) pages plan.purge)
-        plan.parts
+      FitsAll owner (row_or_empty row) limit (applied owner (row_or_empty row) pages plan.purge)
+      plan.parts
   pub proper : Proper (pages_after owner (row_or_empty row) pages plan)
   pub within : length (pages_after owner (row_or_empty row) pages plan) ≤ limit
 
@@ -104,12 +104,12 @@ pub record IsFirstFit
   pub within : area.place.page ≤ capacity
   pub next : area.place.page ≤ length pages + 1
   pub admitted :
-    area.place.page ≤ length pages → admits live b (page_at pages area.place.page) ≡ true
+      area.place.page ≤ length pages → admits live b (page_at pages area.place.page) ≡ true
   pub first :
-    (n : ℕ) → 1 ≤ n → n < area.place.page → admits live b (page_at pages n) ≡ false
+      (n : ℕ) → 1 ≤ n → n < area.place.page → admits live b (page_at pages n) ≡ false
   pub free : slot_at (page_for live pages area) area.place.slot ≡ Free
   pub lowest :
-    (i : ℕ) → i < area.place.slot → is_free (slot_at (page_for live pages area) i) ≡ false
+      (i : ℕ) → i < area.place.slot → is_free (slot_at (page_for live pages area) i) ≡ false
 
 -- a new area is the first fit, and there is none exactly where the pages are all there and none
 -- admits
@@ -118,7 +118,7 @@ FirstFit =
     (live : List ℕ) (b capacity : ℕ) (pages : List (List Slot)) → length pages ≤ capacity
     → IfSome (new_area live b capacity pages) (IsFirstFit live b capacity pages)
     × (new_area live b capacity pages ≡ None
-        → (length pages ≡ capacity) × NoneAdmits live b pages)
+    → (length pages ≡ capacity) × NoneAdmits live b pages)
     × (length pages ≡ capacity → NoneAdmits live b pages → new_area live b capacity pages ≡ None)
 
 -- neither at home nor in the Over area that it has does the row fit, grown as far as the page
@@ -127,13 +127,13 @@ abbrev pub FitsNowhere : List ℕ → ℕ → List (List Slot) → Place → Typ
 FitsNowhere live b pages home =
     (fitting live b (capacity_of (slot_of pages home)) (page_at pages home.page) ≡ None)
     × ((c : ℕ) (o : Place) → slot_of pages home ≡ Pointer c o
-        → fitting live b (capacity_of (slot_of pages o)) (page_at pages o.page) ≡ None)
+    → fitting live b (capacity_of (slot_of pages o)) (page_at pages o.page) ≡ None)
 
 -- a put is Full exactly where there is no new area, and a change where besides the row fits nowhere
 abbrev pub FullMeans : Type 0
 FullMeans =
     (live : List ℕ) (b capacity : ℕ) (pages : List (List Slot)) (home : Place)
     → (planned_put live b pages (new_area live b capacity pages) ≡ None
-        ↔ (new_area live b capacity pages ≡ None))
+    ↔ (new_area live b capacity pages ≡ None))
     × (planned_change live b capacity pages home ≡ None
-        ↔ (FitsNowhere live b pages home × (new_area live b capacity pages ≡ None)))
+    ↔ (FitsNowhere live b pages home × (new_area live b capacity pages ≡ None)))

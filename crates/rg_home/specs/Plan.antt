@@ -15,7 +15,7 @@ use Rattle.rg_base.specs.declared.row.Row.{Row as TableRow}
 use Rattle.rg_base.specs.declared.part.Part.{Part}
 use Rattle.rg_base.specs.declared.part.SlotOp.TheVariants as Op
 use Rattle.rg_home.specs.Slot.{Slot}
-use Rattle.rg_home.specs.Slot.{Free, Row, Pointer, Over, DeadRow, DeadPointer, DeadOver}
+use Rattle.rg_home.specs.Slot.{Free, Row, Pointer, DeadRow, DeadPointer, DeadOver}
 use Rattle.rg_home.specs.Slots.{capacity_of, is_free, used, trim}
 use Rattle.rg_home.specs.declared.plan.Plan.{Plan}
 use Rattle.rg_home.specs.declared.plan.Area.{Area}
@@ -84,7 +84,7 @@ abbrev pub new_area : List ℕ → ℕ → ℕ → List (List Slot) → Option A
 new_area live b capacity pages =
     if nat_lt (first_page live b pages) capacity
     then Some (area_on live b (first_page live b pages + 1)
-        (page_at pages (first_page live b pages + 1)))
+    (page_at pages (first_page live b pages + 1)))
     else None
 
 -- how an area of a page takes a row of b bytes: it holds it, or can grow to hold it
@@ -92,8 +92,8 @@ abbrev pub fitting : List ℕ → ℕ → ℕ → List Slot → Option Fitting
 fitting live b capacity slots =
     if nat_le b capacity then Some (record { capacity = capacity; purges = false })
     else (if nat_le (b - capacity) (room live slots)
-        then Some (record { capacity = b; purges = nat_lt (free slots) (b - capacity) })
-        else None)
+    then Some (record { capacity = b; purges = nat_lt (free slots) (b - capacity) })
+    else None)
 
 -- the parts that purge page n, whose slots from i on are these
 abbrev pub purge_from : List ℕ → ℕ → ℕ → List Slot → List Part
@@ -160,9 +160,9 @@ to_new live b pages home (Some area) = Some (record {
   before = row_at (slot_of pages) home;
   purge = purge_of live pages area.place.page area.purges;
   parts =
-    part_at home (Op.Pointer (capacity_of (slot_of pages home)) area.place)
-    ∷ part_at area.place (Op.Over b home)
-    ∷ left_of pages home (slot_of pages home);
+      part_at home (Op.Pointer (capacity_of (slot_of pages home)) area.place)
+      ∷ part_at area.place (Op.Over b home)
+      ∷ left_of pages home (slot_of pages home);
 })
 
 -- in the Over area that is there, as it takes the row, else in a new one
@@ -176,7 +176,7 @@ from_over live b capacity pages home other None =
 abbrev pub away : List ℕ → ℕ → ℕ → List (List Slot) → Place → Slot → Option Plan
 away live b capacity pages home (Pointer c other) =
     from_over live b capacity pages home other
-        (fitting live b (capacity_of (slot_of pages other)) (page_at pages other.page))
+    (fitting live b (capacity_of (slot_of pages other)) (page_at pages other.page))
 away live b capacity pages home _ = to_new live b pages home (new_area live b capacity pages)
 
 -- at home, as it takes the row, else away
@@ -189,7 +189,7 @@ changed live b capacity pages home None =
 abbrev pub planned_change : List ℕ → ℕ → ℕ → List (List Slot) → Place → Option Plan
 planned_change live b capacity pages home =
     changed live b capacity pages home
-        (fitting live b (capacity_of (slot_of pages home)) (page_at pages home.page))
+    (fitting live b (capacity_of (slot_of pages home)) (page_at pages home.page))
 
 -- the plan of a drop, where the home has this slot: it purges nothing
 abbrev pub planned_drop : List (List Slot) → Place → Slot → Plan
@@ -198,9 +198,9 @@ planned_drop pages home (Pointer capacity other) = record {
   before = row_at (slot_of pages) home;
   purge = [];
   parts =
-    part_at home (Op.DeadPointer capacity other)
-    ∷ part_at other (Op.DeadOver (capacity_of (slot_of pages other)) home)
-    ∷ [];
+      part_at home (Op.DeadPointer capacity other)
+      ∷ part_at other (Op.DeadOver (capacity_of (slot_of pages other)) home)
+      ∷ [];
 }
 planned_drop pages home s = record {
   home = home;

@@ -17,7 +17,7 @@ use Rattle.rg_home.specs.Able.{IsHomeOf, IsAreaOf, Undoable, AllUndoable, Proper
 use Rattle.rg_home.specs.Undo.{undone}
 use Rattle.rg_ready.specs.Needed.{RowIsThere, NeededInTurn, NotNone, InsertsAreThere}
 use Rattle.rg_ready.proofs.Parts.{InTurn}
-use Rattle.rg_ready.specs.Areas.{KeepsHome, KeepsArea, KeepsAreas}
+use Rattle.rg_ready.specs.Areas.{KeepsHome, KeepsArea}
 use Rattle.rg_ready.proofs.Keep.{home_area, area_one, undoable_kept}
 use Rattle.rg_ready.proofs.Shape.{Reuses}
 use Rattle.rg_ready.proofs.Next.{reuses, undo_does, undo_proper, undo_keeps_all, row_changed}

@@ -6,7 +6,7 @@ use Rattle.rg_base.specs.declared.row.Row.{Row as TableRow}
 use Rattle.rg_home.specs.Slot.{Slot}
 use Rattle.rg_base.specs.declared.part.Part.{Part}
 use Rattle.rg_home.specs.Rows.{same_place, row_at, ChangesHome}
-use Rattle.rg_home.specs.Pages.{page_at, slot_of, made, applied, FitsAll, Sound, place_of}
+use Rattle.rg_home.specs.Pages.{slot_of, made, applied, FitsAll}
 use Rattle.rg_home.specs.Plan.{purge_of}
 use Rattle.rg_home.proofs.Place.{same_place-true, apart}
 use Rattle.rg_home.proofs.Purge.{buried_tied, buried_rows}

@@ -1,20 +1,17 @@
 -- Parts that reuse areas at their sizes fit, whatever else the pages hold.
-use Rattle.std.proofs.Common.{◌≡◌, ℕ, ◌≤◌, Bool, true, false, List, [], ◌∷◌, length, refl, sym, ◌∙◌, ap, subst, arith}
+use Rattle.std.proofs.Common.{◌≡◌, ℕ, ◌≤◌, List, [], ◌∷◌, length, refl, ◌∙◌, arith}
 use Rattle.rg_base.specs.declared.place.Place.{Place}
 use Rattle.rg_base.specs.declared.row.Row.{Row as TableRow}
 use Rattle.rg_home.specs.Slot.{Slot}
 use Rattle.rg_home.specs.Slots.{placed, Fits}
 use Rattle.rg_base.specs.declared.part.Part.{Part}
-use Rattle.rg_home.specs.Rows.{same_place}
 use Rattle.rg_home.specs.Pages.{page_at, slot_of, wrote, made, applied, FitsAll, Sound, place_of}
-use Rattle.rg_home.proofs.Place.{same_place-true}
-use Rattle.rg_home.proofs.Writes.{wrote_here, wrote_there}
 use Rattle.rg_home.proofs.PageLists.{wrote-length}
 use Rattle.rg_home.proofs.Range.{slot_below, page_within}
 use Rattle.rg_home.proofs.Fit.{wrote_sound}
 use Rattle.rg_home.proofs.Full.{sized_fits}
 use Rattle.rg_home.proofs.Takes.{held_wrote}
-use Rattle.rg_home.specs.Able.{Holds, AllHold}
+use Rattle.rg_home.specs.Able.{AllHold}
 use Rattle.rg_ready.proofs.Parts.{InTurn}
 use Rattle.rg_ready.proofs.Shape.{Reuses}
 

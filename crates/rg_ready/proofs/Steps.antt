@@ -5,7 +5,6 @@ use Rattle.rg_base.specs.declared.place.Place.{Place}
 use Rattle.rg_base.specs.declared.row.Row.{Row as TableRow}
 use Rattle.rg_home.specs.Slot.{Slot}
 use Rattle.rg_home.specs.Slot.{Free, Row, Pointer, Over, DeadRow, DeadPointer, DeadOver}
-use Rattle.rg_home.specs.Slots.{capacity_of}
 use Rattle.rg_base.specs.declared.part.Part.{Part}
 use Rattle.rg_home.specs.declared.plan.Plan.{Plan}
 use Rattle.rg_home.specs.declared.plan.Area.{Area}
@@ -20,9 +19,7 @@ use Rattle.rg_home.proofs.Fit.{Takes, new_takes, put_fits}
 use Rattle.rg_home.specs.Written.{Written}
 use Rattle.rg_home.specs.Able.{IsHomeOf, Undoable, IsLive, CanUndo, HomeOf}
 use Rattle.rg_ready.specs.Ready.{Ready}
-use Rattle.rg_ready.proofs.Parts.{Each, in_turn}
-use Rattle.rg_ready.proofs.Shape.{Reuses, one_home, with_left}
-use Rattle.rg_ready.proofs.Size.{reuses_fit}
+use Rattle.rg_ready.proofs.Parts.{Each}
 use Rattle.rg_ready.proofs.Write.{Writes}
 use Rattle.rg_ready.proofs.Plans.{IsOurs, change_ours, drop_ours}
 use Rattle.rg_home.proofs.ChangeFits.{PartsFit, change_fits, drop_fits}

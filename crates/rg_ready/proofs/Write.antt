@@ -1,19 +1,16 @@
 -- The plans of a put, a change and a drop: what they write is theirs, and their own undo is possible.
 use Rattle.rg_base.specs.RowBytes.{row_size}
-use Rattle.std.proofs.Common.{◌≡◌, inl, inr, ℕ, ◌-◌, ◌≤◌, nat_le, nat_lt, Bool, true, false, List, [], ◌∷◌, Option, Some, None, IfSome, refl, sym, ap, subst, if◌then◌else◌, arith}
-use Rattle.std.proofs.lemmas.Bool.{leb-true, leb-false}
+use Rattle.std.proofs.Common.{◌≡◌, inl, inr, ℕ, ◌≤◌, false, List, [], ◌∷◌, Option, Some, None, refl, sym, ap, subst, arith}
 use Rattle.rg_base.specs.declared.place.Place.{Place}
 use Rattle.rg_base.specs.declared.row.Row.{Row as TableRow}
 use Rattle.rg_home.specs.Slot.{Slot}
 use Rattle.rg_home.specs.Slot.{Free, Row, Pointer, Over, DeadOver}
 use Rattle.rg_home.specs.Slots.{capacity_of}
 use Rattle.rg_base.specs.declared.part.Part.{Part}
-use Rattle.rg_home.specs.declared.plan.Fitting.{Fitting}
 use Rattle.rg_base.specs.declared.part.SlotOp.{SlotOp}
 use Rattle.rg_base.specs.declared.part.SlotOp.TheVariants as Op
 use Rattle.rg_home.specs.Rows.{same_place, Tied}
 use Rattle.rg_home.specs.Pages.{slot_of, made, part_at}
-use Rattle.rg_home.specs.Plan.{room, free, fitting}
 use Rattle.rg_home.proofs.Place.{same_place-sym}
 use Rattle.rg_home.proofs.Writes.{page_low}
 use Rattle.rg_home.proofs.Moves.{pointed, differ}

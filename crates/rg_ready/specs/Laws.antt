@@ -52,7 +52,7 @@ abbrev pub ReadyBegins : Type 0
 ReadyBegins =
     Proper []
     × ((live : List ℕ) (pages : List (List Slot)) → Proper pages
-        → Ready live pages [] (row_at (slot_of pages)))
+    → Ready live pages [] (row_at (slot_of pages)))
 
 -- a unit may begin at any time
 abbrev pub UnitBegins : Type 0
@@ -77,9 +77,9 @@ PutKeeps =
     (cs : List Written) (t : ℕ) (after : TableRow) (capacity : ℕ)
     → Ready live pages cs base → IsLive live t → row_size after ≤ 4046
     → IfSome (planned_put live (row_size after) pages
-        (new_area live (row_size after) capacity pages))
+    (new_area live (row_size after) capacity pages))
     (λ plan. Ready live (pages_after t after pages plan)
-        (change_of t plan.home None plan.parts ∷ cs) base)
+    (change_of t plan.home None plan.parts ∷ cs) base)
 
 -- so does a change, at a home where no other live unit has written
 abbrev pub ChangeKeeps : Type 0
@@ -90,7 +90,7 @@ ChangeKeeps =
     → row_size after ≤ 4046 → length pages ≤ capacity → is_home (slot_of pages home) ≡ true
     → IfSome (planned_change live (row_size after) capacity pages home)
     (λ plan. Ready live (pages_after t after pages plan)
-        (change_of t home (row_at (slot_of pages) home) plan.parts ∷ cs) base)
+    (change_of t home (row_at (slot_of pages) home) plan.parts ∷ cs) base)
 
 -- so does a drop
 abbrev pub DropKeeps : Type 0
@@ -100,10 +100,10 @@ DropKeeps =
     → Ready live pages cs base → IsLive live t → HomeOf t home cs
     → is_home (slot_of pages home) ≡ true
     → Ready live
-        (applied t after pages (planned_drop pages home (slot_of pages home)).parts)
-        (change_of t home (row_at (slot_of pages) home)
-            (planned_drop pages home (slot_of pages home)).parts ∷ cs)
-        base
+    (applied t after pages (planned_drop pages home (slot_of pages home)).parts)
+    (change_of t home (row_at (slot_of pages) home)
+    (planned_drop pages home (slot_of pages home)).parts ∷ cs)
+    base
 
 -- so does the undo of a unit's latest write, and of all of a unit's, the latest first
 abbrev pub UndoKeeps : Type 0
@@ -121,7 +121,7 @@ EndKeeps =
     (cs : List Written) (t : ℕ)
     → ((u : ℕ) → IsLive live u → (u ≡ t → ⊥) → IsLive rest u) → Ready live pages cs base
     → Ready rest pages (without t cs)
-        (λ p. taken_back (without t cs) p (row_at (slot_of pages) p))
+    (λ p. taken_back (without t cs) p (row_at (slot_of pages) p))
 
 -- once a unit is undone each of its homes has its committed row, and no other row has changed
 abbrev pub UnitRows : Type 0
@@ -130,7 +130,7 @@ UnitRows =
     (cs : List Written) (t : ℕ) → Ready live pages cs base → (p : Place)
     → (HasHome t p cs → row_at (slot_of (undone_all pages (only t cs))) p ≡ base p)
     × (NoHome p (only t cs)
-        → row_at (slot_of (undone_all pages (only t cs))) p ≡ row_at (slot_of pages) p)
+    → row_at (slot_of (undone_all pages (only t cs))) p ≡ row_at (slot_of pages) p)
 
 -- once it is committed its rows are the committed ones, and elsewhere the earlier ones are
 abbrev pub CommittedRows : Type 0
@@ -138,9 +138,9 @@ CommittedRows =
     (live : List ℕ) (base : Place → Option TableRow) (pages : List (List Slot))
     (cs : List Written) (t : ℕ) → Ready live pages cs base → (p : Place)
     → (HasHome t p cs
-        → taken_back (without t cs) p (row_at (slot_of pages) p) ≡ row_at (slot_of pages) p)
+    → taken_back (without t cs) p (row_at (slot_of pages) p) ≡ row_at (slot_of pages) p)
     × (NoHome p (only t cs)
-        → taken_back (without t cs) p (row_at (slot_of pages) p) ≡ base p)
+    → taken_back (without t cs) p (row_at (slot_of pages) p) ≡ base p)
 
 -- a dead home of a live unit names an area of its own, which each record keeps
 abbrev pub DeadKept : Type 0
@@ -148,19 +148,19 @@ DeadKept =
     (live : List ℕ) (t : ℕ) (after : TableRow) (pages : List (List Slot))
     → Proper pages → DeadNames live (slot_of pages)
     → ((n : ℕ) → 1 ≤ n
-        → DeadNames live (slot_of (applied t after pages (purge_of live pages n true))))
+    → DeadNames live (slot_of (applied t after pages (purge_of live pages n true))))
     × ((capacity : ℕ)
-        → IfSome (planned_put live (row_size after) pages
-            (new_area live (row_size after) capacity pages))
-        (λ plan. DeadNames live (slot_of (pages_after t after pages plan))))
+    → IfSome (planned_put live (row_size after) pages
+    (new_area live (row_size after) capacity pages))
+    (λ plan. DeadNames live (slot_of (pages_after t after pages plan))))
     × ((home : Place) (capacity : ℕ) → is_home (slot_of pages home) ≡ true
-        → IfSome (planned_change live (row_size after) capacity pages home)
-        (λ plan. DeadNames live (slot_of (pages_after t after pages plan))))
+    → IfSome (planned_change live (row_size after) capacity pages home)
+    (λ plan. DeadNames live (slot_of (pages_after t after pages plan))))
     × ((home : Place) → is_home (slot_of pages home) ≡ true
-        → DeadNames live (slot_of
-            (applied t after pages (planned_drop pages home (slot_of pages home)).parts)))
+    → DeadNames live (slot_of
+    (applied t after pages (planned_drop pages home (slot_of pages home)).parts)))
     × ((c : Written) → Undoable (Some c.owner) (slot_of pages) c
-        → DeadNames live (slot_of (undone pages c)))
+    → DeadNames live (slot_of (undone pages c)))
 
 -- No home and no Over area of a live unit u goes away or shrinks: not by a purge or a put, nor by a
 -- change, a drop or an undo of unit t, at a home of another unit or where u is t. And a purge
@@ -170,29 +170,29 @@ AreasStay =
     (live : List ℕ) (t u : ℕ) (after : TableRow) (pages : List (List Slot))
     → Proper pages → IsLive live u
     → ((n : ℕ) → 1 ≤ n → (p : Place)
-        → KeepsAreas (Some u) p (slot_of pages)
-            (slot_of (applied t after pages (purge_of live pages n true)))
-        × (is_dead (slot_of pages p) ≡ false
-            → slot_of (applied t after pages (purge_of live pages n true)) p
-                ≡ slot_of pages p))
+    → KeepsAreas (Some u) p (slot_of pages)
+    (slot_of (applied t after pages (purge_of live pages n true)))
+    × (is_dead (slot_of pages p) ≡ false
+    → slot_of (applied t after pages (purge_of live pages n true)) p
+    ≡ slot_of pages p))
     × ((capacity : ℕ)
-        → IfSome (planned_put live (row_size after) pages
-            (new_area live (row_size after) capacity pages))
-        (λ plan. (p : Place)
-            → KeepsAreas (Some u) p (slot_of pages)
-                (slot_of (pages_after t after pages plan))))
+    → IfSome (planned_put live (row_size after) pages
+    (new_area live (row_size after) capacity pages))
+    (λ plan. (p : Place)
+    → KeepsAreas (Some u) p (slot_of pages)
+    (slot_of (pages_after t after pages plan))))
     × ((home : Place) (capacity : ℕ) → is_home (slot_of pages home) ≡ true
-        → IfSome (planned_change live (row_size after) capacity pages home)
-        (λ plan. (p : Place) → (p ≡ home → u ≡ t)
-            → KeepsAreas (Some u) p (slot_of pages)
-                (slot_of (pages_after t after pages plan))))
+    → IfSome (planned_change live (row_size after) capacity pages home)
+    (λ plan. (p : Place) → (p ≡ home → u ≡ t)
+    → KeepsAreas (Some u) p (slot_of pages)
+    (slot_of (pages_after t after pages plan))))
     × ((home : Place) → is_home (slot_of pages home) ≡ true
-        → (p : Place) → (p ≡ home → u ≡ t)
-        → KeepsAreas (Some u) p (slot_of pages) (slot_of
-            (applied t after pages (planned_drop pages home (slot_of pages home)).parts)))
+    → (p : Place) → (p ≡ home → u ≡ t)
+    → KeepsAreas (Some u) p (slot_of pages) (slot_of
+    (applied t after pages (planned_drop pages home (slot_of pages home)).parts)))
     × ((c : Written) → Undoable None (slot_of pages) c
-        → (p : Place) → (p ≡ c.home → u ≡ c.owner)
-        → KeepsAreas (Some u) p (slot_of pages) (slot_of (undone pages c)))
+    → (p : Place) → (p ≡ c.home → u ≡ c.owner)
+    → KeepsAreas (Some u) p (slot_of pages) (slot_of (undone pages c)))
 
 -- where rows are locked by key, a unit that writes a row finds no other unit's write at its home,
 -- and its own write keeps this so
@@ -201,16 +201,16 @@ LocksKeepApart =
     (locks : ℕ → Option ℕ) (at after : Place → Slot) (c : Written) (row : Option TableRow)
     (cs : List Written) → Keyed locks at cs
     → ((t : ℕ) (home : Place) (found : TableRow) → row_at at home ≡ Some found
-        → ((u : ℕ) → locks found.key ≡ Some u → u ≡ t) → HomeOf t home cs)
+    → ((u : ℕ) → locks found.key ≡ Some u → u ≡ t) → HomeOf t home cs)
     × (ChangesHome at after c.home row → LockedRow locks c.owner row
-        → LockedRow locks c.owner c.before → HomeOf c.owner c.home cs
-        → Keyed locks after (c ∷ cs))
+    → LockedRow locks c.owner c.before → HomeOf c.owner c.home cs
+    → Keyed locks after (c ∷ cs))
 
 -- an opening may test each write at its turn, or all before the first
 abbrev pub TestedBefore : Type 0
 TestedBefore =
     (cs : List Written) (pages : List (List Slot)) → Proper pages
     → (NeededInTurn pages cs
-        → AllUndoable None (slot_of pages) cs × InsertsAreThere (row_at (slot_of pages)) cs)
+    → AllUndoable None (slot_of pages) cs × InsertsAreThere (row_at (slot_of pages)) cs)
     × (AllUndoable None (slot_of pages) cs → InsertsAreThere (row_at (slot_of pages)) cs
-        → NeededInTurn pages cs)
+    → NeededInTurn pages cs)

@@ -1,4 +1,4 @@
-use Rattle.std.proofs.Common.{ℕ, suc}
+use Rattle.std.proofs.Common.{suc}
 use Rattle.rg_claimed.proofs.Pages.{claimed_all-used}
 use Rattle.rg_claimed.proofs.Full.{full_bound}
 use Rattle.rg_claimed.proofs.Bound.{full_top}

@@ -1,5 +1,4 @@
 use Rattle.std.proofs.Common.{true}
-use Rattle.rg_home.specs.Pages.{slot_of}
 use Rattle.rg_ready.proofs.Stay.{purge_stays, purge_alive, put_stays, change_stays, drop_stays, undo_stays}
 use Rattle.rg_ready.proofs.laws.areas_law.Goals as goal
 
