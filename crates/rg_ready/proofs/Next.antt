@@ -12,6 +12,9 @@ use Rattle.rg_home.proofs.Fit.{applied_sound}
 use Rattle.rg_home.specs.Written.{Written}
 use Rattle.rg_home.specs.Able.{Owned, AreaHolds, RowFits, Undoable, AllUndoable, Proper}
 use Rattle.rg_home.specs.Undo.{planned_undo, undone, undone_all, taken_back}
+use Rattle.rg_home.specs.Laws.{WritesHome}
+use Rattle.rg_home.proofs.Takes.{undo_takes}
+use Rattle.rg_home.proofs.Whole.{whole}
 use Rattle.rg_ready.proofs.Parts.{InTurn, in_turn}
 use Rattle.rg_ready.proofs.Keep.{parts_keep, home_any, area_any}
 use Rattle.rg_ready.proofs.Shape.{ReusesOf, Reuses, reuse_turns}
@@ -69,6 +72,11 @@ module _ (c : Written) (pages : List (List Slot)) (proper : Proper pages) (can :
   pub undo_keeps_all : (cs : List Written) → AllUndoable None (slot_of pages) cs → AllUndoable None (slot_of (undone pages c)) cs
   undo_keeps_all [] u = tt
   undo_keeps_all (d ∷ cs) u = (undo_keeps None d (λ e. tt) u.0, undo_keeps_all cs u.1)
+
+-- all that the plan of an undo does
+pub undo_writes : (c : Written) (pages : List (List Slot)) → Proper pages → Undoable None (slot_of pages) c → WritesHome c.owner (length pages) pages c.before (planned_undo pages c)
+undo_writes c pages proper can =
+    whole c.owner (length pages) pages c.before (planned_undo pages c) proper (omega arith) (undo_does c pages proper can) tt (undo_takes None c pages can) tt (undo_fits c pages proper can (length pages) (omega arith)) refl
 
 -- a row once a home is changed
 pub row_changed : (at after : Place → Slot) (home : Place) (row : Option TableRow) (p : Place) → ChangesHome at after home row → row_at after p ≡ (if same_place p home then row else row_at at p)

@@ -25,12 +25,13 @@ use Rattle.rg_ready.proofs.Next.{in_turn_weaker, reuses}
 use Rattle.rg_ready.proofs.Plans.{IsOurs, change_ours, drop_ours}
 use Rattle.rg_ready.proofs.DeadSteps.{turns_of}
 
+-- a purge leaves what is not dead
+pub purge_alive : (live : List ℕ) (t : ℕ) (after : TableRow) (pages : List (List Slot)) → Proper pages → (n : ℕ) (purges : Bool) → 1 ≤ n → (p : Place) → is_dead (slot_of pages p) ≡ false → slot_of (applied t after pages (purge_of live pages n purges)) p ≡ slot_of pages p
+purge_alive live t after pages proper n purges low p alive = buried_alive _ _ (purge_buries t after live pages proper.tied n purges low) p alive
+
 module _ (live : List ℕ) (t u : ℕ) (after : TableRow) (pages : List (List Slot)) (proper : Proper pages) (lives : IsLive live u) where
   pub purge_stays : (n : ℕ) (purges : Bool) → 1 ≤ n → (p : Place) → KeepsAreas (Some u) p (slot_of pages) (slot_of (applied t after pages (purge_of live pages n purges)))
   purge_stays n purges low p = ends_areas live u lives (slot_of pages) _ p (purge_ends live t after pages n purges low)
-
-  pub purge_alive : (n : ℕ) (purges : Bool) → 1 ≤ n → (p : Place) → is_dead (slot_of pages p) ≡ false → slot_of (applied t after pages (purge_of live pages n purges)) p ≡ slot_of pages p
-  purge_alive n purges low p alive = buried_alive _ _ (purge_buries t after live pages proper.tied n purges low) p alive
 
   -- a put: its home was Free, so it is nobody's
   put_open : (area : Area) → IsOpen t after live pages area → (p : Place) → KeepsAreas (Some u) p (slot_of pages) (slot_of (applied t after (applied t after pages (purge_of live pages area.place.page area.purges)) (part_at area.place (Op.Row (row_size after)) ∷ [])))

@@ -19,6 +19,7 @@ use Rattle.rg_home.specs.Rows.{is_dead, row_at, ChangesHome}
 use Rattle.rg_home.specs.Pages.{slot_of, applied, FitsAll, TakesAll, row_or_empty}
 use Rattle.rg_home.specs.Plan.{is_home, purge_of, new_area, planned_put, planned_change, planned_drop, pages_after}
 use Rattle.rg_home.specs.Written.{Written}
+use Rattle.rg_home.specs.Laws.{WritesHome}
 use Rattle.rg_home.specs.Able.{Undoable, AllUndoable, IsLive, HomeOf, Proper}
 use Rattle.rg_home.specs.Undo.{planned_undo, undone, undone_all, taken_back}
 use Rattle.rg_ready.specs.Ready.{latest, less, only, without, HasHome, NoHome, Ready}
@@ -36,15 +37,13 @@ change_of t home before parts = record {
   parts = parts;
 }
 
--- an undo puts the row before back at its home, changes and moves no other row, fits where it goes,
+-- an undo puts the row before back at its home, as any plan does that brings it; it purges nothing,
 -- and adds no page
 abbrev pub UndoDoes : Type 0
 UndoDoes =
     (c : Written) (pages : List (List Slot)) → Proper pages → Undoable None (slot_of pages) c
-    → ChangesHome (slot_of pages) (slot_of (undone pages c)) c.home c.before
-    × FitsAll c.owner (row_or_empty c.before) (length pages) pages (planned_undo pages c).parts
-    × TakesAll c.before (planned_undo pages c).parts
-    × Proper (undone pages c)
+    → WritesHome c.owner (length pages) pages c.before (planned_undo pages c)
+    × ((planned_undo pages c).purge ≡ [])
     × (length (undone pages c) ≡ length pages)
 
 -- an empty table space is proper, and a proper one without live writes is ready
@@ -143,56 +142,69 @@ CommittedRows =
     → taken_back (without t cs) p (row_at (slot_of pages) p) ≡ base p)
 
 -- a dead home of a live unit names an area of its own, which each record keeps
-abbrev pub DeadKept : Type 0
-DeadKept =
-    (live : List ℕ) (t : ℕ) (after : TableRow) (pages : List (List Slot))
-    → Proper pages → DeadNames live (slot_of pages)
-    → ((n : ℕ) → 1 ≤ n
-    → DeadNames live (slot_of (applied t after pages (purge_of live pages n true))))
-    × ((capacity : ℕ)
-    → IfSome (planned_put live (row_size after) pages
-    (new_area live (row_size after) capacity pages))
-    (λ plan. DeadNames live (slot_of (pages_after t after pages plan))))
-    × ((home : Place) (capacity : ℕ) → is_home (slot_of pages home) ≡ true
-    → IfSome (planned_change live (row_size after) capacity pages home)
-    (λ plan. DeadNames live (slot_of (pages_after t after pages plan))))
-    × ((home : Place) → is_home (slot_of pages home) ≡ true
-    → DeadNames live (slot_of
-    (applied t after pages (planned_drop pages home (slot_of pages home)).parts)))
-    × ((c : Written) → Undoable (Some c.owner) (slot_of pages) c
-    → DeadNames live (slot_of (undone pages c)))
+pub record DeadKept : Type 0 where
+  pub purge :
+      (live : List ℕ) (t : ℕ) (after : TableRow) (pages : List (List Slot)) (n : ℕ)
+      → Proper pages → DeadNames live (slot_of pages) → 1 ≤ n
+      → DeadNames live (slot_of (applied t after pages (purge_of live pages n true)))
+  pub put :
+      (live : List ℕ) (t : ℕ) (after : TableRow) (pages : List (List Slot)) (capacity : ℕ)
+      → Proper pages → DeadNames live (slot_of pages)
+      → IfSome (planned_put live (row_size after) pages
+      (new_area live (row_size after) capacity pages))
+      (λ plan. DeadNames live (slot_of (pages_after t after pages plan)))
+  pub change :
+      (live : List ℕ) (t : ℕ) (after : TableRow) (pages : List (List Slot)) (capacity : ℕ)
+      (home : Place)
+      → Proper pages → DeadNames live (slot_of pages) → is_home (slot_of pages home) ≡ true
+      → IfSome (planned_change live (row_size after) capacity pages home)
+      (λ plan. DeadNames live (slot_of (pages_after t after pages plan)))
+  pub drop :
+      (live : List ℕ) (t : ℕ) (after : TableRow) (pages : List (List Slot)) (home : Place)
+      → Proper pages → DeadNames live (slot_of pages) → is_home (slot_of pages home) ≡ true
+      → DeadNames live (slot_of
+      (applied t after pages (planned_drop pages home (slot_of pages home)).parts))
+  pub undo :
+      (live : List ℕ) (c : Written) (pages : List (List Slot))
+      → Proper pages → DeadNames live (slot_of pages) → Undoable (Some c.owner) (slot_of pages) c
+      → DeadNames live (slot_of (undone pages c))
 
 -- No home and no Over area of a live unit u goes away or shrinks: not by a purge or a put, nor by a
--- change, a drop or an undo of unit t, at a home of another unit or where u is t. And a purge
--- leaves what is not dead as it is.
-abbrev pub AreasStay : Type 0
-AreasStay =
-    (live : List ℕ) (t u : ℕ) (after : TableRow) (pages : List (List Slot))
-    → Proper pages → IsLive live u
-    → ((n : ℕ) → 1 ≤ n → (p : Place)
-    → KeepsAreas (Some u) p (slot_of pages)
-    (slot_of (applied t after pages (purge_of live pages n true)))
-    × (is_dead (slot_of pages p) ≡ false
-    → slot_of (applied t after pages (purge_of live pages n true)) p
-    ≡ slot_of pages p))
-    × ((capacity : ℕ)
-    → IfSome (planned_put live (row_size after) pages
-    (new_area live (row_size after) capacity pages))
-    (λ plan. (p : Place)
-    → KeepsAreas (Some u) p (slot_of pages)
-    (slot_of (pages_after t after pages plan))))
-    × ((home : Place) (capacity : ℕ) → is_home (slot_of pages home) ≡ true
-    → IfSome (planned_change live (row_size after) capacity pages home)
-    (λ plan. (p : Place) → (p ≡ home → u ≡ t)
-    → KeepsAreas (Some u) p (slot_of pages)
-    (slot_of (pages_after t after pages plan))))
-    × ((home : Place) → is_home (slot_of pages home) ≡ true
-    → (p : Place) → (p ≡ home → u ≡ t)
-    → KeepsAreas (Some u) p (slot_of pages) (slot_of
-    (applied t after pages (planned_drop pages home (slot_of pages home)).parts)))
-    × ((c : Written) → Undoable None (slot_of pages) c
-    → (p : Place) → (p ≡ c.home → u ≡ c.owner)
-    → KeepsAreas (Some u) p (slot_of pages) (slot_of (undone pages c)))
+-- change, a drop or an undo of unit t, at a home of another unit or where u is t. And a purge leaves
+-- what is not dead as it is.
+pub record AreasStay : Type 0 where
+  pub purge :
+      (live : List ℕ) (t u : ℕ) (after : TableRow) (pages : List (List Slot)) (n : ℕ) (p : Place)
+      → Proper pages → IsLive live u → 1 ≤ n
+      → KeepsAreas (Some u) p (slot_of pages)
+      (slot_of (applied t after pages (purge_of live pages n true)))
+  pub spared :
+      (live : List ℕ) (t : ℕ) (after : TableRow) (pages : List (List Slot)) (n : ℕ) (p : Place)
+      → Proper pages → 1 ≤ n → is_dead (slot_of pages p) ≡ false
+      → slot_of (applied t after pages (purge_of live pages n true)) p ≡ slot_of pages p
+  pub put :
+      (live : List ℕ) (t u : ℕ) (after : TableRow) (pages : List (List Slot)) (capacity : ℕ)
+      → Proper pages → IsLive live u
+      → IfSome (planned_put live (row_size after) pages
+      (new_area live (row_size after) capacity pages))
+      (λ plan. (p : Place)
+      → KeepsAreas (Some u) p (slot_of pages) (slot_of (pages_after t after pages plan)))
+  pub change :
+      (live : List ℕ) (t u : ℕ) (after : TableRow) (pages : List (List Slot)) (capacity : ℕ)
+      (home : Place)
+      → Proper pages → IsLive live u → is_home (slot_of pages home) ≡ true
+      → IfSome (planned_change live (row_size after) capacity pages home)
+      (λ plan. (p : Place) → (p ≡ home → u ≡ t)
+      → KeepsAreas (Some u) p (slot_of pages) (slot_of (pages_after t after pages plan)))
+  pub drop :
+      (live : List ℕ) (t u : ℕ) (after : TableRow) (pages : List (List Slot)) (home p : Place)
+      → Proper pages → IsLive live u → is_home (slot_of pages home) ≡ true → (p ≡ home → u ≡ t)
+      → KeepsAreas (Some u) p (slot_of pages) (slot_of
+      (applied t after pages (planned_drop pages home (slot_of pages home)).parts))
+  pub undo :
+      (u : ℕ) (c : Written) (pages : List (List Slot)) (p : Place)
+      → Proper pages → Undoable None (slot_of pages) c → (p ≡ c.home → u ≡ c.owner)
+      → KeepsAreas (Some u) p (slot_of pages) (slot_of (undone pages c))
 
 -- where rows are locked by key, a unit that writes a row finds no other unit's write at its home,
 -- and its own write keeps this so

@@ -3,10 +3,11 @@ use Rattle.rg_ready.proofs.Stay.{purge_stays, purge_alive, put_stays, change_sta
 use Rattle.rg_ready.proofs.laws.areas_law.Goals as goal
 
 pub returns : goal.returns
-returns c live t u after pages proper lives = (
-  λ n low p. (purge_stays live t u after pages proper lives n true low p, purge_alive live t u after pages proper lives n true low p),
-  λ capacity. put_stays live t u after pages proper lives capacity,
-  λ home capacity is. change_stays live t u after pages proper lives home capacity is,
-  λ home is p apart. drop_stays live t u after pages proper lives home is p apart,
-  λ d can p apart. undo_stays u d pages proper can p apart,
-)
+returns c = record {
+  purge = λ live t u after pages n p proper lives low. purge_stays live t u after pages proper lives n true low p;
+  spared = λ live t after pages n p proper low alive. purge_alive live t after pages proper n true low p alive;
+  put = λ live t u after pages capacity proper lives. put_stays live t u after pages proper lives capacity;
+  change = λ live t u after pages capacity home proper lives is. change_stays live t u after pages proper lives home capacity is;
+  drop = λ live t u after pages home p proper lives is apart. drop_stays live t u after pages proper lives home is p apart;
+  undo = λ u d pages p proper can apart. undo_stays u d pages proper can p apart;
+}
