@@ -1,5 +1,5 @@
 -- First fit: the page and the slot of a new area, and when there is none.
-use Rattle.std.proofs.Common.{◌≡◌, ◌↔◌, ℕ, ◌+◌, ◌≤◌, ◌<◌, zero, suc, Bool, true, false, nat_lt, not, List, [], length, get_or, Option, Some, None, IfSome, refl, ◌∙◌, ap, subst, if◌then◌else◌, arith}
+use Rattle.std.proofs.Common.{◌≡◌, ◌↔◌, ℕ, ◌+◌, ◌≤◌, ◌<◌, zero, suc, Bool, true, false, nat_lt, not, List, [], length, get_or, Option, Some, None, IfSome, refl, sym, ◌∙◌, ap, subst, if◌then◌else◌, arith}
 use Rattle.std.proofs.lemmas.Bool.{ltb-true}
 use Rattle.std.proofs.lemmas.List.Sums.{fails_before_first, passes_at_first, prefix_len-le-length}
 use Rattle.rg_base.specs.declared.place.Place.{Place}
@@ -33,22 +33,24 @@ module _ (live : List ℕ) (b capacity : ℕ) (pages : List (List Slot)) where
   there : first_page live b pages + 1 ≤ length pages → admits live b (page_at pages (first_page live b pages + 1)) ≡ true
   there h = ap (admits live b) (page_at-next pages (first_page live b pages)) ∙ passes_at_first (admits live b) pages [] (omega arith)
 
-  on_page : first_page live b pages < capacity → (t : Bool) → IsFirstFit live b capacity pages (area_when live (first_page live b pages + 1) (page_at pages (first_page live b pages + 1)) t)
-  on_page h true = record {
+  on_page : first_page live b pages < capacity → (t : Bool) → takes b (page_at pages (first_page live b pages + 1)) ≡ t → IsFirstFit live b capacity pages (area_when live (first_page live b pages + 1) (page_at pages (first_page live b pages + 1)) t)
+  on_page h true e = record {
     low = omega arith;
     within = omega (arith, h);
     next = omega (arith, prefix_len-le-length (λ (x : List Slot). not (admits live b x)) pages);
     admitted = there;
     first = earlier;
+    needed = sym (ap not e);
     free = free_at-first (page_at pages (first_page live b pages + 1));
     lowest = lower_full (page_at pages (first_page live b pages + 1));
   }
-  on_page h false = record {
+  on_page h false e = record {
     low = omega arith;
     within = omega (arith, h);
     next = omega (arith, prefix_len-le-length (λ (x : List Slot). not (admits live b x)) pages);
     admitted = there;
     first = earlier;
+    needed = sym (ap not e);
     free = free_at-first (purged live (page_at pages (first_page live b pages + 1)));
     lowest = lower_full (purged live (page_at pages (first_page live b pages + 1)));
   }
@@ -58,7 +60,7 @@ module _ (live : List ℕ) (b capacity : ℕ) (pages : List (List Slot)) where
   new_first = go (nat_lt (first_page live b pages) capacity) refl
     where
       go : (g : Bool) → nat_lt (first_page live b pages) capacity ≡ g → IfSome (if g then Some (area_on live b (first_page live b pages + 1) (page_at pages (first_page live b pages + 1))) else None) (IsFirstFit live b capacity pages)
-      go true e = on_page (ltb-true (first_page live b pages) capacity e) (takes b (page_at pages (first_page live b pages + 1)))
+      go true e = on_page (ltb-true (first_page live b pages) capacity e) (takes b (page_at pages (first_page live b pages + 1))) refl
       go false e = tt
 
   numbered : ((k : ℕ) → k < length pages → admits live b (get_or pages k []) ≡ false) → NoneAdmits live b pages

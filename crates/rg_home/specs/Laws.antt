@@ -7,7 +7,7 @@
 --    shows.
 -- 3. A new area goes to the first page that admits it, there to the lowest free slot. There is none
 --    exactly where the copy has all its pages and none of them admits.
-use Rattle.std.specs.Prelude.{◌≡◌, ℕ, ◌+◌, ◌≤◌, ◌<◌, ◌↔◌, true, false, List, [], length, Option, Some, None, IfSome, if◌then◌else◌}
+use Rattle.std.specs.Prelude.{◌≡◌, ℕ, ◌+◌, ◌≤◌, ◌<◌, ◌↔◌, true, false, not, List, [], length, Option, Some, None, IfSome, if◌then◌else◌}
 use Rattle.rg_base.specs.RowBytes.{row_size}
 use Rattle.rg_base.specs.declared.place.Place.{Place}
 use Rattle.rg_base.specs.declared.row.Row.{Row as TableRow}
@@ -18,7 +18,7 @@ use Rattle.rg_home.specs.Rows.{row_at, lies_at, ChangesHome}
 use Rattle.rg_home.specs.Pages.{page_at, slot_of, applied, FitsAll, TakesAll, row_or_empty}
 use Rattle.rg_home.specs.declared.plan.Plan.{Plan}
 use Rattle.rg_home.specs.declared.plan.Area.{Area}
-use Rattle.rg_home.specs.Plan.{admits, fitting, is_home, new_area, pages_after, planned_change, planned_drop, planned_put, purge_of, purged}
+use Rattle.rg_home.specs.Plan.{admits, fitting, is_home, new_area, pages_after, planned_change, planned_drop, planned_put, purge_of, purged, takes}
 use Rattle.rg_home.specs.Able.{Proper}
 
 -- the row that a plan brings is at its home, no other row changes or moves, and all parts fit
@@ -96,7 +96,8 @@ page_for live pages area =
     if area.purges then purged live (page_at pages area.place.page)
     else page_at pages area.place.page
 
--- the first page that admits, or a new one after the last; and there the lowest free slot
+-- the first page that admits, or a new one after the last, purged only where it takes the area no
+-- other way; and there the lowest free slot
 pub record IsFirstFit
     (live : List ℕ) (b capacity : ℕ) (pages : List (List Slot)) (area : Area)
     : Type 0 where
@@ -107,33 +108,37 @@ pub record IsFirstFit
       area.place.page ≤ length pages → admits live b (page_at pages area.place.page) ≡ true
   pub first :
       (n : ℕ) → 1 ≤ n → n < area.place.page → admits live b (page_at pages n) ≡ false
+  pub needed : area.purges ≡ not (takes b (page_at pages area.place.page))
   pub free : slot_at (page_for live pages area) area.place.slot ≡ Free
   pub lowest :
       (i : ℕ) → i < area.place.slot → is_free (slot_at (page_for live pages area) i) ≡ false
 
--- a new area is the first fit, and there is none exactly where the pages are all there and none
+-- a new area is the first fit, and there is none exactly where the copy has all its pages and none
 -- admits
-abbrev pub FirstFit : Type 0
-FirstFit =
-    (live : List ℕ) (b capacity : ℕ) (pages : List (List Slot)) → length pages ≤ capacity
-    → IfSome (new_area live b capacity pages) (IsFirstFit live b capacity pages)
-    × (new_area live b capacity pages ≡ None
-    → (length pages ≡ capacity) × NoneAdmits live b pages)
-    × (length pages ≡ capacity → NoneAdmits live b pages → new_area live b capacity pages ≡ None)
+pub record FirstFit : Type 0 where
+  pub area :
+      (live : List ℕ) (b capacity : ℕ) (pages : List (List Slot)) → length pages ≤ capacity
+      → IfSome (new_area live b capacity pages) (IsFirstFit live b capacity pages)
+  pub none :
+      (live : List ℕ) (b capacity : ℕ) (pages : List (List Slot)) → length pages ≤ capacity
+      → (new_area live b capacity pages ≡ None
+      ↔ ((length pages ≡ capacity) × NoneAdmits live b pages))
 
 -- neither at home nor in the Over area that it has does the row fit, grown as far as the page
 -- allows
 abbrev pub FitsNowhere : List ℕ → ℕ → List (List Slot) → Place → Type 0
 FitsNowhere live b pages home =
     (fitting live b (capacity_of (slot_of pages home)) (page_at pages home.page) ≡ None)
-    × ((c : ℕ) (o : Place) → slot_of pages home ≡ Pointer c o
-    → fitting live b (capacity_of (slot_of pages o)) (page_at pages o.page) ≡ None)
+    × ((c : ℕ) (over : Place) → slot_of pages home ≡ Pointer c over
+    → fitting live b (capacity_of (slot_of pages over)) (page_at pages over.page) ≡ None)
 
 -- a put is Full exactly where there is no new area, and a change where besides the row fits nowhere
-abbrev pub FullMeans : Type 0
-FullMeans =
-    (live : List ℕ) (b capacity : ℕ) (pages : List (List Slot)) (home : Place)
-    → (planned_put live b pages (new_area live b capacity pages) ≡ None
-    ↔ (new_area live b capacity pages ≡ None))
-    × (planned_change live b capacity pages home ≡ None
-    ↔ (FitsNowhere live b pages home × (new_area live b capacity pages ≡ None)))
+pub record FullMeans : Type 0 where
+  pub put :
+      (live : List ℕ) (b capacity : ℕ) (pages : List (List Slot))
+      → (planned_put live b pages (new_area live b capacity pages) ≡ None
+      ↔ (new_area live b capacity pages ≡ None))
+  pub change :
+      (live : List ℕ) (b capacity : ℕ) (pages : List (List Slot)) (home : Place)
+      → (planned_change live b capacity pages home ≡ None
+      ↔ (FitsNowhere live b pages home × (new_area live b capacity pages ≡ None)))

@@ -81,7 +81,7 @@ area_any by home (Pointer c p) h = absurd h
 area_any by home (DeadRow c u) h = absurd h
 area_any by home (DeadPointer c p u) h = absurd h
 
--- one slot, for a Written of this home that is by the same unit where its home is the same
+-- one slot, for a write at home mine, which is by the same unit where its home is the same
 module _ (by : Option ℕ) (t : ℕ) (home mine : Place) (apart : mine ≡ home → Owned by t) where
   turned_home : (p : Place) (s s2 : Slot) → Turns t home p s s2 → p ≡ mine → KeepsHome by s s2
   turned_home p s s2 (inl free) e h = absurd (subst (IsHomeOf by) free h)

@@ -1,4 +1,4 @@
--- Where rows are locked by key, a unit that writes a row finds no other unit's Written at its home.
+-- Where rows are locked by key, a unit that writes a row finds no other unit's write at its home.
 use Rattle.std.proofs.Common.{◌≡◌, ℕ, Bool, true, false, List, [], ◌∷◌, Option, Some, refl, sym, ◌∙◌, ap, subst}
 use Rattle.rg_base.specs.declared.place.Place.{Place}
 use Rattle.rg_base.specs.declared.row.Row.{Row as TableRow}
@@ -12,7 +12,7 @@ use Rattle.rg_ready.specs.Keyed.{LockedRow, Keyed}
 some_is : (a b : ℕ) → Some a ≡ Some b → a ≡ b
 some_is a b e = cc (e)
 
--- the row at home is locked by nobody but t: then no other unit's Written has this home
+-- the row at home is locked by nobody but t: then no other unit has written at this home
 pub keyed_apart : (locks : ℕ → Option ℕ) (at : Place → Slot) (t : ℕ) (home : Place) (row : TableRow) (cs : List Written)
     → row_at at home ≡ Some row → ((u : ℕ) → locks row.key ≡ Some u → u ≡ t) → Keyed locks at cs → HomeOf t home cs
 keyed_apart locks at t home row [] e free k = tt
@@ -32,7 +32,7 @@ keyed_kept locks at after t home row (c ∷ cs) does l of k =
         subst (LockedRow locks c.owner) (sym (ap (row_at after) is ∙ does.here)) (subst (λ (u : ℕ). LockedRow locks u row) (sym (of.0 is)) l)
     go false e = subst (LockedRow locks c.owner) (sym (does.others c.home e)) k.0
 
--- a write's own Written
+-- a write itself
 pub keyed_own : (locks : ℕ → Option ℕ) (at after : Place → Slot) (c : Written) (row : Option TableRow) (cs : List Written)
     → ChangesHome at after c.home row → LockedRow locks c.owner row → LockedRow locks c.owner c.before → HomeOf c.owner c.home cs → Keyed locks at cs → Keyed locks after (c ∷ cs)
 keyed_own locks at after c row cs does l m of k =

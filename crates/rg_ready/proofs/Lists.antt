@@ -1,4 +1,4 @@
--- The Changes of the live units, with a unit's latest taken away, or with all of a unit's.
+-- The writes of the live units, with a unit's latest taken away, or with all of a unit's.
 use Rattle.std.proofs.Common.{◌≡◌, ◌==◌, ℕ, ◌+◌, Bool, true, false, List, [], ◌∷◌, length, Option, Some, None, refl, sym, ◌∙◌, ap, subst, if◌then◌else◌, arith}
 use Rattle.std.proofs.lemmas.Bool.{eqb-true, eqb-false}
 use Rattle.rg_base.specs.declared.place.Place.{Place}
@@ -11,7 +11,7 @@ use Rattle.rg_home.specs.Undo.{taken_back}
 use Rattle.rg_home.specs.Able.{Undoable, CanUndo, HomeOf, Apart}
 use Rattle.rg_ready.specs.Ready.{latest, latest_when, less, less_when, only, kept_when, without, left_when}
 
--- a Written is apart from each of these
+-- a write is apart from each of these
 abbrev pub AllApart : Written → List Written → Type 0
 AllApart c [] = Unit {0}
 AllApart c (d ∷ cs) = (d.home ≡ c.home → c.owner ≡ d.owner) × AllApart c cs
@@ -80,7 +80,7 @@ module _ (t : ℕ) where
       go true rest = a.1
       go false rest = (home_less d.owner d.home cs a.0, rest)
 
-  -- a unit's latest Written may be taken back first
+  -- a unit's latest write may be taken back first
   swap : (b1 b2 : Bool) (x y r : Option TableRow) → (b1 ≡ true → b2 ≡ true → ⊥) → (if b1 then x else (if b2 then y else r)) ≡ (if b2 then y else (if b1 then x else r))
   swap true true x y r n = absurd (n refl refl)
   swap true false x y r n = refl

@@ -1,4 +1,4 @@
--- One Written of a list undone, as the code goes on.
+-- One write of a list undone, as the code goes on.
 use Rattle.std.proofs.Common.{◌≡◌, ℕ, ◌+◌, ◌≤◌, ◌<◌, List, ◌∷◌, length, drop, get_or, None, sym, ◌∙◌, ap, subst}
 use Rattle.std.proofs.lemmas.List.{drop_more}
 use Rattle.rg_base.specs.declared.place.Place.{Place}

@@ -1,4 +1,4 @@
--- After an undo the others are still possible, and a unit is undone whole, the latest Written first.
+-- After an undo the others are still possible, and a unit is undone whole, the latest write first.
 use Rattle.rg_base.specs.RowBytes.{row_size}
 use Rattle.std.proofs.Common.{◌≡◌, inl, inr, ℕ, ◌≤◌, Bool, true, false, List, [], ◌∷◌, length, Option, Some, None, refl, ◌∙◌, ap, if◌then◌else◌, arith}
 use Rattle.rg_base.specs.declared.place.Place.{Place}
@@ -65,7 +65,7 @@ module _ (c : Written) (pages : List (List Slot)) (proper : Proper pages) (can :
     holds = reuses_hold c.owner (row_or_empty c.before) c.home pages _ reuses proper.holds;
   }
 
-  -- every other undo stays possible: of this unit, and of Changes of other homes
+  -- every other undo stays possible: of this unit, and of writes at other homes
   pub undo_keeps : (by : Option ℕ) (d : Written) → (d.home ≡ c.home → Owned by c.owner) → Undoable by (slot_of pages) d → Undoable by (slot_of (undone pages c)) d
   undo_keeps by d apart u = parts_keep by c.owner c.home d apart (row_or_empty c.before) pages _ (in_turn_weaker _ _ (reuse_turns c.owner c.home) c.owner (row_or_empty c.before) pages _ reuses) u
 

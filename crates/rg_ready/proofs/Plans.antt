@@ -22,7 +22,7 @@ use Rattle.rg_home.specs.Undo.{over_before}
 use Rattle.rg_ready.proofs.Parts.{Each}
 use Rattle.rg_ready.proofs.Ends.{purge_ends, ends_hold}
 use Rattle.rg_home.proofs.Takes.{fitting_holds}
-use Rattle.rg_ready.proofs.Write.{Writes, Written, row_stays, moved_home, moved_stays, moved_on, row_moves}
+use Rattle.rg_ready.proofs.Write.{Writes, Reversible, row_stays, moved_home, moved_stays, moved_on, row_moves}
 
 module _ (t : ℕ) (after : TableRow) (live : List ℕ) (pages : List (List Slot)) (tied : Tied (slot_of pages)) (holds : AllHold (slot_of pages)) (home : Place) where
   abbrev then_purged : ℕ → Bool → List (List Slot)
@@ -132,11 +132,11 @@ module _ (t : ℕ) (after : TableRow) (live : List ℕ) (pages : List (List Slot
       go (Some f) h = plan_of (to_home live pages home f) home.page f.purges (low_of (slot_of pages home) refl is) refl refl (home_plan f (slot_of pages home) refl is h.0 h.1)
       go None h = away_plan capacity (slot_of pages home) refl is
 
-  drop_plan : (s : Slot) → slot_of pages home ≡ s → is_home s ≡ true → Written t after pages tied holds home (planned_drop pages home s).parts (home_row (slot_of pages) s)
+  drop_plan : (s : Slot) → slot_of pages home ≡ s → is_home s ≡ true → Reversible t after pages tied holds home (planned_drop pages home s).parts (home_row (slot_of pages) s)
   drop_plan (Row c x) e is = row_stays t after pages tied holds home c x (Op.DeadRow c) e refl (omega arith) tt
   drop_plan (Pointer c o) e is =
       let was = pointed (slot_of pages) home o c tied e in
-      subst (Written t after pages tied holds home (planned_drop pages home (Pointer c o)).parts) (sym (ap over_row was.2))
+      subst (Reversible t after pages tied holds home (planned_drop pages home (Pointer c o)).parts) (sym (ap over_row was.2))
       (moved_home t after pages tied holds home c o e was.0 (capacity_of (slot_of pages o)) was.1 (Op.DeadPointer c o) (omega (arith, ap capacity_of was.2)) refl was.2 refl (omega arith) tt)
   drop_plan Free e is = absurd (cc (is))
   drop_plan (Over a b d) e is = absurd (cc (is))
@@ -144,5 +144,5 @@ module _ (t : ℕ) (after : TableRow) (live : List ℕ) (pages : List (List Slot
   drop_plan (DeadPointer a b d) e is = absurd (cc (is))
   drop_plan (DeadOver a b d) e is = absurd (cc (is))
 
-  pub drop_ours : is_home (slot_of pages home) ≡ true → Written t after pages tied holds home (planned_drop pages home (slot_of pages home)).parts (row_at (slot_of pages) home)
+  pub drop_ours : is_home (slot_of pages home) ≡ true → Reversible t after pages tied holds home (planned_drop pages home (slot_of pages home)).parts (row_at (slot_of pages) home)
   drop_ours is = drop_plan (slot_of pages home) refl is

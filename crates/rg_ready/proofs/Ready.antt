@@ -94,7 +94,7 @@ module _ (live : List ℕ) (base : Place → Option TableRow) (t : ℕ) where
   can_undone c pages proper can [] a u = tt
   can_undone c pages proper can (d ∷ ds) a u = (undo_keeps c pages proper can (Some d.owner) d a.0 u.0, u.1, can_undone c pages proper can ds a.1 u.2)
 
-  -- a unit's latest Written
+  -- a unit's latest write
   pub ready_undone : (pages : List (List Slot)) (cs : List Written) (c : Written) → Ready live pages cs base → latest t cs ≡ Some c → Ready live (undone pages c) (less t cs) base
   ready_undone pages cs c r e =
       let can = undoable_any (Some c.owner) (slot_of pages) c (latest_can t live (slot_of pages) cs c r.can e) in
@@ -105,7 +105,7 @@ module _ (live : List ℕ) (base : Place → Option TableRow) (t : ℕ) where
         back = λ p. ap (taken_back (less t cs) p) (row_changed (slot_of pages) (slot_of (undone pages c)) c.home c.before p (undo_does c pages r.proper can)) ∙ sym (back_less t cs c p (row_at (slot_of pages) p) r.apart e) ∙ r.back p;
       }
 
-  -- a unit, the latest Written first
+  -- a unit, the latest write first
   none_left : (pages : List (List Slot)) (cs : List Written) → Ready live pages cs base → latest t cs ≡ None → Ready live (undone_all pages (only t cs)) (without t cs) base
   none_left pages cs r e = subst (λ (ds : List Written). Ready live (undone_all pages ds) (without t cs) base) (sym (only_none t cs e)) (subst (λ (ds : List Written). Ready live pages ds base) (sym (without_none t cs e)) r)
 
@@ -136,7 +136,7 @@ module _ (live : List ℕ) (base : Place → Option TableRow) (t : ℕ) where
       go true rest = (undoable_any (Some c.owner) at c can.0, rest)
       go false rest = rest
 
-  -- a unit that ends takes its Changes alone with it; the rows at its homes are the committed ones then
+  -- a unit that ends takes its own writes with it; the rows at its homes are the committed ones then
   pub ready_ended : (pages : List (List Slot)) (cs : List Written) → Ready live pages cs base → Ready live pages (without t cs) (λ p. taken_back (without t cs) p (row_at (slot_of pages) p))
   ready_ended pages cs r = record {
     proper = r.proper;
@@ -145,7 +145,7 @@ module _ (live : List ℕ) (base : Place → Option TableRow) (t : ℕ) where
     back = λ p. refl;
   }
 
--- the live units are fewer, or more, where all that have Changes stay
+-- the live units are fewer, or more, where all that have writes stay
 
 can_live : (live live2 : List ℕ) (t : ℕ) → ((u : ℕ) → IsLive live u → (u ≡ t → ⊥) → IsLive live2 u) → (at : Place → Slot) (cs : List Written) → CanUndo live at cs → CanUndo live2 at (without t cs)
 can_live live live2 t f at [] can = tt

@@ -19,6 +19,7 @@ use Rattle.rg_home.proofs.Fit.{Takes, new_takes, put_fits}
 use Rattle.rg_home.specs.Written.{Written}
 use Rattle.rg_home.specs.Able.{IsHomeOf, Undoable, IsLive, CanUndo, HomeOf}
 use Rattle.rg_ready.specs.Ready.{Ready}
+use Rattle.rg_ready.specs.Laws.{change_of}
 use Rattle.rg_ready.proofs.Parts.{Each}
 use Rattle.rg_ready.proofs.Write.{Writes}
 use Rattle.rg_ready.proofs.Plans.{IsOurs, change_ours, drop_ours}
@@ -28,10 +29,6 @@ use Rattle.rg_ready.proofs.Ready.{ready_purged, ready_written, own_kept}
 pub both : {A : Type 0} (P Q R : A → Type 0) (o : Option A) → ((x : A) → P x → Q x → R x) → IfSome o P → IfSome o Q → IfSome o R
 both P Q R None f p q = tt
 both P Q R (Some x) f p q = f x p q
-
--- the Written of a plan
-abbrev pub change_of : ℕ → Place → Option TableRow → List Part → Written
-change_of t home before parts = record { owner = t; home = home; before = before; parts = parts }
 
 pub home_alive : (by : Option ℕ) (s : Slot) → is_home s ≡ true → IsHomeOf by s × (is_dead s ≡ false)
 home_alive by (Row c b) e = (tt, refl)
