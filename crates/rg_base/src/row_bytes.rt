@@ -4,7 +4,7 @@
 // 2. What is read is the row that the bytes spell. A refusal names the first test that fails: the
 //    number of bytes, then the length of the text, then each byte of the text.
 // 3. Writing into room that is there takes no memory.
-ghost use Rattle.std.specs.Prelude.{◌≡◌, ◌≤◌, ◌<◌, ◌++◌, IfOk, IfErr, length, take, drop, slice_index};
+ghost use Rattle.std.specs.Prelude.{◌≡◌, ◌≤◌, ◌<◌, ◌^◌, ◌++◌, IfOk, IfErr, length, take, drop, slice_index};
 ghost use Rattle.std.specs.List.{AllByRecursion};
 ghost use Rattle.rg_base.specs.Text.{IsLetter};
 ghost use Rattle.rg_base.specs.RowBytes.{row_bytes, row_of, row_size, RowFaultIs};
@@ -43,14 +43,15 @@ impl From<NoMemory> for RowFault {
 }
 
 impl Row {
-    /// The number of its bytes: 26 to 826.
+    /// The number of its bytes: 26 to 826. They show the row.
     pub fn size(&self) -> u16
         ensures size { result ≡ row_size self.now }
         ensures low { 26 ≤ result }
         ensures high { result ≤ 826 }
+        ensures back { row_of (row_bytes self.now) ≡ self.now }
     {
-        let text = self.text.as_slice();
-        26 + text.len() as u16
+        are_numbers(self.key, self.clus, self.cat);
+        26 + self.text.as_slice().len() as u16
     }
 
     /// Writes its bytes at the front of `into`. It takes no memory.
@@ -67,6 +68,15 @@ impl Row {
         put_u16(into, 24, text.len() as u16);
         put_bytes(into, ROW_HEAD, text);
     }
+}
+
+// Says in a contract that the numbers of a row are below 2^64.
+fn are_numbers(key: u64, clus: u64, cat: u64)
+    ensures key { key < 2 ^ 64 }
+    ensures clus { clus < 2 ^ 64 }
+    ensures cat { cat < 2 ^ 64 }
+{
+    let _ = (key, clus, cat);
 }
 
 /// The bytes of a row.

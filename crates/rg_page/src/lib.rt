@@ -1,0 +1,13 @@
+//! Pages of slots, and the frames through which pages are read and changed.
+#![tactic(auto)]
+
+/// The bytes of a page's rows.
+mod areas;
+/// What plans read of a slot.
+pub mod header;
+/// A page.
+pub mod page;
+/// What lies in a slot.
+pub mod slot;
+/// What plans read of a page.
+pub mod summary;
