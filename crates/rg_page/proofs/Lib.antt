@@ -6,3 +6,4 @@ pub mod Room
 pub mod Alter
 pub mod Setting
 pub mod Making
+pub mod Contents

@@ -6,3 +6,5 @@ pub mod Laid
 pub mod Summed
 pub mod Shown
 pub mod Changed
+pub mod Seen
+pub mod Listed

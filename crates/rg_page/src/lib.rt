@@ -3,8 +3,12 @@
 
 /// The bytes of a page's rows.
 mod areas;
+/// The pages of a copy, as they are read and changed.
+pub mod frames;
 /// What plans read of a slot.
 pub mod header;
+/// All pages in memory.
+pub mod list;
 /// A page.
 pub mod page;
 /// What lies in a slot.

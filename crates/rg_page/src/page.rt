@@ -32,11 +32,14 @@ use rg_base::tran::Tran;
 use std::alloc::Global;
 use std::marker::Model;
 
-/// A part does not fit its page: it is of another page, brings a row that is not there or that its
-/// area does not hold, or would take the page beyond its bytes.
+/// Why a part is not applied.
 #[derive(Clone, Copy, Debug, PartialEq, Eq, thiserror::Error)]
-#[error("a part that does not fit its page")]
-pub struct Unfit;
+pub enum PartFault {
+    /// It does not fit its page: it is of another page, brings a row that is not there or that its
+    /// area does not hold, or would take the page beyond its bytes.
+    #[error("a part that does not fit its page")]
+    Unfit,
+}
 
 /// A page of the table space. It is seen as its copy, its number, the position of the last record
 /// that changed it, and its slots.
@@ -81,6 +84,13 @@ impl Page {
         ensures { result ≡ self.now.copy }
     {
         self.copy
+    }
+
+    /// Gives it another number.
+    pub(crate) fn set_number(&mut self, number: u32)
+        ensures { self.new ≡ record self.old { number = number } }
+    {
+        self.number = number;
     }
 
     /// Its number, from 1.
@@ -143,21 +153,21 @@ impl Page {
         tran: Tran,
         after: Option<&Row>,
         position: Position,
-    ) -> Result<(), Unfit>
+    ) -> Result<(), PartFault>
         ensures ok { OnOk result (self.new ≡ changed self.old part.now tran.0 (option_copied after.entry) position.0) }
         ensures fits { OnOk result (PartFits self.old.number self.old.slots tran.0 (option_copied after.entry) part.now) }
         ensures unfit { OnErr result (PartFits self.old.number self.old.slots tran.0 (option_copied after.entry) part.now → ⊥) }
         ensures err { OnErr result (self.new ≡ self.old) }
     {
         if part.page != self.number {
-            return Err(Unfit);
+            return Err(PartFault::Unfit);
         }
         if !takes(part.op, after) {
-            return Err(Unfit);
+            return Err(PartFault::Unfit);
         }
         let header = Header::of(part.op, tran);
         if !self.summary.fits(part.slot, &header) {
-            return Err(Unfit);
+            return Err(PartFault::Unfit);
         }
         self.set(part.slot, header, other_of(part.op), row_of(part.op, after));
         self.position = position.0;
