@@ -1,7 +1,7 @@
 ghost use Rattle.std.specs.Prelude.{◌≡◌, ◌==◌, ◌<◌, ◌^◌, IsTrue, ◌↔◌};
 ghost use Rattle.std.specs.List.{list_any};
 ghost use Rattle.rg_home.specs.Pages.{made, row_or_empty};
-ghost use Rattle.rg_home.specs.Plan.{swept};
+ghost use Rattle.rg_home.specs.Plan.{is_ended, swept};
 ghost use Rattle.rg_home.specs.Slot.{Free};
 ghost use Rattle.rg_home.specs.Slots.{capacity_of, is_free};
 ghost use Rattle.rg_page.specs.Bare.{bare, numbers_of};
@@ -137,6 +137,16 @@ impl Header {
         match self.kind {
             Kind::Free => true,
             _ => false,
+        }
+    }
+
+    /// Whether it is a dead slot whose owner has ended.
+    pub fn is_ended(&self, live: &[Tran]) -> bool
+        ensures { result ≡ is_ended (numbers_of live.now) self.now }
+    {
+        match self.kind {
+            Kind::Free | Kind::Row | Kind::Pointer | Kind::Over => false,
+            Kind::DeadRow | Kind::DeadPointer | Kind::DeadOver => !has(live, self.owner),
         }
     }
 

@@ -9,6 +9,8 @@ pub mod frames;
 pub mod header;
 /// All pages in memory.
 pub mod list;
+/// What a page offers a write.
+pub mod offers;
 /// A page.
 pub mod page;
 /// What lies in a slot.

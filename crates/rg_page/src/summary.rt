@@ -112,6 +112,29 @@ impl Summary {
         self.headers.len() as u16
     }
 
+    /// The header of slot i, counted from 0.
+    pub fn header(&self, i: u16) -> &Header
+        requires { i < length self.now }
+        ensures { result.now ≡ slot_at self.now i }
+    {
+        &self.headers[i as usize]
+    }
+
+    /// An equal summary.
+    pub fn copy(&self, alloc: Global) -> Result<Summary, NoMemory>
+        ensures { IfOk result (λ summary. summary ≡ self.now) }
+    {
+        let mut headers = Vec::with_capacity(alloc, 226)?;
+        for i in 0..self.len() {
+            push(&mut headers, self.header(i).copy());
+        }
+        Ok(Summary {
+            headers,
+            taken: self.taken,
+            most: self.most,
+        })
+    }
+
     /// What lies in slot i, where it names this place and these are the bytes of its row.
     pub fn slot<'a>(&self, i: u16, other: Place, bytes: &'a [u8]) -> Slot<'a>
         requires { i < length self.now }

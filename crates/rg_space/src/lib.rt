@@ -1,0 +1,7 @@
+//! The table space: plans of writes, found over summaries of pages, and how they are applied.
+#![tactic(auto)]
+
+/// The summaries of all pages.
+pub mod index;
+/// Plans, as the summaries tell them.
+pub mod moves;
