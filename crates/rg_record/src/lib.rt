@@ -1,0 +1,5 @@
+//! The records of the log and their bytes.
+#![tactic(auto)]
+
+/// Records.
+pub mod record;
