@@ -1,0 +1,5 @@
+pub mod Again
+pub mod Loop
+pub mod Pad
+pub mod Rows
+pub mod Sizes

@@ -1,0 +1,89 @@
+ghost use Rattle.std.specs.Prelude.{◌≡◌, ◌≤◌, ◌+◌, ◌*◌, length};
+ghost use Rattle.rg_record.specs.Spelled.{IsKind, IsRecord, AreFrees, greatest};
+ghost use Rattle.rg_record.specs.Spelling.{op_size, parts_size, row_field_size, kind_size, record_bytes, record_size};
+
+use crate::record::{Kind, Record};
+use rg_base::part::{Part, SlotOp};
+use rg_base::row::Row;
+
+// The bytes of an operation.
+#[tactic(auto, unfolding(crate::specs::Spelling::op_size))]
+fn op_size(op: SlotOp) -> u32
+    ensures size { result ≡ op_size op }
+    ensures high { result ≤ 9 }
+{
+    match op {
+        SlotOp::Free => 1,
+        SlotOp::Row { .. } | SlotOp::DeadRow { .. } => 3,
+        SlotOp::Pointer { .. }
+        | SlotOp::Over { .. }
+        | SlotOp::DeadPointer { .. }
+        | SlotOp::DeadOver { .. } => 9,
+    }
+}
+
+// The bytes of parts.
+fn parts_size(parts: &[Part]) -> u32
+    requires { length parts.now ≤ 225 }
+    ensures size { result ≡ parts_size parts.now }
+    ensures high { result ≤ 15 * length parts.now }
+    ensures frees { AreFrees parts.now → result ≡ 7 * length parts.now }
+{
+    let mut size = 0;
+    for part in parts {
+        size += 6 + op_size(part.op);
+    }
+    size
+}
+
+// The bytes of a row behind its length.
+#[tactic(auto, unfolding(crate::specs::Spelling::row_field_size))]
+fn row_field_size(row: &Option<Row>) -> u32
+    ensures size { result ≡ row_field_size row.now }
+    ensures high { result ≤ 828 }
+{
+    match row {
+        None => 2,
+        Some(row) => 2 + row.size() as u32,
+    }
+}
+
+// The bytes of a kind with what it has.
+#[tactic(auto, unfolding(crate::specs::Spelling::kind_size))]
+fn kind_size(kind: &Kind) -> u32
+    requires { IsKind kind.now }
+    ensures size { result ≡ kind_size kind.now }
+    ensures low { 1 ≤ result }
+    ensures high { 20 + result ≤ greatest kind.now }
+{
+    match kind {
+        Kind::Change {
+            before,
+            after,
+            parts,
+            ..
+        } => {
+            8 + row_field_size(before) + row_field_size(after) + parts_size(parts.as_slice())
+        }
+        Kind::Undo { after, parts, .. } => {
+            16 + row_field_size(after) + parts_size(parts.as_slice())
+        }
+        Kind::Commit | Kind::RolledBack => 1,
+        Kind::Purge { parts } => 2 + parts_size(parts.as_slice()),
+        Kind::Switch { .. } => 6,
+    }
+}
+
+impl Record {
+    /// The number of its bytes, without memory.
+    #[tactic(auto, using(crate::proofs::Sizes::record_sizes), unfolding(crate::specs::Spelling::record_size))]
+    pub fn size(&self) -> u32
+        requires { IsRecord self.now }
+        ensures size { result ≡ record_size self.now }
+        ensures bytes { length (record_bytes self.now) ≡ record_size self.now }
+        ensures low { 21 ≤ result }
+        ensures high { result ≤ greatest self.now.kind }
+    {
+        20 + kind_size(&self.kind)
+    }
+}
