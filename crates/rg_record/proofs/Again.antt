@@ -1,5 +1,5 @@
 -- What a spelling is read as: the value that it spells.
-use Rattle.std.proofs.Common.{◌≡◌, ◌≤◌, ◌<◌, ◌^◌, ℕ, suc, zero, ◌+◌, ltb, eqb, Bool, true, false, IsTrue, List, [], ◌∷◌, ◌++◌, length, take, drop, Option, Some, None, refl, sym, ap, subst, ◌∙◌, arith, append_assoc}
+use Rattle.std.proofs.Common.{◌≡◌, ◌<◌, ◌^◌, ℕ, suc, ltb, false, List, [], ◌∷◌, ◌++◌, length, Option, Some, None, refl, sym, ap, subst, ◌∙◌, arith, append_assoc}
 use Rattle.std.specs.List.{AllByRecursion}
 use Rattle.std.proofs.lemmas.Bool.{le-ltb}
 use Rattle.std.proofs.lemmas.List.{append-nil, drop_at, take_at, length-append}
@@ -15,8 +15,8 @@ use Rattle.rg_base.proofs.RowBytes.{length-row_bytes}
 use Rattle.rg_record.specs.declared.record.Kind.{Kind}
 use Rattle.rg_record.specs.declared.record.Kind.TheVariants.{Change, Undo, Commit, RolledBack, Purge, Switch}
 use Rattle.rg_record.specs.declared.record.Record.{Record}
-use Rattle.rg_record.specs.Fits.{FitsPlace, FitsOp, FitsPart, FitsRow, FitsOption, FitsKind, Fits}
-use Rattle.rg_record.specs.Reading.{◌>>=◌, Refuses, code_at, number_at, place_at, wide_at, op_at, part_at, parts_at, parts_field_at, row_in, row_field_at, change_at, undo_at, purge_at, switch_at, kind_at, record_at}
+use Rattle.rg_record.specs.Fits.{FitsPlace, FitsOp, FitsPart, FitsOption, FitsKind, Fits}
+use Rattle.rg_record.specs.Reading.{◌>>=◌, Refuses, number_at, place_at, wide_at, op_at, part_at, parts_at, parts_field_at, row_in, row_field_at, change_at, undo_at, purge_at, switch_at, kind_at, record_at}
 use Rattle.rg_record.specs.Spelled.{IsRecord}
 use Rattle.rg_record.specs.Spelling.{place_bytes, op_bytes, part_bytes, parts_bytes, parts_field, row_field, kind_bytes, record_bytes}
 use Rattle.rg_record.specs.Told.{NoRecordHas, IsNone}
@@ -68,7 +68,7 @@ part_again : (part : Part) (rest : List ℕ) → FitsPart part
 unfolding part_at
 part_again part rest fits =
     let regrouped : part_bytes part ++ rest
-        ≡ field 4 part.page ++ (field 2 part.slot ++ (op_bytes part.op ++ rest)) =
+    ≡ field 4 part.page ++ (field 2 part.slot ++ (op_bytes part.op ++ rest)) =
     append_assoc (field 4 part.page) (field 2 part.slot ++ op_bytes part.op) rest
     ∙ ap (λ (x : List ℕ). field 4 part.page ++ x)
     (append_assoc (field 2 part.slot) (op_bytes part.op) rest) in

@@ -23,7 +23,7 @@ unfolding parts_at
 goes_on front count i bytes part after total lt h so_far =
     let k : count - i ≡ suc (count - (i + 1)) = omega arith in
     let one : with_front front (parts_at (count - i) bytes)
-        ≡ with_front (front ++ part ∷ []) (parts_at (count - (i + 1)) after) =
+    ≡ with_front (front ++ part ∷ []) (parts_at (count - (i + 1)) after) =
     rw (k, h) (regroup front part (parts_at (count - (i + 1)) after)) in
     sym one ∙ so_far
 

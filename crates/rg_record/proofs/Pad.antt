@@ -11,8 +11,11 @@ pub length-filled : (bytes : List ℕ) (used : ℕ) → used ≤ 4096 → bytes 
 length-filled bytes used le is =
     let xs = take used bytes in
     omega (
-      arith, ap (λ (l : List ℕ). length l) is, length-append xs (replicate (4096 - length xs) 0),
-      length-replicate {A = ℕ} (4096 - length xs) 0, length-take used bytes
+      arith,
+      ap (λ (l : List ℕ). length l) is,
+      length-append xs (replicate (4096 - length xs) 0),
+      length-replicate {A = ℕ} (4096 - length xs) 0,
+      length-take used bytes,
     )
 
 -- where a piece is put behind the bytes so far, zeros follow it

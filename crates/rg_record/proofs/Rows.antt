@@ -1,5 +1,5 @@
 -- Which bytes are those of a row.
-use Rattle.std.proofs.Common.{◌≡◌, ◌≤◌, ◌<◌, ◌^◌, ℕ, suc, zero, ◌+◌, ◌-◌, Bool, true, false, ◌&&◌, eqb, leb, List, [], ◌∷◌, ◌++◌, length, take, drop, get_or, Option, Some, None, refl, sym, ap, subst, ◌∙◌, arith, length-append}
+use Rattle.std.proofs.Common.{◌≡◌, ◌≤◌, ◌<◌, ◌^◌, ℕ, suc, zero, ◌+◌, ◌-◌, Bool, true, false, ◌&&◌, eqb, leb, List, [], ◌∷◌, ◌++◌, length, take, drop, get_or, Some, None, refl, sym, ap, subst, ◌∙◌, arith, length-append}
 use Rattle.std.specs.Int.{w16, from_be_bytes}
 use Rattle.std.specs.List.{list_all, AllByRecursion}
 use Rattle.std.proofs.lemmas.List.{append_assoc, drop_at, length-drop, length-take-le, get_or-drop}
@@ -11,8 +11,8 @@ use Rattle.rg_base.specs.declared.row_bytes.RowFault.{RowFault}
 use Rattle.rg_base.specs.declared.row_bytes.RowFault.TheVariants.{Short, Length, Byte}
 use Rattle.rg_base.specs.declared.row_bytes.RowFault.TheVariants as row_fault
 use Rattle.rg_base.specs.Field.{field}
-use Rattle.rg_base.specs.RowBytes.{row_bytes, row_of, row_size, HasLength, IsFirstOther, RowFaultIs}
-use Rattle.rg_base.specs.Text.{IsLetter, IsText}
+use Rattle.rg_base.specs.RowBytes.{row_bytes, row_of, HasLength, RowFaultIs}
+use Rattle.rg_base.specs.Text.{IsLetter}
 use Rattle.rg_base.proofs.Fields.{length-field, field_of_2, small_drop, small_take}
 use Rattle.rg_base.proofs.RowBytes.{length-row_bytes, row_of-row_bytes}
 use Rattle.rg_record.specs.Fits.{FitsRow}
@@ -117,7 +117,7 @@ tests bytes is =
 
 field_back : (bytes : List ℕ) (n : ℕ) → length bytes ≡ 2 → ((i : ℕ) → get_or bytes i 0 < 256)
     → n ≡ big_number 2 bytes → field 2 n ≡ bytes
-field_back bytes n two small e = 
+field_back bytes n two small e =
     let same : big_number 2 bytes ≡ from_be_bytes w16 bytes = omega arith in
     field_of_2 bytes n two small (e ∙ same)
 

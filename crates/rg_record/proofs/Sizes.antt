@@ -1,5 +1,5 @@
 -- How many bytes the pieces of a record have.
-use Rattle.std.proofs.Common.{◌≡◌, ◌≤◌, ◌<◌, ℕ, suc, zero, ◌+◌, ◌*◌, Bool, true, false, ◌&&◌, eqb, IsTrue, List, [], ◌∷◌, ◌++◌, length, drop, get_or, Option, Some, None, refl, sym, ap, ◌∙◌, arith, length-append, append_assoc}
+use Rattle.std.proofs.Common.{◌≡◌, ◌≤◌, ◌<◌, ℕ, suc, zero, ◌+◌, ◌*◌, Bool, true, false, ◌&&◌, eqb, List, [], ◌∷◌, ◌++◌, length, drop, get_or, Option, Some, None, refl, ap, ◌∙◌, arith, length-append, append_assoc}
 use Rattle.std.specs.List.{list_all}
 use Rattle.std.proofs.lemmas.List.{drop_more}
 use Rattle.std.proofs.Math.Seq.{drop-nil}
@@ -14,7 +14,8 @@ use Rattle.rg_base.proofs.RowBytes.{length-row_bytes}
 use Rattle.rg_record.specs.declared.record.Kind.{Kind}
 use Rattle.rg_record.specs.declared.record.Kind.TheVariants.{Change, Undo, Commit, RolledBack, Purge, Switch}
 use Rattle.rg_record.specs.declared.record.Record.{Record}
-use Rattle.rg_record.specs.Spelled.{is_free, frees_on, AreFrees}
+use Rattle.rg_record.specs.Fits.{FitsOption, FitsKind, Fits}
+use Rattle.rg_record.specs.Spelled.{is_free, frees_on, AreFrees, IsKind, IsRecord, greatest}
 use Rattle.rg_record.specs.Spelling.{op_bytes, op_size, part_size, part_bytes, parts_bytes, parts_size, row_field, row_field_size, kind_bytes, kind_size, record_bytes, record_size}
 
 -- one part more
@@ -116,3 +117,56 @@ length-record_bytes entry =
     simp (length-append, length-field) (omega (arith, k))
 
 pub ruleset record_sizes = length-record_bytes
+
+op_size_high : (op : SlotOp) → op_size op ≤ 9
+unfolding op_size
+op_size_high slot_op.Free = omega arith
+op_size_high (slot_op.Row capacity) = omega arith
+op_size_high (slot_op.Pointer capacity other) = omega arith
+op_size_high (slot_op.Over capacity other) = omega arith
+op_size_high (slot_op.DeadRow capacity) = omega arith
+op_size_high (slot_op.DeadPointer capacity other) = omega arith
+op_size_high (slot_op.DeadOver capacity other) = omega arith
+
+parts_size_high : (parts : List Part) → parts_size parts ≤ 15 * length parts
+unfolding parts_size
+parts_size_high [] = omega arith
+parts_size_high (part ∷ parts) = omega (arith, op_size_high part.op, parts_size_high parts)
+
+row_field_size_high : (row : Option Row) → FitsOption row → row_field_size row ≤ 828
+unfolding row_field_size
+row_field_size_high None fits = omega arith
+row_field_size_high (Some row) fits = omega (arith, fits.text.short)
+
+kind_size_high : (kind : Kind) → IsKind kind → FitsKind kind → 20 + kind_size kind ≤ greatest kind
+unfolding kind_size
+kind_size_high (Change home before after parts) is fits =
+    omega (
+      arith,
+      row_field_size_high before fits.1,
+      row_field_size_high after fits.2,
+      parts_size_high parts,
+      is.1,
+    )
+kind_size_high (Undo next home after parts) is fits =
+    omega (arith, row_field_size_high after fits.2, parts_size_high parts, is.1)
+kind_size_high Commit is fits = omega arith
+kind_size_high RolledBack is fits = omega arith
+kind_size_high (Purge parts) is fits = omega (arith, frees_size parts is.1, is.0)
+kind_size_high (Switch copy pages) is fits = omega arith
+
+-- no record has more bytes than the greatest of its kind
+pub record_size_high : (entry : Record) → IsRecord entry → Fits entry → record_size entry ≤ greatest entry.kind
+unfolding record_size
+record_size_high entry is fits = kind_size_high entry.kind is.0 fits.kind
+
+greatest_high : (kind : Kind) → greatest kind ≤ 1729
+greatest_high (Change home before after parts) = omega arith
+greatest_high (Undo next home after parts) = omega arith
+greatest_high Commit = omega arith
+greatest_high RolledBack = omega arith
+greatest_high (Purge parts) = omega arith
+greatest_high (Switch copy pages) = omega arith
+
+pub record_size_limit : (entry : Record) → IsRecord entry → Fits entry → record_size entry ≤ 1729
+record_size_limit entry is fits = omega (arith, record_size_high entry is fits, greatest_high entry.kind)

@@ -66,8 +66,8 @@ op_at bytes = do
   if code.0 == 0 then Some (slot_op.Free, code.1) else do
     capacity ← number_at 2 code.1
     if code.0 == 1 then Some (slot_op.Row capacity.0, capacity.1)
-      else (if code.0 == 4 then Some (slot_op.DeadRow capacity.0, capacity.1)
-      else wide_at code.0 capacity.0 capacity.1)
+        else (if code.0 == 4 then Some (slot_op.DeadRow capacity.0, capacity.1)
+        else wide_at code.0 capacity.0 capacity.1)
 
 unfoldable pub part_at : List ℕ → Option (Part × List ℕ)
 part_at bytes = do
@@ -147,11 +147,11 @@ unfoldable pub kind_at : List ℕ → Option Kind
 kind_at bytes = do
   code ← code_at bytes
   if code.0 == 1 then change_at code.1
-    else (if code.0 == 2 then undo_at code.1
-    else (if code.0 == 3 then Some Commit
-    else (if code.0 == 4 then Some RolledBack
-    else (if code.0 == 5 then purge_at code.1
-    else (if code.0 == 6 then switch_at code.1 else None)))))
+      else (if code.0 == 2 then undo_at code.1
+      else (if code.0 == 3 then Some Commit
+      else (if code.0 == 4 then Some RolledBack
+      else (if code.0 == 5 then purge_at code.1
+      else (if code.0 == 6 then switch_at code.1 else None)))))
 
 unfoldable pub record_at : List ℕ → Option Record
 record_at bytes = do

@@ -18,4 +18,6 @@ pub mod size;
 /// Which records have a spelling.
 pub mod spelled;
 /// Writing a record.
+#[cfg(test)]
+mod tests;
 pub mod write;

@@ -273,6 +273,7 @@ fn record_at(alloc: Global, bytes: &[u8]) -> Result<Record, RecordFault>
 pub fn read_record(alloc: Global, bytes: &[u8]) -> Result<Record, RecordFault>
     ensures spelled { IfOk result IsRecord }
     ensures bytes { IfOk result (λ entry. record_bytes entry ≡ bytes.now) }
+    ensures fits { IfOk result Fits }
     ensures fault { IfErr result (IsNone bytes.now) }
 {
     let entry = record_at(alloc, bytes)?;
@@ -285,5 +286,6 @@ pub fn read_record(alloc: Global, bytes: &[u8]) -> Result<Record, RecordFault>
     if again.as_slice() != bytes {
         return Err(RecordFault::NotARecord);
     }
+    entry.fits();
     Ok(entry)
 }

@@ -62,9 +62,7 @@ fn kind_size(kind: &Kind) -> u32
             after,
             parts,
             ..
-        } => {
-            8 + row_field_size(before) + row_field_size(after) + parts_size(parts.as_slice())
-        }
+        } => { 8 + row_field_size(before) + row_field_size(after) + parts_size(parts.as_slice()) }
         Kind::Undo { after, parts, .. } => {
             16 + row_field_size(after) + parts_size(parts.as_slice())
         }

@@ -1,4 +1,4 @@
-use Rattle.std.proofs.Common.{arith, rules}
+use Rattle.std.proofs.Common.{rules}
 use Rattle.rg_record.proofs.Rows.{row_read, row_refused}
 use Rattle.rg_record.proofs.read.row_in.Goals as goal
 

@@ -1,7 +1,7 @@
-use Rattle.std.proofs.Common.{◌≡◌, ◌++◌, ◌∷◌, List, ℕ, [], length, ◌∙◌, ap, sym, arith, append_assoc}
+use Rattle.std.proofs.Common.{◌++◌, List, ℕ, ◌∙◌, ap, sym, arith}
 use Rattle.std.proofs.lemmas.List.{append-nil}
 use Rattle.rg_base.specs.declared.part.SlotOp.TheVariants.{Free}
-use Rattle.rg_record.specs.Spelling.{parts_bytes, parts_size, part_bytes}
+use Rattle.rg_record.specs.Spelling.{parts_bytes, parts_size}
 use Rattle.rg_record.proofs.Sizes.{parts_size_at, parts_bytes_at, parts_end, piece_added}
 use Rattle.rg_record.proofs.write.add_parts.Goals as goal
 

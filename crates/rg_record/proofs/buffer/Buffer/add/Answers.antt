@@ -1,7 +1,6 @@
-use Rattle.std.proofs.Common.{◌≡◌, ◌+◌, ◌≤◌, ◌++◌, ℕ, List, length, take, refl, sym, ◌∙◌, ap, arith, rules}
+use Rattle.std.proofs.Common.{◌≡◌, ◌+◌, ◌≤◌, ℕ, List, length, take, refl, sym, ◌∙◌, ap, arith, rules}
 use Rattle.std.proofs.lemmas.List.{length-take, length-append}
 use Rattle.std.proofs.lemmas.Slice.{take-put_mid}
-use Rattle.rg_record.specs.Filled.{padded}
 use Rattle.rg_record.proofs.Pad.{added, length-filled}
 use Rattle.rg_record.proofs.buffer.Buffer.add.Goals as goal
 
