@@ -1,0 +1,10 @@
+pub mod Decode
+pub mod Entries
+pub mod Grow
+pub mod Join
+pub mod Other
+pub mod Pack
+pub mod Room
+pub mod Rules
+pub mod Start
+pub mod Step

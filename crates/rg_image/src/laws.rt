@@ -1,0 +1,54 @@
+// 1. The log of an image is read page by page, up to the first page of zeros.
+// 2. A log page is decided by the records before it. So records that an image spells are its log,
+//    and more records leave what is spelled as it is.
+// 3. Where each page follows the rule for log pages, the image spells the records of its pages.
+// 4. Only a write of set Log changes the log.
+ghost use Rattle.std.specs.Prelude.{◌≡◌, ◌≤◌, ◌++◌, ℕ, List, length, take};
+ghost use Rattle.rg_base.specs.declared.set.Set.{Set};
+ghost use Rattle.rg_base.specs.declared.set.Set.TheVariants.{Log};
+ghost use Rattle.rg_outside.specs.Calls.{Image};
+ghost use Rattle.rg_outside.specs.Moments.{put};
+ghost use Rattle.rg_record.specs.declared.record.Record.{Record};
+ghost use Rattle.rg_image.specs.Kept.{AreEntries};
+ghost use Rattle.rg_image.specs.Log.{Spells, SpellsFrom, log_of, IsZeroLog};
+ghost use Rattle.rg_image.specs.Pack.{end_of, start};
+ghost use Rattle.rg_image.specs.Rules.{HasLogPages};
+
+/// An image whose log pages spell records has them as its log.
+pub fn spelled_records_are_the_log()
+    ensures { (capacity : ℕ) (rs : List Record) (i : Image) → AreEntries rs
+        → (end_of start rs).page ≤ capacity → Spells capacity rs i → log_of capacity i ≡ rs }
+{}
+
+/// An image whose log pages spell a part of the records, no less than `low`, has that part as its
+/// log.
+pub fn spelled_part_is_the_log()
+    ensures { (capacity low : ℕ) (rs : List Record) (i : Image) → AreEntries rs
+        → (end_of start rs).page ≤ capacity → SpellsFrom capacity rs low i
+        → (n : ℕ) × (low ≤ n) × (n ≤ length rs) × (log_of capacity i ≡ take n rs) }
+{}
+
+/// Where each log page follows the rule, the records of the pages are the log.
+pub fn sound_pages_have_the_log()
+    ensures { (capacity : ℕ) (rs : List Record) (i : Image) → HasLogPages capacity i rs
+        → log_of capacity i ≡ rs }
+{}
+
+/// What spells a part of the records spells a part of more records.
+pub fn more_records_leave_what_is_spelled()
+    ensures { (capacity low : ℕ) (rs more : List Record) (i : Image) → SpellsFrom capacity rs low i
+        → SpellsFrom capacity (rs ++ more) low i }
+{}
+
+/// A log set of zeros spells no record.
+pub fn zeros_spell_no_record()
+    ensures { (capacity : ℕ) (rs : List Record) (i : Image) → IsZeroLog capacity i
+        → SpellsFrom capacity rs 0 i }
+{}
+
+/// A write of another set leaves what the log pages spell.
+pub fn other_sets_leave_the_log()
+    ensures { (set : Set) (capacity low page : ℕ) (rs : List Record) (bytes : List ℕ) (i : Image)
+        → (set ≡ Log → ⊥) → SpellsFrom capacity rs low i
+        → SpellsFrom capacity rs low (put i set page bytes) }
+{}

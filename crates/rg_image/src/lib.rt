@@ -1,0 +1,5 @@
+//! What the bytes of a volume mean: its log.
+#![tactic(auto)]
+
+/// Laws of the definitions.
+pub mod laws;
