@@ -1,14 +1,15 @@
--- One write of a list undone, as the code goes on.
+-- One write of a list undone, for a loop over the list: what it needs, and what it leaves.
 use Rattle.std.proofs.Common.{◌≡◌, ℕ, ◌+◌, ◌≤◌, ◌<◌, List, ◌∷◌, length, drop, get_or, None, sym, ◌∙◌, ap, subst}
 use Rattle.std.proofs.lemmas.List.{drop_more}
 use Rattle.rg_base.specs.declared.place.Place.{Place}
 use Rattle.rg_base.specs.declared.row.Row.{Row as TableRow}
 use Rattle.rg_home.specs.Slot.{Slot}
 use Rattle.rg_home.specs.declared.plan.Plan.{Plan}
-use Rattle.rg_home.specs.Pages.{slot_of, applied, FitsAll, row_or_empty}
+use Rattle.rg_home.specs.Pages.{slot_of, applied, FitsAll, TakesAll, row_or_empty}
 use Rattle.rg_home.specs.Written.{Written}
 use Rattle.rg_home.specs.Able.{AllUndoable, Proper}
 use Rattle.rg_home.specs.Undo.{planned_undo, undone, undone_all}
+use Rattle.rg_home.proofs.Takes.{undo_takes}
 use Rattle.rg_ready.proofs.Next.{undo_fits, undo_length, undo_proper, undo_keeps_all}
 
 module _ (cs : List Written) (i : ℕ) (x : Written) (lt : i < length cs) (is : x ≡ get_or cs i x) where
@@ -24,6 +25,10 @@ module _ (cs : List Written) (i : ℕ) (x : Written) (lt : i < length cs) (is : 
         subst (λ (pages : List (List Slot)). FitsAll x.owner b limit pages p.parts) (sym same)
         (subst (λ (y : TableRow). FitsAll x.owner y limit was p.parts) (sym bytes)
         (subst (λ (q : Plan). FitsAll x.owner (row_or_empty x.before) limit was q.parts) (sym plan) (undo_fits x was proper (step_can (slot_of was) can).0 limit l)))
+
+    -- the parts that bring the row before hold it
+    pub step_takes : TakesAll x.before p.parts
+    step_takes = subst (λ (q : Plan). TakesAll x.before q.parts) (sym plan) (undo_takes None x was (step_can (slot_of was) can).0)
 
     -- what the loop keeps
     abbrev pub Goes : List (List Slot) → Type 0

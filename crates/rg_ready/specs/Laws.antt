@@ -16,7 +16,7 @@ use Rattle.rg_base.specs.declared.row.Row.{Row as TableRow}
 use Rattle.rg_base.specs.declared.part.Part.{Part}
 use Rattle.rg_home.specs.Slot.{Slot}
 use Rattle.rg_home.specs.Rows.{is_dead, row_at, ChangesHome}
-use Rattle.rg_home.specs.Pages.{slot_of, applied, FitsAll, TakesAll, row_or_empty}
+use Rattle.rg_home.specs.Pages.{slot_of, applied}
 use Rattle.rg_home.specs.Plan.{is_home, purge_of, new_area, planned_put, planned_change, planned_drop, pages_after}
 use Rattle.rg_home.specs.Written.{Written}
 use Rattle.rg_home.specs.Laws.{WritesHome}
