@@ -83,6 +83,13 @@ undo_parts pages home over None s = (planned_drop pages home s).parts
 undo_parts pages home over (Some row) s =
     undo_row pages home over s (nat_le (row_size row) (capacity_of s))
 
+-- where the row before lies then, where the home has slot s: at home if it fits there, else in the
+-- Over area that it had
+abbrev pub lies_undone : Place → Option Place → Option TableRow → Slot → Option Place
+lies_undone home over None s = None
+lies_undone home over (Some row) s =
+    if nat_le (row_size row) (capacity_of s) then Some home else over
+
 -- the plan of an undo, which purges nothing
 abbrev pub planned_undo : List (List Slot) → Written → Plan
 planned_undo pages c = record {

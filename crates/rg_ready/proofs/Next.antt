@@ -5,13 +5,13 @@ use Rattle.rg_base.specs.declared.place.Place.{Place}
 use Rattle.rg_base.specs.declared.row.Row.{Row as TableRow}
 use Rattle.rg_home.specs.Slot.{Slot}
 use Rattle.rg_base.specs.declared.part.Part.{Part}
-use Rattle.rg_home.specs.Rows.{same_place, row_at, ChangesHome}
+use Rattle.rg_home.specs.Rows.{lies_at, same_place, row_at, ChangesHome}
 use Rattle.rg_home.specs.Pages.{slot_of, FitsAll, row_or_empty}
 use Rattle.rg_home.proofs.Place.{same_place-true}
 use Rattle.rg_home.proofs.Fit.{applied_sound}
 use Rattle.rg_home.specs.Written.{Written}
 use Rattle.rg_home.specs.Able.{Owned, AreaHolds, RowFits, Undoable, AllUndoable, Proper}
-use Rattle.rg_home.specs.Undo.{planned_undo, undone, undone_all, taken_back}
+use Rattle.rg_home.specs.Undo.{lies_undone, over_before, planned_undo, undone, undone_all, taken_back}
 use Rattle.rg_home.specs.Laws.{WritesHome}
 use Rattle.rg_home.proofs.Takes.{undo_takes}
 use Rattle.rg_home.proofs.Whole.{whole}
@@ -72,6 +72,10 @@ module _ (c : Written) (pages : List (List Slot)) (proper : Proper pages) (can :
   pub undo_keeps_all : (cs : List Written) → AllUndoable None (slot_of pages) cs → AllUndoable None (slot_of (undone pages c)) cs
   undo_keeps_all [] u = tt
   undo_keeps_all (d ∷ cs) u = (undo_keeps None d (λ e. tt) u.0, undo_keeps_all cs u.1)
+
+-- where the row before lies then
+pub undo_lies : (c : Written) (pages : List (List Slot)) → Proper pages → Undoable None (slot_of pages) c → lies_at c.home (slot_of (undone pages c) c.home) ≡ lies_undone c.home (over_before c.parts) c.before (slot_of pages c.home)
+undo_lies c pages proper can = (undo_whole None c pages proper.tied can).2
 
 -- all that the plan of an undo does
 pub undo_writes : (c : Written) (pages : List (List Slot)) → Proper pages → Undoable None (slot_of pages) c → WritesHome c.owner (length pages) pages c.before (planned_undo pages c)

@@ -9,7 +9,7 @@ use Rattle.rg_home.specs.Slots.{capacity_of, is_free}
 use Rattle.rg_base.specs.declared.part.Part.{Part}
 use Rattle.rg_base.specs.declared.part.SlotOp.{SlotOp}
 use Rattle.rg_base.specs.declared.part.SlotOp.TheVariants as Op
-use Rattle.rg_home.specs.Rows.{same_place, is_plain, plain_row, Tied, TiesAt, ChangesHome, IsPointerTo}
+use Rattle.rg_home.specs.Rows.{same_place, lies_at, is_plain, plain_row, Tied, TiesAt, ChangesHome, IsPointerTo}
 use Rattle.rg_home.specs.Pages.{slot_of, wrote, made, applied, part_at}
 use Rattle.rg_home.proofs.Place.{same_place-refl, same_place-sym, apart}
 use Rattle.rg_home.proofs.Writes.{page_low, wrote_here, wrote_there, wrote_off, wrote_off2, wrote_off3}
@@ -74,16 +74,18 @@ plain_names q (DeadPointer a b d) e i = i
 plain_names q (DeadOver a b d) e i = i
 
 module _ (by : Option ℕ) (t : ℕ) (after : TableRow) (pages : List (List Slot)) (tied : Tied (slot_of pages)) (home : Place) where
-  abbrev pub Whole : List Part → Option TableRow → Type 0
-  Whole parts row = Each (ReusesOf by t home) t after pages parts × ChangesHome (slot_of pages) (slot_of (applied t after pages parts)) home row
+  -- parts that use again what is there, bring this row home, and leave it lying there
+  abbrev pub Whole : List Part → Option TableRow → Option Place → Type 0
+  Whole parts row lie = Each (ReusesOf by t home) t after pages parts × ChangesHome (slot_of pages) (slot_of (applied t after pages parts)) home row × (lies_at home (slot_of (applied t after pages parts) home) ≡ lie)
 
   pub one_home : (s : Slot) (op : SlotOp) → slot_of pages home ≡ s → IsHomeOf by s → is_plain s ≡ true → is_plain (made t after op) ≡ true → IsHomeOf (Some t) (made t after op) → capacity_of (made t after op) ≡ capacity_of s → Holds (made t after op)
-      → Whole (part_at home op ∷ []) (plain_row (made t after op))
+      → Whole (part_at home op ∷ []) (plain_row (made t after op)) (lies_at home (made t after op))
   one_home s op e is plain gone mine same holds =
       let full : is_free (slot_of pages home) ≡ false = ap is_free e ∙ home_full by s is in
       let low = full_low pages home full in (
         (low, (full, same ∙ sym (ap capacity_of e), holds, inl (refl, subst (IsHomeOf by) (sym e) is, mine)), tt, tt),
         stays (slot_of pages) (slot_of (wrote pages home (made t after op))) home tied (made t after op) (ap is_plain e ∙ plain) gone (wrote_here pages home (made t after op) low) (wrote_off pages home (made t after op) low),
+        ap (lies_at home) (wrote_here pages home (made t after op) low),
       )
 
   left_reuses : (c : ℕ) (o : Place) → slot_of pages home ≡ Pointer c o → ReusesOf by t home o (slot_of pages o) (DeadOver (capacity_of (slot_of pages o)) home t)
@@ -95,27 +97,29 @@ module _ (by : Option ℕ) (t : ℕ) (after : TableRow) (pages : List (List Slot
   home_reuses c o s2 e mine same holds = (ap is_free e, same ∙ sym (ap capacity_of e), holds, inl (refl, subst (IsHomeOf by) (sym e) tt, mine))
 
   pub with_left : (c : ℕ) (o : Place) (op : SlotOp) → slot_of pages home ≡ Pointer c o → is_plain (made t after op) ≡ true → IsHomeOf (Some t) (made t after op) → capacity_of (made t after op) ≡ c → Holds (made t after op)
-      → Whole (part_at home op ∷ part_at o (Op.DeadOver (capacity_of (slot_of pages o)) home) ∷ []) (plain_row (made t after op))
+      → Whole (part_at home op ∷ part_at o (Op.DeadOver (capacity_of (slot_of pages o)) home) ∷ []) (plain_row (made t after op)) (lies_at home (made t after op))
   with_left c o op e gone mine same holds =
       let a = away_from t after pages tied home c o e in (
         (a.1, home_reuses c o (made t after op) e mine same holds, (same_place-sym home o a.0, tt), (a.2, left_reuses c o e, tt, tt)),
         pointer_home t after pages tied home c (capacity_of (slot_of pages o)) o (made t after op) gone e,
+        ap (lies_at home) (wrote_there (wrote pages home (made t after op)) o (DeadOver (capacity_of (slot_of pages o)) home t) a.2 home a.0 ∙ wrote_here pages home (made t after op) a.1),
       )
 
   pub in_area : (c : ℕ) (o : Place) → slot_of pages home ≡ Pointer c o → row_size after ≤ capacity_of (slot_of pages o)
-      → Whole (part_at o (Op.Over (capacity_of (slot_of pages o)) home) ∷ []) (Some after)
+      → Whole (part_at o (Op.Over (capacity_of (slot_of pages o)) home) ∷ []) (Some after) (Some o)
   in_area c o e l =
       let was = pointed (slot_of pages) home o c tied e in
       let a = away_from t after pages tied home c o e in (
         (a.2, (ap is_free was.2, refl, l, inr (subst (IsAreaOf by home) (sym was.2) refl, refl)), tt, tt),
         over_part t after pages tied home c (capacity_of (slot_of pages o)) o e,
+        ap (lies_at home) (wrote_there pages o (Over (capacity_of (slot_of pages o)) after home) a.2 home a.0 ∙ e),
       )
 
   apart_from : (q : Place) (s : Slot) → slot_of pages home ≡ s → IsHomeOf by s → IsAreaOf by home (slot_of pages q) → same_place home q ≡ false
   apart_from q s e is area = apart home q (λ (f : home ≡ q). home_area by by home s is (subst (IsAreaOf by home) (sym (ap (slot_of pages) f) ∙ e) area))
 
   pub to_plain : (q : Place) (s : Slot) → slot_of pages home ≡ s → IsHomeOf by s → is_plain s ≡ true → IsAreaOf by home (slot_of pages q) → row_size after ≤ capacity_of (slot_of pages q)
-      → Whole (part_at home (Op.Pointer (capacity_of s) q) ∷ part_at q (Op.Over (capacity_of (slot_of pages q)) home) ∷ []) (Some after)
+      → Whole (part_at home (Op.Pointer (capacity_of s) q) ∷ part_at q (Op.Over (capacity_of (slot_of pages q)) home) ∷ []) (Some after) (Some q)
   to_plain q s e is plain area l =
       let full : is_free (slot_of pages home) ≡ false = ap is_free e ∙ home_full by s is in
       let low = full_low pages home full in
@@ -130,10 +134,11 @@ module _ (by : Option ℕ) (t : ℕ) (after : TableRow) (pages : List (List Slot
             (wrote_there one q (Over d after home) lowq home n ∙ wrote_here pages home (Pointer (capacity_of s) q) low)
             (wrote_here one q (Over d after home) lowq)
             (wrote_off2 pages home q (Pointer (capacity_of s) q) (Over d after home) low lowq),
+        ap (lies_at home) (wrote_there one q (Over d after home) lowq home n ∙ wrote_here pages home (Pointer (capacity_of s) q) low),
       )
 
   pub to_moved : (c : ℕ) (o q : Place) → slot_of pages home ≡ Pointer c o → same_place o q ≡ false → IsAreaOf by home (slot_of pages q) → row_size after ≤ capacity_of (slot_of pages q)
-      → Whole (part_at home (Op.Pointer c q) ∷ part_at q (Op.Over (capacity_of (slot_of pages q)) home) ∷ part_at o (Op.DeadOver (capacity_of (slot_of pages o)) home) ∷ []) (Some after)
+      → Whole (part_at home (Op.Pointer c q) ∷ part_at q (Op.Over (capacity_of (slot_of pages q)) home) ∷ part_at o (Op.DeadOver (capacity_of (slot_of pages o)) home) ∷ []) (Some after) (Some q)
   to_moved c o q e m area l =
       let a = away_from t after pages tied home c o e in
       let fullq = area_full by home (slot_of pages q) area in
@@ -152,4 +157,5 @@ module _ (by : Option ℕ) (t : ℕ) (after : TableRow) (pages : List (List Slot
             (wrote_there two o (DeadOver g home t) a.2 q k ∙ wrote_here one q (Over d after home) lowq)
             (wrote_here two o (DeadOver g home t) a.2)
             (wrote_off3 pages home q o (Pointer c q) (Over d after home) (DeadOver g home t) a.1 lowq a.2),
+        ap (lies_at home) (wrote_there two o (DeadOver g home t) a.2 home a.0 ∙ wrote_there one q (Over d after home) lowq home n ∙ wrote_here pages home (Pointer c q) a.1),
       )

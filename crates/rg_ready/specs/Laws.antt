@@ -15,13 +15,13 @@ use Rattle.rg_base.specs.declared.place.Place.{Place}
 use Rattle.rg_base.specs.declared.row.Row.{Row as TableRow}
 use Rattle.rg_base.specs.declared.part.Part.{Part}
 use Rattle.rg_home.specs.Slot.{Slot}
-use Rattle.rg_home.specs.Rows.{is_dead, row_at, ChangesHome}
+use Rattle.rg_home.specs.Rows.{is_dead, lies_at, row_at, ChangesHome}
 use Rattle.rg_home.specs.Pages.{slot_of, applied}
 use Rattle.rg_home.specs.Plan.{is_home, purge_of, new_area, planned_put, planned_change, planned_drop, pages_after}
 use Rattle.rg_home.specs.Written.{Written}
 use Rattle.rg_home.specs.Laws.{WritesHome}
 use Rattle.rg_home.specs.Able.{Undoable, AllUndoable, IsLive, HomeOf, Proper}
-use Rattle.rg_home.specs.Undo.{planned_undo, undone, undone_all, taken_back}
+use Rattle.rg_home.specs.Undo.{lies_undone, over_before, planned_undo, undone, undone_all, taken_back}
 use Rattle.rg_ready.specs.Ready.{latest, less, only, without, HasHome, NoHome, Ready}
 use Rattle.rg_ready.specs.Areas.{KeepsAreas}
 use Rattle.rg_ready.specs.Dead.{DeadNames}
@@ -37,12 +37,14 @@ change_of t home before parts = record {
   parts = parts;
 }
 
--- an undo puts the row before back at its home, as any plan does that brings it; it purges nothing,
--- and adds no page
+-- an undo puts the row before back at its home, as any plan does that brings it; the row then lies
+-- where it fits: at home, else in the Over area that it had; it purges nothing, and adds no page
 abbrev pub UndoDoes : Type 0
 UndoDoes =
     (c : Written) (pages : List (List Slot)) → Proper pages → Undoable None (slot_of pages) c
     → WritesHome c.owner (length pages) pages c.before (planned_undo pages c)
+    × (lies_at c.home (slot_of (undone pages c) c.home)
+    ≡ lies_undone c.home (over_before c.parts) c.before (slot_of pages c.home))
     × ((planned_undo pages c).purge ≡ [])
     × (length (undone pages c) ≡ length pages)
 
@@ -170,8 +172,8 @@ pub record DeadKept : Type 0 where
       → DeadNames live (slot_of (undone pages c))
 
 -- No home and no Over area of a live unit u goes away or shrinks: not by a purge or a put, nor by a
--- change, a drop or an undo of unit t, at a home of another unit or where u is t. And a purge leaves
--- what is not dead as it is.
+-- change, a drop or an undo of unit t, at a home of another unit or where u is t. And a purge
+-- leaves what is not dead as it is.
 pub record AreasStay : Type 0 where
   pub purge :
       (live : List ℕ) (t u : ℕ) (after : TableRow) (pages : List (List Slot)) (n : ℕ) (p : Place)
