@@ -20,3 +20,4 @@ pub mod ChangeFits
 pub mod Takes
 pub mod First
 pub mod Whole
+pub mod Lies

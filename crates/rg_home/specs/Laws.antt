@@ -18,7 +18,7 @@ use Rattle.rg_home.specs.Rows.{row_at, lies_at, ChangesHome}
 use Rattle.rg_home.specs.Pages.{page_at, slot_of, applied, FitsAll, TakesAll, row_or_empty}
 use Rattle.rg_home.specs.declared.plan.Plan.{Plan}
 use Rattle.rg_home.specs.declared.plan.Area.{Area}
-use Rattle.rg_home.specs.Plan.{admits, fitting, is_home, new_area, pages_after, planned_change, planned_drop, planned_put, purge_of, purged, takes}
+use Rattle.rg_home.specs.Plan.{admits, fitting, is_home, lies_changed, new_area, pages_after, planned_change, planned_drop, planned_put, purge_of, purged, takes}
 use Rattle.rg_home.specs.Able.{Proper}
 
 -- the row that a plan brings is at its home, no other row changes or moves, and all parts fit
@@ -84,6 +84,31 @@ DropDoes =
     → ((planned_drop pages home (slot_of pages home)).home ≡ home)
     × ((planned_drop pages home (slot_of pages home)).purge ≡ [])
     × WritesHome owner capacity pages None (planned_drop pages home (slot_of pages home))
+
+-- after a put or a drop the row lies at home, or nowhere; after a change it lies at home where the
+-- home takes it, else in the Over area that it has where that takes it, and else in a new one
+pub record RowLies : Type 0 where
+  pub put :
+      (owner : ℕ) (row : TableRow) (live : List ℕ) (capacity : ℕ) (pages : List (List Slot))
+      → Proper pages
+      → IfSome (planned_put live (row_size row) pages
+      (new_area live (row_size row) capacity pages))
+      (λ plan. lies_at plan.home (slot_of (pages_after owner row pages plan) plan.home)
+      ≡ Some plan.home)
+  pub change :
+      (owner : ℕ) (row : TableRow) (live : List ℕ) (capacity : ℕ) (pages : List (List Slot))
+      (home : Place)
+      → Proper pages → is_home (slot_of pages home) ≡ true
+      → IfSome (planned_change live (row_size row) capacity pages home)
+      (λ plan. lies_at home (slot_of (pages_after owner row pages plan) home)
+      ≡ lies_changed live (row_size row) capacity pages home
+      (fitting live (row_size row) (capacity_of (slot_of pages home)) (page_at pages home.page)))
+  pub drop :
+      (owner : ℕ) (row : TableRow) (pages : List (List Slot)) (home : Place)
+      → Proper pages → is_home (slot_of pages home) ≡ true
+      → lies_at home (slot_of
+      (pages_after owner row pages (planned_drop pages home (slot_of pages home))) home)
+      ≡ None
 
 -- no page admits
 abbrev pub NoneAdmits : List ℕ → ℕ → List (List Slot) → Type 0

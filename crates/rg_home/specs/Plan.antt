@@ -191,6 +191,31 @@ planned_change live b capacity pages home =
     changed live b capacity pages home
     (fitting live b (capacity_of (slot_of pages home)) (page_at pages home.page))
 
+-- the place of a new area
+abbrev pub area_place : Option Area → Option Place
+area_place None = None
+area_place (Some area) = Some area.place
+
+-- where a row that leaves its home, or has left it, lies after a change: in the Over area that it
+-- has, as that takes it, else in a new one
+abbrev pub lies_over : Option Place → Option Fitting → Option Area → Option Place
+lies_over other (Some f) area = other
+lies_over other None area = area_place area
+
+-- the same, where the home has this slot
+abbrev pub lies_away : List ℕ → ℕ → ℕ → List (List Slot) → Slot → Option Place
+lies_away live b capacity pages (Pointer c other) =
+    lies_over (Some other)
+    (fitting live b (capacity_of (slot_of pages other)) (page_at pages other.page))
+    (new_area live b capacity pages)
+lies_away live b capacity pages _ = area_place (new_area live b capacity pages)
+
+-- where a row of b bytes lies after a change: at home, as that takes it, else away
+abbrev pub lies_changed : List ℕ → ℕ → ℕ → List (List Slot) → Place → Option Fitting → Option Place
+lies_changed live b capacity pages home (Some f) = Some home
+lies_changed live b capacity pages home None =
+    lies_away live b capacity pages (slot_of pages home)
+
 -- the plan of a drop, where the home has this slot: it purges nothing
 abbrev pub planned_drop : List (List Slot) → Place → Slot → Plan
 planned_drop pages home (Pointer capacity other) = record {

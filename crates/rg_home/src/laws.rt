@@ -1,5 +1,5 @@
 //! Each function's contract is a law of the definitions. None of them runs anything.
-ghost use Rattle.rg_home.specs.Laws.{PurgeDoes, PutDoes, ChangeDoes, DropDoes, FirstFit, FullMeans};
+ghost use Rattle.rg_home.specs.Laws.{PurgeDoes, PutDoes, ChangeDoes, DropDoes, RowLies, FirstFit, FullMeans};
 
 /// What plans do, once they are carried out: to rows, to where they lie, and to the bytes of pages.
 pub fn plans_law()
@@ -7,6 +7,7 @@ pub fn plans_law()
     ensures put { PutDoes }
     ensures change { ChangeDoes }
     ensures drop { DropDoes }
+    ensures lies { RowLies }
 {}
 
 /// Where a new area goes, and when there is no place for one.

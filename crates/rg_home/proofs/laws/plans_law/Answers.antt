@@ -1,6 +1,8 @@
-use Rattle.std.proofs.Common.{ℕ, ◌≤◌, refl, arith}
+use Rattle.std.proofs.Common.{ℕ, ◌≤◌, [], refl, arith}
 use Rattle.rg_home.specs.Pages.{page_at, slot_of}
 use Rattle.rg_home.proofs.Fit.{purge_fits}
+use Rattle.rg_base.specs.RowBytes.{row_size}
+use Rattle.rg_home.proofs.Lies.{put_lies, change_lies, drop_lies}
 use Rattle.rg_home.proofs.Whole.{purges_page, purge_rows, purge_proper, put_writes, change_writes, drop_writes}
 use Rattle.rg_home.proofs.laws.plans_law.Goals as goal
 
@@ -23,3 +25,10 @@ returns-clause-change c owner row live capacity pages home small within proper i
 
 pub returns-clause-drop : goal.returns-clause-drop
 returns-clause-drop c owner capacity pages home within proper is = drop_writes owner capacity pages home within proper (slot_of pages home) refl is
+
+pub returns-clause-lies : goal.returns-clause-lies
+returns-clause-lies c = record {
+  put = λ owner row live capacity pages proper. put_lies owner row live pages (row_size row) capacity proper.tied;
+  change = λ owner row live capacity pages home proper is. change_lies owner row live pages proper.tied home (row_size row) capacity is;
+  drop = λ owner row pages home proper is. drop_lies owner row [] pages proper.tied home (slot_of pages home) refl is;
+}
