@@ -1,8 +1,8 @@
 //! Pages of slots, and the frames through which pages are read and changed.
 #![tactic(auto)]
 
-/// The bytes of a page's rows.
-mod areas;
+/// The bytes of a page's rows, and pushing within room.
+pub mod areas;
 /// The pages of a copy, as they are read and changed.
 pub mod frames;
 /// What plans read of a slot.

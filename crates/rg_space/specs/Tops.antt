@@ -1,5 +1,7 @@
 -- The numbers of the blocks bound the ceilings of their pages.
-use Rattle.std.specs.Prelude.{ℕ, ◌≤◌, ◌<◌, ◌/◌, List, [], length, slice_index_or}
+use Rattle.std.specs.Prelude.{◌≡◌, ℕ, ◌+◌, ◌*◌, ◌^◌, ◌≤◌, ◌<◌, ◌/◌, vec_capacity, List, [], length, slice_index_or}
+use Rattle.std.specs.declared.vec.Vec.{Vec}
+use Rattle.std.specs.declared.alloc.Global.{Global}
 use Rattle.rg_home.specs.Slot.{Slot}
 use Rattle.rg_page.specs.Ceiling.{ceiling}
 
@@ -9,3 +11,13 @@ Bounds pages tops = (k : ℕ) → k < length pages → ceiling (slice_index_or p
 -- no number is lowered
 abbrev pub Raised : List ℕ → List ℕ → Type 0
 Raised before after = (k : ℕ) → slice_index_or before k 0 ≤ slice_index_or after k 0
+
+-- what an index keeps: as many tops as there are blocks, and room for the spare summaries, which are
+-- empty
+pub record IsIndex (pages : Vec (List Slot) Global) (tops : Vec ℕ Global) (spare : Vec (List Slot) Global) : Type 0 where
+  pub few : length pages.items + length spare.items < 2 ^ 32
+  pub blocks : length pages.items ≤ 256 * length tops.items
+  pub bounds : Bounds pages.items tops.items
+  pub room : length pages.items + length spare.items ≤ vec_capacity pages
+  pub tops_room : length tops.items + length spare.items ≤ vec_capacity tops
+  pub empty_ones : (k : ℕ) → k < length spare.items → slice_index_or spare.items k [] ≡ []

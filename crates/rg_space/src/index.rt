@@ -1,14 +1,15 @@
-ghost use Rattle.std.specs.Prelude.{◌≡◌, ◌≤◌, ◌<◌, ◌+◌, ◌*◌, ◌^◌, ℕ, [], ◌++◌, ◌∷◌, ◌↔◌, IsSome, IfSome, IfNone, OnOk, OnErr, length, slice_index_or, vec_len};
+ghost use Rattle.std.specs.Prelude.{◌≡◌, ◌≤◌, ◌<◌, ◌+◌, ◌*◌, ◌^◌, ℕ, [], ◌++◌, ◌∷◌, ◌↔◌, IsSome, IfSome, IfNone, OnOk, OnErr, length, slice_index_or, vec_len, vec_capacity};
 ghost use Rattle.rg_home.specs.Slots.{placed, Fits};
 ghost use Rattle.rg_home.specs.Pages.{page_at, wrote};
 ghost use Rattle.rg_home.specs.Plan.{admits, first_page};
 ghost use Rattle.rg_page.specs.Ceiling.{ceiling};
 ghost use Rattle.rg_page.specs.Bare.{numbers_of};
-ghost use Rattle.rg_space.specs.Tops.{Raised};
+ghost use Rattle.rg_space.specs.Tops.{Bounds, Raised};
 
 use rg_base::no_memory::NoMemory;
 use rg_base::place::Place;
 use rg_base::tran::Tran;
+use rg_page::areas::push_within;
 use rg_page::header::Header;
 use rg_page::summary::Summary;
 use std::alloc::Global;
@@ -16,48 +17,51 @@ use std::marker::Model;
 
 const BLOCK: usize = 256;
 
-/// The summaries of all pages. It finds the first page that admits an area without reading one. For
-/// each block of 256 pages a number that no ceiling of the block is above.
+/// The summaries of all pages. It finds the first page that admits an area without reading one. It is
+/// seen as the headers of each page, and how many pages more it has room for.
 #[derive(Drop)]
 pub struct Index {
     pages: Vec<Summary>,
     tops: Vec<u16>,
+    spare: Vec<Summary>,
 }
 
 impl Model for Index {
-    ghost use Rattle.std.specs.Prelude.{◌≤◌, ◌<◌, ◌*◌, ◌^◌, List, length};
-    ghost use Rattle.rg_home.specs.Slot.{Slot};
-    ghost use Rattle.rg_space.specs.Tops.{Bounds};
+    ghost use Rattle.std.specs.Prelude.{length};
+    ghost use Rattle.rg_space.specs.Indexed.{Indexed};
 
-    ghost Value = { List (List Slot) };
+    ghost Value = { Indexed };
 
-    ghost view = { λ x. x.pages.items };
+    ghost use Rattle.rg_space.specs.Tops.{IsIndex};
 
-    ghost invariant = { λ x. (length x.pages.items < 2 ^ 32) × (length x.pages.items ≤ 256 * length x.tops.items) × Bounds x.pages.items x.tops.items };
+    ghost view = { λ x. record { pages = x.pages.items; room = length x.spare.items } };
+
+    ghost invariant = { λ x. IsIndex x.pages x.tops x.spare };
 }
 
 impl Index {
     pub fn new(alloc: Global) -> Index
-        ensures { result ≡ [] }
+        ensures { result ≡ record { pages = []; room = 0 } }
     {
         Index {
             pages: Vec::new(alloc),
             tops: Vec::new(alloc),
+            spare: Vec::new(alloc),
         }
     }
 
     pub fn len(&self) -> u32
-        ensures { result ≡ length self.now }
+        ensures { result ≡ length self.now.pages }
     {
         self.pages.len() as u32
     }
 
     /// The summary of the page of this number, from 1, if there is one.
     pub fn page(&self, number: u32) -> Option<&Summary>
-        ensures page { IfSome result (λ page. page.now ≡ page_at self.now number) }
-        ensures some { IsSome result ↔ ((1 ≤ number) × (number ≤ length self.now)) }
-        ensures none { IfNone result (page_at self.now number ≡ []) }
-        ensures few { length self.now < 2 ^ 32 }
+        ensures page { IfSome result (λ page. page.now ≡ page_at self.now.pages number) }
+        ensures some { IsSome result ↔ ((1 ≤ number) × (number ≤ length self.now.pages)) }
+        ensures none { IfNone result (page_at self.now.pages number ≡ []) }
+        ensures few { length self.now.pages < 2 ^ 32 }
     {
         let pages = self.pages.as_slice();
         if number == 0 {
@@ -70,7 +74,7 @@ impl Index {
     pub fn first(&self, live: &[Tran], b: u16) -> u32
         requires some { 1 ≤ b }
         requires size { b ≤ 826 }
-        ensures { result ≡ first_page (numbers_of live.now) b self.now }
+        ensures { result ≡ first_page (numbers_of live.now) b self.now.pages }
     {
         let count = self.pages.len();
         let mut i = 0;
@@ -87,27 +91,53 @@ impl Index {
         count as u32
     }
 
-    /// A page is added at the end.
-    pub fn push(&mut self, summary: Summary) -> Result<(), NoMemory>
-        requires few { length self.old + 1 < 2 ^ 32 }
-        ensures added { OnOk result (self.new ≡ self.old ++ summary ∷ []) }
+    /// Makes room for one page more.
+    pub fn reserve(&mut self, alloc: Global) -> Result<(), NoMemory>
+        requires { length self.old.pages + self.old.room + 1 < 2 ^ 32 }
+        ensures ok { OnOk result (self.new ≡ record self.old { room = self.old.room + 1 }) }
         ensures err { OnErr result (self.new ≡ self.old) }
     {
-        let block = self.pages.len() / BLOCK;
-        if block == self.tops.len() {
-            self.tops.push(0)?;
+        let more = self.spare.len() + 1;
+        self.pages.reserve(more)?;
+        self.tops.reserve(more)?;
+        let summary = Summary::new(alloc)?;
+        self.spare.push(summary)?;
+        Ok(())
+    }
+
+    /// Adds an empty page at the end, in the room for it. It takes no memory.
+    pub fn add(&mut self)
+        requires { 1 ≤ self.old.room }
+        ensures pages { self.new.pages ≡ self.old.pages ++ [] ∷ [] }
+        ensures room { self.new.room + 1 ≡ self.old.room }
+    {
+        match self.spare.pop() {
+            None => unreachable!(),
+            Some(summary) => {
+                append(&mut self.pages, &mut self.tops, summary);
+            }
         }
-        raise(&mut self.tops, block, summary.ceiling());
-        self.pages.push(summary)?;
+    }
+
+    /// Adds a page of this summary at the end.
+    pub fn push(&mut self, alloc: Global, summary: Summary) -> Result<(), NoMemory>
+        requires { length self.old.pages + self.old.room + 1 < 2 ^ 32 }
+        ensures added { OnOk result (self.new ≡ record self.old { pages = self.old.pages ++ summary ∷ [] }) }
+        ensures err { OnErr result (self.new.pages ≡ self.old.pages) }
+    {
+        self.reserve(alloc)?;
+        self.spare.pop();
+        append(&mut self.pages, &mut self.tops, summary);
         Ok(())
     }
 
     /// A slot of a page was set. It takes no memory.
     pub fn set(&mut self, place: Place, header: Header)
         requires low { 1 ≤ place.page }
-        requires high { place.page ≤ length self.old }
-        requires fits { Fits (placed (page_at self.old place.page) place.slot header) }
-        ensures { self.new ≡ wrote self.old place header }
+        requires high { place.page ≤ length self.old.pages }
+        requires fits { Fits (placed (page_at self.old.pages place.page) place.slot header) }
+        ensures pages { self.new.pages ≡ wrote self.old.pages place header }
+        ensures room { self.new.room ≡ self.old.room }
     {
         let at = place.page as usize - 1;
         let block = at / BLOCK;
@@ -126,11 +156,46 @@ impl Index {
     }
 }
 
+// Adds a page of this summary, where there is room for it and for one block more.
+fn append(pages: &mut Vec<Summary>, tops: &mut Vec<u16>, summary: Summary)
+    requires room { vec_len pages.old < vec_capacity pages.old }
+    requires tops_room { vec_len tops.old < vec_capacity tops.old }
+    requires blocks { length pages.old.items ≤ 256 * length tops.old.items }
+    requires bounds { Bounds pages.old.items tops.old.items }
+    ensures items { pages.new.items ≡ pages.old.items ++ summary ∷ [] }
+    ensures blocks { length pages.new.items ≤ 256 * length tops.new.items }
+    ensures bounds { Bounds pages.new.items tops.new.items }
+    ensures tops { length tops.new.items ≤ length tops.old.items + 1 }
+    ensures capacity { vec_capacity pages.old ≤ vec_capacity pages.new }
+    ensures tops_capacity { vec_capacity tops.old ≤ vec_capacity tops.new }
+{
+    let block = pages.len() / BLOCK;
+    cover(tops, block);
+    raise(tops, block, summary.ceiling());
+    push_within(pages, summary);
+}
+
+// Sees that there is a top for this block, which is the last one or the next.
+fn cover(tops: &mut Vec<u16>, block: usize)
+    requires next { block ≤ vec_len tops.old }
+    requires room { vec_len tops.old < vec_capacity tops.old }
+    ensures there { block < length tops.new.items }
+    ensures raised { Raised tops.old.items tops.new.items }
+    ensures more { length tops.old.items ≤ length tops.new.items }
+    ensures most { length tops.new.items ≤ length tops.old.items + 1 }
+    ensures capacity { vec_capacity tops.old ≤ vec_capacity tops.new }
+{
+    if block == tops.len() {
+        push_within(tops, 0);
+    }
+}
+
 fn raise(tops: &mut Vec<u16>, block: usize, most: u16)
     requires { block < vec_len tops.old }
     ensures count { length tops.new.items ≡ length tops.old.items }
     ensures raised { Raised tops.old.items tops.new.items }
     ensures reaches { most ≤ slice_index_or tops.new.items block 0 }
+    ensures capacity { vec_capacity tops.new ≡ vec_capacity tops.old }
 {
     if tops[block] < most {
         tops[block] = most;

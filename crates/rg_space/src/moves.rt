@@ -31,7 +31,7 @@ impl Index {
     pub fn area(&self, live: &[Tran], b: u16, capacity: u32) -> Option<Area>
         requires some { 1 ≤ b }
         requires size { b ≤ 826 }
-        ensures { result ≡ new_area (numbers_of live.now) b capacity self.now }
+        ensures { result ≡ new_area (numbers_of live.now) b capacity self.now.pages }
     {
         let i = self.first(live, b);
         if i >= capacity {
@@ -52,7 +52,7 @@ impl Index {
     /// How an area of this capacity on a page takes a row of `b` bytes, if it does.
     pub fn fitting(&self, live: &[Tran], page: u32, capacity: u16, b: u16) -> Option<Fitting>
         requires { b ≤ 826 }
-        ensures { result ≡ fitting (numbers_of live.now) b capacity (page_at self.now page) }
+        ensures { result ≡ fitting (numbers_of live.now) b capacity (page_at self.now.pages page) }
     {
         match self.page(page) {
             Some(summary) => summary.fitting(live, capacity, b),
@@ -65,7 +65,7 @@ impl Index {
 
     /// The capacity of the area at a place; 0 if there is none.
     pub fn capacity(&self, place: Place) -> u16
-        ensures { result ≡ capacity_of (slot_of self.now place) }
+        ensures { result ≡ capacity_of (slot_of self.now.pages place) }
     {
         match self.page(place.page) {
             None => 0,
@@ -87,7 +87,7 @@ impl Index {
         page: u32,
         purges: bool,
     ) -> Result<Parts, NoMemory>
-        ensures { IfOk result (λ parts. parts ≡ purge_of (numbers_of live.now) self.now page purges) }
+        ensures { IfOk result (λ parts. parts ≡ purge_of (numbers_of live.now) self.now.pages page purges) }
     {
         if !purges {
             return Ok(Parts::new(Vec::new(alloc)));
@@ -108,7 +108,7 @@ impl Index {
     ) -> Result<Option<(Place, Moves)>, NoMemory>
         requires some { 1 ≤ b }
         requires size { b ≤ 826 }
-        ensures { IfOk result (λ put. IsPut put (numbers_of live.now) b self.now (new_area (numbers_of live.now) b capacity self.now)) }
+        ensures { IfOk result (λ put. IsPut put (numbers_of live.now) b self.now.pages (new_area (numbers_of live.now) b capacity self.now.pages)) }
     {
         let Some(area) = self.area(live, b, capacity) else {
             return Ok(None);
@@ -132,7 +132,7 @@ impl Index {
     ) -> Result<Option<Moves>, NoMemory>
         requires some { 1 ≤ b }
         requires size { b ≤ 826 }
-        ensures { IfOk result (λ moves. moves ≡ change_moves (numbers_of live.now) b capacity self.now home other) }
+        ensures { IfOk result (λ moves. moves ≡ change_moves (numbers_of live.now) b capacity self.now.pages home other) }
     {
         if let Some(fitting) = self.fitting(live, home.page, self.capacity(home), b) {
             return Ok(Some(self.to_home(alloc, live, home, other, fitting)?));
@@ -156,7 +156,7 @@ impl Index {
         other: Option<Place>,
         fitting: Fitting,
     ) -> Result<Moves, NoMemory>
-        ensures { IfOk result (λ moves. moves ≡ home_moves (numbers_of live.now) self.now home other fitting) }
+        ensures { IfOk result (λ moves. moves ≡ home_moves (numbers_of live.now) self.now.pages home other fitting) }
     {
         let purge = self.purge(alloc, live, home.page, fitting.purges)?;
         let part = part_at(
@@ -177,7 +177,7 @@ impl Index {
         over: Place,
         fitting: Fitting,
     ) -> Result<Moves, NoMemory>
-        ensures { IfOk result (λ moves. moves ≡ over_moves (numbers_of live.now) self.now home over fitting) }
+        ensures { IfOk result (λ moves. moves ≡ over_moves (numbers_of live.now) self.now.pages home over fitting) }
     {
         let purge = self.purge(alloc, live, over.page, fitting.purges)?;
         let part = part_at(
@@ -200,7 +200,7 @@ impl Index {
         b: u16,
         area: Area,
     ) -> Result<Moves, NoMemory>
-        ensures { IfOk result (λ moves. new_moves (numbers_of live.now) b self.now home other (Some area) ≡ Some moves) }
+        ensures { IfOk result (λ moves. new_moves (numbers_of live.now) b self.now.pages home other (Some area) ≡ Some moves) }
     {
         let purge = self.purge(alloc, live, area.place.page, area.purges)?;
         let pointer = part_at(
@@ -223,7 +223,7 @@ impl Index {
 
     // The part for the Over area that is left.
     fn left(&self, home: Place, other: Option<Place>) -> Option<Part>
-        ensures { listed result ≡ left_by self.now home other }
+        ensures { listed result ≡ left_by self.now.pages home other }
     {
         match other {
             None => None,
@@ -244,7 +244,7 @@ impl Index {
         home: Place,
         other: Option<Place>,
     ) -> Result<Parts, NoMemory>
-        ensures { IfOk result (λ parts. parts ≡ drop_moves self.now home other) }
+        ensures { IfOk result (λ parts. parts ≡ drop_moves self.now.pages home other) }
     {
         let capacity = self.capacity(home);
         let op = match other {
@@ -264,7 +264,7 @@ impl Index {
         over: Option<Place>,
         other: Option<Place>,
     ) -> Result<Parts, NoMemory>
-        ensures { IfOk result (λ parts. parts ≡ undo_moves self.now home before over other) }
+        ensures { IfOk result (λ parts. parts ≡ undo_moves self.now.pages home before over other) }
     {
         let Some(b) = before else {
             return self.drop_row(alloc, home, other);
@@ -288,7 +288,7 @@ impl Index {
         q: Place,
         other: Option<Place>,
     ) -> Result<Parts, NoMemory>
-        ensures { IfOk result (λ parts. parts ≡ back_moves self.now home q other (points_to other q)) }
+        ensures { IfOk result (λ parts. parts ≡ back_moves self.now.pages home q other (points_to other q)) }
     {
         let over = part_at(
             q,
