@@ -1,13 +1,15 @@
 -- The bytes of a row, field by field.
 use Rattle.std.proofs.Common.{◌≡◌, ◌≤◌, ◌<◌, ℕ, ◌+◌, ◌-◌, ◌^◌, zero, suc, List, [], ◌∷◌, ◌++◌, length, take, drop, refl, sym, ap, subst, ◌∙◌, arith, length-append, get_or}
-use Rattle.std.proofs.lemmas.List.{append_assoc, take-append-drop, drop-drop, drop_at, get_or-drop, get_or-take, length-drop, length-take-le}
+use Rattle.std.proofs.lemmas.List.{append_assoc, take_at, take-append-drop, drop-drop, drop_at, get_or-drop, get_or-take, length-drop, length-take-le}
 use Rattle.std.specs.List.{AllByRecursion}
-use Rattle.rg_base.specs.Text.{IsLetter}
+use Rattle.rg_base.specs.Text.{IsLetter, IsText}
 use Rattle.rg_base.specs.declared.row.Row.{Row}
 use Rattle.rg_base.specs.Field.{field}
 use Rattle.byteorder.specs.Endian.{big_number}
 use Rattle.byteorder.specs.Numbers.{big_number-reads_back}
-use Rattle.rg_base.specs.RowBytes.{row_bytes, row_of, row_size, HasLength, IsFirstOther}
+use Rattle.rg_base.specs.RowBytes.{row_bytes, row_of, row_size, HasLength, IsFirstOther, RowFaultIs}
+use Rattle.rg_base.specs.declared.row_bytes.RowFault.{RowFault}
+use Rattle.rg_base.specs.declared.row_bytes.RowFault.TheVariants.{Short, Length, Byte, NoMemory}
 use Rattle.rg_base.proofs.Fields.{length-field, field_one_2, put_next}
 
 pub length-row_bytes : (row : Row) → length (row_bytes row) ≡ row_size row
@@ -102,30 +104,85 @@ number_of_field n x rest fits = big_number-reads_back n x rest fits
 same_row : (a b : Row) → a.key ≡ b.key → a.clus ≡ b.clus → a.cat ≡ b.cat → a.text ≡ b.text → a ≡ b
 same_row a b key clus cat text = λ i. record { key = key i; clus = clus i; cat = cat i; text = text i }
 
+-- what follows each field
+
+drop_8 : (row : Row) → drop 8 (row_bytes row) ≡ field 8 row.clus ++ (field 8 row.cat ++ (field 2 (length row.text) ++ row.text))
+drop_8 row = drop_at (field 8 row.key) _ 8 (length-field 8 row.key)
+
+drop_16 : (row : Row) → drop 16 (row_bytes row) ≡ field 8 row.cat ++ (field 2 (length row.text) ++ row.text)
+drop_16 row =
+    sym (drop-drop 8 8 (row_bytes row)) ∙ ap (drop 8) (drop_8 row)
+    ∙ drop_at (field 8 row.clus) _ 8 (length-field 8 row.clus)
+
+drop_24 : (row : Row) → drop 24 (row_bytes row) ≡ field 2 (length row.text) ++ row.text
+drop_24 row =
+    sym (drop-drop 8 16 (row_bytes row)) ∙ ap (drop 8) (drop_16 row)
+    ∙ drop_at (field 8 row.cat) _ 8 (length-field 8 row.cat)
+
+drop_26 : (row : Row) → drop 26 (row_bytes row) ≡ row.text
+drop_26 row =
+    sym (drop-drop 2 24 (row_bytes row)) ∙ ap (drop 2) (drop_24 row)
+    ∙ drop_at (field 2 (length row.text)) _ 2 (length-field 2 (length row.text))
+
 -- a row whose numbers fit is the one that its bytes show
 pub row_of-row_bytes : (row : Row) → row.key < 2 ^ 64 → row.clus < 2 ^ 64 → row.cat < 2 ^ 64
     → row_of (row_bytes row) ≡ row
 unfolding row_of
 row_of-row_bytes row key clus cat =
-    let f1 : List ℕ = field 8 row.key in
-    let f2 : List ℕ = field 8 row.clus in
-    let f3 : List ℕ = field 8 row.cat in
-    let f4 : List ℕ = field 2 (length row.text) in
-    let all : List ℕ = row_bytes row in
-    let d8 : drop 8 all ≡ f2 ++ (f3 ++ (f4 ++ row.text)) = drop_at f1 _ 8 (length-field 8 row.key) in
-    let d16 : drop 16 all ≡ f3 ++ (f4 ++ row.text) =
-    sym (drop-drop 8 8 all) ∙ ap (drop 8) d8 ∙ drop_at f2 _ 8 (length-field 8 row.clus) in
-    let d24 : drop 24 all ≡ f4 ++ row.text =
-    sym (drop-drop 8 16 all) ∙ ap (drop 8) d16 ∙ drop_at f3 _ 8 (length-field 8 row.cat) in
-    let d26 : drop 26 all ≡ row.text =
-    sym (drop-drop 2 24 all) ∙ ap (drop 2) d24 ∙ drop_at f4 _ 2 (length-field 2 (length row.text)) in
     same_row _ row
     (number_of_field 8 row.key _ key)
-    (ap (big_number 8) d8 ∙ number_of_field 8 row.clus _ clus)
-    (ap (big_number 8) d16 ∙ number_of_field 8 row.cat _ cat)
-    d26
+    (ap (big_number 8) (drop_8 row) ∙ number_of_field 8 row.clus _ clus)
+    (ap (big_number 8) (drop_16 row) ∙ number_of_field 8 row.cat _ cat)
+    (drop_26 row)
 
 -- bytes that spell a row show it
 pub row_shown : (row : Row) (bytes : List ℕ) → row.key < 2 ^ 64 → row.clus < 2 ^ 64 → row.cat < 2 ^ 64
     → row_bytes row ≡ bytes → row ≡ row_of bytes
 row_shown row bytes key clus cat e = sym (row_of-row_bytes row key clus cat) ∙ ap row_of e
+
+-- bytes that spell a row have no fault
+
+pub not_short : (row : Row) (bytes : List ℕ) → row_bytes row ≡ bytes → length bytes < 26 → ⊥
+not_short row bytes e short =
+    absurd (omega (arith, ap (λ (xs : List ℕ). length xs) e, length-row_bytes row))
+
+pub has_length : (row : Row) (bytes : List ℕ) → row_bytes row ≡ bytes → IsText row.text → HasLength bytes
+has_length row bytes e text =
+    let f1 : List ℕ = field 8 row.key in
+    let f2 : List ℕ = field 8 row.clus in
+    let f3 : List ℕ = field 8 row.cat in
+    let f4 : List ℕ = field 2 (length row.text) in
+    let all : List ℕ = row_bytes row in
+    let long : length bytes ≡ 26 + length row.text = ap (λ (xs : List ℕ). length xs) (sym e) ∙ length-row_bytes row in
+    let d24 : drop 24 all ≡ f4 ++ row.text = drop_24 row in
+    record {
+      whole = ap (λ (xs : List ℕ). take 2 (drop 24 xs)) (sym e) ∙ ap (take 2) d24
+          ∙ take_at f4 row.text 2 (length-field 2 (length row.text))
+          ∙ ap (field 2) (omega (arith, long));
+      short = omega (arith, long, text.short);
+    }
+
+pub no_other : (row : Row) (bytes : List ℕ) (at : ℕ) → row_bytes row ≡ bytes → IsText row.text
+    → IsFirstOther bytes at → ⊥
+no_other row bytes at e text first =
+    let long : length bytes ≡ 26 + length row.text = ap (λ (xs : List ℕ). length xs) (sym e) ∙ length-row_bytes row in
+    let n : ℕ = at - 26 in
+    let at_is : 26 + n ≡ at = omega (arith, first.low) in
+    let there : get_or bytes at 0 ≡ get_or row.text n 0 =
+        ap (λ (xs : List ℕ). get_or xs at 0) (sym e) ∙ ap (λ k. get_or (row_bytes row) k 0) (sym at_is)
+        ∙ sym (get_or-drop 26 (row_bytes row) n 0) ∙ ap (λ (xs : List ℕ). get_or xs n 0) (drop_26 row) in
+    first.other (subst IsLetter (sym there) (letter_at row.text n (omega (arith, first.high, long)) text.letters))
+
+-- only memory can be wanting there
+abbrev pub IsMemory : RowFault → Type 0
+IsMemory Short = ⊥
+IsMemory Length = ⊥
+IsMemory (Byte at) = ⊥
+IsMemory NoMemory = Unit {0}
+
+pub memory_only : (row : Row) (bytes : List ℕ) → row_bytes row ≡ bytes → IsText row.text
+    → (fault : RowFault) → RowFaultIs bytes fault → IsMemory fault
+memory_only row bytes e text Short is = not_short row bytes e is
+memory_only row bytes e text Length is = is.1 (has_length row bytes e text)
+memory_only row bytes e text (Byte at) is = no_other row bytes at e text is.2
+memory_only row bytes e text NoMemory is = tt

@@ -6,7 +6,7 @@
 // 3. Writing into room that is there takes no memory.
 ghost use Rattle.std.specs.Prelude.{◌≡◌, ◌≤◌, ◌<◌, ◌^◌, ◌++◌, IfOk, IfErr, length, take, drop, slice_index};
 ghost use Rattle.std.specs.List.{AllByRecursion};
-ghost use Rattle.rg_base.specs.Text.{IsLetter};
+ghost use Rattle.rg_base.specs.Text.{IsLetter, IsText};
 ghost use Rattle.rg_base.specs.RowBytes.{row_bytes, row_of, row_size, RowFaultIs};
 
 use crate::bytes::Bytes;
@@ -49,6 +49,7 @@ impl Row {
         ensures low { 26 ≤ result }
         ensures high { result ≤ 826 }
         ensures back { row_of (row_bytes self.now) ≡ self.now }
+        ensures text { IsText self.now.text }
     {
         are_numbers(self.key, self.clus, self.cat);
         26 + self.text.as_slice().len() as u16
@@ -120,6 +121,21 @@ pub fn read_row(alloc: Global, bytes: &[u8]) -> Result<Row, RowFault>
         cat: get_u64(bytes, 16),
         text: Text::new(text),
     })
+}
+
+/// The row that these bytes spell, which are known to spell one.
+pub fn read_spelled(alloc: Global, bytes: &[u8]) -> Result<Row, NoMemory>
+    requires spelled { row_bytes (row_of bytes.now) ≡ bytes.now }
+    requires text { IsText (row_of bytes.now).text }
+    ensures { IfOk result (λ row. row ≡ row_of bytes.now) }
+{
+    match read_row(alloc, bytes) {
+        Ok(row) => Ok(row),
+        Err(RowFault::NoMemory) => Err(NoMemory),
+        Err(RowFault::Short) => unreachable!(),
+        Err(RowFault::Length) => unreachable!(),
+        Err(RowFault::Byte { .. }) => unreachable!(),
+    }
 }
 
 // How many bytes of a text come before the first that no text may have.

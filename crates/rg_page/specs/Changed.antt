@@ -1,6 +1,7 @@
 -- What a part makes of a page.
 use Rattle.std.specs.Prelude.{◌≡◌, ◌≤◌, ◌<◌, ◌+◌, ℕ, Option, Some, None}
 use Rattle.rg_base.specs.RowBytes.{row_bytes, row_of}
+use Rattle.rg_base.specs.Text.{IsText}
 use Rattle.rg_base.specs.declared.part.Part.{Part}
 use Rattle.rg_base.specs.declared.part.SlotOp.{SlotOp}
 use Rattle.rg_base.specs.declared.part.SlotOp.TheVariants as Op
@@ -45,7 +46,7 @@ pub record IsLeft (at count left : ℕ) : Type 0 where
   pub none : count ≤ at → left ≤ at → left ≤ count
   pub past : count ≤ at → at < left → left ≡ at + 1
 
--- the bytes of the row, if there is one, show it
+-- the bytes of the row, if there is one, show it, and its text is one
 abbrev pub IsShown : Option Row → Type 0
 IsShown None = Unit {0}
-IsShown (Some row) = row_of (row_bytes row) ≡ row
+IsShown (Some row) = (row_of (row_bytes row) ≡ row) × IsText row.text

@@ -4,6 +4,7 @@ use Rattle.std.specs.Prelude.{◌≡◌, ◌≤◌, ℕ, List, [], ◌∷◌, le
 use Rattle.std.specs.declared.vec.Vec.{Vec}
 use Rattle.std.specs.declared.alloc.Global.{Global}
 use Rattle.rg_base.specs.RowBytes.{row_bytes, row_of}
+use Rattle.rg_base.specs.Text.{IsText}
 use Rattle.rg_base.specs.declared.place.Place.{Place}
 use Rattle.rg_home.specs.Slot.{Slot}
 use Rattle.rg_home.specs.Slot.{Free, Row, Pointer, Over, DeadRow, DeadPointer, DeadOver}
@@ -29,6 +30,7 @@ laid (h ∷ headers) (other ∷ others) (bytes ∷ areas) = whole_slot h other b
 -- the bytes spell a row, and an area of this capacity holds them
 pub record Spells (capacity : ℕ) (bytes : List ℕ) : Type 0 where
   pub spelled : row_bytes (row_of bytes) ≡ bytes
+  pub text : IsText (row_of bytes).text
   pub within : length bytes ≤ capacity
 
 -- the bytes of a row where the slot has one, and else none

@@ -5,3 +5,11 @@
 pub mod index;
 /// Plans, as the summaries tell them.
 pub mod moves;
+
+/// What slots say of rows.
+pub mod look;
+
+/// Why a space refuses.
+pub mod fault;
+/// Slots and rows, read through frames.
+pub mod read;

@@ -1,0 +1,132 @@
+-- Calls that read, one after the other, and slots of pages that stay.
+use Rattle.std.proofs.Common.{◌≡◌, ◌≤◌, ◌<◌, ℕ, zero, suc, ◌+◌, true, List, [], ◌∷◌, Option, Some, None, map, length, get_or, refl, sym, ap, subst, ◌∙◌, arith}
+use Rattle.rg_base.specs.declared.place.Place.{Place}
+use Rattle.rg_base.specs.declared.row.Row.{Row as TableRow}
+use Rattle.rg_home.specs.Pages.{page_at, slot_of}
+use Rattle.rg_home.specs.Plan.{pointed_to}
+use Rattle.rg_home.specs.Rows.{row_at, home_row, over_row, plain_row}
+use Rattle.rg_home.specs.Slot.{Slot}
+use Rattle.rg_home.specs.Slot.{Free, Row, Pointer, Over, DeadRow, DeadPointer, DeadOver}
+use Rattle.rg_home.specs.Slots.{slot_at}
+use Rattle.rg_page.specs.Content.{Content, content_at, slots_of, empty}
+use Rattle.rg_page.specs.Seen.{Seen, Keeps, Reads, StayHeld}
+use Rattle.rg_space.specs.Glimpse.{IsGlimpse}
+use Rattle.rg_space.specs.Took.{Took, slot_in}
+use Rattle.rg_space.specs.declared.look.Glimpse.{Glimpse}
+
+-- one call after the other
+
+pub keeps_more : (a b c : Seen) → Keeps a b → Keeps b c → Keeps a c
+keeps_more a b c x y = record {
+  copy = y.copy ∙ x.copy;
+  limit = y.limit ∙ x.limit;
+  later = omega (arith, x.later, y.later);
+  sure = λ s. x.sure (y.sure s);
+  fixed = λ p f. y.fixed p (x.fixed p f);
+}
+
+pub reads_more : (a b c : Seen) → Reads a b → Reads b c → Reads a c
+reads_more a b c x y = record {
+  keeps = keeps_more a b c x.keeps y.keeps;
+  count = y.count ∙ x.count;
+  same = λ s. y.same s ∙ x.same (y.keeps.sure s);
+  as_was = λ p f. y.as_was p (x.keeps.fixed p f) ∙ x.as_was p f;
+  forced = y.forced ∙ x.forced;
+}
+
+pub took_more : (m n : ℕ) (a b c : Seen) → Took m a b → Took n b c → Took (m + n) a c
+took_more m n a b c x y = record {
+  reads = reads_more a b c x.reads y.reads;
+  stay = λ p h. ((y.stay p (x.stay p h).0).0, (y.stay p (x.stay p h).0).1 ∙ (x.stay p h).1);
+  spare = omega (arith, x.spare, y.spare);
+  idle = omega (arith, x.idle, y.idle);
+}
+
+pub took_wider : (m n : ℕ) (a b : Seen) → m ≤ n → Took m a b → Took n a b
+took_wider m n a b h x = record {
+  reads = x.reads;
+  stay = x.stay;
+  spare = omega (arith, x.spare);
+  idle = omega (arith, x.idle);
+}
+
+pub keeps_same : (a : Seen) → Keeps a a
+keeps_same a = record {
+  copy = refl;
+  limit = refl;
+  later = omega arith;
+  sure = λ s. s;
+  fixed = λ p f. f;
+}
+
+pub took_none : (a : Seen) → Took 0 a a
+took_none a = record {
+  reads = record { keeps = keeps_same a; count = refl; same = λ s. refl; as_was = λ p f. refl; forced = refl };
+  stay = λ p h. (h, refl);
+  spare = omega arith;
+  idle = omega arith;
+}
+
+-- slots
+
+get_slots : (pages : List Content) (n : ℕ) (d : Content) → d.slots ≡ [] → get_or (map (λ p. p.slots) pages) n [] ≡ (get_or pages n d).slots
+get_slots [] n d e = sym e
+get_slots (p ∷ pages) zero d e = refl
+get_slots (p ∷ pages) (suc n) d e = get_slots pages n d e
+
+pub page_slots : (pages : List Content) (n : ℕ) → page_at (slots_of pages) n ≡ (content_at pages n).slots
+page_slots pages n = get_slots (empty 0 0 ∷ pages) n (empty 0 0) refl
+
+pub slot_same : (a b : Seen) (p : Place) → content_at b.pages p.page ≡ content_at a.pages p.page → slot_in b p ≡ slot_in a p
+slot_same a b p e =
+    ap (λ (xs : List Slot). slot_at xs p.slot) (page_slots b.pages p.page ∙ ap (λ (x : Content). x.slots) e ∙ sym (page_slots a.pages p.page))
+
+-- a place of no page
+past_page : (pages : List Content) (n : ℕ) → length pages < n → page_at (slots_of pages) n ≡ []
+past_page pages n above = page_slots pages n ∙ ap (λ (x : Content). x.slots) (none (empty 0 0 ∷ pages) n (omega arith))
+  where
+    none : (xs : List Content) (n : ℕ) → length xs ≤ n → get_or xs n (empty 0 0) ≡ empty 0 0
+    none [] n past = refl
+    none (x ∷ xs) zero past = absurd (omega arith)
+    none (x ∷ xs) (suc n) past = none xs n (omega arith)
+
+pub no_slot : (s : Seen) (p : Place) → length s.pages < p.page → slot_in s p ≡ Free
+no_slot s p above = ap (λ (xs : List Slot). slot_at xs p.slot) (past_page s.pages p.page above)
+
+pub slot_zero : (s : Seen) (p : Place) → p.page ≡ 0 → slot_in s p ≡ Free
+slot_zero s p e = ap (λ n. slot_at (page_at (slots_of s.pages) n) p.slot) e
+
+-- rows
+
+pub row_here : (at : Place → Slot) (home : Place) (seen : Glimpse) (s : Slot) → at home ≡ s → IsGlimpse seen s → seen.other ≡ None
+    → row_at at home ≡ seen.row
+row_here at home seen s e is none = ap (home_row at) e ∙ go s is.row (sym is.other ∙ none)
+  where
+    go : (s : Slot) → seen.row ≡ plain_row s → pointed_to s ≡ None → home_row at s ≡ seen.row
+    go Free r n = sym r
+    go (Row c row) r n = sym r
+    go (Pointer c o) r n = absurd (cc (n))
+    go (Over c row h) r n = sym r
+    go (DeadRow c u) r n = sym r
+    go (DeadPointer c o u) r n = sym r
+    go (DeadOver c h u) r n = sym r
+
+pub row_there : (at : Place → Slot) (home o : Place) (s : Slot) → at home ≡ s → pointed_to s ≡ Some o
+    → row_at at home ≡ over_row (at o)
+row_there at home o s e is = ap (home_row at) e ∙ go s is
+  where
+    go : (s : Slot) → pointed_to s ≡ Some o → home_row at s ≡ over_row (at o)
+    go Free n = absurd (cc (n))
+    go (Row c row) n = absurd (cc (n))
+    go (Pointer c p) n = ap (λ q. over_row (at q)) (some_same p o n)
+      where
+        some_same : (p q : Place) → Some p ≡ Some q → p ≡ q
+        some_same p q e = ap (λ (x : Option Place). from x) e
+          where
+            from : Option Place → Place
+            from None = p
+            from (Some x) = x
+    go (Over c row h) n = absurd (cc (n))
+    go (DeadRow c u) n = absurd (cc (n))
+    go (DeadPointer c p u) n = absurd (cc (n))
+    go (DeadOver c h u) n = absurd (cc (n))

@@ -1,0 +1,11 @@
+-- What a slot says of a row.
+use Rattle.std.specs.Prelude.{◌≡◌}
+use Rattle.rg_home.specs.Plan.{pointed_to}
+use Rattle.rg_home.specs.Rows.{over_row, plain_row}
+use Rattle.rg_home.specs.Slot.{Slot}
+use Rattle.rg_space.specs.declared.look.Glimpse.{Glimpse}
+
+pub record IsGlimpse (seen : Glimpse) (s : Slot) : Type 0 where
+  pub other : seen.other ≡ pointed_to s
+  pub row : seen.row ≡ plain_row s
+  pub moved : seen.moved ≡ over_row s

@@ -1,0 +1,75 @@
+// Slots and rows, read through frames. What is said is of the pages as they are afterwards, and what
+// was held stays as it is, so it holds whether or not pages come back that are given up.
+ghost use Rattle.std.specs.Prelude.{◌≡◌, ◌≤◌, ◌<◌, ◌+◌, ◌↔◌, IsTrue, true, length, IfOk, IfErr, OnOk, OnErr};
+ghost use Rattle.rg_home.specs.Rows.{row_at};
+ghost use Rattle.rg_page.specs.Content.{Content};
+ghost use Rattle.rg_space.specs.Glimpse.{IsGlimpse};
+ghost use Rattle.rg_space.specs.Took.{Took, slot_in, HasRisen};
+
+use crate::fault::SpaceFault;
+use crate::look::{Glimpse, look_at};
+use rg_base::place::Place;
+use rg_base::row::Row;
+use rg_page::frames::Frames;
+use std::alloc::Global;
+
+/// What the slot at a place says of a row. Its page is held from then on.
+pub fn glimpse_of<F: Frames>(
+    frames: &mut F,
+    alloc: Global,
+    place: Place,
+) -> Result<Glimpse, SpaceFault>
+    requires low { 1 ≤ place.page }
+    requires high { place.page ≤ length (F.seen frames.old).pages }
+    requires spare { 1 ≤ (F.seen frames.old).spare }
+    ensures seen { IfOk result (λ seen. IsGlimpse seen (slot_in (F.seen frames.new) place)) }
+    ensures held { OnOk result ((F.seen frames.new).held place.page ≡ true) }
+    ensures took { Took 1 (F.seen frames.old) (F.seen frames.new) }
+    ensures reserved { (F.seen frames.new).reserved ≡ (F.seen frames.old).reserved }
+    ensures cause { IfErr result (λ fault. HasRisen fault (F.seen frames.old) (F.seen frames.new)) }
+    ensures gave { F.gave (F.seen frames.old).pages (F.seen frames.old).forced frames.old frames.new }
+{
+    let page = match frames.with_page(place.page) {
+        Ok(page) => page,
+        Err(_) => return Err(SpaceFault::Device),
+    };
+    match look_at(alloc, page, place.slot) {
+        Ok(seen) => Ok(seen),
+        Err(_) => Err(SpaceFault::NoMemory),
+    }
+}
+
+/// Whether there is a page of this number.
+pub fn is_there<F: Frames>(frames: &F, number: u32) -> bool
+    ensures { IsTrue result ↔ ((1 ≤ number) × (number ≤ length (F.seen frames.now).pages)) }
+{
+    number != 0 && number <= frames.count()
+}
+
+/// The row whose home is at this place, followed to its Over area if it has moved. Both pages are
+/// held from then on.
+pub fn row_of<F: Frames>(
+    frames: &mut F,
+    alloc: Global,
+    home: Place,
+) -> Result<Option<Row>, SpaceFault>
+    requires spare { 2 ≤ (F.seen frames.old).spare }
+    ensures row { IfOk result (λ row. row ≡ row_at (slot_in (F.seen frames.new)) home) }
+    ensures took { Took 2 (F.seen frames.old) (F.seen frames.new) }
+    ensures reserved { (F.seen frames.new).reserved ≡ (F.seen frames.old).reserved }
+    ensures cause { IfErr result (λ fault. HasRisen fault (F.seen frames.old) (F.seen frames.new)) }
+    ensures gave { F.gave (F.seen frames.old).pages (F.seen frames.old).forced frames.old frames.new }
+{
+    if !is_there(frames, home.page) {
+        return Ok(None);
+    }
+    let seen = glimpse_of(frames, alloc, home)?;
+    let Some(other) = seen.other else {
+        return Ok(seen.row);
+    };
+    if !is_there(frames, other.page) {
+        return Ok(None);
+    }
+    let over = glimpse_of(frames, alloc, other)?;
+    Ok(over.moved)
+}
