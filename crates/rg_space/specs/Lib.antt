@@ -3,3 +3,5 @@ pub mod Tops
 pub mod Moves
 pub mod Glimpse
 pub mod Took
+pub mod Applied
+pub mod Space

@@ -4,6 +4,7 @@ ghost use Rattle.rg_home.specs.Pages.{page_at, wrote};
 ghost use Rattle.rg_home.specs.Plan.{admits, first_page};
 ghost use Rattle.rg_page.specs.Ceiling.{ceiling};
 ghost use Rattle.rg_page.specs.Bare.{numbers_of};
+ghost use Rattle.rg_space.specs.Indexed.{HasRoom};
 ghost use Rattle.rg_space.specs.Tops.{Bounds, Raised};
 
 use rg_base::no_memory::NoMemory;
@@ -54,6 +55,13 @@ impl Index {
         ensures { result ≡ length self.now.pages }
     {
         self.pages.len() as u32
+    }
+
+    /// How many pages more there is room for.
+    pub fn room(&self) -> usize
+        ensures { result ≡ self.now.room }
+    {
+        self.spare.len()
     }
 
     /// The summary of the page of this number, from 1, if there is one.
@@ -131,12 +139,28 @@ impl Index {
         Ok(())
     }
 
+    /// A slot of a page was set, if the page is there and still fits. It takes no memory.
+    pub fn note(&mut self, place: Place, header: Header)
+        ensures pages { HasRoom self.old.pages place header → self.new.pages ≡ wrote self.old.pages place header }
+        ensures count { length self.new.pages ≡ length self.old.pages }
+        ensures room { self.new.room ≡ self.old.room }
+    {
+        let fits = match self.page(place.page) {
+            None => false,
+            Some(summary) => summary.fits(place.slot, &header),
+        };
+        if fits {
+            self.set(place, header);
+        }
+    }
+
     /// A slot of a page was set. It takes no memory.
     pub fn set(&mut self, place: Place, header: Header)
         requires low { 1 ≤ place.page }
         requires high { place.page ≤ length self.old.pages }
         requires fits { Fits (placed (page_at self.old.pages place.page) place.slot header) }
         ensures pages { self.new.pages ≡ wrote self.old.pages place header }
+        ensures count { length self.new.pages ≡ length self.old.pages }
         ensures room { self.new.room ≡ self.old.room }
     {
         let at = place.page as usize - 1;

@@ -13,3 +13,6 @@ pub mod look;
 pub mod fault;
 /// Slots and rows, read through frames.
 pub mod read;
+
+/// The table space.
+pub mod space;

@@ -1,0 +1,37 @@
+-- What a record makes of pages.
+use Rattle.std.specs.Prelude.{◌≡◌, ◌≤◌, ◌+◌, ◌==◌, ℕ, Bool, true, false, List, [], ◌∷◌, ◌++◌, Option, length, if◌then◌else◌}
+use Rattle.rg_base.specs.declared.part.Part.{Part}
+use Rattle.rg_base.specs.declared.row.Row.{Row}
+use Rattle.rg_home.specs.Pages.{FitsAll, TakesAll, TakesRow, row_or_empty, made, page_at}
+use Rattle.rg_home.specs.Slots.{placed, Fits}
+use Rattle.rg_page.specs.Content.{Content, empty, slots_of}
+use Rattle.rg_page.specs.Seen.{Seen, set_content}
+
+-- the pages, with an empty one more where page n is the next
+abbrev pub grown : (copy : ℕ) → List Content → (n : ℕ) → List Content
+grown copy pages n = if n == length pages + 1 then pages ++ empty copy n ∷ [] else pages
+
+-- the pages after one part, and after several in order, each at the record's position
+abbrev pub wrote_part : (copy owner : ℕ) → Option Row → (position : ℕ) → List Content → Part → List Content
+wrote_part copy owner after position pages x = set_content (grown copy pages x.page) x owner after position
+
+abbrev pub wrote_all : (copy owner : ℕ) → Option Row → (position : ℕ) → List Content → List Part → List Content
+wrote_all copy owner after position pages [] = pages
+wrote_all copy owner after position pages (x ∷ parts) =
+    wrote_all copy owner after position (wrote_part copy owner after position pages x) parts
+
+-- the page of a part is held, or is the next one, which is reserved
+pub record IsReady (s : Seen) (x : Part) : Type 0 where
+  pub held : x.page ≤ length s.pages → s.held x.page ≡ true
+  pub next : x.page ≡ length s.pages + 1 → 1 ≤ s.reserved
+
+abbrev pub AllReady : Seen → List Part → Type 0
+AllReady s [] = Unit {0}
+AllReady s (x ∷ parts) = IsReady s x × AllReady s parts
+
+-- a part fits its page, which is there or is the next one
+pub record Fitting (pages : List Content) (owner : ℕ) (after : Option Row) (x : Part) : Type 0 where
+  pub low : 1 ≤ x.page
+  pub high : x.page ≤ length pages + 1
+  pub row : TakesRow after x.op
+  pub fits : Fits (placed (page_at (slots_of pages) x.page) x.slot (made owner (row_or_empty after) x.op))

@@ -1,0 +1,31 @@
+-- What is seen of a space, and what its calls rest on.
+--
+-- 1. A space shows its frames, what it keeps of each page, and its capacity.
+-- 2. The summaries agree with the pages. It is a condition of the calls and not a fact of the type,
+--    since frames may be lent; each call keeps it.
+use Rattle.std.specs.Prelude.{◌≡◌, ◌≤◌, ℕ, map, length}
+use Rattle.rg_page.specs.Bare.{bare}
+use Rattle.rg_page.specs.Content.{slots_of}
+use Rattle.rg_page.specs.Seen.{Seen}
+use Rattle.rg_space.specs.Indexed.{Indexed}
+use Rattle.rg_space.specs.declared.space.Space.{Space}
+
+abbrev pub frames_of : {F : Type 0} → Space F → F
+frames_of space = space.frames
+
+abbrev pub index_of : {F : Type 0} → Space F → Indexed
+index_of space = space.index
+
+abbrev pub capacity_in : {F : Type 0} → Space F → ℕ
+capacity_in space = space.capacity
+
+-- the summaries are those of the pages
+abbrev pub Agree : Seen → Indexed → Type 0
+Agree seen index = map (map bare) (slots_of seen.pages) ≡ index.pages
+
+-- the numbers of pages are in step, whatever the pages hold
+pub record InStep (seen : Seen) (index : Indexed) (capacity : ℕ) : Type 0 where
+  pub count : length index.pages ≡ length seen.pages
+  pub room : index.room ≡ seen.reserved
+  pub few : length seen.pages ≤ capacity
+  pub limit : capacity ≤ seen.limit
