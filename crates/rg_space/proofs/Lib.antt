@@ -1,3 +1,4 @@
 pub mod Blocks
 pub mod SetWrote
 pub mod Took
+pub mod Agreeing

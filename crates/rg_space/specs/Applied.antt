@@ -5,7 +5,7 @@ use Rattle.rg_base.specs.declared.row.Row.{Row}
 use Rattle.rg_home.specs.Pages.{FitsAll, TakesAll, TakesRow, row_or_empty, made, page_at}
 use Rattle.rg_home.specs.Slots.{placed, Fits}
 use Rattle.rg_page.specs.Content.{Content, empty, slots_of}
-use Rattle.rg_page.specs.Seen.{Seen, set_content}
+use Rattle.rg_page.specs.Seen.{Seen, Keeps, set_content}
 
 -- the pages, with an empty one more where page n is the next
 abbrev pub grown : (copy : ℕ) → List Content → (n : ℕ) → List Content
@@ -35,3 +35,15 @@ pub record Fitting (pages : List Content) (owner : ℕ) (after : Option Row) (x 
   pub high : x.page ≤ length pages + 1
   pub row : TakesRow after x.op
   pub fits : Fits (placed (page_at (slots_of pages) x.page) x.slot (made owner (row_or_empty after) x.op))
+
+-- what a write does to frames, beside their pages, where its record has this position
+pub record Writes (position : ℕ) (a b : Seen) : Type 0 where
+  pub keeps : Keeps a b
+  pub sure : b.sure ≡ a.sure
+  pub more : length a.pages ≤ length b.pages
+  pub held : (p : ℕ) → a.held p ≡ true → b.held p ≡ true
+  pub left : length b.pages + b.reserved ≡ length a.pages + a.reserved
+  pub forced : b.forced ≡ a.forced
+  pub spare : a.spare ≤ b.spare
+  pub idle : position ≤ a.forced → a.idle ≤ b.idle
+  pub faults : b.faults ≡ a.faults

@@ -5,10 +5,11 @@
 // 2. A space is full exactly where a plan needs a page above its capacity.
 // 3. What a call says of pages is of the pages as they are afterwards. Where summaries and pages
 //    agree, a plan is the one that the definitions compute of these pages.
-ghost use Rattle.std.specs.Prelude.{◌≡◌, ◌≤◌, ◌<◌, ◌+◌, ℕ, List, true, length, IfOk, IfErr, OnOk, OnErr, Some, None};
+ghost use Rattle.std.specs.Prelude.{◌≡◌, ◌⊎◌, ◌≤◌, ◌<◌, ◌+◌, ℕ, List, true, length, IfOk, IfErr, OnOk, OnErr, Some, None};
 ghost use Rattle.std.specs.Option.{option_copied};
 ghost use Rattle.rg_page.specs.Content.{Content, slots_of};
-ghost use Rattle.rg_space.specs.Applied.{Fitting, IsReady, AllReady, wrote_part};
+ghost use Rattle.rg_page.specs.Seen.{set_content};
+ghost use Rattle.rg_space.specs.Applied.{Fitting, IsReady, Writes, grown, wrote_part};
 ghost use Rattle.rg_space.specs.Space.{Agree, InStep, frames_of, index_of, capacity_in};
 
 use crate::index::Index;
@@ -31,21 +32,37 @@ pub struct Space<F> {
 }
 
 impl<F: Frames> Space<F> {
-    // Applies one part. A page that is the next one is added.
-    fn put(&mut self, part: &Part, tran: Tran, after: Option<&Row>, position: Position)
+    // Adds page `number`, where it is the next one.
+    fn grow(&mut self, number: u32)
         requires step { InStep (F.seen (frames_of self.old)) (index_of self.old) (capacity_in self.old) }
-        requires ready { IsReady (F.seen (frames_of self.old)) part.now }
-        requires below { part.now.page ≤ capacity_in self.old }
+        requires next { number ≡ length (F.seen (frames_of self.old)).pages + 1 → 1 ≤ (F.seen (frames_of self.old)).reserved }
+        requires below { number ≤ capacity_in self.old }
         ensures step { InStep (F.seen (frames_of self.new)) (index_of self.new) (capacity_in self.new) }
         ensures capacity { capacity_in self.new ≡ capacity_in self.old }
-        ensures pages { Fitting (F.seen (frames_of self.old)).pages tran.0 (option_copied after.entry) part.now → (F.seen (frames_of self.new)).pages ≡ wrote_part (F.seen (frames_of self.old)).copy tran.0 (option_copied after.entry) position.0 (F.seen (frames_of self.old)).pages part.now }
-        ensures held { (p : ℕ) → (F.seen (frames_of self.old)).held p ≡ true → (F.seen (frames_of self.new)).held p ≡ true }
-        ensures copy { (F.seen (frames_of self.new)).copy ≡ (F.seen (frames_of self.old)).copy }
+        ensures pages { (F.seen (frames_of self.new)).pages ≡ grown (F.seen (frames_of self.old)).copy (F.seen (frames_of self.old)).pages number }
+        ensures added { (F.seen (frames_of self.new)).held number ≡ true ⊎ (length (F.seen (frames_of self.new)).pages ≡ length (F.seen (frames_of self.old)).pages) }
+        ensures writes { Writes 0 (F.seen (frames_of self.old)) (F.seen (frames_of self.new)) }
+        ensures agree { Agree (F.seen (frames_of self.old)) (index_of self.old) → Agree (F.seen (frames_of self.new)) (index_of self.new) }
+        ensures gave { (pages : List Content) (n : ℕ) → F.gave pages n (frames_of self.old) (frames_of self.new) }
     {
-        if part.page as u64 == self.frames.count() as u64 + 1 {
+        if number as u64 == self.frames.count() as u64 + 1 {
             self.frames.add_page();
             self.index.add();
         }
+    }
+
+    // Sets a slot of a page that is there.
+    fn set(&mut self, part: &Part, tran: Tran, after: Option<&Row>, position: Position)
+        requires step { InStep (F.seen (frames_of self.old)) (index_of self.old) (capacity_in self.old) }
+        requires held { part.now.page ≤ length (F.seen (frames_of self.old)).pages → (F.seen (frames_of self.old)).held part.now.page ≡ true }
+        ensures step { InStep (F.seen (frames_of self.new)) (index_of self.new) (capacity_in self.new) }
+        ensures capacity { capacity_in self.new ≡ capacity_in self.old }
+        ensures pages { Fitting (F.seen (frames_of self.old)).pages tran.0 (option_copied after.entry) part.now → (F.seen (frames_of self.new)).pages ≡ set_content (F.seen (frames_of self.old)).pages part.now tran.0 (option_copied after.entry) position.0 }
+        ensures count { length (F.seen (frames_of self.new)).pages ≡ length (F.seen (frames_of self.old)).pages }
+        ensures writes { Writes position.0 (F.seen (frames_of self.old)) (F.seen (frames_of self.new)) }
+        ensures agree { Agree (F.seen (frames_of self.old)) (index_of self.old) → Agree (F.seen (frames_of self.new)) (index_of self.new) }
+        ensures gave { (pages : List Content) (n : ℕ) → F.gave pages n (frames_of self.old) (frames_of self.new) }
+    {
         if part.page == 0 || part.page > self.frames.count() {
             return;
         }
@@ -59,5 +76,21 @@ impl<F: Frames> Space<F> {
             }
             Err(_) => {}
         }
+    }
+
+    // Applies one part. A page that is the next one is added.
+    fn put(&mut self, part: &Part, tran: Tran, after: Option<&Row>, position: Position)
+        requires step { InStep (F.seen (frames_of self.old)) (index_of self.old) (capacity_in self.old) }
+        requires ready { IsReady (F.seen (frames_of self.old)) part.now }
+        requires below { part.now.page ≤ capacity_in self.old }
+        ensures step { InStep (F.seen (frames_of self.new)) (index_of self.new) (capacity_in self.new) }
+        ensures capacity { capacity_in self.new ≡ capacity_in self.old }
+        ensures pages { Fitting (F.seen (frames_of self.old)).pages tran.0 (option_copied after.entry) part.now → (F.seen (frames_of self.new)).pages ≡ wrote_part (F.seen (frames_of self.old)).copy tran.0 (option_copied after.entry) position.0 (F.seen (frames_of self.old)).pages part.now }
+        ensures writes { Writes position.0 (F.seen (frames_of self.old)) (F.seen (frames_of self.new)) }
+        ensures agree { Agree (F.seen (frames_of self.old)) (index_of self.old) → Agree (F.seen (frames_of self.new)) (index_of self.new) }
+        ensures gave { (pages : List Content) (n : ℕ) → F.gave pages n (frames_of self.old) (frames_of self.new) }
+    {
+        self.grow(part.page);
+        self.set(part, tran, after, position);
     }
 }
