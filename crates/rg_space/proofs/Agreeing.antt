@@ -51,7 +51,7 @@ module _ (pages : List Content) (index : List (List Slot)) (agree : map (map bar
       let slots : List Slot = (content_at pages x.page).slots in
       let s : Slot = made owner (row_or_empty after) x.op in
       let bare_fits : Fits (placed (map bare slots) x.slot (bare s)) =
-          omega (arith, bare_used (placed slots x.slot s), ap used (bare_placed slots x.slot s), fits.fits) in
+      omega (arith, bare_used (placed slots x.slot s), ap used (bare_placed slots x.slot s), fits.fits) in
       record {
         low = low;
         high = omega (arith, agree_count);

@@ -1,5 +1,5 @@
 -- What a record makes of pages.
-use Rattle.std.specs.Prelude.{◌≡◌, ◌≤◌, ◌+◌, ◌==◌, ℕ, Bool, true, false, List, [], ◌∷◌, ◌++◌, Option, length, if◌then◌else◌}
+use Rattle.std.specs.Prelude.{◌≡◌, ◌≤◌, ◌<◌, ◌+◌, ◌==◌, ℕ, true, List, [], ◌∷◌, ◌++◌, Option, length, if◌then◌else◌}
 use Rattle.rg_base.specs.declared.part.Part.{Part}
 use Rattle.rg_base.specs.declared.row.Row.{Row}
 use Rattle.rg_home.specs.Pages.{FitsAll, TakesAll, TakesRow, row_or_empty, made, page_at}
@@ -20,21 +20,30 @@ wrote_all copy owner after position pages [] = pages
 wrote_all copy owner after position pages (x ∷ parts) =
     wrote_all copy owner after position (wrote_part copy owner after position pages x) parts
 
--- the page of a part is held, or is the next one, which is reserved
-pub record IsReady (s : Seen) (x : Part) : Type 0 where
-  pub held : x.page ≤ length s.pages → s.held x.page ≡ true
-  pub next : x.page ≡ length s.pages + 1 → 1 ≤ s.reserved
+-- the page of each part that is there is held
+abbrev pub AllHeld : Seen → List Part → Type 0
+AllHeld s [] = Unit {0}
+AllHeld s (x ∷ parts) = (x.page ≤ length s.pages → s.held x.page ≡ true) × AllHeld s parts
 
-abbrev pub AllReady : Seen → List Part → Type 0
-AllReady s [] = Unit {0}
-AllReady s (x ∷ parts) = IsReady s x × AllReady s parts
-
--- a part fits its page, which is there or is the next one
-pub record Fitting (pages : List Content) (owner : ℕ) (after : Option Row) (x : Part) : Type 0 where
+-- a part fits its page, which is there, or is the next one and within the limit
+pub record Fitting (limit : ℕ) (pages : List Content) (owner : ℕ) (after : Option Row) (x : Part) : Type 0 where
   pub low : 1 ≤ x.page
-  pub high : x.page ≤ length pages + 1
+  pub next : x.page ≤ length pages + 1
+  pub high : x.page ≤ limit
   pub row : TakesRow after x.op
   pub fits : Fits (placed (page_at (slots_of pages) x.page) x.slot (made owner (row_or_empty after) x.op))
+
+-- each part in its turn
+abbrev pub FittingAll : (limit copy owner : ℕ) → Option Row → (position : ℕ) → List Content → List Part → Type 0
+FittingAll limit copy owner after position pages [] = Unit {0}
+FittingAll limit copy owner after position pages (x ∷ parts) =
+    Fitting limit pages owner after x
+    × FittingAll limit copy owner after position (wrote_part copy owner after position pages x) parts
+
+-- pages may be added up to this limit
+pub record Within (limit : ℕ) (s : Seen) (capacity : ℕ) : Type 0 where
+  pub reserved : limit ≤ length s.pages + s.reserved
+  pub capacity_holds : limit ≤ capacity
 
 -- what a write does to frames, beside their pages, where its record has this position
 pub record Writes (position : ℕ) (a b : Seen) : Type 0 where
@@ -42,6 +51,7 @@ pub record Writes (position : ℕ) (a b : Seen) : Type 0 where
   pub sure : b.sure ≡ a.sure
   pub more : length a.pages ≤ length b.pages
   pub held : (p : ℕ) → a.held p ≡ true → b.held p ≡ true
+  pub new_held : (p : ℕ) → length a.pages < p → p ≤ length b.pages → b.held p ≡ true
   pub left : length b.pages + b.reserved ≡ length a.pages + a.reserved
   pub forced : b.forced ≡ a.forced
   pub spare : a.spare ≤ b.spare

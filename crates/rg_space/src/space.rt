@@ -9,7 +9,7 @@ ghost use Rattle.std.specs.Prelude.{◌≡◌, ◌⊎◌, ◌≤◌, ◌<◌, �
 ghost use Rattle.std.specs.Option.{option_copied};
 ghost use Rattle.rg_page.specs.Content.{Content, slots_of};
 ghost use Rattle.rg_page.specs.Seen.{set_content};
-ghost use Rattle.rg_space.specs.Applied.{Fitting, IsReady, Writes, grown, wrote_part};
+ghost use Rattle.rg_space.specs.Applied.{Fitting, FittingAll, AllHeld, Within, Writes, grown, wrote_part, wrote_all};
 ghost use Rattle.rg_space.specs.Space.{Agree, InStep, frames_of, index_of, capacity_in};
 
 use crate::index::Index;
@@ -32,23 +32,27 @@ pub struct Space<F> {
 }
 
 impl<F: Frames> Space<F> {
-    // Adds page `number`, where it is the next one.
+    // Adds page `number`, where it is the next one, within the capacity, and reserved.
     fn grow(&mut self, number: u32)
-        requires step { InStep (F.seen (frames_of self.old)) (index_of self.old) (capacity_in self.old) }
-        requires next { number ≡ length (F.seen (frames_of self.old)).pages + 1 → 1 ≤ (F.seen (frames_of self.old)).reserved }
-        requires below { number ≤ capacity_in self.old }
+        requires { InStep (F.seen (frames_of self.old)) (index_of self.old) (capacity_in self.old) }
         ensures step { InStep (F.seen (frames_of self.new)) (index_of self.new) (capacity_in self.new) }
         ensures capacity { capacity_in self.new ≡ capacity_in self.old }
-        ensures pages { (F.seen (frames_of self.new)).pages ≡ grown (F.seen (frames_of self.old)).copy (F.seen (frames_of self.old)).pages number }
-        ensures added { (F.seen (frames_of self.new)).held number ≡ true ⊎ (length (F.seen (frames_of self.new)).pages ≡ length (F.seen (frames_of self.old)).pages) }
+        ensures pages { (limit : ℕ) → Within limit (F.seen (frames_of self.old)) (capacity_in self.old) → number ≤ length (F.seen (frames_of self.old)).pages + 1 → number ≤ limit → (F.seen (frames_of self.new)).pages ≡ grown (F.seen (frames_of self.old)).copy (F.seen (frames_of self.old)).pages number }
         ensures writes { Writes 0 (F.seen (frames_of self.old)) (F.seen (frames_of self.new)) }
         ensures agree { Agree (F.seen (frames_of self.old)) (index_of self.old) → Agree (F.seen (frames_of self.new)) (index_of self.new) }
         ensures gave { (pages : List Content) (n : ℕ) → F.gave pages n (frames_of self.old) (frames_of self.new) }
     {
-        if number as u64 == self.frames.count() as u64 + 1 {
-            self.frames.add_page();
-            self.index.add();
+        if number as u64 != self.frames.count() as u64 + 1 {
+            return;
         }
+        if number > self.capacity {
+            return;
+        }
+        if self.index.room() == 0 {
+            return;
+        }
+        self.frames.add_page();
+        self.index.add();
     }
 
     // Sets a slot of a page that is there.
@@ -57,7 +61,7 @@ impl<F: Frames> Space<F> {
         requires held { part.now.page ≤ length (F.seen (frames_of self.old)).pages → (F.seen (frames_of self.old)).held part.now.page ≡ true }
         ensures step { InStep (F.seen (frames_of self.new)) (index_of self.new) (capacity_in self.new) }
         ensures capacity { capacity_in self.new ≡ capacity_in self.old }
-        ensures pages { Fitting (F.seen (frames_of self.old)).pages tran.0 (option_copied after.entry) part.now → (F.seen (frames_of self.new)).pages ≡ set_content (F.seen (frames_of self.old)).pages part.now tran.0 (option_copied after.entry) position.0 }
+        ensures pages { (limit : ℕ) → part.now.page ≤ length (F.seen (frames_of self.old)).pages → Fitting limit (F.seen (frames_of self.old)).pages tran.0 (option_copied after.entry) part.now → (F.seen (frames_of self.new)).pages ≡ set_content (F.seen (frames_of self.old)).pages part.now tran.0 (option_copied after.entry) position.0 }
         ensures count { length (F.seen (frames_of self.new)).pages ≡ length (F.seen (frames_of self.old)).pages }
         ensures writes { Writes position.0 (F.seen (frames_of self.old)) (F.seen (frames_of self.new)) }
         ensures agree { Agree (F.seen (frames_of self.old)) (index_of self.old) → Agree (F.seen (frames_of self.new)) (index_of self.new) }
@@ -81,16 +85,31 @@ impl<F: Frames> Space<F> {
     // Applies one part. A page that is the next one is added.
     fn put(&mut self, part: &Part, tran: Tran, after: Option<&Row>, position: Position)
         requires step { InStep (F.seen (frames_of self.old)) (index_of self.old) (capacity_in self.old) }
-        requires ready { IsReady (F.seen (frames_of self.old)) part.now }
-        requires below { part.now.page ≤ capacity_in self.old }
+        requires held { part.now.page ≤ length (F.seen (frames_of self.old)).pages → (F.seen (frames_of self.old)).held part.now.page ≡ true }
         ensures step { InStep (F.seen (frames_of self.new)) (index_of self.new) (capacity_in self.new) }
         ensures capacity { capacity_in self.new ≡ capacity_in self.old }
-        ensures pages { Fitting (F.seen (frames_of self.old)).pages tran.0 (option_copied after.entry) part.now → (F.seen (frames_of self.new)).pages ≡ wrote_part (F.seen (frames_of self.old)).copy tran.0 (option_copied after.entry) position.0 (F.seen (frames_of self.old)).pages part.now }
+        ensures pages { (limit : ℕ) → Within limit (F.seen (frames_of self.old)) (capacity_in self.old) → Fitting limit (F.seen (frames_of self.old)).pages tran.0 (option_copied after.entry) part.now → (F.seen (frames_of self.new)).pages ≡ wrote_part (F.seen (frames_of self.old)).copy tran.0 (option_copied after.entry) position.0 (F.seen (frames_of self.old)).pages part.now }
         ensures writes { Writes position.0 (F.seen (frames_of self.old)) (F.seen (frames_of self.new)) }
         ensures agree { Agree (F.seen (frames_of self.old)) (index_of self.old) → Agree (F.seen (frames_of self.new)) (index_of self.new) }
         ensures gave { (pages : List Content) (n : ℕ) → F.gave pages n (frames_of self.old) (frames_of self.new) }
     {
         self.grow(part.page);
         self.set(part, tran, after, position);
+    }
+
+    // Applies parts, in order.
+    fn put_all(&mut self, parts: &[Part], tran: Tran, after: Option<&Row>, position: Position)
+        requires step { InStep (F.seen (frames_of self.old)) (index_of self.old) (capacity_in self.old) }
+        requires held { AllHeld (F.seen (frames_of self.old)) parts.now }
+        ensures step { InStep (F.seen (frames_of self.new)) (index_of self.new) (capacity_in self.new) }
+        ensures capacity { capacity_in self.new ≡ capacity_in self.old }
+        ensures pages { (limit : ℕ) → Within limit (F.seen (frames_of self.old)) (capacity_in self.old) → FittingAll limit (F.seen (frames_of self.old)).copy tran.0 (option_copied after.entry) position.0 (F.seen (frames_of self.old)).pages parts.now → (F.seen (frames_of self.new)).pages ≡ wrote_all (F.seen (frames_of self.old)).copy tran.0 (option_copied after.entry) position.0 (F.seen (frames_of self.old)).pages parts.now }
+        ensures writes { Writes position.0 (F.seen (frames_of self.old)) (F.seen (frames_of self.new)) }
+        ensures agree { Agree (F.seen (frames_of self.old)) (index_of self.old) → Agree (F.seen (frames_of self.new)) (index_of self.new) }
+        ensures gave { (pages : List Content) (n : ℕ) → F.gave pages n (frames_of self.old) (frames_of self.new) }
+    {
+        for part in parts {
+            self.put(part, tran, after, position);
+        }
     }
 }
