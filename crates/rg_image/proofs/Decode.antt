@@ -187,9 +187,9 @@ start_starts [] fit = tt
 start_starts (r ∷ rs) fit = first_spot 1 r (fit r (0, omega arith, refl))
 
 -- an image that spells the records has them as its log
-pub log_is : (capacity : ℕ) (rs : List Record) (i : Image) → AllFit rs → AreValues rs → (end_of start rs).page ≤ capacity → Spells capacity rs i → log_of capacity i ≡ rs
+pub log_is : (capacity : ℕ) (rs : List Record) (i : Image) → AllFit rs → AreValues rs → (1 ≤ length rs → (end_of start rs).page ≤ capacity) → Spells capacity rs i → log_of capacity i ≡ rs
 log_is capacity rs i fit values high spells =
-    pages_is i (suc (end_of start rs).page) capacity 1 start rs (start_starts rs fit) fit values (λ q low lt up. spells q low (omega (arith, lt))) (λ there. omega (arith, high)) (omega arith) (λ there. omega arith)
+    pages_is i (suc (end_of start rs).page) capacity 1 start rs (start_starts rs fit) fit values (λ q low lt up. spells q low (omega (arith, lt))) (λ there. omega (arith, high there)) (omega arith) (λ there. omega arith)
 
 -- the pages up to the first zero one are enough
 pub opened_log : (capacity : ℕ) (rs : List Record) (from page : ℕ) (i : Image) → IsOpened rs from page → AreValues rs → page ≤ capacity → SpellsTo page rs i → (page < capacity → i Log (page + 1) ≡ page_bytes (page + 1) []) → log_of capacity i ≡ rs
@@ -214,14 +214,14 @@ opened_log capacity rs from page i is values le spells stop =
         none_above (p + 1) start (r ∷ l) (omega (arith, last_page (r ∷ l) from p (o.begins low) o.fit (o.there low) (o.whole low)))
 
 -- an image that spells all of the records, or some
-pub some_log : (capacity low : ℕ) (rs : List Record) (i : Image) → AllFit rs → AreValues rs → (end_of start rs).page ≤ capacity → SpellsFrom capacity rs low i → (n : ℕ) × (low ≤ n) × (n ≤ length rs) × (log_of capacity i ≡ take n rs)
+pub some_log : (capacity low : ℕ) (rs : List Record) (i : Image) → AllFit rs → AreValues rs → (1 ≤ length rs → (end_of start rs).page ≤ capacity) → SpellsFrom capacity rs low i → (n : ℕ) × (low ≤ n) × (n ≤ length rs) × (log_of capacity i ≡ take n rs)
 some_log capacity low rs i fit values high is =
     let n = is.count in
     let whole : take n rs ++ drop n rs ≡ rs = take-append-drop n rs in
     let before : (end_of start (take n rs)).page ≤ (end_of start rs).page =
     omega (arith, end_page (end_of start (take n rs)) (drop n rs), ap (λ (s : Spot). s.page) (sym (end_of_append start (take n rs) (drop n rs)) ∙ ap (end_of start) whole)) in
-    (n, is.least, is.most, log_is capacity (take n rs) i (λ r c. fit r (contains_take n rs r c)) (λ r c. values r (contains_take n rs r c)) (omega (arith, before, high)) is.spells)
+    (n, is.least, is.most, log_is capacity (take n rs) i (λ r c. fit r (contains_take n rs r c)) (λ r c. values r (contains_take n rs r c)) (λ some. omega (arith, before, high (omega (arith, some, length-append (take n rs) (drop n rs), ap (λ (l : List Record). length l) whole)))) is.spells)
 
-pub whole_log : (capacity low : ℕ) (rs : List Record) (i : Image) → AllFit rs → AreValues rs → (end_of start rs).page ≤ capacity → low ≡ length rs → SpellsFrom capacity rs low i → log_of capacity i ≡ rs
+pub whole_log : (capacity low : ℕ) (rs : List Record) (i : Image) → AllFit rs → AreValues rs → (1 ≤ length rs → (end_of start rs).page ≤ capacity) → low ≡ length rs → SpellsFrom capacity rs low i → log_of capacity i ≡ rs
 whole_log capacity low rs i fit values high all is =
     let s = some_log capacity low rs i fit values high is in s.3 ∙ take_all s.0 rs (omega (arith, s.1, all))

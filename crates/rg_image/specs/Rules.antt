@@ -1,6 +1,6 @@
 -- When a volume is sound, as far as its log shows it. Each rule is tested over the whole log before
 -- the next. A rule that is broken names a log page.
-use Rattle.std.specs.Prelude.{◌≡◌, ◌≢◌, ◌≤◌, ◌<◌, ◌+◌, ◌-◌, ◌*◌, ℕ, zero, suc, max, ◌==◌, ◌||◌, Bool, true, false, if◌then◌else◌, List, [], ◌∷◌, ◌++◌, length, Option, replicate, filter}
+use Rattle.std.specs.Prelude.{◌≡◌, ◌≢◌, ◌≤◌, ◌<◌, ◌+◌, ◌-◌, ◌*◌, ℕ, zero, suc, max, min, ◌==◌, ◌||◌, Bool, true, false, if◌then◌else◌, List, [], ◌∷◌, ◌++◌, length, Option, replicate, filter}
 use Rattle.std.specs.List.{list_any, AllByRecursion}
 use Rattle.rg_base.specs.declared.part.Part.{Part}
 use Rattle.rg_base.specs.declared.part.SlotOp.{SlotOp}
@@ -44,6 +44,10 @@ pub data ArePages (i : Image) : ℕ → List Record → Type 0 where
   NoPage : ArePages i 0 []
   OnePage : (page : ℕ) (rs more : List Record) → ArePages i page rs
       → IsNextPage (page + 1) rs more (i Log (page + 1)) → ArePages i (page + 1) (rs ++ more)
+
+-- The pages of a set that are used: the first 65,536. All these rules are of used pages.
+abbrev pub used_pages : ℕ → ℕ
+used_pages pages = min pages 65536
 
 abbrev pub IsZero : List ℕ → Type 0
 IsZero bytes = bytes ≡ replicate 4096 0
@@ -156,7 +160,8 @@ PartIn capacity part = IsPageOf capacity part.page × PlaceIn capacity part.op
 
 -- how many pages the set of a copy has
 abbrev pub copy_capacity : Capacities → ℕ → ℕ
-copy_capacity capacities copy = if copy == 1 then capacities.first else capacities.second
+copy_capacity capacities copy =
+    used_pages (if copy == 1 then capacities.first else capacities.second)
 
 -- each page and each number of pages that the record names is within the set of its copy
 abbrev pub NamesPages : Capacities → ℕ → Kind → Type 0

@@ -3,6 +3,8 @@
 
 /// Pages that are being filled.
 pub mod buffer;
+/// Copies of records.
+pub mod copy;
 /// Why no record is read.
 pub mod fault;
 /// What the values of the types have.

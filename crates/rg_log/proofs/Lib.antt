@@ -1,0 +1,4 @@
+pub mod Append
+pub mod Fill
+pub mod Room
+pub mod Same

@@ -1,0 +1,11 @@
+//! The write-ahead log: its records, forcing them to the volume, and reading them again.
+#![tactic(auto)]
+
+/// Why a call was refused.
+pub mod fault;
+/// Forcing a page of the log.
+pub mod force;
+/// The log.
+pub mod log;
+/// Pages of the log.
+pub mod page;
