@@ -56,7 +56,7 @@ count_small : (f : ℕ) (rs : List Record) → length rs ≡ f → 0 + f ≤ roo
 count_small f rs len le = omega (arith, len, le)
 
 -- where the parts of a page begin
-page_parts : (p first count used : ℕ) (body zeros : List ℕ) → count < 2 ^ 16
+pub page_parts : (p first count used : ℕ) (body zeros : List ℕ) → count < 2 ^ 16
     → (big_number 2 (drop 16 ((page_head p first count used ++ body) ++ zeros)) ≡ count) × (drop 24 ((page_head p first count used ++ body) ++ zeros) ≡ body ++ zeros)
 page_parts p first count used body zeros small =
     let a : List ℕ = 82 ∷ 71 ∷ 76 ∷ 49 ∷ (field 4 p ++ field 8 first) in

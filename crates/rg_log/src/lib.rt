@@ -7,5 +7,9 @@ pub mod fault;
 pub mod force;
 /// The log.
 pub mod log;
+/// Reading the records of a page.
+pub mod entries;
 /// Pages of the log.
 pub mod page;
+#[cfg(test)]
+mod tests;

@@ -60,6 +60,22 @@ impl Model for Log {
 }
 
 impl Log {
+    /// The log of a set of so many pages that are all zero.
+    pub fn empty(alloc: Global, pages: u32) -> Log
+        requires { pages ≤ 65536 }
+        ensures { result ≡ record { records = []; forced = 0; reserved = 0; pages = pages } }
+    {
+        Log {
+            records: Vec::new(alloc),
+            forced: 0,
+            from: 0,
+            page: 1,
+            used: 0,
+            reserved: 0,
+            pages,
+        }
+    }
+
     /// The bytes of the records, each with its length.
     pub fn used(&self) -> u32
         ensures { result ≡ log_bytes self.now.records }
