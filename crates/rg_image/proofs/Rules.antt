@@ -36,7 +36,7 @@ fitting_full page used (x ∷ back) more r all full =
     ap (λ (t : Bool). if t then suc (fitting (used + size_of x) (back ++ r ∷ more)) else 0) fits ∙ ap suc rest
 
 -- the spot after all records, counted from the last page
-last_spot : (rs : List Record) (from page : ℕ) → IsOpened rs from page → 1 ≤ page → end_of start rs ≡ end_of (record { page = page; used = 0 }) (drop from rs)
+pub last_spot : (rs : List Record) (from page : ℕ) → IsOpened rs from page → 1 ≤ page → end_of start rs ≡ end_of (record { page = page; used = 0 }) (drop from rs)
 last_spot rs from page is low =
     let all : from + fitting 0 (drop from rs) ≡ length rs = is.whole low in
     let len : length (drop from rs) ≡ length rs - from = length-drop from rs in

@@ -9,6 +9,8 @@ pub mod force;
 pub mod log;
 /// Reading the records of a page.
 pub mod entries;
+/// Opening a log.
+pub mod open;
 /// Pages of the log.
 pub mod page;
 #[cfg(test)]

@@ -9,6 +9,7 @@ ghost use Rattle.rg_base.specs.declared.set.Set.TheVariants.{Log as LogSet};
 ghost use Rattle.rg_outside.specs.Faults.{HasCause, Rose};
 ghost use Rattle.rg_outside.specs.Made.{WritesIn};
 ghost use Rattle.rg_outside.specs.Moments.{EachCall, EachImage, HoldsThroughout, IfTold};
+ghost use Rattle.rg_image.specs.Form.{IsOpened};
 ghost use Rattle.rg_image.specs.Kept.{IsEntry, AreEntries};
 ghost use Rattle.rg_image.specs.Log.{SpellsFrom, log_of};
 ghost use Rattle.rg_image.specs.Pack.{end_of, size_of, log_bytes, start};
@@ -17,7 +18,7 @@ ghost use Rattle.rg_log.specs.Kept.{LeavesLog, Listed, ReserveFaultIs, left_of, 
 
 use crate::fault::{Device, ReserveFault};
 use crate::force::{force_page, next_page};
-use crate::page::{page_end, size_of};
+use crate::page::{all_bytes, page_end, size_of};
 use rg_base::no_memory::NoMemory;
 use rg_base::position::Position;
 use rg_outside::source::Failed;
@@ -71,6 +72,44 @@ impl Log {
             from: 0,
             page: 1,
             used: 0,
+            reserved: 0,
+            pages,
+        }
+    }
+
+    /// The log of a set whose first pages have these records, the last of these pages from record
+    /// `from` on.
+    pub fn opened(records: Vec<Record>, from: usize, page: u32, pages: u32) -> Log
+        requires opened { IsOpened records.items from page }
+        requires entries { AreEntries records.items }
+        requires page { page ≤ pages }
+        requires pages { pages ≤ 65536 }
+        ensures { result ≡ record {
+          records = records.items;
+          forced = length records.items;
+          reserved = 0;
+          pages = pages;
+        } }
+    {
+        let used = all_bytes(records.as_slice());
+        let forced = records.len();
+        if page == 0 {
+            return Log {
+                records,
+                forced,
+                from: 0,
+                page: 1,
+                used,
+                reserved: 0,
+                pages,
+            };
+        }
+        Log {
+            records,
+            forced,
+            from,
+            page,
+            used,
             reserved: 0,
             pages,
         }

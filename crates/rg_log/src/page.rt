@@ -1,5 +1,5 @@
 // A log page is filled with the records from one of them on, as many as fit.
-ghost use Rattle.std.specs.Prelude.{◌++◌, ◌≡◌, ◌≤◌, ◌+◌, length, take, drop};
+ghost use Rattle.std.specs.Prelude.{◌++◌, ◌≡◌, ◌≤◌, ◌+◌, ◌*◌, length, take, drop};
 ghost use Rattle.rg_image.specs.Kept.{IsEntry, AreEntries};
 ghost use Rattle.rg_image.specs.Pack.{fitting, size_of, log_bytes};
 ghost use Rattle.rg_image.specs.Page.{page_bytes, page_head, spelt};
@@ -18,6 +18,19 @@ pub fn size_of(entry: &Record) -> u32
     ensures high { result ≤ 1731 }
 {
     entry.size() + 2
+}
+
+/// The bytes that the records take.
+pub fn all_bytes(records: &[Record]) -> u32
+    requires entries { AreEntries records.now }
+    requires few { log_bytes records.now ≤ 4072 * 65536 }
+    ensures { result ≡ log_bytes records.now }
+{
+    let mut bytes = 0;
+    for entry in records {
+        bytes += size_of(entry);
+    }
+    bytes
 }
 
 // Adds the record behind its length.

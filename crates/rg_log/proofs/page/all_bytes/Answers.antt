@@ -1,0 +1,6 @@
+use Rattle.rg_log.proofs.Fill.{item_is}
+use Rattle.rg_log.proofs.page.all_bytes.Goals as goal
+
+pub size_of-bytes-requires : goal.size_of-bytes-requires
+size_of-bytes-requires c =
+    item_is c.args.records.now c.loop-entry.entry-index _ c.requires.entries c.loop-entry-test.true c.entry-item.is
