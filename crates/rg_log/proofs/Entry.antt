@@ -1,7 +1,7 @@
 -- Records that stand one after the other.
-use Rattle.std.proofs.Common.{◌≡◌, ℕ, zero, suc, ◌+◌, ◌-◌, ◌≤◌, ◌<◌, ◌^◌, List, [], ◌∷◌, ◌++◌, length, take, drop, get_or, refl, sym, ◌∙◌, subst, ap, arith}
-use Rattle.std.specs.List.{Contains, flat_map}
-use Rattle.std.proofs.lemmas.List.{take_at, drop_at, append_assoc, drop_more, take_more, length-append, take-append-drop, drop-drop, take_all}
+use Rattle.std.proofs.Common.{◌≡◌, ℕ, ◌+◌, ◌≤◌, ◌<◌, ◌^◌, List, [], ◌∷◌, ◌++◌, length, take, drop, get_or, refl, sym, ◌∙◌, ap, arith}
+use Rattle.std.specs.List.{flat_map}
+use Rattle.std.proofs.lemmas.List.{take_at, drop_at, append_assoc, drop_more, take_more, length-append, take-append-drop}
 use Rattle.std.proofs.lemmas.List.Elements.{Contains-get_or}
 use Rattle.byteorder.specs.Endian.{big_number}
 use Rattle.rg_base.specs.Field.{field}
@@ -9,13 +9,12 @@ use Rattle.rg_base.proofs.Fields.{length-field}
 use Rattle.rg_record.specs.declared.fault.RecordFault.{RecordFault}
 use Rattle.rg_record.specs.declared.fault.RecordFault.TheVariants.{NotARecord, NoMemory}
 use Rattle.rg_record.specs.declared.record.Record.{Record}
-use Rattle.rg_record.specs.Spelled.{IsRecord}
 use Rattle.rg_record.specs.Spelling.{record_bytes, record_size}
 use Rattle.rg_record.specs.Told.{IsNone}
 use Rattle.rg_record.proofs.Again.{one_record}
 use Rattle.rg_record.proofs.Rows.{number_front}
 use Rattle.rg_record.proofs.Sizes.{length-record_bytes, record_size_limit}
-use Rattle.rg_image.specs.Kept.{IsEntry, AreEntries}
+use Rattle.rg_image.specs.Kept.{IsEntry}
 use Rattle.rg_image.specs.Page.{spelt}
 use Rattle.rg_log.specs.Read.{IsNoEntry, StandAt}
 

@@ -1,15 +1,14 @@
 -- Whether a page follows the one before it.
-use Rattle.std.proofs.Common.{◌≡◌, ◌⊎◌, ⊎_elim, ℕ, zero, suc, ◌+◌, ◌-◌, ◌≤◌, ◌<◌, List, [], ◌∷◌, ◌++◌, length, take, drop, get_or, refl, sym, ◌∙◌, subst, ap, arith}
+use Rattle.std.proofs.Common.{◌≡◌, ℕ, ◌+◌, ◌-◌, ◌≤◌, ◌<◌, List, [], ◌∷◌, length, take, drop, get_or, sym, ◌∙◌, subst, ap, arith}
 use Rattle.std.proofs.lemmas.List.{drop_more, drop_all, take_all, length-drop}
 use Rattle.rg_record.specs.declared.record.Record.{Record}
 use Rattle.rg_image.specs.Form.{IsOpened}
-use Rattle.rg_image.specs.Kept.{AreEntries}
-use Rattle.rg_image.specs.Pack.{Spot, start, end_of, next_spot, size_of, room, fitting, log_bytes}
-use Rattle.rg_image.specs.Rules.{Follows, IsNextPage, IsZero, position_after}
+use Rattle.rg_image.specs.Pack.{Spot, start, end_of, size_of, room, fitting, log_bytes}
+use Rattle.rg_image.specs.Rules.{Follows, IsNextPage, position_after}
 use Rattle.rg_image.proofs.Pack.{after_fit}
 use Rattle.rg_image.proofs.Room.{first_step, fitting_room}
 use Rattle.rg_image.proofs.Rules.{last_spot}
-use Rattle.std.proofs.Common.{Option, Some, None, ◌^◌}
+use Rattle.std.proofs.Common.{Option, Some, ◌^◌}
 use Rattle.std.specs.declared.vec.Vec.{Vec}
 use Rattle.std.specs.declared.alloc.Global.{Global}
 use Rattle.rg_image.specs.Log.{records_of}

@@ -1,12 +1,12 @@
 -- The form of a log page.
-use Rattle.std.proofs.Common.{◌≡◌, ℕ, ◌+◌, ◌-◌, ◌≤◌, ◌<◌, ◌^◌, Bool, true, false, not, List, [], ◌∷◌, ◌++◌, length, take, drop, replicate, refl, sym, ◌∙◌, subst, ap, arith}
+use Rattle.std.proofs.Common.{◌≡◌, ℕ, ◌-◌, ◌<◌, ◌^◌, Bool, true, false, not, List, [], ◌∷◌, ◌++◌, length, take, drop, replicate, refl, sym, ◌∙◌, subst, ap, arith}
 use Rattle.std.specs.List.{flat_map}
 use Rattle.std.proofs.lemmas.List.{take-append-drop}
 use Rattle.byteorder.specs.Endian.{big_number}
 use Rattle.rg_base.specs.Field.{field}
 use Rattle.rg_record.specs.declared.record.Record.{Record}
 use Rattle.rg_record.proofs.Rows.{number_front}
-use Rattle.rg_image.specs.Pack.{fitting, log_bytes}
+use Rattle.rg_image.specs.Pack.{log_bytes}
 use Rattle.rg_image.specs.Page.{page_bytes, page_head, spelt}
 use Rattle.rg_image.proofs.Decode.{page_parts}
 use Rattle.rg_image.proofs.Room.{fitting_room}

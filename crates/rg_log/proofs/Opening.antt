@@ -1,9 +1,13 @@
 -- Pages are read one after the other.
-use Rattle.std.proofs.Common.{◌≡◌, ℕ, ◌+◌, ◌≤◌, ◌<◌, List, [], ◌++◌, length, Option, Some, None, Result, refl, sym, ◌∙◌, subst, ap, arith}
+use Rattle.std.proofs.Common.{◌≡◌, ℕ, ◌+◌, ◌≤◌, List, [], ◌++◌, Option, Some, None, Result, refl, sym, subst, arith}
 use Rattle.rg_base.specs.declared.set.Set.TheVariants.{Log}
-use Rattle.rg_outside.specs.Calls.{Told, Image, read_of}
-use Rattle.rg_outside.specs.Made.{MadeRead}
-use Rattle.rg_outside.specs.Moments.{IfTold}
+use Rattle.rg_outside.specs.Calls.{Told, read_of}
+use Rattle.std.proofs.Common.{Ok, Err}
+use Rattle.rg_outside.specs.Calls.{Call, Read, Synced, FailedRead, FailedSync, Refused}
+use Rattle.rg_outside.specs.Made.{MadeRead, MadeSync, IsReadCall, IsSyncCall}
+use Rattle.rg_outside.proofs.Frame.{one_call, no_calls}
+use Rattle.rg_log.specs.Open.{IsQuiet}
+use Rattle.rg_outside.specs.Moments.{EachCall, IfTold}
 use Rattle.rg_outside.specs.declared.source.Failed.{Failed}
 use Rattle.rg_outside.proofs.Failing.{read_reads}
 use Rattle.rg_record.specs.declared.record.Record.{Record}
@@ -59,3 +63,21 @@ broken (Some t) capacity page rs bytes pages reads le other =
 
 pub both_entries : (rs more : List Record) → AreEntries rs → AreEntries more → AreEntries (rs ++ more)
 both_entries rs more a b x c = ⊎_elim (a x) (b x) (Contains-append_cases rs more x c)
+
+sync_quiet : (result : Result (Unit {0}) Failed) (call : Call) → IsSyncCall result call → IsQuiet call
+sync_quiet (Ok x) Synced is = tt
+sync_quiet (Err e) FailedSync is = tt
+sync_quiet (Err e) Refused is = tt
+sync_quiet _ _ is = absurd is
+
+read_quiet : (result : Result (Unit {0}) Failed) (call : Call) → IsReadCall result call → IsQuiet call
+read_quiet (Ok x) Read is = tt
+read_quiet (Err e) FailedRead is = tt
+read_quiet (Err e) Refused is = tt
+read_quiet _ _ is = absurd is
+
+pub only_sync : (old new : Option Told) (result : Result (Unit {0}) Failed) → MadeSync result old new → EachCall old new IsQuiet
+only_sync old new result made = one_call IsQuiet old old new (IsSyncCall result) (no_calls IsQuiet old) made (sync_quiet result)
+
+pub only_read : (old mid new : Option Told) (result : Result (Unit {0}) Failed) → EachCall old mid IsQuiet → MadeRead result mid new → EachCall old new IsQuiet
+only_read old mid new result so_far made = one_call IsQuiet old mid new (IsReadCall result) so_far made (read_quiet result)

@@ -1,6 +1,7 @@
 -- Opening a log.
-use Rattle.std.specs.Prelude.{◌≡◌, ℕ, List, Option, Some, None}
-use Rattle.rg_outside.specs.Calls.{Told, read_of}
+use Rattle.std.specs.Prelude.{ℕ, List, Option}
+use Rattle.rg_outside.specs.Calls.{Told, read_of, Call, Read, Wrote, Synced, FailedRead, FailedWrite, FailedSync, Refused}
+use Rattle.rg_outside.specs.Faults.{Rose}
 use Rattle.rg_outside.specs.Moments.{IfTold}
 use Rattle.rg_record.specs.declared.record.Record.{Record}
 use Rattle.rg_image.specs.Rules.{IsNextPage, IsZero, BreaksLogPages}
@@ -16,9 +17,20 @@ IsNext page rs bytes Broken =
     (IsZero bytes → ⊥) × ((more : List Record) → IsNextPage page rs more bytes → ⊥)
 IsNext page rs bytes (Page more) = IsNextPage page rs more.items bytes
 
--- why a log was not opened: this page breaks the rule for log pages, or a call failed
-abbrev pub IsLogFault : Option Told → ℕ → LogFault → Type 0
-IsLogFault told pages (Damaged page) =
+-- a call that writes nothing
+abbrev pub IsQuiet : Call → Type 0
+IsQuiet Read = Unit {0}
+IsQuiet (Wrote set page bytes) = ⊥
+IsQuiet Synced = Unit {0}
+IsQuiet FailedRead = Unit {0}
+IsQuiet (FailedWrite set page bytes reads) = ⊥
+IsQuiet FailedSync = Unit {0}
+IsQuiet Refused = Unit {0}
+
+-- Why a log was not opened: this page breaks the rule for log pages, a call of the volume failed, or
+-- memory ran out.
+abbrev pub IsLogFault : Option Told → ℕ → ℕ → ℕ → LogFault → Type 0
+IsLogFault told pages before now (Damaged page) =
     IfTold told (λ t. BreaksLogPages pages (read_of t.first t.calls) page)
-IsLogFault told pages Device = Unit {0}
-IsLogFault told pages NoMemory = Unit {0}
+IsLogFault told pages before now Device = Rose before now
+IsLogFault told pages before now NoMemory = Unit {0}

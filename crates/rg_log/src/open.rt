@@ -5,12 +5,12 @@
 // 3. Nothing is written.
 ghost use Rattle.std.specs.Prelude.{◌≡◌, ◌≤◌, ◌+◌, ◌*◌, [], IfOk, IfErr, IsTrue, ◌↔◌, length};
 ghost use Rattle.rg_outside.specs.Calls.{read_of};
-ghost use Rattle.rg_outside.specs.Moments.{IfTold};
+ghost use Rattle.rg_outside.specs.Moments.{EachCall, IfTold};
 ghost use Rattle.rg_image.specs.Form.{IsOpened};
 ghost use Rattle.rg_image.specs.Kept.{AreEntries};
 ghost use Rattle.rg_image.specs.Rules.{Follows, HasLogPages, position_after};
 ghost use Rattle.rg_log.specs.Kept.{log_pages};
-ghost use Rattle.rg_log.specs.Open.{IsNext, IsLogFault};
+ghost use Rattle.rg_log.specs.Open.{IsNext, IsLogFault, IsQuiet};
 
 use crate::entries::read_page;
 use crate::fault::LogFault;
@@ -103,11 +103,16 @@ pub fn open_log<V: Volume>(alloc: Global, volume: &mut V) -> Result<Log, LogFaul
         (λ t. HasLogPages log.pages (read_of t.first t.calls) log.records)) }
     // The page that is named is the first that has not.
     ensures fault { IfErr result
-        (IsLogFault (V.told volume.new) (log_pages (V.capacities volume.old))) }
+        (IsLogFault (V.told volume.new) (log_pages (V.capacities volume.old))
+        (V.faults volume.old) (V.faults volume.new)) }
+    // No page is written.
+    ensures only { EachCall (V.told volume.old) (V.told volume.new) IsQuiet }
     ensures capacities { V.capacities volume.new ≡ V.capacities volume.old }
+    ensures later { V.faults volume.old ≤ V.faults volume.new }
 {
-    if volume.sync().is_err() {
-        return Err(LogFault::Device);
+    match volume.sync() {
+        Err(_) => return Err(LogFault::Device),
+        Ok(()) => {}
     }
     let pages = volume.capacity(Set::Log).min(65536);
     let mut records: Vec<Record> = Vec::new(alloc);

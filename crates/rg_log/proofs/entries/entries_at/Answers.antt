@@ -1,5 +1,4 @@
-use Rattle.std.proofs.Common.{◌≡◌, ◌++◌, ◌∷◌, [], ℕ, List, refl, arith}
-use Rattle.rg_base.specs.declared.part.SlotOp.TheVariants.{Free}
+use Rattle.std.proofs.Common.{◌≡◌, ◌++◌, ◌∷◌, [], ℕ, List, refl}
 use Rattle.rg_record.specs.declared.fault.RecordFault.{RecordFault}
 use Rattle.rg_record.specs.declared.fault.RecordFault.TheVariants.{NotARecord, NoMemory}
 use Rattle.rg_record.specs.declared.record.Kind.TheVariants.{Commit}

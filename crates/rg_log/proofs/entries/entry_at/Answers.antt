@@ -1,4 +1,4 @@
-use Rattle.std.proofs.Common.{arith, rules}
+use Rattle.std.proofs.Common.{rules}
 use Rattle.rg_log.proofs.Entry.{too_short, no_room, not_read}
 use Rattle.rg_log.proofs.entries.entry_at.Goals as goal
 

@@ -1,13 +1,11 @@
-use Rattle.std.proofs.Common.{◌≡◌, ◌≤◌, ◌<◌, ◌^◌, ℕ, List, sym, ◌∙◌, ap, subst, arith, rules, length, vec_len, not, true, false, eqb}
+use Rattle.std.proofs.Common.{◌≡◌, ◌≤◌, sym, ◌∙◌, ap, subst, arith, rules, length, vec_len, eqb}
 use lib.Pointwise.{pointwise, bytes_decides}
-use Rattle.rg_record.specs.declared.record.Record.{Record}
-use Rattle.rg_record.specs.declared.fault.RecordFault.{RecordFault}
 use Rattle.rg_record.specs.declared.fault.RecordFault.TheVariants.{NotARecord}
 use Rattle.rg_image.specs.Kept.{AreEntries}
 use Rattle.rg_image.specs.Pack.{fitting}
 use Rattle.rg_image.specs.Page.{page_bytes}
-use Rattle.rg_log.specs.Read.{AreNone, IsForm}
-use Rattle.rg_log.proofs.Form.{form_stands, form_read, was_true, not_both}
+use Rattle.rg_log.specs.Read.{AreNone}
+use Rattle.rg_log.proofs.Form.{form_stands, form_read, not_both}
 use Rattle.rg_log.proofs.entries.read_page.Goals as goal
 
 pub returns-in-NotARecord : goal.returns-in-NotARecord

@@ -1,4 +1,4 @@
-use Rattle.std.proofs.Common.{◌≡◌, ◌≤◌, ◌+◌, ℕ, List, length, refl, sym, ◌∙◌, subst, ap, ◌++◌, arith, rules, min, []}
+use Rattle.std.proofs.Common.{◌≡◌, ◌+◌, ℕ, List, length, sym, ◌∙◌, subst, ap, ◌++◌, arith, rules, min, []}
 use Rattle.rg_outside.specs.Calls.{read_of}
 use Rattle.rg_base.specs.declared.set.Set.TheVariants.{Log}
 use Rattle.rg_outside.specs.Capacities.{Capacities, capacity_of}
@@ -12,7 +12,7 @@ use Rattle.rg_log.specs.Kept.{Listed, log_pages}
 use Rattle.rg_log.specs.Open.{IsNext}
 use Rattle.rg_log.specs.declared.open.Next.{Next}
 use Rattle.rg_log.specs.declared.open.Next.TheVariants.{End, Broken, Page}
-use Rattle.rg_log.proofs.Opening.{no_page, read_on, one_page, at_zero, at_end, broken, both_entries}
+use Rattle.rg_log.proofs.Opening.{no_page, read_on, one_page, at_zero, at_end, broken, both_entries, only_sync, only_read}
 use Rattle.rg_log.proofs.open.open_log.Goals as goal
 
 none_opened : (rs : List Record) → rs ≡ [] → IsOpened rs 0 0
@@ -29,6 +29,8 @@ loop-page-init g c = record {
   opened = none_opened c.new-records.result.items c.new-records.ensures.items;
   entries = λ r m. absurd (omega (arith, m.1, ap (λ (l : List Record). length l) c.new-records.ensures.items));
   capacities = c.sync.ensures.capacities;
+  later = c.sync.ensures.cause.later;
+  only = only_sync _ _ _ c.sync.ensures.made;
   are = no_page _ c.new-records.result.items c.new-records.ensures.items;
 }
 
@@ -46,7 +48,7 @@ returns-in-Ok-End-clause-log g c =
     let zeros = seen (c.loop-page.page + 1) c.as_slice.result.now rs c.read.new.into c.in-Ok-End.field-0 End c.as_slice.ensures.value c.in-Ok-End.field-0-is c.in-Ok-End.ensures in
     subst (λ (l : Listed). IfTold told (λ t. HasLogPages l.pages (read_of t.first t.calls) l.records)) (sym c.opened.ensures)
     (at_zero told c.min-pages.result c.loop-page.page rs c.read.new.into
-    (read_on _ _ _ c.loop-page.page rs c.loop-page.invariant.are c.read.ensures.made) c.in-Ok.ensures.content (omega (arith, c.loop-page-test.true)) zeros)
+    (read_on _ _ _ c.loop-page.page rs c.loop-page.invariant.are c.read.ensures.made) c.in-Ok-read.ensures.content (omega (arith, c.loop-page-test.true)) zeros)
 
 pub returns-in-Ok-Broken-clause-fault : goal.returns-in-Ok-Broken-clause-fault
 returns-in-Ok-Broken-clause-fault g c =
@@ -57,7 +59,7 @@ returns-in-Ok-Broken-clause-fault g c =
     let other = seen (c.loop-page.page + 1) c.as_slice.result.now rs c.read.new.into c.in-Ok-Broken.field-0 Broken c.as_slice.ensures.value c.in-Ok-Broken.field-0-is c.in-Ok-Broken.ensures in
     subst (λ (k : ℕ). IfTold told (λ t. BreaksLogPages k (read_of t.first t.calls) (c.loop-page.page + 1))) pages
     (broken told c.min-pages.result c.loop-page.page rs c.read.new.into
-    (read_on _ _ _ c.loop-page.page rs c.loop-page.invariant.are c.read.ensures.made) c.in-Ok.ensures.content (omega (arith, c.loop-page-test.true)) other)
+    (read_on _ _ _ c.loop-page.page rs c.loop-page.invariant.are c.read.ensures.made) c.in-Ok-read.ensures.content (omega (arith, c.loop-page-test.true)) other)
 
 pub loop-page-preserved : goal.loop-page-preserved
 loop-page-preserved g c =
@@ -75,7 +77,9 @@ loop-page-preserved g c =
           (next_opened rs more c.loop-page.from c.loop-page.page c.read.new.into was.opened next);
       entries = both_entries rs more was.entries next.entries;
       capacities = c.read.ensures.capacities ∙ was.capacities;
-      are = one_page told c.loop-page.page rs more c.read.new.into (read_on _ _ _ c.loop-page.page rs was.are c.read.ensures.made) c.in-Ok.ensures.content next;
+      later = omega (arith, was.later, c.read.ensures.cause.later);
+      only = only_read _ _ _ _ was.only c.read.ensures.made;
+      are = one_page told c.loop-page.page rs more c.read.new.into (read_on _ _ _ c.loop-page.page rs was.are c.read.ensures.made) c.in-Ok-read.ensures.content next;
     })
 
 pub returns-clause-log : goal.returns-clause-log
@@ -84,3 +88,21 @@ returns-clause-log g c =
     subst (λ (l : Listed). IfTold told (λ t. HasLogPages l.pages (read_of t.first t.calls) l.records)) (sym c.opened-2.ensures)
     (at_end told c.min-pages.result c.loop-page.page c.loop-page.records.items c.loop-page.invariant.are
     (omega (arith, c.loop-page-test.false, c.loop-page.auto)))
+
+pub returns-in-Err-clause-only : goal.returns-in-Err-clause-only
+returns-in-Err-clause-only g c = only_sync _ _ _ c.sync.ensures.made
+
+pub returns-in-Err-read-clause-only : goal.returns-in-Err-read-clause-only
+returns-in-Err-read-clause-only g c = only_read _ _ _ _ c.loop-page.invariant.only c.read.ensures.made
+
+pub returns-in-Err-read_next-clause-only : goal.returns-in-Err-read_next-clause-only
+returns-in-Err-read_next-clause-only g c = only_read _ _ _ _ c.loop-page.invariant.only c.read.ensures.made
+
+pub returns-in-Ok-End-clause-only : goal.returns-in-Ok-End-clause-only
+returns-in-Ok-End-clause-only g c = only_read _ _ _ _ c.loop-page.invariant.only c.read.ensures.made
+
+pub returns-in-Ok-Broken-clause-only : goal.returns-in-Ok-Broken-clause-only
+returns-in-Ok-Broken-clause-only g c = only_read _ _ _ _ c.loop-page.invariant.only c.read.ensures.made
+
+pub returns-then-is_err-clause-only : goal.returns-then-is_err-clause-only
+returns-then-is_err-clause-only g c = only_read _ _ _ _ c.loop-page.invariant.only c.read.ensures.made

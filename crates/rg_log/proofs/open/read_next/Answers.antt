@@ -1,5 +1,5 @@
-use Rattle.std.proofs.Common.{◌≡◌, ◌+◌, ℕ, arith, subst, sym, ◌∙◌, true, false, eqb, replicate}
-use lib.Pointwise.{pointwise, bytes_decides}
+use Rattle.std.proofs.Common.{◌≡◌, ◌+◌, subst, sym, ◌∙◌, true, false, replicate}
+use lib.Pointwise.{bytes_decides}
 use Rattle.rg_image.specs.Kept.{AreEntries}
 use Rattle.rg_image.specs.Rules.{Follows}
 use Rattle.rg_log.proofs.Follow.{form_some, none_follows}
