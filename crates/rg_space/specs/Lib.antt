@@ -3,5 +3,6 @@ pub mod Tops
 pub mod Moves
 pub mod Glimpse
 pub mod Took
+pub mod AtHome
 pub mod Applied
 pub mod Space

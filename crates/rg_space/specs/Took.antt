@@ -1,5 +1,5 @@
 -- What calls that read do to frames.
-use Rattle.std.specs.Prelude.{◌≡◌, ◌≤◌, ◌+◌, ℕ, List}
+use Rattle.std.specs.Prelude.{◌≡◌, ◌≤◌, ◌+◌, ℕ, true, List, length}
 use Rattle.rg_base.specs.declared.place.Place.{Place}
 use Rattle.rg_home.specs.Pages.{slot_of}
 use Rattle.rg_home.specs.Slot.{Slot}
@@ -25,3 +25,13 @@ abbrev pub HasRisen : SpaceFault → Seen → Seen → Type 0
 HasRisen (Full need) a b = ⊥
 HasRisen Device a b = Rose a.faults b.faults
 HasRisen NoMemory a b = Unit {0}
+
+-- the one fault is a Device, and has its cause
+abbrev pub IsRisen : SpaceFault → Seen → Seen → Type 0
+IsRisen (Full need) a b = ⊥
+IsRisen Device a b = Rose a.faults b.faults
+IsRisen NoMemory a b = ⊥
+
+-- the page of this number is held, if there is one
+abbrev pub IsHeldAt : Seen → ℕ → Type 0
+IsHeldAt s n = 1 ≤ n → n ≤ length s.pages → s.held n ≡ true

@@ -113,6 +113,15 @@ impl Index {
         Ok(())
     }
 
+    /// Gives up the room for one page.
+    pub fn give_back(&mut self)
+        requires { 1 ≤ self.old.room }
+        ensures pages { self.new.pages ≡ self.old.pages }
+        ensures room { self.new.room + 1 ≡ self.old.room }
+    {
+        self.spare.pop();
+    }
+
     /// Adds an empty page at the end, in the room for it. It takes no memory.
     pub fn add(&mut self)
         requires { 1 ≤ self.old.room }

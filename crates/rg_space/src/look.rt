@@ -1,4 +1,5 @@
 ghost use Rattle.std.specs.Prelude.{◌≡◌, IfOk};
+ghost use Rattle.rg_home.specs.Plan.{pointed_to};
 ghost use Rattle.rg_home.specs.Slots.{slot_at};
 ghost use Rattle.rg_space.specs.Glimpse.{IsGlimpse};
 
@@ -57,5 +58,18 @@ pub fn look_at(alloc: Global, page: &Page, i: u16) -> Result<Glimpse, NoMemory>
             row: None,
             moved: None,
         }),
+    }
+}
+
+/// The place that slot i of a page points to, if it is a Pointer.
+pub fn pointer_at(page: &Page, i: u16) -> Option<Place>
+    ensures { result ≡ pointed_to (slot_at page.now.slots i) }
+{
+    if i >= page.slot_count() {
+        return None;
+    }
+    match page.slot(i) {
+        Slot::Pointer { other, .. } => Some(other),
+        _ => None,
     }
 }

@@ -1,13 +1,14 @@
 // Slots and rows, read through frames. What is said is of the pages as they are afterwards, and what
 // was held stays as it is, so it holds whether or not pages come back that are given up.
 ghost use Rattle.std.specs.Prelude.{◌≡◌, ◌≤◌, ◌<◌, ◌+◌, ◌↔◌, IsTrue, true, length, IfOk, IfErr, OnOk, OnErr};
-ghost use Rattle.rg_home.specs.Rows.{row_at};
+ghost use Rattle.rg_home.specs.Plan.{pointed_to};
 ghost use Rattle.rg_page.specs.Content.{Content};
 ghost use Rattle.rg_space.specs.Glimpse.{IsGlimpse};
-ghost use Rattle.rg_space.specs.Took.{Took, slot_in, HasRisen};
+ghost use Rattle.rg_space.specs.Took.{Took, slot_in, HasRisen, IsRisen, IsHeldAt};
+ghost use Rattle.rg_space.specs.AtHome.{IsAtHome};
 
 use crate::fault::SpaceFault;
-use crate::look::{Glimpse, look_at};
+use crate::look::{Glimpse, look_at, pointer_at};
 use rg_base::place::Place;
 use rg_base::row::Row;
 use rg_page::frames::Frames;
@@ -46,30 +47,64 @@ pub fn is_there<F: Frames>(frames: &F, number: u32) -> bool
     number != 0 && number <= frames.count()
 }
 
-/// The row whose home is at this place, followed to its Over area if it has moved. Both pages are
-/// held from then on.
-pub fn row_of<F: Frames>(
-    frames: &mut F,
-    alloc: Global,
-    home: Place,
-) -> Result<Option<Row>, SpaceFault>
+/// What a home shows: the Over area that it points to, and its row, wherever that lies.
+#[derive(Debug, Drop)]
+pub struct AtHome {
+    pub other: Option<Place>,
+    pub row: Option<Row>,
+}
+
+/// What the home at this place shows. Its page, and that of its Over area, are held from then on.
+pub fn home_of<F: Frames>(frames: &mut F, alloc: Global, home: Place) -> Result<AtHome, SpaceFault>
     requires spare { 2 ≤ (F.seen frames.old).spare }
-    ensures row { IfOk result (λ row. row ≡ row_at (slot_in (F.seen frames.new)) home) }
+    ensures seen { IfOk result (IsAtHome (F.seen frames.new) home) }
     ensures took { Took 2 (F.seen frames.old) (F.seen frames.new) }
     ensures reserved { (F.seen frames.new).reserved ≡ (F.seen frames.old).reserved }
     ensures cause { IfErr result (λ fault. HasRisen fault (F.seen frames.old) (F.seen frames.new)) }
     ensures gave { F.gave (F.seen frames.old).pages (F.seen frames.old).forced frames.old frames.new }
 {
     if !is_there(frames, home.page) {
-        return Ok(None);
+        return Ok(AtHome {
+            other: None,
+            row: None,
+        });
     }
     let seen = glimpse_of(frames, alloc, home)?;
     let Some(other) = seen.other else {
-        return Ok(seen.row);
+        return Ok(AtHome {
+            other: None,
+            row: seen.row,
+        });
     };
     if !is_there(frames, other.page) {
-        return Ok(None);
+        return Ok(AtHome {
+            other: Some(other),
+            row: None,
+        });
     }
     let over = glimpse_of(frames, alloc, other)?;
-    Ok(over.moved)
+    Ok(AtHome {
+        other: Some(other),
+        row: over.moved,
+    })
+}
+
+/// The place that the slot at a place points to, if it is a Pointer. It takes no memory. The page is
+/// held from then on.
+pub fn pointer_of<F: Frames>(frames: &mut F, place: Place) -> Result<Option<Place>, SpaceFault>
+    requires spare { 1 ≤ (F.seen frames.old).spare }
+    ensures other { IfOk result (λ other. other ≡ pointed_to (slot_in (F.seen frames.new) place)) }
+    ensures held { OnOk result (IsHeldAt (F.seen frames.new) place.page) }
+    ensures took { Took 1 (F.seen frames.old) (F.seen frames.new) }
+    ensures reserved { (F.seen frames.new).reserved ≡ (F.seen frames.old).reserved }
+    ensures device { IfErr result (λ fault. IsRisen fault (F.seen frames.old) (F.seen frames.new)) }
+    ensures gave { F.gave (F.seen frames.old).pages (F.seen frames.old).forced frames.old frames.new }
+{
+    if !is_there(frames, place.page) {
+        return Ok(None);
+    }
+    match frames.with_page(place.page) {
+        Ok(page) => Ok(pointer_at(page, place.slot)),
+        Err(_) => Err(SpaceFault::Device),
+    }
 }
