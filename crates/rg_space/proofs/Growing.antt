@@ -91,9 +91,9 @@ writes_any p a b x = record {
 pub held_on : (p : ℕ) (a b : Seen) (parts : List Part) → Writes p a b → AllHeld a parts → AllHeld b parts
 held_on p a b [] w h = tt
 held_on p a b (x ∷ parts) w h = (
-  (λ high. elim (cases_lt (length a.pages) x.page) [
+  (λ low high. elim (cases_lt (length a.pages) x.page) [
     | inl above ↦ w.new_held x.page above high
-    | inr below ↦ w.held x.page (h.0 below)
+    | inr below ↦ w.held x.page (h.0 low below)
   ]),
   held_on p a b parts w h.1,
 )

@@ -3,3 +3,5 @@ pub mod SetWrote
 pub mod Took
 pub mod Agreeing
 pub mod Growing
+pub mod Planned
+pub mod Readying

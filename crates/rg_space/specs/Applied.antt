@@ -6,6 +6,7 @@ use Rattle.rg_home.specs.Pages.{FitsAll, TakesAll, TakesRow, row_or_empty, made,
 use Rattle.rg_home.specs.Slots.{placed, Fits}
 use Rattle.rg_page.specs.Content.{Content, empty, slots_of}
 use Rattle.rg_page.specs.Seen.{Seen, Keeps, set_content}
+use Rattle.rg_space.specs.Took.{IsHeldAt}
 
 -- the pages, with an empty one more where page n is the next
 abbrev pub grown : (copy : ℕ) → List Content → (n : ℕ) → List Content
@@ -23,7 +24,7 @@ wrote_all copy owner after position pages (x ∷ parts) =
 -- the page of each part that is there is held
 abbrev pub AllHeld : Seen → List Part → Type 0
 AllHeld s [] = Unit {0}
-AllHeld s (x ∷ parts) = (x.page ≤ length s.pages → s.held x.page ≡ true) × AllHeld s parts
+AllHeld s (x ∷ parts) = IsHeldAt s x.page × AllHeld s parts
 
 -- a part fits its page, which is there, or is the next one and within the limit
 pub record Fitting (limit : ℕ) (pages : List Content) (owner : ℕ) (after : Option Row) (x : Part) : Type 0 where

@@ -6,3 +6,5 @@ pub mod Took
 pub mod AtHome
 pub mod Applied
 pub mod Space
+pub mod Planned
+pub mod Ready

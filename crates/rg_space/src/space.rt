@@ -10,15 +10,19 @@ ghost use Rattle.std.specs.Option.{option_copied};
 ghost use Rattle.rg_page.specs.Content.{Content, slots_of};
 ghost use Rattle.rg_page.specs.Seen.{set_content};
 ghost use Rattle.rg_space.specs.Applied.{Fitting, FittingAll, AllHeld, Within, Writes, grown, wrote_part, wrote_all};
+ghost use Rattle.rg_space.specs.Took.{Took, HasRisen, IsHeldAt};
+ghost use Rattle.rg_space.specs.Ready.{IsReady, AllReady};
 ghost use Rattle.rg_space.specs.Space.{Agree, InStep, frames_of, index_of, capacity_in};
 
+use crate::fault::SpaceFault;
 use crate::index::Index;
+use crate::read::is_there;
 use rg_base::part::Part;
 use rg_base::place::Place;
 use rg_base::position::Position;
 use rg_base::row::Row;
 use rg_base::tran::Tran;
-use rg_page::frames::Frames;
+use rg_page::frames::{FrameFault, Frames};
 use rg_page::header::Header;
 use std::alloc::Global;
 
@@ -32,6 +36,87 @@ pub struct Space<F> {
 }
 
 impl<F: Frames> Space<F> {
+    // Reserves a page, and a summary for it.
+    fn reserve(&mut self) -> Result<(), SpaceFault>
+        requires spare { 1 ≤ (F.seen (frames_of self.old)).spare }
+        requires none { (index_of self.old).room ≡ 0 }
+        requires below { length (F.seen (frames_of self.old)).pages < capacity_in self.old }
+        requires step { InStep (F.seen (frames_of self.old)) (index_of self.old) (capacity_in self.old) }
+        ensures step { InStep (F.seen (frames_of self.new)) (index_of self.new) (capacity_in self.new) }
+        ensures capacity { capacity_in self.new ≡ capacity_in self.old }
+        ensures summaries { (index_of self.new).pages ≡ (index_of self.old).pages }
+        ensures reserved { OnOk result (1 ≤ (F.seen (frames_of self.new)).reserved) }
+        ensures least { (F.seen (frames_of self.old)).reserved ≤ (F.seen (frames_of self.new)).reserved }
+        ensures took { Took 1 (F.seen (frames_of self.old)) (F.seen (frames_of self.new)) }
+        ensures cause { IfErr result (λ fault. HasRisen fault (F.seen (frames_of self.old)) (F.seen (frames_of self.new))) }
+        ensures gave { F.gave (F.seen (frames_of self.old)).pages (F.seen (frames_of self.old)).forced (frames_of self.old) (frames_of self.new) }
+    {
+        if self.index.reserve(self.alloc).is_err() {
+            return Err(SpaceFault::NoMemory);
+        }
+        match self.frames.reserve_page() {
+            Ok(()) => Ok(()),
+            Err(fault) => {
+                self.index.give_back();
+                Err(match fault {
+                    FrameFault::Device => SpaceFault::Device,
+                    FrameFault::NoMemory => SpaceFault::NoMemory,
+                })
+            }
+        }
+    }
+
+    // Holds the page of this number, if it is there. Where it is the next one, within the capacity,
+    // sees that one is reserved.
+    fn hold_page(&mut self, number: u32) -> Result<(), SpaceFault>
+        requires spare { 1 ≤ (F.seen (frames_of self.old)).spare }
+        requires step { InStep (F.seen (frames_of self.old)) (index_of self.old) (capacity_in self.old) }
+        ensures step { InStep (F.seen (frames_of self.new)) (index_of self.new) (capacity_in self.new) }
+        ensures capacity { capacity_in self.new ≡ capacity_in self.old }
+        ensures summaries { (index_of self.new).pages ≡ (index_of self.old).pages }
+        ensures ready { OnOk result (IsReady (F.seen (frames_of self.new)) (capacity_in self.new) number) }
+        ensures least { (F.seen (frames_of self.old)).reserved ≤ (F.seen (frames_of self.new)).reserved }
+        ensures took { Took 1 (F.seen (frames_of self.old)) (F.seen (frames_of self.new)) }
+        ensures cause { IfErr result (λ fault. HasRisen fault (F.seen (frames_of self.old)) (F.seen (frames_of self.new))) }
+        ensures gave { F.gave (F.seen (frames_of self.old)).pages (F.seen (frames_of self.old)).forced (frames_of self.old) (frames_of self.new) }
+    {
+        if is_there(&self.frames, number) {
+            return match self.frames.with_page(number) {
+                Ok(_) => Ok(()),
+                Err(_) => Err(SpaceFault::Device),
+            };
+        }
+        if number as u64 != self.frames.count() as u64 + 1 {
+            return Ok(());
+        }
+        if number > self.capacity {
+            return Ok(());
+        }
+        if self.index.room() != 0 {
+            return Ok(());
+        }
+        self.reserve()
+    }
+
+    // Holds the pages of parts, and reserves the next one where a part needs it.
+    fn hold(&mut self, parts: &[Part]) -> Result<(), SpaceFault>
+        requires spare { length parts.now ≤ (F.seen (frames_of self.old)).spare }
+        requires step { InStep (F.seen (frames_of self.old)) (index_of self.old) (capacity_in self.old) }
+        ensures step { InStep (F.seen (frames_of self.new)) (index_of self.new) (capacity_in self.new) }
+        ensures capacity { capacity_in self.new ≡ capacity_in self.old }
+        ensures summaries { (index_of self.new).pages ≡ (index_of self.old).pages }
+        ensures ready { OnOk result (AllReady (F.seen (frames_of self.new)) (capacity_in self.new) parts.now) }
+        ensures least { (F.seen (frames_of self.old)).reserved ≤ (F.seen (frames_of self.new)).reserved }
+        ensures took { Took (length parts.now) (F.seen (frames_of self.old)) (F.seen (frames_of self.new)) }
+        ensures cause { IfErr result (λ fault. HasRisen fault (F.seen (frames_of self.old)) (F.seen (frames_of self.new))) }
+        ensures gave { F.gave (F.seen (frames_of self.old)).pages (F.seen (frames_of self.old)).forced (frames_of self.old) (frames_of self.new) }
+    {
+        for part in parts {
+            self.hold_page(part.page)?;
+        }
+        Ok(())
+    }
+
     // Adds page `number`, where it is the next one, within the capacity, and reserved.
     fn grow(&mut self, number: u32)
         requires { InStep (F.seen (frames_of self.old)) (index_of self.old) (capacity_in self.old) }
@@ -58,7 +143,7 @@ impl<F: Frames> Space<F> {
     // Sets a slot of a page that is there.
     fn set(&mut self, part: &Part, tran: Tran, after: Option<&Row>, position: Position)
         requires step { InStep (F.seen (frames_of self.old)) (index_of self.old) (capacity_in self.old) }
-        requires held { part.now.page ≤ length (F.seen (frames_of self.old)).pages → (F.seen (frames_of self.old)).held part.now.page ≡ true }
+        requires held { IsHeldAt (F.seen (frames_of self.old)) part.now.page }
         ensures step { InStep (F.seen (frames_of self.new)) (index_of self.new) (capacity_in self.new) }
         ensures capacity { capacity_in self.new ≡ capacity_in self.old }
         ensures pages { (limit : ℕ) → part.now.page ≤ length (F.seen (frames_of self.old)).pages → Fitting limit (F.seen (frames_of self.old)).pages tran.0 (option_copied after.entry) part.now → (F.seen (frames_of self.new)).pages ≡ set_content (F.seen (frames_of self.old)).pages part.now tran.0 (option_copied after.entry) position.0 }
@@ -85,7 +170,7 @@ impl<F: Frames> Space<F> {
     // Applies one part. A page that is the next one is added.
     fn put(&mut self, part: &Part, tran: Tran, after: Option<&Row>, position: Position)
         requires step { InStep (F.seen (frames_of self.old)) (index_of self.old) (capacity_in self.old) }
-        requires held { part.now.page ≤ length (F.seen (frames_of self.old)).pages → (F.seen (frames_of self.old)).held part.now.page ≡ true }
+        requires held { IsHeldAt (F.seen (frames_of self.old)) part.now.page }
         ensures step { InStep (F.seen (frames_of self.new)) (index_of self.new) (capacity_in self.new) }
         ensures capacity { capacity_in self.new ≡ capacity_in self.old }
         ensures pages { (limit : ℕ) → Within limit (F.seen (frames_of self.old)) (capacity_in self.old) → Fitting limit (F.seen (frames_of self.old)).pages tran.0 (option_copied after.entry) part.now → (F.seen (frames_of self.new)).pages ≡ wrote_part (F.seen (frames_of self.old)).copy tran.0 (option_copied after.entry) position.0 (F.seen (frames_of self.old)).pages part.now }
