@@ -5,3 +5,4 @@ pub mod Agreeing
 pub mod Growing
 pub mod Planned
 pub mod Readying
+pub mod AtHand

@@ -1,5 +1,5 @@
 -- The moves found over summaries are the plans found over pages.
-use Rattle.std.proofs.Common.{◌≡◌, ℕ, ◌+◌, ◌-◌, nat_le, zero, suc, Bool, true, false, Option, Some, None, List, [], ◌∷◌, map, get_or, refl, sym, ◌∙◌, ap, ap2, subst}
+use Rattle.std.proofs.Common.{◌≡◌, ℕ, ◌+◌, ◌-◌, nat_le, zero, suc, Bool, true, false, Option, Some, None, List, [], ◌∷◌, map, get_or, refl, sym, ◌∙◌, ap, subst}
 use Rattle.rg_base.specs.RowBytes.{row_size}
 use Rattle.rg_base.specs.declared.part.Part.{Part}
 use Rattle.rg_base.specs.declared.part.SlotOp.TheVariants as Op
@@ -19,7 +19,17 @@ use Rattle.rg_page.proofs.BareSlots.{bare_capacity, bare_page_at, bare_purge_fro
 use Rattle.rg_page.specs.Bare.{bare}
 use Rattle.rg_space.specs.Moves.{IsPut, left_by, home_moves, over_moves, new_moves, over_or_new, away_moves, home_or_away, change_moves, drop_moves, back_moves, points_to, row_moves, undo_moves}
 use Rattle.rg_space.specs.Planned.{plan_of, plan_of_change, plan_of_put}
+use Rattle.rg_page.specs.Content.{slots_of}
+use Rattle.rg_page.specs.Seen.{Seen}
+use Rattle.rg_space.specs.AtHome.{IsAtHome}
+use Rattle.rg_space.specs.Indexed.{Indexed}
+use Rattle.rg_space.specs.Space.{Agree}
 use Rattle.rg_space.specs.declared.moves.Moves.{Moves}
+use Rattle.rg_space.specs.declared.read.AtHome.{AtHome}
+
+-- two equations at once
+both : {A B C : Type 0} (f : A → B → C) {x y : A} {u v : B} → x ≡ y → u ≡ v → f x u ≡ f y v
+both f {x = x} {v = v} e h = ap (f x) h ∙ ap (λ z. f z v) e
 
 abbrev heads : List (List Slot) → List (List Slot)
 heads pages = map (map bare) pages
@@ -40,7 +50,7 @@ purge_here : (live : List ℕ) (pages : List (List Slot)) (n : ℕ) (purges : Bo
 purge_here live pages n true = ap (purge_from live n 0) (bare_page_at pages n) ∙ bare_purge_from live n 0 (page_at pages n)
 purge_here live pages n false = refl
 
-dead : Place → Place → ℕ → List Part
+abbrev dead : Place → Place → ℕ → List Part
 dead home other c = part_at other (Op.DeadOver c home) ∷ []
 
 left_here : (pages : List (List Slot)) (home : Place) (s : Slot) → left_by (heads pages) home (pointed_to s) ≡ left_of pages home s
@@ -53,9 +63,9 @@ left_here pages home (DeadPointer a b d) = refl
 left_here pages home (DeadOver a b d) = refl
 
 fitting_here : (live : List ℕ) (b : ℕ) (pages : List (List Slot)) (p : Place) → fitting live b (capacity_of (slot_of (heads pages) p)) (page_at (heads pages) p.page) ≡ fitting live b (capacity_of (slot_of pages p)) (page_at pages p.page)
-fitting_here live b pages p = ap2 (fitting live b) (capacity_here pages p) (bare_page_at pages p.page) ∙ bare_fitting live b (capacity_of (slot_of pages p)) (page_at pages p.page)
+fitting_here live b pages p = both (fitting live b) (capacity_here pages p) (bare_page_at pages p.page) ∙ bare_fitting live b (capacity_of (slot_of pages p)) (page_at pages p.page)
 
-plan_at : Place → Option TableRow → List Part → List Part → Plan
+abbrev plan_at : Place → Option TableRow → List Part → List Part → Plan
 plan_at home before purge parts = record { home = home; before = before; purge = purge; parts = parts }
 
 -- a put
@@ -68,12 +78,12 @@ put_here live b capacity pages put h = go put (new_area live b capacity pages) (
     go (Some put) None h = absurd h
     go (Some put) (Some area) h =
         ap Some (ap (λ p. plan_at p None put.1.purge put.1.parts) h.0
-        ∙ ap2 (plan_at area.place None) (h.1 ∙ purge_here live pages area.place.page area.purges) h.2)
+        ∙ both (plan_at area.place None) (h.1 ∙ purge_here live pages area.place.page area.purges) h.2)
 
 -- a change
 
 home_here : (live : List ℕ) (pages : List (List Slot)) (home : Place) (f : Fitting) → plan_of home (row_at (slot_of pages) home) (home_moves live (heads pages) home (pointed_to (slot_of pages home)) f) ≡ to_home live pages home f
-home_here live pages home f = ap2 (plan_at home (row_at (slot_of pages) home)) (purge_here live pages home.page f.purges)
+home_here live pages home f = both (plan_at home (row_at (slot_of pages) home)) (purge_here live pages home.page f.purges)
     (ap (λ rest. part_at home (Op.Row f.capacity) ∷ rest) (left_here pages home (slot_of pages home)))
 
 over_here : (live : List ℕ) (pages : List (List Slot)) (home other : Place) (f : Fitting) → plan_of home (row_at (slot_of pages) home) (over_moves live (heads pages) home other f) ≡ in_over live pages home other f
@@ -82,8 +92,8 @@ over_here live pages home other f = ap (λ purge. plan_at home (row_at (slot_of 
 new_here : (live : List ℕ) (b : ℕ) (pages : List (List Slot)) (home : Place) (area : Option Area) → plan_of_change home (row_at (slot_of pages) home) (new_moves live b (heads pages) home (pointed_to (slot_of pages home)) area) ≡ to_new live b pages home area
 new_here live b pages home None = refl
 new_here live b pages home (Some area) =
-    ap Some (ap2 (plan_at home (row_at (slot_of pages) home)) (purge_here live pages area.place.page area.purges)
-    (ap2 (λ c rest. part_at home (Op.Pointer c area.place) ∷ part_at area.place (Op.Over b home) ∷ rest) (capacity_here pages home) (left_here pages home (slot_of pages home))))
+    ap Some (both (plan_at home (row_at (slot_of pages) home)) (purge_here live pages area.place.page area.purges)
+    (both (λ c rest. part_at home (Op.Pointer c area.place) ∷ part_at area.place (Op.Over b home) ∷ rest) (capacity_here pages home) (left_here pages home (slot_of pages home))))
 
 pub change_here : (live : List ℕ) (b capacity : ℕ) (pages : List (List Slot)) (home : Place) → plan_of_change home (row_at (slot_of pages) home) (change_moves live b capacity (heads pages) home (pointed_to (slot_of pages home))) ≡ planned_change live b capacity pages home
 change_here live b capacity pages home =
@@ -92,17 +102,23 @@ change_here live b capacity pages home =
   where
     s : Slot
     s = slot_of pages home
+
     other : Option Place
     other = pointed_to s
+
     whole : Option Moves → Option Plan
     whole = plan_of_change home (row_at (slot_of pages) home)
+
     area_here : new_moves live b (heads pages) home other (new_area live b capacity (heads pages)) ≡ new_moves live b (heads pages) home other (new_area live b capacity pages)
     area_here = ap (new_moves live b (heads pages) home other) (bare_new_area live b capacity pages)
+
     fresh : whole (new_moves live b (heads pages) home other (new_area live b capacity (heads pages))) ≡ to_new live b pages home (new_area live b capacity pages)
     fresh = ap whole area_here ∙ new_here live b pages home (new_area live b capacity pages)
+
     in_or_new : (q : Place) (f : Option Fitting) → other ≡ Some q → whole (over_or_new live b capacity (heads pages) home q f) ≡ from_over live b capacity pages home q f
     in_or_new q None e = ap (λ o. whole (new_moves live b (heads pages) home o (new_area live b capacity (heads pages)))) (sym e) ∙ fresh
     in_or_new q (Some f) e = ap Some (over_here live pages home q f)
+
     off : (t : Slot) → t ≡ s → whole (away_moves live b capacity (heads pages) home (pointed_to t)) ≡ away live b capacity pages home t
     off Free e = ap (λ t. whole (new_moves live b (heads pages) home (pointed_to t) (new_area live b capacity (heads pages)))) e ∙ fresh
     off (Row x y) e = ap (λ t. whole (new_moves live b (heads pages) home (pointed_to t) (new_area live b capacity (heads pages)))) e ∙ fresh
@@ -112,6 +128,7 @@ change_here live b capacity pages home =
     off (DeadRow x y) e = ap (λ t. whole (new_moves live b (heads pages) home (pointed_to t) (new_area live b capacity (heads pages)))) e ∙ fresh
     off (DeadPointer x y z) e = ap (λ t. whole (new_moves live b (heads pages) home (pointed_to t) (new_area live b capacity (heads pages)))) e ∙ fresh
     off (DeadOver x y z) e = ap (λ t. whole (new_moves live b (heads pages) home (pointed_to t) (new_area live b capacity (heads pages)))) e ∙ fresh
+
     go : (f : Option Fitting) → whole (home_or_away live b capacity (heads pages) home other f) ≡ changed live b capacity pages home f
     go None = off s refl
     go (Some f) = ap Some (home_here live pages home f)
@@ -124,9 +141,11 @@ drop_here pages home =
   where
     row : Option TableRow
     row = row_at (slot_of pages) home
+
     first : ℕ → Option Place → List Part
     first c None = part_at home (Op.DeadRow c) ∷ []
     first c (Some other) = part_at home (Op.DeadPointer c other) ∷ left_by (heads pages) home (Some other)
+
     go : (s : Slot) → plan_at home row [] (first (capacity_of s) (pointed_to s)) ≡ planned_drop pages home s
     go Free = refl
     go (Row a b) = refl
@@ -135,3 +154,22 @@ drop_here pages home =
     go (DeadRow a b) = refl
     go (DeadPointer a b d) = refl
     go (DeadOver a b d) = refl
+
+-- the same, where the summaries agree with the pages
+
+pub put_agrees : (live : List ℕ) (b capacity : ℕ) (s : Seen) (index : Indexed) (put : Option (Place × Moves)) → IsPut put live b index.pages (new_area live b capacity index.pages) → Agree s index
+    → plan_of_put put ≡ planned_put live b (slots_of s.pages) (new_area live b capacity (slots_of s.pages))
+put_agrees live b capacity s index put is agree =
+    put_here live b capacity (slots_of s.pages) put (subst (λ ps. IsPut put live b ps (new_area live b capacity ps)) (sym agree) is)
+
+pub change_agrees : (live : List ℕ) (b capacity : ℕ) (s : Seen) (index : Indexed) (home : Place) (at : AtHome) (m : Option Moves) → IsAtHome s home at → m ≡ change_moves live b capacity index.pages home at.other → Agree s index
+    → plan_of_change home at.row m ≡ planned_change live b capacity (slots_of s.pages) home
+change_agrees live b capacity s index home at m is e agree =
+    both (plan_of_change home) is.row (e ∙ both (λ ps o. change_moves live b capacity ps home o) (sym agree) is.other)
+    ∙ change_here live b capacity (slots_of s.pages) home
+
+pub drop_agrees : (s : Seen) (index : Indexed) (home : Place) (at : AtHome) (purge parts : List Part) → IsAtHome s home at → purge ≡ [] → parts ≡ drop_moves index.pages home at.other → Agree s index
+    → plan_at home at.row purge parts ≡ planned_drop (slots_of s.pages) home (slot_of (slots_of s.pages) home)
+drop_agrees s index home at purge parts is none e agree =
+    ap (λ ps. plan_at home at.row ps parts) none ∙ both (λ row ps. plan_at home row [] ps) is.row (e ∙ both (λ ps o. drop_moves ps home o) (sym agree) is.other)
+    ∙ drop_here (slots_of s.pages) home

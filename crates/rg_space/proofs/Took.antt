@@ -1,5 +1,6 @@
 -- Calls that read, one after the other, and slots of pages that stay.
-use Rattle.std.proofs.Common.{◌≡◌, ◌≤◌, ◌<◌, ℕ, zero, suc, ◌+◌, true, List, [], ◌∷◌, Option, Some, None, map, length, get_or, refl, sym, ap, subst, ◌∙◌, arith}
+use Rattle.std.proofs.Common.{◌≡◌, ◌≤◌, ◌<◌, ℕ, zero, suc, ◌+◌, inl, inr, true, List, [], ◌∷◌, Option, Some, None, map, length, get_or, refl, sym, ap, subst, ◌∙◌, arith}
+use Rattle.std.proofs.lemmas.Bool.{cases_lt}
 use Rattle.rg_base.specs.declared.place.Place.{Place}
 use Rattle.rg_base.specs.declared.row.Row.{Row as TableRow}
 use Rattle.rg_home.specs.Pages.{page_at, slot_of}
@@ -11,7 +12,9 @@ use Rattle.rg_home.specs.Slots.{slot_at}
 use Rattle.rg_page.specs.Content.{Content, content_at, slots_of, empty}
 use Rattle.rg_page.specs.Seen.{Seen, Keeps, Reads, StayHeld}
 use Rattle.rg_space.specs.Glimpse.{IsGlimpse}
-use Rattle.rg_space.specs.Took.{Took, slot_in}
+use Rattle.rg_space.specs.AtHome.{IsAtHome, IsHeldOf}
+use Rattle.rg_space.specs.Took.{Took, slot_in, IsHeldAt}
+use Rattle.rg_space.specs.declared.read.AtHome.{AtHome}
 use Rattle.rg_space.specs.declared.look.Glimpse.{Glimpse}
 
 -- one call after the other
@@ -130,3 +133,43 @@ row_there at home o s e is = ap (home_row at) e ∙ go s is
     go (DeadRow c u) n = absurd (cc (n))
     go (DeadPointer c p u) n = absurd (cc (n))
     go (DeadOver c h u) n = absurd (cc (n))
+
+-- a place whose page is held stays as it is, and so does one of no page
+
+pub slot_stays : (n : ℕ) (a b : Seen) (p : Place) → Took n a b → IsHeldAt a p.page → slot_in b p ≡ slot_in a p
+slot_stays n a b p t held = elim (cases_lt (length a.pages) p.page) [
+  | inl above ↦ no_slot b p (subst (λ k. k < p.page) (sym t.reads.count) above) ∙ sym (no_slot a p above)
+  | inr below ↦ low p.page refl below
+]
+  where
+    low : (k : ℕ) → k ≡ p.page → p.page ≤ length a.pages → slot_in b p ≡ slot_in a p
+    low zero e below = slot_zero b p (sym e) ∙ sym (slot_zero a p (sym e))
+    low (suc k) e below = slot_same a b p (t.stay p.page (held (omega arith) below)).1
+
+-- so what a home shows stays
+pub home_stays : (n : ℕ) (a b : Seen) (home : Place) (at : AtHome) → Took n a b → IsAtHome a home at → IsAtHome b home at
+home_stays n a b home at t h = record {
+  other = h.other ∙ ap pointed_to (sym here);
+  row = h.row ∙ sym (ap (home_row (slot_in b)) here ∙ row_stays (slot_in a home) (subst (IsHeldOf a) h.other h.held_other));
+  held = stays home.page h.held;
+  held_other = other_stays at.other h.held_other;
+}
+  where
+    here : slot_in b home ≡ slot_in a home
+    here = slot_stays n a b home t h.held
+
+    stays : (k : ℕ) → IsHeldAt a k → IsHeldAt b k
+    stays k x = λ low high. (t.stay k (x low (subst (λ m. k ≤ m) t.reads.count high))).0
+
+    other_stays : (o : Option Place) → IsHeldOf a o → IsHeldOf b o
+    other_stays None x = tt
+    other_stays (Some p) x = stays p.page x
+
+    row_stays : (s : Slot) → IsHeldOf a (pointed_to s) → home_row (slot_in b) s ≡ home_row (slot_in a) s
+    row_stays Free x = refl
+    row_stays (Row c row) x = refl
+    row_stays (Pointer c q) x = ap over_row (slot_stays n a b q t x)
+    row_stays (Over c row q) x = refl
+    row_stays (DeadRow c u) x = refl
+    row_stays (DeadPointer c q u) x = refl
+    row_stays (DeadOver c q u) x = refl

@@ -7,21 +7,26 @@
 //    agree, a plan is the one that the definitions compute of these pages.
 ghost use Rattle.std.specs.Prelude.{◌≡◌, ◌⊎◌, ◌≤◌, ◌<◌, ◌+◌, ℕ, List, true, length, IfOk, IfErr, OnOk, OnErr, Some, None};
 ghost use Rattle.std.specs.Option.{option_copied};
+ghost use Rattle.rg_base.specs.RowBytes.{row_size};
+ghost use Rattle.rg_home.specs.Pages.{slot_of};
+ghost use Rattle.rg_home.specs.Plan.{new_area, planned_put, planned_change, planned_drop};
+ghost use Rattle.rg_page.specs.Bare.{numbers_of};
 ghost use Rattle.rg_page.specs.Content.{Content, slots_of};
 ghost use Rattle.rg_page.specs.Seen.{set_content};
 ghost use Rattle.rg_space.specs.Applied.{Fitting, FittingAll, AllHeld, Within, Writes, grown, wrote_part, wrote_all};
 ghost use Rattle.rg_space.specs.Took.{Took, HasRisen, IsHeldAt};
-ghost use Rattle.rg_space.specs.Ready.{IsReady, AllReady};
+ghost use Rattle.rg_space.specs.Ready.{IsReady, AllReady, IsAtHand, HasCause};
 ghost use Rattle.rg_space.specs.Space.{Agree, InStep, frames_of, index_of, capacity_in};
 
 use crate::fault::SpaceFault;
 use crate::index::Index;
-use crate::read::is_there;
-use rg_base::part::Part;
+use crate::read::{home_of, is_there};
+use rg_base::part::{Part, Parts};
 use rg_base::place::Place;
 use rg_base::position::Position;
 use rg_base::row::Row;
 use rg_base::tran::Tran;
+use rg_home::plan::Plan;
 use rg_page::frames::{FrameFault, Frames};
 use rg_page::header::Header;
 use std::alloc::Global;
@@ -115,6 +120,98 @@ impl<F: Frames> Space<F> {
             self.hold_page(part.page)?;
         }
         Ok(())
+    }
+
+    /// The plan of a new row. Its pages are held, and a new one is reserved.
+    pub fn plan_put(&mut self, row: &Row, live: &[Tran]) -> Result<Plan, SpaceFault>
+        requires spare { 5 ≤ (F.seen (frames_of self.old)).spare }
+        requires step { InStep (F.seen (frames_of self.old)) (index_of self.old) (capacity_in self.old) }
+        ensures step { InStep (F.seen (frames_of self.new)) (index_of self.new) (capacity_in self.new) }
+        ensures capacity { capacity_in self.new ≡ capacity_in self.old }
+        ensures summaries { (index_of self.new).pages ≡ (index_of self.old).pages }
+        ensures plan { IfOk result (λ plan. Agree (F.seen (frames_of self.new)) (index_of self.new) → Some plan ≡ planned_put (numbers_of live.now) (row_size row.now) (slots_of (F.seen (frames_of self.new)).pages) (new_area (numbers_of live.now) (row_size row.now) (capacity_in self.new) (slots_of (F.seen (frames_of self.new)).pages))) }
+        ensures hand { IfOk result (IsAtHand (F.seen (frames_of self.new)) (capacity_in self.new)) }
+        ensures least { (F.seen (frames_of self.old)).reserved ≤ (F.seen (frames_of self.new)).reserved }
+        ensures took { Took 5 (F.seen (frames_of self.old)) (F.seen (frames_of self.new)) }
+        ensures cause { IfErr result (λ fault. HasCause fault (row_size row.now) (Agree (F.seen (frames_of self.new)) (index_of self.new) → planned_put (numbers_of live.now) (row_size row.now) (slots_of (F.seen (frames_of self.new)).pages) (new_area (numbers_of live.now) (row_size row.now) (capacity_in self.new) (slots_of (F.seen (frames_of self.new)).pages)) ≡ None) (F.seen (frames_of self.old)) (F.seen (frames_of self.new))) }
+        ensures gave { F.gave (F.seen (frames_of self.old)).pages (F.seen (frames_of self.old)).forced (frames_of self.old) (frames_of self.new) }
+    {
+        let b = row.size();
+        let Ok(found) = self.index.put(self.alloc, live, b, self.capacity) else {
+            return Err(SpaceFault::NoMemory);
+        };
+        let Some(put) = found else {
+            return Err(SpaceFault::Full { need: b });
+        };
+        self.hold(put.1.parts.as_slice())?;
+        Ok(Plan {
+            home: put.0,
+            before: None,
+            purge: put.1.purge,
+            parts: put.1.parts,
+        })
+    }
+
+    /// The plan of this row in the place of the one whose home this is. Its pages are held,
+    /// and a new one is reserved.
+    pub fn plan_change(&mut self, home: Place, row: &Row, live: &[Tran]) -> Result<Plan, SpaceFault>
+        requires spare { 5 ≤ (F.seen (frames_of self.old)).spare }
+        requires step { InStep (F.seen (frames_of self.old)) (index_of self.old) (capacity_in self.old) }
+        ensures step { InStep (F.seen (frames_of self.new)) (index_of self.new) (capacity_in self.new) }
+        ensures capacity { capacity_in self.new ≡ capacity_in self.old }
+        ensures summaries { (index_of self.new).pages ≡ (index_of self.old).pages }
+        ensures plan { IfOk result (λ plan. Agree (F.seen (frames_of self.new)) (index_of self.new) → Some plan ≡ planned_change (numbers_of live.now) (row_size row.now) (capacity_in self.new) (slots_of (F.seen (frames_of self.new)).pages) home) }
+        ensures hand { IfOk result (IsAtHand (F.seen (frames_of self.new)) (capacity_in self.new)) }
+        ensures least { (F.seen (frames_of self.old)).reserved ≤ (F.seen (frames_of self.new)).reserved }
+        ensures took { Took 5 (F.seen (frames_of self.old)) (F.seen (frames_of self.new)) }
+        ensures cause { IfErr result (λ fault. HasCause fault (row_size row.now) (Agree (F.seen (frames_of self.new)) (index_of self.new) → planned_change (numbers_of live.now) (row_size row.now) (capacity_in self.new) (slots_of (F.seen (frames_of self.new)).pages) home ≡ None) (F.seen (frames_of self.old)) (F.seen (frames_of self.new))) }
+        ensures gave { F.gave (F.seen (frames_of self.old)).pages (F.seen (frames_of self.old)).forced (frames_of self.old) (frames_of self.new) }
+    {
+        let b = row.size();
+        let seen = home_of(&mut self.frames, self.alloc, home)?;
+        let Ok(found) = self
+            .index
+            .change(self.alloc, live, home, seen.other, b, self.capacity)
+        else {
+            return Err(SpaceFault::NoMemory);
+        };
+        let Some(moves) = found else {
+            return Err(SpaceFault::Full { need: b });
+        };
+        self.hold(moves.parts.as_slice())?;
+        Ok(Plan {
+            home,
+            before: seen.row,
+            purge: moves.purge,
+            parts: moves.parts,
+        })
+    }
+
+    /// The plan of the drop of the row whose home this is. Its pages are held. It is never Full.
+    pub fn plan_drop(&mut self, home: Place) -> Result<Plan, SpaceFault>
+        requires spare { 5 ≤ (F.seen (frames_of self.old)).spare }
+        requires step { InStep (F.seen (frames_of self.old)) (index_of self.old) (capacity_in self.old) }
+        ensures step { InStep (F.seen (frames_of self.new)) (index_of self.new) (capacity_in self.new) }
+        ensures capacity { capacity_in self.new ≡ capacity_in self.old }
+        ensures summaries { (index_of self.new).pages ≡ (index_of self.old).pages }
+        ensures plan { IfOk result (λ plan. Agree (F.seen (frames_of self.new)) (index_of self.new) → plan ≡ planned_drop (slots_of (F.seen (frames_of self.new)).pages) home (slot_of (slots_of (F.seen (frames_of self.new)).pages) home)) }
+        ensures hand { IfOk result (IsAtHand (F.seen (frames_of self.new)) (capacity_in self.new)) }
+        ensures least { (F.seen (frames_of self.old)).reserved ≤ (F.seen (frames_of self.new)).reserved }
+        ensures took { Took 5 (F.seen (frames_of self.old)) (F.seen (frames_of self.new)) }
+        ensures cause { IfErr result (λ fault. HasRisen fault (F.seen (frames_of self.old)) (F.seen (frames_of self.new))) }
+        ensures gave { F.gave (F.seen (frames_of self.old)).pages (F.seen (frames_of self.old)).forced (frames_of self.old) (frames_of self.new) }
+    {
+        let seen = home_of(&mut self.frames, self.alloc, home)?;
+        let Ok(parts) = self.index.drop_row(self.alloc, home, seen.other) else {
+            return Err(SpaceFault::NoMemory);
+        };
+        self.hold(parts.as_slice())?;
+        Ok(Plan {
+            home,
+            before: seen.row,
+            purge: Parts::new(Vec::new(self.alloc)),
+            parts,
+        })
     }
 
     // Adds page `number`, where it is the next one, within the capacity, and reserved.

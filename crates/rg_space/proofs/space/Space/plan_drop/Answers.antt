@@ -1,0 +1,18 @@
+use Rattle.std.proofs.Common.{◌≡◌, ◌∙◌, sym, refl, subst, Some, None, length}
+use Rattle.std.specs.Prelude.{IfSome}
+use Rattle.rg_page.specs.Bare.{numbers_of}
+use Rattle.rg_space.specs.Moves.{drop_moves}
+use Rattle.rg_space.specs.Space.{frames_of, index_of, capacity_in}
+use Rattle.rg_space.proofs.AtHand.{Hands, hand_put, hand_change}
+use Rattle.rg_space.proofs.Planned.{put_agrees, change_agrees, drop_agrees}
+use Rattle.rg_space.proofs.Took.{home_stays}
+use Rattle.rg_space.proofs.space.Space.plan_drop.Goals as goal
+
+pub returns-clause-plan : goal.returns-clause-plan
+returns-clause-plan g c = λ agree.
+    let b = g.F.Frames.seen c.home_of.new.frames in
+    let last = g.F.Frames.seen (frames_of c.hold.new.self) in
+    let seen = c.in_ok-seen.seen in
+    let shown = home_stays _ b last c.args.home seen c.hold.ensures.took c.in_ok-seen.ensures.seen in
+    drop_agrees last (index_of c.hold.new.self) c.args.home seen c.new-2.result c.in-Ok.parts shown (c.new-2.ensures ∙ c.new.ensures.items)
+    (subst (λ ps. c.in-Ok.parts ≡ drop_moves ps c.args.home seen.other) (sym c.hold.ensures.summaries) c.in-Ok.ensures) agree
