@@ -6,3 +6,4 @@ pub mod Growing
 pub mod Planned
 pub mod Readying
 pub mod AtHand
+pub mod Whole

@@ -41,6 +41,11 @@ FittingAll limit copy owner after position pages (x ∷ parts) =
     Fitting limit pages owner after x
     × FittingAll limit copy owner after position (wrote_part copy owner after position pages x) parts
 
+-- the page of each part is one of so many, or the next
+abbrev pub AllNext : (n : ℕ) → List Part → Type 0
+AllNext n [] = Unit {0}
+AllNext n (x ∷ parts) = (x.page ≤ n + 1) × AllNext n parts
+
 -- pages may be added up to this limit
 pub record Within (limit : ℕ) (s : Seen) (capacity : ℕ) : Type 0 where
   pub reserved : limit ≤ length s.pages + s.reserved
