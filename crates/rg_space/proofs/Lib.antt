@@ -7,3 +7,4 @@ pub mod Planned
 pub mod Readying
 pub mod AtHand
 pub mod Whole
+pub mod Next

@@ -1,0 +1,188 @@
+-- Every part of a plan is on a page that is there, or on the next one.
+use Rattle.std.proofs.Common.{◌≡◌, ◌≤◌, ◌<◌, ℕ, ◌+◌, nat_le, nat_lt, Bool, true, false, List, [], ◌∷◌, length, Option, Some, None, IfSome, refl, sym, ap, subst, ◌∙◌, arith, if◌then◌else◌, ◌⊎◌, inl, inr}
+use Rattle.std.proofs.lemmas.Bool.{leb-false}
+use Rattle.std.proofs.lemmas.List.Sums.{prefix_len-le-length}
+use Rattle.std.specs.Prelude.{not}
+use Rattle.rg_base.specs.RowBytes.{row_size}
+use Rattle.rg_base.specs.declared.part.Part.{Part}
+use Rattle.rg_base.specs.declared.part.SlotOp.TheVariants as Op
+use Rattle.rg_base.specs.declared.place.Place.{Place}
+use Rattle.rg_base.specs.declared.row.Row.{Row as TableRow}
+use Rattle.rg_home.specs.Able.{IsHomeOf, IsAreaOf, AreaHolds, RowFits, Undoable}
+use Rattle.rg_home.specs.Pages.{page_at, slot_of, part_at}
+use Rattle.rg_home.specs.Plan.{admits, first_page, area_when, area_on, new_area, is_ended, is_home, purge_from, purge_of, left_of, takes, fitting, planned_put, to_home, in_over, to_new, from_over, away, changed, planned_change, planned_drop}
+use Rattle.rg_home.specs.Rows.{same_place, Tied}
+use Rattle.rg_home.specs.Slot.{Slot}
+use Rattle.rg_home.specs.Slot.{Free, Row, Pointer, Over, DeadRow, DeadPointer, DeadOver}
+use Rattle.rg_home.specs.Slots.{capacity_of, is_free}
+use Rattle.rg_home.specs.Undo.{over_before, to_area, back_from, lies_in, undo_row, undo_parts, planned_undo}
+use Rattle.rg_home.specs.Written.{Written}
+use Rattle.rg_home.specs.declared.plan.Area.{Area}
+use Rattle.rg_home.specs.declared.plan.Fitting.{Fitting}
+use Rattle.rg_home.specs.declared.plan.Plan.{Plan}
+use Rattle.rg_home.proofs.Moves.{pointed}
+use Rattle.rg_home.proofs.Range.{page_within}
+use Rattle.rg_space.specs.Applied.{AllNext}
+
+-- all parts of a plan
+abbrev pub PlanNext : (n : ℕ) → Plan → Type 0
+PlanNext n plan = AllNext n plan.purge × AllNext n plan.parts
+
+-- a new area is on a page from 1 to the next
+abbrev pub AreaNext : (n : ℕ) → Area → Type 0
+AreaNext n area = (1 ≤ area.place.page) × (area.place.page ≤ n + 1)
+
+when_page : (live : List ℕ) (n : ℕ) (slots : List Slot) (t : Bool) → (area_when live n slots t).place.page ≡ n
+when_page live n slots true = refl
+when_page live n slots false = refl
+
+pub new_next : (live : List ℕ) (b capacity : ℕ) (pages : List (List Slot)) → IfSome (new_area live b capacity pages) (AreaNext (length pages))
+new_next live b capacity pages = go (nat_lt (first_page live b pages) capacity)
+  where
+    go : (g : Bool) → IfSome (if g then Some (area_on live b (first_page live b pages + 1) (page_at pages (first_page live b pages + 1))) else None) (AreaNext (length pages))
+    go true =
+        let is : (area_on live b (first_page live b pages + 1) (page_at pages (first_page live b pages + 1))).place.page ≡ first_page live b pages + 1 =
+        when_page live (first_page live b pages + 1) (page_at pages (first_page live b pages + 1)) (takes b (page_at pages (first_page live b pages + 1))) in
+        (omega (arith, is), omega (arith, is, prefix_len-le-length (λ (x : List Slot). not (admits live b x)) pages))
+    go false = tt
+
+pub area_next : (live : List ℕ) (b capacity : ℕ) (pages : List (List Slot)) (area : Area) → new_area live b capacity pages ≡ Some area → AreaNext (length pages) area
+area_next live b capacity pages area e = subst (λ (o : Option Area). IfSome o (AreaNext (length pages))) e (new_next live b capacity pages)
+
+-- a purge of a page
+
+purge_from_next : (live : List ℕ) (m n i : ℕ) (slots : List Slot) → n ≤ m + 1 → AllNext m (purge_from live n i slots)
+purge_from_next live m n i [] h = tt
+purge_from_next live m n i (s ∷ slots) h = go (is_ended live s) (purge_from_next live m n (i + 1) slots h)
+  where
+    go : (b : Bool) → AllNext m (purge_from live n (i + 1) slots)
+        → AllNext m (if b then part_at (record { page = n; slot = i }) Op.Free ∷ purge_from live n (i + 1) slots else purge_from live n (i + 1) slots)
+    go true rest = (h, rest)
+    go false rest = rest
+
+pub purge_next : (live : List ℕ) (pages : List (List Slot)) (m n : ℕ) (purges : Bool) → n ≤ m + 1 → AllNext m (purge_of live pages n purges)
+purge_next live pages m n true h = purge_from_next live m n 0 (page_at pages n) h
+purge_next live pages m n false h = tt
+
+-- a put
+pub put_next : (live : List ℕ) (b capacity : ℕ) (pages : List (List Slot)) → IfSome (planned_put live b pages (new_area live b capacity pages)) (PlanNext (length pages))
+put_next live b capacity pages = go (new_area live b capacity pages) (new_next live b capacity pages)
+  where
+    go : (area : Option Area) → IfSome area (AreaNext (length pages)) → IfSome (planned_put live b pages area) (PlanNext (length pages))
+    go None h = tt
+    go (Some area) h = (purge_next live pages (length pages) area.place.page area.purges h.1, (h.1, tt))
+
+-- a slot that is not Free is on a page that is there
+pub there_next : (pages : List (List Slot)) (p : Place) (s : Slot) → slot_of pages p ≡ s → is_free s ≡ false → p.page ≤ length pages + 1
+there_next pages p s e full = omega (arith, (page_within pages p.page p.slot (ap is_free e ∙ full)).1)
+
+home_full : (s : Slot) → is_home s ≡ true → is_free s ≡ false
+home_full (Row c x) is = refl
+home_full (Pointer c o) is = refl
+home_full Free is = absurd (cc (is))
+home_full (Over a b d) is = absurd (cc (is))
+home_full (DeadRow a b) is = absurd (cc (is))
+home_full (DeadPointer a b d) is = absurd (cc (is))
+home_full (DeadOver a b d) is = absurd (cc (is))
+
+module _ (pages : List (List Slot)) (tied : Tied (slot_of pages)) (home : Place) where
+  -- the Over area that a home names
+  over_next : (c : ℕ) (o : Place) → slot_of pages home ≡ Pointer c o → o.page ≤ length pages + 1
+  over_next c o e =
+      let was = pointed (slot_of pages) home o c tied e in
+      there_next pages o (Over was.0 was.1 home) was.2 refl
+
+  left_next : (s : Slot) → slot_of pages home ≡ s → AllNext (length pages) (left_of pages home s)
+  left_next (Pointer c o) e = (over_next c o e, tt)
+  left_next Free e = tt
+  left_next (Row a b) e = tt
+  left_next (Over a b d) e = tt
+  left_next (DeadRow a b) e = tt
+  left_next (DeadPointer a b d) e = tt
+  left_next (DeadOver a b d) e = tt
+
+  -- a change
+  module _ (live : List ℕ) (b capacity : ℕ) (is : is_home (slot_of pages home) ≡ true) where
+    home_next : home.page ≤ length pages + 1
+    home_next = there_next pages home (slot_of pages home) refl (home_full (slot_of pages home) is)
+
+    to_new_next : (area : Option Area) → IfSome area (AreaNext (length pages)) → IfSome (to_new live b pages home area) (PlanNext (length pages))
+    to_new_next None h = tt
+    to_new_next (Some area) h = (purge_next live pages (length pages) area.place.page area.purges h.1, (home_next, (h.1, left_next (slot_of pages home) refl)))
+
+    new_one : IfSome (to_new live b pages home (new_area live b capacity pages)) (PlanNext (length pages))
+    new_one = to_new_next (new_area live b capacity pages) (new_next live b capacity pages)
+
+    away_next : (s : Slot) → slot_of pages home ≡ s → IfSome (away live b capacity pages home s) (PlanNext (length pages))
+    away_next (Pointer c o) e = go (fitting live b (capacity_of (slot_of pages o)) (page_at pages o.page))
+      where
+        go : (f : Option Fitting) → IfSome (from_over live b capacity pages home o f) (PlanNext (length pages))
+        go (Some f) = (purge_next live pages (length pages) o.page f.purges (over_next c o e), (over_next c o e, tt))
+        go None = new_one
+    away_next Free e = new_one
+    away_next (Row x y) e = new_one
+    away_next (Over x y d) e = new_one
+    away_next (DeadRow x y) e = new_one
+    away_next (DeadPointer x y d) e = new_one
+    away_next (DeadOver x y d) e = new_one
+
+    pub change_next : IfSome (planned_change live b capacity pages home) (PlanNext (length pages))
+    change_next = go (fitting live b (capacity_of (slot_of pages home)) (page_at pages home.page))
+      where
+        go : (f : Option Fitting) → IfSome (changed live b capacity pages home f) (PlanNext (length pages))
+        go (Some f) = (purge_next live pages (length pages) home.page f.purges home_next, (home_next, left_next (slot_of pages home) refl))
+        go None = away_next (slot_of pages home) refl
+
+  -- a drop
+  drop_slot : (s : Slot) → slot_of pages home ≡ s → is_free s ≡ false → PlanNext (length pages) (planned_drop pages home s)
+  drop_slot (Pointer c o) e full = (tt, (there_next pages home (Pointer c o) e full, (over_next c o e, tt)))
+  drop_slot Free e full = absurd (cc (full))
+  drop_slot (Row a b) e full = (tt, (there_next pages home (Row a b) e full, tt))
+  drop_slot (Over a b d) e full = (tt, (there_next pages home (Over a b d) e full, tt))
+  drop_slot (DeadRow a b) e full = (tt, (there_next pages home (DeadRow a b) e full, tt))
+  drop_slot (DeadPointer a b d) e full = (tt, (there_next pages home (DeadPointer a b d) e full, tt))
+  drop_slot (DeadOver a b d) e full = (tt, (there_next pages home (DeadOver a b d) e full, tt))
+
+  pub drop_next : is_home (slot_of pages home) ≡ true → PlanNext (length pages) (planned_drop pages home (slot_of pages home))
+  drop_next is = drop_slot (slot_of pages home) refl (home_full (slot_of pages home) is)
+
+  -- an undo
+
+  area_full : (by : Option ℕ) (s : Slot) → IsAreaOf by home s → is_free s ≡ false
+  area_full by (Over c x h) a = refl
+  area_full by (DeadOver c h u) a = refl
+  area_full by Free a = absurd a
+  area_full by (Row x y) a = absurd a
+  area_full by (Pointer x y) a = absurd a
+  area_full by (DeadRow x y) a = absurd a
+  area_full by (DeadPointer x y z) a = absurd a
+
+  to_area_next : (by : Option ℕ) (q : Place) (s : Slot) → slot_of pages home ≡ s → is_free s ≡ false → IsAreaOf by home (slot_of pages q) → (b : Bool) → AllNext (length pages) (back_from pages home q s b)
+  to_area_next by q s e full area true = (there_next pages q (slot_of pages q) refl (area_full by (slot_of pages q) area), tt)
+  to_area_next by q s e full area false = (there_next pages home s e full, (there_next pages q (slot_of pages q) refl (area_full by (slot_of pages q) area), left_next s e))
+
+  undo_row_next : (by : Option ℕ) (bytes : ℕ) (over : Option Place) (s : Slot) → slot_of pages home ≡ s → is_free s ≡ false → (bytes ≤ capacity_of s) ⊎ AreaHolds by (slot_of pages) home bytes over
+      → (b : Bool) → nat_le bytes (capacity_of s) ≡ b → AllNext (length pages) (undo_row pages home over s b)
+  undo_row_next by bytes over s e full fits true f = (there_next pages home s e full, left_next s e)
+  undo_row_next by bytes None s e full fits false f = tt
+  undo_row_next by bytes (Some q) s e full (inl l) false f = absurd (omega (arith, l, leb-false bytes (capacity_of s) f))
+  undo_row_next by bytes (Some q) s e full (inr h) false f = to_area_next by q s e full h.0 (lies_in q s)
+
+  undo_parts_next : (by : Option ℕ) (over : Option Place) (before : Option TableRow) (s : Slot) → slot_of pages home ≡ s → is_free s ≡ false → RowFits by (slot_of pages) home before over → AllNext (length pages) (undo_parts pages home over before s)
+  undo_parts_next by over None s e full fits = (drop_slot s e full).1
+  undo_parts_next by over (Some row) s e full fits =
+      undo_row_next by (row_size row) over s e full (subst (λ (n : ℕ). (row_size row ≤ n) ⊎ AreaHolds by (slot_of pages) home (row_size row) over) (ap capacity_of e) fits)
+      (nat_le (row_size row) (capacity_of s)) refl
+
+home_of_full : (by : Option ℕ) (s : Slot) → IsHomeOf by s → is_free s ≡ false
+home_of_full by (Row c x) is = refl
+home_of_full by (Pointer c o) is = refl
+home_of_full by (DeadRow c u) is = refl
+home_of_full by (DeadPointer c o u) is = refl
+home_of_full by Free is = absurd is
+home_of_full by (Over a b d) is = absurd is
+home_of_full by (DeadOver a b d) is = absurd is
+
+pub undo_next : (by : Option ℕ) (c : Written) (pages : List (List Slot)) → Tied (slot_of pages) → Undoable by (slot_of pages) c → PlanNext (length pages) (planned_undo pages c)
+undo_next by c pages tied can =
+    (tt, undo_parts_next pages tied c.home by (over_before c.parts) c.before (slot_of pages c.home) refl (home_of_full by (slot_of pages c.home) can.home) can.fits)
