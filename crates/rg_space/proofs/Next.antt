@@ -24,9 +24,16 @@ use Rattle.rg_home.proofs.Moves.{pointed}
 use Rattle.rg_home.proofs.Range.{page_within}
 use Rattle.rg_space.specs.Applied.{AllNext}
 
--- all parts of a plan
-abbrev pub PlanNext : (n : ℕ) → Plan → Type 0
-PlanNext n plan = AllNext n plan.purge × AllNext n plan.parts
+-- each part makes its slot Free
+abbrev pub AllFree : List Part → Type 0
+AllFree [] = Unit {0}
+AllFree (x ∷ parts) = (x.op ≡ Op.Free) × AllFree parts
+
+-- the parts of a plan, of which the first only free
+pub record PlanNext (n : ℕ) (plan : Plan) : Type 0 where
+  pub purge : AllNext n plan.purge
+  pub parts : AllNext n plan.parts
+  pub frees : AllFree plan.purge
 
 -- a new area is on a page from 1 to the next
 abbrev pub AreaNext : (n : ℕ) → Area → Type 0
@@ -64,13 +71,30 @@ pub purge_next : (live : List ℕ) (pages : List (List Slot)) (m n : ℕ) (purge
 purge_next live pages m n true h = purge_from_next live m n 0 (page_at pages n) h
 purge_next live pages m n false h = tt
 
+purge_from_frees : (live : List ℕ) (n i : ℕ) (slots : List Slot) → AllFree (purge_from live n i slots)
+purge_from_frees live n i [] = tt
+purge_from_frees live n i (s ∷ slots) = go (is_ended live s) (purge_from_frees live n (i + 1) slots)
+  where
+    go : (b : Bool) → AllFree (purge_from live n (i + 1) slots)
+        → AllFree (if b then part_at (record { page = n; slot = i }) Op.Free ∷ purge_from live n (i + 1) slots else purge_from live n (i + 1) slots)
+    go true rest = (refl, rest)
+    go false rest = rest
+
+pub purge_frees : (live : List ℕ) (pages : List (List Slot)) (n : ℕ) (purges : Bool) → AllFree (purge_of live pages n purges)
+purge_frees live pages n true = purge_from_frees live n 0 (page_at pages n)
+purge_frees live pages n false = tt
+
 -- a put
 pub put_next : (live : List ℕ) (b capacity : ℕ) (pages : List (List Slot)) → IfSome (planned_put live b pages (new_area live b capacity pages)) (PlanNext (length pages))
 put_next live b capacity pages = go (new_area live b capacity pages) (new_next live b capacity pages)
   where
     go : (area : Option Area) → IfSome area (AreaNext (length pages)) → IfSome (planned_put live b pages area) (PlanNext (length pages))
     go None h = tt
-    go (Some area) h = (purge_next live pages (length pages) area.place.page area.purges h.1, (h.1, tt))
+    go (Some area) h = record {
+      purge = purge_next live pages (length pages) area.place.page area.purges h.1;
+      parts = (h.1, tt);
+      frees = purge_frees live pages area.place.page area.purges;
+    }
 
 -- a slot that is not Free is on a page that is there
 pub there_next : (pages : List (List Slot)) (p : Place) (s : Slot) → slot_of pages p ≡ s → is_free s ≡ false → p.page ≤ length pages + 1
@@ -108,7 +132,11 @@ module _ (pages : List (List Slot)) (tied : Tied (slot_of pages)) (home : Place)
 
     to_new_next : (area : Option Area) → IfSome area (AreaNext (length pages)) → IfSome (to_new live b pages home area) (PlanNext (length pages))
     to_new_next None h = tt
-    to_new_next (Some area) h = (purge_next live pages (length pages) area.place.page area.purges h.1, (home_next, (h.1, left_next (slot_of pages home) refl)))
+    to_new_next (Some area) h = record {
+      purge = purge_next live pages (length pages) area.place.page area.purges h.1;
+      parts = (home_next, (h.1, left_next (slot_of pages home) refl));
+      frees = purge_frees live pages area.place.page area.purges;
+    }
 
     new_one : IfSome (to_new live b pages home (new_area live b capacity pages)) (PlanNext (length pages))
     new_one = to_new_next (new_area live b capacity pages) (new_next live b capacity pages)
@@ -117,7 +145,11 @@ module _ (pages : List (List Slot)) (tied : Tied (slot_of pages)) (home : Place)
     away_next (Pointer c o) e = go (fitting live b (capacity_of (slot_of pages o)) (page_at pages o.page))
       where
         go : (f : Option Fitting) → IfSome (from_over live b capacity pages home o f) (PlanNext (length pages))
-        go (Some f) = (purge_next live pages (length pages) o.page f.purges (over_next c o e), (over_next c o e, tt))
+        go (Some f) = record {
+          purge = purge_next live pages (length pages) o.page f.purges (over_next c o e);
+          parts = (over_next c o e, tt);
+          frees = purge_frees live pages o.page f.purges;
+        }
         go None = new_one
     away_next Free e = new_one
     away_next (Row x y) e = new_one
@@ -130,21 +162,34 @@ module _ (pages : List (List Slot)) (tied : Tied (slot_of pages)) (home : Place)
     change_next = go (fitting live b (capacity_of (slot_of pages home)) (page_at pages home.page))
       where
         go : (f : Option Fitting) → IfSome (changed live b capacity pages home f) (PlanNext (length pages))
-        go (Some f) = (purge_next live pages (length pages) home.page f.purges home_next, (home_next, left_next (slot_of pages home) refl))
+        go (Some f) = record {
+          purge = purge_next live pages (length pages) home.page f.purges home_next;
+          parts = (home_next, left_next (slot_of pages home) refl);
+          frees = purge_frees live pages home.page f.purges;
+        }
         go None = away_next (slot_of pages home) refl
 
   -- a drop
-  drop_slot : (s : Slot) → slot_of pages home ≡ s → is_free s ≡ false → PlanNext (length pages) (planned_drop pages home s)
-  drop_slot (Pointer c o) e full = (tt, (there_next pages home (Pointer c o) e full, (over_next c o e, tt)))
+  drop_slot : (s : Slot) → slot_of pages home ≡ s → is_free s ≡ false → AllNext (length pages) (planned_drop pages home s).parts
+  drop_slot (Pointer c o) e full = (there_next pages home (Pointer c o) e full, (over_next c o e, tt))
   drop_slot Free e full = absurd (cc (full))
-  drop_slot (Row a b) e full = (tt, (there_next pages home (Row a b) e full, tt))
-  drop_slot (Over a b d) e full = (tt, (there_next pages home (Over a b d) e full, tt))
-  drop_slot (DeadRow a b) e full = (tt, (there_next pages home (DeadRow a b) e full, tt))
-  drop_slot (DeadPointer a b d) e full = (tt, (there_next pages home (DeadPointer a b d) e full, tt))
-  drop_slot (DeadOver a b d) e full = (tt, (there_next pages home (DeadOver a b d) e full, tt))
+  drop_slot (Row a b) e full = (there_next pages home (Row a b) e full, tt)
+  drop_slot (Over a b d) e full = (there_next pages home (Over a b d) e full, tt)
+  drop_slot (DeadRow a b) e full = (there_next pages home (DeadRow a b) e full, tt)
+  drop_slot (DeadPointer a b d) e full = (there_next pages home (DeadPointer a b d) e full, tt)
+  drop_slot (DeadOver a b d) e full = (there_next pages home (DeadOver a b d) e full, tt)
 
   pub drop_next : is_home (slot_of pages home) ≡ true → PlanNext (length pages) (planned_drop pages home (slot_of pages home))
-  drop_next is = drop_slot (slot_of pages home) refl (home_full (slot_of pages home) is)
+  drop_next is = drop_one (slot_of pages home) (drop_slot (slot_of pages home) refl (home_full (slot_of pages home) is))
+    where
+      drop_one : (s : Slot) → AllNext (length pages) (planned_drop pages home s).parts → PlanNext (length pages) (planned_drop pages home s)
+      drop_one (Pointer c o) h = record { purge = tt; parts = h; frees = tt }
+      drop_one Free h = record { purge = tt; parts = h; frees = tt }
+      drop_one (Row a b) h = record { purge = tt; parts = h; frees = tt }
+      drop_one (Over a b d) h = record { purge = tt; parts = h; frees = tt }
+      drop_one (DeadRow a b) h = record { purge = tt; parts = h; frees = tt }
+      drop_one (DeadPointer a b d) h = record { purge = tt; parts = h; frees = tt }
+      drop_one (DeadOver a b d) h = record { purge = tt; parts = h; frees = tt }
 
   -- an undo
 
@@ -169,7 +214,7 @@ module _ (pages : List (List Slot)) (tied : Tied (slot_of pages)) (home : Place)
   undo_row_next by bytes (Some q) s e full (inr h) false f = to_area_next by q s e full h.0 (lies_in q s)
 
   undo_parts_next : (by : Option ℕ) (over : Option Place) (before : Option TableRow) (s : Slot) → slot_of pages home ≡ s → is_free s ≡ false → RowFits by (slot_of pages) home before over → AllNext (length pages) (undo_parts pages home over before s)
-  undo_parts_next by over None s e full fits = (drop_slot s e full).1
+  undo_parts_next by over None s e full fits = drop_slot s e full
   undo_parts_next by over (Some row) s e full fits =
       undo_row_next by (row_size row) over s e full (subst (λ (n : ℕ). (row_size row ≤ n) ⊎ AreaHolds by (slot_of pages) home (row_size row) over) (ap capacity_of e) fits)
       (nat_le (row_size row) (capacity_of s)) refl
@@ -184,5 +229,8 @@ home_of_full by (Over a b d) is = absurd is
 home_of_full by (DeadOver a b d) is = absurd is
 
 pub undo_next : (by : Option ℕ) (c : Written) (pages : List (List Slot)) → Tied (slot_of pages) → Undoable by (slot_of pages) c → PlanNext (length pages) (planned_undo pages c)
-undo_next by c pages tied can =
-    (tt, undo_parts_next pages tied c.home by (over_before c.parts) c.before (slot_of pages c.home) refl (home_of_full by (slot_of pages c.home) can.home) can.fits)
+undo_next by c pages tied can = record {
+  purge = tt;
+  parts = undo_parts_next pages tied c.home by (over_before c.parts) c.before (slot_of pages c.home) refl (home_of_full by (slot_of pages c.home) can.home) can.fits;
+  frees = tt;
+}
