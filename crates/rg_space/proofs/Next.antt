@@ -5,16 +5,18 @@ use Rattle.std.proofs.lemmas.List.Sums.{prefix_len-le-length}
 use Rattle.std.specs.Prelude.{not}
 use Rattle.rg_base.specs.RowBytes.{row_size}
 use Rattle.rg_base.specs.declared.part.Part.{Part}
+use Rattle.rg_base.specs.declared.part.SlotOp.{SlotOp}
 use Rattle.rg_base.specs.declared.part.SlotOp.TheVariants as Op
 use Rattle.rg_base.specs.declared.place.Place.{Place}
 use Rattle.rg_base.specs.declared.row.Row.{Row as TableRow}
-use Rattle.rg_home.specs.Able.{IsHomeOf, IsAreaOf, AreaHolds, RowFits, Undoable}
-use Rattle.rg_home.specs.Pages.{page_at, slot_of, part_at}
-use Rattle.rg_home.specs.Plan.{admits, first_page, area_when, area_on, new_area, is_ended, is_home, purge_from, purge_of, left_of, takes, fitting, planned_put, to_home, in_over, to_new, from_over, away, changed, planned_change, planned_drop}
+use Rattle.rg_home.specs.Able.{IsHomeOf, IsAreaOf, AreaHolds, RowFits, Undoable, Proper}
+use Rattle.rg_home.specs.Laws.{WritesHome}
+use Rattle.rg_home.specs.Pages.{page_at, slot_of, part_at, place_of, wrote, made, applied, row_or_empty, FitsAll, TakesAll, TakesRow}
+use Rattle.rg_home.specs.Plan.{admits, first_page, area_when, area_on, new_area, is_ended, is_home, purge_from, purge_of, left_of, takes, fitting, planned_put, to_home, in_over, to_new, from_over, away, changed, pages_after, planned_change, planned_drop}
 use Rattle.rg_home.specs.Rows.{same_place, Tied}
 use Rattle.rg_home.specs.Slot.{Slot}
 use Rattle.rg_home.specs.Slot.{Free, Row, Pointer, Over, DeadRow, DeadPointer, DeadOver}
-use Rattle.rg_home.specs.Slots.{capacity_of, is_free}
+use Rattle.rg_home.specs.Slots.{capacity_of, is_free, placed, Fits}
 use Rattle.rg_home.specs.Undo.{over_before, to_area, back_from, lies_in, undo_row, undo_parts, planned_undo}
 use Rattle.rg_home.specs.Written.{Written}
 use Rattle.rg_home.specs.declared.plan.Area.{Area}
@@ -22,7 +24,10 @@ use Rattle.rg_home.specs.declared.plan.Fitting.{Fitting}
 use Rattle.rg_home.specs.declared.plan.Plan.{Plan}
 use Rattle.rg_home.proofs.Moves.{pointed}
 use Rattle.rg_home.proofs.Range.{page_within}
-use Rattle.rg_space.specs.Applied.{AllNext}
+use Rattle.rg_home.proofs.Whole.{put_writes, change_writes, drop_writes}
+use Rattle.rg_page.specs.Content.{Content, slots_of}
+use Rattle.rg_space.specs.Applied.{wrote_all, AllNext, FittingAll}
+use Rattle.rg_space.proofs.Whole.{slots_count, slots_all, next_more, fitting_all, all_count}
 
 -- each part makes its slot Free
 abbrev pub AllFree : List Part → Type 0
@@ -234,3 +239,105 @@ undo_next by c pages tied can = record {
   parts = undo_parts_next pages tied c.home by (over_before c.parts) c.before (slot_of pages c.home) refl (home_of_full by (slot_of pages c.home) can.home) can.fits;
   frees = tt;
 }
+
+-- parts that only free do the same whoever writes them
+
+free_op : (x : Part) (owner other : ℕ) (after brought : TableRow) → x.op ≡ Op.Free → made other brought x.op ≡ made owner after x.op
+free_op x owner other after brought e = ap (made other brought) e ∙ sym (ap (made owner after) e)
+
+takes_free : (after : Option TableRow) (parts : List Part) → AllFree parts → TakesAll after parts
+takes_free after [] h = tt
+takes_free after (x ∷ parts) h = (subst (TakesRow after) (sym h.0) tt, takes_free after parts h.1)
+
+fits_free : (owner other : ℕ) (after brought : TableRow) (limit : ℕ) (pages : List (List Slot)) (parts : List Part) → AllFree parts
+    → FitsAll owner after limit pages parts → FitsAll other brought limit pages parts
+fits_free owner other after brought limit pages [] h f = tt
+fits_free owner other after brought limit pages (x ∷ parts) h f =
+    let is : made owner after x.op ≡ made other brought x.op = free_op x other owner brought after h.0 in (
+      f.0,
+      f.1,
+      subst (λ (s : Slot). Fits (placed (page_at pages x.page) x.slot s)) is f.2,
+      fits_free owner other after brought limit (wrote pages (place_of x) (made other brought x.op)) parts h.1
+          (subst (λ (s : Slot). FitsAll owner after limit (wrote pages (place_of x) s) parts) is f.3),
+    )
+
+applied_free : (owner other : ℕ) (after brought : TableRow) (pages : List (List Slot)) (parts : List Part) → AllFree parts
+    → applied other brought pages parts ≡ applied owner after pages parts
+applied_free owner other after brought pages [] h = refl
+applied_free owner other after brought pages (x ∷ parts) h =
+    ap (λ (s : Slot). applied other brought (wrote pages (place_of x) s) parts) (free_op x owner other after brought h.0)
+    ∙ applied_free owner other after brought (wrote pages (place_of x) (made owner after x.op)) parts h.1
+
+-- A plan is carried out by two records, at positions of their own: one for the purge, of another
+-- owner, which brings no row, and one for the parts.
+module _ (limit copy owner purger position purged_at : ℕ) (pages : List Content) where
+  abbrev pub then_purged : Plan → List Content
+  then_purged plan = wrote_all copy purger None purged_at pages plan.purge
+
+  -- each record fits in its turn, and they make the pages of the plan
+  pub record Carries (row : Option TableRow) (plan : Plan) : Type 0 where
+    pub purge : FittingAll limit copy purger None purged_at pages plan.purge
+    pub parts : FittingAll limit copy owner row position (then_purged plan) plan.parts
+    pub purged : slots_of (then_purged plan) ≡ applied owner (row_or_empty row) (slots_of pages) plan.purge
+    pub after :
+        slots_of (wrote_all copy owner row position (then_purged plan) plan.parts)
+        ≡ pages_after owner (row_or_empty row) (slots_of pages) plan
+
+  pub apply_plan : (row : Option TableRow) (plan : Plan) → WritesHome owner limit (slots_of pages) row plan → PlanNext (length (slots_of pages)) plan → Carries row plan
+  apply_plan row plan w n =
+      let purge : FittingAll limit copy purger None purged_at pages plan.purge =
+      fitting_all limit copy purger None purged_at pages plan.purge
+      (fits_free owner purger (row_or_empty row) (row_or_empty None) limit (slots_of pages) plan.purge n.frees w.purge_fits)
+      (takes_free None plan.purge n.frees)
+      (subst (λ (m : ℕ). AllNext m plan.purge) (slots_count pages) n.purge) in
+      let purged : slots_of (then_purged plan) ≡ applied owner (row_or_empty row) (slots_of pages) plan.purge =
+      slots_all limit copy purger None purged_at pages plan.purge purge
+      ∙ applied_free owner purger (row_or_empty row) (row_or_empty None) (slots_of pages) plan.purge n.frees in
+      let parts : FittingAll limit copy owner row position (then_purged plan) plan.parts =
+      fitting_all limit copy owner row position (then_purged plan) plan.parts
+      (subst (λ (ps : List (List Slot)). FitsAll owner (row_or_empty row) limit ps plan.parts) (sym purged) w.parts_fit)
+      w.takes
+      (next_more (length (slots_of pages)) (length (then_purged plan)) plan.parts
+      (omega (arith, slots_count pages, all_count copy purger None purged_at pages plan.purge)) n.parts) in
+      record {
+        purge = purge;
+        parts = parts;
+        purged = purged;
+        after = slots_all limit copy owner row position (then_purged plan) plan.parts parts
+            ∙ ap (λ (ps : List (List Slot)). applied owner (row_or_empty row) ps plan.parts) purged;
+      }
+
+  -- the plan of a put, of a change and of a drop
+  module _ (within : length pages ≤ limit) (proper : Proper (slots_of pages)) where
+    few : length (slots_of pages) ≤ limit
+    few = omega (arith, slots_count pages, within)
+
+    pub apply_put : (row : TableRow) (live : List ℕ) → row_size row ≤ 4046
+        → IfSome (planned_put live (row_size row) (slots_of pages) (new_area live (row_size row) limit (slots_of pages))) (Carries (Some row))
+    apply_put row live small =
+        go (planned_put live (row_size row) (slots_of pages) (new_area live (row_size row) limit (slots_of pages)))
+        (put_writes owner row live limit (slots_of pages) small few proper) (put_next live (row_size row) limit (slots_of pages))
+      where
+        go : (o : Option Plan) → IfSome o (λ plan. (plan.before ≡ None) × WritesHome owner limit (slots_of pages) (Some row) plan)
+            → IfSome o (PlanNext (length (slots_of pages))) → IfSome o (Carries (Some row))
+        go None w n = tt
+        go (Some plan) w n = apply_plan (Some row) plan w.1 n
+
+    pub apply_change : (row : TableRow) (live : List ℕ) (home : Place) → row_size row ≤ 4046 → is_home (slot_of (slots_of pages) home) ≡ true
+        → IfSome (planned_change live (row_size row) limit (slots_of pages) home) (Carries (Some row))
+    apply_change row live home small is =
+        go (planned_change live (row_size row) limit (slots_of pages) home)
+        (change_writes owner row live limit (slots_of pages) small few proper home is)
+        (change_next (slots_of pages) proper.tied home live (row_size row) limit is)
+      where
+        go : (o : Option Plan) → IfSome o (λ plan. (plan.home ≡ home) × WritesHome owner limit (slots_of pages) (Some row) plan)
+            → IfSome o (PlanNext (length (slots_of pages))) → IfSome o (Carries (Some row))
+        go None w n = tt
+        go (Some plan) w n = apply_plan (Some row) plan w.1 n
+
+    pub apply_drop : (home : Place) → is_home (slot_of (slots_of pages) home) ≡ true
+        → Carries None (planned_drop (slots_of pages) home (slot_of (slots_of pages) home))
+    apply_drop home is =
+        apply_plan None (planned_drop (slots_of pages) home (slot_of (slots_of pages) home))
+        (drop_writes owner limit (slots_of pages) home few proper (slot_of (slots_of pages) home) refl is).2
+        (drop_next (slots_of pages) proper.tied home is)

@@ -78,3 +78,8 @@ fitting_all limit copy owner after position pages (x ∷ parts) f t a =
     (subst (λ (ps : List (List Slot)). FitsAll owner (row_or_empty after) limit ps parts) (sym (slots_part copy owner after position pages x f.0 a.0)) f.3)
     t.1
     (next_more (length pages) (length later) parts (part_count copy owner after position pages x) a.1))
+
+pub all_count : (copy owner : ℕ) (after : Option TableRow) (position : ℕ) (pages : List Content) (parts : List Part) → length pages ≤ length (wrote_all copy owner after position pages parts)
+all_count copy owner after position pages [] = omega arith
+all_count copy owner after position pages (x ∷ parts) =
+    omega (arith, part_count copy owner after position pages x, all_count copy owner after position (wrote_part copy owner after position pages x) parts)
