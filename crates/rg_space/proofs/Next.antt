@@ -1,23 +1,22 @@
 -- Every part of a plan is on a page that is there, or on the next one.
-use Rattle.std.proofs.Common.{◌≡◌, ◌≤◌, ◌<◌, ℕ, ◌+◌, nat_le, nat_lt, Bool, true, false, List, [], ◌∷◌, length, Option, Some, None, IfSome, refl, sym, ap, subst, ◌∙◌, arith, if◌then◌else◌, ◌⊎◌, inl, inr}
+use Rattle.std.proofs.Common.{◌≡◌, ◌≤◌, ℕ, ◌+◌, nat_le, nat_lt, Bool, true, false, List, [], ◌∷◌, length, Option, Some, None, IfSome, refl, sym, ap, subst, ◌∙◌, arith, if◌then◌else◌, ◌⊎◌, inl, inr}
 use Rattle.std.proofs.lemmas.Bool.{leb-false}
 use Rattle.std.proofs.lemmas.List.Sums.{prefix_len-le-length}
 use Rattle.std.specs.Prelude.{not}
 use Rattle.rg_base.specs.RowBytes.{row_size}
 use Rattle.rg_base.specs.declared.part.Part.{Part}
-use Rattle.rg_base.specs.declared.part.SlotOp.{SlotOp}
 use Rattle.rg_base.specs.declared.part.SlotOp.TheVariants as Op
 use Rattle.rg_base.specs.declared.place.Place.{Place}
 use Rattle.rg_base.specs.declared.row.Row.{Row as TableRow}
 use Rattle.rg_home.specs.Able.{IsHomeOf, IsAreaOf, AreaHolds, RowFits, Undoable, Proper}
 use Rattle.rg_home.specs.Laws.{WritesHome}
 use Rattle.rg_home.specs.Pages.{page_at, slot_of, part_at, place_of, wrote, made, applied, row_or_empty, FitsAll, TakesAll, TakesRow}
-use Rattle.rg_home.specs.Plan.{admits, first_page, area_when, area_on, new_area, is_ended, is_home, purge_from, purge_of, left_of, takes, fitting, planned_put, to_home, in_over, to_new, from_over, away, changed, pages_after, planned_change, planned_drop}
-use Rattle.rg_home.specs.Rows.{same_place, Tied}
+use Rattle.rg_home.specs.Plan.{admits, first_page, area_when, area_on, new_area, is_ended, is_home, purge_from, purge_of, left_of, takes, fitting, planned_put, to_new, from_over, away, changed, pages_after, planned_change, planned_drop}
+use Rattle.rg_home.specs.Rows.{Tied}
 use Rattle.rg_home.specs.Slot.{Slot}
 use Rattle.rg_home.specs.Slot.{Free, Row, Pointer, Over, DeadRow, DeadPointer, DeadOver}
 use Rattle.rg_home.specs.Slots.{capacity_of, is_free, placed, Fits}
-use Rattle.rg_home.specs.Undo.{over_before, to_area, back_from, lies_in, undo_row, undo_parts, planned_undo}
+use Rattle.rg_home.specs.Undo.{over_before, back_from, lies_in, undo_row, undo_parts, planned_undo}
 use Rattle.rg_home.specs.Written.{Written}
 use Rattle.rg_home.specs.declared.plan.Area.{Area}
 use Rattle.rg_home.specs.declared.plan.Fitting.{Fitting}
@@ -341,3 +340,8 @@ module _ (limit copy owner purger position purged_at : ℕ) (pages : List Conten
         apply_plan None (planned_drop (slots_of pages) home (slot_of (slots_of pages) home))
         (drop_writes owner limit (slots_of pages) home few proper (slot_of (slots_of pages) home) refl is).2
         (drop_next (slots_of pages) proper.tied home is)
+
+  -- the plan of an undo, where rg_ready shows what it writes
+  pub apply_undo : (by : Option ℕ) (c : Written) → Tied (slot_of (slots_of pages)) → Undoable by (slot_of (slots_of pages)) c
+      → WritesHome owner limit (slots_of pages) c.before (planned_undo (slots_of pages) c) → Carries c.before (planned_undo (slots_of pages) c)
+  apply_undo by c tied can w = apply_plan c.before (planned_undo (slots_of pages) c) w (undo_next by c (slots_of pages) tied can)

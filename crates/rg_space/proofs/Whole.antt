@@ -1,16 +1,14 @@
 -- Parts applied to pages are those parts applied to the slots of the pages.
-use Rattle.std.proofs.Common.{◌≡◌, ◌==◌, ◌≤◌, ◌<◌, ℕ, zero, suc, ◌+◌, ◌-◌, Bool, true, false, List, [], ◌∷◌, ◌++◌, Option, map, length, get_or, refl, sym, ap, subst, ◌∙◌, arith, rules, length-append, length-set, if◌then◌else◌}
-use Rattle.std.proofs.lemmas.Bool.{eqb-true, eqb-false}
+use Rattle.std.proofs.Common.{◌≡◌, ◌==◌, ◌≤◌, ℕ, ◌+◌, ◌-◌, Bool, true, false, List, [], ◌∷◌, ◌++◌, Option, length, refl, sym, ap, subst, ◌∙◌, arith, length-append, length-set, if◌then◌else◌}
+use Rattle.std.proofs.lemmas.Bool.{eqb-true}
 use Rattle.rg_base.specs.declared.part.Part.{Part}
 use Rattle.rg_base.specs.declared.row.Row.{Row as TableRow}
-use Rattle.rg_home.specs.Pages.{page_at, wrote, wrote_page, made, row_or_empty, place_of, applied, FitsAll, TakesAll}
+use Rattle.rg_home.specs.Pages.{wrote, wrote_page, made, row_or_empty, place_of, applied, FitsAll, TakesAll}
 use Rattle.rg_home.specs.Slot.{Slot}
-use Rattle.rg_home.specs.Slots.{placed, Fits}
 use Rattle.rg_home.proofs.PageLists.{wrote-more}
 use Rattle.rg_page.specs.Changed.{changed}
 use Rattle.rg_page.specs.Content.{Content, content_at, slots_of, empty}
-use Rattle.rg_page.specs.Seen.{set_content}
-use Rattle.rg_space.specs.Applied.{grown, wrote_part, wrote_all, AllNext, Fitting, FittingAll}
+use Rattle.rg_space.specs.Applied.{grown, wrote_part, wrote_all, AllNext, FittingAll}
 use Rattle.rg_space.proofs.Agreeing.{slots_set}
 use Rattle.rg_space.proofs.Growing.{grown_count}
 
@@ -72,12 +70,13 @@ pub fitting_all : (limit copy owner : ℕ) (after : Option TableRow) (position :
     → FittingAll limit copy owner after position pages parts
 fitting_all limit copy owner after position pages [] f t a = tt
 fitting_all limit copy owner after position pages (x ∷ parts) f t a =
-    let later : List Content = wrote_part copy owner after position pages x in
-    (record { low = f.0; next = a.0; high = f.1; row = t.0; fits = f.2 },
-    fitting_all limit copy owner after position later parts
-    (subst (λ (ps : List (List Slot)). FitsAll owner (row_or_empty after) limit ps parts) (sym (slots_part copy owner after position pages x f.0 a.0)) f.3)
-    t.1
-    (next_more (length pages) (length later) parts (part_count copy owner after position pages x) a.1))
+    let later : List Content = wrote_part copy owner after position pages x in (
+      record { low = f.0; next = a.0; high = f.1; row = t.0; fits = f.2 },
+      fitting_all limit copy owner after position later parts
+          (subst (λ (ps : List (List Slot)). FitsAll owner (row_or_empty after) limit ps parts) (sym (slots_part copy owner after position pages x f.0 a.0)) f.3)
+          t.1
+          (next_more (length pages) (length later) parts (part_count copy owner after position pages x) a.1),
+    )
 
 pub all_count : (copy owner : ℕ) (after : Option TableRow) (position : ℕ) (pages : List Content) (parts : List Part) → length pages ≤ length (wrote_all copy owner after position pages parts)
 all_count copy owner after position pages [] = omega arith
