@@ -29,6 +29,7 @@ impl ListFrames {
     /// No pages, of this copy.
     pub fn new(alloc: Global, copy: u8) -> ListFrames
         ensures pages { result.pages.items ≡ [] }
+        ensures reserved { result.reserved.items ≡ [] }
         ensures copy { result.copy ≡ copy }
     {
         ListFrames {
@@ -63,17 +64,17 @@ impl Frames for ListFrames {
     ghost use Rattle.rg_page.specs.Listed.{list_few, list_numbered};
 
     ghost seen = { λ f. record {
-        copy = f.copy;
-        pages = f.pages.items;
-        held = λ _. true;
-        reserved = length f.reserved.items;
-        limit = 4294967295;
-        forced = 18446744073709551616;
-        spare = 4294967295;
-        idle = 4294967295;
-        faults = 0;
-        sure = true;
-        fixed = λ _. true;
+      copy = f.copy;
+      pages = f.pages.items;
+      held = λ _. true;
+      reserved = length f.reserved.items;
+      limit = 4294967295;
+      forced = 18446744073709551616;
+      spare = 4294967295;
+      idle = 4294967295;
+      faults = 0;
+      sure = true;
+      fixed = λ _. true;
     } };
 
     ghost gave = { λ _ _ _ _. Unit {0} };
