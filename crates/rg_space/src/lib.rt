@@ -16,3 +16,6 @@ pub mod read;
 
 /// The table space.
 pub mod space;
+
+#[cfg(test)]
+mod tests;
