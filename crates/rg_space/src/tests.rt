@@ -50,8 +50,8 @@ fn summary(rt: &impl Abort, alloc: Global, slots: &[(SlotOp, u32)]) -> Result<Su
 fn index(rt: &impl Abort, alloc: Global, pages: &[&[(SlotOp, u32)]]) -> Result<Index, Fail> {
     let mut index = Index::new(alloc);
     for slots in pages {
-        assert!(rt; index.len() < 5);
-        index.push(summary(rt, alloc, slots)?)?;
+        assert!(rt; index.len() < 5 && index.room() == 0);
+        index.push(alloc, summary(rt, alloc, slots)?)?;
     }
     Ok(index)
 }
@@ -408,8 +408,8 @@ fn finds_the_first_of_1000_pages(rt: HostRuntime) -> Result<(), Fail> {
     let mut index = Index::new(rt.alloc());
     for k in 0..1000u16 {
         let slots = [(row(4046 - k), 0)];
-        assert!(rt; index.len() < 1000);
-        index.push(summary(&rt, rt.alloc(), &slots)?)?;
+        assert!(rt; index.len() < 1000 && index.room() == 0);
+        index.push(rt.alloc(), summary(&rt, rt.alloc(), &slots)?)?;
     }
     assert_eq!(rt; index.len(), 1000);
     for (page, capacity, owner, b, want) in [
