@@ -1,5 +1,5 @@
 -- A list with one item put at its number, past others where there are fewer.
-use Rattle.std.proofs.Common.{◌≡◌, ◌≤◌, ◌<◌, ℕ, zero, suc, ◌+◌, List, [], ◌∷◌, ◌++◌, length, take, set, refl, sym, ap, ◌∙◌, arith}
+use Rattle.std.proofs.Common.{◌≡◌, ◌≤◌, ◌<◌, ℕ, zero, suc, ◌+◌, List, [], ◌∷◌, ◌++◌, length, take, set, refl, ap, arith}
 use Rattle.rg_home.specs.Pages.{altered}
 
 module _ {A : Type 0} (d : A) (f : A → A) where

@@ -1,19 +1,14 @@
 -- Slots laid out of headers, places and bytes.
-use Rattle.std.proofs.Common.{◌≡◌, ◌≤◌, ◌<◌, ℕ, zero, suc, ◌+◌, ◌-◌, Bool, true, false, List, [], ◌∷◌, ◌++◌, length, map, take, set, get_or, refl, sym, ap, subst, ◌∙◌, arith}
-use Rattle.std.proofs.lemmas.List.{length-take-le}
+use Rattle.std.proofs.Common.{◌≡◌, ◌≤◌, ◌<◌, ℕ, zero, suc, List, [], ◌∷◌, length, map, get_or, refl, sym, ap, ◌∙◌, arith}
 use Rattle.std.specs.declared.vec.Vec.{Vec}
 use Rattle.std.specs.declared.alloc.Global.{Global}
-use Rattle.rg_base.specs.RowBytes.{row_of, row_bytes}
 use Rattle.rg_base.specs.declared.place.Place.{Place}
-use Rattle.rg_base.specs.declared.row.Row.{Row as TableRow}
 use Rattle.rg_home.specs.Slot.{Slot}
 use Rattle.rg_home.specs.Slot.{Free, Row, Pointer, Over, DeadRow, DeadPointer, DeadOver}
-use Rattle.rg_home.specs.Slots.{capacity_of, is_free, used, slot_at, cut, trim, put, placed, Fits, IsTrimmed}
-use Rattle.rg_home.specs.Pages.{altered}
+use Rattle.rg_home.specs.Slots.{used, slot_at, cut, trim, IsTrimmed}
 use Rattle.rg_home.specs.Plan.{room}
-use Rattle.rg_page.specs.Bare.{bare, nowhere}
-use Rattle.rg_page.specs.Laid.{whole_slot, laid, IsArea, AreAreas, IsLaid, Spells}
-use Rattle.rg_page.specs.Stretches.{filled_by}
+use Rattle.rg_page.specs.Bare.{bare}
+use Rattle.rg_page.specs.Laid.{whole_slot, laid, IsArea, AreAreas, IsLaid}
 use Rattle.rg_page.proofs.BareSlots.{bare_used, bare_trim, bare_room}
 
 -- as many areas as headers

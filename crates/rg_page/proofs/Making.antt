@@ -1,6 +1,6 @@
 -- The slot that a part makes, of its header, its place and its row's bytes.
-use Rattle.std.proofs.Common.{◌≡◌, ◌≤◌, ℕ, List, [], Option, Some, None, refl, sym, ap, subst, ◌∙◌, arith, length, IsSomeAnd}
-use Rattle.rg_base.specs.RowBytes.{row_bytes, row_of, row_size}
+use Rattle.std.proofs.Common.{◌≡◌, ◌≤◌, ℕ, List, Option, Some, None, refl, sym, ap, subst, arith}
+use Rattle.rg_base.specs.RowBytes.{row_bytes, row_size}
 use Rattle.rg_base.specs.Text.{IsText}
 use Rattle.rg_base.specs.declared.part.SlotOp.{SlotOp}
 use Rattle.rg_base.specs.declared.part.SlotOp.TheVariants as Op
@@ -8,8 +8,7 @@ use Rattle.rg_base.specs.declared.row.Row.{Row as TableRow}
 use Rattle.rg_base.proofs.RowBytes.{length-row_bytes}
 use Rattle.rg_home.specs.Pages.{made, row_or_empty, TakesRow}
 use Rattle.rg_home.specs.Slot.{Slot}
-use Rattle.rg_home.specs.Slot.{Free, Row, Pointer, Over, DeadRow, DeadPointer, DeadOver}
-use Rattle.rg_home.specs.Slots.{placed, Fits}
+use Rattle.rg_home.specs.Slot.{Row, Over}
 use Rattle.rg_page.specs.Bare.{bare}
 use Rattle.rg_page.specs.Changed.{other_of, brought, IsShown}
 use Rattle.rg_page.specs.Content.{Content}

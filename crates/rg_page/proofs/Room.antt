@@ -1,12 +1,12 @@
 -- Whether a slot that is set fits its page.
-use Rattle.std.proofs.Common.{◌≡◌, ◌≤◌, ◌<◌, ℕ, zero, suc, ◌+◌, ◌-◌, ◌*◌, List, [], ◌∷◌, length, take, set, get_or, refl, sym, ap, subst, ◌∙◌, arith, true, false, inl, inr, nat_le, rules}
+use Rattle.std.proofs.Common.{◌≡◌, ◌≤◌, ◌<◌, ℕ, zero, suc, ◌+◌, ◌-◌, ◌*◌, List, [], ◌∷◌, length, take, get_or, ap, subst, arith, true, false, inl, inr, nat_le}
 use Rattle.std.proofs.lemmas.Bool.{cases_lt, le-leb}
 use Rattle.std.proofs.lemmas.List.{take_all}
 use Rattle.rg_home.specs.Slot.{Slot}
 use Rattle.rg_home.specs.Slots.{capacity_of, is_free, used, placed, put, Fits, IsTrimmed}
 use Rattle.rg_home.proofs.Offers.{used-trim}
 use Rattle.rg_home.proofs.Slots.{put-set}
-use Rattle.rg_home.proofs.Steps.{set_used, set_unfit, past_used, past_unfit, past_free, old_within}
+use Rattle.rg_home.proofs.Steps.{set_used, set_unfit, past_used, past_unfit, past_free}
 
 -- a test that holds
 pub true_leb : (a b : ℕ) → a ≤ b → nat_le a b ≡ true

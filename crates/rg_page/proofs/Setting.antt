@@ -1,19 +1,19 @@
 -- A slot of a page is set: its header, its place and its bytes, each in its list.
-use Rattle.std.proofs.Common.{◌≡◌, ◌≤◌, ◌<◌, ℕ, zero, suc, ◌+◌, ◌-◌, Bool, true, false, List, [], ◌∷◌, ◌++◌, length, map, take, set, get_or, refl, sym, ap, subst, ◌∙◌, arith, inl, inr}
+use Rattle.std.proofs.Common.{◌≡◌, ◌≤◌, ◌<◌, ℕ, zero, suc, ◌+◌, Bool, true, false, List, [], ◌∷◌, length, map, take, get_or, refl, sym, ap, subst, ◌∙◌, arith, inl, inr}
 use Rattle.std.proofs.lemmas.Bool.{cases_lt}
 use Rattle.std.proofs.lemmas.List.{length-take-le, length-set}
 use Rattle.rg_base.specs.declared.place.Place.{Place}
 use Rattle.rg_home.specs.Slot.{Slot}
 use Rattle.rg_home.specs.Slot.{Free, Row, Pointer, Over, DeadRow, DeadPointer, DeadOver}
-use Rattle.rg_home.specs.Slots.{capacity_of, is_free, used, slot_at, cut, trim, put, placed, Fits, IsTrimmed}
+use Rattle.rg_home.specs.Slots.{capacity_of, is_free, used, cut, trim, put, placed, Fits, IsTrimmed}
 use Rattle.rg_home.specs.Pages.{altered}
-use Rattle.rg_home.proofs.Slots.{free_is, put-set, trim-put_past, trim-set_full, used-length}
+use Rattle.rg_home.proofs.Slots.{free_is, put-set, trim-put_past, trim-set_full}
 use Rattle.rg_home.proofs.Steps.{past_free}
 use Rattle.rg_page.specs.Bare.{bare, nowhere}
 use Rattle.rg_page.specs.Changed.{IsLeft}
-use Rattle.rg_page.specs.Laid.{whole_slot, laid, IsArea, AreAreas, IsLaid, Spells}
+use Rattle.rg_page.specs.Laid.{whole_slot, laid, IsArea, AreAreas}
 use Rattle.rg_page.specs.Stretches.{filled_by}
-use Rattle.rg_page.proofs.BareSlots.{bare_trim, bare_placed, bare_put}
+use Rattle.rg_page.proofs.BareSlots.{bare_trim}
 use Rattle.rg_page.proofs.Lays.{areas_count, bare_laid, length-map_bare, trim_no_longer}
 
 put_length : (headers : List Slot) (i : ℕ) (h : Slot) → length headers ≤ i → length (put headers i h) ≡ i + 1

@@ -1,5 +1,5 @@
 -- A slot without its row and its place: what a plan reads of it.
-use Rattle.std.specs.Prelude.{◌≡◌, ℕ, List, map, None}
+use Rattle.std.specs.Prelude.{ℕ, List, map, None}
 use Rattle.rg_base.specs.declared.place.Place.{Place}
 use Rattle.rg_base.specs.declared.tran.Tran.{Tran}
 use Rattle.rg_home.specs.Pages.{row_or_empty}

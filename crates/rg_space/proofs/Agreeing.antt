@@ -1,5 +1,5 @@
 -- Summaries stay in step with pages.
-use Rattle.std.proofs.Common.{◌≡◌, ◌≤◌, ◌<◌, ℕ, zero, suc, ◌+◌, ◌-◌, List, [], ◌∷◌, ◌++◌, Option, map, length, set, get_or, refl, sym, ap, subst, ◌∙◌, arith}
+use Rattle.std.proofs.Common.{◌≡◌, ◌≤◌, ℕ, ◌-◌, List, [], ◌∷◌, Option, map, length, set, refl, sym, ap, ◌∙◌, arith}
 use Rattle.std.proofs.lemmas.List.{map-set}
 use Rattle.rg_base.specs.declared.part.Part.{Part}
 use Rattle.rg_base.specs.declared.row.Row.{Row as TableRow}

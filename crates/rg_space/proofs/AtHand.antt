@@ -1,7 +1,6 @@
 -- What a plan needs at hand: where the pages of its parts are, the page that it purges is too.
-use Rattle.std.proofs.Common.{◌≡◌, ◌≤◌, ◌+◌, ℕ, Bool, true, false, List, [], ◌∷◌, Option, Some, None, length, refl, sym, subst, if◌then◌else◌, arith}
+use Rattle.std.proofs.Common.{◌≤◌, ◌+◌, ℕ, Bool, true, false, List, [], ◌∷◌, Option, Some, None, length, sym, subst, if◌then◌else◌, arith}
 use Rattle.std.specs.Prelude.{IfSome}
-use Rattle.rg_base.specs.declared.part.Part.{Part}
 use Rattle.rg_base.specs.declared.part.SlotOp.TheVariants as Op
 use Rattle.rg_base.specs.declared.place.Place.{Place}
 use Rattle.rg_home.specs.Pages.{page_at, slot_of, part_at}

@@ -1,13 +1,13 @@
 -- Parts applied one after the other.
-use Rattle.std.proofs.Common.{◌≡◌, ◌==◌, ◌≤◌, ◌<◌, ℕ, zero, suc, ◌+◌, ◌-◌, Bool, true, false, List, [], ◌∷◌, ◌++◌, Option, map, length, drop, get_or, refl, sym, ap, subst, ◌∙◌, arith, rules, length-append, drop-cons, if◌then◌else◌, inl, inr}
+use Rattle.std.proofs.Common.{◌≡◌, ◌==◌, ◌≤◌, ◌<◌, ℕ, zero, suc, ◌+◌, Bool, true, false, List, [], ◌∷◌, ◌++◌, Option, length, drop, get_or, refl, sym, ap, subst, ◌∙◌, arith, rules, length-append, drop-cons, if◌then◌else◌, inl, inr}
 use Rattle.std.proofs.lemmas.Bool.{cases_lt, eqb-false}
 use Rattle.rg_base.specs.declared.part.Part.{Part}
 use Rattle.rg_base.specs.declared.row.Row.{Row}
 use Rattle.rg_home.specs.Pages.{page_at, made, row_or_empty}
 use Rattle.rg_home.specs.Slot.{Slot}
 use Rattle.rg_home.specs.Slots.{placed, Fits}
-use Rattle.rg_page.specs.Content.{Content, content_at, slots_of, empty}
-use Rattle.rg_page.specs.Seen.{Seen, Keeps}
+use Rattle.rg_page.specs.Content.{Content, slots_of, empty}
+use Rattle.rg_page.specs.Seen.{Seen}
 use Rattle.rg_space.specs.Applied.{grown, wrote_part, wrote_all, AllHeld, Fitting, FittingAll, Within, Writes}
 use Rattle.rg_space.proofs.Took.{keeps_more, page_slots}
 

@@ -8,3 +8,4 @@ pub mod Readying
 pub mod AtHand
 pub mod Whole
 pub mod Next
+pub mod Surveying

@@ -1,23 +1,21 @@
 -- The moves found over summaries are the plans found over pages.
-use Rattle.std.proofs.Common.{◌≡◌, ℕ, ◌+◌, ◌-◌, nat_le, zero, suc, Bool, true, false, Option, Some, None, List, [], ◌∷◌, map, get_or, refl, sym, ◌∙◌, ap, subst}
-use Rattle.rg_base.specs.RowBytes.{row_size}
+use Rattle.std.proofs.Common.{◌≡◌, ℕ, zero, suc, Bool, true, false, Option, Some, None, List, [], ◌∷◌, map, get_or, refl, sym, ◌∙◌, ap, subst}
 use Rattle.rg_base.specs.declared.part.Part.{Part}
 use Rattle.rg_base.specs.declared.part.SlotOp.TheVariants as Op
 use Rattle.rg_base.specs.declared.place.Place.{Place}
 use Rattle.rg_base.specs.declared.row.Row.{Row as TableRow}
 use Rattle.rg_home.specs.Pages.{page_at, slot_of, part_at}
 use Rattle.rg_home.specs.Plan.{new_area, fitting, purge_of, purge_from, left_of, planned_put, planned_change, planned_drop, changed, away, from_over, to_new, to_home, in_over, pointed_to}
-use Rattle.rg_home.specs.Rows.{row_at, same_place}
+use Rattle.rg_home.specs.Rows.{row_at}
 use Rattle.rg_home.specs.Slot.{Slot}
 use Rattle.rg_home.specs.Slot.{Free, Row, Pointer, Over, DeadRow, DeadPointer, DeadOver}
 use Rattle.rg_home.specs.Slots.{slot_at, capacity_of}
-use Rattle.rg_home.specs.Undo.{undo_row, undo_parts, back_from, to_area, lies_in}
 use Rattle.rg_home.specs.declared.plan.Area.{Area}
 use Rattle.rg_home.specs.declared.plan.Fitting.{Fitting}
 use Rattle.rg_home.specs.declared.plan.Plan.{Plan}
 use Rattle.rg_page.proofs.BareSlots.{bare_capacity, bare_page_at, bare_purge_from, bare_new_area, bare_fitting}
 use Rattle.rg_page.specs.Bare.{bare}
-use Rattle.rg_space.specs.Moves.{IsPut, left_by, home_moves, over_moves, new_moves, over_or_new, away_moves, home_or_away, change_moves, drop_moves, back_moves, points_to, row_moves, undo_moves}
+use Rattle.rg_space.specs.Moves.{IsPut, left_by, home_moves, over_moves, new_moves, over_or_new, away_moves, home_or_away, change_moves, drop_moves}
 use Rattle.rg_space.specs.Planned.{plan_of, plan_of_change, plan_of_put}
 use Rattle.rg_page.specs.Content.{slots_of}
 use Rattle.rg_page.specs.Seen.{Seen}

@@ -1,5 +1,5 @@
 -- Pages at hand stay so.
-use Rattle.std.proofs.Common.{◌≡◌, ◌≤◌, ◌+◌, ℕ, true, List, [], ◌∷◌, length, drop, refl, subst, sym, ◌∙◌, arith}
+use Rattle.std.proofs.Common.{◌≡◌, ◌≤◌, ◌+◌, ℕ, true, List, [], ◌∷◌, length, refl, subst, ◌∙◌, arith}
 use Rattle.rg_base.specs.declared.part.Part.{Part}
 use Rattle.rg_page.specs.Seen.{Seen}
 use Rattle.rg_space.specs.Ready.{IsReady, AllReady}

@@ -1,16 +1,15 @@
 -- Calls that read, one after the other, and slots of pages that stay.
-use Rattle.std.proofs.Common.{◌≡◌, ◌≤◌, ◌<◌, ℕ, zero, suc, ◌+◌, inl, inr, true, List, [], ◌∷◌, Option, Some, None, map, length, get_or, refl, sym, ap, subst, ◌∙◌, arith}
+use Rattle.std.proofs.Common.{◌≡◌, ◌≤◌, ◌<◌, ℕ, zero, suc, ◌+◌, inl, inr, List, [], ◌∷◌, Option, Some, None, map, length, get_or, refl, sym, ap, subst, ◌∙◌, arith}
 use Rattle.std.proofs.lemmas.Bool.{cases_lt}
 use Rattle.rg_base.specs.declared.place.Place.{Place}
-use Rattle.rg_base.specs.declared.row.Row.{Row as TableRow}
-use Rattle.rg_home.specs.Pages.{page_at, slot_of}
+use Rattle.rg_home.specs.Pages.{page_at}
 use Rattle.rg_home.specs.Plan.{pointed_to}
 use Rattle.rg_home.specs.Rows.{row_at, home_row, over_row, plain_row}
 use Rattle.rg_home.specs.Slot.{Slot}
 use Rattle.rg_home.specs.Slot.{Free, Row, Pointer, Over, DeadRow, DeadPointer, DeadOver}
 use Rattle.rg_home.specs.Slots.{slot_at}
 use Rattle.rg_page.specs.Content.{Content, content_at, slots_of, empty}
-use Rattle.rg_page.specs.Seen.{Seen, Keeps, Reads, StayHeld}
+use Rattle.rg_page.specs.Seen.{Seen, Keeps, Reads}
 use Rattle.rg_space.specs.Glimpse.{IsGlimpse}
 use Rattle.rg_space.specs.AtHome.{IsAtHome, IsHeldOf}
 use Rattle.rg_space.specs.Took.{Took, slot_in, IsHeldAt}

@@ -2,7 +2,7 @@
 use Rattle.std.specs.Prelude.{◌≡◌, ◌≤◌, ◌<◌, ◌+◌, ◌==◌, ℕ, true, List, [], ◌∷◌, ◌++◌, Option, length, if◌then◌else◌}
 use Rattle.rg_base.specs.declared.part.Part.{Part}
 use Rattle.rg_base.specs.declared.row.Row.{Row}
-use Rattle.rg_home.specs.Pages.{FitsAll, TakesAll, TakesRow, row_or_empty, made, page_at}
+use Rattle.rg_home.specs.Pages.{TakesRow, row_or_empty, made, page_at}
 use Rattle.rg_home.specs.Slots.{placed, Fits}
 use Rattle.rg_page.specs.Content.{Content, empty, slots_of}
 use Rattle.rg_page.specs.Seen.{Seen, Keeps, set_content}

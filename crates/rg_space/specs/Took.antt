@@ -1,5 +1,5 @@
 -- What calls that read do to frames.
-use Rattle.std.specs.Prelude.{◌≡◌, ◌≤◌, ◌+◌, ℕ, true, List, length}
+use Rattle.std.specs.Prelude.{◌≡◌, ◌≤◌, ◌+◌, ℕ, true, length}
 use Rattle.rg_base.specs.declared.place.Place.{Place}
 use Rattle.rg_home.specs.Pages.{slot_of}
 use Rattle.rg_home.specs.Slot.{Slot}

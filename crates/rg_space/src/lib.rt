@@ -14,8 +14,10 @@ pub mod fault;
 /// Slots and rows, read through frames.
 pub mod read;
 
+/// The summaries of pages that are there.
+pub mod survey;
+
 /// The table space.
 pub mod space;
-
 #[cfg(test)]
 mod tests;

@@ -12,15 +12,17 @@ ghost use Rattle.rg_home.specs.Pages.{slot_of};
 ghost use Rattle.rg_home.specs.Plan.{new_area, planned_put, planned_change, planned_drop};
 ghost use Rattle.rg_page.specs.Bare.{numbers_of};
 ghost use Rattle.rg_page.specs.Content.{Content, slots_of};
-ghost use Rattle.rg_page.specs.Seen.{set_content};
+ghost use Rattle.rg_page.specs.Seen.{Reads, set_content};
+ghost use Rattle.rg_home.specs.Rows.{row_at};
 ghost use Rattle.rg_space.specs.Applied.{Fitting, FittingAll, AllHeld, Within, Writes, grown, wrote_part, wrote_all};
-ghost use Rattle.rg_space.specs.Took.{Took, HasRisen, IsHeldAt};
+ghost use Rattle.rg_space.specs.Took.{Took, HasRisen, IsHeldAt, slot_in};
 ghost use Rattle.rg_space.specs.Ready.{IsReady, AllReady, IsAtHand, HasCause};
 ghost use Rattle.rg_space.specs.Space.{Agree, InStep, frames_of, index_of, capacity_in};
 
 use crate::fault::SpaceFault;
 use crate::index::Index;
 use crate::read::{home_of, is_there};
+use crate::survey::survey;
 use rg_base::part::{Part, Parts};
 use rg_base::place::Place;
 use rg_base::position::Position;
@@ -41,6 +43,59 @@ pub struct Space<F> {
 }
 
 impl<F: Frames> Space<F> {
+    /// The space of the pages that these frames have, which may have `capacity` pages. The frames come
+    /// back where it is refused.
+    pub fn new(alloc: Global, frames: F, capacity: u32) -> Result<Space<F>, (F, SpaceFault)>
+        requires few { length (F.seen frames).pages ≤ capacity }
+        requires limit { capacity ≤ (F.seen frames).limit }
+        requires idle { 1 ≤ (F.seen frames).idle }
+        requires none { (F.seen frames).reserved ≡ 0 }
+        ensures step { IfOk result (λ space. InStep (F.seen (frames_of space)) (index_of space) (capacity_in space)) }
+        ensures capacity { IfOk result (λ space. capacity_in space ≡ capacity) }
+        ensures agree { IfOk result (λ space. (F.seen (frames_of space)).sure ≡ true → Agree (F.seen (frames_of space)) (index_of space)) }
+        ensures reads { IfOk result (λ space. Reads (F.seen frames) (F.seen (frames_of space))) }
+        ensures idle { IfOk result (λ space. (F.seen frames).idle ≤ (F.seen (frames_of space)).idle) }
+        ensures gave { IfOk result (λ space. F.gave (F.seen frames).pages (F.seen frames).forced frames (frames_of space)) }
+        ensures back { IfErr result (λ refused. Reads (F.seen frames) (F.seen refused.0)) }
+        ensures gave_back { IfErr result (λ refused. F.gave (F.seen frames).pages (F.seen frames).forced frames refused.0) }
+        ensures cause { IfErr result (λ refused. HasRisen refused.1 (F.seen frames) (F.seen refused.0)) }
+    {
+        let mut frames = frames;
+        let mut index = Index::new(alloc);
+        match survey(alloc, &mut frames, &mut index) {
+            Ok(()) => Ok(Space {
+                alloc,
+                frames,
+                index,
+                capacity,
+            }),
+            Err(fault) => Err((frames, fault)),
+        }
+    }
+
+    /// The frames, back again.
+    pub fn into_frames(self) -> F
+        ensures { result ≡ frames_of self }
+    {
+        self.frames
+    }
+
+    /// The row whose home is at this place, if there is one. Its pages are held.
+    pub fn row_at(&mut self, home: Place) -> Result<Option<Row>, SpaceFault>
+        requires spare { 2 ≤ (F.seen (frames_of self.old)).spare }
+        requires step { InStep (F.seen (frames_of self.old)) (index_of self.old) (capacity_in self.old) }
+        ensures row { IfOk result (λ row. row ≡ row_at (slot_in (F.seen (frames_of self.new))) home) }
+        ensures step { InStep (F.seen (frames_of self.new)) (index_of self.new) (capacity_in self.new) }
+        ensures capacity { capacity_in self.new ≡ capacity_in self.old }
+        ensures summaries { index_of self.new ≡ index_of self.old }
+        ensures took { Took 2 (F.seen (frames_of self.old)) (F.seen (frames_of self.new)) }
+        ensures cause { IfErr result (λ fault. HasRisen fault (F.seen (frames_of self.old)) (F.seen (frames_of self.new))) }
+        ensures gave { F.gave (F.seen (frames_of self.old)).pages (F.seen (frames_of self.old)).forced (frames_of self.old) (frames_of self.new) }
+    {
+        let seen = home_of(&mut self.frames, self.alloc, home)?;
+        Ok(seen.row)
+    }
+
     // Reserves a page, and a summary for it.
     fn reserve(&mut self) -> Result<(), SpaceFault>
         requires spare { 1 ≤ (F.seen (frames_of self.old)).spare }
@@ -279,8 +334,15 @@ impl<F: Frames> Space<F> {
         self.set(part, tran, after, position);
     }
 
-    // Applies parts, in order.
-    fn put_all(&mut self, parts: &[Part], tran: Tran, after: Option<&Row>, position: Position)
+    /// Applies the parts of a record, in order, where their pages are held and new ones reserved. It
+    /// takes no memory and asks no device.
+    pub fn apply_parts(
+        &mut self,
+        parts: &[Part],
+        tran: Tran,
+        after: Option<&Row>,
+        position: Position,
+    )
         requires step { InStep (F.seen (frames_of self.old)) (index_of self.old) (capacity_in self.old) }
         requires held { AllHeld (F.seen (frames_of self.old)) parts.now }
         ensures step { InStep (F.seen (frames_of self.new)) (index_of self.new) (capacity_in self.new) }

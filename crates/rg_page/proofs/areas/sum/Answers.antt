@@ -1,4 +1,4 @@
-use Rattle.std.proofs.Common.{rules, arith, ◌∙◌, sym, ap, ◌+◌, ℕ}
+use Rattle.std.proofs.Common.{arith, ◌+◌, ℕ}
 use Rattle.rg_page.proofs.Buffer.{total-more, total-take}
 use Rattle.rg_page.proofs.areas.sum.Goals as goal
 

@@ -1,4 +1,4 @@
-use Rattle.std.proofs.Common.{◌<◌, ℕ, length, rules, arith, ap, ◌∙◌, ◌++◌, ◌∷◌, [], List, length-append}
+use Rattle.std.proofs.Common.{◌<◌, ℕ, length, arith, ap, ◌∙◌, ◌∷◌, [], List, length-append}
 use Rattle.rg_home.specs.Pages.{altered}
 use Rattle.rg_page.specs.Stretches.{filled_by}
 use Rattle.rg_page.proofs.Alter.{altered-more}

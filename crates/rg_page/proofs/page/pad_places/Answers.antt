@@ -1,4 +1,4 @@
-use Rattle.std.proofs.Common.{◌<◌, length, rules, arith, ap, ◌∙◌, ◌++◌, ◌∷◌, [], List, length-append}
+use Rattle.std.proofs.Common.{◌<◌, length, arith, ap, ◌∙◌, ◌∷◌, [], List, length-append}
 use Rattle.rg_base.specs.declared.place.Place.{Place}
 use Rattle.rg_home.specs.Pages.{altered}
 use Rattle.rg_page.specs.Bare.{nowhere}

@@ -1,4 +1,4 @@
-use Rattle.std.proofs.Common.{◌≡◌, ◌≤◌, ◌+◌, ℕ, length, get_or, set, rules, arith, sym, ap, ◌∙◌, ◌++◌, ◌∷◌, [], List, take, length-append}
+use Rattle.std.proofs.Common.{◌≡◌, ◌≤◌, ◌+◌, ℕ, length, set, arith, sym, ap, ◌∙◌, [], List, take}
 use Rattle.std.proofs.lemmas.List.{take_all}
 use Rattle.std.specs.Option.{option_copied}
 use Rattle.rg_home.specs.Pages.{altered}

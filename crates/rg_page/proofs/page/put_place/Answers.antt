@@ -1,4 +1,4 @@
-use Rattle.std.proofs.Common.{◌≡◌, ◌≤◌, ◌+◌, length, rules, arith, sym, ap, ◌∙◌, ◌++◌, ◌∷◌, [], List, take}
+use Rattle.std.proofs.Common.{◌≡◌, ◌≤◌, ◌+◌, length, arith, sym, ap, ◌∙◌, List, take}
 use Rattle.std.proofs.lemmas.List.{take_all}
 use Rattle.rg_base.specs.declared.place.Place.{Place}
 use Rattle.rg_home.specs.Pages.{altered}

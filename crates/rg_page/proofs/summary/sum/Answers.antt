@@ -1,4 +1,4 @@
-use Rattle.std.proofs.Common.{arith, ◌<◌, length, ◌+◌, sym}
+use Rattle.std.proofs.Common.{arith, ◌+◌}
 use Rattle.rg_page.proofs.Room.{used-more, used-some, used-all}
 use Rattle.rg_page.proofs.summary.sum.Goals as goal
 

@@ -1,8 +1,5 @@
-use Rattle.std.proofs.Common.{◌≡◌, Option, Some, sym, ap, ◌∙◌, true}
-use Rattle.rg_base.specs.declared.place.Place.{Place}
+use Rattle.std.proofs.Common.{◌≡◌, Some, sym, ap, ◌∙◌}
 use Rattle.rg_home.specs.Plan.{pointed_to}
-use Rattle.rg_home.specs.Slot.{Slot}
-use Rattle.rg_page.specs.Content.{content_at}
 use Rattle.rg_space.specs.Took.{slot_in}
 use Rattle.rg_space.proofs.Took.{slot_same, row_there}
 use Rattle.rg_space.proofs.read.home_of.Goals as goal

@@ -1,7 +1,7 @@
-use Rattle.std.proofs.Common.{◌≡◌, ◌++◌, ◌≤◌, ◌+◌, ◌-◌, ◌<◌, length, get_or, rules, arith, ◌∙◌, ap, sym, List, ℕ, take, drop, []}
+use Rattle.std.proofs.Common.{◌≡◌, length, get_or, arith, ◌∙◌, ap, sym, List, ℕ, take, drop}
 use Rattle.std.proofs.lemmas.List.{get_or_default}
 use Rattle.rg_page.specs.Stretches.{total}
-use Rattle.rg_page.proofs.Buffer.{seen_count, seen_fits, seen_offset, seen_end, seen_at}
+use Rattle.rg_page.proofs.Buffer.{seen_count, seen_offset, seen_end, seen_at}
 use Rattle.rg_page.proofs.areas.Areas.get.Goals as goal
 
 pub index-requires : goal.index-requires

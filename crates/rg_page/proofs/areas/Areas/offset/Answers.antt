@@ -1,4 +1,4 @@
-use Rattle.std.proofs.Common.{◌≡◌, ◌≤◌, length, arith, ◌∙◌, ap, sym, List, ℕ, take}
+use Rattle.std.proofs.Common.{length, arith, ◌∙◌, ap, sym, List, ℕ, take}
 use Rattle.std.proofs.lemmas.List.{length-take-le}
 use Rattle.rg_page.specs.Stretches.{total}
 use Rattle.rg_page.proofs.Buffer.{seen_count, seen_fits, seen_offset}

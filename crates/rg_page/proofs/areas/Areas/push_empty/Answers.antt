@@ -1,4 +1,4 @@
-use Rattle.std.proofs.Common.{◌≡◌, length, rules, arith, refl, ◌∙◌, ap, sym, ◌++◌, ◌∷◌, [], List, ℕ}
+use Rattle.std.proofs.Common.{arith, ◌∙◌, ap, ◌++◌, ◌∷◌, [], List, ℕ}
 use Rattle.rg_page.specs.Stretches.{stretches, total}
 use Rattle.rg_page.proofs.Buffer.{length-stretches, stretches-push, total-push}
 use Rattle.rg_page.proofs.areas.Areas.push_empty.Goals as goal

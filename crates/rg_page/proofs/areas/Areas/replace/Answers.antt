@@ -1,8 +1,8 @@
-use Rattle.std.proofs.Common.{◌≡◌, ◌++◌, ◌≤◌, ◌+◌, ◌-◌, ◌<◌, length, get_or, set, rules, arith, ◌∙◌, ap, sym, List, ℕ, take, drop, []}
+use Rattle.std.proofs.Common.{◌≡◌, ◌++◌, length, get_or, set, arith, ◌∙◌, ap, sym, List, ℕ, take, drop}
 use Rattle.std.specs.Option.{option_copied}
 use Rattle.std.proofs.lemmas.List.{get_or_default}
-use Rattle.rg_page.specs.Stretches.{stretches, total, bytes_of}
-use Rattle.rg_page.proofs.Buffer.{seen_count, seen_fits, seen_offset, seen_end, seen_at, seen_length, seen_whole, seen_put, replaced, refilled, total-set, length-bytes_of}
+use Rattle.rg_page.specs.Stretches.{stretches, bytes_of}
+use Rattle.rg_page.proofs.Buffer.{seen_count, seen_offset, seen_end, seen_length, seen_whole, seen_put, replaced, refilled, total-set, length-bytes_of}
 use Rattle.rg_page.proofs.areas.Areas.replace.Goals as goal
 
 pub index-requires : goal.index-requires

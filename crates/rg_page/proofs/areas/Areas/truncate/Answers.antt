@@ -1,6 +1,6 @@
-use Rattle.std.proofs.Common.{◌≡◌, ◌≤◌, length, arith, ◌∙◌, ap, sym, List, ℕ, take}
+use Rattle.std.proofs.Common.{arith, ◌∙◌, ap, sym, List, ℕ, take}
 use Rattle.rg_page.specs.Stretches.{stretches, total}
-use Rattle.rg_page.proofs.Buffer.{seen_offset, seen_fits, take-stretches}
+use Rattle.rg_page.proofs.Buffer.{seen_offset, take-stretches}
 use Rattle.rg_page.proofs.areas.Areas.truncate.Goals as goal
 
 pub invariant_of-self : goal.invariant_of-self

@@ -1,4 +1,4 @@
-use Rattle.std.proofs.Common.{◌≡◌, ℕ, Option, List, map, length, rules, sym, ap, subst, ◌∙◌, arith, true, refl}
+use Rattle.std.proofs.Common.{◌≡◌, ℕ, Option, List, map, ap, subst, ◌∙◌, arith, true}
 use Rattle.std.specs.Option.{option_copied}
 use Rattle.rg_base.specs.declared.part.SlotOp.{SlotOp}
 use Rattle.rg_base.specs.declared.place.Place.{Place}
@@ -13,7 +13,7 @@ use Rattle.rg_page.specs.Laid.{IsArea, whole_slot}
 use Rattle.rg_page.specs.Stretches.{bytes_of}
 use Rattle.rg_page.proofs.BareSlots.{bare_placed, bare_used}
 use Rattle.rg_page.proofs.Lays.{seen_bare}
-use Rattle.rg_page.proofs.Making.{whole_made, area_made, with_slots, with_position}
+use Rattle.rg_page.proofs.Making.{whole_made, area_made, with_position}
 use Rattle.rg_page.proofs.page.Page.apply.Goals as goal
 
 -- a page fits where its headers do

@@ -1,15 +1,14 @@
-use Rattle.std.proofs.Common.{◌≡◌, ◌≤◌, ℕ, List, [], length, map, take, sym, ap, subst, ◌∙◌, arith}
+use Rattle.std.proofs.Common.{◌≡◌, ℕ, List, [], length, take, sym, ap, subst, ◌∙◌, arith}
 use Rattle.std.specs.Option.{option_copied}
 use Rattle.rg_base.specs.declared.place.Place.{Place}
 use Rattle.rg_home.specs.Pages.{altered}
 use Rattle.rg_home.specs.Slot.{Slot}
-use Rattle.rg_home.specs.Slots.{placed, Fits, IsTrimmed}
+use Rattle.rg_home.specs.Slots.{placed, Fits}
 use Rattle.rg_home.proofs.Slots.{used-length}
 use Rattle.rg_page.specs.Bare.{bare, nowhere}
-use Rattle.rg_page.specs.Changed.{IsLeft}
 use Rattle.rg_page.specs.Content.{Content}
-use Rattle.rg_page.specs.Laid.{laid, whole_slot, AreAreas}
-use Rattle.rg_page.specs.Stretches.{bytes_of, filled_by, size_of}
+use Rattle.rg_page.specs.Laid.{laid, whole_slot}
+use Rattle.rg_page.specs.Stretches.{bytes_of}
 use Rattle.rg_page.proofs.BareSlots.{bare_placed}
 use Rattle.rg_page.proofs.Buffer.{length-bytes_of}
 use Rattle.rg_page.proofs.Lays.{areas_count, seen_bare}

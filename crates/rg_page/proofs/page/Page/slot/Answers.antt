@@ -1,5 +1,4 @@
-use Rattle.std.proofs.Common.{◌≡◌, ◌<◌, ◌∙◌, ap, arith, sym, subst, length, get_or, List, []}
-use Rattle.std.proofs.lemmas.List.{get_or_default}
+use Rattle.std.proofs.Common.{◌<◌, ◌∙◌, ap, arith, sym, subst, length, get_or, List, []}
 use Rattle.rg_page.specs.Content.{Content}
 use Rattle.rg_page.proofs.Lays.{seen_count, areas_count, area_at, laid_at}
 use Rattle.rg_base.specs.declared.place.Place.{Place}

@@ -1,4 +1,4 @@
-use Rattle.std.proofs.Common.{◌∙◌, ap}
+use Rattle.std.proofs.Common.{ap}
 use Rattle.rg_page.specs.Content.{Content}
 use Rattle.rg_page.proofs.Lays.{seen_bare}
 use Rattle.rg_page.proofs.page.Page.summary.Goals as goal

@@ -1,5 +1,5 @@
 use Rattle.rg_page.specs.Bare.{numbers_of}
-use Rattle.std.proofs.Common.{◌≡◌, ◌<◌, ◌∙◌, sym, ap, arith}
+use Rattle.std.proofs.Common.{◌∙◌, sym, ap, arith}
 use Rattle.std.proofs.lemmas.List.Sums.{position_or_len_is}
 use Rattle.rg_home.specs.Slot.{Free}
 use Rattle.rg_home.specs.Slots.{is_free}

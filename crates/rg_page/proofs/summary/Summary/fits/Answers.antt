@@ -1,4 +1,4 @@
-use Rattle.std.proofs.Common.{◌≡◌, ◌<◌, ◌+◌, ◌-◌, ◌*◌, length, rules, arith, refl, sym, ◌∙◌, ap, true}
+use Rattle.std.proofs.Common.{◌<◌, ◌+◌, ◌-◌, ◌*◌, length, rules, arith, sym, ◌∙◌}
 use Rattle.std.proofs.lemmas.Bool.{leb-true}
 use Rattle.rg_page.proofs.Room.{true_leb}
 use Rattle.rg_page.proofs.Room.{in_fits, in_needs, past_fits, past_needs, free_fits}

@@ -1,4 +1,4 @@
-use Rattle.std.proofs.Common.{◌≡◌, ◌∙◌, sym, refl, subst, Some, None, length}
+use Rattle.std.proofs.Common.{◌≡◌, ◌∙◌, sym, subst, Some, None}
 use Rattle.std.specs.Prelude.{IfSome}
 use Rattle.rg_page.specs.Bare.{numbers_of}
 use Rattle.rg_home.specs.Plan.{planned_change}
@@ -7,8 +7,8 @@ use Rattle.rg_space.specs.Moves.{change_moves}
 use Rattle.rg_space.specs.Planned.{plan_of}
 use Rattle.rg_space.specs.Ready.{AllReady}
 use Rattle.rg_space.specs.Space.{frames_of, index_of, capacity_in}
-use Rattle.rg_space.proofs.AtHand.{Hands, hand_put, hand_change}
-use Rattle.rg_space.proofs.Planned.{put_agrees, change_agrees, drop_agrees}
+use Rattle.rg_space.proofs.AtHand.{Hands, hand_change}
+use Rattle.rg_space.proofs.Planned.{change_agrees}
 use Rattle.rg_space.proofs.Took.{home_stays}
 use Rattle.rg_space.proofs.space.Space.plan_change.Goals as goal
 

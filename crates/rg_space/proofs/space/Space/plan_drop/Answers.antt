@@ -1,10 +1,7 @@
-use Rattle.std.proofs.Common.{◌≡◌, ◌∙◌, sym, refl, subst, Some, None, length}
-use Rattle.std.specs.Prelude.{IfSome}
-use Rattle.rg_page.specs.Bare.{numbers_of}
+use Rattle.std.proofs.Common.{◌≡◌, ◌∙◌, sym, subst}
 use Rattle.rg_space.specs.Moves.{drop_moves}
-use Rattle.rg_space.specs.Space.{frames_of, index_of, capacity_in}
-use Rattle.rg_space.proofs.AtHand.{Hands, hand_put, hand_change}
-use Rattle.rg_space.proofs.Planned.{put_agrees, change_agrees, drop_agrees}
+use Rattle.rg_space.specs.Space.{frames_of, index_of}
+use Rattle.rg_space.proofs.Planned.{drop_agrees}
 use Rattle.rg_space.proofs.Took.{home_stays}
 use Rattle.rg_space.proofs.space.Space.plan_drop.Goals as goal
 

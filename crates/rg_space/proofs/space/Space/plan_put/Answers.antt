@@ -1,5 +1,4 @@
-use Rattle.std.proofs.Common.{◌≡◌, ◌∙◌, sym, refl, subst, Some, None, length}
-use Rattle.std.specs.Prelude.{IfSome}
+use Rattle.std.proofs.Common.{◌≡◌, sym, subst, Some, None}
 use Rattle.rg_page.specs.Bare.{numbers_of}
 use Rattle.rg_home.specs.Plan.{new_area, planned_put}
 use Rattle.rg_page.specs.Content.{slots_of}
@@ -7,9 +6,8 @@ use Rattle.rg_space.specs.Planned.{plan_of}
 use Rattle.rg_space.specs.Moves.{IsPut}
 use Rattle.rg_space.specs.Ready.{AllReady}
 use Rattle.rg_space.specs.Space.{frames_of, index_of, capacity_in}
-use Rattle.rg_space.proofs.AtHand.{Hands, hand_put, hand_change}
-use Rattle.rg_space.proofs.Planned.{put_agrees, change_agrees, drop_agrees}
-use Rattle.rg_space.proofs.Took.{home_stays}
+use Rattle.rg_space.proofs.AtHand.{hand_put}
+use Rattle.rg_space.proofs.Planned.{put_agrees}
 use Rattle.rg_space.proofs.space.Space.plan_put.Goals as goal
 
 pub returns-in_default-found-clause-cause : goal.returns-in_default-found-clause-cause

@@ -1,9 +1,8 @@
-use Rattle.std.proofs.Common.{◌≤◌, length, ◌∙◌, ap, arith, subst, sym, List, ◌≡◌}
+use Rattle.std.proofs.Common.{◌≤◌, length, ◌∙◌, ap, subst, sym, List}
 use Rattle.std.specs.Option.{option_copied}
 use Rattle.rg_page.specs.Content.{Content}
 use Rattle.rg_page.specs.Seen.{set_content}
-use Rattle.rg_space.specs.Applied.{Fitting, grown}
-use Rattle.rg_space.specs.Space.{frames_of, capacity_in}
+use Rattle.rg_space.specs.Applied.{Fitting}
 use Rattle.rg_space.proofs.Growing.{fitting_grown, grown_count}
 use Rattle.rg_space.proofs.space.Space.put.Goals as goal
 

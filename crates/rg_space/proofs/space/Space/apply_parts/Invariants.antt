@@ -3,7 +3,7 @@ use Rattle.std.specs.Option.{option_copied}
 use Rattle.rg_page.specs.Content.{Content}
 use Rattle.rg_space.specs.Applied.{AllHeld, FittingAll, Within, Writes, wrote_all}
 use Rattle.rg_space.specs.Space.{Agree, InStep, frames_of, index_of, capacity_in}
-use Rattle.rg_space.proofs.space.Space.put_all.Given as goal
+use Rattle.rg_space.proofs.space.Space.apply_parts.Given as goal
 
 abbrev pub invariant-loop-part : goal.invariant-loop-part
 invariant-loop-part g l =

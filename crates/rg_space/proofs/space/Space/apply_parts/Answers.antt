@@ -1,10 +1,8 @@
-use Rattle.std.proofs.Common.{◌+◌, ◌<◌, length, ◌∙◌, ap, arith, subst, sym, List, ℕ, ◌≡◌, drop, ◌∷◌}
+use Rattle.std.proofs.Common.{◌∙◌, subst, sym}
 use Rattle.std.specs.Option.{option_copied}
-use Rattle.rg_base.specs.declared.part.Part.{Part}
-use Rattle.rg_page.specs.Content.{Content}
 use Rattle.rg_space.specs.Applied.{AllHeld, Within}
 use Rattle.rg_space.proofs.Growing.{writes_more, held_on, within_on, next_part, applied_on}
-use Rattle.rg_space.proofs.space.Space.put_all.Goals as goal
+use Rattle.rg_space.proofs.space.Space.apply_parts.Goals as goal
 
 pub loop-part-preserved : goal.loop-part-preserved
 loop-part-preserved g c =
