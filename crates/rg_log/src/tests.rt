@@ -1,14 +1,21 @@
+ghost use Rattle.std.specs.Prelude.{◌≡◌, ◌≤◌};
+ghost use Rattle.rg_mem.specs.Shown.{capacities_of};
+
 use crate::entries::read_page;
-use crate::fault::ReserveFault;
+use crate::fault::{LogFault, ReserveFault};
 use crate::log::Log;
+use crate::open::open_log;
 use crate::page::size_of;
 use rg_base::no_memory::NoMemory;
 use rg_base::part::{Part, Parts, SlotOp};
 use rg_base::place::Place;
 use rg_base::position::Position;
 use rg_base::row::Row;
+use rg_base::set::Set;
 use rg_base::text::Text;
 use rg_base::tran::Tran;
+use rg_mem::volume::{Failing, MemVolume};
+use rg_outside::volume::Volume;
 use rg_record::buffer::PAGE_SIZE;
 use rg_record::record::{Kind, Record};
 use std::alloc::Global;
@@ -59,7 +66,9 @@ fn commit(position: u64) -> Record {
 }
 
 // Reserves the bytes of the record, and appends it.
-fn add(rt: &impl Abort, log: &mut Log, entry: Record) -> Result<(), Fail> {
+fn add(rt: &impl Abort, log: &mut Log, entry: Record) -> Result<(), Fail>
+    ensures { log.new.pages ≡ log.old.pages }
+{
     entry.fits();
     assert!(rt; entry.is_spelled());
     let size = size_of(&entry);
@@ -89,6 +98,21 @@ fn appends_what_is_reserved(rt: HostRuntime) -> Result<(), Fail> {
     add(&rt, &mut log, commit(2))?;
     assert_eq!(rt; (log.used(), log.reserved()), (95, 0));
     assert_eq!(rt; (log.last(), log.forced()), (Position(2), Position(0)));
+    // (what is asked for, what is left where it is too much)
+    for (bytes, full) in [
+        (4446, Some(4445)),
+        (4000, None),
+        (446, Some(445)),
+        (445, None),
+        (1, Some(0)),
+    ] {
+        let found = match log.reserve(bytes) {
+            Ok(()) => None,
+            Err(ReserveFault::LogFull { need, left }) => Some((need, left)),
+            Err(ReserveFault::NoMemory) => return Err(Fail::from(NoMemory)),
+        };
+        assert_eq!(rt; found, full.map(|left| (bytes, left)), "{bytes}");
+    }
     Ok(())
 }
 
@@ -141,5 +165,226 @@ fn refuses_wrong_pages(rt: HostRuntime) -> Result<(), Fail> {
         assert!(rt; read_page(rt.alloc(), &page, 1)?.is_none(), "{what}");
     }
     assert!(rt; read_page(rt.alloc(), &page_of(&FIRST), 2)?.is_none());
+    Ok(())
+}
+
+// A log of six pages and its volume.
+#[derive(Drop)]
+struct Held {
+    log: Log,
+    volume: MemVolume,
+    ghost pages: { log.pages ≡ 6 },
+    ghost capacity: { (capacities_of volume).log ≡ 6 },
+}
+
+impl Held {
+    fn new(alloc: Global, failing: &[Failing], stop: Option<u64>) -> Result<Held, NoMemory> {
+        Ok(Held {
+            log: Log::empty(alloc, 6),
+            volume: MemVolume::new(alloc, 6, 0, 0, 1000, 500, failing, stop)?,
+        })
+    }
+
+    // The log that a crash leaves, opened.
+    fn crashed(&self, alloc: Global, pick: u64) -> Result<Held, LogFault> {
+        let mut volume = match self.volume.crash(pick) {
+            Ok(volume) => volume,
+            Err(_) => return Err(LogFault::NoMemory),
+        };
+        let log = open_log(alloc, &mut volume)?;
+        Ok(Held { log, volume })
+    }
+
+    fn force(&mut self) -> bool {
+        self.log.force(&mut self.volume).is_ok()
+    }
+
+    // Adds the record, and forces the log where this is wanted.
+    fn add(&mut self, rt: &impl Abort, entry: Record, forces: bool) -> Result<(), Fail> {
+        add(rt, &mut self.log, entry)?;
+        if forces {
+            self.force();
+        }
+        Ok(())
+    }
+
+    // Adds commits from this position up to the last, and forces the log after each piece of them.
+    fn add_commits(
+        &mut self,
+        rt: &impl Abort,
+        from: u64,
+        last: u64,
+        piece: u64,
+    ) -> Result<(), Fail> {
+        assert!(rt; piece != 0);
+        for position in from..=last {
+            self.add(rt, commit(position), position % piece == 0)?;
+        }
+        Ok(())
+    }
+
+    // The bytes of a log page.
+    fn page(&mut self, page: u32) -> Option<[u8; PAGE_SIZE]>
+        requires low { 1 ≤ page }
+        requires high { page ≤ 6 }
+    {
+        let mut bytes = [1; PAGE_SIZE];
+        match self.volume.read(Set::Log, page, &mut bytes) {
+            Ok(()) => Some(bytes),
+            Err(_) => None,
+        }
+    }
+
+    // Writes a log page over.
+    fn put(&mut self, page: u32, bytes: &[u8; PAGE_SIZE]) -> bool
+        requires low { 1 ≤ page }
+        requires high { page ≤ 6 }
+    {
+        self.volume.write(Set::Log, page, bytes).is_ok()
+    }
+
+    // The records are commits, from this position on.
+    fn has_commits(&self, rt: &impl Abort, alloc: Global, from: u64) -> Result<(), Fail> {
+        for n in 0..self.log.last().0 {
+            let entry = self.log.read_at(alloc, Position(n + 1))?;
+            assert_eq!(rt; entry.position, Position(n + 1));
+            assert_eq!(rt; matches!(entry.kind, Kind::Commit), n + 1 >= from);
+        }
+        Ok(())
+    }
+}
+
+// The page of a log that cannot be opened.
+fn damaged_page(opened: Result<Held, LogFault>) -> Option<u32> {
+    match opened {
+        Err(LogFault::Damaged { page }) => Some(page),
+        _ => None,
+    }
+}
+
+#[test]
+fn forces_first_session(rt: HostRuntime) -> Result<(), Fail> {
+    for failing in [None, Some((1, false)), Some((1, true)), Some((2, false))] {
+        let failings = match failing {
+            None => Vec::new(rt.alloc()),
+            Some((call, written)) => [Failing { call, written }].to_vec(rt.alloc())?,
+        };
+        let mut held = Held::new(rt.alloc(), failings.as_slice(), None)?;
+        held.add(&rt, insert(rt.alloc())?, false)?;
+        held.add(&rt, commit(2), false)?;
+        if failing.is_some() {
+            assert!(rt; !held.force(), "{failing:?}");
+            assert_eq!(rt; held.log.forced(), Position(0), "{failing:?}");
+        }
+        assert!(rt; held.force(), "{failing:?}");
+        assert_eq!(rt; held.log.forced(), Position(2), "{failing:?}");
+        for pick in 0..8 {
+            let mut left = held.crashed(rt.alloc(), pick)?;
+            assert!(rt; left.page(1) == Some(page_of(&FIRST)), "{failing:?}");
+            assert!(rt; left.page(2) == Some([0; PAGE_SIZE]), "{failing:?}");
+            assert_eq!(rt; left.log.forced(), Position(2), "{failing:?}");
+            assert_eq!(rt; left.log.used(), 95, "{failing:?}");
+        }
+    }
+    Ok(())
+}
+
+// A page holds 177 commits.
+#[test]
+fn reads_back_what_was_forced(rt: HostRuntime) -> Result<(), Fail> {
+    for piece in [1, 50, 59, 200, 400] {
+        let mut held = Held::new(rt.alloc(), &[], None)?;
+        held.add_commits(&rt, 1, 400, piece)?;
+        let mut again = held.crashed(rt.alloc(), piece)?;
+        let log = &again.log;
+        let last = 400 - 400 % piece;
+        assert_eq!(rt; (log.last().0, log.forced().0), (last, last), "{piece}");
+        assert_eq!(rt;
+            (log.used() as u64, log.reserved()),
+            (23 * last, 0),
+            "{piece}"
+        );
+        assert_eq!(rt; log.limit(), 11350, "{piece}");
+        again.has_commits(&rt, rt.alloc(), 1)?;
+        again.add_commits(&rt, last + 1, 450, 450)?;
+        let more = again.crashed(rt.alloc(), 0)?;
+        assert_eq!(rt; more.log.last(), Position(450), "{piece}");
+        more.has_commits(&rt, rt.alloc(), 1)?;
+    }
+    Ok(())
+}
+
+// The log makes twelve calls: it is forced four times, and twice it goes on to a next page.
+#[test]
+fn keeps_what_was_forced(rt: HostRuntime) -> Result<(), Fail> {
+    for stop in 0..=12 {
+        let mut held = Held::new(rt.alloc(), &[], Some(stop))?;
+        held.add_commits(&rt, 1, 400, 100)?;
+        let forced = held.log.forced();
+        assert_eq!(rt; forced.0 == 400, stop == 12, "{stop}");
+        assert_eq!(rt; forced.0 == 0, stop < 2, "{stop}");
+        for pick in 0..8 {
+            let left = held.crashed(rt.alloc(), pick)?;
+            let last = left.log.last();
+            assert!(rt; forced.0 <= last.0 && last.0 <= 400, "{stop}, {pick}");
+            left.has_commits(&rt, rt.alloc(), 1)?;
+        }
+    }
+    Ok(())
+}
+
+#[test]
+fn names_damaged_pages(rt: HostRuntime) -> Result<(), Fail> {
+    for (page, at, byte) in [
+        (1, 3, 50),
+        (1, 25, 20),
+        (1, 46, 9),
+        (2, 7, 3),
+        (2, 15, 177),
+        (2, 17, 176),
+        (3, 19, 0),
+        (3, 4095, 1),
+        (4, 0, 82),
+    ] {
+        let mut held = Held::new(rt.alloc(), &[], None)?;
+        held.add_commits(&rt, 1, 400, 400)?;
+        let mut bytes = held.page(page).ok_or("a page")?;
+        assert!(rt; bytes[at] != byte, "{page}, {at}");
+        bytes[at] = byte;
+        assert!(rt; held.put(page, &bytes));
+        assert!(rt; held.volume.sync().is_ok());
+        let found = damaged_page(held.crashed(rt.alloc(), 0));
+        assert_eq!(rt; found, Some(page), "{page}, {at}");
+    }
+    Ok(())
+}
+
+// After an insert 173 commits fit the first page, and the next one begins at 175. The first 174
+// commits leave room for one more.
+#[test]
+fn names_page_after_short_one(rt: HostRuntime) -> Result<(), Fail> {
+    let mut held = Held::new(rt.alloc(), &[], None)?;
+    held.add(&rt, insert(rt.alloc())?, false)?;
+    held.add_commits(&rt, 2, 200, 200)?;
+    let opened = held.crashed(rt.alloc(), 0)?;
+    assert_eq!(rt; opened.log.last(), Position(200));
+    opened.has_commits(&rt, rt.alloc(), 2)?;
+    let mut short = Held::new(rt.alloc(), &[], None)?;
+    short.add_commits(&rt, 1, 174, 174)?;
+    let bytes = short.page(1).ok_or("a page")?;
+    assert!(rt; held.put(1, &bytes));
+    assert!(rt; held.volume.sync().is_ok());
+    assert_eq!(rt; damaged_page(held.crashed(rt.alloc(), 0)), Some(2));
+    Ok(())
+}
+
+// Opening six pages of zeros makes a sync and a read.
+#[test]
+fn names_a_failed_call(rt: HostRuntime) -> Result<(), Fail> {
+    for (stop, fails) in [(0, true), (1, true), (2, false)] {
+        let mut held = Held::new(rt.alloc(), &[], Some(stop))?;
+        let opened = open_log(rt.alloc(), &mut held.volume);
+        assert_eq!(rt; matches!(opened, Err(LogFault::Device)), fails, "{stop}");
+    }
     Ok(())
 }
