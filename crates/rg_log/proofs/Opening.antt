@@ -1,12 +1,14 @@
 -- Pages are read one after the other.
-use Rattle.std.proofs.Common.{◌≡◌, ℕ, ◌+◌, ◌≤◌, List, [], ◌++◌, Option, Some, None, Result, refl, sym, subst, arith}
+use Rattle.std.proofs.Common.{◌≡◌, ℕ, ◌+◌, ◌≤◌, List, [], ◌∷◌, ◌++◌, Option, Some, None, Result, refl, sym, subst, arith}
 use Rattle.rg_base.specs.declared.set.Set.TheVariants.{Log}
 use Rattle.rg_outside.specs.Calls.{Told, read_of}
-use Rattle.std.proofs.Common.{Ok, Err}
+use Rattle.std.proofs.Common.{Ok, Err, OnOk}
 use Rattle.rg_outside.specs.Calls.{Call, Read, Synced, FailedRead, FailedSync, Refused}
-use Rattle.rg_outside.specs.Made.{MadeRead, MadeSync, IsReadCall, IsSyncCall}
+use Rattle.rg_outside.specs.Made.{Made, MadeRead, MadeSync, IsReadCall, IsSyncCall}
+use Rattle.rg_outside.proofs.Brings.{told_after}
+use Rattle.rg_outside.proofs.Images.{one_only}
 use Rattle.rg_outside.proofs.Frame.{one_call, no_calls}
-use Rattle.rg_log.specs.Open.{IsQuiet}
+use Rattle.rg_log.specs.Open.{IsCertain, IsQuiet}
 use Rattle.rg_outside.specs.Moments.{EachCall, IfTold}
 use Rattle.rg_outside.specs.declared.source.Failed.{Failed}
 use Rattle.rg_outside.proofs.Failing.{read_reads}
@@ -81,3 +83,28 @@ only_sync old new result made = one_call IsQuiet old old new (IsSyncCall result)
 
 pub only_read : (old mid new : Option Told) (result : Result (Unit {0}) Failed) → EachCall old mid IsQuiet → MadeRead result mid new → EachCall old new IsQuiet
 only_read old mid new result so_far made = one_call IsQuiet old mid new (IsReadCall result) so_far made (read_quiet result)
+
+known : (told : Option Told) → IfTold told (λ t. Unit {0})
+known None = tt
+known (Some t) = tt
+
+after_sync : (old new : Option Told) (x : Unit {0}) (call : Call) → IsSyncCall (Ok x) call → Made old call new → IfTold new IsCertain
+after_sync old new x Synced is made =
+    told_after (λ t. Unit {0}) IsCertain old new Synced (known old) made
+    (λ t u s p bytes left. one_only (read_of t.first t.calls s p) bytes left)
+after_sync old new x _ is made = absurd is
+
+-- a sync makes certain what reads
+pub sync_certain : (old new : Option Told) (result : Result (Unit {0}) Failed) → MadeSync result old new → OnOk result (IfTold new IsCertain)
+sync_certain old new (Ok x) (call, is, made) = after_sync old new x call is made
+sync_certain old new (Err e) made = tt
+
+-- and a read changes nothing
+pub read_certain : (mid new : Option Told) (result : Result (Unit {0}) Failed) → IfTold mid IsCertain → MadeRead result mid new → IfTold new IsCertain
+read_certain mid new result sure (call, is, made) =
+    told_after IsCertain IsCertain mid new call sure made (λ t here. keeps result call is t here) where
+      keeps : (r : Result (Unit {0}) Failed) (c : Call) → IsReadCall r c → (t : Told) → IsCertain t → IsCertain (record t { calls = c ∷ t.calls })
+      keeps (Ok x) Read is t here = here
+      keeps (Err e) FailedRead is t here = here
+      keeps (Err e) Refused is t here = here
+      keeps _ _ is t here = absurd is

@@ -1,8 +1,9 @@
 -- Opening a log.
-use Rattle.std.specs.Prelude.{ℕ, List, Option}
+use Rattle.std.specs.Prelude.{◌≡◌, ℕ, List, Option}
+use Rattle.rg_base.specs.declared.set.Set.{Set}
 use Rattle.rg_outside.specs.Calls.{Told, read_of, Call, Read, Wrote, Synced, FailedRead, FailedWrite, FailedSync, Refused}
 use Rattle.rg_outside.specs.Faults.{Rose}
-use Rattle.rg_outside.specs.Moments.{IfTold}
+use Rattle.rg_outside.specs.Moments.{CrashLeaves, IfTold}
 use Rattle.rg_record.specs.declared.record.Record.{Record}
 use Rattle.rg_image.specs.Rules.{IsNextPage, IsZero, BreaksLogPages}
 use Rattle.rg_log.specs.declared.fault.LogFault.{LogFault}
@@ -26,6 +27,11 @@ IsQuiet FailedRead = Unit {0}
 IsQuiet (FailedWrite set page bytes reads) = ⊥
 IsQuiet FailedSync = Unit {0}
 IsQuiet Refused = Unit {0}
+
+-- a crash leaves of each page what reads
+abbrev pub IsCertain : Told → Type 0
+IsCertain t =
+    (s : Set) (p : ℕ) → CrashLeaves s p (λ bytes. bytes ≡ read_of t.first t.calls s p) t
 
 -- Why a log was not opened: this page breaks the rule for log pages, a call of the volume failed, or
 -- memory ran out.

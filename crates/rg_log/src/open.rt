@@ -3,14 +3,14 @@
 //    has the form of a log page, its first record has the next position, and that record had no room
 //    on the page before. The first page without these is named.
 // 3. Nothing is written.
-ghost use Rattle.std.specs.Prelude.{◌≡◌, ◌≤◌, ◌+◌, ◌*◌, [], IfOk, IfErr, IsTrue, ◌↔◌, length};
+ghost use Rattle.std.specs.Prelude.{◌≡◌, ◌≤◌, ◌+◌, ◌*◌, [], IfOk, IfErr, OnOk, IsTrue, ◌↔◌, length};
 ghost use Rattle.rg_outside.specs.Calls.{read_of};
 ghost use Rattle.rg_outside.specs.Moments.{EachCall, IfTold};
 ghost use Rattle.rg_image.specs.Form.{IsOpened};
 ghost use Rattle.rg_image.specs.Kept.{AreEntries};
 ghost use Rattle.rg_image.specs.Rules.{Follows, HasLogPages, position_after};
 ghost use Rattle.rg_log.specs.Kept.{log_pages};
-ghost use Rattle.rg_log.specs.Open.{IsNext, IsLogFault, IsQuiet};
+ghost use Rattle.rg_log.specs.Open.{IsCertain, IsNext, IsLogFault, IsQuiet};
 
 use crate::entries::read_page;
 use crate::fault::LogFault;
@@ -101,6 +101,8 @@ pub fn open_log<V: Volume>(alloc: Global, volume: &mut V) -> Result<Log, LogFaul
     // All log pages have the form, and these are their records.
     ensures log { IfOk result (λ log. IfTold (V.told volume.new)
         (λ t. HasLogPages log.pages (read_of t.first t.calls) log.records)) }
+    // A crash leaves what was read.
+    ensures sure { OnOk result (IfTold (V.told volume.new) IsCertain) }
     // The page that is named is the first that has not.
     ensures fault { IfErr result
         (IsLogFault (V.told volume.new) (log_pages (V.capacities volume.old))

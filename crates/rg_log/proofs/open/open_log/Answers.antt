@@ -1,4 +1,4 @@
-use Rattle.std.proofs.Common.{◌≡◌, ◌+◌, ℕ, List, length, sym, ◌∙◌, subst, ap, ◌++◌, arith, rules, min, []}
+use Rattle.std.proofs.Common.{OnOk, ◌≡◌, ◌+◌, ℕ, List, length, sym, ◌∙◌, subst, ap, ◌++◌, arith, rules, min, []}
 use Rattle.rg_outside.specs.Calls.{read_of}
 use Rattle.rg_base.specs.declared.set.Set.TheVariants.{Log}
 use Rattle.rg_outside.specs.Capacities.{Capacities, capacity_of}
@@ -9,10 +9,10 @@ use Rattle.rg_image.specs.Rules.{HasLogPages, BreaksLogPages, IsNextPage}
 use Rattle.rg_image.specs.Form.{IsOpened}
 use Rattle.rg_image.proofs.Rules.{next_opened}
 use Rattle.rg_log.specs.Kept.{Listed, log_pages}
-use Rattle.rg_log.specs.Open.{IsNext}
+use Rattle.rg_log.specs.Open.{IsCertain, IsNext}
 use Rattle.rg_log.specs.declared.open.Next.{Next}
 use Rattle.rg_log.specs.declared.open.Next.TheVariants.{End, Broken, Page}
-use Rattle.rg_log.proofs.Opening.{no_page, read_on, one_page, at_zero, at_end, broken, both_entries, only_sync, only_read}
+use Rattle.rg_log.proofs.Opening.{no_page, read_on, one_page, at_zero, at_end, broken, both_entries, only_sync, only_read, sync_certain, read_certain}
 use Rattle.rg_log.proofs.open.open_log.Goals as goal
 
 none_opened : (rs : List Record) → rs ≡ [] → IsOpened rs 0 0
@@ -31,6 +31,7 @@ loop-page-init g c = record {
   capacities = c.sync.ensures.capacities;
   later = c.sync.ensures.cause.later;
   only = only_sync _ _ _ c.sync.ensures.made;
+  sure = subst (λ r. OnOk r (IfTold (g.V.Volume.told c.sync.new.self) IsCertain)) c.in-Ok.is (sync_certain _ _ c.sync.result c.sync.ensures.made);
   are = no_page _ c.new-records.result.items c.new-records.ensures.items;
 }
 
@@ -79,6 +80,7 @@ loop-page-preserved g c =
       capacities = c.read.ensures.capacities ∙ was.capacities;
       later = omega (arith, was.later, c.read.ensures.cause.later);
       only = only_read _ _ _ _ was.only c.read.ensures.made;
+      sure = read_certain _ _ _ was.sure c.read.ensures.made;
       are = one_page told c.loop-page.page rs more c.read.new.into (read_on _ _ _ c.loop-page.page rs was.are c.read.ensures.made) c.in-Ok-read.ensures.content next;
     })
 
@@ -106,3 +108,9 @@ returns-in-Ok-Broken-clause-only g c = only_read _ _ _ _ c.loop-page.invariant.o
 
 pub returns-then-is_err-clause-only : goal.returns-then-is_err-clause-only
 returns-then-is_err-clause-only g c = only_read _ _ _ _ c.loop-page.invariant.only c.read.ensures.made
+
+pub returns-in-Ok-End-clause-sure : goal.returns-in-Ok-End-clause-sure
+returns-in-Ok-End-clause-sure g c = read_certain _ _ _ c.loop-page.invariant.sure c.read.ensures.made
+
+pub returns-clause-sure : goal.returns-clause-sure
+returns-clause-sure g c = c.loop-page.invariant.sure
