@@ -169,8 +169,8 @@ no_other row bytes at e text first =
     let n : ℕ = at - 26 in
     let at_is : 26 + n ≡ at = omega (arith, first.low) in
     let there : get_or bytes at 0 ≡ get_or row.text n 0 =
-        ap (λ (xs : List ℕ). get_or xs at 0) (sym e) ∙ ap (λ k. get_or (row_bytes row) k 0) (sym at_is)
-        ∙ sym (get_or-drop 26 (row_bytes row) n 0) ∙ ap (λ (xs : List ℕ). get_or xs n 0) (drop_26 row) in
+    ap (λ (xs : List ℕ). get_or xs at 0) (sym e) ∙ ap (λ k. get_or (row_bytes row) k 0) (sym at_is)
+    ∙ sym (get_or-drop 26 (row_bytes row) n 0) ∙ ap (λ (xs : List ℕ). get_or xs n 0) (drop_26 row) in
     first.other (subst IsLetter (sym there) (letter_at row.text n (omega (arith, first.high, long)) text.letters))
 
 -- only memory can be wanting there
