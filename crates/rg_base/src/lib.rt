@@ -38,6 +38,8 @@ pub mod session;
 pub mod set;
 /// The stages of the utility.
 pub mod step;
+/// Tables of rows.
+pub mod table;
 #[cfg(test)]
 mod tests;
 /// The text of a row.

@@ -100,6 +100,13 @@ impl Locks {
         Ok(())
     }
 
+    /// The locks of all keys, in the order of the keys.
+    pub fn as_map(&self) -> &NumberMap<Lock>
+        ensures { result.now ≡ self.now }
+    {
+        &self.locks
+    }
+
     /// The session that holds a key.
     pub fn owner(&self, key: u64) -> Option<Session>
         ensures { result ≡ owner_of (map.get self.now key) }

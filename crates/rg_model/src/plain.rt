@@ -19,8 +19,10 @@ use rg_base::session::{Class, Session};
 use rg_stmt::stmt::{Reply, Stmt};
 use std::alloc::Global;
 
-mod parts;
-mod walks;
+/// The single steps of the plain program.
+pub mod parts;
+/// The loops of the plain program.
+pub mod walks;
 
 /// A plain table with its locks and claims, in memory. It computes what the definitions say,
 /// slowly.

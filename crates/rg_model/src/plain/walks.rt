@@ -18,8 +18,8 @@ use rg_base::session::Session;
 use rg_stmt::rows::{Keys, Rows};
 use std::alloc::Global;
 
-// The entry with the least key, or with the least one above the last key.
-fn entry_behind<V: Drop>(entries: &NumberMap<V>, last: Option<u64>) -> Option<(u64, &V)>
+/// The entry with the least key, or with the least one above the last key.
+pub fn entry_behind<V: Drop>(entries: &NumberMap<V>, last: Option<u64>) -> Option<(u64, &V)>
     ensures { IsFirstFrom entries.now (start_of last)
         (option_map (λ entry. (entry.0, entry.1.now)) result) }
 {
@@ -130,8 +130,8 @@ pub fn keys_with_cat(alloc: Global, table: &NumberMap<Row>, cat: u64) -> Result<
     Ok(Keys::new(keys))
 }
 
-// An equal table.
-fn copy_table(alloc: Global, table: &NumberMap<Row>) -> Result<NumberMap<Row>, NoMemory>
+/// An equal table.
+pub fn copy_table(alloc: Global, table: &NumberMap<Row>) -> Result<NumberMap<Row>, NoMemory>
     ensures { IfOk result (λ copy. copy ≡ table.now) }
 {
     let mut copy = NumberMap::new(alloc);

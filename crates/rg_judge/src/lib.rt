@@ -1,0 +1,19 @@
+//! Reads a trace and names its first entry that is not legal.
+#![tactic(auto)]
+
+/// Statements that were answered.
+pub mod answered;
+/// The states that a trace allows.
+pub mod possibility;
+/// The numbers of a running utility.
+pub mod progress;
+/// The plain table's reply to a statement.
+pub mod replied;
+/// Statements, with what a drain keeps out and with an engine that is down.
+pub mod said;
+/// Tests of sameness.
+pub mod same;
+/// What a unit's statements and its end leave.
+pub mod unit;
+/// Walks over locks.
+pub mod walk;
