@@ -1,1 +1,2 @@
 pub mod StateOf
+pub mod Tallied

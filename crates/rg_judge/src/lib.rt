@@ -13,6 +13,10 @@ pub mod replied;
 pub mod said;
 /// Tests of sameness.
 pub mod same;
+/// Sums of counts.
+pub mod sums;
+/// Changes and quiet keys.
+pub mod tally;
 /// What a unit's statements and its end leave.
 pub mod unit;
 /// Walks over locks.
