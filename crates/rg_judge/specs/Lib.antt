@@ -1,2 +1,3 @@
 pub mod StateOf
 pub mod Tallied
+pub mod TurnOf

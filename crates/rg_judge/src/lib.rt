@@ -3,6 +3,12 @@
 
 /// Statements that were answered.
 pub mod answered;
+/// The steps that copy and index the rows.
+pub mod copying;
+/// The steps over the log and under the drain.
+pub mod log;
+/// The event that a step makes.
+pub mod next_event;
 /// The states that a trace allows.
 pub mod possibility;
 /// The numbers of a running utility.
@@ -17,6 +23,8 @@ pub mod same;
 pub mod sums;
 /// Changes and quiet keys.
 pub mod tally;
+/// What a step leaves.
+pub mod turn;
 /// What a unit's statements and its end leave.
 pub mod unit;
 /// Walks over locks.
