@@ -1,3 +1,9 @@
 pub mod Copied
+pub mod Counting
+pub mod Everyone
+pub mod Rising
+pub mod Seen
+pub mod Sorting
+pub mod Suffix
 pub mod Tallies
 pub mod Walked

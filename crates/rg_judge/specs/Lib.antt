@@ -1,3 +1,4 @@
 pub mod StateOf
 pub mod Tallied
 pub mod TurnOf
+pub mod Places
