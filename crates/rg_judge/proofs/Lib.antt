@@ -1,3 +1,4 @@
+pub mod Clustering
 pub mod Copied
 pub mod Counting
 pub mod Everyone

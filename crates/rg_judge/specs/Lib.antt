@@ -2,3 +2,5 @@ pub mod StateOf
 pub mod Tallied
 pub mod TurnOf
 pub mod Places
+pub mod Clustered
+pub mod Packing

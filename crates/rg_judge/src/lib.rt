@@ -11,6 +11,8 @@ pub mod layout;
 pub mod log;
 /// The event that a step makes.
 pub mod next_event;
+/// How rows lie in an unchanged new copy.
+pub mod packing;
 /// The states that a trace allows.
 pub mod possibility;
 /// The numbers of a running utility.
@@ -23,6 +25,8 @@ pub mod said;
 pub mod same;
 /// Sums of counts.
 pub mod sums;
+/// What a switch must find.
+pub mod switch;
 /// Changes and quiet keys.
 pub mod tally;
 /// What a step leaves.
