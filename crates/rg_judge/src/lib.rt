@@ -23,6 +23,8 @@ pub mod replied;
 pub mod said;
 /// Tests of sameness.
 pub mod same;
+/// Steps of a utility.
+pub mod step;
 /// Sums of counts.
 pub mod sums;
 /// What a switch must find.
