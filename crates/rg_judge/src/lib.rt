@@ -9,8 +9,12 @@ pub mod copying;
 pub mod layout;
 /// The steps over the log and under the drain.
 pub mod log;
+/// What each event makes of a state.
+pub mod next;
 /// The event that a step makes.
 pub mod next_event;
+/// Openings.
+pub mod opened;
 /// How rows lie in an unchanged new copy.
 pub mod packing;
 /// The states that a trace allows.

@@ -1,7 +1,7 @@
 // Walks over the locks, from key to key.
 ghost use Rattle.std.specs.Prelude.{◌≡◌, OnOk};
 ghost use Rattle.std.specs.FinMap as map;
-ghost use Rattle.rg_model.specs.Committed.{put_back};
+ghost use Rattle.rg_model.specs.Committed.{locks_without, put_back};
 ghost use Rattle.rg_model.specs.Said.{has_locks};
 
 use rg_base::lock::Lock;
@@ -9,7 +9,7 @@ use rg_base::map::NumberMap;
 use rg_base::no_memory::NoMemory;
 use rg_base::session::Session;
 use rg_base::table::Table;
-use rg_model::plain::parts::{copy_of, set_row};
+use rg_model::plain::parts::{copy_of, is_others, set_row};
 use rg_model::plain::walks::entry_behind;
 use std::alloc::Global;
 
@@ -34,6 +34,26 @@ pub fn put_back(alloc: Global, table: &mut Table, locks: &NumberMap<Lock>) -> Re
     let mut last = None;
     while let Some((key, kept)) = entry_behind(locks, last) {
         set_row(table, key, copy_of(alloc, kept.row.as_ref())?)?;
+        last = Some(key);
+    }
+    Ok(())
+}
+
+/// Puts back the rows that the locks of the other sessions keep, and leaves the locks.
+pub fn put_back_others(
+    alloc: Global,
+    table: &mut Table,
+    locks: &NumberMap<Lock>,
+    session: Session,
+) -> Result<(), NoMemory>
+    ensures { OnOk result
+        (table.new ≡ put_back (map.entries (locks_without session locks.now)) table.old) }
+{
+    let mut last = None;
+    while let Some((key, kept)) = entry_behind(locks, last) {
+        if is_others(session, kept) {
+            set_row(table, key, copy_of(alloc, kept.row.as_ref())?)?;
+        }
         last = Some(key);
     }
     Ok(())
