@@ -4,3 +4,4 @@ pub mod TurnOf
 pub mod Places
 pub mod Clustered
 pub mod Packing
+pub mod Refused

@@ -5,6 +5,8 @@
 pub mod answered;
 /// The steps that copy and index the rows.
 pub mod copying;
+/// The judge.
+pub mod judge;
 /// Layouts of a copy.
 pub mod layout;
 /// The steps over the log and under the drain.
