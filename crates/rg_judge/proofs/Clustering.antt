@@ -1,5 +1,5 @@
 -- Rows in clustering order.
-use Rattle.std.proofs.Common.{◌≡◌, ◌==◌, ◌&&◌, ◌||◌, ◌+◌, ◌-◌, nat_le, ℕ, suc, Bool, true, false, cond, not, List, [], ◌∷◌, ◌++◌, take, drop, filter, length, Option, Some, None, refl, sym, ◌∙◌, ap, arith}
+use Rattle.std.proofs.Common.{◌≡◌, ◌==◌, ◌&&◌, ◌+◌, ◌-◌, nat_le, ℕ, suc, Bool, true, false, cond, not, List, [], ◌∷◌, ◌++◌, take, drop, filter, length, Option, Some, None, refl, sym, ◌∙◌, ap, arith}
 use Rattle.std.specs.FinMap as map
 use Rattle.std.specs.FinMap.{len-entries}
 use Rattle.std.specs.List.{list_all}
@@ -15,11 +15,10 @@ use Rattle.rg_stmt.specs.declared.event.Entry.{Entry}
 use Rattle.rg_stmt.specs.declared.layout.Spot.{Spot}
 use Rattle.rg_model.specs.Claims.{first_session, is_holder, least_holder}
 use Rattle.rg_model.specs.Packed.{area_of, clustered_rows, free_part, home_spot, is_row_before, page_at, put_row, spots_from}
-use Rattle.rg_model.specs.Quiet.{is_quiet}
 use Rattle.rg_model.specs.Right.{are_clustered, are_quiet_right, is_at_home, is_clustered_pair}
 use Rattle.rg_model.specs.State.{Claims}
 use Rattle.rg_judge.specs.Clustered.{is_pair_behind, quiet_rises, tally_quiet}
-use Rattle.rg_judge.specs.Packing.{row_place, packing_after, spot_of, spots_by}
+use Rattle.rg_judge.specs.Packing.{row_place, spots_by}
 use Rattle.rg_judge.specs.Tallied.{IsTallied}
 use Rattle.rg_judge.specs.declared.packing.Packing.{Packing}
 use Rattle.rg_judge.specs.declared.tally.Tally.{Tally}

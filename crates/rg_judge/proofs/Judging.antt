@@ -1,14 +1,13 @@
 -- The judge goes on by one entry.
-use Rattle.std.proofs.Common.{◌≡◌, ◌≢◌, ◌≤◌, ◌<◌, ◌+◌, ◌-◌, ℕ, zero, suc, Bool, true, false, List, [], ◌∷◌, ◌++◌, map, length, take, get_or, is_some, refl, sym, ◌∙◌, ap, subst, arith, append_assoc, take-suc, length-take-le}
+use Rattle.std.proofs.Common.{◌≡◌, ◌≤◌, ◌<◌, ◌+◌, ◌-◌, ℕ, zero, suc, false, List, [], ◌∷◌, ◌++◌, map, length, take, get_or, is_some, refl, sym, ◌∙◌, ap, subst, arith, append_assoc, take-suc, length-take-le}
 use Rattle.std.specs.List.{flat_map, AllByRecursion}
-use Rattle.std.specs.List.Sorted.{IsNonDecreasingBy}
 use Rattle.std.proofs.lemmas.List.{get_or-take, get_or_default}
 use Rattle.std.proofs.lemmas.List.Sorted.{IsNonDecreasingBy-short, IsNonDecreasingBy-push}
 use Rattle.std.proofs.Math.Seq.{take_all}
 use Rattle.rg_stmt.specs.declared.event.Entry.{Entry}
 use Rattle.rg_model.specs.Legal.{IsActor, Legal, asks}
 use Rattle.rg_model.specs.Possible.{possible, states_after, states_from}
-use Rattle.rg_model.specs.State.{State, Table, at_rest}
+use Rattle.rg_model.specs.State.{State, Table}
 use Rattle.rg_model.proofs.RunPush.{behind}
 use Rattle.rg_judge.specs.Refused.{IsFirstRefused, IsSound, is_nil, states_begun}
 use Rattle.rg_judge.specs.StateOf.{state_of}

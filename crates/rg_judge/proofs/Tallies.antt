@@ -6,7 +6,7 @@ use Rattle.std.specs.Option.{is_some, unwrap_or}
 use Rattle.std.specs.Ordering.{nat_cmp, eq_by_cmp}
 use Rattle.std.proofs.lemmas.Cmp.{nat_cmp_total}
 use Rattle.std.proofs.lemmas.Bool.Decides.{nat_tests}
-use Rattle.rg_base.specs.Retained.{passes, retain_entries}
+use Rattle.rg_base.specs.Retained.{passes}
 use Rattle.rg_base.specs.declared.control.Answer.{Answer}
 use Rattle.rg_base.specs.declared.session.Session.{Session}
 use Rattle.rg_stmt.specs.declared.event.Actor.{Actor}
@@ -20,7 +20,6 @@ use Rattle.rg_stmt.specs.declared.stmt.Stmt.{Stmt}
 use Rattle.rg_stmt.specs.declared.stmt.Stmt.TheVariants as stmts
 use Rattle.rg_model.specs.Changes.{is_write, is_rollback, is_unit_end, unit_writes, changes}
 use Rattle.rg_model.specs.Quiet.{is_among, is_locked_in, is_quiet, names_key, is_write_of}
-use Rattle.rg_model.proofs.Overlay.{key_of}
 use Rattle.rg_judge.specs.Tallied.{IsTallied, is_open, key_written, tally_after, tally_said, tally_write, tally_end, tally_rollback, writes_of, writers_without}
 use Rattle.rg_judge.specs.declared.tally.Tally.{Tally}
 
@@ -196,29 +195,29 @@ module _ (past : List Entry) (tally : Tally) (is : IsTallied past tally) where
       → IsTallied (record { actor = actor; event = event; answer = answer; calls = calls } ∷ past) (tally_after tally actor event)
   goes_by (actors.Session session) (events.Said stmt reply) answer calls = goes_said session stmt reply answer calls
   goes_by (actors.Session session) (events.Opened copy rows pages used) answer calls = record {
-        changes = plus_none tally.changes (changes past) is.changes;
-        writes = λ session. ap (λ o. unwrap_or o 0) (get-empty nat_cmp session);
-        writers = λ key over. ap (is_open over) (get-empty nat_cmp key);
-        quiet = is.quiet;
-      }
+    changes = plus_none tally.changes (changes past) is.changes;
+    writes = λ session. ap (λ o. unwrap_or o 0) (get-empty nat_cmp session);
+    writers = λ key over. ap (is_open over) (get-empty nat_cmp key);
+    quiet = is.quiet;
+  }
   goes_by actors.System (events.Opened copy rows pages used) answer calls = record {
-        changes = plus_none tally.changes (changes past) is.changes;
-        writes = λ session. ap (λ o. unwrap_or o 0) (get-empty nat_cmp session);
-        writers = λ key over. ap (is_open over) (get-empty nat_cmp key);
-        quiet = is.quiet;
-      }
+    changes = plus_none tally.changes (changes past) is.changes;
+    writes = λ session. ap (λ o. unwrap_or o 0) (get-empty nat_cmp session);
+    writers = λ key over. ap (is_open over) (get-empty nat_cmp key);
+    quiet = is.quiet;
+  }
   goes_by actors.Utility (events.Opened copy rows pages used) answer calls = record {
-        changes = plus_none tally.changes (changes past) is.changes;
-        writes = λ session. ap (λ o. unwrap_or o 0) (get-empty nat_cmp session);
-        writers = λ key over. ap (is_open over) (get-empty nat_cmp key);
-        quiet = is.quiet;
-      }
+    changes = plus_none tally.changes (changes past) is.changes;
+    writes = λ session. ap (λ o. unwrap_or o 0) (get-empty nat_cmp session);
+    writers = λ key over. ap (is_open over) (get-empty nat_cmp key);
+    quiet = is.quiet;
+  }
   goes_by actor (events.Started options copy pages) answer calls = record {
-        changes = refl;
-        writes = is.writes;
-        writers = is.writers;
-        quiet = λ key. open_alone (map.get tally.writers key) ∙ ap not (is.writers key []);
-      }
+    changes = refl;
+    writes = is.writes;
+    writers = is.writers;
+    quiet = λ key. open_alone (map.get tally.writers key) ∙ ap not (is.writers key []);
+  }
   goes_by (actors.Session session) event answer calls = record { changes = plus_none tally.changes (changes past) is.changes; writes = is.writes; writers = is.writers; quiet = is.quiet }
   goes_by actors.System event answer calls = record { changes = plus_none tally.changes (changes past) is.changes; writes = is.writes; writers = is.writers; quiet = is.quiet }
   goes_by actors.Utility event answer calls = record { changes = plus_none tally.changes (changes past) is.changes; writes = is.writes; writers = is.writers; quiet = is.quiet }

@@ -89,11 +89,7 @@ fn begin(alloc: Global, start: &Table, event: &Event) -> Result<Vec<Possibility>
 }
 
 // The states before the first entry.
-fn begin_trace(
-    alloc: Global,
-    start: &Table,
-    trace: &[Entry],
-) -> Result<Vec<Possibility>, NoMemory>
+fn begin_trace(alloc: Global, start: &Table, trace: &[Entry]) -> Result<Vec<Possibility>, NoMemory>
     ensures { IfOk result (λ states. map state_of states.items
         ≡ states_begun start.now trace.now) }
 {
@@ -103,10 +99,7 @@ fn begin_trace(
     }
 }
 
-fn push_state(
-    states: &mut Vec<Possibility>,
-    state: Option<Possibility>,
-) -> Result<(), NoMemory>
+fn push_state(states: &mut Vec<Possibility>, state: Option<Possibility>) -> Result<(), NoMemory>
     ensures { OnOk result (map state_of states.new.items
         ≡ map state_of states.old.items ++ one_state (option_map state_of state)) }
 {
@@ -132,8 +125,14 @@ fn advance(
     let mut after = Vec::new(alloc);
     let mut left = states.into_iter();
     while let Some(st) = left.next() {
-        let (first, second) =
-            judge_entry(alloc, st, tally, entry.answer, entry.actor, &entry.event)?;
+        let (first, second) = judge_entry(
+            alloc,
+            st,
+            tally,
+            entry.answer,
+            entry.actor,
+            &entry.event,
+        )?;
         push_state(&mut after, first)?;
         push_state(&mut after, second)?;
     }
@@ -151,11 +150,7 @@ fn is_none_left(states: &[Possibility]) -> bool
 
 /// The first entry of a trace from the table `start` that is not legal, or none where the trace is
 /// legal.
-pub fn judge(
-    alloc: Global,
-    start: &Table,
-    trace: &[Entry],
-) -> Result<Option<usize>, NoMemory>
+pub fn judge(alloc: Global, start: &Table, trace: &[Entry]) -> Result<Option<usize>, NoMemory>
     ensures { IfOk result (λ found. IsJudged start.now trace.now found) }
 {
     let mut states = begin_trace(alloc, start, trace)?;

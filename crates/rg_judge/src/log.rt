@@ -81,7 +81,11 @@ fn obey_verdict<'a>(
     match verdict {
         Verdict::More => Ok(Turn::Runs(u, drain)),
         Verdict::Next => {
-            let kept = if slow { u } else { Progress { message: None, ..u } };
+            let kept = if slow {
+                u
+            } else {
+                Progress { message: None, ..u }
+            };
             Ok(Turn::Runs(begin_iteration(all, kept)?, drain))
         }
         Verdict::Message => {
@@ -128,8 +132,7 @@ pub fn iterate<'a>(
             let full = u64::from(*took) == share(u.target.saturating_sub(u.done));
             let right = same_verdict(*verdict, log_verdict(*left, answer, next));
             Ok(turn_if(
-                *iteration == u.iteration
-                    && (full && (*left == all.saturating_sub(done) && right)),
+                *iteration == u.iteration && (full && (*left == all.saturating_sub(done) && right)),
                 turn,
             ))
         }
@@ -186,10 +189,7 @@ pub fn wait<'a>(
         (DrainVerdict::GiveUp, Event::GiveUp(count)) => {
             let next = give_up(all, answer.now, u)?;
             let failed = sum_small(u.failed, 1)?;
-            Ok(turn_if(
-                *count == failed,
-                Turn::Runs(next, DrainState::Free),
-            ))
+            Ok(turn_if(*count == failed, Turn::Runs(next, DrainState::Free)))
         }
         (DrainVerdict::Stop(reason), Event::Stop(named)) => {
             if same_reason(*named, reason) {

@@ -44,12 +44,7 @@ fn judge_shown(
 }
 
 // A utility starts where none runs, over the current copy.
-fn judge_started(
-    mut st: Possibility,
-    options: Options,
-    copy: u8,
-    pages: u32,
-) -> Option<Possibility>
+fn judge_started(mut st: Possibility, options: Options, copy: u8, pages: u32) -> Option<Possibility>
     ensures { option_map state_of result ≡ state_started (state_of st) options copy pages }
 {
     let allowed = !st.down && (st.utility.is_none() && copy == st.copy);

@@ -27,7 +27,11 @@ fn step_under(u: Progress, granted: DrainFor) -> Step
     if !u.last {
         return Step::Last;
     }
-    if !u.written { Step::Write(granted) } else { Step::Switch }
+    if !u.written {
+        Step::Write(granted)
+    } else {
+        Step::Switch
+    }
 }
 
 fn step_by_drain(u: Progress, drain: DrainState) -> Step

@@ -76,11 +76,7 @@ fn committed(alloc: Global, st: Possibility) -> Result<Table, NoMemory>
 }
 
 // The committed rows, with what a session wrote.
-fn committed_with(
-    alloc: Global,
-    st: &Possibility,
-    session: Session,
-) -> Result<Table, NoMemory>
+fn committed_with(alloc: Global, st: &Possibility, session: Session) -> Result<Table, NoMemory>
     ensures { IfOk result (λ table. table ≡ committed_table_with (state_of st.now) session) }
 {
     let mut table = copy_table(alloc, &st.table)?;

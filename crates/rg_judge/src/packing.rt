@@ -137,7 +137,11 @@ fn spot_of(options: &Options, packing: Packing, row: &Row) -> Result<Spot, NoMem
     ensures { IfOk result (λ spot. spot ≡ spot_of options.now packing row.now) }
 {
     if fits(options, packing, row)? {
-        return home_spot(page_at(options.freepage, packing.filled)?, packing.slots, row);
+        return home_spot(
+            page_at(options.freepage, packing.filled)?,
+            packing.slots,
+            row,
+        );
     }
     home_spot(page_at(options.freepage, sum(packing.filled, 1)?)?, 0, row)
 }
@@ -180,11 +184,7 @@ fn pack_rows(
 }
 
 // The spots of the table, packed.
-fn packed_spots(
-    alloc: Global,
-    options: &Options,
-    table: &Table,
-) -> Result<Vec<Spot>, NoMemory>
+fn packed_spots(alloc: Global, options: &Options, table: &Table) -> Result<Vec<Spot>, NoMemory>
     ensures { IfOk result (λ spots. spots.items ≡ packed_spots options.now table.now) }
 {
     let rows = clustered(alloc, all_rows(alloc, table)?)?;
@@ -204,8 +204,7 @@ fn same_home_spots(a: &[Spot], b: &[Spot]) -> bool
         ([], []) => true,
         ([x, xs @ ..], [y, ys @ ..]) => {
             (same_place(x.place, y.place)
-                && (x.key == y.key
-                    && (x.clus == y.clus && (x.over.is_none() && y.over.is_none()))))
+                && (x.key == y.key && (x.clus == y.clus && (x.over.is_none() && y.over.is_none()))))
                 && same_home_spots(xs, ys)
         }
         _ => false,

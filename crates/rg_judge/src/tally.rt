@@ -67,11 +67,7 @@ fn key_written(stmt: &Stmt) -> u64
     match stmt {
         Stmt::Insert(row) | Stmt::Update(row) => row.key,
         Stmt::Delete(key) => *key,
-        Stmt::Select(_)
-        | Stmt::Scan { .. }
-        | Stmt::Find(_)
-        | Stmt::Commit
-        | Stmt::Rollback => 0,
+        Stmt::Select(_) | Stmt::Scan { .. } | Stmt::Find(_) | Stmt::Commit | Stmt::Rollback => 0,
     }
 }
 
@@ -138,12 +134,7 @@ impl Tally {
         self.writers.retain(|_, writer| *writer != session.0);
     }
 
-    fn add_said(
-        &mut self,
-        session: Session,
-        stmt: &Stmt,
-        reply: &Reply,
-    ) -> Result<(), NoMemory>
+    fn add_said(&mut self, session: Session, stmt: &Stmt, reply: &Reply) -> Result<(), NoMemory>
         ensures { OnOk result (self.new ≡ tally_said self.old session stmt.now reply.now) }
     {
         if is_write(stmt, reply) {

@@ -1,4 +1,4 @@
-use Rattle.std.proofs.Common.{◌≡◌, List, [], ◌∷◌, true, false, map, take, refl, sym, ◌∙◌, ap}
+use Rattle.std.proofs.Common.{◌≡◌, List, [], ◌∷◌, true, map, take, refl, sym, ◌∙◌, ap}
 use Rattle.rg_model.proofs.RunPush.{behind}
 use Rattle.rg_judge.specs.Refused.{is_nil}
 use Rattle.rg_judge.specs.StateOf.{state_of}

@@ -1,10 +1,10 @@
-use Rattle.std.proofs.Common.{◌≡◌, ◌==◌, ◌-◌, ◌&&◌, ℕ, Bool, true, false, Some, refl, ◌∙◌, ap, if◌then◌else◌}
+use Rattle.std.proofs.Common.{◌≡◌, ◌==◌, ◌-◌, ◌&&◌, Bool, true, false, Some, refl, ◌∙◌, ap, if◌then◌else◌}
 use Rattle.std.specs.FinMap as fin
 use Rattle.rg_model.specs.Changes.{changes}
 use Rattle.rg_model.specs.Layout.{is_right_side}
 use Rattle.rg_model.specs.Right.{are_quiet_right, is_packed, is_right_switch}
 use Rattle.rg_model.specs.Said.{if_allowed}
-use Rattle.rg_judge.specs.StateOf.{state_of, utility_of}
+use Rattle.rg_judge.specs.StateOf.{state_of}
 use Rattle.rg_judge.proofs.step.switch.Goals as goal
 
 regroup : (a b c : Bool) → ((a && b) && c) ≡ (a && (b && c))

@@ -1,4 +1,4 @@
-use Rattle.std.proofs.Common.{ℕ, Bool, ◌∙◌, ap}
+use Rattle.std.proofs.Common.{◌∙◌}
 use Rattle.rg_judge.proofs.Clustering.{quiet-right}
 use Rattle.rg_judge.proofs.switch.are_quiet_right.Goals as goal
 

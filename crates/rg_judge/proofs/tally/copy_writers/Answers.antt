@@ -1,5 +1,4 @@
 use Rattle.std.proofs.Common.{◌+◌, subst, sym}
-use Rattle.std.specs.FinMap as map
 use Rattle.rg_model.specs.Start.{start_of}
 use Rattle.rg_judge.proofs.Copied.{IsCopied, copied-begins, copied-set, copied-ends}
 use Rattle.rg_judge.proofs.tally.copy_writers.Goals as goal

@@ -2,7 +2,6 @@ use Rattle.std.proofs.Common.{◌≡◌, ℕ, cond, sym, ◌∙◌, ap}
 use Rattle.std.specs.Ordering.{nat_cmp, eq_by_cmp}
 use Rattle.std.specs.FinMap as map
 use Rattle.std.specs.FinMap.{get-entries}
-use Rattle.rg_base.specs.declared.lock.Lock.{Lock}
 use Rattle.rg_model.specs.Committed.{put_back}
 use Rattle.rg_model.specs.Start.{start_of}
 use Rattle.rg_model.specs.State.{Table, Locks}

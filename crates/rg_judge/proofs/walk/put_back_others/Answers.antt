@@ -1,9 +1,8 @@
-use Rattle.std.proofs.Common.{◌≡◌, ℕ, Bool, true, false, cond, Option, Some, None, refl, sym, ◌∙◌, ap}
+use Rattle.std.proofs.Common.{◌≡◌, ℕ, Bool, true, false, cond, Some, None, sym, ◌∙◌, ap}
 use Rattle.std.specs.Ordering.{nat_cmp, eq_by_cmp}
 use Rattle.std.specs.FinMap as map
 use Rattle.std.specs.FinMap.{get-entries}
 use Rattle.rg_base.specs.declared.lock.Lock.{Lock}
-use Rattle.rg_base.specs.declared.row.Row.{Row}
 use Rattle.rg_base.specs.declared.session.Session.{Session}
 use Rattle.rg_model.specs.Committed.{locks_without, put_back}
 use Rattle.rg_model.specs.Held.{is_others}
