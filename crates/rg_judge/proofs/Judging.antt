@@ -51,7 +51,7 @@ all-last : (P : Entry → Type 0) (xs : List Entry) (y : Entry) → AllByRecursi
 all-last P [] y all = all.0
 all-last P (x ∷ xs) y all = all-last P xs y all.1
 
-legal_none : (start : Table) → Legal start []
+pub legal_none : (start : Table) → Legal start []
 legal_none start = record {
   allowed = λ e. absurd (cc (e));
   sessions = tt;

@@ -2,6 +2,7 @@ pub mod Clustering
 pub mod Copied
 pub mod Counting
 pub mod Everyone
+pub mod Exactly
 pub mod Judging
 pub mod Rising
 pub mod Seen

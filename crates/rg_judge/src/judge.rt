@@ -3,13 +3,15 @@
 //     that are possible, and an entry after which none is left is refused.
 // (2) Sessions are numbered from 1 to 99. The number of volume calls never falls.
 // (3) An operator's answer is there if and only if the entry asks the operator.
-ghost use Rattle.std.specs.Prelude.{◌≡◌, ◌++◌, IfOk, OnOk, List, is_some, map, true, false};
+ghost use Rattle.std.specs.Prelude.{◌≡◌, ◌++◌, IfOk, OnOk, List, is_some, map, true, false, Some};
+ghost use Rattle.std.specs.Prelude.{◌↔◌, ℕ, None};
 ghost use Rattle.std.specs.List.{flat_map};
 ghost use Rattle.std.specs.Option.{option_map};
-ghost use Rattle.rg_judge.specs.Refused.{IsJudged, IsSound, is_nil, states_begun};
+ghost use Rattle.rg_judge.specs.Refused.{IsFirstRefused, IsJudged, IsSound, is_nil};
+ghost use Rattle.rg_judge.specs.Refused.{states_begun};
 ghost use Rattle.rg_judge.specs.StateOf.{state_of};
 ghost use Rattle.rg_judge.specs.Tallied.{IsTallied};
-ghost use Rattle.rg_model.specs.Legal.{IsActor, asks};
+ghost use Rattle.rg_model.specs.Legal.{IsActor, Legal, asks};
 ghost use Rattle.rg_model.specs.Possible.{one_state, states_after, states_before};
 ghost use Rattle.rg_stmt.specs.declared.event.Entry as entries;
 
@@ -148,9 +150,8 @@ fn is_none_left(states: &[Possibility]) -> bool
     }
 }
 
-/// The first entry of a trace from the table `start` that is not legal, or none where the trace is
-/// legal.
-pub fn judge(alloc: Global, start: &Table, trace: &[Entry]) -> Result<Option<usize>, NoMemory>
+// The first entry that is not legal, or none.
+fn find_refused(alloc: Global, start: &Table, trace: &[Entry]) -> Result<Option<usize>, NoMemory>
     ensures { IfOk result (λ found. IsJudged start.now trace.now found) }
 {
     let mut states = begin_trace(alloc, start, trace)?;
@@ -168,4 +169,15 @@ pub fn judge(alloc: Global, start: &Table, trace: &[Entry]) -> Result<Option<usi
         calls = entry.calls;
     }
     Ok(None)
+}
+
+/// The first entry of a trace from the table `start` that is not legal, or none where the trace is
+/// legal. It takes memory for the states, and no more time than its entries and their rows ask for.
+pub fn judge(alloc: Global, start: &Table, trace: &[Entry]) -> Result<Option<usize>, NoMemory>
+    ensures legal { IfOk result (λ found. (found ≡ None) ↔ Legal start.now trace.now) }
+    ensures refused { (i : ℕ)
+        → IfOk result (λ found. (found ≡ Some i) ↔ IsFirstRefused start.now trace.now i) }
+{
+    let found = find_refused(alloc, start, trace)?;
+    Ok(found)
 }

@@ -37,6 +37,8 @@ pub mod sums;
 pub mod switch;
 /// Changes and quiet keys.
 pub mod tally;
+#[cfg(test)]
+mod tests;
 /// What a step leaves.
 pub mod turn;
 /// What a unit's statements and its end leave.
