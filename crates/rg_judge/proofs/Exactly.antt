@@ -1,12 +1,12 @@
 -- What the judge answers is exact: a legal trace has no refused entry, and any other has one.
-use Rattle.std.proofs.Common.{◌≡◌, ◌≢◌, ◌↔◌, ◌≤◌, ◌<◌, ◌⊎◌, inl, inr, ℕ, zero, suc, List, [], ◌∷◌, ◌++◌, Option, Some, None, length, take, drop, is_some, refl, sym, ◌∙◌, ap, subst, arith}
+use Rattle.std.proofs.Common.{◌≡◌, ◌↔◌, ◌<◌, ◌⊎◌, inl, inr, ℕ, zero, suc, List, [], ◌∷◌, ◌++◌, Option, Some, None, take, drop, is_some, refl, sym, ◌∙◌, ap, subst, arith}
 use Rattle.std.specs.List.{AllByRecursion, flat_map}
 use Rattle.std.proofs.lemmas.List.{take-append-drop, take-take}
-use Rattle.std.proofs.lemmas.List.Sorted.{IsNonDecreasingBy-short, IsNonDecreasingBy-take}
+use Rattle.std.proofs.lemmas.List.Sorted.{IsNonDecreasingBy-take}
 use Rattle.rg_base.proofs.Walk.{place}
 use Rattle.rg_stmt.specs.declared.event.Entry.{Entry}
 use Rattle.rg_model.specs.Legal.{IsActor, Legal, asks}
-use Rattle.rg_model.specs.Possible.{possible, states_after, states_before, states_from}
+use Rattle.rg_model.specs.Possible.{states_after, states_before, states_from}
 use Rattle.rg_model.specs.State.{State, Table}
 use Rattle.rg_model.proofs.RunPush.{behind}
 use Rattle.rg_judge.specs.Refused.{IsFirstRefused, IsJudged}

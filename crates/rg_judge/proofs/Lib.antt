@@ -1,12 +1,4 @@
-pub mod Clustering
-pub mod Copied
-pub mod Counting
-pub mod Everyone
 pub mod Exactly
 pub mod Judging
-pub mod Rising
-pub mod Seen
-pub mod Sorting
-pub mod Suffix
-pub mod Tallies
+pub mod Unclaimed
 pub mod Walked

@@ -20,6 +20,7 @@ use crate::walk::has_locks;
 use rg_base::no_memory::NoMemory;
 use rg_base::session::Session;
 use rg_stmt::stmt::{Reply, Stmt};
+use rg_tally::tally::may_want_log;
 use std::alloc::Global;
 
 fn may_want_memory(stmt: &Stmt) -> bool
@@ -32,13 +33,6 @@ fn may_want_room(stmt: &Stmt) -> bool
     ensures { result ≡ may_want_room stmt.now }
 {
     matches!(stmt, Stmt::Insert(_) | Stmt::Update(_))
-}
-
-/// Whether the statement writes, where it is done.
-pub fn may_want_log(stmt: &Stmt) -> bool
-    ensures { result ≡ may_want_log stmt.now }
-{
-    matches!(stmt, Stmt::Insert(_) | Stmt::Update(_) | Stmt::Delete(_))
 }
 
 // The device refused a statement that would have been done.

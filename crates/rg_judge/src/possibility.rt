@@ -4,11 +4,11 @@ ghost use Rattle.rg_judge.specs.StateOf.{state_of};
 ghost use Rattle.std.specs.Option.{option_map};
 ghost use Rattle.rg_model.specs.Said.{if_allowed};
 
-use crate::progress::Progress;
 use rg_base::session::Session;
 use rg_base::table::Table;
 use rg_claim::claims::Claims;
 use rg_lock::locks::Locks;
+use rg_turn::progress::Progress;
 
 /// A state that the entries so far allow. There is more than one where an opening found a table that
 /// a refused COMMIT leaves open.

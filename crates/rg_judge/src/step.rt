@@ -4,9 +4,10 @@
 ghost use Rattle.std.specs.Prelude.{◌≡◌, ◌==◌, ◌-◌, ◌&&◌, IfOk, OnOk, List, Some, true};
 ghost use Rattle.std.specs.Prelude.{if◌then◌else◌};
 ghost use Rattle.std.specs.Option.{option_map};
-ghost use Rattle.rg_judge.specs.StateOf.{state_of, utility_of};
-ghost use Rattle.rg_judge.specs.Tallied.{IsTallied};
-ghost use Rattle.rg_judge.specs.TurnOf.{turn_seen};
+ghost use Rattle.rg_judge.specs.StateOf.{state_of};
+ghost use Rattle.rg_turn.specs.UtilityOf.{utility_of};
+ghost use Rattle.rg_tally.specs.Tallied.{IsTallied};
+ghost use Rattle.rg_turn.specs.TurnOf.{turn_seen};
 ghost use Rattle.rg_model.specs.Possible.{state_after_step};
 ghost use Rattle.rg_model.specs.Layout.{is_right_side};
 ghost use Rattle.rg_model.specs.Right.{are_quiet_right, is_packed};
@@ -14,136 +15,19 @@ ghost use Rattle.rg_model.specs.Turn.{Switches};
 ghost use Rattle.rg_model.specs.Utility.{state_of_turn, state_stepped, stop_utility};
 ghost use Rattle.rg_stmt.specs.declared.event.Entry.{Entry};
 
-use crate::layout::is_right_side;
-use crate::next_event::turn_of;
-use crate::packing::is_packed;
+use crate::drain::{is_unclaimed, set_drain};
 use crate::possibility::{Possibility, if_allowed};
-use crate::progress::Progress;
-use crate::switch::{are_quiet_right, is_unclaimed};
-use crate::tally::Tally;
-use crate::turn::Turn;
 use rg_base::control::Answer;
 use rg_base::no_memory::NoMemory;
-use rg_base::options::{DrainState, Options};
-use rg_base::table::Table;
-use rg_claim::claims::Claims;
+use rg_base::options::DrainState;
+use rg_right::switch::is_right_switch;
 use rg_stmt::event::Event;
-use rg_stmt::layout::{Side, Sides};
+use rg_stmt::layout::Sides;
+use rg_tally::tally::Tally;
+use rg_turn::next_event::turn_of;
+use rg_turn::progress::Progress;
+use rg_turn::turn::Turn;
 use std::alloc::Global;
-
-// Sets the drain. A drain is granted only where nobody holds what it covers, as the verdict of a
-// drain that was asked says; so a refusal never comes.
-fn set_drain(claims: &mut Claims, drain: DrainState) -> Result<(), NoMemory>
-    ensures { OnOk result (claims.new ≡ record claims.old { drain = drain }) }
-{
-    if claims.drain() == drain {
-        return Ok(());
-    }
-    match drain {
-        DrainState::Free => {
-            claims.undrain();
-            Ok(())
-        }
-        DrainState::Asked(what) => {
-            claims.ask(what);
-            Ok(())
-        }
-        DrainState::Granted(what) => {
-            claims.ask(what);
-            match claims.granted() {
-                Ok(()) => Ok(()),
-                Err(_) => Err(NoMemory),
-            }
-        }
-    }
-}
-
-// Where nothing changed, the new copy is packed.
-fn is_packed_unchanged(
-    alloc: Global,
-    table: &Table,
-    changes: u64,
-    options: &Options,
-    side: &Side,
-) -> Result<bool, NoMemory>
-    ensures { IfOk result (λ is. is
-        ≡ (if changes == 0 then is_packed options.now table.now side.now else true)) }
-{
-    if changes == 0 {
-        return is_packed(alloc, options, table, side);
-    }
-    Ok(true)
-}
-
-// The quiet rows are right, and the packing is.
-fn are_rows_right(
-    alloc: Global,
-    table: &Table,
-    tally: &Tally,
-    options: &Options,
-    side: &Side,
-) -> Result<bool, NoMemory>
-    ensures { (past : List Entry) → IsTallied past tally.now → IfOk result (λ are. are
-        ≡ (are_quiet_right past side.now.spots
-        && (if tally.now.changes == 0 then is_packed options.now table.now side.now else true))) }
-{
-    if are_quiet_right(tally, side.spots.as_slice()) {
-        return is_packed_unchanged(alloc, table, tally.changes, options, side);
-    }
-    Ok(false)
-}
-
-// Both layouts are right for the table.
-fn are_right_sides(alloc: Global, table: &Table, sides: &Sides) -> Result<bool, NoMemory>
-    ensures { IfOk result (λ are. are
-        ≡ (is_right_side table.now sides.now.old && is_right_side table.now sides.now.new)) }
-{
-    if is_right_side(alloc, table, &sides.old)? {
-        return is_right_side(alloc, table, &sides.new);
-    }
-    Ok(false)
-}
-
-// Nobody holds a claim, and the rows are right.
-fn is_clear(
-    alloc: Global,
-    table: &Table,
-    unclaimed: bool,
-    tally: &Tally,
-    options: &Options,
-    side: &Side,
-) -> Result<bool, NoMemory>
-    ensures { (past : List Entry) → IsTallied past tally.now → IfOk result (λ is. is
-        ≡ (unclaimed && (are_quiet_right past side.now.spots
-        && (if tally.now.changes == 0 then is_packed options.now table.now side.now else true)))) }
-{
-    if unclaimed {
-        return are_rows_right(alloc, table, tally, options, side);
-    }
-    Ok(false)
-}
-
-// The switch is right.
-fn is_right_switch(
-    alloc: Global,
-    table: &Table,
-    unclaimed: bool,
-    tally: &Tally,
-    options: &Options,
-    sides: &Sides,
-) -> Result<bool, NoMemory>
-    ensures { (past : List Entry) → IsTallied past tally.now → IfOk result (λ is. is
-        ≡ ((is_right_side table.now sides.now.old && is_right_side table.now sides.now.new)
-        && (unclaimed && (are_quiet_right past sides.now.new.spots
-        && (if tally.now.changes == 0
-        then is_packed options.now table.now sides.now.new
-        else true))))) }
-{
-    if are_right_sides(alloc, table, sides)? {
-        return is_clear(alloc, table, unclaimed, tally, options, &sides.new);
-    }
-    Ok(false)
-}
 
 // It goes to the other copy, with as many pages as were written.
 fn is_other_copy(st: &Possibility, copy: u8, pages: u32, shadow: u32, right: bool) -> bool

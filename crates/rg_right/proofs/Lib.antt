@@ -1,0 +1,7 @@
+pub mod Clustering
+pub mod Counting
+pub mod Everyone
+pub mod Rising
+pub mod Seen
+pub mod Sorting
+pub mod Suffix

@@ -1,0 +1,225 @@
+// How rows lie in a new copy to which nothing was changed.
+// (1) Rows go in clustering order: by clus, then by key.
+// (2) A page takes its first row, and each next row that leaves PCTFREE of the page's room free.
+// (3) Where FREEPAGE is n above 0, an empty page follows each n filled ones.
+ghost use Rattle.std.specs.Prelude.{◌≡◌, ◌==◌, ◌+◌, ◌≤◌, IfOk, OnOk, filter, length, map, nat_le};
+ghost use Rattle.rg_right.specs.Packing.{packing_after, row_place, spot_of, spots_by};
+ghost use Rattle.rg_model.specs.Packed.{area_of, clustered_rows, free_part, home_spot, is_row_before};
+ghost use Rattle.rg_model.specs.Packed.{packed_pages, packed_spots, put_row};
+ghost use Rattle.rg_model.specs.Right.{is_packed, same_home_spot};
+ghost use Rattle.rg_model.specs.Same.{same_list};
+ghost use Rattle.rg_model.specs.State.{entries_of};
+
+use crate::layout::same_place;
+use rg_base::no_memory::NoMemory;
+use rg_base::options::Options;
+use rg_base::place::Place;
+use rg_base::row::Row;
+use rg_base::table::Table;
+use rg_model::plain::walks::entry_behind;
+use rg_stmt::layout::{Side, Spot};
+use rg_tally::pages::{page_at, page_count};
+use rg_tally::sums::sum;
+use std::alloc::Global;
+
+/// How far a new copy is packed: the pages filled so far, and the slots used and bytes free of the
+/// last one.
+#[derive(Clone, Copy, Debug, PartialEq, Eq)]
+pub struct Packing {
+    pub filled: u64,
+    pub slots: u64,
+    pub free: u64,
+}
+
+// A slot takes 18 bytes and its row's.
+fn area_of(row: &Row) -> Result<u64, NoMemory>
+    ensures { IfOk result (λ area. area ≡ area_of row.now) }
+{
+    sum(18, sum(26, row.text.as_slice().len() as u64)?)
+}
+
+// PCTFREE: what stays free of a page.
+fn free_part(options: &Options) -> u64
+    ensures { result ≡ free_part options.now }
+{
+    4064 * u64::from(options.pctfree) / 100
+}
+
+fn is_row_before(a: &Row, b: &Row) -> bool
+    ensures { result ≡ is_row_before a.now b.now }
+{
+    a.clus < b.clus || (a.clus == b.clus && a.key < b.key)
+}
+
+// The rows by rising key.
+fn all_rows(alloc: Global, table: &Table) -> Result<Vec<Row>, NoMemory>
+    ensures { IfOk result (λ rows. rows.items ≡ map (λ entry. entry.1) (entries_of table.now)) }
+{
+    let mut rows = Vec::new(alloc);
+    let mut last = None;
+    while let Some((key, row)) = entry_behind(table, last) {
+        rows.push(row.copy(alloc)?)?;
+        last = Some(key);
+    }
+    Ok(rows)
+}
+
+// Where a row goes: before the first that it is before.
+fn row_place(row: &Row, rows: &[Row]) -> usize
+    ensures place { result ≡ row_place row.now rows.now }
+    ensures within { result ≤ length rows.now }
+{
+    for (at, later) in rows.iter().enumerate() {
+        if is_row_before(row, later) {
+            return at;
+        }
+    }
+    rows.len()
+}
+
+fn put_row(rows: &mut Vec<Row>, row: Row) -> Result<(), NoMemory>
+    ensures { OnOk result (rows.new.items ≡ put_row row rows.old.items) }
+{
+    let at = row_place(&row, rows.as_slice());
+    rows.insert(at, row)?;
+    Ok(())
+}
+
+// The rows in clustering order.
+fn clustered(alloc: Global, mut rows: Vec<Row>) -> Result<Vec<Row>, NoMemory>
+    ensures { IfOk result (λ clustered. clustered.items ≡ clustered_rows rows.items) }
+{
+    let mut clustered = Vec::new(alloc);
+    while let Some(row) = rows.pop() {
+        put_row(&mut clustered, row)?;
+    }
+    Ok(clustered)
+}
+
+// A row at home. A page beyond 32 bits, or a slot beyond 16, needs more rows than memory holds.
+fn home_spot(page: u64, slot: u64, row: &Row) -> Result<Spot, NoMemory>
+    ensures { IfOk result (λ spot. spot ≡ home_spot page slot row.now) }
+{
+    if page > 4294967295 || slot > 65535 {
+        return Err(NoMemory);
+    }
+    Ok(Spot {
+        place: Place {
+            page: page as u32,
+            slot: slot as u16,
+        },
+        key: row.key,
+        clus: row.clus,
+        over: None,
+    })
+}
+
+// The row leaves enough of the page free.
+fn fits(options: &Options, packing: Packing, row: &Row) -> Result<bool, NoMemory>
+    ensures { IfOk result (λ fits. fits
+        ≡ nat_le (free_part options.now + area_of row.now) packing.free) }
+{
+    Ok(sum(free_part(options), area_of(row)?)? <= packing.free)
+}
+
+// Where the next row lies.
+fn spot_of(options: &Options, packing: Packing, row: &Row) -> Result<Spot, NoMemory>
+    ensures { IfOk result (λ spot. spot ≡ spot_of options.now packing row.now) }
+{
+    if fits(options, packing, row)? {
+        return home_spot(
+            page_at(options.freepage, packing.filled)?,
+            packing.slots,
+            row,
+        );
+    }
+    home_spot(page_at(options.freepage, sum(packing.filled, 1)?)?, 0, row)
+}
+
+// One row more.
+fn pack(options: &Options, packing: Packing, row: &Row) -> Result<Packing, NoMemory>
+    ensures { IfOk result (λ after. after ≡ packing_after options.now packing row.now) }
+{
+    let area = area_of(row)?;
+    if fits(options, packing, row)? {
+        return Ok(Packing {
+            filled: packing.filled,
+            slots: sum(packing.slots, 1)?,
+            free: packing.free.saturating_sub(area),
+        });
+    }
+    Ok(Packing {
+        filled: sum(packing.filled, 1)?,
+        slots: 1,
+        free: 4064u64.saturating_sub(area),
+    })
+}
+
+// The spots of rows, from where the copy is packed.
+fn pack_rows(
+    alloc: Global,
+    options: &Options,
+    rows: &[Row],
+    packed: Packing,
+) -> Result<Vec<Spot>, NoMemory>
+    ensures { IfOk result (λ spots. spots.items ≡ spots_by options.now packed rows.now) }
+{
+    let mut packing = packed;
+    let mut spots = Vec::new(alloc);
+    for row in rows {
+        spots.push(spot_of(options, packing, row)?)?;
+        packing = pack(options, packing, row)?;
+    }
+    Ok(spots)
+}
+
+// The spots of the table, packed.
+fn packed_spots(alloc: Global, options: &Options, table: &Table) -> Result<Vec<Spot>, NoMemory>
+    ensures { IfOk result (λ spots. spots.items ≡ packed_spots options.now table.now) }
+{
+    let rows = clustered(alloc, all_rows(alloc, table)?)?;
+    let empty = Packing {
+        filled: 0,
+        slots: 0,
+        free: 0,
+    };
+    let spots = pack_rows(alloc, options, rows.as_slice(), empty)?;
+    Ok(spots)
+}
+
+fn same_home_spots(a: &[Spot], b: &[Spot]) -> bool
+    ensures { result ≡ same_list same_home_spot a.now b.now }
+{
+    match (a, b) {
+        ([], []) => true,
+        ([x, xs @ ..], [y, ys @ ..]) => {
+            (same_place(x.place, y.place)
+                && (x.key == y.key && (x.clus == y.clus && (x.over.is_none() && y.over.is_none()))))
+                && same_home_spots(xs, ys)
+        }
+        _ => false,
+    }
+}
+
+fn first_slots(spots: &[Spot]) -> usize
+    ensures { result ≡ length (filter (λ spot. spot.place.slot == 0) spots.now) }
+{
+    spots.iter().filter(|spot| spot.place.slot == 0).count()
+}
+
+/// The new copy is packed as the options say.
+pub fn is_packed(
+    alloc: Global,
+    options: &Options,
+    table: &Table,
+    side: &Side,
+) -> Result<bool, NoMemory>
+    ensures { IfOk result (λ is. is ≡ is_packed options.now table.now side.now) }
+{
+    let spots = packed_spots(alloc, options, table)?;
+    let pages = page_count(options.freepage, first_slots(spots.as_slice()) as u64)?;
+    if u64::from(side.pages) != pages {
+        return Ok(false);
+    }
+    Ok(same_home_spots(side.spots.as_slice(), spots.as_slice()))
+}

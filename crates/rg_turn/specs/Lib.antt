@@ -1,0 +1,2 @@
+pub mod UtilityOf
+pub mod TurnOf
