@@ -1,5 +1,5 @@
 -- The moves found over summaries are the plans found over pages.
-use Rattle.std.proofs.Common.{◌≡◌, ℕ, zero, suc, Bool, true, false, Option, Some, None, List, [], ◌∷◌, map, get_or, refl, sym, ◌∙◌, ap, subst}
+use Rattle.std.proofs.Common.{◌≡◌, ℕ, nat_le, zero, suc, Bool, true, false, Option, Some, None, List, [], ◌∷◌, map, get_or, refl, sym, ◌∙◌, ap, subst}
 use Rattle.rg_base.specs.declared.part.Part.{Part}
 use Rattle.rg_base.specs.declared.part.SlotOp.TheVariants as Op
 use Rattle.rg_base.specs.declared.place.Place.{Place}
@@ -10,13 +10,15 @@ use Rattle.rg_home.specs.Rows.{row_at}
 use Rattle.rg_home.specs.Slot.{Slot}
 use Rattle.rg_home.specs.Slot.{Free, Row, Pointer, Over, DeadRow, DeadPointer, DeadOver}
 use Rattle.rg_home.specs.Slots.{slot_at, capacity_of}
+use Rattle.rg_home.specs.Undo.{undo_row, undo_parts, back_from, lies_in}
+use Rattle.rg_base.specs.RowBytes.{row_size}
 use Rattle.rg_home.specs.declared.plan.Area.{Area}
 use Rattle.rg_home.specs.declared.plan.Fitting.{Fitting}
 use Rattle.rg_home.specs.declared.plan.Plan.{Plan}
 use Rattle.rg_page.proofs.BareSlots.{bare_capacity, bare_page_at, bare_purge_from, bare_new_area, bare_fitting}
 use Rattle.rg_page.specs.Bare.{bare}
-use Rattle.rg_space.specs.Moves.{IsPut, left_by, home_moves, over_moves, new_moves, over_or_new, away_moves, home_or_away, change_moves, drop_moves}
-use Rattle.rg_space.specs.Planned.{plan_of, plan_of_change, plan_of_put}
+use Rattle.rg_space.specs.Moves.{IsPut, left_by, home_moves, over_moves, new_moves, over_or_new, away_moves, home_or_away, change_moves, drop_moves, back_moves, points_to, row_moves, undo_moves}
+use Rattle.rg_space.specs.Planned.{plan_of, plan_of_change, plan_of_put, size_in}
 use Rattle.rg_page.specs.Content.{slots_of}
 use Rattle.rg_page.specs.Seen.{Seen}
 use Rattle.rg_space.specs.AtHome.{IsAtHome}
@@ -153,6 +155,36 @@ drop_here pages home =
     go (DeadPointer a b d) = refl
     go (DeadOver a b d) = refl
 
+-- an undo
+
+points_here : (s : Slot) (q : Place) → points_to (pointed_to s) q ≡ lies_in q s
+points_here Free q = refl
+points_here (Row a b) q = refl
+points_here (Pointer c other) q = refl
+points_here (Over a b d) q = refl
+points_here (DeadRow a b) q = refl
+points_here (DeadPointer a b d) q = refl
+points_here (DeadOver a b d) q = refl
+
+back_here : (pages : List (List Slot)) (home q : Place) (b : Bool) → back_moves (heads pages) home q (pointed_to (slot_of pages home)) b ≡ back_from pages home q (slot_of pages home) b
+back_here pages home q true = ap (λ c. part_at q (Op.Over c home) ∷ []) (capacity_here pages q)
+back_here pages home q false =
+    ap (λ c. part_at home (Op.Pointer c q) ∷ part_at q (Op.Over (capacity_of (slot_of (heads pages) q)) home) ∷ left_by (heads pages) home (pointed_to (slot_of pages home))) (capacity_here pages home)
+    ∙ both (λ c rest. part_at home (Op.Pointer (capacity_of (slot_of pages home)) q) ∷ part_at q (Op.Over c home) ∷ rest) (capacity_here pages q) (left_here pages home (slot_of pages home))
+
+row_here : (pages : List (List Slot)) (home : Place) (over : Option Place) (b : Bool) → row_moves (heads pages) home over (pointed_to (slot_of pages home)) b ≡ undo_row pages home over (slot_of pages home) b
+row_here pages home over true = both (λ c rest. part_at home (Op.Row c) ∷ rest) (capacity_here pages home) (left_here pages home (slot_of pages home))
+row_here pages home None false = refl
+row_here pages home (Some q) false =
+    ap (back_moves (heads pages) home q (pointed_to (slot_of pages home))) (points_here (slot_of pages home) q)
+    ∙ back_here pages home q (lies_in q (slot_of pages home))
+
+pub undo_here : (pages : List (List Slot)) (home : Place) (before : Option TableRow) (over : Option Place) → undo_moves (heads pages) home (size_in before) over (pointed_to (slot_of pages home)) ≡ undo_parts pages home over before (slot_of pages home)
+undo_here pages home None over = ap (λ (p : Plan). p.parts) (drop_here pages home)
+undo_here pages home (Some row) over =
+    ap (λ c. row_moves (heads pages) home over (pointed_to (slot_of pages home)) (nat_le (row_size row) c)) (capacity_here pages home)
+    ∙ row_here pages home over (nat_le (row_size row) (capacity_of (slot_of pages home)))
+
 -- the same, where the summaries agree with the pages
 
 pub put_agrees : (live : List ℕ) (b capacity : ℕ) (s : Seen) (index : Indexed) (put : Option (Place × Moves)) → IsPut put live b index.pages (new_area live b capacity index.pages) → Agree s index
@@ -171,3 +203,10 @@ pub drop_agrees : (s : Seen) (index : Indexed) (home : Place) (at : AtHome) (pur
 drop_agrees s index home at purge parts is none e agree =
     ap (λ ps. plan_at home at.row ps parts) none ∙ both (λ row ps. plan_at home row [] ps) is.row (e ∙ both (λ ps o. drop_moves ps home o) (sym agree) is.other)
     ∙ drop_here (slots_of s.pages) home
+
+pub undo_agrees : (s : Seen) (index : Indexed) (home : Place) (before : Option TableRow) (size : Option ℕ) (over other : Option Place) (parts : List Part) → parts ≡ undo_moves index.pages home size over other → size ≡ size_in before → other ≡ pointed_to (slot_of (slots_of s.pages) home) → Agree s index
+    → parts ≡ undo_parts (slots_of s.pages) home over before (slot_of (slots_of s.pages) home)
+undo_agrees s index home before size over other parts is sized e agree =
+    is ∙ ap (λ ps. undo_moves ps home size over other) (sym agree)
+    ∙ both (λ n o. undo_moves (heads (slots_of s.pages)) home n over o) sized e
+    ∙ undo_here (slots_of s.pages) home before over

@@ -19,6 +19,10 @@ index_of space = space.index
 abbrev pub capacity_in : {F : Type 0} → Space F → ℕ
 capacity_in space = space.capacity
 
+-- how many plans of an undo there is room for
+abbrev pub undos_in : {F : Type 0} → Space F → ℕ
+undos_in space = length space.undos.items
+
 -- the summaries are those of the pages
 abbrev pub Agree : Seen → Indexed → Type 0
 Agree seen index = map (map bare) (slots_of seen.pages) ≡ index.pages

@@ -4,10 +4,13 @@
 // 1. A row that grows stays at home if its page has the room; else in its Over area; else it goes to
 //    a new one, on the first page that admits it.
 // 2. Nothing is chosen here: `specs/Moves.antt` computes each answer.
-ghost use Rattle.std.specs.Prelude.{◌≡◌, ◌≤◌, ◌<◌, ◌+◌, ◌^◌, ◌∷◌, ◌++◌, IfOk, length};
-ghost use Rattle.rg_home.specs.Pages.{page_at, slot_of, part_at};
+ghost use Rattle.std.specs.Prelude.{◌≡◌, ◌≤◌, ◌<◌, ◌+◌, ◌^◌, ◌∷◌, ◌++◌, ◌-◌, [], IfOk, length, drop};
+ghost use Rattle.rg_home.specs.Pages.{page_at, slot_of, part_at, place_of};
+ghost use Rattle.rg_home.specs.Undo.{left_area, over_place, over_before};
 ghost use Rattle.rg_home.specs.Plan.{new_area, fitting, purge_of};
 ghost use Rattle.rg_home.specs.Slots.{capacity_of};
+ghost use Rattle.std.specs.Option.{option_copied};
+ghost use Rattle.rg_space.specs.Planned.{size_in};
 ghost use Rattle.rg_page.specs.Bare.{numbers_of};
 ghost use Rattle.rg_space.specs.Moves.{IsPut, listed, home_moves, over_moves, new_moves, change_moves, drop_moves, undo_moves, left_by, back_moves, points_to};
 
@@ -15,15 +18,64 @@ use crate::index::Index;
 use rg_base::no_memory::NoMemory;
 use rg_base::part::{Part, Parts, SlotOp};
 use rg_base::place::Place;
+use rg_base::row::Row;
 use rg_base::tran::Tran;
 use rg_home::plan::{Area, Fitting};
+use rg_page::areas::push_within;
 use std::alloc::Global;
+use std::marker::Model;
 
 /// The parts that purge a page, and then those that write.
 #[derive(Debug, Drop)]
 pub struct Moves {
     pub purge: Parts,
     pub parts: Parts,
+}
+
+/// Room for the parts of one write, which are three at most.
+#[derive(Drop)]
+pub struct PartsRoom {
+    parts: Vec<Part>,
+}
+
+impl Model for PartsRoom {
+    ghost use Rattle.std.specs.Prelude.{◌≡◌, ◌≤◌, [], vec_capacity};
+
+    ghost Value = { Unit {0} };
+
+    ghost view = { λ x. tt };
+
+    ghost invariant = { λ x. (x.parts.items ≡ []) × (3 ≤ vec_capacity x.parts) };
+}
+
+impl PartsRoom {
+    pub fn new(alloc: Global) -> Result<PartsRoom, NoMemory> {
+        Ok(PartsRoom {
+            parts: Vec::with_capacity(alloc, 3)?,
+        })
+    }
+
+    // No part.
+    fn empty(self) -> Parts
+        ensures { result ≡ [] }
+    {
+        Parts::new(self.parts)
+    }
+
+    // One part, and two more if they are there.
+    fn fill(self, first: Part, second: Option<Part>, third: Option<Part>) -> Parts
+        ensures { result ≡ first ∷ (listed second ++ listed third) }
+    {
+        let mut parts = self.parts;
+        push_within(&mut parts, first);
+        if let Some(second) = second {
+            push_within(&mut parts, second);
+        }
+        if let Some(third) = third {
+            push_within(&mut parts, third);
+        }
+        Parts::new(parts)
+    }
 }
 
 impl Index {
@@ -238,57 +290,46 @@ impl Index {
     }
 
     /// Of a row that is deleted, where its home points to this place.
-    pub fn drop_row(
-        &self,
-        alloc: Global,
-        home: Place,
-        other: Option<Place>,
-    ) -> Result<Parts, NoMemory>
-        ensures { IfOk result (λ parts. parts ≡ drop_moves self.now.pages home other) }
+    pub fn drop_row(&self, room: PartsRoom, home: Place, other: Option<Place>) -> Parts
+        ensures { result ≡ drop_moves self.now.pages home other }
     {
         let capacity = self.capacity(home);
         let op = match other {
             None => SlotOp::DeadRow { capacity },
             Some(other) => SlotOp::DeadPointer { capacity, other },
         };
-        parts_of(alloc, part_at(home, op), None, self.left(home, other))
+        room.fill(part_at(home, op), None, self.left(home, other))
     }
 
     /// Of a write that is undone: of the row before, its bytes, if there was one; of the write, the
     /// Over area that the row before had; and the place that its home points to now.
     pub fn undo(
         &self,
-        alloc: Global,
+        room: PartsRoom,
         home: Place,
         before: Option<u16>,
         over: Option<Place>,
         other: Option<Place>,
-    ) -> Result<Parts, NoMemory>
-        ensures { IfOk result (λ parts. parts ≡ undo_moves self.now.pages home before over other) }
+    ) -> Parts
+        ensures { result ≡ undo_moves self.now.pages home before over other }
     {
         let Some(b) = before else {
-            return self.drop_row(alloc, home, other);
+            return self.drop_row(room, home, other);
         };
         let capacity = self.capacity(home);
         if b <= capacity {
             let part = part_at(home, SlotOp::Row { capacity });
-            return parts_of(alloc, part, None, self.left(home, other));
+            return room.fill(part, None, self.left(home, other));
         }
         match over {
-            None => Ok(Parts::new(Vec::new(alloc))),
-            Some(q) => self.back(alloc, home, q, other),
+            None => room.empty(),
+            Some(q) => self.back(room, home, q, other),
         }
     }
 
     // Of a row that goes back to its Over area q.
-    fn back(
-        &self,
-        alloc: Global,
-        home: Place,
-        q: Place,
-        other: Option<Place>,
-    ) -> Result<Parts, NoMemory>
-        ensures { IfOk result (λ parts. parts ≡ back_moves self.now.pages home q other (points_to other q)) }
+    fn back(&self, room: PartsRoom, home: Place, q: Place, other: Option<Place>) -> Parts
+        ensures { result ≡ back_moves self.now.pages home q other (points_to other q) }
     {
         let over = part_at(
             q,
@@ -298,7 +339,7 @@ impl Index {
             },
         );
         if points_to(other, q) {
-            return parts_of(alloc, over, None, None);
+            return room.fill(over, None, None);
         }
         let pointer = part_at(
             home,
@@ -307,7 +348,7 @@ impl Index {
                 other: q,
             },
         );
-        parts_of(alloc, pointer, Some(over), self.left(home, other))
+        room.fill(pointer, Some(over), self.left(home, other))
     }
 }
 
@@ -338,13 +379,56 @@ fn parts_of(
 ) -> Result<Parts, NoMemory>
     ensures { IfOk result (λ parts. parts ≡ first ∷ (listed second ++ listed third)) }
 {
-    let mut parts = Vec::with_capacity(alloc, 3)?;
-    parts.push(first)?;
-    if let Some(second) = second {
-        parts.push(second)?;
+    let room = PartsRoom::new(alloc)?;
+    Ok(room.fill(first, second, third))
+}
+
+// The Over area that parts leave, from part i on.
+fn left_area(parts: &[Part], i: usize) -> Option<Place>
+    ensures { result ≡ left_area (drop i parts.now) }
+{
+    if i >= parts.len() {
+        return None;
     }
-    if let Some(third) = third {
-        parts.push(third)?;
+    match parts[i].op {
+        SlotOp::DeadOver { .. } => Some(Place {
+            page: parts[i].page,
+            slot: parts[i].slot,
+        }),
+        _ => left_area(parts, i + 1),
     }
-    Ok(Parts::new(parts))
+}
+
+// The Over area that a lone part leaves, or within which it changes the row.
+fn over_place(part: &Part) -> Option<Place>
+    ensures { result ≡ over_place part.now.op (place_of part.now) }
+{
+    let place = Place {
+        page: part.page,
+        slot: part.slot,
+    };
+    match part.op {
+        SlotOp::DeadOver { .. } | SlotOp::Over { .. } => Some(place),
+        _ => None,
+    }
+}
+
+/// The Over area in which the row before these parts lay, if it lay in one.
+pub fn over_before(parts: &[Part]) -> Option<Place>
+    ensures { result ≡ over_before parts.now }
+{
+    if parts.len() == 1 {
+        return over_place(&parts[0]);
+    }
+    left_area(parts, 0)
+}
+
+/// The bytes of a row, if there is one.
+pub fn size_of(row: Option<&Row>) -> Option<u16>
+    ensures { result ≡ size_in (option_copied row.entry) }
+{
+    match row {
+        None => None,
+        Some(row) => Some(row.size()),
+    }
 }

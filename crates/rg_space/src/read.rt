@@ -108,3 +108,21 @@ pub fn pointer_of<F: Frames>(frames: &mut F, place: Place) -> Result<Option<Plac
         Err(_) => Err(SpaceFault::Device),
     }
 }
+
+/// Holds the page of this number, if it is there. It takes no memory.
+pub fn hold_at<F: Frames>(frames: &mut F, number: u32) -> Result<(), SpaceFault>
+    requires spare { 1 ≤ (F.seen frames.old).spare }
+    ensures held { OnOk result (IsHeldAt (F.seen frames.new) number) }
+    ensures took { Took 1 (F.seen frames.old) (F.seen frames.new) }
+    ensures reserved { (F.seen frames.new).reserved ≡ (F.seen frames.old).reserved }
+    ensures device { IfErr result (λ fault. IsRisen fault (F.seen frames.old) (F.seen frames.new)) }
+    ensures gave { F.gave (F.seen frames.old).pages (F.seen frames.old).forced frames.old frames.new }
+{
+    if !is_there(frames, number) {
+        return Ok(());
+    }
+    match frames.with_page(number) {
+        Ok(_) => Ok(()),
+        Err(_) => Err(SpaceFault::Device),
+    }
+}

@@ -14,15 +14,18 @@ ghost use Rattle.rg_page.specs.Bare.{numbers_of};
 ghost use Rattle.rg_page.specs.Content.{Content, slots_of};
 ghost use Rattle.rg_page.specs.Seen.{Reads, set_content};
 ghost use Rattle.rg_home.specs.Rows.{row_at};
+ghost use Rattle.rg_home.specs.Undo.{over_before, undo_parts};
 ghost use Rattle.rg_space.specs.Applied.{Fitting, FittingAll, AllHeld, Within, Writes, grown, wrote_part, wrote_all};
-ghost use Rattle.rg_space.specs.Took.{Took, HasRisen, IsHeldAt, slot_in};
+ghost use Rattle.rg_space.specs.Took.{Took, HasRisen, IsRisen, IsHeldAt, slot_in};
 ghost use Rattle.rg_space.specs.Ready.{IsReady, AllReady, IsAtHand, HasCause};
-ghost use Rattle.rg_space.specs.Space.{Agree, InStep, frames_of, index_of, capacity_in};
+ghost use Rattle.rg_space.specs.Space.{Agree, InStep, frames_of, index_of, capacity_in, undos_in};
 
 use crate::fault::SpaceFault;
 use crate::index::Index;
-use crate::read::{home_of, is_there};
+use crate::moves::{PartsRoom, over_before, size_of};
+use crate::read::{hold_at, home_of, is_there, pointer_of};
 use crate::survey::survey;
+use rg_base::no_memory::NoMemory;
 use rg_base::part::{Part, Parts};
 use rg_base::place::Place;
 use rg_base::position::Position;
@@ -40,6 +43,7 @@ pub struct Space<F> {
     frames: F,
     index: Index,
     capacity: u32,
+    undos: Vec<PartsRoom>,
 }
 
 impl<F: Frames> Space<F> {
@@ -68,6 +72,7 @@ impl<F: Frames> Space<F> {
                 frames,
                 index,
                 capacity,
+                undos: Vec::new(alloc),
             }),
             Err(fault) => Err((frames, fault)),
         }
@@ -257,9 +262,10 @@ impl<F: Frames> Space<F> {
         ensures gave { F.gave (F.seen (frames_of self.old)).pages (F.seen (frames_of self.old)).forced (frames_of self.old) (frames_of self.new) }
     {
         let seen = home_of(&mut self.frames, self.alloc, home)?;
-        let Ok(parts) = self.index.drop_row(self.alloc, home, seen.other) else {
+        let Ok(room) = PartsRoom::new(self.alloc) else {
             return Err(SpaceFault::NoMemory);
         };
+        let parts = self.index.drop_row(room, home, seen.other);
         self.hold(parts.as_slice())?;
         Ok(Plan {
             home,
@@ -267,6 +273,74 @@ impl<F: Frames> Space<F> {
             purge: Parts::new(Vec::new(self.alloc)),
             parts,
         })
+    }
+
+    /// Makes room for `more` plans of `plan_undo`.
+    pub fn reserve_undo(&mut self, more: u32) -> Result<(), NoMemory>
+        ensures room { OnOk result (undos_in self.old + more ≡ undos_in self.new) }
+        ensures least { undos_in self.old ≤ undos_in self.new }
+        ensures frames { frames_of self.new ≡ frames_of self.old }
+        ensures index { index_of self.new ≡ index_of self.old }
+        ensures capacity { capacity_in self.new ≡ capacity_in self.old }
+    {
+        for _i in 0..more {
+            let room = PartsRoom::new(self.alloc)?;
+            self.undos.push(room)?;
+        }
+        Ok(())
+    }
+
+    // Holds the pages of parts that are there. It takes no memory.
+    fn hold_there(&mut self, parts: &[Part]) -> Result<(), SpaceFault>
+        requires spare { length parts.now ≤ (F.seen (frames_of self.old)).spare }
+        requires step { InStep (F.seen (frames_of self.old)) (index_of self.old) (capacity_in self.old) }
+        ensures step { InStep (F.seen (frames_of self.new)) (index_of self.new) (capacity_in self.new) }
+        ensures capacity { capacity_in self.new ≡ capacity_in self.old }
+        ensures summaries { index_of self.new ≡ index_of self.old }
+        ensures undos { undos_in self.new ≡ undos_in self.old }
+        ensures held { OnOk result (AllHeld (F.seen (frames_of self.new)) parts.now) }
+        ensures reserved { (F.seen (frames_of self.new)).reserved ≡ (F.seen (frames_of self.old)).reserved }
+        ensures took { Took (length parts.now) (F.seen (frames_of self.old)) (F.seen (frames_of self.new)) }
+        ensures device { IfErr result (λ fault. IsRisen fault (F.seen (frames_of self.old)) (F.seen (frames_of self.new))) }
+        ensures gave { F.gave (F.seen (frames_of self.old)).pages (F.seen (frames_of self.old)).forced (frames_of self.old) (frames_of self.new) }
+    {
+        for part in parts {
+            hold_at(&mut self.frames, part.page)?;
+        }
+        Ok(())
+    }
+
+    /// The parts that undo a write, of its home, the row before it, and its parts. Their pages are
+    /// held. It is never Full, and takes no memory, but one of the rooms that `reserve_undo` made.
+    pub fn plan_undo(
+        &mut self,
+        home: Place,
+        before: Option<&Row>,
+        parts: &[Part],
+    ) -> Result<Parts, SpaceFault>
+        requires spare { 5 ≤ (F.seen (frames_of self.old)).spare }
+        requires step { InStep (F.seen (frames_of self.old)) (index_of self.old) (capacity_in self.old) }
+        requires room { 1 ≤ undos_in self.old }
+        ensures step { InStep (F.seen (frames_of self.new)) (index_of self.new) (capacity_in self.new) }
+        ensures capacity { capacity_in self.new ≡ capacity_in self.old }
+        ensures summaries { index_of self.new ≡ index_of self.old }
+        ensures undos { undos_in self.new + 1 ≡ undos_in self.old }
+        ensures parts { IfOk result (λ undo. Agree (F.seen (frames_of self.new)) (index_of self.new) → undo ≡ undo_parts (slots_of (F.seen (frames_of self.new)).pages) home (over_before parts.now) (option_copied before.entry) (slot_of (slots_of (F.seen (frames_of self.new)).pages) home)) }
+        ensures held { IfOk result (λ undo. AllHeld (F.seen (frames_of self.new)) undo) }
+        ensures reserved { (F.seen (frames_of self.new)).reserved ≡ (F.seen (frames_of self.old)).reserved }
+        ensures took { Took 5 (F.seen (frames_of self.old)) (F.seen (frames_of self.new)) }
+        ensures device { IfErr result (λ fault. IsRisen fault (F.seen (frames_of self.old)) (F.seen (frames_of self.new))) }
+        ensures gave { F.gave (F.seen (frames_of self.old)).pages (F.seen (frames_of self.old)).forced (frames_of self.old) (frames_of self.new) }
+    {
+        let room = match self.undos.pop() {
+            Some(room) => room,
+            None => unreachable!(),
+        };
+        let size = size_of(before);
+        let other = pointer_of(&mut self.frames, home)?;
+        let undo = self.index.undo(room, home, size, over_before(parts), other);
+        self.hold_there(undo.as_slice())?;
+        Ok(undo)
     }
 
     // Adds page `number`, where it is the next one, within the capacity, and reserved.

@@ -1,7 +1,7 @@
 ghost use Rattle.std.specs.Prelude.{◌≤◌};
 
 use crate::index::Index;
-use crate::moves::Moves;
+use crate::moves::{Moves, PartsRoom};
 use rg_base::part::{Part, SlotOp};
 use rg_base::place::Place;
 use rg_base::tran::Tran;
@@ -289,11 +289,11 @@ fn drops_rows(rt: HostRuntime) -> Result<(), Fail> {
             "2.5 DeadPointer 448 to 1.0, 1.0 DeadOver 30 of 2.5",
         ),
     ] {
-        let parts = index.drop_row(rt.alloc(), home, other)?;
+        let parts = index.drop_row(PartsRoom::new(rt.alloc())?, home, other);
         let got = parts_text(rt.alloc(), parts.as_slice())?;
         assert_eq!(rt; got.as_str(), want);
         // The undoing of an insert does the same.
-        let undone = index.undo(rt.alloc(), home, None, None, other)?;
+        let undone = index.undo(PartsRoom::new(rt.alloc())?, home, None, None, other);
         let got = parts_text(rt.alloc(), undone.as_slice())?;
         assert_eq!(rt; got.as_str(), want);
     }
@@ -331,7 +331,7 @@ fn undoes_changes(rt: HostRuntime) -> Result<(), Fail> {
         ),
         (31, None, None, ""),
     ] {
-        let parts = index.undo(rt.alloc(), HOME, Some(before), over, other)?;
+        let parts = index.undo(PartsRoom::new(rt.alloc())?, HOME, Some(before), over, other);
         let got = parts_text(rt.alloc(), parts.as_slice())?;
         assert_eq!(rt; got.as_str(), want, "{before} bytes");
     }
@@ -377,11 +377,11 @@ fn goes_back_to_its_over_area(rt: HostRuntime) -> Result<(), Fail> {
     carry_out(&rt, &mut index, moves.purge.as_slice(), 5);
     carry_out(&rt, &mut index, moves.parts.as_slice(), 5);
 
-    let second = index.undo(rt.alloc(), HOME, Some(726), q, None)?;
+    let second = index.undo(PartsRoom::new(rt.alloc())?, HOME, Some(726), q, None);
     let got = parts_text(rt.alloc(), second.as_slice())?;
     assert_eq!(rt; got.as_str(), "1.0 Row 776");
     carry_out(&rt, &mut index, second.as_slice(), 5);
-    let first = index.undo(rt.alloc(), HOME, Some(826), q, None)?;
+    let first = index.undo(PartsRoom::new(rt.alloc())?, HOME, Some(826), q, None);
     let got = parts_text(rt.alloc(), first.as_slice())?;
     assert_eq!(rt; got.as_str(), "1.0 Pointer 776 to 2.0, 2.0 Over 826 of 1.0");
     Ok(())

@@ -11,5 +11,5 @@ returns-clause-plan g c = λ agree.
     let last = g.F.Frames.seen (frames_of c.hold.new.self) in
     let seen = c.in_ok-seen.seen in
     let shown = home_stays _ b last c.args.home seen c.hold.ensures.took c.in_ok-seen.ensures.seen in
-    drop_agrees last (index_of c.hold.new.self) c.args.home seen c.new-2.result c.in-Ok.parts shown (c.new-2.ensures ∙ c.new.ensures.items)
-    (subst (λ ps. c.in-Ok.parts ≡ drop_moves ps c.args.home seen.other) (sym c.hold.ensures.summaries) c.in-Ok.ensures) agree
+    drop_agrees last (index_of c.hold.new.self) c.args.home seen c.new-3.result c.drop_row-parts.result shown (c.new-3.ensures ∙ c.new-2.ensures.items)
+    (subst (λ ps. c.drop_row-parts.result ≡ drop_moves ps c.args.home seen.other) (sym c.hold.ensures.summaries) c.drop_row-parts.ensures) agree
