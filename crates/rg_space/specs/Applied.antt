@@ -13,10 +13,13 @@ abbrev pub grown : (copy : ℕ) → List Content → (n : ℕ) → List Content
 grown copy pages n = if n == length pages + 1 then pages ++ empty copy n ∷ [] else pages
 
 -- the pages after one part, and after several in order, each at the record's position
-abbrev pub wrote_part : (copy owner : ℕ) → Option Row → (position : ℕ) → List Content → Part → List Content
-wrote_part copy owner after position pages x = set_content (grown copy pages x.page) x owner after position
+abbrev pub wrote_part : (copy owner : ℕ) → Option Row → (position : ℕ) → List Content → Part
+    → List Content
+wrote_part copy owner after position pages x =
+    set_content (grown copy pages x.page) x owner after position
 
-abbrev pub wrote_all : (copy owner : ℕ) → Option Row → (position : ℕ) → List Content → List Part → List Content
+abbrev pub wrote_all : (copy owner : ℕ) → Option Row → (position : ℕ) → List Content → List Part
+    → List Content
 wrote_all copy owner after position pages [] = pages
 wrote_all copy owner after position pages (x ∷ parts) =
     wrote_all copy owner after position (wrote_part copy owner after position pages x) parts
@@ -27,19 +30,23 @@ AllHeld s [] = Unit {0}
 AllHeld s (x ∷ parts) = IsHeldAt s x.page × AllHeld s parts
 
 -- a part fits its page, which is there, or is the next one and within the limit
-pub record Fitting (limit : ℕ) (pages : List Content) (owner : ℕ) (after : Option Row) (x : Part) : Type 0 where
+pub record Fitting (limit : ℕ) (pages : List Content) (owner : ℕ) (after : Option Row)
+    (x : Part) : Type 0 where
   pub low : 1 ≤ x.page
   pub next : x.page ≤ length pages + 1
   pub high : x.page ≤ limit
   pub row : TakesRow after x.op
-  pub fits : Fits (placed (page_at (slots_of pages) x.page) x.slot (made owner (row_or_empty after) x.op))
+  pub fits : Fits (placed (page_at (slots_of pages) x.page) x.slot
+      (made owner (row_or_empty after) x.op))
 
 -- each part in its turn
-abbrev pub FittingAll : (limit copy owner : ℕ) → Option Row → (position : ℕ) → List Content → List Part → Type 0
+abbrev pub FittingAll : (limit copy owner : ℕ) → Option Row → (position : ℕ) → List Content
+    → List Part → Type 0
 FittingAll limit copy owner after position pages [] = Unit {0}
 FittingAll limit copy owner after position pages (x ∷ parts) =
     Fitting limit pages owner after x
-    × FittingAll limit copy owner after position (wrote_part copy owner after position pages x) parts
+    × FittingAll limit copy owner after position
+    (wrote_part copy owner after position pages x) parts
 
 -- the page of each part is one of so many, or the next
 abbrev pub AllNext : (n : ℕ) → List Part → Type 0

@@ -16,7 +16,8 @@ use Rattle.rg_space.specs.declared.moves.Moves.{Moves}
 -- the part for the Over area that is left
 abbrev pub left_by : List (List Slot) → (home : Place) → (other : Option Place) → List Part
 left_by pages home None = []
-left_by pages home (Some other) = part_at other (Op.DeadOver (capacity_of (slot_of pages other)) home) ∷ []
+left_by pages home (Some other) =
+    part_at other (Op.DeadOver (capacity_of (slot_of pages other)) home) ∷ []
 
 -- a new row: its home, and what is written
 abbrev pub IsPut : Option (Place × Moves) → List ℕ → ℕ → List (List Slot) → Option Area → Type 0
@@ -47,7 +48,8 @@ over_moves live pages home other f = record {
 }
 
 -- a row that goes to a new Over area
-abbrev pub new_moves : List ℕ → ℕ → List (List Slot) → Place → Option Place → Option Area → Option Moves
+abbrev pub new_moves : List ℕ → ℕ → List (List Slot) → Place → Option Place → Option Area
+    → Option Moves
 new_moves live b pages home other None = None
 new_moves live b pages home other (Some area) = Some (record {
   purge = purge_of live pages area.place.page area.purges;
@@ -55,24 +57,28 @@ new_moves live b pages home other (Some area) = Some (record {
       ∷ part_at area.place (Op.Over b home) ∷ left_by pages home other;
 })
 
-abbrev pub over_or_new : List ℕ → (b capacity : ℕ) → List (List Slot) → (home other : Place) → Option Fitting → Option Moves
+abbrev pub over_or_new : List ℕ → (b capacity : ℕ) → List (List Slot) → (home other : Place)
+    → Option Fitting → Option Moves
 over_or_new live b capacity pages home other (Some f) = Some (over_moves live pages home other f)
 over_or_new live b capacity pages home other None =
     new_moves live b pages home (Some other) (new_area live b capacity pages)
 
-abbrev pub away_moves : List ℕ → (b capacity : ℕ) → List (List Slot) → Place → Option Place → Option Moves
+abbrev pub away_moves : List ℕ → (b capacity : ℕ) → List (List Slot) → Place → Option Place
+    → Option Moves
 away_moves live b capacity pages home None =
     new_moves live b pages home None (new_area live b capacity pages)
 away_moves live b capacity pages home (Some other) =
     over_or_new live b capacity pages home other
     (fitting live b (capacity_of (slot_of pages other)) (page_at pages other.page))
 
-abbrev pub home_or_away : List ℕ → (b capacity : ℕ) → List (List Slot) → Place → Option Place → Option Fitting → Option Moves
+abbrev pub home_or_away : List ℕ → (b capacity : ℕ) → List (List Slot) → Place → Option Place
+    → Option Fitting → Option Moves
 home_or_away live b capacity pages home other (Some f) = Some (home_moves live pages home other f)
 home_or_away live b capacity pages home other None = away_moves live b capacity pages home other
 
 -- a row that becomes one of b bytes
-abbrev pub change_moves : List ℕ → (b capacity : ℕ) → List (List Slot) → Place → Option Place → Option Moves
+abbrev pub change_moves : List ℕ → (b capacity : ℕ) → List (List Slot) → Place → Option Place
+    → Option Moves
 change_moves live b capacity pages home other =
     home_or_away live b capacity pages home other
     (fitting live b (capacity_of (slot_of pages home)) (page_at pages home.page))
@@ -81,7 +87,8 @@ change_moves live b capacity pages home other =
 abbrev pub drop_moves : List (List Slot) → Place → Option Place → List Part
 drop_moves pages home None = part_at home (Op.DeadRow (capacity_of (slot_of pages home))) ∷ []
 drop_moves pages home (Some other) =
-    part_at home (Op.DeadPointer (capacity_of (slot_of pages home)) other) ∷ left_by pages home (Some other)
+    part_at home (Op.DeadPointer (capacity_of (slot_of pages home)) other)
+    ∷ left_by pages home (Some other)
 
 -- a row that goes back to its Over area q
 abbrev pub back_moves : List (List Slot) → (home q : Place) → Option Place → Bool → List Part
@@ -100,9 +107,10 @@ row_moves pages home over other true =
 row_moves pages home None other false = []
 row_moves pages home (Some q) other false = back_moves pages home q other (points_to other q)
 
--- The undoing of a write: of the row before, its bytes, if there was one; of the write, the Over area
--- that the row before had.
-abbrev pub undo_moves : List (List Slot) → Place → (before : Option ℕ) → (over other : Option Place) → List Part
+-- The undoing of a write: of the row before, its bytes, if there was one; of the write, the Over
+-- area that the row before had.
+abbrev pub undo_moves : List (List Slot) → Place → (before : Option ℕ) → (over other : Option Place)
+    → List Part
 undo_moves pages home None over other = drop_moves pages home other
 undo_moves pages home (Some b) over other =
     row_moves pages home over other (nat_le b (capacity_of (slot_of pages home)))

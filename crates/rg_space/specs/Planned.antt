@@ -8,7 +8,12 @@ use Rattle.rg_space.specs.declared.moves.Moves.{Moves}
 
 -- the plan that makes these moves for this home, of a row that was this one before
 abbrev pub plan_of : Place → Option Row → Moves → Plan
-plan_of home before moves = record { home = home; before = before; purge = moves.purge; parts = moves.parts }
+plan_of home before moves = record {
+  home = home;
+  before = before;
+  purge = moves.purge;
+  parts = moves.parts;
+}
 
 abbrev pub plan_of_change : Place → Option Row → Option Moves → Option Plan
 plan_of_change home before None = None

@@ -6,15 +6,17 @@ use Rattle.rg_home.specs.Slot.{Slot}
 use Rattle.rg_page.specs.Ceiling.{ceiling}
 
 abbrev pub Bounds : List (List Slot) → List ℕ → Type 0
-Bounds pages tops = (k : ℕ) → k < length pages → ceiling (slice_index_or pages k []) ≤ slice_index_or tops (k / 256) 0
+Bounds pages tops = (k : ℕ) → k < length pages
+    → ceiling (slice_index_or pages k []) ≤ slice_index_or tops (k / 256) 0
 
 -- no number is lowered
 abbrev pub Raised : List ℕ → List ℕ → Type 0
 Raised before after = (k : ℕ) → slice_index_or before k 0 ≤ slice_index_or after k 0
 
--- what an index keeps: as many tops as there are blocks, and room for the spare summaries, which are
--- empty
-pub record IsIndex (pages : Vec (List Slot) Global) (tops : Vec ℕ Global) (spare : Vec (List Slot) Global) : Type 0 where
+-- what an index keeps: as many tops as there are blocks, and room for the spare summaries, which
+-- are empty
+pub record IsIndex (pages : Vec (List Slot) Global) (tops : Vec ℕ Global)
+    (spare : Vec (List Slot) Global) : Type 0 where
   pub few : length pages.items + length spare.items < 2 ^ 32
   pub blocks : length pages.items ≤ 256 * length tops.items
   pub bounds : Bounds pages.items tops.items

@@ -18,8 +18,8 @@ use std::marker::Model;
 
 const BLOCK: usize = 256;
 
-/// The summaries of all pages. It finds the first page that admits an area without reading one. It is
-/// seen as the headers of each page, and how many pages more it has room for.
+/// The summaries of all pages. It finds the first page that admits an area without reading one. It
+/// is seen as the headers of each page, and how many pages more it has room for.
 #[derive(Drop)]
 pub struct Index {
     pages: Vec<Summary>,
@@ -139,7 +139,9 @@ impl Index {
     /// Adds a page of this summary at the end.
     pub fn push(&mut self, alloc: Global, summary: Summary) -> Result<(), NoMemory>
         requires { length self.old.pages + self.old.room + 1 < 2 ^ 32 }
-        ensures added { OnOk result (self.new ≡ record self.old { pages = self.old.pages ++ summary ∷ [] }) }
+        ensures added { OnOk result (self.new ≡ record self.old {
+          pages = self.old.pages ++ summary ∷ [];
+        }) }
         ensures err { OnErr result (self.new.pages ≡ self.old.pages) }
     {
         self.reserve(alloc)?;
@@ -150,7 +152,8 @@ impl Index {
 
     /// A slot of a page was set, if the page is there and still fits. It takes no memory.
     pub fn note(&mut self, place: Place, header: Header)
-        ensures pages { HasRoom self.old.pages place header → self.new.pages ≡ wrote self.old.pages place header }
+        ensures pages { HasRoom self.old.pages place header
+            → self.new.pages ≡ wrote self.old.pages place header }
         ensures count { length self.new.pages ≡ length self.old.pages }
         ensures room { self.new.room ≡ self.old.room }
     {
@@ -236,7 +239,8 @@ fn raise(tops: &mut Vec<u16>, block: usize, most: u16)
 }
 
 fn greatest(pages: &[Summary], from: usize, to: usize) -> u16
-    ensures { (k : ℕ) → from ≤ k → k < to → k < length pages.now → ceiling (slice_index_or pages.now k []) ≤ result }
+    ensures { (k : ℕ) → from ≤ k → k < to → k < length pages.now
+        → ceiling (slice_index_or pages.now k []) ≤ result }
 {
     let mut top = 0;
     let mut i = from;

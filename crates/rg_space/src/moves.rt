@@ -1,8 +1,8 @@
 // What a write does to slots, found over the summaries of pages: which page is purged, and which
 // parts are written. Beside the summaries it takes only the place that the home points to.
 //
-// 1. A row that grows stays at home if its page has the room; else in its Over area; else it goes to
-//    a new one, on the first page that admits it.
+// 1. A row that grows stays at home if its page has the room; else in its Over area; else it goes
+//    to a new one, on the first page that admits it.
 // 2. Nothing is chosen here: `specs/Moves.antt` computes each answer.
 ghost use Rattle.std.specs.Prelude.{◌≡◌, ◌≤◌, ◌<◌, ◌+◌, ◌^◌, ◌∷◌, ◌++◌, ◌-◌, [], IfOk, length, drop};
 ghost use Rattle.rg_home.specs.Pages.{page_at, slot_of, part_at, place_of};
@@ -139,7 +139,8 @@ impl Index {
         page: u32,
         purges: bool,
     ) -> Result<Parts, NoMemory>
-        ensures { IfOk result (λ parts. parts ≡ purge_of (numbers_of live.now) self.now.pages page purges) }
+        ensures { IfOk result (λ parts. parts ≡ purge_of
+            (numbers_of live.now) self.now.pages page purges) }
     {
         if !purges {
             return Ok(Parts::new(Vec::new(alloc)));
@@ -160,7 +161,8 @@ impl Index {
     ) -> Result<Option<(Place, Moves)>, NoMemory>
         requires some { 1 ≤ b }
         requires size { b ≤ 826 }
-        ensures { IfOk result (λ put. IsPut put (numbers_of live.now) b self.now.pages (new_area (numbers_of live.now) b capacity self.now.pages)) }
+        ensures { IfOk result (λ put. IsPut put (numbers_of live.now) b self.now.pages
+            (new_area (numbers_of live.now) b capacity self.now.pages)) }
     {
         let Some(area) = self.area(live, b, capacity) else {
             return Ok(None);
@@ -184,7 +186,8 @@ impl Index {
     ) -> Result<Option<Moves>, NoMemory>
         requires some { 1 ≤ b }
         requires size { b ≤ 826 }
-        ensures { IfOk result (λ moves. moves ≡ change_moves (numbers_of live.now) b capacity self.now.pages home other) }
+        ensures { IfOk result (λ moves. moves ≡ change_moves
+            (numbers_of live.now) b capacity self.now.pages home other) }
     {
         if let Some(fitting) = self.fitting(live, home.page, self.capacity(home), b) {
             return Ok(Some(self.to_home(alloc, live, home, other, fitting)?));
@@ -208,7 +211,8 @@ impl Index {
         other: Option<Place>,
         fitting: Fitting,
     ) -> Result<Moves, NoMemory>
-        ensures { IfOk result (λ moves. moves ≡ home_moves (numbers_of live.now) self.now.pages home other fitting) }
+        ensures { IfOk result (λ moves. moves ≡ home_moves
+            (numbers_of live.now) self.now.pages home other fitting) }
     {
         let purge = self.purge(alloc, live, home.page, fitting.purges)?;
         let part = part_at(
@@ -229,7 +233,8 @@ impl Index {
         over: Place,
         fitting: Fitting,
     ) -> Result<Moves, NoMemory>
-        ensures { IfOk result (λ moves. moves ≡ over_moves (numbers_of live.now) self.now.pages home over fitting) }
+        ensures { IfOk result (λ moves. moves ≡ over_moves
+            (numbers_of live.now) self.now.pages home over fitting) }
     {
         let purge = self.purge(alloc, live, over.page, fitting.purges)?;
         let part = part_at(
@@ -252,7 +257,8 @@ impl Index {
         b: u16,
         area: Area,
     ) -> Result<Moves, NoMemory>
-        ensures { IfOk result (λ moves. new_moves (numbers_of live.now) b self.now.pages home other (Some area) ≡ Some moves) }
+        ensures { IfOk result (λ moves. new_moves (numbers_of live.now) b self.now.pages home other
+            (Some area) ≡ Some moves) }
     {
         let purge = self.purge(alloc, live, area.place.page, area.purges)?;
         let pointer = part_at(

@@ -1,5 +1,5 @@
-// Slots and rows, read through frames. What is said is of the pages as they are afterwards, and what
-// was held stays as it is, so it holds whether or not pages come back that are given up.
+// Slots and rows, read through frames. What is said is of the pages as they are afterwards, and
+// what was held stays as it is, so it holds whether or not pages come back that are given up.
 ghost use Rattle.std.specs.Prelude.{◌≡◌, ◌≤◌, ◌<◌, ◌+◌, ◌↔◌, IsTrue, true, length, IfOk, IfErr, OnOk, OnErr};
 ghost use Rattle.rg_home.specs.Plan.{pointed_to};
 ghost use Rattle.rg_page.specs.Content.{Content};
@@ -28,7 +28,8 @@ pub fn glimpse_of<F: Frames>(
     ensures took { Took 1 (F.seen frames.old) (F.seen frames.new) }
     ensures reserved { (F.seen frames.new).reserved ≡ (F.seen frames.old).reserved }
     ensures cause { IfErr result (λ fault. HasRisen fault (F.seen frames.old) (F.seen frames.new)) }
-    ensures gave { F.gave (F.seen frames.old).pages (F.seen frames.old).forced frames.old frames.new }
+    ensures gave { F.gave (F.seen frames.old).pages
+        (F.seen frames.old).forced frames.old frames.new }
 {
     let page = match frames.with_page(place.page) {
         Ok(page) => page,
@@ -61,7 +62,8 @@ pub fn home_of<F: Frames>(frames: &mut F, alloc: Global, home: Place) -> Result<
     ensures took { Took 2 (F.seen frames.old) (F.seen frames.new) }
     ensures reserved { (F.seen frames.new).reserved ≡ (F.seen frames.old).reserved }
     ensures cause { IfErr result (λ fault. HasRisen fault (F.seen frames.old) (F.seen frames.new)) }
-    ensures gave { F.gave (F.seen frames.old).pages (F.seen frames.old).forced frames.old frames.new }
+    ensures gave { F.gave (F.seen frames.old).pages
+        (F.seen frames.old).forced frames.old frames.new }
 {
     if !is_there(frames, home.page) {
         return Ok(AtHome {
@@ -89,8 +91,8 @@ pub fn home_of<F: Frames>(frames: &mut F, alloc: Global, home: Place) -> Result<
     })
 }
 
-/// The place that the slot at a place points to, if it is a Pointer. It takes no memory. The page is
-/// held from then on.
+/// The place that the slot at a place points to, if it is a Pointer. It takes no memory. The page
+/// is held from then on.
 pub fn pointer_of<F: Frames>(frames: &mut F, place: Place) -> Result<Option<Place>, SpaceFault>
     requires spare { 1 ≤ (F.seen frames.old).spare }
     ensures other { IfOk result (λ other. other ≡ pointed_to (slot_in (F.seen frames.new) place)) }
@@ -98,7 +100,8 @@ pub fn pointer_of<F: Frames>(frames: &mut F, place: Place) -> Result<Option<Plac
     ensures took { Took 1 (F.seen frames.old) (F.seen frames.new) }
     ensures reserved { (F.seen frames.new).reserved ≡ (F.seen frames.old).reserved }
     ensures device { IfErr result (λ fault. IsRisen fault (F.seen frames.old) (F.seen frames.new)) }
-    ensures gave { F.gave (F.seen frames.old).pages (F.seen frames.old).forced frames.old frames.new }
+    ensures gave { F.gave (F.seen frames.old).pages
+        (F.seen frames.old).forced frames.old frames.new }
 {
     if !is_there(frames, place.page) {
         return Ok(None);
@@ -116,7 +119,8 @@ pub fn hold_at<F: Frames>(frames: &mut F, number: u32) -> Result<(), SpaceFault>
     ensures took { Took 1 (F.seen frames.old) (F.seen frames.new) }
     ensures reserved { (F.seen frames.new).reserved ≡ (F.seen frames.old).reserved }
     ensures device { IfErr result (λ fault. IsRisen fault (F.seen frames.old) (F.seen frames.new)) }
-    ensures gave { F.gave (F.seen frames.old).pages (F.seen frames.old).forced frames.old frames.new }
+    ensures gave { F.gave (F.seen frames.old).pages
+        (F.seen frames.old).forced frames.old frames.new }
 {
     if !is_there(frames, number) {
         return Ok(());

@@ -47,22 +47,28 @@ pub struct Space<F> {
 }
 
 impl<F: Frames> Space<F> {
-    /// The space of the pages that these frames have, which may have `capacity` pages. The frames come
-    /// back where it is refused.
+    /// The space of the pages that these frames have, which may have `capacity` pages. The frames
+    /// come back where it is refused.
     pub fn new(alloc: Global, frames: F, capacity: u32) -> Result<Space<F>, (F, SpaceFault)>
         requires few { length (F.seen frames).pages ≤ capacity }
         requires limit { capacity ≤ (F.seen frames).limit }
         requires idle { 1 ≤ (F.seen frames).idle }
         requires none { (F.seen frames).reserved ≡ 0 }
-        ensures step { IfOk result (λ space. InStep (F.seen (frames_of space)) (index_of space) (capacity_in space)) }
+        ensures step { IfOk result (λ space. InStep (F.seen (frames_of space)) (index_of space)
+            (capacity_in space)) }
         ensures capacity { IfOk result (λ space. capacity_in space ≡ capacity) }
-        ensures agree { IfOk result (λ space. (F.seen (frames_of space)).sure ≡ true → Agree (F.seen (frames_of space)) (index_of space)) }
+        ensures agree { IfOk result (λ space. (F.seen (frames_of space)).sure ≡ true
+            → Agree (F.seen (frames_of space)) (index_of space)) }
         ensures reads { IfOk result (λ space. Reads (F.seen frames) (F.seen (frames_of space))) }
-        ensures idle { IfOk result (λ space. (F.seen frames).idle ≤ (F.seen (frames_of space)).idle) }
-        ensures gave { IfOk result (λ space. F.gave (F.seen frames).pages (F.seen frames).forced frames (frames_of space)) }
+        ensures idle { IfOk result (λ space. (F.seen frames).idle
+            ≤ (F.seen (frames_of space)).idle) }
+        ensures gave { IfOk result (λ space. F.gave (F.seen frames).pages
+            (F.seen frames).forced frames (frames_of space)) }
         ensures back { IfErr result (λ refused. Reads (F.seen frames) (F.seen refused.0)) }
-        ensures gave_back { IfErr result (λ refused. F.gave (F.seen frames).pages (F.seen frames).forced frames refused.0) }
-        ensures cause { IfErr result (λ refused. HasRisen refused.1 (F.seen frames) (F.seen refused.0)) }
+        ensures gave_back { IfErr result (λ refused. F.gave (F.seen frames).pages
+            (F.seen frames).forced frames refused.0) }
+        ensures cause { IfErr result (λ refused. HasRisen refused.1 (F.seen frames)
+            (F.seen refused.0)) }
     {
         let mut frames = frames;
         let mut index = Index::new(alloc);
@@ -88,14 +94,19 @@ impl<F: Frames> Space<F> {
     /// The row whose home is at this place, if there is one. Its pages are held.
     pub fn row_at(&mut self, home: Place) -> Result<Option<Row>, SpaceFault>
         requires spare { 2 ≤ (F.seen (frames_of self.old)).spare }
-        requires step { InStep (F.seen (frames_of self.old)) (index_of self.old) (capacity_in self.old) }
-        ensures row { IfOk result (λ row. row ≡ row_at (slot_in (F.seen (frames_of self.new))) home) }
-        ensures step { InStep (F.seen (frames_of self.new)) (index_of self.new) (capacity_in self.new) }
+        requires step { InStep (F.seen (frames_of self.old)) (index_of self.old)
+            (capacity_in self.old) }
+        ensures row { IfOk result (λ row. row ≡ row_at
+            (slot_in (F.seen (frames_of self.new))) home) }
+        ensures step { InStep (F.seen (frames_of self.new)) (index_of self.new)
+            (capacity_in self.new) }
         ensures capacity { capacity_in self.new ≡ capacity_in self.old }
         ensures summaries { index_of self.new ≡ index_of self.old }
         ensures took { Took 2 (F.seen (frames_of self.old)) (F.seen (frames_of self.new)) }
-        ensures cause { IfErr result (λ fault. HasRisen fault (F.seen (frames_of self.old)) (F.seen (frames_of self.new))) }
-        ensures gave { F.gave (F.seen (frames_of self.old)).pages (F.seen (frames_of self.old)).forced (frames_of self.old) (frames_of self.new) }
+        ensures cause { IfErr result (λ fault. HasRisen fault (F.seen (frames_of self.old))
+            (F.seen (frames_of self.new))) }
+        ensures gave { F.gave (F.seen (frames_of self.old)).pages
+            (F.seen (frames_of self.old)).forced (frames_of self.old) (frames_of self.new) }
     {
         let seen = home_of(&mut self.frames, self.alloc, home)?;
         Ok(seen.row)
@@ -106,15 +117,20 @@ impl<F: Frames> Space<F> {
         requires spare { 1 ≤ (F.seen (frames_of self.old)).spare }
         requires none { (index_of self.old).room ≡ 0 }
         requires below { length (F.seen (frames_of self.old)).pages < capacity_in self.old }
-        requires step { InStep (F.seen (frames_of self.old)) (index_of self.old) (capacity_in self.old) }
-        ensures step { InStep (F.seen (frames_of self.new)) (index_of self.new) (capacity_in self.new) }
+        requires step { InStep (F.seen (frames_of self.old)) (index_of self.old)
+            (capacity_in self.old) }
+        ensures step { InStep (F.seen (frames_of self.new)) (index_of self.new)
+            (capacity_in self.new) }
         ensures capacity { capacity_in self.new ≡ capacity_in self.old }
         ensures summaries { (index_of self.new).pages ≡ (index_of self.old).pages }
         ensures reserved { OnOk result (1 ≤ (F.seen (frames_of self.new)).reserved) }
-        ensures least { (F.seen (frames_of self.old)).reserved ≤ (F.seen (frames_of self.new)).reserved }
+        ensures least { (F.seen (frames_of self.old)).reserved
+            ≤ (F.seen (frames_of self.new)).reserved }
         ensures took { Took 1 (F.seen (frames_of self.old)) (F.seen (frames_of self.new)) }
-        ensures cause { IfErr result (λ fault. HasRisen fault (F.seen (frames_of self.old)) (F.seen (frames_of self.new))) }
-        ensures gave { F.gave (F.seen (frames_of self.old)).pages (F.seen (frames_of self.old)).forced (frames_of self.old) (frames_of self.new) }
+        ensures cause { IfErr result (λ fault. HasRisen fault (F.seen (frames_of self.old))
+            (F.seen (frames_of self.new))) }
+        ensures gave { F.gave (F.seen (frames_of self.old)).pages
+            (F.seen (frames_of self.old)).forced (frames_of self.old) (frames_of self.new) }
     {
         if self.index.reserve(self.alloc).is_err() {
             return Err(SpaceFault::NoMemory);
@@ -135,15 +151,21 @@ impl<F: Frames> Space<F> {
     // sees that one is reserved.
     fn hold_page(&mut self, number: u32) -> Result<(), SpaceFault>
         requires spare { 1 ≤ (F.seen (frames_of self.old)).spare }
-        requires step { InStep (F.seen (frames_of self.old)) (index_of self.old) (capacity_in self.old) }
-        ensures step { InStep (F.seen (frames_of self.new)) (index_of self.new) (capacity_in self.new) }
+        requires step { InStep (F.seen (frames_of self.old)) (index_of self.old)
+            (capacity_in self.old) }
+        ensures step { InStep (F.seen (frames_of self.new)) (index_of self.new)
+            (capacity_in self.new) }
         ensures capacity { capacity_in self.new ≡ capacity_in self.old }
         ensures summaries { (index_of self.new).pages ≡ (index_of self.old).pages }
-        ensures ready { OnOk result (IsReady (F.seen (frames_of self.new)) (capacity_in self.new) number) }
-        ensures least { (F.seen (frames_of self.old)).reserved ≤ (F.seen (frames_of self.new)).reserved }
+        ensures ready { OnOk result (IsReady (F.seen (frames_of self.new))
+            (capacity_in self.new) number) }
+        ensures least { (F.seen (frames_of self.old)).reserved
+            ≤ (F.seen (frames_of self.new)).reserved }
         ensures took { Took 1 (F.seen (frames_of self.old)) (F.seen (frames_of self.new)) }
-        ensures cause { IfErr result (λ fault. HasRisen fault (F.seen (frames_of self.old)) (F.seen (frames_of self.new))) }
-        ensures gave { F.gave (F.seen (frames_of self.old)).pages (F.seen (frames_of self.old)).forced (frames_of self.old) (frames_of self.new) }
+        ensures cause { IfErr result (λ fault. HasRisen fault (F.seen (frames_of self.old))
+            (F.seen (frames_of self.new))) }
+        ensures gave { F.gave (F.seen (frames_of self.old)).pages
+            (F.seen (frames_of self.old)).forced (frames_of self.old) (frames_of self.new) }
     {
         if is_there(&self.frames, number) {
             return match self.frames.with_page(number) {
@@ -166,15 +188,22 @@ impl<F: Frames> Space<F> {
     // Holds the pages of parts, and reserves the next one where a part needs it.
     fn hold(&mut self, parts: &[Part]) -> Result<(), SpaceFault>
         requires spare { length parts.now ≤ (F.seen (frames_of self.old)).spare }
-        requires step { InStep (F.seen (frames_of self.old)) (index_of self.old) (capacity_in self.old) }
-        ensures step { InStep (F.seen (frames_of self.new)) (index_of self.new) (capacity_in self.new) }
+        requires step { InStep (F.seen (frames_of self.old)) (index_of self.old)
+            (capacity_in self.old) }
+        ensures step { InStep (F.seen (frames_of self.new)) (index_of self.new)
+            (capacity_in self.new) }
         ensures capacity { capacity_in self.new ≡ capacity_in self.old }
         ensures summaries { (index_of self.new).pages ≡ (index_of self.old).pages }
-        ensures ready { OnOk result (AllReady (F.seen (frames_of self.new)) (capacity_in self.new) parts.now) }
-        ensures least { (F.seen (frames_of self.old)).reserved ≤ (F.seen (frames_of self.new)).reserved }
-        ensures took { Took (length parts.now) (F.seen (frames_of self.old)) (F.seen (frames_of self.new)) }
-        ensures cause { IfErr result (λ fault. HasRisen fault (F.seen (frames_of self.old)) (F.seen (frames_of self.new))) }
-        ensures gave { F.gave (F.seen (frames_of self.old)).pages (F.seen (frames_of self.old)).forced (frames_of self.old) (frames_of self.new) }
+        ensures ready { OnOk result (AllReady (F.seen (frames_of self.new))
+            (capacity_in self.new) parts.now) }
+        ensures least { (F.seen (frames_of self.old)).reserved
+            ≤ (F.seen (frames_of self.new)).reserved }
+        ensures took { Took (length parts.now) (F.seen (frames_of self.old))
+            (F.seen (frames_of self.new)) }
+        ensures cause { IfErr result (λ fault. HasRisen fault (F.seen (frames_of self.old))
+            (F.seen (frames_of self.new))) }
+        ensures gave { F.gave (F.seen (frames_of self.old)).pages
+            (F.seen (frames_of self.old)).forced (frames_of self.old) (frames_of self.new) }
     {
         for part in parts {
             self.hold_page(part.page)?;
@@ -185,16 +214,30 @@ impl<F: Frames> Space<F> {
     /// The plan of a new row. Its pages are held, and a new one is reserved.
     pub fn plan_put(&mut self, row: &Row, live: &[Tran]) -> Result<Plan, SpaceFault>
         requires spare { 5 ≤ (F.seen (frames_of self.old)).spare }
-        requires step { InStep (F.seen (frames_of self.old)) (index_of self.old) (capacity_in self.old) }
-        ensures step { InStep (F.seen (frames_of self.new)) (index_of self.new) (capacity_in self.new) }
+        requires step { InStep (F.seen (frames_of self.old)) (index_of self.old)
+            (capacity_in self.old) }
+        ensures step { InStep (F.seen (frames_of self.new)) (index_of self.new)
+            (capacity_in self.new) }
         ensures capacity { capacity_in self.new ≡ capacity_in self.old }
         ensures summaries { (index_of self.new).pages ≡ (index_of self.old).pages }
-        ensures plan { IfOk result (λ plan. Agree (F.seen (frames_of self.new)) (index_of self.new) → Some plan ≡ planned_put (numbers_of live.now) (row_size row.now) (slots_of (F.seen (frames_of self.new)).pages) (new_area (numbers_of live.now) (row_size row.now) (capacity_in self.new) (slots_of (F.seen (frames_of self.new)).pages))) }
+        ensures plan { IfOk result (λ plan. Agree (F.seen (frames_of self.new)) (index_of self.new)
+            → Some plan ≡ planned_put (numbers_of live.now) (row_size row.now)
+            (slots_of (F.seen (frames_of self.new)).pages)
+            (new_area (numbers_of live.now) (row_size row.now) (capacity_in self.new)
+            (slots_of (F.seen (frames_of self.new)).pages))) }
         ensures hand { IfOk result (IsAtHand (F.seen (frames_of self.new)) (capacity_in self.new)) }
-        ensures least { (F.seen (frames_of self.old)).reserved ≤ (F.seen (frames_of self.new)).reserved }
+        ensures least { (F.seen (frames_of self.old)).reserved
+            ≤ (F.seen (frames_of self.new)).reserved }
         ensures took { Took 5 (F.seen (frames_of self.old)) (F.seen (frames_of self.new)) }
-        ensures cause { IfErr result (λ fault. HasCause fault (row_size row.now) (Agree (F.seen (frames_of self.new)) (index_of self.new) → planned_put (numbers_of live.now) (row_size row.now) (slots_of (F.seen (frames_of self.new)).pages) (new_area (numbers_of live.now) (row_size row.now) (capacity_in self.new) (slots_of (F.seen (frames_of self.new)).pages)) ≡ None) (F.seen (frames_of self.old)) (F.seen (frames_of self.new))) }
-        ensures gave { F.gave (F.seen (frames_of self.old)).pages (F.seen (frames_of self.old)).forced (frames_of self.old) (frames_of self.new) }
+        ensures cause { IfErr result (λ fault. HasCause fault (row_size row.now)
+            (Agree (F.seen (frames_of self.new)) (index_of self.new)
+            → planned_put (numbers_of live.now) (row_size row.now)
+            (slots_of (F.seen (frames_of self.new)).pages)
+            (new_area (numbers_of live.now) (row_size row.now) (capacity_in self.new)
+            (slots_of (F.seen (frames_of self.new)).pages))
+            ≡ None) (F.seen (frames_of self.old)) (F.seen (frames_of self.new))) }
+        ensures gave { F.gave (F.seen (frames_of self.old)).pages
+            (F.seen (frames_of self.old)).forced (frames_of self.old) (frames_of self.new) }
     {
         let b = row.size();
         let Ok(found) = self.index.put(self.alloc, live, b, self.capacity) else {
@@ -216,16 +259,26 @@ impl<F: Frames> Space<F> {
     /// and a new one is reserved.
     pub fn plan_change(&mut self, home: Place, row: &Row, live: &[Tran]) -> Result<Plan, SpaceFault>
         requires spare { 5 ≤ (F.seen (frames_of self.old)).spare }
-        requires step { InStep (F.seen (frames_of self.old)) (index_of self.old) (capacity_in self.old) }
-        ensures step { InStep (F.seen (frames_of self.new)) (index_of self.new) (capacity_in self.new) }
+        requires step { InStep (F.seen (frames_of self.old)) (index_of self.old)
+            (capacity_in self.old) }
+        ensures step { InStep (F.seen (frames_of self.new)) (index_of self.new)
+            (capacity_in self.new) }
         ensures capacity { capacity_in self.new ≡ capacity_in self.old }
         ensures summaries { (index_of self.new).pages ≡ (index_of self.old).pages }
-        ensures plan { IfOk result (λ plan. Agree (F.seen (frames_of self.new)) (index_of self.new) → Some plan ≡ planned_change (numbers_of live.now) (row_size row.now) (capacity_in self.new) (slots_of (F.seen (frames_of self.new)).pages) home) }
+        ensures plan { IfOk result (λ plan. Agree (F.seen (frames_of self.new)) (index_of self.new)
+            → Some plan ≡ planned_change (numbers_of live.now) (row_size row.now)
+            (capacity_in self.new) (slots_of (F.seen (frames_of self.new)).pages) home) }
         ensures hand { IfOk result (IsAtHand (F.seen (frames_of self.new)) (capacity_in self.new)) }
-        ensures least { (F.seen (frames_of self.old)).reserved ≤ (F.seen (frames_of self.new)).reserved }
+        ensures least { (F.seen (frames_of self.old)).reserved
+            ≤ (F.seen (frames_of self.new)).reserved }
         ensures took { Took 5 (F.seen (frames_of self.old)) (F.seen (frames_of self.new)) }
-        ensures cause { IfErr result (λ fault. HasCause fault (row_size row.now) (Agree (F.seen (frames_of self.new)) (index_of self.new) → planned_change (numbers_of live.now) (row_size row.now) (capacity_in self.new) (slots_of (F.seen (frames_of self.new)).pages) home ≡ None) (F.seen (frames_of self.old)) (F.seen (frames_of self.new))) }
-        ensures gave { F.gave (F.seen (frames_of self.old)).pages (F.seen (frames_of self.old)).forced (frames_of self.old) (frames_of self.new) }
+        ensures cause { IfErr result (λ fault. HasCause fault (row_size row.now)
+            (Agree (F.seen (frames_of self.new)) (index_of self.new)
+            → planned_change (numbers_of live.now) (row_size row.now) (capacity_in self.new)
+            (slots_of (F.seen (frames_of self.new)).pages) home
+            ≡ None) (F.seen (frames_of self.old)) (F.seen (frames_of self.new))) }
+        ensures gave { F.gave (F.seen (frames_of self.old)).pages
+            (F.seen (frames_of self.old)).forced (frames_of self.old) (frames_of self.new) }
     {
         let b = row.size();
         let seen = home_of(&mut self.frames, self.alloc, home)?;
@@ -250,16 +303,23 @@ impl<F: Frames> Space<F> {
     /// The plan of the drop of the row whose home this is. Its pages are held. It is never Full.
     pub fn plan_drop(&mut self, home: Place) -> Result<Plan, SpaceFault>
         requires spare { 5 ≤ (F.seen (frames_of self.old)).spare }
-        requires step { InStep (F.seen (frames_of self.old)) (index_of self.old) (capacity_in self.old) }
-        ensures step { InStep (F.seen (frames_of self.new)) (index_of self.new) (capacity_in self.new) }
+        requires step { InStep (F.seen (frames_of self.old)) (index_of self.old)
+            (capacity_in self.old) }
+        ensures step { InStep (F.seen (frames_of self.new)) (index_of self.new)
+            (capacity_in self.new) }
         ensures capacity { capacity_in self.new ≡ capacity_in self.old }
         ensures summaries { (index_of self.new).pages ≡ (index_of self.old).pages }
-        ensures plan { IfOk result (λ plan. Agree (F.seen (frames_of self.new)) (index_of self.new) → plan ≡ planned_drop (slots_of (F.seen (frames_of self.new)).pages) home (slot_of (slots_of (F.seen (frames_of self.new)).pages) home)) }
+        ensures plan { IfOk result (λ plan. Agree (F.seen (frames_of self.new)) (index_of self.new)
+            → plan ≡ planned_drop (slots_of (F.seen (frames_of self.new)).pages) home
+            (slot_of (slots_of (F.seen (frames_of self.new)).pages) home)) }
         ensures hand { IfOk result (IsAtHand (F.seen (frames_of self.new)) (capacity_in self.new)) }
-        ensures least { (F.seen (frames_of self.old)).reserved ≤ (F.seen (frames_of self.new)).reserved }
+        ensures least { (F.seen (frames_of self.old)).reserved
+            ≤ (F.seen (frames_of self.new)).reserved }
         ensures took { Took 5 (F.seen (frames_of self.old)) (F.seen (frames_of self.new)) }
-        ensures cause { IfErr result (λ fault. HasRisen fault (F.seen (frames_of self.old)) (F.seen (frames_of self.new))) }
-        ensures gave { F.gave (F.seen (frames_of self.old)).pages (F.seen (frames_of self.old)).forced (frames_of self.old) (frames_of self.new) }
+        ensures cause { IfErr result (λ fault. HasRisen fault (F.seen (frames_of self.old))
+            (F.seen (frames_of self.new))) }
+        ensures gave { F.gave (F.seen (frames_of self.old)).pages
+            (F.seen (frames_of self.old)).forced (frames_of self.old) (frames_of self.new) }
     {
         let seen = home_of(&mut self.frames, self.alloc, home)?;
         let Ok(room) = PartsRoom::new(self.alloc) else {
@@ -293,16 +353,22 @@ impl<F: Frames> Space<F> {
     // Holds the pages of parts that are there. It takes no memory.
     fn hold_there(&mut self, parts: &[Part]) -> Result<(), SpaceFault>
         requires spare { length parts.now ≤ (F.seen (frames_of self.old)).spare }
-        requires step { InStep (F.seen (frames_of self.old)) (index_of self.old) (capacity_in self.old) }
-        ensures step { InStep (F.seen (frames_of self.new)) (index_of self.new) (capacity_in self.new) }
+        requires step { InStep (F.seen (frames_of self.old)) (index_of self.old)
+            (capacity_in self.old) }
+        ensures step { InStep (F.seen (frames_of self.new)) (index_of self.new)
+            (capacity_in self.new) }
         ensures capacity { capacity_in self.new ≡ capacity_in self.old }
         ensures summaries { index_of self.new ≡ index_of self.old }
         ensures undos { undos_in self.new ≡ undos_in self.old }
         ensures held { OnOk result (AllHeld (F.seen (frames_of self.new)) parts.now) }
-        ensures reserved { (F.seen (frames_of self.new)).reserved ≡ (F.seen (frames_of self.old)).reserved }
-        ensures took { Took (length parts.now) (F.seen (frames_of self.old)) (F.seen (frames_of self.new)) }
-        ensures device { IfErr result (λ fault. IsRisen fault (F.seen (frames_of self.old)) (F.seen (frames_of self.new))) }
-        ensures gave { F.gave (F.seen (frames_of self.old)).pages (F.seen (frames_of self.old)).forced (frames_of self.old) (frames_of self.new) }
+        ensures reserved { (F.seen (frames_of self.new)).reserved
+            ≡ (F.seen (frames_of self.old)).reserved }
+        ensures took { Took (length parts.now) (F.seen (frames_of self.old))
+            (F.seen (frames_of self.new)) }
+        ensures device { IfErr result (λ fault. IsRisen fault (F.seen (frames_of self.old))
+            (F.seen (frames_of self.new))) }
+        ensures gave { F.gave (F.seen (frames_of self.old)).pages
+            (F.seen (frames_of self.old)).forced (frames_of self.old) (frames_of self.new) }
     {
         for part in parts {
             hold_at(&mut self.frames, part.page)?;
@@ -319,18 +385,26 @@ impl<F: Frames> Space<F> {
         parts: &[Part],
     ) -> Result<Parts, SpaceFault>
         requires spare { 5 ≤ (F.seen (frames_of self.old)).spare }
-        requires step { InStep (F.seen (frames_of self.old)) (index_of self.old) (capacity_in self.old) }
+        requires step { InStep (F.seen (frames_of self.old)) (index_of self.old)
+            (capacity_in self.old) }
         requires room { 1 ≤ undos_in self.old }
-        ensures step { InStep (F.seen (frames_of self.new)) (index_of self.new) (capacity_in self.new) }
+        ensures step { InStep (F.seen (frames_of self.new)) (index_of self.new)
+            (capacity_in self.new) }
         ensures capacity { capacity_in self.new ≡ capacity_in self.old }
         ensures summaries { index_of self.new ≡ index_of self.old }
         ensures undos { undos_in self.new + 1 ≡ undos_in self.old }
-        ensures parts { IfOk result (λ undo. Agree (F.seen (frames_of self.new)) (index_of self.new) → undo ≡ undo_parts (slots_of (F.seen (frames_of self.new)).pages) home (over_before parts.now) (option_copied before.entry) (slot_of (slots_of (F.seen (frames_of self.new)).pages) home)) }
+        ensures parts { IfOk result (λ undo. Agree (F.seen (frames_of self.new)) (index_of self.new)
+            → undo ≡ undo_parts (slots_of (F.seen (frames_of self.new)).pages) home
+            (over_before parts.now) (option_copied before.entry)
+            (slot_of (slots_of (F.seen (frames_of self.new)).pages) home)) }
         ensures held { IfOk result (λ undo. AllHeld (F.seen (frames_of self.new)) undo) }
-        ensures reserved { (F.seen (frames_of self.new)).reserved ≡ (F.seen (frames_of self.old)).reserved }
+        ensures reserved { (F.seen (frames_of self.new)).reserved
+            ≡ (F.seen (frames_of self.old)).reserved }
         ensures took { Took 5 (F.seen (frames_of self.old)) (F.seen (frames_of self.new)) }
-        ensures device { IfErr result (λ fault. IsRisen fault (F.seen (frames_of self.old)) (F.seen (frames_of self.new))) }
-        ensures gave { F.gave (F.seen (frames_of self.old)).pages (F.seen (frames_of self.old)).forced (frames_of self.old) (frames_of self.new) }
+        ensures device { IfErr result (λ fault. IsRisen fault (F.seen (frames_of self.old))
+            (F.seen (frames_of self.new))) }
+        ensures gave { F.gave (F.seen (frames_of self.old)).pages
+            (F.seen (frames_of self.old)).forced (frames_of self.old) (frames_of self.new) }
     {
         let room = match self.undos.pop() {
             Some(room) => room,
@@ -346,12 +420,18 @@ impl<F: Frames> Space<F> {
     // Adds page `number`, where it is the next one, within the capacity, and reserved.
     fn grow(&mut self, number: u32)
         requires { InStep (F.seen (frames_of self.old)) (index_of self.old) (capacity_in self.old) }
-        ensures step { InStep (F.seen (frames_of self.new)) (index_of self.new) (capacity_in self.new) }
+        ensures step { InStep (F.seen (frames_of self.new)) (index_of self.new)
+            (capacity_in self.new) }
         ensures capacity { capacity_in self.new ≡ capacity_in self.old }
-        ensures pages { (limit : ℕ) → Within limit (F.seen (frames_of self.old)) (capacity_in self.old) → number ≤ length (F.seen (frames_of self.old)).pages + 1 → number ≤ limit → (F.seen (frames_of self.new)).pages ≡ grown (F.seen (frames_of self.old)).copy (F.seen (frames_of self.old)).pages number }
+        ensures pages { (limit : ℕ) → Within limit (F.seen (frames_of self.old))
+            (capacity_in self.old) → number ≤ length (F.seen (frames_of self.old)).pages + 1
+            → number ≤ limit → (F.seen (frames_of self.new)).pages
+            ≡ grown (F.seen (frames_of self.old)).copy (F.seen (frames_of self.old)).pages number }
         ensures writes { Writes 0 (F.seen (frames_of self.old)) (F.seen (frames_of self.new)) }
-        ensures agree { Agree (F.seen (frames_of self.old)) (index_of self.old) → Agree (F.seen (frames_of self.new)) (index_of self.new) }
-        ensures gave { (pages : List Content) (n : ℕ) → F.gave pages n (frames_of self.old) (frames_of self.new) }
+        ensures agree { Agree (F.seen (frames_of self.old)) (index_of self.old)
+            → Agree (F.seen (frames_of self.new)) (index_of self.new) }
+        ensures gave { (pages : List Content) (n : ℕ) → F.gave pages n (frames_of self.old)
+            (frames_of self.new) }
     {
         if number as u64 != self.frames.count() as u64 + 1 {
             return;
@@ -368,15 +448,26 @@ impl<F: Frames> Space<F> {
 
     // Sets a slot of a page that is there.
     fn set(&mut self, part: &Part, tran: Tran, after: Option<&Row>, position: Position)
-        requires step { InStep (F.seen (frames_of self.old)) (index_of self.old) (capacity_in self.old) }
+        requires step { InStep (F.seen (frames_of self.old)) (index_of self.old)
+            (capacity_in self.old) }
         requires held { IsHeldAt (F.seen (frames_of self.old)) part.now.page }
-        ensures step { InStep (F.seen (frames_of self.new)) (index_of self.new) (capacity_in self.new) }
+        ensures step { InStep (F.seen (frames_of self.new)) (index_of self.new)
+            (capacity_in self.new) }
         ensures capacity { capacity_in self.new ≡ capacity_in self.old }
-        ensures pages { (limit : ℕ) → part.now.page ≤ length (F.seen (frames_of self.old)).pages → Fitting limit (F.seen (frames_of self.old)).pages tran.0 (option_copied after.entry) part.now → (F.seen (frames_of self.new)).pages ≡ set_content (F.seen (frames_of self.old)).pages part.now tran.0 (option_copied after.entry) position.0 }
-        ensures count { length (F.seen (frames_of self.new)).pages ≡ length (F.seen (frames_of self.old)).pages }
-        ensures writes { Writes position.0 (F.seen (frames_of self.old)) (F.seen (frames_of self.new)) }
-        ensures agree { Agree (F.seen (frames_of self.old)) (index_of self.old) → Agree (F.seen (frames_of self.new)) (index_of self.new) }
-        ensures gave { (pages : List Content) (n : ℕ) → F.gave pages n (frames_of self.old) (frames_of self.new) }
+        ensures pages { (limit : ℕ) → part.now.page ≤ length (F.seen (frames_of self.old)).pages
+            → Fitting limit (F.seen (frames_of self.old)).pages tran.0
+            (option_copied after.entry) part.now
+            → (F.seen (frames_of self.new)).pages
+            ≡ set_content (F.seen (frames_of self.old)).pages part.now tran.0
+            (option_copied after.entry) position.0 }
+        ensures count { length (F.seen (frames_of self.new)).pages
+            ≡ length (F.seen (frames_of self.old)).pages }
+        ensures writes { Writes position.0 (F.seen (frames_of self.old))
+            (F.seen (frames_of self.new)) }
+        ensures agree { Agree (F.seen (frames_of self.old)) (index_of self.old)
+            → Agree (F.seen (frames_of self.new)) (index_of self.new) }
+        ensures gave { (pages : List Content) (n : ℕ) → F.gave pages n (frames_of self.old)
+            (frames_of self.new) }
     {
         if part.page == 0 || part.page > self.frames.count() {
             return;
@@ -395,21 +486,31 @@ impl<F: Frames> Space<F> {
 
     // Applies one part. A page that is the next one is added.
     fn put(&mut self, part: &Part, tran: Tran, after: Option<&Row>, position: Position)
-        requires step { InStep (F.seen (frames_of self.old)) (index_of self.old) (capacity_in self.old) }
+        requires step { InStep (F.seen (frames_of self.old)) (index_of self.old)
+            (capacity_in self.old) }
         requires held { IsHeldAt (F.seen (frames_of self.old)) part.now.page }
-        ensures step { InStep (F.seen (frames_of self.new)) (index_of self.new) (capacity_in self.new) }
+        ensures step { InStep (F.seen (frames_of self.new)) (index_of self.new)
+            (capacity_in self.new) }
         ensures capacity { capacity_in self.new ≡ capacity_in self.old }
-        ensures pages { (limit : ℕ) → Within limit (F.seen (frames_of self.old)) (capacity_in self.old) → Fitting limit (F.seen (frames_of self.old)).pages tran.0 (option_copied after.entry) part.now → (F.seen (frames_of self.new)).pages ≡ wrote_part (F.seen (frames_of self.old)).copy tran.0 (option_copied after.entry) position.0 (F.seen (frames_of self.old)).pages part.now }
-        ensures writes { Writes position.0 (F.seen (frames_of self.old)) (F.seen (frames_of self.new)) }
-        ensures agree { Agree (F.seen (frames_of self.old)) (index_of self.old) → Agree (F.seen (frames_of self.new)) (index_of self.new) }
-        ensures gave { (pages : List Content) (n : ℕ) → F.gave pages n (frames_of self.old) (frames_of self.new) }
+        ensures pages { (limit : ℕ) → Within limit (F.seen (frames_of self.old))
+            (capacity_in self.old) → Fitting limit (F.seen (frames_of self.old)).pages tran.0
+            (option_copied after.entry) part.now
+            → (F.seen (frames_of self.new)).pages
+            ≡ wrote_part (F.seen (frames_of self.old)).copy tran.0
+            (option_copied after.entry) position.0 (F.seen (frames_of self.old)).pages part.now }
+        ensures writes { Writes position.0 (F.seen (frames_of self.old))
+            (F.seen (frames_of self.new)) }
+        ensures agree { Agree (F.seen (frames_of self.old)) (index_of self.old)
+            → Agree (F.seen (frames_of self.new)) (index_of self.new) }
+        ensures gave { (pages : List Content) (n : ℕ) → F.gave pages n (frames_of self.old)
+            (frames_of self.new) }
     {
         self.grow(part.page);
         self.set(part, tran, after, position);
     }
 
-    /// Applies the parts of a record, in order, where their pages are held and new ones reserved. It
-    /// takes no memory and asks no device.
+    /// Applies the parts of a record, in order, where their pages are held and new ones reserved.
+    /// It takes no memory and asks no device.
     pub fn apply_parts(
         &mut self,
         parts: &[Part],
@@ -417,14 +518,24 @@ impl<F: Frames> Space<F> {
         after: Option<&Row>,
         position: Position,
     )
-        requires step { InStep (F.seen (frames_of self.old)) (index_of self.old) (capacity_in self.old) }
+        requires step { InStep (F.seen (frames_of self.old)) (index_of self.old)
+            (capacity_in self.old) }
         requires held { AllHeld (F.seen (frames_of self.old)) parts.now }
-        ensures step { InStep (F.seen (frames_of self.new)) (index_of self.new) (capacity_in self.new) }
+        ensures step { InStep (F.seen (frames_of self.new)) (index_of self.new)
+            (capacity_in self.new) }
         ensures capacity { capacity_in self.new ≡ capacity_in self.old }
-        ensures pages { (limit : ℕ) → Within limit (F.seen (frames_of self.old)) (capacity_in self.old) → FittingAll limit (F.seen (frames_of self.old)).copy tran.0 (option_copied after.entry) position.0 (F.seen (frames_of self.old)).pages parts.now → (F.seen (frames_of self.new)).pages ≡ wrote_all (F.seen (frames_of self.old)).copy tran.0 (option_copied after.entry) position.0 (F.seen (frames_of self.old)).pages parts.now }
-        ensures writes { Writes position.0 (F.seen (frames_of self.old)) (F.seen (frames_of self.new)) }
-        ensures agree { Agree (F.seen (frames_of self.old)) (index_of self.old) → Agree (F.seen (frames_of self.new)) (index_of self.new) }
-        ensures gave { (pages : List Content) (n : ℕ) → F.gave pages n (frames_of self.old) (frames_of self.new) }
+        ensures pages { (limit : ℕ) → Within limit (F.seen (frames_of self.old))
+            (capacity_in self.old) → FittingAll limit (F.seen (frames_of self.old)).copy tran.0
+            (option_copied after.entry) position.0 (F.seen (frames_of self.old)).pages parts.now
+            → (F.seen (frames_of self.new)).pages
+            ≡ wrote_all (F.seen (frames_of self.old)).copy tran.0
+            (option_copied after.entry) position.0 (F.seen (frames_of self.old)).pages parts.now }
+        ensures writes { Writes position.0 (F.seen (frames_of self.old))
+            (F.seen (frames_of self.new)) }
+        ensures agree { Agree (F.seen (frames_of self.old)) (index_of self.old)
+            → Agree (F.seen (frames_of self.new)) (index_of self.new) }
+        ensures gave { (pages : List Content) (n : ℕ) → F.gave pages n (frames_of self.old)
+            (frames_of self.new) }
     {
         for part in parts {
             self.put(part, tran, after, position);

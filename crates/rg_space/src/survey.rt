@@ -18,12 +18,14 @@ fn summary_of<F: Frames>(alloc: Global, frames: &mut F, number: u32) -> Result<S
     requires low { 1 ≤ number }
     requires high { number ≤ length (F.seen frames.old).pages }
     requires spare { 1 ≤ (F.seen frames.old).spare }
-    ensures summary { IfOk result (λ summary. summary ≡ map bare (content_at (F.seen frames.new).pages number).slots) }
+    ensures summary { IfOk result (λ summary. summary
+        ≡ map bare (content_at (F.seen frames.new).pages number).slots) }
     ensures reads { Reads (F.seen frames.old) (F.seen frames.new) }
     ensures reserved { (F.seen frames.new).reserved ≡ (F.seen frames.old).reserved }
     ensures idle { (F.seen frames.old).idle ≤ (F.seen frames.new).idle }
     ensures cause { IfErr result (λ fault. HasRisen fault (F.seen frames.old) (F.seen frames.new)) }
-    ensures gave { F.gave (F.seen frames.old).pages (F.seen frames.old).forced frames.old frames.new }
+    ensures gave { F.gave (F.seen frames.old).pages
+        (F.seen frames.old).forced frames.old frames.new }
 {
     let page = match frames.with_page(number) {
         Ok(page) => page,
@@ -44,12 +46,14 @@ fn next_summary<F: Frames>(
     requires low { 1 ≤ number }
     requires high { number ≤ length (F.seen frames.old).pages }
     requires idle { 1 ≤ (F.seen frames.old).idle }
-    ensures summary { IfOk result (λ summary. summary ≡ map bare (content_at (F.seen frames.new).pages number).slots) }
+    ensures summary { IfOk result (λ summary. summary
+        ≡ map bare (content_at (F.seen frames.new).pages number).slots) }
     ensures reads { Reads (F.seen frames.old) (F.seen frames.new) }
     ensures reserved { (F.seen frames.new).reserved ≡ (F.seen frames.old).reserved }
     ensures idle { (F.seen frames.old).idle ≤ (F.seen frames.new).idle }
     ensures cause { IfErr result (λ fault. HasRisen fault (F.seen frames.old) (F.seen frames.new)) }
-    ensures gave { F.gave (F.seen frames.old).pages (F.seen frames.old).forced frames.old frames.new }
+    ensures gave { F.gave (F.seen frames.old).pages
+        (F.seen frames.old).forced frames.old frames.new }
 {
     frames.let_go();
     summary_of(alloc, frames, number)
@@ -64,9 +68,11 @@ pub fn survey<F: Frames>(alloc: Global, frames: &mut F, index: &mut Index) -> Re
     ensures idle { (F.seen frames.old).idle ≤ (F.seen frames.new).idle }
     ensures count { OnOk result (length index.new.pages ≡ length (F.seen frames.new).pages) }
     ensures room { OnOk result (index.new.room ≡ 0) }
-    ensures agree { OnOk result ((F.seen frames.new).sure ≡ true → Agree (F.seen frames.new) index.new) }
+    ensures agree { OnOk result ((F.seen frames.new).sure ≡ true
+        → Agree (F.seen frames.new) index.new) }
     ensures cause { IfErr result (λ fault. HasRisen fault (F.seen frames.old) (F.seen frames.new)) }
-    ensures gave { F.gave (F.seen frames.old).pages (F.seen frames.old).forced frames.old frames.new }
+    ensures gave { F.gave (F.seen frames.old).pages
+        (F.seen frames.old).forced frames.old frames.new }
 {
     let count = frames.count();
     let mut n = 0;

@@ -338,9 +338,9 @@ fn undoes_changes(rt: HostRuntime) -> Result<(), Fail> {
     Ok(())
 }
 
-// A row of 826 bytes lies in Over area 2.0. Transaction 5 makes it 726 bytes long, another one drops a
-// row of the home's page and ends, and 5 makes the row 776 bytes long, which now fits at home. Then 5
-// is rolled back.
+// A row of 826 bytes lies in Over area 2.0. Transaction 5 makes it 726 bytes long, another one
+// drops a row of the home's page and ends, and 5 makes the row 776 bytes long, which now fits at
+// home. Then 5 is rolled back.
 #[test]
 fn goes_back_to_its_over_area(rt: HostRuntime) -> Result<(), Fail> {
     let long = (row(826), 0);
@@ -402,7 +402,8 @@ fn walk(index: &Index, live: &[Tran], b: u16) -> u32
     index.len()
 }
 
-// Page k, counted from 0, has k bytes that no slot takes, so a new slot of b bytes needs page b + 18.
+// Page k, counted from 0, has k bytes that no slot takes, so a new slot of b bytes needs page b +
+// 18.
 #[test]
 fn finds_the_first_of_1000_pages(rt: HostRuntime) -> Result<(), Fail> {
     let mut index = Index::new(rt.alloc());
