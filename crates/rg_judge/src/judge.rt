@@ -172,7 +172,7 @@ fn find_refused(alloc: Global, start: &Table, trace: &[Entry]) -> Result<Option<
 }
 
 /// The first entry of a trace from the table `start` that is not legal, or none where the trace is
-/// legal. It takes memory for the states, and no more time than its entries and their rows ask for.
+/// legal. It takes memory for the states and for what is kept of the entries so far.
 pub fn judge(alloc: Global, start: &Table, trace: &[Entry]) -> Result<Option<usize>, NoMemory>
     ensures legal { IfOk result (λ found. (found ≡ None) ↔ Legal start.now trace.now) }
     ensures refused { (i : ℕ)
