@@ -25,7 +25,8 @@ abbrev pub laid : List Slot → List Place → List (List ℕ) → List Slot
 laid [] others areas = []
 laid (h ∷ headers) [] areas = []
 laid (h ∷ headers) (other ∷ others) [] = []
-laid (h ∷ headers) (other ∷ others) (bytes ∷ areas) = whole_slot h other bytes ∷ laid headers others areas
+laid (h ∷ headers) (other ∷ others) (bytes ∷ areas) =
+    whole_slot h other bytes ∷ laid headers others areas
 
 -- the bytes spell a row, and an area of this capacity holds them
 pub record Spells (capacity : ℕ) (bytes : List ℕ) : Type 0 where
@@ -50,7 +51,8 @@ AreAreas (h ∷ headers) [] = ⊥
 AreAreas (h ∷ headers) (bytes ∷ areas) = IsArea h bytes × AreAreas headers areas
 
 -- what a page keeps of its fields
-pub record IsLaid (headers : List Slot) (others : Vec Place Global) (areas : List (List ℕ)) : Type 0 where
+pub record IsLaid (headers : List Slot) (others : Vec Place Global)
+    (areas : List (List ℕ)) : Type 0 where
   pub places : length others.items ≡ length headers
   pub areas_are : AreAreas headers areas
   pub headers_are : map bare headers ≡ headers

@@ -1,11 +1,12 @@
 -- What is seen of frames, and what their calls do to it.
 --
--- 1. Frames are seen as a list of pages, of which some are held. A page that is held stays as it is,
---    and no call on it is refused.
+-- 1. Frames are seen as a list of pages, of which some are held. A page that is held stays as it
+--    is, and no call on it is refused.
 -- 2. `idle` is how many frames would be spare if no page were held. So a caller that reads and then
 --    lets go has as many spare frames as before.
--- 3. `sure` says that a page that is given up comes back as it was: frames over a volume that reports
---    its contents are. Where they are not, only fixed pages stay. No call makes frames sure again.
+-- 3. `sure` says that a page that is given up comes back as it was: frames over a volume that
+--    reports its contents are. Where they are not, only fixed pages stay. No call makes frames
+--    sure again.
 use Rattle.std.specs.Prelude.{◌⊎◌, ◌≡◌, ◌≤◌, ◌+◌, ◌-◌, ℕ, Bool, true, List, length, ◌++◌, ◌∷◌, [], Option, slice_set}
 use Rattle.rg_base.specs.declared.part.Part.{Part}
 use Rattle.rg_base.specs.declared.row.Row.{Row}
@@ -15,9 +16,10 @@ use Rattle.rg_page.specs.Content.{Content, content_at, empty}
 use Rattle.rg_page.specs.declared.frames.FrameFault.{FrameFault}
 use Rattle.rg_page.specs.declared.frames.FrameFault.TheVariants.{Device, NoMemory}
 
--- the copy; its pages; which of them are held; how many pages are reserved, and how many there can be;
--- how far the log is known to be forced; the frames that are spare and those that are idle; the count
--- of faults; whether what is given up comes back; and which pages stay even where that is not sure
+-- the copy; its pages; which of them are held; how many pages are reserved, and how many there can
+-- be; how far the log is known to be forced; the frames that are spare and those that are idle;
+-- the count of faults; whether what is given up comes back; and which pages stay even where that
+-- is not sure
 pub record Seen : Type 0 where
   pub copy : ℕ
   pub pages : List Content
@@ -95,12 +97,14 @@ pub record Added (a b : Seen) : Type 0 where
   pub faults : b.faults ≡ a.faults
 
 -- the pages with a part applied to its page
-abbrev pub set_content : List Content → Part → (owner : ℕ) → Option Row → (position : ℕ) → List Content
+abbrev pub set_content : List Content → Part → (owner : ℕ) → Option Row → (position : ℕ)
+    → List Content
 set_content pages x owner after position =
     slice_set pages (x.page - 1) (changed (content_at pages x.page) x owner after position)
 
 -- a part was applied to its page
-pub record WasSet (x : Part) (owner : ℕ) (after : Option Row) (position : ℕ) (a b : Seen) : Type 0 where
+pub record WasSet (x : Part) (owner : ℕ) (after : Option Row) (position : ℕ)
+    (a b : Seen) : Type 0 where
   pub keeps : Keeps a b
   pub sure : b.sure ≡ a.sure
   pub pages : b.pages ≡ set_content a.pages x owner after position

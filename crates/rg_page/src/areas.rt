@@ -1,7 +1,7 @@
 // The bytes of a page's rows, one after another in one buffer, in the order of their slots.
 //
-// 1. The buffer has the 4,064 bytes that a page's slots may take, from the start on, so nothing here
-//    takes memory later.
+// 1. The buffer has the 4,064 bytes that a page's slots may take, from the start on, so nothing
+//    here takes memory later.
 // 2. A row's bytes are replaced in place: only the bytes behind them move.
 ghost use Rattle.std.specs.Prelude.{◌≡◌, ◌≤◌, ◌<◌, ◌+◌, ◌-◌, ◌∷◌, ◌++◌, [], IfOk, length, take, slice_index_or, set, vec_len, vec_capacity};
 ghost use Rattle.std.specs.Option.{option_copied};
@@ -67,7 +67,8 @@ impl Areas {
     /// Puts the bytes of this row, or none, in the place of stretch i.
     pub fn replace(&mut self, i: usize, row: Option<&Row>)
         requires there { i < length self.old }
-        requires fits { filled_by self.old + size_of (option_copied row) ≤ 4064 + length (slice_index_or self.old i []) }
+        requires fits { filled_by self.old + size_of (option_copied row)
+            ≤ 4064 + length (slice_index_or self.old i []) }
         ensures { self.new ≡ set self.old i (bytes_of (option_copied row.entry)) }
     {
         let at = self.offset(i);
@@ -131,7 +132,8 @@ fn put_row(bytes: &mut [u8], at: usize, old: usize, filled: usize, row: Option<&
     requires whole { at + old ≤ filled }
     requires within { filled + size_of (option_copied row) ≤ length bytes.old + old }
     requires filled { filled ≤ length bytes.old }
-    ensures { IsPut bytes.old bytes.new at old (filled - (at + old)) (bytes_of (option_copied row.entry)) }
+    ensures { IsPut bytes.old bytes.new at old (filled - (at + old))
+        (bytes_of (option_copied row.entry)) }
 {
     match row {
         None => bytes.copy_within(at + old..filled, at),

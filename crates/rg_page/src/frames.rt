@@ -1,7 +1,7 @@
 // Frames: the pages of a copy, as they are read and changed.
 //
-// 1. Pages are numbered from 1. `with_page` lends one and holds it until `let_go`; a page is changed
-//    while it is held, and nothing then refuses it but its own bytes.
+// 1. Pages are numbered from 1. `with_page` lends one and holds it until `let_go`; a page is
+//    changed while it is held, and nothing then refuses it but its own bytes.
 // 2. A new page is reserved first, which may fail, and added later, which may not.
 // 3. A page may be given up to the volume between calls. Then its content is in the list of pages,
 //    and its position is not above the one that the log is known to be forced to (`gave`).
@@ -61,7 +61,8 @@ pub trait Frames {
     /// Reserves a page, which `add_page` takes.
     fn reserve_page(&mut self) -> Result<(), FrameFault>
         requires spare { 1 ≤ (seen self.old).spare }
-        requires below { length (seen self.old).pages + (seen self.old).reserved < (seen self.old).limit }
+        requires below { length (seen self.old).pages + (seen self.old).reserved <
+            (seen self.old).limit }
         ensures ok { OnOk result (Reserved (seen self.old) (seen self.new)) }
         ensures err { IfErr result (λ fault. FaultIs fault (seen self.old) (seen self.new)) }
         ensures gave { gave (seen self.old).pages (seen self.old).forced self.old self.new };
@@ -84,9 +85,14 @@ pub trait Frames {
         requires low { 1 ≤ part.now.page }
         requires high { part.now.page ≤ length (seen self.old).pages }
         requires held { (seen self.old).held part.now.page ≡ true }
-        ensures ok { OnOk result (WasSet part.now tran.0 (option_copied after.entry) position.0 (seen self.old) (seen self.new)) }
-        ensures fits { OnOk result (PartFits part.now.page (content_at (seen self.old).pages part.now.page).slots tran.0 (option_copied after.entry) part.now) }
-        ensures unfit { OnErr result (PartFits part.now.page (content_at (seen self.old).pages part.now.page).slots tran.0 (option_copied after.entry) part.now → ⊥) }
+        ensures ok { OnOk result (WasSet part.now tran.0 (option_copied after.entry) position.0
+            (seen self.old) (seen self.new)) }
+        ensures fits { OnOk result (PartFits part.now.page
+            (content_at (seen self.old).pages part.now.page).slots tran.0
+            (option_copied after.entry) part.now) }
+        ensures unfit { OnErr result (PartFits part.now.page
+            (content_at (seen self.old).pages part.now.page).slots tran.0
+            (option_copied after.entry) part.now → ⊥) }
         ensures err { OnErr result (seen self.new ≡ seen self.old) }
         ensures gave { (pages : List Content) (n : ℕ) → gave pages n self.old self.new };
 
@@ -113,10 +119,13 @@ pub trait Frames {
     ghost limited: { (f : Self) → (seen f).limit ≤ 4294967295 };
 
     /// Each page has the number of its place in the list, and is of the copy.
-    ghost numbered: { (f : Self) (n : ℕ) → 1 ≤ n → n ≤ length (seen f).pages → (content_at (seen f).pages n).number ≡ n };
+    ghost numbered: { (f : Self) (n : ℕ) → 1 ≤ n → n ≤ length (seen f).pages
+        → (content_at (seen f).pages n).number ≡ n };
 
     ghost gave_none: { (pages : List Content) (n : ℕ) (f : Self) → gave pages n f f };
 
-    /// One run and then another, of which nothing is asked where it is no longer sure what comes back.
-    ghost gave_more: { (pages : List Content) (n : ℕ) (a b c : Self) → gave pages n a b → ((seen c).sure ≡ true → gave pages n b c) → gave pages n a c };
+    /// One run and then another, of which nothing is asked where it is no longer sure what comes
+    /// back.
+    ghost gave_more: { (pages : List Content) (n : ℕ) (a b c : Self) → gave pages n a b
+        → ((seen c).sure ≡ true → gave pages n b c) → gave pages n a c };
 }

@@ -27,8 +27,8 @@ pub enum Kind {
     DeadOver,
 }
 
-/// What plans read of a slot: its kind, the capacity of its area, and the owner of a dead one. It is
-/// seen as the slot without its row and its place.
+/// What plans read of a slot: its kind, the capacity of its area, and the owner of a dead one. It
+/// is seen as the slot without its row and its place.
 #[derive(Debug, Drop)]
 pub struct Header {
     kind: Kind,

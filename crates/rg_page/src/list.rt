@@ -1,6 +1,7 @@
 // Frames that keep all pages in memory.
 //
-// 1. A reserved page is there already, and only its number is to come, so adding it takes no memory.
+// 1. A reserved page is there already, and only its number is to come, so adding it takes no
+//    memory.
 // 2. No page is ever given up, so all are sure and fixed, and frames are spare without end.
 ghost use Rattle.std.specs.Prelude.{◌≡◌, ◌≤◌, ◌<◌, ◌+◌, ◌∷◌, ◌++◌, [], OnOk, OnErr, IfOk, length};
 ghost use Rattle.rg_page.specs.Listed.{IsList};
@@ -137,7 +138,8 @@ impl Frames for ListFrames {
 
     ghost limited = { λ _. le_refl 4294967295 };
 
-    ghost numbered = { λ f n low high. list_numbered f.copy f.pages f.reserved f.is_list n low high };
+    ghost numbered = { λ f n low high.
+        list_numbered f.copy f.pages f.reserved f.is_list n low high };
 
     ghost gave_none = { λ _ _ _. tt };
 

@@ -64,7 +64,8 @@ impl Summary {
 
     /// The parts that purge this page, which is page `number`.
     pub fn purge(&self, alloc: Global, number: u32, live: &[Tran]) -> Result<Vec<Part>, NoMemory>
-        ensures { IfOk result (λ parts. parts.items ≡ purge_from (numbers_of live.now) number 0 self.now) }
+        ensures { IfOk result (λ parts. parts.items
+            ≡ purge_from (numbers_of live.now) number 0 self.now) }
     {
         let mut parts = Vec::new(alloc);
         for i in 0..self.len() {

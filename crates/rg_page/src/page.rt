@@ -2,8 +2,8 @@
 //
 // 1. A page keeps a header for each slot, the place that the slot names, and the bytes of its row.
 //    The rows' bytes lie in one buffer of the page's own, so a change of a slot takes no memory.
-// 2. The slots stay within 4,064 bytes, at 18 bytes a slot and its capacity, and the last one is not
-//    Free. 225 slots are never passed, since a header takes 18 bytes.
+// 2. The slots stay within 4,064 bytes, at 18 bytes a slot and its capacity, and the last one is
+//    not Free. 225 slots are never passed, since a header takes 18 bytes.
 // 3. A row lies in an area that holds it.
 ghost use Rattle.std.specs.Prelude.{◌≡◌, ◌≤◌, ◌<◌, ◌+◌, ◌↔◌, ℕ, List, [], IsTrue, IfOk, OnOk, OnErr, IsSomeAnd, length, map, take, slice_index_or, vec_len, vec_capacity};
 ghost use Rattle.std.specs.Option.{option_copied};
@@ -59,7 +59,12 @@ impl Model for Page {
 
     ghost Value = { Content };
 
-    ghost view = { λ p. record { copy = p.copy; number = p.number; position = p.position; slots = laid p.summary p.others.items p.areas } };
+    ghost view = { λ p. record {
+      copy = p.copy;
+      number = p.number;
+      position = p.position;
+      slots = laid p.summary p.others.items p.areas;
+    } };
 
     ghost invariant = { λ p. IsLaid p.summary p.others p.areas };
 }
@@ -154,9 +159,12 @@ impl Page {
         after: Option<&Row>,
         position: Position,
     ) -> Result<(), PartFault>
-        ensures ok { OnOk result (self.new ≡ changed self.old part.now tran.0 (option_copied after.entry) position.0) }
-        ensures fits { OnOk result (PartFits self.old.number self.old.slots tran.0 (option_copied after.entry) part.now) }
-        ensures unfit { OnErr result (PartFits self.old.number self.old.slots tran.0 (option_copied after.entry) part.now → ⊥) }
+        ensures ok { OnOk result (self.new ≡ changed self.old part.now tran.0
+            (option_copied after.entry) position.0) }
+        ensures fits { OnOk result (PartFits self.old.number self.old.slots tran.0
+            (option_copied after.entry) part.now) }
+        ensures unfit { OnErr result (PartFits self.old.number self.old.slots tran.0
+            (option_copied after.entry) part.now → ⊥) }
         ensures err { OnErr result (self.new ≡ self.old) }
     {
         if part.page != self.number {
@@ -179,7 +187,10 @@ impl Page {
         requires fits { Fits (placed (map bare self.old.slots) i header) }
         requires bare { bare header ≡ header }
         requires area { IsArea header (bytes_of (option_copied row)) }
-        ensures { self.new ≡ record self.old { slots = placed self.old.slots i (whole_slot header other (bytes_of (option_copied row.entry))) } }
+        ensures { self.new ≡ record self.old {
+          slots = placed self.old.slots i
+              (whole_slot header other (bytes_of (option_copied row.entry)));
+        } }
     {
         let at = i as usize;
         self.summary.set(i, header);
@@ -194,7 +205,8 @@ fn put_place(others: &mut Vec<Place>, at: usize, left: usize, other: Place)
     requires left { IsLeft at (vec_len others.old) left }
     requires few { left ≤ 225 }
     requires room { 226 ≤ vec_capacity others.old }
-    ensures items { others.new.items ≡ take left (altered nowhere (λ _. other) others.old.items at) }
+    ensures items { others.new.items ≡ take left (altered nowhere
+        (λ _. other) others.old.items at) }
     ensures capacity { vec_capacity others.old ≤ vec_capacity others.new }
 {
     if at < others.len() {
@@ -215,7 +227,8 @@ fn pad_places(others: &mut Vec<Place>, count: usize)
     requires past { vec_len others.old ≤ count }
     requires room { count ≤ vec_capacity others.old }
     ensures count { vec_len others.new ≡ count }
-    ensures same { (x : ThePlace) → altered nowhere (λ _. x) others.new.items count ≡ altered nowhere (λ _. x) others.old.items count }
+    ensures same { (x : ThePlace) → altered nowhere (λ _. x) others.new.items count
+        ≡ altered nowhere (λ _. x) others.old.items count }
     ensures capacity { vec_capacity others.old ≤ vec_capacity others.new }
 {
     while others.len() < count {
@@ -226,9 +239,11 @@ fn pad_places(others: &mut Vec<Place>, count: usize)
 // The same of the bytes of a row, or none.
 fn put_area(areas: &mut Areas, at: usize, left: usize, row: Option<&Row>)
     requires few { left ≤ 225 }
-    requires fits { filled_by areas.old + size_of (option_copied row) ≤ 4064 + length (slice_index_or areas.old at []) }
+    requires fits { filled_by areas.old + size_of (option_copied row)
+        ≤ 4064 + length (slice_index_or areas.old at []) }
     requires left { IsLeft at (length areas.old) left }
-    ensures { areas.new ≡ take left (altered [] (λ _. bytes_of (option_copied row.entry)) areas.old at) }
+    ensures { areas.new ≡ take left (altered []
+        (λ _. bytes_of (option_copied row.entry)) areas.old at) }
 {
     if at < areas.len() {
         areas.replace(at, row);
@@ -250,7 +265,8 @@ fn pad_areas(areas: &mut Areas, count: usize)
     requires few { count ≤ 225 }
     ensures count { length areas.new ≡ count }
     ensures filled { filled_by areas.new ≡ filled_by areas.old }
-    ensures same { (x : List ℕ) → altered [] (λ _. x) areas.new count ≡ altered [] (λ _. x) areas.old count }
+    ensures same { (x : List ℕ) → altered [] (λ _. x) areas.new count
+        ≡ altered [] (λ _. x) areas.old count }
 {
     while areas.len() < count {
         areas.push_empty();
@@ -293,7 +309,8 @@ fn takes(op: SlotOp, after: Option<&Row>) -> bool
 }
 
 fn holds(capacity: u16, after: Option<&Row>) -> bool
-    ensures holds { IsTrue result ↔ IsSomeAnd (option_copied after.entry) (λ row. row_size row ≤ capacity) }
+    ensures holds { IsTrue result ↔ IsSomeAnd (option_copied after.entry)
+        (λ row. row_size row ≤ capacity) }
     ensures shown { IsShown (option_copied after.entry) }
 {
     match after {

@@ -15,8 +15,8 @@ use rg_base::tran::Tran;
 use std::alloc::Global;
 use std::marker::Model;
 
-/// The headers of a page's slots, in order, with the bytes that the slots take and the page's ceiling:
-/// what it could offer a slot and its area at most, whoever is live.
+/// The headers of a page's slots, in order, with the bytes that the slots take and the page's
+/// ceiling: what it could offer a slot and its area at most, whoever is live.
 #[derive(Drop)]
 pub struct Summary {
     headers: Vec<Header>,

@@ -418,10 +418,11 @@ fn offers_room(rt: HostRuntime) -> Result<(), Fail> {
     Ok(())
 }
 
-// Reserves two pages through the trait and adds them, puts the row on the second one, holds the first
-// one, and lets both go.
+// Reserves two pages through the trait and adds them, puts the row on the second one, holds the
+// first one, and lets both go.
 fn keeps_pages<F: Frames>(rt: &impl Abort, frames: &mut F, row: &Row) -> Result<(), FrameFault>
-    requires limit { length (F.seen frames.old).pages + (F.seen frames.old).reserved + 2 ≤ (F.seen frames.old).limit }
+    requires limit { length (F.seen frames.old).pages + (F.seen frames.old).reserved + 2
+        ≤ (F.seen frames.old).limit }
 {
     let before = frames.count();
     assert!(rt; frames.spare() > 4);
