@@ -2,6 +2,7 @@
 use Rattle.std.proofs.Common.{◌≡◌, ◌≤◌, ◌+◌, ℕ, true, List, [], ◌∷◌, length, refl, subst, ◌∙◌, arith}
 use Rattle.rg_base.specs.declared.part.Part.{Part}
 use Rattle.rg_page.specs.Seen.{Seen}
+use Rattle.rg_space.specs.Applied.{AllHeld}
 use Rattle.rg_space.specs.Ready.{IsReady, AllReady}
 use Rattle.rg_space.specs.Took.{Took, IsHeldAt}
 
@@ -36,3 +37,8 @@ ready_later a b capacity n l r = record {
 pub all_later : (a b : Seen) (capacity : ℕ) (parts : List Part) → Later a b → AllReady a capacity parts → AllReady b capacity parts
 all_later a b capacity [] l r = tt
 all_later a b capacity (x ∷ parts) l r = (ready_later a b capacity x.page l r.0, all_later a b capacity parts l r.1)
+
+-- pages at hand are held
+pub ready_held : (s : Seen) (capacity : ℕ) (parts : List Part) → AllReady s capacity parts → AllHeld s parts
+ready_held s capacity [] r = tt
+ready_held s capacity (x ∷ parts) r = (r.0.held, ready_held s capacity parts r.1)

@@ -57,6 +57,7 @@ impl<F: Frames> Space<F> {
         ensures step { IfOk result (λ space. InStep (F.seen (frames_of space)) (index_of space)
             (capacity_in space)) }
         ensures capacity { IfOk result (λ space. capacity_in space ≡ capacity) }
+        ensures undos { IfOk result (λ space. undos_in space ≡ 0) }
         ensures agree { IfOk result (λ space. (F.seen (frames_of space)).sure ≡ true
             → Agree (F.seen (frames_of space)) (index_of space)) }
         ensures reads { IfOk result (λ space. Reads (F.seen frames) (F.seen (frames_of space))) }
@@ -101,6 +102,7 @@ impl<F: Frames> Space<F> {
         ensures step { InStep (F.seen (frames_of self.new)) (index_of self.new)
             (capacity_in self.new) }
         ensures capacity { capacity_in self.new ≡ capacity_in self.old }
+        ensures undos { undos_in self.new ≡ undos_in self.old }
         ensures summaries { index_of self.new ≡ index_of self.old }
         ensures took { Took 2 (F.seen (frames_of self.old)) (F.seen (frames_of self.new)) }
         ensures cause { IfErr result (λ fault. HasRisen fault (F.seen (frames_of self.old))
@@ -122,6 +124,7 @@ impl<F: Frames> Space<F> {
         ensures step { InStep (F.seen (frames_of self.new)) (index_of self.new)
             (capacity_in self.new) }
         ensures capacity { capacity_in self.new ≡ capacity_in self.old }
+        ensures undos { undos_in self.new ≡ undos_in self.old }
         ensures summaries { (index_of self.new).pages ≡ (index_of self.old).pages }
         ensures reserved { OnOk result (1 ≤ (F.seen (frames_of self.new)).reserved) }
         ensures least { (F.seen (frames_of self.old)).reserved
@@ -156,6 +159,7 @@ impl<F: Frames> Space<F> {
         ensures step { InStep (F.seen (frames_of self.new)) (index_of self.new)
             (capacity_in self.new) }
         ensures capacity { capacity_in self.new ≡ capacity_in self.old }
+        ensures undos { undos_in self.new ≡ undos_in self.old }
         ensures summaries { (index_of self.new).pages ≡ (index_of self.old).pages }
         ensures ready { OnOk result (IsReady (F.seen (frames_of self.new))
             (capacity_in self.new) number) }
@@ -193,6 +197,7 @@ impl<F: Frames> Space<F> {
         ensures step { InStep (F.seen (frames_of self.new)) (index_of self.new)
             (capacity_in self.new) }
         ensures capacity { capacity_in self.new ≡ capacity_in self.old }
+        ensures undos { undos_in self.new ≡ undos_in self.old }
         ensures summaries { (index_of self.new).pages ≡ (index_of self.old).pages }
         ensures ready { OnOk result (AllReady (F.seen (frames_of self.new))
             (capacity_in self.new) parts.now) }
@@ -219,6 +224,7 @@ impl<F: Frames> Space<F> {
         ensures step { InStep (F.seen (frames_of self.new)) (index_of self.new)
             (capacity_in self.new) }
         ensures capacity { capacity_in self.new ≡ capacity_in self.old }
+        ensures undos { undos_in self.new ≡ undos_in self.old }
         ensures summaries { (index_of self.new).pages ≡ (index_of self.old).pages }
         ensures plan { IfOk result (λ plan. Agree (F.seen (frames_of self.new)) (index_of self.new)
             → Some plan ≡ planned_put (numbers_of live.now) (row_size row.now)
@@ -264,6 +270,7 @@ impl<F: Frames> Space<F> {
         ensures step { InStep (F.seen (frames_of self.new)) (index_of self.new)
             (capacity_in self.new) }
         ensures capacity { capacity_in self.new ≡ capacity_in self.old }
+        ensures undos { undos_in self.new ≡ undos_in self.old }
         ensures summaries { (index_of self.new).pages ≡ (index_of self.old).pages }
         ensures plan { IfOk result (λ plan. Agree (F.seen (frames_of self.new)) (index_of self.new)
             → Some plan ≡ planned_change (numbers_of live.now) (row_size row.now)
@@ -308,6 +315,7 @@ impl<F: Frames> Space<F> {
         ensures step { InStep (F.seen (frames_of self.new)) (index_of self.new)
             (capacity_in self.new) }
         ensures capacity { capacity_in self.new ≡ capacity_in self.old }
+        ensures undos { undos_in self.new ≡ undos_in self.old }
         ensures summaries { (index_of self.new).pages ≡ (index_of self.old).pages }
         ensures plan { IfOk result (λ plan. Agree (F.seen (frames_of self.new)) (index_of self.new)
             → plan ≡ planned_drop (slots_of (F.seen (frames_of self.new)).pages) home
@@ -423,6 +431,7 @@ impl<F: Frames> Space<F> {
         ensures step { InStep (F.seen (frames_of self.new)) (index_of self.new)
             (capacity_in self.new) }
         ensures capacity { capacity_in self.new ≡ capacity_in self.old }
+        ensures undos { undos_in self.new ≡ undos_in self.old }
         ensures pages { (limit : ℕ) → Within limit (F.seen (frames_of self.old))
             (capacity_in self.old) → number ≤ length (F.seen (frames_of self.old)).pages + 1
             → number ≤ limit → (F.seen (frames_of self.new)).pages
@@ -454,6 +463,7 @@ impl<F: Frames> Space<F> {
         ensures step { InStep (F.seen (frames_of self.new)) (index_of self.new)
             (capacity_in self.new) }
         ensures capacity { capacity_in self.new ≡ capacity_in self.old }
+        ensures undos { undos_in self.new ≡ undos_in self.old }
         ensures pages { (limit : ℕ) → part.now.page ≤ length (F.seen (frames_of self.old)).pages
             → Fitting limit (F.seen (frames_of self.old)).pages tran.0
             (option_copied after.entry) part.now
@@ -492,6 +502,7 @@ impl<F: Frames> Space<F> {
         ensures step { InStep (F.seen (frames_of self.new)) (index_of self.new)
             (capacity_in self.new) }
         ensures capacity { capacity_in self.new ≡ capacity_in self.old }
+        ensures undos { undos_in self.new ≡ undos_in self.old }
         ensures pages { (limit : ℕ) → Within limit (F.seen (frames_of self.old))
             (capacity_in self.old) → Fitting limit (F.seen (frames_of self.old)).pages tran.0
             (option_copied after.entry) part.now
@@ -524,6 +535,7 @@ impl<F: Frames> Space<F> {
         ensures step { InStep (F.seen (frames_of self.new)) (index_of self.new)
             (capacity_in self.new) }
         ensures capacity { capacity_in self.new ≡ capacity_in self.old }
+        ensures undos { undos_in self.new ≡ undos_in self.old }
         ensures pages { (limit : ℕ) → Within limit (F.seen (frames_of self.old))
             (capacity_in self.old) → FittingAll limit (F.seen (frames_of self.old)).copy tran.0
             (option_copied after.entry) position.0 (F.seen (frames_of self.old)).pages parts.now

@@ -1,11 +1,21 @@
-ghost use Rattle.std.specs.Prelude.{◌≤◌};
+ghost use Rattle.std.specs.Prelude.{◌≡◌, ◌≤◌, ◌+◌};
+ghost use Rattle.rg_space.specs.Ready.{IsAtHand};
+ghost use Rattle.rg_space.specs.Space.{InStep, frames_of, index_of, capacity_in, undos_in};
 
+use crate::fault::SpaceFault;
 use crate::index::Index;
 use crate::moves::{Moves, PartsRoom};
+use crate::space::Space;
 use rg_base::part::{Part, SlotOp};
 use rg_base::place::Place;
+use rg_base::position::Position;
+use rg_base::row::Row;
+use rg_base::row_bytes::read_row;
 use rg_base::tran::Tran;
+use rg_home::plan::Plan;
+use rg_page::frames::Frames;
 use rg_page::header::Header;
+use rg_page::list::ListFrames;
 use rg_page::summary::Summary;
 use std::alloc::Global;
 use std::process::Abort;
@@ -440,5 +450,132 @@ fn finds_the_first_of_1000_pages(rt: HostRuntime) -> Result<(), Fail> {
         assert_eq!(rt; index.first(&[Tran(3)], b), want, "{b} bytes");
         assert_eq!(rt; walk(&index, &[Tran(3)], b), want, "{b} bytes");
     }
+    Ok(())
+}
+
+// A row whose text is one letter, so many times.
+fn letters(alloc: Global, key: u64, count: u16) -> Result<Row, Fail> {
+    let mut bytes = Vec::new(alloc);
+    bytes.extend_from_slice(&key.to_be_bytes())?;
+    bytes.extend_from_slice(&[0; 16])?;
+    bytes.extend_from_slice(&count.to_be_bytes())?;
+    for _ in 0..count {
+        bytes.push(b'x')?;
+    }
+    Ok(read_row(alloc, &bytes)?)
+}
+
+// Carries a plan out.
+fn carry<F: Frames>(space: &mut Space<F>, plan: &Plan, after: Option<&Row>, position: u64)
+    requires step { InStep (F.seen (frames_of space.old)) (index_of space.old)
+        (capacity_in space.old) }
+    requires hand { IsAtHand (F.seen (frames_of space.old)) (capacity_in space.old) plan.now }
+    ensures step { InStep (F.seen (frames_of space.new)) (index_of space.new)
+        (capacity_in space.new) }
+    ensures spare { (F.seen (frames_of space.old)).spare ≤ (F.seen (frames_of space.new)).spare }
+    ensures undos { undos_in space.new ≡ undos_in space.old }
+{
+    space.apply_parts(plan.purge.as_slice(), Tran(7), None, Position(position));
+    space.apply_parts(plan.parts.as_slice(), Tran(7), after, Position(position));
+}
+
+// Puts a row, if there is room for it, and says where its home is.
+fn put<F: Frames>(
+    space: &mut Space<F>,
+    row: &Row,
+    live: &[Tran],
+) -> Result<Result<Place, SpaceFault>, Fail>
+    requires spare { 5 ≤ (F.seen (frames_of space.old)).spare }
+    requires step { InStep (F.seen (frames_of space.old)) (index_of space.old)
+        (capacity_in space.old) }
+    ensures step { InStep (F.seen (frames_of space.new)) (index_of space.new)
+        (capacity_in space.new) }
+    ensures spare { (F.seen (frames_of space.old)).spare
+        ≤ (F.seen (frames_of space.new)).spare + 5 }
+    ensures undos { undos_in space.new ≡ undos_in space.old }
+{
+    match space.plan_put(row, live) {
+        Ok(plan) => {
+            carry(space, &plan, Some(row), 1);
+            Ok(Ok(plan.home))
+        }
+        Err(fault) => Ok(Err(fault)),
+    }
+}
+
+// The key of the row whose home is at this place, and the length of its text.
+fn shown<F: Frames>(space: &mut Space<F>, home: Place) -> Result<Option<(u64, usize)>, Fail>
+    requires spare { 5 ≤ (F.seen (frames_of space.old)).spare }
+    requires step { InStep (F.seen (frames_of space.old)) (index_of space.old)
+        (capacity_in space.old) }
+    ensures step { InStep (F.seen (frames_of space.new)) (index_of space.new)
+        (capacity_in space.new) }
+    ensures spare { (F.seen (frames_of space.old)).spare
+        ≤ (F.seen (frames_of space.new)).spare + 5 }
+    ensures undos { undos_in space.new ≡ undos_in space.old }
+{
+    match space.row_at(home)? {
+        None => Ok(None),
+        Some(row) => Ok(Some((row.key, row.text.as_slice().len()))),
+    }
+}
+
+// A row grows out of its full page, its change is undone, it is dropped, and that is undone too.
+fn changes_and_undoes<F: Frames>(
+    rt: &impl Abort,
+    space: &mut Space<F>,
+    home: Place,
+    before: &Row,
+    after: &Row,
+) -> Result<(), Fail>
+    requires spare { 50 ≤ (F.seen (frames_of space.old)).spare }
+    requires undos { 2 ≤ undos_in space.old }
+    requires step { InStep (F.seen (frames_of space.old)) (index_of space.old)
+        (capacity_in space.old) }
+    ensures step { InStep (F.seen (frames_of space.new)) (index_of space.new)
+        (capacity_in space.new) }
+{
+    let plan = space.plan_change(home, after, &[])?;
+    carry(space, &plan, Some(after), 2);
+    assert_eq!(rt; shown(space, home)?, Some((5, 800)));
+    let undo = space.plan_undo(home, Some(before), plan.parts.as_slice())?;
+    space.apply_parts(undo.as_slice(), Tran(7), Some(before), Position(3));
+    assert_eq!(rt; shown(space, home)?, Some((5, 600)));
+    let plan = space.plan_drop(home)?;
+    carry(space, &plan, None, 4);
+    assert_eq!(rt; shown(space, home)?, None);
+    let undo = space.plan_undo(home, Some(before), plan.parts.as_slice())?;
+    space.apply_parts(undo.as_slice(), Tran(7), Some(before), Position(5));
+    assert_eq!(rt; shown(space, home)?, Some((5, 600)));
+    Ok(())
+}
+
+// Page 1 takes four rows of 826 bytes and one of 626, which then goes to page 2 and comes back. The
+// area that it left there is purged only for a put that finds its owner ended.
+#[test]
+fn plans_over_frames(rt: HostRuntime) -> Result<(), Fail> {
+    let frames = ListFrames::new(rt.alloc(), 1);
+    let mut space = match Space::new(rt.alloc(), frames, 2) {
+        Ok(space) => space,
+        Err((_, fault)) => return Err(fault.into()),
+    };
+    space.reserve_undo(2)?;
+    let long = letters(rt.alloc(), 1, 800)?;
+    assert_eq!(rt; put(&mut space, &long, &[])?, Ok(place(1, 0)));
+    assert_eq!(rt; put(&mut space, &long, &[])?, Ok(place(1, 1)));
+    assert_eq!(rt; put(&mut space, &long, &[])?, Ok(place(1, 2)));
+    assert_eq!(rt; put(&mut space, &long, &[])?, Ok(place(1, 3)));
+    let before = letters(rt.alloc(), 5, 600)?;
+    let after = letters(rt.alloc(), 5, 800)?;
+    assert_eq!(rt; put(&mut space, &before, &[])?, Ok(place(1, 4)));
+    changes_and_undoes(&rt, &mut space, place(1, 4), &before, &after)?;
+    assert_eq!(rt; put(&mut space, &long, &[Tran(7)])?, Ok(place(2, 1)));
+    assert_eq!(rt; put(&mut space, &long, &[Tran(7)])?, Ok(place(2, 2)));
+    assert_eq!(rt; put(&mut space, &long, &[Tran(7)])?, Ok(place(2, 3)));
+    assert_eq!(rt;
+        put(&mut space, &long, &[Tran(7)])?,
+        Err(SpaceFault::Full { need: 826 })
+    );
+    assert_eq!(rt; put(&mut space, &long, &[])?, Ok(place(2, 0)));
     Ok(())
 }

@@ -19,6 +19,7 @@ loop-part-preserved g c =
     record {
       step = h.step;
       capacity = h.capacity ∙ i.capacity;
+      undos = h.undos ∙ i.undos;
       held = held_on p b last _ h.writes held.1;
       writes = writes_more p a b last i.writes h.writes;
       agree = λ x. h.agree (i.agree x);

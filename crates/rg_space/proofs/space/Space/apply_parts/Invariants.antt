@@ -2,7 +2,7 @@ use Rattle.std.proofs.Common.{◌≡◌, ℕ, List, drop}
 use Rattle.std.specs.Option.{option_copied}
 use Rattle.rg_page.specs.Content.{Content}
 use Rattle.rg_space.specs.Applied.{AllHeld, FittingAll, Within, Writes, wrote_all}
-use Rattle.rg_space.specs.Space.{Agree, InStep, frames_of, index_of, capacity_in}
+use Rattle.rg_space.specs.Space.{Agree, InStep, frames_of, index_of, capacity_in, undos_in}
 use Rattle.rg_space.proofs.space.Space.apply_parts.Given as goal
 
 abbrev pub invariant-loop-part : goal.invariant-loop-part
@@ -12,6 +12,7 @@ invariant-loop-part g l =
     record {
       step : InStep b (index_of l.self) (capacity_in l.self);
       capacity : capacity_in l.self ≡ capacity_in l.fn.self;
+      undos : undos_in l.self ≡ undos_in l.fn.self;
       held : AllHeld b (drop l.part-index l.parts);
       writes : Writes l.position.0 a b;
       agree : Agree a (index_of l.fn.self) → Agree b (index_of l.self);
