@@ -1,3 +1,7 @@
+// Numbers as words spell them.
+//
+// 1. A number has one spelling: decimal digits, without a sign, and without a zero before another.
+// 2. A word that spells no number, or one past the limit, is not read.
 ghost use Rattle.std.specs.Prelude.{ℕ, ◌≡◌, ◌≢◌, ◌<◌, ◌≤◌, ◌^◌, ◌↔◌, IfSome, IfNone, IsTrue};
 ghost use Rattle.std.specs.Fmt.{decimal};
 ghost use Rattle.rg_base.specs.Number.{IsPlain};

@@ -1,10 +1,14 @@
+// Parts: what a record does to slots.
+//
+// 1. A part sets one slot of one page. The parts of a record are applied in their order.
+// 2. A part has no row and no owner of its own: both are the record's.
 ghost use Rattle.std.specs.Prelude.{◌≡◌};
 
 use crate::place::Place;
 use std::marker::Model;
 
-/// What a part makes of a slot. `capacity` is the bytes of its area; `other` is the Over area that a
-/// pointer names, or the home that an Over area names. The row of a Row or an Over is that of the
+/// What a part makes of a slot. `capacity` is the bytes of its area; `other` is the Over area that
+/// a pointer names, or the home that an Over area names. The row of a Row or an Over is that of the
 /// record that the part belongs to, and the owner of a dead slot is the record's transaction.
 #[derive(Clone, Copy, Debug, PartialEq, Eq)]
 pub enum SlotOp {

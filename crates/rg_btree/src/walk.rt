@@ -1,3 +1,5 @@
+// The search of a range of values. The entries of a node rise, so only the children from the first
+// to the last one that may have such a value are looked at.
 ghost use Rattle.std.specs.Prelude.{◌≡◌, ◌++◌, OnOk};
 ghost use Rattle.rg_index.specs.Entries.{IsRising, entries_within};
 

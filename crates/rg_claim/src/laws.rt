@@ -1,3 +1,4 @@
+// Laws of what claims keep. None of these functions does anything.
 ghost use Rattle.std.specs.Prelude.{◌≡◌};
 ghost use Rattle.std.specs.FinMap as map;
 ghost use Rattle.rg_base.specs.declared.options.DrainFor.TheVariants.{All};

@@ -1,3 +1,9 @@
+// Words of a line.
+//
+// 1. One space parts two words, so no word has one.
+// 2. A number has one spelling: decimal digits, no sign, and no zero before another digit.
+// 3. A text that is empty or has only `-` is written with one `-` more. So each text has one
+//    spelling, and no word is empty.
 ghost use Rattle.std.specs.Prelude.{ℕ, List, ◌≡◌, ◌≢◌, ◌<◌, ◌^◌, ◌++◌, ◌∷◌, ◌↔◌, MatchOption};
 ghost use Rattle.std.specs.Prelude.{SomeIff, IsTrue, IfOk, IfSome, IfNone};
 ghost use Rattle.std.specs.Fmt.{decimal};

@@ -1,3 +1,5 @@
+// A file for tests, in memory. It fails where a test says so, moves few bytes at a time, and counts
+// its calls. The program never uses it.
 use std::alloc::Global;
 use std::fs::{Metadata, OpenFile};
 use std::io::{self, Cursor, ErrorKind, Read, Seek, SeekFrom, Write};

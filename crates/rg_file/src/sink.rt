@@ -1,3 +1,4 @@
+// The rules for calls that fail or are interrupted are those of `calls.rt`.
 ghost use Rattle.std.specs.Prelude.{◌≡◌, ◌≤◌, length, take, IfOk, IfErr, OnErr};
 ghost use Rattle.std.specs.Io.KnownBytes.{Appends, Keeps};
 ghost use Rattle.rg_outside.specs.Faults.{HasGiveCause};

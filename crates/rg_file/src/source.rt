@@ -1,3 +1,4 @@
+// The rules for calls that fail or are interrupted are those of `calls.rt`.
 ghost use Rattle.std.specs.Prelude.{◌≡◌};
 
 use crate::calls::read_through;

@@ -1,3 +1,4 @@
+// The generator of numbers: a linear congruence of 64 bits, of which a draw shows the upper 31.
 ghost use Rattle.std.specs.Prelude.{◌≡◌, ◌<◌, ◌^◌};
 ghost use Rattle.rg_gen.specs.Draws.{next_state, drawn};
 

@@ -2,8 +2,9 @@ use rg_base::part::Parts;
 use rg_base::place::Place;
 use rg_base::row::Row;
 
-/// How a write goes about it: the home of its row, the row before, the parts that purge a page first,
-/// if that is needed, and then those that write. `specs/Plan.antt` says which plan a write has.
+/// How a write goes about it: the home of its row, the row before, the parts that purge a page
+/// first, if that is needed, and then those that write. `specs/Plan.antt` says which plan a write
+/// has.
 #[derive(Debug, Drop)]
 pub struct Plan {
     pub home: Place,

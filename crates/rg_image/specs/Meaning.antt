@@ -40,8 +40,8 @@ abbrev pub current_from : Current → List Record → Current
 current_from now [] = now
 current_from now (entry ∷ rs) = current_from (current_after now entry.kind) rs
 
--- The copy of the last Switch, or 1; and the pages of that Switch, or 0, raised to the greatest page
--- of a later part.
+-- The copy of the last Switch, or 1; and the pages of that Switch, or 0, raised to the greatest
+-- page of a later part.
 abbrev pub current_of : List Record → Current
 current_of rs = current_from (record { copy = 1; pages = 0 }) rs
 

@@ -197,7 +197,8 @@ KindFollows before entry (Switch copy pages) =
     (copy ≢ (current_of before).copy) × ((tran : ℕ) → IsOpen tran before → ⊥)
 
 -- a record that the records before it allow
-pub record IsChained (capacities : Capacities) (before : List Record) (entry : Record) : Type 0 where
+pub record IsChained (capacities : Capacities) (before : List Record)
+    (entry : Record) : Type 0 where
   pub position : entry.position.0 ≡ length before + 1
   pub kind : KindFollows before entry entry.kind
   pub pages : NamesPages capacities (current_of before).copy entry.kind

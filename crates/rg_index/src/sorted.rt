@@ -1,3 +1,5 @@
+// 1. The entries rise, and none is there twice.
+// 2. `reserve` takes the room, so adding takes no memory.
 ghost use Rattle.std.specs.Prelude.{◌≡◌, [], IfOk};
 
 use crate::index::Index;

@@ -78,7 +78,8 @@ fn leave(
 ) -> Result<Possibility, NoMemory>
     requires session { IsSession session }
     requires admitted { is_drained (state_of st) session stmt.now ≡ false }
-    ensures { IfOk result (λ new. state_of new ≡ after_answer (state_of st) session stmt.now reply.now) }
+    ensures { IfOk result (λ new. state_of new
+        ≡ after_answer (state_of st) session stmt.now reply.now) }
 {
     if !is_done(reply) {
         return Ok(st);

@@ -1,5 +1,6 @@
 // An opening: what it may find.
-// (1) Process death keeps the committed rows. A COMMIT in doubt may be in: then there are two tables.
+// (1) Process death keeps the committed rows. A COMMIT in doubt may be in: then there are two
+//     tables.
 // (2) The other copy may be current where the switch is in doubt.
 // (3) It finds as many rows as the table has.
 ghost use Rattle.std.specs.Prelude.{◌≡◌, ◌++◌, ◌==◌, IfOk, None, Some, if◌then◌else◌};

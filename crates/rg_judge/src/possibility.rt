@@ -10,8 +10,8 @@ use rg_claim::claims::Claims;
 use rg_lock::locks::Locks;
 use rg_turn::progress::Progress;
 
-/// A state that the entries so far allow. There is more than one where an opening found a table that
-/// a refused COMMIT leaves open.
+/// A state that the entries so far allow. There is more than one where an opening found a table
+/// that a refused COMMIT leaves open.
 #[derive(Drop)]
 pub struct Possibility {
     pub table: Table,

@@ -33,8 +33,8 @@ abbrev pub IsCertain : Told → Type 0
 IsCertain t =
     (s : Set) (p : ℕ) → CrashLeaves s p (λ bytes. bytes ≡ read_of t.first t.calls s p) t
 
--- Why a log was not opened: this page breaks the rule for log pages, a call of the volume failed, or
--- memory ran out.
+-- Why a log was not opened: this page breaks the rule for log pages, a call of the volume failed,
+-- or memory ran out.
 abbrev pub IsLogFault : Option Told → ℕ → ℕ → ℕ → LogFault → Type 0
 IsLogFault told pages before now (Damaged page) =
     IfTold told (λ t. BreaksLogPages pages (read_of t.first t.calls) page)

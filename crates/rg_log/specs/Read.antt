@@ -25,10 +25,12 @@ pub record StandAt (bytes : List ℕ) (count : ℕ) (rs : List Record) (rest : L
 -- where so many records stand there, they are these
 abbrev pub AreRead : List ℕ → ℕ → List Record → Type 0
 AreRead bytes count found =
-    AreEntries found × ((rs : List Record) (rest : List ℕ) → StandAt bytes count rs rest → found ≡ rs)
+    AreEntries found × ((rs : List Record) (rest : List ℕ) → StandAt bytes count rs rest
+    → found ≡ rs)
 
 abbrev pub AreNone : List ℕ → ℕ → RecordFault → Type 0
-AreNone bytes count NotARecord = (rs : List Record) (rest : List ℕ) → StandAt bytes count rs rest → ⊥
+AreNone bytes count NotARecord = (rs : List Record) (rest : List ℕ) → StandAt bytes count rs rest
+    → ⊥
 AreNone bytes count NoMemory = Unit {0}
 
 -- the bytes of a page with these records

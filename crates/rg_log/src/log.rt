@@ -241,10 +241,12 @@ impl Log {
         ensures further { self.old.forced ≤ self.new.forced }
         ensures within { self.new.forced ≤ length self.old.records }
         ensures ok { OnOk result (self.old.forced < self.new.forced) }
-        ensures moments { LeavesLog (V.told volume.old) self.old.pages self.old.records self.old.forced
+        ensures moments { LeavesLog (V.told volume.old) self.old.pages self.old.records
+            self.old.forced
             → HoldsThroughout (V.told volume.old) (V.told volume.new)
             (EachImage (SpellsFrom self.old.pages self.old.records self.old.forced)) }
-        ensures ahead { LeavesLog (V.told volume.old) self.old.pages self.old.records self.old.forced
+        ensures ahead { LeavesLog (V.told volume.old) self.old.pages self.old.records
+            self.old.forced
             → LeavesLog (V.told volume.new) self.old.pages self.old.records self.new.forced }
         ensures only { EachCall (V.told volume.old) (V.told volume.new) (WritesIn LogSet) }
         ensures capacities { V.capacities volume.new ≡ V.capacities volume.old }
@@ -272,10 +274,12 @@ impl Log {
             → IfTold (V.told volume.new)
             (EachImage (λ i. log_of self.old.pages i ≡ self.old.records))) }
         // At each moment, and whatever fails, it is a part of them, no less than was forced.
-        ensures moments { LeavesLog (V.told volume.old) self.old.pages self.old.records self.old.forced
+        ensures moments { LeavesLog (V.told volume.old) self.old.pages self.old.records
+            self.old.forced
             → HoldsThroughout (V.told volume.old) (V.told volume.new)
             (EachImage (SpellsFrom self.old.pages self.old.records self.old.forced)) }
-        ensures ahead { LeavesLog (V.told volume.old) self.old.pages self.old.records self.old.forced
+        ensures ahead { LeavesLog (V.told volume.old) self.old.pages self.old.records
+            self.old.forced
             → LeavesLog (V.told volume.new) self.old.pages self.old.records self.new.forced }
         // No page of another set is written.
         ensures only { EachCall (V.told volume.old) (V.told volume.new) (WritesIn LogSet) }

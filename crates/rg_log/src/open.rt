@@ -1,7 +1,7 @@
 // 1. The volume is synced first, so what is read is what a crash leaves.
-// 2. Pages are read in order, up to the first page of zeros or the end of the set. A page in between
-//    has the form of a log page, its first record has the next position, and that record had no room
-//    on the page before. The first page without these is named.
+// 2. Pages are read in order, up to the first page of zeros or the end of the set. A page in
+//    between has the form of a log page, its first record has the next position, and that record
+//    had no room on the page before. The first page without these is named.
 // 3. Nothing is written.
 ghost use Rattle.std.specs.Prelude.{◌≡◌, ◌≤◌, ◌+◌, ◌*◌, [], IfOk, IfErr, OnOk, IsTrue, ◌↔◌, length};
 ghost use Rattle.rg_outside.specs.Calls.{read_of};

@@ -1,3 +1,4 @@
+// An option that is not set has its default. An ALTER changes only those that it sets.
 ghost use Rattle.std.specs.Prelude.{◌≡◌};
 ghost use Rattle.rg_opts.specs.Given.{none_set, with_setting, is_set, with_defaults, alteration_of};
 

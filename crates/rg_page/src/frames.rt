@@ -51,7 +51,8 @@ pub trait Frames {
         requires low { 1 ≤ number }
         requires high { number ≤ length (seen self.old).pages }
         requires spare { 1 ≤ (seen self.old).spare }
-        ensures* read { sem 𝓛 (follows_so Self.row Self.row self.entry.ghost_name none (λ _ _. ⊤) (λ f.
+        ensures* read { sem 𝓛 (follows_so Self.row Self.row self.entry.ghost_name none (λ _ _. ⊤)
+            (λ f.
             IfOk result (λ page. page.now ≡ content_at (seen f).pages number)
             × OnOk result (Held number (seen self.old) (seen f))
             × OnErr result (Failed (seen self.old) (seen f))

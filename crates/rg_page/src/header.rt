@@ -1,3 +1,5 @@
+// 1. A plan reads of a slot its kind, its capacity and its owner, and neither row nor place.
+// 2. Only a dead slot has an owner. What stands in another header in its place is not looked at.
 ghost use Rattle.std.specs.Prelude.{◌≡◌, ◌==◌, ◌<◌, ◌^◌, IsTrue, ◌↔◌};
 ghost use Rattle.std.specs.List.{list_any};
 ghost use Rattle.rg_home.specs.Pages.{made, row_or_empty};

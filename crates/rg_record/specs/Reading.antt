@@ -22,7 +22,7 @@ abbrev pub ◌>>=◌ : {A B : Type 0} → Option A → (A → Option B) → Opti
 (Some x) >>= f = f x
 None >>= f = None
 
--- a refusal that is not for want of memory says that nothing is read
+-- a refusal other than out of memory says that nothing is read
 abbrev pub Refuses : {Y : Type 0} → RecordFault → Option Y → Type 0
 Refuses NotARecord read = read ≡ None
 Refuses NoMemory read = Unit {0}

@@ -11,7 +11,7 @@ use Rattle.rg_record.specs.Spelling.{record_bytes}
 abbrev pub NoRecordHas : List ℕ → Type 0
 NoRecordHas bytes = (entry : Record) → Fits entry → IsRecord entry → record_bytes entry ≡ bytes → ⊥
 
--- a refusal that is not for want of memory says that the bytes are no spelling
+-- a refusal other than out of memory says that the bytes are no spelling
 abbrev pub IsNone : List ℕ → RecordFault → Type 0
 IsNone bytes NotARecord = NoRecordHas bytes
 IsNone bytes NoMemory = Unit {0}

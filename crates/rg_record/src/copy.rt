@@ -1,3 +1,4 @@
+// A copy of a record is equal to it, and takes memory.
 ghost use Rattle.std.specs.Prelude.{◌≡◌, IfOk};
 
 use crate::record::{Kind, Record};

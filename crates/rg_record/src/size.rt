@@ -1,3 +1,4 @@
+// The size of a record is the number of its bytes, found without writing them.
 ghost use Rattle.std.specs.Prelude.{◌≡◌, ◌≤◌, ◌+◌, ◌*◌, length};
 ghost use Rattle.rg_record.specs.Spelled.{IsKind, IsRecord, AreFrees, greatest};
 ghost use Rattle.rg_record.specs.Spelling.{op_size, parts_size, row_field_size, kind_size, record_bytes, record_size};

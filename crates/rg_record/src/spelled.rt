@@ -1,3 +1,8 @@
+// Which records have a spelling.
+//
+// 1. A Change or an Undo has one to three parts.
+// 2. A Purge has 1 to 225 parts, each Free, all of one page.
+// 3. A Purge and a Switch are of transaction 0, with back 0. A Switch names copy 1 or 2.
 ghost use Rattle.std.specs.Prelude.{◌≡◌, IsTrue, ◌↔◌, ◌≤◌, length};
 ghost use Rattle.std.specs.List.{list_all};
 ghost use Rattle.rg_record.specs.Spelled.{is_free, frees_on, IsFew, AreFrees, IsOfNone, IsRecord};

@@ -1,3 +1,5 @@
+// A slot is looked at once, and what it says of a row is kept, so no page stays lent. A slot past
+// the last one is Free.
 ghost use Rattle.std.specs.Prelude.{◌≡◌, IfOk};
 ghost use Rattle.rg_home.specs.Plan.{pointed_to};
 ghost use Rattle.rg_home.specs.Slots.{slot_at};

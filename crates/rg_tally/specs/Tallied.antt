@@ -86,6 +86,7 @@ pub record IsTallied (past : List Entry) (tally : Tally) : Type 0 where
   pub changes : tally.changes ≡ changes past
   pub writes : (session : ℕ) → writes_of tally session ≡ unit_writes session past
   pub writers :
-      (key : ℕ) (over : List ℕ) → is_open over (map.get tally.writers key) ≡ is_locked_in key over past
+      (key : ℕ) (over : List ℕ) → is_open over (map.get tally.writers key)
+      ≡ is_locked_in key over past
   pub quiet :
       (key : ℕ) → (tally.started && not (map.contains_key tally.stirred key)) ≡ is_quiet key past

@@ -1,5 +1,5 @@
-// Sums of counts. A count that outgrows 64 bits needs more entries than memory holds; it is answered
-// as out of memory.
+// Sums of counts. A count that outgrows 64 bits needs more entries than memory holds; it is
+// answered as out of memory.
 ghost use Rattle.std.specs.Prelude.{◌≡◌, ◌+◌, IfOk};
 
 use rg_base::no_memory::NoMemory;

@@ -156,8 +156,8 @@ fn give_up(all: u64, now: u32, u: Progress) -> Result<Progress, NoMemory>
     )
 }
 
-/// What becomes of the drain that was asked, where `blocker` is the least session that holds a class
-/// which the drain covers.
+/// What becomes of the drain that was asked, where `blocker` is the least session that holds a
+/// class which the drain covers.
 pub fn verdict_of(u: Progress, blocker: Option<Session>, answer: &Answer) -> DrainVerdict
     ensures { let said = answer.entry.now in result
         ≡ drain_verdict u.options u.asked u.failed blocker said.now said.estimate }

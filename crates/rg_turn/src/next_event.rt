@@ -128,8 +128,9 @@ fn turn_at<'a>(
     }
 }
 
-/// The turn of an event of a running utility, or none where the event is not its next. `all` are the
-/// changes so far, and `blocker` is the least session that holds a class which the drain covers.
+/// The turn of an event of a running utility, or none where the event is not its next. `all` are
+/// the changes so far, and `blocker` is the least session that holds a class which the drain
+/// covers.
 pub fn turn_of<'a>(
     all: u64,
     blocker: Option<Session>,

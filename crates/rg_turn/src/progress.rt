@@ -1,10 +1,10 @@
 use rg_base::options::Options;
 
 /// The numbers of a running utility, as far as its events tell them: its options, the pages when it
-/// started, the pages copied, the rows unloaded and reloaded, the pages filled, the lists sorted and
-/// the indexes built, the iteration with its target and size, the changes taken, the moments of the
-/// drain asked, of the last one given up and of the standing message, the failed tries, the pages
-/// last written, and whether the last iteration, the writing and the switch are over.
+/// started, the pages copied, the rows unloaded and reloaded, the pages filled, the lists sorted
+/// and the indexes built, the iteration with its target and size, the changes taken, the moments of
+/// the drain asked, of the last one given up and of the standing message, the failed tries, the
+/// pages last written, and whether the last iteration, the writing and the switch are over.
 #[derive(Clone, Copy, Debug, PartialEq, Eq)]
 pub struct Progress {
     pub options: Options,

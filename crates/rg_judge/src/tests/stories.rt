@@ -467,8 +467,8 @@ fn told(alloc: Global, story: Story, at: usize, wrong: bool) -> Told {
     }
 }
 
-/// An entry of a story, or another in its place. The calls rise; those of entry 23 fall, where it is
-/// changed.
+/// An entry of a story, or another in its place. The calls rise; those of entry 23 fall, where it
+/// is changed.
 pub fn entry(alloc: Global, story: Story, at: usize, wrong: bool) -> Told {
     let Some(mut entry) = told(alloc, story, at, wrong)? else {
         return Ok(None);
