@@ -8,7 +8,7 @@ use Rattle.rg_home.specs.Slot.{Slot}
 use Rattle.rg_home.specs.Slots.{placed, Fits}
 use Rattle.rg_page.specs.Content.{Content, slots_of, empty}
 use Rattle.rg_page.specs.Seen.{Seen}
-use Rattle.rg_space.specs.Applied.{grown, wrote_part, wrote_all, AllHeld, Fitting, FittingAll, Within, Writes}
+use Rattle.rg_space.specs.Applied.{grown, wrote_part, wrote_all, AllHeld, IsApplicable, AreApplicable, Within, Writes}
 use Rattle.rg_space.proofs.Took.{keeps_more, page_slots}
 
 pub grown_count : (copy : ℕ) (pages : List Content) (n : ℕ) → n ≤ length pages + 1 → n ≤ length (grown copy pages n)
@@ -45,7 +45,7 @@ grown_page copy pages n = go (n == length pages + 1) refl
         ∙ sym (page_slots pages n ∙ past_last (empty 0 0 ∷ pages) (empty 0 0) refl n (omega arith))
 
 pub fitting_grown : (limit copy : ℕ) (pages : List Content) (owner : ℕ) (after : Option Row) (x : Part)
-    → Fitting limit pages owner after x → Fitting limit (grown copy pages x.page) owner after x
+    → IsApplicable limit pages owner after x → IsApplicable limit (grown copy pages x.page) owner after x
 fitting_grown limit copy pages owner after x f = record {
   low = f.low;
   next = omega (arith, grown_count copy pages x.page f.next);
@@ -112,14 +112,14 @@ next_part parts i d below =
 
 -- the pages after the next part, and what is left to do to them
 pub applied_on : (limit owner position : ℕ) (after : Option Row) (a b c : Seen) (x : Part) (rest parts all : List Part)
-    → rest ≡ x ∷ parts → c.copy ≡ b.copy → (Fitting limit b.pages owner after x → c.pages ≡ wrote_part b.copy owner after position b.pages x)
-    → FittingAll limit b.copy owner after position b.pages rest
+    → rest ≡ x ∷ parts → c.copy ≡ b.copy → (IsApplicable limit b.pages owner after x → c.pages ≡ wrote_part b.copy owner after position b.pages x)
+    → AreApplicable limit b.copy owner after position b.pages rest
     × (wrote_all b.copy owner after position b.pages rest ≡ wrote_all a.copy owner after position a.pages all)
-    → FittingAll limit c.copy owner after position c.pages parts
+    → AreApplicable limit c.copy owner after position c.pages parts
     × (wrote_all c.copy owner after position c.pages parts ≡ wrote_all a.copy owner after position a.pages all)
 applied_on limit owner position after a b c x rest parts all e copy step h =
-    let fits : FittingAll limit b.copy owner after position b.pages (x ∷ parts) =
-    subst (λ (ps : List Part). FittingAll limit b.copy owner after position b.pages ps) e h.0 in
+    let fits : AreApplicable limit b.copy owner after position b.pages (x ∷ parts) =
+    subst (λ (ps : List Part). AreApplicable limit b.copy owner after position b.pages ps) e h.0 in
     let is : c.pages ≡ wrote_part b.copy owner after position b.pages x = step fits.0 in
     let same : wrote_all b.copy owner after position b.pages (x ∷ parts) ≡ wrote_all a.copy owner after position a.pages all =
     ap (wrote_all b.copy owner after position b.pages) (sym e) ∙ h.1 in

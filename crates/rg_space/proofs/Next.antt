@@ -25,7 +25,7 @@ use Rattle.rg_home.proofs.Moves.{pointed}
 use Rattle.rg_home.proofs.Range.{page_within}
 use Rattle.rg_home.proofs.Whole.{put_writes, change_writes, drop_writes}
 use Rattle.rg_page.specs.Content.{Content, slots_of}
-use Rattle.rg_space.specs.Applied.{wrote_all, AllNext, FittingAll}
+use Rattle.rg_space.specs.Applied.{wrote_all, AllNext, AreApplicable}
 use Rattle.rg_space.proofs.Whole.{slots_count, slots_all, next_more, fitting_all, all_count}
 
 -- each part makes its slot Free
@@ -275,8 +275,8 @@ module _ (limit copy owner purger position purged_at : ℕ) (pages : List Conten
 
   -- each record fits in its turn, and they make the pages of the plan
   pub record Carries (row : Option TableRow) (plan : Plan) : Type 0 where
-    pub purge : FittingAll limit copy purger None purged_at pages plan.purge
-    pub parts : FittingAll limit copy owner row position (then_purged plan) plan.parts
+    pub purge : AreApplicable limit copy purger None purged_at pages plan.purge
+    pub parts : AreApplicable limit copy owner row position (then_purged plan) plan.parts
     pub purged : slots_of (then_purged plan) ≡ applied owner (row_or_empty row) (slots_of pages) plan.purge
     pub after :
         slots_of (wrote_all copy owner row position (then_purged plan) plan.parts)
@@ -284,7 +284,7 @@ module _ (limit copy owner purger position purged_at : ℕ) (pages : List Conten
 
   pub apply_plan : (row : Option TableRow) (plan : Plan) → WritesHome owner limit (slots_of pages) row plan → PlanNext (length (slots_of pages)) plan → Carries row plan
   apply_plan row plan w n =
-      let purge : FittingAll limit copy purger None purged_at pages plan.purge =
+      let purge : AreApplicable limit copy purger None purged_at pages plan.purge =
       fitting_all limit copy purger None purged_at pages plan.purge
       (fits_free owner purger (row_or_empty row) (row_or_empty None) limit (slots_of pages) plan.purge n.frees w.purge_fits)
       (takes_free None plan.purge n.frees)
@@ -292,7 +292,7 @@ module _ (limit copy owner purger position purged_at : ℕ) (pages : List Conten
       let purged : slots_of (then_purged plan) ≡ applied owner (row_or_empty row) (slots_of pages) plan.purge =
       slots_all limit copy purger None purged_at pages plan.purge purge
       ∙ applied_free owner purger (row_or_empty row) (row_or_empty None) (slots_of pages) plan.purge n.frees in
-      let parts : FittingAll limit copy owner row position (then_purged plan) plan.parts =
+      let parts : AreApplicable limit copy owner row position (then_purged plan) plan.parts =
       fitting_all limit copy owner row position (then_purged plan) plan.parts
       (subst (λ (ps : List (List Slot)). FitsAll owner (row_or_empty row) limit ps plan.parts) (sym purged) w.parts_fit)
       w.takes

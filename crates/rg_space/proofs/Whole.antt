@@ -8,7 +8,7 @@ use Rattle.rg_home.specs.Slot.{Slot}
 use Rattle.rg_home.proofs.PageLists.{wrote-more}
 use Rattle.rg_page.specs.Changed.{changed}
 use Rattle.rg_page.specs.Content.{Content, content_at, slots_of, empty}
-use Rattle.rg_space.specs.Applied.{grown, wrote_part, wrote_all, AllNext, FittingAll}
+use Rattle.rg_space.specs.Applied.{grown, wrote_part, wrote_all, AllNext, AreApplicable}
 use Rattle.rg_space.proofs.Agreeing.{slots_set}
 use Rattle.rg_space.proofs.Growing.{grown_count}
 
@@ -52,7 +52,7 @@ slots_part copy owner after position pages x low next =
 
 -- several, in order
 pub slots_all : (limit copy owner : ℕ) (after : Option TableRow) (position : ℕ) (pages : List Content) (parts : List Part)
-    → FittingAll limit copy owner after position pages parts
+    → AreApplicable limit copy owner after position pages parts
     → slots_of (wrote_all copy owner after position pages parts) ≡ applied owner (row_or_empty after) (slots_of pages) parts
 slots_all limit copy owner after position pages [] f = refl
 slots_all limit copy owner after position pages (x ∷ parts) f =
@@ -67,7 +67,7 @@ next_more m n (x ∷ parts) h a = (omega (arith, a.0, h), next_more m n parts h 
 -- parts that fit the slots of pages fit the pages
 pub fitting_all : (limit copy owner : ℕ) (after : Option TableRow) (position : ℕ) (pages : List Content) (parts : List Part)
     → FitsAll owner (row_or_empty after) limit (slots_of pages) parts → TakesAll after parts → AllNext (length pages) parts
-    → FittingAll limit copy owner after position pages parts
+    → AreApplicable limit copy owner after position pages parts
 fitting_all limit copy owner after position pages [] f t a = tt
 fitting_all limit copy owner after position pages (x ∷ parts) f t a =
     let later : List Content = wrote_part copy owner after position pages x in (

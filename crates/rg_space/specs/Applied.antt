@@ -30,7 +30,7 @@ AllHeld s [] = Unit {0}
 AllHeld s (x ∷ parts) = IsHeldAt s x.page × AllHeld s parts
 
 -- a part fits its page, which is there, or is the next one and within the limit
-pub record Fitting (limit : ℕ) (pages : List Content) (owner : ℕ) (after : Option Row)
+pub record IsApplicable (limit : ℕ) (pages : List Content) (owner : ℕ) (after : Option Row)
     (x : Part) : Type 0 where
   pub low : 1 ≤ x.page
   pub next : x.page ≤ length pages + 1
@@ -40,12 +40,12 @@ pub record Fitting (limit : ℕ) (pages : List Content) (owner : ℕ) (after : O
       (made owner (row_or_empty after) x.op))
 
 -- each part in its turn
-abbrev pub FittingAll : (limit copy owner : ℕ) → Option Row → (position : ℕ) → List Content
+abbrev pub AreApplicable : (limit copy owner : ℕ) → Option Row → (position : ℕ) → List Content
     → List Part → Type 0
-FittingAll limit copy owner after position pages [] = Unit {0}
-FittingAll limit copy owner after position pages (x ∷ parts) =
-    Fitting limit pages owner after x
-    × FittingAll limit copy owner after position
+AreApplicable limit copy owner after position pages [] = Unit {0}
+AreApplicable limit copy owner after position pages (x ∷ parts) =
+    IsApplicable limit pages owner after x
+    × AreApplicable limit copy owner after position
     (wrote_part copy owner after position pages x) parts
 
 -- the page of each part is one of so many, or the next

@@ -28,11 +28,6 @@ IsPut (Some put) live b pages (Some area) =
     (put.0 ≡ area.place) × (put.1.purge ≡ purge_of live pages area.place.page area.purges)
     × (put.1.parts ≡ part_at area.place (Op.Row b) ∷ [])
 
--- a part, if there is one
-abbrev pub listed : Option Part → List Part
-listed None = []
-listed (Some part) = part ∷ []
-
 -- a row that comes to lie at home
 abbrev pub home_moves : List ℕ → List (List Slot) → Place → Option Place → Fitting → Moves
 home_moves live pages home other f = record {

@@ -7,12 +7,12 @@
 ghost use Rattle.std.specs.Prelude.{◌≡◌, ◌≤◌, ◌<◌, ◌+◌, ◌^◌, ◌∷◌, ◌++◌, ◌-◌, [], IfOk, length, drop};
 ghost use Rattle.rg_home.specs.Pages.{page_at, slot_of, part_at, place_of};
 ghost use Rattle.rg_home.specs.Undo.{left_area, over_place, over_before};
-ghost use Rattle.rg_home.specs.Plan.{new_area, fitting, purge_of};
+ghost use Rattle.rg_home.specs.Plan.{new_area, fitting, listed, purge_of};
 ghost use Rattle.rg_home.specs.Slots.{capacity_of};
 ghost use Rattle.std.specs.Option.{option_copied};
 ghost use Rattle.rg_space.specs.Planned.{size_in};
 ghost use Rattle.rg_page.specs.Bare.{numbers_of};
-ghost use Rattle.rg_space.specs.Moves.{IsPut, listed, home_moves, over_moves, new_moves, change_moves, drop_moves, undo_moves, left_by, back_moves, points_to};
+ghost use Rattle.rg_space.specs.Moves.{IsPut, home_moves, over_moves, new_moves, change_moves, drop_moves, undo_moves, left_by, back_moves, points_to};
 
 use crate::index::Index;
 use rg_base::no_memory::NoMemory;

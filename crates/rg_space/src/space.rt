@@ -15,7 +15,7 @@ ghost use Rattle.rg_page.specs.Content.{Content, slots_of};
 ghost use Rattle.rg_page.specs.Seen.{Reads, set_content};
 ghost use Rattle.rg_home.specs.Rows.{row_at};
 ghost use Rattle.rg_home.specs.Undo.{over_before, undo_parts};
-ghost use Rattle.rg_space.specs.Applied.{Fitting, FittingAll, AllHeld, Within, Writes, grown, wrote_part, wrote_all};
+ghost use Rattle.rg_space.specs.Applied.{IsApplicable, AreApplicable, AllHeld, Within, Writes, grown, wrote_part, wrote_all};
 ghost use Rattle.rg_space.specs.Took.{Took, HasRisen, IsRisen, IsHeldAt, slot_in};
 ghost use Rattle.rg_space.specs.Ready.{IsReady, AllReady, IsAtHand, HasCause};
 ghost use Rattle.rg_space.specs.Space.{Agree, InStep, frames_of, index_of, capacity_in, undos_in};
@@ -465,7 +465,7 @@ impl<F: Frames> Space<F> {
         ensures capacity { capacity_in self.new ≡ capacity_in self.old }
         ensures undos { undos_in self.new ≡ undos_in self.old }
         ensures pages { (limit : ℕ) → part.now.page ≤ length (F.seen (frames_of self.old)).pages
-            → Fitting limit (F.seen (frames_of self.old)).pages tran.0
+            → IsApplicable limit (F.seen (frames_of self.old)).pages tran.0
             (option_copied after.entry) part.now
             → (F.seen (frames_of self.new)).pages
             ≡ set_content (F.seen (frames_of self.old)).pages part.now tran.0
@@ -504,7 +504,7 @@ impl<F: Frames> Space<F> {
         ensures capacity { capacity_in self.new ≡ capacity_in self.old }
         ensures undos { undos_in self.new ≡ undos_in self.old }
         ensures pages { (limit : ℕ) → Within limit (F.seen (frames_of self.old))
-            (capacity_in self.old) → Fitting limit (F.seen (frames_of self.old)).pages tran.0
+            (capacity_in self.old) → IsApplicable limit (F.seen (frames_of self.old)).pages tran.0
             (option_copied after.entry) part.now
             → (F.seen (frames_of self.new)).pages
             ≡ wrote_part (F.seen (frames_of self.old)).copy tran.0
@@ -537,7 +537,7 @@ impl<F: Frames> Space<F> {
         ensures capacity { capacity_in self.new ≡ capacity_in self.old }
         ensures undos { undos_in self.new ≡ undos_in self.old }
         ensures pages { (limit : ℕ) → Within limit (F.seen (frames_of self.old))
-            (capacity_in self.old) → FittingAll limit (F.seen (frames_of self.old)).copy tran.0
+            (capacity_in self.old) → AreApplicable limit (F.seen (frames_of self.old)).copy tran.0
             (option_copied after.entry) position.0 (F.seen (frames_of self.old)).pages parts.now
             → (F.seen (frames_of self.new)).pages
             ≡ wrote_all (F.seen (frames_of self.old)).copy tran.0

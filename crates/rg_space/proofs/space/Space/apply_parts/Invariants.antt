@@ -1,7 +1,7 @@
 use Rattle.std.proofs.Common.{◌≡◌, ℕ, List, drop}
 use Rattle.std.specs.Option.{option_copied}
 use Rattle.rg_page.specs.Content.{Content}
-use Rattle.rg_space.specs.Applied.{AllHeld, FittingAll, Within, Writes, wrote_all}
+use Rattle.rg_space.specs.Applied.{AllHeld, AreApplicable, Within, Writes, wrote_all}
 use Rattle.rg_space.specs.Space.{Agree, InStep, frames_of, index_of, capacity_in, undos_in}
 use Rattle.rg_space.proofs.space.Space.apply_parts.Given as goal
 
@@ -18,8 +18,8 @@ invariant-loop-part g l =
       agree : Agree a (index_of l.fn.self) → Agree b (index_of l.self);
       gave : (pages : List Content) (n : ℕ) → g.F.Frames.gave pages n (frames_of l.fn.self) (frames_of l.self);
       pages : (limit : ℕ) → Within limit a (capacity_in l.fn.self)
-          → FittingAll limit a.copy l.tran.0 (option_copied l.after) l.position.0 a.pages l.parts
-          → FittingAll limit b.copy l.tran.0 (option_copied l.after) l.position.0 b.pages (drop l.part-index l.parts)
+          → AreApplicable limit a.copy l.tran.0 (option_copied l.after) l.position.0 a.pages l.parts
+          → AreApplicable limit b.copy l.tran.0 (option_copied l.after) l.position.0 b.pages (drop l.part-index l.parts)
           × (wrote_all b.copy l.tran.0 (option_copied l.after) l.position.0 b.pages (drop l.part-index l.parts)
           ≡ wrote_all a.copy l.tran.0 (option_copied l.after) l.position.0 a.pages l.parts);
     }

@@ -2,7 +2,7 @@ use Rattle.std.proofs.Common.{◌≤◌, length, ◌∙◌, ap, subst, sym, List
 use Rattle.std.specs.Option.{option_copied}
 use Rattle.rg_page.specs.Content.{Content}
 use Rattle.rg_page.specs.Seen.{set_content}
-use Rattle.rg_space.specs.Applied.{Fitting}
+use Rattle.rg_space.specs.Applied.{IsApplicable}
 use Rattle.rg_space.proofs.Growing.{fitting_grown, grown_count}
 use Rattle.rg_space.proofs.space.Space.put.Goals as goal
 
@@ -16,5 +16,5 @@ returns-clause-pages g c = λ limit within f.
     let there = grown_count a.copy a.pages x.page f.next in
     c.set.ensures.pages limit
     (subst (λ (ps : List Content). x.page ≤ length ps) (sym e) there)
-    (subst (λ (ps : List Content). Fitting limit ps c.args.tran.0 after x) (sym e) fits)
+    (subst (λ (ps : List Content). IsApplicable limit ps c.args.tran.0 after x) (sym e) fits)
     ∙ ap (λ (ps : List Content). set_content ps x c.args.tran.0 after c.args.position.0) e
