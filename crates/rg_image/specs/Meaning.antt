@@ -7,15 +7,6 @@ use Rattle.rg_record.specs.declared.record.Kind.{Kind}
 use Rattle.rg_record.specs.declared.record.Kind.TheVariants.{Change, Undo, Commit, RolledBack, Purge, Switch}
 use Rattle.rg_record.specs.declared.record.Record.{Record}
 
--- the parts that a record applies
-abbrev pub parts_of : Kind → List Part
-parts_of (Change home before after parts) = parts
-parts_of (Undo next home after parts) = parts
-parts_of Commit = []
-parts_of RolledBack = []
-parts_of (Purge parts) = parts
-parts_of (Switch copy pages) = []
-
 -- a number of pages, raised to the greatest page of the parts
 abbrev pub raised : ℕ → List Part → ℕ
 raised pages [] = pages

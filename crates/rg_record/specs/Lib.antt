@@ -1,3 +1,4 @@
+pub mod Applied
 pub mod Filled
 pub mod Fits
 pub mod Reading

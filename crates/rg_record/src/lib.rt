@@ -1,6 +1,8 @@
 //! The records of the log and their bytes.
 #![tactic(auto)]
 
+/// What a record does to pages.
+pub mod applied;
 /// Pages that are being filled.
 pub mod buffer;
 /// Copies of records.
@@ -19,7 +21,7 @@ pub mod record;
 pub mod size;
 /// Which records have a spelling.
 pub mod spelled;
-/// Writing a record.
 #[cfg(test)]
 mod tests;
+/// Writing a record.
 pub mod write;
