@@ -1,0 +1,4 @@
+pub mod Hits
+pub mod Tables
+pub mod Maps
+pub mod Parts
