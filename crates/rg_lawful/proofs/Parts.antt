@@ -4,11 +4,10 @@ use Rattle.std.specs.List.{list_any}
 use Rattle.rg_base.specs.declared.place.Place.{Place}
 use Rattle.rg_base.specs.declared.row.Row.{Row as TableRow}
 use Rattle.rg_home.specs.Slot.{Slot, Free, Row, Pointer, Over, DeadRow, DeadPointer, DeadOver}
-use Rattle.rg_home.specs.Slots.{placed}
 use Rattle.rg_base.specs.declared.part.Part.{Part}
 use Rattle.rg_base.specs.declared.part.SlotOp.{SlotOp}
 use Rattle.rg_home.specs.Rows.{same_place}
-use Rattle.rg_home.specs.Pages.{page_at, altered, slot_of, wrote_page, wrote, made, applied, FitsAll, place_of, part_at}
+use Rattle.rg_home.specs.Pages.{page_at, slot_of, wrote, made, applied, FitsAll, place_of, part_at}
 use Rattle.rg_home.specs.Plan.{is_ended, purge_from}
 use Rattle.rg_home.proofs.Place.{same_place-true}
 use Rattle.rg_home.proofs.Writes.{wrote_here, wrote_there}
@@ -17,22 +16,6 @@ use Rattle.rg_home.specs.Able.{IsLive, CanUndo}
 use Rattle.rg_ready.proofs.Ends.{Ends, Ended, ends_keep}
 use Rattle.rg_lawful.specs.Lawful.{OwnerBelow, AllBelow}
 use Rattle.rg_base.specs.declared.part.SlotOp.TheVariants as Op
-
-altered_few : {A : Type 0} (d : A) (f : A → A) (xs : List A) (n limit : ℕ) → suc n ≤ limit → length xs ≤ limit → length (altered d f xs n) ≤ limit
-altered_few d f [] zero limit l m = omega (arith, l)
-altered_few d f [] (suc n) zero l m = absurd (omega (arith, l))
-altered_few d f [] (suc n) (suc limit) l m = omega (arith, altered_few d f [] n limit (omega (arith, l)) (omega arith))
-altered_few d f (x ∷ xs) zero limit l m = omega (arith, m)
-altered_few d f (x ∷ xs) (suc n) zero l m = absurd (omega (arith, l))
-altered_few d f (x ∷ xs) (suc n) (suc limit) l m = omega (arith, altered_few d f xs n limit (omega (arith, l)) (omega (arith, m)))
-
-wrote_few : (pages : List (List Slot)) (n i : ℕ) (s : Slot) (limit : ℕ) → n ≤ limit → length pages ≤ limit → length (wrote_page pages n i s) ≤ limit
-wrote_few pages zero i s limit l m = m
-wrote_few pages (suc n) i s limit l m = altered_few [] (λ slots. placed slots i s) pages n limit l m
-
-pub applied_few : (t : ℕ) (after : TableRow) (limit : ℕ) (pages : List (List Slot)) (parts : List Part) → FitsAll t after limit pages parts → length pages ≤ limit → length (applied t after pages parts) ≤ limit
-applied_few t after limit pages [] f m = m
-applied_few t after limit pages (x ∷ parts) f m = applied_few t after limit (wrote pages (place_of x) (made t after x.op)) parts f.3 (wrote_few pages x.page x.slot (made t after x.op) limit f.1 m)
 
 -- owners
 

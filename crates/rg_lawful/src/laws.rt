@@ -1,6 +1,6 @@
 //! Each function's contract is a law of the definitions. None of them runs anything.
-ghost use Rattle.rg_lawful.specs.RecordLaws.{RecordsAppend, NothingHolds};
-ghost use Rattle.rg_lawful.specs.DeskLaws.{EmptyPurgeStays, PurgesRun};
+ghost use Rattle.rg_lawful.specs.RecordLaws.{RecordsAppend, RecordsKeep, NothingHolds, RunsKeep, PrefixesHold, PrefixesRun, StoredIsTable, CommitsTell, StoredTells};
+ghost use Rattle.rg_lawful.specs.DeskLaws.{LocksGive, EmptyPurgeStays, PurgesRun};
 ghost use Rattle.rg_lawful.specs.UnitLaws.{NowAfter, KeysDiffer};
 
 /// The acts of records: one more record is one more act.
@@ -10,11 +10,23 @@ pub fn records_law()
 
 /// What every prefix of a lawful log leaves.
 pub fn prefix_law()
+    ensures records { RecordsKeep }
     ensures start { NothingHolds }
+    ensures runs { RunsKeep }
+    ensures prefixes { PrefixesHold }
+    ensures shorter { PrefixesRun }
+    ensures table { StoredIsTable }
+{}
+
+/// What a log says of the stored rows.
+pub fn stored_law()
+    ensures commits { CommitsTell }
+    ensures stored { StoredTells }
 {}
 
 /// What a desk may append for a write.
 pub fn desk_law()
+    ensures locks { LocksGive }
     ensures empty { EmptyPurgeStays }
     ensures purges { PurgesRun }
 {}
