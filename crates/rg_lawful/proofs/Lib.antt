@@ -1,0 +1,9 @@
+pub mod Hits
+pub mod Tables
+pub mod Maps
+pub mod Parts
+pub mod Makes
+pub mod Keeps
+pub mod Agrees
+pub mod Prefixes
+pub mod Locks

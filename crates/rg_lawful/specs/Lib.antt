@@ -1,0 +1,14 @@
+pub mod Write
+pub mod Table
+pub mod Act
+pub mod Lawful
+pub mod Consistent
+pub mod Stored
+pub mod Records
+pub mod Closing
+pub mod Tested
+pub mod ByPage
+pub mod RecordLaws
+pub mod DeskLaws
+pub mod UnitLaws
+pub mod OpeningLaws

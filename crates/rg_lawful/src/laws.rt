@@ -1,0 +1,38 @@
+//! Each function's contract is a law of the definitions. None of them runs anything.
+ghost use Rattle.rg_lawful.specs.RecordLaws.{RecordsAppend, RecordsKeep, NothingHolds, RunsKeep, PrefixesHold, PrefixesRun, StoredIsTable, CommitsTell, StoredTells};
+ghost use Rattle.rg_lawful.specs.DeskLaws.{LocksGive, EmptyPurgeStays, PurgesRun};
+ghost use Rattle.rg_lawful.specs.UnitLaws.{NowAfter, KeysDiffer};
+
+/// The acts of records: one more record is one more act.
+pub fn records_law()
+    ensures { RecordsAppend }
+{}
+
+/// What every prefix of a lawful log leaves.
+pub fn prefix_law()
+    ensures records { RecordsKeep }
+    ensures start { NothingHolds }
+    ensures runs { RunsKeep }
+    ensures prefixes { PrefixesHold }
+    ensures shorter { PrefixesRun }
+    ensures table { StoredIsTable }
+{}
+
+/// What a log says of the stored rows.
+pub fn stored_law()
+    ensures commits { CommitsTell }
+    ensures stored { StoredTells }
+{}
+
+/// What a desk may append for a write.
+pub fn desk_law()
+    ensures locks { LocksGive }
+    ensures empty { EmptyPurgeStays }
+    ensures purges { PurgesRun }
+{}
+
+/// What each act makes of the rows by key, and of a unit's writes.
+pub fn unit_law()
+    ensures now { NowAfter }
+    ensures keys { KeysDiffer }
+{}
