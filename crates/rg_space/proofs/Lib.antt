@@ -8,4 +8,6 @@ pub mod Readying
 pub mod AtHand
 pub mod Whole
 pub mod Next
+pub mod Carried
+pub mod Applying
 pub mod Surveying

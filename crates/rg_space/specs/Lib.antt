@@ -8,3 +8,5 @@ pub mod Applied
 pub mod Space
 pub mod Planned
 pub mod Ready
+pub mod Carries
+pub mod Laws

@@ -9,12 +9,13 @@ use Rattle.rg_page.specs.Seen.{Seen, Reads, StayHeld}
 use Rattle.rg_space.specs.declared.fault.SpaceFault.{SpaceFault}
 use Rattle.rg_space.specs.declared.fault.SpaceFault.TheVariants.{Full, Device, NoMemory}
 
--- pages were read, or reserved, at the cost of so many frames at most; what was held stays
+-- Pages were read, or reserved, at the cost of so many frames at most. What was held stays. No frame
+-- is idle no more but for a page that was reserved.
 pub record Took (cost : ℕ) (a b : Seen) : Type 0 where
   pub reads : Reads a b
   pub stay : StayHeld a b
   pub spare : a.spare ≤ b.spare + cost
-  pub idle : a.idle ≤ b.idle + cost
+  pub idle : a.idle + a.reserved ≤ b.idle + b.reserved
 
 -- the slot at a place
 abbrev pub slot_in : Seen → Place → Slot

@@ -19,5 +19,8 @@ pub mod survey;
 
 /// The table space.
 pub mod space;
+
+/// Laws of plans, and of the records that carry them out.
+pub mod laws;
 #[cfg(test)]
 mod tests;

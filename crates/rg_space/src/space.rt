@@ -5,19 +5,22 @@
 // 2. A space is full exactly where a plan needs a page above its capacity.
 // 3. What a call says of pages is of the pages as they are afterwards. Where summaries and pages
 //    agree, a plan is the one that the definitions compute of these pages.
-ghost use Rattle.std.specs.Prelude.{◌≡◌, ◌⊎◌, ◌≤◌, ◌<◌, ◌+◌, ℕ, List, true, length, IfOk, IfErr, OnOk, OnErr, Some, None};
+ghost use Rattle.std.specs.Prelude.{◌≡◌, ◌⊎◌, ◌≤◌, ◌<◌, ◌+◌, ℕ, List, [], true, length, IfOk, IfErr, OnOk, OnErr, Some, None};
 ghost use Rattle.std.specs.Option.{option_copied};
 ghost use Rattle.rg_base.specs.RowBytes.{row_size};
 ghost use Rattle.rg_home.specs.Pages.{slot_of};
 ghost use Rattle.rg_home.specs.Plan.{new_area, planned_put, planned_change, planned_drop};
 ghost use Rattle.rg_page.specs.Bare.{numbers_of};
 ghost use Rattle.rg_page.specs.Content.{Content, slots_of};
-ghost use Rattle.rg_page.specs.Seen.{Reads, set_content};
+ghost use Rattle.rg_base.specs.declared.part.Part.{Part};
+ghost use Rattle.rg_page.specs.Seen.{Reads, LetGo, set_content};
+ghost use Rattle.rg_record.specs.Applied.{parts_of};
+ghost use Rattle.rg_space.specs.Carries.{AllThere};
 ghost use Rattle.rg_home.specs.Rows.{row_at};
 ghost use Rattle.rg_home.specs.Undo.{over_before, undo_parts};
 ghost use Rattle.rg_space.specs.Applied.{IsApplicable, AreApplicable, AllHeld, Within, Writes, grown, wrote_part, wrote_all};
 ghost use Rattle.rg_space.specs.Took.{Took, HasRisen, IsRisen, IsHeldAt, slot_in};
-ghost use Rattle.rg_space.specs.Ready.{IsReady, AllReady, IsAtHand, HasCause};
+ghost use Rattle.rg_space.specs.Ready.{IsReady, AllReady, IsAtHand, HasCause, CanApplyRecord, record_applied, record_wrote};
 ghost use Rattle.rg_space.specs.Space.{Agree, InStep, frames_of, index_of, capacity_in, undos_in};
 
 use crate::fault::SpaceFault;
@@ -34,6 +37,7 @@ use rg_base::tran::Tran;
 use rg_home::plan::Plan;
 use rg_page::frames::{FrameFault, Frames};
 use rg_page::header::Header;
+use rg_record::record::Record;
 use std::alloc::Global;
 
 /// A copy of the table, as pages of slots.
@@ -104,7 +108,10 @@ impl<F: Frames> Space<F> {
         ensures capacity { capacity_in self.new ≡ capacity_in self.old }
         ensures undos { undos_in self.new ≡ undos_in self.old }
         ensures summaries { index_of self.new ≡ index_of self.old }
+        ensures reserved { (F.seen (frames_of self.new)).reserved
+            ≡ (F.seen (frames_of self.old)).reserved }
         ensures took { Took 2 (F.seen (frames_of self.old)) (F.seen (frames_of self.new)) }
+        ensures idle { (F.seen (frames_of self.old)).idle ≤ (F.seen (frames_of self.new)).idle }
         ensures cause { IfErr result (λ fault. HasRisen fault (F.seen (frames_of self.old))
             (F.seen (frames_of self.new))) }
         ensures gave { F.gave (F.seen (frames_of self.old)).pages
@@ -307,7 +314,8 @@ impl<F: Frames> Space<F> {
         })
     }
 
-    /// The plan of the drop of the row whose home this is. Its pages are held. It is never Full.
+    /// The plan of the drop of the row whose home this is. Its pages are held. It is never Full, and
+    /// reserves no page.
     pub fn plan_drop(&mut self, home: Place) -> Result<Plan, SpaceFault>
         requires spare { 5 ≤ (F.seen (frames_of self.old)).spare }
         requires step { InStep (F.seen (frames_of self.old)) (index_of self.old)
@@ -316,14 +324,16 @@ impl<F: Frames> Space<F> {
             (capacity_in self.new) }
         ensures capacity { capacity_in self.new ≡ capacity_in self.old }
         ensures undos { undos_in self.new ≡ undos_in self.old }
-        ensures summaries { (index_of self.new).pages ≡ (index_of self.old).pages }
+        ensures summaries { index_of self.new ≡ index_of self.old }
         ensures plan { IfOk result (λ plan. Agree (F.seen (frames_of self.new)) (index_of self.new)
             → plan ≡ planned_drop (slots_of (F.seen (frames_of self.new)).pages) home
             (slot_of (slots_of (F.seen (frames_of self.new)).pages) home)) }
-        ensures hand { IfOk result (IsAtHand (F.seen (frames_of self.new)) (capacity_in self.new)) }
-        ensures least { (F.seen (frames_of self.old)).reserved
-            ≤ (F.seen (frames_of self.new)).reserved }
+        ensures none { IfOk result (λ plan. plan.purge ≡ []) }
+        ensures held { IfOk result (λ plan. AllHeld (F.seen (frames_of self.new)) plan.parts) }
+        ensures reserved { (F.seen (frames_of self.new)).reserved
+            ≡ (F.seen (frames_of self.old)).reserved }
         ensures took { Took 5 (F.seen (frames_of self.old)) (F.seen (frames_of self.new)) }
+        ensures idle { (F.seen (frames_of self.old)).idle ≤ (F.seen (frames_of self.new)).idle }
         ensures cause { IfErr result (λ fault. HasRisen fault (F.seen (frames_of self.old))
             (F.seen (frames_of self.new))) }
         ensures gave { F.gave (F.seen (frames_of self.old)).pages
@@ -334,7 +344,7 @@ impl<F: Frames> Space<F> {
             return Err(SpaceFault::NoMemory);
         };
         let parts = self.index.drop_row(room, home, seen.other);
-        self.hold(parts.as_slice())?;
+        self.hold_there(parts.as_slice())?;
         Ok(Plan {
             home,
             before: seen.row,
@@ -409,6 +419,7 @@ impl<F: Frames> Space<F> {
         ensures reserved { (F.seen (frames_of self.new)).reserved
             ≡ (F.seen (frames_of self.old)).reserved }
         ensures took { Took 5 (F.seen (frames_of self.old)) (F.seen (frames_of self.new)) }
+        ensures idle { (F.seen (frames_of self.old)).idle ≤ (F.seen (frames_of self.new)).idle }
         ensures device { IfErr result (λ fault. IsRisen fault (F.seen (frames_of self.old))
             (F.seen (frames_of self.new))) }
         ensures gave { F.gave (F.seen (frames_of self.old)).pages
@@ -552,5 +563,56 @@ impl<F: Frames> Space<F> {
         for part in parts {
             self.put(part, tran, after, position);
         }
+    }
+
+    /// Applies a record whose pages are held, and reserved where they are new. It takes no memory
+    /// and asks no device.
+    pub fn apply(&mut self, entry: &Record)
+        requires step { InStep (F.seen (frames_of self.old)) (index_of self.old)
+            (capacity_in self.old) }
+        requires held { AllHeld (F.seen (frames_of self.old)) (parts_of entry.now.kind) }
+        ensures step { InStep (F.seen (frames_of self.new)) (index_of self.new)
+            (capacity_in self.new) }
+        ensures capacity { capacity_in self.new ≡ capacity_in self.old }
+        ensures undos { undos_in self.new ≡ undos_in self.old }
+        ensures slots { CanApplyRecord (F.seen (frames_of self.old)) (capacity_in self.old)
+            entry.now → slots_of (F.seen (frames_of self.new)).pages
+            ≡ record_applied (slots_of (F.seen (frames_of self.old)).pages) entry.now }
+        ensures pages { CanApplyRecord (F.seen (frames_of self.old)) (capacity_in self.old)
+            entry.now → (F.seen (frames_of self.new)).pages
+            ≡ record_wrote (F.seen (frames_of self.old)).copy
+            (F.seen (frames_of self.old)).pages entry.now }
+        ensures count { CanApplyRecord (F.seen (frames_of self.old)) (capacity_in self.old)
+            entry.now → AllThere (length (F.seen (frames_of self.old)).pages)
+            (parts_of entry.now.kind) → length (F.seen (frames_of self.new)).pages
+            ≡ length (F.seen (frames_of self.old)).pages }
+        // So once a plan has purged, its parts are at hand as they were.
+        ensures stay { length (F.seen (frames_of self.new)).pages
+            ≡ length (F.seen (frames_of self.old)).pages → (parts : List Part)
+            → AllReady (F.seen (frames_of self.old)) (capacity_in self.old) parts
+            → AllReady (F.seen (frames_of self.new)) (capacity_in self.old) parts }
+        ensures writes { Writes entry.now.position.0 (F.seen (frames_of self.old))
+            (F.seen (frames_of self.new)) }
+        ensures agree { Agree (F.seen (frames_of self.old)) (index_of self.old)
+            → Agree (F.seen (frames_of self.new)) (index_of self.new) }
+        ensures gave { (pages : List Content) (n : ℕ) → F.gave pages n (frames_of self.old)
+            (frames_of self.new) }
+    {
+        self.apply_parts(entry.parts(), entry.tran, entry.after(), entry.position);
+    }
+
+    /// Lets all pages go.
+    pub fn let_go(&mut self)
+        requires { InStep (F.seen (frames_of self.old)) (index_of self.old) (capacity_in self.old) }
+        ensures step { InStep (F.seen (frames_of self.new)) (index_of self.new)
+            (capacity_in self.new) }
+        ensures capacity { capacity_in self.new ≡ capacity_in self.old }
+        ensures undos { undos_in self.new ≡ undos_in self.old }
+        ensures summaries { index_of self.new ≡ index_of self.old }
+        ensures let_go { LetGo (F.seen (frames_of self.old)) (F.seen (frames_of self.new)) }
+        ensures gave { (pages : List Content) (n : ℕ) → F.gave pages n (frames_of self.old)
+            (frames_of self.new) }
+    {
+        self.frames.let_go();
     }
 }

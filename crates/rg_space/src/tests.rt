@@ -1,5 +1,5 @@
 ghost use Rattle.std.specs.Prelude.{◌≡◌, ◌≤◌, ◌+◌};
-ghost use Rattle.rg_space.specs.Ready.{IsAtHand};
+ghost use Rattle.rg_space.specs.Applied.{AllHeld};
 ghost use Rattle.rg_space.specs.Space.{InStep, frames_of, index_of, capacity_in, undos_in};
 
 use crate::fault::SpaceFault;
@@ -469,7 +469,8 @@ fn letters(alloc: Global, key: u64, count: u16) -> Result<Row, Fail> {
 fn carry<F: Frames>(space: &mut Space<F>, plan: &Plan, after: Option<&Row>, position: u64)
     requires step { InStep (F.seen (frames_of space.old)) (index_of space.old)
         (capacity_in space.old) }
-    requires hand { IsAtHand (F.seen (frames_of space.old)) (capacity_in space.old) plan.now }
+    requires purge { AllHeld (F.seen (frames_of space.old)) plan.now.purge }
+    requires parts { AllHeld (F.seen (frames_of space.old)) plan.now.parts }
     ensures step { InStep (F.seen (frames_of space.new)) (index_of space.new)
         (capacity_in space.new) }
     ensures spare { (F.seen (frames_of space.old)).spare ≤ (F.seen (frames_of space.new)).spare }

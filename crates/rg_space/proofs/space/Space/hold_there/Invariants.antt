@@ -1,4 +1,4 @@
-use Rattle.std.proofs.Common.{◌≡◌, List, drop}
+use Rattle.std.proofs.Common.{◌≡◌, drop}
 use Rattle.rg_page.specs.Seen.{Seen}
 use Rattle.rg_space.specs.Applied.{AllHeld}
 use Rattle.rg_space.specs.Took.{Took}

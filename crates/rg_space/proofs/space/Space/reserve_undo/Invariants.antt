@@ -1,4 +1,4 @@
-use Rattle.std.proofs.Common.{◌≡◌, ◌≤◌, ◌+◌}
+use Rattle.std.proofs.Common.{◌≡◌, ◌+◌}
 use Rattle.rg_space.specs.Space.{frames_of, index_of, capacity_in, undos_in}
 use Rattle.rg_space.proofs.space.Space.reserve_undo.Given as goal
 
