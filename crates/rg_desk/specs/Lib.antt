@@ -1,0 +1,6 @@
+pub mod Units
+pub mod RecordList
+pub mod Pages
+pub mod Engine
+pub mod Walks
+pub mod Wrote

@@ -1,0 +1,83 @@
+-- What a write leaves of an engine.
+--
+-- 1. A plan that purges is carried out by a Purge record, which is of no transaction, and then by
+--    the Change of its unit.
+-- 2. The Change's back is the unit's last record before.
+use Rattle.std.specs.Prelude.{◌≡◌, ◌+◌, nat_le, ℕ, Bool, true, false, List, [], ◌∷◌, ◌++◌, Option, Some, if◌then◌else◌, length, slice_set}
+use Rattle.rg_base.specs.declared.part.Part.{Part}
+use Rattle.rg_base.specs.declared.place.Place.{Place}
+use Rattle.rg_base.specs.declared.row.Row.{Row}
+use Rattle.rg_base.specs.declared.session.Session.{Session}
+use Rattle.rg_home.specs.declared.plan.Plan.{Plan}
+use Rattle.rg_home.specs.Pages.{applied, row_or_empty}
+use Rattle.rg_index.specs.Listed.{SetsRow}
+use Rattle.rg_indexes.specs.Listings.{AreListings}
+use Rattle.rg_lock.specs.Taken.{take_key}
+use Rattle.rg_record.specs.declared.record.Kind.TheVariants.{Purge}
+use Rattle.rg_record.specs.declared.record.Record.{Record}
+use Rattle.rg_lawful.specs.Write.{write_of}
+use Rattle.rg_space.specs.Carries.{Carries, cleared}
+use Rattle.rg_space.specs.Space.{capacity_in}
+use Rattle.rg_desk.specs.Engine.{HasPages, slots_in}
+use Rattle.rg_desk.specs.Walks.{change_record}
+use Rattle.rg_desk.specs.declared.engine.Engine.{Engine}
+use Rattle.rg_desk.specs.declared.units.OpenUnit.{OpenUnit}
+
+-- the Purge record of these parts
+abbrev pub purge_record : (position : ℕ) → List Part → Record
+purge_record position parts = record {
+  position = record { 0 = position };
+  tran = record { 0 = 0 };
+  back = record { 0 = 0 };
+  kind = Purge parts;
+}
+
+-- the records once a plan has purged
+abbrev pub records_cleared : List Record → List Part → List Record
+records_cleared records [] = records
+records_cleared records (x ∷ parts) =
+    records ++ purge_record (length records + 1) (x ∷ parts) ∷ []
+
+-- the records once it has written
+abbrev pub records_wrote : List Record → OpenUnit → Plan → Option Row → List Record
+records_wrote records unit plan after =
+    records_cleared records plan.purge
+    ++ change_record (length (records_cleared records plan.purge) + 1) unit.tran.0 unit.last.0
+    (write_of unit.tran.0 plan.home plan.before after plan.parts)
+    ∷ []
+
+-- the unit after the write
+abbrev pub unit_wrote : List Record → OpenUnit → Plan → OpenUnit
+unit_wrote records unit plan = record {
+  tran = unit.tran;
+  last = record { 0 = length (records_cleared records plan.purge) + 1 };
+  writes = unit.writes + 1;
+}
+
+-- what the records of a write take of the room, where one more is left for its undo
+abbrev pub records_taken : List Part → ℕ
+records_taken [] = 1
+records_taken (x ∷ parts) = 2
+
+-- the records of the plan were made, and pages, indexes and units follow them
+pub record Puts
+    (old : Engine) (session : Session) (unit : OpenUnit) (plan : Plan) (after : Option Row)
+    (new : Engine) : Type 0 where
+  pub capacity : capacity_in new.space ≡ capacity_in old.space
+  pub pages : HasPages old → HasPages new
+  pub slots :
+      Carries unit.tran.0 0 (capacity_in old.space) (slots_in old) after plan
+      → slots_in new
+      ≡ applied unit.tran.0 (row_or_empty after) (cleared 0 (slots_in old) plan) plan.parts
+  pub records : new.records.records ≡ records_wrote old.records.records unit plan after
+  pub reserved : new.records.reserved + records_taken plan.purge ≡ old.records.reserved
+  pub indexes :
+      (rows next : Place → Option Row) → AreListings rows old.indexes
+      → rows plan.home ≡ plan.before → SetsRow rows next plan.home after
+      → AreListings next new.indexes
+  pub locks : new.locks ≡ old.locks
+  pub claims : new.claims ≡ old.claims
+  pub units :
+      new.units
+      ≡ slice_set old.units session.0 (Some (unit_wrote old.records.records unit plan))
+  pub top : new.top ≡ (if nat_le unit.tran.0 old.top then old.top else unit.tran.0)

@@ -1,0 +1,153 @@
+// The table over pages, with the locks, claims and units of its sessions.
+//
+// 1. A write is planned first. Then all that may be refused is taken: copies of rows, room in the
+//    indexes and for records, and last the lock. After that nothing fails.
+// 2. A record is applied to the pages and then appended. So the pages are always those that the
+//    records leave.
+ghost use Rattle.std.specs.Prelude.{◌≡◌, ◌≤◌, ◌<◌, ◌+◌, ◌^◌, ◌∷◌, ◌++◌, [], List, None, nat_le, if◌then◌else◌, length};
+ghost use Rattle.rg_base.specs.declared.part.Part.{Part};
+ghost use Rattle.rg_home.specs.Pages.{applied, row_or_empty};
+ghost use Rattle.rg_space.specs.Carries.{AllThere};
+ghost use Rattle.std.specs.Option.{option_copied};
+ghost use Rattle.rg_indexes.specs.Listings.{AreListedAt, HasSpare};
+ghost use Rattle.rg_record.specs.Applied.{parts_of};
+ghost use Rattle.rg_space.specs.Ready.{CanApply, CanApplyRecord, IsAtHand, AllReady, record_applied};
+ghost use Rattle.rg_space.specs.Space.{Agree, InStep, capacity_in, frames_of, index_of};
+ghost use Rattle.rg_page.specs.Content.{slots_of};
+ghost use Rattle.rg_desk.specs.Pages.{list_seen};
+ghost use Rattle.rg_desk.specs.Engine.{HasPages, seen_in, slots_in};
+ghost use Rattle.rg_desk.specs.Wrote.{Puts, records_cleared, records_taken};
+
+use crate::records::Records;
+use crate::units::{OpenUnit, Units};
+use rg_base::part::Parts;
+use rg_base::position::Position;
+use rg_base::row::Row;
+use rg_base::session::Session;
+use rg_base::tran::Tran;
+use rg_claim::claims::Claims;
+use rg_home::plan::Plan;
+use rg_indexes::indexes::Indexes;
+use rg_lock::locks::Locks;
+use rg_page::list::ListFrames;
+use rg_record::record::{Kind, Record};
+use rg_space::space::Space;
+use std::alloc::Global;
+
+/// The table, and what its sessions hold of it.
+#[derive(Drop)]
+pub struct Engine {
+    pub alloc: Global,
+    pub space: Space<ListFrames>,
+    pub records: Records,
+    pub indexes: Indexes,
+    pub locks: Locks,
+    pub claims: Claims,
+    pub units: Units,
+    pub top: u32,
+}
+
+// Applies a record to the pages, and appends it. It takes no memory.
+fn make(space: &mut Space<ListFrames>, records: &mut Records, entry: Record)
+    requires step { InStep (list_seen (frames_of space.old)) (index_of space.old)
+        (capacity_in space.old) }
+    requires room { 1 ≤ records.old.reserved }
+    ensures step { InStep (list_seen (frames_of space.new)) (index_of space.new)
+        (capacity_in space.new) }
+    ensures agree { Agree (list_seen (frames_of space.old)) (index_of space.old)
+        → Agree (list_seen (frames_of space.new)) (index_of space.new) }
+    ensures capacity { capacity_in space.new ≡ capacity_in space.old }
+    ensures slots { CanApplyRecord (list_seen (frames_of space.old)) (capacity_in space.old) entry
+        → slots_of (list_seen (frames_of space.new)).pages
+        ≡ record_applied (slots_of (list_seen (frames_of space.old)).pages) entry }
+    ensures stay { CanApplyRecord (list_seen (frames_of space.old)) (capacity_in space.old) entry
+        → AllThere (length (list_seen (frames_of space.old)).pages) (parts_of entry.kind)
+        → (parts : List Part) → AllReady (list_seen (frames_of space.old)) (capacity_in space.old) parts
+        → AllReady (list_seen (frames_of space.new)) (capacity_in space.old) parts }
+    ensures records { records.new.records ≡ records.old.records ++ entry ∷ [] }
+    ensures reserved { records.new.reserved + 1 ≡ records.old.reserved }
+{
+    space.apply(&entry);
+    records.append(entry);
+}
+
+// Makes the Purge record of these parts, if there are any.
+fn clear(space: &mut Space<ListFrames>, records: &mut Records, purge: Parts)
+    requires step { InStep (list_seen (frames_of space.old)) (index_of space.old)
+        (capacity_in space.old) }
+    requires room { records_taken purge ≤ records.old.reserved + 1 }
+    ensures step { InStep (list_seen (frames_of space.new)) (index_of space.new)
+        (capacity_in space.new) }
+    ensures agree { Agree (list_seen (frames_of space.old)) (index_of space.old)
+        → Agree (list_seen (frames_of space.new)) (index_of space.new) }
+    ensures capacity { capacity_in space.new ≡ capacity_in space.old }
+    ensures slots { CanApply (list_seen (frames_of space.old)) (capacity_in space.old) 0 None purge
+        → slots_of (list_seen (frames_of space.new)).pages
+        ≡ applied 0 (row_or_empty None) (slots_of (list_seen (frames_of space.old)).pages) purge }
+    ensures stay { CanApply (list_seen (frames_of space.old)) (capacity_in space.old) 0 None purge
+        → AllThere (length (list_seen (frames_of space.old)).pages) purge
+        → (parts : List Part) → AllReady (list_seen (frames_of space.old)) (capacity_in space.old) parts
+        → AllReady (list_seen (frames_of space.new)) (capacity_in space.old) parts }
+    ensures records { records.new.records ≡ records_cleared records.old.records purge }
+    ensures reserved { records.new.reserved + records_taken purge ≡ records.old.reserved + 1 }
+{
+    if purge.as_slice().is_empty() {
+        return;
+    }
+    let entry = Record {
+        position: records.next(),
+        tran: Tran(0),
+        back: Position(0),
+        kind: Kind::Purge { parts: purge },
+    };
+    make(space, records, entry);
+}
+
+// The greater of the greatest number so far and this one.
+fn greater(top: u32, tran: Tran) -> u32
+    ensures { result ≡ (if nat_le tran.0 top then top else tran.0) }
+{
+    if tran.0 <= top { top } else { tran.0 }
+}
+
+impl Engine {
+    // Carries out a plan, for which all room is taken.
+    fn put(&mut self, session: Session, unit: OpenUnit, plan: Plan, after: Option<Row>)
+        requires pages { HasPages self.old }
+        requires hand { IsAtHand (seen_in self.old) (capacity_in self.old.space) plan }
+        requires listed { AreListedAt self.old.indexes plan.home plan.before }
+        requires spare { HasSpare 1 self.old.indexes }
+        requires room { records_taken plan.purge ≤ self.old.records.reserved }
+        requires writes { unit.writes + 1 < 2 ^ 64 }
+        ensures { Puts self.old session unit plan after self.new }
+    {
+        let Plan {
+            home,
+            before,
+            purge,
+            parts,
+        } = plan;
+        self.indexes.replace(home, before.as_ref(), after.as_ref());
+        clear(&mut self.space, &mut self.records, purge);
+        let position = self.records.next();
+        let entry = Record {
+            position,
+            tran: unit.tran,
+            back: unit.last,
+            kind: Kind::Change {
+                home,
+                before,
+                after,
+                parts,
+            },
+        };
+        make(&mut self.space, &mut self.records, entry);
+        let next = OpenUnit {
+            tran: unit.tran,
+            last: position,
+            writes: unit.writes + 1,
+        };
+        self.units.set(session, Some(next));
+        self.top = greater(self.top, unit.tran);
+    }
+}
