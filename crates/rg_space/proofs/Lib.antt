@@ -11,3 +11,4 @@ pub mod Next
 pub mod Carried
 pub mod Applying
 pub mod Surveying
+pub mod HomeRows

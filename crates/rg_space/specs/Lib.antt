@@ -10,3 +10,4 @@ pub mod Planned
 pub mod Ready
 pub mod Carries
 pub mod Laws
+pub mod Homes

@@ -19,6 +19,10 @@ index_of space = space.index
 abbrev pub capacity_in : {F : Type 0} → Space F → ℕ
 capacity_in space = space.capacity
 
+-- with other frames
+abbrev pub with_frames : {F : Type 0} → Space F → F → Space F
+with_frames space frames = record space { frames = frames }
+
 -- how many plans of an undo there is room for
 abbrev pub undos_in : {F : Type 0} → Space F → ℕ
 undos_in space = length space.undos.items

@@ -9,8 +9,8 @@ use Rattle.rg_page.specs.Seen.{Seen, Reads, StayHeld}
 use Rattle.rg_space.specs.declared.fault.SpaceFault.{SpaceFault}
 use Rattle.rg_space.specs.declared.fault.SpaceFault.TheVariants.{Full, Device, NoMemory}
 
--- Pages were read, or reserved, at the cost of so many frames at most. What was held stays. No frame
--- is idle no more but for a page that was reserved.
+-- Pages were read, or reserved, at the cost of so many frames at most. What was held stays. Frames
+-- that were idle are so still, but for one for each page that was reserved.
 pub record Took (cost : ℕ) (a b : Seen) : Type 0 where
   pub reads : Reads a b
   pub stay : StayHeld a b

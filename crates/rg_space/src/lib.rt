@@ -11,6 +11,8 @@ pub mod look;
 
 /// Why a space refuses.
 pub mod fault;
+/// The rows whose homes are on a page.
+pub mod homes;
 /// Slots and rows, read through frames.
 pub mod read;
 

@@ -11,23 +11,30 @@ ghost use Rattle.rg_base.specs.RowBytes.{row_size};
 ghost use Rattle.rg_home.specs.Pages.{slot_of};
 ghost use Rattle.rg_home.specs.Plan.{new_area, planned_put, planned_change, planned_drop};
 ghost use Rattle.rg_page.specs.Bare.{numbers_of};
-ghost use Rattle.rg_page.specs.Content.{Content, slots_of};
+ghost use Rattle.rg_page.specs.Content.{Content, content_at, slots_of};
+ghost use Rattle.std.specs.Prelude.{⊤};
+ghost use Rattle.std.specs.Borrow.{Lends, follows_so, sem};
+ghost use mathlib.Core.Option.{none};
+ghost use Rattle.rg_space.specs.contracts.space.Space.{the_row};
 ghost use Rattle.rg_base.specs.declared.part.Part.{Part};
-ghost use Rattle.rg_page.specs.Seen.{Reads, LetGo, set_content};
+ghost use Rattle.rg_page.specs.Seen.{Reads, Held, Failed, LetGo, set_content};
 ghost use Rattle.rg_record.specs.Applied.{parts_of};
 ghost use Rattle.rg_space.specs.Carries.{AllThere};
+ghost use Rattle.rg_space.specs.Homes.{homes_on};
 ghost use Rattle.rg_home.specs.Rows.{row_at};
 ghost use Rattle.rg_home.specs.Undo.{over_before, undo_parts};
 ghost use Rattle.rg_space.specs.Applied.{IsApplicable, AreApplicable, AllHeld, Within, Writes, grown, wrote_part, wrote_all};
 ghost use Rattle.rg_space.specs.Took.{Took, HasRisen, IsRisen, IsHeldAt, slot_in};
 ghost use Rattle.rg_space.specs.Ready.{IsReady, AllReady, IsAtHand, HasCause, CanApplyRecord, record_applied, record_wrote};
-ghost use Rattle.rg_space.specs.Space.{Agree, InStep, frames_of, index_of, capacity_in, undos_in};
+ghost use Rattle.rg_space.specs.Space.{Agree, InStep, frames_of, index_of, capacity_in, undos_in, with_frames};
 
 use crate::fault::SpaceFault;
+use crate::homes::homes_of;
 use crate::index::Index;
 use crate::moves::{PartsRoom, over_before, size_of};
 use crate::read::{hold_at, home_of, is_there, pointer_of};
 use crate::survey::survey;
+use rg_base::homes::Homes;
 use rg_base::no_memory::NoMemory;
 use rg_base::part::{Part, Parts};
 use rg_base::place::Place;
@@ -35,8 +42,9 @@ use rg_base::position::Position;
 use rg_base::row::Row;
 use rg_base::tran::Tran;
 use rg_home::plan::Plan;
-use rg_page::frames::{FrameFault, Frames};
+use rg_page::frames::{Device, FrameFault, Frames};
 use rg_page::header::Header;
+use rg_page::page::Page;
 use rg_record::record::Record;
 use std::alloc::Global;
 
@@ -119,6 +127,81 @@ impl<F: Frames> Space<F> {
     {
         let seen = home_of(&mut self.frames, self.alloc, home)?;
         Ok(seen.row)
+    }
+
+    /// The rows whose homes are on this page, by rising slot, each with the place of its home,
+    /// wherever it lies. All pages are let go, before each row and at the end.
+    pub fn home_rows(&mut self, page: u32) -> Result<Homes, SpaceFault>
+        requires spare { 2 ≤ (F.seen (frames_of self.old)).spare }
+        requires step { InStep (F.seen (frames_of self.old)) (index_of self.old)
+            (capacity_in self.old) }
+        // Where frames are not sure, the page may have changed between two of its rows.
+        ensures rows { IfOk result (λ rows. (F.seen (frames_of self.new)).sure ≡ true
+            → rows ≡ homes_on (slots_of (F.seen (frames_of self.new)).pages) page) }
+        ensures step { InStep (F.seen (frames_of self.new)) (index_of self.new)
+            (capacity_in self.new) }
+        ensures capacity { capacity_in self.new ≡ capacity_in self.old }
+        ensures undos { undos_in self.new ≡ undos_in self.old }
+        ensures summaries { index_of self.new ≡ index_of self.old }
+        ensures reserved { (F.seen (frames_of self.new)).reserved
+            ≡ (F.seen (frames_of self.old)).reserved }
+        ensures reads { Reads (F.seen (frames_of self.old)) (F.seen (frames_of self.new)) }
+        ensures idle { (F.seen (frames_of self.old)).idle ≤ (F.seen (frames_of self.new)).idle }
+        ensures spare { (F.seen (frames_of self.new)).spare ≡ (F.seen (frames_of self.new)).idle }
+        ensures cause { IfErr result (λ fault. HasRisen fault (F.seen (frames_of self.old))
+            (F.seen (frames_of self.new))) }
+        ensures gave { F.gave (F.seen (frames_of self.old)).pages
+            (F.seen (frames_of self.old)).forced (frames_of self.old) (frames_of self.new) }
+    {
+        let rows = homes_of(&mut self.frames, self.alloc, page);
+        self.frames.let_go();
+        rows
+    }
+
+    /// How many pages there are.
+    pub fn count(&self) -> u32
+        ensures { result ≡ length (F.seen (frames_of self.now)).pages }
+    {
+        self.frames.count()
+    }
+
+    /// How many pages there may be.
+    pub fn capacity(&self) -> u32
+        ensures { result ≡ capacity_in self.now }
+    {
+        self.capacity
+    }
+
+    /// The frames. Whoever changes how many pages they have, or what is on them, puts them out of
+    /// step with the summaries.
+    pub fn frames(&mut self) -> &mut F
+        ensures* writes_back { sem 𝓛 (Lends (the_row F.row) F.row self.entry result
+            (with_frames self.old)) }
+        ensures frames { result.now ≡ frames_of self.old }
+    {
+        &mut self.frames
+    }
+
+    /// Lends a page, which is held from then on.
+    pub fn page(&mut self, number: u32) -> Result<&Page, Device>
+        requires low { 1 ≤ number }
+        requires high { number ≤ length (F.seen (frames_of self.old)).pages }
+        requires spare { 1 ≤ (F.seen (frames_of self.old)).spare }
+        requires step { InStep (F.seen (frames_of self.old)) (index_of self.old)
+            (capacity_in self.old) }
+        ensures* read { sem 𝓛 (follows_so (the_row F.row) (the_row F.row) self.entry.ghost_name none
+            (λ _ _. ⊤) (λ space.
+            IfOk result (λ page. page.now ≡ content_at (F.seen (frames_of space)).pages number)
+            × OnOk result (Held number (F.seen (frames_of self.old)) (F.seen (frames_of space)))
+            × OnErr result (Failed (F.seen (frames_of self.old)) (F.seen (frames_of space)))
+            × InStep (F.seen (frames_of space)) (index_of space) (capacity_in space)
+            × (capacity_in space ≡ capacity_in self.old)
+            × (undos_in space ≡ undos_in self.old)
+            × (index_of space ≡ index_of self.old)
+            × F.gave (F.seen (frames_of self.old)).pages (F.seen (frames_of self.old)).forced
+            (frames_of self.old) (frames_of space))) }
+    {
+        self.frames.with_page(number)
     }
 
     // Reserves a page, and a summary for it.
