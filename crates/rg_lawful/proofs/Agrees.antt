@@ -60,7 +60,7 @@ kept_all [] = refl
 kept_all (w ∷ ws) = ap (λ (ds : List Write). w ∷ ds) (kept_all ws)
 
 -- a unit without writes, taken away
-none_kept : (t : ℕ) (ws : List Write) → latest_of t ws ≡ None → kept_of (not_of t) ws ≡ ws
+pub none_kept : (t : ℕ) (ws : List Write) → latest_of t ws ≡ None → kept_of (not_of t) ws ≡ ws
 none_kept t [] e = refl
 none_kept t (d ∷ ws) e = go (d.written.owner == t) e (none_kept t ws)
   where

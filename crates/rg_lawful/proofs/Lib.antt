@@ -7,3 +7,15 @@ pub mod Keeps
 pub mod Agrees
 pub mod Prefixes
 pub mod Locks
+pub mod Plans
+pub mod Live
+pub mod Desk
+pub mod Free
+pub mod Own
+pub mod Units
+pub mod Rolls
+pub mod Closing
+pub mod Opens
+pub mod Testing
+pub mod ByPage
+pub mod Later

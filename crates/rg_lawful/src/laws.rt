@@ -1,7 +1,7 @@
 //! Each function's contract is a law of the definitions. None of them runs anything.
 ghost use Rattle.rg_lawful.specs.RecordLaws.{RecordsAppend, RecordsKeep, NothingHolds, RunsKeep, PrefixesHold, PrefixesRun, StoredIsTable, CommitsTell, StoredTells};
-ghost use Rattle.rg_lawful.specs.DeskLaws.{LocksGive, EmptyPurgeStays, PurgesRun};
-ghost use Rattle.rg_lawful.specs.UnitLaws.{NowAfter, KeysDiffer};
+ghost use Rattle.rg_lawful.specs.DeskLaws.{PlansMake, LocksGive, DesksWrite, EmptyPurgeStays, PurgesRun};
+ghost use Rattle.rg_lawful.specs.UnitLaws.{NowAfter, StoredAfter, HitAfter, KeysDiffer, OwnAfter, UnitsAfter, RollbackRows, RollbackPages, UnitsUndo};
 
 /// The acts of records: one more record is one more act.
 pub fn records_law()
@@ -26,7 +26,9 @@ pub fn stored_law()
 
 /// What a desk may append for a write.
 pub fn desk_law()
+    ensures plans { PlansMake }
     ensures locks { LocksGive }
+    ensures writes { DesksWrite }
     ensures empty { EmptyPurgeStays }
     ensures purges { PurgesRun }
 {}
@@ -34,5 +36,12 @@ pub fn desk_law()
 /// What each act makes of the rows by key, and of a unit's writes.
 pub fn unit_law()
     ensures now { NowAfter }
+    ensures stored { StoredAfter }
+    ensures hit { HitAfter }
     ensures keys { KeysDiffer }
+    ensures own { OwnAfter }
+    ensures units { UnitsAfter }
+    ensures rollback { RollbackRows }
+    ensures pages { RollbackPages }
+    ensures undo { UnitsUndo }
 {}
