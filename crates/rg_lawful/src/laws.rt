@@ -2,6 +2,7 @@
 ghost use Rattle.rg_lawful.specs.RecordLaws.{RecordsAppend, RecordsKeep, NothingHolds, RunsKeep, PrefixesHold, PrefixesRun, StoredIsTable, CommitsTell, StoredTells};
 ghost use Rattle.rg_lawful.specs.DeskLaws.{PlansMake, LocksGive, DesksWrite, EmptyPurgeStays, PurgesRun};
 ghost use Rattle.rg_lawful.specs.UnitLaws.{NowAfter, StoredAfter, HitAfter, KeysDiffer, OwnAfter, UnitsAfter, RollbackRows, RollbackPages, UnitsUndo};
+ghost use Rattle.rg_lawful.specs.OpeningLaws.{PrefixesPass, OpeningsClose, TestsSuffice, RestsPass, LogsGoOn, PagesPart};
 
 /// The acts of records: one more record is one more act.
 pub fn records_law()
@@ -44,4 +45,18 @@ pub fn unit_law()
     ensures rollback { RollbackRows }
     ensures pages { RollbackPages }
     ensures undo { UnitsUndo }
+{}
+
+/// What an opening finds, and what it leaves.
+pub fn opening_law()
+    ensures pass { PrefixesPass }
+    ensures close { OpeningsClose }
+    ensures suffice { TestsSuffice }
+    ensures rests { RestsPass }
+    ensures later { LogsGoOn }
+{}
+
+/// Redo page by page.
+pub fn page_law()
+    ensures { PagesPart }
 {}
