@@ -95,6 +95,8 @@ module _ (limit : ℕ) (s : LogState) (g : IsConsistent limit s) (t : ℕ) (begi
       present = present;
       of_key = ok;
     };
+    purged = sym same;
+    pages = ap (λ (pages : List (List Slot)). applied t (row_or_empty after) pages plan.parts) (sym same);
   }
     where
       same : applied t (row_or_empty after) s.pages plan.purge ≡ applied 0 (row_or_empty None) s.pages plan.purge

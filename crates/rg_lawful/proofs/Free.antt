@@ -2,7 +2,7 @@
 use Rattle.std.proofs.Common.{◌≡◌, ◌==◌, ℕ, Bool, true, false, not, List, [], ◌∷◌, Option, None, refl, sym, ◌∙◌, ap, if◌then◌else◌}
 use Rattle.std.proofs.lemmas.Bool.{eqb-true, eqb-false}
 use Rattle.rg_base.specs.declared.row.Row.{Row as TableRow}
-use Rattle.rg_lawful.specs.Write.{Write, HitBy, NoneHit, gone_back, latest_if, latest_of, kept_if, kept_of, own_of}
+use Rattle.rg_lawful.specs.Write.{Write, HitBy, NoneHit, gone_back, latest_if, latest_of, less_if, less_of, kept_if, kept_of, own_of}
 use Rattle.rg_lawful.specs.Act.{not_of}
 
 module _ (hit : Write → Bool) where
@@ -58,3 +58,20 @@ module _ (hit : Write → Bool) where
           → gone_back hit (kept_if (not b) d (kept_of (not_of t) ws)) x ≡ gone_back hit ws (if hit d then d.written.before else x)
       go true h rest = rest x h.1 ∙ ap (λ (b : Bool). gone_back hit ws (if b then d.written.before else x)) (sym h.0)
       go false h rest = rest (if hit d then d.written.before else x) h
+
+  -- none stays none
+  pub free_less : (t : ℕ) (ws : List Write) → NoneHit hit ws → NoneHit hit (less_of t ws)
+  free_less t [] h = tt
+  free_less t (d ∷ ws) h = go (d.written.owner == t) (free_less t ws h.1)
+    where
+      go : (b : Bool) → NoneHit hit (less_of t ws) → NoneHit hit (less_if b d ws (less_of t ws))
+      go true rest = h.1
+      go false rest = (h.0, rest)
+
+  pub free_kept : (f : ℕ → Bool) (ws : List Write) → NoneHit hit ws → NoneHit hit (kept_of f ws)
+  free_kept f [] h = tt
+  free_kept f (d ∷ ws) h = go (f d.written.owner) (free_kept f ws h.1)
+    where
+      go : (b : Bool) → NoneHit hit (kept_of f ws) → NoneHit hit (kept_if b d (kept_of f ws))
+      go true rest = (h.0, rest)
+      go false rest = rest

@@ -70,6 +70,7 @@ module _ (limit : ℕ) (s : LogState) (g : IsConsistent limit s) where
               few = applied_within 0 (row_or_empty None) limit s.pages _ fits g.few;
               ready = record { proper = ready.proper; can = can_purged s.live (slot_of s.pages) _ (written_of s.writes) ended g.ready.can; apart = g.ready.apart; back = λ p. refl };
               fresh = g.fresh;
+              rolled = g.rolled;
               table = table_same (row_at (slot_of s.pages)) _ s.now s.now same (λ k. refl) g.table;
               homes = λ p. subst (Back (at_home p) s.writes) (sym (same p)) (g.homes p);
               keys = g.keys;
@@ -94,6 +95,7 @@ module _ (limit : ℕ) (s : LogState) (g : IsConsistent limit s) where
           few = applied_within t (row_or_empty w.after) limit s.pages c.parts m.makes.fits g.few;
           ready = own_base (t ∷ s.live) _ _ (base_of s) ready;
           fresh = λ u l. low u l;
+          rolled = λ u l. omega (arith, g.rolled u l, above (nat_le t s.top) refl);
           table = table_set (row_at (slot_of s.pages)) s.now c.home w.key c.before w.after g.table (sym m.makes.before) m.present m.of_key.before m.of_key.after _ (λ p. row_changed (slot_of s.pages) _ c.home w.after p does) _ (λ k. refl);
           homes = λ p. at_homes p (same_place p c.home) refl;
           keys = λ k. at_keys k (w.key == k) refl;
@@ -221,6 +223,7 @@ module _ (limit : ℕ) (s : LogState) (g : IsConsistent limit s) where
               few = omega (arith, g.few, undo_length c s.pages g.ready.proper can);
               ready = own_base s.live _ _ (base_of s) (subst (λ (cs : List Written). Ready s.live (undone s.pages c) cs (base_of s)) (sym (map_less t s.writes)) ready);
               fresh = g.fresh;
+              rolled = λ u l. rolling u (t == u) refl l;
               table = table_set (row_at (slot_of s.pages)) s.now c.home w.key w.after c.before g.table row key ok.after ok.before _ rows _ (λ k. refl);
               homes = λ p. subst (Back (at_home p) (less_of t s.writes)) (sym (rows p)) (back_less t (at_home p) s.writes w (row_at (slot_of s.pages) p) (g.one_home p) e (g.homes p));
               keys = λ k. back_less t (at_key k) s.writes w (s.now k) (g.one_key k) e (g.keys k);
@@ -241,6 +244,10 @@ module _ (limit : ℕ) (s : LogState) (g : IsConsistent limit s) where
               go : (b : Bool) → latest_if b d (latest_of t ws) ≡ Some w → (latest_of t ws ≡ Some w → IsLive s.live c.owner) → IsLive s.live c.owner
               go true e rest = subst (λ (v : Write). IsLive s.live v.written.owner) (some_is d w e) can.1
               go false e rest = rest e
+
+          rolling : (u : ℕ) (b : Bool) → (t == u) ≡ b → (b || list_any (λ v. v == u) s.rolling) ≡ true → u ≤ s.top
+          rolling u true f l = omega (arith, eqb-true t u f, owner, g.fresh c.owner (lives s.writes g.ready.can e))
+          rolling u false f l = g.rolled u l
 
   -- an end
 
@@ -286,6 +293,7 @@ module _ (limit : ℕ) (s : LogState) (g : IsConsistent limit s) where
       ready = own_base _ _ _ _ (subst (λ (cs : List Written). Ready (others t s.live) s.pages cs (λ p. taken_back (without t (written_of s.writes)) p (row_at (slot_of s.pages) p))) (sym (map_without t s.writes))
           (ready_committed s.live (others t s.live) (base_of s) t s.pages (written_of s.writes) (λ u l n. still t u s.live l n) g.ready));
       fresh = λ u l. g.fresh u (was_live t u s.live l);
+      rolled = g.rolled;
       table = g.table;
       homes = λ p. back_kept (not_of t) (at_home p) s.writes (row_at (slot_of s.pages) p) (g.one_home p) (g.homes p);
       keys = λ k. back_kept (not_of t) (at_key k) s.writes (s.now k) (g.one_key k) (g.keys k);
@@ -308,6 +316,7 @@ module _ (limit : ℕ) (s : LogState) (g : IsConsistent limit s) where
       few = m.few;
       ready = record { proper = m.proper; can = tt; apart = tt; back = λ p. refl };
       fresh = g.fresh;
+      rolled = g.rolled;
       table = m.table;
       homes = λ p. tt;
       keys = λ k. tt;
@@ -364,3 +373,17 @@ runs_clean limit first good (a ∷ acts) runs clean = (keeps limit (state first 
 pub runs_shorter : (limit : ℕ) (first : LogState) (more acts : List Act) → Runs limit first (more ++ acts) → Runs limit first acts
 runs_shorter limit first [] acts runs = runs
 runs_shorter limit first (a ∷ more) acts runs = runs_shorter limit first more acts runs.1
+
+-- a list after another
+
+pub state_joined : (first : LogState) (more acts : List Act) → state first (more ++ acts) ≡ state (state first acts) more
+state_joined first [] acts = refl
+state_joined first (a ∷ more) acts = ap (λ (s : LogState). step s a) (state_joined first more acts)
+
+pub runs_joined : (limit : ℕ) (first : LogState) (more acts : List Act) → Runs limit first acts → Runs limit (state first acts) more → Runs limit first (more ++ acts)
+runs_joined limit first [] acts runs later = runs
+runs_joined limit first (a ∷ more) acts runs later = (subst (λ (s : LogState). Lawful limit s a) (sym (state_joined first more acts)) later.0, runs_joined limit first more acts runs later.1)
+
+pub runs_rest : (limit : ℕ) (first : LogState) (more acts : List Act) → Runs limit first (more ++ acts) → Runs limit (state first acts) more
+runs_rest limit first [] acts runs = tt
+runs_rest limit first (a ∷ more) acts runs = (subst (λ (s : LogState). Lawful limit s a) (state_joined first more acts) runs.0, runs_rest limit first more acts runs.1)

@@ -1,11 +1,11 @@
 -- What follows an opening of any tested image.
-use Rattle.std.proofs.Common.{◌≡◌, inl, inr, ◌⊎◌, ◌||◌, ◌&&◌, ◌==◌, ◌++◌, ℕ, ◌≤◌, suc, Bool, true, false, List, [], ◌∷◌, Option, refl, ◌∙◌, ap, if◌then◌else◌, arith}
+use Rattle.std.proofs.Common.{◌≡◌, inl, inr, ◌⊎◌, ◌||◌, ◌&&◌, ◌==◌, ◌++◌, ℕ, ◌≤◌, suc, Bool, true, false, not, List, [], ◌∷◌, Option, refl, ◌∙◌, ap, if◌then◌else◌, arith}
 use Rattle.std.proofs.lemmas.Bool.{eqb-true}
 use Rattle.rg_base.specs.declared.row.Row.{Row as TableRow}
 use Rattle.rg_home.specs.Slot.{Slot}
 use Rattle.rg_home.specs.Written.{Written}
 use Rattle.rg_home.specs.Able.{IsLive}
-use Rattle.rg_lawful.specs.Write.{Write, at_key, gone_back}
+use Rattle.rg_lawful.specs.Write.{Write, at_key, kept_of, gone_back}
 use Rattle.rg_lawful.specs.Table.{IsTable}
 use Rattle.rg_lawful.specs.Act.{Act, LogState, state, Purge, Change, Undo, Commit, RollBack, Switch}
 use Rattle.rg_lawful.specs.Lawful.{Runs}
@@ -76,3 +76,9 @@ later limit pages units top old tested low acts runs =
     let b = goes_on limit first old (tested_good limit pages units (stored_at old) top tested) (told_first pages units top old low) acts runs in
     let stored : (k : ℕ) → stored_at (acts ++ old) k ≡ stored_of (state first acts) k = λ k. b.told.rows (λ u. false) (λ u e. absurd (cc (e))) k ∙ ap (λ (ws : List Write). gone_back (at_key k) ws ((state first acts).now k)) (kept_all (state first acts).writes) in
     (b.good, table_same (base_of (state first acts)) (base_of (state first acts)) (stored_of (state first acts)) (stored_at (acts ++ old)) (λ p. refl) stored (good_table limit (state first acts) b.good), λ ts covers. good_tested limit (state first acts) b.good (stored_at (acts ++ old)) stored ts covers)
+
+pub later_tells : (limit : ℕ) (pages : List (List Slot)) (units : List (List Written)) (top : ℕ) (old : List Act) → Tested limit pages units (stored_at old) top → LogBelow top old → (acts : List Act) → Runs limit (opened pages units (stored_at old) top) acts
+    → (f : ℕ → Bool) → ((u : ℕ) → f u ≡ true → MayCount (state (opened pages units (stored_at old) top) acts) u) → (k : ℕ)
+    → last_of (λ u. f u || has_commit u (acts ++ old)) k (acts ++ old) ≡ gone_back (at_key k) (kept_of (λ u. not (f u)) (state (opened pages units (stored_at old) top) acts).writes) ((state (opened pages units (stored_at old) top) acts).now k)
+later_tells limit pages units top old tested low acts runs f may k =
+    (goes_on limit (opened pages units (stored_at old) top) old (tested_good limit pages units (stored_at old) top tested) (told_first pages units top old low) acts runs).told.rows f may k

@@ -46,6 +46,7 @@ nothing_good limit = record {
   few = omega arith;
   ready = ready_alone [] [] proper_empty;
   fresh = λ u l. absurd (cc (l));
+  rolled = λ u l. absurd (cc (l));
   table = record {
     there = λ p r e. absurd (cc (e, row_none p));
     placed = λ k r e. absurd (cc (e));

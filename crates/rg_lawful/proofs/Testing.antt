@@ -52,6 +52,7 @@ tested_good limit pages units stored top t =
       few = omega (arith, t.few, end.1);
       ready = record { proper = end.0; can = tt; apart = tt; back = λ p. refl };
       fresh = λ u l. absurd (cc (l));
+      rolled = λ u l. absurd (cc (l));
       table = t.rows;
       homes = λ p. tt;
       keys = λ k. tt;

@@ -1,13 +1,15 @@
 -- What each act makes of the committed rows by key.
-use Rattle.std.proofs.Common.{◌≡◌, ◌==◌, ℕ, ◌≤◌, nat_le, suc, Bool, true, false, List, Option, Some, None, refl, sym, ◌∙◌, ap, if◌then◌else◌, arith}
+use Rattle.std.proofs.Common.{◌∷◌, ◌≡◌, inr, ◌==◌, ℕ, ◌≤◌, nat_le, suc, Bool, true, false, List, Option, Some, None, refl, sym, ◌∙◌, ap, if◌then◌else◌, arith}
 use Rattle.std.proofs.lemmas.Bool.{eqb-true, leb-true, leb-false}
 use Rattle.rg_base.specs.declared.place.Place.{Place}
 use Rattle.rg_base.specs.declared.row.Row.{Row as TableRow}
 use Rattle.rg_base.specs.declared.part.Part.{Part}
 use Rattle.rg_lawful.specs.Write.{Write, at_key, HitBy, NoneHit, gone_back, latest_of, less_of, own_of}
-use Rattle.rg_lawful.specs.Act.{LogState, now_undone, step}
+use Rattle.rg_lawful.specs.Act.{LogState, is_in, now_undone, step}
 use Rattle.rg_lawful.specs.Act.{Change, Undo, Commit, RollBack}
-use Rattle.rg_lawful.specs.Lawful.{MayWrite, MayUndo}
+use Rattle.rg_home.specs.Able.{IsLive}
+use Rattle.rg_lawful.proofs.Live.{in_others}
+use Rattle.rg_lawful.specs.Lawful.{IsOpen, MayBegin, MayWrite, MayUndo}
 use Rattle.rg_lawful.specs.Consistent.{stored_of, IsConsistent}
 use Rattle.rg_lawful.proofs.Hits.{gone_less}
 use Rattle.rg_lawful.proofs.Free.{free_back, free_ended, free_rest}
@@ -51,3 +53,15 @@ module _ (limit : ℕ) (s : LogState) where
       go : (b : Bool) → nat_le w.written.owner s.top ≡ b → (if b then s.top else w.written.owner) ≡ suc s.top
       go true e = absurd (omega (arith, l, leb-true w.written.owner s.top e))
       go false e = l
+
+-- open units
+
+pub next_begins : (limit : ℕ) (s : LogState) → IsConsistent limit s → MayBegin s (suc s.top)
+next_begins limit s g = record { number = inr refl; steady = go (is_in (suc s.top) s.rolling) refl }
+  where
+    go : (b : Bool) → is_in (suc s.top) s.rolling ≡ b → is_in (suc s.top) s.rolling ≡ false
+    go true e = absurd (omega (arith, g.rolled (suc s.top) e))
+    go false e = e
+
+pub open_undone : (s : LogState) (t u : ℕ) → (u ≡ t → ⊥) → IsOpen s u → IsLive s.live u × (is_in u (t ∷ s.rolling) ≡ false)
+open_undone s t u n o = (o.0, in_others s.rolling t u n ∙ o.1)

@@ -14,8 +14,8 @@ use Rattle.rg_base.specs.declared.row.Row.{Row as TableRow}
 use Rattle.rg_home.specs.Slot.{Slot}
 use Rattle.rg_home.specs.Slot.{Free}
 use Rattle.rg_home.specs.Rows.{row_at}
-use Rattle.rg_home.specs.Pages.{slot_of, applied}
-use Rattle.rg_home.specs.Plan.{is_home, new_area, planned_put, planned_change, planned_drop, purge_of}
+use Rattle.rg_home.specs.Pages.{slot_of, applied, row_or_empty}
+use Rattle.rg_home.specs.Plan.{is_home, new_area, planned_put, planned_change, planned_drop, purge_of, pages_after}
 use Rattle.rg_home.specs.declared.plan.Plan.{Plan}
 use Rattle.rg_home.specs.Written.{Written}
 use Rattle.rg_home.specs.Able.{IsLive, HomeOf}
@@ -70,7 +70,7 @@ pub record AreLiveWith (s : LogState) (t : ℕ) (units : List ℕ) : Type 0 wher
   pub only : (u : ℕ) → IsLive units u → IsLive (t ∷ s.live) u
   pub all : (u : ℕ) → IsLive (t ∷ s.live) u → IsLive units u
 
--- the Purge of a plan is lawful, and after it the Change
+-- the Purge of a plan is lawful, and after it the Change; they leave the pages that the plan leaves
 pub record DeskWrites
     (limit : ℕ) (s : LogState) (t : ℕ) (before after : Option TableRow) (plan : Plan)
     : Type 0 where
@@ -79,6 +79,12 @@ pub record DeskWrites
   pub change :
       Lawful limit (step s (Purge plan.purge))
       (Change (write_of t plan.home before after plan.parts))
+  pub purged :
+      (step s (Purge plan.purge)).pages ≡ applied t (row_or_empty after) s.pages plan.purge
+  pub pages :
+      (step (step s (Purge plan.purge))
+      (Change (write_of t plan.home before after plan.parts))).pages
+      ≡ pages_after t (row_or_empty after) s.pages plan
 
 -- a desk's writes are lawful, given the number of the unit, the lock by key, and the row that is
 -- there, or that none is

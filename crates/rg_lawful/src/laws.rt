@@ -1,12 +1,13 @@
 //! Each function's contract is a law of the definitions. None of them runs anything.
-ghost use Rattle.rg_lawful.specs.RecordLaws.{RecordsAppend, RecordsKeep, NothingHolds, RunsKeep, PrefixesHold, PrefixesRun, StoredIsTable, CommitsTell, StoredTells};
+ghost use Rattle.rg_lawful.specs.RecordLaws.{RecordsAppend, RecordsJoin, RecordsKeep, NothingHolds, RunsKeep, RunsJoin, PrefixesHold, PrefixesRun, StoredIsTable, CommitsTell, StoredTells};
 ghost use Rattle.rg_lawful.specs.DeskLaws.{PlansMake, LocksGive, DesksWrite, EmptyPurgeStays, PurgesRun};
-ghost use Rattle.rg_lawful.specs.UnitLaws.{NowAfter, StoredAfter, HitAfter, KeysDiffer, OwnAfter, UnitsAfter, RollbackRows, RollbackPages, UnitsUndo};
-ghost use Rattle.rg_lawful.specs.OpeningLaws.{PrefixesPass, OpeningsClose, TestsSuffice, RestsPass, LogsGoOn, PagesPart};
+ghost use Rattle.rg_lawful.specs.UnitLaws.{NowAfter, StoredAfter, HitAfter, KeysDiffer, OwnAfter, UnitsAfter, OpenAfter, NoneAfter, UndoLeaves, RollbackRows, RollbackRuns, RollbackPages, UnitsUndo};
+ghost use Rattle.rg_lawful.specs.OpeningLaws.{PrefixesPass, OpeningsClose, TestsSuffice, RestsPass, LogsGoOn, LogsTell, PagesPart};
 
 /// The acts of records: one more record is one more act.
 pub fn records_law()
-    ensures { RecordsAppend }
+    ensures one { RecordsAppend }
+    ensures more { RecordsJoin }
 {}
 
 /// What every prefix of a lawful log leaves.
@@ -16,6 +17,7 @@ pub fn prefix_law()
     ensures runs { RunsKeep }
     ensures prefixes { PrefixesHold }
     ensures shorter { PrefixesRun }
+    ensures join { RunsJoin }
     ensures table { StoredIsTable }
 {}
 
@@ -42,7 +44,11 @@ pub fn unit_law()
     ensures keys { KeysDiffer }
     ensures own { OwnAfter }
     ensures units { UnitsAfter }
+    ensures open_units { OpenAfter }
+    ensures none { NoneAfter }
+    ensures undo_leaves { UndoLeaves }
     ensures rollback { RollbackRows }
+    ensures rollback_runs { RollbackRuns }
     ensures pages { RollbackPages }
     ensures undo { UnitsUndo }
 {}
@@ -54,6 +60,7 @@ pub fn opening_law()
     ensures suffice { TestsSuffice }
     ensures rests { RestsPass }
     ensures later { LogsGoOn }
+    ensures tells { LogsTell }
 {}
 
 /// Redo page by page.

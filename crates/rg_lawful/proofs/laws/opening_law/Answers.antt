@@ -1,7 +1,7 @@
 use Rattle.rg_lawful.proofs.Closing.{all_closed, closed_table}
 use Rattle.rg_lawful.proofs.Opens.{prefix_tested}
 use Rattle.rg_lawful.proofs.Testing.{units_can, tested_good, tested_clean, tested_rest}
-use Rattle.rg_lawful.proofs.Later.{later}
+use Rattle.rg_lawful.proofs.Later.{later, later_tells}
 use Rattle.rg_lawful.proofs.laws.opening_law.Goals as goal
 
 pub returns-clause-pass : goal.returns-clause-pass
@@ -21,3 +21,6 @@ returns-clause-rests c limit pages units rest done stored top e t = tested_rest 
 
 pub returns-clause-later : goal.returns-clause-later
 returns-clause-later c limit pages units top old t low acts runs = later limit pages units top old t low acts runs
+
+pub returns-clause-tells : goal.returns-clause-tells
+returns-clause-tells c limit pages units top old t low acts runs f may k = later_tells limit pages units top old t low acts runs f may k

@@ -1,4 +1,4 @@
-use Rattle.rg_lawful.proofs.Keeps.{keeps, runs_good, runs_clean, runs_shorter}
+use Rattle.rg_lawful.proofs.Keeps.{keeps, runs_good, runs_clean, runs_shorter, state_joined, runs_joined, runs_rest}
 use Rattle.rg_lawful.proofs.Prefixes.{nothing_good, nothing_clean, prefix_law_of, good_table}
 use Rattle.rg_lawful.proofs.laws.prefix_law.Goals as goal
 
@@ -19,3 +19,10 @@ returns-clause-shorter c limit first more acts runs = runs_shorter limit first m
 
 pub returns-clause-table : goal.returns-clause-table
 returns-clause-table c limit s g = good_table limit s g
+
+pub returns-clause-join : goal.returns-clause-join
+returns-clause-join c = record {
+  leaves = λ first more acts. state_joined first more acts;
+  runs = λ limit first more acts runs later. runs_joined limit first more acts runs later;
+  rest = λ limit first more acts runs. runs_rest limit first more acts runs;
+}

@@ -1,18 +1,19 @@
+use Rattle.std.proofs.Common.{◌==◌, inl, []}
 use Rattle.std.proofs.Common.{subst, refl}
 use Rattle.rg_home.specs.Pages.{slot_of}
 use Rattle.rg_home.specs.Able.{AllUndoable}
 use Rattle.std.proofs.Common.{None, sym}
 use Rattle.rg_ready.proofs.Ready.{can_only}
-use Rattle.rg_lawful.specs.Write.{written_of}
-use Rattle.rg_lawful.specs.Act.{not_of}
+use Rattle.rg_lawful.specs.Write.{written_of, own_of}
+use Rattle.rg_lawful.specs.Act.{not_of, state}
 use Rattle.rg_lawful.specs.Consistent.{base_of}
 use Rattle.rg_lawful.proofs.Hits.{latest_owner, hit_less, hit_kept}
 use Rattle.rg_lawful.proofs.Maps.{map_only}
-use Rattle.rg_lawful.proofs.Free.{free_any, free_apart, free_back, free_ended}
+use Rattle.rg_lawful.proofs.Free.{free_less, free_kept, free_any, free_apart, free_back, free_ended}
 use Rattle.rg_lawful.proofs.Own.{own_more, own_other, own_less, own_less_other, own_ended, own_ended_other, own_first, own_live}
 use Rattle.rg_lawful.proofs.Live.{live_same, live_more, live_known, live_other, live_was, live_apart, live_stays, in_others}
-use Rattle.rg_lawful.proofs.Units.{stored_change, stored_undo, stored_rolled, stored_commit, stored_other, top_known, top_drawn}
-use Rattle.rg_lawful.proofs.Rolls.{rollback_rows, rollback_pages}
+use Rattle.rg_lawful.proofs.Units.{next_begins, open_undone, stored_change, stored_undo, stored_rolled, stored_commit, stored_other, top_known, top_drawn}
+use Rattle.rg_lawful.proofs.Rolls.{undos_run, undos_are, undos_join, undo_leaves, rollback_rows, rollback_pages}
 use Rattle.rg_lawful.proofs.laws.unit_law.Goals as goal
 use Rattle.rg_lawful.specs.Write.{at_key}
 
@@ -82,3 +83,34 @@ returns-clause-pages c limit s t undos g are runs = rollback_pages limit s g t u
 pub returns-clause-undo : goal.returns-clause-undo
 returns-clause-undo c limit s t g =
     (g.ready.proper, g.few, subst (AllUndoable None (slot_of s.pages)) (sym (map_only t s.writes)) (can_only s.live (base_of s) t (slot_of s.pages) (written_of s.writes) g.ready.can))
+
+pub returns-clause-open_units : goal.returns-clause-open_units
+returns-clause-open_units c = record {
+  next = λ limit s g. next_begins limit s g;
+  open_one = λ s t o. record { number = inl o.0; steady = o.1 };
+  begins = λ limit s w m. (live_same s.live w.written.owner, m.unit.steady);
+  purge = λ s u parts o. o;
+  change = λ s u w o. (live_more s.live w.written.owner u o.0, o.1);
+  undo = λ s t u home after parts n o. open_undone s t u n o;
+  commit = λ s t u n o. (live_stays t u s.live o.0 n, o.1);
+  roll_back = λ s t u n o. (live_stays t u s.live o.0 n, o.1);
+}
+
+pub returns-clause-none : goal.returns-clause-none
+returns-clause-none c = record {
+  change = λ s hit w e h. (e, h);
+  undo = λ s hit t home after parts h. free_less hit t s.writes h;
+  commit = λ s hit t h. free_kept hit (not_of t) s.writes h;
+  roll_back = λ s hit t h. free_kept hit (not_of t) s.writes h;
+  own = λ hit t ws h. free_kept hit (λ u. u == t) ws h;
+}
+
+pub returns-clause-undo_leaves : goal.returns-clause-undo_leaves
+returns-clause-undo_leaves c limit s t home after parts w m e = undo_leaves s t home after parts w m e
+
+pub returns-clause-rollback_runs : goal.returns-clause-rollback_runs
+returns-clause-rollback_runs c = record {
+  runs = λ limit first t acts runs lives. undos_run limit first t (own_of t (state first acts).writes) acts runs lives refl;
+  are = λ t pages ws. undos_are t pages ws [] tt;
+  joins = λ t pages ws acts. undos_join t pages ws [] acts;
+}
