@@ -1,4 +1,4 @@
--- A page after parts is that page after its own parts.
+-- A page after the parts of a record is that page after its own.
 use Rattle.std.proofs.Common.{◌≡◌, ◌==◌, ℕ, ◌≤◌, Bool, true, false, List, [], ◌∷◌, refl, sym, ◌∙◌, ap, subst, if◌then◌else◌}
 use Rattle.std.proofs.lemmas.Bool.{eqb-true, eqb-false}
 use Rattle.rg_base.specs.declared.place.Place.{Place}
@@ -26,10 +26,10 @@ fits_one pages p s n f = go (p.page == n) refl
     go true e = subst (λ (m : ℕ). Fits (placed (page_at pages m) p.slot s)) (eqb-true p.page n e) f
     go false e = tt
 
-pub by_page : (t : ℕ) (after : TableRow) (limit : ℕ) (pages : List (List Slot)) (parts : List Part) (n : ℕ) → FitsAll t after limit pages parts
+pub page_by_page : (t : ℕ) (after : TableRow) (limit : ℕ) (pages : List (List Slot)) (parts : List Part) (n : ℕ) → FitsAll t after limit pages parts
     → (page_at (applied t after pages parts) n ≡ page_with t after n (page_at pages n) parts) × FitsOn t after n (page_at pages n) parts
-by_page t after limit pages [] n f = (refl, tt)
-by_page t after limit pages (x ∷ parts) n f =
-    let rest = by_page t after limit (wrote pages (place_of x) (made t after x.op)) parts n f.3 in
+page_by_page t after limit pages [] n f = (refl, tt)
+page_by_page t after limit pages (x ∷ parts) n f =
+    let rest = page_by_page t after limit (wrote pages (place_of x) (made t after x.op)) parts n f.3 in
     let one = page_wrote pages (place_of x) (made t after x.op) n f.0 in
     (rest.0 ∙ ap (λ (slots : List Slot). page_with t after n slots parts) one, (fits_one pages (place_of x) (made t after x.op) n f.2, subst (λ (slots : List Slot). FitsOn t after n slots parts) one rest.1))

@@ -1,4 +1,4 @@
--- An opening's own records: the open units of any prefix are undone, in any order of units, and what is left is *Stored* of the prefix.
+-- What an opening appends: the open units of any prefix are undone, in any order of units, and what is left are the stored rows of the prefix.
 use Rattle.std.proofs.Common.{◌≡◌, ◌==◌, ℕ, ◌≤◌, zero, suc, Bool, true, false, not, List, [], ◌∷◌, ◌++◌, length, Option, Some, None, refl, sym, ◌∙◌, ap, subst, if◌then◌else◌, arith, append_assoc}
 use Rattle.std.proofs.lemmas.Bool.{eqb-true, eqb-false}
 use Rattle.rg_base.specs.declared.place.Place.{Place}
@@ -21,7 +21,7 @@ use Rattle.rg_lawful.specs.Closing.{IsClosing, Closes, all_others, LiveInTurn, i
 use Rattle.rg_lawful.proofs.Hits.{back_kept, one_kept, key_kept}
 use Rattle.rg_lawful.proofs.Tables.{table_same}
 use Rattle.rg_lawful.proofs.Agrees.{last_same}
-use Rattle.rg_lawful.proofs.Prefixes.{prefix_good, prefix_stored, inserts}
+use Rattle.rg_lawful.proofs.Prefixes.{prefix_consistent, prefix_stored, inserts}
 
 less_shorter : (t : ℕ) (ws : List Write) (w : Write) → latest_of t ws ≡ Some w → suc (length (less_of t ws)) ≡ length ws
 less_shorter t [] w e = absurd (cc (e))
@@ -40,7 +40,7 @@ closing_both (Change w ∷ xs) ys a b = absurd a
 closing_both (Commit t ∷ xs) ys a b = absurd a
 closing_both (Switch p ∷ xs) ys a b = absurd a
 
--- these records count for nothing in *Stored*
+-- these acts count for nothing in the stored rows
 closing_commits : (more acts : List Act) → IsClosing more → (u : ℕ) → has_commit u (more ++ acts) ≡ has_commit u acts
 closing_commits [] acts c u = refl
 closing_commits (Undo t h x p ∷ more) acts c u = closing_commits more acts c u
@@ -109,7 +109,7 @@ module _ (limit : ℕ) where
             reached = ap (λ (xs : List Act). (state nothing xs).live) (append_assoc d.more c.more acts) ∙ d.reached ∙ ap (all_others ts) c.reached;
           }
 
--- the end: no unit is open, and the home rows are *Stored* of the prefix
+-- at the end no unit is open, and the home rows are the stored rows of the prefix
 
 no_unit : (limit : ℕ) (s : LogState) → IsConsistent limit s → s.live ≡ [] → s.writes ≡ []
 no_unit limit s g e = go s.writes g.ready.can
@@ -120,13 +120,13 @@ no_unit limit s g e = go s.writes g.ready.can
 
 pub closed_table : (limit : ℕ) (acts more : List Act) → IsClosing more → Runs limit nothing (more ++ acts) → (state nothing (more ++ acts)).live ≡ [] → IsTable (row_at (slot_of (state nothing (more ++ acts)).pages)) (stored_at acts)
 closed_table limit acts more c runs e =
-    let g = prefix_good limit (more ++ acts) runs in
+    let g = prefix_consistent limit (more ++ acts) runs in
     let none = no_unit limit (state nothing (more ++ acts)) g e in
     table_same (row_at (slot_of (state nothing (more ++ acts)).pages)) _ (state nothing (more ++ acts)).now (stored_at acts) (λ p. refl)
     (λ k. sym (closing_stored more acts c k) ∙ prefix_stored limit (more ++ acts) runs k ∙ ap (λ (ws : List Write). gone_back (at_key k) ws ((state nothing (more ++ acts)).now k)) none)
     g.table
 
--- what the rule *pointers* asks in undo, over all open units in their order
+-- each write can be undone at its turn, over all open units in their order
 
 module _ (t : ℕ) (hit : Write → Bool) where
   -- a unit's own, then all others': each goes back from where the one before left it

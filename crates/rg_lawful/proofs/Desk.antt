@@ -23,12 +23,12 @@ use Rattle.rg_ready.specs.Laws.{change_of}
 use Rattle.rg_ready.proofs.Ready.{ready_begun}
 use Rattle.rg_ready.proofs.Steps.{both}
 use Rattle.rg_ready.proofs.Plans.{IsOurs, change_ours}
-use Rattle.rg_lawful.specs.Write.{at_key, HitBy, OfKey, key_of, write_of, written_of}
-use Rattle.rg_lawful.specs.Act.{LogState, step}
-use Rattle.rg_lawful.specs.Act.{Purge}
-use Rattle.rg_lawful.specs.Lawful.{Makes, MayBegin, MayPurge}
+use Rattle.rg_lawful.specs.Write.{Write, at_key, HitBy, OfKey, key_of, write_of, written_of}
+use Rattle.rg_lawful.specs.Act.{Act, LogState, state, step}
+use Rattle.rg_lawful.specs.Act.{Purge, Change}
+use Rattle.rg_lawful.specs.Lawful.{Makes, MayBegin, MayWrite, Lawful, Runs, MayPurge}
 use Rattle.rg_lawful.specs.Consistent.{base_of, IsConsistent}
-use Rattle.rg_lawful.specs.DeskLaws.{AreLiveWith, DeskWrites}
+use Rattle.rg_lawful.specs.DeskLaws.{AreLiveWith, DeskWrites, purge_acts}
 use Rattle.rg_lawful.proofs.Live.{live_more, names_fewer}
 use Rattle.rg_lawful.proofs.Parts.{purge_same, page_past}
 use Rattle.rg_lawful.proofs.Plans.{change_makes, put_one, drop_makes}
@@ -61,6 +61,15 @@ same_purged : (t : ℕ) (after : TableRow) (units : List ℕ) (pages : List (Lis
 same_purged t after units pages n true = purge_same t 0 after (row_or_empty None) units n 0 (page_at pages n) pages
 same_purged t after units pages n false = refl
 
+-- a Purge, if it frees anything, and an act after it
+purge_runs : (limit : ℕ) (s : LogState) (a : Act) (parts : List Part) → MayPurge s parts → Lawful limit (step s (Purge parts)) a → Runs limit s (a ∷ purge_acts parts)
+purge_runs limit s a [] m l = (l, tt)
+purge_runs limit s a (x ∷ parts) m l = (l, (m, tt))
+
+pub purge_acts_leave : (s : LogState) (parts : List Part) → state s (purge_acts parts) ≡ step s (Purge parts)
+purge_acts_leave s [] = refl
+purge_acts_leave s (x ∷ parts) = refl
+
 module _ (limit : ℕ) (s : LogState) (g : IsConsistent limit s) (t : ℕ) (begin : MayBegin s t) (units : List ℕ) (are : AreLiveWith s t units) where
   spares : (u : ℕ) → IsLive s.live u → IsLive units u
   spares u l = are.all u (live_more s.live t u l)
@@ -86,21 +95,31 @@ module _ (limit : ℕ) (s : LogState) (g : IsConsistent limit s) (t : ℕ) (begi
       → DeskWrites limit s t before after plan
   desk_one before after plan is n b low e makes home key present ok = record {
     home_row = is;
-    purge = subst (MayPurge s) (sym e) (may_purge s units spares n b low);
-    change = record {
-      unit = record { number = begin.number; steady = begin.steady };
-      makes = subst (λ (pages : List (List Slot)). Makes limit (t ∷ s.live) pages (change_of t plan.home before plan.parts) after) same (for_live _ _ after makes);
-      home = home;
-      key = key;
-      present = present;
-      of_key = ok;
-    };
+    purge = purges;
+    change = change;
+    runs = purge_runs limit s (Change w) plan.purge purges change;
     purged = sym same;
     pages = ap (λ (pages : List (List Slot)). applied t (row_or_empty after) pages plan.parts) (sym same);
   }
     where
+      w : Write
+      w = write_of t plan.home before after plan.parts
+
       same : applied t (row_or_empty after) s.pages plan.purge ≡ applied 0 (row_or_empty None) s.pages plan.purge
       same = subst (λ (ps : List Part). applied t (row_or_empty after) s.pages ps ≡ applied 0 (row_or_empty None) s.pages ps) (sym e) (same_purged t (row_or_empty after) units s.pages n b)
+
+      purges : MayPurge s plan.purge
+      purges = subst (MayPurge s) (sym e) (may_purge s units spares n b low)
+
+      change : MayWrite limit (step s (Purge plan.purge)) w
+      change = record {
+        unit = record { number = begin.number; steady = begin.steady };
+        makes = subst (λ (pages : List (List Slot)). Makes limit (t ∷ s.live) pages (change_of t plan.home before plan.parts) after) same (for_live _ _ after makes);
+        home = home;
+        key = key;
+        present = present;
+        of_key = ok;
+      }
 
   -- a change
   change_one : (home : Place) (row after : TableRow) (plan : Plan) → row_at (slot_of s.pages) home ≡ Some row → HitBy t (at_key row.key) s.writes → after.key ≡ row.key

@@ -15,9 +15,9 @@ use Rattle.rg_lawful.specs.Tested.{Tested, opened, units_of, TakeInAll, LogBelow
 use Rattle.rg_lawful.proofs.Tables.{table_same}
 use Rattle.rg_lawful.proofs.Keeps.{keeps}
 use Rattle.rg_lawful.proofs.Agrees.{agrees_keeps, kept_all}
-use Rattle.rg_lawful.proofs.Prefixes.{good_table}
-use Rattle.rg_lawful.proofs.Testing.{tested_good}
-use Rattle.rg_lawful.proofs.Opens.{good_tested}
+use Rattle.rg_lawful.proofs.Prefixes.{stored_table}
+use Rattle.rg_lawful.proofs.Testing.{tested_consistent}
+use Rattle.rg_lawful.proofs.Opens.{consistent_tested}
 
 commit_below : (top u : ℕ) (acts : List Act) → LogBelow top acts → has_commit u acts ≡ true → u ≤ top
 commit_below top u [] low e = absurd (cc (e))
@@ -42,8 +42,8 @@ last_old top c d e k (Undo t home after parts ∷ acts) low = last_old top c d e
 last_old top c d e k (RollBack t ∷ acts) low = last_old top c d e k acts low
 last_old top c d e k (Switch pages ∷ acts) low = last_old top c d e k acts low
 
-told_first : (pages : List (List Slot)) (units : List (List Written)) (top : ℕ) (old : List Act) → LogBelow top old → AgreesWith (opened pages units (stored_at old) top) old []
-told_first pages units top old low = record {
+agrees_first : (pages : List (List Slot)) (units : List (List Written)) (top : ℕ) (old : List Act) → LogBelow top old → AgreesWith (opened pages units (stored_at old) top) old []
+agrees_first pages units top old low = record {
   ended = λ u e. ((λ l. cc (l)), commit_below top u old low e);
   rows = λ f may k. last_old top (λ u. f u || has_commit u old) (λ u. has_commit u old) (λ u l. none f u l (f u) refl (may u)) k old low;
 }
@@ -56,29 +56,35 @@ told_first pages units top old low = record {
         new (inr x) = omega (arith, x, l)
     none f u l false e may = ap (λ (b : Bool). b || has_commit u old) e
 
--- told of the whole log
-pub record Goes (limit : ℕ) (first : LogState) (old acts : List Act) : Type 0 where
-  pub good : IsConsistent limit (state first acts)
-  pub told : AgreesWith first old acts
+-- what holds of all that is appended
+pub record GoesOn (limit : ℕ) (first : LogState) (old acts : List Act) : Type 0 where
+  pub consistent : IsConsistent limit (state first acts)
+  pub agrees : AgreesWith first old acts
 
-goes_on : (limit : ℕ) (first : LogState) (old : List Act) → IsConsistent limit first → AgreesWith first old [] → (acts : List Act) → Runs limit first acts → Goes limit first old acts
-goes_on limit first old good told [] runs = record { good = good; told = told }
-goes_on limit first old good told (r ∷ acts) runs = go (goes_on limit first old good told acts runs.1)
+goes_on : (limit : ℕ) (first : LogState) (old : List Act) → IsConsistent limit first → AgreesWith first old [] → (acts : List Act) → Runs limit first acts → GoesOn limit first old acts
+goes_on limit first old good agrees [] runs = record { consistent = good; agrees = agrees }
+goes_on limit first old good agrees (r ∷ acts) runs = go (goes_on limit first old good agrees acts runs.1)
   where
-    go : Goes limit first old acts → Goes limit first old (r ∷ acts)
-    go b = record { good = (keeps limit (state first acts) b.good r runs.0).1; told = agrees_keeps limit first old acts b.good b.told r runs.0 }
+    go : GoesOn limit first old acts → GoesOn limit first old (r ∷ acts)
+    go b = record { consistent = (keeps limit (state first acts) b.consistent r runs.0).1; agrees = agrees_keeps limit first old acts b.consistent b.agrees r runs.0 }
 
 pub later : (limit : ℕ) (pages : List (List Slot)) (units : List (List Written)) (top : ℕ) (old : List Act) → Tested limit pages units (stored_at old) top → LogBelow top old → (acts : List Act) → Runs limit (opened pages units (stored_at old) top) acts
     → IsConsistent limit (state (opened pages units (stored_at old) top) acts) × IsTable (base_of (state (opened pages units (stored_at old) top) acts)) (stored_at (acts ++ old))
     × ((ts : List ℕ) → TakeInAll ts (state (opened pages units (stored_at old) top) acts).writes → Tested limit (state (opened pages units (stored_at old) top) acts).pages (units_of ts (state (opened pages units (stored_at old) top) acts).writes) (stored_at (acts ++ old)) (state (opened pages units (stored_at old) top) acts).top)
 later limit pages units top old tested low acts runs =
     let first = opened pages units (stored_at old) top in
-    let b = goes_on limit first old (tested_good limit pages units (stored_at old) top tested) (told_first pages units top old low) acts runs in
-    let stored : (k : ℕ) → stored_at (acts ++ old) k ≡ stored_of (state first acts) k = λ k. b.told.rows (λ u. false) (λ u e. absurd (cc (e))) k ∙ ap (λ (ws : List Write). gone_back (at_key k) ws ((state first acts).now k)) (kept_all (state first acts).writes) in
-    (b.good, table_same (base_of (state first acts)) (base_of (state first acts)) (stored_of (state first acts)) (stored_at (acts ++ old)) (λ p. refl) stored (good_table limit (state first acts) b.good), λ ts covers. good_tested limit (state first acts) b.good (stored_at (acts ++ old)) stored ts covers)
+    let b = goes_on limit first old (tested_consistent limit pages units (stored_at old) top tested) (agrees_first pages units top old low) acts runs in
+    let stored : (k : ℕ) → stored_at (acts ++ old) k ≡ stored_of (state first acts) k = λ k. b.agrees.rows (λ u. false) (λ u e. absurd (cc (e))) k ∙ ap (λ (ws : List Write). gone_back (at_key k) ws ((state first acts).now k)) (kept_all (state first acts).writes) in
+    (b.consistent, table_same (base_of (state first acts)) (base_of (state first acts)) (stored_of (state first acts)) (stored_at (acts ++ old)) (λ p. refl) stored (stored_table limit (state first acts) b.consistent), λ ts covers. consistent_tested limit (state first acts) b.consistent (stored_at (acts ++ old)) stored ts covers)
 
 pub later_tells : (limit : ℕ) (pages : List (List Slot)) (units : List (List Written)) (top : ℕ) (old : List Act) → Tested limit pages units (stored_at old) top → LogBelow top old → (acts : List Act) → Runs limit (opened pages units (stored_at old) top) acts
     → (f : ℕ → Bool) → ((u : ℕ) → f u ≡ true → MayCount (state (opened pages units (stored_at old) top) acts) u) → (k : ℕ)
     → last_of (λ u. f u || has_commit u (acts ++ old)) k (acts ++ old) ≡ gone_back (at_key k) (kept_of (λ u. not (f u)) (state (opened pages units (stored_at old) top) acts).writes) ((state (opened pages units (stored_at old) top) acts).now k)
 later_tells limit pages units top old tested low acts runs f may k =
-    (goes_on limit (opened pages units (stored_at old) top) old (tested_good limit pages units (stored_at old) top tested) (told_first pages units top old low) acts runs).told.rows f may k
+    (goes_on limit (opened pages units (stored_at old) top) old (tested_consistent limit pages units (stored_at old) top tested) (agrees_first pages units top old low) acts runs).agrees.rows f may k
+
+pub later_stored : (limit : ℕ) (pages : List (List Slot)) (units : List (List Written)) (top : ℕ) (old : List Act) → Tested limit pages units (stored_at old) top → LogBelow top old → (acts : List Act) → Runs limit (opened pages units (stored_at old) top) acts
+    → (k : ℕ) → stored_at (acts ++ old) k ≡ stored_of (state (opened pages units (stored_at old) top) acts) k
+later_stored limit pages units top old tested low acts runs k =
+    later_tells limit pages units top old tested low acts runs (λ u. false) (λ u e. absurd (cc (e))) k
+    ∙ ap (λ (ws : List Write). gone_back (at_key k) ws ((state (opened pages units (stored_at old) top) acts).now k)) (kept_all (state (opened pages units (stored_at old) top) acts).writes)

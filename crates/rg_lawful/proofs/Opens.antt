@@ -21,7 +21,7 @@ use Rattle.rg_lawful.specs.Closing.{in_order}
 use Rattle.rg_lawful.specs.Tested.{all_of, OwnersBelow, Tested, units_of, TakeInAll}
 use Rattle.rg_lawful.proofs.Hits.{one_kept}
 use Rattle.rg_lawful.proofs.Tables.{gone_taken, table_same}
-use Rattle.rg_lawful.proofs.Prefixes.{prefix_good, prefix_stored, good_table}
+use Rattle.rg_lawful.proofs.Prefixes.{prefix_consistent, prefix_stored, stored_table}
 use Rattle.rg_lawful.proofs.Closing.{needed_order, none_gone}
 
 joined : (xs ys : List Write) → written_of (xs ++ ys) ≡ written_of xs ++ written_of ys
@@ -89,8 +89,8 @@ low_of top live at fresh [] can = tt
 low_of top live at fresh (w ∷ ws) can = (fresh w.written.owner can.1, low_of top live at fresh ws can.2)
 
 -- of any state that the invariant holds of
-pub good_tested : (limit : ℕ) (s : LogState) → IsConsistent limit s → (stored : ℕ → Option TableRow) → ((k : ℕ) → stored k ≡ stored_of s k) → (ts : List ℕ) → TakeInAll ts s.writes → Tested limit s.pages (units_of ts s.writes) stored s.top
-good_tested limit s g stored same ts covers =
+pub consistent_tested : (limit : ℕ) (s : LogState) → IsConsistent limit s → (stored : ℕ → Option TableRow) → ((k : ℕ) → stored k ≡ stored_of s k) → (ts : List ℕ) → TakeInAll ts s.writes → Tested limit s.pages (units_of ts s.writes) stored s.top
+consistent_tested limit s g stored same ts covers =
     let e = order_units ts s.writes in
     let needed : NeededInTurn s.pages (all_of (units_of ts s.writes)) = subst (NeededInTurn s.pages) e (needed_order limit s g ts) in
     let can = in_turn_all (all_of (units_of ts s.writes)) s.pages g.ready.proper needed in
@@ -105,9 +105,9 @@ good_tested limit s g stored same ts covers =
       few = g.few;
       owners = low_order s.top ts s.writes (low_of s.top s.live (slot_of s.pages) g.fresh s.writes g.ready.can);
       needed = needed;
-      rows = table_same (base_of s) _ (stored_of s) stored rows same (good_table limit s g);
+      rows = table_same (base_of s) _ (stored_of s) stored rows same (stored_table limit s g);
     }
 
 pub prefix_tested : (limit : ℕ) (acts : List Act) → Runs limit nothing acts → (ts : List ℕ) → TakeInAll ts (state nothing acts).writes
     → Tested limit (state nothing acts).pages (units_of ts (state nothing acts).writes) (stored_at acts) (state nothing acts).top
-prefix_tested limit acts runs ts covers = good_tested limit (state nothing acts) (prefix_good limit acts runs) (stored_at acts) (prefix_stored limit acts runs) ts covers
+prefix_tested limit acts runs ts covers = consistent_tested limit (state nothing acts) (prefix_consistent limit acts runs) (stored_at acts) (prefix_stored limit acts runs) ts covers

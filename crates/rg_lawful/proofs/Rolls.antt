@@ -17,7 +17,7 @@ use Rattle.rg_lawful.proofs.Hits.{some_is, hit_less, latest_owner}
 use Rattle.rg_lawful.proofs.Free.{free_back, free_latest}
 use Rattle.rg_lawful.proofs.Own.{own_first, own_less, own_none}
 use Rattle.rg_lawful.proofs.Units.{stored_undo, stored_rolled, now_after_undo}
-use Rattle.rg_lawful.proofs.Keeps.{runs_good}
+use Rattle.rg_lawful.proofs.Runs.{runs_consistent}
 
 -- what is the same after each Undo of t
 pub record Rolling (t : ℕ) (s u : LogState) : Type 0 where
@@ -59,7 +59,7 @@ module _ (limit : ℕ) (s : LogState) (g : IsConsistent limit s) (t : ℕ) where
       go : (v : ℕ) → v ≡ t → MayUndo (state s acts) v home after parts → Rolling t s (state s acts) → Rolling t s (step (state s acts) (Undo v home after parts))
       go v e m r =
           subst (λ (x : ℕ). Rolling t s (step (state s acts) (Undo x home after parts))) (sym e)
-          (one_undo (state s acts) home after parts (runs_good limit s g acts runs.1) (subst (λ (x : ℕ). MayUndo (state s acts) x home after parts) e m) r)
+          (one_undo (state s acts) home after parts (runs_consistent limit s g acts runs.1) (subst (λ (x : ℕ). MayUndo (state s acts) x home after parts) e m) r)
   all_undos (Purge parts ∷ acts) are runs = absurd are
   all_undos (Change w ∷ acts) are runs = absurd are
   all_undos (Commit v ∷ acts) are runs = absurd are

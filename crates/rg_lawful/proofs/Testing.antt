@@ -1,5 +1,4 @@
--- What the tests establish is what a desk needs.
--- a list of undos that are needed in turn
+-- What the tests of an opening show is what a desk needs.
 use Rattle.std.proofs.Common.{subst, ap, ◌≡◌, ◌++◌, ℕ, List, [], ◌∷◌, length, Option, refl, ◌∙◌, arith}
 use Rattle.rg_base.specs.declared.place.Place.{Place}
 use Rattle.rg_base.specs.declared.row.Row.{Row as TableRow}
@@ -45,8 +44,8 @@ units_can (cs ∷ units) pages proper n =
     let two = turn_split cs (all_of units) pages n in
     (proper, in_turn_all cs pages proper two.0, units_can units (undone_all pages cs) (turn_proper cs pages proper two.0).0 two.1)
 
-pub tested_good : (limit : ℕ) (pages : List (List Slot)) (units : List (List Written)) (stored : ℕ → Option TableRow) (top : ℕ) → Tested limit pages units stored top → IsConsistent limit (opened pages units stored top)
-tested_good limit pages units stored top t =
+pub tested_consistent : (limit : ℕ) (pages : List (List Slot)) (units : List (List Written)) (stored : ℕ → Option TableRow) (top : ℕ) → Tested limit pages units stored top → IsConsistent limit (opened pages units stored top)
+tested_consistent limit pages units stored top t =
     let end = turn_proper (all_of units) pages t.proper t.needed in
     record {
       few = omega (arith, t.few, end.1);

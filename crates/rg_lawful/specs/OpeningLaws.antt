@@ -19,7 +19,7 @@ use Rattle.rg_home.specs.Undo.{undone_all}
 use Rattle.rg_lawful.specs.Table.{IsTable}
 use Rattle.rg_lawful.specs.Act.{Act, nothing, state}
 use Rattle.rg_lawful.specs.Lawful.{AllBelow, Runs}
-use Rattle.rg_lawful.specs.Consistent.{base_of, IsConsistent, IsClean}
+use Rattle.rg_lawful.specs.Consistent.{base_of, stored_of, IsConsistent, IsClean}
 use Rattle.rg_lawful.specs.Stored.{has_commit, last_of, stored_at, MayCount}
 use Rattle.rg_lawful.specs.Write.{at_key, kept_of, gone_back}
 use Rattle.rg_lawful.specs.Closing.{IsClosing, Closes, all_others, LiveInTurn}
@@ -80,20 +80,27 @@ LogsGoOn =
     (units_of ts (state (opened pages units (stored_at old) top) acts).writes)
     (stored_at (acts ++ old)) (state (opened pages units (stored_at old) top) acts).top)
 
--- and if some open units committed then, the stored rows of the whole log would be those that are
--- there once all others are taken back
-abbrev pub LogsTell : Type 0
-LogsTell =
-    (limit : ℕ) (pages : List (List Slot)) (units : List (List Written)) (top : ℕ)
-    (old : List Act)
-    → Tested limit pages units (stored_at old) top → LogBelow top old → (acts : List Act)
-    → Runs limit (opened pages units (stored_at old) top) acts → (f : ℕ → Bool)
-    → ((u : ℕ) → f u ≡ true
-    → MayCount (state (opened pages units (stored_at old) top) acts) u) → (k : ℕ)
-    → last_of (λ u. f u || has_commit u (acts ++ old)) k (acts ++ old)
-    ≡ gone_back (at_key k)
-    (kept_of (λ u. not (f u)) (state (opened pages units (stored_at old) top) acts).writes)
-    ((state (opened pages units (stored_at old) top) acts).now k)
+-- the stored row of a key, by the whole log, is the committed row that the state computes; and if
+-- some open units committed then, it would be the one that is there once all others are taken back
+pub record LogsTell : Type 0 where
+  pub stored :
+      (limit : ℕ) (pages : List (List Slot)) (units : List (List Written)) (top : ℕ)
+      (old : List Act)
+      → Tested limit pages units (stored_at old) top → LogBelow top old → (acts : List Act)
+      → Runs limit (opened pages units (stored_at old) top) acts → (k : ℕ)
+      → stored_at (acts ++ old) k
+      ≡ stored_of (state (opened pages units (stored_at old) top) acts) k
+  pub commits :
+      (limit : ℕ) (pages : List (List Slot)) (units : List (List Written)) (top : ℕ)
+      (old : List Act)
+      → Tested limit pages units (stored_at old) top → LogBelow top old → (acts : List Act)
+      → Runs limit (opened pages units (stored_at old) top) acts → (f : ℕ → Bool)
+      → ((u : ℕ) → f u ≡ true
+      → MayCount (state (opened pages units (stored_at old) top) acts) u) → (k : ℕ)
+      → last_of (λ u. f u || has_commit u (acts ++ old)) k (acts ++ old)
+      ≡ gone_back (at_key k)
+      (kept_of (λ u. not (f u)) (state (opened pages units (stored_at old) top) acts).writes)
+      ((state (opened pages units (stored_at old) top) acts).now k)
 
 -- redo may go page by page, and a part that fits its pages fits its page
 abbrev pub PagesPart : Type 0

@@ -1,6 +1,6 @@
-use Rattle.std.proofs.Common.{◌∷◌}
+use Rattle.std.proofs.Common.{◌∷◌, refl}
 use Rattle.rg_lawful.proofs.Plans.{put_makes, change_makes, drop_makes}
-use Rattle.rg_lawful.proofs.Desk.{desk_put, desk_change, desk_drop}
+use Rattle.rg_lawful.proofs.Desk.{purge_acts_leave, desk_put, desk_change, desk_drop}
 use Rattle.rg_home.specs.Pages.{slot_of}
 use Rattle.rg_lawful.proofs.Locks.{row_locked, free_home}
 use Rattle.rg_lawful.proofs.laws.desk_law.Goals as goal
@@ -24,3 +24,6 @@ returns-clause-writes c = record {
   change = λ limit s t units home row after capacity g begin are there key same small within. desk_change limit s g t begin units are home row after capacity there key same small within;
   drop = λ limit s t home row g begin there key. desk_drop limit s g t begin (t ∷ s.live) (record { only = λ u l. l; all = λ u l. l }) home row there key;
 }
+
+pub returns-clause-empty : goal.returns-clause-empty
+returns-clause-empty c = record { none = λ s. refl; acts = λ s parts. purge_acts_leave s parts }
