@@ -98,6 +98,7 @@ module _ (limit : ℕ) (s : LogState) (g : IsConsistent limit s) (t : ℕ) (begi
     purge = purges;
     change = change;
     runs = purge_runs limit s (Change w) plan.purge purges change;
+    leaves = ap (λ (x : LogState). step x (Change w)) (purge_acts_leave s plan.purge);
     purged = sym same;
     pages = ap (λ (pages : List (List Slot)). applied t (row_or_empty after) pages plan.parts) (sym same);
   }

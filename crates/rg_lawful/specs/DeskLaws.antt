@@ -88,6 +88,10 @@ pub record DeskWrites
   pub runs :
       Runs limit s (Change (write_of t plan.home before after plan.parts)
       ∷ purge_acts plan.purge)
+  pub leaves :
+      state s (Change (write_of t plan.home before after plan.parts) ∷ purge_acts plan.purge)
+      ≡ step (step s (Purge plan.purge))
+      (Change (write_of t plan.home before after plan.parts))
   pub purged :
       (step s (Purge plan.purge)).pages ≡ applied t (row_or_empty after) s.pages plan.purge
   pub pages :

@@ -5,9 +5,11 @@
 -- 2. The committed row of a key changes by a Commit alone, and then at the keys that the unit has
 --    written: there it becomes the row that is there (`StoredAfter`).
 -- 3. Writes of a key stay writes of one unit, and are none once that unit has ended (`HitAfter`).
--- 4. A unit is live from its first Change to its end (`UnitsAfter`). Its writes grow by its Change, lose their first by its Undo, and are none after its end
---    (`OwnAfter`).
--- 5. So a unit that is undone by its Undos and a RollBack leaves the committed rows at the keys
+-- 4. A unit is live from its first Change to its end (`UnitsAfter`), and open until it begins to be
+--    undone (`OpenAfter`).
+-- 5. A unit's own writes grow by its Change, lose their first by its Undo, and are none after its
+--    end (`OwnAfter`).
+-- 6. So a unit that is undone by its Undos and a RollBack leaves the committed rows at the keys
 --    that it has written, and every other row as it was (`RollbackRows`).
 use Rattle.std.specs.Prelude.{◌≡◌, ◌==◌, ◌≤◌, ◌++◌, ℕ, suc, true, false, List, [], ◌∷◌, length, Option, Some, None, if◌then◌else◌, Bool}
 use Rattle.rg_base.specs.declared.place.Place.{Place}
@@ -71,7 +73,7 @@ pub record StoredAfter : Type 0 where
   pub quiet :
       (s : LogState) (k : ℕ) → NoneHit (at_key k) s.writes → stored_of s k ≡ s.now k
 
--- writes that meet a test are of unit u: what each act makes of that
+-- writes that meet a test are of unit u, and stay so
 pub record HitAfter : Type 0 where
   pub purge :
       (s : LogState) (u : ℕ) (hit : Write → Bool) (parts : List Part)
@@ -107,12 +109,13 @@ pub record HitAfter : Type 0 where
       (u t : ℕ) (hit : Write → Bool) (ws : List Write)
       → (u ≡ t → ⊥) → HitBy u hit ws → NoneHit hit (own_of t ws)
 
--- the test of a key finds a write of another key not, and a write of it
+-- the test of a key is met by the writes of that key, and by no other
 pub record KeysDiffer : Type 0 where
+  pub own : (w : Write) → at_key w.key w ≡ true
   pub other : (k : ℕ) (w : Write) → (w.key ≡ k → ⊥) → at_key k w ≡ false
   pub same : (k : ℕ) (w : Write) → at_key k w ≡ true → w.key ≡ k
 
--- the writes of unit u: what each act makes of them
+-- what each act makes of the writes of unit u
 pub record OwnAfter : Type 0 where
   pub purge :
       (s : LogState) (u : ℕ) (parts : List Part)
@@ -192,7 +195,7 @@ pub record OpenAfter : Type 0 where
   pub roll_back :
       (s : LogState) (t u : ℕ) → (u ≡ t → ⊥) → IsOpen s u → IsOpen (step s (RollBack t)) u
 
--- no write meets a test: what each act makes of that
+-- no write meets a test, and so it stays
 pub record NoneAfter : Type 0 where
   pub change :
       (s : LogState) (hit : Write → Bool) (w : Write) → hit w ≡ false

@@ -36,25 +36,41 @@ pub fn desk_law()
     ensures purges { PurgesRun }
 {}
 
-/// What each act makes of the rows by key, and of a unit's writes.
-pub fn unit_law()
+/// What each act makes of the rows by key, and of the committed ones.
+pub fn key_rows_law()
     ensures now { NowAfter }
     ensures stored { StoredAfter }
+{}
+
+/// What each act makes of the writes of a key, and of a unit's own writes.
+pub fn writes_law()
     ensures hit { HitAfter }
+    ensures none { NoneAfter }
     ensures keys { KeysDiffer }
     ensures own { OwnAfter }
-    ensures units { UnitsAfter }
+{}
+
+/// Which units are live, and which are open, after each act.
+pub fn units_law()
+    ensures live { UnitsAfter }
     ensures open_units { OpenAfter }
-    ensures none { NoneAfter }
-    ensures undo_leaves { UndoLeaves }
-    ensures rollback { RollbackRows }
-    ensures rollback_runs { RollbackRuns }
+{}
+
+/// What an undo needs, and what it leaves.
+pub fn unit_undo_law()
+    ensures can { UnitsUndo }
+    ensures leaves { UndoLeaves }
+{}
+
+/// What a whole rollback leaves, and that it is lawful.
+pub fn rollback_law()
+    ensures rows { RollbackRows }
+    ensures runs { RollbackRuns }
     ensures pages { RollbackPages }
-    ensures undo { UnitsUndo }
 {}
 
 /// What an opening finds, and what it leaves.
-pub fn opening_law()
+pub fn tests_law()
     ensures pass { PrefixesPass }
     ensures close { OpeningsClose }
     ensures suffice { TestsSuffice }

@@ -2,7 +2,7 @@ use Rattle.rg_lawful.proofs.Closing.{all_closed, closed_table}
 use Rattle.rg_lawful.proofs.Opens.{prefix_tested}
 use Rattle.rg_lawful.proofs.Testing.{units_can, tested_consistent, tested_clean, tested_rest}
 use Rattle.rg_lawful.proofs.Later.{later, later_tells, later_stored}
-use Rattle.rg_lawful.proofs.laws.opening_law.Goals as goal
+use Rattle.rg_lawful.proofs.laws.tests_law.Goals as goal
 
 pub returns-clause-pass : goal.returns-clause-pass
 returns-clause-pass c limit acts runs ts covers = prefix_tested limit acts runs ts covers
