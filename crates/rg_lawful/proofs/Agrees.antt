@@ -1,4 +1,4 @@
--- *Stored* of a log, with any open units counted, is what is left once all others are undone.
+-- The stored rows of a log, with any open units counted, are those that are left once all others are undone.
 use Rattle.std.proofs.Common.{◌++◌, ◌≡◌, inl, inr, ◌⊎◌, ◌||◌, ◌&&◌, ◌==◌, ℕ, ◌≤◌, nat_le, suc, Bool, true, false, not, List, [], ◌∷◌, Option, Some, None, refl, sym, ◌∙◌, ap, subst, if◌then◌else◌, arith}
 use Rattle.std.proofs.lemmas.Bool.{eqb-true, eqb-false, leb-false}
 use Rattle.std.specs.List.{list_any}
@@ -12,7 +12,7 @@ use Rattle.rg_lawful.specs.Lawful.{MayWrite, Lawful}
 use Rattle.rg_lawful.specs.Consistent.{IsConsistent}
 use Rattle.rg_lawful.specs.Stored.{has_commit, last_of, MayCount, AgreesWith}
 use Rattle.rg_lawful.proofs.Hits.{gone_less, one_kept}
-use Rattle.rg_lawful.proofs.Keeps.{was_live}
+use Rattle.rg_lawful.proofs.Live.{live_was, live_gone}
 
 pub last_same : (c d : ℕ → Bool) → ((u : ℕ) → c u ≡ d u) → (k : ℕ) (acts : List Act) → last_of c k acts ≡ last_of d k acts
 last_same c d e k [] = refl
@@ -60,7 +60,7 @@ kept_all [] = refl
 kept_all (w ∷ ws) = ap (λ (ds : List Write). w ∷ ds) (kept_all ws)
 
 -- a unit without writes, taken away
-none_kept : (t : ℕ) (ws : List Write) → latest_of t ws ≡ None → kept_of (not_of t) ws ≡ ws
+pub none_kept : (t : ℕ) (ws : List Write) → latest_of t ws ≡ None → kept_of (not_of t) ws ≡ ws
 none_kept t [] e = refl
 none_kept t (d ∷ ws) e = go (d.written.owner == t) e (none_kept t ws)
   where
@@ -94,7 +94,7 @@ not_in_more u t us e = go (t == u) refl e
     go true g h = absurd (cc (h))
     go false g h = (h, λ k. eqb-false t u g (sym k))
 
-module _ (limit : ℕ) (first : LogState) (old acts : List Act) (g : IsConsistent limit (state first acts)) (told : AgreesWith first old acts) where
+module _ (limit : ℕ) (first : LogState) (old acts : List Act) (g : IsConsistent limit (state first acts)) (agrees : AgreesWith first old acts) where
   s : LogState
   s = state first acts
 
@@ -110,8 +110,8 @@ module _ (limit : ℕ) (first : LogState) (old acts : List Act) (g : IsConsisten
   open_of w m = go (has_commit w.written.owner (acts ++ old)) refl
     where
       drawn : has_commit w.written.owner (acts ++ old) ≡ true → (IsLive (state first acts).live w.written.owner ⊎ (w.written.owner ≡ suc (state first acts).top)) → ⊥
-      drawn e (inl l) = (told.ended w.written.owner e).0 l
-      drawn e (inr l) = omega (arith, l, (told.ended w.written.owner e).1)
+      drawn e (inl l) = (agrees.ended w.written.owner e).0 l
+      drawn e (inr l) = omega (arith, l, (agrees.ended w.written.owner e).1)
 
       go : (b : Bool) → has_commit w.written.owner (acts ++ old) ≡ b → has_commit w.written.owner (acts ++ old) ≡ false
       go true e = absurd (drawn e m.unit.number)
@@ -136,15 +136,15 @@ module _ (limit : ℕ) (first : LogState) (old acts : List Act) (g : IsConsisten
       go (inl l) = live_one (w.written.owner == u) refl l m.unit.number
       go (inr l) = inr (omega (arith, l, top_above w))
 
-  told_write : (w : Write) → MayWrite limit (state first acts) w → AgreesWith first old (Change w ∷ acts)
-  told_write w m = record { ended = ended; rows = λ f may k. rows f may k (f w.written.owner) refl (w.key == k) refl }
+  agrees_change : (w : Write) → MayWrite limit (state first acts) w → AgreesWith first old (Change w ∷ acts)
+  agrees_change w m = record { ended = ended; rows = λ f may k. rows f may k (f w.written.owner) refl (w.key == k) refl }
     where
       ended : (u : ℕ) → has_commit u (acts ++ old) ≡ true → (IsLive (state first (Change w ∷ acts)).live u → ⊥) × (u ≤ (state first (Change w ∷ acts)).top)
-      ended u e = ((λ l. no (w.written.owner == u) refl l), omega (arith, (told.ended u e).1, top_above w))
+      ended u e = ((λ l. no (w.written.owner == u) refl l), omega (arith, (agrees.ended u e).1, top_above w))
         where
           no : (b : Bool) → (w.written.owner == u) ≡ b → (b || list_any (λ v. v == u) (state first acts).live) ≡ true → ⊥
           no true h l = cc (e, open_of w m, ap (λ (v : ℕ). has_commit v (acts ++ old)) (eqb-true w.written.owner u h))
-          no false h l = (told.ended u e).0 l
+          no false h l = (agrees.ended u e).0 l
 
       rows : (f : ℕ → Bool) → ((u : ℕ) → f u ≡ true → MayCount (state first (Change w ∷ acts)) u) → (k : ℕ) → (b : Bool) → f w.written.owner ≡ b → (c : Bool) → (w.key == k) ≡ c
           → last_of (λ u. f u || has_commit u (acts ++ old)) k (Change w ∷ (acts ++ old)) ≡ gone_back (at_key k) (kept_of (λ u. not (f u)) (w ∷ (state first acts).writes)) (set_at (state first acts).now w.key w.after k)
@@ -156,8 +156,8 @@ module _ (limit : ℕ) (first : LogState) (old acts : List Act) (g : IsConsisten
           K : List Write
           K = kept_of (λ u. not (f u)) (state first acts).writes
 
-          was_told : last_of F k (acts ++ old) ≡ gone_back (at_key k) K ((state first acts).now k)
-          was_told = told.rows f (λ u y. may_before w m u (may u y)) k
+          was_so : last_of F k (acts ++ old) ≡ gone_back (at_key k) K ((state first acts).now k)
+          was_so = agrees.rows f (λ u y. may_before w m u (may u y)) k
 
           left : last_of F k (Change w ∷ (acts ++ old)) ≡ (if (b || has_commit w.written.owner (acts ++ old)) && c then w.after else last_of F k (acts ++ old))
           left = ap (λ (x : Bool). if (x || has_commit w.written.owner (acts ++ old)) && w.key == k then w.after else last_of F k (acts ++ old)) e ∙ ap (λ (x : Bool). if (b || has_commit w.written.owner (acts ++ old)) && x then w.after else last_of F k (acts ++ old)) h
@@ -167,41 +167,33 @@ module _ (limit : ℕ) (first : LogState) (old acts : List Act) (g : IsConsisten
 
           mid : (b : Bool) → f w.written.owner ≡ b → (c : Bool) → (w.key == k) ≡ c → (if (b || has_commit w.written.owner (acts ++ old)) && c then w.after else last_of F k (acts ++ old)) ≡ gone_back (at_key k) (kept_if (not b) w K) (if c then w.after else (state first acts).now k)
           mid true e true h = sym (gone_none (λ u. not (f u)) w.written.owner (ap not e) (at_key k) (state first acts).writes w.after (subst (λ (j : ℕ). HitBy w.written.owner (at_key j) (state first acts).writes) (eqb-true w.key k h) m.key))
-          mid true e false h = was_told
+          mid true e false h = was_so
           mid false e true h =
-              ap (λ (x : Bool). if x && true then w.after else last_of F k (acts ++ old)) (open_of w m) ∙ was_told
+              ap (λ (x : Bool). if x && true then w.after else last_of F k (acts ++ old)) (open_of w m) ∙ was_so
               ∙ ap (gone_back (at_key k) K) (ap (state first acts).now (sym (eqb-true w.key k h)) ∙ m.present)
               ∙ ap (λ (x : Bool). gone_back (at_key k) K (if x then w.written.before else w.after)) (sym h)
           mid false e false h =
-              ap (λ (x : Bool). if x && false then w.after else last_of F k (acts ++ old)) (open_of w m) ∙ was_told
+              ap (λ (x : Bool). if x && false then w.after else last_of F k (acts ++ old)) (open_of w m) ∙ was_so
               ∙ ap (λ (x : Bool). gone_back (at_key k) K (if x then w.written.before else (state first acts).now k)) (sym h)
 
   -- a commit
 
-  told_commit : (t : ℕ) → IsLive (state first acts).live t → is_in t (state first acts).rolling ≡ false → AgreesWith first old (Commit t ∷ acts)
-  told_commit t lives steady = record { ended = λ u e. ended u (either_true (u == t) (has_commit u (acts ++ old)) e); rows = rows }
+  agrees_commit : (t : ℕ) → IsLive (state first acts).live t → is_in t (state first acts).rolling ≡ false → AgreesWith first old (Commit t ∷ acts)
+  agrees_commit t lives steady = record { ended = λ u e. ended u (either_true (u == t) (has_commit u (acts ++ old)) e); rows = rows }
     where
-      gone : (us : List ℕ) → IsLive (others t us) t → ⊥
-      gone [] l = cc (l)
-      gone (v ∷ us) l = go (v == t) refl l (gone us)
-        where
-          go : (b : Bool) → (v == t) ≡ b → IsLive (if b then others t us else v ∷ others t us) t → (IsLive (others t us) t → ⊥) → ⊥
-          go true e l rest = rest l
-          go false e l rest = rest (ap (λ (b : Bool). b || list_any (λ x. x == t) (others t us)) (sym e) ∙ l)
-
       ended : (u : ℕ) → ((u == t) ≡ true) ⊎ (has_commit u (acts ++ old) ≡ true) → (IsLive (others t (state first acts).live) u → ⊥) × (u ≤ (state first acts).top)
-      ended u (inl e) = ((λ l. gone (state first acts).live (subst (IsLive (others t (state first acts).live)) (eqb-true u t e) l)), omega (arith, eqb-true u t e, g.fresh t lives))
-      ended u (inr e) = ((λ l. (told.ended u e).0 (was_live limit (state first acts) g t u (state first acts).live l)), (told.ended u e).1)
+      ended u (inl e) = ((λ l. live_gone t (state first acts).live (subst (IsLive (others t (state first acts).live)) (eqb-true u t e) l)), omega (arith, eqb-true u t e, g.fresh t lives))
+      ended u (inr e) = ((λ l. (agrees.ended u e).0 (live_was t u (state first acts).live l)), (agrees.ended u e).1)
 
       rows : (f : ℕ → Bool) → ((u : ℕ) → f u ≡ true → MayCount (state first (Commit t ∷ acts)) u) → (k : ℕ)
           → last_of (λ u. f u || (u == t || has_commit u (acts ++ old))) k (acts ++ old) ≡ gone_back (at_key k) (kept_of (λ u. not (f u)) (kept_of (not_of t) (state first acts).writes)) ((state first acts).now k)
       rows f may k =
           last_same (λ u. f u || (u == t || has_commit u (acts ++ old))) (λ u. (f u || u == t) || has_commit u (acts ++ old)) (λ u. assoc (f u) (u == t) (has_commit u (acts ++ old))) k (acts ++ old)
-          ∙ told.rows (λ u. f u || u == t) (λ u y. before u (either_true (f u) (u == t) y)) k
+          ∙ agrees.rows (λ u. f u || u == t) (λ u y. before u (either_true (f u) (u == t) y)) k
           ∙ ap (λ (ws : List Write). gone_back (at_key k) ws ((state first acts).now k)) (sym (kept_both f t (state first acts).writes))
         where
           widen : (u : ℕ) → (IsLive (others t (state first acts).live) u ⊎ (suc (state first acts).top ≤ u)) → IsLive (state first acts).live u ⊎ (suc (state first acts).top ≤ u)
-          widen u (inl l) = inl (was_live limit (state first acts) g t u (state first acts).live l)
+          widen u (inl l) = inl (live_was t u (state first acts).live l)
           widen u (inr l) = inr l
 
           before : (u : ℕ) → (f u ≡ true) ⊎ ((u == t) ≡ true) → MayCount (state first acts) u
@@ -210,36 +202,36 @@ module _ (limit : ℕ) (first : LogState) (old acts : List Act) (g : IsConsisten
 
   -- an undo
 
-  told_undo : (t : ℕ) (home : Place) (after : Option TableRow) (parts : List Part) (w : Write) → latest_of t (state first acts).writes ≡ Some w → AgreesWith first old (Undo t home after parts ∷ acts)
-  told_undo t home after parts w e = record { ended = told.ended; rows = λ f may k. rows f may k (f t) refl }
+  agrees_undo : (t : ℕ) (home : Place) (after : Option TableRow) (parts : List Part) (w : Write) → latest_of t (state first acts).writes ≡ Some w → AgreesWith first old (Undo t home after parts ∷ acts)
+  agrees_undo t home after parts w e = record { ended = agrees.ended; rows = λ f may k. rows f may k (f t) refl }
     where
       rows : (f : ℕ → Bool) → ((u : ℕ) → f u ≡ true → MayCount (state first (Undo t home after parts ∷ acts)) u) → (k : ℕ) → (b : Bool) → f t ≡ b
           → last_of (λ u. f u || has_commit u (acts ++ old)) k (acts ++ old) ≡ gone_back (at_key k) (kept_of (λ u. not (f u)) (less_of t (state first acts).writes)) (now_undone (state first acts).now (latest_of t (state first acts).writes) k)
       rows f may k true y = absurd ((not_in_more t t (state first acts).rolling (may t y).1).1 refl)
       rows f may k false y =
           let keep : (λ (u : ℕ). not (f u)) t ≡ true = ap not y in
-          told.rows f (λ u z. ((may u z).0, (not_in_more u t (state first acts).rolling (may u z).1).0)) k
+          agrees.rows f (λ u z. ((may u z).0, (not_in_more u t (state first acts).rolling (may u z).1).0)) k
           ∙ gone_less t (at_key k) (kept_of (λ u. not (f u)) (state first acts).writes) w ((state first acts).now k) (one_kept (λ u. not (f u)) (at_key k) (state first acts).writes (g.one_key k)) (kept_latest (λ u. not (f u)) t keep (state first acts).writes w e)
           ∙ ap (λ (ws : List Write). gone_back (at_key k) ws (if w.key == k then w.written.before else (state first acts).now k)) (sym (kept_less (λ u. not (f u)) t keep (state first acts).writes))
           ∙ ap (λ (o : Option Write). gone_back (at_key k) (kept_of (λ u. not (f u)) (less_of t (state first acts).writes)) (now_undone (state first acts).now o k)) (sym e)
 
   -- an end without a commit
 
-  told_rolled : (t : ℕ) → latest_of t (state first acts).writes ≡ None → AgreesWith first old (RollBack t ∷ acts)
-  told_rolled t e = record {
-    ended = λ u h. ((λ l. (told.ended u h).0 (was_live limit (state first acts) g t u (state first acts).live l)), (told.ended u h).1);
-    rows = λ f may k. told.rows f (λ u y. (widen u (may u y).0, (may u y).1)) k
+  agrees_rolled : (t : ℕ) → latest_of t (state first acts).writes ≡ None → AgreesWith first old (RollBack t ∷ acts)
+  agrees_rolled t e = record {
+    ended = λ u h. ((λ l. (agrees.ended u h).0 (live_was t u (state first acts).live l)), (agrees.ended u h).1);
+    rows = λ f may k. agrees.rows f (λ u y. (widen u (may u y).0, (may u y).1)) k
         ∙ ap (λ (ws : List Write). gone_back (at_key k) (kept_of (λ u. not (f u)) ws) ((state first acts).now k)) (sym (none_kept t (state first acts).writes e));
   }
     where
       widen : (u : ℕ) → (IsLive (others t (state first acts).live) u ⊎ (suc (state first acts).top ≤ u)) → IsLive (state first acts).live u ⊎ (suc (state first acts).top ≤ u)
-      widen u (inl l) = inl (was_live limit (state first acts) g t u (state first acts).live l)
+      widen u (inl l) = inl (live_was t u (state first acts).live l)
       widen u (inr l) = inr l
 
   pub agrees_keeps : (r : Act) → Lawful limit (state first acts) r → AgreesWith first old (r ∷ acts)
-  agrees_keeps (Purge parts) m = record { ended = told.ended; rows = told.rows }
-  agrees_keeps (Change w) m = told_write w m
-  agrees_keeps (Undo t home after parts) m = told_undo t home after parts m.write m.latest
-  agrees_keeps (Commit t) m = told_commit t m.0 m.1
-  agrees_keeps (RollBack t) m = told_rolled t m.1
-  agrees_keeps (Switch pages) m = record { ended = told.ended; rows = told.rows }
+  agrees_keeps (Purge parts) m = record { ended = agrees.ended; rows = agrees.rows }
+  agrees_keeps (Change w) m = agrees_change w m
+  agrees_keeps (Undo t home after parts) m = agrees_undo t home after parts m.write m.latest
+  agrees_keeps (Commit t) m = agrees_commit t m.0 m.1
+  agrees_keeps (RollBack t) m = agrees_rolled t m.1
+  agrees_keeps (Switch pages) m = record { ended = agrees.ended; rows = agrees.rows }

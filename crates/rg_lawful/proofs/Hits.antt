@@ -26,7 +26,7 @@ module _ (t : ℕ) where
         go true e rest = subst (λ (x : Write). hit x ≡ true → x.written.owner ≡ u) (some_is d w e) h.0
         go false e rest = rest e
 
-    hit_less : (u : ℕ) (ws : List Write) → HitBy u hit ws → HitBy u hit (less_of t ws)
+    pub hit_less : (u : ℕ) (ws : List Write) → HitBy u hit ws → HitBy u hit (less_of t ws)
     hit_less u [] h = tt
     hit_less u (d ∷ ws) h = go (d.written.owner == t) (hit_less u ws h.1)
       where

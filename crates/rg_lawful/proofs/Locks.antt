@@ -1,5 +1,4 @@
 -- What a lock by key gives at a home.
--- a unit finds a row whose key no other open unit has written: no other has this home, and the row is its key's
 use Rattle.std.proofs.Common.{◌≡◌, ℕ, List, [], ◌∷◌, Some, refl, ◌∙◌, ap, subst}
 use Rattle.rg_base.specs.declared.place.Place.{Place}
 use Rattle.rg_base.specs.declared.row.Row.{Row as TableRow}

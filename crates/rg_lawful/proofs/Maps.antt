@@ -1,4 +1,4 @@
--- The Changes of a list of writes are the lists of the undo of units.
+-- What undo reads of a list of writes: the same lists, by unit, as those of the undo of units.
 use Rattle.std.proofs.Common.{◌≡◌, ◌==◌, ℕ, Bool, true, false, not, List, [], ◌∷◌, Option, Some, None, refl, sym, ◌∙◌, ap, subst}
 use Rattle.rg_base.specs.declared.place.Place.{Place}
 use Rattle.rg_base.specs.declared.row.Row.{Row as TableRow}
@@ -49,7 +49,7 @@ module _ (t : ℕ) where
       go true e = ap (λ (cs : List Written). d.written ∷ cs) e
       go false e = e
 
--- a home of one unit, told of writes
+-- a home of one unit, said of writes
 pub home_hit : (t : ℕ) (h p : Place) (ws : List Write) → p ≡ h → HomeOf t h (written_of ws) → HitBy t (at_home p) ws
 home_hit t h p [] e of = tt
 home_hit t h p (d ∷ ws) e of = (λ g. of.0 (sym (same_place-true p d.written.home g) ∙ e), home_hit t h p ws e of.1)

@@ -1,4 +1,4 @@
--- Every prefix of a lawful log: the invariant, *Stored*, and what an opening meets.
+-- Every prefix of a lawful log: the invariant, the stored rows, and what an opening meets.
 use Rattle.std.proofs.lemmas.List.{append-nil}
 use Rattle.std.proofs.Common.{◌≡◌, ◌||◌, ◌==◌, ℕ, zero, suc, Bool, true, false, not, List, [], ◌∷◌, Option, Some, None, refl, sym, ◌∙◌, ap, subst, if◌then◌else◌, arith}
 use Rattle.rg_base.specs.declared.place.Place.{Place}
@@ -41,11 +41,12 @@ row_none p = ap (home_row (slot_of [])) (slot_none p)
 named_none : (live : List ℕ) (at : Place → Slot) (p : Place) (s : Slot) → s ≡ Free → DeadNamed live at p s
 named_none live at p s e = subst (DeadNamed live at p) (sym e) tt
 
-pub nothing_good : (limit : ℕ) → IsConsistent limit nothing
-nothing_good limit = record {
+pub nothing_consistent : (limit : ℕ) → IsConsistent limit nothing
+nothing_consistent limit = record {
   few = omega arith;
   ready = ready_alone [] [] proper_empty;
   fresh = λ u l. absurd (cc (l));
+  rolled = λ u l. absurd (cc (l));
   table = record {
     there = λ p r e. absurd (cc (e, row_none p));
     placed = λ k r e. absurd (cc (e));
@@ -64,36 +65,36 @@ nothing_clean = record {
   below = λ p. subst (OwnerBelow 0) (sym (slot_none p)) tt;
 }
 
-pub nothing_told : AgreesWith nothing [] []
-nothing_told = record { ended = λ u e. absurd (cc (e)); rows = λ f may k. refl }
+pub nothing_agrees : AgreesWith nothing [] []
+nothing_agrees = record { ended = λ u e. absurd (cc (e)); rows = λ f may k. refl }
 
 pub record PrefixHolds (limit : ℕ) (acts : List Act) : Type 0 where
-  pub good : IsConsistent limit (state nothing acts)
-  pub told : AgreesWith nothing [] acts
+  pub consistent : IsConsistent limit (state nothing acts)
+  pub agrees : AgreesWith nothing [] acts
   pub clean : IsClean (state nothing acts)
 
 both : (limit : ℕ) (acts : List Act) → Runs limit nothing acts → PrefixHolds limit acts
-both limit [] runs = record { good = nothing_good limit; told = nothing_told; clean = nothing_clean }
+both limit [] runs = record { consistent = nothing_consistent limit; agrees = nothing_agrees; clean = nothing_clean }
 both limit (r ∷ acts) runs = go (both limit acts runs.1)
   where
     go : PrefixHolds limit acts → PrefixHolds limit (r ∷ acts)
-    go b = record { good = (keeps limit (state nothing acts) b.good r runs.0).1; told = agrees_keeps limit nothing [] acts b.good b.told r runs.0; clean = (keeps limit (state nothing acts) b.good r runs.0).2 b.clean }
+    go b = record { consistent = (keeps limit (state nothing acts) b.consistent r runs.0).1; agrees = agrees_keeps limit nothing [] acts b.consistent b.agrees r runs.0; clean = (keeps limit (state nothing acts) b.consistent r runs.0).2 b.clean }
 
-pub prefix_good : (limit : ℕ) (acts : List Act) → Runs limit nothing acts → IsConsistent limit (state nothing acts)
-prefix_good limit acts runs = (both limit acts runs).good
+pub prefix_consistent : (limit : ℕ) (acts : List Act) → Runs limit nothing acts → IsConsistent limit (state nothing acts)
+prefix_consistent limit acts runs = (both limit acts runs).consistent
 
--- *Stored* of the prefix is what is there once all open units are undone
+-- the stored rows of the prefix are those that are there once all open units are undone
 pub prefix_stored : (limit : ℕ) (acts : List Act) → Runs limit nothing acts → (k : ℕ) → stored_at acts k ≡ stored_of (state nothing acts) k
 prefix_stored limit acts runs k =
-    sym (ap (λ (xs : List Act). last_of (λ t. has_commit t xs) k xs) (append-nil acts)) ∙ (both limit acts runs).told.rows (λ u. false) (λ u e. absurd (cc (e))) k ∙ ap (λ (ws : List Write). gone_back (at_key k) ws ((state nothing acts).now k)) (kept_all (state nothing acts).writes)
+    sym (ap (λ (xs : List Act). last_of (λ t. has_commit t xs) k xs) (append-nil acts)) ∙ (both limit acts runs).agrees.rows (λ u. false) (λ u e. absurd (cc (e))) k ∙ ap (λ (ws : List Write). gone_back (at_key k) ws ((state nothing acts).now k)) (kept_all (state nothing acts).writes)
 
 -- the rows by place and the rows by key, once all is taken back
-pub good_table : (limit : ℕ) (s : LogState) → IsConsistent limit s → IsTable (base_of s) (stored_of s)
-good_table limit s g =
+pub stored_table : (limit : ℕ) (s : LogState) → IsConsistent limit s → IsTable (base_of s) (stored_of s)
+stored_table limit s g =
     table_same _ (base_of s) _ (stored_of s) (λ p. sym (gone_taken p s.writes (row_at (slot_of s.pages) p))) (λ k. refl)
     (table_back s.writes (row_at (slot_of s.pages)) s.now g.table g.homes g.keys g.of_key)
 
--- what a unit's undo needs is there, each Written at its turn
+-- what a unit's undo needs is there, each write at its turn
 
 pub inserts : (ws : List Write) (rows : Place → Option TableRow) → ((p : Place) → Back (at_home p) ws (rows p)) → AllOfKey ws → InsertsAreThere rows (written_of ws)
 inserts [] rows h k = tt
@@ -114,7 +115,7 @@ inserts (w ∷ ws) rows h k = (first (w.written.before) refl, inserts ws _ (λ p
     later p true e = subst (λ (b : Bool). Back (at_home p) ws (if b then w.written.before else rows p)) (sym e) (subst (λ (b : Bool). Either b ((rows p ≡ w.after) × Back (at_home p) ws w.written.before) (Back (at_home p) ws (rows p))) e (h p)).1
     later p false e = subst (λ (b : Bool). Back (at_home p) ws (if b then w.written.before else rows p)) (sym e) (subst (λ (b : Bool). Either b ((rows p ≡ w.after) × Back (at_home p) ws w.written.before) (Back (at_home p) ws (rows p))) e (h p))
 
--- of any unit, in any state: its Changes not yet undone can be undone as the rule asks, the latest first
+-- of any unit, in any state: its writes that are not yet undone can be undone, the latest first
 pub needed : (limit : ℕ) (s : LogState) → IsConsistent limit s → (t : ℕ) → NeededInTurn s.pages (only t (written_of s.writes))
 needed limit s g t =
     all_in_turn (only t (written_of s.writes)) s.pages g.ready.proper
@@ -122,11 +123,11 @@ needed limit s g t =
     (subst (InsertsAreThere (row_at (slot_of s.pages))) (map_only t s.writes)
     (inserts (kept_of (λ u. u == t) s.writes) (row_at (slot_of s.pages)) (λ p. back_kept (λ u. u == t) (at_home p) s.writes (row_at (slot_of s.pages) p) (g.one_home p) (g.homes p)) (key_kept (λ u. u == t) s.writes g.of_key)))
 
-pub prefix_law_of : (limit : ℕ) (acts : List Act) → Runs limit nothing acts → IsConsistent limit (state nothing acts) × IsClean (state nothing acts) × IsTable (base_of (state nothing acts)) (stored_at acts)
-prefix_law_of limit acts runs =
-    let g = prefix_good limit acts runs in
-    (g, (both limit acts runs).clean, table_same (base_of (state nothing acts)) (base_of (state nothing acts)) (stored_of (state nothing acts)) (stored_at acts) (λ p. refl) (prefix_stored limit acts runs) (good_table limit (state nothing acts) g))
+pub prefixes_hold : (limit : ℕ) (acts : List Act) → Runs limit nothing acts → IsConsistent limit (state nothing acts) × IsClean (state nothing acts) × IsTable (base_of (state nothing acts)) (stored_at acts)
+prefixes_hold limit acts runs =
+    let g = prefix_consistent limit acts runs in
+    (g, (both limit acts runs).clean, table_same (base_of (state nothing acts)) (base_of (state nothing acts)) (stored_of (state nothing acts)) (stored_at acts) (λ p. refl) (prefix_stored limit acts runs) (stored_table limit (state nothing acts) g))
 
-pub told_law_of : (limit : ℕ) (acts : List Act) → Runs limit nothing acts → (f : ℕ → Bool) → ((u : ℕ) → f u ≡ true → MayCount (state nothing acts) u) → (k : ℕ)
+pub commits_tell : (limit : ℕ) (acts : List Act) → Runs limit nothing acts → (f : ℕ → Bool) → ((u : ℕ) → f u ≡ true → MayCount (state nothing acts) u) → (k : ℕ)
     → last_of (λ u. f u || has_commit u acts) k acts ≡ gone_back (at_key k) (kept_of (λ u. not (f u)) (state nothing acts).writes) ((state nothing acts).now k)
-told_law_of limit acts runs f may k = sym (ap (λ (xs : List Act). last_of (λ u. f u || has_commit u xs) k xs) (append-nil acts)) ∙ (both limit acts runs).told.rows f may k
+commits_tell limit acts runs f may k = sym (ap (λ (xs : List Act). last_of (λ u. f u || has_commit u xs) k xs) (append-nil acts)) ∙ (both limit acts runs).agrees.rows f may k

@@ -3,7 +3,9 @@
 -- 1. A unit is rolled back by an Undo for each of its writes, the latest first, and a RollBack. An
 --    opening does so with each open unit, one after another, in any order.
 use Rattle.std.specs.Prelude.{◌≡◌, ℕ, List, [], ◌∷◌, ◌++◌}
+use Rattle.rg_home.specs.Slot.{Slot}
 use Rattle.rg_home.specs.Able.{IsLive}
+use Rattle.rg_home.specs.Undo.{planned_undo, undone}
 use Rattle.rg_lawful.specs.Write.{Write, kept_of, own_of}
 use Rattle.rg_lawful.specs.Act.{Act, LogState, nothing, others, not_of, state}
 use Rattle.rg_lawful.specs.Act.{Purge, Change, Undo, Commit, RollBack, Switch}
@@ -18,6 +20,14 @@ AreUndos t (Change w ∷ acts) = ⊥
 AreUndos t (Commit u ∷ acts) = ⊥
 AreUndos t (RollBack u ∷ acts) = ⊥
 AreUndos t (Switch pages ∷ acts) = ⊥
+
+-- the Undos of these writes of a unit, before the acts that are there already, where each finds the
+-- pages that the one before left
+abbrev pub undos_from : ℕ → List (List Slot) → List Write → List Act → List Act
+undos_from t pages [] acts = acts
+undos_from t pages (w ∷ ws) acts =
+    undos_from t (undone pages w.written) ws
+    (Undo t w.written.home w.written.before (planned_undo pages w.written).parts ∷ acts)
 
 -- all of these are Undos or RollBacks
 abbrev pub IsClosing : List Act → Type 0

@@ -1,13 +1,14 @@
 -- The invariant of every prefix of a log.
 --
--- 1. The pages are proper, no more than the limit, and each live unit can be undone.
+-- 1. The pages are proper, no more than the limit, and each live unit can be undone. No unit that
+--    is live, or has begun to be undone, has a number above the greatest so far.
 -- 2. The rows by place and by key are one table. At each home and at each key the writes that are
 --    not yet undone go back from the row that is there, and are of one unit.
 -- 3. The committed rows are computed, not kept: by place and by key, they are there once all writes
 --    are taken back.
 -- 4. Of pages that were tidy at the start more holds: a dead home of a live unit names its own
 --    area, and no dead area has a number that no unit has drawn. Nothing else rests on it.
-use Rattle.std.specs.Prelude.{◌≤◌, ℕ, length, Option}
+use Rattle.std.specs.Prelude.{◌≡◌, ◌≤◌, ℕ, true, length, Option}
 use Rattle.rg_base.specs.declared.place.Place.{Place}
 use Rattle.rg_base.specs.declared.row.Row.{Row as TableRow}
 use Rattle.rg_home.specs.Rows.{row_at}
@@ -18,7 +19,7 @@ use Rattle.rg_ready.specs.Ready.{Ready}
 use Rattle.rg_ready.specs.Dead.{DeadNames}
 use Rattle.rg_lawful.specs.Write.{at_home, at_key, Back, gone_back, OneOwner, AllOfKey, written_of}
 use Rattle.rg_lawful.specs.Table.{IsTable}
-use Rattle.rg_lawful.specs.Act.{LogState}
+use Rattle.rg_lawful.specs.Act.{LogState, is_in}
 use Rattle.rg_lawful.specs.Lawful.{AllBelow}
 
 -- the committed row of each place
@@ -34,6 +35,7 @@ pub record IsConsistent (limit : ℕ) (s : LogState) : Type 0 where
   pub few : length s.pages ≤ limit
   pub ready : Ready s.live s.pages (written_of s.writes) (base_of s)
   pub fresh : (u : ℕ) → IsLive s.live u → u ≤ s.top
+  pub rolled : (u : ℕ) → is_in u s.rolling ≡ true → u ≤ s.top
   pub table : IsTable (row_at (slot_of s.pages)) s.now
   pub homes : (p : Place) → Back (at_home p) s.writes (row_at (slot_of s.pages) p)
   pub keys : (k : ℕ) → Back (at_key k) s.writes (s.now k)

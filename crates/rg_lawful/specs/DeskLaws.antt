@@ -5,26 +5,27 @@
 -- 2. A key that no other live unit has written gives the home of its row (`LocksGive`).
 -- 3. So from a consistent state, a unit's number and its lock by key, the Purge of a plan is
 --    lawful, and then the Change (`DesksWrite`). The purge of a plan may be empty: then its Purge
---    leaves the very same state, and need not be appended.
+--    leaves the very same state, and is not appended (`EmptyPurgeStays`).
 -- 4. The desk may plan for any list of units that has the unit and all that are live, and no other.
 use Rattle.std.specs.Prelude.{◌≡◌, ◌≤◌, ℕ, true, List, [], ◌∷◌, length, Option, Some, None, IfSome}
 use Rattle.rg_base.specs.RowBytes.{row_size}
 use Rattle.rg_base.specs.declared.place.Place.{Place}
 use Rattle.rg_base.specs.declared.row.Row.{Row as TableRow}
+use Rattle.rg_base.specs.declared.part.Part.{Part}
 use Rattle.rg_home.specs.Slot.{Slot}
 use Rattle.rg_home.specs.Slot.{Free}
 use Rattle.rg_home.specs.Rows.{row_at}
-use Rattle.rg_home.specs.Pages.{slot_of, applied}
-use Rattle.rg_home.specs.Plan.{is_home, new_area, planned_put, planned_change, planned_drop, purge_of}
+use Rattle.rg_home.specs.Pages.{slot_of, applied, row_or_empty}
+use Rattle.rg_home.specs.Plan.{is_home, new_area, planned_put, planned_change, planned_drop, purge_of, pages_after}
 use Rattle.rg_home.specs.declared.plan.Plan.{Plan}
 use Rattle.rg_home.specs.Written.{Written}
 use Rattle.rg_home.specs.Able.{IsLive, HomeOf}
 use Rattle.rg_ready.specs.Laws.{change_of}
 use Rattle.rg_ready.specs.Ready.{Ready}
 use Rattle.rg_lawful.specs.Write.{at_key, HitBy, write_of, written_of}
-use Rattle.rg_lawful.specs.Act.{LogState, step}
+use Rattle.rg_lawful.specs.Act.{Act, LogState, state, step}
 use Rattle.rg_lawful.specs.Act.{Purge, Change}
-use Rattle.rg_lawful.specs.Lawful.{Makes, MayBegin, Lawful}
+use Rattle.rg_lawful.specs.Lawful.{Makes, MayBegin, Lawful, Runs}
 use Rattle.rg_lawful.specs.Consistent.{IsConsistent}
 
 -- the plans make writes that the invariant can take, on the pages that their purge leaves
@@ -70,7 +71,12 @@ pub record AreLiveWith (s : LogState) (t : ℕ) (units : List ℕ) : Type 0 wher
   pub only : (u : ℕ) → IsLive units u → IsLive (t ∷ s.live) u
   pub all : (u : ℕ) → IsLive (t ∷ s.live) u → IsLive units u
 
--- the Purge of a plan is lawful, and after it the Change
+-- the acts of a purge: none where it frees nothing
+abbrev pub purge_acts : List Part → List Act
+purge_acts [] = []
+purge_acts (x ∷ parts) = Purge (x ∷ parts) ∷ []
+
+-- the Purge of a plan is lawful, and after it the Change; they leave the pages that the plan leaves
 pub record DeskWrites
     (limit : ℕ) (s : LogState) (t : ℕ) (before after : Option TableRow) (plan : Plan)
     : Type 0 where
@@ -79,6 +85,19 @@ pub record DeskWrites
   pub change :
       Lawful limit (step s (Purge plan.purge))
       (Change (write_of t plan.home before after plan.parts))
+  pub runs :
+      Runs limit s (Change (write_of t plan.home before after plan.parts)
+      ∷ purge_acts plan.purge)
+  pub leaves :
+      state s (Change (write_of t plan.home before after plan.parts) ∷ purge_acts plan.purge)
+      ≡ step (step s (Purge plan.purge))
+      (Change (write_of t plan.home before after plan.parts))
+  pub purged :
+      (step s (Purge plan.purge)).pages ≡ applied t (row_or_empty after) s.pages plan.purge
+  pub pages :
+      (step (step s (Purge plan.purge))
+      (Change (write_of t plan.home before after plan.parts))).pages
+      ≡ pages_after t (row_or_empty after) s.pages plan
 
 -- a desk's writes are lawful, given the number of the unit, the lock by key, and the row that is
 -- there, or that none is
@@ -106,9 +125,10 @@ pub record DesksWrite : Type 0 where
       → DeskWrites limit s t (Some row) None
       (planned_drop s.pages home (slot_of s.pages home))
 
--- a Purge of nothing leaves the same state
-abbrev pub EmptyPurgeStays : Type 0
-EmptyPurgeStays = (s : LogState) → step s (Purge []) ≡ s
+-- a Purge of nothing leaves the same state, so it need not be appended
+pub record EmptyPurgeStays : Type 0 where
+  pub none : (s : LogState) → step s (Purge []) ≡ s
+  pub acts : (s : LogState) (parts : List Part) → state s (purge_acts parts) ≡ step s (Purge parts)
 
 -- a Purge of one page by a list of units that has all live ones is lawful
 abbrev pub PurgesRun : Type 0

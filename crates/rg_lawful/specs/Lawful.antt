@@ -62,7 +62,11 @@ pub record Makes
   pub names :
       DeadNames live (slot_of pages) → DeadNames live (slot_of (pages_with pages c after))
 
--- a live unit that has not begun to be undone, or the unit of the next number
+-- a live unit that has not begun to be undone
+abbrev pub IsOpen : LogState → ℕ → Type 0
+IsOpen s t = IsLive s.live t × (is_in t s.rolling ≡ false)
+
+-- such a unit, or the unit of the next number
 pub record MayBegin (s : LogState) (t : ℕ) : Type 0 where
   pub number : IsLive s.live t ⊎ (t ≡ suc s.top)
   pub steady : is_in t s.rolling ≡ false
@@ -107,7 +111,7 @@ abbrev pub Lawful : ℕ → LogState → Act → Type 0
 Lawful limit s (Purge parts) = MayPurge s parts
 Lawful limit s (Change w) = MayWrite limit s w
 Lawful limit s (Undo t home after parts) = MayUndo s t home after parts
-Lawful limit s (Commit t) = IsLive s.live t × (is_in t s.rolling ≡ false)
+Lawful limit s (Commit t) = IsOpen s t
 Lawful limit s (RollBack t) = IsLive s.live t × (latest_of t s.writes ≡ None)
 Lawful limit s (Switch pages) = MaySwitch limit s pages
 

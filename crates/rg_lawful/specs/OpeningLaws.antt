@@ -5,9 +5,10 @@
 -- 2. Where the tests pass, of whatever image, each unit can be undone at its turn and the invariant
 --    holds of what is left (`TestsSuffice`). A crash in the middle leaves what passes again
 --    (`RestsPass`).
--- 3. What is appended then is as if nothing had been before (`LogsGoOn`).
+-- 3. What is appended then keeps the invariant, whatever the log was before (`LogsGoOn`), and the
+--    whole log tells the stored rows (`LogsTell`).
 -- 4. Redo may go page by page (`PagesPart`).
-use Rattle.std.specs.Prelude.{◌≡◌, ◌≤◌, ◌++◌, ℕ, List, [], Option}
+use Rattle.std.specs.Prelude.{◌≡◌, ◌≤◌, ◌++◌, ◌||◌, not, Bool, true, ℕ, List, [], Option}
 use Rattle.rg_base.specs.declared.row.Row.{Row as TableRow}
 use Rattle.rg_base.specs.declared.part.Part.{Part}
 use Rattle.rg_home.specs.Slot.{Slot}
@@ -18,8 +19,9 @@ use Rattle.rg_home.specs.Undo.{undone_all}
 use Rattle.rg_lawful.specs.Table.{IsTable}
 use Rattle.rg_lawful.specs.Act.{Act, nothing, state}
 use Rattle.rg_lawful.specs.Lawful.{AllBelow, Runs}
-use Rattle.rg_lawful.specs.Consistent.{base_of, IsConsistent, IsClean}
-use Rattle.rg_lawful.specs.Stored.{stored_at}
+use Rattle.rg_lawful.specs.Consistent.{base_of, stored_of, IsConsistent, IsClean}
+use Rattle.rg_lawful.specs.Stored.{has_commit, last_of, stored_at, MayCount}
+use Rattle.rg_lawful.specs.Write.{at_key, kept_of, gone_back}
 use Rattle.rg_lawful.specs.Closing.{IsClosing, Closes, all_others, LiveInTurn}
 use Rattle.rg_lawful.specs.Tested.{all_of, LogBelow, Tested, UnitsCan, opened, units_of, TakeInAll}
 use Rattle.rg_lawful.specs.ByPage.{page_with, FitsOn}
@@ -77,6 +79,28 @@ LogsGoOn =
     → Tested limit (state (opened pages units (stored_at old) top) acts).pages
     (units_of ts (state (opened pages units (stored_at old) top) acts).writes)
     (stored_at (acts ++ old)) (state (opened pages units (stored_at old) top) acts).top)
+
+-- the stored row of a key, by the whole log, is the committed row that the state computes; and if
+-- some open units committed then, it would be the one that is there once all others are taken back
+pub record LogsTell : Type 0 where
+  pub stored :
+      (limit : ℕ) (pages : List (List Slot)) (units : List (List Written)) (top : ℕ)
+      (old : List Act)
+      → Tested limit pages units (stored_at old) top → LogBelow top old → (acts : List Act)
+      → Runs limit (opened pages units (stored_at old) top) acts → (k : ℕ)
+      → stored_at (acts ++ old) k
+      ≡ stored_of (state (opened pages units (stored_at old) top) acts) k
+  pub commits :
+      (limit : ℕ) (pages : List (List Slot)) (units : List (List Written)) (top : ℕ)
+      (old : List Act)
+      → Tested limit pages units (stored_at old) top → LogBelow top old → (acts : List Act)
+      → Runs limit (opened pages units (stored_at old) top) acts → (f : ℕ → Bool)
+      → ((u : ℕ) → f u ≡ true
+      → MayCount (state (opened pages units (stored_at old) top) acts) u) → (k : ℕ)
+      → last_of (λ u. f u || has_commit u (acts ++ old)) k (acts ++ old)
+      ≡ gone_back (at_key k)
+      (kept_of (λ u. not (f u)) (state (opened pages units (stored_at old) top) acts).writes)
+      ((state (opened pages units (stored_at old) top) acts).now k)
 
 -- redo may go page by page, and a part that fits its pages fits its page
 abbrev pub PagesPart : Type 0

@@ -23,6 +23,24 @@ RecordsAppend =
     (pages : List (List Slot)) (records : List Record) (entry : Record)
     → acts_of pages (records ++ entry ∷ []) ≡ act_of pages entry ∷ acts_of pages records
 
+-- so do the acts of several records
+abbrev pub RecordsJoin : Type 0
+RecordsJoin =
+    (pages : List (List Slot)) (records more : List Record)
+    → acts_of pages (records ++ more) ≡ acts_of pages more ++ acts_of pages records
+
+-- a list of acts after another: the state that it leaves, and that it is lawful
+pub record RunsJoin : Type 0 where
+  pub leaves :
+      (first : LogState) (more acts : List Act)
+      → state first (more ++ acts) ≡ state (state first acts) more
+  pub runs :
+      (limit : ℕ) (first : LogState) (more acts : List Act) → Runs limit first acts
+      → Runs limit (state first acts) more → Runs limit first (more ++ acts)
+  pub rest :
+      (limit : ℕ) (first : LogState) (more acts : List Act) → Runs limit first (more ++ acts)
+      → Runs limit (state first acts) more
+
 -- each lawful act fits its pages, and keeps the invariant
 abbrev pub RecordsKeep : Type 0
 RecordsKeep =

@@ -4,7 +4,7 @@
 --    after, or else of its row before.
 -- 2. Records are listed oldest first, and acts latest first: a record appended is an act before.
 -- 3. A Switch record names a copy. Its pages are not in the record, so they are given beside it.
-use Rattle.std.specs.Prelude.{List, map, reverse}
+use Rattle.std.specs.Prelude.{ℕ, List, map, reverse}
 use Rattle.rg_record.specs.declared.record.Record.{Record}
 use Rattle.rg_record.specs.declared.record.Kind.{Kind}
 use Rattle.rg_record.specs.declared.record.Kind.TheVariants as kind
@@ -12,7 +12,6 @@ use Rattle.rg_home.specs.Slot.{Slot}
 use Rattle.rg_lawful.specs.Write.{write_of}
 use Rattle.rg_lawful.specs.Act.{Act}
 use Rattle.rg_lawful.specs.Act.{Purge, Change, Undo, Commit, RollBack, Switch}
-use Rattle.std.specs.Prelude.{ℕ}
 
 -- what a record of this kind does, of unit t; a Switch brings these pages
 abbrev pub act_of_kind : List (List Slot) → ℕ → Kind → Act

@@ -5,24 +5,26 @@
 -- 2. The committed row of a key changes by a Commit alone, and then at the keys that the unit has
 --    written: there it becomes the row that is there (`StoredAfter`).
 -- 3. Writes of a key stay writes of one unit, and are none once that unit has ended (`HitAfter`).
--- 4. A unit is live from its first Change to its end (`UnitsAfter`). Its writes grow by its Change, lose their first by its Undo, and are none after its end
---    (`OwnAfter`).
--- 5. So a unit that is undone by its Undos and a RollBack leaves the committed rows at the keys
+-- 4. A unit is live from its first Change to its end (`UnitsAfter`), and open until it begins to be
+--    undone (`OpenAfter`).
+-- 5. A unit's own writes grow by its Change, lose their first by its Undo, and are none after its
+--    end (`OwnAfter`).
+-- 6. So a unit that is undone by its Undos and a RollBack leaves the committed rows at the keys
 --    that it has written, and every other row as it was (`RollbackRows`).
-use Rattle.std.specs.Prelude.{◌≡◌, ◌==◌, ◌≤◌, ℕ, suc, true, false, List, [], ◌∷◌, length, Option, Some, None, if◌then◌else◌, Bool}
+use Rattle.std.specs.Prelude.{◌≡◌, ◌==◌, ◌≤◌, ◌++◌, ℕ, suc, true, false, List, [], ◌∷◌, length, Option, Some, None, if◌then◌else◌, Bool}
 use Rattle.rg_base.specs.declared.place.Place.{Place}
 use Rattle.rg_base.specs.declared.row.Row.{Row as TableRow}
 use Rattle.rg_base.specs.declared.part.Part.{Part}
 use Rattle.rg_home.specs.Slot.{Slot}
 use Rattle.rg_home.specs.Pages.{slot_of}
-use Rattle.rg_home.specs.Undo.{undone_all}
+use Rattle.rg_home.specs.Undo.{planned_undo, undone, undone_all}
 use Rattle.rg_home.specs.Able.{AllUndoable, IsLive, Proper}
 use Rattle.rg_lawful.specs.Write.{Write, at_key, HitBy, NoneHit, latest_of, own_of, first_write, written_of}
 use Rattle.rg_lawful.specs.Act.{Act, LogState, is_in, others, state, step}
 use Rattle.rg_lawful.specs.Act.{Purge, Change, Undo, Commit, RollBack, Switch}
-use Rattle.rg_lawful.specs.Lawful.{Lawful, Runs}
+use Rattle.rg_lawful.specs.Lawful.{IsOpen, MayBegin, Lawful, Runs}
 use Rattle.rg_lawful.specs.Consistent.{stored_of, IsConsistent}
-use Rattle.rg_lawful.specs.Closing.{AreUndos}
+use Rattle.rg_lawful.specs.Closing.{AreUndos, undos_from}
 
 -- what each act makes of the row of key k
 pub record NowAfter : Type 0 where
@@ -71,7 +73,7 @@ pub record StoredAfter : Type 0 where
   pub quiet :
       (s : LogState) (k : ℕ) → NoneHit (at_key k) s.writes → stored_of s k ≡ s.now k
 
--- writes that meet a test are of unit u: what each act makes of that
+-- writes that meet a test are of unit u, and stay so
 pub record HitAfter : Type 0 where
   pub purge :
       (s : LogState) (u : ℕ) (hit : Write → Bool) (parts : List Part)
@@ -107,12 +109,13 @@ pub record HitAfter : Type 0 where
       (u t : ℕ) (hit : Write → Bool) (ws : List Write)
       → (u ≡ t → ⊥) → HitBy u hit ws → NoneHit hit (own_of t ws)
 
--- the test of a key finds a write of another key not, and a write of it
+-- the test of a key is met by the writes of that key, and by no other
 pub record KeysDiffer : Type 0 where
+  pub own : (w : Write) → at_key w.key w ≡ true
   pub other : (k : ℕ) (w : Write) → (w.key ≡ k → ⊥) → at_key k w ≡ false
   pub same : (k : ℕ) (w : Write) → at_key k w ≡ true → w.key ≡ k
 
--- the writes of unit u: what each act makes of them
+-- what each act makes of the writes of unit u
 pub record OwnAfter : Type 0 where
   pub purge :
       (s : LogState) (u : ℕ) (parts : List Part)
@@ -174,6 +177,52 @@ pub record UnitsAfter : Type 0 where
       (s : LogState) (w : Write) → w.written.owner ≡ suc s.top
       → (step s (Change w)).top ≡ suc s.top
 
+-- which units are open after an act, and so may write or commit
+pub record OpenAfter : Type 0 where
+  pub next : (limit : ℕ) (s : LogState) → IsConsistent limit s → MayBegin s (suc s.top)
+  pub open_one : (s : LogState) (t : ℕ) → IsOpen s t → MayBegin s t
+  pub begins :
+      (limit : ℕ) (s : LogState) (w : Write) → Lawful limit s (Change w)
+      → IsOpen (step s (Change w)) w.written.owner
+  pub purge :
+      (s : LogState) (u : ℕ) (parts : List Part) → IsOpen s u → IsOpen (step s (Purge parts)) u
+  pub change : (s : LogState) (u : ℕ) (w : Write) → IsOpen s u → IsOpen (step s (Change w)) u
+  pub undo :
+      (s : LogState) (t u : ℕ) (home : Place) (after : Option TableRow) (parts : List Part)
+      → (u ≡ t → ⊥) → IsOpen s u → IsOpen (step s (Undo t home after parts)) u
+  pub commit :
+      (s : LogState) (t u : ℕ) → (u ≡ t → ⊥) → IsOpen s u → IsOpen (step s (Commit t)) u
+  pub roll_back :
+      (s : LogState) (t u : ℕ) → (u ≡ t → ⊥) → IsOpen s u → IsOpen (step s (RollBack t)) u
+
+-- no write meets a test, and so it stays
+pub record NoneAfter : Type 0 where
+  pub change :
+      (s : LogState) (hit : Write → Bool) (w : Write) → hit w ≡ false
+      → NoneHit hit s.writes → NoneHit hit (step s (Change w)).writes
+  pub undo :
+      (s : LogState) (hit : Write → Bool) (t : ℕ) (home : Place) (after : Option TableRow)
+      (parts : List Part) → NoneHit hit s.writes
+      → NoneHit hit (step s (Undo t home after parts)).writes
+  pub commit :
+      (s : LogState) (hit : Write → Bool) (t : ℕ) → NoneHit hit s.writes
+      → NoneHit hit (step s (Commit t)).writes
+  pub roll_back :
+      (s : LogState) (hit : Write → Bool) (t : ℕ) → NoneHit hit s.writes
+      → NoneHit hit (step s (RollBack t)).writes
+  pub own :
+      (hit : Write → Bool) (t : ℕ) (ws : List Write) → NoneHit hit ws → NoneHit hit (own_of t ws)
+
+-- a lawful Undo is that of the unit's latest write, and its pages are those of that undo
+abbrev pub UndoLeaves : Type 0
+UndoLeaves =
+    (limit : ℕ) (s : LogState) (t : ℕ) (home : Place) (after : Option TableRow)
+    (parts : List Part) (w : Write)
+    → Lawful limit s (Undo t home after parts) → latest_of t s.writes ≡ Some w
+    → (home ≡ w.written.home) × (after ≡ w.written.before)
+    × (parts ≡ (planned_undo s.pages w.written).parts)
+    × ((step s (Undo t home after parts)).pages ≡ undone s.pages w.written)
+
 -- a whole rollback: committed rows where only this unit has written, and the rest as it was
 abbrev pub RollbackRows : Type 0
 RollbackRows =
@@ -184,6 +233,20 @@ RollbackRows =
     × (NoneHit (at_key k) (own_of t s.writes)
     → (state s (RollBack t ∷ undos)).now k ≡ s.now k)
     × (stored_of (state s (RollBack t ∷ undos)) k ≡ stored_of s k)
+
+-- the Undos of a unit's writes, after acts that are there already, and its RollBack are lawful
+pub record RollbackRuns : Type 0 where
+  pub runs :
+      (limit : ℕ) (first : LogState) (t : ℕ) (acts : List Act) → Runs limit first acts
+      → IsLive (state first acts).live t
+      → Runs limit first (RollBack t
+      ∷ undos_from t (state first acts).pages (own_of t (state first acts).writes) acts)
+  pub are :
+      (t : ℕ) (pages : List (List Slot)) (ws : List Write)
+      → AreUndos t (undos_from t pages ws [])
+  pub joins :
+      (t : ℕ) (pages : List (List Slot)) (ws : List Write) (acts : List Act)
+      → undos_from t pages ws acts ≡ undos_from t pages ws [] ++ acts
 
 -- and its pages are those that the undo of the unit leaves
 abbrev pub RollbackPages : Type 0

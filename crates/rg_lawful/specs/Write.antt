@@ -1,7 +1,7 @@
 -- Writes that are not yet undone, and the rows under them.
 --
 -- 1. They are a list, the latest first. A write is looked for by a test: whether it is at a home,
---    or of a key. The same definitions serve both, since rows are told by place and by key.
+--    or of a key. A write that meets the test is hit. The same definitions serve both tests.
 -- 2. From the row that is there now the writes that meet the test go back one by one: each finds
 --    the row that it left, and leaves the row that it found (`Back`). What is there in the end is
 --    the committed row (`gone_back`).

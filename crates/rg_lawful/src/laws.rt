@@ -1,11 +1,13 @@
 //! Each function's contract is a law of the definitions. None of them runs anything.
-ghost use Rattle.rg_lawful.specs.RecordLaws.{RecordsAppend, RecordsKeep, NothingHolds, RunsKeep, PrefixesHold, PrefixesRun, StoredIsTable, CommitsTell, StoredTells};
-ghost use Rattle.rg_lawful.specs.DeskLaws.{LocksGive, EmptyPurgeStays, PurgesRun};
-ghost use Rattle.rg_lawful.specs.UnitLaws.{NowAfter, KeysDiffer};
+ghost use Rattle.rg_lawful.specs.RecordLaws.{RecordsAppend, RecordsJoin, RecordsKeep, NothingHolds, RunsKeep, RunsJoin, PrefixesHold, PrefixesRun, StoredIsTable, CommitsTell, StoredTells};
+ghost use Rattle.rg_lawful.specs.DeskLaws.{PlansMake, LocksGive, DesksWrite, EmptyPurgeStays, PurgesRun};
+ghost use Rattle.rg_lawful.specs.UnitLaws.{NowAfter, StoredAfter, HitAfter, KeysDiffer, OwnAfter, UnitsAfter, OpenAfter, NoneAfter, UndoLeaves, RollbackRows, RollbackRuns, RollbackPages, UnitsUndo};
+ghost use Rattle.rg_lawful.specs.OpeningLaws.{PrefixesPass, OpeningsClose, TestsSuffice, RestsPass, LogsGoOn, LogsTell, PagesPart};
 
 /// The acts of records: one more record is one more act.
 pub fn records_law()
-    ensures { RecordsAppend }
+    ensures one { RecordsAppend }
+    ensures more { RecordsJoin }
 {}
 
 /// What every prefix of a lawful log leaves.
@@ -15,6 +17,7 @@ pub fn prefix_law()
     ensures runs { RunsKeep }
     ensures prefixes { PrefixesHold }
     ensures shorter { PrefixesRun }
+    ensures join { RunsJoin }
     ensures table { StoredIsTable }
 {}
 
@@ -26,13 +29,57 @@ pub fn stored_law()
 
 /// What a desk may append for a write.
 pub fn desk_law()
+    ensures plans { PlansMake }
     ensures locks { LocksGive }
+    ensures writes { DesksWrite }
     ensures empty { EmptyPurgeStays }
     ensures purges { PurgesRun }
 {}
 
-/// What each act makes of the rows by key, and of a unit's writes.
-pub fn unit_law()
+/// What each act makes of the rows by key, and of the committed ones.
+pub fn key_rows_law()
     ensures now { NowAfter }
+    ensures stored { StoredAfter }
+{}
+
+/// What each act makes of the writes of a key, and of a unit's own writes.
+pub fn writes_law()
+    ensures hit { HitAfter }
+    ensures none { NoneAfter }
     ensures keys { KeysDiffer }
+    ensures own { OwnAfter }
+{}
+
+/// Which units are live, and which are open, after each act.
+pub fn units_law()
+    ensures live { UnitsAfter }
+    ensures open_units { OpenAfter }
+{}
+
+/// What an undo needs, and what it leaves.
+pub fn unit_undo_law()
+    ensures can { UnitsUndo }
+    ensures leaves { UndoLeaves }
+{}
+
+/// What a whole rollback leaves, and that it is lawful.
+pub fn rollback_law()
+    ensures rows { RollbackRows }
+    ensures runs { RollbackRuns }
+    ensures pages { RollbackPages }
+{}
+
+/// What an opening finds, and what it leaves.
+pub fn tests_law()
+    ensures pass { PrefixesPass }
+    ensures close { OpeningsClose }
+    ensures suffice { TestsSuffice }
+    ensures rests { RestsPass }
+    ensures later { LogsGoOn }
+    ensures tells { LogsTell }
+{}
+
+/// Redo page by page.
+pub fn page_law()
+    ensures { PagesPart }
 {}
