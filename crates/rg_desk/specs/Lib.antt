@@ -4,3 +4,4 @@ pub mod Pages
 pub mod Engine
 pub mod Walks
 pub mod Wrote
+pub mod Shows

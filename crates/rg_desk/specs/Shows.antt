@@ -1,0 +1,106 @@
+-- How an engine stands to the state of the trace.
+--
+-- 1. The records are lawful from a consistent start. So the state that they leave has the engine's
+--    pages, its rows by key are the table, and each open unit can be undone.
+-- 2. A key that is not locked has no write of an open unit. A locked key has writes of its owner's
+--    unit alone, and the lock keeps its committed row.
+-- 3. Each session's unit is live, its records lead from write to write, and no two sessions have
+--    one transaction. Every live unit is some session's.
+-- 4. There is room for each record that an open unit may still append.
+-- 5. The pages claim no more bytes than the writes so far have allowed.
+use Rattle.std.specs.Prelude.{◌≡◌, ◌≤◌, ◌+◌, ℕ, suc, false, List, [], Option, Some, None, length}
+use Rattle.rg_base.specs.declared.lock.Lock.{Lock}
+use Rattle.rg_base.specs.declared.options.DrainState.TheVariants.{Free}
+use Rattle.rg_home.specs.Able.{IsLive}
+use Rattle.rg_home.specs.Pages.{slot_of}
+use Rattle.rg_home.specs.Rows.{row_at}
+use Rattle.rg_claimed.specs.Claim.{claimed_all, holding}
+use Rattle.rg_indexes.specs.Listings.{AreListings}
+use Rattle.rg_record.specs.declared.record.Record.{Record}
+use Rattle.rg_lawful.specs.Act.{LogState, is_in, state}
+use Rattle.rg_lawful.specs.Consistent.{IsConsistent, stored_of}
+use Rattle.rg_lawful.specs.Lawful.{Runs}
+use Rattle.rg_lawful.specs.Records.{acts_of}
+use Rattle.rg_lawful.specs.Write.{HitBy, NoneHit, at_key, own_of}
+use Rattle.rg_model.specs.State.{State, row_of}
+use Rattle.std.specs.FinMap as fin
+use Rattle.rg_space.specs.Space.{capacity_in}
+use Rattle.rg_desk.specs.Engine.{HasPages, slots_in}
+use Rattle.rg_desk.specs.Units.{owed, unit_at}
+use Rattle.rg_desk.specs.Walks.{Walks}
+use Rattle.rg_desk.specs.declared.engine.Engine.{Engine}
+use Rattle.rg_desk.specs.declared.units.OpenUnit.{OpenUnit}
+
+-- a locked key: the writes of the key are its owner's, and the lock keeps the committed row
+pub record IsLocked (units : List (Option OpenUnit)) (s : LogState) (lock : Lock) (k : ℕ)
+    : Type 0 where
+  pub unit : OpenUnit
+  pub has : unit_at units lock.owner.0 ≡ Some unit
+  pub own : HitBy unit.tran.0 (at_key k) s.writes
+  pub kept : lock.row ≡ stored_of s k
+
+-- a key, by its lock
+abbrev pub KeyShown : List (Option OpenUnit) → LogState → Option Lock → (k : ℕ) → Type 0
+KeyShown units s None k = NoneHit (at_key k) s.writes
+KeyShown units s (Some lock) k = IsLocked units s lock k
+
+-- an open unit of a session
+pub record UnitShown (records : List Record) (s : LogState) (unit : OpenUnit) : Type 0 where
+  pub live : IsLive s.live unit.tran.0
+  pub steady : is_in unit.tran.0 s.rolling ≡ false
+  pub walks : Walks records unit.tran.0 unit.last.0 (own_of unit.tran.0 s.writes)
+  pub count : length (own_of unit.tran.0 s.writes) ≡ unit.writes
+
+-- the live unit of this number is the open one of some session
+pub record HasSession (units : List (Option OpenUnit)) (t : ℕ) : Type 0 where
+  pub session : ℕ
+  pub unit : OpenUnit
+  pub has : unit_at units session ≡ Some unit
+  pub is : unit.tran.0 ≡ t
+
+-- units of sessions, by the state that the records leave
+pub record UnitsShown (records : List Record) (s : LogState) (units : List (Option OpenUnit))
+    : Type 0 where
+  pub each : (n : ℕ) (unit : OpenUnit) → unit_at units n ≡ Some unit → UnitShown records s unit
+  pub apart :
+      (m n : ℕ) (one other : OpenUnit) → unit_at units m ≡ Some one
+      → unit_at units n ≡ Some other → one.tran.0 ≡ other.tran.0 → m ≡ n
+  pub all : (t : ℕ) → IsLive s.live t → HasSession units t
+
+-- the engine shows the state by what its records leave, and the writes so far have allowed so many
+-- bytes
+pub record ShowsBy (st : State) (allowed : ℕ) (d : Engine) (s : LogState) : Type 0 where
+  pub up : st.down ≡ false
+  pub idle : st.utility ≡ None
+  pub sure : st.doubt ≡ None
+  pub copy : st.copydoubt ≡ false
+  pub table : (k : ℕ) → row_of st.table k ≡ s.now k
+  pub locks : st.locks ≡ d.locks
+  pub claims : st.claims ≡ d.claims.claims
+  pub drain : st.drain ≡ d.claims.drain
+  pub free : d.claims.drain ≡ Free
+  pub pages : HasPages d
+  pub slots : slots_in d ≡ s.pages
+  pub indexes : AreListings (row_at (slot_of s.pages)) d.indexes
+  pub keys : (k : ℕ) → KeyShown d.units s (fin.get d.locks k) k
+  pub units : UnitsShown d.records.records s d.units
+  pub top : d.top ≡ s.top
+  pub owed : owed d.units ≤ d.records.reserved
+  pub claimed : claimed_all (holding s.live (suc s.top)) s.pages ≤ allowed
+
+-- the state that the records leave
+abbrev pub left_by : LogState → Engine → LogState
+left_by first d = state first (acts_of [] d.records.records)
+
+-- the engine shows the state
+pub record Shows (st : State) (allowed : ℕ) (d : Engine) : Type 0 where
+  pub first : LogState
+  pub begun : IsConsistent (capacity_in d.space) first
+  pub runs : Runs (capacity_in d.space) first (acts_of [] d.records.records)
+  pub by : ShowsBy st allowed d (left_by first d)
+
+-- it shows some state
+pub record IsShown (d : Engine) : Type 0 where
+  pub state : State
+  pub allowed : ℕ
+  pub shows : Shows state allowed d
