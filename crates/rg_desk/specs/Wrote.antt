@@ -3,7 +3,7 @@
 -- 1. A plan that purges is carried out by a Purge record, which is of no transaction, and then by
 --    the Change of its unit.
 -- 2. The Change's back is the unit's last record before.
-use Rattle.std.specs.Prelude.{◌≡◌, ◌+◌, nat_le, ℕ, Bool, true, false, List, [], ◌∷◌, ◌++◌, Option, Some, if◌then◌else◌, length, slice_set}
+use Rattle.std.specs.Prelude.{◌≡◌, ◌+◌, nat_le, ℕ, Bool, true, false, List, [], ◌∷◌, ◌++◌, Option, Some, None, if◌then◌else◌, length, slice_set}
 use Rattle.rg_base.specs.declared.part.Part.{Part}
 use Rattle.rg_base.specs.declared.place.Place.{Place}
 use Rattle.rg_base.specs.declared.row.Row.{Row}
@@ -11,14 +11,17 @@ use Rattle.rg_base.specs.declared.session.Session.{Session}
 use Rattle.rg_home.specs.declared.plan.Plan.{Plan}
 use Rattle.rg_home.specs.Pages.{applied, row_or_empty}
 use Rattle.rg_index.specs.Listed.{SetsRow}
-use Rattle.rg_indexes.specs.Listings.{AreListings}
+use Rattle.rg_indexes.specs.Listings.{AreListings, HasSpare, SameEntries}
 use Rattle.rg_lock.specs.Taken.{take_key}
 use Rattle.rg_record.specs.declared.record.Kind.TheVariants.{Purge}
 use Rattle.rg_record.specs.declared.record.Record.{Record}
 use Rattle.rg_lawful.specs.Write.{write_of}
+use Rattle.rg_stmt.specs.declared.stmt.Reply.{Reply}
+use Rattle.rg_stmt.specs.declared.stmt.Reply.TheVariants.{Done, NoMemory}
 use Rattle.rg_space.specs.Carries.{Carries, cleared}
 use Rattle.rg_space.specs.Space.{capacity_in}
 use Rattle.rg_desk.specs.Engine.{HasPages, slots_in}
+use Rattle.rg_desk.specs.Units.{unit_at}
 use Rattle.rg_desk.specs.Walks.{change_record}
 use Rattle.rg_desk.specs.declared.engine.Engine.{Engine}
 use Rattle.rg_desk.specs.declared.units.OpenUnit.{OpenUnit}
@@ -81,3 +84,51 @@ pub record Puts
       new.units
       ≡ slice_set old.units session.0 (Some (unit_wrote old.records.records unit plan))
   pub top : new.top ≡ (if nat_le unit.tran.0 old.top then old.top else unit.tran.0)
+
+-- what the first write of a unit takes more: room for the record of its end
+abbrev pub end_taken : Option OpenUnit → ℕ
+end_taken None = 1
+end_taken (Some unit) = 0
+
+-- all that a write may be refused was taken: room in the indexes and for the records, and the lock
+pub record Prepares
+    (old : Engine) (session : Session) (purge : List Part) (key : ℕ) (kept : Option Row)
+    (new : Engine) : Type 0 where
+  pub space : new.space ≡ old.space
+  pub records : new.records.records ≡ old.records.records
+  pub reserved :
+      new.records.reserved
+      ≡ old.records.reserved + (records_taken purge + 1 + end_taken (unit_at old.units session.0))
+  pub entries : SameEntries old.indexes new.indexes
+  pub spare : HasSpare 1 new.indexes
+  pub locks : new.locks ≡ take_key old.locks session key kept
+  pub claims : new.claims ≡ old.claims
+  pub units : new.units ≡ old.units
+  pub top : new.top ≡ old.top
+
+-- a write: it was prepared and carried out
+pub record Wrote
+    (old : Engine) (session : Session) (unit : OpenUnit) (plan : Plan) (key : ℕ)
+    (after : Option Row) (new : Engine) : Type 0 where
+  pub middle : Engine
+  pub prepared : Prepares old session plan.purge key plan.before middle
+  pub put : Puts middle session unit plan after new
+
+-- all is as it was, but for room
+pub record SameEngine (old new : Engine) : Type 0 where
+  pub capacity : capacity_in new.space ≡ capacity_in old.space
+  pub pages : HasPages old → HasPages new
+  pub slots : slots_in new ≡ slots_in old
+  pub records : new.records ≡ old.records
+  pub entries : SameEntries old.indexes new.indexes
+  pub locks : new.locks ≡ old.locks
+  pub claims : new.claims ≡ old.claims
+  pub units : new.units ≡ old.units
+  pub top : new.top ≡ old.top
+
+-- a planned write is done, or it is out of memory and all is as it was
+abbrev pub Writes :
+    Engine → Session → OpenUnit → Plan → (key : ℕ) → Option Row → Reply → Engine → Type 0
+Writes old session unit plan key after Done new = Wrote old session unit plan key after new
+Writes old session unit plan key after NoMemory new = SameEngine old new
+Writes old session unit plan key after reply new = ⊥

@@ -4,7 +4,7 @@
 //    indexes and for records, and last the lock. After that nothing fails.
 // 2. A record is applied to the pages and then appended. So the pages are always those that the
 //    records leave.
-ghost use Rattle.std.specs.Prelude.{◌≡◌, ◌≤◌, ◌<◌, ◌+◌, ◌^◌, ◌∷◌, ◌++◌, [], List, None, nat_le, if◌then◌else◌, length};
+ghost use Rattle.std.specs.Prelude.{◌≡◌, ◌≤◌, ◌<◌, ◌+◌, ◌^◌, ◌∷◌, ◌++◌, [], List, None, nat_le, if◌then◌else◌, length, IfOk, OnOk, OnErr};
 ghost use Rattle.rg_base.specs.declared.part.Part.{Part};
 ghost use Rattle.rg_home.specs.Pages.{applied, row_or_empty};
 ghost use Rattle.rg_space.specs.Carries.{AllThere};
@@ -14,12 +14,14 @@ ghost use Rattle.rg_record.specs.Applied.{parts_of};
 ghost use Rattle.rg_space.specs.Ready.{CanApply, CanApplyRecord, IsAtHand, AllReady, record_applied};
 ghost use Rattle.rg_space.specs.Space.{Agree, InStep, capacity_in, frames_of, index_of};
 ghost use Rattle.rg_page.specs.Content.{slots_of};
+ghost use Rattle.rg_model.specs.Held.{holder};
 ghost use Rattle.rg_desk.specs.Pages.{list_seen};
 ghost use Rattle.rg_desk.specs.Engine.{HasPages, seen_in, slots_in};
-ghost use Rattle.rg_desk.specs.Wrote.{Puts, records_cleared, records_taken};
+ghost use Rattle.rg_desk.specs.Wrote.{Prepares, Puts, SameEngine, Writes, end_taken, records_cleared, records_taken};
 
 use crate::records::Records;
 use crate::units::{OpenUnit, Units};
+use rg_base::no_memory::NoMemory;
 use rg_base::part::Parts;
 use rg_base::position::Position;
 use rg_base::row::Row;
@@ -32,6 +34,7 @@ use rg_lock::locks::Locks;
 use rg_page::list::ListFrames;
 use rg_record::record::{Kind, Record};
 use rg_space::space::Space;
+use rg_stmt::stmt::Reply;
 use std::alloc::Global;
 
 /// The table, and what its sessions hold of it.
@@ -103,6 +106,25 @@ fn clear(space: &mut Space<ListFrames>, records: &mut Records, purge: Parts)
     make(space, records, entry);
 }
 
+// How many records a write makes room for: its own, its undo, and at the first write of a unit the
+// one of its end.
+fn room_for(purge: &Parts, unit: Option<OpenUnit>) -> u32
+    ensures { result ≡ records_taken purge.now + 1 + end_taken unit }
+{
+    let own = if purge.as_slice().is_empty() { 1 } else { 2 };
+    let end = if unit.is_none() { 1 } else { 0 };
+    own + 1 + end
+}
+
+fn copy_row(alloc: Global, row: Option<&Row>) -> Result<Option<Row>, NoMemory>
+    ensures { IfOk result (λ copy. copy ≡ option_copied row.entry) }
+{
+    match row {
+        None => Ok(None),
+        Some(row) => Ok(Some(row.copy(alloc)?)),
+    }
+}
+
 // The greater of the greatest number so far and this one.
 fn greater(top: u32, tran: Tran) -> u32
     ensures { result ≡ (if nat_le tran.0 top then top else tran.0) }
@@ -149,5 +171,55 @@ impl Engine {
         };
         self.units.set(session, Some(next));
         self.top = greater(self.top, unit.tran);
+    }
+
+    // Takes all that a write may be refused: room in the indexes and for the records, and last the
+    // lock of its key.
+    fn prepare(
+        &mut self,
+        session: Session,
+        purge: &Parts,
+        key: u64,
+        kept: Option<Row>,
+    ) -> Result<(), NoMemory>
+        requires alone { holder self.old.locks session key ≡ None }
+        ensures ok { OnOk result (Prepares self.old session purge.now key kept self.new) }
+        ensures err { OnErr result (SameEngine self.old self.new) }
+    {
+        self.indexes.reserve(1)?;
+        let more = room_for(purge, self.units.get(session));
+        self.records.reserve(more)?;
+        if self.locks.take(session, key, kept).is_err() {
+            self.records.give_back(u64::from(more));
+            return Err(NoMemory);
+        }
+        Ok(())
+    }
+
+    // Writes as planned, at a key that no other session has locked.
+    fn write(
+        &mut self,
+        session: Session,
+        unit: OpenUnit,
+        plan: Plan,
+        key: u64,
+        after: Option<Row>,
+    ) -> Reply
+        requires pages { HasPages self.old }
+        requires hand { IsAtHand (seen_in self.old) (capacity_in self.old.space) plan }
+        requires listed { AreListedAt self.old.indexes plan.home plan.before }
+        requires writes { unit.writes + 1 < 2 ^ 64 }
+        requires alone { holder self.old.locks session key ≡ None }
+        ensures { Writes self.old session unit plan key after result self.new }
+    {
+        let Ok(kept) = copy_row(self.alloc, plan.before.as_ref()) else {
+            return Reply::NoMemory;
+        };
+        match self.prepare(session, &plan.purge, key, kept) {
+            Ok(()) => {}
+            Err(_) => return Reply::NoMemory,
+        }
+        self.put(session, unit, plan, after);
+        Reply::Done
     }
 }
