@@ -1,5 +1,5 @@
 -- What a write leaves of locks and keys.
-use Rattle.std.proofs.Common.{◌≡◌, ◌==◌, ◌<◌, ℕ, suc, Bool, true, false, List, ◌∷◌, Option, Some, None, length, set, refl, sym, ◌∙◌, ap, subst, ◌⊎◌, inl, inr, if◌then◌else◌}
+use Rattle.std.proofs.Common.{◌≡◌, ◌==◌, ◌<◌, ℕ, Bool, true, false, List, Option, Some, None, length, set, refl, sym, ◌∙◌, ap, subst, ◌⊎◌, inl, inr, if◌then◌else◌}
 use Rattle.std.specs.Prelude.{not}
 use Rattle.std.specs.Option.{is_some}
 use Rattle.std.specs.FinMap as fin
@@ -8,13 +8,13 @@ use Rattle.rg_base.specs.declared.lock.Lock.{Lock}
 use Rattle.rg_base.specs.declared.row.Row.{Row}
 use Rattle.rg_base.specs.declared.session.Session.{Session}
 use Rattle.rg_lock.specs.Taken.{take_key}
-use Rattle.rg_model.specs.Held.{holder, other_owner, is_others, owner_of}
+use Rattle.rg_model.specs.Held.{holder, other_owner, owner_of}
 use Rattle.rg_model.specs.State.{Locks}
 use Rattle.rg_lawful.specs.Act.{LogState, step}
 use Rattle.rg_lawful.specs.Act.{Change}
 use Rattle.rg_lawful.specs.Consistent.{stored_of}
 use Rattle.rg_lawful.specs.Lawful.{MayWrite}
-use Rattle.rg_lawful.specs.Write.{Write, HitBy, NoneHit, at_key}
+use Rattle.rg_lawful.specs.Write.{Write, HitBy, at_key}
 use Rattle.rg_lawful.proofs.Free.{free_any, free_back}
 use Rattle.rg_lawful.proofs.Own.{eqb-not}
 use Rattle.rg_lawful.proofs.Units.{stored_change}

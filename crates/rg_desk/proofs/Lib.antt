@@ -5,3 +5,12 @@ pub mod UnitSlots
 pub mod Keys
 pub mod KeysWritten
 pub mod UnitsWritten
+pub mod Appended
+pub mod Purged
+pub mod Written
+pub mod Members
+pub mod Sessions
+pub mod Claimed
+pub mod PlansWrite
+pub mod Same
+pub mod EngineWrites

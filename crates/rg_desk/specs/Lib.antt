@@ -5,3 +5,4 @@ pub mod Engine
 pub mod Walks
 pub mod Wrote
 pub mod Shows
+pub mod Planned

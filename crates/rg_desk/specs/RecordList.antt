@@ -1,5 +1,5 @@
 -- Records in memory.
-use Rattle.std.specs.Prelude.{◌+◌, ◌-◌, ℕ, List, Option, slice_get}
+use Rattle.std.specs.Prelude.{◌-◌, ℕ, List, Option, slice_get}
 use Rattle.rg_record.specs.declared.record.Record.{Record}
 
 -- the records, and how many more can be appended without memory

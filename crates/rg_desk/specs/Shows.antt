@@ -8,7 +8,7 @@
 --    one transaction. Every live unit is some session's.
 -- 4. There is room for each record that an open unit may still append.
 -- 5. The pages claim no more bytes than the writes so far have allowed.
-use Rattle.std.specs.Prelude.{◌≡◌, ◌≤◌, ◌+◌, ℕ, suc, false, List, [], Option, Some, None, length}
+use Rattle.std.specs.Prelude.{◌≡◌, ◌≤◌, ℕ, suc, false, List, [], Option, Some, None, length}
 use Rattle.rg_base.specs.declared.lock.Lock.{Lock}
 use Rattle.rg_base.specs.declared.options.DrainState.TheVariants.{Free}
 use Rattle.rg_home.specs.Able.{IsLive}
@@ -83,6 +83,7 @@ pub record ShowsBy (st : State) (allowed : ℕ) (d : Engine) (s : LogState) : Ty
   pub slots : slots_in d ≡ s.pages
   pub indexes : AreListings (row_at (slot_of s.pages)) d.indexes
   pub keys : (k : ℕ) → KeyShown d.units s (fin.get d.locks k) k
+  pub places : length d.units ≡ 256
   pub units : UnitsShown d.records.records s d.units
   pub top : d.top ≡ s.top
   pub owed : owed d.units ≤ d.records.reserved

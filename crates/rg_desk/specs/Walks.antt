@@ -2,7 +2,7 @@
 --
 -- 1. Each record of a unit names the position of the one before it. From the last Change of a unit
 --    that is not being undone its writes are found so, the latest first.
-use Rattle.std.specs.Prelude.{◌≡◌, ◌<◌, ℕ, List, [], ◌∷◌, Option, Some}
+use Rattle.std.specs.Prelude.{◌≡◌, ◌<◌, ℕ, List, [], ◌∷◌, Some}
 use Rattle.rg_record.specs.declared.record.Kind.TheVariants.{Change}
 use Rattle.rg_record.specs.declared.record.Record.{Record}
 use Rattle.rg_lawful.specs.Write.{Write}

@@ -3,7 +3,7 @@
 -- 1. A plan that purges is carried out by a Purge record, which is of no transaction, and then by
 --    the Change of its unit.
 -- 2. The Change's back is the unit's last record before.
-use Rattle.std.specs.Prelude.{◌≡◌, ◌+◌, nat_le, ℕ, Bool, true, false, List, [], ◌∷◌, ◌++◌, Option, Some, None, if◌then◌else◌, length, slice_set}
+use Rattle.std.specs.Prelude.{◌≡◌, ◌+◌, nat_le, ℕ, List, [], ◌∷◌, ◌++◌, Option, Some, None, if◌then◌else◌, length, slice_set}
 use Rattle.rg_base.specs.declared.part.Part.{Part}
 use Rattle.rg_base.specs.declared.place.Place.{Place}
 use Rattle.rg_base.specs.declared.row.Row.{Row}

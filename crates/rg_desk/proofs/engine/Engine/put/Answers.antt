@@ -7,7 +7,7 @@ use Rattle.rg_page.specs.Content.{slots_of}
 use Rattle.rg_record.specs.declared.record.Record.{Record}
 use Rattle.rg_record.specs.declared.record.Kind.TheVariants.{Change}
 use Rattle.rg_space.specs.Carries.{AllThere, cleared}
-use Rattle.rg_space.specs.Ready.{AllReady, CanApply}
+use Rattle.rg_space.specs.Ready.{CanApply}
 use Rattle.rg_space.specs.Space.{capacity_in, frames_of}
 use Rattle.rg_space.proofs.Carried.{purge_applies, parts_apply}
 use Rattle.rg_space.proofs.Whole.{slots_count}

@@ -1,0 +1,228 @@
+-- What a write that was planned leaves, as the trace sees it.
+use Rattle.std.proofs.Common.{◌≡◌, ◌≤◌, ◌<◌, ◌+◌, ℕ, suc, List, [], ◌∷◌, ◌++◌, Option, Some, None, length, set, refl, sym, ◌∙◌, ap, subst, inl, inr, arith, if◌then◌else◌}
+use Rattle.std.specs.Prelude.{nat_le, ◌==◌}
+use Rattle.std.specs.FinMap as fin
+use Rattle.std.proofs.lemmas.List.{length-set}
+use Rattle.rg_base.specs.declared.place.Place.{Place}
+use Rattle.rg_base.specs.declared.row.Row.{Row}
+use Rattle.rg_base.specs.declared.session.Session.{Session}
+use Rattle.rg_base.specs.declared.which.Which.TheVariants.{Key, Clus, Cat}
+use Rattle.rg_claim.specs.declared.claims.Claims.{Claims}
+use Rattle.rg_claimed.specs.Claim.{claimed_all, holding}
+use Rattle.rg_home.specs.Pages.{applied, row_or_empty, slot_of}
+use Rattle.rg_home.specs.Plan.{pages_after}
+use Rattle.rg_home.specs.Rows.{ChangesHome, row_at}
+use Rattle.rg_home.specs.Slot.{Slot}
+use Rattle.rg_home.specs.declared.plan.Plan.{Plan}
+use Rattle.rg_index.specs.Listed.{IsListingOf, SetsRow}
+use Rattle.rg_indexes.specs.Listings.{AreListings, SameEntries}
+use Rattle.rg_indexes.specs.declared.indexes.Indexes.{Indexes}
+use Rattle.rg_lock.specs.Taken.{take_key}
+use Rattle.rg_model.specs.Held.{holder}
+use Rattle.rg_model.specs.Plain.{lock_key, write_key}
+use Rattle.rg_model.specs.State.{Locks, State, row_of}
+use Rattle.rg_record.specs.declared.record.Record.{Record}
+use Rattle.rg_lawful.specs.Act.{LogState, state, step}
+use Rattle.rg_lawful.specs.Act.{Change, Purge}
+use Rattle.rg_lawful.specs.Consistent.{IsConsistent}
+use Rattle.rg_lawful.specs.DeskLaws.{DeskWrites, purge_acts}
+use Rattle.rg_lawful.specs.Lawful.{Runs}
+use Rattle.rg_lawful.specs.Records.{acts_of}
+use Rattle.rg_lawful.specs.Write.{Write, key_of, write_of}
+use Rattle.rg_lawful.proofs.Runs.{runs_consistent, runs_joined, state_joined}
+use Rattle.rg_space.specs.Carries.{Carries, cleared}
+use Rattle.rg_space.specs.Space.{Agree, InStep, capacity_in, frames_of, index_of}
+use Rattle.rg_desk.specs.Engine.{HasPages, slots_in}
+use Rattle.rg_desk.specs.Pages.{list_seen}
+use Rattle.rg_desk.specs.Shows.{KeyShown, Shows, ShowsBy, UnitsShown, left_by}
+use Rattle.rg_desk.specs.Units.{owed, owed_to, unit_at}
+use Rattle.rg_desk.specs.Wrote.{Wrote, end_taken, records_cleared, records_wrote, unit_wrote}
+use Rattle.rg_desk.specs.declared.engine.Engine.{Engine}
+use Rattle.rg_desk.specs.declared.units.OpenUnit.{OpenUnit}
+use Rattle.rg_desk.proofs.Appended.{acts_wrote}
+use Rattle.rg_desk.proofs.Keys.{set_table}
+use Rattle.rg_desk.proofs.KeysWritten.{IsOwnUnit, keys_written}
+use Rattle.rg_desk.proofs.Purged.{key_purged, units_purged, walks_cleared}
+use Rattle.rg_desk.proofs.UnitSlots.{owed-set}
+use Rattle.rg_desk.proofs.UnitsWritten.{IsUnitFor, units_written}
+
+-- indexes with the same entries list the same
+pub same_listings : (rows : Place → Option Row) (x y : Indexes) → SameEntries x y → AreListings rows x → AreListings rows y
+same_listings rows x y same h = record {
+  keys = subst (IsListingOf Key rows) (sym same.keys) h.keys;
+  cluses = subst (IsListingOf Clus rows) (sym same.cluses) h.cluses;
+  cats = subst (IsListingOf Cat rows) (sym same.cats) h.cats;
+}
+
+-- the lock of a write keeps the row that is there
+lock_taken : (st : State) (locks : Locks) (session : Session) (key : ℕ) (row : Option Row) → st.locks ≡ locks → row_of st.table key ≡ row → lock_key st session key ≡ take_key locks session key row
+lock_taken st locks session key row same is =
+    ap (λ (ls : Locks). if fin.contains_key ls key then ls else fin.insert ls key (record { owner = session; row = row_of st.table key })) same
+    ∙ ap (λ (r : Option Row). take_key locks session key r) is
+
+module _ (st : State) (allowed more : ℕ) (old new : Engine) (session : Session) (unit : OpenUnit) (plan : Plan) (key : ℕ) (after : Option Row)
+    (shows : Shows st allowed old) (wrote : Wrote old session unit plan key after new) (low : session.0 < 256)
+    (own : IsUnitFor old.units (left_by shows.first old) session.0 unit) (alone : holder old.locks session key ≡ None)
+    (lawful : DeskWrites (capacity_in old.space) (left_by shows.first old) unit.tran.0 plan.before after plan)
+    (of_key : key_of plan.before after ≡ key)
+    (carries : Carries unit.tran.0 0 (capacity_in old.space) (slots_in old) after plan) where
+  abbrev s : LogState
+  s = left_by shows.first old
+
+  abbrev limit : ℕ
+  limit = capacity_in old.space
+
+  abbrev w : Write
+  w = write_of unit.tran.0 plan.home plan.before after plan.parts
+
+  abbrev purged : LogState
+  purged = step s (Purge plan.purge)
+
+  -- the state that the write leaves
+  abbrev pub s_written : LogState
+  s_written = step (step (left_by shows.first old) (Purge plan.purge)) (Change (write_of unit.tran.0 plan.home plan.before after plan.parts))
+
+  capacity : capacity_in new.space ≡ limit
+  capacity = wrote.put.capacity ∙ ap (λ sp. capacity_in sp) wrote.prepared.space
+
+  records : new.records.records ≡ records_wrote old.records.records unit plan after
+  records = wrote.put.records ∙ ap (λ (rs : List Record). records_wrote rs unit plan after) wrote.prepared.records
+
+  acts : acts_of [] new.records.records ≡ (Change w ∷ purge_acts plan.purge) ++ acts_of [] old.records.records
+  acts = ap (acts_of []) records ∙ acts_wrote old.records.records unit plan after
+
+  left : left_by shows.first new ≡ s_written
+  left = ap (state shows.first) acts ∙ state_joined shows.first (Change w ∷ purge_acts plan.purge) (acts_of [] old.records.records) ∙ lawful.leaves
+
+  runs : Runs (capacity_in new.space) shows.first (acts_of [] new.records.records)
+  runs =
+      subst (λ (n : ℕ). Runs n shows.first (acts_of [] new.records.records)) (sym capacity)
+      (subst (Runs limit shows.first) (sym acts) (runs_joined limit shows.first (Change w ∷ purge_acts plan.purge) (acts_of [] old.records.records) shows.runs lawful.runs))
+
+  consistent : IsConsistent limit s
+  consistent = runs_consistent limit shows.first shows.begun (acts_of [] old.records.records) shows.runs
+
+  present : s.now key ≡ plan.before
+  present = subst (λ (k : ℕ). s.now k ≡ plan.before) of_key lawful.change.present
+
+  locks : new.locks ≡ take_key old.locks session key plan.before
+  locks = wrote.put.locks ∙ wrote.prepared.locks
+
+  claims : new.claims ≡ old.claims
+  claims = wrote.put.claims ∙ wrote.prepared.claims
+
+  units : new.units ≡ set old.units session.0 (Some (unit_wrote old.records.records unit plan))
+  units =
+      wrote.put.units
+      ∙ ap (λ (us : List (Option OpenUnit)). set us session.0 (Some (unit_wrote wrote.middle.records.records unit plan))) wrote.prepared.units
+      ∙ ap (λ (rs : List Record). set old.units session.0 (Some (unit_wrote rs unit plan))) wrote.prepared.records
+
+  place : session.0 < length old.units
+  place = omega (arith, low, shows.by.places)
+
+  middle_pages : HasPages wrote.middle
+  middle_pages = record {
+    step = subst (λ sp. InStep (list_seen (frames_of sp)) (index_of sp) (capacity_in sp)) (sym wrote.prepared.space) shows.by.pages.step;
+    agree = subst (λ sp. Agree (list_seen (frames_of sp)) (index_of sp)) (sym wrote.prepared.space) shows.by.pages.agree;
+  }
+
+  middle_slots : slots_in wrote.middle ≡ slots_in old
+  middle_slots = ap (λ sp. slots_in (record old { space = sp })) wrote.prepared.space
+
+  slots : slots_in new ≡ s_written.pages
+  slots =
+      wrote.put.slots (subst (λ (n : ℕ). Carries unit.tran.0 0 n (slots_in wrote.middle) after plan) (sym (ap (λ sp. capacity_in sp) wrote.prepared.space))
+        (subst (λ (ps : List (List Slot)). Carries unit.tran.0 0 limit ps after plan) (sym middle_slots) carries))
+      ∙ ap (λ (ps : List (List Slot)). applied unit.tran.0 (row_or_empty after) (cleared 0 ps plan) plan.parts) (middle_slots ∙ shows.by.slots)
+
+  indexes : AreListings (row_at (slot_of s_written.pages)) new.indexes
+  indexes =
+      let before = subst (λ (ps : List (List Slot)). plan.before ≡ row_at (slot_of ps) plan.home) shows.by.slots carries.writes.before in
+      wrote.put.indexes (row_at (slot_of s.pages)) (row_at (slot_of s_written.pages))
+        (same_listings (row_at (slot_of s.pages)) old.indexes wrote.middle.indexes wrote.prepared.entries shows.by.indexes)
+        (sym before) sets
+    where
+      sets : SetsRow (row_at (slot_of s.pages)) (row_at (slot_of s_written.pages)) plan.home after
+      sets =
+          let row = row_or_empty after in
+          let is : pages_after unit.tran.0 row (slots_in old) plan ≡ s_written.pages = sym carries.after ∙ ap (λ (ps : List (List Slot)). applied unit.tran.0 row (cleared 0 ps plan) plan.parts) shows.by.slots in
+          let changes : ChangesHome (slot_of s.pages) (slot_of s_written.pages) plan.home after =
+              subst (λ (ps : List (List Slot)). ChangesHome (slot_of ps) (slot_of s_written.pages) plan.home after) shows.by.slots
+              (subst (λ (ps : List (List Slot)). ChangesHome (slot_of (slots_in old)) (slot_of ps) plan.home after) is carries.writes.changes) in
+          record { set = changes.here; others = changes.others }
+
+  entry_list : List Record
+  entry_list = records_cleared old.records.records plan.purge
+
+  top : new.top ≡ s_written.top
+  top =
+      wrote.put.top
+      ∙ ap (λ (n : ℕ). if nat_le unit.tran.0 n then n else unit.tran.0) (wrote.prepared.top ∙ shows.by.top)
+
+  owed_after : owed new.units ≤ new.records.reserved
+  owed_after =
+      let next : OpenUnit = unit_wrote old.records.records unit plan in
+      go own (owed-set old.units session.0 (Some next) place)
+    where
+      go : IsUnitFor old.units s session.0 unit
+        → owed (set old.units session.0 (Some (unit_wrote old.records.records unit plan))) + owed_to (unit_at old.units session.0) ≡ owed old.units + (1 + (unit.writes + 1))
+        → owed new.units ≤ new.records.reserved
+      go (inl e) sum = omega (arith, sum, ap owed units, ap owed_to e, ap end_taken e, wrote.put.reserved, wrote.prepared.reserved, shows.by.owed)
+      go (inr h) sum = omega (arith, sum, ap owed units, ap owed_to h.0, ap end_taken h.0, h.1.writes, wrote.put.reserved, wrote.prepared.reserved, shows.by.owed)
+
+  -- the unit is the session's own, or it begins
+  own_unit : IsOwnUnit old.units session.0 unit
+  own_unit = go own
+    where
+      go : IsUnitFor old.units s session.0 unit → IsOwnUnit old.units session.0 unit
+      go (inl e) = inl e
+      go (inr h) = inr h.0
+
+  own_purged : IsUnitFor old.units purged session.0 unit
+  own_purged = go own
+    where
+      go : IsUnitFor old.units s session.0 unit → IsUnitFor old.units purged session.0 unit
+      go (inl e) = inl e
+      go (inr h) = inr (h.0, record { number = h.1.number; last = h.1.last; writes = h.1.writes; none = h.1.none; steady = h.1.steady })
+
+  keys : (k : ℕ) → KeyShown new.units s_written (fin.get new.locks k) k
+  keys k =
+      subst (λ (us : List (Option OpenUnit)). KeyShown us s_written (fin.get new.locks k) k) (sym units)
+      (subst (λ (ls : Locks). KeyShown (set old.units session.0 (Some (unit_wrote old.records.records unit plan))) s_written (fin.get ls k) k) (sym locks)
+      (keys_written limit old.units purged session unit (unit_wrote old.records.records unit plan) w key old.locks plan.before place refl of_key refl lawful.change own_unit alone (sym present) (λ q. key_purged old.units s plan.purge (fin.get old.locks q) q (shows.by.keys q)) k))
+
+  units_after : UnitsShown new.records.records s_written new.units
+  units_after =
+      subst (λ (rs : List Record). UnitsShown rs s_written new.units) (sym records)
+      (subst (UnitsShown (records_wrote old.records.records unit plan after) s_written) (sym units)
+      (units_written old.records.records (records_cleared old.records.records plan.purge) old.units purged session.0 unit (unit_wrote old.records.records unit plan) w place refl refl refl refl (walks_cleared old.records.records plan.purge) own_purged consistent.fresh (units_purged old.records.records old.units s plan.purge shows.by.units)))
+
+  by : claimed_all (holding s_written.live (suc s_written.top)) s_written.pages ≤ allowed + more → ShowsBy (write_key st session key after) (allowed + more) new s_written
+  by bound = record {
+    up = shows.by.up;
+    idle = shows.by.idle;
+    sure = shows.by.sure;
+    copy = shows.by.copy;
+    table = λ k. set_table st.table s.now key after shows.by.table k ∙ ap (λ (j : ℕ). if j == k then after else s.now k) (sym of_key);
+    locks = lock_taken st old.locks session key plan.before shows.by.locks (shows.by.table key ∙ present) ∙ sym locks;
+    claims = shows.by.claims ∙ ap (λ (c : Claims). c.claims) (sym claims);
+    drain = shows.by.drain ∙ ap (λ (c : Claims). c.drain) (sym claims);
+    free = ap (λ (c : Claims). c.drain) claims ∙ shows.by.free;
+    pages = wrote.put.pages middle_pages;
+    slots = slots;
+    indexes = indexes;
+    keys = keys;
+    places = ap length units ∙ length-set old.units session.0 (Some (unit_wrote old.records.records unit plan)) ∙ shows.by.places;
+    units = units_after;
+    top = top;
+    owed = owed_after;
+    claimed = bound;
+  }
+
+  pub written_shows : claimed_all (holding s_written.live (suc s_written.top)) s_written.pages ≤ allowed + more → Shows (write_key st session key after) (allowed + more) new
+  written_shows bound = record {
+    first = shows.first;
+    begun = subst (λ (n : ℕ). IsConsistent n shows.first) (sym capacity) shows.begun;
+    runs = runs;
+    by = subst (ShowsBy (write_key st session key after) (allowed + more) new) (sym left) (by bound);
+  }
