@@ -14,3 +14,7 @@ pub mod Claimed
 pub mod PlansWrite
 pub mod Same
 pub mod EngineWrites
+pub mod PlannedIn
+pub mod Statements
+pub mod WritesGo
+pub mod DropHand

@@ -6,3 +6,4 @@ pub mod Walks
 pub mod Wrote
 pub mod Shows
 pub mod Planned
+pub mod Steps

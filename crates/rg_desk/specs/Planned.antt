@@ -12,6 +12,8 @@ use Rattle.rg_space.specs.Ready.{IsAtHand}
 use Rattle.rg_space.specs.Space.{capacity_in}
 use Rattle.rg_space.specs.declared.fault.SpaceFault.{SpaceFault}
 use Rattle.rg_space.specs.declared.fault.SpaceFault.TheVariants.{Full, Device, NoMemory}
+use Rattle.rg_stmt.specs.declared.stmt.Reply.{Reply}
+use Rattle.rg_stmt.specs.declared.stmt.Reply.TheVariants as reply
 use Rattle.rg_desk.specs.Engine.{HasPages, seen_in, slots_in}
 use Rattle.rg_desk.specs.Units.{trans_of}
 use Rattle.rg_desk.specs.declared.engine.Engine.{Engine}
@@ -45,3 +47,9 @@ abbrev pub IsRefusal : (b : ℕ) → Option Plan → SpaceFault → Type 0
 IsRefusal b plan (Full need) = (need ≡ b) × (plan ≡ None)
 IsRefusal b plan Device = ⊥
 IsRefusal b plan NoMemory = Unit {0}
+
+-- the reply to a statement whose write has no plan
+abbrev pub refused : SpaceFault → Reply
+refused (Full need) = reply.Full need
+refused Device = reply.Device
+refused NoMemory = reply.NoMemory

@@ -196,8 +196,8 @@ impl Engine {
         Ok(())
     }
 
-    // Writes as planned, at a key that no other session has locked.
-    fn write(
+    /// Writes as planned, at a key that no other session has locked.
+    pub fn write(
         &mut self,
         session: Session,
         unit: OpenUnit,

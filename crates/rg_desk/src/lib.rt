@@ -8,3 +8,5 @@ pub mod records;
 pub mod units;
 /// The table over pages, with the locks, claims and units of its sessions.
 pub mod engine;
+/// INSERT, UPDATE and DELETE.
+pub mod writes;

@@ -1,0 +1,152 @@
+-- How a write goes that was planned, from a state that the engine shows.
+use Rattle.std.proofs.Common.{◌≡◌, ◌≤◌, ◌<◌, ◌+◌, ◌*◌, ℕ, true, List, Option, Some, None, refl, sym, ◌∙◌, ap, subst}
+use Rattle.rg_base.specs.RowBytes.{row_size}
+use Rattle.rg_base.specs.declared.place.Place.{Place}
+use Rattle.rg_base.specs.declared.row.Row.{Row}
+use Rattle.rg_base.specs.declared.session.Session.{Session}
+use Rattle.rg_home.specs.Pages.{slot_of}
+use Rattle.rg_home.specs.Plan.{is_home}
+use Rattle.rg_home.specs.Rows.{row_at}
+use Rattle.rg_home.specs.Slot.{Slot}
+use Rattle.rg_home.specs.declared.plan.Plan.{Plan}
+use Rattle.rg_indexes.specs.Listings.{AreListedAt}
+use Rattle.rg_model.specs.Held.{holder}
+use Rattle.rg_model.specs.Plain.{is_done, plain_reply, write_key}
+use Rattle.rg_model.specs.State.{Locks, State, row_of}
+use Rattle.rg_stmt.specs.declared.stmt.Reply.{Reply}
+use Rattle.rg_stmt.specs.declared.stmt.Reply.TheVariants.{Done, Full, NoMemory}
+use Rattle.rg_stmt.specs.declared.stmt.Stmt.{Stmt}
+use Rattle.rg_stmt.specs.declared.stmt.Stmt.TheVariants.{Insert, Update, Delete}
+use Rattle.rg_lawful.specs.Write.{key_of}
+use Rattle.rg_space.specs.Space.{capacity_in}
+use Rattle.rg_space.specs.declared.fault.SpaceFault.{SpaceFault}
+use Rattle.rg_space.specs.declared.fault.SpaceFault.TheVariants as faults
+use Rattle.rg_desk.specs.Engine.{slots_in}
+use Rattle.rg_desk.specs.Planned.{IsRefusal, change_plan, drop_plan, put_plan, refused}
+use Rattle.rg_desk.specs.Shows.{Shows, left_by}
+use Rattle.rg_desk.specs.Steps.{Goes, IsUnitOf}
+use Rattle.rg_desk.specs.Wrote.{SameEngine, Writes, Wrote}
+use Rattle.rg_desk.specs.declared.engine.Engine.{Engine}
+use Rattle.rg_desk.specs.declared.units.OpenUnit.{OpenUnit}
+use Rattle.rg_desk.proofs.EngineWrites.{Plans, engine_change, engine_drop, engine_full_change, engine_full_put, engine_put, plan_listed, plan_shows}
+use Rattle.rg_desk.proofs.Statements.{go_full, go_wanting, same_unit, unit_for}
+use Rattle.rg_desk.proofs.UnitsWritten.{IsUnitFor}
+
+-- what is as it was is so after what is as it was
+pub same_same : (a b c : Engine) → SameEngine a b → SameEngine b c → SameEngine a c
+same_same a b c f g = record {
+  capacity = g.capacity ∙ f.capacity;
+  pages = λ h. g.pages (f.pages h);
+  slots = g.slots ∙ f.slots;
+  records = g.records ∙ f.records;
+  entries = record { keys = g.entries.keys ∙ f.entries.keys; cluses = g.entries.cluses ∙ f.entries.cluses; cats = g.entries.cats ∙ f.entries.cats };
+  locks = g.locks ∙ f.locks;
+  claims = g.claims ∙ f.claims;
+  units = g.units ∙ f.units;
+  top = g.top ∙ f.top;
+}
+
+-- `mid` is the engine once the write was planned, which shows the same state
+module _ (st : State) (allowed : ℕ) (d : Engine) (shows : Shows st allowed d) (session : Session) (unit : OpenUnit) (is_unit : IsUnitOf d session.0 unit) (mid : Engine) (same : SameEngine d mid) (shows_mid : Shows st allowed mid) where
+  own_mid : IsUnitFor mid.units (left_by shows_mid.first mid) session.0 unit
+  own_mid = unit_for st allowed mid shows_mid session unit (same_unit d mid session.0 unit same is_unit)
+
+  alone_mid : (key : ℕ) → holder d.locks session key ≡ None → holder mid.locks session key ≡ None
+  alone_mid key alone = ap (λ (ls : Locks). holder ls session key) same.locks ∙ alone
+
+  there_mid : (home : Place) (old : Row) → row_at (slot_of (slots_in d)) home ≡ Some old → row_at (slot_of (slots_in mid)) home ≡ Some old
+  there_mid home old there = ap (λ (ps : List (List Slot)). row_at (slot_of ps) home) same.slots ∙ there
+
+  home_mid : (home : Place) → is_home (slot_of (slots_in d) home) ≡ true → is_home (slot_of (slots_in mid) home) ≡ true
+  home_mid home is = ap (λ (ps : List (List Slot)). is_home (slot_of ps home)) same.slots ∙ is
+
+  -- a plan of the engine then
+  abbrev PlansMid : ℕ → Option Row → Plan → Type 0
+  PlansMid more after plan = Plans st allowed mid shows_mid session unit own_mid more after plan
+
+  put : (row : Row) (plan : Plan) → row_of st.table row.key ≡ None → holder d.locks session row.key ≡ None → row_size row ≤ 826 → Some plan ≡ put_plan unit.tran.0 (row_size row) mid → PlansMid (18 + row_size row) (Some row) plan
+  put row plan absent alone small is = (engine_put st allowed mid shows_mid session unit own_mid row plan absent (alone_mid row.key alone) small is).1
+
+  change : (home : Place) (old row : Row) (plan : Plan) → row_at (slot_of (slots_in d)) home ≡ Some old → is_home (slot_of (slots_in d) home) ≡ true → holder d.locks session row.key ≡ None → row.key ≡ old.key → row_size row ≤ 826
+      → Some plan ≡ change_plan unit.tran.0 (row_size row) home mid → PlansMid (18 + row_size row) (Some row) plan
+  change home old row plan there is_there alone key small is =
+      (engine_change st allowed mid shows_mid session unit own_mid home old row plan (there_mid home old there) (home_mid home is_there)
+        (subst (λ (k : ℕ). holder mid.locks session k ≡ None) key (alone_mid row.key alone)) key small is).1
+
+  drop : (home : Place) (old : Row) (plan : Plan) → row_at (slot_of (slots_in d)) home ≡ Some old → is_home (slot_of (slots_in d) home) ≡ true → holder d.locks session old.key ≡ None
+      → plan ≡ drop_plan home mid → (plan.before ≡ Some old) × PlansMid 0 None plan
+  drop home old plan there is_there alone is =
+      engine_drop st allowed mid shows_mid session unit own_mid home old plan (there_mid home old there) (home_mid home is_there) (alone_mid old.key alone) is
+
+  -- the indexes list what is at the home of the plan
+
+  pub put_listed : (row : Row) (plan : Plan) → row_of st.table row.key ≡ None → holder d.locks session row.key ≡ None → row_size row ≤ 826 → Some plan ≡ put_plan unit.tran.0 (row_size row) mid → AreListedAt mid.indexes plan.home plan.before
+  put_listed row plan absent alone small is = plan_listed st allowed mid shows_mid session unit own_mid (18 + row_size row) (Some row) plan (put row plan absent alone small is)
+
+  pub change_listed : (home : Place) (old row : Row) (plan : Plan) → row_at (slot_of (slots_in d)) home ≡ Some old → is_home (slot_of (slots_in d) home) ≡ true → holder d.locks session row.key ≡ None → row.key ≡ old.key → row_size row ≤ 826
+      → Some plan ≡ change_plan unit.tran.0 (row_size row) home mid → AreListedAt mid.indexes plan.home plan.before
+  change_listed home old row plan there is_there alone key small is =
+      plan_listed st allowed mid shows_mid session unit own_mid (18 + row_size row) (Some row) plan (change home old row plan there is_there alone key small is)
+
+  pub drop_listed : (home : Place) (old : Row) (plan : Plan) → row_at (slot_of (slots_in d)) home ≡ Some old → is_home (slot_of (slots_in d) home) ≡ true → holder d.locks session old.key ≡ None
+      → plan ≡ drop_plan home mid → AreListedAt mid.indexes plan.home plan.before
+  drop_listed home old plan there is_there alone is =
+      plan_listed st allowed mid shows_mid session unit own_mid 0 None plan (drop home old plan there is_there alone is).1
+
+  -- a write goes as its statement says
+
+  wrote : (stmt : Stmt) (more key : ℕ) (after : Option Row) (plan : Plan) (new : Engine) → plain_reply st session stmt ≡ Done
+      → Shows (write_key st session key after) (allowed + more) new → Wrote mid session unit plan key after new → capacity_in new.space ≡ capacity_in d.space
+  wrote stmt more key after plan new done shown w = w.put.capacity ∙ ap (λ sp. capacity_in sp) w.prepared.space ∙ same.capacity
+
+  pub put_goes : (row : Row) (plan : Plan) (reply : Reply) (new : Engine) → session.0 < 256 → row_of st.table row.key ≡ None → holder d.locks session row.key ≡ None → row_size row ≤ 826 → Some plan ≡ put_plan unit.tran.0 (row_size row) mid
+      → plain_reply st session (Insert row) ≡ Done → Writes mid session unit plan row.key (Some row) reply new → Goes st allowed d session (Insert row) reply new
+  put_goes row plan Done new low absent alone small is done w =
+      let plans = put row plan absent alone small is in
+      let shown = plan_shows st allowed mid shows_mid session unit own_mid (18 + row_size row) row.key (Some row) plan new plans refl (alone_mid row.key alone) low w in
+      record { says = sym done; shows = shown; capacity = wrote (Insert row) (18 + row_size row) row.key (Some row) plan new done shown w }
+  put_goes row plan NoMemory new low absent alone small is done w = go_wanting st allowed d shows session (Insert row) new refl (same_same d mid new same w)
+  put_goes row plan reply new low absent alone small is done w = absurd w
+
+  pub change_goes : (home : Place) (old row : Row) (plan : Plan) (reply : Reply) (new : Engine) → session.0 < 256 → row_at (slot_of (slots_in d)) home ≡ Some old → is_home (slot_of (slots_in d) home) ≡ true → holder d.locks session row.key ≡ None → row.key ≡ old.key → row_size row ≤ 826
+      → Some plan ≡ change_plan unit.tran.0 (row_size row) home mid
+      → plain_reply st session (Update row) ≡ Done → Writes mid session unit plan row.key (Some row) reply new → Goes st allowed d session (Update row) reply new
+  change_goes home old row plan Done new low there is_there alone key small is done w =
+      let plans = change home old row plan there is_there alone key small is in
+      let shown = plan_shows st allowed mid shows_mid session unit own_mid (18 + row_size row) row.key (Some row) plan new plans refl (alone_mid row.key alone) low w in
+      record { says = sym done; shows = shown; capacity = wrote (Update row) (18 + row_size row) row.key (Some row) plan new done shown w }
+  change_goes home old row plan NoMemory new low there is_there alone key small is done w = go_wanting st allowed d shows session (Update row) new refl (same_same d mid new same w)
+  change_goes home old row plan reply new low there is_there alone key small is done w = absurd w
+
+  pub drop_goes : (home : Place) (old : Row) (key : ℕ) (plan : Plan) (reply : Reply) (new : Engine) → session.0 < 256 → row_at (slot_of (slots_in d)) home ≡ Some old → is_home (slot_of (slots_in d) home) ≡ true → holder d.locks session key ≡ None → old.key ≡ key
+      → plan ≡ drop_plan home mid
+      → plain_reply st session (Delete key) ≡ Done → Writes mid session unit plan key None reply new → Goes st allowed d session (Delete key) reply new
+  drop_goes home old key plan Done new low there is_there alone of_key is done w =
+      let plans = drop home old plan there is_there (subst (λ (k : ℕ). holder d.locks session k ≡ None) (sym of_key) alone) is in
+      let same_key : key_of plan.before None ≡ key = ap (λ (x : Option Row). key_of x None) plans.0 ∙ of_key in
+      let shown = plan_shows st allowed mid shows_mid session unit own_mid 0 key None plan new plans.1 same_key (alone_mid key alone) low w in
+      record { says = sym done; shows = shown; capacity = wrote (Delete key) 0 key None plan new done shown w }
+  drop_goes home old key plan NoMemory new low there is_there alone of_key is done w = go_wanting st allowed d shows session (Delete key) new refl (same_same d mid new same w)
+  drop_goes home old key plan reply new low there is_there alone of_key is done w = absurd w
+
+  -- FULL
+
+  put_full : (row : Row) → row_size row ≤ 826 → put_plan unit.tran.0 (row_size row) mid ≡ None → plain_reply st session (Insert row) ≡ Done → Goes st allowed d session (Insert row) (Full (row_size row)) mid
+  put_full row small none done =
+      go_full st allowed d shows session (Insert row) (row_size row) mid refl (ap is_done done)
+      (subst (λ (n : ℕ). 3221 * n ≤ allowed) same.capacity (engine_full_put st allowed mid shows_mid session unit own_mid (row_size row) small none)) same
+
+  change_full : (home : Place) (row : Row) → row_size row ≤ 826 → change_plan unit.tran.0 (row_size row) home mid ≡ None → plain_reply st session (Update row) ≡ Done → Goes st allowed d session (Update row) (Full (row_size row)) mid
+  change_full home row small none done =
+      go_full st allowed d shows session (Update row) (row_size row) mid refl (ap is_done done)
+      (subst (λ (n : ℕ). 3221 * n ≤ allowed) same.capacity (engine_full_change st allowed mid shows_mid session unit own_mid (row_size row) home small none)) same
+
+  pub put_refused : (row : Row) (fault : SpaceFault) → row_size row ≤ 826 → IsRefusal (row_size row) (put_plan unit.tran.0 (row_size row) mid) fault → plain_reply st session (Insert row) ≡ Done → Goes st allowed d session (Insert row) (refused fault) mid
+  put_refused row (faults.Full need) small h done = subst (λ (n : ℕ). Goes st allowed d session (Insert row) (Full n) mid) (sym h.0) (put_full row small h.1 done)
+  put_refused row faults.Device small h done = absurd h
+  put_refused row faults.NoMemory small h done = go_wanting st allowed d shows session (Insert row) mid refl same
+
+  pub change_refused : (home : Place) (row : Row) (fault : SpaceFault) → row_size row ≤ 826 → IsRefusal (row_size row) (change_plan unit.tran.0 (row_size row) home mid) fault → plain_reply st session (Update row) ≡ Done → Goes st allowed d session (Update row) (refused fault) mid
+  change_refused home row (faults.Full need) small h done = subst (λ (n : ℕ). Goes st allowed d session (Update row) (Full n) mid) (sym h.0) (change_full home row small h.1 done)
+  change_refused home row faults.Device small h done = absurd h
+  change_refused home row faults.NoMemory small h done = go_wanting st allowed d shows session (Update row) mid refl same

@@ -1,0 +1,37 @@
+use Rattle.std.proofs.Common.{◌≡◌, ◌≤◌, ℕ, Some, None, ◌∙◌, ap, refl, sym, subst}
+use Rattle.rg_base.specs.RowBytes.{row_size}
+use Rattle.rg_stmt.specs.declared.stmt.Stmt.TheVariants.{Update}
+use Rattle.rg_desk.specs.Steps.{Goes}
+use Rattle.rg_desk.proofs.Same.{same_shows}
+use Rattle.rg_desk.proofs.Statements.{key_some, update_done}
+use Rattle.rg_desk.proofs.WritesGo.{change_goes, change_listed, change_refused}
+use Rattle.rg_desk.specs.Planned.{change_plan}
+use Rattle.rg_desk.proofs.engine.Engine.change_row.Goals as goal
+
+pub write-requires-clause-listed : goal.write-requires-clause-listed
+write-requires-clause-listed c =
+    let d = c.args.self.now in
+    let mid = c.plan_change.new.self in
+    let st = c.requires.shown.state in
+    let shows = c.requires.shown.shows in
+    let at = key_some st c.requires.shown.allowed d shows c.args.session c.args.row.key c.args.home c.requires.there in
+    change_listed st c.requires.shown.allowed d shows c.args.session c.in-Some.unit c.in-Some.ensures.unit mid c.in-Ok.ensures.same (same_shows st c.requires.shown.allowed d mid c.in-Ok.ensures.same shows)
+    c.args.home at.row c.args.row c.in-Ok.plan at.there at.home c.requires.alone (sym at.key_is) (subst (λ (n : ℕ). n ≤ 826) c.size-size.ensures.size c.size-size.ensures.high) c.in-Ok.ensures.plan
+
+pub returns-in-Ok : goal.returns-in-Ok
+returns-in-Ok c = λ st allowed shows.
+    let d = c.args.self.now in
+    let mid = c.plan_change.new.self in
+    let at = key_some st allowed d shows c.args.session c.args.row.key c.args.home c.requires.there in
+    change_goes st allowed d shows c.args.session c.in-Some.unit c.in-Some.ensures.unit mid c.in-Ok.ensures.same (same_shows st allowed d mid c.in-Ok.ensures.same shows)
+    c.args.home at.row c.args.row c.in-Ok.plan c.write.result c.write.new.self c.in-Some.ensures.small at.there at.home c.requires.alone (sym at.key_is) (subst (λ (n : ℕ). n ≤ 826) c.size-size.ensures.size c.size-size.ensures.high) c.in-Ok.ensures.plan
+    (update_done st allowed d shows c.args.session c.args.row at.row c.requires.alone at.now) c.write.ensures
+
+pub returns-in-Err : goal.returns-in-Err
+returns-in-Err c = λ st allowed shows.
+    let d = c.args.self.now in
+    let mid = c.plan_change.new.self in
+    let at = key_some st allowed d shows c.args.session c.args.row.key c.args.home c.requires.there in
+    subst (λ reply. Goes st allowed d c.args.session (Update c.args.row) reply mid) (sym c.reply_of.ensures)
+    (change_refused st allowed d shows c.args.session c.in-Some.unit c.in-Some.ensures.unit mid c.in-Err.ensures.same (same_shows st allowed d mid c.in-Err.ensures.same shows)
+    c.args.home c.args.row c.in-Err.fault (subst (λ (n : ℕ). n ≤ 826) c.size-size.ensures.size c.size-size.ensures.high) c.in-Err.ensures.refusal (update_done st allowed d shows c.args.session c.args.row at.row c.requires.alone at.now))

@@ -1,0 +1,17 @@
+use Rattle.std.proofs.Common.{◌≡◌, Some, None, ◌∙◌, ap, refl, sym, subst}
+use Rattle.rg_stmt.specs.declared.stmt.Stmt.TheVariants.{Insert}
+use Rattle.rg_desk.specs.Steps.{Goes}
+use Rattle.rg_desk.proofs.Statements.{insert_duplicate, go_duplicate, key_some}
+use Rattle.rg_desk.proofs.PlannedIn.{some_at}
+use Rattle.rg_desk.proofs.engine.Engine.insert.Goals as goal
+
+pub returns-in-Ok-Some : goal.returns-in-Ok-Some
+returns-in-Ok-Some c = λ st allowed shows.
+    let d = c.args.self.now in
+    let at = key_some st allowed d shows c.args.session c.args.row.now.key c.in-Ok-Some.field-0-0 (some_at _ c.in-Ok-Some.field-0 c.in-Ok-Some.field-0-0 c.in-Ok-Some.ensures.there c.in-Ok-Some.field-0-is) in
+    go_duplicate st allowed d shows c.args.session (Insert c.args.row.now)
+    (insert_duplicate st allowed d shows c.args.session c.args.row.now at.row (sym c.in_default.ensures) at.now)
+
+pub returns-in-Ok : goal.returns-in-Ok
+returns-in-Ok c = λ st allowed shows.
+    subst (λ row. Goes st allowed c.args.self.now c.args.session (Insert row) c.put_row.result c.put_row.new.self) c.in-Ok.ensures (c.put_row.ensures st allowed shows)

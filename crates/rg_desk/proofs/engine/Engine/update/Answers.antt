@@ -1,0 +1,16 @@
+use Rattle.std.proofs.Common.{◌≡◌, Some, None, ◌∙◌, ap, refl, sym, subst}
+use Rattle.rg_stmt.specs.declared.stmt.Stmt.TheVariants.{Update}
+use Rattle.rg_desk.specs.Steps.{Goes}
+use Rattle.rg_desk.proofs.Statements.{update_absent, go_absent, key_none}
+use Rattle.rg_desk.proofs.PlannedIn.{none_at}
+use Rattle.rg_desk.proofs.engine.Engine.update.Goals as goal
+
+pub returns-in-Ok-None : goal.returns-in-Ok-None
+returns-in-Ok-None c = λ st allowed shows.
+    let d = c.args.self.now in
+    go_absent st allowed d shows c.args.session (Update c.args.row.now)
+    (update_absent st allowed d shows c.args.session c.args.row.now (sym c.in_default.ensures) (key_none st allowed d shows c.args.session c.args.row.now.key (none_at _ c.in-Ok-None.field-0 c.in-Ok-None.ensures.none c.in-Ok-None.field-0-is)))
+
+pub returns-in-Ok : goal.returns-in-Ok
+returns-in-Ok c = λ st allowed shows.
+    subst (λ row. Goes st allowed c.args.self.now c.args.session (Update row) c.change_row.result c.change_row.new.self) c.in-Ok.ensures (c.change_row.ensures st allowed shows)

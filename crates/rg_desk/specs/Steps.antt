@@ -1,0 +1,70 @@
+-- What a statement answers and leaves, but for its claim.
+--
+-- 1. The reply is the plain table's, or NOMEMORY or FULL stands for it. FULL comes only where the
+--    writes so far have allowed 3,221 bytes for each page of the copy.
+-- 2. A put or a change allows 18 bytes more than its row has.
+use Rattle.std.specs.Prelude.{◌≡◌, ◌≤◌, ◌+◌, ◌*◌, ℕ, true, Option, Some, None, ◌⊎◌, if◌then◌else◌}
+use Rattle.rg_base.specs.RowBytes.{row_size}
+use Rattle.rg_base.specs.declared.session.Session.{Session}
+use Rattle.rg_stmt.specs.declared.stmt.Reply.{Reply}
+use Rattle.rg_stmt.specs.declared.stmt.Reply.TheVariants.{Done, Full, NoMemory}
+use Rattle.rg_stmt.specs.declared.stmt.Stmt.{Stmt}
+use Rattle.rg_stmt.specs.declared.stmt.Stmt.TheVariants.{Insert, Update}
+use Rattle.rg_model.specs.Plain.{after, is_done, plain_reply}
+use Rattle.rg_model.specs.Said.{may_want_memory, may_want_room}
+use Rattle.rg_model.specs.State.{State}
+use Rattle.rg_space.specs.Space.{capacity_in}
+use Rattle.rg_desk.specs.Shows.{Shows}
+use Rattle.rg_desk.specs.Units.{unit_at}
+use Rattle.rg_desk.specs.declared.engine.Engine.{Engine}
+use Rattle.rg_desk.specs.declared.units.OpenUnit.{OpenUnit}
+
+-- the unit that a session begins with its first write
+abbrev pub new_unit : (number : ℕ) → OpenUnit
+new_unit number = record {
+  tran = record { 0 = number };
+  last = record { 0 = 0 };
+  writes = 0;
+}
+
+-- the unit of a session that is to write: its own, or a new one of the next number
+abbrev pub IsUnitOf : Engine → (n : ℕ) → OpenUnit → Type 0
+IsUnitOf d n unit =
+    (unit_at d.units n ≡ Some unit)
+    ⊎ ((unit_at d.units n ≡ None) × (unit ≡ new_unit (d.top + 1)))
+
+-- from a state with so many bytes allowed, a copy of so many pages may answer so
+abbrev pub MayReply : State → (allowed capacity : ℕ) → Session → Stmt → Reply → Type 0
+MayReply st allowed capacity session stmt NoMemory = may_want_memory stmt ≡ true
+MayReply st allowed capacity session stmt (Full need) =
+    (may_want_room stmt ≡ true) × (is_done (plain_reply st session stmt) ≡ true)
+    × (3221 * capacity ≤ allowed)
+MayReply st allowed capacity session stmt reply = reply ≡ plain_reply st session stmt
+
+-- the state after a reply, without the claim
+abbrev pub unclaimed : State → Session → Stmt → Reply → State
+unclaimed st session stmt reply = if is_done reply then after st session stmt else st
+
+-- how many bytes more a write allows
+abbrev pub bytes_allowed : Stmt → ℕ
+bytes_allowed (Insert row) = 18 + row_size row
+bytes_allowed (Update row) = 18 + row_size row
+bytes_allowed stmt = 0
+
+-- how many bytes more a statement allows that is answered so
+abbrev pub more_allowed : Stmt → Reply → ℕ
+more_allowed stmt Done = bytes_allowed stmt
+more_allowed stmt reply = 0
+
+-- the statement is answered so from this state, and leaves the next one
+pub record Goes
+    (st : State) (allowed : ℕ) (old : Engine) (session : Session) (stmt : Stmt) (reply : Reply)
+    (new : Engine) : Type 0 where
+  pub says : MayReply st allowed (capacity_in old.space) session stmt reply
+  pub shows : Shows (unclaimed st session stmt reply) (allowed + more_allowed stmt reply) new
+  pub capacity : capacity_in new.space ≡ capacity_in old.space
+
+-- from each state that the engine shows
+abbrev pub Steps : Engine → Session → Stmt → Reply → Engine → Type 0
+Steps old session stmt reply new =
+    (st : State) (allowed : ℕ) → Shows st allowed old → Goes st allowed old session stmt reply new
