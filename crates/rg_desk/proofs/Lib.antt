@@ -18,3 +18,4 @@ pub mod PlannedIn
 pub mod Statements
 pub mod WritesGo
 pub mod DropHand
+pub mod Empty

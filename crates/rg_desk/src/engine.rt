@@ -14,9 +14,12 @@ ghost use Rattle.rg_record.specs.Applied.{parts_of};
 ghost use Rattle.rg_space.specs.Ready.{CanApply, CanApplyRecord, IsAtHand, AllReady, record_applied};
 ghost use Rattle.rg_space.specs.Space.{Agree, InStep, capacity_in, frames_of, index_of};
 ghost use Rattle.rg_page.specs.Content.{slots_of};
+ghost use Rattle.std.specs.FinMap as map;
 ghost use Rattle.rg_model.specs.Held.{holder};
+ghost use Rattle.rg_model.specs.State.{at_rest};
 ghost use Rattle.rg_desk.specs.Pages.{list_seen};
 ghost use Rattle.rg_desk.specs.Engine.{HasPages, seen_in, slots_in};
+ghost use Rattle.rg_desk.specs.Shows.{Shows};
 ghost use Rattle.rg_desk.specs.Wrote.{Prepares, Puts, SameEngine, Writes, end_taken, records_cleared, records_taken};
 
 use crate::records::Records;
@@ -133,6 +136,30 @@ fn greater(top: u32, tran: Tran) -> u32
 }
 
 impl Engine {
+    /// A table without rows, in a copy that may have `capacity` pages.
+    pub fn new(alloc: Global, capacity: u32) -> Result<Engine, NoMemory>
+        ensures shows { IfOk result (λ d. Shows (at_rest map.empty 1) 0 d) }
+        ensures capacity { IfOk result (λ d. capacity_in d.space ≡ capacity) }
+    {
+        let Ok(space) = Space::new(alloc, ListFrames::new(alloc, 1), capacity) else {
+            return Err(NoMemory);
+        };
+        let indexes = Indexes::new(alloc)?;
+        let locks = Locks::new(alloc)?;
+        let claims = Claims::new(alloc)?;
+        let units = Units::new(alloc)?;
+        Ok(Engine {
+            alloc,
+            space,
+            records: Records::new(alloc),
+            indexes,
+            locks,
+            claims,
+            units,
+            top: 0,
+        })
+    }
+
     // Carries out a plan, for which all room is taken.
     fn put(&mut self, session: Session, unit: OpenUnit, plan: Plan, after: Option<Row>)
         requires pages { HasPages self.old }

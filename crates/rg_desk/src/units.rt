@@ -2,7 +2,7 @@
 //
 // 1. There is a place for each number that a session can have, taken at the beginning. So a unit
 //    begins and ends without memory.
-ghost use Rattle.std.specs.Prelude.{◌≡◌, ℕ, ◌∷◌, None, IfOk, slice_set};
+ghost use Rattle.std.specs.Prelude.{◌≡◌, ℕ, ◌∷◌, None, IfOk, length, slice_set};
 ghost use Rattle.rg_page.specs.Bare.{numbers_of};
 ghost use Rattle.rg_desk.specs.Units.{unit_at, trans_of, owed};
 
@@ -44,6 +44,7 @@ impl Units {
     pub fn new(alloc: Global) -> Result<Units, NoMemory>
         ensures none { IfOk result (λ units. (n : ℕ) → unit_at units n ≡ None) }
         ensures owed { IfOk result (λ units. owed units ≡ 0) }
+        ensures places { IfOk result (λ units. length units ≡ 256) }
     {
         Ok(Units {
             slots: vec![in alloc; None; 256]?,
