@@ -19,3 +19,5 @@ pub mod Statements
 pub mod WritesGo
 pub mod DropHand
 pub mod Empty
+pub mod Ended
+pub mod CommitShows

@@ -7,3 +7,4 @@ pub mod Wrote
 pub mod Shows
 pub mod Planned
 pub mod Steps
+pub mod Ended

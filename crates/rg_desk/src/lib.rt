@@ -10,3 +10,5 @@ pub mod units;
 pub mod engine;
 /// INSERT, UPDATE and DELETE.
 pub mod writes;
+/// COMMIT and ROLLBACK.
+pub mod ends;

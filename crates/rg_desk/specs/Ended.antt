@@ -1,0 +1,45 @@
+-- What the end of a unit leaves of the state of its records.
+--
+-- 1. Its writes are no longer kept and it is no longer live, whether it commits or was undone. No
+--    other unit's writes are touched, nor what is committed of keys that it has not written.
+use Rattle.std.specs.Prelude.{◌≡◌, ◌+◌, ℕ, false, List, [], ◌∷◌, ◌++◌, Option, Some, None, length}
+use Rattle.rg_base.specs.declared.session.Session.{Session}
+use Rattle.rg_record.specs.declared.record.Kind.TheVariants.{Commit}
+use Rattle.rg_record.specs.declared.record.Record.{Record}
+use Rattle.rg_lawful.specs.Act.{LogState, is_in, not_of, others}
+use Rattle.rg_lawful.specs.Consistent.{stored_of}
+use Rattle.rg_lawful.specs.Write.{NoneHit, at_key, kept_of, own_of}
+use Rattle.rg_desk.specs.Units.{owed_to, unit_at}
+use Rattle.rg_desk.specs.declared.engine.Engine.{Engine}
+use Rattle.rg_desk.specs.declared.units.OpenUnit.{OpenUnit}
+
+-- what is left, once unit t has ended
+pub record HasEnded (t : ℕ) (s left : LogState) : Type 0 where
+  pub writes : left.writes ≡ kept_of (not_of t) s.writes
+  pub live : left.live ≡ others t s.live
+  pub stored :
+      (k : ℕ) → NoneHit (at_key k) (own_of t s.writes) → stored_of left k ≡ stored_of s k
+  pub steady :
+      (u : ℕ) → (u ≡ t → ⊥) → is_in u s.rolling ≡ false → is_in u left.rolling ≡ false
+
+-- the Commit record of a unit
+abbrev pub commit_record : (position : ℕ) → OpenUnit → Record
+commit_record position unit = record {
+  position = record { 0 = position };
+  tran = unit.tran;
+  back = unit.last;
+  kind = Commit;
+}
+
+-- the records once the unit has committed, if it has written
+abbrev pub records_committed : List Record → Option OpenUnit → List Record
+records_committed records None = records
+records_committed records (Some unit) = records ++ commit_record (length records + 1) unit ∷ []
+
+-- the Commit of a session's unit was appended, from the room that was reserved for the unit
+pub record LogsCommit (old : Engine) (session : Session) (new : Engine) : Type 0 where
+  pub same : new ≡ record old { records = new.records }
+  pub records :
+      new.records.records ≡ records_committed old.records.records (unit_at old.units session.0)
+  pub reserved :
+      new.records.reserved + owed_to (unit_at old.units session.0) ≡ old.records.reserved
