@@ -12,7 +12,7 @@ ghost use Rattle.rg_index.specs.Entries.{IsRising};
 
 use crate::pool::Pool;
 use crate::root::{add_to_root, remove_from_root};
-use crate::walk::collect;
+use crate::walk::{collect, collect_all};
 use rg_base::no_memory::NoMemory;
 use rg_base::place::Place;
 use rg_bulk::build::nodes;
@@ -100,6 +100,22 @@ impl Tree {
             256 * 112 ^ (result - 2) ≤ length (⟦<Tree as Index>⟧.entries self.now) }
     {
         self.root.height() + 1
+    }
+
+    /// How many entries there are.
+    pub fn len(&self) -> usize
+        ensures { result ≡ length (⟦<Tree as Index>⟧.entries self.now) }
+    {
+        self.len
+    }
+
+    /// All entries. It takes the memory of its answer.
+    pub fn listing(&self) -> Result<Listing, NoMemory>
+        ensures { IfOk result (λ listing. listing ≡ ⟦<Tree as Index>⟧.entries self.now) }
+    {
+        let mut found = Vec::new(self.alloc);
+        collect_all(&self.root, &mut found)?;
+        Ok(Listing::new(found))
     }
 }
 

@@ -30,3 +30,17 @@ pub fn collect(node: &Node, lo: u64, hi: u64, found: &mut Vec<(u64, Place)>) -> 
     }
     Ok(())
 }
+
+/// Puts all entries below a node behind others.
+pub fn collect_all(node: &Node, found: &mut Vec<(u64, Place)>) -> Result<(), NoMemory>
+    ensures { OnOk result (found.new.items ≡ found.old.items ++ node.now.entries) }
+{
+    if node.height == 0 {
+        found.extend_from_slice(node.keys.as_slice())?;
+        return Ok(());
+    }
+    for kid in &node.kids {
+        collect_all(kid, found)?;
+    }
+    Ok(())
+}
