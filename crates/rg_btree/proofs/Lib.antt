@@ -7,3 +7,4 @@ pub mod Mended
 pub mod Ranges
 pub mod Settled
 pub mod Trees
+mod Firsts

@@ -7,12 +7,13 @@
 // 3. They are enough for the tree of all entries that may be added, for a tree of n entries has at
 //    most n / 126 + 1 nodes, of which n / 14208 + 1 are inner ones; and there are a dozen more of
 //    each for what one addition takes on its way.
-ghost use Rattle.std.specs.Prelude.{◌≡◌, ◌≤◌, ◌+◌, ◌-◌, ◌*◌, ◌^◌, [], length, OnOk, IfOk};
+ghost use Rattle.std.specs.Prelude.{◌≡◌, ◌≤◌, ◌+◌, ◌-◌, ◌*◌, ◌^◌, [], length, OnOk, IfOk, not, find};
+ghost use Rattle.rg_model.specs.Layout.{is_entry_before};
 ghost use Rattle.rg_index.specs.Entries.{IsRising};
 
 use crate::pool::Pool;
 use crate::root::{add_to_root, remove_from_root};
-use crate::walk::collect;
+use crate::walk::{collect, collect_all, first_from};
 use rg_base::no_memory::NoMemory;
 use rg_base::place::Place;
 use rg_bulk::build::nodes;
@@ -100,6 +101,30 @@ impl Tree {
             256 * 112 ^ (result - 2) ≤ length (⟦<Tree as Index>⟧.entries self.now) }
     {
         self.root.height() + 1
+    }
+
+    /// How many entries there are.
+    pub fn len(&self) -> usize
+        ensures { result ≡ length (⟦<Tree as Index>⟧.entries self.now) }
+    {
+        self.len
+    }
+
+    /// The first entry that is not before this one. It takes no memory, and logarithmic time.
+    pub fn first_from(&self, value: u64, place: Place) -> Option<(u64, Place)>
+        ensures { result ≡ find (λ e. not (is_entry_before e (value, place)))
+            (⟦<Tree as Index>⟧.entries self.now) }
+    {
+        first_from(&self.root, (value, place))
+    }
+
+    /// All entries. It takes the memory of its answer.
+    pub fn listing(&self) -> Result<Listing, NoMemory>
+        ensures { IfOk result (λ listing. listing ≡ ⟦<Tree as Index>⟧.entries self.now) }
+    {
+        let mut found = Vec::new(self.alloc);
+        collect_all(&self.root, &mut found)?;
+        Ok(Listing::new(found))
     }
 }
 

@@ -3,13 +3,13 @@
 // 1. Each lists the values of the rows with the places of their homes. A row that has moved is listed
 //    at its home.
 // 2. Room for additions is reserved first. `replace` takes none, and cannot fail half-way.
-ghost use Rattle.std.specs.Prelude.{◌≡◌, ◌≤◌, ◌+◌, ℕ, [], true, false, Option, IfOk, IfSome, IfNone, OnOk, OnErr};
+ghost use Rattle.std.specs.Prelude.{◌≡◌, ◌≤◌, ◌+◌, ℕ, [], true, false, Option, IfOk, IfSome, IfNone, OnOk, OnErr, nat_le, find, length};
 ghost use Rattle.std.specs.Option.{option_copied};
 ghost use Rattle.rg_base.specs.declared.place.Place.{Place};
 ghost use Rattle.rg_base.specs.declared.row.Row.{Row};
 ghost use Rattle.rg_base.specs.declared.which.Which.{Which};
 ghost use Rattle.rg_model.specs.Layout.{value_of};
-ghost use Rattle.rg_index.specs.Entries.{entries_within, has_entry};
+ghost use Rattle.rg_index.specs.Entries.{has_entry};
 ghost use Rattle.rg_index.specs.Listed.{IsListingOf, SetsRow};
 ghost use Rattle.rg_indexes.specs.Listings.{AreListings, AreListedAt, IsListedAt, HasSpare, SameEntries, entries_of};
 
@@ -19,7 +19,7 @@ use rg_base::row::Row;
 use rg_base::which::Which;
 use rg_btree::tree::Tree;
 use rg_index::index::Index;
-use rg_stmt::layout::Listing;
+use rg_index::search::is_same;
 use std::alloc::Global;
 
 /// The indexes by key, by `clus` and by `cat`.
@@ -111,17 +111,40 @@ impl Indexes {
         follow(Which::Cat, &mut self.cats, home, before, after);
     }
 
-    /// The home of the row with this key.
-    pub fn home_of(&self, key: u64) -> Result<Option<Place>, NoMemory>
-        ensures there { IfOk result (λ home. IfSome home (λ p.
-            has_entry (entries_of self.now.keys) (key, p) ≡ true)) }
-        ensures none { IfOk result (λ home. IfNone home ((p : Place) →
-            has_entry (entries_of self.now.keys) (key, p) ≡ false)) }
+    /// How many rows are listed.
+    pub fn len(&self) -> usize
+        ensures { result ≡ length (entries_of self.now.keys) }
     {
-        let found = self.keys.range(key, key)?;
-        match found.as_slice() {
-            [first, ..] => Ok(Some(first.1)),
-            [] => Ok(None),
+        self.keys.len()
+    }
+
+    /// The first entry of the index by key whose key is not below this one. It takes no memory.
+    pub fn keys_from(&self, key: u64) -> Option<(u64, Place)>
+        ensures { result ≡ find (λ e. nat_le key e.0) (entries_of self.now.keys) }
+    {
+        self.keys.first_from(key, Place { page: 0, slot: 0 })
+    }
+
+    /// The home of the row with this key. It takes no memory.
+    pub fn home_of(&self, key: u64) -> Option<Place>
+        ensures there { IfSome result (λ p.
+            has_entry (entries_of self.now.keys) (key, p) ≡ true) }
+        ensures none { IfNone result ((p : Place) →
+            has_entry (entries_of self.now.keys) (key, p) ≡ false) }
+    {
+        match self.keys_from(key) {
+            Some((found, home)) => { if found == key { Some(home) } else { None } }
+            None => None,
+        }
+    }
+
+    /// Whether the index by `cat` has this entry. It takes no memory.
+    pub fn has_cat(&self, cat: u64, home: Place) -> bool
+        ensures { result ≡ has_entry (entries_of self.now.cats) (cat, home) }
+    {
+        match self.cats.first_from(cat, home) {
+            Some(found) => is_same(&(cat, home), &found),
+            None => false,
         }
     }
 }

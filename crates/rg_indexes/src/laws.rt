@@ -1,12 +1,41 @@
 // Laws of what indexes list. None of these functions does anything.
-ghost use Rattle.std.specs.Prelude.{◌≡◌, Option};
+ghost use Rattle.std.specs.Prelude.{◌≡◌, ℕ, List, Option, IsPermutation, IsSorted, length};
+ghost use Rattle.std.specs.Ordering.{nat_cmp};
 ghost use Rattle.rg_base.specs.declared.place.Place.{Place};
 ghost use Rattle.rg_base.specs.declared.row.Row.{Row};
-ghost use Rattle.rg_indexes.specs.Listings.{AreListings, AreListedAt};
+ghost use Rattle.rg_index.specs.Entries.{entries_within};
+ghost use Rattle.rg_lawful.specs.Table.{IsTable};
+ghost use Rattle.rg_model.specs.Plain.{keys_with_cat, rows_between};
+ghost use Rattle.rg_model.specs.State.{Table, row_of, row_count, entries_of as table_entries};
+ghost use Rattle.rg_indexes.specs.Listed.{keyed_rows, listed_keys, listed_rows};
+ghost use Rattle.rg_indexes.specs.Listings.{AreListings, AreListedAt, entries_of};
 ghost use Rattle.rg_indexes.specs.declared.indexes.Indexes.{Indexes};
 
 /// Indexes that list rows list at each place the row that is there.
 pub fn listings_list_each_place()
     ensures { (rows : Place → Option Row) (x : Indexes) (place : Place) → AreListings rows x
         → AreListedAt x place (rows place) }
+{}
+
+/// The index by key lists a table: its entries in order, their number, and the rows of a range of
+/// keys.
+pub fn keys_list_the_table()
+    ensures entries { (rows : Place → Option Row) (table : Table) (x : Indexes)
+        → IsTable rows (λ key. row_of table key) → AreListings rows x
+        → table_entries table ≡ keyed_rows rows (entries_of x.keys) }
+    ensures count { (rows : Place → Option Row) (table : Table) (x : Indexes)
+        → IsTable rows (λ key. row_of table key) → AreListings rows x
+        → row_count table ≡ length (entries_of x.keys) }
+    ensures between { (rows : Place → Option Row) (table : Table) (x : Indexes) (lo hi : ℕ)
+        → IsTable rows (λ key. row_of table key) → AreListings rows x
+        → rows_between lo hi table ≡ listed_rows rows (entries_within lo hi (entries_of x.keys)) }
+{}
+
+/// The index by `cat` lists the keys of each `cat`: whoever sorts the keys of the rows at the places
+/// of its entries has the rising list of them.
+pub fn cats_list_the_keys()
+    ensures { (rows : Place → Option Row) (table : Table) (x : Indexes) (cat : ℕ)
+        → IsTable rows (λ key. row_of table key) → AreListings rows x → (keys : List ℕ)
+        → IsPermutation (listed_keys rows (entries_within cat cat (entries_of x.cats))) keys
+        → IsSorted nat_cmp keys → keys ≡ keys_with_cat cat table }
 {}

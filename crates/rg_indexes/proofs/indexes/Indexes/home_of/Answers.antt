@@ -1,18 +1,26 @@
-use Rattle.std.proofs.Common.{◌≡◌, ℕ, ◌<◌, List, ap, sym, ◌∙◌, arith, length, get_or}
+use Rattle.std.proofs.Common.{◌≡◌, ◌==◌, ℕ, true, Option, None, Some, nat_le, find, sym, ap, ◌∙◌, subst}
+use Rattle.std.proofs.lemmas.Bool.{ne_eqb}
 use Rattle.rg_base.specs.declared.place.Place.{Place}
-use Rattle.rg_index.specs.Entries.{entries_within, has_entry}
-use Rattle.rg_indexes.specs.Listings.{entries_of}
-use Rattle.rg_indexes.proofs.Within.{first_within, none_within}
+use Rattle.rg_index.specs.Entries.{has_entry}
+use Rattle.rg_index.specs.RisingPart.{IsRising-rising_part}
+use Rattle.rg_indexes.proofs.From.{IsElse, found_there, found_none}
 use Rattle.rg_indexes.proofs.indexes.Indexes.home_of.Goals as goal
+use Rattle.rg_indexes.specs.Listings.{entries_of}
 
-pub returns-in-len1-up-clause-there : goal.returns-in-len1-up-clause-there
-returns-in-len1-up-clause-there c =
-    let d : ℕ × Place = (0, record { page = 0; slot = 0 }) in
-    let is : c.as_slice.result.now ≡ entries_within c.args.key c.args.key (entries_of c.args.self.now.keys) = c.as_slice.ensures ∙ c.in_ok-found.ensures in
-    ap (λ (es : List (ℕ × Place)). has_entry (entries_of c.args.self.now.keys) (c.args.key, (get_or es 0 d).1)) is
-    ∙ first_within c.args.key d (entries_of c.args.self.now.keys) (omega (arith, ap length is, c.in-len1-up.len_at_least))
+pub returns-then-found-key-clause-there : goal.returns-then-found-key-clause-there
+returns-then-found-key-clause-there c =
+    let es = entries_of c.args.self.now.keys in
+    subst (λ (k : ℕ). has_entry es (k, c.in-Some.home) ≡ true) c.if-found-key.true
+    (found_there c.args.key es (c.in-Some.found, c.in-Some.home) (sym c.in-Some.is ∙ c.keys_from.ensures))
 
-pub returns-clause-none : goal.returns-clause-none
-returns-clause-none c =
-    let is : c.as_slice.result.now ≡ entries_within c.args.key c.args.key (entries_of c.args.self.now.keys) = c.as_slice.ensures ∙ c.in_ok-found.ensures in
-    none_within c.args.key (entries_of c.args.self.now.keys) (omega (arith, ap length is, c.in-empty.len_below))
+pub returns-else-found-key-clause-none : goal.returns-else-found-key-clause-none
+returns-else-found-key-clause-none c =
+    let es = entries_of c.args.self.now.keys in
+    found_none c.args.key es (IsRising-rising_part c.args.self.now.keys.entries)
+    (subst (IsElse c.args.key) (sym c.in-Some.is ∙ c.keys_from.ensures) (ne_eqb c.in-Some.found c.args.key c.if-found-key.false))
+
+pub returns-in-None-clause-none : goal.returns-in-None-clause-none
+returns-in-None-clause-none c =
+    let es = entries_of c.args.self.now.keys in
+    found_none c.args.key es (IsRising-rising_part c.args.self.now.keys.entries)
+    (subst (IsElse c.args.key) (sym c.in-None.is ∙ c.keys_from.ensures) tt)
