@@ -6,7 +6,7 @@
 //    position. So pages are taken one at a time, and a page that is named again has the record.
 // 3. A part that does not fit shows that log and pages do not belong together. Then the space is of
 //    no use any more.
-ghost use Rattle.std.specs.Prelude.{◌≡◌, ◌≤◌, ◌<◌, ◌+◌, ◌-◌, ℕ, List, true, map, length, IfOk, IfErr, OnOk, OnErr, slice_set};
+ghost use Rattle.std.specs.Prelude.{◌≡◌, ◌≤◌, ◌<◌, ◌+◌, ◌-◌, ◌↔◌, ℕ, List, IsTrue, true, map, length, IfOk, IfErr, OnOk, OnErr, slice_set};
 ghost use Rattle.std.specs.List.{All};
 ghost use Rattle.rg_home.specs.Pages.{PartFits};
 ghost use Rattle.rg_page.specs.Content.{Content, content_at};
@@ -26,6 +26,19 @@ use rg_page::page::PartFault;
 use rg_record::record::Record;
 
 impl<F: Frames> Space<F> {
+    /// Whether each of these parts is on a page that is there.
+    pub fn has_pages(&self, parts: &[Part]) -> bool
+        ensures { IsTrue result ↔ AllThere (length (F.seen (frames_of self.now)).pages) parts.now }
+    {
+        let count = self.count();
+        for part in parts {
+            if part.page == 0 || part.page > count {
+                return false;
+            }
+        }
+        true
+    }
+
     // Redoes a part, if it is on this page, which is held.
     fn redo_part(&mut self, number: u32, part: &Part, entry: &Record) -> Result<(), PartFault>
         requires low { 1 ≤ number }
