@@ -12,3 +12,5 @@ pub mod Carried
 pub mod Applying
 pub mod Surveying
 pub mod HomeRows
+pub mod Redoing
+pub mod RedoRecord

@@ -3,8 +3,8 @@
 -- 1. The first purges: it frees dead areas on one page that is there. It brings no row, and may be
 --    of another owner than the plan's. Where the plan purges nothing there is no such record.
 -- 2. The second writes the parts of the plan, on pages that are there or on the next one.
--- 3. The purge changes no row and moves none. The parts change the row of the plan's home alone. The
---    pages are proper after each of the two.
+-- 3. The purge changes no row and moves none. The parts change the row of the plan's home alone.
+--    The pages are proper after each of the two.
 use Rattle.std.specs.Prelude.{◌≡◌, ◌≤◌, ℕ, List, [], ◌∷◌, Option, None, length}
 use Rattle.rg_base.specs.declared.part.Part.{Part}
 use Rattle.rg_base.specs.declared.part.SlotOp.TheVariants as Op
@@ -27,8 +27,8 @@ abbrev pub AllThere : (n : ℕ) → List Part → Type 0
 AllThere n [] = Unit {0}
 AllThere n (x ∷ parts) = (1 ≤ x.page) × (x.page ≤ n) × AllThere n parts
 
--- The purge of a plan frees slots of pages that are there, of so many. Its parts are on those, or on
--- the next.
+-- The purge of a plan frees slots of pages that are there, of so many. Its parts are on those, or
+-- on the next.
 pub record PlanNext (n : ℕ) (plan : Plan) : Type 0 where
   pub purge : AllThere n plan.purge
   pub frees : AllFree plan.purge

@@ -11,3 +11,4 @@ pub mod Ready
 pub mod Carries
 pub mod Laws
 pub mod Homes
+pub mod Redo

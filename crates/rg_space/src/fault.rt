@@ -14,6 +14,17 @@ pub enum SpaceFault {
     NoMemory,
 }
 
+/// Why a record is not redone.
+#[derive(Clone, Copy, Debug, PartialEq, Eq, thiserror::Error)]
+pub enum RedoFault {
+    /// A part of it does not fit its page.
+    #[error("a record that does not fit its pages")]
+    Unfit,
+    /// A page could not be read.
+    #[error("a page could not be read")]
+    Device,
+}
+
 impl From<NoMemory> for SpaceFault {
     fn from(_error: NoMemory) -> SpaceFault {
         SpaceFault::NoMemory

@@ -19,6 +19,8 @@ pub mod read;
 /// The summaries of pages that are there.
 pub mod survey;
 
+/// Records, redone on the pages that do not have them yet.
+pub mod redo;
 /// The table space.
 pub mod space;
 

@@ -8,7 +8,7 @@
 ghost use Rattle.std.specs.Prelude.{◌≡◌, ◌⊎◌, ◌≤◌, ◌<◌, ◌+◌, ℕ, List, [], true, length, IfOk, IfErr, OnOk, OnErr, Some, None};
 ghost use Rattle.std.specs.Option.{option_copied};
 ghost use Rattle.rg_base.specs.RowBytes.{row_size};
-ghost use Rattle.rg_home.specs.Pages.{slot_of};
+ghost use Rattle.rg_home.specs.Pages.{slot_of, PartFits};
 ghost use Rattle.rg_home.specs.Plan.{new_area, planned_put, planned_change, planned_drop};
 ghost use Rattle.rg_page.specs.Bare.{numbers_of};
 ghost use Rattle.rg_page.specs.Content.{Content, content_at, slots_of};
@@ -17,7 +17,7 @@ ghost use Rattle.std.specs.Borrow.{Lends, follows_so, sem};
 ghost use mathlib.Core.Option.{none};
 ghost use Rattle.rg_space.specs.contracts.space.Space.{the_row};
 ghost use Rattle.rg_base.specs.declared.part.Part.{Part};
-ghost use Rattle.rg_page.specs.Seen.{Reads, Held, Failed, LetGo, set_content};
+ghost use Rattle.rg_page.specs.Seen.{Reads, Held, Failed, LetGo, WasSet, set_content};
 ghost use Rattle.rg_record.specs.Applied.{parts_of};
 ghost use Rattle.rg_space.specs.Carries.{AllThere};
 ghost use Rattle.rg_space.specs.Homes.{homes_on};
@@ -44,7 +44,7 @@ use rg_base::tran::Tran;
 use rg_home::plan::Plan;
 use rg_page::frames::{Device, FrameFault, Frames};
 use rg_page::header::Header;
-use rg_page::page::Page;
+use rg_page::page::{Page, PartFault};
 use rg_record::record::Record;
 use std::alloc::Global;
 
@@ -397,8 +397,8 @@ impl<F: Frames> Space<F> {
         })
     }
 
-    /// The plan of the drop of the row whose home this is. Its pages are held. It is never Full, and
-    /// reserves no page.
+    /// The plan of the drop of the row whose home this is. Its pages are held. It is never Full,
+    /// and reserves no page.
     pub fn plan_drop(&mut self, home: Place) -> Result<Plan, SpaceFault>
         requires spare { 5 ≤ (F.seen (frames_of self.old)).spare }
         requires step { InStep (F.seen (frames_of self.old)) (index_of self.old)
@@ -549,6 +549,50 @@ impl<F: Frames> Space<F> {
         self.index.add();
     }
 
+    /// Sets a slot of a page that is held, if the part fits it.
+    pub(crate) fn try_set(
+        &mut self,
+        part: &Part,
+        tran: Tran,
+        after: Option<&Row>,
+        position: Position,
+    ) -> Result<(), PartFault>
+        requires low { 1 ≤ part.now.page }
+        requires high { part.now.page ≤ length (F.seen (frames_of self.old)).pages }
+        requires held { (F.seen (frames_of self.old)).held part.now.page ≡ true }
+        requires step { InStep (F.seen (frames_of self.old)) (index_of self.old)
+            (capacity_in self.old) }
+        ensures step { InStep (F.seen (frames_of self.new)) (index_of self.new)
+            (capacity_in self.new) }
+        ensures capacity { capacity_in self.new ≡ capacity_in self.old }
+        ensures undos { undos_in self.new ≡ undos_in self.old }
+        ensures ok { OnOk result (WasSet part.now tran.0 (option_copied after.entry) position.0
+            (F.seen (frames_of self.old)) (F.seen (frames_of self.new))) }
+        ensures fits { OnOk result (PartFits part.now.page
+            (content_at (F.seen (frames_of self.old)).pages part.now.page).slots tran.0
+            (option_copied after.entry) part.now) }
+        ensures unfit { OnErr result (PartFits part.now.page
+            (content_at (F.seen (frames_of self.old)).pages part.now.page).slots tran.0
+            (option_copied after.entry) part.now → ⊥) }
+        ensures err { OnErr result (F.seen (frames_of self.new) ≡ F.seen (frames_of self.old)) }
+        ensures agree { Agree (F.seen (frames_of self.old)) (index_of self.old)
+            → Agree (F.seen (frames_of self.new)) (index_of self.new) }
+        ensures gave { (pages : List Content) (n : ℕ) → F.gave pages n (frames_of self.old)
+            (frames_of self.new) }
+    {
+        match self.frames.set_page(part, tran, after, position) {
+            Ok(()) => {
+                let place = Place {
+                    page: part.page,
+                    slot: part.slot,
+                };
+                self.index.note(place, Header::of(part.op, tran));
+                Ok(())
+            }
+            Err(fault) => Err(fault),
+        }
+    }
+
     // Sets a slot of a page that is there.
     fn set(&mut self, part: &Part, tran: Tran, after: Option<&Row>, position: Position)
         requires step { InStep (F.seen (frames_of self.old)) (index_of self.old)
@@ -576,14 +620,9 @@ impl<F: Frames> Space<F> {
         if part.page == 0 || part.page > self.frames.count() {
             return;
         }
-        match self.frames.set_page(part, tran, after, position) {
-            Ok(()) => {
-                let place = Place {
-                    page: part.page,
-                    slot: part.slot,
-                };
-                self.index.note(place, Header::of(part.op, tran));
-            }
+        match self.try_set(part, tran, after, position) {
+            Ok(()) => {}
+            // A part that does not fit is left out, and no clause says then what the pages are.
             Err(_) => {}
         }
     }

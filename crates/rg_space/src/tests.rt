@@ -2,11 +2,11 @@ ghost use Rattle.std.specs.Prelude.{◌≡◌, ◌≤◌, ◌+◌};
 ghost use Rattle.rg_space.specs.Applied.{AllHeld};
 ghost use Rattle.rg_space.specs.Space.{InStep, frames_of, index_of, capacity_in, undos_in};
 
-use crate::fault::SpaceFault;
+use crate::fault::{RedoFault, SpaceFault};
 use crate::index::Index;
 use crate::moves::{Moves, PartsRoom};
 use crate::space::Space;
-use rg_base::part::{Part, SlotOp};
+use rg_base::part::{Part, Parts, SlotOp};
 use rg_base::place::Place;
 use rg_base::position::Position;
 use rg_base::row::Row;
@@ -16,7 +16,9 @@ use rg_home::plan::Plan;
 use rg_page::frames::Frames;
 use rg_page::header::Header;
 use rg_page::list::ListFrames;
+use rg_page::page::Page;
 use rg_page::summary::Summary;
+use rg_record::record::{Kind, Record};
 use std::alloc::Global;
 use std::process::Abort;
 use std::test::Fail;
@@ -579,4 +581,142 @@ fn plans_over_frames(rt: HostRuntime) -> Result<(), Fail> {
     );
     assert_eq!(rt; put(&mut space, &long, &[])?, Ok(place(2, 0)));
     Ok(())
+}
+
+fn written(position: u64, parts: Vec<Part>, after: Row) -> Record {
+    Record {
+        position: Position(position),
+        tran: Tran(7),
+        back: Position(0),
+        kind: Kind::Change {
+            home: HOME,
+            before: None,
+            after: Some(after),
+            parts: Parts::new(parts),
+        },
+    }
+}
+
+// Redoes a record whose pages are there.
+fn redo_one<F: Frames>(
+    rt: &impl Abort,
+    space: &mut Space<F>,
+    entry: &Record,
+) -> Result<(), RedoFault>
+    requires step { InStep (F.seen (frames_of space.old)) (index_of space.old)
+        (capacity_in space.old) }
+    ensures step { InStep (F.seen (frames_of space.new)) (index_of space.new)
+        (capacity_in space.new) }
+{
+    space.let_go();
+    space.frames().tell_forced(entry.position);
+    assert!(rt; space.frames().spare() >= 1);
+    let has_pages = space.has_pages(entry.parts());
+    assert!(rt; has_pages);
+    space.redo(entry)
+}
+
+// Page 2 has the second record already. The first one is redone on page 1 alone, and the second
+// there too.
+fn redo_each<F: Frames>(rt: &impl Abort, alloc: Global, space: &mut Space<F>) -> Result<(), Fail>
+    requires step { InStep (F.seen (frames_of space.old)) (index_of space.old)
+        (capacity_in space.old) }
+    ensures step { InStep (F.seen (frames_of space.new)) (index_of space.new)
+        (capacity_in space.new) }
+{
+    let at = place(2, 0);
+    let pointer = SlotOp::Pointer {
+        capacity: 100,
+        other: at,
+    };
+    for (position, ops, count, want, shows) in [
+        (
+            1,
+            [(HOME, row(100)), (HOME, row(90))],
+            10,
+            Ok(()),
+            Some((1, 10)),
+        ),
+        (
+            2,
+            [(HOME, pointer), (at, over(300))],
+            200,
+            Ok(()),
+            Some((9, 250)),
+        ),
+        (
+            1,
+            [(HOME, row(100)), (HOME, row(90))],
+            10,
+            Ok(()),
+            Some((9, 250)),
+        ),
+        (
+            2,
+            [(HOME, dead(100)), (at, dead(300))],
+            10,
+            Ok(()),
+            Some((9, 250)),
+        ),
+        (
+            3,
+            [(at, dead(300)), (HOME, row(9))],
+            10,
+            Err(RedoFault::Unfit),
+            None,
+        ),
+        (
+            4,
+            [(place(1, 1), row(4046)), (HOME, dead(100))],
+            10,
+            Err(RedoFault::Unfit),
+            None,
+        ),
+        (
+            5,
+            [(HOME, row(40)), (HOME, row(50))],
+            12,
+            Ok(()),
+            Some((1, 12)),
+        ),
+    ] {
+        let mut parts = Vec::new(alloc);
+        for (place, op) in ops {
+            parts.push(Part {
+                page: place.page,
+                slot: place.slot,
+                op,
+            })?;
+        }
+        let entry = written(position, parts, letters(alloc, 1, count)?);
+        assert_eq!(rt; redo_one(rt, space, &entry), want, "record {position}");
+        space.let_go();
+        assert!(rt; space.frames().spare() >= 5);
+        assert_eq!(rt; shown(space, HOME)?, shows, "record {position}");
+    }
+    Ok(())
+}
+
+#[test]
+fn redoes_records(rt: HostRuntime) -> Result<(), Fail> {
+    let moved = letters(rt.alloc(), 9, 250)?;
+    let mut page = Page::new(rt.alloc(), 1, 2)?;
+    let part = Part {
+        page: 2,
+        slot: 0,
+        op: over(300),
+    };
+    assert_eq!(rt;
+        page.apply(&part, Tran(7), Some(&moved), Position(2)),
+        Ok(())
+    );
+    let mut frames = ListFrames::new(rt.alloc(), 1);
+    frames.push(Page::new(rt.alloc(), 1, 1)?)?;
+    assert!(rt; page.number() == 2);
+    frames.push(page)?;
+    let mut space = match Space::new(rt.alloc(), frames, 2) {
+        Ok(space) => space,
+        Err((_, fault)) => return Err(fault.into()),
+    };
+    redo_each(&rt, rt.alloc(), &mut space)
 }

@@ -3,7 +3,7 @@ use Rattle.std.specs.Option.{option_copied}
 use Rattle.rg_page.specs.Bare.{bare}
 use Rattle.rg_page.specs.Content.{Content, slots_of}
 use Rattle.rg_space.proofs.Agreeing.{has_room, agree_set}
-use Rattle.rg_space.proofs.space.Space.set.Goals as goal
+use Rattle.rg_space.proofs.space.Space.try_set.Goals as goal
 
 pub returns-in-Ok-clause-agree : goal.returns-in-Ok-clause-agree
 returns-in-Ok-clause-agree g c = λ agree.
