@@ -1,6 +1,6 @@
 -- Plans of a space whose pages are all in memory.
 use Rattle.std.proofs.Common.{◌≡◌, ◌<◌, ℕ, List, ◌∷◌, Option, None, Some, refl, sym, ◌∙◌, ap, subst, arith, map}
-use Rattle.std.specs.Prelude.{IfOk, IfErr, IfNone, IfSome}
+use Rattle.std.specs.Prelude.{IfOk, IfErr}
 use Rattle.std.specs.declared.result.Result.{Result}
 use Rattle.std.specs.declared.result.Result.TheVariants.{Ok, Err}
 use Rattle.rg_home.specs.Slot.{Slot}
@@ -35,13 +35,3 @@ pub refusal : (old new : ListFrames) (b : ℕ) (A : Type 0) (plan : Option Plan)
 refusal old new b A plan f (Full need) h = (h.0, f h.1)
 refusal old new b A plan f Device h = absurd (omega (arith, h (omega arith)))
 refusal old new b A plan f NoMemory h = tt
-
--- what is said of an answer, where the answer is known
-
-pub some_at : {T : Type 0} (P : T → Type 0) (o : Option T) (x : T) → IfSome o P → o ≡ Some x → P x
-some_at {T} P None x h e = absurd (cc (e))
-some_at {T} P (Some y) x h e = let same : y ≡ x = cc (e) in subst P same h
-
-pub none_at : {T : Type 0} (A : Type 0) (o : Option T) → IfNone o A → o ≡ None → A
-none_at {T} A None h e = h
-none_at {T} A (Some y) h e = absurd (cc (e))

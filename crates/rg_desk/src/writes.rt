@@ -161,9 +161,8 @@ impl Engine {
             return Reply::Held(owner);
         }
         match self.indexes.home_of(row.key) {
-            Ok(Some(_)) => return Reply::Duplicate,
-            Ok(None) => {}
-            Err(_) => return Reply::NoMemory,
+            Some(_) => return Reply::Duplicate,
+            None => {}
         }
         match row.copy(self.alloc) {
             Ok(copy) => self.put_row(session, copy),
@@ -179,10 +178,8 @@ impl Engine {
         if let Some(owner) = self.holder(session, row.key) {
             return Reply::Held(owner);
         }
-        let home = match self.indexes.home_of(row.key) {
-            Ok(Some(home)) => home,
-            Ok(None) => return Reply::Absent,
-            Err(_) => return Reply::NoMemory,
+        let Some(home) = self.indexes.home_of(row.key) else {
+            return Reply::Absent;
         };
         match row.copy(self.alloc) {
             Ok(copy) => self.change_row(session, home, copy),
@@ -198,10 +195,8 @@ impl Engine {
         if let Some(owner) = self.holder(session, key) {
             return Reply::Held(owner);
         }
-        let home = match self.indexes.home_of(key) {
-            Ok(Some(home)) => home,
-            Ok(None) => return Reply::Absent,
-            Err(_) => return Reply::NoMemory,
+        let Some(home) = self.indexes.home_of(key) else {
+            return Reply::Absent;
         };
         let Some(unit) = self.unit_of(session) else {
             return Reply::NoMemory;

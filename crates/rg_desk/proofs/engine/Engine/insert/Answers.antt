@@ -2,13 +2,12 @@ use Rattle.std.proofs.Common.{◌≡◌, Some, None, ◌∙◌, ap, refl, sym, s
 use Rattle.rg_stmt.specs.declared.stmt.Stmt.TheVariants.{Insert}
 use Rattle.rg_desk.specs.Steps.{Goes}
 use Rattle.rg_desk.proofs.Statements.{insert_duplicate, go_duplicate, key_some}
-use Rattle.rg_desk.proofs.PlannedIn.{some_at}
 use Rattle.rg_desk.proofs.engine.Engine.insert.Goals as goal
 
-pub returns-in-Ok-Some : goal.returns-in-Ok-Some
-returns-in-Ok-Some c = λ st allowed shows.
+pub returns-in-Some-home_of : goal.returns-in-Some-home_of
+returns-in-Some-home_of c = λ st allowed shows.
     let d = c.args.self.now in
-    let at = key_some st allowed d shows c.args.session c.args.row.now.key c.in-Ok-Some.field-0-0 (some_at _ c.in-Ok-Some.field-0 c.in-Ok-Some.field-0-0 c.in-Ok-Some.ensures.there c.in-Ok-Some.field-0-is) in
+    let at = key_some st allowed d shows c.args.session c.args.row.now.key c.in-Some-home_of.field-0 c.in-Some-home_of.ensures.there in
     go_duplicate st allowed d shows c.args.session (Insert c.args.row.now)
     (insert_duplicate st allowed d shows c.args.session c.args.row.now at.row (sym c.in_default.ensures) at.now)
 

@@ -2,14 +2,13 @@ use Rattle.std.proofs.Common.{◌≡◌, Some, None, ◌∙◌, ap, refl, sym, s
 use Rattle.rg_stmt.specs.declared.stmt.Stmt.TheVariants.{Update}
 use Rattle.rg_desk.specs.Steps.{Goes}
 use Rattle.rg_desk.proofs.Statements.{update_absent, go_absent, key_none}
-use Rattle.rg_desk.proofs.PlannedIn.{none_at}
 use Rattle.rg_desk.proofs.engine.Engine.update.Goals as goal
 
-pub returns-in-Ok-None : goal.returns-in-Ok-None
-returns-in-Ok-None c = λ st allowed shows.
+pub returns-in_default-home_of : goal.returns-in_default-home_of
+returns-in_default-home_of c = λ st allowed shows.
     let d = c.args.self.now in
     go_absent st allowed d shows c.args.session (Update c.args.row.now)
-    (update_absent st allowed d shows c.args.session c.args.row.now (sym c.in_default.ensures) (key_none st allowed d shows c.args.session c.args.row.now.key (none_at _ c.in-Ok-None.field-0 c.in-Ok-None.ensures.none c.in-Ok-None.field-0-is)))
+    (update_absent st allowed d shows c.args.session c.args.row.now (sym c.in_default.ensures) (key_none st allowed d shows c.args.session c.args.row.now.key c.in_default-home_of.ensures.none))
 
 pub returns-in-Ok : goal.returns-in-Ok
 returns-in-Ok c = λ st allowed shows.
