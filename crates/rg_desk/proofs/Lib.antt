@@ -21,3 +21,6 @@ pub mod DropHand
 pub mod Empty
 pub mod Ended
 pub mod CommitShows
+pub mod ReadRows
+pub mod LockWalk
+pub mod ReadsGo

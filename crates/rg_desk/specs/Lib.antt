@@ -8,3 +8,4 @@ pub mod Shows
 pub mod Planned
 pub mod Steps
 pub mod Ended
+pub mod Reads

@@ -12,3 +12,5 @@ pub mod engine;
 pub mod writes;
 /// COMMIT and ROLLBACK.
 pub mod ends;
+/// SELECT, SCAN and FIND.
+pub mod reads;
