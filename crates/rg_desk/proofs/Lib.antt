@@ -24,3 +24,5 @@ pub mod CommitShows
 pub mod ReadRows
 pub mod LockWalk
 pub mod ReadsGo
+pub mod Rolled
+pub mod RollbackShows
