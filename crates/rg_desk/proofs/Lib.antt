@@ -26,3 +26,4 @@ pub mod LockWalk
 pub mod ReadsGo
 pub mod Rolled
 pub mod RollbackShows
+pub mod Unlisting

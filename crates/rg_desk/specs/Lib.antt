@@ -9,3 +9,4 @@ pub mod Planned
 pub mod Steps
 pub mod Ended
 pub mod Reads
+pub mod Undoing

@@ -14,3 +14,5 @@ pub mod writes;
 pub mod ends;
 /// SELECT, SCAN and FIND.
 pub mod reads;
+/// The undo of a unit's writes.
+pub mod undo;

@@ -1,0 +1,59 @@
+-- The undo of a unit's writes.
+--
+-- 1. Its Changes are found from its last record back, and copied. They are undone in that order, the
+--    latest first.
+use Rattle.std.specs.Prelude.{◌≡◌, ◌≤◌, ◌+◌, ℕ, List, [], ◌∷◌, ◌++◌, Option, Some, length}
+use Rattle.rg_base.specs.declared.place.Place.{Place}
+use Rattle.rg_base.specs.declared.row.Row.{Row}
+use Rattle.rg_home.specs.Undo.{undone}
+use Rattle.rg_index.specs.Listed.{SetsRow}
+use Rattle.rg_indexes.specs.Listings.{AreListedAt, AreListings, HasSpare}
+use Rattle.rg_lawful.specs.Write.{Write}
+use Rattle.rg_record.specs.declared.record.Record.{Record}
+use Rattle.rg_space.specs.Space.{capacity_in, index_of, undos_in}
+use Rattle.rg_undo.specs.Undoing.{CanUndoChange, undo_record, written_of}
+use Rattle.rg_desk.specs.Engine.{HasPages, seen_in, slots_in}
+use Rattle.rg_desk.specs.RecordList.{record_at}
+use Rattle.rg_desk.specs.Walks.{Walks, change_record}
+use Rattle.rg_desk.specs.declared.engine.Engine.{Engine}
+use Rattle.rg_desk.specs.declared.units.OpenUnit.{OpenUnit}
+
+-- from the last record of unit t on stand so many writes
+pub record HasWrites (records : List Record) (unit : OpenUnit) : Type 0 where
+  pub writes : List Write
+  pub walks : Walks records unit.tran.0 unit.last.0 writes
+  pub count : length writes ≡ unit.writes
+
+-- these are the Changes of unit t from its last one back to the one before `rest`, which is at `at`
+abbrev pub ChainTo : (t at : ℕ) → (rest : List Write) → (last : ℕ) → List Write → List Record → Type 0
+ChainTo t at rest last ws [] = (last ≡ at) × (ws ≡ rest)
+ChainTo t at rest last [] (r ∷ rs) = ⊥
+ChainTo t at rest last (w ∷ ws) (r ∷ rs) =
+    (back : ℕ) × (r ≡ change_record last t back w) × ChainTo t at rest back ws rs
+
+-- these are the Changes of these writes of unit t, from its last one on
+abbrev pub AreChain : (t last : ℕ) → List Write → List Record → Type 0
+AreChain t last ws rs = ChainTo t 0 [] last ws rs
+
+-- the row of the Change at a position can be taken back in the indexes
+pub record CanUnlist (d : Engine) (at : ℕ) : Type 0 where
+  pub t : ℕ
+  pub back : ℕ
+  pub write : Write
+  pub found : record_at d.records.records at ≡ Some (change_record at t back write)
+  pub listed : AreListedAt d.indexes write.written.home write.after
+  pub spare : HasSpare 1 d.indexes
+
+-- the row of the Change at a position was taken back in the indexes; the answer is the position of
+-- the Change before
+pub record Unlists (old : Engine) (at next : ℕ) (new : Engine) : Type 0 where
+  pub same : new ≡ record old { indexes = new.indexes }
+  pub spare : (n : ℕ) → HasSpare (n + 1) old.indexes → HasSpare n new.indexes
+  pub listings :
+      (t back : ℕ) (w : Write) (rows after : Place → Option Row)
+      → record_at old.records.records at ≡ Some (change_record at t back w)
+      → AreListings rows old.indexes → rows w.written.home ≡ w.after
+      → SetsRow rows after w.written.home w.written.before → AreListings after new.indexes
+  pub next_is :
+      (t back : ℕ) (w : Write)
+      → record_at old.records.records at ≡ Some (change_record at t back w) → next ≡ back

@@ -1,0 +1,51 @@
+// The undo of a unit's writes.
+//
+// 1. The Changes of the unit are copied first, from its last record back, and room in the indexes
+//    is taken for each. After that nothing fails.
+// 2. The latest is undone first. Each undo is a record of its own.
+ghost use Rattle.std.specs.Prelude.{◌≡◌, ◌≤◌, IfOk, length};
+ghost use Rattle.rg_lawful.specs.Write.{Write};
+ghost use Rattle.rg_desk.specs.Undoing.{AreChain, CanUnlist, HasWrites, Unlists};
+ghost use Rattle.rg_desk.specs.Walks.{Walks};
+
+use crate::engine::Engine;
+use crate::units::OpenUnit;
+use rg_base::no_memory::NoMemory;
+use rg_base::part::Parts;
+use rg_base::position::Position;
+use rg_record::record::{Kind, Record};
+use std::alloc::Global;
+
+fn copy_parts(alloc: Global, parts: &Parts) -> Result<Parts, NoMemory>
+    ensures { IfOk result (λ copy. copy ≡ parts.now) }
+{
+    let mut copy = Vec::new(alloc);
+    copy.extend_from_slice(parts.as_slice())?;
+    Ok(Parts::new(copy))
+}
+
+impl Engine {
+    // The row of the Change at this position is taken back in the indexes. The answer is the
+    // position of the Change before it.
+    fn unlist(&mut self, at: Position) -> Position
+        requires low { 1 ≤ at.0 }
+        requires can { CanUnlist self.old at.0 }
+        ensures { Unlists self.old at.0 result.0 self.new }
+    {
+        let Some(entry) = self.records.at(at) else {
+            unreachable!()
+        };
+        match &entry.kind {
+            Kind::Change {
+                home,
+                before,
+                after,
+                ..
+            } => {
+                self.indexes.replace(*home, after.as_ref(), before.as_ref());
+                entry.back
+            }
+            _ => unreachable!(),
+        }
+    }
+}
