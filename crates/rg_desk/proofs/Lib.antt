@@ -27,3 +27,4 @@ pub mod ReadsGo
 pub mod Rolled
 pub mod RollbackShows
 pub mod Unlisting
+pub mod Collecting

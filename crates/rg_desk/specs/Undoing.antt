@@ -2,7 +2,7 @@
 --
 -- 1. Its Changes are found from its last record back, and copied. They are undone in that order, the
 --    latest first.
-use Rattle.std.specs.Prelude.{◌≡◌, ◌≤◌, ◌+◌, ℕ, List, [], ◌∷◌, ◌++◌, Option, Some, length}
+use Rattle.std.specs.Prelude.{◌≡◌, ◌≤◌, ◌+◌, ℕ, List, [], ◌∷◌, ◌++◌, Option, Some, None, if◌then◌else◌, length}
 use Rattle.rg_base.specs.declared.place.Place.{Place}
 use Rattle.rg_base.specs.declared.row.Row.{Row}
 use Rattle.rg_home.specs.Undo.{undone}
@@ -11,7 +11,7 @@ use Rattle.rg_indexes.specs.Listings.{AreListedAt, AreListings, HasSpare}
 use Rattle.rg_lawful.specs.Write.{Write}
 use Rattle.rg_record.specs.declared.record.Record.{Record}
 use Rattle.rg_space.specs.Space.{capacity_in, index_of, undos_in}
-use Rattle.rg_undo.specs.Undoing.{CanUndoChange, undo_record, written_of}
+use Rattle.rg_undo.specs.Undoing.{CanUndoChange, is_change, undo_record, written_of}
 use Rattle.rg_desk.specs.Engine.{HasPages, seen_in, slots_in}
 use Rattle.rg_desk.specs.RecordList.{record_at}
 use Rattle.rg_desk.specs.Walks.{Walks, change_record}
@@ -57,3 +57,16 @@ pub record Unlists (old : Engine) (at next : ℕ) (new : Engine) : Type 0 where
   pub next_is :
       (t back : ℕ) (w : Write)
       → record_at old.records.records at ≡ Some (change_record at t back w) → next ≡ back
+
+-- a record, where it is a Change
+abbrev pub change_in : Record → Option Record
+change_in entry = if is_change entry.kind then Some entry else None
+
+-- so far the Changes of a unit were copied back to the one at `at`, of which i are there
+pub record Collected
+    (records : List Record) (unit : OpenUnit) (ws : List Write) (at i : ℕ) (changes : List Record)
+    : Type 0 where
+  pub rest : List Write
+  pub walks : Walks records unit.tran.0 at rest
+  pub left : length rest + i ≡ unit.writes
+  pub chain : ChainTo unit.tran.0 at rest unit.last.0 ws changes

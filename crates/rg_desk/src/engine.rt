@@ -119,7 +119,8 @@ fn room_for(purge: &Parts, unit: Option<OpenUnit>) -> u32
     own + 1 + end
 }
 
-fn copy_row(alloc: Global, row: Option<&Row>) -> Result<Option<Row>, NoMemory>
+/// A copy of a row, if there is one.
+pub fn copy_row(alloc: Global, row: Option<&Row>) -> Result<Option<Row>, NoMemory>
     ensures { IfOk result (λ copy. copy ≡ option_copied row.entry) }
 {
     match row {

@@ -3,12 +3,12 @@
 // 1. The Changes of the unit are copied first, from its last record back, and room in the indexes
 //    is taken for each. After that nothing fails.
 // 2. The latest is undone first. Each undo is a record of its own.
-ghost use Rattle.std.specs.Prelude.{◌≡◌, ◌≤◌, IfOk, length};
+ghost use Rattle.std.specs.Prelude.{◌≡◌, ◌≤◌, List, IfOk, length};
 ghost use Rattle.rg_lawful.specs.Write.{Write};
-ghost use Rattle.rg_desk.specs.Undoing.{AreChain, CanUnlist, HasWrites, Unlists};
+ghost use Rattle.rg_desk.specs.Undoing.{AreChain, CanUnlist, HasWrites, Unlists, change_in};
 ghost use Rattle.rg_desk.specs.Walks.{Walks};
 
-use crate::engine::Engine;
+use crate::engine::{Engine, copy_row};
 use crate::units::OpenUnit;
 use rg_base::no_memory::NoMemory;
 use rg_base::part::Parts;
@@ -24,7 +24,59 @@ fn copy_parts(alloc: Global, parts: &Parts) -> Result<Parts, NoMemory>
     Ok(Parts::new(copy))
 }
 
+// A copy of a Change, or None of another record.
+fn copy_change(alloc: Global, entry: &Record) -> Result<Option<Record>, NoMemory>
+    ensures { IfOk result (λ copy. copy ≡ change_in entry.now) }
+{
+    match &entry.kind {
+        Kind::Change {
+            home,
+            before,
+            after,
+            parts,
+        } => {
+            let before = copy_row(alloc, before.as_ref())?;
+            let after = copy_row(alloc, after.as_ref())?;
+            let parts = copy_parts(alloc, parts)?;
+            Ok(Some(Record {
+                position: entry.position,
+                tran: entry.tran,
+                back: entry.back,
+                kind: Kind::Change {
+                    home: *home,
+                    before,
+                    after,
+                    parts,
+                },
+            }))
+        }
+        _ => Ok(None),
+    }
+}
+
 impl Engine {
+    // Copies of a unit's Changes, from its last one back.
+    fn collect(&self, unit: OpenUnit) -> Result<Vec<Record>, NoMemory>
+        requires writes { HasWrites self.now.records.records unit }
+        ensures { IfOk result (λ changes. (ws : List Write)
+            → Walks self.now.records.records unit.tran.0 unit.last.0 ws
+            → length ws ≡ unit.writes → AreChain unit.tran.0 unit.last.0 ws changes.items) }
+    {
+        let mut changes = Vec::new(self.alloc);
+        let mut at = unit.last;
+        for _ in 0..unit.writes {
+            let Some(entry) = self.records.at(at) else {
+                unreachable!()
+            };
+            let Some(copy) = copy_change(self.alloc, entry)? else {
+                unreachable!()
+            };
+            at = copy.back;
+            changes.push(copy)?;
+        }
+        Ok(changes)
+    }
+
     // The row of the Change at this position is taken back in the indexes. The answer is the
     // position of the Change before it.
     fn unlist(&mut self, at: Position) -> Position
