@@ -1,4 +1,5 @@
 pub mod Decode
+pub mod Determined
 pub mod Entries
 pub mod Grow
 pub mod Join
@@ -8,3 +9,4 @@ pub mod Room
 pub mod Rules
 pub mod Start
 pub mod Step
+pub mod Tidy

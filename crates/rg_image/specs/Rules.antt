@@ -69,6 +69,12 @@ pub record BreaksLogPages (capacity : ℕ) (i : Image) (page : ℕ) : Type 0 whe
   pub used : IsZero (i Log page) → ⊥
   pub none : (more : List Record) → IsNextPage page before more (i Log page) → ⊥
 
+-- After the first log page of zeros all are zero. It is no rule of a sound log: opening reads none
+-- of these pages. A log that is tidy may be forced on.
+abbrev pub IsTidyLog : ℕ → Image → Type 0
+IsTidyLog capacity i =
+    (p q : ℕ) → 1 ≤ p → p ≤ q → q ≤ capacity → IsZero (i Log p) → IsZero (i Log q)
+
 -- *Record chain.* Each record follows from those before it.
 
 abbrev pub of_tran : ℕ → List Record → List Record

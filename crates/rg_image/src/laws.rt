@@ -2,7 +2,10 @@
 // 2. A log page is decided by the records before it. So records that an image spells are its log,
 //    and more records leave what is spelled as it is.
 // 3. Where each page follows the rule for log pages, the image spells the records of its pages.
-// 4. Only a write of set Log changes the log.
+// 4. A log has its records from its pages in one way, and keeps the rule for log pages or breaks it
+//    at one page.
+// 5. A tidy log whose pages follow the rule is spelled by its records.
+// 6. Only a write of set Log changes the log.
 ghost use Rattle.std.specs.Prelude.{◌≡◌, ◌≤◌, ◌++◌, ℕ, List, length, take};
 ghost use Rattle.rg_base.specs.declared.set.Set.{Set};
 ghost use Rattle.rg_base.specs.declared.set.Set.TheVariants.{Log};
@@ -12,7 +15,7 @@ ghost use Rattle.rg_record.specs.declared.record.Record.{Record};
 ghost use Rattle.rg_image.specs.Kept.{AreEntries};
 ghost use Rattle.rg_image.specs.Log.{Spells, SpellsFrom, log_of, IsZeroLog};
 ghost use Rattle.rg_image.specs.Pack.{end_of, start};
-ghost use Rattle.rg_image.specs.Rules.{HasLogPages};
+ghost use Rattle.rg_image.specs.Rules.{HasLogPages, BreaksLogPages, IsTidyLog};
 
 /// An image whose log pages spell records has them as its log.
 pub fn spelled_records_are_the_log()
@@ -32,6 +35,30 @@ pub fn spelled_part_is_the_log()
 pub fn sound_pages_have_the_log()
     ensures { (capacity : ℕ) (rs : List Record) (i : Image) → HasLogPages capacity i rs
         → log_of capacity i ≡ rs }
+{}
+
+/// The log pages have one list of records.
+pub fn records_of_pages_are_determined()
+    ensures { (capacity : ℕ) (rs others : List Record) (i : Image) → HasLogPages capacity i rs
+        → HasLogPages capacity i others → rs ≡ others }
+{}
+
+/// No image keeps the rule for log pages and breaks it.
+pub fn log_pages_are_kept_or_broken()
+    ensures { (capacity page : ℕ) (rs : List Record) (i : Image) → HasLogPages capacity i rs
+        → BreaksLogPages capacity i page → ⊥ }
+{}
+
+/// One page is the first that breaks the rule for log pages.
+pub fn one_log_page_is_named()
+    ensures { (capacity page other : ℕ) (i : Image) → BreaksLogPages capacity i page
+        → BreaksLogPages capacity i other → page ≡ other }
+{}
+
+/// A tidy log whose pages follow the rule is spelled by their records.
+pub fn tidy_logs_are_spelled()
+    ensures { (capacity : ℕ) (rs : List Record) (i : Image) → HasLogPages capacity i rs
+        → IsTidyLog capacity i → Spells capacity rs i }
 {}
 
 /// What spells a part of the records spells a part of more records.
