@@ -4,5 +4,6 @@ pub mod Fill
 pub mod Follow
 pub mod Form
 pub mod Opening
+pub mod Ready
 pub mod Room
 pub mod Same

@@ -9,8 +9,8 @@ ghost use Rattle.rg_outside.specs.Moments.{EachCall, IfTold};
 ghost use Rattle.rg_image.specs.Form.{IsOpened};
 ghost use Rattle.rg_image.specs.Kept.{AreEntries};
 ghost use Rattle.rg_image.specs.Rules.{Follows, HasLogPages, position_after};
-ghost use Rattle.rg_log.specs.Kept.{log_pages};
-ghost use Rattle.rg_log.specs.Open.{IsCertain, IsNext, IsLogFault, IsQuiet};
+ghost use Rattle.rg_log.specs.Kept.{LeavesLog, log_pages};
+ghost use Rattle.rg_log.specs.Open.{IsCertain, IsNext, IsLogFault, IsQuiet, ReadsTidy};
 
 use crate::entries::read_page;
 use crate::fault::LogFault;
@@ -103,6 +103,10 @@ pub fn open_log<V: Volume>(alloc: Global, volume: &mut V) -> Result<Log, LogFaul
         (λ t. HasLogPages log.pages (read_of t.first t.calls) log.records)) }
     // A crash leaves what was read.
     ensures sure { OnOk result (IfTold (V.told volume.new) IsCertain) }
+    // Where it reads tidy, whatever a crash leaves spells these records: this is what `force` asks
+    // to go on from.
+    ensures leaves { IfOk result (λ log. ReadsTidy (V.told volume.new) log.pages
+        → LeavesLog (V.told volume.new) log.pages log.records log.forced) }
     // The page that is named is the first that has not.
     ensures fault { IfErr result
         (IsLogFault (V.told volume.new) (log_pages (V.capacities volume.old))
