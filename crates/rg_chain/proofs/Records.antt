@@ -1,15 +1,14 @@
 -- One more record, and what the records say of a transaction.
-use Rattle.std.proofs.Common.{◌≡◌, ◌≢◌, ℕ, zero, suc, ◌+◌, ◌<◌, ◌≤◌, ◌==◌, max, Bool, true, false, ◌||◌, List, [], ◌∷◌, ◌++◌, length, refl, sym, ◌∙◌, subst, ap, arith, ⊎_elim, if◌then◌else◌}
+use Rattle.std.proofs.Common.{◌≡◌, ◌≢◌, ℕ, suc, ◌+◌, ◌<◌, ◌≤◌, ◌==◌, max, Bool, ◌||◌, List, [], ◌∷◌, ◌++◌, length, refl, sym, ◌∙◌, subst, ap, arith, ⊎_elim, if◌then◌else◌}
 use Rattle.std.specs.List.{list_any}
-use Rattle.std.proofs.lemmas.List.{append-nil, length-append}
+use Rattle.std.proofs.lemmas.List.{append-nil}
 use Rattle.std.proofs.lemmas.List.Elements.{filter-append}
-use Rattle.std.proofs.lemmas.List.Folds.{list_any-append}
 use Rattle.std.proofs.lemmas.Bool.Decides.{eqb_tells}
 use Rattle.rg_record.specs.declared.record.Kind.{Kind}
 use Rattle.rg_record.specs.declared.record.Kind.TheVariants.{Change, Undo, Commit, RolledBack, Purge, Switch}
 use Rattle.rg_record.specs.declared.record.Record.{Record}
-use Rattle.rg_image.specs.Meaning.{Current, current_after, current_from, current_of}
-use Rattle.rg_image.specs.Rules.{Done, of_tran, last_position, greatest_tran, is_end, is_undo, is_ended, has_undo, but_first, done_by, done_after, not_undone}
+use Rattle.rg_image.specs.Meaning.{Current, current_after, current_from}
+use Rattle.rg_image.specs.Rules.{Done, of_tran, last_position, greatest_tran, but_first, done_by, done_after}
 
 -- the records of its own transaction, and of the others
 pub own_record : (tran : ℕ) (rs : List Record) (entry : Record) → entry.tran.0 ≡ tran → of_tran tran (rs ++ entry ∷ []) ≡ of_tran tran rs ++ entry ∷ []

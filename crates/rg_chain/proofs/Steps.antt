@@ -1,5 +1,5 @@
 -- What one more record makes of its transaction, and of the others.
-use Rattle.std.proofs.Common.{◌≡◌, ◌≢◌, ℕ, zero, suc, ◌+◌, ◌-◌, ◌*◌, ◌<◌, ◌≤◌, Bool, true, false, ◌||◌, List, [], ◌∷◌, ◌++◌, length, get_or, Option, Some, refl, sym, ◌∙◌, subst, ap, arith, if◌then◌else◌}
+use Rattle.std.proofs.Common.{◌≡◌, ◌≢◌, ℕ, ◌+◌, ◌-◌, ◌*◌, ◌≤◌, Bool, true, false, ◌||◌, List, [], ◌∷◌, ◌++◌, length, Option, Some, refl, sym, ◌∙◌, subst, ap, arith, if◌then◌else◌}
 use Rattle.std.specs.List.{list_any}
 use Rattle.std.proofs.lemmas.List.{get_or_append_left, get_or_push, length-append}
 use Rattle.rg_base.specs.declared.place.Place.{Place}
@@ -11,7 +11,7 @@ use Rattle.rg_record.specs.Spelled.{HasTran}
 use Rattle.rg_image.specs.Rules.{Done, of_tran, last_position, is_end, is_undo, is_ended, has_undo, but_first, done_by, done_after, not_undone, Undoes, IsOfTran, KindFollows}
 use Rattle.rg_chain.specs.declared.unit.Unit.{Unit}
 use Rattle.rg_chain.specs.Running.{owed_unit, unit_after}
-use Rattle.rg_chain.specs.Kept.{done_of, IsDoneAt, AreDone, IsUnit}
+use Rattle.rg_chain.specs.Kept.{done_of, AreDone, IsUnit}
 use Rattle.rg_chain.proofs.Records.{own_record, other_record, last_more, done_more, any_more, of_tran_few, done_few}
 
 or_false : (b : Bool) → (b || false) ≡ b
@@ -95,13 +95,13 @@ module _ (before : List Record) (entry : Record) (position : entry.position.0 �
         ended = sym (ended_is unit is k of_kind ∙ or_false unit.ended);
         undoing = sym (undoing_is unit is k of_kind ∙ or_false unit.undoing);
         done = subst (AreDone now entry.position.0) (sym d) (
-              omega (arith, position),
-              omega (arith, position, longer),
-              (λ other. subst (λ (r : Record). done_of r.back.0 r.kind ≡ Some (record { back = entry.back.0; home = home; before = row }))
-                (sym (get_or_push before entry other (entry.position.0 - 1) (omega (arith, position))))
-                (ap (done_of entry.back.0) of_kind)),
-              subst (λ (n : ℕ). AreDone now n (not_undone tran before)) (sym back) (done_append before (entry ∷ []) unit.top (not_undone tran before) is.done),
-            );
+          omega (arith, position),
+          omega (arith, position, longer),
+          (λ other. subst (λ (r : Record). done_of r.back.0 r.kind ≡ Some (record { back = entry.back.0; home = home; before = row }))
+              (sym (get_or_push before entry other (entry.position.0 - 1) (omega (arith, position))))
+              (ap (done_of entry.back.0) of_kind)),
+          subst (λ (n : ℕ). AreDone now n (not_undone tran before)) (sym back) (done_append before (entry ∷ []) unit.top (not_undone tran before) is.done),
+        );
         left = omega (arith, is.left, ap (λ (l : List Done). length l) d);
         few = omega (arith, is.few, longer);
         top = λ ended undoing. refl;

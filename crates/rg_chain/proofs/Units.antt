@@ -1,12 +1,12 @@
 -- What the transactions that are kept say of the records so far.
-use Rattle.std.proofs.Common.{◌≡◌, ◌≢◌, ℕ, zero, suc, ◌+◌, ◌-◌, ◌*◌, ◌<◌, ◌≤◌, ◌==◌, Bool, true, false, List, [], ◌∷◌, length, get_or, refl, sym, ◌∙◌, subst, ap, arith, ⊎_elim, if◌then◌else◌, sum_by}
+use Rattle.std.proofs.Common.{◌≡◌, ℕ, suc, ◌+◌, ◌-◌, ◌*◌, ◌≤◌, Bool, true, false, List, [], ◌∷◌, length, get_or, refl, sym, ◌∙◌, subst, ap, arith, ⊎_elim, if◌then◌else◌}
 use Rattle.std.specs.List.{All}
 use Rattle.std.specs.List.{list_any}
 use Rattle.std.proofs.Math.ListN.{get_or-eq_default}
 use Rattle.std.proofs.lemmas.List.Sums.{sum_by-le, get_or-le-sum_by}
 use Rattle.std.proofs.lemmas.Bool.Decides.{leb_tells}
 use Rattle.rg_record.specs.declared.record.Record.{Record}
-use Rattle.rg_image.specs.Rules.{Done, is_end, is_undo, done_after, of_tran, last_position, greatest_tran, is_ended, has_undo, not_undone, IsOpen, IsOfTran}
+use Rattle.rg_image.specs.Rules.{Done, is_end, is_undo, done_after, of_tran, last_position, IsOpen, IsOfTran}
 use Rattle.rg_chain.specs.declared.unit.Unit.{Unit}
 use Rattle.rg_chain.specs.Running.{no_unit, owed_unit, unit_at}
 use Rattle.rg_chain.specs.Kept.{AreDone, IsUnit, AreUnits}

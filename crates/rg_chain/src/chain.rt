@@ -2,10 +2,10 @@
 //    current copy, and what ending the open transactions takes.
 // 2. A transaction is drawn with the next number, so transactions are kept in order, without gaps.
 // 3. No transaction is open where nothing is owed.
-ghost use Rattle.std.specs.Prelude.{◌≡◌, ◌≤◌, ◌<◌, ◌+◌, ◌-◌, ◌*◌, ◌^◌, ◌++◌, ◌∷◌, [], ◌↔◌, IsTrue, OnOk, false, length, List, ℕ, nat_le, if◌then◌else◌};
+ghost use Rattle.std.specs.Prelude.{◌≡◌, ◌≤◌, ◌<◌, ◌+◌, ◌-◌, ◌*◌, ◌^◌, ◌++◌, ◌∷◌, [], ◌↔◌, IsTrue, OnOk, false, length, List, ℕ, nat_le, if◌then◌else◌, sum_by};
 ghost use Rattle.rg_record.specs.Spelled.{IsRecord};
 ghost use Rattle.rg_image.specs.Meaning.{Current, raised, current_after};
-ghost use Rattle.rg_image.specs.Rules.{Done, has_undo, Undoes, IsOfTran, IsOpen, KindFollows, IsChained};
+ghost use Rattle.rg_image.specs.Rules.{Done, has_undo, Undoes, IsOfTran, IsOpen, KindFollows, IsChained, owed};
 ghost use Rattle.rg_chain.specs.Kept.{AreDone, IsKept};
 ghost use Rattle.rg_chain.specs.Running.{owed_unit, put_unit, unit_at};
 
@@ -58,9 +58,11 @@ fn undoes(before: &[Record], top: u64, next: Position, home: Place, after: &Opti
     }
     let entry = &before[(top - 1) as usize];
     match &entry.kind {
-        Kind::Change { home: at, before, .. } => {
-            next == entry.back && home == *at && is_same_option(after, before)
-        }
+        Kind::Change {
+            home: at,
+            before,
+            ..
+        } => { next == entry.back && home == *at && is_same_option(after, before) }
         _ => false,
     }
 }
@@ -130,6 +132,14 @@ impl Chain {
         self.owed == 0
     }
 
+    /// The bytes that ending the open transactions takes.
+    pub fn owed(&self) -> u64
+        ensures is { result ≡ self.now.owed }
+        ensures owed { (before : List Record) → IsKept before self.now → result ≡ owed before }
+    {
+        self.owed
+    }
+
     // Whether such a record is of a transaction that has no Undo.
     fn is_forward(&self, before: &[Record], entry: &Record) -> bool
         requires { IsKept before.now self.now }
@@ -147,7 +157,10 @@ impl Chain {
         match &entry.kind {
             Kind::Change { .. } | Kind::Commit => self.is_forward(before, entry),
             Kind::Undo {
-                next, home, after, ..
+                next,
+                home,
+                after,
+                ..
             } => {
                 self.is_of_unit(entry)
                     && undoes(before, self.unit(entry.tran).top, *next, *home, after)
@@ -175,6 +188,7 @@ impl Chain {
         requires few { 911 * (unit_at self.old.units tran.0).left + 23 < 2 ^ 64 }
         requires room { 911 * unit.left + 23 + self.old.owed < 2 ^ 64 }
         ensures units { OnOk result (self.new.units ≡ put_unit self.old.units tran.0 unit) }
+        ensures sum { self.new.owed ≡ sum_by owed_unit self.new.units }
         ensures current { self.new.current ≡ self.old.current }
     {
         let at = (tran.0 - 1) as usize;
@@ -202,5 +216,23 @@ impl Chain {
                 self.pages = *pages;
             }
         }
+    }
+
+    /// One record more, which follows from those before it.
+    pub fn add(&mut self, before: &[Record], entry: &Record) -> Result<(), NoMemory>
+        requires kept { IsKept before.now self.old }
+        requires few { length before.now < 2 ^ 32 }
+        requires position { entry.now.position.0 ≡ length before.now + 1 }
+        requires kind { KindFollows before.now entry.now entry.now.kind }
+        requires spelled { IsRecord entry.now }
+        ensures { OnOk result (IsKept (before.now ++ entry.now ∷ []) self.new) }
+    {
+        if entry.tran.0 != 0 {
+            let position = Position(before.len() as u64 + 1);
+            let unit = self.unit(entry.tran).after(position, &entry.kind);
+            self.put(entry.tran, unit)?;
+        }
+        self.turn(&entry.kind);
+        Ok(())
     }
 }

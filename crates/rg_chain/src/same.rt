@@ -6,10 +6,7 @@ use rg_base::row::Row;
 fn is_same_row(a: &Row, b: &Row) -> bool
     ensures { IsTrue result ↔ (a.now ≡ b.now) }
 {
-    a.key == b.key
-        && a.clus == b.clus
-        && a.cat == b.cat
-        && a.text.as_slice() == b.text.as_slice()
+    a.key == b.key && a.clus == b.clus && a.cat == b.cat && a.text.as_slice() == b.text.as_slice()
 }
 
 /// Whether both are the same row, or both none.

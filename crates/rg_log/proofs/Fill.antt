@@ -1,18 +1,15 @@
 -- A log page is filled.
-use Rattle.std.proofs.Common.{◌≡◌, Bool, true, false, nat_le, if◌then◌else◌, ◌-◌, ℕ, suc, ◌+◌, ◌≤◌, ◌<◌, List, [], ◌∷◌, ◌++◌, length, take, drop, get_or, refl, sym, ◌∙◌, ap, arith}
+use Rattle.std.proofs.Common.{◌≡◌, Bool, true, false, nat_le, if◌then◌else◌, ◌-◌, ℕ, suc, ◌+◌, ◌≤◌, List, [], ◌∷◌, ◌++◌, length, take, drop, get_or, refl, sym, ◌∙◌, ap, arith}
 use Rattle.std.specs.List.{flat_map}
 use Rattle.std.proofs.lemmas.List.{drop_all, take_all, append-nil, length-take-le}
 use Rattle.rg_record.specs.declared.record.Record.{Record}
 use Rattle.rg_record.specs.Filled.{padded}
-use Rattle.rg_image.specs.Kept.{IsEntry, AreEntries}
+use Rattle.rg_image.specs.Kept.{AreEntries}
 use Rattle.rg_image.specs.Pack.{fitting, log_bytes, size_of, room}
 use Rattle.rg_image.specs.Page.{page_bytes, page_head, spelt}
 use Rattle.rg_image.proofs.Decode.{contains_take}
 use Rattle.rg_image.proofs.Pack.{fitting_le}
 use Rattle.rg_image.proofs.Step.{contains_drop}
-
-pub item_is : (rs : List Record) (i : ℕ) (x : Record) → AreEntries rs → i < length rs → x ≡ get_or rs i x → IsEntry x
-item_is rs i x entries lt is = entries x (i, lt, sym is)
 
 pub log_bytes_take : (rs : List Record) → fitting 0 rs ≡ length rs → log_bytes (take (fitting 0 rs) rs) ≡ log_bytes rs
 log_bytes_take rs all = ap log_bytes (take_all (fitting 0 rs) rs (omega (arith, all)))

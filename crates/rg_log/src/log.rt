@@ -18,9 +18,10 @@ ghost use Rattle.rg_log.specs.Kept.{LeavesLog, Listed, ReserveFaultIs, left_of, 
 
 use crate::fault::{Device, ReserveFault};
 use crate::force::{force_page, next_page};
-use crate::page::{all_bytes, page_end, size_of};
+use crate::page::page_end;
 use rg_base::no_memory::NoMemory;
 use rg_base::position::Position;
+use rg_image::sizes::{all_bytes, size_of};
 use rg_outside::source::Failed;
 use rg_outside::volume::Volume;
 use rg_record::record::Record;
@@ -153,6 +154,15 @@ impl Log {
         ensures entries { AreEntries self.now.records }
     {
         Position(self.forced as u64)
+    }
+
+    /// The records, the first one first.
+    pub fn records(&self) -> &[Record]
+        ensures records { result.now ≡ self.now.records }
+        ensures entries { AreEntries self.now.records }
+        ensures last { (end_of start self.now.records).page ≤ 65536 }
+    {
+        self.records.as_slice()
     }
 
     /// A copy of the record with this position.

@@ -15,9 +15,10 @@ ghost use Rattle.rg_log.specs.Open.{IsCertain, IsNext, IsLogFault, IsQuiet, Read
 use crate::entries::read_page;
 use crate::fault::LogFault;
 use crate::log::Log;
-use crate::page::{ROOM, count_fitting, size_of};
+use crate::page::count_fitting;
 use rg_base::no_memory::NoMemory;
 use rg_base::set::Set;
+use rg_image::sizes::{ROOM, size_of};
 use rg_outside::volume::Volume;
 use rg_record::buffer::PAGE_SIZE;
 use rg_record::record::Record;

@@ -1,8 +1,5 @@
-use Rattle.std.proofs.Common.{◌≡◌, ◌≤◌, ◌<◌, ◌+◌, Bool, true, false, not, List, length, arith, refl, sym, ◌∙◌, ap, subst}
+use Rattle.std.proofs.Common.{◌≡◌, ◌≤◌, ◌+◌, Bool, true, false, not, length, arith, refl, sym, ◌∙◌, ap}
 use Rattle.std.proofs.lemmas.Bool.{eqb-true}
-use Rattle.rg_record.specs.declared.record.Record.{Record}
-use Rattle.rg_image.specs.Rules.{IsOfTran}
-use Rattle.rg_chain.specs.Kept.{IsKept}
 use Rattle.rg_chain.specs.Running.{Running, unit_at}
 use Rattle.rg_chain.specs.declared.unit.Unit.{Unit}
 use Rattle.rg_chain.proofs.Units.{of_unit, is_drawn, is_back, is_going}

@@ -1,12 +1,12 @@
-use Rattle.std.proofs.Common.{◌≡◌, ◌≢◌, ◌≤◌, ◌<◌, ◌+◌, ℕ, Bool, true, false, not, List, length, arith, refl, sym, ◌∙◌, ap, subst}
+use Rattle.std.proofs.Common.{◌≡◌, ℕ, arith, refl, sym, ◌∙◌, ap, subst}
 use Rattle.std.specs.Prelude.{IsTrue}
 use Rattle.rg_record.specs.declared.record.Kind.{Kind}
 use Rattle.rg_image.specs.Meaning.{Current, current_of}
-use Rattle.rg_image.specs.Rules.{KindFollows, IsOfTran, IsOpen, not_undone}
+use Rattle.rg_image.specs.Rules.{KindFollows, not_undone}
 use Rattle.rg_chain.specs.Running.{Running, unit_at}
-use Rattle.rg_chain.specs.Kept.{AreDone, IsUnit, IsKept}
+use Rattle.rg_chain.specs.Kept.{AreDone}
 use Rattle.rg_chain.specs.declared.unit.Unit.{Unit}
-use Rattle.rg_chain.proofs.Units.{unit_is, top_within, none_open, owed_none}
+use Rattle.rg_chain.proofs.Units.{unit_is, top_within}
 use Rattle.rg_chain.proofs.chain.Chain.kind_follows.Goals as goal
 
 pub undoes-requires : goal.undoes-requires

@@ -1,4 +1,4 @@
-use Rattle.std.proofs.Common.{◌≡◌, ◌≤◌, ◌<◌, ◌+◌, ◌-◌, ◌*◌, ℕ, List, get_or, length, arith, sym, ◌∙◌, ap, subst}
+use Rattle.std.proofs.Common.{◌≡◌, ◌<◌, ◌-◌, List, get_or, length, arith, ◌∙◌, ap}
 use Rattle.std.proofs.lemmas.List.{get_or_default}
 use Rattle.rg_chain.specs.Running.{Running, unit_at, no_unit}
 use Rattle.rg_chain.specs.declared.unit.Unit.{Unit}
