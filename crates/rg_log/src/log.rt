@@ -8,13 +8,14 @@ ghost use Rattle.std.specs.Prelude.{◌≡◌, ◌≤◌, ◌<◌, ◌+◌, ◌-
 ghost use Rattle.rg_base.specs.declared.set.Set.TheVariants.{Log as LogSet};
 ghost use Rattle.rg_outside.specs.Faults.{HasCause, Rose};
 ghost use Rattle.rg_outside.specs.Made.{WritesIn};
-ghost use Rattle.rg_outside.specs.Moments.{EachCall, EachImage, HoldsThroughout, IfTold};
+ghost use Rattle.rg_outside.specs.Moments.{EachCall, EachImage, IfTold};
 ghost use Rattle.rg_image.specs.Form.{IsOpened};
 ghost use Rattle.rg_image.specs.Kept.{IsEntry, AreEntries};
-ghost use Rattle.rg_image.specs.Log.{SpellsFrom, log_of};
+ghost use Rattle.rg_image.specs.Log.{log_of};
 ghost use Rattle.rg_image.specs.Pack.{end_of, size_of, log_bytes, start};
 ghost use Rattle.rg_image.specs.Rules.{limit_of};
 ghost use Rattle.rg_log.specs.Kept.{LeavesLog, Listed, ReserveFaultIs, left_of, log_pages};
+ghost use Rattle.rg_log.specs.Present.{KeepsLog};
 
 use crate::fault::{Device, ReserveFault};
 use crate::force::{force_page, next_page};
@@ -251,10 +252,8 @@ impl Log {
         ensures further { self.old.forced ≤ self.new.forced }
         ensures within { self.new.forced ≤ length self.old.records }
         ensures ok { OnOk result (self.old.forced < self.new.forced) }
-        ensures moments { LeavesLog (V.told volume.old) self.old.pages self.old.records
-            self.old.forced
-            → HoldsThroughout (V.told volume.old) (V.told volume.new)
-            (EachImage (SpellsFrom self.old.pages self.old.records self.old.forced)) }
+        ensures moments { KeepsLog (V.told volume.old) (V.told volume.new) self.old.pages
+            self.old.records self.old.forced }
         ensures ahead { LeavesLog (V.told volume.old) self.old.pages self.old.records
             self.old.forced
             → LeavesLog (V.told volume.new) self.old.pages self.old.records self.new.forced }
@@ -284,10 +283,8 @@ impl Log {
             → IfTold (V.told volume.new)
             (EachImage (λ i. log_of self.old.pages i ≡ self.old.records))) }
         // At each moment, and whatever fails, it is a part of them, no less than was forced.
-        ensures moments { LeavesLog (V.told volume.old) self.old.pages self.old.records
-            self.old.forced
-            → HoldsThroughout (V.told volume.old) (V.told volume.new)
-            (EachImage (SpellsFrom self.old.pages self.old.records self.old.forced)) }
+        ensures moments { KeepsLog (V.told volume.old) (V.told volume.new) self.old.pages
+            self.old.records self.old.forced }
         ensures ahead { LeavesLog (V.told volume.old) self.old.pages self.old.records
             self.old.forced
             → LeavesLog (V.told volume.new) self.old.pages self.old.records self.new.forced }
