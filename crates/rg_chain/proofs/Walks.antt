@@ -2,11 +2,11 @@
 use Rattle.std.proofs.Common.{◌≡◌, ◌⊎◌, inl, inr, ⊎_elim, ℕ, zero, suc, ◌+◌, ◌-◌, ◌*◌, ◌<◌, ◌≤◌, ◌==◌, ◌||◌, Bool, true, false, List, [], ◌∷◌, ◌++◌, length, take, drop, get_or, refl, sym, ◌∙◌, subst, ap, arith, if◌then◌else◌, sum_by}
 use Rattle.std.proofs.lemmas.List.{length-append, take-append-drop, drop_more, take_more, take_all}
 use Rattle.std.proofs.lemmas.List.Sums.{sum_by_more}
-use Rattle.std.proofs.lemmas.Bool.Decides.{eqb_tells}
+use Rattle.std.proofs.lemmas.Bool.Decides.{eqb_tells, leb_tells}
 use Rattle.rg_outside.specs.Capacities.{Capacities}
 use Rattle.rg_record.specs.declared.record.Record.{Record}
 use Rattle.rg_image.specs.Kept.{AreEntries}
-use Rattle.rg_image.specs.Pack.{Spot, start, end_of, log_bytes}
+use Rattle.rg_image.specs.Pack.{Spot, start, end_of, next_spot, size_of, log_bytes, room}
 use Rattle.rg_image.specs.Rules.{of_tran, not_undone, is_ended, IsChained, IsChain, BreaksChain, owed_by, owed_to, owed}
 use Rattle.rg_image.proofs.Entries.{all_fit}
 use Rattle.rg_image.proofs.Pack.{end_page, end_of_append}
@@ -24,9 +24,10 @@ split_last (r ∷ rs) [] after e x is = inr (rs, let same : r ≡ x = cc (is) in
 split_last (r ∷ rs) (b ∷ before) after e x is =
     let head : r ≡ b = cc (is) in
     let tail : rs ++ e ∷ [] ≡ before ++ x ∷ after = cc (is) in
+    let cons : (l m : List Record) → l ≡ m → r ∷ l ≡ b ∷ m = λ l m e. cc (e, head) in
     ⊎_elim
-    (λ last. inl (ap (λ (y : Record). y ∷ rs) head ∙ ap (λ (l : List Record). b ∷ l) last.0, last.1))
-    (λ in_front. inr (in_front.0, ap (λ (y : Record). y ∷ rs) head ∙ ap (λ (l : List Record). b ∷ l) in_front.1))
+    (λ last. inl (cons rs before last.0, last.1))
+    (λ in_front. inr (in_front.0, cons rs (before ++ x ∷ in_front.0) in_front.1))
     (split_last rs before after e x tail)
 
 pub chain_more : (capacities : Capacities) (rs : List Record) (entry : Record) → IsChain capacities rs → IsChained capacities rs entry → IsChain capacities (rs ++ entry ∷ [])
@@ -49,6 +50,15 @@ pages_hold rs entries = let full = end_full start rs (omega arith) (all_fit rs e
 
 pub few_records : (rs : List Record) → AreEntries rs → (end_of start rs).page ≤ 65536 → length rs ≤ 2036 * 65536
 few_records rs entries last = omega (arith, some_size rs, pages_hold rs entries, last)
+
+-- each record begins one page at most
+pub pages_few : (at : Spot) (rs : List Record) → (end_of at rs).page ≤ at.page + length rs
+pages_few at [] = omega arith
+pages_few at (r ∷ rs) =
+    ⊎_elim
+    (λ fits. omega (arith, ap (λ (t : Bool). let s : Spot = if t then record { page = at.page; used = at.used + size_of r } else record { page = at.page + 1; used = size_of r } in s.page) fits.0, pages_few (next_spot at r) rs))
+    (λ full. omega (arith, ap (λ (t : Bool). let s : Spot = if t then record { page = at.page; used = at.used + size_of r } else record { page = at.page + 1; used = size_of r } in s.page) full.0, pages_few (next_spot at r) rs))
+    (leb_tells (at.used + size_of r) room)
 
 -- a part of the records ends on no later page
 pub front_page : (n : ℕ) (rs : List Record) → (end_of start (take n rs)).page ≤ (end_of start rs).page

@@ -33,7 +33,7 @@ pub struct Chain {
 }
 
 impl Model for Chain {
-    ghost use Rattle.std.specs.Prelude.{◌≡◌, sum_by};
+    ghost use Rattle.std.specs.Prelude.{◌≡◌, ◌<◌, ◌^◌, length, sum_by};
     ghost use Rattle.rg_chain.specs.Running.{Running, owed_unit};
 
     ghost Value = { Running };
@@ -44,7 +44,8 @@ impl Model for Chain {
       owed = c.owed;
     } };
 
-    ghost invariant = { λ c. c.owed ≡ sum_by owed_unit c.units.items };
+    ghost invariant = { λ c. (c.owed ≡ sum_by owed_unit c.units.items)
+        × (length c.units.items < 2 ^ 32) };
 }
 
 // Whether an Undo with these values undoes the Change at this position.
@@ -90,12 +91,25 @@ impl Chain {
         }
     }
 
-    /// The greatest number of a transaction.
-    pub fn greatest(&self) -> u32
-        requires { length self.now.units < 2 ^ 32 }
-        ensures { result ≡ length self.now.units }
+    /// The greatest number of a transaction, or 0.
+    pub fn greatest(&self) -> Tran
+        ensures { result.0 ≡ length self.now.units }
     {
-        self.units.len() as u32
+        Tran(self.units.len() as u32)
+    }
+
+    /// The current copy: that of the last Switch, or 1.
+    pub fn copy(&self) -> u8
+        ensures { result ≡ self.now.current.copy }
+    {
+        self.copy
+    }
+
+    /// The number of pages of the current copy.
+    pub fn pages(&self) -> u32
+        ensures { result ≡ self.now.current.pages }
+    {
+        self.pages
     }
 
     /// The transaction with this number.
