@@ -9,7 +9,6 @@ use Rattle.rg_image.specs.Kept.{AreEntries}
 use Rattle.rg_image.specs.Pack.{Spot, start, end_of, next_spot, size_of, log_bytes, room}
 use Rattle.rg_image.specs.Rules.{of_tran, not_undone, is_ended, IsChained, IsChain, BreaksChain, owed_by, owed_to, owed}
 use Rattle.rg_image.proofs.Entries.{all_fit}
-use Rattle.rg_image.proofs.Pack.{end_page, end_of_append}
 use Rattle.rg_image.proofs.Room.{end_full}
 use Rattle.rg_chain.specs.declared.unit.Unit.{Unit}
 use Rattle.rg_chain.specs.Running.{owed_unit}
@@ -59,11 +58,6 @@ pages_few at (r ∷ rs) =
     (λ fits. omega (arith, ap (λ (t : Bool). let s : Spot = if t then record { page = at.page; used = at.used + size_of r } else record { page = at.page + 1; used = size_of r } in s.page) fits.0, pages_few (next_spot at r) rs))
     (λ full. omega (arith, ap (λ (t : Bool). let s : Spot = if t then record { page = at.page; used = at.used + size_of r } else record { page = at.page + 1; used = size_of r } in s.page) full.0, pages_few (next_spot at r) rs))
     (leb_tells (at.used + size_of r) room)
-
--- a part of the records ends on no later page
-pub front_page : (n : ℕ) (rs : List Record) → (end_of start (take n rs)).page ≤ (end_of start rs).page
-front_page n rs =
-    omega (arith, end_page (end_of start (take n rs)) (drop n rs), ap (λ (s : Spot). s.page) (sym (end_of_append start (take n rs) (drop n rs)) ∙ ap (end_of start) (take-append-drop n rs)))
 
 -- a record that is there
 some_record : (rs : List Record) (at : ℕ) → at < length rs → (entry : Record) × ((d : Record) → get_or rs at d ≡ entry)

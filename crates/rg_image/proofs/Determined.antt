@@ -11,7 +11,7 @@ use Rattle.rg_image.proofs.Decode.{page_used, zero_unused}
 use Rattle.rg_image.proofs.Rules.{log_is_read}
 
 -- a page with a record is not zero
-filled : (page : ℕ) (before more : List Record) (bytes : List ℕ) → IsNextPage page before more bytes → IsZero bytes → ⊥
+pub filled : (page : ℕ) (before more : List Record) (bytes : List ℕ) → IsNextPage page before more bytes → IsZero bytes → ⊥
 unfolding page_bytes
 filled page before [] bytes next blank = next.follows
 filled page before (r ∷ more) bytes next blank =

@@ -1,3 +1,4 @@
+pub mod Chains
 pub mod Decode
 pub mod Determined
 pub mod Entries
@@ -7,6 +8,7 @@ pub mod Other
 pub mod Pack
 pub mod Room
 pub mod Rules
+pub mod Sound
 pub mod Start
 pub mod Step
 pub mod Tidy

@@ -1,5 +1,5 @@
 -- Not more records fit than bytes.
-use Rattle.std.proofs.Common.{◌≡◌, ⊎_elim, ℕ, suc, ◌+◌, ◌*◌, ◌≤◌, nat_le, Bool, true, false, List, [], ◌∷◌, refl, sym, subst, arith, if◌then◌else◌}
+use Rattle.std.proofs.Common.{◌≡◌, ⊎_elim, ℕ, suc, ◌+◌, ◌*◌, ◌≤◌, nat_le, Bool, true, false, List, [], ◌∷◌, take, refl, sym, ◌∙◌, subst, ap, arith, if◌then◌else◌}
 use Rattle.std.proofs.lemmas.Bool.{leb-true}
 use Rattle.std.proofs.lemmas.Bool.Decides.{leb_tells}
 use Rattle.rg_record.specs.declared.record.Record.{Record}
@@ -38,3 +38,12 @@ end_full at (r ∷ rs) low fit =
     let one = next_full at r low (fit r (0, omega arith, refl)) in
     let others = end_full (next_spot at r) rs one.1 (λ x c. fit x (suc c.0, omega (arith, c.1), c.2)) in
     (omega (arith, one.0, others.0), others.1)
+
+-- the records that fit are all that fit of them
+pub fitting_take : (used : ℕ) (back : List Record) → fitting used (take (fitting used back) back) ≡ fitting used back
+fitting_take used [] = refl
+fitting_take used (r ∷ back) =
+    elim (nat_le (used + size_of r) room) as (λ t. nat_le (used + size_of r) room ≡ t → fitting used (take (if t then suc (fitting (used + size_of r) back) else 0) (r ∷ back)) ≡ (if t then suc (fitting (used + size_of r) back) else 0)) [
+      | true ↦ λ e. ap (λ (t : Bool). if t then suc (fitting (used + size_of r) (take (fitting (used + size_of r) back) back)) else 0) e ∙ ap suc (fitting_take (used + size_of r) back)
+      | false ↦ λ e. refl
+    ] refl

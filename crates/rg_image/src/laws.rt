@@ -5,17 +5,22 @@
 // 4. A log has its records from its pages in one way, and keeps the rule for log pages or breaks it
 //    at one page.
 // 5. A tidy log whose pages follow the rule is spelled by its records.
-// 6. Only a write of set Log changes the log.
+// 6. What is spelled follows the rule for log pages and is tidy, where positions count from 1; and
+//    those of a chain do.
+// 7. The records are a chain, or one page has the first that does not follow.
+// 8. Only a write of set Log changes the log.
 ghost use Rattle.std.specs.Prelude.{◌≡◌, ◌≤◌, ◌++◌, ℕ, List, length, take};
 ghost use Rattle.rg_base.specs.declared.set.Set.{Set};
 ghost use Rattle.rg_base.specs.declared.set.Set.TheVariants.{Log};
 ghost use Rattle.rg_outside.specs.Calls.{Image};
+ghost use Rattle.rg_outside.specs.Capacities.{Capacities};
 ghost use Rattle.rg_outside.specs.Moments.{put};
 ghost use Rattle.rg_record.specs.declared.record.Record.{Record};
 ghost use Rattle.rg_image.specs.Kept.{AreEntries};
 ghost use Rattle.rg_image.specs.Log.{Spells, SpellsFrom, log_of, IsZeroLog};
 ghost use Rattle.rg_image.specs.Pack.{end_of, start};
-ghost use Rattle.rg_image.specs.Rules.{HasLogPages, BreaksLogPages, IsTidyLog};
+ghost use Rattle.rg_image.specs.Rules.{ArePositions, BreaksChain, BreaksLogPages, HasLogPages, IsChain};
+ghost use Rattle.rg_image.specs.Rules.{IsTidyLog};
 
 /// An image whose log pages spell records has them as its log.
 pub fn spelled_records_are_the_log()
@@ -59,6 +64,34 @@ pub fn one_log_page_is_named()
 pub fn tidy_logs_are_spelled()
     ensures { (capacity : ℕ) (rs : List Record) (i : Image) → HasLogPages capacity i rs
         → IsTidyLog capacity i → Spells capacity rs i }
+{}
+
+/// Log pages that spell records with the positions from 1 on follow the rule, and are tidy.
+pub fn spelled_logs_are_sound()
+    ensures pages { (capacity : ℕ) (rs : List Record) (i : Image) → AreEntries rs
+        → ArePositions rs → (1 ≤ length rs → (end_of start rs).page ≤ capacity)
+        → Spells capacity rs i → HasLogPages capacity i rs }
+    ensures tidy { (capacity : ℕ) (rs : List Record) (i : Image) → AreEntries rs
+        → ArePositions rs → (1 ≤ length rs → (end_of start rs).page ≤ capacity)
+        → Spells capacity rs i → IsTidyLog capacity i }
+{}
+
+/// The records of a chain have the positions from 1 on.
+pub fn chains_count_positions()
+    ensures { (capacities : Capacities) (rs : List Record) → IsChain capacities rs
+        → ArePositions rs }
+{}
+
+/// No records are a chain and break it.
+pub fn chains_are_kept_or_broken()
+    ensures { (capacities : Capacities) (page : ℕ) (rs : List Record) → IsChain capacities rs
+        → BreaksChain capacities rs page → ⊥ }
+{}
+
+/// One page has the first record that does not follow.
+pub fn one_page_breaks_the_chain()
+    ensures { (capacities : Capacities) (page other : ℕ) (rs : List Record)
+        → BreaksChain capacities rs page → BreaksChain capacities rs other → page ≡ other }
 {}
 
 /// What spells a part of the records spells a part of more records.

@@ -1,5 +1,5 @@
 -- What calls leave of the log.
-use Rattle.std.proofs.Common.{◌≡◌, ℕ, ◌≤◌, List, ◌++◌, length, Option, Result, sym, ◌∙◌}
+use Rattle.std.proofs.Common.{◌≡◌, ℕ, ◌≤◌, List, ◌++◌, length, take, arith, Option, Result, sym, ◌∙◌}
 use Rattle.rg_base.specs.declared.set.Set.{Set}
 use Rattle.rg_base.specs.declared.set.Set.TheVariants.{Log}
 use Rattle.rg_outside.specs.Calls.{Image, Told, Call, Read, Wrote, Synced, FailedRead, FailedWrite, FailedSync, Refused, effect_of}
@@ -8,18 +8,22 @@ use Rattle.rg_outside.specs.Moments.{EachCall, EachImage, IfTold}
 use Rattle.rg_outside.specs.declared.source.Failed.{Failed}
 use Rattle.rg_outside.proofs.Every.{Turns, sync_goes_on, read_goes_on, write_goes_on, told_weaken}
 use Rattle.rg_outside.proofs.Frame.{calls_each}
+use Rattle.std.proofs.lemmas.List.{length-take-le}
 use Rattle.rg_outside.proofs.Run.{begins, join, at_last}
 use Rattle.rg_record.specs.declared.record.Record.{Record}
 use Rattle.rg_image.specs.Kept.{AreEntries}
 use Rattle.rg_image.specs.Log.{SpellsFrom}
 use Rattle.rg_image.specs.Pack.{end_of, start}
-use Rattle.rg_image.proofs.Decode.{some_log}
+use Rattle.rg_image.specs.Rules.{ArePositions}
+use Rattle.rg_image.proofs.Decode.{some_log, contains_take}
 use Rattle.rg_image.proofs.Entries.{all_fit, are_values}
 use Rattle.rg_image.proofs.Grow.{spells_more}
 use Rattle.rg_image.proofs.Other.{other_write}
+use Rattle.rg_image.proofs.Pack.{front_page}
+use Rattle.rg_image.proofs.Sound.{spelled_sound, spelled_tidy, take_positions}
 use Rattle.rg_log.specs.Kept.{LeavesLog}
 use Rattle.rg_log.specs.Open.{IsQuiet}
-use Rattle.rg_log.specs.Present.{KeepsLog, HasPart}
+use Rattle.rg_log.specs.Present.{KeepsLog, HasPart, HasSoundPart}
 
 module _ (capacity low : ℕ) (rs : List Record) where
   abbrev P : Image → Type 0
@@ -75,3 +79,23 @@ module _ (capacity low : ℕ) (rs : List Record) where
       → IfTold told (EachImage (HasPart capacity rs low))
   log_part told entries high before =
       told_weaken (EachImage P) (EachImage (HasPart capacity rs low)) told (λ t each i is. some_log capacity low rs i (all_fit rs entries) (are_values rs entries) high (each i is)) before
+
+  sound_part : AreEntries rs → ArePositions rs → (1 ≤ length rs → (end_of start rs).page ≤ capacity) → (i : Image) → SpellsFrom capacity rs low i → HasSoundPart capacity rs low i
+  sound_part entries positions high i is =
+      let n = is.count in
+      let front : AreEntries (take n rs) = λ r c. entries r (contains_take n rs r c) in
+      let len : length (take n rs) ≡ n = length-take-le n rs is.most in
+      let last : 1 ≤ length (take n rs) → (end_of start (take n rs)).page ≤ capacity =
+      λ some. omega (arith, front_page n rs, high (omega (arith, some, len, is.most))) in
+      record {
+        count = n;
+        least = is.least;
+        most = is.most;
+        pages = spelled_sound capacity (take n rs) i front (take_positions n rs positions) last is.spells;
+        tidy = spelled_tidy capacity (take n rs) i front (take_positions n rs positions) last is.spells;
+      }
+
+  pub log_sound : (told : Option Told) → AreEntries rs → ArePositions rs → (1 ≤ length rs → (end_of start rs).page ≤ capacity) → LeavesLog told capacity rs low
+      → IfTold told (EachImage (HasSoundPart capacity rs low))
+  log_sound told entries positions high before =
+      told_weaken (EachImage P) (EachImage (HasSoundPart capacity rs low)) told (λ t each i is. sound_part entries positions high i (each i is)) before

@@ -14,9 +14,10 @@ ghost use Rattle.rg_outside.specs.declared.source.Failed.{Failed};
 ghost use Rattle.rg_record.specs.declared.record.Record.{Record};
 ghost use Rattle.rg_image.specs.Kept.{AreEntries};
 ghost use Rattle.rg_image.specs.Pack.{end_of, start};
+ghost use Rattle.rg_image.specs.Rules.{ArePositions};
 ghost use Rattle.rg_log.specs.Kept.{LeavesLog};
 ghost use Rattle.rg_log.specs.Open.{IsQuiet};
-ghost use Rattle.rg_log.specs.Present.{KeepsLog, HasPart};
+ghost use Rattle.rg_log.specs.Present.{KeepsLog, HasPart, HasSoundPart};
 
 /// A sync leaves the log, whether or not it failed.
 pub fn syncs_keep_the_log()
@@ -64,9 +65,14 @@ pub fn appends_keep_the_log()
         → LeavesLog told capacity rs low → LeavesLog told capacity (rs ++ more) low }
 {}
 
-/// The log of each image that a crash may leave is a part of the records, no less than `low`.
+/// The log of each image that a crash may leave is a part of the records, no less than `low`. Where
+/// positions count from 1, its log pages follow their rule, and it is tidy.
 pub fn crashes_leave_a_part()
-    ensures { (capacity low : ℕ) (rs : List Record) (told : Option Told) → AreEntries rs
+    ensures part { (capacity low : ℕ) (rs : List Record) (told : Option Told) → AreEntries rs
         → (1 ≤ length rs → (end_of start rs).page ≤ capacity) → LeavesLog told capacity rs low
         → IfTold told (EachImage (HasPart capacity rs low)) }
+    ensures sound { (capacity low : ℕ) (rs : List Record) (told : Option Told) → AreEntries rs
+        → ArePositions rs → (1 ≤ length rs → (end_of start rs).page ≤ capacity)
+        → LeavesLog told capacity rs low
+        → IfTold told (EachImage (HasSoundPart capacity rs low)) }
 {}

@@ -3,9 +3,10 @@ use Rattle.rg_record.specs.declared.record.Record.{Record}
 use Rattle.rg_image.specs.Kept.{AreEntries}
 use Rattle.rg_image.specs.Pack.{end_of, start}
 use Rattle.rg_image.proofs.Decode.{contains_take}
+use Rattle.rg_image.proofs.Pack.{front_page}
 use Rattle.rg_chain.specs.Tested.{IsWalk}
 use Rattle.rg_chain.specs.declared.test.Walk.TheVariants.{Whole, Broken}
-use Rattle.rg_chain.proofs.Walks.{few_records, front_page, pages_hold, breaks}
+use Rattle.rg_chain.proofs.Walks.{few_records, pages_hold, breaks}
 use Rattle.rg_chain.proofs.test.test_log.Goals as goal
 
 pub walk_over-requires-clause-few : goal.walk_over-requires-clause-few

@@ -1,5 +1,8 @@
-use Rattle.rg_log.proofs.Present.{log_part}
+use Rattle.rg_log.proofs.Present.{log_part, log_sound}
 use Rattle.rg_log.proofs.laws.crashes_leave_a_part.Goals as goal
 
-pub returns : goal.returns
-returns c = log_part
+pub returns-clause-part : goal.returns-clause-part
+returns-clause-part c = log_part
+
+pub returns-clause-sound : goal.returns-clause-sound
+returns-clause-sound c = log_sound
