@@ -6,7 +6,7 @@ ghost use Rattle.std.specs.Prelude.{◌≡◌, ◌≤◌, ◌<◌, ◌+◌, ◌-
 ghost use Rattle.rg_record.specs.Spelled.{IsRecord};
 ghost use Rattle.rg_image.specs.Meaning.{Current, raised, current_after};
 ghost use Rattle.rg_image.specs.Rules.{Done, has_undo, Undoes, IsOfTran, IsOpen, KindFollows, IsChained, owed};
-ghost use Rattle.rg_chain.specs.Kept.{AreDone, IsKept};
+ghost use Rattle.rg_chain.specs.Kept.{AreDone, IsKept, IsUnit};
 ghost use Rattle.rg_chain.specs.Running.{owed_unit, put_unit, unit_at};
 
 use crate::names::names_pages;
@@ -115,7 +115,9 @@ impl Chain {
     /// The transaction with this number.
     pub fn unit(&self, tran: Tran) -> Unit
         requires { 1 ≤ tran.0 }
-        ensures { result ≡ unit_at self.now.units tran.0 }
+        ensures is { result ≡ unit_at self.now.units tran.0 }
+        ensures unit { (before : List Record) → IsKept before self.now
+            → IsUnit before tran.0 result }
     {
         let at = (tran.0 - 1) as usize;
         if at < self.units.len() {

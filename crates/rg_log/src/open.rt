@@ -104,9 +104,9 @@ pub fn open_log<V: Volume>(alloc: Global, volume: &mut V) -> Result<Log, LogFaul
         (λ t. HasLogPages log.pages (read_of t.first t.calls) log.records)) }
     // A crash leaves what was read.
     ensures sure { OnOk result (IfTold (V.told volume.new) IsCertain) }
-    // Where it reads tidy, whatever a crash leaves spells these records: this is what `force` asks
+    // Where it read tidy, whatever a crash leaves spells these records: this is what `force` asks
     // to go on from.
-    ensures leaves { IfOk result (λ log. ReadsTidy (V.told volume.new) log.pages
+    ensures leaves { IfOk result (λ log. ReadsTidy (V.told volume.old) log.pages
         → LeavesLog (V.told volume.new) log.pages log.records log.forced) }
     // The page that is named is the first that has not.
     ensures fault { IfErr result

@@ -1,4 +1,4 @@
-use Rattle.std.proofs.Common.{◌≤◌, arith}
+use Rattle.std.proofs.Common.{arith}
 use Rattle.rg_image.specs.Pack.{start}
 use Rattle.rg_chain.proofs.Walks.{pages_few}
 use Rattle.rg_chain.proofs.tests.tested.Goals as goal

@@ -15,5 +15,5 @@ overflow_add-page c =
       arith,
       end_page at (drop c.loop-entry.entry-index c.args.records.now),
       ap (λ (s : Spot). s.page) c.loop-entry.invariant.spot,
-      c.requires.few
+      c.requires.few,
     )

@@ -21,7 +21,7 @@ returns c =
       | then-entry-ne0+in_ok-put w ↦
           let low : 1 ≤ entry.tran.0 = omega (arith, w.if-entry-ne0.true) in
           let after : w.after-unit.result ≡ unit_after (unit_at units entry.tran.0) entry.position.0 entry.kind =
-          w.after-unit.ensures ∙ ap (λ (u : Unit). unit_after u (length c.args.before.now + 1) entry.kind) w.unit.ensures
+          w.after-unit.ensures ∙ ap (λ (u : Unit). unit_after u (length c.args.before.now + 1) entry.kind) w.unit.ensures.is
           ∙ ap (λ (n : ℕ). unit_after (unit_at units entry.tran.0) n entry.kind) (sym c.requires.position) in
           kept_put c.args.before.now c.args.self.now c.if-entry-ne0.self c.requires.kept entry c.requires.position c.requires.kind c.requires.spelled
           (ap (λ (r : Running). r.current) w.self-is ∙ w.put.ensures.current) low c.turn.new.self c.turn.ensures

@@ -30,7 +30,7 @@ returns-then-entry-unit c = λ before kept.
     let len : length c.self.inside.units.items ≡ length c.args.self.now.units = ap (λ (r : Running). length r.units) c.self.view_is in
     let low : 1 ≤ c.args.entry.now.tran.0 = omega (arith, c.if-tran-eq0.false) in
     let high : c.args.entry.now.tran.0 ≤ length c.args.self.now.units + 1 = omega (arith, c.if-tran-len.false, c.len.ensures, c.self.inside.units.ok.0, len) in
-    let unit : c.unit-unit.result ≡ unit_at c.args.self.now.units c.args.entry.now.tran.0 = c.unit-unit.ensures in (
+    let unit : c.unit-unit.result ≡ unit_at c.args.self.now.units c.args.entry.now.tran.0 = c.unit-unit.ensures.is in (
       λ is. of_unit before c.args.self.now.units c.args.self.now.owed kept.units c.args.entry.now low high
           (c.if-entry-unit.true ∙ ap (λ (u : Unit). u.last) unit) (sym (ap (λ (u : Unit). u.ended) unit) ∙ was_false c.unit-unit.result.ended is),
       λ is. is_true c.unit-unit.result.ended (ap (λ (u : Unit). u.ended) unit ∙ is_going before c.args.self.now.units c.args.self.now.owed kept.units c.args.entry.now is),
@@ -38,7 +38,7 @@ returns-then-entry-unit c = λ before kept.
 
 pub returns-else-entry-unit : goal.returns-else-entry-unit
 returns-else-entry-unit c = λ before kept.
-    let unit : c.unit-unit.result ≡ unit_at c.args.self.now.units c.args.entry.now.tran.0 = c.unit-unit.ensures in (
+    let unit : c.unit-unit.result ≡ unit_at c.args.self.now.units c.args.entry.now.tran.0 = c.unit-unit.ensures.is in (
       λ is. absurd (c.if-entry-unit.false (eqb-true c.args.entry.now.back.0 c.unit-unit.result.last is)),
       λ is. absurd (c.if-entry-unit.false (is_back before c.args.self.now.units c.args.self.now.owed kept.units c.args.entry.now is ∙ sym (ap (λ (u : Unit). u.last) unit))),
     )

@@ -13,13 +13,13 @@ pub undoes-requires : goal.undoes-requires
 undoes-requires c =
     let of_tran = (c.if-is_of_unit.ensures c.args.before.now c.requires).0 refl in
     let done = (unit_is c.args.before.now c.args.self.now.units c.args.self.now.owed c.requires.units c.args.entry.now.tran.0 of_tran.some).done in
-    omega (arith, ap (λ (u : Unit). u.top) c.unit.ensures, top_within _ _ _ done)
+    omega (arith, ap (λ (u : Unit). u.top) c.unit.ensures.is, top_within _ _ _ done)
 
 pub returns-then-is_of_unit : goal.returns-then-is_of_unit
 returns-then-is_of_unit c =
     let of_tran = (c.if-is_of_unit.ensures c.args.before.now c.requires).0 refl in
     let unit = unit_is c.args.before.now c.args.self.now.units c.args.self.now.owed c.requires.units c.args.entry.now.tran.0 of_tran.some in
-    let top : c.unit.result.top ≡ (unit_at c.args.self.now.units c.args.entry.now.tran.0).top = ap (λ (u : Unit). u.top) c.unit.ensures in
+    let top : c.unit.result.top ≡ (unit_at c.args.self.now.units c.args.entry.now.tran.0).top = ap (λ (u : Unit). u.top) c.unit.ensures.is in
     let says = c.undoes.ensures (not_undone c.args.entry.now.tran.0 c.args.before.now) (subst (λ (k : ℕ). AreDone c.args.before.now k (not_undone c.args.entry.now.tran.0 c.args.before.now)) (sym top) unit.done) in
     subst (λ (k : Kind). (IsTrue c.undoes.result → KindFollows c.args.before.now c.args.entry.now k) × (KindFollows c.args.before.now c.args.entry.now k → IsTrue c.undoes.result)) (sym c.in-Undo.is)
     (λ yes_. (of_tran, says.0 yes_), λ follows. says.1 follows.1)
