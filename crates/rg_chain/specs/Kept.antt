@@ -21,9 +21,8 @@ done_of back (Switch copy pages) = None
 -- the record with this position is that Change
 abbrev pub IsDoneAt : List Record → ℕ → Done → Type 0
 IsDoneAt before top change =
-    (other : Record)
-    → done_of (slice_index_or before (top - 1) other).back.0 (slice_index_or before (top - 1) other).kind
-    ≡ Some change
+    (other : Record) → let entry = slice_index_or before (top - 1) other in
+    done_of entry.back.0 entry.kind ≡ Some change
 
 -- The Changes of a transaction that are not undone, the latest first: it has position `top`, and
 -- each names by its back the one before. Position 0 stands for none.
