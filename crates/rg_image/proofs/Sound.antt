@@ -1,7 +1,7 @@
 -- Log pages that spell records follow the rule for log pages.
 use Rattle.std.proofs.Common.{◌≡◌, ⊎_elim, ℕ, zero, suc, ◌+◌, ◌-◌, ◌<◌, ◌≤◌, nat_le, Bool, List, [], ◌∷◌, ◌++◌, length, take, drop, get_or, refl, sym, ◌∙◌, subst, ap, arith, if◌then◌else◌}
 use Rattle.std.specs.List.{Contains}
-use Rattle.std.proofs.lemmas.List.{take_all, take-append-drop, length-take-le, length-drop, get_or-take, get_or-drop}
+use Rattle.std.proofs.lemmas.List.{take_all, take-append-drop, length-take-le, length-drop, get_or-take, get_or-drop, get_or_append_left, get_or_push, length-append}
 use Rattle.std.proofs.lemmas.Bool.Decides.{leb_tells}
 use Rattle.rg_base.specs.declared.set.Set.TheVariants.{Log}
 use Rattle.rg_outside.specs.Calls.{Image}
@@ -36,6 +36,14 @@ take_positions n rs are k d lt =
     (λ past. let all : take n rs ≡ rs = take_all n rs (omega (arith, past.1)) in
     ap (λ (l : List Record). (get_or l k d).position.0) all ∙ are k d (omega (arith, lt, ap (λ (l : List Record). length l) all)))
     (leb_tells n (length rs))
+
+pub more_positions : (rs : List Record) (entry : Record) → ArePositions rs → entry.position.0 ≡ length rs + 1 → ArePositions (rs ++ entry ∷ [])
+more_positions rs entry are next k d lt =
+    ⊎_elim
+    (λ inside. ap (λ (r : Record). r.position.0) (get_or_append_left rs (entry ∷ []) d k (omega (arith, inside.1))) ∙ are k d (omega (arith, inside.1)))
+    (λ past. let at : length rs ≡ k = omega (arith, past.1, lt, length-append rs (entry ∷ [])) in
+    ap (λ (r : Record). r.position.0) (get_or_push rs entry d k at) ∙ next ∙ ap (λ (n : ℕ). n + 1) at)
+    (leb_tells (suc k) (length rs))
 
 -- the records of a chain have the positions from 1 on
 split_at : (k : ℕ) (rs : List Record) (d : Record) → k < length rs → rs ≡ take k rs ++ get_or rs k d ∷ drop (suc k) rs

@@ -9,7 +9,7 @@
 //    those of a chain do.
 // 7. The records are a chain, or one page has the first that does not follow.
 // 8. Only a write of set Log changes the log.
-ghost use Rattle.std.specs.Prelude.{◌≡◌, ◌≤◌, ◌++◌, ℕ, List, length, take};
+ghost use Rattle.std.specs.Prelude.{◌≡◌, ◌≤◌, ◌+◌, ◌++◌, ◌∷◌, [], ℕ, List, length, take};
 ghost use Rattle.rg_base.specs.declared.set.Set.{Set};
 ghost use Rattle.rg_base.specs.declared.set.Set.TheVariants.{Log};
 ghost use Rattle.rg_outside.specs.Calls.{Image};
@@ -76,10 +76,12 @@ pub fn spelled_logs_are_sound()
         → Spells capacity rs i → IsTidyLog capacity i }
 {}
 
-/// The records of a chain have the positions from 1 on.
+/// The records of a chain have the positions from 1 on, and so have records that are appended.
 pub fn chains_count_positions()
-    ensures { (capacities : Capacities) (rs : List Record) → IsChain capacities rs
+    ensures chain { (capacities : Capacities) (rs : List Record) → IsChain capacities rs
         → ArePositions rs }
+    ensures more { (rs : List Record) (entry : Record) → ArePositions rs
+        → entry.position.0 ≡ length rs + 1 → ArePositions (rs ++ entry ∷ []) }
 {}
 
 /// No records are a chain and break it.

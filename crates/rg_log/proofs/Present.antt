@@ -2,11 +2,11 @@
 use Rattle.std.proofs.Common.{◌≡◌, ℕ, ◌≤◌, List, ◌++◌, length, take, arith, Option, Result, sym, ◌∙◌}
 use Rattle.rg_base.specs.declared.set.Set.{Set}
 use Rattle.rg_base.specs.declared.set.Set.TheVariants.{Log}
-use Rattle.rg_outside.specs.Calls.{Image, Told, Call, Read, Wrote, Synced, FailedRead, FailedWrite, FailedSync, Refused, effect_of}
+use Rattle.rg_outside.specs.Calls.{Image, Told, Call, Read, Wrote, Synced, FailedRead, FailedWrite, FailedSync, Refused, effect_of, read_of}
 use Rattle.rg_outside.specs.Made.{MadeRead, MadeSync, MadeWrite, WritesIn}
 use Rattle.rg_outside.specs.Moments.{EachCall, EachImage, IfTold}
 use Rattle.rg_outside.specs.declared.source.Failed.{Failed}
-use Rattle.rg_outside.proofs.Every.{Turns, sync_goes_on, read_goes_on, write_goes_on, told_weaken}
+use Rattle.rg_outside.proofs.Every.{Turns, read_image, sync_goes_on, read_goes_on, write_goes_on, told_weaken}
 use Rattle.rg_outside.proofs.Frame.{calls_each}
 use Rattle.std.proofs.lemmas.List.{length-take-le}
 use Rattle.rg_outside.proofs.Run.{begins, join, at_last}
@@ -14,7 +14,7 @@ use Rattle.rg_record.specs.declared.record.Record.{Record}
 use Rattle.rg_image.specs.Kept.{AreEntries}
 use Rattle.rg_image.specs.Log.{SpellsFrom}
 use Rattle.rg_image.specs.Pack.{end_of, start}
-use Rattle.rg_image.specs.Rules.{ArePositions}
+use Rattle.rg_image.specs.Rules.{ArePositions, IsTidyLog}
 use Rattle.rg_image.proofs.Decode.{some_log, contains_take}
 use Rattle.rg_image.proofs.Entries.{all_fit, are_values}
 use Rattle.rg_image.proofs.Grow.{spells_more}
@@ -22,7 +22,7 @@ use Rattle.rg_image.proofs.Other.{other_write}
 use Rattle.rg_image.proofs.Pack.{front_page}
 use Rattle.rg_image.proofs.Sound.{spelled_sound, spelled_tidy, take_positions}
 use Rattle.rg_log.specs.Kept.{LeavesLog}
-use Rattle.rg_log.specs.Open.{IsQuiet}
+use Rattle.rg_log.specs.Open.{IsQuiet, ReadsTidy}
 use Rattle.rg_log.specs.Present.{KeepsLog, HasPart, HasSoundPart}
 
 module _ (capacity low : ℕ) (rs : List Record) where
@@ -99,3 +99,8 @@ module _ (capacity low : ℕ) (rs : List Record) where
       → IfTold told (EachImage (HasSoundPart capacity rs low))
   log_sound told entries positions high before =
       told_weaken (EachImage P) (EachImage (HasSoundPart capacity rs low)) told (λ t each i is. sound_part entries positions high i (each i is)) before
+
+  pub log_tidy : (told : Option Told) → AreEntries rs → ArePositions rs → (1 ≤ length rs → (end_of start rs).page ≤ capacity) → LeavesLog told capacity rs low → ReadsTidy told capacity
+  log_tidy told entries positions high before =
+      told_weaken (EachImage P) (λ t. IsTidyLog capacity (read_of t.first t.calls)) told
+      (λ t each. (sound_part entries positions high (read_of t.first t.calls) (each (read_of t.first t.calls) (read_image t))).tidy) before

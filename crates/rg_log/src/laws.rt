@@ -16,7 +16,7 @@ ghost use Rattle.rg_image.specs.Kept.{AreEntries};
 ghost use Rattle.rg_image.specs.Pack.{end_of, start};
 ghost use Rattle.rg_image.specs.Rules.{ArePositions};
 ghost use Rattle.rg_log.specs.Kept.{LeavesLog};
-ghost use Rattle.rg_log.specs.Open.{IsQuiet};
+ghost use Rattle.rg_log.specs.Open.{IsQuiet, ReadsTidy};
 ghost use Rattle.rg_log.specs.Present.{KeepsLog, HasPart, HasSoundPart};
 
 /// A sync leaves the log, whether or not it failed.
@@ -66,7 +66,8 @@ pub fn appends_keep_the_log()
 {}
 
 /// The log of each image that a crash may leave is a part of the records, no less than `low`. Where
-/// positions count from 1, its log pages follow their rule, and it is tidy.
+/// positions count from 1, its log pages follow their rule, and it is tidy; so the volume reads tidy
+/// when it is opened again.
 pub fn crashes_leave_a_part()
     ensures part { (capacity low : ℕ) (rs : List Record) (told : Option Told) → AreEntries rs
         → (1 ≤ length rs → (end_of start rs).page ≤ capacity) → LeavesLog told capacity rs low
@@ -75,4 +76,7 @@ pub fn crashes_leave_a_part()
         → ArePositions rs → (1 ≤ length rs → (end_of start rs).page ≤ capacity)
         → LeavesLog told capacity rs low
         → IfTold told (EachImage (HasSoundPart capacity rs low)) }
+    ensures tidy { (capacity low : ℕ) (rs : List Record) (told : Option Told) → AreEntries rs
+        → ArePositions rs → (1 ≤ length rs → (end_of start rs).page ≤ capacity)
+        → LeavesLog told capacity rs low → ReadsTidy told capacity }
 {}

@@ -161,6 +161,8 @@ impl Log {
     pub fn records(&self) -> &[Record]
         ensures records { result.now ≡ self.now.records }
         ensures entries { AreEntries self.now.records }
+        ensures set { 1 ≤ length self.now.records
+            → (end_of start self.now.records).page ≤ self.now.pages }
         ensures last { (end_of start self.now.records).page ≤ 65536 }
     {
         self.records.as_slice()
