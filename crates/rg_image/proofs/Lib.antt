@@ -1,4 +1,6 @@
+pub mod Chains
 pub mod Decode
+pub mod Determined
 pub mod Entries
 pub mod Grow
 pub mod Join
@@ -6,5 +8,7 @@ pub mod Other
 pub mod Pack
 pub mod Room
 pub mod Rules
+pub mod Sound
 pub mod Start
 pub mod Step
+pub mod Tidy

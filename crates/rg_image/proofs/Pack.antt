@@ -1,9 +1,10 @@
 -- Records on pages.
 use Rattle.std.proofs.Common.{◌≡◌, ⊎_elim, ℕ, zero, suc, ◌+◌, ◌<◌, ◌≤◌, ◌==◌, nat_le, Bool, true, false, List, [], ◌∷◌, ◌++◌, length, take, drop, refl, sym, ◌∙◌, subst, ap, arith, if◌then◌else◌}
 use Rattle.rg_record.specs.declared.record.Record.{Record}
+use Rattle.std.proofs.lemmas.List.{take-append-drop}
 use Rattle.std.proofs.lemmas.Bool.{eq-eqb, leb-true, le-leb}
 use Rattle.std.proofs.lemmas.Bool.Decides.{eqb_tells}
-use Rattle.rg_image.specs.Pack.{Spot, on_page, end_of, next_spot, size_of, room, fitting}
+use Rattle.rg_image.specs.Pack.{Spot, start, on_page, end_of, next_spot, size_of, room, fitting}
 
 -- the next record stands on this page or on the next one
 next_page : (at : Spot) (r : Record) → at.page ≤ (next_spot at r).page
@@ -125,3 +126,8 @@ pub first_spot : (page : ℕ) (r : Record) → size_of r ≤ room → next_spot 
 first_spot page r fits =
     let sum : 0 + size_of r ≡ size_of r = omega arith in
     after_fit page 0 r (omega (arith, fits)) ∙ ap (λ (k : ℕ). let s : Spot = record { page = page; used = k } in s) sum
+
+-- a part of the records ends on no later page
+pub front_page : (n : ℕ) (rs : List Record) → (end_of start (take n rs)).page ≤ (end_of start rs).page
+front_page n rs =
+    omega (arith, end_page (end_of start (take n rs)) (drop n rs), ap (λ (s : Spot). s.page) (sym (end_of_append start (take n rs) (drop n rs)) ∙ ap (end_of start) (take-append-drop n rs)))

@@ -1,6 +1,6 @@
 -- When a volume is sound, as far as its log shows it. Each rule is tested over the whole log before
 -- the next. A rule that is broken names a log page.
-use Rattle.std.specs.Prelude.{◌≡◌, ◌≢◌, ◌≤◌, ◌<◌, ◌+◌, ◌-◌, ◌*◌, ℕ, zero, suc, max, min, ◌==◌, ◌||◌, Bool, true, false, if◌then◌else◌, List, [], ◌∷◌, ◌++◌, length, Option, replicate, filter}
+use Rattle.std.specs.Prelude.{◌≡◌, ◌≢◌, ◌≤◌, ◌<◌, ◌+◌, ◌-◌, ◌*◌, ℕ, zero, suc, max, min, ◌==◌, ◌||◌, Bool, true, false, if◌then◌else◌, List, [], ◌∷◌, ◌++◌, length, Option, replicate, filter, slice_index_or}
 use Rattle.std.specs.List.{list_any, AllByRecursion}
 use Rattle.rg_base.specs.declared.part.Part.{Part}
 use Rattle.rg_base.specs.declared.part.SlotOp.{SlotOp}
@@ -68,6 +68,12 @@ pub record BreaksLogPages (capacity : ℕ) (i : Image) (page : ℕ) : Type 0 whe
   pub are : ArePages i pages before
   pub used : IsZero (i Log page) → ⊥
   pub none : (more : List Record) → IsNextPage page before more (i Log page) → ⊥
+
+-- After the first log page of zeros all are zero. It is no rule of a sound log: opening reads none
+-- of these pages. A log that is tidy may be forced on.
+abbrev pub IsTidyLog : ℕ → Image → Type 0
+IsTidyLog capacity i =
+    (p q : ℕ) → 1 ≤ p → p ≤ q → q ≤ capacity → IsZero (i Log p) → IsZero (i Log q)
 
 -- *Record chain.* Each record follows from those before it.
 
@@ -208,6 +214,11 @@ abbrev pub IsChain : Capacities → List Record → Type 0
 IsChain capacities rs =
     (before after : List Record) (entry : Record) → rs ≡ before ++ entry ∷ after
     → IsChained capacities before entry
+
+-- the records have the positions from 1 on
+abbrev pub ArePositions : List Record → Type 0
+ArePositions rs =
+    (k : ℕ) (other : Record) → k < length rs → (slice_index_or rs k other).position.0 ≡ k + 1
 
 -- the first record that is not allowed stands on this page
 pub record BreaksChain (capacities : Capacities) (rs : List Record) (page : ℕ) : Type 0 where

@@ -3,3 +3,5 @@
 
 /// Laws of the definitions.
 pub mod laws;
+/// How many bytes and pages records take.
+pub mod sizes;

@@ -1,18 +1,16 @@
 -- A log page is filled.
-use Rattle.std.proofs.Common.{◌≡◌, Bool, true, false, nat_le, if◌then◌else◌, ◌-◌, ℕ, suc, ◌+◌, ◌≤◌, ◌<◌, List, [], ◌∷◌, ◌++◌, length, take, drop, get_or, refl, sym, ◌∙◌, ap, arith}
+use Rattle.std.proofs.Common.{◌≡◌, ◌-◌, ℕ, ◌+◌, ◌≤◌, List, [], ◌∷◌, ◌++◌, length, take, drop, get_or, sym, ◌∙◌, ap, arith}
 use Rattle.std.specs.List.{flat_map}
 use Rattle.std.proofs.lemmas.List.{drop_all, take_all, append-nil, length-take-le}
 use Rattle.rg_record.specs.declared.record.Record.{Record}
 use Rattle.rg_record.specs.Filled.{padded}
-use Rattle.rg_image.specs.Kept.{IsEntry, AreEntries}
-use Rattle.rg_image.specs.Pack.{fitting, log_bytes, size_of, room}
+use Rattle.rg_image.specs.Kept.{AreEntries}
+use Rattle.rg_image.specs.Pack.{fitting, log_bytes}
 use Rattle.rg_image.specs.Page.{page_bytes, page_head, spelt}
 use Rattle.rg_image.proofs.Decode.{contains_take}
 use Rattle.rg_image.proofs.Pack.{fitting_le}
+use Rattle.rg_image.proofs.Room.{fitting_take}
 use Rattle.rg_image.proofs.Step.{contains_drop}
-
-pub item_is : (rs : List Record) (i : ℕ) (x : Record) → AreEntries rs → i < length rs → x ≡ get_or rs i x → IsEntry x
-item_is rs i x entries lt is = entries x (i, lt, sym is)
 
 pub log_bytes_take : (rs : List Record) → fitting 0 rs ≡ length rs → log_bytes (take (fitting 0 rs) rs) ≡ log_bytes rs
 log_bytes_take rs all = ap log_bytes (take_all (fitting 0 rs) rs (omega (arith, all)))
@@ -31,15 +29,6 @@ page_is p count used (r ∷ rs) x out initial i some c u past e so_far =
     e ∙ ap (λ (n : ℕ). page_head p r.position.0 n used) c
     ∙ ap (λ (n : ℕ). page_head p r.position.0 (length (r ∷ rs)) n) u in
     ap padded (whole ∙ ap (λ (l : List ℕ). l ++ flat_map spelt (r ∷ rs)) head)
-
--- the records that fit are all that fit of them
-fitting_take : (used : ℕ) (back : List Record) → fitting used (take (fitting used back) back) ≡ fitting used back
-fitting_take used [] = refl
-fitting_take used (r ∷ back) =
-    elim (nat_le (used + size_of r) room) as (λ t. nat_le (used + size_of r) room ≡ t → fitting used (take (if t then suc (fitting (used + size_of r) back) else 0) (r ∷ back)) ≡ (if t then suc (fitting (used + size_of r) back) else 0)) [
-      | true ↦ λ e. ap (λ (t : Bool). if t then suc (fitting (used + size_of r) (take (fitting (used + size_of r) back) back)) else 0) e ∙ ap suc (fitting_take (used + size_of r) back)
-      | false ↦ λ e. refl
-    ] refl
 
 -- the records of a page that begins at `from`
 pub here_is : (rs : List Record) (from end : ℕ) → end ≡ from + fitting 0 (drop from rs)

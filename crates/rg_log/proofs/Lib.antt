@@ -4,5 +4,7 @@ pub mod Fill
 pub mod Follow
 pub mod Form
 pub mod Opening
+pub mod Present
+pub mod Ready
 pub mod Room
 pub mod Same

@@ -3,11 +3,12 @@ use Rattle.std.proofs.Common.{◌≡◌, ap, ⊎_elim, ℕ, suc, ◌+◌, ◌*�
 use Rattle.std.proofs.lemmas.Bool.Decides.{leb_tells}
 use Rattle.rg_record.specs.declared.record.Record.{Record}
 use Rattle.rg_image.specs.Form.{IsOpened}
-use Rattle.rg_image.specs.Kept.{AreEntries, AllFit}
+use Rattle.rg_image.specs.Kept.{AreEntries}
 use Rattle.rg_image.proofs.Start.{last_page}
 use Rattle.rg_image.specs.Pack.{Spot, start, end_of, next_spot, size_of, room, log_bytes}
 use Rattle.rg_image.specs.Rules.{limit_of}
 use Rattle.rg_image.proofs.Entries.{entry_size}
+use Rattle.rg_image.proofs.Room.{end_full}
 
 -- a page that is left holds more than 2,270 bytes
 abbrev Held : Spot → ℕ
@@ -37,24 +38,6 @@ page_within rs pages entries some le =
     let held = end_held start rs entries in
     let bytes = some_bytes rs some in
     omega (arith, held, bytes, le)
-
--- pages hold no more than their room
-next_full : (at : Spot) (r : Record) → at.used ≤ room → size_of r ≤ room
-    → (4072 * at.page + at.used + size_of r ≤ 4072 * (next_spot at r).page + (next_spot at r).used) × ((next_spot at r).used ≤ room)
-next_full at r low small =
-    let Says : Spot → Type 0 = λ s. (4072 * at.page + at.used + size_of r ≤ 4072 * s.page + s.used) × (s.used ≤ room) in
-    ⊎_elim
-    (λ fits. subst (λ (t : Bool). Says (if t then record { page = at.page; used = at.used + size_of r } else record { page = at.page + 1; used = size_of r })) (sym fits.0) (omega arith, omega (arith, fits.1)))
-    (λ full. subst (λ (t : Bool). Says (if t then record { page = at.page; used = at.used + size_of r } else record { page = at.page + 1; used = size_of r })) (sym full.0) (omega (arith, low), omega (arith, small)))
-    (leb_tells (at.used + size_of r) room)
-
-end_full : (at : Spot) (rs : List Record) → at.used ≤ room → AllFit rs
-    → (4072 * at.page + at.used + log_bytes rs ≤ 4072 * (end_of at rs).page + (end_of at rs).used) × ((end_of at rs).used ≤ room)
-end_full at [] low fit = (omega arith, low)
-end_full at (r ∷ rs) low fit =
-    let one = next_full at r low (fit r (0, omega arith, refl)) in
-    let others = end_full (next_spot at r) rs one.1 (λ x c. fit x (suc c.0, omega (arith, c.1), c.2)) in
-    (omega (arith, one.0, others.0), others.1)
 
 pub opened_page : (rs : List Record) (from page : ℕ) → IsOpened rs from page → 1 ≤ page → (end_of start rs).page ≡ page
 opened_page rs from page is low = last_page rs from page (is.begins low) is.fit (is.there low) (is.whole low)

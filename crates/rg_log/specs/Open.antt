@@ -5,7 +5,7 @@ use Rattle.rg_outside.specs.Calls.{Told, read_of, Call, Read, Wrote, Synced, Fai
 use Rattle.rg_outside.specs.Faults.{Rose}
 use Rattle.rg_outside.specs.Moments.{CrashLeaves, IfTold}
 use Rattle.rg_record.specs.declared.record.Record.{Record}
-use Rattle.rg_image.specs.Rules.{IsNextPage, IsZero, BreaksLogPages}
+use Rattle.rg_image.specs.Rules.{IsNextPage, IsZero, BreaksLogPages, IsTidyLog}
 use Rattle.rg_log.specs.declared.fault.LogFault.{LogFault}
 use Rattle.rg_log.specs.declared.fault.LogFault.TheVariants.{Damaged, Device, NoMemory}
 use Rattle.rg_log.specs.declared.open.Next.{Next}
@@ -32,6 +32,10 @@ IsQuiet Refused = Unit {0}
 abbrev pub IsCertain : Told → Type 0
 IsCertain t =
     (s : Set) (p : ℕ) → CrashLeaves s p (λ bytes. bytes ≡ read_of t.first t.calls s p) t
+
+-- after the first log page that reads as zeros all do
+abbrev pub ReadsTidy : Option Told → ℕ → Type 0
+ReadsTidy told pages = IfTold told (λ t. IsTidyLog pages (read_of t.first t.calls))
 
 -- Why a log was not opened: this page breaks the rule for log pages, a call of the volume failed,
 -- or memory ran out.

@@ -8,11 +8,11 @@ ghost use Rattle.std.specs.Prelude.{◌≡◌, ◌≤◌, ◌<◌, ◌+◌, ℕ,
 ghost use Rattle.rg_base.specs.declared.set.Set.TheVariants.{Log};
 ghost use Rattle.rg_outside.specs.Faults.{HasCause};
 ghost use Rattle.rg_outside.specs.Made.{WritesIn};
-ghost use Rattle.rg_outside.specs.Moments.{EachCall, EachImage, HoldsThroughout};
+ghost use Rattle.rg_outside.specs.Moments.{EachCall};
 ghost use Rattle.rg_image.specs.Kept.{IsPageStart, AreEntries};
-ghost use Rattle.rg_image.specs.Log.{SpellsFrom};
 ghost use Rattle.rg_image.specs.Pack.{fitting, end_of, start};
 ghost use Rattle.rg_log.specs.Kept.{LeavesLog, log_pages};
+ghost use Rattle.rg_log.specs.Present.{KeepsLog};
 
 use crate::page::{fill_page, page_end};
 use rg_base::set::Set;
@@ -36,9 +36,8 @@ pub fn force_page<V: Volume>(
     requires high { page ≤ log_pages (V.capacities volume.old) }
 
     ensures moments { (low : ℕ) → from ≤ low
-        → LeavesLog (V.told volume.old) (log_pages (V.capacities volume.old)) records.now low
-        → HoldsThroughout (V.told volume.old) (V.told volume.new)
-        (EachImage (SpellsFrom (log_pages (V.capacities volume.old)) records.now low)) }
+        → KeepsLog (V.told volume.old) (V.told volume.new) (log_pages (V.capacities volume.old))
+        records.now low }
     ensures durable { OnOk result ((low : ℕ) → from ≤ low
         → LeavesLog (V.told volume.old) (log_pages (V.capacities volume.old)) records.now low
         → LeavesLog (V.told volume.new) (log_pages (V.capacities volume.old)) records.now end) }

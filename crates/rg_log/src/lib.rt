@@ -5,6 +5,8 @@
 pub mod fault;
 /// Forcing a page of the log.
 pub mod force;
+/// What calls leave of the log.
+pub mod laws;
 /// The log.
 pub mod log;
 /// Reading the records of a page.

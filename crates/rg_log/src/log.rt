@@ -8,19 +8,21 @@ ghost use Rattle.std.specs.Prelude.{◌≡◌, ◌≤◌, ◌<◌, ◌+◌, ◌-
 ghost use Rattle.rg_base.specs.declared.set.Set.TheVariants.{Log as LogSet};
 ghost use Rattle.rg_outside.specs.Faults.{HasCause, Rose};
 ghost use Rattle.rg_outside.specs.Made.{WritesIn};
-ghost use Rattle.rg_outside.specs.Moments.{EachCall, EachImage, HoldsThroughout, IfTold};
+ghost use Rattle.rg_outside.specs.Moments.{EachCall, EachImage, IfTold};
 ghost use Rattle.rg_image.specs.Form.{IsOpened};
 ghost use Rattle.rg_image.specs.Kept.{IsEntry, AreEntries};
-ghost use Rattle.rg_image.specs.Log.{SpellsFrom, log_of};
+ghost use Rattle.rg_image.specs.Log.{log_of};
 ghost use Rattle.rg_image.specs.Pack.{end_of, size_of, log_bytes, start};
 ghost use Rattle.rg_image.specs.Rules.{limit_of};
 ghost use Rattle.rg_log.specs.Kept.{LeavesLog, Listed, ReserveFaultIs, left_of, log_pages};
+ghost use Rattle.rg_log.specs.Present.{KeepsLog};
 
 use crate::fault::{Device, ReserveFault};
 use crate::force::{force_page, next_page};
-use crate::page::{all_bytes, page_end, size_of};
+use crate::page::page_end;
 use rg_base::no_memory::NoMemory;
 use rg_base::position::Position;
+use rg_image::sizes::{all_bytes, size_of};
 use rg_outside::source::Failed;
 use rg_outside::volume::Volume;
 use rg_record::record::Record;
@@ -155,6 +157,17 @@ impl Log {
         Position(self.forced as u64)
     }
 
+    /// The records, the first one first.
+    pub fn records(&self) -> &[Record]
+        ensures records { result.now ≡ self.now.records }
+        ensures entries { AreEntries self.now.records }
+        ensures set { 1 ≤ length self.now.records
+            → (end_of start self.now.records).page ≤ self.now.pages }
+        ensures last { (end_of start self.now.records).page ≤ 65536 }
+    {
+        self.records.as_slice()
+    }
+
     /// A copy of the record with this position.
     pub fn read_at(&self, alloc: Global, position: Position) -> Result<Record, NoMemory>
         requires low { 1 ≤ position.0 }
@@ -241,10 +254,8 @@ impl Log {
         ensures further { self.old.forced ≤ self.new.forced }
         ensures within { self.new.forced ≤ length self.old.records }
         ensures ok { OnOk result (self.old.forced < self.new.forced) }
-        ensures moments { LeavesLog (V.told volume.old) self.old.pages self.old.records
-            self.old.forced
-            → HoldsThroughout (V.told volume.old) (V.told volume.new)
-            (EachImage (SpellsFrom self.old.pages self.old.records self.old.forced)) }
+        ensures moments { KeepsLog (V.told volume.old) (V.told volume.new) self.old.pages
+            self.old.records self.old.forced }
         ensures ahead { LeavesLog (V.told volume.old) self.old.pages self.old.records
             self.old.forced
             → LeavesLog (V.told volume.new) self.old.pages self.old.records self.new.forced }
@@ -274,10 +285,8 @@ impl Log {
             → IfTold (V.told volume.new)
             (EachImage (λ i. log_of self.old.pages i ≡ self.old.records))) }
         // At each moment, and whatever fails, it is a part of them, no less than was forced.
-        ensures moments { LeavesLog (V.told volume.old) self.old.pages self.old.records
-            self.old.forced
-            → HoldsThroughout (V.told volume.old) (V.told volume.new)
-            (EachImage (SpellsFrom self.old.pages self.old.records self.old.forced)) }
+        ensures moments { KeepsLog (V.told volume.old) (V.told volume.new) self.old.pages
+            self.old.records self.old.forced }
         ensures ahead { LeavesLog (V.told volume.old) self.old.pages self.old.records
             self.old.forced
             → LeavesLog (V.told volume.new) self.old.pages self.old.records self.new.forced }

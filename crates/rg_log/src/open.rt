@@ -9,15 +9,16 @@ ghost use Rattle.rg_outside.specs.Moments.{EachCall, IfTold};
 ghost use Rattle.rg_image.specs.Form.{IsOpened};
 ghost use Rattle.rg_image.specs.Kept.{AreEntries};
 ghost use Rattle.rg_image.specs.Rules.{Follows, HasLogPages, position_after};
-ghost use Rattle.rg_log.specs.Kept.{log_pages};
-ghost use Rattle.rg_log.specs.Open.{IsCertain, IsNext, IsLogFault, IsQuiet};
+ghost use Rattle.rg_log.specs.Kept.{LeavesLog, log_pages};
+ghost use Rattle.rg_log.specs.Open.{IsCertain, IsNext, IsLogFault, IsQuiet, ReadsTidy};
 
 use crate::entries::read_page;
 use crate::fault::LogFault;
 use crate::log::Log;
-use crate::page::{ROOM, count_fitting, size_of};
+use crate::page::count_fitting;
 use rg_base::no_memory::NoMemory;
 use rg_base::set::Set;
+use rg_image::sizes::{ROOM, size_of};
 use rg_outside::volume::Volume;
 use rg_record::buffer::PAGE_SIZE;
 use rg_record::record::Record;
@@ -103,6 +104,10 @@ pub fn open_log<V: Volume>(alloc: Global, volume: &mut V) -> Result<Log, LogFaul
         (λ t. HasLogPages log.pages (read_of t.first t.calls) log.records)) }
     // A crash leaves what was read.
     ensures sure { OnOk result (IfTold (V.told volume.new) IsCertain) }
+    // Where it read tidy, whatever a crash leaves spells these records: this is what `force` asks
+    // to go on from.
+    ensures leaves { IfOk result (λ log. ReadsTidy (V.told volume.old) log.pages
+        → LeavesLog (V.told volume.new) log.pages log.records log.forced) }
     // The page that is named is the first that has not.
     ensures fault { IfErr result
         (IsLogFault (V.told volume.new) (log_pages (V.capacities volume.old))

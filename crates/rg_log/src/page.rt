@@ -4,34 +4,9 @@ ghost use Rattle.rg_image.specs.Kept.{IsEntry, AreEntries};
 ghost use Rattle.rg_image.specs.Pack.{fitting, size_of, log_bytes};
 ghost use Rattle.rg_image.specs.Page.{page_bytes, page_head, spelt};
 
+use rg_image::sizes::{ROOM, size_of};
 use rg_record::buffer::{Buffer, PAGE_SIZE};
 use rg_record::record::Record;
-
-/// The bytes of a log page after its header.
-pub const ROOM: u32 = 4072;
-
-/// The bytes that a record takes of a page.
-pub fn size_of(entry: &Record) -> u32
-    requires { IsEntry entry.now }
-    ensures size { result ≡ size_of entry.now }
-    ensures low { 23 ≤ result }
-    ensures high { result ≤ 1731 }
-{
-    entry.size() + 2
-}
-
-/// The bytes that the records take.
-pub fn all_bytes(records: &[Record]) -> u32
-    requires entries { AreEntries records.now }
-    requires few { log_bytes records.now ≤ 4072 * 65536 }
-    ensures { result ≡ log_bytes records.now }
-{
-    let mut bytes = 0;
-    for entry in records {
-        bytes += size_of(entry);
-    }
-    bytes
-}
 
 // Adds the record behind its length.
 fn add_entry(out: &mut Buffer, entry: &Record)

@@ -5,7 +5,7 @@ use crate::entries::read_page;
 use crate::fault::{LogFault, ReserveFault};
 use crate::log::Log;
 use crate::open::open_log;
-use crate::page::size_of;
+use rg_base::bytes::Bytes;
 use rg_base::no_memory::NoMemory;
 use rg_base::part::{Part, Parts, SlotOp};
 use rg_base::place::Place;
@@ -14,10 +14,12 @@ use rg_base::row::Row;
 use rg_base::set::Set;
 use rg_base::text::Text;
 use rg_base::tran::Tran;
+use rg_image::sizes::size_of;
 use rg_mem::volume::{Failing, MemVolume};
 use rg_outside::volume::Volume;
 use rg_record::buffer::PAGE_SIZE;
 use rg_record::record::{Kind, Record};
+use rg_record::write::write_record;
 use std::alloc::Global;
 use std::process::Abort;
 use std::test::Fail;
@@ -30,30 +32,43 @@ const FIRST: [u8; 119] = [
     0, 0, 1, 0, 29, 0, 21, 0, 0, 0, 0, 0, 0, 0, 2, 0, 0, 0, 1, 0, 0, 0, 0, 0, 0, 0, 1, 3,
 ];
 
-fn insert(alloc: Global) -> Result<Record, NoMemory> {
-    let home = Place { page: 1, slot: 0 };
-    let row = Row {
+const HOME: Place = Place { page: 1, slot: 0 };
+
+fn row(alloc: Global) -> Result<Option<Row>, NoMemory> {
+    Ok(Some(Row {
         key: 5,
         clus: 50,
         cat: 1,
         text: Text::new(b"abc".to_vec(alloc)?),
-    };
+    }))
+}
+
+fn parts(alloc: Global, op: SlotOp) -> Result<Parts, NoMemory> {
     let part = Part {
         page: 1,
         slot: 0,
-        op: SlotOp::Row { capacity: 29 },
+        op,
     };
+    Ok(Parts::new([part].to_vec(alloc)?))
+}
+
+// An insert of the row, the first record of its transaction.
+fn insert_at(alloc: Global, position: u64, tran: u32) -> Result<Record, NoMemory> {
     Ok(Record {
-        position: Position(1),
-        tran: Tran(1),
+        position: Position(position),
+        tran: Tran(tran),
         back: Position(0),
         kind: Kind::Change {
-            home,
+            home: HOME,
             before: None,
-            after: Some(row),
-            parts: Parts::new([part].to_vec(alloc)?),
+            after: row(alloc)?,
+            parts: parts(alloc, SlotOp::Row { capacity: 29 })?,
         },
     })
+}
+
+fn insert(alloc: Global) -> Result<Record, NoMemory> {
+    insert_at(alloc, 1, 1)
 }
 
 fn commit(position: u64) -> Record {
@@ -168,20 +183,20 @@ fn refuses_wrong_pages(rt: HostRuntime) -> Result<(), Fail> {
     Ok(())
 }
 
-// A log of six pages and its volume.
+// A log of 24 pages and its volume.
 #[derive(Drop)]
 struct Held {
     log: Log,
     volume: MemVolume,
-    ghost pages: { log.pages ≡ 6 },
-    ghost capacity: { (capacities_of volume).log ≡ 6 },
+    ghost pages: { log.pages ≡ 24 },
+    ghost capacity: { (capacities_of volume).log ≡ 24 },
 }
 
 impl Held {
     fn new(alloc: Global, failing: &[Failing], stop: Option<u64>) -> Result<Held, NoMemory> {
         Ok(Held {
-            log: Log::empty(alloc, 6),
-            volume: MemVolume::new(alloc, 6, 0, 0, 1000, 500, failing, stop)?,
+            log: Log::empty(alloc, 24),
+            volume: MemVolume::new(alloc, 24, 0, 0, 1000, 500, failing, stop)?,
         })
     }
 
@@ -226,7 +241,7 @@ impl Held {
     // The bytes of a log page.
     fn page(&mut self, page: u32) -> Option<[u8; PAGE_SIZE]>
         requires low { 1 ≤ page }
-        requires high { page ≤ 6 }
+        requires high { page ≤ 24 }
     {
         let mut bytes = [1; PAGE_SIZE];
         match self.volume.read(Set::Log, page, &mut bytes) {
@@ -238,7 +253,7 @@ impl Held {
     // Writes a log page over.
     fn put(&mut self, page: u32, bytes: &[u8; PAGE_SIZE]) -> bool
         requires low { 1 ≤ page }
-        requires high { page ≤ 6 }
+        requires high { page ≤ 24 }
     {
         self.volume.write(Set::Log, page, bytes).is_ok()
     }
@@ -304,13 +319,112 @@ fn reads_back_what_was_forced(rt: HostRuntime) -> Result<(), Fail> {
             (23 * last, 0),
             "{piece}"
         );
-        assert_eq!(rt; log.limit(), 11350, "{piece}");
+        assert_eq!(rt; log.limit(), 52210, "{piece}");
         again.has_commits(&rt, rt.alloc(), 1)?;
         again.add_commits(&rt, last + 1, 450, 450)?;
         let more = again.crashed(rt.alloc(), 0)?;
         assert_eq!(rt; more.log.last(), Position(450), "{piece}");
         more.has_commits(&rt, rt.alloc(), 1)?;
     }
+    Ok(())
+}
+
+// One of each kind.
+fn kind_of(alloc: Global, number: u8) -> Result<Kind, NoMemory> {
+    Ok(match number {
+        2 => Kind::Undo {
+            next: Position(0),
+            home: HOME,
+            after: row(alloc)?,
+            parts: parts(alloc, SlotOp::DeadRow { capacity: 29 })?,
+        },
+        3 => Kind::Commit,
+        4 => Kind::RolledBack,
+        5 => Kind::Purge {
+            parts: parts(alloc, SlotOp::Free)?,
+        },
+        6 => Kind::Switch { copy: 2, pages: 3 },
+        _ => Kind::Change {
+            home: HOME,
+            before: row(alloc)?,
+            after: None,
+            parts: parts(alloc, SlotOp::DeadRow { capacity: 29 })?,
+        },
+    })
+}
+
+fn record_of(alloc: Global, number: u8) -> Result<Record, NoMemory> {
+    let tran = if number < 5 { 1 } else { 0 };
+    Ok(Record {
+        position: Position(u64::from(number)),
+        tran: Tran(tran),
+        back: Position(0),
+        kind: kind_of(alloc, number)?,
+    })
+}
+
+fn bytes_of(rt: &impl Abort, alloc: Global, entry: &Record) -> Result<Bytes, NoMemory> {
+    assert!(rt; entry.is_spelled());
+    write_record(alloc, entry)
+}
+
+// Each kind of record comes back from the volume as it was.
+#[test]
+fn reads_back_each_kind(rt: HostRuntime) -> Result<(), Fail> {
+    let mut held = Held::new(rt.alloc(), &[], None)?;
+    for number in 1..=6 {
+        held.add(&rt, record_of(rt.alloc(), number)?, true)?;
+    }
+    let again = held.crashed(rt.alloc(), 1)?;
+    assert_eq!(rt; again.log.last(), Position(6));
+    for number in 1..=6 {
+        let entry = again.log.read_at(rt.alloc(), Position(u64::from(number)))?;
+        let found = bytes_of(&rt, rt.alloc(), &entry)?;
+        let wanted = bytes_of(&rt, rt.alloc(), &record_of(rt.alloc(), number)?)?;
+        assert!(rt; found.as_slice() == wanted.as_slice(), "kind {number}");
+    }
+    Ok(())
+}
+
+fn end_at(position: u64, tran: u32) -> Record {
+    Record {
+        position: Position(position),
+        tran: Tran(tran),
+        back: Position(position.saturating_sub(1)),
+        kind: Kind::Commit,
+    }
+}
+
+// Whether each two records are of the next transaction, an insert and a commit.
+fn are_sessions(records: &[Record]) -> bool {
+    for (n, entry) in records.iter().enumerate() {
+        let of_tran = entry.tran.0 as usize == n / 2 + 1;
+        if !of_tran || matches!(entry.kind, Kind::Commit) != (n % 2 == 1) {
+            return false;
+        }
+    }
+    true
+}
+
+// Each of 300 transactions inserts a row and commits, in 95 bytes, and is forced. Two pages hold 85
+// of them: 42 and an insert on the one, its commit and 42 on the other.
+#[test]
+fn reads_back_three_hundred_commits(rt: HostRuntime) -> Result<(), Fail> {
+    let mut held = Held::new(rt.alloc(), &[], None)?;
+    for tran in 1..=300 {
+        let position = u64::from(tran) * 2;
+        held.add(&rt, insert_at(rt.alloc(), position - 1, tran)?, false)?;
+        held.add(&rt, end_at(position, tran), true)?;
+        assert_eq!(rt; held.log.forced(), Position(position));
+    }
+    let mut again = held.crashed(rt.alloc(), 5)?;
+    assert_eq!(rt;
+        (again.log.last(), again.log.used()),
+        (Position(600), 28500)
+    );
+    assert!(rt; are_sessions(again.log.records()));
+    assert!(rt; again.page(8) != Some([0; PAGE_SIZE]));
+    assert!(rt; again.page(9) == Some([0; PAGE_SIZE]));
     Ok(())
 }
 
@@ -378,7 +492,7 @@ fn names_page_after_short_one(rt: HostRuntime) -> Result<(), Fail> {
     Ok(())
 }
 
-// Opening six pages of zeros makes a sync and a read.
+// Opening pages of zeros makes a sync and a read.
 #[test]
 fn names_a_failed_call(rt: HostRuntime) -> Result<(), Fail> {
     for (stop, fails) in [(0, true), (1, true), (2, false)] {

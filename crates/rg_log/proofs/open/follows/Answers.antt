@@ -4,7 +4,8 @@ use Rattle.rg_record.specs.declared.record.Record.{Record}
 use Rattle.rg_image.specs.Kept.{AreEntries}
 use Rattle.rg_image.specs.Pack.{end_of, start, fitting, log_bytes}
 use Rattle.rg_image.specs.Rules.{position_after}
-use Rattle.rg_log.proofs.Fill.{back_entries, item_is}
+use Rattle.rg_image.proofs.Entries.{item_is}
+use Rattle.rg_log.proofs.Fill.{back_entries}
 use Rattle.rg_log.proofs.Follow.{made, full_of, used_on_last}
 use Rattle.rg_log.proofs.open.follows.Goals as goal
 

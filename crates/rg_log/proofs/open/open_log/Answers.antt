@@ -13,6 +13,7 @@ use Rattle.rg_log.specs.Open.{IsCertain, IsNext}
 use Rattle.rg_log.specs.declared.open.Next.{Next}
 use Rattle.rg_log.specs.declared.open.Next.TheVariants.{End, Broken, Page}
 use Rattle.rg_log.proofs.Opening.{no_page, read_on, one_page, at_zero, at_end, broken, both_entries, only_sync, only_read, sync_certain, read_certain}
+use Rattle.rg_log.proofs.Ready.{opened_leaves, tidy_on}
 use Rattle.rg_log.proofs.open.open_log.Goals as goal
 
 none_opened : (rs : List Record) → rs ≡ [] → IsOpened rs 0 0
@@ -50,6 +51,15 @@ returns-in-Ok-End-clause-log g c =
     subst (λ (l : Listed). IfTold told (λ t. HasLogPages l.pages (read_of t.first t.calls) l.records)) (sym c.opened.ensures)
     (at_zero told c.min-pages.result c.loop-page.page rs c.read.new.into
     (read_on _ _ _ c.loop-page.page rs c.loop-page.invariant.are c.read.ensures.made) c.in-Ok-read.ensures.content (omega (arith, c.loop-page-test.true)) zeros)
+
+pub returns-in-Ok-End-clause-leaves : goal.returns-in-Ok-End-clause-leaves
+returns-in-Ok-End-clause-leaves g c =
+    let set : c.min-pages.result ≡ log_pages (g.V.Volume.capacities c.read.new.self) =
+    c.min-pages.ensures ∙ ap (λ (n : ℕ). min n 65536) (c.capacity.ensures ∙ ap (λ (x : Capacities). capacity_of x Log) (c.sync.ensures.capacities ∙ sym c.loop-page.invariant.capacities ∙ sym c.read.ensures.capacities)) in
+    λ tidy.
+    opened_leaves (g.V.Volume.told c.read.new.self) (g.V.Volume.capacities c.read.new.self) c.min-pages.result c.loop-page.records.items c.opened.result c.opened.ensures set
+    (g.met.V.Volume.told_capacities c.read.new.self) (returns-in-Ok-End-clause-log g c) (read_certain _ _ _ c.loop-page.invariant.sure c.read.ensures.made)
+    (tidy_on (g.V.Volume.told c.args.volume.now) (g.V.Volume.told c.read.new.self) c.opened.result.pages (only_read _ _ _ _ c.loop-page.invariant.only c.read.ensures.made) tidy)
 
 pub returns-in-Ok-Broken-clause-fault : goal.returns-in-Ok-Broken-clause-fault
 returns-in-Ok-Broken-clause-fault g c =
@@ -114,3 +124,12 @@ returns-in-Ok-End-clause-sure g c = read_certain _ _ _ c.loop-page.invariant.sur
 
 pub returns-clause-sure : goal.returns-clause-sure
 returns-clause-sure g c = c.loop-page.invariant.sure
+
+pub returns-clause-leaves : goal.returns-clause-leaves
+returns-clause-leaves g c =
+    let set : c.min-pages.result ≡ log_pages (g.V.Volume.capacities c.loop-page.volume) =
+    c.min-pages.ensures ∙ ap (λ (n : ℕ). min n 65536) (c.capacity.ensures ∙ ap (λ (x : Capacities). capacity_of x Log) (c.sync.ensures.capacities ∙ sym c.loop-page.invariant.capacities)) in
+    λ tidy.
+    opened_leaves (g.V.Volume.told c.loop-page.volume) (g.V.Volume.capacities c.loop-page.volume) c.min-pages.result c.loop-page.records.items c.opened-2.result c.opened-2.ensures set
+    (g.met.V.Volume.told_capacities c.loop-page.volume) (returns-clause-log g c) c.loop-page.invariant.sure
+    (tidy_on (g.V.Volume.told c.args.volume.now) (g.V.Volume.told c.loop-page.volume) c.opened-2.result.pages c.loop-page.invariant.only tidy)

@@ -1,4 +1,4 @@
-use Rattle.rg_log.proofs.Fill.{item_is}
+use Rattle.rg_image.proofs.Entries.{item_is}
 use Rattle.rg_log.proofs.page.count_fitting.Goals as goal
 
 pub size_of-size-requires : goal.size_of-size-requires

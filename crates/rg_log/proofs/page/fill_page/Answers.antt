@@ -2,7 +2,8 @@ use Rattle.std.proofs.Common.{◌≡◌, ◌++◌, List, ℕ, length, get_or, ar
 use Rattle.rg_image.specs.Pack.{log_bytes}
 use Rattle.rg_image.specs.Page.{page_head}
 use Rattle.rg_image.proofs.Room.{fitting_room}
-use Rattle.rg_log.proofs.Fill.{item_is, page_is, log_bytes_take}
+use Rattle.rg_image.proofs.Entries.{item_is}
+use Rattle.rg_log.proofs.Fill.{page_is, log_bytes_take}
 use Rattle.rg_log.proofs.page.fill_page.Goals as goal
 
 pub overflow_cast-count : goal.overflow_cast-count

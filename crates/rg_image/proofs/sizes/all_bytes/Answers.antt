@@ -1,5 +1,5 @@
-use Rattle.rg_log.proofs.Fill.{item_is}
-use Rattle.rg_log.proofs.page.all_bytes.Goals as goal
+use Rattle.rg_image.proofs.Entries.{item_is}
+use Rattle.rg_image.proofs.sizes.all_bytes.Goals as goal
 
 pub size_of-bytes-requires : goal.size_of-bytes-requires
 size_of-bytes-requires c =
