@@ -70,3 +70,53 @@ pub record Collected
   pub walks : Walks records unit.tran.0 at rest
   pub left : length rest + i ≡ unit.writes
   pub chain : ChainTo unit.tran.0 at rest unit.last.0 ws changes
+
+-- the latest Change that is left can be undone: it stands at `at`, its row can be taken back in the
+-- indexes, and there is room for its undo
+pub record CanUndoNext (d : Engine) (work : List Record) (at : ℕ) : Type 0 where
+  pub unlist : CanUnlist d at
+  pub later : List Record
+  pub work_is : work ≡ change_record at unlist.t unlist.back unlist.write ∷ later
+  pub able :
+      CanUndoChange (seen_in d) (index_of d.space)
+      (change_record at unlist.t unlist.back unlist.write)
+  pub pages : HasPages d
+  pub undos : length work ≤ undos_in d.space
+  pub reserved : 1 ≤ d.records.reserved
+
+-- it was undone, by a record of its own; the answer is the position of the Change before
+pub record UndidNext
+    (old : Engine) (work : List Record) (at back next : ℕ) (new : Engine) (left : List Record)
+    : Type 0 where
+  pub capacity : capacity_in new.space ≡ capacity_in old.space
+  pub pages : HasPages new
+  pub slots :
+      (t before : ℕ) (w : Write) (later : List Record)
+      → work ≡ change_record at t before w ∷ later
+      → slots_in new ≡ undone (slots_in old) (written_of (change_record at t before w))
+  pub records :
+      (t before : ℕ) (w : Write) (later : List Record)
+      → work ≡ change_record at t before w ∷ later
+      → new.records.records
+      ≡ old.records.records
+      ++ undo_record (length old.records.records + 1) back (slots_in old)
+      (change_record at t before w)
+      ∷ []
+  pub reserved : new.records.reserved + 1 ≡ old.records.reserved
+  pub left_is :
+      (t before : ℕ) (w : Write) (later : List Record)
+      → work ≡ change_record at t before w ∷ later → left ≡ later
+  pub undos : length left ≤ undos_in new.space
+  pub spare : (n : ℕ) → HasSpare (n + 1) old.indexes → HasSpare n new.indexes
+  pub listings :
+      (t before : ℕ) (w : Write) (rows after : Place → Option Row)
+      → record_at old.records.records at ≡ Some (change_record at t before w)
+      → AreListings rows old.indexes → rows w.written.home ≡ w.after
+      → SetsRow rows after w.written.home w.written.before → AreListings after new.indexes
+  pub next_is :
+      (t before : ℕ) (w : Write)
+      → record_at old.records.records at ≡ Some (change_record at t before w) → next ≡ before
+  pub locks : new.locks ≡ old.locks
+  pub claims : new.claims ≡ old.claims
+  pub units : new.units ≡ old.units
+  pub top : new.top ≡ old.top

@@ -5,7 +5,7 @@
 // 2. The latest is undone first. Each undo is a record of its own.
 ghost use Rattle.std.specs.Prelude.{◌≡◌, ◌≤◌, List, IfOk, length};
 ghost use Rattle.rg_lawful.specs.Write.{Write};
-ghost use Rattle.rg_desk.specs.Undoing.{AreChain, CanUnlist, HasWrites, Unlists, change_in};
+ghost use Rattle.rg_desk.specs.Undoing.{AreChain, CanUndoNext, CanUnlist, HasWrites, UndidNext, Unlists, change_in};
 ghost use Rattle.rg_desk.specs.Walks.{Walks};
 
 use crate::engine::{Engine, copy_row};
@@ -14,6 +14,7 @@ use rg_base::no_memory::NoMemory;
 use rg_base::part::Parts;
 use rg_base::position::Position;
 use rg_record::record::{Kind, Record};
+use rg_undo::work::UndoWork;
 use std::alloc::Global;
 
 fn copy_parts(alloc: Global, parts: &Parts) -> Result<Parts, NoMemory>
@@ -96,6 +97,24 @@ impl Engine {
             } => {
                 self.indexes.replace(*home, after.as_ref(), before.as_ref());
                 entry.back
+            }
+            _ => unreachable!(),
+        }
+    }
+
+    // Undoes the latest Change that is left, which stands at this position. The answer is the
+    // position of the Change before it.
+    fn undo_next(&mut self, work: &mut UndoWork, at: Position, back: Position) -> Position
+        requires low { 1 ≤ at.0 }
+        requires can { CanUndoNext self.old work.old at.0 }
+        ensures { UndidNext self.old work.old at.0 back.0 result.0 self.new work.new }
+    {
+        let next = self.unlist(at);
+        let position = self.records.next();
+        match work.next(&mut self.space, position, back) {
+            Ok(Some(undo)) => {
+                self.records.append(undo);
+                next
             }
             _ => unreachable!(),
         }
