@@ -28,3 +28,4 @@ pub mod Rolled
 pub mod RollbackShows
 pub mod Unlisting
 pub mod Collecting
+pub mod UndoSteps

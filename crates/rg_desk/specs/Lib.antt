@@ -10,3 +10,4 @@ pub mod Steps
 pub mod Ended
 pub mod Reads
 pub mod Undoing
+pub mod Undone

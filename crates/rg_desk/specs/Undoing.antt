@@ -25,15 +25,19 @@ pub record HasWrites (records : List Record) (unit : OpenUnit) : Type 0 where
   pub count : length writes ≡ unit.writes
 
 -- these are the Changes of unit t from its last one back to the one before `rest`, which is at `at`
-abbrev pub ChainTo : (t at : ℕ) → (rest : List Write) → (last : ℕ) → List Write → List Record → Type 0
-ChainTo t at rest last ws [] = (last ≡ at) × (ws ≡ rest)
-ChainTo t at rest last [] (r ∷ rs) = ⊥
-ChainTo t at rest last (w ∷ ws) (r ∷ rs) =
-    (back : ℕ) × (r ≡ change_record last t back w) × ChainTo t at rest back ws rs
+abbrev pub ChainTo :
+    List Record → (t at : ℕ) → (rest : List Write) → (last : ℕ) → List Write → List Record
+    → Type 0
+ChainTo records t at rest last ws [] = (last ≡ at) × (ws ≡ rest)
+ChainTo records t at rest last [] (r ∷ rs) = ⊥
+ChainTo records t at rest last (w ∷ ws) (r ∷ rs) =
+    (back : ℕ) × (1 ≤ last) × (r ≡ change_record last t back w)
+    × (record_at records last ≡ Some (change_record last t back w))
+    × ChainTo records t at rest back ws rs
 
 -- these are the Changes of these writes of unit t, from its last one on
-abbrev pub AreChain : (t last : ℕ) → List Write → List Record → Type 0
-AreChain t last ws rs = ChainTo t 0 [] last ws rs
+abbrev pub AreChain : List Record → (t last : ℕ) → List Write → List Record → Type 0
+AreChain records t last ws rs = ChainTo records t 0 [] last ws rs
 
 -- the row of the Change at a position can be taken back in the indexes
 pub record CanUnlist (d : Engine) (at : ℕ) : Type 0 where
@@ -69,7 +73,7 @@ pub record Collected
   pub rest : List Write
   pub walks : Walks records unit.tran.0 at rest
   pub left : length rest + i ≡ unit.writes
-  pub chain : ChainTo unit.tran.0 at rest unit.last.0 ws changes
+  pub chain : ChainTo records unit.tran.0 at rest unit.last.0 ws changes
 
 -- the latest Change that is left can be undone: it stands at `at`, its row can be taken back in the
 -- indexes, and there is room for its undo

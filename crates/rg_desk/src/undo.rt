@@ -61,7 +61,8 @@ impl Engine {
         requires writes { HasWrites self.now.records.records unit }
         ensures { IfOk result (λ changes. (ws : List Write)
             → Walks self.now.records.records unit.tran.0 unit.last.0 ws
-            → length ws ≡ unit.writes → AreChain unit.tran.0 unit.last.0 ws changes.items) }
+            → length ws ≡ unit.writes → AreChain self.now.records.records unit.tran.0
+            unit.last.0 ws changes.items) }
     {
         let mut changes = Vec::new(self.alloc);
         let mut at = unit.last;

@@ -1,0 +1,41 @@
+-- A unit's writes, undone so far.
+use Rattle.std.specs.Prelude.{◌≡◌, ◌≤◌, ◌+◌, ℕ, List, [], ◌++◌, length}
+use Rattle.rg_home.specs.Pages.{slot_of}
+use Rattle.rg_home.specs.Rows.{row_at}
+use Rattle.rg_indexes.specs.Listings.{AreListings, HasSpare}
+use Rattle.rg_lawful.specs.Act.{Act, LogState, state}
+use Rattle.rg_lawful.specs.Closing.{AreUndos}
+use Rattle.rg_lawful.specs.Lawful.{Runs}
+use Rattle.rg_lawful.specs.Records.{acts_of}
+use Rattle.rg_lawful.specs.Write.{own_of}
+use Rattle.rg_record.specs.declared.record.Record.{Record}
+use Rattle.rg_space.specs.Space.{capacity_in, undos_in}
+use Rattle.rg_desk.specs.Engine.{HasPages, slots_in}
+use Rattle.rg_desk.specs.Undoing.{AreChain}
+use Rattle.rg_desk.specs.declared.engine.Engine.{Engine}
+use Rattle.rg_desk.specs.declared.units.OpenUnit.{OpenUnit}
+
+-- i writes of this unit are undone, by lawful Undos from state s on; the others are still to come
+pub record IsUndoing
+    (old : Engine) (s : LogState) (unit : OpenUnit) (now : Engine) (work : List Record) (at i : ℕ)
+    : Type 0 where
+  pub undos : List Act
+  pub are : AreUndos unit.tran.0 undos
+  pub runs : Runs (capacity_in old.space) s undos
+  pub more : List Record
+  pub records : now.records.records ≡ old.records.records ++ more
+  pub acts : acts_of [] now.records.records ≡ undos ++ acts_of [] old.records.records
+  pub capacity : capacity_in now.space ≡ capacity_in old.space
+  pub pages : HasPages now
+  pub slots : slots_in now ≡ (state s undos).pages
+  pub indexes : AreListings (row_at (slot_of (state s undos).pages)) now.indexes
+  pub chain :
+      AreChain now.records.records unit.tran.0 at (own_of unit.tran.0 (state s undos).writes) work
+  pub left : length (own_of unit.tran.0 (state s undos).writes) + i ≡ unit.writes
+  pub spare : HasSpare (length work) now.indexes
+  pub rooms : length work ≤ undos_in now.space
+  pub reserved : now.records.reserved + i ≡ old.records.reserved
+  pub locks : now.locks ≡ old.locks
+  pub claims : now.claims ≡ old.claims
+  pub units : now.units ≡ old.units
+  pub top : now.top ≡ old.top
