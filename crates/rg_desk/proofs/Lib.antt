@@ -29,3 +29,4 @@ pub mod RollbackShows
 pub mod Unlisting
 pub mod Collecting
 pub mod UndoSteps
+pub mod UndoBegins

@@ -107,6 +107,9 @@ module _ (old : Engine) (s : LogState) (good : IsConsistent (capacity_in old.spa
   written : (n : NextUndo now u t at work) → written_of (change_record at t n.back n.write) ≡ n.write.written
   written n = written_is at t n.back n.write (latest_owner t u.writes n.write (latest n))
 
+  pub low_at : 1 ≤ at
+  low_at = next.low
+
   pub can_undo : CanUndoNext now work at
   can_undo =
       let n = next in

@@ -8,9 +8,11 @@ use Rattle.rg_lawful.specs.Closing.{AreUndos}
 use Rattle.rg_lawful.specs.Lawful.{Runs}
 use Rattle.rg_lawful.specs.Records.{acts_of}
 use Rattle.rg_lawful.specs.Write.{own_of}
+use Rattle.rg_model.specs.State.{State}
 use Rattle.rg_record.specs.declared.record.Record.{Record}
 use Rattle.rg_space.specs.Space.{capacity_in, undos_in}
 use Rattle.rg_desk.specs.Engine.{HasPages, slots_in}
+use Rattle.rg_desk.specs.Shows.{Shows, left_by}
 use Rattle.rg_desk.specs.Undoing.{AreChain}
 use Rattle.rg_desk.specs.declared.engine.Engine.{Engine}
 use Rattle.rg_desk.specs.declared.units.OpenUnit.{OpenUnit}
@@ -39,3 +41,9 @@ pub record IsUndoing
   pub claims : now.claims ≡ old.claims
   pub units : now.units ≡ old.units
   pub top : now.top ≡ old.top
+
+-- all writes of this unit are undone, from each state that the engine showed
+abbrev pub IsUndone : Engine → OpenUnit → Engine → Type 0
+IsUndone old unit new =
+    (st : State) (allowed : ℕ) (shows : Shows st allowed old)
+    → IsUndoing old (left_by shows.first old) unit new [] 0 unit.writes

@@ -3,9 +3,13 @@
 // 1. The Changes of the unit are copied first, from its last record back, and room in the indexes
 //    is taken for each. After that nothing fails.
 // 2. The latest is undone first. Each undo is a record of its own.
-ghost use Rattle.std.specs.Prelude.{◌≡◌, ◌≤◌, List, IfOk, length};
+ghost use Rattle.std.specs.Prelude.{◌≡◌, ◌≤◌, List, Some, IfOk, OnOk, OnErr, length};
 ghost use Rattle.rg_lawful.specs.Write.{Write};
 ghost use Rattle.rg_desk.specs.Undoing.{AreChain, CanUndoNext, CanUnlist, HasWrites, UndidNext, Unlists, change_in};
+ghost use Rattle.rg_desk.specs.Shows.{IsShown};
+ghost use Rattle.rg_desk.specs.Undone.{IsUndone};
+ghost use Rattle.rg_desk.specs.Units.{unit_at};
+ghost use Rattle.rg_desk.specs.Wrote.{SameEngine};
 ghost use Rattle.rg_desk.specs.Walks.{Walks};
 
 use crate::engine::{Engine, copy_row};
@@ -13,6 +17,7 @@ use crate::units::OpenUnit;
 use rg_base::no_memory::NoMemory;
 use rg_base::part::Parts;
 use rg_base::position::Position;
+use rg_base::session::Session;
 use rg_record::record::{Kind, Record};
 use rg_undo::work::UndoWork;
 use std::alloc::Global;
@@ -119,5 +124,29 @@ impl Engine {
             }
             _ => unreachable!(),
         }
+    }
+
+    /// Undoes all writes of a session's unit. The answer is the position of the unit's last record
+    /// then. Out of memory leaves all as it was, but for room.
+    pub fn undo_writes(&mut self, session: Session, unit: OpenUnit) -> Result<Position, NoMemory>
+        requires shown { IsShown self.old }
+        requires unit { unit_at self.old.units session.0 ≡ Some unit }
+        ensures ok { OnOk result (IsUndone self.old unit self.new) }
+        ensures err { OnErr result (SameEngine self.old self.new) }
+    {
+        let changes = self.collect(unit)?;
+        let Ok(more) = u32::try_from(changes.len()) else {
+            return Err(NoMemory);
+        };
+        self.indexes.reserve(more)?;
+        let mut work = UndoWork::new(&mut self.space, changes)?;
+        let mut at = unit.last;
+        let mut back = unit.last;
+        for _ in 0..unit.writes {
+            let position = self.records.next();
+            at = self.undo_next(&mut work, at, back);
+            back = position;
+        }
+        Ok(back)
     }
 }
