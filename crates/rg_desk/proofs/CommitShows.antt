@@ -109,8 +109,8 @@ module _ (st : State) (allowed : ℕ) (d new : Engine) (session : Session) (show
   }
 
   -- no unit, and so no locks
-  idle : unit_at d.units session.0 ≡ None → Shows (after_commit st session) (allowed + 0) new
-  idle none =
+  pub idle_shows : unit_at d.units session.0 ≡ None → Shows (after_commit st session) (allowed + 0) new
+  idle_shows none =
       let same : new.records.records ≡ d.records.records = records ∙ ap (records_committed d.records.records) none in
       let same_units : set d.units session.0 None ≡ d.units = ap (set d.units session.0) (sym none) ∙ set-get_or d.units session.0 None in
       let same_locks : locks_without session d.locks ≡ d.locks = without-none session d.locks (λ k. unlocked (fin.get d.locks k) k (shows.by.keys k)) in
@@ -169,5 +169,5 @@ module _ (st : State) (allowed : ℕ) (d new : Engine) (session : Session) (show
   }
     where
       go : (o : Option OpenUnit) → unit_at d.units session.0 ≡ o → Shows (after_commit st session) (allowed + 0) new
-      go None e = idle e
+      go None e = idle_shows e
       go (Some unit) e = ended unit e

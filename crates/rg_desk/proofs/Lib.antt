@@ -30,3 +30,4 @@ pub mod Unlisting
 pub mod Collecting
 pub mod UndoSteps
 pub mod UndoBegins
+pub mod RollbackGoes

@@ -2,9 +2,11 @@
 --
 -- 1. Its writes are no longer kept and it is no longer live, whether it commits or was undone. No
 --    other unit's writes are touched, nor what is committed of keys that it has not written.
-use Rattle.std.specs.Prelude.{◌≡◌, ◌+◌, ℕ, false, List, [], ◌∷◌, ◌++◌, Option, Some, None, length}
+use Rattle.std.specs.Prelude.{◌≡◌, ◌+◌, ℕ, false, List, [], ◌∷◌, ◌++◌, Option, Some, None, length, slice_set}
+use Rattle.std.specs.FinMap as fin
 use Rattle.rg_base.specs.declared.session.Session.{Session}
-use Rattle.rg_record.specs.declared.record.Kind.TheVariants.{Commit}
+use Rattle.rg_model.specs.Committed.{locks_without}
+use Rattle.rg_record.specs.declared.record.Kind.TheVariants.{Commit, RolledBack}
 use Rattle.rg_record.specs.declared.record.Record.{Record}
 use Rattle.rg_lawful.specs.Act.{LogState, is_in, not_of, others}
 use Rattle.rg_lawful.specs.Consistent.{stored_of}
@@ -43,3 +45,22 @@ pub record LogsCommit (old : Engine) (session : Session) (new : Engine) : Type 0
       new.records.records ≡ records_committed old.records.records (unit_at old.units session.0)
   pub reserved :
       new.records.reserved + owed_to (unit_at old.units session.0) ≡ old.records.reserved
+
+-- a session has no unit, no locks and no claim any more
+pub record EndsSession (old : Engine) (session : Session) (new : Engine) : Type 0 where
+  pub space : new.space ≡ old.space
+  pub records : new.records ≡ old.records
+  pub indexes : new.indexes ≡ old.indexes
+  pub top : new.top ≡ old.top
+  pub locks : new.locks ≡ locks_without session old.locks
+  pub claims : new.claims ≡ record old.claims { claims = fin.remove old.claims.claims session.0 }
+  pub units : new.units ≡ slice_set old.units session.0 None
+
+-- the RolledBack record of a unit
+abbrev pub rolled_record : (position last : ℕ) → OpenUnit → Record
+rolled_record position last unit = record {
+  position = record { 0 = position };
+  tran = unit.tran;
+  back = record { 0 = last };
+  kind = RolledBack;
+}

@@ -4,7 +4,7 @@
 //    memory, and is never refused.
 // 2. What was reserved for undoing the unit is given back.
 ghost use Rattle.rg_base.specs.Session.{IsSession};
-ghost use Rattle.rg_desk.specs.Ended.{LogsCommit};
+ghost use Rattle.rg_desk.specs.Ended.{EndsSession, LogsCommit};
 ghost use Rattle.rg_desk.specs.Shows.{IsShown};
 ghost use Rattle.rg_desk.specs.Steps.{Steps};
 
@@ -40,9 +40,41 @@ impl Engine {
         ensures { Steps self.old session Stmt.Commit result self.new }
     {
         self.log_commit(session);
+        self.end(session);
+        Reply::Done
+    }
+
+    // The session has no unit, no locks and no claim any more.
+    fn end(&mut self, session: Session)
+        requires session { IsSession session }
+        ensures { EndsSession self.old session self.new }
+    {
         self.units.set(session, None);
         self.locks.end(session);
         self.claims.release(session);
+    }
+
+    /// Ends the unit of work and puts back what it wrote. Out of memory leaves all as it was.
+    pub fn rollback(&mut self, session: Session) -> Reply
+        requires session { IsSession session }
+        requires shown { IsShown self.old }
+        ensures { Steps self.old session Stmt.Rollback result self.new }
+    {
+        let Some(unit) = self.units.get(session) else {
+            self.end(session);
+            return Reply::Done;
+        };
+        let Ok(last) = self.undo_writes(session, unit) else {
+            return Reply::NoMemory;
+        };
+        let entry = Record {
+            position: self.records.next(),
+            tran: unit.tran,
+            back: last,
+            kind: Kind::RolledBack,
+        };
+        self.records.append(entry);
+        self.end(session);
         Reply::Done
     }
 }

@@ -1,0 +1,100 @@
+-- How a ROLLBACK goes, from a state that the engine shows.
+use Rattle.std.proofs.Common.{◌≡◌, ◌==◌, ◌≤◌, ◌<◌, ◌+◌, ℕ, Bool, true, false, not, List, [], ◌∷◌, ◌++◌, Option, Some, None, length, set, refl, sym, ◌∙◌, ap, subst, arith}
+use Rattle.std.specs.FinMap as fin
+use Rattle.std.proofs.lemmas.Bool.{eqb-true}
+use Rattle.std.proofs.lemmas.List.{append_assoc}
+use Rattle.rg_base.specs.declared.lock.Lock.{Lock}
+use Rattle.rg_base.specs.declared.session.Session.{Session}
+use Rattle.rg_claim.specs.declared.claims.Claims.{Claims}
+use Rattle.rg_home.specs.Able.{IsLive}
+use Rattle.rg_home.specs.Pages.{slot_of}
+use Rattle.rg_home.specs.Rows.{row_at}
+use Rattle.rg_indexes.specs.Listings.{AreListings}
+use Rattle.rg_indexes.specs.declared.indexes.Indexes.{Indexes}
+use Rattle.rg_model.specs.Committed.{locks_without, own_locks, put_back}
+use Rattle.rg_model.specs.Held.{is_others}
+use Rattle.rg_model.specs.Plain.{after_commit, after_rollback}
+use Rattle.rg_model.specs.State.{Locks, State, Table}
+use Rattle.rg_model.proofs.Ends.{put_own-none}
+use Rattle.rg_record.specs.declared.record.Record.{Record}
+use Rattle.rg_lawful.specs.Act.{Act, LogState, state}
+use Rattle.rg_lawful.specs.Act.{RollBack}
+use Rattle.rg_lawful.specs.Lawful.{Runs}
+use Rattle.rg_lawful.specs.Records.{acts_of}
+use Rattle.rg_lawful.specs.Write.{Write, first_write, latest_of, own_of}
+use Rattle.rg_lawful.proofs.Own.{own_first}
+use Rattle.rg_space.specs.Space.{Agree, InStep, capacity_in, frames_of, index_of}
+use Rattle.rg_stmt.specs.declared.stmt.Reply.TheVariants.{Done}
+use Rattle.rg_stmt.specs.declared.stmt.Stmt.TheVariants.{Rollback}
+use Rattle.rg_desk.specs.Ended.{EndsSession, records_committed, rolled_record}
+use Rattle.rg_desk.specs.Engine.{HasPages, slots_in}
+use Rattle.rg_desk.specs.Pages.{list_seen}
+use Rattle.rg_desk.specs.Shows.{KeyShown, Shows, left_by}
+use Rattle.rg_desk.specs.Steps.{Goes}
+use Rattle.rg_desk.specs.Undone.{IsUndoing}
+use Rattle.rg_desk.specs.Units.{owed_to, unit_at}
+use Rattle.rg_desk.specs.declared.engine.Engine.{Engine}
+use Rattle.rg_desk.specs.declared.units.OpenUnit.{OpenUnit}
+use Rattle.rg_desk.proofs.Appended.{acts_snoc}
+use Rattle.rg_desk.proofs.CommitShows.{idle_shows}
+use Rattle.rg_desk.proofs.Rolled.{undos_leave}
+use Rattle.rg_desk.proofs.RollbackShows.{rollback_goes}
+
+-- no own writes are left
+none_left : (ws : List Write) (n : ℕ) → length ws + n ≡ n → ws ≡ []
+none_left [] n e = refl
+none_left (w ∷ ws) n e = absurd (omega (arith, e))
+
+module _ (st : State) (allowed : ℕ) (d : Engine) (session : Session) (shows : Shows st allowed d) (low : session.0 < 256) where
+  pub rollback_done : (mid now new : Engine) (unit : OpenUnit) (last : ℕ) → unit_at d.units session.0 ≡ Some unit → IsUndoing d (left_by shows.first d) unit mid [] 0 unit.writes
+      → now.space ≡ mid.space → now.indexes ≡ mid.indexes → now.top ≡ mid.top → now.locks ≡ mid.locks → now.claims ≡ mid.claims → now.units ≡ mid.units
+      → now.records.records ≡ mid.records.records ++ rolled_record (length mid.records.records + 1) last unit ∷ [] → now.records.reserved + 1 ≡ mid.records.reserved
+      → EndsSession now session new → Goes st allowed d session Rollback Done new
+  rollback_done mid now new unit last has so space indexes top locks claims units records reserved ended =
+      let t : ℕ = unit.tran.0 in
+      let s : LogState = left_by shows.first d in
+      let u : LogState = state s so.undos in
+      let one = shows.by.units.each session.0 unit has in
+      let own : own_of t u.writes ≡ [] = none_left (own_of t u.writes) unit.writes so.left in
+      let lives : IsLive u.live t = subst (λ (us : List ℕ). IsLive us t) (sym (undos_leave t s so.undos so.are).live) one.live in
+      let lawful : Runs (capacity_in d.space) s (RollBack t ∷ so.undos) = ((lives, own_first t u.writes ∙ ap first_write own), so.runs) in
+      let r : Record = rolled_record (length mid.records.records + 1) last unit in
+      let all : new.records.records ≡ mid.records.records ++ r ∷ [] = ap (λ x. x.records) ended.records ∙ records in
+      let same_space : new.space ≡ mid.space = ended.space ∙ space in
+      rollback_goes st allowed d new session shows low unit has so.undos so.are lawful (so.more ++ r ∷ [])
+      (all ∙ ap (λ (rs : List Record). rs ++ r ∷ []) so.records ∙ append_assoc d.records.records so.more (r ∷ []))
+      (ap (acts_of []) all ∙ acts_snoc mid.records.records r ∙ ap (λ (acts : List Act). RollBack t ∷ acts) so.acts)
+      (ap (λ sp. capacity_in sp) same_space ∙ so.capacity)
+      (record {
+        step = subst (λ sp. InStep (list_seen (frames_of sp)) (index_of sp) (capacity_in sp)) (sym same_space) so.pages.step;
+        agree = subst (λ sp. Agree (list_seen (frames_of sp)) (index_of sp)) (sym same_space) so.pages.agree;
+      })
+      (ap (λ sp. slots_in (record mid { space = sp })) same_space ∙ so.slots)
+      (subst (λ (x : Indexes). AreListings (row_at (slot_of u.pages)) x) (sym (ended.indexes ∙ indexes)) so.indexes)
+      (ended.locks ∙ ap (locks_without session) (locks ∙ so.locks))
+      (ended.claims ∙ ap (λ (c : Claims). let left : Claims = record c { claims = fin.remove c.claims session.0 } in left) (claims ∙ so.claims))
+      (ended.units ∙ ap (λ (us : List (Option OpenUnit)). set us session.0 None) (units ∙ so.units))
+      (ended.top ∙ top ∙ so.top)
+      (omega (arith, ap (λ x. x.reserved) ended.records, reserved, so.reserved))
+
+  -- without a unit nothing is put back
+  pub rollback_idle : (new : Engine) → unit_at d.units session.0 ≡ None → EndsSession d session new → Goes st allowed d session Rollback Done new
+  rollback_idle new none ended =
+      let same : put_back (fin.entries (own_locks session st.locks)) st.table ≡ st.table =
+          put_own-none session st.locks (λ k. subst (λ (ls : Locks). is_others session (fin.get ls k) ≡ true) (sym shows.by.locks) (unlocked (fin.get d.locks k) k (shows.by.keys k))) st.table in
+      let state_is : after_commit st session ≡ after_rollback st session =
+          ap (λ (table : Table). record st { table = table; locks = locks_without session st.locks; claims = fin.remove st.claims session.0 }) (sym same) in
+      record {
+        says = refl;
+        shows = subst (λ (x : State). Shows x (allowed + 0) new) state_is
+            (idle_shows st allowed d new session shows low ended.space ended.indexes ended.top ended.locks ended.claims ended.units (ap (λ x. x.records) ended.records ∙ ap (records_committed d.records.records) (sym none)) (omega (arith, ap owed_to none, ap (λ x. x.reserved) ended.records)) none);
+        capacity = ap (λ sp. capacity_in sp) ended.space;
+      }
+    where
+      unlocked : (o : Option Lock) (k : ℕ) → KeyShown d.units (left_by shows.first d) o k → is_others session o ≡ true
+      unlocked None k h = refl
+      unlocked (Some lock) k h = go (lock.owner.0 == session.0) refl
+        where
+          go : (b : Bool) → (lock.owner.0 == session.0) ≡ b → not b ≡ true
+          go false e = refl
+          go true e = absurd (cc (h.has, ap (unit_at d.units) (eqb-true lock.owner.0 session.0 e), none))
