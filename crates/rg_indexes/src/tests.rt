@@ -79,7 +79,7 @@ fn forgets_a_row(rt: HostRuntime) -> Result<(), Fail> {
     Ok(())
 }
 
-// Indexes of two rows.
+// Indexes of two rows, the first one at another place.
 fn two_rows(alloc: Global, other: Place) -> Result<Indexes, Fail> {
     Ok(Indexes {
         keys: build(alloc, &[(0, other), (7, HOME)])?,
