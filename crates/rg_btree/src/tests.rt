@@ -51,6 +51,20 @@ fn check_ranges(rt: &impl Abort, tree: &Tree, sorted: &SortedIndex) -> Result<()
             assert_eq!(rt; found.as_slice(), wanted.as_slice(), "{lo} to {hi}");
         }
     }
+    check_firsts(rt, tree, sorted)
+}
+
+// Both have the same entries, and the same first one from these values on.
+fn check_firsts(rt: &impl Abort, tree: &Tree, sorted: &SortedIndex) -> Result<(), NoMemory> {
+    let all = sorted.range(0, u64::MAX)?;
+    assert_eq!(rt; tree.listing()?.as_slice(), all.as_slice());
+    assert_eq!(rt; tree.len(), all.as_slice().len());
+    for step in 0..32u64 {
+        let lo = step * 32_768;
+        let wanted = sorted.range(lo, u64::MAX)?;
+        let found = tree.first_from(lo, Place { page: 0, slot: 0 });
+        assert_eq!(rt; found, wanted.as_slice().first().copied(), "from {lo}");
+    }
     Ok(())
 }
 

@@ -5,3 +5,5 @@
 pub mod indexes;
 /// Laws of the definitions.
 pub mod laws;
+#[cfg(test)]
+mod tests;

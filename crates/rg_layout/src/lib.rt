@@ -5,3 +5,5 @@
 pub mod side;
 /// The spots of rows on pages.
 pub mod spots;
+#[cfg(test)]
+mod tests;
