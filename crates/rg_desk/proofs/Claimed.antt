@@ -1,19 +1,16 @@
 -- What pages claim after a write.
-use Rattle.std.proofs.Common.{◌≡◌, ◌==◌, ◌||◌, ◌≤◌, ◌+◌, ◌*◌, ℕ, suc, Bool, true, false, nat_le, List, [], ◌∷◌, Option, Some, None, length, refl, sym, ◌∙◌, ap, subst, ◌⊎◌, inl, inr, arith}
+use Rattle.std.proofs.Common.{◌≡◌, ◌==◌, ◌||◌, ◌≤◌, ◌+◌, ◌*◌, ℕ, suc, Bool, true, false, List, ◌∷◌, Option, None, length, refl, sym, ◌∙◌, ap, subst, ◌⊎◌, inl, inr, arith}
 use Rattle.std.proofs.lemmas.Bool.{le-leb}
 use Rattle.std.specs.List.{list_any}
 use Rattle.rg_base.specs.declared.row.Row.{Row}
-use Rattle.rg_base.specs.declared.session.Session.{Session}
 use Rattle.rg_home.specs.Able.{IsLive}
 use Rattle.rg_home.specs.Pages.{row_or_empty}
 use Rattle.rg_home.specs.Plan.{new_area, pages_after}
-use Rattle.rg_home.specs.Slot.{Slot}
 use Rattle.rg_home.specs.declared.plan.Plan.{Plan}
 use Rattle.rg_claimed.specs.Claim.{Covers, Fewer, claimed_all, holding}
 use Rattle.rg_claimed.proofs.Full.{full_bound}
 use Rattle.rg_claimed.proofs.Owners.{covers, begins, ends}
 use Rattle.rg_claimed.proofs.Pages.{claimed_all-fewer}
-use Rattle.rg_model.specs.State.{State}
 use Rattle.rg_lawful.specs.Act.{LogState, step}
 use Rattle.rg_lawful.specs.Act.{Change, Purge}
 use Rattle.rg_lawful.specs.Consistent.{IsConsistent}
@@ -50,9 +47,9 @@ written_claims limit s t allowed more plan after good begin lawful most grows =
     let w : Write = write_of t plan.home plan.before after plan.parts in
     let later : LogState = step (step s (Purge plan.purge)) (Change w) in
     let fewer : claimed_all (holding (t ∷ s.live) (suc later.top)) later.pages ≤ claimed_all (holding s.live (suc s.top)) later.pages =
-        claimed_all-fewer (holding s.live (suc s.top)) (holding (t ∷ s.live) (suc later.top)) (holders_fewer limit s w good begin) later.pages in
+    claimed_all-fewer (holding s.live (suc s.top)) (holding (t ∷ s.live) (suc later.top)) (holders_fewer limit s w good begin) later.pages in
     let same : claimed_all (holding s.live (suc s.top)) later.pages ≡ claimed_all (holding s.live (suc s.top)) (pages_after t (row_or_empty after) s.pages plan) =
-        ap (claimed_all (holding s.live (suc s.top))) lawful.pages in
+    ap (claimed_all (holding s.live (suc s.top))) lawful.pages in
     omega (arith, fewer, same, grows, most)
 
 -- all units of a write hold their areas

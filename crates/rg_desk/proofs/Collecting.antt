@@ -1,9 +1,9 @@
 -- The Changes of a unit, found one after another.
-use Rattle.std.proofs.Common.{◌≡◌, ◌≤◌, ◌<◌, ◌+◌, ℕ, Bool, true, false, List, [], ◌∷◌, ◌++◌, Option, Some, None, length, refl, sym, ◌∙◌, ap, subst, arith, if◌then◌else◌}
+use Rattle.std.proofs.Common.{◌≡◌, ◌≤◌, ◌<◌, ◌+◌, ℕ, List, [], ◌∷◌, ◌++◌, Some, None, length, refl, sym, ◌∙◌, ap, subst, arith}
 use Rattle.rg_record.specs.declared.record.Record.{Record}
 use Rattle.rg_lawful.specs.Write.{Write}
 use Rattle.rg_desk.specs.RecordList.{record_at}
-use Rattle.rg_desk.specs.Undoing.{AreChain, ChainTo, Collected, HasWrites, change_in}
+use Rattle.rg_desk.specs.Undoing.{AreChain, ChainTo, Collected, change_in}
 use Rattle.rg_desk.specs.Walks.{Walks, change_record}
 use Rattle.rg_desk.specs.declared.units.OpenUnit.{OpenUnit}
 

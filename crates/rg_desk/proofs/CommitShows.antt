@@ -4,7 +4,6 @@ use Rattle.std.specs.FinMap as fin
 use Rattle.std.proofs.lemmas.Bool.{eqb-true}
 use Rattle.std.proofs.lemmas.List.{length-set, set-get_or}
 use Rattle.rg_base.specs.declared.lock.Lock.{Lock}
-use Rattle.rg_base.specs.declared.place.Place.{Place}
 use Rattle.rg_base.specs.declared.session.Session.{Session}
 use Rattle.rg_claim.specs.declared.claims.Claims.{Claims}
 use Rattle.rg_claimed.specs.Claim.{claimed_all, holding}
@@ -22,10 +21,9 @@ use Rattle.rg_model.proofs.Ends.{without-none}
 use Rattle.rg_record.specs.declared.record.Record.{Record}
 use Rattle.rg_lawful.specs.Act.{LogState, others, state, step}
 use Rattle.rg_lawful.specs.Act.{Commit}
-use Rattle.rg_lawful.specs.Consistent.{IsConsistent, stored_of}
+use Rattle.rg_lawful.specs.Consistent.{IsConsistent}
 use Rattle.rg_lawful.specs.Lawful.{Runs}
 use Rattle.rg_lawful.specs.Records.{acts_of}
-use Rattle.rg_lawful.specs.Write.{NoneHit, at_key, own_of}
 use Rattle.rg_lawful.proofs.Live.{live_was}
 use Rattle.rg_lawful.proofs.Units.{stored_other}
 use Rattle.rg_space.specs.Space.{Agree, InStep, capacity_in, frames_of, index_of}
@@ -41,7 +39,6 @@ use Rattle.rg_desk.specs.declared.engine.Engine.{Engine}
 use Rattle.rg_desk.specs.declared.units.OpenUnit.{OpenUnit}
 use Rattle.rg_desk.proofs.Appended.{acts_snoc}
 use Rattle.rg_desk.proofs.Ended.{keys_ended, units_ended}
-use Rattle.rg_desk.proofs.Sessions.{left_consistent}
 use Rattle.rg_desk.proofs.UnitSlots.{owed-set}
 
 -- the state after the Commit of unit t
@@ -123,8 +120,8 @@ module _ (st : State) (allowed : ℕ) (d new : Engine) (session : Session) (show
         by = subst (ShowsBy (after_commit st session) (allowed + 0) new) (ap (λ (rs : List Record). state shows.first (acts_of [] rs)) (sym same))
             (by s refl (λ k. refl) refl
             (λ k.
-                subst (λ (us : List (Option OpenUnit)). KeyShown us s (fin.get (locks_without session d.locks) k) k) (sym same_units)
-                (subst (λ (ls : Locks). KeyShown d.units s (fin.get ls k) k) (sym same_locks) (shows.by.keys k)))
+            subst (λ (us : List (Option OpenUnit)). KeyShown us s (fin.get (locks_without session d.locks) k) k) (sym same_units)
+            (subst (λ (ls : Locks). KeyShown d.units s (fin.get ls k) k) (sym same_locks) (shows.by.keys k)))
             (subst (UnitsShown new.records.records s) (sym same_units) (subst (λ (rs : List Record). UnitsShown rs s d.units) (sym same) shows.by.units))
             shows.by.claimed);
       }
@@ -155,9 +152,9 @@ module _ (st : State) (allowed : ℕ) (d new : Engine) (session : Session) (show
         by = subst (ShowsBy (after_commit st session) (allowed + 0) new) (ap (state shows.first) (sym acts))
             (by left refl (λ k. refl) refl
             (keys_ended t s left session unit d.units d.locks place has refl (committed (capacity_in d.space) s t)
-              (λ n other e f. shows.by.units.apart n session.0 other unit e has f) shows.by.keys)
+            (λ n other e f. shows.by.units.apart n session.0 other unit e has f) shows.by.keys)
             (subst (λ (rs : List Record). UnitsShown rs left (set d.units session.0 None)) (sym same)
-              (units_ended t s left session unit d.units d.locks place has refl (committed (capacity_in d.space) s t) d.records.records (entry ∷ []) shows.by.units))
+            (units_ended t s left session unit d.units d.locks place has refl (committed (capacity_in d.space) s t) d.records.records (entry ∷ []) shows.by.units))
             (omega (arith, shows.by.claimed, claimed_all-fewer (holding s.live (suc s.top)) (holding (others t s.live) (suc s.top)) (ends s.live (others t s.live) (suc s.top) (λ u l. live_was t u s.live l)) s.pages)));
       }
 

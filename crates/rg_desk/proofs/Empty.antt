@@ -1,11 +1,10 @@
 -- An engine without rows shows a table without rows.
-use Rattle.std.proofs.Common.{◌≡◌, ◌≤◌, ℕ, zero, suc, false, List, [], ◌∷◌, Option, Some, None, length, refl, sym, ◌∙◌, ap, subst, arith}
+use Rattle.std.proofs.Common.{◌≡◌, ℕ, zero, suc, List, [], Option, None, length, refl, sym, ap, subst, arith}
 use Rattle.std.specs.FinMap as fin
 use Rattle.std.specs.FinMap.{get-empty}
 use Rattle.std.specs.Ordering.{nat_cmp}
 use Rattle.rg_base.specs.declared.lock.Lock.{Lock}
 use Rattle.rg_base.specs.declared.place.Place.{Place}
-use Rattle.rg_base.specs.declared.row.Row.{Row}
 use Rattle.rg_base.specs.declared.which.Which.{Which}
 use Rattle.rg_base.specs.declared.which.Which.TheVariants.{Key, Clus, Cat}
 use Rattle.rg_claim.specs.ClaimState.{no_claims}
@@ -17,13 +16,13 @@ use Rattle.rg_home.specs.Slots.{slot_at}
 use Rattle.rg_index.specs.Listed.{IsListingOf, has_value}
 use Rattle.rg_indexes.specs.Listings.{entries_of}
 use Rattle.rg_model.specs.State.{Locks, at_rest}
-use Rattle.rg_page.specs.Content.{Content, slots_of}
+use Rattle.rg_page.specs.Content.{slots_of}
 use Rattle.rg_record.specs.declared.record.Record.{Record}
-use Rattle.rg_lawful.specs.Act.{LogState, nothing, state}
+use Rattle.rg_lawful.specs.Act.{nothing, state}
 use Rattle.rg_lawful.specs.Lawful.{Runs}
 use Rattle.rg_lawful.specs.Records.{acts_of}
 use Rattle.rg_lawful.proofs.Prefixes.{nothing_consistent}
-use Rattle.rg_space.specs.Space.{capacity_in, frames_of}
+use Rattle.rg_space.specs.Space.{capacity_in}
 use Rattle.rg_desk.specs.Engine.{HasPages, seen_in}
 use Rattle.rg_desk.specs.Shows.{KeyShown, Shows, ShowsBy}
 use Rattle.rg_desk.specs.Units.{owed, unit_at}

@@ -1,5 +1,5 @@
 -- What the end of a session's unit leaves of locks, keys and units.
-use Rattle.std.proofs.Common.{◌≡◌, ◌==◌, ◌<◌, ◌≤◌, ◌+◌, ℕ, Bool, true, false, not, cond, List, [], ◌∷◌, ◌++◌, Option, Some, None, length, set, refl, sym, ◌∙◌, ap, subst, ◌⊎◌, inl, inr, arith}
+use Rattle.std.proofs.Common.{◌≡◌, ◌==◌, ◌<◌, ℕ, Bool, true, false, not, cond, List, ◌++◌, Option, Some, None, length, set, refl, sym, ◌∙◌, ap, subst, ◌⊎◌, inl, inr}
 use Rattle.std.specs.FinMap as fin
 use Rattle.std.proofs.lemmas.Bool.{eqb-true, eqb-false}
 use Rattle.rg_base.specs.declared.lock.Lock.{Lock}
@@ -10,9 +10,8 @@ use Rattle.rg_model.specs.Held.{is_others}
 use Rattle.rg_model.specs.State.{Locks}
 use Rattle.rg_model.proofs.Overlay.{get-without}
 use Rattle.rg_record.specs.declared.record.Record.{Record}
-use Rattle.rg_lawful.specs.Act.{LogState, is_in, not_of, others}
-use Rattle.rg_lawful.specs.Consistent.{stored_of}
-use Rattle.rg_lawful.specs.Write.{HitBy, NoneHit, Write, at_key, kept_of, own_of}
+use Rattle.rg_lawful.specs.Act.{LogState, not_of, others}
+use Rattle.rg_lawful.specs.Write.{HitBy, NoneHit, at_key, kept_of, own_of}
 use Rattle.rg_lawful.proofs.Free.{free_apart, free_ended, free_kept}
 use Rattle.rg_lawful.proofs.Hits.{hit_kept}
 use Rattle.rg_lawful.proofs.Live.{live_apart, live_stays, live_was}

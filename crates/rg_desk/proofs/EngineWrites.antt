@@ -1,5 +1,5 @@
 -- A write of an engine that shows a state: what its plan rests on, and what it leaves.
-use Rattle.std.proofs.Common.{◌≡◌, ◌≤◌, ◌<◌, ◌+◌, ◌*◌, ℕ, suc, true, List, [], ◌∷◌, Option, Some, None, refl, sym, ◌∙◌, ap, subst, arith}
+use Rattle.std.proofs.Common.{◌≡◌, ◌≤◌, ◌<◌, ◌+◌, ◌*◌, ℕ, true, List, Option, Some, None, sym, ◌∙◌, ap, subst, arith}
 use Rattle.rg_base.specs.RowBytes.{row_size}
 use Rattle.rg_base.specs.declared.place.Place.{Place}
 use Rattle.rg_base.specs.declared.row.Row.{Row}
@@ -84,20 +84,20 @@ module _ (st : State) (allowed : ℕ) (d : Engine) (shows : Shows st allowed d) 
   pub engine_full_put : (b : ℕ) → b ≤ 826 → put_plan unit.tran.0 b d ≡ None → 3221 * capacity_in d.space ≤ allowed
   engine_full_put b small none =
       let full = full_put limit s good t (begins st allowed d shows session unit own) (units_with t d) (are_live st allowed d shows session unit own) b small
-          (subst (λ (ps : List (List Slot)). planned_put (units_with t d) b ps (new_area (units_with t d) b limit ps) ≡ None) shows.by.slots none) in
+      (subst (λ (ps : List (List Slot)). planned_put (units_with t d) b ps (new_area (units_with t d) b limit ps) ≡ None) shows.by.slots none) in
       omega (arith, full, shows.by.claimed)
 
   pub engine_full_change : (b : ℕ) (home : Place) → b ≤ 826 → change_plan unit.tran.0 b home d ≡ None → 3221 * capacity_in d.space ≤ allowed
   engine_full_change b home small none =
       let full = full_change limit s good t (begins st allowed d shows session unit own) (units_with t d) (are_live st allowed d shows session unit own) b home small
-          (subst (λ (ps : List (List Slot)). planned_change (units_with t d) b limit ps home ≡ None) shows.by.slots none) in
+      (subst (λ (ps : List (List Slot)). planned_change (units_with t d) b limit ps home ≡ None) shows.by.slots none) in
       omega (arith, full, shows.by.claimed)
 
   -- the indexes list the row before at its home
   pub plan_listed : (more : ℕ) (after : Option Row) (plan : Plan) → Plans more after plan → AreListedAt d.indexes plan.home plan.before
   plan_listed more after plan plans =
       let is : (which : Which) (value : ℕ) → has_value which value (row_at (slot_of s.pages) plan.home) ≡ has_value which value plan.before =
-          λ which value. ap (has_value which value) (sym plans.carries.writes.before) in
+      λ which value. ap (has_value which value) (sym plans.carries.writes.before) in
       record {
         keys = λ value. shows.by.indexes.keys value plan.home ∙ is Key value;
         cluses = λ value. shows.by.indexes.cluses value plan.home ∙ is Clus value;

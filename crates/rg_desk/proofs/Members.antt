@@ -1,5 +1,5 @@
 -- Which numbers open units have.
-use Rattle.std.proofs.Common.{◌≡◌, ℕ, zero, suc, List, [], ◌∷◌, Option, Some, None, refl, sym, ◌∙◌, ap, subst, ◌⊎◌, inl, inr}
+use Rattle.std.proofs.Common.{◌≡◌, ℕ, zero, suc, List, [], ◌∷◌, Option, Some, None, refl, sym, subst, ◌⊎◌, inl, inr}
 use Rattle.rg_home.specs.Able.{IsLive}
 use Rattle.rg_lawful.proofs.Live.{live_same, live_more, live_other}
 use Rattle.rg_desk.specs.Shows.{HasSession}

@@ -1,14 +1,11 @@
 -- What the plans of a put, a change and a drop may rest on, and what carrying them out leaves.
-use Rattle.std.proofs.Common.{◌≡◌, ◌≤◌, ◌<◌, ◌+◌, ◌*◌, ℕ, suc, Bool, true, List, [], ◌∷◌, Option, Some, None, length, refl, sym, ◌∙◌, ap, subst, ◌⊎◌, inl, inr, arith}
+use Rattle.std.proofs.Common.{◌≡◌, ◌≤◌, ◌+◌, ◌*◌, ℕ, suc, Bool, true, List, Option, Some, None, refl, sym, subst, arith}
 use Rattle.std.specs.Prelude.{IfSome}
 use Rattle.rg_base.specs.RowBytes.{row_size}
 use Rattle.rg_base.specs.declared.place.Place.{Place}
 use Rattle.rg_base.specs.declared.row.Row.{Row}
-use Rattle.rg_base.specs.declared.session.Session.{Session}
-use Rattle.rg_base.specs.declared.which.Which.TheVariants.{Key, Clus, Cat}
 use Rattle.rg_claimed.specs.Claim.{claimed_all, holding}
 use Rattle.rg_claimed.proofs.Plans.{put_claims, change_claims, drop_claims}
-use Rattle.rg_home.specs.Able.{IsLive}
 use Rattle.rg_home.specs.Pages.{page_at, row_or_empty, slot_of}
 use Rattle.rg_home.specs.Plan.{is_home, new_area, pages_after, planned_put, planned_change, planned_drop, changed, away, from_over, to_new, fitting}
 use Rattle.rg_home.specs.Rows.{row_at}
@@ -18,29 +15,15 @@ use Rattle.rg_home.specs.Slots.{capacity_of}
 use Rattle.rg_home.specs.declared.plan.Area.{Area}
 use Rattle.rg_home.specs.declared.plan.Fitting.{Fitting}
 use Rattle.rg_home.specs.declared.plan.Plan.{Plan}
-use Rattle.rg_indexes.specs.Listings.{AreListedAt}
-use Rattle.rg_model.specs.Held.{holder}
-use Rattle.rg_model.specs.Plain.{write_key}
-use Rattle.rg_model.specs.State.{State, row_of}
 use Rattle.rg_lawful.specs.Act.{LogState}
 use Rattle.rg_lawful.specs.Consistent.{IsConsistent}
 use Rattle.rg_lawful.specs.DeskLaws.{AreLiveWith, DeskWrites}
 use Rattle.rg_lawful.specs.Lawful.{MayBegin}
-use Rattle.rg_lawful.specs.Write.{HitBy, at_key, key_of}
+use Rattle.rg_lawful.specs.Write.{HitBy, at_key}
 use Rattle.rg_lawful.proofs.Desk.{desk_put, desk_change, desk_drop}
 use Rattle.rg_space.specs.Carries.{Carries}
-use Rattle.rg_space.specs.Space.{capacity_in}
 use Rattle.rg_space.proofs.Carried.{put_carries, change_carries, drop_carries}
-use Rattle.rg_desk.specs.Engine.{slots_in}
-use Rattle.rg_desk.specs.Planned.{change_plan, drop_plan, put_plan, units_with}
-use Rattle.rg_desk.specs.Shows.{Shows, left_by}
-use Rattle.rg_desk.specs.Wrote.{Wrote}
-use Rattle.rg_desk.specs.declared.engine.Engine.{Engine}
-use Rattle.rg_desk.specs.declared.units.OpenUnit.{OpenUnit}
-use Rattle.rg_desk.proofs.Claimed.{full_claims, written_claims}
-use Rattle.rg_desk.proofs.Sessions.{are_live, begins, left_consistent, mine}
-use Rattle.rg_desk.proofs.UnitsWritten.{IsUnitFor}
-use Rattle.rg_desk.proofs.Written.{written_shows}
+use Rattle.rg_desk.proofs.Claimed.{full_claims}
 
 -- a plan that is lawful, that pages can carry, and that claims no more than this
 pub record MayPlan (limit : ℕ) (s : LogState) (pages : List (List Slot)) (t more : ℕ) (after : Option Row) (plan : Plan) : Type 0 where
@@ -69,13 +52,15 @@ module _ (limit : ℕ) (s : LogState) (good : IsConsistent limit s) (t : ℕ) (b
       let planned = planned_put units (row_size row) s.pages (new_area units (row_size row) limit s.pages) in
       let fits : row_size row ≤ 4046 = omega (arith, small) in
       let lawful = of_some (λ p. DeskWrites limit s t None (Some row) p) planned plan (desk_put limit s good t begin units are row limit absent key fits (omega arith)) is in
-      let carries = of_some (λ p. (p.before ≡ None) × Carries t 0 limit s.pages (Some row) p) planned plan (put_carries t 0 limit s.pages good.few good.ready.proper row units fits) is in
-      (lawful.home_row, record {
-        lawful = same_before limit s t None (Some row) plan lawful;
-        carries = carries.1;
-        grows = of_some (λ p. claimed_all holds (pages_after t row s.pages p) ≤ claimed_all holds s.pages + (18 + row_size row)) planned plan
-            (put_claims holds t row units s.pages good.ready.proper.sound good.ready.proper.tied (row_size row) limit) is;
-      })
+      let carries = of_some (λ p. (p.before ≡ None) × Carries t 0 limit s.pages (Some row) p) planned plan (put_carries t 0 limit s.pages good.few good.ready.proper row units fits) is in (
+        lawful.home_row,
+        record {
+          lawful = same_before limit s t None (Some row) plan lawful;
+          carries = carries.1;
+          grows = of_some (λ p. claimed_all holds (pages_after t row s.pages p) ≤ claimed_all holds s.pages + (18 + row_size row)) planned plan
+              (put_claims holds t row units s.pages good.ready.proper.sound good.ready.proper.tied (row_size row) limit) is;
+        },
+      )
 
   pub may_change : (home : Place) (old row : Row) (plan : Plan) → row_at (slot_of s.pages) home ≡ Some old → is_home (slot_of s.pages home) ≡ true → HitBy t (at_key old.key) s.writes → row.key ≡ old.key → row_size row ≤ 826
       → Some plan ≡ planned_change units (row_size row) limit s.pages home
@@ -84,13 +69,15 @@ module _ (limit : ℕ) (s : LogState) (good : IsConsistent limit s) (t : ℕ) (b
       let planned = planned_change units (row_size row) limit s.pages home in
       let fits : row_size row ≤ 4046 = omega (arith, small) in
       let lawful = of_some (λ p. (p.home ≡ home) × DeskWrites limit s t (Some old) (Some row) p) planned plan (desk_change limit s good t begin units are home old row limit there key same fits (omega arith)) is in
-      let carries = of_some (λ p. (p.home ≡ home) × Carries t 0 limit s.pages (Some row) p) planned plan (change_carries t 0 limit s.pages good.few good.ready.proper row units home fits is_there) is in
-      (lawful.1.home_row, record {
-        lawful = same_before limit s t (Some old) (Some row) plan lawful.1;
-        carries = carries.1;
-        grows = of_some (λ p. claimed_all holds (pages_after t row s.pages p) ≤ claimed_all holds s.pages + (18 + row_size row)) planned plan
-            (change_claims holds t row units s.pages good.ready.proper.sound good.ready.proper.tied home (row_size row) limit is_there) is;
-      })
+      let carries = of_some (λ p. (p.home ≡ home) × Carries t 0 limit s.pages (Some row) p) planned plan (change_carries t 0 limit s.pages good.few good.ready.proper row units home fits is_there) is in (
+        lawful.1.home_row,
+        record {
+          lawful = same_before limit s t (Some old) (Some row) plan lawful.1;
+          carries = carries.1;
+          grows = of_some (λ p. claimed_all holds (pages_after t row s.pages p) ≤ claimed_all holds s.pages + (18 + row_size row)) planned plan
+              (change_claims holds t row units s.pages good.ready.proper.sound good.ready.proper.tied home (row_size row) limit is_there) is;
+        },
+      )
 
   pub may_drop : (home : Place) (old : Row) (plan : Plan) → row_at (slot_of s.pages) home ≡ Some old → is_home (slot_of s.pages home) ≡ true → HitBy t (at_key old.key) s.writes
       → plan ≡ planned_drop s.pages home (slot_of s.pages home)
@@ -98,12 +85,14 @@ module _ (limit : ℕ) (s : LogState) (good : IsConsistent limit s) (t : ℕ) (b
   may_drop home old plan there is_there key is =
       let dropped = planned_drop s.pages home (slot_of s.pages home) in
       let lawful = desk_drop limit s good t begin units are home old there key in
-      subst (λ (p : Plan). (p.before ≡ Some old) × MayPlan limit s s.pages t 0 None p) (sym is)
-      (lawful.home_row, record {
-        lawful = same_before limit s t (Some old) None dropped lawful;
-        carries = drop_carries t 0 limit s.pages good.few good.ready.proper home is_there;
-        grows = drop_claims holds t (row_or_empty None) units s.pages good.ready.proper.sound good.ready.proper.tied home (slot_of s.pages home) refl is_there;
-      })
+      subst (λ (p : Plan). (p.before ≡ Some old) × MayPlan limit s s.pages t 0 None p) (sym is) (
+        lawful.home_row,
+        record {
+          lawful = same_before limit s t (Some old) None dropped lawful;
+          carries = drop_carries t 0 limit s.pages good.few good.ready.proper home is_there;
+          grows = drop_claims holds t (row_or_empty None) units s.pages good.ready.proper.sound good.ready.proper.tied home (slot_of s.pages home) refl is_there;
+        },
+      )
 
   none_new : (b : ℕ) (area : Option Area) → planned_put units b s.pages area ≡ None → area ≡ None
   none_new b None e = refl

@@ -1,5 +1,5 @@
 -- How a statement that reads goes, from a state that the engine shows.
-use Rattle.std.proofs.Common.{◌≡◌, ◌+◌, ℕ, List, Option, Some, None, refl, sym, ◌∙◌, ap, subst}
+use Rattle.std.proofs.Common.{◌≡◌, ◌+◌, ℕ, List, Option, Some, None, sym, ◌∙◌, ap, subst}
 use Rattle.rg_base.specs.declared.row.Row.{Row}
 use Rattle.rg_base.specs.declared.session.Session.{Session}
 use Rattle.rg_home.specs.Pages.{slot_of}
@@ -17,7 +17,7 @@ use Rattle.rg_model.specs.Held.{holder, scan_holder}
 use Rattle.rg_model.specs.Plain.{plain_reply, row_reply, rows_between, unless_held}
 use Rattle.rg_model.specs.State.{Locks, State, row_of}
 use Rattle.rg_stmt.specs.declared.stmt.Reply.{Reply}
-use Rattle.rg_stmt.specs.declared.stmt.Reply.TheVariants.{Absent, Found, Held, Listed}
+use Rattle.rg_stmt.specs.declared.stmt.Reply.TheVariants.{Held, Listed}
 use Rattle.rg_stmt.specs.declared.stmt.Stmt.TheVariants.{Select, Scan}
 use Rattle.rg_desk.specs.Engine.{slots_in}
 use Rattle.rg_desk.specs.Shows.{Shows, left_by}
@@ -71,9 +71,9 @@ module _ (st : State) (allowed : ℕ) (d : Engine) (shows : Shows st allowed d) 
       → rows ≡ listed_rows (row_at (slot_of (slots_in d))) (entries_within lo hi (entries_of d.indexes.keys)) → SameEngine d new → Goes st allowed d session (Scan lo hi) (Listed rows) new
   scan_goes lo hi rows new free is same =
       let between : rows_between lo hi st.table ≡ rows =
-          rows-between (row_at (slot_of s.pages)) st.table (entries_of d.indexes.keys) table (IsRising-rising_part d.indexes.keys.entries) shows.by.indexes.keys lo hi
-          ∙ ap (λ (ps : List (List Slot)). listed_rows (row_at (slot_of ps)) (entries_within lo hi (entries_of d.indexes.keys))) (sym shows.by.slots)
-          ∙ sym is in
+      rows-between (row_at (slot_of s.pages)) st.table (entries_of d.indexes.keys) table (IsRising-rising_part d.indexes.keys.entries) shows.by.indexes.keys lo hi
+      ∙ ap (λ (ps : List (List Slot)). listed_rows (row_at (slot_of ps)) (entries_within lo hi (entries_of d.indexes.keys))) (sym shows.by.slots)
+      ∙ sym is in
       record {
         says = sym (scan_is lo hi None (scan_free d.locks session lo hi free) ∙ ap Listed between);
         shows = later new same;

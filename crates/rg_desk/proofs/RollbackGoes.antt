@@ -1,5 +1,5 @@
 -- How a ROLLBACK goes, from a state that the engine shows.
-use Rattle.std.proofs.Common.{◌≡◌, ◌==◌, ◌≤◌, ◌<◌, ◌+◌, ℕ, Bool, true, false, not, List, [], ◌∷◌, ◌++◌, Option, Some, None, length, set, refl, sym, ◌∙◌, ap, subst, arith}
+use Rattle.std.proofs.Common.{◌≡◌, ◌==◌, ◌<◌, ◌+◌, ℕ, Bool, true, false, not, List, [], ◌∷◌, ◌++◌, Option, Some, None, length, set, refl, sym, ◌∙◌, ap, subst, arith}
 use Rattle.std.specs.FinMap as fin
 use Rattle.std.proofs.lemmas.Bool.{eqb-true}
 use Rattle.std.proofs.lemmas.List.{append_assoc}
@@ -21,13 +21,13 @@ use Rattle.rg_lawful.specs.Act.{Act, LogState, state}
 use Rattle.rg_lawful.specs.Act.{RollBack}
 use Rattle.rg_lawful.specs.Lawful.{Runs}
 use Rattle.rg_lawful.specs.Records.{acts_of}
-use Rattle.rg_lawful.specs.Write.{Write, first_write, latest_of, own_of}
+use Rattle.rg_lawful.specs.Write.{Write, first_write, own_of}
 use Rattle.rg_lawful.proofs.Own.{own_first}
 use Rattle.rg_space.specs.Space.{Agree, InStep, capacity_in, frames_of, index_of}
 use Rattle.rg_stmt.specs.declared.stmt.Reply.TheVariants.{Done}
 use Rattle.rg_stmt.specs.declared.stmt.Stmt.TheVariants.{Rollback}
 use Rattle.rg_desk.specs.Ended.{EndsSession, records_committed, rolled_record}
-use Rattle.rg_desk.specs.Engine.{HasPages, slots_in}
+use Rattle.rg_desk.specs.Engine.{slots_in}
 use Rattle.rg_desk.specs.Pages.{list_seen}
 use Rattle.rg_desk.specs.Shows.{KeyShown, Shows, left_by}
 use Rattle.rg_desk.specs.Steps.{Goes}
@@ -81,9 +81,9 @@ module _ (st : State) (allowed : ℕ) (d : Engine) (session : Session) (shows : 
   pub rollback_idle : (new : Engine) → unit_at d.units session.0 ≡ None → EndsSession d session new → Goes st allowed d session Rollback Done new
   rollback_idle new none ended =
       let same : put_back (fin.entries (own_locks session st.locks)) st.table ≡ st.table =
-          put_own-none session st.locks (λ k. subst (λ (ls : Locks). is_others session (fin.get ls k) ≡ true) (sym shows.by.locks) (unlocked (fin.get d.locks k) k (shows.by.keys k))) st.table in
+      put_own-none session st.locks (λ k. subst (λ (ls : Locks). is_others session (fin.get ls k) ≡ true) (sym shows.by.locks) (unlocked (fin.get d.locks k) k (shows.by.keys k))) st.table in
       let state_is : after_commit st session ≡ after_rollback st session =
-          ap (λ (table : Table). record st { table = table; locks = locks_without session st.locks; claims = fin.remove st.claims session.0 }) (sym same) in
+      ap (λ (table : Table). record st { table = table; locks = locks_without session st.locks; claims = fin.remove st.claims session.0 }) (sym same) in
       record {
         says = refl;
         shows = subst (λ (x : State). Shows x (allowed + 0) new) state_is

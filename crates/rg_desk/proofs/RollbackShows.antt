@@ -4,7 +4,6 @@ use Rattle.std.specs.FinMap as fin
 use Rattle.std.proofs.lemmas.Bool.{eqb-true, eqb-false}
 use Rattle.std.proofs.lemmas.List.{length-set}
 use Rattle.rg_base.specs.declared.lock.Lock.{Lock}
-use Rattle.rg_base.specs.declared.row.Row.{Row}
 use Rattle.rg_base.specs.declared.session.Session.{Session}
 use Rattle.rg_claim.specs.declared.claims.Claims.{Claims}
 use Rattle.rg_claimed.specs.Claim.{claimed_all, holding}
@@ -12,12 +11,11 @@ use Rattle.rg_claimed.proofs.Owners.{covers, ends}
 use Rattle.rg_claimed.proofs.Pages.{claimed_all-fewer}
 use Rattle.rg_home.specs.Pages.{slot_of}
 use Rattle.rg_home.specs.Rows.{row_at}
-use Rattle.rg_home.specs.Slot.{Slot}
 use Rattle.rg_indexes.specs.Listings.{AreListings}
 use Rattle.rg_model.specs.Committed.{locks_without, own_locks, put_back}
 use Rattle.rg_model.specs.Held.{is_others}
 use Rattle.rg_model.specs.Plain.{after_rollback}
-use Rattle.rg_model.specs.State.{Locks, State, Table, row_of}
+use Rattle.rg_model.specs.State.{Locks, State, row_of}
 use Rattle.rg_model.proofs.Ends.{get-put_own}
 use Rattle.rg_model.proofs.Overlay.{kept_or}
 use Rattle.rg_record.specs.declared.record.Record.{Record}
@@ -100,9 +98,14 @@ module _ (st : State) (allowed : ℕ) (d new : Engine) (session : Session) (show
       let one = shows.by.units.each session.0 unit has in
       let fewer = claimed_all-fewer (holding s.live (suc s.top)) (holding (others t s.live) (suc s.top)) (ends s.live (others t s.live) (suc s.top) (λ u l. live_was t u s.live l)) s_rolled.pages in
       let undone_so = undos_claim limit s t (holding s.live (suc s.top)) undos good (covers s.live (suc s.top) t one.live) are lawful.1 in
-      omega (arith, fewer, undone_so, shows.by.claimed,
+      omega (
+        arith,
+        fewer,
+        undone_so,
+        shows.by.claimed,
         ap (λ (us : List ℕ). claimed_all (holding (others t us) (suc s_rolled.top)) s_rolled.pages) left.live,
-        ap (λ (n : ℕ). claimed_all (holding (others t s.live) (suc n)) s_rolled.pages) left.top)
+        ap (λ (n : ℕ). claimed_all (holding (others t s.live) (suc n)) s_rolled.pages) left.top,
+      )
 
   pub rollback_goes : slots_in new ≡ s_rolled.pages → AreListings (row_at (slot_of s_rolled.pages)) new.indexes → new.locks ≡ locks_without session d.locks
       → new.claims ≡ record d.claims { claims = fin.remove d.claims.claims session.0 } → new.units ≡ set d.units session.0 None → new.top ≡ d.top
@@ -131,13 +134,13 @@ module _ (st : State) (allowed : ℕ) (d new : Engine) (session : Session) (show
         keys = λ k.
             subst (λ (us : List (Option OpenUnit)). KeyShown us s_rolled (fin.get new.locks k) k) (sym units)
             (subst (λ (ls : Locks). KeyShown (set d.units session.0 None) s_rolled (fin.get ls k) k) (sym locks)
-              (keys_ended t s s_rolled session unit d.units d.locks place has refl (rolled_back limit s good t undos are lawful)
-                (λ n other e f. shows.by.units.apart n session.0 other unit e has f) shows.by.keys k));
+            (keys_ended t s s_rolled session unit d.units d.locks place has refl (rolled_back limit s good t undos are lawful)
+            (λ n other e f. shows.by.units.apart n session.0 other unit e has f) shows.by.keys k));
         places = ap length units ∙ length-set d.units session.0 None ∙ shows.by.places;
         units =
             subst (UnitsShown new.records.records s_rolled) (sym units)
             (subst (λ (rs : List Record). UnitsShown rs s_rolled (set d.units session.0 None)) (sym records)
-              (units_ended t s s_rolled session unit d.units d.locks place has refl (rolled_back limit s good t undos are lawful) d.records.records more shows.by.units));
+            (units_ended t s s_rolled session unit d.units d.locks place has refl (rolled_back limit s good t undos are lawful) d.records.records more shows.by.units));
         top = top ∙ shows.by.top ∙ sym (undos_leave t s undos are).top;
         owed = omega (arith, ap owed units, owed-set d.units session.0 None place, ap owed_to has, reserved, shows.by.owed);
         claimed = omega (arith, claimed);

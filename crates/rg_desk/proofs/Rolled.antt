@@ -1,19 +1,16 @@
 -- The state that a whole rollback leaves.
-use Rattle.std.proofs.Common.{◌≡◌, ◌==◌, ◌≤◌, ◌<◌, ◌+◌, ℕ, suc, Bool, true, false, not, cond, List, [], ◌∷◌, ◌++◌, Option, Some, None, length, refl, sym, ◌∙◌, ap, subst, arith}
-use Rattle.rg_base.specs.declared.part.Part.{Part}
+use Rattle.std.proofs.Common.{◌≡◌, ◌==◌, ◌≤◌, ℕ, Bool, true, false, not, List, [], ◌∷◌, Some, refl, ◌∙◌, ap, subst, arith}
 use Rattle.rg_base.specs.declared.place.Place.{Place}
-use Rattle.rg_base.specs.declared.row.Row.{Row}
 use Rattle.rg_claimed.specs.Claim.{claimed_all}
 use Rattle.rg_claimed.proofs.Undo.{undo_claims}
-use Rattle.rg_home.specs.Able.{CanUndo, IsLive, Undoable}
+use Rattle.rg_home.specs.Able.{CanUndo, Undoable}
 use Rattle.rg_home.specs.Pages.{slot_of}
 use Rattle.rg_home.specs.Slot.{Slot}
 use Rattle.rg_home.specs.Undo.{undone}
-use Rattle.rg_home.specs.Written.{Written}
 use Rattle.rg_lawful.specs.Act.{Act, LogState, is_in, not_of, others, state, step}
 use Rattle.rg_lawful.specs.Act.{Purge, Change, Undo, Commit, RollBack, Switch}
 use Rattle.rg_lawful.specs.Closing.{AreUndos}
-use Rattle.rg_lawful.specs.Consistent.{IsConsistent, stored_of}
+use Rattle.rg_lawful.specs.Consistent.{IsConsistent}
 use Rattle.rg_lawful.specs.Lawful.{MayUndo, Runs}
 use Rattle.rg_lawful.specs.Write.{Write, kept_if, kept_of, latest_if, latest_of, less_if, less_of, written_of}
 use Rattle.rg_lawful.proofs.Hits.{latest_owner, some_is}
@@ -85,7 +82,7 @@ undos_claim limit s t holds (Undo v home after parts ∷ acts) good has are runs
     let owner : m.write.written.owner ≡ v = latest_owner v u.writes m.write m.latest in
     let pages : (step u (Undo v home after parts)).pages ≡ undone u.pages m.write.written = (undo_leaves u v home after parts m.write m m.latest).3 in
     let less : claimed_all holds (undone u.pages m.write.written) ≤ claimed_all holds u.pages =
-        undo_claims holds m.write.written u.pages (ap holds (owner ∙ are.0) ∙ has) now.ready.proper (can_latest u.live (slot_of u.pages) v u.writes m.write now.ready.can m.latest) in
+    undo_claims holds m.write.written u.pages (ap holds (owner ∙ are.0) ∙ has) now.ready.proper (can_latest u.live (slot_of u.pages) v u.writes m.write now.ready.can m.latest) in
     omega (arith, ap (claimed_all holds) pages, less, undos_claim limit s t holds acts good has are.1 runs.1)
 undos_claim limit s t holds (Purge parts ∷ acts) good has are runs = absurd are
 undos_claim limit s t holds (Change w ∷ acts) good has are runs = absurd are

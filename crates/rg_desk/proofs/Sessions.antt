@@ -1,12 +1,12 @@
 -- What the unit of a session that writes may rest on.
-use Rattle.std.proofs.Common.{◌≡◌, ℕ, suc, List, [], ◌∷◌, Option, Some, None, refl, sym, ◌∙◌, ap, subst, ◌⊎◌, inl, inr}
+use Rattle.std.proofs.Common.{◌≡◌, ℕ, [], ◌∷◌, Option, Some, None, sym, ◌∙◌, ap, subst, ◌⊎◌, inl, inr}
 use Rattle.std.specs.FinMap as fin
 use Rattle.rg_base.specs.declared.lock.Lock.{Lock}
 use Rattle.rg_base.specs.declared.session.Session.{Session}
 use Rattle.rg_home.specs.Able.{IsLive}
 use Rattle.rg_model.specs.Held.{holder, other_owner}
 use Rattle.rg_model.specs.State.{State}
-use Rattle.rg_lawful.specs.Act.{LogState, is_in}
+use Rattle.rg_lawful.specs.Act.{LogState}
 use Rattle.rg_lawful.specs.Consistent.{IsConsistent}
 use Rattle.rg_lawful.specs.DeskLaws.{AreLiveWith}
 use Rattle.rg_lawful.specs.Lawful.{MayBegin}
@@ -16,7 +16,7 @@ use Rattle.rg_lawful.proofs.Free.{free_any}
 use Rattle.rg_lawful.proofs.Live.{live_same, live_more, live_other}
 use Rattle.rg_lawful.proofs.Runs.{runs_consistent}
 use Rattle.rg_space.specs.Space.{capacity_in}
-use Rattle.rg_desk.specs.Shows.{HasSession, KeyShown, Shows, left_by}
+use Rattle.rg_desk.specs.Shows.{KeyShown, Shows, left_by}
 use Rattle.rg_desk.specs.Units.{trans_of, unit_at}
 use Rattle.rg_desk.specs.declared.engine.Engine.{Engine}
 use Rattle.rg_desk.specs.declared.units.OpenUnit.{OpenUnit}

@@ -1,8 +1,7 @@
 -- What a statement may rest on, and how it goes, from a state that the engine shows.
-use Rattle.std.proofs.Common.{◌≡◌, ◌==◌, ◌≤◌, ◌<◌, ◌+◌, ◌*◌, ℕ, suc, Bool, true, false, List, [], ◌∷◌, Option, Some, None, refl, sym, ◌∙◌, ap, subst, ◌⊎◌, inl, inr, arith}
+use Rattle.std.proofs.Common.{◌≡◌, ◌==◌, ◌≤◌, ◌+◌, ◌*◌, ℕ, suc, Bool, true, false, List, Option, Some, None, refl, sym, ◌∙◌, ap, subst, inl, inr, arith}
 use Rattle.std.specs.Option.{is_some}
 use Rattle.std.proofs.lemmas.Bool.{eqb-true}
-use Rattle.rg_base.specs.RowBytes.{row_size}
 use Rattle.rg_base.specs.declared.place.Place.{Place}
 use Rattle.rg_base.specs.declared.row.Row.{Row}
 use Rattle.rg_base.specs.declared.session.Session.{Session}
@@ -13,20 +12,17 @@ use Rattle.rg_home.specs.Plan.{is_home}
 use Rattle.rg_home.specs.Rows.{home_row, row_at}
 use Rattle.rg_home.specs.Slot.{Slot}
 use Rattle.rg_home.specs.Slot.{Free, Row as RowSlot, Pointer, Over, DeadRow, DeadPointer, DeadOver}
-use Rattle.rg_home.specs.declared.plan.Plan.{Plan}
 use Rattle.rg_index.specs.Entries.{has_entry}
 use Rattle.rg_index.specs.Listed.{has_value}
-use Rattle.rg_indexes.specs.Listings.{AreListedAt, entries_of}
+use Rattle.rg_indexes.specs.Listings.{entries_of}
 use Rattle.rg_model.specs.Held.{holder}
 use Rattle.rg_model.specs.Plain.{change_reply, insert_reply, is_done, plain_reply, unless_held}
 use Rattle.rg_model.specs.Said.{may_want_memory, may_want_room}
 use Rattle.rg_model.specs.State.{Locks, State, row_of}
-use Rattle.rg_stmt.specs.declared.stmt.Reply.{Reply}
 use Rattle.rg_stmt.specs.declared.stmt.Reply.TheVariants.{Absent, Done, Duplicate, Full, Held, NoMemory}
 use Rattle.rg_stmt.specs.declared.stmt.Stmt.{Stmt}
 use Rattle.rg_stmt.specs.declared.stmt.Stmt.TheVariants.{Delete, Insert, Update}
 use Rattle.rg_lawful.specs.Act.{LogState, is_in}
-use Rattle.rg_lawful.specs.Write.{own_of}
 use Rattle.rg_lawful.proofs.Own.{own_live}
 use Rattle.rg_lawful.proofs.Tables.{eqb-refl}
 use Rattle.rg_space.specs.Space.{capacity_in}
@@ -39,7 +35,7 @@ use Rattle.rg_desk.specs.declared.engine.Engine.{Engine}
 use Rattle.rg_desk.specs.declared.units.OpenUnit.{OpenUnit}
 use Rattle.rg_desk.proofs.Same.{same_shows}
 use Rattle.rg_desk.proofs.Sessions.{left_consistent}
-use Rattle.rg_desk.proofs.UnitsWritten.{IsNewUnit, IsUnitFor}
+use Rattle.rg_desk.proofs.UnitsWritten.{IsUnitFor}
 
 -- a place of the row with a key
 pub record IsKeyAt (st : State) (d : Engine) (key : ℕ) (p : Place) : Type 0 where
@@ -107,13 +103,16 @@ module _ (st : State) (allowed : ℕ) (d : Engine) (shows : Shows st allowed d) 
       let good = left_consistent st allowed d shows in
       let number : unit.tran.0 ≡ suc s.top = omega (arith, ap (λ (u : OpenUnit). u.tran.0) h.1, shows.by.top) in
       let dead : IsLive s.live unit.tran.0 → ⊥ = λ l. omega (arith, good.fresh unit.tran.0 l, number) in
-      inr (h.0, record {
-        number = number;
-        last = ap (λ (u : OpenUnit). u.last.0) h.1;
-        writes = ap (λ (u : OpenUnit). u.writes) h.1;
-        none = own_live s.live (slot_of s.pages) unit.tran.0 s.writes dead good.ready.can;
-        steady = steady (is_in unit.tran.0 s.rolling) refl number;
-      })
+      inr (
+        h.0,
+        record {
+          number = number;
+          last = ap (λ (u : OpenUnit). u.last.0) h.1;
+          writes = ap (λ (u : OpenUnit). u.writes) h.1;
+          none = own_live s.live (slot_of s.pages) unit.tran.0 s.writes dead good.ready.can;
+          steady = steady (is_in unit.tran.0 s.rolling) refl number;
+        },
+      )
     where
       steady : (b : Bool) → is_in unit.tran.0 s.rolling ≡ b → unit.tran.0 ≡ suc s.top → b ≡ false
       steady true e number = absurd (omega (arith, (left_consistent st allowed d shows).rolled unit.tran.0 e, number))

@@ -1,12 +1,10 @@
 -- How the undo of a unit begins, and how it ends.
-use Rattle.std.proofs.Common.{◌≡◌, ◌≤◌, ◌<◌, ◌+◌, ℕ, zero, suc, true, List, [], ◌∷◌, ◌++◌, Option, Some, None, length, set, refl, sym, ◌∙◌, ap, subst, arith}
+use Rattle.std.proofs.Common.{◌≡◌, ◌≤◌, ◌<◌, ◌+◌, ℕ, zero, suc, true, List, [], ◌∷◌, Some, None, length, refl, sym, ◌∙◌, ap, subst, arith}
 use Rattle.std.specs.Prelude.{slice_index_or}
 use Rattle.std.proofs.lemmas.List.{append-nil}
 use Rattle.rg_home.specs.Pages.{slot_of}
 use Rattle.rg_home.specs.Rows.{row_at}
-use Rattle.rg_home.specs.Slot.{Slot}
-use Rattle.rg_indexes.specs.Listings.{AreListings, HasSpare, SameEntries}
-use Rattle.rg_indexes.specs.declared.indexes.Indexes.{Indexes}
+use Rattle.rg_indexes.specs.Listings.{HasSpare, SameEntries}
 use Rattle.rg_model.specs.State.{State}
 use Rattle.rg_page.specs.Content.{slots_of}
 use Rattle.rg_page.specs.declared.list.ListFrames.{ListFrames}
@@ -17,13 +15,11 @@ use Rattle.rg_lawful.specs.Write.{Write, own_of}
 use Rattle.rg_space.specs.Indexed.{Indexed}
 use Rattle.rg_space.specs.Space.{Agree, InStep, capacity_in, frames_of, index_of, undos_in}
 use Rattle.rg_undo.specs.Undoing.{is_change}
-use Rattle.rg_desk.specs.Engine.{HasPages, slots_in}
 use Rattle.rg_desk.specs.Pages.{list_seen}
 use Rattle.rg_desk.specs.Shows.{Shows, left_by}
-use Rattle.rg_desk.specs.Undoing.{AreChain, ChainTo, HasWrites}
+use Rattle.rg_desk.specs.Undoing.{AreChain, HasWrites}
 use Rattle.rg_desk.specs.Undone.{IsUndoing}
-use Rattle.rg_desk.specs.Units.{owed, owed_to, unit_at}
-use Rattle.rg_desk.specs.Walks.{Walks, change_record}
+use Rattle.rg_desk.specs.Units.{owed_to, unit_at}
 use Rattle.rg_desk.specs.declared.engine.Engine.{Engine}
 use Rattle.rg_desk.specs.declared.units.OpenUnit.{OpenUnit}
 use Rattle.rg_desk.proofs.UnitSlots.{at_within, owed-set}

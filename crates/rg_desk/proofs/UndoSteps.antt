@@ -1,9 +1,6 @@
 -- The undo of a unit, step by step.
-use Rattle.std.proofs.Common.{◌≡◌, ◌≤◌, ◌<◌, ◌+◌, ◌-◌, ℕ, suc, true, List, [], ◌∷◌, ◌++◌, Option, Some, None, length, refl, sym, ◌∙◌, ap, subst, arith}
+use Rattle.std.proofs.Common.{◌≡◌, ◌≤◌, ◌<◌, ◌+◌, ◌-◌, ℕ, List, [], ◌∷◌, ◌++◌, Some, None, length, refl, sym, ◌∙◌, ap, subst, arith}
 use Rattle.std.proofs.lemmas.List.{append_assoc}
-use Rattle.rg_base.specs.declared.part.Part.{Part}
-use Rattle.rg_base.specs.declared.place.Place.{Place}
-use Rattle.rg_base.specs.declared.row.Row.{Row}
 use Rattle.rg_base.specs.declared.which.Which.{Which}
 use Rattle.rg_base.specs.declared.which.Which.TheVariants.{Key, Clus, Cat}
 use Rattle.rg_home.specs.Able.{Proper, Undoable}
@@ -14,13 +11,13 @@ use Rattle.rg_home.specs.Undo.{planned_undo, undone}
 use Rattle.rg_home.specs.Written.{Written}
 use Rattle.rg_home.proofs.Place.{same_place-refl}
 use Rattle.rg_ready.proofs.Next.{undo_does}
-use Rattle.rg_index.specs.Listed.{SetsRow, has_value}
-use Rattle.rg_indexes.specs.Listings.{AreListedAt, AreListings, HasSpare}
+use Rattle.rg_index.specs.Listed.{has_value}
+use Rattle.rg_indexes.specs.Listings.{HasSpare}
 use Rattle.rg_record.specs.declared.record.Record.{Record}
 use Rattle.rg_lawful.specs.Act.{Act, LogState, state, step}
 use Rattle.rg_lawful.specs.Act.{Undo}
 use Rattle.rg_lawful.specs.Consistent.{IsConsistent}
-use Rattle.rg_lawful.specs.Lawful.{MayUndo, Runs}
+use Rattle.rg_lawful.specs.Lawful.{MayUndo}
 use Rattle.rg_lawful.specs.Records.{act_of, acts_of}
 use Rattle.rg_lawful.specs.Write.{Write, at_home, first_write, latest_of, less_of, own_of}
 use Rattle.rg_lawful.proofs.Hits.{back_latest, latest_owner}
@@ -28,10 +25,9 @@ use Rattle.rg_lawful.proofs.KeptUndo.{latest_undoable}
 use Rattle.rg_lawful.proofs.Own.{own_first, own_less}
 use Rattle.rg_lawful.proofs.Rolls.{undo_leaves}
 use Rattle.rg_lawful.proofs.Runs.{runs_consistent}
-use Rattle.rg_page.specs.Content.{slots_of}
-use Rattle.rg_space.specs.Space.{capacity_in, index_of}
-use Rattle.rg_undo.specs.Undoing.{CanUndoChange, undo_record, written_of}
-use Rattle.rg_desk.specs.Engine.{seen_in, slots_in}
+use Rattle.rg_space.specs.Space.{capacity_in}
+use Rattle.rg_undo.specs.Undoing.{undo_record, written_of}
+use Rattle.rg_desk.specs.Engine.{slots_in}
 use Rattle.rg_desk.specs.RecordList.{record_at}
 use Rattle.rg_desk.specs.Undoing.{AreChain, CanUndoNext, ChainTo, UndidNext}
 use Rattle.rg_desk.specs.Undone.{IsUndoing}
@@ -114,7 +110,7 @@ module _ (old : Engine) (s : LogState) (good : IsConsistent (capacity_in old.spa
   can_undo =
       let n = next in
       let is : (which : Which) (value : ℕ) → has_value which value (row_at (slot_of u.pages) n.write.written.home) ≡ has_value which value n.write.after =
-          λ which value. ap (has_value which value) (here n) in
+      λ which value. ap (has_value which value) (here n) in
       let some : 1 ≤ length work = omega (arith, ap length n.work_is) in
       record {
         unlist = record {
@@ -155,14 +151,14 @@ module _ (old : Engine) (s : LogState) (good : IsConsistent (capacity_in old.spa
         let r : Record = undo_record (length now.records.records + 1) back (slots_in now) (change_record at t n.back n.write) in
         let later : LogState = step u a in
         let may : MayUndo u t n.write.written.home n.write.written.before (planned_undo u.pages n.write.written).parts =
-            record { write = n.write; latest = latest n; at = refl; row = refl; is = refl } in
+        record { write = n.write; latest = latest n; at = refl; row = refl; is = refl } in
         let pages : later.pages ≡ undone u.pages n.write.written = (undo_leaves u t n.write.written.home n.write.written.before (planned_undo u.pages n.write.written).parts n.write may (latest n)).3 in
         let records : new.records.records ≡ now.records.records ++ r ∷ [] = did.records t n.back n.write n.later n.work_is in
         let own : own_of t later.writes ≡ n.rest = tail_is n.write n.write (own_of t (less_of t u.writes)) n.rest (sym (own_less t u.writes n.write (latest n)) ∙ n.own_is) in
         let left_is : left ≡ n.later = did.left_is t n.back n.write n.later n.work_is in
         let at_is : then_at ≡ n.back = did.next_is t n.back n.write n.found in
         let changes : ChangesHome (slot_of u.pages) (slot_of later.pages) n.write.written.home n.write.written.before =
-            subst (λ (ps : List (List Slot)). ChangesHome (slot_of u.pages) (slot_of ps) n.write.written.home n.write.written.before) (sym pages) (undo_does n.write.written u.pages consistent.ready.proper (undoable n)) in
+        subst (λ (ps : List (List Slot)). ChangesHome (slot_of u.pages) (slot_of ps) n.write.written.home n.write.written.before) (sym pages) (undo_does n.write.written u.pages consistent.ready.proper (undoable n)) in
         let counts : length work ≡ length left + 1 = omega (arith, ap length n.work_is, ap length left_is) in
         let some : HasSpare (length left + 1) now.indexes = subst (λ (k : ℕ). HasSpare k now.indexes) counts so.spare in
         record {
@@ -183,9 +179,9 @@ module _ (old : Engine) (s : LogState) (good : IsConsistent (capacity_in old.spa
           chain =
               subst (λ (rs : List Record). AreChain rs t then_at (own_of t later.writes) left) (sym records)
               (chain_longer now.records.records (r ∷ []) t 0 [] then_at (own_of t later.writes) left
-                (subst (λ (k : ℕ). AreChain now.records.records t k (own_of t later.writes) left) (sym at_is)
-                (subst (λ (ws : List Write). AreChain now.records.records t n.back ws left) (sym own)
-                (subst (AreChain now.records.records t n.back n.rest) (sym left_is) n.chain))));
+              (subst (λ (k : ℕ). AreChain now.records.records t k (own_of t later.writes) left) (sym at_is)
+              (subst (λ (ws : List Write). AreChain now.records.records t n.back ws left) (sym own)
+              (subst (AreChain now.records.records t n.back n.rest) (sym left_is) n.chain))));
           left = omega (arith, so.left, ap length n.own_is, ap length own);
           spare = did.spare (length left) some;
           rooms = did.undos;

@@ -71,7 +71,7 @@ module _ (st : State) (allowed : ℕ) (d : Engine) (shows : Shows st allowed d) 
       → Some plan ≡ change_plan unit.tran.0 (row_size row) home mid → PlansMid (18 + row_size row) (Some row) plan
   change home old row plan there is_there alone key small is =
       (engine_change st allowed mid shows_mid session unit own_mid home old row plan (there_mid home old there) (home_mid home is_there)
-        (subst (λ (k : ℕ). holder mid.locks session k ≡ None) key (alone_mid row.key alone)) key small is).1
+      (subst (λ (k : ℕ). holder mid.locks session k ≡ None) key (alone_mid row.key alone)) key small is).1
 
   drop : (home : Place) (old : Row) (plan : Plan) → row_at (slot_of (slots_in d)) home ≡ Some old → is_home (slot_of (slots_in d) home) ≡ true → holder d.locks session old.key ≡ None
       → plan ≡ drop_plan home mid → (plan.before ≡ Some old) × PlansMid 0 None plan

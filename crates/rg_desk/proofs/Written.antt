@@ -132,23 +132,23 @@ module _ (st : State) (allowed more : ℕ) (old new : Engine) (session : Session
   slots : slots_in new ≡ s_written.pages
   slots =
       wrote.put.slots (subst (λ (n : ℕ). Carries unit.tran.0 0 n (slots_in wrote.middle) after plan) (sym (ap (λ sp. capacity_in sp) wrote.prepared.space))
-        (subst (λ (ps : List (List Slot)). Carries unit.tran.0 0 limit ps after plan) (sym middle_slots) carries))
+      (subst (λ (ps : List (List Slot)). Carries unit.tran.0 0 limit ps after plan) (sym middle_slots) carries))
       ∙ ap (λ (ps : List (List Slot)). applied unit.tran.0 (row_or_empty after) (cleared 0 ps plan) plan.parts) (middle_slots ∙ shows.by.slots)
 
   indexes : AreListings (row_at (slot_of s_written.pages)) new.indexes
   indexes =
       let before = subst (λ (ps : List (List Slot)). plan.before ≡ row_at (slot_of ps) plan.home) shows.by.slots carries.writes.before in
       wrote.put.indexes (row_at (slot_of s.pages)) (row_at (slot_of s_written.pages))
-        (same_listings (row_at (slot_of s.pages)) old.indexes wrote.middle.indexes wrote.prepared.entries shows.by.indexes)
-        (sym before) sets
+      (same_listings (row_at (slot_of s.pages)) old.indexes wrote.middle.indexes wrote.prepared.entries shows.by.indexes)
+      (sym before) sets
     where
       sets : SetsRow (row_at (slot_of s.pages)) (row_at (slot_of s_written.pages)) plan.home after
       sets =
           let row = row_or_empty after in
           let is : pages_after unit.tran.0 row (slots_in old) plan ≡ s_written.pages = sym carries.after ∙ ap (λ (ps : List (List Slot)). applied unit.tran.0 row (cleared 0 ps plan) plan.parts) shows.by.slots in
           let changes : ChangesHome (slot_of s.pages) (slot_of s_written.pages) plan.home after =
-              subst (λ (ps : List (List Slot)). ChangesHome (slot_of ps) (slot_of s_written.pages) plan.home after) shows.by.slots
-              (subst (λ (ps : List (List Slot)). ChangesHome (slot_of (slots_in old)) (slot_of ps) plan.home after) is carries.writes.changes) in
+          subst (λ (ps : List (List Slot)). ChangesHome (slot_of ps) (slot_of s_written.pages) plan.home after) shows.by.slots
+          (subst (λ (ps : List (List Slot)). ChangesHome (slot_of (slots_in old)) (slot_of ps) plan.home after) is carries.writes.changes) in
           record { set = changes.here; others = changes.others }
 
   entry_list : List Record
@@ -165,8 +165,8 @@ module _ (st : State) (allowed more : ℕ) (old new : Engine) (session : Session
       go own (owed-set old.units session.0 (Some next) place)
     where
       go : IsUnitFor old.units s session.0 unit
-        → owed (set old.units session.0 (Some (unit_wrote old.records.records unit plan))) + owed_to (unit_at old.units session.0) ≡ owed old.units + (1 + (unit.writes + 1))
-        → owed new.units ≤ new.records.reserved
+          → owed (set old.units session.0 (Some (unit_wrote old.records.records unit plan))) + owed_to (unit_at old.units session.0) ≡ owed old.units + (1 + (unit.writes + 1))
+          → owed new.units ≤ new.records.reserved
       go (inl e) sum = omega (arith, sum, ap owed units, ap owed_to e, ap end_taken e, wrote.put.reserved, wrote.prepared.reserved, shows.by.owed)
       go (inr h) sum = omega (arith, sum, ap owed units, ap owed_to h.0, ap end_taken h.0, h.1.writes, wrote.put.reserved, wrote.prepared.reserved, shows.by.owed)
 

@@ -1,10 +1,8 @@
 -- The plans of a write, over the pages of the engine that is to carry them out.
 --
 -- 1. A write is planned for its own unit and all open ones: their areas are not freed.
-use Rattle.std.specs.Prelude.{◌≡◌, ℕ, List, ◌∷◌, Option, Some, None}
-use Rattle.rg_base.specs.RowBytes.{row_size}
+use Rattle.std.specs.Prelude.{◌≡◌, ℕ, List, ◌∷◌, Option, None}
 use Rattle.rg_base.specs.declared.place.Place.{Place}
-use Rattle.rg_base.specs.declared.row.Row.{Row}
 use Rattle.rg_home.specs.Pages.{slot_of}
 use Rattle.rg_home.specs.Plan.{new_area, planned_put, planned_change, planned_drop}
 use Rattle.rg_home.specs.declared.plan.Plan.{Plan}

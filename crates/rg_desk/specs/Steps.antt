@@ -3,7 +3,7 @@
 -- 1. The reply is the plain table's, or NOMEMORY or FULL stands for it. FULL comes only where the
 --    writes so far have allowed 3,221 bytes for each page of the copy.
 -- 2. A put or a change allows 18 bytes more than its row has.
-use Rattle.std.specs.Prelude.{◌≡◌, ◌≤◌, ◌+◌, ◌*◌, ℕ, true, Option, Some, None, ◌⊎◌, if◌then◌else◌}
+use Rattle.std.specs.Prelude.{◌≡◌, ◌≤◌, ◌+◌, ◌*◌, ℕ, true, Some, None, ◌⊎◌, if◌then◌else◌}
 use Rattle.rg_base.specs.RowBytes.{row_size}
 use Rattle.rg_base.specs.declared.session.Session.{Session}
 use Rattle.rg_stmt.specs.declared.stmt.Reply.{Reply}

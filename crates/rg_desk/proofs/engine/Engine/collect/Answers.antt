@@ -1,4 +1,4 @@
-use Rattle.std.proofs.Common.{◌≡◌, ◌+◌, List, [], ◌∷◌, ◌++◌, refl, sym, ◌∙◌, ap, subst}
+use Rattle.std.proofs.Common.{◌+◌, List, [], ◌∷◌, ◌++◌, sym, ◌∙◌, subst}
 use Rattle.rg_record.specs.declared.record.Record.{Record}
 use Rattle.rg_desk.specs.Undoing.{Collected}
 use Rattle.rg_desk.proofs.Collecting.{collect_next, copied_is, not_change}

@@ -1,4 +1,4 @@
-use Rattle.std.proofs.Common.{◌∙◌, Option, None, List, ap, refl, set, arith}
+use Rattle.std.proofs.Common.{◌∙◌, None, ap, set, arith}
 use Rattle.std.specs.FinMap as fin
 use Rattle.rg_claim.specs.declared.claims.Claims.{Claims}
 use Rattle.rg_model.specs.Committed.{locks_without}

@@ -1,8 +1,8 @@
-use Rattle.std.proofs.Common.{◌≡◌, Some, None, ◌∙◌, ap, refl, sym, subst}
+use Rattle.std.proofs.Common.{sym}
 use Rattle.rg_stmt.specs.declared.stmt.Stmt.TheVariants.{Delete}
 use Rattle.rg_desk.proofs.Same.{same_shows}
 use Rattle.rg_desk.proofs.Statements.{delete_absent, delete_done, go_absent, key_none, key_some}
-use Rattle.rg_desk.proofs.WritesGo.{drop_goes, drop_listed}
+use Rattle.rg_desk.proofs.WritesGo.{drop_goes}
 use Rattle.rg_desk.proofs.engine.Engine.delete.Goals as goal
 
 pub returns-in_default-home_of : goal.returns-in_default-home_of

@@ -1,4 +1,4 @@
-use Rattle.std.proofs.Common.{◌≡◌, Some, None, ◌∙◌, ap, refl, sym, subst}
+use Rattle.std.proofs.Common.{sym, subst}
 use Rattle.rg_stmt.specs.declared.stmt.Stmt.TheVariants.{Insert}
 use Rattle.rg_desk.specs.Steps.{Goes}
 use Rattle.rg_desk.proofs.Statements.{insert_duplicate, go_duplicate, key_some}

@@ -3,7 +3,7 @@ use Rattle.rg_home.specs.Pages.{slot_of}
 use Rattle.rg_home.specs.Plan.{is_home}
 use Rattle.rg_home.specs.Rows.{Tied}
 use Rattle.rg_home.specs.Slot.{Slot}
-use Rattle.rg_page.specs.Content.{Content, slots_of}
+use Rattle.rg_page.specs.Content.{slots_of}
 use Rattle.rg_space.specs.Space.{capacity_in, frames_of}
 use Rattle.rg_desk.specs.Pages.{list_seen}
 use Rattle.rg_desk.proofs.DropHand.{drop_hand}
@@ -20,7 +20,7 @@ returns-in-Ok-clause-handed c =
     let summaries = c.plan_drop.ensures.summaries in
     let agree = agree_later d.space sp c.plan_drop.ensures.took.reads (ap (λ x. x.pages) summaries) shown.shows.by.pages.agree in
     let tied : Tied (slot_of (slots_of (list_seen (frames_of sp)).pages)) =
-        subst (λ (ps : List (List Slot)). Tied (slot_of ps)) (sym (same ∙ shown.shows.by.slots)) (left_consistent shown.state shown.allowed d shown.shows).ready.proper.tied in
+    subst (λ (ps : List (List Slot)). Tied (slot_of ps)) (sym (same ∙ shown.shows.by.slots)) (left_consistent shown.state shown.allowed d shown.shows).ready.proper.tied in
     record {
       pages = record { step = c.plan_drop.ensures.step; agree = agree };
       hand = drop_hand (list_seen (frames_of sp)) (capacity_in sp) c.args.home c.in-Ok.plan tied

@@ -1,7 +1,7 @@
-use Rattle.std.proofs.Common.{◌≡◌, ℕ, List, ◌∷◌, Some, None, refl, sym, ◌∙◌, ap}
+use Rattle.std.proofs.Common.{ℕ, List, sym, ◌∙◌, ap}
 use Rattle.rg_base.specs.RowBytes.{row_size}
 use Rattle.rg_home.specs.Plan.{new_area, planned_put}
-use Rattle.rg_space.specs.Space.{Agree, capacity_in, frames_of, index_of}
+use Rattle.rg_space.specs.Space.{capacity_in, frames_of}
 use Rattle.rg_page.specs.Bare.{numbers_of}
 use Rattle.rg_page.specs.Content.{slots_of}
 use Rattle.rg_desk.specs.Pages.{list_seen}

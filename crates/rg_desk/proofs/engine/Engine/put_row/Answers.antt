@@ -1,11 +1,9 @@
-use Rattle.std.proofs.Common.{◌≡◌, ◌≤◌, ℕ, Some, None, ◌∙◌, ap, refl, sym, subst}
-use Rattle.rg_base.specs.RowBytes.{row_size}
+use Rattle.std.proofs.Common.{◌≤◌, ℕ, sym, subst}
 use Rattle.rg_stmt.specs.declared.stmt.Stmt.TheVariants.{Insert}
 use Rattle.rg_desk.specs.Steps.{Goes}
 use Rattle.rg_desk.proofs.Same.{same_shows}
 use Rattle.rg_desk.proofs.Statements.{key_none, insert_done}
 use Rattle.rg_desk.proofs.WritesGo.{put_goes, put_listed, put_refused}
-use Rattle.rg_desk.specs.Planned.{put_plan}
 use Rattle.rg_desk.proofs.engine.Engine.put_row.Goals as goal
 
 pub write-requires-clause-listed : goal.write-requires-clause-listed

@@ -1,4 +1,4 @@
-use Rattle.std.proofs.Common.{◌≡◌, Some, None, ◌∙◌, ap, refl, sym}
+use Rattle.std.proofs.Common.{◌∙◌, sym}
 use Rattle.rg_base.specs.declared.session.Session.{Session}
 use Rattle.rg_desk.proofs.PlannedIn.{ok_so}
 use Rattle.rg_desk.proofs.Statements.{key_none, key_some}
@@ -14,6 +14,6 @@ pub returns-clause-row : goal.returns-clause-row
 returns-clause-row c =
     ok_so _ _ c.row_at.result
     (λ row is st allowed shows.
-        let at = key_some st allowed c.args.self.now shows any c.args.key c.in-Some.home c.in-Some.ensures.there in
-        at.now ∙ sym (is ∙ at.there))
+    let at = key_some st allowed c.args.self.now shows any c.args.key c.in-Some.home c.in-Some.ensures.there in
+    at.now ∙ sym (is ∙ at.there))
     c.row_at.ensures.row

@@ -1,4 +1,4 @@
-use Rattle.std.proofs.Common.{◌≡◌, ℕ, List, Option, get_or, refl, sym, ◌∙◌, ap, Vec, Global}
+use Rattle.std.proofs.Common.{ℕ, List, Option, get_or, sym, ◌∙◌, ap, Vec, Global}
 use Rattle.rg_base.specs.declared.place.Place.{Place}
 use Rattle.rg_base.specs.declared.row.Row.{Row}
 use Rattle.rg_home.specs.Pages.{slot_of}

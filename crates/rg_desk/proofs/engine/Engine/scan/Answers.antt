@@ -1,4 +1,4 @@
-use Rattle.std.proofs.Common.{refl, sym, ◌∙◌, ap, subst}
+use Rattle.std.proofs.Common.{sym, subst}
 use Rattle.rg_stmt.specs.declared.stmt.Reply.TheVariants.{Listed}
 use Rattle.rg_stmt.specs.declared.stmt.Stmt.TheVariants.{Scan}
 use Rattle.rg_desk.specs.Steps.{Goes}

@@ -1,4 +1,4 @@
-use Rattle.std.proofs.Common.{refl, sym, ◌∙◌, ap}
+use Rattle.std.proofs.Common.{sym}
 use Rattle.rg_desk.proofs.ReadsGo.{select_goes}
 use Rattle.rg_desk.proofs.engine.Engine.select.Goals as goal
 

@@ -1,4 +1,4 @@
-use Rattle.std.proofs.Common.{◌≡◌, ◌≤◌, length, refl, sym, ◌∙◌, ap, subst, arith}
+use Rattle.std.proofs.Common.{length, refl, sym, ap, subst, arith}
 use Rattle.rg_lawful.specs.Write.{own_of}
 use Rattle.rg_desk.specs.Shows.{left_by}
 use Rattle.rg_desk.specs.Undoing.{AreChain}

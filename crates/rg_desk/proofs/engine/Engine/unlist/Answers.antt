@@ -1,7 +1,6 @@
-use Rattle.std.proofs.Common.{◌≡◌, Option, refl, sym, ◌∙◌, ap, subst}
+use Rattle.std.proofs.Common.{refl, sym, ◌∙◌, ap, subst}
 use Rattle.std.specs.Option.{option_copied}
 use Rattle.rg_base.specs.declared.place.Place.{Place}
-use Rattle.rg_base.specs.declared.row.Row.{Row}
 use Rattle.rg_index.specs.Listed.{SetsRow}
 use Rattle.rg_desk.proofs.Unlisting.{change_of}
 use Rattle.rg_desk.proofs.engine.Engine.unlist.Goals as goal

@@ -1,4 +1,4 @@
-use Rattle.std.proofs.Common.{◌≡◌, Some, None, ◌∙◌, ap, refl, sym, subst}
+use Rattle.std.proofs.Common.{sym, subst}
 use Rattle.rg_stmt.specs.declared.stmt.Stmt.TheVariants.{Update}
 use Rattle.rg_desk.specs.Steps.{Goes}
 use Rattle.rg_desk.proofs.Statements.{update_absent, go_absent, key_none}
