@@ -1,18 +1,19 @@
-//! The desk: a table over pages, with the locks, claims and units of its sessions, and the trace of
-//! all that is done to it.
+//! The table over pages, as sessions see it: rows, locks, claims and units.
 #![tactic(auto)]
 
-/// Records in memory.
-pub mod records;
-/// The open units of sessions.
-pub mod units;
-/// The table over pages, with the locks, claims and units of its sessions.
-pub mod engine;
-/// INSERT, UPDATE and DELETE.
-pub mod writes;
 /// COMMIT and ROLLBACK.
 pub mod ends;
-/// SELECT, SCAN and FIND.
+/// The table, and what its sessions hold of it.
+pub mod engine;
+/// SELECT and SCAN.
 pub mod reads;
+/// Records in memory.
+pub mod records;
+#[cfg(test)]
+mod tests;
 /// The undo of a unit's writes.
 pub mod undo;
+/// The open units of sessions.
+pub mod units;
+/// INSERT, UPDATE and DELETE.
+pub mod writes;

@@ -1,4 +1,4 @@
-// SELECT, SCAN and FIND.
+// SELECT and SCAN.
 //
 // 1. Keys are looked up in the indexes, and rows are read from where they lie.
 // 2. The reply is a copy. Where there is no memory for it, the statement is out of memory.

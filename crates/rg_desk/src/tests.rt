@@ -1,0 +1,199 @@
+ghost use Rattle.rg_base.specs.Session.{IsSession};
+
+use rg_base::row::Row;
+use rg_base::row_bytes::read_row;
+use rg_base::session::Session;
+use rg_model::plain::PlainState;
+use rg_stmt::stmt::{Reply, Stmt};
+use shown::ShownEngine;
+use std::alloc::Global;
+use std::process::Abort;
+use std::test::Fail;
+
+mod shown;
+
+// A statement with numbers: `size` letters are the text of its row, and its `clus`.
+#[derive(Clone, Copy)]
+enum Ask {
+    Insert { key: u64, size: u16 },
+    Update { key: u64, size: u16 },
+    Delete(u64),
+    Select(u64),
+    Scan { lo: u64, hi: u64 },
+    Commit,
+    Rollback,
+}
+
+// The session, what it asks, and the number of the reply.
+type Step = (u8, Ask, i32);
+
+const DONE: i32 = 0;
+
+const ABSENT: i32 = 100;
+
+const DUPLICATE: i32 = -803;
+
+const HELD: i32 = -913;
+
+const FULL: i32 = 1;
+
+fn row(alloc: Global, key: u64, size: u16) -> Result<Row, Fail> {
+    let mut bytes = Vec::new(alloc);
+    bytes.extend_from_slice(&key.to_be_bytes())?;
+    bytes.extend_from_slice(&u64::from(size).to_be_bytes())?;
+    bytes.extend_from_slice(&(key % 3).to_be_bytes())?;
+    bytes.extend_from_slice(&size.to_be_bytes())?;
+    for _ in 0..size {
+        bytes.push(b'x')?;
+    }
+    Ok(read_row(alloc, &bytes)?)
+}
+
+fn stmt_of(alloc: Global, ask: Ask) -> Result<Stmt, Fail> {
+    let stmt = match ask {
+        Ask::Insert { key, size } => Stmt::Insert(row(alloc, key, size)?),
+        Ask::Update { key, size } => Stmt::Update(row(alloc, key, size)?),
+        Ask::Delete(key) => Stmt::Delete(key),
+        Ask::Select(key) => Stmt::Select(key),
+        Ask::Scan { lo, hi } => Stmt::Scan { lo, hi },
+        Ask::Commit => Stmt::Commit,
+        Ask::Rollback => Stmt::Rollback,
+    };
+    Ok(stmt)
+}
+
+fn number_of(reply: &Option<Reply>) -> i32 {
+    match reply {
+        Some(Reply::Done | Reply::Found(_) | Reply::Listed(_)) => DONE,
+        Some(Reply::Absent) => ABSENT,
+        Some(Reply::Duplicate) => DUPLICATE,
+        Some(Reply::Held(_)) => HELD,
+        Some(Reply::Full { .. }) => FULL,
+        _ => -1,
+    }
+}
+
+// The session of a number, or session 1 where it is none.
+fn session(number: u8) -> Session
+    ensures { IsSession result }
+{
+    match number {
+        1..=99 => Session(number),
+        _ => Session(1),
+    }
+}
+
+fn expect_steps(
+    rt: &impl Abort,
+    alloc: Global,
+    engine: &mut ShownEngine,
+    steps: &[Step],
+) -> Result<(), Fail> {
+    for (at, (number, ask, reply)) in steps.iter().copied().enumerate() {
+        let stmt = stmt_of(alloc, ask)?;
+        let said = engine.say(session(number), &stmt);
+        assert_eq!(rt; number_of(&said), reply, "at {at}");
+    }
+    Ok(())
+}
+
+fn insert(key: u64, size: u16) -> Ask {
+    Ask::Insert { key, size }
+}
+
+fn update(key: u64, size: u16) -> Ask {
+    Ask::Update { key, size }
+}
+
+// A copy of one page has room for four of the widest rows and for nothing more. What a unit removed
+// has its room until the unit ends.
+#[test]
+fn answers_full(rt: HostRuntime) -> Result<(), Fail> {
+    let mut engine = ShownEngine::new(rt.alloc(), 1)?;
+    let steps: [Step; 20] = [
+        (1, insert(1, 800), DONE),
+        (1, insert(2, 800), DONE),
+        (1, insert(3, 800), DONE),
+        (1, insert(4, 800), DONE),
+        (1, insert(5, 800), FULL),
+        (1, insert(5, 600), DONE),
+        (1, update(5, 700), FULL),
+        (1, Ask::Commit, DONE),
+        (2, Ask::Delete(1), DONE),
+        (2, insert(6, 800), FULL),
+        (3, insert(6, 800), FULL),
+        (3, insert(1, 0), HELD),
+        (2, Ask::Commit, DONE),
+        (3, insert(6, 800), DONE),
+        (3, Ask::Rollback, DONE),
+        (3, insert(7, 800), DONE),
+        (1, insert(7, 0), HELD),
+        (3, Ask::Commit, DONE),
+        (1, insert(7, 0), DUPLICATE),
+        (1, Ask::Select(6), ABSENT),
+    ];
+    expect_steps(&rt, rt.alloc(), &mut engine, &steps)?;
+    Ok(())
+}
+
+// A linear congruential generator. Its upper bits are used, since the lower ones repeat soon.
+#[derive(Drop)]
+struct Draws {
+    state: u64,
+}
+
+impl Draws {
+    fn below(&mut self, limit: u64) -> u64 {
+        self.state = self
+            .state
+            .wrapping_mul(6_364_136_223_846_793_005)
+            .wrapping_add(1_442_695_040_888_963_407);
+        (self.state >> 33) % limit.max(1)
+    }
+
+    fn session(&mut self) -> Session
+        ensures { IsSession result }
+    {
+        match self.below(3) {
+            0 => Session(1),
+            1 => Session(2),
+            _ => Session(99),
+        }
+    }
+
+    fn ask(&mut self) -> Ask {
+        let key = self.below(12);
+        let size = u16::try_from(self.below(801)).unwrap_or(0);
+        match self.below(16) {
+            0..=3 => Ask::Insert { key, size },
+            4..=7 => Ask::Update { key, size },
+            8..=9 => Ask::Delete(key),
+            10 => Ask::Select(key),
+            11..=12 => Ask::Scan {
+                lo: key,
+                hi: self.below(12),
+            },
+            13..=14 => Ask::Commit,
+            _ => Ask::Rollback,
+        }
+    }
+}
+
+// Rows of all widths over several pages: they grow, move, are removed and come back. The plain
+// program has neither pages nor records.
+#[test]
+fn answers_as_the_plain_program(rt: HostRuntime) -> Result<(), Fail> {
+    let mut engine = ShownEngine::new(rt.alloc(), 100)?;
+    let mut plain = PlainState::new(rt.alloc(), 1);
+    let mut draws = Draws { state: 2026 };
+    for at in 0..600 {
+        let number = draws.session();
+        let stmt = stmt_of(rt.alloc(), draws.ask())?;
+        let reply = engine.say(number, &stmt);
+        let said = format!(in rt.alloc(); "{reply:?}")?;
+        let reply = Some(plain.say(rt.alloc(), number, &stmt));
+        let expected = format!(in rt.alloc(); "{reply:?}")?;
+        assert_eq!(rt; said.as_str(), expected.as_str(), "at {at}");
+    }
+    Ok(())
+}

@@ -1,0 +1,49 @@
+ghost use Rattle.rg_base.specs.Session.{IsSession};
+
+use crate::engine::Engine;
+use rg_base::no_memory::NoMemory;
+use rg_base::session::Session;
+use rg_stmt::stmt::{Reply, Stmt};
+use std::alloc::Global;
+use std::marker::Model;
+
+/// An engine that shows a state of a trace.
+#[derive(Drop)]
+pub struct ShownEngine {
+    engine: Engine,
+}
+
+impl Model for ShownEngine {
+    ghost use Rattle.std.specs.Prelude.{ℕ};
+    ghost use Rattle.rg_desk.specs.Shows.{IsShown};
+
+    ghost Value = { ℕ };
+
+    ghost view = { λ e. e.engine.top };
+
+    ghost invariant = { λ e. IsShown e.engine };
+}
+
+impl ShownEngine {
+    pub fn new(alloc: Global, capacity: u32) -> Result<ShownEngine, NoMemory> {
+        Ok(ShownEngine {
+            engine: Engine::new(alloc, capacity)?,
+        })
+    }
+
+    /// Answers a statement, or None of a FIND.
+    pub fn say(&mut self, session: Session, stmt: &Stmt) -> Option<Reply>
+        requires { IsSession session }
+    {
+        match stmt {
+            Stmt::Insert(row) => Some(self.engine.insert(session, row)),
+            Stmt::Update(row) => Some(self.engine.update(session, row)),
+            Stmt::Delete(key) => Some(self.engine.delete(session, *key)),
+            Stmt::Select(key) => Some(self.engine.select(session, *key)),
+            Stmt::Scan { lo, hi } => Some(self.engine.scan(session, *lo, *hi)),
+            Stmt::Find(_) => None,
+            Stmt::Commit => Some(self.engine.commit(session)),
+            Stmt::Rollback => Some(self.engine.rollback(session)),
+        }
+    }
+}
