@@ -76,9 +76,9 @@ impl UndoWork {
         self.changes.is_empty()
     }
 
-    /// Undoes the latest Change that is left, and answers the record of that, at this position; None
-    /// where none is left. It takes no memory, and lets all pages go. After a Device the Change is
-    /// neither left nor undone, so that the caller has to open the volume again.
+    /// Undoes the latest Change that is left, and answers the record of that, at this position;
+    /// None where none is left. It takes no memory, and lets all pages go. After a Device the
+    /// Change is neither left nor undone, so that the caller has to open the volume again.
     pub fn next<F: Frames>(
         &mut self,
         space: &mut Space<F>,
