@@ -1,11 +1,11 @@
 -- The keys with a `cat` are the keys of the rows that the index by `cat` lists, sorted.
-use Rattle.std.proofs.Common.{◌≡◌, ◌==◌, ◌&&◌, ◌||◌, ◌<◌, ◌≤◌, ◌⊎◌, T, ℕ, suc, ◌+◌, Bool, true, false, cond, List, [], ◌∷◌, length, map, filter, IsPermutation, IsSorted, Option, Some, None, refl, sym, ◌∙◌, ap, subst, inl, inr, arith}
+use Rattle.std.proofs.Common.{◌≡◌, ◌==◌, ◌&&◌, ◌||◌, ◌<◌, ◌≤◌, ◌⊎◌, T, ℕ, suc, Bool, true, false, cond, List, [], ◌∷◌, map, filter, IsPermutation, IsSorted, Option, Some, None, refl, sym, ◌∙◌, ap, subst, inl, inr, arith}
 use Rattle.std.specs.Prelude.{nat_le}
 use Rattle.std.specs.FinMap.{find, is_sorted, get-entries, entries_sorted}
 use Rattle.std.specs.FinMap.Entries.{below_all}
 use Rattle.std.specs.List.{cons_option}
 use Rattle.std.specs.Ordering.{nat_cmp, eq_by_cmp, is_lt}
-use Rattle.std.proofs.lemmas.Bool.{and_parts, eqb-true, eqb-false, eq-eqb, cases_Bool, true≢false}
+use Rattle.std.proofs.lemmas.Bool.{and_parts, eqb-true, eqb-false, cases_Bool}
 use Rattle.std.proofs.lemmas.Bool.Decides.{nat_tests}
 use Rattle.std.proofs.lemmas.List.Sorted.{sum_by-IsPermutation}
 use Rattle.rg_base.specs.declared.place.Place.{Place}

@@ -1,13 +1,13 @@
 -- What entries list of rows: each has its row, and two of them have two rows.
-use Rattle.std.proofs.Common.{◌≡◌, ◌==◌, ◌&&◌, ◌||◌, ◌<◌, ◌≤◌, ℕ, ◌+◌, Bool, true, false, List, [], ◌∷◌, Option, Some, None, refl, sym, ◌∙◌, ap, subst, inl, inr, arith}
+use Rattle.std.proofs.Common.{◌≡◌, ◌==◌, ◌&&◌, ◌≤◌, ℕ, ◌+◌, true, List, [], ◌∷◌, Option, Some, None, refl, sym, ◌∙◌, subst, inl, inr, arith}
 use Rattle.std.specs.Prelude.{nat_le}
-use Rattle.std.proofs.lemmas.Bool.{and_parts, eqb-true, leb-true, or_cases, or_left, or_right, false≢true, cases_lt}
+use Rattle.std.proofs.lemmas.Bool.{and_parts, eqb-true, leb-true, or_cases, or_left, or_right, false≢true}
 use Rattle.std.proofs.lemmas.Bool.Decides.{nat_tests}
 use Rattle.rg_base.specs.declared.place.Place.{Place}
 use Rattle.rg_base.specs.declared.row.Row.{Row}
 use Rattle.rg_base.specs.declared.which.Which.{Which}
-use Rattle.rg_model.specs.Layout.{value_of, same_entry, same_place, is_place_before, is_entry_before}
-use Rattle.rg_index.specs.Entries.{Each, IsRising, has_entry}
+use Rattle.rg_model.specs.Layout.{value_of, same_entry, is_place_before, is_entry_before}
+use Rattle.rg_index.specs.Entries.{Each, has_entry}
 use Rattle.rg_index.specs.Listed.{IsListingOf, has_value}
 use Rattle.rg_index.proofs.Lists.{Each-map}
 use Rattle.rg_index.proofs.Order.{same_itself}

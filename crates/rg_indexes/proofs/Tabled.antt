@@ -1,12 +1,12 @@
 -- The entries of a table are the rows that its index by key lists.
-use Rattle.std.proofs.Common.{◌≡◌, ◌==◌, ◌&&◌, ◌||◌, ◌<◌, ◌≤◌, ◌⊎◌, T, ℕ, ◌+◌, Bool, true, false, cond, List, [], ◌∷◌, length, map, filter, Option, Some, None, refl, sym, ◌∙◌, ap, subst, inl, inr, arith, rules}
+use Rattle.std.proofs.Common.{◌≡◌, ◌==◌, ◌&&◌, ◌||◌, ◌<◌, ◌≤◌, ◌⊎◌, T, ℕ, Bool, true, false, cond, List, [], ◌∷◌, length, map, filter, Option, Some, None, refl, sym, ◌∙◌, ap, subst, inl, inr, arith}
 use Rattle.std.specs.Prelude.{nat_le}
 use Rattle.std.specs.FinMap as fin
 use Rattle.std.specs.FinMap.{find, is_sorted, same_map, nat_cmp-IsAntisymmetric, get-from_sorted, entries-from_sorted, len-entries}
 use Rattle.std.specs.FinMap.Entries.{below_all}
-use Rattle.std.specs.List.{cons_option, filter_map}
+use Rattle.std.specs.List.{cons_option}
 use Rattle.std.specs.Ordering.{nat_cmp, eq_by_cmp, is_lt}
-use Rattle.std.proofs.lemmas.Bool.{and_from, and_parts, eqb-true, eq-eqb, cases_Bool, cases_lt, false≢true, true≢false, or_parts}
+use Rattle.std.proofs.lemmas.Bool.{and_from, eqb-true, eq-eqb, cases_lt, true≢false}
 use Rattle.std.proofs.lemmas.Bool.Decides.{nat_tests}
 use Rattle.std.proofs.lemmas.Cmp.{nat_cmp_total}
 use Rattle.rg_base.specs.declared.place.Place.{Place}
@@ -14,12 +14,10 @@ use Rattle.rg_base.specs.declared.row.Row.{Row}
 use Rattle.rg_base.specs.declared.which.Which.TheVariants.{Key}
 use Rattle.rg_index.specs.Entries.{Each, IsRising, has_entry, is_within, entries_within}
 use Rattle.rg_index.specs.Listed.{IsListingOf, has_value}
-use Rattle.rg_index.proofs.Lists.{Each-map}
-use Rattle.rg_index.proofs.Order.{same_itself}
-use Rattle.rg_indexes.proofs.Members.{IsRowOf, each_row, same_value, not_itself}
+use Rattle.rg_indexes.proofs.Members.{IsRowOf, each_row, row_there, same_value, not_itself}
 use Rattle.rg_indexes.specs.Listed.{with_value, keyed_rows, listed_rows}
 use Rattle.rg_lawful.specs.Table.{IsTable}
-use Rattle.rg_model.specs.Layout.{same_entry, same_place, is_entry_before}
+use Rattle.rg_model.specs.Layout.{same_place, is_entry_before}
 use Rattle.rg_model.specs.Plain.{rows_between}
 use Rattle.rg_model.specs.State.{Table, row_of, entries_of, row_count}
 
@@ -148,3 +146,19 @@ pub rows-between : (rows : Place → Option Row) (table : Table) (es : List (ℕ
 rows-between rows table es is rising lists lo hi =
     ap (λ (xs : List (ℕ × Row)). map (λ (entry : ℕ × Row). entry.1) (filter (λ (entry : ℕ × Row). nat_le lo entry.0 && nat_le entry.0 hi) xs)) (entries-keyed rows table es is rising lists)
     ∙ between-keyed rows lo hi es (each_row Key rows es lists)
+
+-- ---- the row of one key
+
+pub row-there : (rows : Place → Option Row) (table : Table) (es : List (ℕ × Place)) → IsTable rows (λ key. row_of table key) → IsListingOf Key rows es → (key : ℕ) (home : Place) → has_entry es (key, home) ≡ true → rows home ≡ row_of table key
+row-there rows table es is lists key home there =
+    let at = row_there Key rows (key, home) (sym (lists key home) ∙ there) in
+    at.is ∙ sym (is.there home at.row at.is) ∙ ap (row_of table) at.value
+
+pub row-none : (rows : Place → Option Row) (table : Table) (es : List (ℕ × Place)) → IsTable rows (λ key. row_of table key) → IsListingOf Key rows es → (key : ℕ) → ((home : Place) → has_entry es (key, home) ≡ false) → row_of table key ≡ None
+row-none rows table es is lists key none = go (row_of table key) refl
+  where
+    go : (r : Option Row) → row_of table key ≡ r → row_of table key ≡ None
+    go None e = e
+    go (Some row) e =
+        let placed = is.placed key row e in
+        absurd (true≢false (sym (lists key placed.1 ∙ ap (has_value Key key) placed.2 ∙ eq-eqb key row.key (sym placed.0)) ∙ none placed.1))

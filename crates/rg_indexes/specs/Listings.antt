@@ -3,7 +3,7 @@
 -- 1. Each index lists, for every place that has a row, the row's value with that place, and nothing
 --    else.
 -- 2. So a row that comes, goes or changes at one place changes at most one entry in each index.
-use Rattle.std.specs.Prelude.{◌≡◌, ◌≤◌, ◌+◌, ℕ, List, Option, true, false}
+use Rattle.std.specs.Prelude.{◌≡◌, ◌≤◌, ℕ, List, Option}
 use Rattle.rg_base.specs.declared.place.Place.{Place}
 use Rattle.rg_base.specs.declared.row.Row.{Row}
 use Rattle.rg_base.specs.declared.which.Which.{Which}

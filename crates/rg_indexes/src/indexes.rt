@@ -1,8 +1,9 @@
 // The three indexes of a table.
 //
-// 1. Each lists the values of the rows with the places of their homes. A row that has moved is listed
-//    at its home.
+// 1. Each lists the values of the rows with the places of their homes. A row that has moved is
+//    listed at its home.
 // 2. Room for additions is reserved first. `replace` takes none, and cannot fail half-way.
+// 3. Looking up a key, or an entry of a `cat`, takes no memory and logarithmic time.
 ghost use Rattle.std.specs.Prelude.{◌≡◌, ◌≤◌, ◌+◌, ℕ, [], true, false, Option, IfOk, IfSome, IfNone, OnOk, OnErr, nat_le, find, length};
 ghost use Rattle.std.specs.Option.{option_copied};
 ghost use Rattle.rg_base.specs.declared.place.Place.{Place};

@@ -3,7 +3,7 @@
 
 /// The layout of a space and its indexes.
 pub mod side;
-/// The spots of rows on pages.
-pub mod spots;
+// The spots of rows on pages.
+mod spots;
 #[cfg(test)]
 mod tests;

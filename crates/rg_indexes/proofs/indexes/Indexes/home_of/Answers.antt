@@ -1,6 +1,5 @@
-use Rattle.std.proofs.Common.{◌≡◌, ◌==◌, ℕ, true, Option, None, Some, nat_le, find, sym, ap, ◌∙◌, subst}
+use Rattle.std.proofs.Common.{◌≡◌, ℕ, true, sym, ◌∙◌, subst}
 use Rattle.std.proofs.lemmas.Bool.{ne_eqb}
-use Rattle.rg_base.specs.declared.place.Place.{Place}
 use Rattle.rg_index.specs.Entries.{has_entry}
 use Rattle.rg_index.specs.RisingPart.{IsRising-rising_part}
 use Rattle.rg_indexes.proofs.From.{IsElse, found_there, found_none}
