@@ -3,7 +3,6 @@ ghost use Rattle.rg_base.specs.Session.{IsSession};
 use rg_base::row::Row;
 use rg_base::row_bytes::read_row;
 use rg_base::session::Session;
-use rg_model::plain::PlainState;
 use rg_stmt::stmt::{Reply, Stmt};
 use shown::ShownEngine;
 use std::alloc::Global;
@@ -62,13 +61,13 @@ fn stmt_of(alloc: Global, ask: Ask) -> Result<Stmt, Fail> {
     Ok(stmt)
 }
 
-fn number_of(reply: &Option<Reply>) -> i32 {
+fn number_of(reply: &Reply) -> i32 {
     match reply {
-        Some(Reply::Done | Reply::Found(_) | Reply::Listed(_)) => DONE,
-        Some(Reply::Absent) => ABSENT,
-        Some(Reply::Duplicate) => DUPLICATE,
-        Some(Reply::Held(_)) => HELD,
-        Some(Reply::Full { .. }) => FULL,
+        Reply::Done | Reply::Found(_) | Reply::Listed(_) => DONE,
+        Reply::Absent => ABSENT,
+        Reply::Duplicate => DUPLICATE,
+        Reply::Held(_) => HELD,
+        Reply::Full { .. } => FULL,
         _ => -1,
     }
 }
@@ -133,67 +132,5 @@ fn answers_full(rt: HostRuntime) -> Result<(), Fail> {
         (1, Ask::Select(6), ABSENT),
     ];
     expect_steps(&rt, rt.alloc(), &mut engine, &steps)?;
-    Ok(())
-}
-
-// A linear congruential generator. Its upper bits are used, since the lower ones repeat soon.
-#[derive(Drop)]
-struct Draws {
-    state: u64,
-}
-
-impl Draws {
-    fn below(&mut self, limit: u64) -> u64 {
-        self.state = self
-            .state
-            .wrapping_mul(6_364_136_223_846_793_005)
-            .wrapping_add(1_442_695_040_888_963_407);
-        (self.state >> 33) % limit.max(1)
-    }
-
-    fn session(&mut self) -> Session
-        ensures { IsSession result }
-    {
-        match self.below(3) {
-            0 => Session(1),
-            1 => Session(2),
-            _ => Session(99),
-        }
-    }
-
-    fn ask(&mut self) -> Ask {
-        let key = self.below(12);
-        let size = u16::try_from(self.below(801)).unwrap_or(0);
-        match self.below(16) {
-            0..=3 => Ask::Insert { key, size },
-            4..=7 => Ask::Update { key, size },
-            8..=9 => Ask::Delete(key),
-            10 => Ask::Select(key),
-            11..=12 => Ask::Scan {
-                lo: key,
-                hi: self.below(12),
-            },
-            13..=14 => Ask::Commit,
-            _ => Ask::Rollback,
-        }
-    }
-}
-
-// Rows of all widths over several pages: they grow, move, are removed and come back. The plain
-// program has neither pages nor records.
-#[test]
-fn answers_as_the_plain_program(rt: HostRuntime) -> Result<(), Fail> {
-    let mut engine = ShownEngine::new(rt.alloc(), 100)?;
-    let mut plain = PlainState::new(rt.alloc(), 1);
-    let mut draws = Draws { state: 2026 };
-    for at in 0..600 {
-        let number = draws.session();
-        let stmt = stmt_of(rt.alloc(), draws.ask())?;
-        let reply = engine.say(number, &stmt);
-        let said = format!(in rt.alloc(); "{reply:?}")?;
-        let reply = Some(plain.say(rt.alloc(), number, &stmt));
-        let expected = format!(in rt.alloc(); "{reply:?}")?;
-        assert_eq!(rt; said.as_str(), expected.as_str(), "at {at}");
-    }
     Ok(())
 }

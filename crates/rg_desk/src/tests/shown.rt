@@ -31,19 +31,19 @@ impl ShownEngine {
         })
     }
 
-    /// Answers a statement, or None of a FIND.
-    pub fn say(&mut self, session: Session, stmt: &Stmt) -> Option<Reply>
+    /// Answers a statement. A FIND finds nothing.
+    pub fn say(&mut self, session: Session, stmt: &Stmt) -> Reply
         requires { IsSession session }
     {
         match stmt {
-            Stmt::Insert(row) => Some(self.engine.insert(session, row)),
-            Stmt::Update(row) => Some(self.engine.update(session, row)),
-            Stmt::Delete(key) => Some(self.engine.delete(session, *key)),
-            Stmt::Select(key) => Some(self.engine.select(session, *key)),
-            Stmt::Scan { lo, hi } => Some(self.engine.scan(session, *lo, *hi)),
-            Stmt::Find(_) => None,
-            Stmt::Commit => Some(self.engine.commit(session)),
-            Stmt::Rollback => Some(self.engine.rollback(session)),
+            Stmt::Insert(row) => self.engine.insert(session, row),
+            Stmt::Update(row) => self.engine.update(session, row),
+            Stmt::Delete(key) => self.engine.delete(session, *key),
+            Stmt::Select(key) => self.engine.select(session, *key),
+            Stmt::Scan { lo, hi } => self.engine.scan(session, *lo, *hi),
+            Stmt::Find(_) => Reply::Absent,
+            Stmt::Commit => self.engine.commit(session),
+            Stmt::Rollback => self.engine.rollback(session),
         }
     }
 }
