@@ -109,7 +109,7 @@ fn update(key: u64, size: u16) -> Ask {
 #[test]
 fn answers_full(rt: HostRuntime) -> Result<(), Fail> {
     let mut engine = ShownEngine::new(rt.alloc(), 1)?;
-    let steps: [Step; 20] = [
+    let steps: [Step; 22] = [
         (1, insert(1, 800), DONE),
         (1, insert(2, 800), DONE),
         (1, insert(3, 800), DONE),
@@ -130,6 +130,8 @@ fn answers_full(rt: HostRuntime) -> Result<(), Fail> {
         (3, Ask::Commit, DONE),
         (1, insert(7, 0), DUPLICATE),
         (1, Ask::Select(6), ABSENT),
+        (1, Ask::Select(7), DONE),
+        (1, Ask::Scan { lo: 0, hi: 9 }, DONE),
     ];
     expect_steps(&rt, rt.alloc(), &mut engine, &steps)?;
     Ok(())
