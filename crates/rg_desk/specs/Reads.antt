@@ -10,6 +10,7 @@ use Rattle.rg_desk.specs.Wrote.{SameEngine}
 use Rattle.rg_desk.specs.declared.engine.Engine.{Engine}
 
 -- these rows were read at the places of these entries, and all is as it was
-pub record RowsRead (old new : Engine) (entries : List (ℕ × Place)) (found : List Row) : Type 0 where
+pub record RowsRead (old new : Engine) (entries : List (ℕ × Place)) (found : List Row)
+    : Type 0 where
   pub same : SameEngine old new
   pub rows : found ≡ listed_rows (row_at (slot_of (slots_in old))) entries

@@ -1,7 +1,7 @@
 -- The undo of a unit's writes.
 --
--- 1. Its Changes are found from its last record back, and copied. They are undone in that order, the
---    latest first.
+-- 1. Its Changes are found from its last record back, and copied. They are undone in that order,
+--    the latest first.
 use Rattle.std.specs.Prelude.{◌≡◌, ◌≤◌, ◌+◌, ℕ, List, [], ◌∷◌, ◌++◌, Option, Some, None, if◌then◌else◌, length}
 use Rattle.rg_base.specs.declared.place.Place.{Place}
 use Rattle.rg_base.specs.declared.row.Row.{Row}

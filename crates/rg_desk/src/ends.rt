@@ -1,7 +1,7 @@
 // COMMIT and ROLLBACK.
 //
-// 1. The room for the record of a unit's end was reserved with its first write. So a COMMIT takes no
-//    memory, and is never refused.
+// 1. The room for the record of a unit's end was reserved with its first write. So a COMMIT takes
+//    no memory, and is never refused.
 // 2. What was reserved for undoing the unit is given back.
 ghost use Rattle.rg_base.specs.Session.{IsSession};
 ghost use Rattle.rg_desk.specs.Ended.{EndsSession, LogsCommit};

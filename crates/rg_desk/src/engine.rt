@@ -68,7 +68,8 @@ fn make(space: &mut Space<ListFrames>, records: &mut Records, entry: Record)
         ≡ record_applied (slots_of (list_seen (frames_of space.old)).pages) entry }
     ensures stay { CanApplyRecord (list_seen (frames_of space.old)) (capacity_in space.old) entry
         → AllThere (length (list_seen (frames_of space.old)).pages) (parts_of entry.kind)
-        → (parts : List Part) → AllReady (list_seen (frames_of space.old)) (capacity_in space.old) parts
+        → (parts : List Part)
+        → AllReady (list_seen (frames_of space.old)) (capacity_in space.old) parts
         → AllReady (list_seen (frames_of space.new)) (capacity_in space.old) parts }
     ensures records { records.new.records ≡ records.old.records ++ entry ∷ [] }
     ensures reserved { records.new.reserved + 1 ≡ records.old.reserved }
@@ -92,7 +93,8 @@ fn clear(space: &mut Space<ListFrames>, records: &mut Records, purge: Parts)
         ≡ applied 0 (row_or_empty None) (slots_of (list_seen (frames_of space.old)).pages) purge }
     ensures stay { CanApply (list_seen (frames_of space.old)) (capacity_in space.old) 0 None purge
         → AllThere (length (list_seen (frames_of space.old)).pages) purge
-        → (parts : List Part) → AllReady (list_seen (frames_of space.old)) (capacity_in space.old) parts
+        → (parts : List Part)
+        → AllReady (list_seen (frames_of space.old)) (capacity_in space.old) parts
         → AllReady (list_seen (frames_of space.new)) (capacity_in space.old) parts }
     ensures records { records.new.records ≡ records_cleared records.old.records purge }
     ensures reserved { records.new.reserved + records_taken purge ≡ records.old.reserved + 1 }

@@ -76,7 +76,8 @@ impl Engine {
         requires pages { HasPages self.old }
         ensures same { SameEngine self.old self.new }
         ensures handed { IfOk result (IsHanded self.new) }
-        ensures plan { IfOk result (λ plan. Some plan ≡ put_plan tran.0 (row_size row.now) self.new) }
+        ensures plan { IfOk result (λ plan.
+            Some plan ≡ put_plan tran.0 (row_size row.now) self.new) }
         ensures refusal { IfErr result
             (IsRefusal (row_size row.now) (put_plan tran.0 (row_size row.now) self.new)) }
     {

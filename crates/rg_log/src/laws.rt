@@ -66,8 +66,8 @@ pub fn appends_keep_the_log()
 {}
 
 /// The log of each image that a crash may leave is a part of the records, no less than `low`. Where
-/// positions count from 1, its log pages follow their rule, and it is tidy; so the volume reads tidy
-/// when it is opened again.
+/// positions count from 1, its log pages follow their rule, and it is tidy; so the volume reads
+/// tidy when it is opened again.
 pub fn crashes_leave_a_part()
     ensures part { (capacity low : ℕ) (rs : List Record) (told : Option Told) → AreEntries rs
         → (1 ≤ length rs → (end_of start rs).page ≤ capacity) → LeavesLog told capacity rs low

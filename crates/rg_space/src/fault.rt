@@ -1,3 +1,7 @@
+// Why a space refuses a call.
+//
+// 1. A fault names the first cause that was found. Full comes of a put or a change alone, and Unfit
+//    of a redo alone. Nothing was applied to a page where a plan is refused.
 use rg_base::no_memory::NoMemory;
 use rg_page::frames::Device;
 
