@@ -1,19 +1,49 @@
 -- The contract of a call follows from what it comes to.
-use Rattle.std.proofs.Common.{◌≡◌, ◌≢◌, ◌<◌, ◌≤◌, ◌+◌, ◌⊎◌, inl, inr, ℕ, List, [], ◌∷◌, ◌++◌, Option, Some, None, length, refl, sym, ◌∙◌, ap, subst, arith, append-nil, length-append}
+use Rattle.std.proofs.Common.{◌≡◌, ◌≢◌, ◌<◌, ◌≤◌, ◌+◌, ◌*◌, ◌⊎◌, inl, inr, ℕ, Bool, true, false, nat_le, if◌then◌else◌, List, [], ◌∷◌, ◌++◌, Option, Some, None, length, refl, sym, ◌∙◌, ap, subst, arith, append-nil, length-append}
+use Rattle.std.proofs.lemmas.Bool.Decides.{nat_tests}
 use Rattle.std.specs.List.{Contains}
 use Rattle.std.specs.Io.KnownBytes.{Consumes, Appends, IsAtEnd}
+use Rattle.rg_base.specs.declared.set.Set.TheVariants.{First, Second}
 use Rattle.rg_deck.specs.declared.read.TheConstants.{DECK_LIMIT}
 use Rattle.rg_model.specs.Legal.{Legal}
 use Rattle.rg_outside.specs.Faults.{Rose}
-use Rattle.rg_run.specs.Played.{no_rows}
+use Rattle.rg_desk.specs.Desk.{copy_capacity, no_rows}
+use Rattle.rg_outside.specs.Capacities.{Capacities, capacity_of}
+use Rattle.rg_run.specs.Full.{IsFullFrom, IsFullOnlyFrom}
+use Rattle.rg_desk.specs.Chronicle.{allowed_after}
 use Rattle.rg_stmt.specs.declared.event.Entry.{Entry}
+use Rattle.rg_stmt.specs.declared.event.Event.{Event}
+use Rattle.rg_stmt.specs.declared.event.Event.TheVariants.{Said}
+use Rattle.rg_stmt.specs.declared.stmt.Reply.TheVariants.{Full}
 use Rattle.reorgdb.specs.Answer.{Seen, IsPlay, IsDeck, ReadsDeck, Comes, Concludes, output_of}
 use Rattle.reorgdb.specs.Causes.{Plays, RefusesDeck, IsDue, GivesDue}
-use Rattle.reorgdb.specs.Contract.{Completes}
+use Rattle.reorgdb.specs.Contract.{Completes, pages_of, smaller_pages}
 use Rattle.reorgdb.specs.Reading.{TakesAtMost, TakesTooMany}
 use Rattle.reorgdb.specs.Refusals.{status_of}
 use Rattle.reorgdb.specs.declared.outcome.Outcome.{Outcome}
 use Rattle.reorgdb.specs.declared.outcome.Outcome.TheVariants.{Played, Words, Deck, Source, Long, NoMemory}
+
+-- ---- FULL
+
+-- the smaller copy has no more pages than the first
+smaller : (first second : ℕ) → (if nat_le first second then first else second) ≤ first
+smaller first second = by_test (nat_le first second) refl
+  where
+    by_test : (b : Bool) → nat_le first second ≡ b → (if b then first else second) ≤ first
+    by_test true e = omega arith
+    by_test false e = grind (arith, nat_tests, e)
+
+few_pages : (capacities : Capacities) → 3200 * smaller_pages capacities ≤ 3221 * copy_capacity capacities
+few_pages capacities = let least = smaller (pages_of capacities First) (pages_of capacities Second) in omega (arith, least)
+
+full_one : (less more allowed : ℕ) (event : Event) → less ≤ more → IsFullFrom more allowed event → IsFullFrom less allowed event
+full_one less more allowed (Said stmt (Full need)) le is = omega (arith, le, is)
+full_one less more allowed (Said stmt reply) le is = is
+full_one less more allowed event le is = is
+
+full_less : (less more allowed : ℕ) (entries : List Entry) → less ≤ more → IsFullOnlyFrom more allowed entries → IsFullOnlyFrom less allowed entries
+full_less less more allowed [] le all = tt
+full_less less more allowed (entry ∷ entries) le all = (full_one less more allowed entry.event le all.0, full_less less more (allowed_after allowed entry.event) entries le all.1)
 
 not_four : (a : Outcome) → status_of a ≢ 4
 not_four Played e = omega arith
@@ -57,11 +87,12 @@ module _ (words : List (List ℕ)) (source source_after sink sink_after : Seen) 
     | inr front ↦ elim front [ inl failed ↦ absurd (four failed.0) | inr wanted ↦ absurd (eight wanted.0) ]
   ]
 
-  played_of : (outcome : Outcome) (print : List ℕ) → status ≡ 0 → OfStatus outcome print → Plays source source_after sink sink_after trace
+  played_of : (outcome : Outcome) (print : List ℕ) → status ≡ 0 → OfStatus outcome print → Plays words source source_after sink sink_after trace
   played_of Played print is of =
       let (play, bytes, read, deals) = of.comes in
       let (lines, spelled, printed) = deals in
       record {
+        asked = play;
         bytes = bytes;
         lines = lines;
         rows = printed.rows;
@@ -73,7 +104,7 @@ module _ (words : List (List ℕ)) (source source_after sink sink_after : Seen) 
       }
   played_of outcome print is of = absurd (omega (arith, of.is, is))
 
-  plays : Concludes words source source_after sink sink_after status trace → status ≡ 0 → Plays source source_after sink sink_after trace
+  plays : Concludes words source source_after sink sink_after status trace → status ≡ 0 → Plays words source source_after sink sink_after trace
   plays a is = played_of a.outcome a.print is (by_status (λ e. omega arith) (λ e. omega arith) a)
 
   words_of : (outcome : Outcome) (print : List ℕ) → status ≡ 1 → OfStatus outcome print → IsPlay words → ⊥
@@ -173,13 +204,15 @@ module _ (words : List (List ℕ)) (source source_after sink sink_after : Seen) 
   ]
 
   -- the whole contract, by what the call comes to
-  pub completes :
-      Concludes words source source_after sink sink_after status trace → Legal no_rows trace
+  pub completes : (capacities : Capacities)
+      → Concludes words source source_after sink sink_after status trace → Legal no_rows trace
+      → IsFullOnlyFrom (3221 * copy_capacity capacities) 0 trace
       → TakesAtMost (DECK_LIMIT + 1) source.bytes source_after.bytes
-      → Completes words source source_after sink sink_after status trace
-  completes concludes legal bounded = record {
+      → Completes words source source_after sink sink_after capacities status trace
+  completes capacities concludes legal full bounded = record {
     concludes = concludes;
     legal = legal;
+    full = full_less (3200 * smaller_pages capacities) (3221 * copy_capacity capacities) 0 trace (few_pages capacities) full;
     played = plays concludes;
     no_command = no_words concludes;
     other_words = other_words concludes;

@@ -1,15 +1,15 @@
 -- From lines to the bytes that spell them.
-use Rattle.std.proofs.Common.{◌≡◌, ℕ, List, [], ◌∷◌, sym, subst, append-nil, inl, inr, ◌⊎◌}
+use Rattle.std.proofs.Common.{◌≡◌, ℕ, Bool, List, [], ◌∷◌, sym, subst, append-nil, inl, inr, ◌⊎◌}
 use Rattle.rg_stmt.specs.declared.event.Entry.{Entry}
 use Rattle.std.specs.List.{AllByRecursion}
 use Rattle.rg_stmt.specs.declared.line.Line.{Line}
-use Rattle.rg_stmt.specs.declared.line.Line.TheVariants.{Said}
+use Rattle.rg_stmt.specs.declared.line.Line.TheVariants.{Said, Show}
 use Rattle.rg_deck.specs.Grammar.{IsAdmitted}
-use Rattle.rg_deck.specs.declared.read.Admits.TheVariants.{Statements}
+use Rattle.rg_deck.specs.declared.read.Admits.TheVariants.{Layouts}
 use Rattle.rg_run.specs.Played.{IsPlayed, TraceOf, TraceOfFront, Ends}
 use Rattle.rg_run.specs.declared.played.RunEnd.{RunEnd}
 use Rattle.rg_run.specs.declared.played.RunEnd.TheVariants.{Whole}
-use Rattle.reorgdb.specs.Answer.{IsDeck, DealsWithLines, DealsWithBytes}
+use Rattle.reorgdb.specs.Answer.{Comes, DealsWithBytes, DealsWithLines, IsDeck, IsPlay, ReadsDeck, Seen}
 use Rattle.reorgdb.specs.declared.outcome.Outcome.{Outcome}
 use Rattle.reorgdb.specs.declared.outcome.Outcome.TheVariants.{Played, Words, Deck, Source, Long, NoMemory}
 
@@ -22,27 +22,38 @@ front_of : (bytes : List ℕ) (lines : List Line) (trace : List Entry) → IsDec
 front_of bytes lines trace spelled (inl none) = inl none
 front_of bytes lines trace spelled (inr front) = inr (lines, spelled, front)
 
-pub DealsWithBytes-lines : (outcome : Outcome) (bytes : List ℕ) (lines : List Line) (trace : List Entry) (print : List ℕ) → IsDeck bytes lines
-    → DealsWithLines lines outcome trace print → DealsWithBytes bytes outcome trace print
-DealsWithBytes-lines Played bytes lines trace print spelled deals = (lines, spelled, deals)
-DealsWithBytes-lines NoMemory bytes lines trace print spelled deals = front_of bytes lines trace spelled deals
-DealsWithBytes-lines Words bytes lines trace print spelled deals = deals
-DealsWithBytes-lines (Deck line) bytes lines trace print spelled deals = absurd deals
-DealsWithBytes-lines Source bytes lines trace print spelled deals = deals
-DealsWithBytes-lines Long bytes lines trace print spelled deals = deals
+pub DealsWithBytes-lines : (full : Bool) (outcome : Outcome) (bytes : List ℕ) (lines : List Line) (trace : List Entry) (print : List ℕ) → IsDeck bytes lines
+    → DealsWithLines full lines outcome trace print → DealsWithBytes full bytes outcome trace print
+DealsWithBytes-lines full Played bytes lines trace print spelled deals = (lines, spelled, deals)
+DealsWithBytes-lines full NoMemory bytes lines trace print spelled deals = front_of bytes lines trace spelled deals
+DealsWithBytes-lines full Words bytes lines trace print spelled deals = deals
+DealsWithBytes-lines full (Deck line) bytes lines trace print spelled deals = absurd deals
+DealsWithBytes-lines full Source bytes lines trace print spelled deals = deals
+DealsWithBytes-lines full Long bytes lines trace print spelled deals = deals
 
 -- lines that were played, but not printed for want of memory
-pub DealsWithLines-unprinted : (lines : List Line) (played : List Entry) (end : RunEnd) (rows : ℕ) (outcome : Outcome) (trace : List Entry) (print : List ℕ)
-    → end ≡ Whole rows → outcome ≡ NoMemory → trace ≡ played → Ends lines played end → DealsWithLines lines outcome trace print
-DealsWithLines-unprinted lines played end rows outcome trace print is none same ends =
+pub DealsWithLines-unprinted : (full : Bool) (lines : List Line) (played : List Entry) (end : RunEnd) (rows : ℕ) (outcome : Outcome) (trace : List Entry) (print : List ℕ)
+    → end ≡ Whole rows → outcome ≡ NoMemory → trace ≡ played → Ends lines played end → DealsWithLines full lines outcome trace print
+DealsWithLines-unprinted full lines played end rows outcome trace print is none same ends =
     let whole : Ends lines played (Whole rows) = subst (Ends lines played) is ends in
     rw (none, same) (inr (TraceOfFront-whole lines played whole.0))
 
--- statements are played
-each_played : (line : Line) → IsAdmitted Statements line → IsPlayed line
+-- what a call comes to whose words and bytes were read
+pub comes_read : (outcome : Outcome) (words : List (List ℕ)) (before after : Seen) (bytes : List ℕ) (trace : List Entry) (print : List ℕ) (asked : IsPlay words) → ReadsDeck before bytes after
+    → DealsWithBytes asked.0 bytes outcome trace print → Comes outcome words before after trace print
+comes_read Played words before after bytes trace print asked reads deals = (asked, bytes, reads, deals)
+comes_read (Deck line) words before after bytes trace print asked reads deals = (asked, bytes, reads, deals)
+comes_read NoMemory words before after bytes trace print asked reads deals = (asked, inr (bytes, reads, deals))
+comes_read Words words before after bytes trace print asked reads deals = absurd deals
+comes_read Source words before after bytes trace print asked reads deals = absurd deals
+comes_read Long words before after bytes trace print asked reads deals = absurd deals
+
+-- statements and layouts are played
+each_played : (line : Line) → IsAdmitted Layouts line → IsPlayed line
 each_played (Said session stmt) is = is.0.0
+each_played Show is = tt
 each_played line is = absurd (cc (is.1))
 
-pub all_played : (lines : List Line) → AllByRecursion (IsAdmitted Statements) lines → AllByRecursion IsPlayed lines
+pub all_played : (lines : List Line) → AllByRecursion (IsAdmitted Layouts) lines → AllByRecursion IsPlayed lines
 all_played [] all = tt
 all_played (line ∷ lines) all = (each_played line all.0, all_played lines all.1)

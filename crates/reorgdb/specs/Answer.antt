@@ -1,15 +1,18 @@
 -- What a call of the program comes to, and how its output is given.
-use Rattle.std.specs.Prelude.{ℕ, ◌≡◌, ◌≤◌, ◌⊎◌, false, List, [], ◌∷◌, Option, length, codes}
+use Rattle.std.specs.Prelude.{ℕ, ◌≡◌, ◌≤◌, ◌⊎◌, Bool, List, [], Option, length}
 use Rattle.std.specs.Io.KnownBytes.{Consumes, Appends, IsAtEnd}
 use Rattle.rg_deck.specs.Grammar.{LinesOf, IsFirstOutside}
-use Rattle.rg_deck.specs.declared.read.Admits.TheVariants.{Statements}
+use Rattle.rg_deck.specs.declared.read.Admits.TheVariants.{Layouts}
 use Rattle.rg_deck.specs.declared.read.TheConstants.{DECK_LIMIT}
 use Rattle.rg_outside.specs.Faults.{Rose}
 use Rattle.rg_print.specs.Print.{print_text}
 use Rattle.rg_print.specs.declared.print.Close.TheVariants as closes
-use Rattle.rg_run.specs.Played.{TraceOf, TraceOfFront, EndsWithRows}
+use Rattle.rg_desk.specs.Desk.{EndsWithRows}
+use Rattle.rg_run.specs.Played.{TraceOf, TraceOfFront}
 use Rattle.rg_stmt.specs.declared.event.Entry.{Entry}
 use Rattle.rg_stmt.specs.declared.line.Line.{Line}
+use Rattle.rg_words.specs.Spelling.{Spells}
+use Rattle.rg_words.specs.declared.words.Words.TheVariants as asks
 use Rattle.reorgdb.specs.Giving.{GivesPrefix}
 use Rattle.reorgdb.specs.Reading.{TakesTooMany}
 use Rattle.reorgdb.specs.Refusals.{status_of, fixed_text, deck_refusal}
@@ -27,21 +30,21 @@ pub record Seen : Type 0 where
 abbrev pub seen : {X : Type 0} → (X → Option (List ℕ)) → (X → ℕ) → X → Seen
 seen bytes faults x = record { bytes = bytes x; faults = faults x }
 
--- the words are the one word `play`
+-- the words ask for `play`, with full layouts or brief ones
 abbrev pub IsPlay : List (List ℕ) → Type 0
-IsPlay words = words ≡ codes "play" ∷ []
+IsPlay words = (full : Bool) × Spells (asks.Play full) words
 
--- the bytes are statements, one to a line
+-- the bytes are statements and layouts, one to a line
 abbrev pub IsDeck : List ℕ → List Line → Type 0
-IsDeck bytes lines = LinesOf Statements bytes lines
+IsDeck bytes lines = LinesOf Layouts bytes lines
 
 -- they are not
 abbrev pub IsNoDeck : List ℕ → Type 0
 IsNoDeck bytes = (lines : List Line) → IsDeck bytes lines → ⊥
 
--- this line is the first that is outside the grammar or no statement
+-- this line is the first that is outside the grammar, or neither a statement nor a layout
 abbrev pub IsRefusedAt : List ℕ → ℕ → Type 0
-IsRefusedAt bytes line = IsFirstOutside Statements bytes line × IsNoDeck bytes
+IsRefusedAt bytes line = IsFirstOutside Layouts bytes line × IsNoDeck bytes
 
 -- the source was read to its end, and these bytes are not more than the limit
 pub record ReadsDeck (before : Seen) (bytes : List ℕ) (after : Seen) : Type 0 where
@@ -50,52 +53,53 @@ pub record ReadsDeck (before : Seen) (bytes : List ℕ) (after : Seen) : Type 0 
   pub end : IsAtEnd after.bytes
 
 -- the trace has an entry for each line, and the print is the trace with the number of committed
--- rows at its end
-pub record PrintsPlayed (lines : List Line) (trace : List Entry) (print : List ℕ) : Type 0 where
+-- rows at its end, and with full layouts or brief ones
+pub record PrintsPlayed (full : Bool) (lines : List Line) (trace : List Entry) (print : List ℕ)
+    : Type 0 where
   pub entries : TraceOf lines trace
   pub rows : ℕ
   pub counted : EndsWithRows trace rows
-  pub printed : print ≡ print_text trace false (closes.Rows rows)
+  pub printed : print ≡ print_text trace full (closes.Rows rows)
 
 -- what lines that were read come to
-abbrev pub DealsWithLines : List Line → Outcome → List Entry → List ℕ → Type 0
-DealsWithLines lines Played trace print = PrintsPlayed lines trace print
-DealsWithLines lines NoMemory trace print = (trace ≡ []) ⊎ TraceOfFront lines trace
-DealsWithLines lines Words trace print = ⊥
-DealsWithLines lines (Deck line) trace print = ⊥
-DealsWithLines lines Source trace print = ⊥
-DealsWithLines lines Long trace print = ⊥
+abbrev pub DealsWithLines : Bool → List Line → Outcome → List Entry → List ℕ → Type 0
+DealsWithLines full lines Played trace print = PrintsPlayed full lines trace print
+DealsWithLines full lines NoMemory trace print = (trace ≡ []) ⊎ TraceOfFront lines trace
+DealsWithLines full lines Words trace print = ⊥
+DealsWithLines full lines (Deck line) trace print = ⊥
+DealsWithLines full lines Source trace print = ⊥
+DealsWithLines full lines Long trace print = ⊥
 
 -- what bytes that were read come to
-abbrev pub DealsWithBytes : List ℕ → Outcome → List Entry → List ℕ → Type 0
-DealsWithBytes bytes Played trace print =
-    (lines : List Line) × IsDeck bytes lines × PrintsPlayed lines trace print
-DealsWithBytes bytes (Deck line) trace print =
+abbrev pub DealsWithBytes : Bool → List ℕ → Outcome → List Entry → List ℕ → Type 0
+DealsWithBytes full bytes Played trace print =
+    (lines : List Line) × IsDeck bytes lines × PrintsPlayed full lines trace print
+DealsWithBytes full bytes (Deck line) trace print =
     IsRefusedAt bytes line × (trace ≡ []) × (print ≡ deck_refusal line)
-DealsWithBytes bytes NoMemory trace print =
+DealsWithBytes full bytes NoMemory trace print =
     (trace ≡ []) ⊎ ((lines : List Line) × IsDeck bytes lines × TraceOfFront lines trace)
-DealsWithBytes bytes Words trace print = ⊥
-DealsWithBytes bytes Source trace print = ⊥
-DealsWithBytes bytes Long trace print = ⊥
+DealsWithBytes full bytes Words trace print = ⊥
+DealsWithBytes full bytes Source trace print = ⊥
+DealsWithBytes full bytes Long trace print = ⊥
 
 -- what each outcome says of the call before its output is given
 abbrev pub Comes : Outcome → List (List ℕ) → Seen → Seen → List Entry → List ℕ → Type 0
 Comes Played words before after trace print =
-    IsPlay words × (bytes : List ℕ) × ReadsDeck before bytes after
-    × DealsWithBytes bytes Played trace print
+    (asked : IsPlay words) × (bytes : List ℕ) × ReadsDeck before bytes after
+    × DealsWithBytes asked.0 bytes Played trace print
 Comes Words words before after trace print = (IsPlay words → ⊥) × (after ≡ before) × (trace ≡ [])
 Comes (Deck line) words before after trace print =
-    IsPlay words × (bytes : List ℕ) × ReadsDeck before bytes after
-    × DealsWithBytes bytes (Deck line) trace print
+    (asked : IsPlay words) × (bytes : List ℕ) × ReadsDeck before bytes after
+    × DealsWithBytes asked.0 bytes (Deck line) trace print
 Comes Source words before after trace print =
     IsPlay words × Rose before.faults after.faults × (trace ≡ [])
 Comes Long words before after trace print =
     IsPlay words × TakesTooMany before.bytes after.bytes × (trace ≡ [])
 Comes NoMemory words before after trace print =
-    IsPlay words
+    (asked : IsPlay words)
     × ((trace ≡ [])
     ⊎ ((bytes : List ℕ) × ReadsDeck before bytes after
-    × DealsWithBytes bytes NoMemory trace print))
+    × DealsWithBytes asked.0 bytes NoMemory trace print))
 
 -- the whole output
 abbrev pub output_of : Outcome → List ℕ → List ℕ

@@ -1,11 +1,12 @@
 -- What each status of a call says, and which status is due.
-use Rattle.std.specs.Prelude.{ℕ, ◌≡◌, ◌<◌, ◌≤◌, ◌⊎◌, false, List, Some, length}
+use Rattle.std.specs.Prelude.{ℕ, ◌≡◌, ◌<◌, ◌≤◌, ◌⊎◌, List, Some, length}
 use Rattle.std.specs.Io.KnownBytes.{Appends}
 use Rattle.rg_deck.specs.declared.read.TheConstants.{DECK_LIMIT}
 use Rattle.rg_outside.specs.Faults.{Rose}
 use Rattle.rg_print.specs.Print.{print_text}
 use Rattle.rg_print.specs.declared.print.Close.TheVariants as closes
-use Rattle.rg_run.specs.Played.{TraceOf, EndsWithRows}
+use Rattle.rg_desk.specs.Desk.{EndsWithRows}
+use Rattle.rg_run.specs.Played.{TraceOf}
 use Rattle.rg_stmt.specs.declared.event.Entry.{Entry}
 use Rattle.rg_stmt.specs.declared.line.Line.{Line}
 use Rattle.reorgdb.specs.Answer.{Seen, IsPlay, IsDeck, IsNoDeck, IsRefusedAt, ReadsDeck}
@@ -13,9 +14,11 @@ use Rattle.reorgdb.specs.Refusals.{status_of, deck_refusal}
 use Rattle.reorgdb.specs.declared.outcome.Outcome.{Outcome}
 use Rattle.reorgdb.specs.declared.outcome.Outcome.TheVariants as outcomes
 
--- Status 0: the source was read to its end, its bytes are statements, the trace is theirs, and its
--- print was appended to what the sink held.
-pub record Plays (source source_after sink sink_after : Seen) (trace : List Entry) : Type 0 where
+-- Status 0: the source was read to its end, its bytes are statements and layouts, the trace is
+-- theirs, and its print was appended to what the sink held, with layouts as the words ask.
+pub record Plays (words : List (List ℕ)) (source source_after sink sink_after : Seen)
+    (trace : List Entry) : Type 0 where
+  pub asked : IsPlay words
   pub bytes : List ℕ
   pub lines : List Line
   pub rows : ℕ
@@ -23,10 +26,10 @@ pub record Plays (source source_after sink sink_after : Seen) (trace : List Entr
   pub spelled : IsDeck bytes lines
   pub entries : TraceOf lines trace
   pub counted : EndsWithRows trace rows
-  pub shown : Appends sink.bytes sink_after.bytes (print_text trace false (closes.Rows rows))
+  pub shown : Appends sink.bytes sink_after.bytes (print_text trace asked.0 (closes.Rows rows))
 
 -- Status 2: the source was read to its end, and the sink got the number of the first line that is
--- outside the grammar or no statement.
+-- outside the grammar, or neither a statement nor a layout.
 pub record RefusesDeck (source source_after sink sink_after : Seen) : Type 0 where
   pub bytes : List ℕ
   pub line : ℕ

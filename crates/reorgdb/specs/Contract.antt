@@ -2,30 +2,51 @@
 -- by what is known of the source and the sink before and after the call, and by the status and the
 -- trace that it leaves. Out of memory is the one answer that may come at any time: status 8 may
 -- stand in place of any other.
-use Rattle.std.specs.Prelude.{ℕ, ◌≡◌, ◌+◌, List, [], ◌∷◌}
+use Rattle.std.specs.Prelude.{ℕ, ◌≡◌, ◌+◌, ◌*◌, List, [], ◌∷◌, nat_le, if◌then◌else◌}
 use Rattle.std.specs.List.{Contains}
+use Rattle.rg_base.specs.declared.set.Set.{Set}
+use Rattle.rg_base.specs.declared.set.Set.TheVariants.{First, Second}
 use Rattle.rg_deck.specs.declared.read.TheConstants.{DECK_LIMIT}
 use Rattle.rg_model.specs.Legal.{Legal}
 use Rattle.rg_outside.specs.Faults.{Rose}
-use Rattle.rg_run.specs.Played.{no_rows}
+use Rattle.rg_desk.specs.Desk.{no_rows}
+use Rattle.rg_outside.specs.Capacities.{Capacities, capacity_of}
+use Rattle.rg_run.specs.Full.{IsFullOnlyFrom}
 use Rattle.rg_stmt.specs.declared.event.Entry.{Entry}
 use Rattle.reorgdb.specs.Answer.{Seen, IsPlay, Concludes}
 use Rattle.reorgdb.specs.Causes.{Plays, RefusesDeck, GivesDue}
 use Rattle.reorgdb.specs.Reading.{TakesAtMost, TakesTooMany}
 
+-- how many pages a copy may have: those of its set, and no more than 65,536
+abbrev pub pages_of : Capacities → Set → ℕ
+pages_of capacities set =
+    if nat_le (capacity_of capacities set) 65536 then capacity_of capacities set else 65536
+
+-- how many the smaller of both copies may have
+abbrev pub smaller_pages : Capacities → ℕ
+smaller_pages capacities =
+    if nat_le (pages_of capacities First) (pages_of capacities Second)
+    then pages_of capacities First
+    else pages_of capacities Second
+
 pub record Completes (words : List (List ℕ)) (source source_after sink sink_after : Seen)
-    (status : ℕ) (trace : List Entry) : Type 0 where
+    (capacities : Capacities) (status : ℕ) (trace : List Entry) : Type 0 where
   -- What the call comes to, and how its output is given. At status 4 all holds that is said of the
   -- status in whose place it stands, but that the sink has a prefix of the text.
   pub concludes : Concludes words source source_after sink sink_after status trace
+  -- Each reply is that of a table never reorganised, or says that memory or room was wanting; each
+  -- layout is right for the table.
   pub legal : Legal no_rows trace
+  -- FULL is answered only where what was written reaches 3,200 bytes for each page of the smaller
+  -- copy.
+  pub full : IsFullOnlyFrom (3200 * smaller_pages capacities) 0 trace
   -- Status 0: the deck was played, and its print given.
-  pub played : status ≡ 0 → Plays source source_after sink sink_after trace
-  -- Status 1 is returned only if the words are not `play`; then no other is but 4 and 8.
+  pub played : status ≡ 0 → Plays words source source_after sink sink_after trace
+  -- Status 1 is returned only if the words do not ask for `play`; then no other is but 4 and 8.
   pub no_command : status ≡ 1 → IsPlay words → ⊥
   pub other_words : (IsPlay words → ⊥) → Contains (1 ∷ 4 ∷ 8 ∷ []) status
   -- Status 2: the bytes were read to their end, and the output names the first line that is outside
-  -- the grammar or no statement.
+  -- the grammar, or neither a statement nor a layout.
   pub deck : status ≡ 2 → RefusesDeck source source_after sink sink_after
   -- Statuses 3 and 4 are returned only if the source, or the sink, failed in this call.
   pub source_failed : status ≡ 3 → Rose source.faults source_after.faults

@@ -1,9 +1,10 @@
 // The program's call. All that it promises is in specs/Contract.antt.
-ghost use Rattle.std.specs.Prelude.{◌≡◌, ◌+◌, map, string_bytes};
+ghost use Rattle.std.specs.Prelude.{◌≡◌, ◌+◌, ◌*◌, map, string_bytes};
 ghost use Rattle.rg_model.specs.Legal.{Legal};
 ghost use Rattle.reorgdb.specs.Answer.{seen, Concludes, Delivers, output_of};
 ghost use Rattle.reorgdb.specs.Contract.{Completes};
-ghost use Rattle.rg_run.specs.Played.{no_rows};
+ghost use Rattle.rg_desk.specs.Desk.{copy_capacity, no_rows};
+ghost use Rattle.rg_run.specs.Full.{IsFullOnlyFrom};
 ghost use Rattle.reorgdb.specs.Reading.{TakesAtMost};
 
 use crate::giving::{Given, give_all};
@@ -44,7 +45,7 @@ pub fn reorg_main<R: Threads + Wait + Clock + Sync, S: Source, K: Sink, V: Volum
     ensures completes { Completes (map string_bytes words.now)
         (seen S.left S.faults source.old) (seen S.left S.faults source.new)
         (seen K.contents K.faults sink.old) (seen K.contents K.faults sink.new)
-        result.status result.trace.items }
+        (V.capacities volume) result.status result.trace.items }
     ensures volume { result.volume ≡ volume }
     ensures operator { result.operator ≡ operator }
 {
@@ -64,7 +65,7 @@ pub fn reorg_alone<S: Source, K: Sink, V: Volume + Send>(
     ensures completes { Completes (map string_bytes words.now)
         (seen S.left S.faults source.old) (seen S.left S.faults source.new)
         (seen K.contents K.faults sink.old) (seen K.contents K.faults sink.new)
-        result.status result.trace.items }
+        (V.capacities volume) result.status result.trace.items }
     ensures volume { result.volume ≡ volume }
     ensures operator { result.operator ≡ operator }
 {
@@ -104,6 +105,7 @@ fn answer<S: Source, K: Sink, V: Volume, O: Operator>(
         (seen K.contents K.faults sink.old) (seen K.contents K.faults sink.new)
         result.0 result.1.items }
     ensures legal { Legal no_rows result.1.items }
+    ensures full { IsFullOnlyFrom (3221 * copy_capacity (V.capacities volume)) 0 result.1.items }
     ensures bounded { TakesAtMost (DECK_LIMIT + 1) (S.left source.old) (S.left source.new) }
     ensures volume { result.2 ≡ volume }
     ensures operator { result.3 ≡ operator }

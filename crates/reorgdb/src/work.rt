@@ -3,11 +3,15 @@
 // (2) The whole deck is read before any line of it is played.
 // (3) The whole output is made before any of it is given.
 // (4) Neither the volume nor the operator is called.
-ghost use Rattle.std.specs.Prelude.{ℕ, ◌≡◌, ◌≤◌, ◌+◌, ◌↔◌, List, length, map, IsTrue, string_bytes};
-ghost use Rattle.std.specs.Prelude.{[]};
+ghost use Rattle.std.specs.Prelude.{ℕ, ◌≡◌, ◌≤◌, ◌+◌, ◌*◌, [], Bool, List, length, map, IfSome, IfNone};
+ghost use Rattle.std.specs.Prelude.{string_bytes};
 ghost use Rattle.rg_stmt.specs.declared.line.Line.{Line};
 ghost use Rattle.rg_model.specs.Legal.{Legal};
-ghost use Rattle.rg_run.specs.Played.{no_rows, Ends};
+ghost use Rattle.rg_desk.specs.Desk.{copy_capacity, no_rows};
+ghost use Rattle.rg_run.specs.Full.{IsFullOnlyFrom};
+ghost use Rattle.rg_run.specs.Played.{Ends};
+ghost use Rattle.rg_words.specs.Spelling.{Spells};
+ghost use Rattle.rg_words.specs.declared.words.Words.TheVariants as asks;
 ghost use Rattle.reorgdb.specs.Answer.{Seen, seen, IsPlay, IsRefusedAt, DealsWithLines, DealsWithBytes};
 ghost use Rattle.reorgdb.specs.Answer.{Comes, output_of};
 ghost use Rattle.reorgdb.specs.Reading.{TakesAtMost};
@@ -23,6 +27,8 @@ use rg_print::print::{Close, print};
 use rg_run::played::{Played, RunEnd};
 use rg_run::run::run;
 use rg_stmt::event::Entry;
+use rg_words::words;
+use rg_words::words::Words;
 use std::alloc::Global;
 
 /// A call before its output is given: what it comes to, the trace, the print or the refusal of a
@@ -92,45 +98,55 @@ pub fn carry_out<S: Source, V: Volume, O: Operator>(
         (seen S.left S.faults source.old) (seen S.left S.faults source.new)
         result.trace.items result.print }
     ensures legal { Legal no_rows result.trace.items }
+    ensures full { IsFullOnlyFrom (3221 * copy_capacity (V.capacities volume)) 0
+        result.trace.items }
     ensures bounded { TakesAtMost (DECK_LIMIT + 1) (S.left source.old) (S.left source.new) }
     ensures later { S.faults source.old ≤ S.faults source.new }
     ensures volume { result.volume ≡ volume }
     ensures operator { result.operator ≡ operator }
 {
-    if !is_play(words) {
+    let Some(full) = asks_play(words) else {
         return Work::bare(alloc, Outcome::Words, volume, operator);
-    }
+    };
     match read_source(alloc, source) {
-        Ok(bytes) => play_bytes(alloc, &bytes, volume, operator),
+        Ok(bytes) => play_bytes(alloc, &bytes, full, volume, operator),
         Err(ReadFault::Failed) => Work::bare(alloc, Outcome::Source, volume, operator),
         Err(ReadFault::Long) => Work::bare(alloc, Outcome::Long, volume, operator),
         Err(ReadFault::NoMemory) => Work::bare(alloc, Outcome::NoMemory, volume, operator),
     }
 }
 
-fn is_play(words: &[String]) -> bool
-    ensures { IsTrue result ↔ IsPlay (map string_bytes words.now) }
+// Whether layouts are to be full, where the words ask for `play`.
+fn asks_play(words: &[String]) -> Option<bool>
+    ensures asked { IfSome result (λ full. Spells (asks.Play full) (map string_bytes words.now)) }
+    ensures none { IfNone result (IsPlay (map string_bytes words.now) → ⊥) }
 {
-    match words {
-        [word] => word.as_str() == "play",
-        _ => false,
+    let Ok(asked) = words::read_admitted(words, words::Admits::Play) else {
+        return None;
+    };
+    match asked {
+        Words::Play { full } => Some(full),
+        Words::Threads { .. } | Words::Gen { .. } | Words::Judge | Words::Layout => unreachable!(),
     }
 }
 
 fn play_bytes<V: Volume, O: Operator>(
     alloc: Global,
     bytes: &[u8],
+    full: bool,
     volume: V,
     operator: O,
 ) -> Work<V, O>
     requires { length bytes.now ≤ DECK_LIMIT }
-    ensures deals { DealsWithBytes bytes.now result.outcome result.trace.items result.print }
+    ensures deals { DealsWithBytes full bytes.now result.outcome result.trace.items result.print }
     ensures legal { Legal no_rows result.trace.items }
+    ensures full { IsFullOnlyFrom (3221 * copy_capacity (V.capacities volume)) 0
+        result.trace.items }
     ensures volume { result.volume ≡ volume }
     ensures operator { result.operator ≡ operator }
 {
-    match read_admitted(alloc, bytes, Admits::Statements) {
-        Ok(lines) => print_played(alloc, run(alloc, volume, operator, lines)),
+    match read_admitted(alloc, bytes, Admits::Layouts) {
+        Ok(lines) => print_played(alloc, full, run(alloc, volume, operator, lines)),
         Err(DeckFault::Line { number }) => refuse_line(alloc, number, volume, operator),
         Err(DeckFault::NoMemory) => Work::bare(alloc, Outcome::NoMemory, volume, operator),
     }
@@ -138,8 +154,8 @@ fn play_bytes<V: Volume, O: Operator>(
 
 // The refusal of a deck by the number of a line.
 fn refuse_line<V, O>(alloc: Global, line: u32, volume: V, operator: O) -> Work<V, O>
-    ensures deals { (bytes : List ℕ) → IsRefusedAt bytes line
-        → DealsWithBytes bytes result.outcome result.trace.items result.print }
+    ensures deals { (full : Bool) (bytes : List ℕ) → IsRefusedAt bytes line
+        → DealsWithBytes full bytes result.outcome result.trace.items result.print }
     ensures trace { result.trace.items ≡ [] }
     ensures volume { result.volume ≡ volume }
     ensures operator { result.operator ≡ operator }
@@ -156,9 +172,9 @@ fn refuse_line<V, O>(alloc: Global, line: u32, volume: V, operator: O) -> Work<V
     }
 }
 
-fn print_played<V, O>(alloc: Global, played: Played<V, O>) -> Work<V, O>
+fn print_played<V, O>(alloc: Global, full: bool, played: Played<V, O>) -> Work<V, O>
     ensures deals { (lines : List Line) → Ends lines played.trace.items played.end →
-        DealsWithLines lines result.outcome result.trace.items result.print }
+        DealsWithLines full lines result.outcome result.trace.items result.print }
     ensures trace { result.trace.items ≡ played.trace.items }
     ensures volume { result.volume ≡ played.volume }
     ensures operator { result.operator ≡ played.operator }
@@ -171,7 +187,7 @@ fn print_played<V, O>(alloc: Global, played: Played<V, O>) -> Work<V, O>
     } = played;
     match end {
         RunEnd::NoMemory => Work::with_trace(alloc, Outcome::NoMemory, trace, volume, operator),
-        RunEnd::Whole { rows } => match print(alloc, &trace, false, Close::Rows(rows)) {
+        RunEnd::Whole { rows } => match print(alloc, &trace, full, Close::Rows(rows)) {
             Ok(print) => Work {
                 outcome: Outcome::Played,
                 trace,

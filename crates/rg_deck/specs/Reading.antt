@@ -1,6 +1,6 @@
 -- What the parts of the reader find.
 use Rattle.std.specs.Prelude.{ℕ, ◌≡◌, ◌≢◌, ◌<◌, ◌^◌, ◌⊎◌, List, [], ◌∷◌, ◌++◌, length, slice_index}
-use Rattle.std.specs.Prelude.{Option, None, Some, IsFalse}
+use Rattle.std.specs.Prelude.{Option, None, Some, IsFalse, IsTrue}
 use Rattle.std.specs.Fmt.{decimal}
 use Rattle.std.specs.List.{AllByRecursion, join_with_byte}
 use Rattle.rg_base.specs.Words.{row_words}
@@ -8,7 +8,7 @@ use Rattle.rg_base.specs.declared.row.Row.{Row}
 use Rattle.rg_stmt.specs.declared.stmt.Stmt.{Stmt}
 use Rattle.rg_stmt.specs.declared.line.Line.{Line}
 use Rattle.rg_deck.specs.Grammar.{IsLine, admits, stmt_words, deck_text}
-use Rattle.rg_deck.specs.declared.read.Admits.TheVariants.{Statements}
+use Rattle.rg_deck.specs.declared.read.Admits.TheVariants.{Layouts, Statements}
 
 -- the bytes have no such byte
 abbrev pub Lacks : ℕ → List ℕ → Type 0
@@ -36,6 +36,10 @@ IsRange bytes lo hi = (lo < 2 ^ 64) × (hi < 2 ^ 64) × (bytes ≡ decimal lo ++
 -- a line of the grammar that is no statement
 abbrev pub IsControl : Line → Type 0
 IsControl line = IsLine line × IsFalse (admits Statements line)
+
+-- the line that shows the layout
+abbrev pub IsShow : Line → Type 0
+IsShow line = IsLine line × IsTrue (admits Layouts line) × IsFalse (admits Statements line)
 
 -- the bytes begin with this number and a space, and then come these
 abbrev pub BeginsWithNumber : List ℕ → ℕ → List ℕ → Type 0

@@ -1,7 +1,7 @@
 ghost use Rattle.std.specs.Prelude.{◌≡◌, ◌≤◌, IfOk, IfSome, IfNone};
 ghost use Rattle.rg_base.specs.Session.{IsSession};
 ghost use Rattle.rg_deck.specs.Grammar.{IsRow, IsStmt, IsAdmitted, line_text};
-ghost use Rattle.rg_deck.specs.Reading.{Finds, IsControl, row_spelling, stmt_spelling};
+ghost use Rattle.rg_deck.specs.Reading.{Finds, IsControl, IsShow, row_spelling, stmt_spelling};
 ghost use Rattle.rg_deck.specs.declared.read.Admits.TheVariants.{Statements};
 
 use crate::read::Admits;
@@ -110,12 +110,26 @@ fn read_control(bytes: &[u8]) -> Option<Line>
     }
 }
 
+// The line that shows the layout.
+fn read_show(bytes: &[u8]) -> Option<Line>
+    ensures { Finds IsShow line_text bytes.now result }
+{
+    match bytes {
+        b"L" => Some(Line::Show),
+        _ => None,
+    }
+}
+
 // One line, without its line feed.
 pub fn read_line(alloc: Global, bytes: &[u8], admits: Admits) -> Result<Option<Line>, NoMemory>
     ensures { IfOk result (Finds (IsAdmitted admits) line_text bytes.now) }
 {
     match admits {
         Admits::Statements => read_said(alloc, bytes),
+        Admits::Layouts => match read_show(bytes) {
+            Some(line) => Ok(Some(line)),
+            None => read_said(alloc, bytes),
+        },
         Admits::Every => match read_control(bytes) {
             Some(line) => Ok(Some(line)),
             None => read_said(alloc, bytes),

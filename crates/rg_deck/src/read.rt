@@ -20,6 +20,8 @@ pub enum Admits {
     Every,
     /// Only statements.
     Statements,
+    /// Statements and the line that shows the layout.
+    Layouts,
 }
 
 /// Why a deck was not read.

@@ -16,6 +16,12 @@ fn count_statements(rt: &impl Abort, alloc: Global, deck: &[u8]) -> Result<usize
     Ok(read_admitted(alloc, deck, Admits::Statements)?.len())
 }
 
+// How many lines a deck of statements and layouts has.
+fn count_shown(rt: &impl Abort, alloc: Global, deck: &[u8]) -> Result<usize, DeckFault> {
+    assert!(rt; deck.len() <= 16_777_216);
+    Ok(read_admitted(alloc, deck, Admits::Layouts)?.len())
+}
+
 // How long the text is of the row that a deck inserts, where it does nothing else.
 fn text_length(rt: &impl Abort, alloc: Global, deck: &[u8]) -> Result<usize, DeckFault> {
     let lines = lines_of(rt, alloc, deck)?;

@@ -31,3 +31,8 @@ pub mod Collecting
 pub mod UndoSteps
 pub mod UndoBegins
 pub mod RollbackGoes
+pub mod Answering
+pub mod Counting
+pub mod Among
+pub mod DeskGoes
+pub mod Recorded

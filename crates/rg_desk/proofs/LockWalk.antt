@@ -1,13 +1,15 @@
 -- Which other session holds a SCAN or a FIND up.
-use Rattle.std.proofs.Common.{◌≡◌, ◌≤◌, ◌<◌, ◌+◌, ◌⊎◌, ◌&&◌, ◌||◌, inl, inr, nat_le, ℕ, Bool, true, false, cond, List, [], ◌∷◌, ◌++◌, filter, Option, Some, None, refl, sym, ◌∙◌, ap, arith}
+use Rattle.std.proofs.Common.{◌≡◌, ◌≤◌, ◌<◌, ◌+◌, ◌-◌, ◌^◌, ◌&&◌, nat_le, ℕ, Bool, true, false, cond, List, [], ◌∷◌, ◌++◌, filter, Option, Some, None, refl, sym, ◌∙◌, ap, arith}
+use Rattle.std.specs.Borrow.{Bor}
+use Rattle.std.specs.Option.{option_map}
 use Rattle.std.specs.FinMap as fin
 use Rattle.std.proofs.lemmas.Bool.Decides.{nat_tests}
 use Rattle.rg_base.specs.declared.lock.Lock.{Lock}
 use Rattle.rg_base.specs.declared.session.Session.{Session}
-use Rattle.rg_base.proofs.Walk.{passing_from, walk_begins, walk_goes, walk_skips, walk_fails, first_at, place}
+use Rattle.rg_base.specs.First.{IsFirstFrom}
+use Rattle.rg_base.proofs.Walk.{passing_from, walk_begins, walk_ends, walk_goes, walk_skips, walk_fails, first_at}
 use Rattle.rg_lock.specs.First.{IsFreeUpTo, IsFirstHeld}
-use Rattle.rg_lock.specs.Held.{kept_row}
-use Rattle.rg_model.specs.Held.{is_others, other_owner, first_owner, is_held_between, scan_holder, has_cat, is_held_with_cat, find_holder}
+use Rattle.rg_model.specs.Held.{is_others, other_owner, first_owner, is_held_between, scan_holder, is_held_with_cat, find_holder}
 use Rattle.rg_model.specs.State.{Table, Locks}
 
 -- a lock that another session has
@@ -69,15 +71,19 @@ module _ (locks : Locks) (session : Session) (lo hi : ℕ) where
       ∙ ap (λ b. cond b ((key, lock.lock) ∷ []) [] ++ passing_from (is_held_between session lo hi) (key + 1) (fin.entries locks)) passes)
       ∙ ap Some lock.owned
 
-cat_fails : (a b : Bool) → a ≡ false → (a && b) ≡ false
-cat_fails a b e = rw e refl
+-- a lock that a borrowed map found, with its key
+abbrev pub valued : Option (ℕ × Bor Lock) → Option (ℕ × Lock)
+valued found = option_map (λ entry. (entry.0, entry.1.now)) found
 
-cat_passes : (a b : Bool) → a ≡ true → b ≡ true → (a && b) ≡ true
-cat_passes a b e f = rw e f
+-- how many numbers may follow
+abbrev pub room_after : Option (ℕ × Bor Lock) → ℕ
+room_after None = 0
+room_after (Some found) = 2 ^ 64 - found.0
 
-cat_none : (a b : Bool) → b ≡ false → (a && b) ≡ false
-cat_none true b e = e
-cat_none false b e = refl
+-- the session that was found, or the one of the rest
+abbrev pub unless_found : Option Session → Option Session → Option Session
+unless_found None rest = rest
+unless_found (Some owner) rest = Some owner
 
 module _ (table : Table) (locks : Locks) (session : Session) (cat : ℕ) where
   -- the locks that hold a FIND up, from a key on
@@ -87,38 +93,18 @@ module _ (table : Table) (locks : Locks) (session : Session) (cat : ℕ) where
   pub find_begins : first_owner (holding_from 0) ≡ find_holder table locks session cat
   find_begins = ap first_owner (walk_begins (is_held_with_cat table session cat) locks (fin.entries locks))
 
-  module _ (from most : ℕ) where
-    up_to : (held : ℕ × Session) → IsFirstHeld locks session from most (Some held) → holding_from from ≡ holding_from held.0
-    up_to held is = walk_skips (is_held_with_cat table session cat) locks from held.0 is.0
-        (λ q v le lt there. cat_fails (is_others session (Some v)) _ (own_lock session v (fin.get locks q) there (is.3 q le lt)))
+  -- the next lock, whose owner holds it up or not
+  next_goes : (key : ℕ) (lock : Lock) (b : Bool) (found : Option Session) → found ≡ cond b (Some lock.owner) None
+      → first_owner (cond b ((key, lock) ∷ []) [] ++ holding_from (key + 1)) ≡ unless_found found (first_owner (holding_from (key + 1)))
+  next_goes key lock true found is = sym (ap (λ (f : Option Session). unless_found f (first_owner (holding_from (key + 1)))) is)
+  next_goes key lock false found is = sym (ap (λ (f : Option Session). unless_found f (first_owner (holding_from (key + 1)))) is)
 
-    at_held : (held : ℕ × Session) (lock : OthersLock session (fin.get locks held.0) held.1)
-        → holding_from held.0 ≡ cond (is_held_with_cat table session cat (held.0, lock.lock)) ((held.0, lock.lock) ∷ []) [] ++ holding_from (held.0 + 1)
-    at_held held lock = walk_goes (is_held_with_cat table session cat) locks held.0 (held.0, lock.lock) (first_at (is_held_with_cat table session cat) locks held.0 lock.lock lock.there)
+  pub find_goes : (from key : ℕ) (lock : Lock) (found : Option Session) → IsFirstFrom locks from (Some (key, lock))
+      → found ≡ cond (is_held_with_cat table session cat (key, lock)) (Some lock.owner) None
+      → first_owner (holding_from from) ≡ unless_found found (first_owner (holding_from (key + 1)))
+  find_goes from key lock found first is =
+      ap first_owner (walk_goes (is_held_with_cat table session cat) locks from (key, lock) first)
+      ∙ next_goes key lock (is_held_with_cat table session cat (key, lock)) found is
 
-    same_row : (held : ℕ × Session) (lock : OthersLock session (fin.get locks held.0) held.1) (b : Bool) → (has_cat cat (fin.get table held.0) || has_cat cat (kept_row (fin.get locks held.0))) ≡ b
-        → (has_cat cat (fin.get table held.0) || has_cat cat lock.lock.row) ≡ b
-    same_row held lock b e = ap (λ found. has_cat cat (fin.get table held.0) || has_cat cat (kept_row found)) (sym lock.there) ∙ e
-
-    pub find_held : (held : ℕ × Session) → IsFirstHeld locks session from most (Some held) → (has_cat cat (fin.get table held.0) || has_cat cat (kept_row (fin.get locks held.0))) ≡ true → first_owner (holding_from from) ≡ Some held.1
-    find_held held is has =
-        let lock = by_lock session held.1 (fin.get locks held.0) is.2 in
-        ap first_owner (up_to held is ∙ at_held held lock ∙ ap (λ b. cond b ((held.0, lock.lock) ∷ []) [] ++ holding_from (held.0 + 1)) (cat_passes (is_others session (Some lock.lock)) _ lock.others (same_row held lock true has)))
-        ∙ ap Some lock.owned
-
-    pub find_goes : (held : ℕ × Session) → IsFirstHeld locks session from most (Some held) → (has_cat cat (fin.get table held.0) || has_cat cat (kept_row (fin.get locks held.0))) ≡ false
-        → first_owner (holding_from from) ≡ first_owner (holding_from (held.0 + 1))
-    find_goes held is has =
-        let lock = by_lock session held.1 (fin.get locks held.0) is.2 in
-        ap first_owner (up_to held is ∙ at_held held lock ∙ ap (λ b. cond b ((held.0, lock.lock) ∷ []) [] ++ holding_from (held.0 + 1)) (cat_none (is_others session (Some lock.lock)) _ (same_row held lock false has)))
-
-    pub find_free : ((q : ℕ) → most < q → fin.get locks q ≡ None) → IsFirstHeld locks session from most None → first_owner (holding_from from) ≡ None
-    find_free fits free = ap first_owner (walk_fails (is_held_with_cat table session cat) locks from
-        (λ q v le there. cat_fails (is_others session (Some v)) _ (by_place q v le there (place most q)))) where
-          by_place : (q : ℕ) (v : Lock) → from ≤ q → fin.get locks q ≡ Some v → (most < q) ⊎ ((q ≡ most) ⊎ (q < most)) → is_others session (Some v) ≡ false
-          by_place q v le there (inl past) = absurd (cc (sym there ∙ fits q past))
-          by_place q v le there (inr (inl e)) = own_lock session v (fin.get locks q) there (free q le (omega (arith, e)))
-          by_place q v le there (inr (inr lt)) = own_lock session v (fin.get locks q) there (free q le (omega (arith, lt)))
-
-  pub find_ends : (from : ℕ) → ((q : ℕ) → from ≤ q → fin.get locks q ≡ None) → first_owner (holding_from from) ≡ None
-  find_ends from fits = ap first_owner (walk_fails (is_held_with_cat table session cat) locks from (λ q v le there. absurd (cc (sym there ∙ fits q le))))
+  pub find_ends : (from : ℕ) → IsFirstFrom locks from None → first_owner (holding_from from) ≡ None
+  find_ends from empty = ap first_owner (walk_ends (is_held_with_cat table session cat) locks from empty)

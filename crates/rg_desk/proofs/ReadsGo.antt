@@ -1,24 +1,34 @@
 -- How a statement that reads goes, from a state that the engine shows.
-use Rattle.std.proofs.Common.{◌≡◌, ◌+◌, ℕ, List, Option, Some, None, sym, ◌∙◌, ap, subst}
+use Rattle.std.proofs.Common.{◌≡◌, ◌==◌, ◌&&◌, ◌||◌, ◌+◌, ℕ, Bool, true, false, cond, List, IsPermutation, IsSorted, Option, Some, None, length, refl, sym, ◌∙◌, ap, subst, arith}
+use Rattle.std.specs.Ordering.{nat_cmp}
+use Rattle.std.proofs.lemmas.Bool.Decides.{nat_tests}
+use Rattle.rg_base.specs.declared.lock.Lock.{Lock}
+use Rattle.rg_base.specs.declared.place.Place.{Place}
 use Rattle.rg_base.specs.declared.row.Row.{Row}
 use Rattle.rg_base.specs.declared.session.Session.{Session}
 use Rattle.rg_home.specs.Pages.{slot_of}
 use Rattle.rg_home.specs.Rows.{row_at}
 use Rattle.rg_home.specs.Slot.{Slot}
-use Rattle.rg_index.specs.Entries.{entries_within}
-use Rattle.rg_indexes.specs.Listed.{listed_rows}
+use Rattle.rg_base.specs.declared.which.Which.TheVariants.{Cat}
+use Rattle.rg_index.specs.Entries.{entries_within, has_entry}
+use Rattle.rg_index.specs.Listed.{has_value}
+use Rattle.rg_indexes.specs.Listed.{listed_keys, listed_rows}
 use Rattle.rg_indexes.specs.Listings.{entries_of}
 use Rattle.rg_index.specs.RisingPart.{IsRising-rising_part}
-use Rattle.rg_indexes.proofs.Tabled.{rows-between}
+use Rattle.rg_indexes.proofs.Found.{keys-found}
+use Rattle.rg_indexes.proofs.Tabled.{count-keyed, rows-between}
+use Rattle.rg_layout.specs.Right.{IsRightFor}
 use Rattle.rg_lawful.specs.Act.{LogState}
 use Rattle.rg_lawful.specs.Table.{IsTable}
 use Rattle.rg_lock.specs.First.{IsFirstHeld}
-use Rattle.rg_model.specs.Held.{holder, scan_holder}
-use Rattle.rg_model.specs.Plain.{plain_reply, row_reply, rows_between, unless_held}
-use Rattle.rg_model.specs.State.{Locks, State, row_of}
+use Rattle.rg_model.specs.Held.{find_holder, has_cat, holder, is_held_with_cat, is_others, scan_holder}
+use Rattle.rg_model.specs.Layout.{is_right_side}
+use Rattle.rg_model.specs.Plain.{keys_with_cat, plain_reply, row_reply, rows_between, unless_held}
+use Rattle.rg_model.specs.State.{Locks, State, row_count, row_of}
+use Rattle.rg_stmt.specs.declared.layout.Side.{Side}
 use Rattle.rg_stmt.specs.declared.stmt.Reply.{Reply}
-use Rattle.rg_stmt.specs.declared.stmt.Reply.TheVariants.{Held, Listed}
-use Rattle.rg_stmt.specs.declared.stmt.Stmt.TheVariants.{Select, Scan}
+use Rattle.rg_stmt.specs.declared.stmt.Reply.TheVariants.{Held, Keyed, Listed}
+use Rattle.rg_stmt.specs.declared.stmt.Stmt.TheVariants.{Find, Select, Scan}
 use Rattle.rg_desk.specs.Engine.{slots_in}
 use Rattle.rg_desk.specs.Shows.{Shows, left_by}
 use Rattle.rg_desk.specs.Steps.{Goes}
@@ -27,14 +37,14 @@ use Rattle.rg_desk.specs.declared.engine.Engine.{Engine}
 use Rattle.rg_desk.proofs.LockWalk.{scan_free, scan_held}
 use Rattle.rg_desk.proofs.Same.{same_shows}
 use Rattle.rg_desk.proofs.Sessions.{left_consistent}
-use Rattle.rg_desk.proofs.Statements.{go_held, held_is, none_more}
+use Rattle.rg_desk.proofs.Statements.{IsKeyAt, go_held, held_is, key_none, key_some, none_more}
 
 module _ (st : State) (allowed : ℕ) (d : Engine) (shows : Shows st allowed d) (session : Session) where
   abbrev s : LogState
   s = left_by shows.first d
 
   -- the rows at homes are the table
-  table : IsTable (row_at (slot_of s.pages)) (λ key. row_of st.table key)
+  pub table : IsTable (row_at (slot_of s.pages)) (λ key. row_of st.table key)
   table =
       let is = (left_consistent st allowed d shows).table in
       record {
@@ -79,3 +89,71 @@ module _ (st : State) (allowed : ℕ) (d : Engine) (shows : Shows st allowed d) 
         shows = later new same;
         capacity = same.capacity;
       }
+
+  -- FIND
+
+  turned : (cat : ℕ) (found : Option Row) → has_value Cat cat found ≡ has_cat cat found
+  turned cat None = refl
+  turned cat (Some row) = by_numbers cat row.cat where
+    by_numbers : (a b : ℕ) → (a == b) ≡ (b == a)
+    by_numbers a b = grind (arith, nat_tests)
+
+  pub cat_none : (key cat : ℕ) → ((p : Place) → has_entry (entries_of d.indexes.keys) (key, p) ≡ false) → false ≡ has_cat cat (row_of st.table key)
+  cat_none key cat none = sym (ap (has_cat cat) (key_none st allowed d shows session key none))
+
+  pub cat_some : (key cat : ℕ) (p : Place) (b : Bool) → has_entry (entries_of d.indexes.keys) (key, p) ≡ true → b ≡ has_entry (entries_of d.indexes.cats) (cat, p) → b ≡ has_cat cat (row_of st.table key)
+  cat_some key cat p b has is =
+      let at : IsKeyAt st d key p = key_some st allowed d shows session key p has in
+      let there : row_at (slot_of s.pages) p ≡ Some at.row = subst (λ (ps : List (List Slot)). row_at (slot_of ps) p ≡ Some at.row) shows.by.slots at.there in
+      is
+      ∙ shows.by.indexes.cats cat p
+      ∙ turned cat (row_at (slot_of s.pages) p)
+      ∙ ap (has_cat cat) (there ∙ sym at.now)
+
+  -- a lock that another session has, and that keeps a row with the `cat` or whose key has one
+  pub held_no : (cat key : ℕ) (lock : Lock) → is_others session (Some lock) ≡ false → None ≡ cond (is_held_with_cat st.table session cat (key, lock)) (Some lock.owner) None
+  held_no cat key lock own = sym (ap (λ (b : Bool). cond (b && (has_cat cat (row_of st.table key) || has_cat cat lock.row)) (Some lock.owner) None) own)
+
+  held_by : (cat key : ℕ) (lock : Lock) (b : Bool) → is_others session (Some lock) ≡ true → (has_cat cat (row_of st.table key) || has_cat cat lock.row) ≡ b
+      → cond b (Some lock.owner) None ≡ cond (is_held_with_cat st.table session cat (key, lock)) (Some lock.owner) None
+  held_by cat key lock b others has = λ i. cond (sym others i && sym has i) (Some lock.owner) None
+
+  pub held_present : (cat key : ℕ) (lock : Lock) → is_others session (Some lock) ≡ true → has_cat cat (row_of st.table key) ≡ true
+      → Some lock.owner ≡ cond (is_held_with_cat st.table session cat (key, lock)) (Some lock.owner) None
+  held_present cat key lock others present = held_by cat key lock true others (ap (λ (b : Bool). b || has_cat cat lock.row) present)
+
+  pub held_kept : (cat key : ℕ) (lock : Lock) (b : Bool) → is_others session (Some lock) ≡ true → has_cat cat (row_of st.table key) ≡ false → has_cat cat lock.row ≡ b
+      → cond b (Some lock.owner) None ≡ cond (is_held_with_cat st.table session cat (key, lock)) (Some lock.owner) None
+  held_kept cat key lock b others absent kept = held_by cat key lock b others (ap (λ (c : Bool). c || has_cat cat lock.row) absent ∙ kept)
+
+  find_is : (cat : ℕ) (held : Option Session) → held ≡ find_holder st.table st.locks session cat → plain_reply st session (Find cat) ≡ unless_held held (Keyed (keys_with_cat cat st.table))
+  find_is cat held e = ap (λ (h : Option Session). unless_held h (Keyed (keys_with_cat cat st.table))) (sym e)
+
+  pub find_held_goes : (cat : ℕ) (owner : Session) → Some owner ≡ find_holder st.table st.locks session cat → Goes st allowed d session (Find cat) (Held owner) d
+  find_held_goes cat owner is = go_held st allowed d shows session (Find cat) owner (find_is cat (Some owner) is)
+
+  pub find_goes : (cat : ℕ) (listed keys : List ℕ) (new : Engine) → None ≡ find_holder st.table st.locks session cat
+      → listed ≡ listed_keys (row_at (slot_of (slots_in d))) (entries_within cat cat (entries_of d.indexes.cats)) → IsPermutation listed keys → IsSorted nat_cmp keys → SameEngine d new
+      → Goes st allowed d session (Find cat) (Keyed keys) new
+  find_goes cat listed keys new free is moved sorted same =
+      let from : listed ≡ listed_keys (row_at (slot_of s.pages)) (entries_within cat cat (entries_of d.indexes.cats)) =
+      is ∙ ap (λ (ps : List (List Slot)). listed_keys (row_at (slot_of ps)) (entries_within cat cat (entries_of d.indexes.cats))) shows.by.slots in
+      let found : keys ≡ keys_with_cat cat st.table =
+      keys-found cat (row_at (slot_of s.pages)) st.table (entries_of d.indexes.cats) table (IsRising-rising_part d.indexes.cats.entries) shows.by.indexes.cats keys (subst (λ ks. IsPermutation ks keys) from moved) sorted in
+      record {
+        says = sym (find_is cat None free ∙ ap Keyed (sym found));
+        shows = later new same;
+        capacity = same.capacity;
+      }
+
+  -- the layout
+
+  pub side_right : (pages : List (List Slot)) (side : Side) → pages ≡ slots_in d → IsRightFor pages d.indexes side → is_right_side st.table side ≡ true
+  side_right pages side same right =
+      subst (λ (ps : List (List Slot)). IsRightFor ps d.indexes side) (same ∙ shows.by.slots) right
+      (left_consistent st allowed d shows).ready.proper.tied st.table table shows.by.indexes
+
+  -- how many rows there are
+
+  pub keys_counted : row_count st.table ≡ length (entries_of d.indexes.keys)
+  keys_counted = count-keyed (row_at (slot_of s.pages)) st.table (entries_of d.indexes.keys) table (IsRising-rising_part d.indexes.keys.entries) shows.by.indexes.keys

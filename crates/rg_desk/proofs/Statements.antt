@@ -28,8 +28,8 @@ use Rattle.rg_lawful.proofs.Own.{own_live}
 use Rattle.rg_lawful.proofs.Tables.{eqb-refl}
 use Rattle.rg_space.specs.Space.{capacity_in}
 use Rattle.rg_desk.specs.Engine.{slots_in}
-use Rattle.rg_desk.specs.Shows.{IsShown, Shows, left_by}
-use Rattle.rg_desk.specs.Steps.{Goes, IsUnitOf, Steps, more_allowed, new_unit, unclaimed}
+use Rattle.rg_desk.specs.Shows.{Shows, left_by}
+use Rattle.rg_desk.specs.Steps.{Goes, IsUnitOf, new_unit}
 use Rattle.rg_desk.specs.Units.{unit_at}
 use Rattle.rg_desk.specs.Wrote.{SameEngine}
 use Rattle.rg_desk.specs.declared.engine.Engine.{Engine}
@@ -168,11 +168,3 @@ module _ (st : State) (allowed : ℕ) (d : Engine) (shows : Shows st allowed d) 
 
   pub delete_absent : (key : ℕ) → holder d.locks session key ≡ None → row_of st.table key ≡ None → plain_reply st session (Delete key) ≡ Absent
   delete_absent key alone none = delete_is key None alone none
-
--- an engine that shows some state shows one after the statement
-pub still_shown : (old new : Engine) (session : Session) (stmt : Stmt) (reply : Reply) → IsShown old → Steps old session stmt reply new → IsShown new
-still_shown old new session stmt reply shown steps = record {
-  state = unclaimed shown.state session stmt reply;
-  allowed = shown.allowed + more_allowed stmt reply;
-  shows = (steps shown.state shown.allowed shown.shows).shows;
-}

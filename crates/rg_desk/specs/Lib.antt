@@ -11,3 +11,7 @@ pub mod Ended
 pub mod Reads
 pub mod Undoing
 pub mod Undone
+pub mod Answers
+pub mod Chronicle
+pub mod Desk
+pub mod Count

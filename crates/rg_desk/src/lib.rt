@@ -1,14 +1,24 @@
 //! The table over pages, as sessions see it: rows, locks, claims and units.
 #![tactic(auto)]
 
+/// The entries of a desk.
+pub mod chronicle;
+/// How many rows are committed.
+pub mod count;
+/// The table as a deck sees it.
+pub mod desk;
 /// COMMIT and ROLLBACK.
 pub mod ends;
 /// The table, and what its sessions hold of it.
 pub mod engine;
-/// SELECT and SCAN.
+/// The layout of the copy.
+pub mod layout;
+/// SELECT, SCAN and FIND.
 pub mod reads;
 /// Records in memory.
 pub mod records;
+/// The answer to any statement.
+pub mod say;
 #[cfg(test)]
 mod tests;
 /// The undo of a unit's writes.

@@ -19,6 +19,7 @@ enum Ask {
     Delete(u64),
     Select(u64),
     Scan { lo: u64, hi: u64 },
+    Find(u64),
     Commit,
     Rollback,
 }
@@ -55,6 +56,7 @@ fn stmt_of(alloc: Global, ask: Ask) -> Result<Stmt, Fail> {
         Ask::Delete(key) => Stmt::Delete(key),
         Ask::Select(key) => Stmt::Select(key),
         Ask::Scan { lo, hi } => Stmt::Scan { lo, hi },
+        Ask::Find(cat) => Stmt::Find(cat),
         Ask::Commit => Stmt::Commit,
         Ask::Rollback => Stmt::Rollback,
     };
@@ -63,7 +65,7 @@ fn stmt_of(alloc: Global, ask: Ask) -> Result<Stmt, Fail> {
 
 fn number_of(reply: &Reply) -> i32 {
     match reply {
-        Reply::Done | Reply::Found(_) | Reply::Listed(_) => DONE,
+        Reply::Done | Reply::Found(_) | Reply::Listed(_) | Reply::Keyed(_) => DONE,
         Reply::Absent => ABSENT,
         Reply::Duplicate => DUPLICATE,
         Reply::Held(_) => HELD,
@@ -109,7 +111,7 @@ fn update(key: u64, size: u16) -> Ask {
 #[test]
 fn answers_full(rt: HostRuntime) -> Result<(), Fail> {
     let mut engine = ShownEngine::new(rt.alloc(), 1)?;
-    let steps: [Step; 22] = [
+    let steps: [Step; 26] = [
         (1, insert(1, 800), DONE),
         (1, insert(2, 800), DONE),
         (1, insert(3, 800), DONE),
@@ -127,7 +129,11 @@ fn answers_full(rt: HostRuntime) -> Result<(), Fail> {
         (3, Ask::Rollback, DONE),
         (3, insert(7, 800), DONE),
         (1, insert(7, 0), HELD),
+        (1, Ask::Find(1), HELD),
+        (3, Ask::Find(1), DONE),
+        (1, Ask::Find(2), DONE),
         (3, Ask::Commit, DONE),
+        (1, Ask::Find(1), DONE),
         (1, insert(7, 0), DUPLICATE),
         (1, Ask::Select(6), ABSENT),
         (1, Ask::Select(7), DONE),

@@ -1,8 +1,1 @@
-mod Counting
-mod LockWalk
-mod Plays
-mod RowsView
-mod SlotWalk
-mod Sound
-mod Steps
-mod UnitEnds
+pub mod Plays

@@ -1,4 +1,2 @@
+pub mod Full
 pub mod Played
-pub mod Rows
-pub mod Shows
-pub mod Writes

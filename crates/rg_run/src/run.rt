@@ -1,21 +1,26 @@
-ghost use Rattle.std.specs.Prelude.{◌≡◌, List, [], ◌∷◌, ◌++◌, OnOk, OnErr};
+// The run of a deck.
+//
+// 1. Each line makes one entry, in the order of the lines.
+// 2. Where there is no memory for an entry, nothing of its line is done, and the run ends.
+ghost use Rattle.std.specs.Prelude.{◌≡◌, ◌*◌, List, [], ◌∷◌, ◌++◌, OnOk, OnErr};
 ghost use Rattle.std.specs.List.{AllByRecursion};
 ghost use Rattle.rg_stmt.specs.declared.line.Line.{Line};
 ghost use Rattle.rg_model.specs.Legal.{Legal};
-ghost use Rattle.rg_run.specs.Played.{no_rows, IsPlayed, Ends, Goes};
-ghost use Rattle.rg_run.specs.Shows.{IsSound};
+ghost use Rattle.rg_desk.specs.Desk.{DeskState, copy_capacity, first_entry, no_rows};
+ghost use Rattle.rg_run.specs.Full.{IsFullOnlyFrom};
+ghost use Rattle.rg_run.specs.Played.{IsPlayed, Ends, Goes};
 
 use crate::played::{Played, RunEnd};
-use crate::store::Store;
 use rg_base::no_memory::NoMemory;
+use rg_desk::desk::{Desk, OpenFault};
 use rg_outside::operator::Operator;
 use rg_outside::volume::Volume;
-use rg_stmt::event::Entry;
 use rg_stmt::line::Line;
 use std::alloc::Global;
 
-/// Plays the lines in order over a table without rows. The table lies in memory, so neither the
-/// volume nor the operator is called.
+/// Plays the lines in order over a table without rows. The table lies in memory, in as many pages
+/// as the first set of the volume has, and no more than 65,536. Neither the volume nor the operator
+/// is called.
 pub fn run<V: Volume, O: Operator>(
     alloc: Global,
     volume: V,
@@ -25,10 +30,34 @@ pub fn run<V: Volume, O: Operator>(
     requires { AllByRecursion IsPlayed lines.items }
     ensures ends { Ends lines.items result.trace.items result.end }
     ensures legal { Legal no_rows result.trace.items }
+    ensures full { IsFullOnlyFrom (3221 * copy_capacity (V.capacities volume)) 0
+        result.trace.items }
     ensures volume { result.volume ≡ volume }
     ensures operator { result.operator ≡ operator }
 {
-    let (trace, end) = play(alloc, lines);
+    match Desk::new(alloc, volume, operator) {
+        Ok(desk) => play(desk, lines),
+        Err(fault) => {
+            let OpenFault { volume, operator } = fault;
+            Played {
+                volume,
+                operator,
+                trace: Vec::new(alloc),
+                end: RunEnd::NoMemory,
+            }
+        }
+    }
+}
+
+// What a run leaves.
+fn close<V: Volume, O: Operator>(desk: Desk<V, O>, end: RunEnd) -> Played<V, O>
+    ensures trace { result.trace.items ≡ desk.trace }
+    ensures end { result.end ≡ end }
+    ensures legal { Legal no_rows desk.trace }
+    ensures volume { result.volume ≡ desk.volume }
+    ensures operator { result.operator ≡ desk.operator }
+{
+    let (volume, operator, trace) = desk.into_parts();
     Played {
         volume,
         operator,
@@ -37,51 +66,37 @@ pub fn run<V: Volume, O: Operator>(
     }
 }
 
-// Opens the table and plays the lines.
-fn play(alloc: Global, lines: Vec<Line>) -> (Vec<Entry>, RunEnd)
-    requires { AllByRecursion IsPlayed lines.items }
-    ensures ends { Ends lines.items result.0.items result.1 }
-    ensures legal { Legal no_rows result.0.items }
+// Plays the lines over a table that was opened.
+fn play<V: Volume, O: Operator>(mut desk: Desk<V, O>, lines: Vec<Line>) -> Played<V, O>
+    requires lines { AllByRecursion IsPlayed lines.items }
+    requires opened { desk.trace ≡ first_entry ∷ [] }
+    ensures ends { Ends lines.items result.trace.items result.end }
+    ensures legal { Legal no_rows result.trace.items }
+    ensures full { IsFullOnlyFrom (3221 * desk.capacity) 0 result.trace.items }
+    ensures volume { result.volume ≡ desk.volume }
+    ensures operator { result.operator ≡ desk.operator }
 {
-    let mut trace = Vec::new(alloc);
-    let Ok(mut store) = Store::new(alloc) else {
-        return (trace, RunEnd::NoMemory);
-    };
-    if trace.reserve(1).is_err() {
-        return (trace, RunEnd::NoMemory);
-    }
-    trace.push_reserved(Entry::opened(1, 0, 0, 0, 0));
     for line in lines {
-        match play_line(alloc, &mut store, &mut trace, line) {
+        match play_line(&mut desk, line) {
             Ok(()) => {}
-            Err(_) => return (trace, RunEnd::NoMemory),
+            Err(_) => return close(desk, RunEnd::NoMemory),
         }
     }
-    let rows = store.committed_rows();
-    (trace, RunEnd::Whole { rows })
+    let rows = desk.committed_rows();
+    close(desk, RunEnd::Whole { rows })
 }
 
-// Makes the entry of a line, which is a statement. If there is no memory for the entry, nothing is
-// done.
-fn play_line(
-    alloc: Global,
-    store: &mut Store,
-    trace: &mut Vec<Entry>,
-    line: Line,
-) -> Result<(), NoMemory>
+// Makes the entry of a line, which is a statement or a layout. If there is no memory for the entry,
+// nothing is done.
+fn play_line<V: Volume, O: Operator>(desk: &mut Desk<V, O>, line: Line) -> Result<(), NoMemory>
     requires line { IsPlayed line }
-    requires sound { IsSound store.old }
-    ensures goes { OnOk result
-        ((lines : List Line) → Goes lines trace.old.items store.old
-        → Goes (lines ++ line ∷ []) trace.new.items store.new) }
-    ensures err { OnErr result (trace.new.items ≡ trace.old.items) }
+    ensures goes { OnOk result ((first : DeskState V O) (lines : List Line)
+        → Goes first lines desk.old → Goes first (lines ++ line ∷ []) desk.new) }
+    ensures err { OnErr result (desk.new ≡ desk.old) }
 {
-    trace.reserve(1)?;
-    let (session, stmt) = match line {
-        Line::Said { session, stmt } => (session, stmt),
-        Line::Reorg(_) | Line::Step | Line::Flush | Line::Show | Line::Death => unreachable!(),
-    };
-    let reply = store.say(alloc, session, &stmt);
-    trace.push_reserved(Entry::said(session, stmt, reply, 0));
-    Ok(())
+    match line {
+        Line::Said { session, stmt } => desk.exec(session, stmt),
+        Line::Show => desk.show(),
+        Line::Reorg(_) | Line::Step | Line::Flush | Line::Death => unreachable!(),
+    }
 }

@@ -1,24 +1,25 @@
-ghost use Rattle.std.specs.Prelude.{◌≤◌};
+ghost use Rattle.std.specs.Prelude.{◌≤◌, IfOk};
+ghost use Rattle.std.specs.List.{AllByRecursion};
+ghost use Rattle.rg_base.specs.Session.{IsSession};
 ghost use Rattle.rg_run.specs.Played.{IsPlayed};
 
-use crate::played::RunEnd;
+use crate::played::{Played, RunEnd};
 use crate::run::run;
 use rg_base::row::Row;
+use rg_base::row_bytes::read_row;
 use rg_base::session::Session;
-use rg_base::text::Text;
 use rg_mem::script::ScriptOperator;
 use rg_mem::volume::MemVolume;
 use rg_model::plain::PlainState;
 use rg_stmt::event::{Actor, Entry, Event};
+use rg_stmt::layout::Side;
 use rg_stmt::line::Line;
 use rg_stmt::stmt::{Reply, Stmt};
-use sound::SoundStore;
 use std::alloc::{AllocError, Global};
 use std::process::Abort;
 use std::test::Fail;
 
-mod sound;
-
+// A line with numbers. The text of a row has as many letters as its `clus` says, and 800 at most.
 #[derive(Clone, Copy)]
 enum Ask {
     Insert { key: u64, clus: u64, cat: u64 },
@@ -29,11 +30,11 @@ enum Ask {
     Find(u64),
     Commit,
     Rollback,
+    Show,
 }
 
-// The session, what it asks, the number and the numbers of the reply, and how many committed rows
-// there are then.
-type Step = (u8, Ask, i32, &'static [u64], u64);
+// The session, what it asks, the number of the reply, and the numbers in it.
+type Step = (u8, Ask, i32, &'static [u64]);
 
 const NOTHING: &[u64] = &[];
 
@@ -44,6 +45,10 @@ const ABSENT: i32 = 100;
 const DUPLICATE: i32 = -803;
 
 const HELD: i32 = -913;
+
+const FULL: i32 = -904;
+
+const SHOWN: i32 = 1;
 
 fn insert(key: u64, clus: u64) -> Ask {
     Ask::Insert { key, clus, cat: 0 }
@@ -57,16 +62,20 @@ fn scan(lo: u64, hi: u64) -> Ask {
     Ask::Scan { lo, hi }
 }
 
-fn row(alloc: Global, key: u64, clus: u64, cat: u64) -> Result<Row, AllocError> {
-    Ok(Row {
-        key,
-        clus,
-        cat,
-        text: Text::new(b"abc".to_vec(alloc)?),
-    })
+fn row(alloc: Global, key: u64, clus: u64, cat: u64) -> Result<Row, Fail> {
+    let size = clus.min(800) as u16;
+    let mut bytes = Vec::new(alloc);
+    bytes.extend_from_slice(&key.to_be_bytes())?;
+    bytes.extend_from_slice(&clus.to_be_bytes())?;
+    bytes.extend_from_slice(&cat.to_be_bytes())?;
+    bytes.extend_from_slice(&size.to_be_bytes())?;
+    for _ in 0..size {
+        bytes.push(b'x')?;
+    }
+    Ok(read_row(alloc, &bytes)?)
 }
 
-fn stmt_of(alloc: Global, ask: Ask) -> Result<Stmt, AllocError> {
+fn stmt_of(alloc: Global, ask: Ask) -> Result<Option<Stmt>, Fail> {
     let stmt = match ask {
         Ask::Insert { key, clus, cat } => Stmt::Insert(row(alloc, key, clus, cat)?),
         Ask::Update { key, clus, cat } => Stmt::Update(row(alloc, key, clus, cat)?),
@@ -76,8 +85,32 @@ fn stmt_of(alloc: Global, ask: Ask) -> Result<Stmt, AllocError> {
         Ask::Find(cat) => Stmt::Find(cat),
         Ask::Commit => Stmt::Commit,
         Ask::Rollback => Stmt::Rollback,
+        Ask::Show => return Ok(None),
     };
-    Ok(stmt)
+    Ok(Some(stmt))
+}
+
+// The session of a number, or session 1 where it is none.
+fn session(number: u8) -> Session
+    ensures { IsSession result }
+{
+    match number {
+        1..=99 => Session(number),
+        _ => Session(1),
+    }
+}
+
+// The line of a session that asks so.
+fn line_of(alloc: Global, number: u8, ask: Ask) -> Result<Line, Fail>
+    ensures { IfOk result IsPlayed }
+{
+    match stmt_of(alloc, ask)? {
+        Some(stmt) => Ok(Line::Said {
+            session: session(number),
+            stmt,
+        }),
+        None => Ok(Line::Show),
+    }
 }
 
 fn number_of(reply: &Reply) -> i32 {
@@ -86,6 +119,7 @@ fn number_of(reply: &Reply) -> i32 {
         Reply::Absent => ABSENT,
         Reply::Duplicate => DUPLICATE,
         Reply::Held(_) => HELD,
+        Reply::Full { .. } => FULL,
         Reply::NoMemory => 5,
         _ => -1,
     }
@@ -116,256 +150,346 @@ fn told_of(alloc: Global, reply: &Reply) -> Result<Vec<u64>, AllocError> {
     Ok(told)
 }
 
+// How many pages there are, and then of each spot its page, its key, and the page where the row
+// lies that has moved, or 0.
+fn shown_of(alloc: Global, side: &Side) -> Result<Vec<u64>, AllocError> {
+    let mut told = Vec::new(alloc);
+    told.push(u64::from(side.pages))?;
+    for spot in side.spots.as_slice() {
+        told.push(u64::from(spot.place.page))?;
+        told.push(spot.key)?;
+        told.push(spot.over.map_or(0, |over| u64::from(over.page)))?;
+    }
+    Ok(told)
+}
+
+// The session of an entry, or 0; the number of its reply, and the numbers in it.
+fn seen_of(alloc: Global, entry: &Entry) -> Result<(u8, i32, Vec<u64>), AllocError> {
+    let session = match entry.actor {
+        Actor::Session(session) => session.0,
+        _ => 0,
+    };
+    match &entry.event {
+        Event::Said { reply, .. } => Ok((session, number_of(reply), told_of(alloc, reply)?)),
+        Event::Layout { side, .. } => Ok((session, SHOWN, shown_of(alloc, side)?)),
+        _ => Ok((session, -1, Vec::new(alloc))),
+    }
+}
+
+// The lines of these steps.
+fn lines_of(alloc: Global, steps: &[Step]) -> Result<Vec<Line>, Fail>
+    ensures { IfOk result (λ lines. AllByRecursion IsPlayed lines.items) }
+{
+    let mut lines = Vec::new(alloc);
+    for (number, ask, _, _) in steps.iter().copied() {
+        lines.push(line_of(alloc, number, ask)?)?;
+    }
+    Ok(lines)
+}
+
+// A run of these lines over copies of so many pages.
+fn played(
+    alloc: Global,
+    pages: u32,
+    lines: Vec<Line>,
+) -> Result<Played<MemVolume, ScriptOperator>, Fail>
+    requires { AllByRecursion IsPlayed lines.items }
+{
+    let volume = MemVolume::new(alloc, 1, pages, pages, 0, 0, &[], None)?;
+    let operator = ScriptOperator::new(alloc, &[])?;
+    Ok(run(alloc, volume, operator, lines))
+}
+
+// The run of these steps over copies of so many pages has these entries, and so many committed rows
+// at its end.
 fn expect_steps(
     rt: &impl Abort,
     alloc: Global,
-    store: &mut SoundStore,
+    pages: u32,
     steps: &[Step],
-) -> Result<(), AllocError> {
-    for (at, (session, ask, number, told, rows)) in steps.iter().copied().enumerate() {
-        let stmt = stmt_of(alloc, ask)?;
-        let reply = store.say(alloc, Session(session), &stmt);
-        assert_eq!(rt; number_of(&reply), number, "at {at}");
-        let came = told_of(alloc, &reply)?;
-        assert_eq!(rt; came.as_slice(), told, "at {at}");
-        assert_eq!(rt; store.committed_rows(), rows, "at {at}");
+    rows: u64,
+) -> Result<(), Fail> {
+    let played = played(alloc, pages, lines_of(alloc, steps)?)?;
+    assert_eq!(rt; played.end, RunEnd::Whole { rows });
+    assert_eq!(rt; played.trace.len(), steps.len() + 1);
+    let entries = played.trace.iter().skip(1);
+    for (at, (entry, (number, _, reply, told))) in entries.zip(steps.iter().copied()).enumerate() {
+        let (session, came, numbers) = seen_of(alloc, entry)?;
+        assert_eq!(rt; session, number, "at {at}");
+        assert_eq!(rt; came, reply, "at {at}");
+        assert_eq!(rt; numbers.as_slice(), told, "at {at}");
+        assert_eq!(rt; (entry.answer, entry.calls), (None, 0), "at {at}");
     }
     Ok(())
-}
-
-// The keys 1 to 3, with 10 times the key as their `clus`.
-fn store_with_three(rt: &impl Abort, alloc: Global) -> Result<SoundStore, Fail> {
-    let mut store = SoundStore::new(alloc)?;
-    let steps: [Step; 4] = [
-        (1, insert(1, 10), DONE, NOTHING, 0),
-        (1, insert(2, 20), DONE, NOTHING, 0),
-        (1, insert(3, 30), DONE, NOTHING, 0),
-        (1, Ask::Commit, DONE, NOTHING, 3),
-    ];
-    expect_steps(rt, alloc, &mut store, &steps)?;
-    Ok(store)
 }
 
 // A key that another session has locked comes before any other reply, and an own lock never holds
 // up.
 #[test]
 fn answers_at_one_key(rt: HostRuntime) -> Result<(), Fail> {
-    let mut store = SoundStore::new(rt.alloc())?;
     let steps: [Step; 32] = [
-        (1, Ask::Select(5), ABSENT, NOTHING, 0),
-        (1, update(5, 50), ABSENT, NOTHING, 0),
-        (1, Ask::Delete(5), ABSENT, NOTHING, 0),
+        (1, Ask::Select(5), ABSENT, NOTHING),
+        (1, update(5, 50), ABSENT, NOTHING),
+        (1, Ask::Delete(5), ABSENT, NOTHING),
         // A statement that is not done takes no lock.
-        (2, insert(5, 50), DONE, NOTHING, 0),
-        (2, insert(5, 51), DUPLICATE, NOTHING, 0),
-        (2, Ask::Select(5), DONE, &[5, 50], 0),
-        (1, Ask::Select(5), HELD, &[2], 0),
-        (1, insert(5, 52), HELD, &[2], 0),
-        (1, update(5, 52), HELD, &[2], 0),
-        (1, Ask::Delete(5), HELD, &[2], 0),
-        (1, Ask::Select(6), ABSENT, NOTHING, 0),
-        (1, insert(6, 60), DONE, NOTHING, 0),
-        (2, insert(6, 61), HELD, &[1], 0),
-        (2, Ask::Commit, DONE, NOTHING, 1),
-        (1, Ask::Select(5), DONE, &[5, 50], 1),
-        (2, Ask::Select(6), HELD, &[1], 1),
-        (1, Ask::Commit, DONE, NOTHING, 2),
-        (2, insert(6, 61), DUPLICATE, NOTHING, 2),
-        (1, insert(6, 61), DUPLICATE, NOTHING, 2),
-        (2, Ask::Delete(5), DONE, NOTHING, 2),
-        (2, Ask::Select(5), ABSENT, NOTHING, 2),
-        (2, update(5, 53), ABSENT, NOTHING, 2),
-        (2, Ask::Delete(5), ABSENT, NOTHING, 2),
-        (1, Ask::Select(5), HELD, &[2], 2),
-        (1, insert(5, 54), HELD, &[2], 2),
-        (1, update(5, 54), HELD, &[2], 2),
-        (1, Ask::Delete(5), HELD, &[2], 2),
-        (2, Ask::Commit, DONE, NOTHING, 1),
-        (1, Ask::Select(5), ABSENT, NOTHING, 1),
-        (1, update(6, 62), DONE, NOTHING, 1),
-        (1, Ask::Select(6), DONE, &[6, 62], 1),
-        (1, insert(5, 55), DONE, NOTHING, 1),
+        (2, insert(5, 50), DONE, NOTHING),
+        (2, insert(5, 51), DUPLICATE, NOTHING),
+        (2, Ask::Select(5), DONE, &[5, 50]),
+        (1, Ask::Select(5), HELD, &[2]),
+        (1, insert(5, 52), HELD, &[2]),
+        (1, update(5, 52), HELD, &[2]),
+        (1, Ask::Delete(5), HELD, &[2]),
+        (1, Ask::Select(6), ABSENT, NOTHING),
+        (1, insert(6, 60), DONE, NOTHING),
+        (2, insert(6, 61), HELD, &[1]),
+        (2, Ask::Commit, DONE, NOTHING),
+        (1, Ask::Select(5), DONE, &[5, 50]),
+        (2, Ask::Select(6), HELD, &[1]),
+        (1, Ask::Commit, DONE, NOTHING),
+        (2, insert(6, 61), DUPLICATE, NOTHING),
+        (1, insert(6, 61), DUPLICATE, NOTHING),
+        (2, Ask::Delete(5), DONE, NOTHING),
+        (2, Ask::Select(5), ABSENT, NOTHING),
+        (2, update(5, 53), ABSENT, NOTHING),
+        (2, Ask::Delete(5), ABSENT, NOTHING),
+        (1, Ask::Select(5), HELD, &[2]),
+        (1, insert(5, 54), HELD, &[2]),
+        (1, update(5, 54), HELD, &[2]),
+        (1, Ask::Delete(5), HELD, &[2]),
+        (2, Ask::Commit, DONE, NOTHING),
+        (1, Ask::Select(5), ABSENT, NOTHING),
+        (1, update(6, 62), DONE, NOTHING),
+        (1, Ask::Select(6), DONE, &[6, 62]),
+        (1, insert(5, 55), DONE, NOTHING),
     ];
-    expect_steps(&rt, rt.alloc(), &mut store, &steps)?;
+    expect_steps(&rt, rt.alloc(), 9, &steps, 1)?;
     Ok(())
 }
 
 #[test]
 fn scans_ranges(rt: HostRuntime) -> Result<(), Fail> {
-    let mut store = store_with_three(&rt, rt.alloc())?;
-    let steps: [Step; 21] = [
-        (1, scan(2, 3), DONE, &[2, 20, 3, 30], 3),
-        (1, scan(3, 3), DONE, &[3, 30], 3),
-        (1, scan(3, 2), DONE, NOTHING, 3),
-        (1, scan(4, 9), DONE, NOTHING, 3),
-        (1, scan(u64::MAX, 0), DONE, NOTHING, 3),
-        (1, insert(u64::MAX, 7), DONE, NOTHING, 3),
-        (1, scan(3, u64::MAX), DONE, &[3, 30, u64::MAX, 7], 3),
-        (1, scan(u64::MAX, u64::MAX), DONE, &[u64::MAX, 7], 3),
-        (2, scan(4, u64::MAX), HELD, &[1], 3),
-        (2, scan(4, u64::MAX - 1), DONE, NOTHING, 3),
-        (1, Ask::Delete(2), DONE, NOTHING, 3),
+    let steps: [Step; 25] = [
+        (1, insert(1, 10), DONE, NOTHING),
+        (1, insert(2, 20), DONE, NOTHING),
+        (1, insert(3, 30), DONE, NOTHING),
+        (1, Ask::Commit, DONE, NOTHING),
+        (1, scan(2, 3), DONE, &[2, 20, 3, 30]),
+        (1, scan(3, 3), DONE, &[3, 30]),
+        (1, scan(3, 2), DONE, NOTHING),
+        (1, scan(4, 9), DONE, NOTHING),
+        (1, scan(u64::MAX, 0), DONE, NOTHING),
+        (1, insert(u64::MAX, 7), DONE, NOTHING),
+        (1, scan(3, u64::MAX), DONE, &[3, 30, u64::MAX, 7]),
+        (1, scan(u64::MAX, u64::MAX), DONE, &[u64::MAX, 7]),
+        (2, scan(4, u64::MAX), HELD, &[1]),
+        (2, scan(4, u64::MAX - 1), DONE, NOTHING),
+        (1, Ask::Delete(2), DONE, NOTHING),
         // What the session removed itself is not listed, and does not hold it up.
-        (1, scan(0, 3), DONE, &[1, 10, 3, 30], 3),
-        (1, scan(2, 2), DONE, NOTHING, 3),
-        (2, scan(1, 1), DONE, &[1, 10], 3),
-        (2, scan(1, 2), HELD, &[1], 3),
-        (2, scan(3, 2), DONE, NOTHING, 3),
-        (3, update(1, 11), DONE, NOTHING, 3),
+        (1, scan(0, 3), DONE, &[1, 10, 3, 30]),
+        (1, scan(2, 2), DONE, NOTHING),
+        (2, scan(1, 1), DONE, &[1, 10]),
+        (2, scan(1, 2), HELD, &[1]),
+        (2, scan(3, 2), DONE, NOTHING),
+        (3, update(1, 11), DONE, NOTHING),
         // The least locked key of the range holds up, whoever has others.
-        (2, scan(1, 3), HELD, &[3], 3),
-        (2, scan(2, 3), HELD, &[1], 3),
-        (1, scan(0, 3), HELD, &[3], 3),
-        (3, scan(0, 1), DONE, &[1, 11], 3),
+        (2, scan(1, 3), HELD, &[3]),
+        (2, scan(2, 3), HELD, &[1]),
+        (1, scan(0, 3), HELD, &[3]),
+        (3, scan(0, 1), DONE, &[1, 11]),
     ];
-    expect_steps(&rt, rt.alloc(), &mut store, &steps)?;
+    expect_steps(&rt, rt.alloc(), 9, &steps, 3)?;
     Ok(())
 }
 
 #[test]
 fn finds_under_locks(rt: HostRuntime) -> Result<(), Fail> {
-    let mut store = SoundStore::new(rt.alloc())?;
     let insert = |key, cat| Ask::Insert { key, clus: 0, cat };
     let update = |key, cat| Ask::Update { key, clus: 0, cat };
     let steps: [Step; 20] = [
-        (1, insert(1, 9), DONE, NOTHING, 0),
-        (1, insert(2, 9), DONE, NOTHING, 0),
-        (1, Ask::Commit, DONE, NOTHING, 2),
-        (1, Ask::Delete(1), DONE, NOTHING, 2),
-        (2, Ask::Find(9), HELD, &[1], 2),
-        (1, Ask::Find(9), DONE, &[2], 2),
-        (1, Ask::Rollback, DONE, NOTHING, 2),
-        (2, Ask::Find(9), DONE, &[1, 2], 2),
-        (2, Ask::Find(8), DONE, NOTHING, 2),
+        (1, insert(1, 9), DONE, NOTHING),
+        (1, insert(2, 9), DONE, NOTHING),
+        (1, Ask::Commit, DONE, NOTHING),
+        (1, Ask::Delete(1), DONE, NOTHING),
+        (2, Ask::Find(9), HELD, &[1]),
+        (1, Ask::Find(9), DONE, &[2]),
+        (1, Ask::Rollback, DONE, NOTHING),
+        (2, Ask::Find(9), DONE, &[1, 2]),
+        (2, Ask::Find(8), DONE, NOTHING),
         // A lock holds up by the row that it keeps and by the present one.
-        (1, update(2, 8), DONE, NOTHING, 2),
-        (2, Ask::Find(8), HELD, &[1], 2),
-        (2, Ask::Find(9), HELD, &[1], 2),
-        (2, Ask::Find(7), DONE, NOTHING, 2),
-        (1, Ask::Find(8), DONE, &[2], 2),
-        (1, Ask::Find(9), DONE, &[1], 2),
+        (1, update(2, 8), DONE, NOTHING),
+        (2, Ask::Find(8), HELD, &[1]),
+        (2, Ask::Find(9), HELD, &[1]),
+        (2, Ask::Find(7), DONE, NOTHING),
+        (1, Ask::Find(8), DONE, &[2]),
+        (1, Ask::Find(9), DONE, &[1]),
         // The least key with the `cat` holds up.
-        (3, Ask::Delete(1), DONE, NOTHING, 2),
-        (2, Ask::Find(9), HELD, &[3], 2),
-        (2, Ask::Find(8), HELD, &[1], 2),
-        (3, insert(u64::MAX, 7), DONE, NOTHING, 2),
-        (2, Ask::Find(7), HELD, &[3], 2),
+        (3, Ask::Delete(1), DONE, NOTHING),
+        (2, Ask::Find(9), HELD, &[3]),
+        (2, Ask::Find(8), HELD, &[1]),
+        (3, insert(u64::MAX, 7), DONE, NOTHING),
+        (2, Ask::Find(7), HELD, &[3]),
     ];
-    expect_steps(&rt, rt.alloc(), &mut store, &steps)?;
+    expect_steps(&rt, rt.alloc(), 9, &steps, 2)?;
     Ok(())
 }
 
 #[test]
 fn locks_at_equal_updates(rt: HostRuntime) -> Result<(), Fail> {
-    let mut store = store_with_three(&rt, rt.alloc())?;
-    let steps: [Step; 8] = [
-        (1, update(1, 10), DONE, NOTHING, 3),
-        (2, Ask::Select(1), HELD, &[1], 3),
-        (2, scan(0, 9), HELD, &[1], 3),
-        (2, Ask::Find(0), HELD, &[1], 3),
-        (2, update(1, 10), HELD, &[1], 3),
-        (1, Ask::Rollback, DONE, NOTHING, 3),
-        (2, Ask::Select(1), DONE, &[1, 10], 3),
-        (2, update(1, 10), DONE, NOTHING, 3),
+    let steps: [Step; 12] = [
+        (1, insert(1, 10), DONE, NOTHING),
+        (1, insert(2, 20), DONE, NOTHING),
+        (1, insert(3, 30), DONE, NOTHING),
+        (1, Ask::Commit, DONE, NOTHING),
+        (1, update(1, 10), DONE, NOTHING),
+        (2, Ask::Select(1), HELD, &[1]),
+        (2, scan(0, 9), HELD, &[1]),
+        (2, Ask::Find(0), HELD, &[1]),
+        (2, update(1, 10), HELD, &[1]),
+        (1, Ask::Rollback, DONE, NOTHING),
+        (2, Ask::Select(1), DONE, &[1, 10]),
+        (2, update(1, 10), DONE, NOTHING),
     ];
-    expect_steps(&rt, rt.alloc(), &mut store, &steps)?;
+    expect_steps(&rt, rt.alloc(), 9, &steps, 3)?;
     Ok(())
 }
 
 // The end of a unit is the end of its session's locks alone.
 #[test]
 fn ends_units(rt: HostRuntime) -> Result<(), Fail> {
-    let mut store = store_with_three(&rt, rt.alloc())?;
-    let steps: [Step; 20] = [
-        (1, update(1, 11), DONE, NOTHING, 3),
-        (2, update(2, 21), DONE, NOTHING, 3),
-        (3, Ask::Delete(3), DONE, NOTHING, 3),
-        (4, Ask::Commit, DONE, NOTHING, 3),
-        (4, Ask::Rollback, DONE, NOTHING, 3),
-        (4, Ask::Select(1), HELD, &[1], 3),
-        (1, Ask::Commit, DONE, NOTHING, 3),
-        (4, Ask::Select(1), DONE, &[1, 11], 3),
-        (4, Ask::Select(2), HELD, &[2], 3),
-        (4, Ask::Select(3), HELD, &[3], 3),
-        (3, Ask::Rollback, DONE, NOTHING, 3),
-        (4, Ask::Select(2), HELD, &[2], 3),
-        (4, Ask::Select(3), DONE, &[3, 30], 3),
-        (3, Ask::Delete(3), DONE, NOTHING, 3),
-        (3, Ask::Commit, DONE, NOTHING, 2),
-        (2, Ask::Rollback, DONE, NOTHING, 2),
-        (4, scan(0, 9), DONE, &[1, 11, 2, 20], 2),
+    let steps: [Step; 24] = [
+        (1, insert(1, 10), DONE, NOTHING),
+        (1, insert(2, 20), DONE, NOTHING),
+        (1, insert(3, 30), DONE, NOTHING),
+        (1, Ask::Commit, DONE, NOTHING),
+        (1, update(1, 11), DONE, NOTHING),
+        (2, update(2, 21), DONE, NOTHING),
+        (3, Ask::Delete(3), DONE, NOTHING),
+        (4, Ask::Commit, DONE, NOTHING),
+        (4, Ask::Rollback, DONE, NOTHING),
+        (4, Ask::Select(1), HELD, &[1]),
+        (1, Ask::Commit, DONE, NOTHING),
+        (4, Ask::Select(1), DONE, &[1, 11]),
+        (4, Ask::Select(2), HELD, &[2]),
+        (4, Ask::Select(3), HELD, &[3]),
+        (3, Ask::Rollback, DONE, NOTHING),
+        (4, Ask::Select(2), HELD, &[2]),
+        (4, Ask::Select(3), DONE, &[3, 30]),
+        (3, Ask::Delete(3), DONE, NOTHING),
+        (3, Ask::Commit, DONE, NOTHING),
+        (2, Ask::Rollback, DONE, NOTHING),
+        (4, scan(0, 9), DONE, &[1, 11, 2, 20]),
         // What was committed stands after a later rollback.
-        (1, Ask::Rollback, DONE, NOTHING, 2),
-        (3, Ask::Rollback, DONE, NOTHING, 2),
-        (4, scan(0, 9), DONE, &[1, 11, 2, 20], 2),
+        (1, Ask::Rollback, DONE, NOTHING),
+        (3, Ask::Rollback, DONE, NOTHING),
+        (4, scan(0, 9), DONE, &[1, 11, 2, 20]),
     ];
-    expect_steps(&rt, rt.alloc(), &mut store, &steps)?;
+    expect_steps(&rt, rt.alloc(), 9, &steps, 2)?;
     Ok(())
 }
 
 // Rows that an open unit inserted are not counted, and those that it deleted are.
 #[test]
 fn counts_committed_rows(rt: HostRuntime) -> Result<(), Fail> {
-    let mut store = store_with_three(&rt, rt.alloc())?;
-    let steps: [Step; 14] = [
-        (1, insert(4, 40), DONE, NOTHING, 3),
-        (1, insert(5, 50), DONE, NOTHING, 3),
-        (2, Ask::Delete(1), DONE, NOTHING, 3),
-        (3, Ask::Delete(2), DONE, NOTHING, 3),
-        (3, insert(0, 1), DONE, NOTHING, 3),
-        (2, Ask::Commit, DONE, NOTHING, 2),
-        (1, Ask::Commit, DONE, NOTHING, 4),
-        (3, Ask::Rollback, DONE, NOTHING, 4),
-        (1, Ask::Delete(2), DONE, NOTHING, 4),
-        (1, insert(2, 22), DONE, NOTHING, 4),
-        (1, insert(6, 60), DONE, NOTHING, 4),
-        (1, Ask::Delete(6), DONE, NOTHING, 4),
-        (1, Ask::Commit, DONE, NOTHING, 4),
-        (2, scan(0, 9), DONE, &[2, 22, 3, 30, 4, 40, 5, 50], 4),
+    let steps: [Step; 18] = [
+        (1, insert(1, 10), DONE, NOTHING),
+        (1, insert(2, 20), DONE, NOTHING),
+        (1, insert(3, 30), DONE, NOTHING),
+        (1, Ask::Commit, DONE, NOTHING),
+        (1, insert(4, 40), DONE, NOTHING),
+        (1, insert(5, 50), DONE, NOTHING),
+        (2, Ask::Delete(1), DONE, NOTHING),
+        (3, Ask::Delete(2), DONE, NOTHING),
+        (3, insert(0, 1), DONE, NOTHING),
+        (2, Ask::Commit, DONE, NOTHING),
+        (1, Ask::Commit, DONE, NOTHING),
+        (3, Ask::Rollback, DONE, NOTHING),
+        (1, Ask::Delete(2), DONE, NOTHING),
+        (1, insert(2, 22), DONE, NOTHING),
+        (1, insert(6, 60), DONE, NOTHING),
+        (1, Ask::Delete(6), DONE, NOTHING),
+        (1, Ask::Commit, DONE, NOTHING),
+        (2, scan(0, 9), DONE, &[2, 22, 3, 30, 4, 40, 5, 50]),
     ];
-    expect_steps(&rt, rt.alloc(), &mut store, &steps)?;
+    // How many rows are committed after each of the last steps.
+    for (at, rows) in [3, 3, 3, 3, 3, 2, 4, 4, 4, 4, 4, 4, 4, 4].iter().copied().enumerate() {
+        expect_steps(&rt, rt.alloc(), 9, &steps[..at + 5], rows)?;
+    }
     Ok(())
 }
 
 // A rollback leaves the rows from before the unit, whatever was written at a key and how often.
 #[test]
 fn rolls_back_writes_of_one_key(rt: HostRuntime) -> Result<(), Fail> {
-    let mut store = store_with_three(&rt, rt.alloc())?;
-    // Each letter is a write of the key: an insert, an update or a delete.
-    let cases = [
-        (4, b"i".as_slice()),
-        (1, b"u"),
-        (2, b"d"),
-        (4, b"id"),
-        (2, b"di"),
-        (1, b"ud"),
-        (4, b"iu"),
-        (1, b"uu"),
-        (3, b"diu"),
-        (3, b"udi"),
-        (1, b"did"),
-        (u64::MAX, b"idi"),
+    let steps: [Step; 35] = [
+        (1, insert(1, 10), DONE, NOTHING),
+        (1, insert(2, 20), DONE, NOTHING),
+        (1, insert(3, 30), DONE, NOTHING),
+        (1, Ask::Commit, DONE, NOTHING),
+        (1, insert(4, 7), DONE, NOTHING),
+        (2, Ask::Select(4), HELD, &[1]),
+        (1, Ask::Delete(4), DONE, NOTHING),
+        (1, insert(4, 800), DONE, NOTHING),
+        (1, Ask::Rollback, DONE, NOTHING),
+        (2, Ask::Select(4), ABSENT, NOTHING),
+        (1, update(1, 800), DONE, NOTHING),
+        (1, update(1, 0), DONE, NOTHING),
+        (1, Ask::Delete(1), DONE, NOTHING),
+        (1, insert(1, 7), DONE, NOTHING),
+        (1, Ask::Rollback, DONE, NOTHING),
+        (2, scan(0, u64::MAX), DONE, &[1, 10, 2, 20, 3, 30]),
+        (1, Ask::Delete(2), DONE, NOTHING),
+        (2, Ask::Select(2), HELD, &[1]),
+        (1, insert(2, 7), DONE, NOTHING),
+        (1, update(2, 8), DONE, NOTHING),
+        (1, Ask::Rollback, DONE, NOTHING),
+        (2, scan(0, u64::MAX), DONE, &[1, 10, 2, 20, 3, 30]),
+        (1, insert(u64::MAX, 7), DONE, NOTHING),
+        (1, Ask::Delete(u64::MAX), DONE, NOTHING),
+        (1, insert(u64::MAX, 9), DONE, NOTHING),
+        (1, Ask::Rollback, DONE, NOTHING),
+        (1, Ask::Delete(3), DONE, NOTHING),
+        (1, insert(3, 700), DONE, NOTHING),
+        (1, Ask::Delete(3), DONE, NOTHING),
+        (1, Ask::Rollback, DONE, NOTHING),
+        (2, scan(0, u64::MAX), DONE, &[1, 10, 2, 20, 3, 30]),
+        (2, Ask::Find(0), DONE, &[1, 2, 3]),
+        (1, update(3, 30), DONE, NOTHING),
+        (1, Ask::Rollback, DONE, NOTHING),
+        (2, Ask::Select(3), DONE, &[3, 30]),
     ];
-    for (at, (key, writes)) in cases.iter().copied().enumerate() {
-        for write in writes {
-            let ask = match write {
-                b'i' => insert(key, 7),
-                b'u' => update(key, 7),
-                _ => Ask::Delete(key),
-            };
-            let stmt = stmt_of(rt.alloc(), ask)?;
-            let reply = store.say(rt.alloc(), Session(1), &stmt);
-            assert_eq!(rt; number_of(&reply), DONE, "at {at}");
-            let reply = store.say(rt.alloc(), Session(2), &Stmt::Select(key));
-            assert_eq!(rt; number_of(&reply), HELD, "at {at}");
-            assert_eq!(rt; store.committed_rows(), 3, "at {at}");
-        }
-        let steps: [Step; 2] = [
-            (1, Ask::Rollback, DONE, NOTHING, 3),
-            (2, scan(0, u64::MAX), DONE, &[1, 10, 2, 20, 3, 30], 3),
-        ];
-        expect_steps(&rt, rt.alloc(), &mut store, &steps)?;
-    }
+    expect_steps(&rt, rt.alloc(), 9, &steps, 3)?;
+    Ok(())
+}
+
+// A row that grows past the room of its page moves, and its home stays. Pages fill up, and a copy
+// without room says so. What was refused leaves no lock and no claim.
+#[test]
+fn moves_and_fills(rt: HostRuntime) -> Result<(), Fail> {
+    let steps: [Step; 21] = [
+        (0, Ask::Show, SHOWN, &[0]),
+        (1, insert(1, 800), DONE, NOTHING),
+        (1, insert(2, 800), DONE, NOTHING),
+        (1, insert(3, 800), DONE, NOTHING),
+        (1, insert(4, 100), DONE, NOTHING),
+        (1, insert(5, 800), DONE, NOTHING),
+        (1, insert(6, 100), DONE, NOTHING),
+        (0, Ask::Show, SHOWN, &[1, 1, 1, 0, 1, 2, 0, 1, 3, 0, 1, 4, 0, 1, 5, 0, 1, 6, 0]),
+        // The row moves to the second page.
+        (1, update(4, 800), DONE, NOTHING),
+        (0, Ask::Show, SHOWN, &[2, 1, 1, 0, 1, 2, 0, 1, 3, 0, 1, 4, 2, 1, 5, 0, 1, 6, 0]),
+        (1, Ask::Commit, DONE, NOTHING),
+        (2, insert(7, 800), DONE, NOTHING),
+        (2, insert(8, 800), DONE, NOTHING),
+        (2, insert(9, 800), DONE, NOTHING),
+        (1, insert(10, 800), FULL, NOTHING),
+        (3, Ask::Select(10), ABSENT, NOTHING),
+        (2, Ask::Rollback, DONE, NOTHING),
+        (1, insert(10, 800), DONE, NOTHING),
+        (1, Ask::Select(4), DONE, &[4, 800]),
+        (1, scan(4, 6), DONE, &[4, 800, 5, 800, 6, 100]),
+        (1, Ask::Commit, DONE, NOTHING),
+    ];
+    expect_steps(&rt, rt.alloc(), 2, &steps, 7)?;
     Ok(())
 }
 
@@ -384,13 +508,13 @@ impl Draws {
         (self.state >> 33) % limit.max(1)
     }
 
-    fn session(&mut self) -> Session {
+    fn session(&mut self) -> u8 {
         match self.below(5) {
-            0 => Session(1),
-            1 => Session(2),
-            2 => Session(3),
-            3 => Session(50),
-            _ => Session(99),
+            0 => 1,
+            1 => 2,
+            2 => 3,
+            3 => 50,
+            _ => 99,
         }
     }
 
@@ -422,57 +546,47 @@ impl Draws {
     }
 }
 
-// The plain program computes what the definitions say, without slots and without lists of owned
-// keys.
+// So many lines of sessions that write, move and read rows of 8 keys.
+fn drawn(alloc: Global, count: u32) -> Result<Vec<Line>, Fail>
+    ensures { IfOk result (λ lines. AllByRecursion IsPlayed lines.items) }
+{
+    let mut lines = Vec::new(alloc);
+    let mut draws = Draws { state: 2026 };
+    for _ in 0..count {
+        let number = draws.session();
+        lines.push(line_of(alloc, number, draws.ask())?)?;
+    }
+    Ok(lines)
+}
+
+// The plain program computes what the definitions say, without pages, indexes and records.
 #[test]
 fn answers_as_the_plain_program(rt: HostRuntime) -> Result<(), Fail> {
-    let mut store = SoundStore::new(rt.alloc())?;
-    let mut plain = PlainState::new(rt.alloc(), 1);
-    let mut draws = Draws { state: 2026 };
-    for at in 0..600 {
-        let session = draws.session();
-        let stmt = stmt_of(rt.alloc(), draws.ask())?;
-        let reply = store.say(rt.alloc(), session, &stmt);
-        let said = format!(in rt.alloc(); "{reply:?}")?;
-        let reply = plain.say(rt.alloc(), session, &stmt);
-        let expected = format!(in rt.alloc(); "{reply:?}")?;
+    let alloc = rt.alloc();
+    let played = played(alloc, 9, drawn(alloc, 600)?)?;
+    let mut plain = PlainState::new(alloc, 1);
+    assert_eq!(rt; played.trace.len(), 601);
+    for (at, entry) in played.trace.iter().enumerate() {
+        let (Actor::Session(session), Event::Said { stmt, reply }) = (entry.actor, &entry.event)
+        else {
+            continue;
+        };
+        let said = format!(in alloc; "{reply:?}")?;
+        let reply = plain.say(alloc, session, stmt);
+        let expected = format!(in alloc; "{reply:?}")?;
         assert_eq!(rt; said.as_str(), expected.as_str(), "at {at}");
     }
-    let rows = store.committed_rows();
     for number in [1, 2, 3, 50, 99] {
-        plain.say(rt.alloc(), Session(number), &Stmt::Rollback);
+        plain.say(alloc, Session(number), &Stmt::Rollback);
     }
-    assert_eq!(rt; rows, plain.table.len() as u64);
+    let rows = plain.table.len() as u64;
+    assert_eq!(rt; played.end, RunEnd::Whole { rows });
     Ok(())
-}
-
-fn said(session: u8, stmt: Stmt) -> Line
-    requires least { 1 ≤ session }
-    requires most { session ≤ 99 }
-    ensures { IsPlayed result }
-{
-    Line::Said {
-        session: Session(session),
-        stmt,
-    }
-}
-
-// The session of a statement's entry, and the number of its reply.
-fn session_and_number(entry: &Entry) -> Option<(u8, i32)> {
-    let Actor::Session(session) = entry.actor else {
-        return None;
-    };
-    match &entry.event {
-        Event::Said { reply, .. } => Some((session.0, number_of(reply))),
-        _ => None,
-    }
 }
 
 #[test]
 fn runs_empty_deck(rt: HostRuntime) -> Result<(), Fail> {
-    let volume = MemVolume::new(rt.alloc(), 1, 1, 1, 0, 0, &[], None)?;
-    let operator = ScriptOperator::new(rt.alloc(), &[])?;
-    let played = run(rt.alloc(), volume, operator, Vec::new(rt.alloc()));
+    let played = played(rt.alloc(), 1, Vec::new(rt.alloc()))?;
     assert_eq!(rt; played.end, RunEnd::Whole { rows: 0 });
     assert_eq!(rt; played.trace.len(), 1);
     assert_eq!(rt; played.trace[0].actor, Actor::System);
@@ -486,39 +600,5 @@ fn runs_empty_deck(rt: HostRuntime) -> Result<(), Fail> {
         }
     );
     assert!(rt; is_opened);
-    Ok(())
-}
-
-#[test]
-fn runs_short_deck(rt: HostRuntime) -> Result<(), Fail> {
-    let alloc = rt.alloc();
-    let lines = vec![in alloc;
-        said(1, stmt_of(alloc, insert(5, 50))?),
-        said(2, Stmt::Select(5)),
-        said(1, Stmt::Commit),
-        said(2, Stmt::Select(5)),
-        said(99, stmt_of(alloc, insert(6, 60))?),
-        said(2, Stmt::Delete(5)),
-        said(2, Stmt::Select(5)),
-    ]?;
-    let volume = MemVolume::new(alloc, 1, 1, 1, 0, 0, &[], None)?;
-    let played = run(alloc, volume, ScriptOperator::new(alloc, &[])?, lines);
-    // The row that was inserted is not committed, and the one that was deleted still is.
-    assert_eq!(rt; played.end, RunEnd::Whole { rows: 1 });
-    assert_eq!(rt; played.trace.len(), 8);
-    let expected = [
-        None,
-        Some((1, DONE)),
-        Some((2, HELD)),
-        Some((1, DONE)),
-        Some((2, DONE)),
-        Some((99, DONE)),
-        Some((2, DONE)),
-        Some((2, ABSENT)),
-    ];
-    for (at, (entry, expected)) in played.trace.iter().zip(expected).enumerate() {
-        assert_eq!(rt; session_and_number(entry), expected, "at {at}");
-        assert_eq!(rt; (entry.answer, entry.calls), (None, 0), "at {at}");
-    }
     Ok(())
 }

@@ -31,19 +31,10 @@ impl ShownEngine {
         })
     }
 
-    /// Answers a statement. A FIND finds nothing.
+    /// Answers a statement.
     pub fn say(&mut self, session: Session, stmt: &Stmt) -> Reply
         requires { IsSession session }
     {
-        match stmt {
-            Stmt::Insert(row) => self.engine.insert(session, row),
-            Stmt::Update(row) => self.engine.update(session, row),
-            Stmt::Delete(key) => self.engine.delete(session, *key),
-            Stmt::Select(key) => self.engine.select(session, *key),
-            Stmt::Scan { lo, hi } => self.engine.scan(session, *lo, *hi),
-            Stmt::Find(_) => Reply::Absent,
-            Stmt::Commit => self.engine.commit(session),
-            Stmt::Rollback => self.engine.rollback(session),
-        }
+        self.engine.say(session, stmt)
     }
 }

@@ -5,9 +5,9 @@ use Rattle.rg_run.specs.Played.{IsPlayed, Goes}
 use Rattle.rg_run.proofs.run.play.Given as goal
 
 abbrev pub invariant-loop-line : goal.invariant-loop-line
-invariant-loop-line l =
+invariant-loop-line g l =
     record {
-      going : Goes l.yielded l.trace.items l.store;
+      going : Goes l.initial.desk l.yielded l.desk;
       rest : l.yielded ++ into_iter_items l.line-iterator ≡ l.fn.lines.items;
       left : into_iter_len l.line-iterator ≡ length (into_iter_items l.line-iterator);
       lines : AllByRecursion IsPlayed (into_iter_items l.line-iterator);

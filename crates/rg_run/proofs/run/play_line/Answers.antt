@@ -1,11 +1,19 @@
-use Rattle.std.proofs.Common.{subst}
-use Rattle.rg_stmt.specs.declared.line.Line.TheVariants.{Said}
-use Rattle.rg_run.specs.Played.{IsPlayed}
-use Rattle.rg_run.proofs.Plays.{Goes-push}
+use Rattle.std.proofs.Common.{List, [], ◌∷◌, ◌++◌, sym, subst}
+use Rattle.rg_stmt.specs.declared.line.Line.{Line}
+use Rattle.rg_run.specs.Played.{Goes}
+use Rattle.rg_run.proofs.Plays.{goes_said, goes_shown, ok_so}
 use Rattle.rg_run.proofs.run.play_line.Goals as goal
 
-pub returns-clause-goes : goal.returns-clause-goes
-returns-clause-goes c = λ lines goes.
-    let is : IsPlayed (Said c.in-Said.session c.in-Said.stmt) = subst IsPlayed c.in-Said.is c.requires.line in
-    rw (c.push_reserved.ensures.items, c.in_ok-reserve.ensures.items, c.said.ensures, c.in-Said.is)
-    (Goes-push lines c.args.trace.now.items c.args.store.now c.say-reply.new.self c.in-Said.session c.in-Said.stmt c.say-reply.result is c.say-reply.ensures goes)
+pub returns-in-Said-clause-goes : goal.returns-in-Said-clause-goes
+returns-in-Said-clause-goes g c = ok_so c.exec.result
+    (λ made first lines goes.
+    subst (λ (line : Line). Goes first (lines ++ line ∷ []) c.exec.new.self) (sym c.in-Said.is)
+    (goes_said first c.args.desk.now c.exec.new.self lines goes c.in-Said.session c.in-Said.stmt made))
+    c.exec.ensures.made
+
+pub returns-in-Show-clause-goes : goal.returns-in-Show-clause-goes
+returns-in-Show-clause-goes g c = ok_so c.show.result
+    (λ made first lines goes.
+    subst (λ (line : Line). Goes first (lines ++ line ∷ []) c.show.new.self) (sym c.in-Show.is)
+    (goes_shown first c.args.desk.now c.show.new.self lines goes made))
+    c.show.ensures.made

@@ -1,0 +1,191 @@
+-- The answer to a statement, from what it answers and leaves without its claim.
+use Rattle.std.proofs.Common.{◌≡◌, ◌≤◌, ◌+◌, ◌*◌, ℕ, Bool, true, false, List, [], ◌∷◌, Option, Some, None, cond, refl, sym, ◌∙◌, ap, subst}
+use Rattle.std.specs.FinMap as map
+use Rattle.rg_base.specs.declared.options.DrainState.{DrainState}
+use Rattle.rg_base.specs.declared.options.DrainState.TheVariants.{Free}
+use Rattle.rg_base.specs.declared.session.Class.{Class}
+use Rattle.rg_base.specs.declared.session.Session.{Session}
+use Rattle.rg_claim.specs.ClaimState.{ClaimState}
+use Rattle.rg_model.specs.Claims.{claim_classes, claims_with, classes_needed, has_class, is_drained, is_kept_out}
+use Rattle.rg_model.specs.Plain.{after, after_answer, change_reply, insert_reply, is_done, plain_reply, row_reply, unless_held}
+use Rattle.rg_model.specs.Held.{find_holder, holder, scan_holder}
+use Rattle.rg_model.specs.Run.{Says}
+use Rattle.rg_model.specs.State.{Claims, State, is_present, row_of}
+use Rattle.rg_base.specs.declared.row.Row.{Row}
+use Rattle.rg_stmt.specs.declared.stmt.Reply.{Reply}
+use Rattle.rg_stmt.specs.declared.stmt.Reply.TheVariants.{Done, Found, Listed, Keyed, Absent, Duplicate, Held, Victim, Drained, Full, LogFull, Device, Down, NoMemory}
+use Rattle.rg_stmt.specs.declared.stmt.Stmt.{Stmt}
+use Rattle.rg_stmt.specs.declared.stmt.Stmt.TheVariants.{Insert, Update, Delete, Select, Scan, Find, Commit, Rollback}
+use Rattle.rg_space.specs.Space.{capacity_in}
+use Rattle.rg_desk.specs.Answers.{Answered, Answers, IfFull, is_answer}
+use Rattle.rg_desk.specs.Shows.{IsShown, Shows}
+use Rattle.rg_desk.specs.Steps.{Goes, MayReply, more_allowed, unclaimed}
+use Rattle.rg_desk.specs.declared.engine.Engine.{Engine}
+
+-- no drain keeps anybody out
+pub none_kept_out : (claim : Option Class) (classes : List Class) → is_kept_out Free claim classes ≡ false
+none_kept_out claim [] = refl
+none_kept_out claim (class ∷ classes) = none_kept_out claim classes
+
+-- the plain table's replies are answers
+
+held_or : (stmt : Stmt) (held : Option Session) (reply : Reply) → is_answer stmt reply ≡ true → is_answer stmt (unless_held held reply) ≡ true
+held_or stmt None reply e = e
+held_or stmt (Some owner) reply e = refl
+
+inserts : (stmt : Stmt) (there : Bool) → is_answer stmt (insert_reply there) ≡ true
+inserts stmt true = refl
+inserts stmt false = refl
+
+changes : (stmt : Stmt) (there : Bool) → is_answer stmt (change_reply there) ≡ true
+changes stmt true = refl
+changes stmt false = refl
+
+finds : (stmt : Stmt) (row : Option Row) → is_answer stmt (row_reply row) ≡ true
+finds stmt None = refl
+finds stmt (Some row) = refl
+
+plain_is : (st : State) (session : Session) (stmt : Stmt) → is_answer stmt (plain_reply st session stmt) ≡ true
+plain_is st session (Insert row) = held_or (Insert row) (holder st.locks session row.key) _ (inserts (Insert row) (is_present st.table row.key))
+plain_is st session (Update row) = held_or (Update row) (holder st.locks session row.key) _ (changes (Update row) (is_present st.table row.key))
+plain_is st session (Delete key) = held_or (Delete key) (holder st.locks session key) _ (changes (Delete key) (is_present st.table key))
+plain_is st session (Select key) = held_or (Select key) (holder st.locks session key) _ (finds (Select key) (row_of st.table key))
+plain_is st session (Scan lo hi) = held_or (Scan lo hi) (scan_holder st.locks session lo hi) _ refl
+plain_is st session (Find cat) = held_or (Find cat) (find_holder st.table st.locks session cat) _ refl
+plain_is st session Commit = refl
+plain_is st session Rollback = refl
+
+-- what a reply is that stands for the plain table's
+record IsSaid (st : State) (allowed capacity : ℕ) (session : Session) (stmt : Stmt) (reply : Reply) : Type 0 where
+  says : Says st session stmt reply (after_answer st session stmt reply)
+  is : is_answer stmt reply ≡ true
+  full : IfFull reply allowed capacity
+
+module _ (st : State) (allowed capacity : ℕ) (session : Session) (stmt : Stmt) (up : st.down ≡ false) (free : is_drained st session stmt ≡ false) where
+  never : (reply : Reply) → is_answer stmt reply ≡ false → reply ≡ plain_reply st session stmt → ⊥
+  never reply none e = absurd (cc (none, ap (is_answer stmt) e, plain_is st session stmt))
+
+  said : (reply : Reply) → MayReply st allowed capacity session stmt reply → IsSaid st allowed capacity session stmt reply
+  said Done e = record { says = (up, free, (e, refl)); is = refl; full = tt }
+  said (Found row) e = record { says = (up, free, (e, refl)); is = refl; full = tt }
+  said (Listed rows) e = record { says = (up, free, (e, refl)); is = refl; full = tt }
+  said (Keyed keys) e = record { says = (up, free, (e, refl)); is = refl; full = tt }
+  said Absent e = record { says = (up, free, (e, refl)); is = refl; full = tt }
+  said Duplicate e = record { says = (up, free, (e, refl)); is = refl; full = tt }
+  said (Held owner) e = record { says = (up, free, (e, refl)); is = refl; full = tt }
+  said (Victim owner) e = absurd (never (Victim owner) refl e)
+  said Drained e = absurd (never Drained refl e)
+  said (Full need) e = record { says = (up, free, (e.0, e.1, refl)); is = e.0; full = e.2 }
+  said (LogFull need left) e = absurd (never (LogFull need left) refl e)
+  said Device e = absurd (never Device refl e)
+  said Down e = absurd (never Down refl e)
+  said NoMemory e = record { says = (up, free, (e, refl)); is = e; full = tt }
+
+-- the claim of a session stands until its unit ends, and the drain stands
+
+by_done : (st : State) (session : Session) (stmt : Stmt) (done : Bool)
+    → is_kept_out (cond done (after st session stmt) st).drain (map.get (cond done (after st session stmt) st).claims session.0) (classes_needed stmt) ≡ is_drained st session stmt
+by_done st session stmt false = refl
+by_done st session (Insert row) true = refl
+by_done st session (Update row) true = refl
+by_done st session (Delete key) true = refl
+by_done st session (Select key) true = refl
+by_done st session (Scan lo hi) true = refl
+by_done st session (Find cat) true = refl
+by_done st session Commit true = refl
+by_done st session Rollback true = refl
+
+module _ (st : State) (allowed : ℕ) (d : Engine) (shows : Shows st allowed d) (session : Session) where
+  -- what keeps a session out, as the trace sees it
+  out_is : (classes : List Class) → is_kept_out d.claims.drain (map.get d.claims.claims session.0) classes ≡ is_kept_out st.drain (map.get st.claims session.0) classes
+  out_is classes =
+      ap (λ (drain : DrainState). is_kept_out drain (map.get d.claims.claims session.0) classes) (sym shows.by.drain)
+      ∙ ap (λ (claims : Claims). is_kept_out st.drain (map.get claims session.0) classes) (sym shows.by.claims)
+
+  pub nobody_out : (classes : List Class) → is_kept_out d.claims.drain (map.get d.claims.claims session.0) classes ≡ false
+  nobody_out classes = ap (λ (drain : DrainState). is_kept_out drain (map.get d.claims.claims session.0) classes) shows.by.free ∙ none_kept_out (map.get d.claims.claims session.0) classes
+
+  -- what is shown once the session has these classes
+  pub registered_shows : (classes : List Class) (new : Engine) → new ≡ record d { claims = record d.claims { claims = claims_with d.claims.claims session classes } } → Shows (claim_classes st session classes) allowed new
+  registered_shows classes new is = subst (Shows (claim_classes st session classes) allowed) (sym is) (record {
+    first = shows.first;
+    begun = shows.begun;
+    runs = shows.runs;
+    by = record {
+      up = shows.by.up;
+      idle = shows.by.idle;
+      sure = shows.by.sure;
+      copy = shows.by.copy;
+      table = shows.by.table;
+      locks = shows.by.locks;
+      claims = ap (λ (claims : Claims). claims_with claims session classes) shows.by.claims;
+      drain = shows.by.drain;
+      free = shows.by.free;
+      pages = record { step = shows.by.pages.step; agree = shows.by.pages.agree };
+      slots = shows.by.slots;
+      indexes = shows.by.indexes;
+      keys = shows.by.keys;
+      places = shows.by.places;
+      units = shows.by.units;
+      top = shows.by.top;
+      owed = shows.by.owed;
+      claimed = shows.by.claimed;
+    };
+  })
+
+module _ (st : State) (allowed : ℕ) (d : Engine) (shows : Shows st allowed d) (session : Session) (stmt : Stmt) (reply : Reply) (mid : Engine) (goes : Goes st allowed d session stmt reply mid) where
+  not_drained : is_drained st session stmt ≡ false
+  not_drained = sym (out_is st allowed d shows session (classes_needed stmt)) ∙ nobody_out st allowed d shows session (classes_needed stmt)
+
+  pub still_admitted : (classes : List Class) → classes ≡ classes_needed stmt → is_kept_out mid.claims.drain (map.get mid.claims.claims session.0) classes ≡ false
+  still_admitted classes is =
+      ap (is_kept_out mid.claims.drain (map.get mid.claims.claims session.0)) is
+      ∙ out_is (unclaimed st session stmt reply) (allowed + more_allowed stmt reply) mid goes.shows session (classes_needed stmt)
+      ∙ by_done st session stmt (is_done reply)
+      ∙ not_drained
+
+  is_said : IsSaid st allowed (capacity_in d.space) session stmt reply
+  is_said = said st allowed (capacity_in d.space) session stmt shows.by.up not_drained reply goes.says
+
+  after_is : (done : Bool) → is_done reply ≡ done → after_answer st session stmt reply ≡ cond done (claim_classes (unclaimed st session stmt reply) session (classes_needed stmt)) (unclaimed st session stmt reply)
+  after_is done e = go (is_done reply) done e
+    where
+      go : (b done : Bool) → b ≡ done → cond b (claim_classes (after st session stmt) session (classes_needed stmt)) st ≡ cond done (claim_classes (cond b (after st session stmt) st) session (classes_needed stmt)) (cond b (after st session stmt) st)
+      go true true e = refl
+      go false false e = refl
+      go true false e = absurd (cc (e))
+      go false true e = absurd (cc (e))
+
+  -- a reply with number 0 registers the classes
+
+  pub done_answers : (classes : List Class) (new : Engine) → classes ≡ classes_needed stmt → is_done reply ≡ true
+      → new ≡ record mid { claims = record mid.claims { claims = claims_with mid.claims.claims session classes } } → Answered st allowed d session stmt reply new
+  done_answers classes new is done e = record {
+    after = after_answer st session stmt reply;
+    is_after = refl;
+    says = is_said.says;
+    is = is_said.is;
+    full = is_said.full;
+    shows =
+        subst (λ (after : State). Shows after (allowed + more_allowed stmt reply) new) (sym (after_is true done))
+        (subst (λ (cs : List Class). Shows (claim_classes (unclaimed st session stmt reply) session cs) (allowed + more_allowed stmt reply) new) is
+        (registered_shows (unclaimed st session stmt reply) (allowed + more_allowed stmt reply) mid goes.shows session classes new e));
+    capacity = ap (λ (x : Engine). capacity_in x.space) e ∙ goes.capacity;
+  }
+
+  pub refused_answers : is_done reply ≡ false → Answered st allowed d session stmt reply mid
+  refused_answers done = record {
+    after = after_answer st session stmt reply;
+    is_after = refl;
+    says = is_said.says;
+    is = is_said.is;
+    full = is_said.full;
+    shows = subst (λ (after : State). Shows after (allowed + more_allowed stmt reply) mid) (sym (after_is false done)) goes.shows;
+    capacity = goes.capacity;
+  }
+
+-- an engine that shows some state shows one after the answer
+pub answers_shown : (old new : Engine) (session : Session) (stmt : Stmt) (reply : Reply) → IsShown old → Answers old session stmt reply new → IsShown new
+answers_shown old new session stmt reply shown answers =
+    let answered = answers shown.state shown.allowed shown.shows in
+    record { state = answered.after; allowed = shown.allowed + more_allowed stmt reply; shows = answered.shows }

@@ -1,0 +1,49 @@
+-- The entries of a desk.
+--
+-- 1. Entries are appended and never changed. The number of volume calls never falls from one to the
+--    next.
+-- 2. An answer stands exactly where the operator was asked, and each entry is of an actor that can
+--    be.
+use Rattle.std.specs.Prelude.{◌≡◌, ◌≤◌, ◌<◌, ◌+◌, ◌*◌, ◌^◌, ℕ, List, [], ◌∷◌, None, is_some, length}
+use Rattle.std.specs.List.{AllByRecursion}
+use Rattle.std.specs.List.Sorted.{IsNonDecreasingBy}
+use Rattle.rg_model.specs.Legal.{IsActor, asks}
+use Rattle.rg_stmt.specs.declared.event.Actor.TheVariants as actors
+use Rattle.rg_stmt.specs.declared.event.Entry.{Entry}
+use Rattle.rg_stmt.specs.declared.event.Event.{Event}
+use Rattle.rg_stmt.specs.declared.event.Event.TheVariants.{Opened, Said}
+use Rattle.rg_desk.specs.Steps.{more_allowed}
+
+-- the entries, for how many more there is room, and the calls at the last one
+pub record ChronicleState : Type 0 where
+  pub trace : List Entry
+  pub spare : ℕ
+  pub calls : ℕ
+
+-- an entry that may be made
+pub record IsEntry (entry : Entry) : Type 0 where
+  pub actor : IsActor entry.actor
+  pub answer : is_some entry.answer ≡ asks entry.event
+
+-- the number of calls never falls, each entry may be made, and their number has 64 bits
+pub record IsRecorded (trace : List Entry) (calls : ℕ) : Type 0 where
+  pub rising : IsNonDecreasingBy (λ entry. entry.calls) trace
+  pub below : AllByRecursion (λ entry. entry.calls ≤ calls) trace
+  pub each : AllByRecursion IsEntry trace
+  pub few : length trace < 2 ^ 64
+
+-- the entry of an event that the system makes
+abbrev pub system_entry : Event → (calls : ℕ) → Entry
+system_entry event calls =
+    record { actor = actors.System; event = event; answer = None; calls = calls }
+
+-- An opening allows 4,064 bytes for each page that it finds, and a statement what it writes.
+abbrev pub allowed_after : (allowed : ℕ) → Event → ℕ
+allowed_after allowed (Opened copy rows pages used) = 4064 * pages
+allowed_after allowed (Said stmt reply) = allowed + more_allowed stmt reply
+allowed_after allowed event = allowed
+
+-- how many bytes the entries have allowed, from so many on
+abbrev pub allowed_by : (allowed : ℕ) → List Entry → ℕ
+allowed_by allowed [] = allowed
+allowed_by allowed (entry ∷ entries) = allowed_by (allowed_after allowed entry.event) entries

@@ -1,0 +1,27 @@
+// The layout of the copy.
+ghost use Rattle.std.specs.Prelude.{◌≡◌, ℕ, true, IfOk};
+ghost use Rattle.rg_model.specs.Layout.{is_right_side};
+ghost use Rattle.rg_model.specs.State.{State};
+ghost use Rattle.rg_desk.specs.Engine.{HasPages};
+ghost use Rattle.rg_desk.specs.Shows.{Shows};
+ghost use Rattle.rg_desk.specs.Wrote.{SameEngine};
+
+use crate::engine::Engine;
+use rg_base::no_memory::NoMemory;
+use rg_layout::side::side;
+use rg_stmt::layout::Side;
+
+impl Engine {
+    /// Where the rows lie, and what the indexes list. It reads each page once.
+    pub fn side(&mut self) -> Result<Side, NoMemory>
+        requires pages { HasPages self.old }
+        ensures same { SameEngine self.old self.new }
+        ensures right { IfOk result (λ side. (st : State) (allowed : ℕ) → Shows st allowed self.old
+            → is_right_side st.table side ≡ true) }
+    {
+        match side(self.alloc, &mut self.space, &self.indexes) {
+            Ok(side) => Ok(side),
+            Err(_) => Err(NoMemory),
+        }
+    }
+}

@@ -1,0 +1,107 @@
+// The answer to any statement.
+//
+// 1. A drain comes first: a statement is DRAINED if and only if a drain covers a class that it
+//    needs and that its session does not hold.
+// 2. A statement that is answered with number 0 registers its classes, and no other does.
+ghost use Rattle.std.specs.Prelude.{◌≡◌, false};
+ghost use Rattle.std.specs.FinMap as map;
+ghost use Rattle.rg_base.specs.Session.{IsSession};
+ghost use Rattle.rg_model.specs.Claims.{claims_with, classes_needed, is_kept_out};
+ghost use Rattle.rg_model.specs.Plain.{is_done};
+ghost use Rattle.rg_desk.specs.Answers.{Answers, classes_in};
+ghost use Rattle.rg_desk.specs.Shows.{IsShown};
+ghost use Rattle.rg_desk.specs.Steps.{Steps};
+
+use crate::engine::Engine;
+use rg_base::session::{Class, Session};
+use rg_stmt::stmt::{Reply, Stmt};
+
+// The class that a statement takes. The ends of a unit take none.
+fn class_of(stmt: &Stmt) -> Option<Class>
+    ensures { classes_in result ≡ classes_needed stmt.now }
+{
+    match stmt {
+        Stmt::Insert(_) | Stmt::Update(_) | Stmt::Delete(_) => Some(Class::Writer),
+        Stmt::Select(_) | Stmt::Scan { .. } | Stmt::Find(_) => Some(Class::Reader),
+        Stmt::Commit | Stmt::Rollback => None,
+    }
+}
+
+// A reply with number 0.
+fn is_done(reply: &Reply) -> bool
+    ensures { result ≡ is_done reply.now }
+{
+    match reply {
+        Reply::Done | Reply::Found(_) | Reply::Listed(_) | Reply::Keyed(_) => true,
+        _ => false,
+    }
+}
+
+impl Engine {
+    // A drain covers a class that the session does not hold.
+    fn is_drained(&self, session: Session, class: Option<Class>) -> bool
+        requires session { IsSession session }
+        ensures { result ≡ is_kept_out self.now.claims.drain
+            (map.get self.now.claims.claims session.0) (classes_in class) }
+    {
+        match class {
+            Some(class) => self.claims.admits(session, class).is_err(),
+            None => false,
+        }
+    }
+
+    // The session has the class from now on, to the end of its unit.
+    fn register(&mut self, session: Session, class: Option<Class>)
+        requires session { IsSession session }
+        requires admitted { is_kept_out self.old.claims.drain
+            (map.get self.old.claims.claims session.0) (classes_in class) ≡ false }
+        ensures { self.new ≡ record self.old {
+            claims = record self.old.claims {
+              claims = claims_with self.old.claims.claims session (classes_in class);
+            };
+          } }
+    {
+        let Some(class) = class else {
+            return;
+        };
+        match self.claims.claim(session, class) {
+            Ok(()) => {}
+            Err(_) => unreachable!(),
+        }
+    }
+
+    // The answer to a statement that no drain keeps out. Its claim is not registered yet.
+    fn answer(&mut self, session: Session, stmt: &Stmt) -> Reply
+        requires session { IsSession session }
+        requires shown { IsShown self.old }
+        ensures { Steps self.old session stmt.now result self.new }
+    {
+        match stmt {
+            Stmt::Insert(row) => self.insert(session, row),
+            Stmt::Update(row) => self.update(session, row),
+            Stmt::Delete(key) => self.delete(session, *key),
+            Stmt::Select(key) => self.select(session, *key),
+            Stmt::Scan { lo, hi } => self.scan(session, *lo, *hi),
+            Stmt::Find(cat) => self.find(session, *cat),
+            Stmt::Commit => self.commit(session),
+            Stmt::Rollback => self.rollback(session),
+        }
+    }
+
+    /// Answers a statement of a session.
+    pub fn say(&mut self, session: Session, stmt: &Stmt) -> Reply
+        requires session { IsSession session }
+        requires shown { IsShown self.old }
+        ensures { Answers self.old session stmt.now result self.new }
+    {
+        let class = class_of(stmt);
+        if self.is_drained(session, class) {
+            return Reply::Drained;
+        }
+        let reply = self.answer(session, stmt);
+        if is_done(&reply) {
+            self.register(session, class);
+        }
+        reply
+    }
+}
