@@ -8,7 +8,7 @@ use Rattle.rg_deck.specs.declared.read.TheConstants.{DECK_LIMIT}
 use Rattle.rg_model.specs.Legal.{Legal}
 use Rattle.rg_outside.specs.Faults.{Rose}
 use Rattle.rg_desk.specs.Desk.{copy_capacity, no_rows}
-use Rattle.rg_outside.specs.Capacities.{Capacities, capacity_of}
+use Rattle.rg_outside.specs.Capacities.{Capacities}
 use Rattle.rg_run.specs.Full.{IsFullFrom, IsFullOnlyFrom}
 use Rattle.rg_desk.specs.Chronicle.{allowed_after}
 use Rattle.rg_stmt.specs.declared.event.Entry.{Entry}

@@ -8,6 +8,7 @@ use std::alloc::{AllocError, Global};
 use std::test::Fail;
 
 mod decks;
+mod layouts;
 mod outside;
 
 const ALL: usize = usize::MAX;
@@ -28,9 +29,9 @@ fn came<V>(finished: &Finished<V>) -> Came {
     (finished.status, finished.trace.len())
 }
 
-// A volume of a page in each set.
-fn volume(alloc: Global) -> Result<MemVolume, AllocError> {
-    MemVolume::new(alloc, 1, 1, 1, 0, 0, &[], None).map_err(|_| AllocError)
+// A volume whose copies have so many pages.
+fn volume(alloc: Global, pages: u32) -> Result<MemVolume, AllocError> {
+    MemVolume::new(alloc, 1, pages, pages, 0, 0, &[], None).map_err(|_| AllocError)
 }
 
 fn owned(alloc: Global, words: &[&str]) -> Result<Vec<String>, AllocError> {
@@ -47,9 +48,20 @@ fn call<S: Source, K: Sink>(
     source: &mut S,
     sink: &mut K,
 ) -> Result<Came, AllocError> {
+    call_over(alloc, 9, words, source, sink)
+}
+
+// A call over copies of so many pages.
+fn call_over<S: Source, K: Sink>(
+    alloc: Global,
+    pages: u32,
+    words: &[&str],
+    source: &mut S,
+    sink: &mut K,
+) -> Result<Came, AllocError> {
     let words = owned(alloc, words)?;
     let operator = Box::new(alloc, IdleOperator)?;
-    let volume = volume(alloc)?;
+    let volume = volume(alloc, pages)?;
     Ok(came(&reorg_alone(alloc, &words, source, sink, volume, operator)))
 }
 
@@ -159,12 +171,21 @@ fn refuses(rt: HostRuntime) -> Result<(), Fail> {
             0,
         ),
         (
-            &["play"].as_slice(),
+            &["play", "--layout=full"].as_slice(),
             b"1 SELECT 18446744073709551616\n",
             ALL,
             NEVER,
             2,
             b"REFUSED deck line 1\n",
+            2,
+        ),
+        (
+            &["play"].as_slice(),
+            b"L\nF\n",
+            ALL,
+            NEVER,
+            2,
+            b"REFUSED deck line 2\n",
             2,
         ),
         (
@@ -281,7 +302,7 @@ fn first_session(rt: HostRuntime) -> Result<(), Fail> {
         &words,
         &mut source,
         &mut sink,
-        volume(rt.alloc())?,
+        volume(rt.alloc(), 1)?,
         operator,
     );
     assert_eq!(rt; came(&finished), (0, 4));

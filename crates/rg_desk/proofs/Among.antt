@@ -1,5 +1,5 @@
 -- The keys with rows, and the locked ones, are among some that are no more than the entries.
-use Rattle.std.proofs.Common.{◌≡◌, ◌≤◌, ◌<◌, ◌+◌, ◌-◌, ◌⊎◌, inl, inr, T, ℕ, zero, suc, Bool, true, false, not, cond, List, [], ◌∷◌, length, Option, Some, None, refl, sym, ◌∙◌, ap, subst, arith}
+use Rattle.std.proofs.Common.{◌≡◌, ◌≤◌, ◌+◌, ◌-◌, ◌⊎◌, inl, inr, ℕ, Bool, true, false, not, cond, List, [], ◌∷◌, length, Option, Some, None, refl, sym, ◌∙◌, ap, arith}
 use Rattle.std.specs.Option.{is_some}
 use Rattle.std.specs.Ordering.{nat_cmp, eq_by_cmp}
 use Rattle.std.specs.FinMap as fin
@@ -9,11 +9,11 @@ use Rattle.std.proofs.lemmas.Cmp.{nat_cmp_total}
 use Rattle.rg_base.specs.declared.lock.Lock.{Lock}
 use Rattle.rg_base.specs.declared.row.Row.{Row}
 use Rattle.rg_base.specs.declared.session.Session.{Session}
-use Rattle.rg_model.specs.Committed.{committed_table, locks_without, own_locks, put_back, set_to}
+use Rattle.rg_model.specs.Committed.{committed_table, locks_without, own_locks, put_back}
 use Rattle.rg_model.specs.Claims.{claim_classes, classes_needed}
 use Rattle.rg_model.specs.Held.{is_others}
-use Rattle.rg_model.specs.Plain.{after, after_answer, is_done, lock_key, write_key}
-use Rattle.rg_model.specs.State.{Locks, State, Table, is_present, row_count}
+use Rattle.rg_model.specs.Plain.{after, after_answer, is_done, write_key}
+use Rattle.rg_model.specs.State.{State, Table, is_present, row_count}
 use Rattle.rg_model.proofs.Overlay.{get-committed, get-put_back, get-set_to, kept_or, key_of}
 use Rattle.rg_stmt.specs.declared.stmt.Reply.{Reply}
 use Rattle.rg_stmt.specs.declared.stmt.Stmt.{Stmt}

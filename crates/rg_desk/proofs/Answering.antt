@@ -1,12 +1,11 @@
 -- The answer to a statement, from what it answers and leaves without its claim.
-use Rattle.std.proofs.Common.{◌≡◌, ◌≤◌, ◌+◌, ◌*◌, ℕ, Bool, true, false, List, [], ◌∷◌, Option, Some, None, cond, refl, sym, ◌∙◌, ap, subst}
+use Rattle.std.proofs.Common.{◌≡◌, ◌+◌, ℕ, Bool, true, false, List, [], ◌∷◌, Option, Some, None, cond, refl, sym, ◌∙◌, ap, subst}
 use Rattle.std.specs.FinMap as map
 use Rattle.rg_base.specs.declared.options.DrainState.{DrainState}
 use Rattle.rg_base.specs.declared.options.DrainState.TheVariants.{Free}
 use Rattle.rg_base.specs.declared.session.Class.{Class}
 use Rattle.rg_base.specs.declared.session.Session.{Session}
-use Rattle.rg_claim.specs.ClaimState.{ClaimState}
-use Rattle.rg_model.specs.Claims.{claim_classes, claims_with, classes_needed, has_class, is_drained, is_kept_out}
+use Rattle.rg_model.specs.Claims.{claim_classes, claims_with, classes_needed, is_drained, is_kept_out}
 use Rattle.rg_model.specs.Plain.{after, after_answer, change_reply, insert_reply, is_done, plain_reply, row_reply, unless_held}
 use Rattle.rg_model.specs.Held.{find_holder, holder, scan_holder}
 use Rattle.rg_model.specs.Run.{Says}

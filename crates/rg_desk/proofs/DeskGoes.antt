@@ -1,12 +1,10 @@
 -- A desk goes on by one entry, and its trace is legal.
-use Rattle.std.proofs.Common.{◌≡◌, ◌≢◌, ◌==◌, ◌&&◌, not, ◌≤◌, ◌<◌, ◌+◌, ◌^◌, ℕ, Bool, true, false, cond, List, [], ◌∷◌, ◌++◌, length, get_or, Option, Some, None, refl, sym, ◌∙◌, ap, subst, arith, length-append}
+use Rattle.std.proofs.Common.{◌≡◌, ◌≢◌, ◌==◌, ◌&&◌, not, ◌≤◌, ℕ, Bool, true, false, cond, List, [], ◌∷◌, ◌++◌, length, Option, Some, None, refl, sym, ◌∙◌, ap, subst, arith, length-append}
 use Rattle.std.specs.FinMap as map
 use Rattle.std.specs.FinMap.{len-empty, get-empty}
 use Rattle.std.specs.Option.{is_some}
 use Rattle.std.specs.Ordering.{nat_cmp}
 use Rattle.std.specs.List.{AllByRecursion, Contains}
-use Rattle.std.specs.List.Sorted.{IsNonDecreasingBy}
-use Rattle.rg_base.specs.Session.{IsSession}
 use Rattle.rg_base.specs.declared.lock.Lock.{Lock}
 use Rattle.rg_base.specs.declared.row.Row.{Row}
 use Rattle.rg_base.specs.declared.session.Session.{Session}
@@ -16,13 +14,13 @@ use Rattle.rg_model.specs.Layout.{is_right_side}
 use Rattle.rg_model.specs.Legal.{Legal, IsActor, asks}
 use Rattle.rg_model.specs.Plain.{after, after_answer, is_done}
 use Rattle.rg_model.specs.Possible.{next_state, possible, state_shown, states_before}
-use Rattle.rg_model.specs.Run.{Run, Says}
+use Rattle.rg_model.specs.Run.{Run}
 use Rattle.rg_model.specs.Said.{if_allowed}
-use Rattle.rg_model.specs.State.{State, at_rest, row_count}
+use Rattle.rg_model.specs.State.{State, at_rest}
 use Rattle.rg_model.proofs.Members.{only_one}
 use Rattle.rg_model.proofs.Overlay.{committed-at_rest}
 use Rattle.rg_model.proofs.RunPossible.{run_possible_start}
-use Rattle.rg_model.proofs.RunPush.{Run-push, behind}
+use Rattle.rg_model.proofs.RunPush.{Run-push}
 use Rattle.rg_stmt.specs.Entries.{said_entry}
 use Rattle.rg_stmt.specs.declared.event.Actor.TheVariants as actors
 use Rattle.rg_stmt.specs.declared.event.Entry.{Entry}
@@ -34,7 +32,7 @@ use Rattle.rg_stmt.specs.declared.stmt.Stmt.{Stmt}
 use Rattle.rg_stmt.specs.declared.stmt.Stmt.TheVariants.{Insert, Update, Delete, Select, Scan, Find, Commit, Rollback}
 use Rattle.rg_desk.specs.Answers.{Answered}
 use Rattle.rg_desk.specs.Chronicle.{ChronicleState, IsEntry, IsRecorded, allowed_after, allowed_by, system_entry}
-use Rattle.rg_desk.specs.Desk.{AreKeys, IsAmong, IsBegun, IsDesk, IsLayout, first_entry, no_rows}
+use Rattle.rg_desk.specs.Desk.{AreKeys, IsBegun, IsDesk, IsLayout, first_entry, no_rows}
 use Rattle.rg_desk.specs.Count.{IsShownFew}
 use Rattle.rg_desk.specs.Shows.{Shows}
 use Rattle.rg_desk.specs.Wrote.{SameEngine}

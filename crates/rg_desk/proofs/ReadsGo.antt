@@ -111,9 +111,6 @@ module _ (st : State) (allowed : ℕ) (d : Engine) (shows : Shows st allowed d) 
       ∙ ap (has_cat cat) (there ∙ sym at.now)
 
   -- a lock that another session has, and that keeps a row with the `cat` or whose key has one
-  pub held_no : (cat key : ℕ) (lock : Lock) → is_others session (Some lock) ≡ false → None ≡ cond (is_held_with_cat st.table session cat (key, lock)) (Some lock.owner) None
-  held_no cat key lock own = sym (ap (λ (b : Bool). cond (b && (has_cat cat (row_of st.table key) || has_cat cat lock.row)) (Some lock.owner) None) own)
-
   held_by : (cat key : ℕ) (lock : Lock) (b : Bool) → is_others session (Some lock) ≡ true → (has_cat cat (row_of st.table key) || has_cat cat lock.row) ≡ b
       → cond b (Some lock.owner) None ≡ cond (is_held_with_cat st.table session cat (key, lock)) (Some lock.owner) None
   held_by cat key lock b others has = λ i. cond (sym others i && sym has i) (Some lock.owner) None

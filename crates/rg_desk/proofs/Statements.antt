@@ -19,7 +19,6 @@ use Rattle.rg_model.specs.Held.{holder}
 use Rattle.rg_model.specs.Plain.{change_reply, insert_reply, is_done, plain_reply, unless_held}
 use Rattle.rg_model.specs.Said.{may_want_memory, may_want_room}
 use Rattle.rg_model.specs.State.{Locks, State, row_of}
-use Rattle.rg_stmt.specs.declared.stmt.Reply.{Reply}
 use Rattle.rg_stmt.specs.declared.stmt.Reply.TheVariants.{Absent, Done, Duplicate, Full, Held, NoMemory}
 use Rattle.rg_stmt.specs.declared.stmt.Stmt.{Stmt}
 use Rattle.rg_stmt.specs.declared.stmt.Stmt.TheVariants.{Delete, Insert, Update}

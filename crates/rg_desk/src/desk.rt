@@ -3,7 +3,7 @@
 // 1. The room of an entry is taken first. Where there is none, nothing is done.
 // 2. What an entry says was done, and the state that the trace leads to is the one that the pages,
 //    the locks and the claims show.
-ghost use Rattle.std.specs.Prelude.{◌≡◌, ◌++◌, ◌∷◌, [], ℕ, OnOk, OnErr, IfOk, IfErr, Some, None};
+ghost use Rattle.std.specs.Prelude.{◌≡◌, ◌∷◌, [], ℕ, OnOk, OnErr, IfOk, IfErr, Some, None};
 ghost use Rattle.rg_base.specs.Session.{IsSession};
 ghost use Rattle.rg_model.specs.Legal.{Legal};
 ghost use Rattle.rg_model.specs.Possible.{next_state};
@@ -54,11 +54,11 @@ impl<V, O> Model for Desk<V, O> {
     ghost Value = { DeskState V O };
 
     ghost view = { λ d. record {
-        trace = d.chronicle.trace;
-        capacity = capacity_in d.engine.space;
-        volume = d.volume;
-        operator = d.operator;
-      } };
+      trace = d.chronicle.trace;
+      capacity = capacity_in d.engine.space;
+      volume = d.volume;
+      operator = d.operator;
+    } };
 
     ghost invariant = { λ d. IsDesk d.engine d.chronicle };
 }
@@ -95,21 +95,17 @@ impl<V: Volume, O: Operator> Desk<V, O> {
     /// A desk over a table without rows, whose first entry is that of the opening. Its copy may
     /// have as many pages as the volume's first set has, and no more than 65,536. Neither the
     /// volume nor the operator is called.
-    pub fn new(
-        alloc: Global,
-        volume: V,
-        operator: O,
-    ) -> Result<Desk<V, O>, OpenFault<V, O>>
+    pub fn new(alloc: Global, volume: V, operator: O) -> Result<Desk<V, O>, OpenFault<V, O>>
         ensures ok { IfOk result (λ desk. desk ≡ record {
-            trace = first_entry ∷ [];
-            capacity = copy_capacity (V.capacities volume);
-            volume = volume;
-            operator = operator;
-          }) }
+          trace = first_entry ∷ [];
+          capacity = copy_capacity (V.capacities volume);
+          volume = volume;
+          operator = operator;
+        }) }
         ensures err { IfErr result (λ fault. fault ≡ record {
-            volume = volume;
-            operator = operator;
-          }) }
+          volume = volume;
+          operator = operator;
+        }) }
     {
         let capacity = volume.capacity(Set::First).min(MOST_PAGES);
         let Ok(engine) = Engine::new(alloc, capacity) else {

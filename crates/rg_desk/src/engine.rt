@@ -18,7 +18,7 @@ ghost use Rattle.std.specs.FinMap as map;
 ghost use Rattle.rg_model.specs.Held.{holder};
 ghost use Rattle.rg_model.specs.State.{at_rest};
 ghost use Rattle.rg_desk.specs.Pages.{list_seen};
-ghost use Rattle.rg_desk.specs.Engine.{HasPages, seen_in, slots_in};
+ghost use Rattle.rg_desk.specs.Engine.{HasPages, seen_in};
 ghost use Rattle.rg_desk.specs.Shows.{Shows};
 ghost use Rattle.rg_desk.specs.Wrote.{Prepares, Puts, SameEngine, Writes, end_taken, records_cleared, records_taken};
 

@@ -143,8 +143,8 @@ impl Engine {
     fn holding_up(&self, session: Session, cat: u64, key: u64, lock: &Lock) -> Option<Session>
         ensures holding { (st : State) (allowed : ℕ) → Shows st allowed self.now
             → result ≡ (if is_held_with_cat st.table session cat (key, lock.now)
-              then Some lock.now.owner
-              else None) }
+            then Some lock.now.owner
+            else None) }
         ensures fits { key < 2 ^ 64 }
     {
         if !is_others(session, lock) {

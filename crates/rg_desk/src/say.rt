@@ -56,10 +56,10 @@ impl Engine {
         requires admitted { is_kept_out self.old.claims.drain
             (map.get self.old.claims.claims session.0) (classes_in class) ≡ false }
         ensures { self.new ≡ record self.old {
-            claims = record self.old.claims {
-              claims = claims_with self.old.claims.claims session (classes_in class);
-            };
-          } }
+          claims = record self.old.claims {
+            claims = claims_with self.old.claims.claims session (classes_in class);
+          };
+        } }
     {
         let Some(class) = class else {
             return;

@@ -1,4 +1,4 @@
-ghost use Rattle.std.specs.Prelude.{◌≤◌, IfOk};
+ghost use Rattle.std.specs.Prelude.{IfOk};
 ghost use Rattle.std.specs.List.{AllByRecursion};
 ghost use Rattle.rg_base.specs.Session.{IsSession};
 ghost use Rattle.rg_run.specs.Played.{IsPlayed};
@@ -411,8 +411,18 @@ fn counts_committed_rows(rt: HostRuntime) -> Result<(), Fail> {
         (2, scan(0, 9), DONE, &[2, 22, 3, 30, 4, 40, 5, 50]),
     ];
     // How many rows are committed after each of the last steps.
-    for (at, rows) in [3, 3, 3, 3, 3, 2, 4, 4, 4, 4, 4, 4, 4, 4].iter().copied().enumerate() {
-        expect_steps(&rt, rt.alloc(), 9, &steps[..at + 5], rows)?;
+    for (at, rows) in [3, 3, 3, 3, 3, 2, 4, 4, 4, 4, 4, 4, 4, 4]
+        .iter()
+        .copied()
+        .enumerate()
+    {
+        expect_steps(
+            &rt,
+            rt.alloc(),
+            9,
+            &steps[..(at + 5).min(steps.len())],
+            rows,
+        )?;
     }
     Ok(())
 }
@@ -473,10 +483,20 @@ fn moves_and_fills(rt: HostRuntime) -> Result<(), Fail> {
         (1, insert(4, 100), DONE, NOTHING),
         (1, insert(5, 800), DONE, NOTHING),
         (1, insert(6, 100), DONE, NOTHING),
-        (0, Ask::Show, SHOWN, &[1, 1, 1, 0, 1, 2, 0, 1, 3, 0, 1, 4, 0, 1, 5, 0, 1, 6, 0]),
+        (
+            0,
+            Ask::Show,
+            SHOWN,
+            &[1, 1, 1, 0, 1, 2, 0, 1, 3, 0, 1, 4, 0, 1, 5, 0, 1, 6, 0],
+        ),
         // The row moves to the second page.
         (1, update(4, 800), DONE, NOTHING),
-        (0, Ask::Show, SHOWN, &[2, 1, 1, 0, 1, 2, 0, 1, 3, 0, 1, 4, 2, 1, 5, 0, 1, 6, 0]),
+        (
+            0,
+            Ask::Show,
+            SHOWN,
+            &[2, 1, 1, 0, 1, 2, 0, 1, 3, 0, 1, 4, 2, 1, 5, 0, 1, 6, 0],
+        ),
         (1, Ask::Commit, DONE, NOTHING),
         (2, insert(7, 800), DONE, NOTHING),
         (2, insert(8, 800), DONE, NOTHING),

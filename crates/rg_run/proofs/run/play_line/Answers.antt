@@ -1,4 +1,4 @@
-use Rattle.std.proofs.Common.{List, [], ◌∷◌, ◌++◌, sym, subst}
+use Rattle.std.proofs.Common.{[], ◌∷◌, ◌++◌, sym, subst}
 use Rattle.rg_stmt.specs.declared.line.Line.{Line}
 use Rattle.rg_run.specs.Played.{Goes}
 use Rattle.rg_run.proofs.Plays.{goes_said, goes_shown, ok_so}

@@ -1,4 +1,4 @@
-use Rattle.std.proofs.Common.{[], List, subst}
+use Rattle.std.proofs.Common.{[], subst}
 use Rattle.rg_model.specs.Run.{Run}
 use Rattle.rg_model.specs.State.{at_rest}
 use Rattle.rg_desk.specs.Chronicle.{allowed_by}

@@ -1,4 +1,4 @@
-use Rattle.std.proofs.Common.{◌≡◌, List, [], ◌∷◌, ◌++◌, ◌∙◌, ap, subst}
+use Rattle.std.proofs.Common.{List, [], ◌∷◌, ◌++◌, ◌∙◌, ap, subst}
 use Rattle.rg_space.specs.Space.{capacity_in}
 use Rattle.rg_stmt.specs.Entries.{said_entry}
 use Rattle.rg_stmt.specs.declared.event.Entry.{Entry}

@@ -1,4 +1,4 @@
-use Rattle.std.proofs.Common.{◌≡◌, List, [], ◌∷◌, ◌++◌, refl, sym, ◌∙◌, ap}
+use Rattle.std.proofs.Common.{[], ◌∷◌, ◌++◌, ◌∙◌, ap}
 use Rattle.rg_stmt.specs.declared.event.Entry.{Entry}
 use Rattle.rg_desk.specs.Chronicle.{allowed_by}
 use Rattle.rg_desk.proofs.DeskGoes.{desk_room, desk_same}

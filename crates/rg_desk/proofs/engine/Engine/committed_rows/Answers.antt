@@ -47,6 +47,6 @@ returns c =
     let locks = c.as_map-locks.result.now in
     let (from, first, so_far) = c.loop-next.invariant in
     λ st allowed shows.
-        let none = left_ends (λ lock. is_some lock.1.row) locks from (subst (λ n. IsFirstFrom locks from (valued n)) c.in_default.is first) in
-        let all = so_far st allowed shows in
-        omega (arith, all, none)
+    let none = left_ends (λ lock. is_some lock.1.row) locks from (subst (λ n. IsFirstFrom locks from (valued n)) c.in_default.is first) in
+    let all = so_far st allowed shows in
+    omega (arith, all, none)

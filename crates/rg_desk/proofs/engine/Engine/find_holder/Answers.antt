@@ -19,9 +19,9 @@ returns-in-Some-holding_up c =
     let locks = c.as_map-locks.result.now in
     let (from, first, so_far) = c.loop-next.invariant in
     λ st allowed shows.
-        sym (find_goes st.table locks c.args.session c.args.cat from c.in-Some.key c.in-Some.lock.now (Some c.in-Some-holding_up.owner)
-        (subst (λ n. IsFirstFrom locks from (valued n)) c.in-Some.is first) (c.in-Some-holding_up.ensures.holding st allowed shows))
-        ∙ so_far st allowed shows
+    sym (find_goes st.table locks c.args.session c.args.cat from c.in-Some.key c.in-Some.lock.now (Some c.in-Some-holding_up.owner)
+    (subst (λ n. IsFirstFrom locks from (valued n)) c.in-Some.is first) (c.in-Some-holding_up.ensures.holding st allowed shows))
+    ∙ so_far st allowed shows
 
 pub loop-next-preserved : goal.loop-next-preserved
 loop-next-preserved c =
@@ -40,5 +40,5 @@ returns c =
     let locks = c.as_map-locks.result.now in
     let (from, first, so_far) = c.loop-next.invariant in
     λ st allowed shows.
-        sym (find_ends st.table locks c.args.session c.args.cat from (subst (λ n. IsFirstFrom locks from (valued n)) c.in_default.is first))
-        ∙ so_far st allowed shows
+    sym (find_ends st.table locks c.args.session c.args.cat from (subst (λ n. IsFirstFrom locks from (valued n)) c.in_default.is first))
+    ∙ so_far st allowed shows

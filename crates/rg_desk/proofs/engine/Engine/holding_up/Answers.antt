@@ -1,6 +1,6 @@
 use Rattle.std.proofs.Common.{true, false, sym, ◌∙◌, ap}
-use Rattle.rg_model.specs.Held.{has_cat, is_others}
-use Rattle.rg_desk.proofs.ReadsGo.{held_kept, held_no, held_present}
+use Rattle.rg_model.specs.Held.{has_cat}
+use Rattle.rg_desk.proofs.ReadsGo.{held_kept, held_present}
 use Rattle.rg_desk.proofs.engine.Engine.holding_up.Goals as goal
 use Rattle.rg_desk.proofs.engine.Engine.holding_up.Goals.{then-is_of_cat-via-then-is_of_cat, then-is_of_cat-via-else-is_of_cat+then-has_cat}
 

@@ -24,11 +24,11 @@ loop-entry-preserved c =
       | in-Some+in_ok-push w ↦ (
         same,
         key_some rows es i none c.loop-entry.keys.items c.match-branch-3.keys.items w.in-Some.row c.loop-entry-test.true c.loop-entry.invariant.1
-        (sym at ∙ w.in-Some.is) (ap (λ (v : Vec ℕ Global). v.items) w.keys-is ∙ w.in_ok-push.ensures.items),
+            (sym at ∙ w.in-Some.is) (ap (λ (v : Vec ℕ Global). v.items) w.keys-is ∙ w.in_ok-push.ensures.items),
       )
       | in_default w ↦ (
         same,
         key_none rows es i none c.loop-entry.keys.items c.match-branch-3.keys.items c.loop-entry-test.true c.loop-entry.invariant.1
-        (sym at ∙ w.in_default.is) (ap (λ (v : Vec ℕ Global). v.items) w.keys-is),
+            (sym at ∙ w.in_default.is) (ap (λ (v : Vec ℕ Global). v.items) w.keys-is),
       )
     ]

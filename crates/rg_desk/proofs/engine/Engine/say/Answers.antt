@@ -1,5 +1,5 @@
 use Rattle.std.proofs.Common.{sym, ◌∙◌}
-use Rattle.rg_desk.proofs.Answering.{done_answers, nobody_out, refused_answers, still_admitted}
+use Rattle.rg_desk.proofs.Answering.{done_answers, refused_answers, still_admitted}
 use Rattle.rg_desk.proofs.engine.Engine.say.Goals as goal
 
 pub register-requires-clause-admitted : goal.register-requires-clause-admitted

@@ -1,4 +1,4 @@
-use Rattle.std.proofs.Common.{refl, ap, List}
+use Rattle.std.proofs.Common.{refl, ap}
 use Rattle.rg_base.specs.declared.session.Session.{Session}
 use Rattle.rg_page.specs.Content.{slots_of}
 use Rattle.rg_desk.proofs.ReadsGo.{side_right}

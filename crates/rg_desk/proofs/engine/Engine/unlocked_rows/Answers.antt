@@ -1,9 +1,9 @@
-use Rattle.std.proofs.Common.{◌≤◌, ◌+◌, ℕ, sym, ◌∙◌, ap, subst, arith}
+use Rattle.std.proofs.Common.{◌+◌, sym, ◌∙◌, ap, subst, arith}
 use Rattle.std.specs.FinMap as map
 use Rattle.rg_base.specs.First.{IsFirstFrom}
 use Rattle.rg_base.specs.declared.session.Session.{Session}
-use Rattle.rg_model.specs.State.{Locks, State, is_present}
-use Rattle.rg_desk.specs.Count.{locked_present, one_of, present_in}
+use Rattle.rg_model.specs.State.{Locks, is_present}
+use Rattle.rg_desk.specs.Count.{one_of, present_in}
 use Rattle.rg_desk.proofs.Counting.{few_locked, left_begins, left_ends, left_goes}
 use Rattle.rg_desk.proofs.LockWalk.{valued}
 use Rattle.rg_desk.proofs.ReadsGo.{keys_counted}
@@ -51,6 +51,6 @@ returns c =
     let locks = c.as_map-locks.result.now in
     let (from, first, so_far) = c.loop-next.invariant in
     λ st allowed shows.
-        let none = left_ends (λ lock. is_present st.table lock.0) locks from (subst (λ n. IsFirstFrom locks from (valued n)) c.in_default.is first) in
-        let all = so_far st allowed shows in
-        omega (arith, all, none)
+    let none = left_ends (λ lock. is_present st.table lock.0) locks from (subst (λ n. IsFirstFrom locks from (valued n)) c.in_default.is first) in
+    let all = so_far st allowed shows in
+    omega (arith, all, none)
