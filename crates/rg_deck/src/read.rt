@@ -1,3 +1,7 @@
+// How a deck is cut into lines.
+//
+// 1. A line ends at a line feed; the last one may lack it. An empty line is outside the grammar.
+// 2. Lines are read in order, and the first that is not taken is named by its number, from 1.
 ghost use Rattle.std.specs.Prelude.{◌≤◌, length, IfOk, IfErr};
 ghost use Rattle.rg_deck.specs.Grammar.{Lines, LinesOf};
 ghost use Rattle.rg_deck.specs.Reading.{CutsLine};

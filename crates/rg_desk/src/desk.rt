@@ -125,9 +125,9 @@ impl<V: Volume, O: Operator> Desk<V, O> {
         })
     }
 
-    /// Answers a statement of a session, which makes one entry. The refusal comes where the entry
-    /// finds no memory, and then nothing was done. Want of memory for the answer itself stands in
-    /// the entry.
+    /// Answers a statement of a session, which makes one entry. If there is no memory for the entry,
+    /// the call is refused and nothing was done. If there is none for the answer, the entry says
+    /// NOMEMORY.
     pub fn exec(&mut self, session: Session, stmt: Stmt) -> Result<(), NoMemory>
         requires { IsSession session }
         ensures made { OnOk result (MadeSaid self.old session stmt self.new) }
@@ -139,8 +139,8 @@ impl<V: Volume, O: Operator> Desk<V, O> {
         Ok(())
     }
 
-    /// Tells the layout of the copy, which makes one entry. The refusal comes where the entry finds
-    /// no memory. Want of memory for the layout itself stands in the entry.
+    /// Tells the layout of the copy, which makes one entry. If there is no memory for the entry, the
+    /// call is refused and nothing was done. If there is none for the layout, the entry says so.
     pub fn show(&mut self) -> Result<(), NoMemory>
         ensures made { OnOk result (MadeLayout self.old self.new) }
         ensures err { OnErr result (self.new ≡ self.old) }
