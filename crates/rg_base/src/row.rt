@@ -1,4 +1,5 @@
 ghost use Rattle.std.specs.Prelude.{◌≡◌, IfOk};
+ghost use Rattle.std.specs.Option.{option_copied};
 
 use crate::no_memory::NoMemory;
 use crate::text::Text;
@@ -25,5 +26,15 @@ impl Row {
             cat: self.cat,
             text: self.text.copy(alloc)?,
         })
+    }
+}
+
+/// An equal row, if there is one.
+pub fn copy_row(alloc: Global, row: Option<&Row>) -> Result<Option<Row>, NoMemory>
+    ensures { IfOk result (λ copy. copy ≡ option_copied row.entry) }
+{
+    match row {
+        None => Ok(None),
+        Some(row) => Ok(Some(row.copy(alloc)?)),
     }
 }

@@ -9,12 +9,12 @@ ghost use Rattle.rg_model.specs.PlainState.{state_of};
 ghost use Rattle.rg_model.specs.Run.{Says};
 ghost use Rattle.rg_model.specs.State.{at_rest};
 
-use crate::plain::parts::{copy_of, drop_locks, give_back, is_others, set_row};
+use crate::plain::parts::{drop_locks, give_back, is_others, set_row};
 use crate::plain::walks::{find_holder, keys_with_cat, rolled_back, rows_between, scan_holder};
 use rg_base::lock::Lock;
 use rg_base::map::NumberMap;
 use rg_base::no_memory::NoMemory;
-use rg_base::row::Row;
+use rg_base::row::{Row, copy_row};
 use rg_base::session::{Class, Session};
 use rg_stmt::stmt::{Reply, Stmt};
 use std::alloc::Global;
@@ -130,7 +130,7 @@ impl PlainState {
         if let Some(owner) = self.holder(session, key) {
             return Reply::Held(owner);
         }
-        let row = match copy_of(alloc, self.table.get(key)) {
+        let row = match copy_row(alloc, self.table.get(key)) {
             Ok(Some(row)) => row,
             Ok(None) => return Reply::Absent,
             Err(_) => return Reply::NoMemory,
@@ -240,7 +240,7 @@ impl PlainState {
         if self.locks.contains_key(key) {
             return Ok(false);
         }
-        let row = copy_of(alloc, self.table.get(key))?;
+        let row = copy_row(alloc, self.table.get(key))?;
         self.locks.insert(
             key,
             Lock {

@@ -4,17 +4,8 @@ ghost use Rattle.std.specs.Prelude.{◌≡◌, IfOk};
 use crate::record::{Kind, Record};
 use rg_base::no_memory::NoMemory;
 use rg_base::part::Parts;
-use rg_base::row::Row;
+use rg_base::row::copy_row;
 use std::alloc::Global;
-
-fn copy_row(alloc: Global, row: &Option<Row>) -> Result<Option<Row>, NoMemory>
-    ensures { IfOk result (λ copy. copy ≡ row.now) }
-{
-    match row {
-        None => Ok(None),
-        Some(row) => Ok(Some(row.copy(alloc)?)),
-    }
-}
 
 fn copy_parts(alloc: Global, parts: &Parts) -> Result<Parts, NoMemory>
     ensures { IfOk result (λ copy. copy ≡ parts.now) }
@@ -33,8 +24,8 @@ fn copy_kind(alloc: Global, kind: &Kind) -> Result<Kind, NoMemory>
             parts,
         } => Ok(Kind::Change {
             home: *home,
-            before: copy_row(alloc, before)?,
-            after: copy_row(alloc, after)?,
+            before: copy_row(alloc, before.as_ref())?,
+            after: copy_row(alloc, after.as_ref())?,
             parts: copy_parts(alloc, parts)?,
         }),
         Kind::Undo {
@@ -45,7 +36,7 @@ fn copy_kind(alloc: Global, kind: &Kind) -> Result<Kind, NoMemory>
         } => Ok(Kind::Undo {
             next: *next,
             home: *home,
-            after: copy_row(alloc, after)?,
+            after: copy_row(alloc, after.as_ref())?,
             parts: copy_parts(alloc, parts)?,
         }),
         Kind::Commit => Ok(Kind::Commit),

@@ -1,10 +1,12 @@
 // The size of a record is the number of its bytes, found without writing them.
 ghost use Rattle.std.specs.Prelude.{◌≡◌, ◌≤◌, ◌+◌, ◌*◌, length};
-ghost use Rattle.rg_record.specs.Spelled.{IsKind, IsRecord, AreFrees, greatest};
+ghost use Rattle.rg_base.specs.declared.place.Place.{Place};
+ghost use Rattle.rg_record.specs.Spelled.{IsFew, IsKind, IsRecord, AreFrees, greatest};
 ghost use Rattle.rg_record.specs.Spelling.{op_size, parts_size, row_field_size, kind_size, record_bytes, record_size};
+ghost use Rattle.rg_record.specs.declared.record.Kind.TheVariants as kinds;
 
 use crate::record::{Kind, Record};
-use rg_base::part::{Part, SlotOp};
+use rg_base::part::{Part, Parts, SlotOp};
 use rg_base::row::Row;
 
 // The bytes of an operation.
@@ -49,6 +51,30 @@ fn row_field_size(row: &Option<Row>) -> u32
     }
 }
 
+/// The bytes of the kind Change with these rows and parts.
+#[tactic(auto, unfolding(crate::specs::Spelling::kind_size))]
+pub fn change_size(before: &Option<Row>, after: &Option<Row>, parts: &Parts) -> u32
+    requires { IsFew parts.now }
+    ensures size { (home : Place) → result
+        ≡ kind_size (kinds.Change home before.now after.now parts.now) }
+    ensures low { 8 ≤ result }
+    ensures high { result ≤ 1709 }
+{
+    8 + row_field_size(before) + row_field_size(after) + parts_size(parts.as_slice())
+}
+
+/// The bytes of the kind Purge with these parts.
+#[tactic(auto, unfolding(crate::specs::Spelling::kind_size))]
+pub fn purge_size(parts: &Parts) -> u32
+    requires few { length parts.now ≤ 225 }
+    requires frees { AreFrees parts.now }
+    ensures size { result ≡ kind_size (kinds.Purge parts.now) }
+    ensures low { 2 ≤ result }
+    ensures high { result ≤ 1577 }
+{
+    2 + parts_size(parts.as_slice())
+}
+
 // The bytes of a kind with what it has.
 #[tactic(auto, unfolding(crate::specs::Spelling::kind_size))]
 fn kind_size(kind: &Kind) -> u32
@@ -63,12 +89,12 @@ fn kind_size(kind: &Kind) -> u32
             after,
             parts,
             ..
-        } => { 8 + row_field_size(before) + row_field_size(after) + parts_size(parts.as_slice()) }
+        } => change_size(before, after, parts),
         Kind::Undo { after, parts, .. } => {
             16 + row_field_size(after) + parts_size(parts.as_slice())
         }
         Kind::Commit | Kind::RolledBack => 1,
-        Kind::Purge { parts } => 2 + parts_size(parts.as_slice()),
+        Kind::Purge { parts } => purge_size(parts),
         Kind::Switch { .. } => 6,
     }
 }

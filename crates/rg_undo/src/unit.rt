@@ -5,7 +5,6 @@
 // 2. Afterwards each home that the unit has written has the row that it had before, and no other
 //    row has changed.
 ghost use Rattle.std.specs.Prelude.{◌≡◌, ◌≤◌, ◌<◌, ◌+◌, ◌^◌, ◌++◌, ◌∷◌, [], true, length, IfOk, IfErr, OnOk, vec_len, vec_capacity};
-ghost use Rattle.std.specs.Option.{option_copied};
 ghost use Rattle.rg_page.specs.Content.{slots_of};
 ghost use Rattle.rg_page.specs.Seen.{Keeps};
 ghost use Rattle.rg_space.specs.Space.{InStep, frames_of, index_of, capacity_in, undos_in};
@@ -18,7 +17,7 @@ use rg_base::change::Change;
 use rg_base::no_memory::NoMemory;
 use rg_base::place::Place;
 use rg_base::position::Position;
-use rg_base::row::Row;
+use rg_base::row::copy_row;
 use rg_page::areas::push_within;
 use rg_page::frames::Frames;
 use rg_record::record::{Kind, Record};
@@ -36,16 +35,6 @@ pub struct UnitUndo {
     pub changes: Vec<Change>,
 }
 
-// A copy of a row, if there is one.
-fn copy_of(alloc: Global, row: Option<&Row>) -> Result<Option<Row>, NoMemory>
-    ensures { IfOk result (λ copy. copy ≡ option_copied row.entry) }
-{
-    match row {
-        None => Ok(None),
-        Some(row) => Ok(Some(row.copy(alloc)?)),
-    }
-}
-
 // What the undo of a Change, at this position, makes of its row.
 fn change_back(alloc: Global, entry: &Record, position: Position) -> Result<Change, NoMemory>
     ensures { IfOk result (λ change. change ≡ change_back position.0 entry.now) }
@@ -54,7 +43,7 @@ fn change_back(alloc: Global, entry: &Record, position: Position) -> Result<Chan
         Kind::Change { home, before, .. } => Ok(Change {
             position,
             home: *home,
-            after: copy_of(alloc, before.as_ref())?,
+            after: copy_row(alloc, before.as_ref())?,
         }),
         _ => Ok(Change {
             position,

@@ -1,15 +1,16 @@
 // The single steps of the plain program.
 ghost use Rattle.std.specs.Prelude.{◌≡◌, OnOk, OnErr, IfOk, Some, None, true};
 ghost use Rattle.std.specs.FinMap as map;
-ghost use Rattle.std.specs.Option.{option_copied};
 ghost use Rattle.rg_model.specs.Committed.{set_to, locks_without};
 ghost use Rattle.rg_model.specs.Held.{is_others};
+ghost use Rattle.rg_model.specs.Plain.{is_done};
 
 use rg_base::lock::Lock;
 use rg_base::map::NumberMap;
 use rg_base::no_memory::NoMemory;
 use rg_base::row::Row;
 use rg_base::session::{Class, Session};
+use rg_stmt::stmt::Reply;
 use std::alloc::Global;
 
 /// The lock is another session's.
@@ -19,14 +20,14 @@ pub fn is_others(session: Session, kept: &Lock) -> bool
     kept.owner.0 != session.0
 }
 
-/// An equal row, where there is one.
-pub fn copy_of(alloc: Global, row: Option<&Row>) -> Result<Option<Row>, NoMemory>
-    ensures { IfOk result (λ copy. copy ≡ option_copied row.entry) }
+/// The reply has number 0.
+pub fn is_done(reply: &Reply) -> bool
+    ensures { result ≡ is_done reply.now }
 {
-    match row {
-        None => Ok(None),
-        Some(row) => Ok(Some(row.copy(alloc)?)),
-    }
+    matches!(
+        reply,
+        Reply::Done | Reply::Found(_) | Reply::Listed(_) | Reply::Keyed(_)
+    )
 }
 
 /// Sets the row of a key, or removes it.

@@ -9,11 +9,11 @@ ghost use Rattle.rg_model.specs.Held.{scan_holder, find_holder};
 ghost use Rattle.rg_model.specs.Plain.{rows_between, keys_with_cat};
 ghost use Rattle.rg_model.specs.Start.{start_of};
 
-use crate::plain::parts::{copy_of, is_others, set_row};
+use crate::plain::parts::{is_others, set_row};
 use rg_base::lock::Lock;
 use rg_base::map::NumberMap;
 use rg_base::no_memory::NoMemory;
-use rg_base::row::Row;
+use rg_base::row::{Row, copy_row};
 use rg_base::session::Session;
 use rg_stmt::rows::{Keys, Rows};
 use std::alloc::Global;
@@ -157,7 +157,7 @@ pub fn rolled_back(
     let mut last = None;
     while let Some((key, kept)) = entry_behind(locks, last) {
         if !is_others(session, kept) {
-            set_row(&mut rolled, key, copy_of(alloc, kept.row.as_ref())?)?;
+            set_row(&mut rolled, key, copy_row(alloc, kept.row.as_ref())?)?;
         }
         last = Some(key);
     }

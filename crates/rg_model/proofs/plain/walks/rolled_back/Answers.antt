@@ -23,7 +23,7 @@ loop-key-preserved-in_ok-set_row c =
     turned-set table after rolled (start_of c.loop-key.last) key c.loop-key.invariant first.0
     (λ q low below. put_own-others session locks table q (ap (is_others session) (first.2 q low below))) c.set_row.new.table
     (λ q. ap (λ (m : Table). map.get m q) c.in_ok-set_row.ensures.ok ∙ get-set_to rolled key _ q
-    ∙ ap (λ found. cond (eq_by_cmp nat_cmp q key) found (map.get rolled q)) (c.in_ok-copy_of.ensures ∙ c.as_ref.ensures.value ∙ sym row))
+    ∙ ap (λ found. cond (eq_by_cmp nat_cmp q key) found (map.get rolled q)) (c.in_ok-copy_row.ensures ∙ c.as_ref.ensures.value ∙ sym row))
 
 pub loop-key-preserved : goal.loop-key-preserved
 loop-key-preserved c =
