@@ -1,14 +1,13 @@
 // The line that sums up a run.
 ghost use Rattle.std.specs.Prelude.{◌≡◌, IfOk, count_by};
-ghost use Rattle.rg_model.specs.Plain.{is_done};
 ghost use Rattle.rg_print.specs.Layout.{is_over};
 ghost use Rattle.rg_gen.specs.Summary.{is_answered, show, shown_in, legal_word, line_text, summary_text};
 
 use rg_base::bytes::Bytes;
 use rg_base::no_memory::NoMemory;
+use rg_model::plain::parts::is_done;
 use rg_stmt::event::{Entry, Event};
 use rg_stmt::layout::Spot;
-use rg_stmt::stmt::Reply;
 use std::alloc::Global;
 use std::io::Write;
 
@@ -96,16 +95,6 @@ fn is_answered(entry: &Entry, done: bool) -> bool
         Event::Said { reply, .. } => is_done(reply) == done,
         _ => false,
     }
-}
-
-// Whether a reply has number 0.
-fn is_done(reply: &Reply) -> bool
-    ensures { result ≡ is_done reply.now }
-{
-    matches!(
-        reply,
-        Reply::Done | Reply::Found(_) | Reply::Listed(_) | Reply::Keyed(_)
-    )
 }
 
 // What the last layout shows.

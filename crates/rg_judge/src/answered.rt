@@ -13,12 +13,13 @@ ghost use Rattle.rg_model.specs.Said.{may_want_room, state_answered, state_faile
 ghost use Rattle.rg_model.specs.Same.{same_reply};
 
 use crate::possibility::{Possibility, if_allowed};
-use crate::replied::{is_done, reply_to};
+use crate::replied::reply_to;
 use crate::same::same_reply;
 use crate::unit::{act, claim, rollback};
 use crate::walk::has_locks;
 use rg_base::no_memory::NoMemory;
 use rg_base::session::Session;
+use rg_model::plain::parts::is_done;
 use rg_stmt::stmt::{Reply, Stmt};
 use rg_tally::tally::may_want_log;
 use std::alloc::Global;

@@ -4,14 +4,14 @@
 ghost use Rattle.std.specs.Prelude.{◌≡◌, IfOk};
 ghost use Rattle.rg_judge.specs.StateOf.{state_of};
 ghost use Rattle.rg_model.specs.Held.{holder};
-ghost use Rattle.rg_model.specs.Plain.{change_reply, insert_reply, is_done, plain_reply, row_reply};
+ghost use Rattle.rg_model.specs.Plain.{change_reply, insert_reply, plain_reply, row_reply};
 ghost use Rattle.rg_model.specs.State.{is_present, row_of};
 
 use crate::possibility::Possibility;
 use rg_base::no_memory::NoMemory;
+use rg_base::row::copy_row;
 use rg_base::session::Session;
 use rg_lock::locks::Locks;
-use rg_model::plain::parts::copy_of;
 use rg_model::plain::walks::{find_holder, keys_with_cat, rows_between, scan_holder};
 use rg_stmt::stmt::{Reply, Stmt};
 use std::alloc::Global;
@@ -49,7 +49,7 @@ fn reply_change(st: &Possibility, key: u64) -> Reply
 fn reply_select(alloc: Global, st: &Possibility, key: u64) -> Result<Reply, NoMemory>
     ensures { IfOk result (λ reply. reply ≡ row_reply (row_of st.now.table key)) }
 {
-    match copy_of(alloc, st.table.get(key))? {
+    match copy_row(alloc, st.table.get(key))? {
         Some(row) => Ok(Reply::Found(row)),
         None => Ok(Reply::Absent),
     }
@@ -91,14 +91,4 @@ pub fn reply_to(
         },
         Stmt::Commit | Stmt::Rollback => Ok(Reply::Done),
     }
-}
-
-/// The reply has number 0.
-pub fn is_done(reply: &Reply) -> bool
-    ensures { result ≡ is_done reply.now }
-{
-    matches!(
-        reply,
-        Reply::Done | Reply::Found(_) | Reply::Listed(_) | Reply::Keyed(_)
-    )
 }

@@ -17,22 +17,38 @@ pub fn same_row(a: &Row, b: &Row) -> bool
 fn same_rows(a: &[Row], b: &[Row]) -> bool
     ensures { result ≡ same_list same_row a.now b.now }
 {
-    match (a, b) {
-        ([], []) => true,
-        ([x, xs @ ..], [y, ys @ ..]) => same_row(x, y) && same_rows(xs, ys),
-        _ => false,
+    let mut left = b;
+    for x in a {
+        match left {
+            [y, rest @ ..] => {
+                if !same_row(x, y) {
+                    return false;
+                }
+                left = rest;
+            }
+            [] => return false,
+        }
     }
+    left.is_empty()
 }
 
 // Key for key.
 fn same_keys(a: &[u64], b: &[u64]) -> bool
     ensures { result ≡ same_list same_number a.now b.now }
 {
-    match (a, b) {
-        ([], []) => true,
-        ([x, xs @ ..], [y, ys @ ..]) => *x == *y && same_keys(xs, ys),
-        _ => false,
+    let mut left = b;
+    for x in a {
+        match left {
+            [y, rest @ ..] => {
+                if *x != *y {
+                    return false;
+                }
+                left = rest;
+            }
+            [] => return false,
+        }
     }
+    left.is_empty()
 }
 
 /// The replies are the same.

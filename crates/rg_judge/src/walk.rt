@@ -7,9 +7,10 @@ ghost use Rattle.rg_model.specs.Said.{has_locks};
 use rg_base::lock::Lock;
 use rg_base::map::NumberMap;
 use rg_base::no_memory::NoMemory;
+use rg_base::row::copy_row;
 use rg_base::session::Session;
 use rg_base::table::Table;
-use rg_model::plain::parts::{copy_of, is_others, set_row};
+use rg_model::plain::parts::{is_others, set_row};
 use rg_model::plain::walks::entry_behind;
 use std::alloc::Global;
 
@@ -33,7 +34,7 @@ pub fn put_back(alloc: Global, table: &mut Table, locks: &NumberMap<Lock>) -> Re
 {
     let mut last = None;
     while let Some((key, kept)) = entry_behind(locks, last) {
-        set_row(table, key, copy_of(alloc, kept.row.as_ref())?)?;
+        set_row(table, key, copy_row(alloc, kept.row.as_ref())?)?;
         last = Some(key);
     }
     Ok(())
@@ -52,7 +53,7 @@ pub fn put_back_others(
     let mut last = None;
     while let Some((key, kept)) = entry_behind(locks, last) {
         if is_others(session, kept) {
-            set_row(table, key, copy_of(alloc, kept.row.as_ref())?)?;
+            set_row(table, key, copy_row(alloc, kept.row.as_ref())?)?;
         }
         last = Some(key);
     }

@@ -1,42 +1,18 @@
 -- Rows in clustering order.
-use Rattle.std.proofs.Common.{◌≡◌, ◌&&◌, ◌+◌, ◌-◌, nat_le, ℕ, suc, Bool, true, false, cond, List, [], ◌∷◌, ◌++◌, take, drop, filter, Option, Some, None, refl, ◌∙◌, ap, arith}
+use Rattle.std.proofs.Common.{◌≡◌, ◌&&◌, ◌+◌, ◌-◌, nat_le, ℕ, Bool, true, false, cond, List, [], ◌∷◌, filter, Option, Some, None, refl, ◌∙◌, ap, arith}
 use Rattle.std.specs.List.{list_all}
 use Rattle.std.proofs.lemmas.Bool.Decides.{nat_tests}
 use Rattle.rg_base.specs.declared.options.Options.{Options}
 use Rattle.rg_base.specs.declared.row.Row.{Row}
 use Rattle.rg_stmt.specs.declared.event.Entry.{Entry}
 use Rattle.rg_stmt.specs.declared.layout.Spot.{Spot}
-use Rattle.rg_model.specs.Packed.{area_of, clustered_rows, free_part, home_spot, is_row_before, page_at, put_row, spots_from}
+use Rattle.rg_model.specs.Packed.{area_of, free_part, home_spot, page_at, spots_from}
 use Rattle.rg_model.specs.Right.{are_clustered, are_quiet_right, is_at_home, is_clustered_pair}
-use Rattle.rg_right.specs.Clustered.{is_pair_behind, quiet_rises, tally_quiet}
-use Rattle.rg_right.specs.Packing.{row_place, spots_by}
-use Rattle.rg_tally.specs.Tallied.{IsTallied}
+use Rattle.rg_right.specs.Clustered.{is_pair_behind, quiet_rises}
+use Rattle.rg_right.specs.Packing.{spots_by}
+use Rattle.rg_tally.specs.Tallied.{IsTallied, tally_quiet}
 use Rattle.rg_right.specs.declared.packing.Packing.{Packing}
 use Rattle.rg_tally.specs.declared.tally.Tally.{Tally}
-
-taken_in : (b : Bool) (row r : Row) (rs : List Row) (n : ℕ) → (take n rs ++ row ∷ drop n rs) ≡ put_row row rs
-    → (take (cond b 0 (suc n)) (r ∷ rs) ++ row ∷ drop (cond b 0 (suc n)) (r ∷ rs)) ≡ cond b (row ∷ r ∷ rs) (r ∷ put_row row rs)
-taken_in true row r rs n is = refl
-taken_in false row r rs n is = ap (λ rest. r ∷ rest) is
-
--- a row is put before the first that it is before
-pub put-placed : (row : Row) (rows : List Row) → (take (row_place row rows) rows ++ row ∷ drop (row_place row rows) rows) ≡ put_row row rows
-put-placed row [] = refl
-put-placed row (r ∷ rs) = taken_in (is_row_before row r) row r rs (row_place row rs) (put-placed row rs)
-
--- the rows, put into those in clustering order
-abbrev pub clustered_onto : List Row → List Row → List Row
-clustered_onto [] clustered = clustered
-clustered_onto (row ∷ rows) clustered = put_row row (clustered_onto rows clustered)
-
-pub clustered_onto-none : (rows : List Row) → clustered_onto rows [] ≡ clustered_rows rows
-clustered_onto-none [] = refl
-clustered_onto-none (row ∷ rows) = ap (put_row row) (clustered_onto-none rows)
-
--- the last one is put first
-pub clustered_onto-last : (rows : List Row) (row : Row) (clustered : List Row) → clustered_onto (rows ++ row ∷ []) clustered ≡ clustered_onto rows (put_row row clustered)
-clustered_onto-last [] row clustered = refl
-clustered_onto-last (r ∷ rows) row clustered = ap (put_row r) (clustered_onto-last rows row clustered)
 
 spots_cases : (options : Options) (packing : Packing) (row : Row) (rows : List Row) (b : Bool)
     → ((p : Packing) → spots_by options p rows ≡ spots_from options p.filled p.slots p.free rows)

@@ -1,14 +1,10 @@
 -- Quiet rows in clustering order, read one after another.
-use Rattle.std.specs.Prelude.{ℕ, ◌&&◌, Bool, true, not, List, [], ◌∷◌, Option, Some, None}
+use Rattle.std.specs.Prelude.{◌&&◌, Bool, true, List, [], ◌∷◌, Option, Some, None}
 use Rattle.std.specs.Prelude.{if◌then◌else◌}
-use Rattle.std.specs.FinMap as map
 use Rattle.rg_stmt.specs.declared.layout.Spot.{Spot}
 use Rattle.rg_model.specs.Right.{is_at_home, is_clustered_pair}
+use Rattle.rg_tally.specs.Tallied.{tally_quiet}
 use Rattle.rg_tally.specs.declared.tally.Tally.{Tally}
-
--- the key is quiet, by what is kept of the entries
-abbrev pub tally_quiet : Tally → ℕ → Bool
-tally_quiet tally key = tally.started && not (map.contains_key tally.stirred key)
 
 abbrev pub is_pair_behind : Option Spot → Spot → Bool
 is_pair_behind None spot = true

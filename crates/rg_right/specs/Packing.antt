@@ -1,15 +1,10 @@
 -- Rows packed one after another.
-use Rattle.std.specs.Prelude.{ℕ, suc, ◌+◌, ◌-◌, nat_le, List, [], ◌∷◌, if◌then◌else◌}
+use Rattle.std.specs.Prelude.{◌+◌, ◌-◌, nat_le, List, [], ◌∷◌, if◌then◌else◌}
 use Rattle.rg_base.specs.declared.options.Options.{Options}
 use Rattle.rg_base.specs.declared.row.Row.{Row}
 use Rattle.rg_stmt.specs.declared.layout.Spot.{Spot}
-use Rattle.rg_model.specs.Packed.{area_of, free_part, home_spot, is_row_before, page_at}
+use Rattle.rg_model.specs.Packed.{area_of, free_part, home_spot, page_at}
 use Rattle.rg_right.specs.declared.packing.Packing.{Packing}
-
--- the number of rows up to the first that this one is before
-abbrev pub row_place : Row → List Row → ℕ
-row_place row [] = 0
-row_place row (r ∷ rs) = if is_row_before row r then 0 else suc (row_place row rs)
 
 -- one row more
 abbrev pub packing_after : Options → Packing → Row → Packing

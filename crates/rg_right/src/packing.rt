@@ -2,10 +2,11 @@
 // (1) Rows go in clustering order: by clus, then by key.
 // (2) A page takes its first row, and each next row that leaves PCTFREE of the page's room free.
 // (3) Where FREEPAGE is n above 0, an empty page follows each n filled ones.
-ghost use Rattle.std.specs.Prelude.{◌≡◌, ◌==◌, ◌+◌, ◌≤◌, IfOk, OnOk, filter, length, map, nat_le};
-ghost use Rattle.rg_right.specs.Packing.{packing_after, row_place, spot_of, spots_by};
+ghost use Rattle.std.specs.Prelude.{◌≡◌, ◌==◌, ◌+◌, IfOk, filter, length, map, nat_le};
+ghost use Rattle.std.specs.Ordering.{is_lt};
+ghost use Rattle.rg_right.specs.Packing.{packing_after, spot_of, spots_by};
 ghost use Rattle.rg_model.specs.Packed.{area_of, clustered_rows, free_part, home_spot, is_row_before};
-ghost use Rattle.rg_model.specs.Packed.{packed_pages, packed_spots, put_row};
+ghost use Rattle.rg_model.specs.Packed.{packed_pages, packed_spots};
 ghost use Rattle.rg_model.specs.Right.{is_packed, same_home_spot};
 ghost use Rattle.rg_model.specs.Same.{same_list};
 ghost use Rattle.rg_model.specs.State.{entries_of};
@@ -21,6 +22,7 @@ use rg_stmt::layout::{Side, Spot};
 use rg_tally::pages::{page_at, page_count};
 use rg_tally::sums::sum;
 use std::alloc::Global;
+use std::cmp::Ordering;
 
 /// How far a new copy is packed: the pages filled so far, and the slots used and bytes free of the
 /// last one.
@@ -64,36 +66,27 @@ fn all_rows(alloc: Global, table: &Table) -> Result<Vec<Row>, NoMemory>
     Ok(rows)
 }
 
-// Where a row goes: before the first that it is before.
-fn row_place(row: &Row, rows: &[Row]) -> usize
-    ensures place { result ≡ row_place row.now rows.now }
-    ensures within { result ≤ length rows.now }
+// How a row stands to another.
+fn compare_rows(a: &Row, b: &Row) -> Ordering
+    ensures { is_lt result ≡ is_row_before a.now b.now }
 {
-    for (at, later) in rows.iter().enumerate() {
-        if is_row_before(row, later) {
-            return at;
-        }
+    if is_row_before(a, b) {
+        Ordering::Less
+    } else if is_row_before(b, a) {
+        Ordering::Greater
+    } else {
+        Ordering::Equal
     }
-    rows.len()
 }
 
-fn put_row(rows: &mut Vec<Row>, row: Row) -> Result<(), NoMemory>
-    ensures { OnOk result (rows.new.items ≡ put_row row rows.old.items) }
-{
-    let at = row_place(&row, rows.as_slice());
-    rows.insert(at, row)?;
-    Ok(())
-}
-
-// The rows in clustering order.
-fn clustered(alloc: Global, mut rows: Vec<Row>) -> Result<Vec<Row>, NoMemory>
+// The rows in clustering order. The definition puts a row behind its equals, from the last row on,
+// so a stable sort begins with the last one.
+fn clustered(mut rows: Vec<Row>) -> Result<Vec<Row>, NoMemory>
     ensures { IfOk result (λ clustered. clustered.items ≡ clustered_rows rows.items) }
 {
-    let mut clustered = Vec::new(alloc);
-    while let Some(row) = rows.pop() {
-        put_row(&mut clustered, row)?;
-    }
-    Ok(clustered)
+    rows.reverse();
+    rows.sort_by(|a, b| compare_rows(a, b))?;
+    Ok(rows)
 }
 
 // A row at home. A page beyond 32 bits, or a slot beyond 16, needs more rows than memory holds.
@@ -177,7 +170,7 @@ fn pack_rows(
 fn packed_spots(alloc: Global, options: &Options, table: &Table) -> Result<Vec<Spot>, NoMemory>
     ensures { IfOk result (λ spots. spots.items ≡ packed_spots options.now table.now) }
 {
-    let rows = clustered(alloc, all_rows(alloc, table)?)?;
+    let rows = clustered(all_rows(alloc, table)?)?;
     let empty = Packing {
         filled: 0,
         slots: 0,
@@ -187,18 +180,31 @@ fn packed_spots(alloc: Global, options: &Options, table: &Table) -> Result<Vec<S
     Ok(spots)
 }
 
+// The spots have the same place, key and clus, and both rows lie at home.
+fn same_home_spot(a: &Spot, b: &Spot) -> bool
+    ensures { result ≡ same_home_spot a.now b.now }
+{
+    same_place(a.place, b.place)
+        && (a.key == b.key && (a.clus == b.clus && (a.over.is_none() && b.over.is_none())))
+}
+
+// Spot for spot.
 fn same_home_spots(a: &[Spot], b: &[Spot]) -> bool
     ensures { result ≡ same_list same_home_spot a.now b.now }
 {
-    match (a, b) {
-        ([], []) => true,
-        ([x, xs @ ..], [y, ys @ ..]) => {
-            (same_place(x.place, y.place)
-                && (x.key == y.key && (x.clus == y.clus && (x.over.is_none() && y.over.is_none()))))
-                && same_home_spots(xs, ys)
+    let mut left = b;
+    for x in a {
+        match left {
+            [y, rest @ ..] => {
+                if !same_home_spot(x, y) {
+                    return false;
+                }
+                left = rest;
+            }
+            [] => return false,
         }
-        _ => false,
     }
+    left.is_empty()
 }
 
 fn first_slots(spots: &[Spot]) -> usize

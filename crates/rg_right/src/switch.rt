@@ -3,7 +3,7 @@
 // (2) The quiet rows lie at home, in clustering order along the new copy's places.
 // (3) Where nothing changed since the utility started, the new copy is packed as its options say.
 ghost use Rattle.std.specs.Prelude.{◌≡◌, ◌==◌, ◌&&◌, IfOk, List, None, true, if◌then◌else◌};
-ghost use Rattle.rg_right.specs.Clustered.{is_pair_behind, quiet_rises, tally_quiet};
+ghost use Rattle.rg_right.specs.Clustered.{is_pair_behind, quiet_rises};
 ghost use Rattle.rg_tally.specs.Tallied.{IsTallied};
 ghost use Rattle.rg_model.specs.Layout.{is_right_side};
 ghost use Rattle.rg_model.specs.Right.{are_clustered, are_quiet_right, is_at_home};

@@ -27,7 +27,7 @@ loop-key-preserved c =
     (λ q low below. get_back locks table q ∙ ap (λ found. kept_or found (map.get table q)) (first.2 q low below)) c.set_row.new.table
     (λ q. ap (λ (m : Table). map.get m q) c.in_ok-set_row.ensures.ok ∙ get-set_to now key _ q
     ∙ ap (λ found. cond (eq_by_cmp nat_cmp q key) found (map.get now q))
-    (c.in_ok-copy_of.ensures ∙ c.as_ref.ensures.value ∙ sym (get_back locks table key ∙ ap (λ found. kept_or found (map.get table key)) first.1)))
+    (c.in_ok-copy_row.ensures ∙ c.as_ref.ensures.value ∙ sym (get_back locks table key ∙ ap (λ found. kept_or found (map.get table key)) first.1)))
 
 pub returns : goal.returns
 returns c =

@@ -46,7 +46,7 @@ loop-key-preserved-in_ok-set_row c =
     (λ q low below. back_none session locks table q (first.2 q low below)) c.set_row.new.table
     (λ q. ap (λ (m : Table). map.get m q) c.in_ok-set_row.ensures.ok ∙ get-set_to now key _ q
     ∙ ap (λ found. cond (eq_by_cmp nat_cmp q key) found (map.get now q))
-    (c.in_ok-copy_of.ensures ∙ c.as_ref.ensures.value ∙ sym (back_others session locks table key c.in-Some.kept.now first.1 (sym c.is_others.ensures ∙ c.if-is_others.true))))
+    (c.in_ok-copy_row.ensures ∙ c.as_ref.ensures.value ∙ sym (back_others session locks table key c.in-Some.kept.now first.1 (sym c.is_others.ensures ∙ c.if-is_others.true))))
 
 pub loop-key-preserved : goal.loop-key-preserved
 loop-key-preserved c =

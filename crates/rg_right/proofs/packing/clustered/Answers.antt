@@ -1,16 +1,14 @@
-use Rattle.std.proofs.Common.{List, ◌∙◌, sym, ap}
+use Rattle.std.proofs.Common.{List, subst, rules}
+use Rattle.std.specs.List.Sorted.{IsStableBy}
+use Rattle.std.proofs.lemmas.List.Sorted.{answers_always}
 use Rattle.rg_base.specs.declared.row.Row.{Row}
-use Rattle.rg_right.proofs.Clustering.{clustered_onto, clustered_onto-none, clustered_onto-last}
+use Rattle.rg_model.specs.Packed.{is_row_before}
+use Rattle.rg_right.proofs.Orders.{rows_order, rows-clustered}
 use Rattle.rg_right.proofs.packing.clustered.Goals as goal
 
-pub loop-row-init : goal.loop-row-init
-loop-row-init c = ap (clustered_onto c.args.rows.items) c.new-clustered.ensures.items ∙ clustered_onto-none c.args.rows.items
-
-pub loop-row-preserved : goal.loop-row-preserved
-loop-row-preserved c =
-    let left = c.pop.new.self.items in
-    let clustered = c.loop-row.clustered.items in
-    ap (clustered_onto left) c.in_ok-put_row.ensures
-    ∙ sym (clustered_onto-last left c.in-Some.row clustered)
-    ∙ ap (λ (rows : List Row). clustered_onto rows clustered) (sym c.in-Some.ensures.items)
-    ∙ c.loop-row.invariant
+pub returns : goal.returns
+returns c =
+    rows-clustered c.args.rows.items _
+    (c.in_ok-sort_by.ensures.sorted is_row_before rows_order (answers_always _ _ _ (λ f a r g h. search rules)))
+    (subst (λ (l : List (Row)). IsStableBy is_row_before l c.sort_by.new.self.items) c.reverse.ensures.items
+    (c.sort_by.ensures.stable is_row_before rows_order (answers_always _ _ _ (λ f a r g h. search rules))))

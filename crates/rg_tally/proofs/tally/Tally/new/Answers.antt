@@ -3,4 +3,4 @@ use Rattle.rg_tally.proofs.Tallies.{tallied-none}
 use Rattle.rg_tally.proofs.tally.Tally.new.Goals as goal
 
 pub returns : goal.returns
-returns c = tallied-none _ refl c.new.ensures c.new-2.ensures refl
+returns c = tallied-none _ refl refl c.new.ensures c.new-2.ensures c.new-3.ensures refl refl
