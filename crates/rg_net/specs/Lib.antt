@@ -1,2 +1,1 @@
 pub mod ByHome
-pub mod Last

@@ -1,8 +1,6 @@
 //! The net of a batch of changes: the last change of each home.
 #![tactic(auto)]
 
-/// Laws of the definitions.
-pub mod laws;
 /// The net of changes.
 pub mod net;
 #[cfg(test)]

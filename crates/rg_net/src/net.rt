@@ -9,22 +9,13 @@ ghost use Rattle.rg_base.specs.declared.place.Place.{Place};
 ghost use Rattle.rg_base.specs.declared.row.Row.{Row};
 ghost use Rattle.rg_model.specs.Layout.{are_rising};
 ghost use Rattle.rg_net.specs.ByHome.{HasLast};
-ghost use Rattle.rg_net.specs.Last.{applied_at, last_at};
+ghost use Rattle.rg_fold.specs.Last.{applied_at, last_at};
 
 use rg_base::change::Change;
 use rg_base::no_memory::NoMemory;
-use rg_base::row::Row;
+use rg_base::row::copy_row;
 use std::alloc::{AllocError, Global};
 use std::collections::BTreeMap;
-
-fn copy_row(alloc: Global, row: &Option<Row>) -> Result<Option<Row>, NoMemory>
-    ensures { IfOk result (λ copy. copy ≡ row.now) }
-{
-    match row {
-        Some(row) => Ok(Some(row.copy(alloc)?)),
-        None => Ok(None),
-    }
-}
 
 fn copy_change(alloc: Global, change: &Change) -> Result<Change, NoMemory>
     ensures { IfOk result (λ copy. copy ≡ change.now) }
@@ -32,7 +23,7 @@ fn copy_change(alloc: Global, change: &Change) -> Result<Change, NoMemory>
     Ok(Change {
         position: change.position,
         home: change.home,
-        after: copy_row(alloc, &change.after)?,
+        after: copy_row(alloc, change.after.as_ref())?,
     })
 }
 

@@ -1,0 +1,10 @@
+pub mod Apart
+pub mod Clustered
+pub mod Copies
+pub mod Filled
+pub mod Lying
+pub mod Numbers
+pub mod Rising
+pub mod Steps
+pub mod Taken
+pub mod Through

@@ -1,0 +1,4 @@
+pub mod Moved
+pub mod Pages
+pub mod Reloading
+pub mod Order
