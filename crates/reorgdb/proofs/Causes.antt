@@ -9,7 +9,10 @@ use Rattle.rg_model.specs.Legal.{Legal}
 use Rattle.rg_outside.specs.Faults.{Rose}
 use Rattle.rg_desk.specs.Desk.{copy_capacity, no_rows}
 use Rattle.rg_outside.specs.Capacities.{Capacities}
+use Rattle.rg_image.specs.Rules.{limit_of}
+use Rattle.rg_log.specs.Kept.{log_pages}
 use Rattle.rg_run.specs.Full.{IsFullFrom, IsFullOnlyFrom}
+use Rattle.rg_run.specs.LogFull.{IsLogFullOnlyFrom}
 use Rattle.rg_desk.specs.Chronicle.{allowed_after}
 use Rattle.rg_stmt.specs.declared.event.Entry.{Entry}
 use Rattle.rg_stmt.specs.declared.event.Event.{Event}
@@ -207,12 +210,14 @@ module _ (words : List (List ℕ)) (source source_after sink sink_after : Seen) 
   pub completes : (capacities : Capacities)
       → Concludes words source source_after sink sink_after status trace → Legal no_rows trace
       → IsFullOnlyFrom (3221 * copy_capacity capacities) 0 trace
+      → IsLogFullOnlyFrom (limit_of (log_pages capacities)) 0 trace
       → TakesAtMost (DECK_LIMIT + 1) source.bytes source_after.bytes
       → Completes words source source_after sink sink_after capacities status trace
-  completes capacities concludes legal full bounded = record {
+  completes capacities concludes legal full log_full bounded = record {
     concludes = concludes;
     legal = legal;
     full = full_less (3200 * smaller_pages capacities) (3221 * copy_capacity capacities) 0 trace (few_pages capacities) full;
+    log_full = log_full;
     played = plays concludes;
     no_command = no_words concludes;
     other_words = other_words concludes;

@@ -11,7 +11,10 @@ use Rattle.rg_model.specs.Legal.{Legal}
 use Rattle.rg_outside.specs.Faults.{Rose}
 use Rattle.rg_desk.specs.Desk.{no_rows}
 use Rattle.rg_outside.specs.Capacities.{Capacities, capacity_of}
+use Rattle.rg_image.specs.Rules.{limit_of}
+use Rattle.rg_log.specs.Kept.{log_pages}
 use Rattle.rg_run.specs.Full.{IsFullOnlyFrom}
+use Rattle.rg_run.specs.LogFull.{IsLogFullOnlyFrom}
 use Rattle.rg_stmt.specs.declared.event.Entry.{Entry}
 use Rattle.reorgdb.specs.Answer.{Seen, IsPlay, Concludes}
 use Rattle.reorgdb.specs.Causes.{Plays, RefusesDeck, GivesDue}
@@ -34,12 +37,15 @@ pub record Completes (words : List (List ℕ)) (source source_after sink sink_af
   -- What the call comes to, and how its output is given. At status 4 all holds that is said of the
   -- status in whose place it stands, but that the sink has a prefix of the text.
   pub concludes : Concludes words source source_after sink sink_after status trace
-  -- Each reply is that of a table never reorganised, or says that memory or room was wanting; each
-  -- layout is right for the table.
+  -- Each reply is that of a table never reorganised, or says that memory, room or bytes of the log
+  -- were wanting; each layout is right for the table.
   pub legal : Legal no_rows trace
   -- FULL is answered only where what was written reaches 3,200 bytes for each page of the smaller
   -- copy.
   pub full : IsFullOnlyFrom (3200 * smaller_pages capacities) 0 trace
+  -- LOGFULL is answered only where 4,264 bytes for each write so far, and for one more, are more than
+  -- the log may have: 2,270 bytes for each of its pages but one.
+  pub log_full : IsLogFullOnlyFrom (limit_of (log_pages capacities)) 0 trace
   -- Status 0: the deck was played, and its print given.
   pub played : status ≡ 0 → Plays words source source_after sink sink_after trace
   -- Status 1 is returned only if the words do not ask for `play`; then no other is but 4 and 8.

@@ -31,7 +31,7 @@ fn came<V>(finished: &Finished<V>) -> Came {
 
 // A volume whose copies have so many pages.
 fn volume(alloc: Global, pages: u32) -> Result<MemVolume, AllocError> {
-    MemVolume::new(alloc, 1, pages, pages, 0, 0, &[], None).map_err(|_| AllocError)
+    MemVolume::new(alloc, 1000, pages, pages, 0, 0, &[], None).map_err(|_| AllocError)
 }
 
 fn owned(alloc: Global, words: &[&str]) -> Result<Vec<String>, AllocError> {

@@ -4,7 +4,10 @@ ghost use Rattle.rg_model.specs.Legal.{Legal};
 ghost use Rattle.reorgdb.specs.Answer.{seen, Concludes, Delivers, output_of};
 ghost use Rattle.reorgdb.specs.Contract.{Completes};
 ghost use Rattle.rg_desk.specs.Desk.{copy_capacity, no_rows};
+ghost use Rattle.rg_image.specs.Rules.{limit_of};
+ghost use Rattle.rg_log.specs.Kept.{log_pages};
 ghost use Rattle.rg_run.specs.Full.{IsFullOnlyFrom};
+ghost use Rattle.rg_run.specs.LogFull.{IsLogFullOnlyFrom};
 ghost use Rattle.reorgdb.specs.Reading.{TakesAtMost};
 
 use crate::giving::{Given, give_all};
@@ -106,6 +109,8 @@ fn answer<S: Source, K: Sink, V: Volume, O: Operator>(
         result.0 result.1.items }
     ensures legal { Legal no_rows result.1.items }
     ensures full { IsFullOnlyFrom (3221 * copy_capacity (V.capacities volume)) 0 result.1.items }
+    ensures log_full { IsLogFullOnlyFrom (limit_of (log_pages (V.capacities volume))) 0
+        result.1.items }
     ensures bounded { TakesAtMost (DECK_LIMIT + 1) (S.left source.old) (S.left source.new) }
     ensures volume { result.2 ≡ volume }
     ensures operator { result.3 ≡ operator }

@@ -8,7 +8,10 @@ ghost use Rattle.std.specs.Prelude.{string_bytes};
 ghost use Rattle.rg_stmt.specs.declared.line.Line.{Line};
 ghost use Rattle.rg_model.specs.Legal.{Legal};
 ghost use Rattle.rg_desk.specs.Desk.{copy_capacity, no_rows};
+ghost use Rattle.rg_image.specs.Rules.{limit_of};
+ghost use Rattle.rg_log.specs.Kept.{log_pages};
 ghost use Rattle.rg_run.specs.Full.{IsFullOnlyFrom};
+ghost use Rattle.rg_run.specs.LogFull.{IsLogFullOnlyFrom};
 ghost use Rattle.rg_run.specs.Played.{Ends};
 ghost use Rattle.rg_words.specs.Spelling.{Spells};
 ghost use Rattle.rg_words.specs.declared.words.Words.TheVariants as asks;
@@ -100,6 +103,8 @@ pub fn carry_out<S: Source, V: Volume, O: Operator>(
     ensures legal { Legal no_rows result.trace.items }
     ensures full { IsFullOnlyFrom (3221 * copy_capacity (V.capacities volume)) 0
         result.trace.items }
+    ensures log_full { IsLogFullOnlyFrom (limit_of (log_pages (V.capacities volume))) 0
+        result.trace.items }
     ensures bounded { TakesAtMost (DECK_LIMIT + 1) (S.left source.old) (S.left source.new) }
     ensures later { S.faults source.old ≤ S.faults source.new }
     ensures volume { result.volume ≡ volume }
@@ -141,6 +146,8 @@ fn play_bytes<V: Volume, O: Operator>(
     ensures deals { DealsWithBytes full bytes.now result.outcome result.trace.items result.print }
     ensures legal { Legal no_rows result.trace.items }
     ensures full { IsFullOnlyFrom (3221 * copy_capacity (V.capacities volume)) 0
+        result.trace.items }
+    ensures log_full { IsLogFullOnlyFrom (limit_of (log_pages (V.capacities volume))) 0
         result.trace.items }
     ensures volume { result.volume ≡ volume }
     ensures operator { result.operator ≡ operator }

@@ -1,5 +1,5 @@
 -- The answer to a statement, from what it answers and leaves without its claim.
-use Rattle.std.proofs.Common.{◌≡◌, ◌+◌, ℕ, Bool, true, false, List, [], ◌∷◌, Option, Some, None, cond, refl, sym, ◌∙◌, ap, subst}
+use Rattle.std.proofs.Common.{◌≡◌, ◌+◌, ℕ, Bool, true, false, List, [], ◌∷◌, Option, Some, None, cond, refl, sym, ◌∙◌, ap, subst, arith}
 use Rattle.std.specs.FinMap as map
 use Rattle.rg_base.specs.declared.options.DrainState.{DrainState}
 use Rattle.rg_base.specs.declared.options.DrainState.TheVariants.{Free}
@@ -16,6 +16,7 @@ use Rattle.rg_stmt.specs.declared.stmt.Reply.TheVariants.{Done, Found, Listed, K
 use Rattle.rg_stmt.specs.declared.stmt.Stmt.{Stmt}
 use Rattle.rg_stmt.specs.declared.stmt.Stmt.TheVariants.{Insert, Update, Delete, Select, Scan, Find, Commit, Rollback}
 use Rattle.rg_space.specs.Space.{capacity_in}
+use Rattle.rg_desk.specs.Bytes.{taken_of}
 use Rattle.rg_desk.specs.Answers.{Answered, Answers, IfFull, is_answer}
 use Rattle.rg_desk.specs.Shows.{IsShown, Shows}
 use Rattle.rg_desk.specs.Steps.{Goes, MayReply, more_allowed, unclaimed}
@@ -75,7 +76,7 @@ module _ (st : State) (allowed capacity : ℕ) (session : Session) (stmt : Stmt)
   said (Victim owner) e = absurd (never (Victim owner) refl e)
   said Drained e = absurd (never Drained refl e)
   said (Full need) e = record { says = (up, free, (e.0, e.1, refl)); is = e.0; full = e.2 }
-  said (LogFull need left) e = absurd (never (LogFull need left) refl e)
+  said (LogFull need left) e = record { says = (up, free, (e.0, e.1, refl)); is = e.0; full = tt }
   said Device e = absurd (never Device refl e)
   said Down e = absurd (never Down refl e)
   said NoMemory e = record { says = (up, free, (e, refl)); is = e; full = tt }
@@ -165,6 +166,10 @@ module _ (st : State) (allowed : ℕ) (d : Engine) (shows : Shows st allowed d) 
     says = is_said.says;
     is = is_said.is;
     full = is_said.full;
+    room = goes.room;
+    log = goes.log;
+    logged = omega (arith, ap (λ (x : Engine). taken_of x.log) e, goes.logged);
+    log_pages = ap (λ (x : Engine). x.log.pages) e ∙ goes.log_pages;
     shows =
         subst (λ (after : State). Shows after (allowed + more_allowed stmt reply) new) (sym (after_is true done))
         (subst (λ (cs : List Class). Shows (claim_classes (unclaimed st session stmt reply) session cs) (allowed + more_allowed stmt reply) new) is
@@ -179,6 +184,10 @@ module _ (st : State) (allowed : ℕ) (d : Engine) (shows : Shows st allowed d) 
     says = is_said.says;
     is = is_said.is;
     full = is_said.full;
+    room = goes.room;
+    log = goes.log;
+    logged = goes.logged;
+    log_pages = goes.log_pages;
     shows = subst (λ (after : State). Shows after (allowed + more_allowed stmt reply) mid) (sym (after_is false done)) goes.shows;
     capacity = goes.capacity;
   }

@@ -29,6 +29,7 @@ use Rattle.rg_lawful.proofs.Units.{stored_other}
 use Rattle.rg_space.specs.Space.{Agree, InStep, capacity_in, frames_of, index_of}
 use Rattle.rg_stmt.specs.declared.stmt.Reply.TheVariants.{Done}
 use Rattle.rg_stmt.specs.declared.stmt.Stmt.TheVariants as stmts
+use Rattle.rg_image.specs.Pack.{log_bytes}
 use Rattle.rg_desk.specs.Ended.{HasEnded, commit_record, records_committed}
 use Rattle.rg_desk.specs.Engine.{HasPages, slots_in}
 use Rattle.rg_desk.specs.Pages.{list_seen}
@@ -39,6 +40,7 @@ use Rattle.rg_desk.specs.declared.engine.Engine.{Engine}
 use Rattle.rg_desk.specs.declared.units.OpenUnit.{OpenUnit}
 use Rattle.rg_desk.proofs.Appended.{acts_snoc}
 use Rattle.rg_desk.proofs.Ended.{keys_ended, units_ended}
+use Rattle.rg_desk.proofs.Logged.{bytes_committed}
 use Rattle.rg_desk.proofs.UnitSlots.{owed-set}
 
 -- the state after the Commit of unit t
@@ -55,8 +57,9 @@ module _ (st : State) (allowed : ℕ) (d new : Engine) (session : Session) (show
     (locks : new.locks ≡ locks_without session d.locks)
     (claims : new.claims ≡ record d.claims { claims = fin.remove d.claims.claims session.0 })
     (units : new.units ≡ set d.units session.0 None)
-    (records : new.records.records ≡ records_committed d.records.records (unit_at d.units session.0))
-    (reserved : new.records.reserved + owed_to (unit_at d.units session.0) ≡ d.records.reserved) where
+    (records : new.log.records ≡ records_committed d.log.records (unit_at d.units session.0))
+    (reserved : new.log.reserved + owed_to (unit_at d.units session.0) ≡ d.log.reserved)
+    (log_pages : new.log.pages ≡ d.log.pages) where
   abbrev s : LogState
   s = left_by shows.first d
 
@@ -72,13 +75,13 @@ module _ (st : State) (allowed : ℕ) (d new : Engine) (session : Session) (show
   slots : slots_in new ≡ s.pages
   slots = ap (λ sp. slots_in (record d { space = sp })) space ∙ shows.by.slots
 
-  owed_after : owed new.units ≤ new.records.reserved
+  owed_after : owed new.units ≡ new.log.reserved
   owed_after = omega (arith, ap owed units, owed-set d.units session.0 None place, reserved, shows.by.owed)
 
   -- what is left stands to the state of the trace as it did
   by : (left : LogState) → left.pages ≡ s.pages → ((k : ℕ) → left.now k ≡ s.now k) → left.top ≡ s.top
       → ((k : ℕ) → KeyShown (set d.units session.0 None) left (fin.get (locks_without session d.locks) k) k)
-      → UnitsShown new.records.records left (set d.units session.0 None)
+      → UnitsShown new.log.records left (set d.units session.0 None)
       → claimed_all (holding left.live (suc left.top)) left.pages ≤ allowed
       → ShowsBy (after_commit st session) (allowed + 0) new left
   by left same_pages same_now same_top keys each claimed = record {
@@ -99,7 +102,7 @@ module _ (st : State) (allowed : ℕ) (d new : Engine) (session : Session) (show
         subst (λ (us : List (Option OpenUnit)). KeyShown us left (fin.get new.locks k) k) (sym units)
         (subst (λ (ls : Locks). KeyShown (set d.units session.0 None) left (fin.get ls k) k) (sym locks) (keys k));
     places = ap length units ∙ length-set d.units session.0 None ∙ shows.by.places;
-    units = subst (UnitsShown new.records.records left) (sym units) each;
+    units = subst (UnitsShown new.log.records left) (sym units) each;
     top = top ∙ shows.by.top ∙ sym same_top;
     owed = owed_after;
     claimed = omega (arith, claimed);
@@ -108,21 +111,21 @@ module _ (st : State) (allowed : ℕ) (d new : Engine) (session : Session) (show
   -- no unit, and so no locks
   pub idle_shows : unit_at d.units session.0 ≡ None → Shows (after_commit st session) (allowed + 0) new
   idle_shows none =
-      let same : new.records.records ≡ d.records.records = records ∙ ap (records_committed d.records.records) none in
+      let same : new.log.records ≡ d.log.records = records ∙ ap (records_committed d.log.records) none in
       let same_units : set d.units session.0 None ≡ d.units = ap (set d.units session.0) (sym none) ∙ set-get_or d.units session.0 None in
       let same_locks : locks_without session d.locks ≡ d.locks = without-none session d.locks (λ k. unlocked (fin.get d.locks k) k (shows.by.keys k)) in
       record {
         first = shows.first;
         begun = subst (λ sp. IsConsistent (capacity_in sp) shows.first) (sym space) shows.begun;
         runs =
-            subst (λ sp. Runs (capacity_in sp) shows.first (acts_of [] new.records.records)) (sym space)
+            subst (λ sp. Runs (capacity_in sp) shows.first (acts_of [] new.log.records)) (sym space)
             (subst (λ (rs : List Record). Runs (capacity_in d.space) shows.first (acts_of [] rs)) (sym same) shows.runs);
         by = subst (ShowsBy (after_commit st session) (allowed + 0) new) (ap (λ (rs : List Record). state shows.first (acts_of [] rs)) (sym same))
             (by s refl (λ k. refl) refl
             (λ k.
             subst (λ (us : List (Option OpenUnit)). KeyShown us s (fin.get (locks_without session d.locks) k) k) (sym same_units)
             (subst (λ (ls : Locks). KeyShown d.units s (fin.get ls k) k) (sym same_locks) (shows.by.keys k)))
-            (subst (UnitsShown new.records.records s) (sym same_units) (subst (λ (rs : List Record). UnitsShown rs s d.units) (sym same) shows.by.units))
+            (subst (UnitsShown new.log.records s) (sym same_units) (subst (λ (rs : List Record). UnitsShown rs s d.units) (sym same) shows.by.units))
             shows.by.claimed);
       }
     where
@@ -138,29 +141,33 @@ module _ (st : State) (allowed : ℕ) (d new : Engine) (session : Session) (show
   ended : (unit : OpenUnit) → unit_at d.units session.0 ≡ Some unit → Shows (after_commit st session) (allowed + 0) new
   ended unit has =
       let t : ℕ = unit.tran.0 in
-      let entry : Record = commit_record (length d.records.records + 1) unit in
-      let same : new.records.records ≡ d.records.records ++ entry ∷ [] = records ∙ ap (records_committed d.records.records) has in
-      let acts : acts_of [] new.records.records ≡ Commit t ∷ acts_of [] d.records.records = ap (acts_of []) same ∙ acts_snoc d.records.records entry in
+      let entry : Record = commit_record (length d.log.records + 1) unit in
+      let same : new.log.records ≡ d.log.records ++ entry ∷ [] = records ∙ ap (records_committed d.log.records) has in
+      let acts : acts_of [] new.log.records ≡ Commit t ∷ acts_of [] d.log.records = ap (acts_of []) same ∙ acts_snoc d.log.records entry in
       let one = shows.by.units.each session.0 unit has in
       let left : LogState = step s (Commit t) in
       record {
         first = shows.first;
         begun = subst (λ sp. IsConsistent (capacity_in sp) shows.first) (sym space) shows.begun;
         runs =
-            subst (λ sp. Runs (capacity_in sp) shows.first (acts_of [] new.records.records)) (sym space)
+            subst (λ sp. Runs (capacity_in sp) shows.first (acts_of [] new.log.records)) (sym space)
             (subst (Runs (capacity_in d.space) shows.first) (sym acts) ((one.live, one.steady), shows.runs));
         by = subst (ShowsBy (after_commit st session) (allowed + 0) new) (ap (state shows.first) (sym acts))
             (by left refl (λ k. refl) refl
             (keys_ended t s left session unit d.units d.locks place has refl (committed (capacity_in d.space) s t)
             (λ n other e f. shows.by.units.apart n session.0 other unit e has f) shows.by.keys)
             (subst (λ (rs : List Record). UnitsShown rs left (set d.units session.0 None)) (sym same)
-            (units_ended t s left session unit d.units d.locks place has refl (committed (capacity_in d.space) s t) d.records.records (entry ∷ []) shows.by.units))
+            (units_ended t s left session unit d.units d.locks place has refl (committed (capacity_in d.space) s t) d.log.records (entry ∷ []) shows.by.units))
             (omega (arith, shows.by.claimed, claimed_all-fewer (holding s.live (suc s.top)) (holding (others t s.live) (suc s.top)) (ends s.live (others t s.live) (suc s.top) (λ u l. live_was t u s.live l)) s.pages)));
       }
 
   pub commit_goes : Goes st allowed d session stmts.Commit Done new
   commit_goes = record {
     says = refl;
+    room = tt;
+    log = tt;
+    logged = omega (arith, ap log_bytes records, bytes_committed d.log.records (unit_at d.units session.0) d.log.reserved new.log.reserved reserved);
+    log_pages = log_pages;
     shows = go (unit_at d.units session.0) refl;
     capacity = ap (λ sp. capacity_in sp) space;
   }

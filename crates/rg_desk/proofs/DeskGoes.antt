@@ -28,12 +28,16 @@ use Rattle.rg_stmt.specs.declared.event.Event.{Event}
 use Rattle.rg_stmt.specs.declared.event.Event.TheVariants.{Layout, LayoutNoMemory}
 use Rattle.rg_stmt.specs.declared.layout.Side.{Side}
 use Rattle.rg_stmt.specs.declared.stmt.Reply.{Reply}
+use Rattle.rg_stmt.specs.declared.stmt.Reply.TheVariants.{Done, Found, Listed, Keyed, Absent, Duplicate, Held, Victim, Drained, Full, LogFull, Device, Down, NoMemory}
 use Rattle.rg_stmt.specs.declared.stmt.Stmt.{Stmt}
 use Rattle.rg_stmt.specs.declared.stmt.Stmt.TheVariants.{Insert, Update, Delete, Select, Scan, Find, Commit, Rollback}
-use Rattle.rg_desk.specs.Answers.{Answered}
-use Rattle.rg_desk.specs.Chronicle.{ChronicleState, IsEntry, IsRecorded, allowed_after, allowed_by, system_entry}
+use Rattle.rg_log.specs.Kept.{Listed as LogList}
+use Rattle.rg_desk.specs.Answers.{Answered, IfLogFull}
+use Rattle.rg_desk.specs.Bytes.{taken_of}
+use Rattle.rg_desk.specs.Chronicle.{ChronicleState, IsEntry, IsRecorded, allowed_after, allowed_by, logged_after, logged_by, system_entry}
 use Rattle.rg_desk.specs.Desk.{AreKeys, IsBegun, IsDesk, IsLayout, first_entry, no_rows}
 use Rattle.rg_desk.specs.Count.{IsShownFew}
+use Rattle.rg_desk.specs.Room.{Ground, SaysLog}
 use Rattle.rg_desk.specs.Shows.{Shows}
 use Rattle.rg_desk.specs.Wrote.{SameEngine}
 use Rattle.rg_desk.specs.declared.engine.Engine.{Engine}
@@ -43,6 +47,27 @@ use Rattle.rg_desk.proofs.Same.{same_shows}
 pub allowed-push : (allowed : ℕ) (entries : List Entry) (entry : Entry) → allowed_by allowed (entries ++ entry ∷ []) ≡ allowed_after (allowed_by allowed entries) entry.event
 allowed-push allowed [] entry = refl
 allowed-push allowed (e ∷ entries) entry = allowed-push (allowed_after allowed e.event) entries entry
+
+pub logged-push : (logged : ℕ) (entries : List Entry) (entry : Entry) → logged_by logged (entries ++ entry ∷ []) ≡ logged_after (logged_by logged entries) entry.event
+logged-push logged [] entry = refl
+logged-push logged (e ∷ entries) entry = logged-push (logged_after logged e.event) entries entry
+
+-- LOGFULL says that nearly all of the log is taken
+pub log_full_so : (g : Ground) (session : ℕ) (stmt : Stmt) (reply : Reply) (logged : ℕ) → SaysLog g session stmt reply → taken_of g.log ≤ logged → IfLogFull reply logged g.log.pages
+log_full_so g session stmt (LogFull need left) logged says most = omega (arith, says.0, says.1, says.2, most)
+log_full_so g session stmt Done logged says most = tt
+log_full_so g session stmt (Found row) logged says most = tt
+log_full_so g session stmt (Listed rows) logged says most = tt
+log_full_so g session stmt (Keyed keys) logged says most = tt
+log_full_so g session stmt Absent logged says most = tt
+log_full_so g session stmt Duplicate logged says most = tt
+log_full_so g session stmt (Held owner) logged says most = tt
+log_full_so g session stmt (Victim owner) logged says most = tt
+log_full_so g session stmt Drained logged says most = tt
+log_full_so g session stmt (Full need) logged says most = tt
+log_full_so g session stmt Device logged says most = tt
+log_full_so g session stmt Down logged says most = tt
+log_full_so g session stmt NoMemory logged says most = tt
 
 begun-push : (entries : List Entry) (entry : Entry) → IsBegun entries → IsBegun (entries ++ entry ∷ [])
 begun-push [] entry begun = absurd begun
@@ -78,6 +103,7 @@ module _ (d : Engine) (c : ChronicleState) (desk : IsDesk d c) where
     quiet = calls ∙ desk.quiet;
     recorded = subst (IsRecorded mid.trace) (sym calls) (subst (λ (es : List Entry). IsRecorded es c.calls) (sym trace) desk.recorded);
     shown = subst (λ (es : List Entry). Shows desk.state (allowed_by 0 es) d) (sym trace) desk.shown;
+    logged = subst (λ (es : List Entry). taken_of d.log ≤ logged_by 0 es) (sym trace) desk.logged;
     keys = desk.keys;
     among = desk.among;
     few = subst (λ (es : List Entry). length desk.keys ≤ length es) (sym trace) desk.few;
@@ -100,6 +126,7 @@ module _ (d : Engine) (c : ChronicleState) (desk : IsDesk d c) where
         quiet = quiet;
         recorded = recorded;
         shown = subst (λ (n : ℕ). Shows answered.after n next) (sym (ap (allowed_by 0) trace ∙ allowed-push 0 c.trace entry)) answered.shows;
+        logged = omega (arith, ap (logged_by 0) trace, logged-push 0 c.trace entry, answered.logged, desk.logged);
         keys = keys_with stmt desk.keys;
         among = subst (AreKeys (keys_with stmt desk.keys)) (sym answered.is_after) (keys_after desk.keys desk.state desk.among session stmt reply);
         few = omega (arith, longer, few, more);
@@ -122,6 +149,7 @@ module _ (d : Engine) (c : ChronicleState) (desk : IsDesk d c) where
         recorded = recorded;
         shown = subst (λ (n : ℕ). Shows desk.state n next) (sym (ap (allowed_by 0) trace ∙ allowed-push 0 c.trace entry ∙ none_allowed event is (allowed_by 0 c.trace)))
             (same_shows desk.state (allowed_by 0 c.trace) d next same desk.shown);
+        logged = omega (arith, ap (logged_by 0) trace, logged-push 0 c.trace entry, none_logged event is (logged_by 0 c.trace), ap (λ (l : LogList). taken_of l) same.log, desk.logged);
         keys = desk.keys;
         among = desk.among;
         few = omega (arith, longer, few);
@@ -131,6 +159,11 @@ module _ (d : Engine) (c : ChronicleState) (desk : IsDesk d c) where
       none_allowed (Layout copy side) is n = refl
       none_allowed LayoutNoMemory is n = refl
       none_allowed event is n = absurd is
+
+      none_logged : (event : Event) → IsLayout event → (n : ℕ) → logged_after n event ≡ n
+      none_logged (Layout copy side) is n = refl
+      none_logged LayoutNoMemory is n = refl
+      none_logged event is n = absurd is
 
       pushed : (event : Event) → IsLayout event → next_state [] None actors.System event desk.state ≡ Some desk.state → Run [] (at_rest no_rows 1) (c.trace ++ system_entry event 0 ∷ []) desk.state
       pushed (Layout copy side) is allows = Run-push [] (at_rest no_rows 1) desk.state desk.state c.trace (system_entry (Layout copy side) 0) desk.run allows
@@ -176,8 +209,8 @@ module _ (d : Engine) (c : ChronicleState) (desk : IsDesk d c) where
 none : committed_table (at_rest no_rows 1) ≡ no_rows
 none = committed-at_rest no_rows 1
 
-pub desk_opened : (d : Engine) (c : ChronicleState) → Shows (at_rest no_rows 1) 0 d → c.trace ≡ first_entry ∷ [] → c.calls ≡ 0 → IsRecorded c.trace c.calls → IsDesk d c
-desk_opened d c shown trace quiet recorded =
+pub desk_opened : (d : Engine) (c : ChronicleState) → Shows (at_rest no_rows 1) 0 d → taken_of d.log ≡ 0 → c.trace ≡ first_entry ∷ [] → c.calls ≡ 0 → IsRecorded c.trace c.calls → IsDesk d c
+desk_opened d c shown taken trace quiet recorded =
     let opened : State = at_rest (committed_table (at_rest no_rows 1)) 1 in
     let is : opened ≡ at_rest no_rows 1 = ap (λ t. at_rest t 1) none in
     let run : Run [] (at_rest no_rows 1) (first_entry ∷ []) opened = (
@@ -199,6 +232,7 @@ desk_opened d c shown trace quiet recorded =
       quiet = quiet;
       recorded = recorded;
       shown = subst (λ (es : List Entry). Shows (at_rest no_rows 1) (allowed_by 0 es) d) (sym trace) shown;
+      logged = omega (arith, taken);
       keys = [];
       among = record {
         present = λ k there. absurd (cc (there, ap (λ (o : Option Row). is_some o) (get-empty {X = Row} nat_cmp k)));

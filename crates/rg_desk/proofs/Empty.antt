@@ -40,9 +40,9 @@ lists_none : (which : Which) (entries : List (ℕ × Place)) → entries ≡ [] 
 lists_none which entries none = subst (IsListingOf which (row_at (slot_of []))) (sym none) (λ value place. sym (ap (has_value which value) (row_none place)))
 
 pub empty_shows : (d : Engine) → HasPages d → (seen_in d).pages ≡ [] → entries_of d.indexes.keys ≡ [] → entries_of d.indexes.cluses ≡ [] → entries_of d.indexes.cats ≡ []
-    → d.locks ≡ fin.empty → d.claims ≡ no_claims → ((n : ℕ) → unit_at d.units n ≡ None) → owed d.units ≡ 0 → length d.units ≡ 256 → d.records.records ≡ [] → d.top ≡ 0
+    → d.locks ≡ fin.empty → d.claims ≡ no_claims → ((n : ℕ) → unit_at d.units n ≡ None) → owed d.units ≡ 0 → length d.units ≡ 256 → d.log.records ≡ [] → d.log.reserved ≡ 0 → d.top ≡ 0
     → Shows (at_rest fin.empty 1) 0 d
-empty_shows d pages none keys cluses cats locks claims units owes places records top = record {
+empty_shows d pages none keys cluses cats locks claims units owes places records reserved top = record {
   first = nothing;
   begun = nothing_consistent (capacity_in d.space);
   runs = subst (λ (rs : List Record). Runs (capacity_in d.space) nothing (acts_of [] rs)) (sym records) tt;
@@ -67,7 +67,7 @@ empty_shows d pages none keys cluses cats locks claims units owes places records
       all = λ t l. absurd (cc (l));
     };
     top = top;
-    owed = omega (arith, owes);
+    owed = omega (arith, owes, reserved);
     claimed = omega arith;
   });
 }

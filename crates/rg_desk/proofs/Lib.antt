@@ -1,3 +1,5 @@
+pub mod Spelled
+pub mod Logged
 pub mod UnitLists
 pub mod Held
 pub mod WalkLists
@@ -16,6 +18,7 @@ pub mod Same
 pub mod EngineWrites
 pub mod PlannedIn
 pub mod Statements
+pub mod RoomSaid
 pub mod WritesGo
 pub mod DropHand
 pub mod Empty

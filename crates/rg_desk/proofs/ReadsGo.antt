@@ -1,5 +1,5 @@
 -- How a statement that reads goes, from a state that the engine shows.
-use Rattle.std.proofs.Common.{◌≡◌, ◌==◌, ◌&&◌, ◌||◌, ◌+◌, ℕ, Bool, true, false, cond, List, IsPermutation, IsSorted, Option, Some, None, length, refl, sym, ◌∙◌, ap, subst, arith}
+use Rattle.std.proofs.Common.{◌≡◌, ◌==◌, ◌≤◌, ◌&&◌, ◌||◌, ◌+◌, ℕ, Bool, true, false, cond, List, IsPermutation, IsSorted, Option, Some, None, length, refl, sym, ◌∙◌, ap, subst, arith}
 use Rattle.std.specs.Ordering.{nat_cmp}
 use Rattle.std.proofs.lemmas.Bool.Decides.{nat_tests}
 use Rattle.rg_base.specs.declared.lock.Lock.{Lock}
@@ -29,8 +29,10 @@ use Rattle.rg_stmt.specs.declared.layout.Side.{Side}
 use Rattle.rg_stmt.specs.declared.stmt.Reply.{Reply}
 use Rattle.rg_stmt.specs.declared.stmt.Reply.TheVariants.{Held, Keyed, Listed}
 use Rattle.rg_stmt.specs.declared.stmt.Stmt.TheVariants.{Find, Select, Scan}
+use Rattle.rg_desk.specs.Bytes.{taken_of}
 use Rattle.rg_desk.specs.Engine.{slots_in}
 use Rattle.rg_desk.specs.Shows.{Shows, left_by}
+use Rattle.rg_log.specs.Kept.{Listed as LogList}
 use Rattle.rg_desk.specs.Steps.{Goes}
 use Rattle.rg_desk.specs.Wrote.{SameEngine}
 use Rattle.rg_desk.specs.declared.engine.Engine.{Engine}
@@ -56,14 +58,17 @@ module _ (st : State) (allowed : ℕ) (d : Engine) (shows : Shows st allowed d) 
   later : (new : Engine) → SameEngine d new → Shows st (allowed + 0) new
   later new same = same_shows st (allowed + 0) d new same (none_more st allowed d shows session)
 
+  logged_same : (new : Engine) → SameEngine d new → taken_of new.log ≤ taken_of d.log + 0
+  logged_same new same = omega (arith, ap (λ (l : LogList). taken_of l) same.log)
+
   select_is : (key : ℕ) (found : Option Row) → holder d.locks session key ≡ None → row_of st.table key ≡ found → plain_reply st session (Select key) ≡ row_reply found
   select_is key found alone is =
       ap (λ (h : Option Session). unless_held h (row_reply (row_of st.table key))) (held_is st allowed d shows session key None (sym alone))
       ∙ ap row_reply is
 
   select_so : (key : ℕ) (found : Option Row) (new : Engine) → plain_reply st session (Select key) ≡ row_reply found → SameEngine d new → Goes st allowed d session (Select key) (row_reply found) new
-  select_so key None new is same = record { says = sym is; shows = later new same; capacity = same.capacity }
-  select_so key (Some row) new is same = record { says = sym is; shows = later new same; capacity = same.capacity }
+  select_so key None new is same = record { says = sym is; room = tt; log = tt; logged = logged_same new same; log_pages = ap (λ (l : LogList). l.pages) same.log; shows = later new same; capacity = same.capacity }
+  select_so key (Some row) new is same = record { says = sym is; room = tt; log = tt; logged = logged_same new same; log_pages = ap (λ (l : LogList). l.pages) same.log; shows = later new same; capacity = same.capacity }
 
   pub select_goes : (key : ℕ) (found : Option Row) (reply : Reply) (new : Engine) → holder d.locks session key ≡ None → row_of st.table key ≡ found → reply ≡ row_reply found → SameEngine d new → Goes st allowed d session (Select key) reply new
   select_goes key found reply new alone is says same =
@@ -86,6 +91,10 @@ module _ (st : State) (allowed : ℕ) (d : Engine) (shows : Shows st allowed d) 
       ∙ sym is in
       record {
         says = sym (scan_is lo hi None (scan_free d.locks session lo hi free) ∙ ap Listed between);
+        room = tt;
+        log = tt;
+        logged = logged_same new same;
+        log_pages = ap (λ (l : LogList). l.pages) same.log;
         shows = later new same;
         capacity = same.capacity;
       }
@@ -139,6 +148,10 @@ module _ (st : State) (allowed : ℕ) (d : Engine) (shows : Shows st allowed d) 
       keys-found cat (row_at (slot_of s.pages)) st.table (entries_of d.indexes.cats) table (IsRising-rising_part d.indexes.cats.entries) shows.by.indexes.cats keys (subst (λ ks. IsPermutation ks keys) from moved) sorted in
       record {
         says = sym (find_is cat None free ∙ ap Keyed (sym found));
+        room = tt;
+        log = tt;
+        logged = logged_same new same;
+        log_pages = ap (λ (l : LogList). l.pages) same.log;
         shows = later new same;
         capacity = same.capacity;
       }

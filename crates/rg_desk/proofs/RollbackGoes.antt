@@ -1,5 +1,5 @@
 -- How a ROLLBACK goes, from a state that the engine shows.
-use Rattle.std.proofs.Common.{◌≡◌, ◌==◌, ◌<◌, ◌+◌, ℕ, Bool, true, false, not, List, [], ◌∷◌, ◌++◌, Option, Some, None, length, set, refl, sym, ◌∙◌, ap, subst, arith}
+use Rattle.std.proofs.Common.{◌≡◌, ◌==◌, ◌<◌, ◌+◌, ◌*◌, ℕ, Bool, true, false, not, List, [], ◌∷◌, ◌++◌, Option, Some, None, length, set, refl, sym, ◌∙◌, ap, subst, arith}
 use Rattle.std.specs.FinMap as fin
 use Rattle.std.proofs.lemmas.Bool.{eqb-true}
 use Rattle.std.proofs.lemmas.List.{append_assoc}
@@ -26,12 +26,14 @@ use Rattle.rg_lawful.proofs.Own.{own_first}
 use Rattle.rg_space.specs.Space.{Agree, InStep, capacity_in, frames_of, index_of}
 use Rattle.rg_stmt.specs.declared.stmt.Reply.TheVariants.{Done}
 use Rattle.rg_stmt.specs.declared.stmt.Stmt.TheVariants.{Rollback}
-use Rattle.rg_desk.specs.Ended.{EndsSession, records_committed, rolled_record}
+use Rattle.rg_desk.specs.Ended.{EndsSession, records_committed, rolled_record, LogsRolledBack}
 use Rattle.rg_desk.specs.Engine.{slots_in}
 use Rattle.rg_desk.specs.Pages.{list_seen}
 use Rattle.rg_desk.specs.Shows.{KeyShown, Shows, left_by}
 use Rattle.rg_desk.specs.Steps.{Goes}
 use Rattle.rg_desk.specs.Undone.{IsUndoing}
+use Rattle.rg_log.specs.Kept.{Listed}
+use Rattle.rg_desk.specs.Bytes.{taken_of}
 use Rattle.rg_desk.specs.Units.{owed_to, unit_at}
 use Rattle.rg_desk.specs.declared.engine.Engine.{Engine}
 use Rattle.rg_desk.specs.declared.units.OpenUnit.{OpenUnit}
@@ -46,11 +48,15 @@ none_left [] n e = refl
 none_left (w ∷ ws) n e = absurd (omega (arith, e))
 
 module _ (st : State) (allowed : ℕ) (d : Engine) (session : Session) (shows : Shows st allowed d) (low : session.0 < 256) where
-  pub rollback_done : (mid now new : Engine) (unit : OpenUnit) (last : ℕ) → unit_at d.units session.0 ≡ Some unit → IsUndoing d (left_by shows.first d) unit mid [] 0 unit.writes
-      → now.space ≡ mid.space → now.indexes ≡ mid.indexes → now.top ≡ mid.top → now.locks ≡ mid.locks → now.claims ≡ mid.claims → now.units ≡ mid.units
-      → now.records.records ≡ mid.records.records ++ rolled_record (length mid.records.records + 1) last unit ∷ [] → now.records.reserved + 1 ≡ mid.records.reserved
-      → EndsSession now session new → Goes st allowed d session Rollback Done new
-  rollback_done mid now new unit last has so space indexes top locks claims units records reserved ended =
+  pub rollback_done : (mid now new : Engine) (unit : OpenUnit) (last others : ℕ) → unit_at d.units session.0 ≡ Some unit → IsUndoing d (left_by shows.first d) unit mid [] 0 unit.writes
+      → others + (23 + 911 * unit.writes) ≡ d.log.reserved → LogsRolledBack mid unit last others now → EndsSession now session new → Goes st allowed d session Rollback Done new
+  rollback_done mid now new unit last others has so room logged ended =
+      let space : now.space ≡ mid.space = ap (λ (x : Engine). x.space) logged.same in
+      let indexes : now.indexes ≡ mid.indexes = ap (λ (x : Engine). x.indexes) logged.same in
+      let top : now.top ≡ mid.top = ap (λ (x : Engine). x.top) logged.same in
+      let locks : now.locks ≡ mid.locks = ap (λ (x : Engine). x.locks) logged.same in
+      let claims : now.claims ≡ mid.claims = ap (λ (x : Engine). x.claims) logged.same in
+      let units : now.units ≡ mid.units = ap (λ (x : Engine). x.units) logged.same in
       let t : ℕ = unit.tran.0 in
       let s : LogState = left_by shows.first d in
       let u : LogState = state s so.undos in
@@ -58,12 +64,12 @@ module _ (st : State) (allowed : ℕ) (d : Engine) (session : Session) (shows : 
       let own : own_of t u.writes ≡ [] = none_left (own_of t u.writes) unit.writes so.left in
       let lives : IsLive u.live t = subst (λ (us : List ℕ). IsLive us t) (sym (undos_leave t s so.undos so.are).live) one.live in
       let lawful : Runs (capacity_in d.space) s (RollBack t ∷ so.undos) = ((lives, own_first t u.writes ∙ ap first_write own), so.runs) in
-      let r : Record = rolled_record (length mid.records.records + 1) last unit in
-      let all : new.records.records ≡ mid.records.records ++ r ∷ [] = ap (λ x. x.records) ended.records ∙ records in
+      let r : Record = rolled_record (length mid.log.records + 1) last unit in
+      let all : new.log.records ≡ mid.log.records ++ r ∷ [] = ap (λ (l : Listed). l.records) ended.log ∙ logged.records in
       let same_space : new.space ≡ mid.space = ended.space ∙ space in
       rollback_goes st allowed d new session shows low unit has so.undos so.are lawful (so.more ++ r ∷ [])
-      (all ∙ ap (λ (rs : List Record). rs ++ r ∷ []) so.records ∙ append_assoc d.records.records so.more (r ∷ []))
-      (ap (acts_of []) all ∙ acts_snoc mid.records.records r ∙ ap (λ (acts : List Act). RollBack t ∷ acts) so.acts)
+      (all ∙ ap (λ (rs : List Record). rs ++ r ∷ []) so.records ∙ append_assoc d.log.records so.more (r ∷ []))
+      (ap (acts_of []) all ∙ acts_snoc mid.log.records r ∙ ap (λ (acts : List Act). RollBack t ∷ acts) so.acts)
       (ap (λ sp. capacity_in sp) same_space ∙ so.capacity)
       (record {
         step = subst (λ sp. InStep (list_seen (frames_of sp)) (index_of sp) (capacity_in sp)) (sym same_space) so.pages.step;
@@ -75,7 +81,9 @@ module _ (st : State) (allowed : ℕ) (d : Engine) (session : Session) (shows : 
       (ended.claims ∙ ap (λ (c : Claims). let left : Claims = record c { claims = fin.remove c.claims session.0 } in left) (claims ∙ so.claims))
       (ended.units ∙ ap (λ (us : List (Option OpenUnit)). set us session.0 None) (units ∙ so.units))
       (ended.top ∙ top ∙ so.top)
-      (omega (arith, ap (λ x. x.reserved) ended.records, reserved, so.reserved))
+      (omega (arith, ap (λ (l : Listed). l.reserved) ended.log, logged.reserved, room))
+      (omega (arith, ap (λ (l : Listed). taken_of l) ended.log, logged.taken, so.taken))
+      (ap (λ (l : Listed). l.pages) ended.log ∙ logged.pages ∙ so.log_pages)
 
   -- without a unit nothing is put back
   pub rollback_idle : (new : Engine) → unit_at d.units session.0 ≡ None → EndsSession d session new → Goes st allowed d session Rollback Done new
@@ -86,8 +94,12 @@ module _ (st : State) (allowed : ℕ) (d : Engine) (session : Session) (shows : 
       ap (λ (table : Table). record st { table = table; locks = locks_without session st.locks; claims = fin.remove st.claims session.0 }) (sym same) in
       record {
         says = refl;
+        room = tt;
+        log = tt;
+        logged = omega (arith, ap (λ (l : Listed). taken_of l) ended.log);
+        log_pages = ap (λ (l : Listed). l.pages) ended.log;
         shows = subst (λ (x : State). Shows x (allowed + 0) new) state_is
-            (idle_shows st allowed d new session shows low ended.space ended.indexes ended.top ended.locks ended.claims ended.units (ap (λ x. x.records) ended.records ∙ ap (records_committed d.records.records) (sym none)) (omega (arith, ap owed_to none, ap (λ x. x.reserved) ended.records)) none);
+            (idle_shows st allowed d new session shows low ended.space ended.indexes ended.top ended.locks ended.claims ended.units (ap (λ (l : Listed). l.records) ended.log ∙ ap (records_committed d.log.records) (sym none)) (omega (arith, ap owed_to none, ap (λ (l : Listed). l.reserved) ended.log)) (ap (λ (l : Listed). l.pages) ended.log) none);
         capacity = ap (λ sp. capacity_in sp) ended.space;
       }
     where

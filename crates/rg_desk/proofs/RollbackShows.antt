@@ -1,5 +1,5 @@
 -- A ROLLBACK leaves the state of the trace after it.
-use Rattle.std.proofs.Common.{◌≡◌, ◌==◌, ◌≤◌, ◌<◌, ◌+◌, ℕ, suc, Bool, true, false, not, cond, List, [], ◌∷◌, ◌++◌, Option, Some, None, length, set, refl, sym, ◌∙◌, ap, subst, arith}
+use Rattle.std.proofs.Common.{◌≡◌, ◌==◌, ◌≤◌, ◌<◌, ◌+◌, ◌*◌, ℕ, suc, Bool, true, false, not, cond, List, [], ◌∷◌, ◌++◌, Option, Some, None, length, set, refl, sym, ◌∙◌, ap, subst, arith}
 use Rattle.std.specs.FinMap as fin
 use Rattle.std.proofs.lemmas.Bool.{eqb-true, eqb-false}
 use Rattle.std.proofs.lemmas.List.{length-set}
@@ -33,6 +33,7 @@ use Rattle.rg_lawful.proofs.Runs.{runs_joined, state_joined}
 use Rattle.rg_space.specs.Space.{capacity_in}
 use Rattle.rg_stmt.specs.declared.stmt.Reply.TheVariants.{Done}
 use Rattle.rg_stmt.specs.declared.stmt.Stmt.TheVariants as stmts
+use Rattle.rg_desk.specs.Bytes.{taken_of}
 use Rattle.rg_desk.specs.Engine.{HasPages, slots_in}
 use Rattle.rg_desk.specs.Shows.{IsLocked, KeyShown, Shows, ShowsBy, UnitsShown, left_by}
 use Rattle.rg_desk.specs.Steps.{Goes}
@@ -47,8 +48,8 @@ use Rattle.rg_desk.proofs.UnitSlots.{owed-set}
 module _ (st : State) (allowed : ℕ) (d new : Engine) (session : Session) (shows : Shows st allowed d) (low : session.0 < 256) (unit : OpenUnit)
     (has : unit_at d.units session.0 ≡ Some unit) (undos : List Act) (are : AreUndos unit.tran.0 undos)
     (lawful : Runs (capacity_in d.space) (left_by shows.first d) (RollBack unit.tran.0 ∷ undos))
-    (more : List Record) (records : new.records.records ≡ d.records.records ++ more)
-    (acts : acts_of [] new.records.records ≡ (RollBack unit.tran.0 ∷ undos) ++ acts_of [] d.records.records)
+    (more : List Record) (records : new.log.records ≡ d.log.records ++ more)
+    (acts : acts_of [] new.log.records ≡ (RollBack unit.tran.0 ∷ undos) ++ acts_of [] d.log.records)
     (capacity : capacity_in new.space ≡ capacity_in d.space) (pages : HasPages new) where
   abbrev s : LogState
   s = left_by shows.first d
@@ -109,16 +110,20 @@ module _ (st : State) (allowed : ℕ) (d new : Engine) (session : Session) (show
 
   pub rollback_goes : slots_in new ≡ s_rolled.pages → AreListings (row_at (slot_of s_rolled.pages)) new.indexes → new.locks ≡ locks_without session d.locks
       → new.claims ≡ record d.claims { claims = fin.remove d.claims.claims session.0 } → new.units ≡ set d.units session.0 None → new.top ≡ d.top
-      → new.records.reserved + (1 + unit.writes) ≡ d.records.reserved → Goes st allowed d session stmts.Rollback Done new
-  rollback_goes slots indexes locks claims units top reserved = record {
+      → new.log.reserved + (23 + 911 * unit.writes) ≡ d.log.reserved → taken_of new.log ≤ taken_of d.log → new.log.pages ≡ d.log.pages → Goes st allowed d session stmts.Rollback Done new
+  rollback_goes slots indexes locks claims units top reserved taken log_pages = record {
     says = refl;
+    room = tt;
+    log = tt;
+    logged = omega (arith, taken);
+    log_pages = log_pages;
     shows = record {
       first = shows.first;
       begun = subst (λ (n : ℕ). IsConsistent n shows.first) (sym capacity) shows.begun;
       runs =
-          subst (λ (n : ℕ). Runs n shows.first (acts_of [] new.records.records)) (sym capacity)
-          (subst (Runs limit shows.first) (sym acts) (runs_joined limit shows.first (RollBack t ∷ undos) (acts_of [] d.records.records) shows.runs lawful));
-      by = subst (ShowsBy (after_rollback st session) (allowed + 0) new) (sym (ap (state shows.first) acts ∙ state_joined shows.first (RollBack t ∷ undos) (acts_of [] d.records.records))) (record {
+          subst (λ (n : ℕ). Runs n shows.first (acts_of [] new.log.records)) (sym capacity)
+          (subst (Runs limit shows.first) (sym acts) (runs_joined limit shows.first (RollBack t ∷ undos) (acts_of [] d.log.records) shows.runs lawful));
+      by = subst (ShowsBy (after_rollback st session) (allowed + 0) new) (sym (ap (state shows.first) acts ∙ state_joined shows.first (RollBack t ∷ undos) (acts_of [] d.log.records))) (record {
         up = shows.by.up;
         idle = shows.by.idle;
         sure = shows.by.sure;
@@ -138,9 +143,9 @@ module _ (st : State) (allowed : ℕ) (d new : Engine) (session : Session) (show
             (λ n other e f. shows.by.units.apart n session.0 other unit e has f) shows.by.keys k));
         places = ap length units ∙ length-set d.units session.0 None ∙ shows.by.places;
         units =
-            subst (UnitsShown new.records.records s_rolled) (sym units)
+            subst (UnitsShown new.log.records s_rolled) (sym units)
             (subst (λ (rs : List Record). UnitsShown rs s_rolled (set d.units session.0 None)) (sym records)
-            (units_ended t s s_rolled session unit d.units d.locks place has refl (rolled_back limit s good t undos are lawful) d.records.records more shows.by.units));
+            (units_ended t s s_rolled session unit d.units d.locks place has refl (rolled_back limit s good t undos are lawful) d.log.records more shows.by.units));
         top = top ∙ shows.by.top ∙ sym (undos_leave t s undos are).top;
         owed = omega (arith, ap owed units, owed-set d.units session.0 None place, ap owed_to has, reserved, shows.by.owed);
         claimed = omega (arith, claimed);

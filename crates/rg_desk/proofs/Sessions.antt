@@ -27,7 +27,7 @@ use Rattle.rg_desk.proofs.UnitsWritten.{IsUnitFor}
 
 -- the records leave a consistent state
 pub left_consistent : (st : State) (allowed : ℕ) (d : Engine) (shows : Shows st allowed d) → IsConsistent (capacity_in d.space) (left_by shows.first d)
-left_consistent st allowed d shows = runs_consistent (capacity_in d.space) shows.first shows.begun (acts_of [] d.records.records) shows.runs
+left_consistent st allowed d shows = runs_consistent (capacity_in d.space) shows.first shows.begun (acts_of [] d.log.records) shows.runs
 
 module _ (st : State) (allowed : ℕ) (d : Engine) (shows : Shows st allowed d) (session : Session) (unit : OpenUnit)
     (own : IsUnitFor d.units (left_by shows.first d) session.0 unit) where

@@ -17,16 +17,19 @@ use Rattle.rg_index.specs.Listed.{has_value}
 use Rattle.rg_indexes.specs.Listings.{entries_of}
 use Rattle.rg_model.specs.Held.{holder}
 use Rattle.rg_model.specs.Plain.{change_reply, insert_reply, is_done, plain_reply, unless_held}
-use Rattle.rg_model.specs.Said.{may_want_memory, may_want_room}
+use Rattle.rg_model.specs.Said.{may_want_log, may_want_memory, may_want_room}
 use Rattle.rg_model.specs.State.{Locks, State, row_of}
-use Rattle.rg_stmt.specs.declared.stmt.Reply.TheVariants.{Absent, Done, Duplicate, Full, Held, NoMemory}
+use Rattle.rg_stmt.specs.declared.stmt.Reply.TheVariants.{Absent, Done, Duplicate, Full, Held, LogFull, NoMemory}
 use Rattle.rg_stmt.specs.declared.stmt.Stmt.{Stmt}
 use Rattle.rg_stmt.specs.declared.stmt.Stmt.TheVariants.{Delete, Insert, Update}
 use Rattle.rg_lawful.specs.Act.{LogState, is_in}
 use Rattle.rg_lawful.proofs.Own.{own_live}
 use Rattle.rg_lawful.proofs.Tables.{eqb-refl}
 use Rattle.rg_space.specs.Space.{capacity_in}
-use Rattle.rg_desk.specs.Engine.{slots_in}
+use Rattle.rg_desk.specs.Bytes.{taken_of}
+use Rattle.rg_desk.specs.Engine.{ground_of, slots_in}
+use Rattle.rg_log.specs.Kept.{Listed}
+use Rattle.rg_desk.specs.Room.{SaysLog, SaysRoom}
 use Rattle.rg_desk.specs.Shows.{Shows, left_by}
 use Rattle.rg_desk.specs.Steps.{Goes, IsUnitOf, new_unit}
 use Rattle.rg_desk.specs.Units.{unit_at}
@@ -125,19 +128,22 @@ module _ (st : State) (allowed : ℕ) (d : Engine) (shows : Shows st allowed d) 
   -- refusals leave all as it was
 
   pub go_held : (stmt : Stmt) (owner : Session) → plain_reply st session stmt ≡ Held owner → Goes st allowed d session stmt (Held owner) d
-  go_held stmt owner is = record { says = sym is; shows = none_more; capacity = refl }
+  go_held stmt owner is = record { says = sym is; room = tt; log = tt; logged = omega arith; log_pages = refl; shows = none_more; capacity = refl }
 
   pub go_absent : (stmt : Stmt) → plain_reply st session stmt ≡ Absent → Goes st allowed d session stmt Absent d
-  go_absent stmt is = record { says = sym is; shows = none_more; capacity = refl }
+  go_absent stmt is = record { says = sym is; room = tt; log = tt; logged = omega arith; log_pages = refl; shows = none_more; capacity = refl }
 
   pub go_duplicate : (stmt : Stmt) → plain_reply st session stmt ≡ Duplicate → Goes st allowed d session stmt Duplicate d
-  go_duplicate stmt is = record { says = sym is; shows = none_more; capacity = refl }
+  go_duplicate stmt is = record { says = sym is; room = tt; log = tt; logged = omega arith; log_pages = refl; shows = none_more; capacity = refl }
 
   pub go_wanting : (stmt : Stmt) (new : Engine) → may_want_memory stmt ≡ true → SameEngine d new → Goes st allowed d session stmt NoMemory new
-  go_wanting stmt new may same = record { says = may; shows = same_shows st (allowed + 0) d new same none_more; capacity = same.capacity }
+  go_wanting stmt new may same = record { says = may; room = tt; log = tt; logged = omega (arith, ap (λ (l : Listed). taken_of l) same.log); log_pages = ap (λ (l : Listed). l.pages) same.log; shows = same_shows st (allowed + 0) d new same none_more; capacity = same.capacity }
 
-  pub go_full : (stmt : Stmt) (need : ℕ) (new : Engine) → may_want_room stmt ≡ true → is_done (plain_reply st session stmt) ≡ true → 3221 * capacity_in d.space ≤ allowed → SameEngine d new → Goes st allowed d session stmt (Full need) new
-  go_full stmt need new may done most same = record { says = (may, done, most); shows = same_shows st (allowed + 0) d new same none_more; capacity = same.capacity }
+  pub go_full : (stmt : Stmt) (need : ℕ) (new : Engine) → may_want_room stmt ≡ true → is_done (plain_reply st session stmt) ≡ true → 3221 * capacity_in d.space ≤ allowed → SaysRoom (ground_of d) session.0 stmt (Full need) → SameEngine d new → Goes st allowed d session stmt (Full need) new
+  go_full stmt need new may done most room same = record { says = (may, done, most); room = room; log = tt; logged = omega (arith, ap (λ (l : Listed). taken_of l) same.log); log_pages = ap (λ (l : Listed). l.pages) same.log; shows = same_shows st (allowed + 0) d new same none_more; capacity = same.capacity }
+
+  pub go_log_full : (stmt : Stmt) (need left : ℕ) (new : Engine) → may_want_log stmt ≡ true → is_done (plain_reply st session stmt) ≡ true → SaysLog (ground_of d) session.0 stmt (LogFull need left) → SameEngine d new → Goes st allowed d session stmt (LogFull need left) new
+  go_log_full stmt need left new may done log same = record { says = (may, done); room = tt; log = log; logged = omega (arith, ap (λ (l : Listed). taken_of l) same.log); log_pages = ap (λ (l : Listed). l.pages) same.log; shows = same_shows st (allowed + 0) d new same none_more; capacity = same.capacity }
 
   -- the plain table's replies
 

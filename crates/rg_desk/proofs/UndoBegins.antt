@@ -1,5 +1,5 @@
 -- How the undo of a unit begins, and how it ends.
-use Rattle.std.proofs.Common.{◌≡◌, ◌≤◌, ◌<◌, ◌+◌, ℕ, zero, suc, true, List, [], ◌∷◌, Some, None, length, refl, sym, ◌∙◌, ap, subst, arith}
+use Rattle.std.proofs.Common.{◌≡◌, ◌≤◌, ◌<◌, ◌+◌, ◌*◌, ℕ, zero, suc, true, List, [], ◌∷◌, Some, None, length, refl, sym, ◌∙◌, ap, subst, arith}
 use Rattle.std.specs.Prelude.{slice_index_or}
 use Rattle.std.proofs.lemmas.List.{append-nil}
 use Rattle.rg_home.specs.Pages.{slot_of}
@@ -15,6 +15,8 @@ use Rattle.rg_lawful.specs.Write.{Write, own_of}
 use Rattle.rg_space.specs.Indexed.{Indexed}
 use Rattle.rg_space.specs.Space.{Agree, InStep, capacity_in, frames_of, index_of, undos_in}
 use Rattle.rg_undo.specs.Undoing.{is_change}
+use Rattle.rg_log.specs.Kept.{Listed}
+use Rattle.rg_desk.specs.Bytes.{taken_of}
 use Rattle.rg_desk.specs.Pages.{list_seen}
 use Rattle.rg_desk.specs.Shows.{Shows, left_by}
 use Rattle.rg_desk.specs.Undoing.{AreChain, HasWrites}
@@ -26,13 +28,13 @@ use Rattle.rg_desk.proofs.UnitSlots.{at_within, owed-set}
 use Rattle.rg_desk.proofs.Written.{same_listings}
 
 -- its writes are found from its last record back
-pub has_writes : (st : State) (allowed : ℕ) (d : Engine) (shows : Shows st allowed d) (n : ℕ) (unit : OpenUnit) → unit_at d.units n ≡ Some unit → HasWrites d.records.records unit
+pub has_writes : (st : State) (allowed : ℕ) (d : Engine) (shows : Shows st allowed d) (n : ℕ) (unit : OpenUnit) → unit_at d.units n ≡ Some unit → HasWrites d.log.records unit
 has_writes st allowed d shows n unit has =
     let one = shows.by.units.each n unit has in
     record { writes = own_of unit.tran.0 (left_by shows.first d).writes; walks = one.walks; count = one.count }
 
 -- there is room for its undo, and for its end
-pub has_room : (st : State) (allowed : ℕ) (d : Engine) (shows : Shows st allowed d) (n : ℕ) (unit : OpenUnit) → unit_at d.units n ≡ Some unit → unit.writes + 1 ≤ d.records.reserved
+pub has_room : (st : State) (allowed : ℕ) (d : Engine) (shows : Shows st allowed d) (n : ℕ) (unit : OpenUnit) → unit_at d.units n ≡ Some unit → 23 + 911 * unit.writes ≤ d.log.reserved
 has_room st allowed d shows n unit has = omega (arith, owed-set d.units n None (at_within d.units n unit has), ap owed_to has, shows.by.owed)
 
 pub chain_changes : (records : List Record) (t last : ℕ) (ws : List Write) (cs : List Record) → AreChain records t last ws cs → (k : ℕ) (d : Record) → k < length cs → is_change (slice_index_or cs k d).kind ≡ true
@@ -43,19 +45,19 @@ chain_changes records t last (w ∷ ws) (r ∷ cs) h (suc k) d low = chain_chang
 
 -- nothing is undone yet
 pub undo_begins : (st : State) (allowed : ℕ) (d mid : Engine) (shows : Shows st allowed d) (n : ℕ) (unit : OpenUnit) (work : List Record) (more : ℕ) → unit_at d.units n ≡ Some unit
-    → AreChain d.records.records unit.tran.0 unit.last.0 (own_of unit.tran.0 (left_by shows.first d).writes) work → more ≡ length work → HasSpare more mid.indexes → SameEntries d.indexes mid.indexes
+    → AreChain d.log.records unit.tran.0 unit.last.0 (own_of unit.tran.0 (left_by shows.first d).writes) work → more ≡ length work → HasSpare more mid.indexes → SameEntries d.indexes mid.indexes
     → frames_of mid.space ≡ frames_of d.space → index_of mid.space ≡ index_of d.space → capacity_in mid.space ≡ capacity_in d.space → length work ≤ undos_in mid.space
-    → mid.records ≡ d.records → mid.locks ≡ d.locks → mid.claims ≡ d.claims → mid.units ≡ d.units → mid.top ≡ d.top
+    → mid.log ≡ d.log → mid.locks ≡ d.locks → mid.claims ≡ d.claims → mid.units ≡ d.units → mid.top ≡ d.top
     → IsUndoing d (left_by shows.first d) unit mid work unit.last.0 0
-undo_begins st allowed d mid shows n unit work more has chain counts spare entries frames index capacity rooms records locks claims units top =
+undo_begins st allowed d mid shows n unit work more has chain counts spare entries frames index capacity rooms log locks claims units top =
     let one = shows.by.units.each n unit has in
-    let same : mid.records.records ≡ d.records.records = ap (λ r. r.records) records in
+    let same : mid.log.records ≡ d.log.records = ap (λ (l : Listed). l.records) log in
     record {
       undos = [];
       are = tt;
       runs = tt;
       more = [];
-      records = same ∙ sym (append-nil d.records.records);
+      records = same ∙ sym (append-nil d.log.records);
       acts = ap (acts_of []) same;
       capacity = capacity;
       pages = record {
@@ -73,7 +75,10 @@ undo_begins st allowed d mid shows n unit work more has chain counts spare entri
       left = omega (arith, one.count);
       spare = subst (λ (k : ℕ). HasSpare k mid.indexes) counts spare;
       rooms = rooms;
-      reserved = omega (arith, ap (λ r. r.reserved) records);
+      reserved = omega (arith, ap (λ (l : Listed). l.reserved) log);
+      least = omega (arith, ap (λ (l : Listed). l.reserved) log);
+      taken = ap (λ (l : Listed). taken_of l) log;
+      log_pages = ap (λ (l : Listed). l.pages) log;
       locks = locks;
       claims = claims;
       units = units;
@@ -84,7 +89,7 @@ undo_begins st allowed d mid shows n unit work more has chain counts spare entri
 pub undo_ends : (old : Engine) (s : LogState) (unit : OpenUnit) (now : Engine) (work : List Record) (at i : ℕ) → IsUndoing old s unit now work at i → unit.writes ≤ i → IsUndoing old s unit now [] 0 unit.writes
 undo_ends old s unit now work at i so high = go (own_of unit.tran.0 (state s so.undos).writes) refl work so.chain so
   where
-    go : (ws : List Write) → own_of unit.tran.0 (state s so.undos).writes ≡ ws → (rs : List Record) → AreChain now.records.records unit.tran.0 at ws rs → IsUndoing old s unit now work at i → IsUndoing old s unit now [] 0 unit.writes
+    go : (ws : List Write) → own_of unit.tran.0 (state s so.undos).writes ≡ ws → (rs : List Record) → AreChain now.log.records unit.tran.0 at ws rs → IsUndoing old s unit now work at i → IsUndoing old s unit now [] 0 unit.writes
     go (w ∷ ws) e rs chain so2 = absurd (omega (arith, ap length e, so.left, high))
     go [] e (r ∷ rs) chain so2 = absurd chain
     go [] e [] chain so2 =
@@ -100,11 +105,14 @@ undo_ends old s unit now work at i so high = go (own_of unit.tran.0 (state s so.
           pages = so.pages;
           slots = so.slots;
           indexes = so.indexes;
-          chain = subst (λ (ws : List Write). AreChain now.records.records unit.tran.0 0 ws []) (sym e) (refl, refl);
+          chain = subst (λ (ws : List Write). AreChain now.log.records unit.tran.0 0 ws []) (sym e) (refl, refl);
           left = omega (arith, ap length e);
           spare = record { keys = omega arith; cluses = omega arith; cats = omega arith };
           rooms = omega arith;
-          reserved = omega (arith, so.reserved, done);
+          reserved = so.reserved;
+          least = omega (arith, so.least, done);
+          taken = so.taken;
+          log_pages = so.log_pages;
           locks = so.locks;
           claims = so.claims;
           units = so.units;

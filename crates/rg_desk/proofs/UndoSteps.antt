@@ -1,5 +1,5 @@
 -- The undo of a unit, step by step.
-use Rattle.std.proofs.Common.{◌≡◌, ◌≤◌, ◌<◌, ◌+◌, ◌-◌, ℕ, List, [], ◌∷◌, ◌++◌, Some, None, length, refl, sym, ◌∙◌, ap, subst, arith}
+use Rattle.std.proofs.Common.{◌≡◌, ◌≤◌, ◌<◌, ◌+◌, ◌*◌, ◌-◌, ℕ, List, [], ◌∷◌, ◌++◌, Some, None, length, refl, sym, ◌∙◌, ap, subst, arith}
 use Rattle.std.proofs.lemmas.List.{append_assoc}
 use Rattle.rg_base.specs.declared.which.Which.{Which}
 use Rattle.rg_base.specs.declared.which.Which.TheVariants.{Key, Clus, Cat}
@@ -54,12 +54,12 @@ pub record NextUndo (now : Engine) (u : LogState) (t at : ℕ) (work : List Reco
   pub later : List Record
   pub rest : List Write
   pub low : 1 ≤ at
-  pub found : record_at now.records.records at ≡ Some (change_record at t back write)
+  pub found : record_at now.log.records at ≡ Some (change_record at t back write)
   pub work_is : work ≡ change_record at t back write ∷ later
   pub own_is : own_of t u.writes ≡ write ∷ rest
-  pub chain : AreChain now.records.records t back rest later
+  pub chain : AreChain now.log.records t back rest later
 
-next_undo : (now : Engine) (u : LogState) (t at : ℕ) (ws : List Write) (work : List Record) → own_of t u.writes ≡ ws → 1 ≤ length ws → AreChain now.records.records t at ws work → NextUndo now u t at work
+next_undo : (now : Engine) (u : LogState) (t at : ℕ) (ws : List Write) (work : List Record) → own_of t u.writes ≡ ws → 1 ≤ length ws → AreChain now.log.records t at ws work → NextUndo now u t at work
 next_undo now u t at [] work own some chain = absurd (omega (arith, some))
 next_undo now u t at (w ∷ ws) [] own some chain = absurd (cc (chain.1))
 next_undo now u t at (w ∷ ws) (r ∷ rs) own some chain = record {
@@ -78,7 +78,7 @@ tail_is : (v w : Write) (xs ws : List Write) → v ∷ xs ≡ w ∷ ws → xs �
 tail_is v w xs ws e = cc (e)
 
 module _ (old : Engine) (s : LogState) (good : IsConsistent (capacity_in old.space) s) (unit : OpenUnit) (now : Engine) (work : List Record) (at i : ℕ)
-    (so : IsUndoing old s unit now work at i) (low : i < unit.writes) (room : unit.writes + 1 ≤ old.records.reserved) where
+    (so : IsUndoing old s unit now work at i) (low : i < unit.writes) (room : 23 + 911 * unit.writes ≤ old.log.reserved) where
   abbrev t : ℕ
   t = unit.tran.0
 
@@ -134,12 +134,12 @@ module _ (old : Engine) (s : LogState) (good : IsConsistent (capacity_in old.spa
         };
         pages = so.pages;
         undos = so.rooms;
-        reserved = omega (arith, so.reserved, room, low);
+        reserved = omega (arith, so.least, room, low);
       }
 
   module _ (back then_at : ℕ) (new : Engine) (left : List Record) (did : UndidNext now work at back then_at new left) where
     -- the act of its record
-    act_is : (n : NextUndo now u t at work) → act_of [] (undo_record (length now.records.records + 1) back (slots_in now) (change_record at t n.back n.write)) ≡ Undo t n.write.written.home n.write.written.before (planned_undo u.pages n.write.written).parts
+    act_is : (n : NextUndo now u t at work) → act_of [] (undo_record (length now.log.records + 1) back (slots_in now) (change_record at t n.back n.write)) ≡ Undo t n.write.written.home n.write.written.before (planned_undo u.pages n.write.written).parts
     act_is n =
         ap (λ (ps : List (List Slot)). Undo t n.write.written.home n.write.written.before (planned_undo ps (written_of (change_record at t n.back n.write))).parts) so.slots
         ∙ ap (λ (c : Written). Undo t n.write.written.home n.write.written.before (planned_undo u.pages c).parts) (written n)
@@ -148,12 +148,12 @@ module _ (old : Engine) (s : LogState) (good : IsConsistent (capacity_in old.spa
     undo_goes =
         let n = next in
         let a : Act = Undo t n.write.written.home n.write.written.before (planned_undo u.pages n.write.written).parts in
-        let r : Record = undo_record (length now.records.records + 1) back (slots_in now) (change_record at t n.back n.write) in
+        let r : Record = undo_record (length now.log.records + 1) back (slots_in now) (change_record at t n.back n.write) in
         let later : LogState = step u a in
         let may : MayUndo u t n.write.written.home n.write.written.before (planned_undo u.pages n.write.written).parts =
         record { write = n.write; latest = latest n; at = refl; row = refl; is = refl } in
         let pages : later.pages ≡ undone u.pages n.write.written = (undo_leaves u t n.write.written.home n.write.written.before (planned_undo u.pages n.write.written).parts n.write may (latest n)).3 in
-        let records : new.records.records ≡ now.records.records ++ r ∷ [] = did.records t n.back n.write n.later n.work_is in
+        let records : new.log.records ≡ now.log.records ++ r ∷ [] = did.records t n.back n.write n.later n.work_is in
         let own : own_of t later.writes ≡ n.rest = tail_is n.write n.write (own_of t (less_of t u.writes)) n.rest (sym (own_less t u.writes n.write (latest n)) ∙ n.own_is) in
         let left_is : left ≡ n.later = did.left_is t n.back n.write n.later n.work_is in
         let at_is : then_at ≡ n.back = did.next_is t n.back n.write n.found in
@@ -166,8 +166,8 @@ module _ (old : Engine) (s : LogState) (good : IsConsistent (capacity_in old.spa
           are = (refl, so.are);
           runs = (may, so.runs);
           more = so.more ++ r ∷ [];
-          records = records ∙ ap (λ (rs : List Record). rs ++ r ∷ []) so.records ∙ append_assoc old.records.records so.more (r ∷ []);
-          acts = ap (acts_of []) records ∙ acts_snoc now.records.records r ∙ ap (λ (x : Act). x ∷ acts_of [] now.records.records) (act_is n) ∙ ap (λ (acts : List Act). a ∷ acts) so.acts;
+          records = records ∙ ap (λ (rs : List Record). rs ++ r ∷ []) so.records ∙ append_assoc old.log.records so.more (r ∷ []);
+          acts = ap (acts_of []) records ∙ acts_snoc now.log.records r ∙ ap (λ (x : Act). x ∷ acts_of [] now.log.records) (act_is n) ∙ ap (λ (acts : List Act). a ∷ acts) so.acts;
           capacity = did.capacity ∙ so.capacity;
           pages = did.pages;
           slots =
@@ -178,14 +178,17 @@ module _ (old : Engine) (s : LogState) (good : IsConsistent (capacity_in old.spa
           indexes = did.listings t n.back n.write (row_at (slot_of u.pages)) (row_at (slot_of later.pages)) n.found so.indexes (here n) (record { set = changes.here; others = changes.others });
           chain =
               subst (λ (rs : List Record). AreChain rs t then_at (own_of t later.writes) left) (sym records)
-              (chain_longer now.records.records (r ∷ []) t 0 [] then_at (own_of t later.writes) left
-              (subst (λ (k : ℕ). AreChain now.records.records t k (own_of t later.writes) left) (sym at_is)
-              (subst (λ (ws : List Write). AreChain now.records.records t n.back ws left) (sym own)
-              (subst (AreChain now.records.records t n.back n.rest) (sym left_is) n.chain))));
+              (chain_longer now.log.records (r ∷ []) t 0 [] then_at (own_of t later.writes) left
+              (subst (λ (k : ℕ). AreChain now.log.records t k (own_of t later.writes) left) (sym at_is)
+              (subst (λ (ws : List Write). AreChain now.log.records t n.back ws left) (sym own)
+              (subst (AreChain now.log.records t n.back n.rest) (sym left_is) n.chain))));
           left = omega (arith, so.left, ap length n.own_is, ap length own);
           spare = did.spare (length left) some;
           rooms = did.undos;
           reserved = omega (arith, did.reserved, so.reserved);
+          least = omega (arith, did.least, so.least);
+          taken = did.taken ∙ so.taken;
+          log_pages = did.log_pages ∙ so.log_pages;
           locks = did.locks ∙ so.locks;
           claims = did.claims ∙ so.claims;
           units = did.units ∙ so.units;

@@ -1,5 +1,5 @@
 -- How a write goes that was planned, from a state that the engine shows.
-use Rattle.std.proofs.Common.{◌≡◌, ◌≤◌, ◌<◌, ◌+◌, ◌*◌, ℕ, true, List, Option, Some, None, refl, sym, ◌∙◌, ap, subst}
+use Rattle.std.proofs.Common.{◌≡◌, ◌≤◌, ◌<◌, ◌+◌, ◌*◌, ℕ, true, false, List, Option, Some, None, refl, sym, ◌∙◌, ap, subst, arith}
 use Rattle.rg_base.specs.RowBytes.{row_size}
 use Rattle.rg_base.specs.declared.place.Place.{Place}
 use Rattle.rg_base.specs.declared.row.Row.{Row}
@@ -12,24 +12,31 @@ use Rattle.rg_home.specs.declared.plan.Plan.{Plan}
 use Rattle.rg_indexes.specs.Listings.{AreListedAt}
 use Rattle.rg_model.specs.Held.{holder}
 use Rattle.rg_model.specs.Plain.{is_done, plain_reply, write_key}
+use Rattle.rg_model.specs.Said.{may_want_log}
 use Rattle.rg_model.specs.State.{Locks, State, row_of}
 use Rattle.rg_stmt.specs.declared.stmt.Reply.{Reply}
-use Rattle.rg_stmt.specs.declared.stmt.Reply.TheVariants.{Done, Full, NoMemory}
+use Rattle.rg_stmt.specs.declared.stmt.Reply.TheVariants.{Done, Full, LogFull, NoMemory}
 use Rattle.rg_stmt.specs.declared.stmt.Stmt.{Stmt}
 use Rattle.rg_stmt.specs.declared.stmt.Stmt.TheVariants.{Insert, Update, Delete}
 use Rattle.rg_lawful.specs.Write.{key_of}
 use Rattle.rg_space.specs.Space.{capacity_in}
 use Rattle.rg_space.specs.declared.fault.SpaceFault.{SpaceFault}
 use Rattle.rg_space.specs.declared.fault.SpaceFault.TheVariants as faults
-use Rattle.rg_desk.specs.Engine.{slots_in}
+use Rattle.rg_image.specs.Pack.{log_bytes}
+use Rattle.rg_log.specs.Kept.{Listed, left_of}
+use Rattle.rg_desk.specs.Bytes.{most_needed, taken_of}
+use Rattle.rg_desk.specs.Engine.{ground_of, slots_in}
 use Rattle.rg_desk.specs.Planned.{IsRefusal, change_plan, drop_plan, put_plan, refused}
 use Rattle.rg_desk.specs.Shows.{Shows, left_by}
+use Rattle.rg_desk.specs.Room.{IfNeeds}
 use Rattle.rg_desk.specs.Steps.{Goes, IsUnitOf}
-use Rattle.rg_desk.specs.Wrote.{SameEngine, Writes, Wrote}
+use Rattle.rg_desk.specs.Wrote.{Refuses, SameEngine, Writes, Wrote}
 use Rattle.rg_desk.specs.declared.engine.Engine.{Engine}
 use Rattle.rg_desk.specs.declared.units.OpenUnit.{OpenUnit}
+use Rattle.rg_desk.proofs.Logged.{bytes_wrote}
+use Rattle.rg_desk.proofs.RoomSaid.{change_needs, change_room, drop_needs, put_needs, put_room}
 use Rattle.rg_desk.proofs.EngineWrites.{Plans, engine_change, engine_drop, engine_full_change, engine_full_put, engine_put, plan_listed, plan_shows}
-use Rattle.rg_desk.proofs.Statements.{go_full, go_wanting, same_unit, unit_for}
+use Rattle.rg_desk.proofs.Statements.{go_full, go_log_full, go_wanting, same_unit, unit_for}
 use Rattle.rg_desk.proofs.UnitsWritten.{IsUnitFor}
 
 -- what is as it was is so after what is as it was
@@ -38,7 +45,7 @@ same_same a b c f g = record {
   capacity = g.capacity ∙ f.capacity;
   pages = λ h. g.pages (f.pages h);
   slots = g.slots ∙ f.slots;
-  records = g.records ∙ f.records;
+  log = g.log ∙ f.log;
   entries = record { keys = g.entries.keys ∙ f.entries.keys; cluses = g.entries.cluses ∙ f.entries.cluses; cats = g.entries.cats ∙ f.entries.cats };
   locks = g.locks ∙ f.locks;
   claims = g.claims ∙ f.claims;
@@ -95,6 +102,24 @@ module _ (st : State) (allowed : ℕ) (d : Engine) (shows : Shows st allowed d) 
 
   -- a write goes as its statement says
 
+  wrote_logged : (key : ℕ) (after : Option Row) (plan : Plan) (new : Engine) → Wrote mid session unit plan key after new → taken_of new.log ≤ taken_of d.log + most_needed
+  wrote_logged key after plan new w =
+      omega (arith, ap log_bytes w.put.records, bytes_wrote w.middle.log.records unit plan after, w.put.reserved, ap (λ (l : Listed). log_bytes l.records) w.prepared.log, ap (λ (l : Listed). l.reserved) w.prepared.log, w.most, ap (λ (l : Listed). taken_of l) same.log)
+
+  wrote_pages : (key : ℕ) (after : Option Row) (plan : Plan) (new : Engine) → Wrote mid session unit plan key after new → new.log.pages ≡ d.log.pages
+  wrote_pages key after plan new w = w.put.log_pages ∙ ap (λ (l : Listed). l.pages) w.prepared.log ∙ ap (λ (l : Listed). l.pages) same.log
+
+  -- a write has room in the log as the engine had it
+  within : (n : ℕ) → n ≤ left_of mid.log → n ≤ left_of d.log
+  within n h = subst (λ (l : Listed). n ≤ left_of l) same.log h
+
+  -- LOGFULL stands for what the log has too little left for
+  log_full : (stmt : Stmt) (n need left : ℕ) (new : Engine) → may_want_log stmt ≡ true → plain_reply st session stmt ≡ Done → Refuses mid n (LogFull need left) new
+      → IfNeeds (ground_of d) session.0 stmt (λ k. need ≡ k) → Goes st allowed d session stmt (LogFull need left) new
+  log_full stmt n need left new may done h needs =
+      go_log_full st allowed d shows session stmt need left new may (ap is_done done)
+      (h.1 ∙ ap (λ (l : Listed). left_of l) same.log, omega (arith, h.0, h.2), omega (arith, h.0, h.3), needs) (same_same d mid new same h.4)
+
   wrote : (stmt : Stmt) (more key : ℕ) (after : Option Row) (plan : Plan) (new : Engine) → plain_reply st session stmt ≡ Done
       → Shows (write_key st session key after) (allowed + more) new → Wrote mid session unit plan key after new → capacity_in new.space ≡ capacity_in d.space
   wrote stmt more key after plan new done shown w = w.put.capacity ∙ ap (λ sp. capacity_in sp) w.prepared.space ∙ same.capacity
@@ -104,7 +129,9 @@ module _ (st : State) (allowed : ℕ) (d : Engine) (shows : Shows st allowed d) 
   put_goes row plan Done new low absent alone small is done w =
       let plans = put row plan absent alone small is in
       let shown = plan_shows st allowed mid shows_mid session unit own_mid (18 + row_size row) row.key (Some row) plan new plans refl (alone_mid row.key alone) low w in
-      record { says = sym done; shows = shown; capacity = wrote (Insert row) (18 + row_size row) row.key (Some row) plan new done shown w }
+      record { says = sym done; room = put_room st allowed d shows session unit is_unit mid same row (Some plan) true is refl; log = put_needs st allowed d shows session unit is_unit mid same row plan (λ n. n ≤ left_of d.log) is (within _ w.prepared.room); logged = wrote_logged row.key (Some row) plan new w; log_pages = wrote_pages row.key (Some row) plan new w; shows = shown; capacity = wrote (Insert row) (18 + row_size row) row.key (Some row) plan new done shown w }
+  put_goes row plan (LogFull need left) new low absent alone small is done w =
+      log_full (Insert row) _ need left new refl done w (put_needs st allowed d shows session unit is_unit mid same row plan (λ n. need ≡ n) is w.0)
   put_goes row plan NoMemory new low absent alone small is done w = go_wanting st allowed d shows session (Insert row) new refl (same_same d mid new same w)
   put_goes row plan reply new low absent alone small is done w = absurd w
 
@@ -114,7 +141,9 @@ module _ (st : State) (allowed : ℕ) (d : Engine) (shows : Shows st allowed d) 
   change_goes home old row plan Done new low there is_there alone key small is done w =
       let plans = change home old row plan there is_there alone key small is in
       let shown = plan_shows st allowed mid shows_mid session unit own_mid (18 + row_size row) row.key (Some row) plan new plans refl (alone_mid row.key alone) low w in
-      record { says = sym done; shows = shown; capacity = wrote (Update row) (18 + row_size row) row.key (Some row) plan new done shown w }
+      record { says = sym done; room = change_room st allowed d shows session unit is_unit mid same home old row (Some plan) true there key is refl; log = change_needs st allowed d shows session unit is_unit mid same home old row plan (λ n. n ≤ left_of d.log) there key is (within _ w.prepared.room); logged = wrote_logged row.key (Some row) plan new w; log_pages = wrote_pages row.key (Some row) plan new w; shows = shown; capacity = wrote (Update row) (18 + row_size row) row.key (Some row) plan new done shown w }
+  change_goes home old row plan (LogFull need left) new low there is_there alone key small is done w =
+      log_full (Update row) _ need left new refl done w (change_needs st allowed d shows session unit is_unit mid same home old row plan (λ n. need ≡ n) there key is w.0)
   change_goes home old row plan NoMemory new low there is_there alone key small is done w = go_wanting st allowed d shows session (Update row) new refl (same_same d mid new same w)
   change_goes home old row plan reply new low there is_there alone key small is done w = absurd w
 
@@ -125,7 +154,9 @@ module _ (st : State) (allowed : ℕ) (d : Engine) (shows : Shows st allowed d) 
       let plans = drop home old plan there is_there (subst (λ (k : ℕ). holder d.locks session k ≡ None) (sym of_key) alone) is in
       let same_key : key_of plan.before None ≡ key = ap (λ (x : Option Row). key_of x None) plans.0 ∙ of_key in
       let shown = plan_shows st allowed mid shows_mid session unit own_mid 0 key None plan new plans.1 same_key (alone_mid key alone) low w in
-      record { says = sym done; shows = shown; capacity = wrote (Delete key) 0 key None plan new done shown w }
+      record { says = sym done; room = tt; log = drop_needs st allowed d shows session unit is_unit mid same home old key plan (λ n. n ≤ left_of d.log) there of_key is (within _ w.prepared.room); logged = wrote_logged key None plan new w; log_pages = wrote_pages key None plan new w; shows = shown; capacity = wrote (Delete key) 0 key None plan new done shown w }
+  drop_goes home old key plan (LogFull need left) new low there is_there alone of_key is done w =
+      log_full (Delete key) _ need left new refl done w (drop_needs st allowed d shows session unit is_unit mid same home old key plan (λ n. need ≡ n) there of_key is w.0)
   drop_goes home old key plan NoMemory new low there is_there alone of_key is done w = go_wanting st allowed d shows session (Delete key) new refl (same_same d mid new same w)
   drop_goes home old key plan reply new low there is_there alone of_key is done w = absurd w
 
@@ -134,19 +165,21 @@ module _ (st : State) (allowed : ℕ) (d : Engine) (shows : Shows st allowed d) 
   put_full : (row : Row) → row_size row ≤ 826 → put_plan unit.tran.0 (row_size row) mid ≡ None → plain_reply st session (Insert row) ≡ Done → Goes st allowed d session (Insert row) (Full (row_size row)) mid
   put_full row small none done =
       go_full st allowed d shows session (Insert row) (row_size row) mid refl (ap is_done done)
-      (subst (λ (n : ℕ). 3221 * n ≤ allowed) same.capacity (engine_full_put st allowed mid shows_mid session unit own_mid (row_size row) small none)) same
+      (subst (λ (n : ℕ). 3221 * n ≤ allowed) same.capacity (engine_full_put st allowed mid shows_mid session unit own_mid (row_size row) small none))
+      (refl, put_room st allowed d shows session unit is_unit mid same row None false (sym none) refl) same
 
-  change_full : (home : Place) (row : Row) → row_size row ≤ 826 → change_plan unit.tran.0 (row_size row) home mid ≡ None → plain_reply st session (Update row) ≡ Done → Goes st allowed d session (Update row) (Full (row_size row)) mid
-  change_full home row small none done =
+  change_full : (home : Place) (old row : Row) → row_at (slot_of (slots_in d)) home ≡ Some old → row.key ≡ old.key → row_size row ≤ 826 → change_plan unit.tran.0 (row_size row) home mid ≡ None → plain_reply st session (Update row) ≡ Done → Goes st allowed d session (Update row) (Full (row_size row)) mid
+  change_full home old row there key small none done =
       go_full st allowed d shows session (Update row) (row_size row) mid refl (ap is_done done)
-      (subst (λ (n : ℕ). 3221 * n ≤ allowed) same.capacity (engine_full_change st allowed mid shows_mid session unit own_mid (row_size row) home small none)) same
+      (subst (λ (n : ℕ). 3221 * n ≤ allowed) same.capacity (engine_full_change st allowed mid shows_mid session unit own_mid (row_size row) home small none))
+      (refl, change_room st allowed d shows session unit is_unit mid same home old row None false there key (sym none) refl) same
 
   pub put_refused : (row : Row) (fault : SpaceFault) → row_size row ≤ 826 → IsRefusal (row_size row) (put_plan unit.tran.0 (row_size row) mid) fault → plain_reply st session (Insert row) ≡ Done → Goes st allowed d session (Insert row) (refused fault) mid
   put_refused row (faults.Full need) small h done = subst (λ (n : ℕ). Goes st allowed d session (Insert row) (Full n) mid) (sym h.0) (put_full row small h.1 done)
   put_refused row faults.Device small h done = absurd h
   put_refused row faults.NoMemory small h done = go_wanting st allowed d shows session (Insert row) mid refl same
 
-  pub change_refused : (home : Place) (row : Row) (fault : SpaceFault) → row_size row ≤ 826 → IsRefusal (row_size row) (change_plan unit.tran.0 (row_size row) home mid) fault → plain_reply st session (Update row) ≡ Done → Goes st allowed d session (Update row) (refused fault) mid
-  change_refused home row (faults.Full need) small h done = subst (λ (n : ℕ). Goes st allowed d session (Update row) (Full n) mid) (sym h.0) (change_full home row small h.1 done)
-  change_refused home row faults.Device small h done = absurd h
-  change_refused home row faults.NoMemory small h done = go_wanting st allowed d shows session (Update row) mid refl same
+  pub change_refused : (home : Place) (old row : Row) (fault : SpaceFault) → row_at (slot_of (slots_in d)) home ≡ Some old → row.key ≡ old.key → row_size row ≤ 826 → IsRefusal (row_size row) (change_plan unit.tran.0 (row_size row) home mid) fault → plain_reply st session (Update row) ≡ Done → Goes st allowed d session (Update row) (refused fault) mid
+  change_refused home old row (faults.Full need) there key small h done = subst (λ (n : ℕ). Goes st allowed d session (Update row) (Full n) mid) (sym h.0) (change_full home old row there key small h.1 done)
+  change_refused home old row faults.Device there key small h done = absurd h
+  change_refused home old row faults.NoMemory there key small h done = go_wanting st allowed d shows session (Update row) mid refl same

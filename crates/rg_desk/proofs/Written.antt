@@ -1,5 +1,5 @@
 -- What a write that was planned leaves, as the trace sees it.
-use Rattle.std.proofs.Common.{◌≡◌, ◌≤◌, ◌<◌, ◌+◌, ℕ, suc, List, [], ◌∷◌, ◌++◌, Option, Some, None, length, set, refl, sym, ◌∙◌, ap, subst, inl, inr, arith, if◌then◌else◌}
+use Rattle.std.proofs.Common.{◌≡◌, ◌≤◌, ◌<◌, ◌+◌, ◌*◌, ℕ, suc, List, [], ◌∷◌, ◌++◌, Option, Some, None, length, set, refl, sym, ◌∙◌, ap, subst, inl, inr, arith, if◌then◌else◌}
 use Rattle.std.specs.Prelude.{nat_le, ◌==◌}
 use Rattle.std.specs.FinMap as fin
 use Rattle.std.proofs.lemmas.List.{length-set}
@@ -36,7 +36,9 @@ use Rattle.rg_desk.specs.Engine.{HasPages, slots_in}
 use Rattle.rg_desk.specs.Pages.{list_seen}
 use Rattle.rg_desk.specs.Shows.{KeyShown, Shows, ShowsBy, UnitsShown, left_by}
 use Rattle.rg_desk.specs.Units.{owed, owed_to, unit_at}
-use Rattle.rg_desk.specs.Wrote.{Wrote, end_taken, records_cleared, records_wrote, unit_wrote}
+use Rattle.rg_desk.specs.Bytes.{end_bytes}
+use Rattle.rg_log.specs.Kept.{Listed}
+use Rattle.rg_desk.specs.Wrote.{Wrote, records_cleared, records_wrote, unit_wrote}
 use Rattle.rg_desk.specs.declared.engine.Engine.{Engine}
 use Rattle.rg_desk.specs.declared.units.OpenUnit.{OpenUnit}
 use Rattle.rg_desk.proofs.Appended.{acts_wrote}
@@ -85,22 +87,22 @@ module _ (st : State) (allowed more : ℕ) (old new : Engine) (session : Session
   capacity : capacity_in new.space ≡ limit
   capacity = wrote.put.capacity ∙ ap (λ sp. capacity_in sp) wrote.prepared.space
 
-  records : new.records.records ≡ records_wrote old.records.records unit plan after
-  records = wrote.put.records ∙ ap (λ (rs : List Record). records_wrote rs unit plan after) wrote.prepared.records
+  records : new.log.records ≡ records_wrote old.log.records unit plan after
+  records = wrote.put.records ∙ ap (λ (l : Listed). records_wrote l.records unit plan after) wrote.prepared.log
 
-  acts : acts_of [] new.records.records ≡ (Change w ∷ purge_acts plan.purge) ++ acts_of [] old.records.records
-  acts = ap (acts_of []) records ∙ acts_wrote old.records.records unit plan after
+  acts : acts_of [] new.log.records ≡ (Change w ∷ purge_acts plan.purge) ++ acts_of [] old.log.records
+  acts = ap (acts_of []) records ∙ acts_wrote old.log.records unit plan after
 
   left : left_by shows.first new ≡ s_written
-  left = ap (state shows.first) acts ∙ state_joined shows.first (Change w ∷ purge_acts plan.purge) (acts_of [] old.records.records) ∙ lawful.leaves
+  left = ap (state shows.first) acts ∙ state_joined shows.first (Change w ∷ purge_acts plan.purge) (acts_of [] old.log.records) ∙ lawful.leaves
 
-  runs : Runs (capacity_in new.space) shows.first (acts_of [] new.records.records)
+  runs : Runs (capacity_in new.space) shows.first (acts_of [] new.log.records)
   runs =
-      subst (λ (n : ℕ). Runs n shows.first (acts_of [] new.records.records)) (sym capacity)
-      (subst (Runs limit shows.first) (sym acts) (runs_joined limit shows.first (Change w ∷ purge_acts plan.purge) (acts_of [] old.records.records) shows.runs lawful.runs))
+      subst (λ (n : ℕ). Runs n shows.first (acts_of [] new.log.records)) (sym capacity)
+      (subst (Runs limit shows.first) (sym acts) (runs_joined limit shows.first (Change w ∷ purge_acts plan.purge) (acts_of [] old.log.records) shows.runs lawful.runs))
 
   consistent : IsConsistent limit s
-  consistent = runs_consistent limit shows.first shows.begun (acts_of [] old.records.records) shows.runs
+  consistent = runs_consistent limit shows.first shows.begun (acts_of [] old.log.records) shows.runs
 
   present : s.now key ≡ plan.before
   present = subst (λ (k : ℕ). s.now k ≡ plan.before) of_key lawful.change.present
@@ -111,11 +113,11 @@ module _ (st : State) (allowed more : ℕ) (old new : Engine) (session : Session
   claims : new.claims ≡ old.claims
   claims = wrote.put.claims ∙ wrote.prepared.claims
 
-  units : new.units ≡ set old.units session.0 (Some (unit_wrote old.records.records unit plan))
+  units : new.units ≡ set old.units session.0 (Some (unit_wrote old.log.records unit plan))
   units =
       wrote.put.units
-      ∙ ap (λ (us : List (Option OpenUnit)). set us session.0 (Some (unit_wrote wrote.middle.records.records unit plan))) wrote.prepared.units
-      ∙ ap (λ (rs : List Record). set old.units session.0 (Some (unit_wrote rs unit plan))) wrote.prepared.records
+      ∙ ap (λ (us : List (Option OpenUnit)). set us session.0 (Some (unit_wrote wrote.middle.log.records unit plan))) wrote.prepared.units
+      ∙ ap (λ (l : Listed). set old.units session.0 (Some (unit_wrote l.records unit plan))) wrote.prepared.log
 
   place : session.0 < length old.units
   place = omega (arith, low, shows.by.places)
@@ -152,23 +154,23 @@ module _ (st : State) (allowed more : ℕ) (old new : Engine) (session : Session
           record { set = changes.here; others = changes.others }
 
   entry_list : List Record
-  entry_list = records_cleared old.records.records plan.purge
+  entry_list = records_cleared old.log.records plan.purge
 
   top : new.top ≡ s_written.top
   top =
       wrote.put.top
       ∙ ap (λ (n : ℕ). if nat_le unit.tran.0 n then n else unit.tran.0) (wrote.prepared.top ∙ shows.by.top)
 
-  owed_after : owed new.units ≤ new.records.reserved
+  owed_after : owed new.units ≡ new.log.reserved
   owed_after =
-      let next : OpenUnit = unit_wrote old.records.records unit plan in
+      let next : OpenUnit = unit_wrote old.log.records unit plan in
       go own (owed-set old.units session.0 (Some next) place)
     where
       go : IsUnitFor old.units s session.0 unit
-          → owed (set old.units session.0 (Some (unit_wrote old.records.records unit plan))) + owed_to (unit_at old.units session.0) ≡ owed old.units + (1 + (unit.writes + 1))
-          → owed new.units ≤ new.records.reserved
-      go (inl e) sum = omega (arith, sum, ap owed units, ap owed_to e, ap end_taken e, wrote.put.reserved, wrote.prepared.reserved, shows.by.owed)
-      go (inr h) sum = omega (arith, sum, ap owed units, ap owed_to h.0, ap end_taken h.0, h.1.writes, wrote.put.reserved, wrote.prepared.reserved, shows.by.owed)
+          → owed (set old.units session.0 (Some (unit_wrote old.log.records unit plan))) + owed_to (unit_at old.units session.0) ≡ owed old.units + (23 + 911 * (unit.writes + 1))
+          → owed new.units ≡ new.log.reserved
+      go (inl e) sum = omega (arith, sum, ap owed units, ap owed_to e, ap end_bytes e, wrote.put.reserved, ap (λ (l : Listed). l.reserved) wrote.prepared.log, shows.by.owed)
+      go (inr h) sum = omega (arith, sum, ap owed units, ap owed_to h.0, ap end_bytes h.0, h.1.writes, wrote.put.reserved, ap (λ (l : Listed). l.reserved) wrote.prepared.log, shows.by.owed)
 
   -- the unit is the session's own, or it begins
   own_unit : IsOwnUnit old.units session.0 unit
@@ -188,14 +190,14 @@ module _ (st : State) (allowed more : ℕ) (old new : Engine) (session : Session
   keys : (k : ℕ) → KeyShown new.units s_written (fin.get new.locks k) k
   keys k =
       subst (λ (us : List (Option OpenUnit)). KeyShown us s_written (fin.get new.locks k) k) (sym units)
-      (subst (λ (ls : Locks). KeyShown (set old.units session.0 (Some (unit_wrote old.records.records unit plan))) s_written (fin.get ls k) k) (sym locks)
-      (keys_written limit old.units purged session unit (unit_wrote old.records.records unit plan) w key old.locks plan.before place refl of_key refl lawful.change own_unit alone (sym present) (λ q. key_purged old.units s plan.purge (fin.get old.locks q) q (shows.by.keys q)) k))
+      (subst (λ (ls : Locks). KeyShown (set old.units session.0 (Some (unit_wrote old.log.records unit plan))) s_written (fin.get ls k) k) (sym locks)
+      (keys_written limit old.units purged session unit (unit_wrote old.log.records unit plan) w key old.locks plan.before place refl of_key refl lawful.change own_unit alone (sym present) (λ q. key_purged old.units s plan.purge (fin.get old.locks q) q (shows.by.keys q)) k))
 
-  units_after : UnitsShown new.records.records s_written new.units
+  units_after : UnitsShown new.log.records s_written new.units
   units_after =
       subst (λ (rs : List Record). UnitsShown rs s_written new.units) (sym records)
-      (subst (UnitsShown (records_wrote old.records.records unit plan after) s_written) (sym units)
-      (units_written old.records.records (records_cleared old.records.records plan.purge) old.units purged session.0 unit (unit_wrote old.records.records unit plan) w place refl refl refl refl (walks_cleared old.records.records plan.purge) own_purged consistent.fresh (units_purged old.records.records old.units s plan.purge shows.by.units)))
+      (subst (UnitsShown (records_wrote old.log.records unit plan after) s_written) (sym units)
+      (units_written old.log.records (records_cleared old.log.records plan.purge) old.units purged session.0 unit (unit_wrote old.log.records unit plan) w place refl refl refl refl (walks_cleared old.log.records plan.purge) own_purged consistent.fresh (units_purged old.log.records old.units s plan.purge shows.by.units)))
 
   by : claimed_all (holding s_written.live (suc s_written.top)) s_written.pages ≤ allowed + more → ShowsBy (write_key st session key after) (allowed + more) new s_written
   by bound = record {
@@ -212,7 +214,7 @@ module _ (st : State) (allowed more : ℕ) (old new : Engine) (session : Session
     slots = slots;
     indexes = indexes;
     keys = keys;
-    places = ap length units ∙ length-set old.units session.0 (Some (unit_wrote old.records.records unit plan)) ∙ shows.by.places;
+    places = ap length units ∙ length-set old.units session.0 (Some (unit_wrote old.log.records unit plan)) ∙ shows.by.places;
     units = units_after;
     top = top;
     owed = owed_after;

@@ -12,7 +12,7 @@ use Rattle.rg_stmt.specs.declared.event.Actor.TheVariants as actors
 use Rattle.rg_stmt.specs.declared.event.Entry.{Entry}
 use Rattle.rg_stmt.specs.declared.event.Event.{Event}
 use Rattle.rg_stmt.specs.declared.event.Event.TheVariants.{Opened, Said}
-use Rattle.rg_desk.specs.Steps.{more_allowed}
+use Rattle.rg_desk.specs.Steps.{more_allowed, more_logged}
 
 -- the entries, for how many more there is room, and the calls at the last one
 pub record ChronicleState : Type 0 where
@@ -42,6 +42,17 @@ abbrev pub allowed_after : (allowed : ℕ) → Event → ℕ
 allowed_after allowed (Opened copy rows pages used) = 4064 * pages
 allowed_after allowed (Said stmt reply) = allowed + more_allowed stmt reply
 allowed_after allowed event = allowed
+
+-- An opening finds so many bytes of the log taken, and a statement takes or reserves more.
+abbrev pub logged_after : (logged : ℕ) → Event → ℕ
+logged_after logged (Opened copy rows pages used) = used
+logged_after logged (Said stmt reply) = logged + more_logged stmt reply
+logged_after logged event = logged
+
+-- how many bytes of the log the entries have taken or reserved at most, from so many on
+abbrev pub logged_by : (logged : ℕ) → List Entry → ℕ
+logged_by logged [] = logged
+logged_by logged (entry ∷ entries) = logged_by (logged_after logged entry.event) entries
 
 -- how many bytes the entries have allowed, from so many on
 abbrev pub allowed_by : (allowed : ℕ) → List Entry → ℕ

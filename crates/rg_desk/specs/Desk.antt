@@ -4,7 +4,8 @@
 --    the one that the engine shows.
 -- 2. The writes of the trace have allowed the bytes that the engine's pages claim.
 -- 3. No call of the volume was made.
--- 4. Each key with a row, and each locked one, is among some keys that are no more than the
+-- 4. The log has no more bytes taken or reserved than the entries say.
+-- 5. Each key with a row, and each locked one, is among some keys that are no more than the
 --    entries.
 use Rattle.std.specs.Prelude.{◌≡◌, ◌≤◌, ◌⊎◌, ◌++◌, ℕ, true, List, [], ◌∷◌, if◌then◌else◌, nat_le, length}
 use Rattle.std.specs.FinMap as map
@@ -20,8 +21,10 @@ use Rattle.rg_stmt.specs.declared.event.Event.{Event}
 use Rattle.rg_stmt.specs.declared.event.Event.TheVariants.{Layout, LayoutNoMemory}
 use Rattle.rg_stmt.specs.declared.stmt.Reply.{Reply}
 use Rattle.rg_stmt.specs.declared.stmt.Stmt.{Stmt}
-use Rattle.rg_desk.specs.Answers.{IfFull, is_answer}
-use Rattle.rg_desk.specs.Chronicle.{ChronicleState, IsRecorded, allowed_by, system_entry}
+use Rattle.rg_desk.specs.Answers.{IfFull, IfLogFull, is_answer}
+use Rattle.rg_desk.specs.Bytes.{taken_of}
+use Rattle.rg_desk.specs.Chronicle.{ChronicleState, IsRecorded, allowed_by, logged_by, system_entry}
+use Rattle.rg_desk.specs.Room.{Ground, SaysLog, SaysRoom}
 use Rattle.rg_desk.specs.Shows.{Shows}
 use Rattle.rg_desk.specs.declared.engine.Engine.{Engine}
 
@@ -57,14 +60,15 @@ pub record IsDesk (d : Engine) (c : ChronicleState) : Type 0 where
   pub quiet : c.calls ≡ 0
   pub recorded : IsRecorded c.trace c.calls
   pub shown : Shows state (allowed_by 0 c.trace) d
+  pub logged : taken_of d.log ≤ logged_by 0 c.trace
   pub keys : List ℕ
   pub among : AreKeys keys state
   pub few : length keys ≤ length c.trace
 
--- what callers see of a desk: its entries, how many pages its copy may have, and what it was handed
+-- what callers see of a desk: its entries, what its writes are planned over, and what it was handed
 pub record DeskState (V O : Type 0) : Type 0 where
   pub trace : List Entry
-  pub capacity : ℕ
+  pub ground : Ground
   pub volume : V
   pub operator : O
 
@@ -73,20 +77,25 @@ abbrev pub copy_capacity : Capacities → ℕ
 copy_capacity c =
     if nat_le (capacity_of c First) 65536 then capacity_of c First else 65536
 
--- all but the entries is as it was
+-- the copy may have as many pages as before, and the log, and what the desk was handed is as it was
 pub record Stays {V O : Type 0} (old new : DeskState V O) : Type 0 where
-  pub capacity : new.capacity ≡ old.capacity
+  pub capacity : new.ground.capacity ≡ old.ground.capacity
+  pub log_pages : new.ground.log.pages ≡ old.ground.log.pages
   pub volume : new.volume ≡ old.volume
   pub operator : new.operator ≡ old.operator
 
--- a statement has one entry more. FULL stands in it only where the writes before have allowed so
--- many bytes.
+-- A statement has one entry more. FULL stands in it exactly where there is no plan of the write, and
+-- then the writes before have allowed so many bytes. LOGFULL stands in it exactly where the log has
+-- less left than the write needs, and then the writes before have taken nearly all of it.
 pub record MadeSaid {V O : Type 0}
     (old : DeskState V O) (session : Session) (stmt : Stmt) (new : DeskState V O) : Type 0 where
   pub reply : Reply
   pub made : new.trace ≡ old.trace ++ said_entry session stmt reply 0 ∷ []
   pub is : is_answer stmt reply ≡ true
-  pub full : IfFull reply (allowed_by 0 old.trace) old.capacity
+  pub room : SaysRoom old.ground session.0 stmt reply
+  pub full : IfFull reply (allowed_by 0 old.trace) old.ground.capacity
+  pub log : SaysLog old.ground session.0 stmt reply
+  pub log_full : IfLogFull reply (logged_by 0 old.trace) old.ground.log.pages
   pub stays : Stays old new
 
 -- a layout of copy 1, or there was no memory for one
@@ -100,6 +109,7 @@ pub record MadeLayout {V O : Type 0} (old new : DeskState V O) : Type 0 where
   pub event : Event
   pub made : new.trace ≡ old.trace ++ system_entry event 0 ∷ []
   pub is : IsLayout event
+  pub ground : new.ground ≡ old.ground
   pub stays : Stays old new
 
 -- The trace leads from the table without rows to a last state, and that has so many committed rows.

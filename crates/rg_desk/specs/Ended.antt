@@ -2,7 +2,7 @@
 --
 -- 1. Its writes are no longer kept and it is no longer live, whether it commits or was undone. No
 --    other unit's writes are touched, nor what is committed of keys that it has not written.
-use Rattle.std.specs.Prelude.{◌≡◌, ◌+◌, ℕ, false, List, [], ◌∷◌, ◌++◌, Option, Some, None, length, slice_set}
+use Rattle.std.specs.Prelude.{◌≡◌, ◌≤◌, ◌+◌, ℕ, false, List, [], ◌∷◌, ◌++◌, Option, Some, None, length, slice_set}
 use Rattle.std.specs.FinMap as fin
 use Rattle.rg_base.specs.declared.session.Session.{Session}
 use Rattle.rg_model.specs.Committed.{locks_without}
@@ -11,6 +11,7 @@ use Rattle.rg_record.specs.declared.record.Record.{Record}
 use Rattle.rg_lawful.specs.Act.{LogState, is_in, not_of, others}
 use Rattle.rg_lawful.specs.Consistent.{stored_of}
 use Rattle.rg_lawful.specs.Write.{NoneHit, at_key, kept_of, own_of}
+use Rattle.rg_desk.specs.Bytes.{taken_of}
 use Rattle.rg_desk.specs.Units.{owed_to, unit_at}
 use Rattle.rg_desk.specs.declared.engine.Engine.{Engine}
 use Rattle.rg_desk.specs.declared.units.OpenUnit.{OpenUnit}
@@ -40,16 +41,17 @@ records_committed records (Some unit) = records ++ commit_record (length records
 
 -- the Commit of a session's unit was appended, from the room that was reserved for the unit
 pub record LogsCommit (old : Engine) (session : Session) (new : Engine) : Type 0 where
-  pub same : new ≡ record old { records = new.records }
+  pub same : new ≡ record old { log = new.log }
   pub records :
-      new.records.records ≡ records_committed old.records.records (unit_at old.units session.0)
+      new.log.records ≡ records_committed old.log.records (unit_at old.units session.0)
   pub reserved :
-      new.records.reserved + owed_to (unit_at old.units session.0) ≡ old.records.reserved
+      new.log.reserved + owed_to (unit_at old.units session.0) ≡ old.log.reserved
+  pub pages : new.log.pages ≡ old.log.pages
 
 -- a session has no unit, no locks and no claim any more
 pub record EndsSession (old : Engine) (session : Session) (new : Engine) : Type 0 where
   pub space : new.space ≡ old.space
-  pub records : new.records ≡ old.records
+  pub log : new.log ≡ old.log
   pub indexes : new.indexes ≡ old.indexes
   pub top : new.top ≡ old.top
   pub locks : new.locks ≡ locks_without session old.locks
@@ -64,3 +66,14 @@ rolled_record position last unit = record {
   back = record { 0 = last };
   kind = RolledBack;
 }
+
+-- the RolledBack of a unit was appended, and what is reserved is others'
+pub record LogsRolledBack
+    (old : Engine) (unit : OpenUnit) (last others : ℕ) (new : Engine) : Type 0 where
+  pub same : new ≡ record old { log = new.log }
+  pub records :
+      new.log.records
+      ≡ old.log.records ++ rolled_record (length old.log.records + 1) last unit ∷ []
+  pub reserved : new.log.reserved ≡ others
+  pub taken : taken_of new.log ≤ taken_of old.log
+  pub pages : new.log.pages ≡ old.log.pages

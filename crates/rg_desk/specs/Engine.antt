@@ -5,6 +5,7 @@ use Rattle.rg_page.specs.Content.{slots_of}
 use Rattle.rg_page.specs.Seen.{Seen}
 use Rattle.rg_space.specs.Space.{Agree, InStep, capacity_in, frames_of, index_of}
 use Rattle.rg_desk.specs.Pages.{list_seen}
+use Rattle.rg_desk.specs.Room.{Ground}
 use Rattle.rg_desk.specs.declared.engine.Engine.{Engine}
 
 -- what is seen of its frames
@@ -19,3 +20,13 @@ slots_in d = slots_of (seen_in d).pages
 pub record HasPages (d : Engine) : Type 0 where
   pub step : InStep (seen_in d) (index_of d.space) (capacity_in d.space)
   pub agree : Agree (seen_in d) (index_of d.space)
+
+-- what its writes are planned over
+abbrev pub ground_of : Engine → Ground
+ground_of d = record {
+  pages = slots_in d;
+  units = d.units;
+  top = d.top;
+  capacity = capacity_in d.space;
+  log = d.log;
+}

@@ -1,6 +1,8 @@
 pub mod Units
+pub mod Bytes
 pub mod RecordList
 pub mod Pages
+pub mod Room
 pub mod Engine
 pub mod Walks
 pub mod Wrote

@@ -6,7 +6,7 @@
 --    unit alone, and the lock keeps its committed row.
 -- 3. Each session's unit is live, its records lead from write to write, and no two sessions have
 --    one transaction. Every live unit is some session's.
--- 4. There is room for each record that an open unit may still append.
+-- 4. The log has reserved what the open units are owed, and nothing else.
 -- 5. The pages claim no more bytes than the writes so far have allowed.
 use Rattle.std.specs.Prelude.{◌≡◌, ◌≤◌, ℕ, suc, false, List, [], Option, Some, None, length}
 use Rattle.rg_base.specs.declared.lock.Lock.{Lock}
@@ -84,20 +84,20 @@ pub record ShowsBy (st : State) (allowed : ℕ) (d : Engine) (s : LogState) : Ty
   pub indexes : AreListings (row_at (slot_of s.pages)) d.indexes
   pub keys : (k : ℕ) → KeyShown d.units s (fin.get d.locks k) k
   pub places : length d.units ≡ 256
-  pub units : UnitsShown d.records.records s d.units
+  pub units : UnitsShown d.log.records s d.units
   pub top : d.top ≡ s.top
-  pub owed : owed d.units ≤ d.records.reserved
+  pub owed : owed d.units ≡ d.log.reserved
   pub claimed : claimed_all (holding s.live (suc s.top)) s.pages ≤ allowed
 
 -- the state that the records leave
 abbrev pub left_by : LogState → Engine → LogState
-left_by first d = state first (acts_of [] d.records.records)
+left_by first d = state first (acts_of [] d.log.records)
 
 -- the engine shows the state
 pub record Shows (st : State) (allowed : ℕ) (d : Engine) : Type 0 where
   pub first : LogState
   pub begun : IsConsistent (capacity_in d.space) first
-  pub runs : Runs (capacity_in d.space) first (acts_of [] d.records.records)
+  pub runs : Runs (capacity_in d.space) first (acts_of [] d.log.records)
   pub by : ShowsBy st allowed d (left_by first d)
 
 -- it shows some state

@@ -1,19 +1,23 @@
 -- What a statement answers and leaves, but for its claim.
 --
--- 1. The reply is the plain table's, or NOMEMORY or FULL stands for it. FULL comes only where the
---    writes so far have allowed 3,221 bytes for each page of the copy.
+-- 1. The reply is the plain table's, or NOMEMORY, FULL or LOGFULL stands for it. FULL comes exactly
+--    where there is no plan of the write, and then the writes so far have allowed 3,221 bytes for
+--    each page of the copy. LOGFULL comes exactly where the log has less left than the write needs.
 -- 2. A put or a change allows 18 bytes more than its row has.
 use Rattle.std.specs.Prelude.{◌≡◌, ◌≤◌, ◌+◌, ◌*◌, ℕ, true, Some, None, ◌⊎◌, if◌then◌else◌}
 use Rattle.rg_base.specs.RowBytes.{row_size}
 use Rattle.rg_base.specs.declared.session.Session.{Session}
 use Rattle.rg_stmt.specs.declared.stmt.Reply.{Reply}
-use Rattle.rg_stmt.specs.declared.stmt.Reply.TheVariants.{Done, Full, NoMemory}
+use Rattle.rg_stmt.specs.declared.stmt.Reply.TheVariants.{Done, Full, LogFull, NoMemory}
 use Rattle.rg_stmt.specs.declared.stmt.Stmt.{Stmt}
 use Rattle.rg_stmt.specs.declared.stmt.Stmt.TheVariants.{Insert, Update}
 use Rattle.rg_model.specs.Plain.{after, is_done, plain_reply}
-use Rattle.rg_model.specs.Said.{may_want_memory, may_want_room}
+use Rattle.rg_model.specs.Said.{may_want_log, may_want_memory, may_want_room}
 use Rattle.rg_model.specs.State.{State}
 use Rattle.rg_space.specs.Space.{capacity_in}
+use Rattle.rg_desk.specs.Bytes.{most_needed, taken_of}
+use Rattle.rg_desk.specs.Engine.{ground_of}
+use Rattle.rg_desk.specs.Room.{SaysLog, SaysRoom}
 use Rattle.rg_desk.specs.Shows.{Shows}
 use Rattle.rg_desk.specs.Units.{unit_at}
 use Rattle.rg_desk.specs.declared.engine.Engine.{Engine}
@@ -39,6 +43,8 @@ MayReply st allowed capacity session stmt NoMemory = may_want_memory stmt ≡ tr
 MayReply st allowed capacity session stmt (Full need) =
     (may_want_room stmt ≡ true) × (is_done (plain_reply st session stmt) ≡ true)
     × (3221 * capacity ≤ allowed)
+MayReply st allowed capacity session stmt (LogFull need left) =
+    (may_want_log stmt ≡ true) × (is_done (plain_reply st session stmt) ≡ true)
 MayReply st allowed capacity session stmt reply = reply ≡ plain_reply st session stmt
 
 -- the state after a reply, without the claim
@@ -56,11 +62,20 @@ abbrev pub more_allowed : Stmt → Reply → ℕ
 more_allowed stmt Done = bytes_allowed stmt
 more_allowed stmt reply = 0
 
+-- how many bytes more of the log a statement may take or reserve that is answered so
+abbrev pub more_logged : Stmt → Reply → ℕ
+more_logged stmt Done = if may_want_log stmt then most_needed else 0
+more_logged stmt reply = 0
+
 -- the statement is answered so from this state, and leaves the next one
 pub record Goes
     (st : State) (allowed : ℕ) (old : Engine) (session : Session) (stmt : Stmt) (reply : Reply)
     (new : Engine) : Type 0 where
   pub says : MayReply st allowed (capacity_in old.space) session stmt reply
+  pub room : SaysRoom (ground_of old) session.0 stmt reply
+  pub log : SaysLog (ground_of old) session.0 stmt reply
+  pub logged : taken_of new.log ≤ taken_of old.log + more_logged stmt reply
+  pub log_pages : new.log.pages ≡ old.log.pages
   pub shows : Shows (unclaimed st session stmt reply) (allowed + more_allowed stmt reply) new
   pub capacity : capacity_in new.space ≡ capacity_in old.space
 

@@ -2,16 +2,19 @@
 --
 -- 1. Its Changes are found from its last record back, and copied. They are undone in that order,
 --    the latest first.
-use Rattle.std.specs.Prelude.{◌≡◌, ◌≤◌, ◌+◌, ℕ, List, [], ◌∷◌, ◌++◌, Option, Some, None, if◌then◌else◌, length}
+use Rattle.std.specs.Prelude.{◌≡◌, ◌≤◌, ◌+◌, ℕ, Bool, true, false, List, [], ◌∷◌, ◌++◌, Option, Some, None, if◌then◌else◌, length}
 use Rattle.rg_base.specs.declared.place.Place.{Place}
 use Rattle.rg_base.specs.declared.row.Row.{Row}
 use Rattle.rg_home.specs.Undo.{undone}
 use Rattle.rg_index.specs.Listed.{SetsRow}
 use Rattle.rg_indexes.specs.Listings.{AreListedAt, AreListings, HasSpare}
 use Rattle.rg_lawful.specs.Write.{Write}
+use Rattle.rg_record.specs.declared.record.Kind.{Kind}
+use Rattle.rg_record.specs.declared.record.Kind.TheVariants.{Change, Undo, Commit, RolledBack, Purge, Switch}
 use Rattle.rg_record.specs.declared.record.Record.{Record}
 use Rattle.rg_space.specs.Space.{capacity_in, index_of, undos_in}
 use Rattle.rg_undo.specs.Undoing.{CanUndoChange, is_change, undo_record, written_of}
+use Rattle.rg_desk.specs.Bytes.{taken_of}
 use Rattle.rg_desk.specs.Engine.{HasPages, seen_in, slots_in}
 use Rattle.rg_desk.specs.RecordList.{record_at}
 use Rattle.rg_desk.specs.Walks.{Walks, change_record}
@@ -44,7 +47,7 @@ pub record CanUnlist (d : Engine) (at : ℕ) : Type 0 where
   pub t : ℕ
   pub back : ℕ
   pub write : Write
-  pub found : record_at d.records.records at ≡ Some (change_record at t back write)
+  pub found : record_at d.log.records at ≡ Some (change_record at t back write)
   pub listed : AreListedAt d.indexes write.written.home write.after
   pub spare : HasSpare 1 d.indexes
 
@@ -55,12 +58,20 @@ pub record Unlists (old : Engine) (at next : ℕ) (new : Engine) : Type 0 where
   pub spare : (n : ℕ) → HasSpare (n + 1) old.indexes → HasSpare n new.indexes
   pub listings :
       (t back : ℕ) (w : Write) (rows after : Place → Option Row)
-      → record_at old.records.records at ≡ Some (change_record at t back w)
+      → record_at old.log.records at ≡ Some (change_record at t back w)
       → AreListings rows old.indexes → rows w.written.home ≡ w.after
       → SetsRow rows after w.written.home w.written.before → AreListings after new.indexes
   pub next_is :
       (t back : ℕ) (w : Write)
-      → record_at old.records.records at ≡ Some (change_record at t back w) → next ≡ back
+      → record_at old.log.records at ≡ Some (change_record at t back w) → next ≡ back
+
+abbrev pub is_undo : Kind → Bool
+is_undo (Change home before after parts) = false
+is_undo (Undo next home after parts) = true
+is_undo Commit = false
+is_undo RolledBack = false
+is_undo (Purge parts) = false
+is_undo (Switch copy pages) = false
 
 -- a record, where it is a Change
 abbrev pub change_in : Record → Option Record
@@ -86,7 +97,7 @@ pub record CanUndoNext (d : Engine) (work : List Record) (at : ℕ) : Type 0 whe
       (change_record at unlist.t unlist.back unlist.write)
   pub pages : HasPages d
   pub undos : length work ≤ undos_in d.space
-  pub reserved : 1 ≤ d.records.reserved
+  pub reserved : 911 ≤ d.log.reserved
 
 -- it was undone, by a record of its own; the answer is the position of the Change before
 pub record UndidNext
@@ -101,12 +112,15 @@ pub record UndidNext
   pub records :
       (t before : ℕ) (w : Write) (later : List Record)
       → work ≡ change_record at t before w ∷ later
-      → new.records.records
-      ≡ old.records.records
-      ++ undo_record (length old.records.records + 1) back (slots_in old)
+      → new.log.records
+      ≡ old.log.records
+      ++ undo_record (length old.log.records + 1) back (slots_in old)
       (change_record at t before w)
       ∷ []
-  pub reserved : new.records.reserved + 1 ≡ old.records.reserved
+  pub reserved : new.log.reserved ≤ old.log.reserved
+  pub least : old.log.reserved ≤ new.log.reserved + 911
+  pub taken : taken_of new.log ≡ taken_of old.log
+  pub log_pages : new.log.pages ≡ old.log.pages
   pub left_is :
       (t before : ℕ) (w : Write) (later : List Record)
       → work ≡ change_record at t before w ∷ later → left ≡ later
@@ -114,12 +128,12 @@ pub record UndidNext
   pub spare : (n : ℕ) → HasSpare (n + 1) old.indexes → HasSpare n new.indexes
   pub listings :
       (t before : ℕ) (w : Write) (rows after : Place → Option Row)
-      → record_at old.records.records at ≡ Some (change_record at t before w)
+      → record_at old.log.records at ≡ Some (change_record at t before w)
       → AreListings rows old.indexes → rows w.written.home ≡ w.after
       → SetsRow rows after w.written.home w.written.before → AreListings after new.indexes
   pub next_is :
       (t before : ℕ) (w : Write)
-      → record_at old.records.records at ≡ Some (change_record at t before w) → next ≡ before
+      → record_at old.log.records at ≡ Some (change_record at t before w) → next ≡ before
   pub locks : new.locks ≡ old.locks
   pub claims : new.claims ≡ old.claims
   pub units : new.units ≡ old.units

@@ -1,5 +1,5 @@
 -- A unit's writes, undone so far.
-use Rattle.std.specs.Prelude.{◌≡◌, ◌≤◌, ◌+◌, ℕ, List, [], ◌++◌, length}
+use Rattle.std.specs.Prelude.{◌≡◌, ◌≤◌, ◌+◌, ◌*◌, ℕ, List, [], ◌++◌, length}
 use Rattle.rg_home.specs.Pages.{slot_of}
 use Rattle.rg_home.specs.Rows.{row_at}
 use Rattle.rg_indexes.specs.Listings.{AreListings, HasSpare}
@@ -11,6 +11,7 @@ use Rattle.rg_lawful.specs.Write.{own_of}
 use Rattle.rg_model.specs.State.{State}
 use Rattle.rg_record.specs.declared.record.Record.{Record}
 use Rattle.rg_space.specs.Space.{capacity_in, undos_in}
+use Rattle.rg_desk.specs.Bytes.{taken_of}
 use Rattle.rg_desk.specs.Engine.{HasPages, slots_in}
 use Rattle.rg_desk.specs.Shows.{Shows, left_by}
 use Rattle.rg_desk.specs.Undoing.{AreChain}
@@ -25,18 +26,21 @@ pub record IsUndoing
   pub are : AreUndos unit.tran.0 undos
   pub runs : Runs (capacity_in old.space) s undos
   pub more : List Record
-  pub records : now.records.records ≡ old.records.records ++ more
-  pub acts : acts_of [] now.records.records ≡ undos ++ acts_of [] old.records.records
+  pub records : now.log.records ≡ old.log.records ++ more
+  pub acts : acts_of [] now.log.records ≡ undos ++ acts_of [] old.log.records
   pub capacity : capacity_in now.space ≡ capacity_in old.space
   pub pages : HasPages now
   pub slots : slots_in now ≡ (state s undos).pages
   pub indexes : AreListings (row_at (slot_of (state s undos).pages)) now.indexes
   pub chain :
-      AreChain now.records.records unit.tran.0 at (own_of unit.tran.0 (state s undos).writes) work
+      AreChain now.log.records unit.tran.0 at (own_of unit.tran.0 (state s undos).writes) work
   pub left : length (own_of unit.tran.0 (state s undos).writes) + i ≡ unit.writes
   pub spare : HasSpare (length work) now.indexes
   pub rooms : length work ≤ undos_in now.space
-  pub reserved : now.records.reserved + i ≡ old.records.reserved
+  pub reserved : now.log.reserved ≤ old.log.reserved
+  pub least : old.log.reserved ≤ now.log.reserved + 911 * i
+  pub taken : taken_of now.log ≡ taken_of old.log
+  pub log_pages : now.log.pages ≡ old.log.pages
   pub locks : now.locks ≡ old.locks
   pub claims : now.claims ≡ old.claims
   pub units : now.units ≡ old.units

@@ -4,8 +4,8 @@
 --    else.
 -- 2. Each has the number of its transaction, the position of its last record, and how many of its
 --    writes are not undone.
--- 3. It is owed room for so many records: an Undo for each write, and one for its end.
-use Rattle.std.specs.Prelude.{◌+◌, ℕ, List, [], ◌∷◌, Option, Some, None, slice_index_or, sum_by}
+-- 3. It is owed bytes of the log: 911 for the Undo of each write, and 23 for the record of its end.
+use Rattle.std.specs.Prelude.{◌+◌, ◌*◌, ℕ, List, [], ◌∷◌, Option, Some, None, slice_index_or, sum_by}
 use Rattle.rg_desk.specs.declared.units.OpenUnit.{OpenUnit}
 
 -- the open unit of the session with this number
@@ -18,10 +18,10 @@ trans_of [] = []
 trans_of (None ∷ units) = trans_of units
 trans_of (Some unit ∷ units) = unit.tran.0 ∷ trans_of units
 
--- the records that a unit may still append
+-- the bytes that are reserved for a unit
 abbrev pub owed_to : Option OpenUnit → ℕ
 owed_to None = 0
-owed_to (Some unit) = 1 + unit.writes
+owed_to (Some unit) = 23 + 911 * unit.writes
 
 -- those of all units
 abbrev pub owed : List (Option OpenUnit) → ℕ

@@ -3,7 +3,7 @@
 -- 1. A plan that purges is carried out by a Purge record, which is of no transaction, and then by
 --    the Change of its unit.
 -- 2. The Change's back is the unit's last record before.
-use Rattle.std.specs.Prelude.{◌≡◌, ◌+◌, nat_le, ℕ, List, [], ◌∷◌, ◌++◌, Option, Some, None, if◌then◌else◌, length, slice_set}
+use Rattle.std.specs.Prelude.{◌≡◌, ◌≤◌, ◌<◌, ◌+◌, nat_le, ℕ, List, [], ◌∷◌, ◌++◌, Option, Some, if◌then◌else◌, length, slice_set}
 use Rattle.rg_base.specs.declared.part.Part.{Part}
 use Rattle.rg_base.specs.declared.place.Place.{Place}
 use Rattle.rg_base.specs.declared.row.Row.{Row}
@@ -13,13 +13,15 @@ use Rattle.rg_home.specs.Pages.{applied, row_or_empty}
 use Rattle.rg_index.specs.Listed.{SetsRow}
 use Rattle.rg_indexes.specs.Listings.{AreListings, HasSpare, SameEntries}
 use Rattle.rg_lock.specs.Taken.{take_key}
+use Rattle.rg_log.specs.Kept.{left_of}
 use Rattle.rg_record.specs.declared.record.Kind.TheVariants.{Purge}
 use Rattle.rg_record.specs.declared.record.Record.{Record}
 use Rattle.rg_lawful.specs.Write.{write_of}
 use Rattle.rg_stmt.specs.declared.stmt.Reply.{Reply}
-use Rattle.rg_stmt.specs.declared.stmt.Reply.TheVariants.{Done, NoMemory}
+use Rattle.rg_stmt.specs.declared.stmt.Reply.TheVariants.{Done, LogFull, NoMemory}
 use Rattle.rg_space.specs.Carries.{Carries, cleared}
 use Rattle.rg_space.specs.Space.{capacity_in}
+use Rattle.rg_desk.specs.Bytes.{most_needed, needed, plan_bytes}
 use Rattle.rg_desk.specs.Engine.{HasPages, slots_in}
 use Rattle.rg_desk.specs.Units.{unit_at}
 use Rattle.rg_desk.specs.Walks.{change_record}
@@ -57,11 +59,6 @@ unit_wrote records unit plan = record {
   writes = unit.writes + 1;
 }
 
--- what the records of a write take of the room, where one more is left for its undo
-abbrev pub records_taken : List Part → ℕ
-records_taken [] = 1
-records_taken (x ∷ parts) = 2
-
 -- the records of the plan were made, and pages, indexes and units follow them
 pub record Puts
     (old : Engine) (session : Session) (unit : OpenUnit) (plan : Plan) (after : Option Row)
@@ -72,8 +69,9 @@ pub record Puts
       Carries unit.tran.0 0 (capacity_in old.space) (slots_in old) after plan
       → slots_in new
       ≡ applied unit.tran.0 (row_or_empty after) (cleared 0 (slots_in old) plan) plan.parts
-  pub records : new.records.records ≡ records_wrote old.records.records unit plan after
-  pub reserved : new.records.reserved + records_taken plan.purge ≡ old.records.reserved
+  pub records : new.log.records ≡ records_wrote old.log.records unit plan after
+  pub reserved : new.log.reserved + plan_bytes plan after ≡ old.log.reserved
+  pub log_pages : new.log.pages ≡ old.log.pages
   pub indexes :
       (rows next : Place → Option Row) → AreListings rows old.indexes
       → rows plan.home ≡ plan.before → SetsRow rows next plan.home after
@@ -82,53 +80,57 @@ pub record Puts
   pub claims : new.claims ≡ old.claims
   pub units :
       new.units
-      ≡ slice_set old.units session.0 (Some (unit_wrote old.records.records unit plan))
+      ≡ slice_set old.units session.0 (Some (unit_wrote old.log.records unit plan))
   pub top : new.top ≡ (if nat_le unit.tran.0 old.top then old.top else unit.tran.0)
 
--- what the first write of a unit takes more: room for the record of its end
-abbrev pub end_taken : Option OpenUnit → ℕ
-end_taken None = 1
-end_taken (Some unit) = 0
-
--- all that a write may be refused was taken: room in the indexes and for the records, and the lock
+-- all that a write may be refused was taken: room in the indexes, so many bytes of the log, and the
+-- lock
 pub record Prepares
-    (old : Engine) (session : Session) (purge : List Part) (key : ℕ) (kept : Option Row)
-    (new : Engine) : Type 0 where
-  pub space : new.space ≡ old.space
-  pub records : new.records.records ≡ old.records.records
-  pub reserved :
-      new.records.reserved
-      ≡ old.records.reserved + (records_taken purge + 1 + end_taken (unit_at old.units session.0))
-  pub entries : SameEntries old.indexes new.indexes
-  pub spare : HasSpare 1 new.indexes
-  pub locks : new.locks ≡ take_key old.locks session key kept
-  pub claims : new.claims ≡ old.claims
-  pub units : new.units ≡ old.units
-  pub top : new.top ≡ old.top
+    (old : Engine) (session : Session) (need key : ℕ) (kept : Option Row) (new : Engine) : Type 0
+  where
+    pub space : new.space ≡ old.space
+    pub log : new.log ≡ record old.log { reserved = old.log.reserved + need }
+    pub room : need ≤ left_of old.log
+    pub entries : SameEntries old.indexes new.indexes
+    pub spare : HasSpare 1 new.indexes
+    pub locks : new.locks ≡ take_key old.locks session key kept
+    pub claims : new.claims ≡ old.claims
+    pub units : new.units ≡ old.units
+    pub top : new.top ≡ old.top
 
 -- a write: it was prepared and carried out
 pub record Wrote
     (old : Engine) (session : Session) (unit : OpenUnit) (plan : Plan) (key : ℕ)
     (after : Option Row) (new : Engine) : Type 0 where
   pub middle : Engine
-  pub prepared : Prepares old session plan.purge key plan.before middle
+  pub prepared :
+      Prepares old session (needed (unit_at old.units session.0) plan after) key plan.before middle
   pub put : Puts middle session unit plan after new
+  pub most : needed (unit_at old.units session.0) plan after ≤ most_needed
 
 -- all is as it was, but for room
 pub record SameEngine (old new : Engine) : Type 0 where
   pub capacity : capacity_in new.space ≡ capacity_in old.space
   pub pages : HasPages old → HasPages new
   pub slots : slots_in new ≡ slots_in old
-  pub records : new.records ≡ old.records
+  pub log : new.log ≡ old.log
   pub entries : SameEntries old.indexes new.indexes
   pub locks : new.locks ≡ old.locks
   pub claims : new.claims ≡ old.claims
   pub units : new.units ≡ old.units
   pub top : new.top ≡ old.top
 
--- a planned write is done, or it is out of memory and all is as it was
+-- so many bytes are more than the log has left, or it is out of memory; and all is as it was
+abbrev pub Refuses : Engine → (need : ℕ) → Reply → Engine → Type 0
+Refuses old need (LogFull asked left) new =
+    (asked ≡ need) × (left ≡ left_of old.log) × (left < need) × (need ≤ most_needed)
+    × SameEngine old new
+Refuses old need NoMemory new = SameEngine old new
+Refuses old need reply new = ⊥
+
+-- a planned write is done, or it is refused and all is as it was
 abbrev pub Writes :
     Engine → Session → OpenUnit → Plan → (key : ℕ) → Option Row → Reply → Engine → Type 0
 Writes old session unit plan key after Done new = Wrote old session unit plan key after new
-Writes old session unit plan key after NoMemory new = SameEngine old new
-Writes old session unit plan key after reply new = ⊥
+Writes old session unit plan key after reply new =
+    Refuses old (needed (unit_at old.units session.0) plan after) reply new

@@ -9,9 +9,10 @@ ghost use Rattle.rg_model.specs.Legal.{Legal};
 ghost use Rattle.rg_model.specs.Possible.{next_state};
 ghost use Rattle.rg_model.specs.State.{State};
 ghost use Rattle.rg_stmt.specs.declared.event.Actor.TheVariants as actors;
+ghost use Rattle.rg_log.specs.Kept.{log_pages};
 ghost use Rattle.rg_desk.specs.Chronicle.{system_entry};
-ghost use Rattle.rg_desk.specs.Desk.{EndsWithRows, IsLayout, MadeLayout, MadeSaid, copy_capacity};
-ghost use Rattle.rg_desk.specs.Desk.{first_entry, no_rows};
+ghost use Rattle.rg_desk.specs.Desk.{EndsWithRows, IsLayout, MadeLayout, MadeSaid};
+ghost use Rattle.rg_desk.specs.Desk.{copy_capacity, first_entry, no_rows};
 ghost use Rattle.rg_desk.specs.Engine.{HasPages};
 ghost use Rattle.rg_desk.specs.Shows.{Shows};
 ghost use Rattle.rg_desk.specs.Wrote.{SameEngine};
@@ -28,7 +29,7 @@ use rg_stmt::stmt::Stmt;
 use std::alloc::Global;
 use std::marker::Model;
 
-// No copy has more pages.
+// No copy has more pages, and no log.
 const MOST_PAGES: u32 = 65_536;
 
 /// What an opening that found no memory was handed.
@@ -48,14 +49,14 @@ pub struct Desk<V, O> {
 }
 
 impl<V, O> Model for Desk<V, O> {
-    ghost use Rattle.rg_space.specs.Space.{capacity_in};
     ghost use Rattle.rg_desk.specs.Desk.{DeskState, IsDesk};
+    ghost use Rattle.rg_desk.specs.Engine.{ground_of};
 
     ghost Value = { DeskState V O };
 
     ghost view = { λ d. record {
       trace = d.chronicle.trace;
-      capacity = capacity_in d.engine.space;
+      ground = ground_of d.engine;
       volume = d.volume;
       operator = d.operator;
     } };
@@ -96,19 +97,26 @@ impl<V: Volume, O: Operator> Desk<V, O> {
     /// have as many pages as the volume's first set has, and no more than 65,536. Neither the
     /// volume nor the operator is called.
     pub fn new(alloc: Global, volume: V, operator: O) -> Result<Desk<V, O>, OpenFault<V, O>>
-        ensures ok { IfOk result (λ desk. desk ≡ record {
-          trace = first_entry ∷ [];
-          capacity = copy_capacity (V.capacities volume);
-          volume = volume;
-          operator = operator;
+        ensures trace { IfOk result (λ desk. desk.trace ≡ first_entry ∷ []) }
+        ensures pages { IfOk result (λ desk. desk.ground.pages ≡ []) }
+        ensures capacity { IfOk result (λ desk.
+            desk.ground.capacity ≡ copy_capacity (V.capacities volume)) }
+        ensures log { IfOk result (λ desk. desk.ground.log ≡ record {
+          records = [];
+          forced = 0;
+          reserved = 0;
+          pages = log_pages (V.capacities volume);
         }) }
+        ensures volume { IfOk result (λ desk. desk.volume ≡ volume) }
+        ensures operator { IfOk result (λ desk. desk.operator ≡ operator) }
         ensures err { IfErr result (λ fault. fault ≡ record {
           volume = volume;
           operator = operator;
         }) }
     {
         let capacity = volume.capacity(Set::First).min(MOST_PAGES);
-        let Ok(engine) = Engine::new(alloc, capacity) else {
+        let pages = volume.capacity(Set::Log).min(MOST_PAGES);
+        let Ok(engine) = Engine::new(alloc, capacity, pages) else {
             return Err(OpenFault { volume, operator });
         };
         let mut chronicle = Chronicle::new(alloc);

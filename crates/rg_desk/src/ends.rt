@@ -4,14 +4,27 @@
 //    no memory, and is never refused.
 // 2. What was reserved for undoing the unit is given back.
 ghost use Rattle.rg_base.specs.Session.{IsSession};
-ghost use Rattle.rg_desk.specs.Ended.{EndsSession, LogsCommit};
+ghost use Rattle.std.specs.Prelude.{◌≡◌, ◌≤◌, ◌+◌, ◌*◌};
+ghost use Rattle.rg_desk.specs.Ended.{EndsSession, LogsCommit, LogsRolledBack};
 ghost use Rattle.rg_desk.specs.Shows.{IsShown};
 ghost use Rattle.rg_desk.specs.Steps.{Steps};
 
+use crate::bytes::{END_BYTES, UNDO_BYTES};
 use crate::engine::Engine;
+use crate::records::{append, next_position};
+use crate::units::OpenUnit;
+use rg_base::position::Position;
 use rg_base::session::Session;
 use rg_record::record::{Kind, Record};
 use rg_stmt::stmt::{Reply, Stmt};
+
+// What is reserved for undoing so many writes.
+fn undo_bytes(writes: u64, reserved: u32) -> u32
+    requires { 911 * writes ≤ reserved }
+    ensures { result ≡ 911 * writes }
+{
+    (writes * u64::from(UNDO_BYTES)) as u32
+}
 
 impl Engine {
     // Appends the Commit of the session's unit, if it has written, and gives back what was reserved
@@ -23,14 +36,15 @@ impl Engine {
         let Some(unit) = self.units.get(session) else {
             return;
         };
+        let undo = undo_bytes(unit.writes, self.log.reserved());
         let entry = Record {
-            position: self.records.next(),
+            position: next_position(&self.log),
             tran: unit.tran,
             back: unit.last,
             kind: Kind::Commit,
         };
-        self.records.append(entry);
-        self.records.give_back(unit.writes);
+        append(&mut self.log, entry);
+        self.log.give_back(undo);
     }
 
     /// Ends the unit of work and keeps what it wrote. It takes no memory.
@@ -42,6 +56,23 @@ impl Engine {
         self.log_commit(session);
         self.end(session);
         Reply::Done
+    }
+
+    // Appends the RolledBack of a unit, whose last record this is, and gives back what was reserved
+    // for it: `others` is what is reserved for all others.
+    fn log_rolled_back(&mut self, unit: OpenUnit, last: Position, others: u32)
+        requires { others + 23 ≤ self.old.log.reserved }
+        ensures { LogsRolledBack self.old unit last.0 others self.new }
+    {
+        let entry = Record {
+            position: next_position(&self.log),
+            tran: unit.tran,
+            back: last,
+            kind: Kind::RolledBack,
+        };
+        append(&mut self.log, entry);
+        let left = self.log.reserved() - others;
+        self.log.give_back(left);
     }
 
     // The session has no unit, no locks and no claim any more.
@@ -64,16 +95,12 @@ impl Engine {
             self.end(session);
             return Reply::Done;
         };
+        let reserved = self.log.reserved();
+        let others = reserved - END_BYTES - undo_bytes(unit.writes, reserved);
         let Ok(last) = self.undo_writes(session, unit) else {
             return Reply::NoMemory;
         };
-        let entry = Record {
-            position: self.records.next(),
-            tran: unit.tran,
-            back: last,
-            kind: Kind::RolledBack,
-        };
-        self.records.append(entry);
+        self.log_rolled_back(unit, last, others);
         self.end(session);
         Reply::Done
     }

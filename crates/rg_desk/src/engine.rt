@@ -1,16 +1,16 @@
 // The table over pages, with the locks, claims and units of its sessions.
 //
 // 1. A write is planned first. Then all that may be refused is taken: copies of rows, room in the
-//    indexes and for records, and last the lock. After that nothing fails.
+//    indexes, bytes of the log, and last the lock. After that nothing fails.
 // 2. A record is applied to the pages and then appended. So the pages are always those that the
 //    records leave.
-ghost use Rattle.std.specs.Prelude.{◌≡◌, ◌≤◌, ◌<◌, ◌+◌, ◌^◌, ◌∷◌, ◌++◌, [], List, None, nat_le, if◌then◌else◌, length, IfOk, OnOk, OnErr};
+ghost use Rattle.std.specs.Prelude.{◌≡◌, ◌≤◌, ◌<◌, ◌+◌, ◌^◌, ◌∷◌, ◌++◌, [], List, None, nat_le, if◌then◌else◌, length, IfOk, IfErr, OnOk};
 ghost use Rattle.rg_base.specs.declared.part.Part.{Part};
 ghost use Rattle.rg_home.specs.Pages.{applied, row_or_empty};
 ghost use Rattle.rg_space.specs.Carries.{AllThere};
-ghost use Rattle.std.specs.Option.{option_copied};
 ghost use Rattle.rg_indexes.specs.Listings.{AreListedAt, HasSpare};
 ghost use Rattle.rg_record.specs.Applied.{parts_of};
+ghost use Rattle.rg_record.specs.Spelled.{IsRecord};
 ghost use Rattle.rg_space.specs.Ready.{CanApply, CanApplyRecord, IsAtHand, AllReady, record_applied};
 ghost use Rattle.rg_space.specs.Space.{Agree, InStep, capacity_in, frames_of, index_of};
 ghost use Rattle.rg_page.specs.Content.{slots_of};
@@ -18,22 +18,26 @@ ghost use Rattle.std.specs.FinMap as map;
 ghost use Rattle.rg_model.specs.Held.{holder};
 ghost use Rattle.rg_model.specs.State.{at_rest};
 ghost use Rattle.rg_desk.specs.Pages.{list_seen};
-ghost use Rattle.rg_desk.specs.Engine.{HasPages, seen_in};
+ghost use Rattle.rg_desk.specs.Engine.{HasPages, seen_in, slots_in};
 ghost use Rattle.rg_desk.specs.Shows.{Shows};
-ghost use Rattle.rg_desk.specs.Wrote.{Prepares, Puts, SameEngine, Writes, end_taken, records_cleared, records_taken};
+ghost use Rattle.rg_desk.specs.Bytes.{IsPurge, IsSpelled, kind_bytes, most_needed, plan_bytes, purge_bytes};
+ghost use Rattle.rg_desk.specs.Wrote.{Prepares, Puts, Refuses, Writes, records_cleared};
 
-use crate::records::Records;
+use crate::bytes::needed;
+use crate::records::{append, next_position};
 use crate::units::{OpenUnit, Units};
 use rg_base::no_memory::NoMemory;
 use rg_base::part::Parts;
 use rg_base::position::Position;
-use rg_base::row::Row;
+use rg_base::row::{Row, copy_row};
 use rg_base::session::Session;
 use rg_base::tran::Tran;
 use rg_claim::claims::Claims;
 use rg_home::plan::Plan;
 use rg_indexes::indexes::Indexes;
 use rg_lock::locks::Locks;
+use rg_log::fault::ReserveFault;
+use rg_log::log::Log;
 use rg_page::list::ListFrames;
 use rg_record::record::{Kind, Record};
 use rg_space::space::Space;
@@ -45,7 +49,7 @@ use std::alloc::Global;
 pub struct Engine {
     pub alloc: Global,
     pub space: Space<ListFrames>,
-    pub records: Records,
+    pub log: Log,
     pub indexes: Indexes,
     pub locks: Locks,
     pub claims: Claims,
@@ -54,10 +58,12 @@ pub struct Engine {
 }
 
 // Applies a record to the pages, and appends it. It takes no memory.
-fn make(space: &mut Space<ListFrames>, records: &mut Records, entry: Record)
+fn make(space: &mut Space<ListFrames>, log: &mut Log, entry: Record)
     requires step { InStep (list_seen (frames_of space.old)) (index_of space.old)
         (capacity_in space.old) }
-    requires room { 1 ≤ records.old.reserved }
+    requires spelled { IsRecord entry }
+    requires next { entry.position.0 ≡ length log.old.records + 1 }
+    requires room { kind_bytes entry.kind ≤ log.old.reserved }
     ensures step { InStep (list_seen (frames_of space.new)) (index_of space.new)
         (capacity_in space.new) }
     ensures agree { Agree (list_seen (frames_of space.old)) (index_of space.old)
@@ -71,18 +77,20 @@ fn make(space: &mut Space<ListFrames>, records: &mut Records, entry: Record)
         → (parts : List Part)
         → AllReady (list_seen (frames_of space.old)) (capacity_in space.old) parts
         → AllReady (list_seen (frames_of space.new)) (capacity_in space.old) parts }
-    ensures records { records.new.records ≡ records.old.records ++ entry ∷ [] }
-    ensures reserved { records.new.reserved + 1 ≡ records.old.reserved }
+    ensures records { log.new.records ≡ log.old.records ++ entry ∷ [] }
+    ensures reserved { log.new.reserved + kind_bytes entry.kind ≡ log.old.reserved }
+    ensures pages { log.new.pages ≡ log.old.pages }
 {
     space.apply(&entry);
-    records.append(entry);
+    append(log, entry);
 }
 
 // Makes the Purge record of these parts, if there are any.
-fn clear(space: &mut Space<ListFrames>, records: &mut Records, purge: Parts)
+fn clear(space: &mut Space<ListFrames>, log: &mut Log, purge: Parts)
     requires step { InStep (list_seen (frames_of space.old)) (index_of space.old)
         (capacity_in space.old) }
-    requires room { records_taken purge ≤ records.old.reserved + 1 }
+    requires purge { IsPurge purge }
+    requires room { purge_bytes purge ≤ log.old.reserved }
     ensures step { InStep (list_seen (frames_of space.new)) (index_of space.new)
         (capacity_in space.new) }
     ensures agree { Agree (list_seen (frames_of space.old)) (index_of space.old)
@@ -96,39 +104,20 @@ fn clear(space: &mut Space<ListFrames>, records: &mut Records, purge: Parts)
         → (parts : List Part)
         → AllReady (list_seen (frames_of space.old)) (capacity_in space.old) parts
         → AllReady (list_seen (frames_of space.new)) (capacity_in space.old) parts }
-    ensures records { records.new.records ≡ records_cleared records.old.records purge }
-    ensures reserved { records.new.reserved + records_taken purge ≡ records.old.reserved + 1 }
+    ensures records { log.new.records ≡ records_cleared log.old.records purge }
+    ensures reserved { log.new.reserved + purge_bytes purge ≡ log.old.reserved }
+    ensures pages { log.new.pages ≡ log.old.pages }
 {
     if purge.as_slice().is_empty() {
         return;
     }
     let entry = Record {
-        position: records.next(),
+        position: next_position(log),
         tran: Tran(0),
         back: Position(0),
         kind: Kind::Purge { parts: purge },
     };
-    make(space, records, entry);
-}
-
-// How many records a write makes room for: its own, its undo, and at the first write of a unit the
-// one of its end.
-fn room_for(purge: &Parts, unit: Option<OpenUnit>) -> u32
-    ensures { result ≡ records_taken purge.now + 1 + end_taken unit }
-{
-    let own = if purge.as_slice().is_empty() { 1 } else { 2 };
-    let end = if unit.is_none() { 1 } else { 0 };
-    own + 1 + end
-}
-
-/// A copy of a row, if there is one.
-pub fn copy_row(alloc: Global, row: Option<&Row>) -> Result<Option<Row>, NoMemory>
-    ensures { IfOk result (λ copy. copy ≡ option_copied row.entry) }
-{
-    match row {
-        None => Ok(None),
-        Some(row) => Ok(Some(row.copy(alloc)?)),
-    }
+    make(space, log, entry);
 }
 
 // The greater of the greatest number so far and this one.
@@ -139,10 +128,14 @@ fn greater(top: u32, tran: Tran) -> u32
 }
 
 impl Engine {
-    /// A table without rows, in a copy that may have `capacity` pages.
-    pub fn new(alloc: Global, capacity: u32) -> Result<Engine, NoMemory>
+    /// A table without rows, in a copy that may have `capacity` pages, with a log of so many pages.
+    pub fn new(alloc: Global, capacity: u32, pages: u32) -> Result<Engine, NoMemory>
+        requires { pages ≤ 65536 }
         ensures shows { IfOk result (λ d. Shows (at_rest map.empty 1) 0 d) }
         ensures capacity { IfOk result (λ d. capacity_in d.space ≡ capacity) }
+        ensures pages { IfOk result (λ d. slots_in d ≡ []) }
+        ensures log { IfOk result (λ d. d.log
+            ≡ record { records = []; forced = 0; reserved = 0; pages = pages }) }
     {
         let Ok(space) = Space::new(alloc, ListFrames::new(alloc, 1), capacity) else {
             return Err(NoMemory);
@@ -154,7 +147,7 @@ impl Engine {
         Ok(Engine {
             alloc,
             space,
-            records: Records::new(alloc),
+            log: Log::empty(alloc, pages),
             indexes,
             locks,
             claims,
@@ -169,7 +162,8 @@ impl Engine {
         requires hand { IsAtHand (seen_in self.old) (capacity_in self.old.space) plan }
         requires listed { AreListedAt self.old.indexes plan.home plan.before }
         requires spare { HasSpare 1 self.old.indexes }
-        requires room { records_taken plan.purge ≤ self.old.records.reserved }
+        requires spelled { IsSpelled plan }
+        requires room { plan_bytes plan after ≤ self.old.log.reserved }
         requires writes { unit.writes + 1 < 2 ^ 64 }
         ensures { Puts self.old session unit plan after self.new }
     {
@@ -180,8 +174,8 @@ impl Engine {
             parts,
         } = plan;
         self.indexes.replace(home, before.as_ref(), after.as_ref());
-        clear(&mut self.space, &mut self.records, purge);
-        let position = self.records.next();
+        clear(&mut self.space, &mut self.log, purge);
+        let position = next_position(&self.log);
         let entry = Record {
             position,
             tran: unit.tran,
@@ -193,7 +187,7 @@ impl Engine {
                 parts,
             },
         };
-        make(&mut self.space, &mut self.records, entry);
+        make(&mut self.space, &mut self.log, entry);
         let next = OpenUnit {
             tran: unit.tran,
             last: position,
@@ -203,25 +197,32 @@ impl Engine {
         self.top = greater(self.top, unit.tran);
     }
 
-    // Takes all that a write may be refused: room in the indexes and for the records, and last the
-    // lock of its key.
+    // Takes all that a write may be refused: room in the indexes, bytes of the log, and last the lock
+    // of its key.
     fn prepare(
         &mut self,
         session: Session,
-        purge: &Parts,
+        need: u32,
         key: u64,
         kept: Option<Row>,
-    ) -> Result<(), NoMemory>
+    ) -> Result<(), Reply>
+        requires small { need ≤ most_needed }
         requires alone { holder self.old.locks session key ≡ None }
-        ensures ok { OnOk result (Prepares self.old session purge.now key kept self.new) }
-        ensures err { OnErr result (SameEngine self.old self.new) }
+        ensures ok { OnOk result (Prepares self.old session need key kept self.new) }
+        ensures err { IfErr result (λ reply. Refuses self.old need reply self.new) }
     {
-        self.indexes.reserve(1)?;
-        let more = room_for(purge, self.units.get(session));
-        self.records.reserve(more)?;
+        match self.indexes.reserve(1) {
+            Ok(()) => {}
+            Err(_) => return Err(Reply::NoMemory),
+        }
+        match self.log.reserve(need) {
+            Ok(()) => {}
+            Err(ReserveFault::LogFull { need, left }) => return Err(Reply::LogFull { need, left }),
+            Err(ReserveFault::NoMemory) => return Err(Reply::NoMemory),
+        }
         if self.locks.take(session, key, kept).is_err() {
-            self.records.give_back(u64::from(more));
-            return Err(NoMemory);
+            self.log.give_back(need);
+            return Err(Reply::NoMemory);
         }
         Ok(())
     }
@@ -238,6 +239,7 @@ impl Engine {
         requires pages { HasPages self.old }
         requires hand { IsAtHand (seen_in self.old) (capacity_in self.old.space) plan }
         requires listed { AreListedAt self.old.indexes plan.home plan.before }
+        requires spelled { IsSpelled plan }
         requires writes { unit.writes + 1 < 2 ^ 64 }
         requires alone { holder self.old.locks session key ≡ None }
         ensures { Writes self.old session unit plan key after result self.new }
@@ -245,9 +247,10 @@ impl Engine {
         let Ok(kept) = copy_row(self.alloc, plan.before.as_ref()) else {
             return Reply::NoMemory;
         };
-        match self.prepare(session, &plan.purge, key, kept) {
+        let need = needed(self.units.get(session), &plan, &after);
+        match self.prepare(session, need, key, kept) {
             Ok(()) => {}
-            Err(_) => return Reply::NoMemory,
+            Err(reply) => return reply,
         }
         self.put(session, unit, plan, after);
         Reply::Done

@@ -1,6 +1,8 @@
 //! The table over pages, as sessions see it: rows, locks, claims and units.
 #![tactic(auto)]
 
+/// What a write takes of the log.
+pub mod bytes;
 /// The entries of a desk.
 pub mod chronicle;
 /// How many rows are committed.
@@ -15,7 +17,7 @@ pub mod engine;
 pub mod layout;
 /// SELECT, SCAN and FIND.
 pub mod reads;
-/// Records in memory.
+/// The records of a log, by their positions.
 pub mod records;
 /// The answer to any statement.
 pub mod say;

@@ -14,6 +14,7 @@ ghost use Rattle.rg_desk.specs.Steps.{Steps};
 
 use crate::engine::Engine;
 use rg_base::session::{Class, Session};
+use rg_model::plain::parts::is_done;
 use rg_stmt::stmt::{Reply, Stmt};
 
 // The class that a statement takes. The ends of a unit take none.
@@ -24,16 +25,6 @@ fn class_of(stmt: &Stmt) -> Option<Class>
         Stmt::Insert(_) | Stmt::Update(_) | Stmt::Delete(_) => Some(Class::Writer),
         Stmt::Select(_) | Stmt::Scan { .. } | Stmt::Find(_) => Some(Class::Reader),
         Stmt::Commit | Stmt::Rollback => None,
-    }
-}
-
-// A reply with number 0.
-fn is_done(reply: &Reply) -> bool
-    ensures { result ≡ is_done reply.now }
-{
-    match reply {
-        Reply::Done | Reply::Found(_) | Reply::Listed(_) | Reply::Keyed(_) => true,
-        _ => false,
     }
 }
 

@@ -110,7 +110,7 @@ fn update(key: u64, size: u16) -> Ask {
 // has its room until the unit ends.
 #[test]
 fn answers_full(rt: HostRuntime) -> Result<(), Fail> {
-    let mut engine = ShownEngine::new(rt.alloc(), 1)?;
+    let mut engine = ShownEngine::new(rt.alloc(), 1, 100)?;
     let steps: [Step; 26] = [
         (1, insert(1, 800), DONE),
         (1, insert(2, 800), DONE),

@@ -3,76 +3,67 @@
 // 1. The Changes of the unit are copied first, from its last record back, and room in the indexes
 //    is taken for each. After that nothing fails.
 // 2. The latest is undone first. Each undo is a record of its own.
-ghost use Rattle.std.specs.Prelude.{◌≡◌, ◌≤◌, List, Some, IfOk, OnOk, OnErr, length};
+ghost use Rattle.std.specs.Prelude.{◌≡◌, ◌≤◌, ◌+◌, ◌++◌, ◌∷◌, [], true, List, Some, IfOk, OnOk, OnErr, length};
+ghost use Rattle.rg_record.specs.Spelled.{IsRecord};
 ghost use Rattle.rg_lawful.specs.Write.{Write};
-ghost use Rattle.rg_desk.specs.Undoing.{AreChain, CanUndoNext, CanUnlist, HasWrites, UndidNext, Unlists, change_in};
+ghost use Rattle.rg_desk.specs.Bytes.{taken_of};
+ghost use Rattle.rg_desk.specs.Undoing.{AreChain, CanUndoNext, CanUnlist, HasWrites, UndidNext, Unlists, change_in, is_undo};
 ghost use Rattle.rg_desk.specs.Shows.{IsShown};
 ghost use Rattle.rg_desk.specs.Undone.{IsUndone};
 ghost use Rattle.rg_desk.specs.Units.{unit_at};
 ghost use Rattle.rg_desk.specs.Wrote.{SameEngine};
 ghost use Rattle.rg_desk.specs.Walks.{Walks};
 
-use crate::engine::{Engine, copy_row};
+use crate::engine::Engine;
+use crate::records::{append, next_position, record_at};
 use crate::units::OpenUnit;
 use rg_base::no_memory::NoMemory;
-use rg_base::part::Parts;
 use rg_base::position::Position;
 use rg_base::session::Session;
+use rg_log::log::Log;
 use rg_record::record::{Kind, Record};
 use rg_undo::work::UndoWork;
 use std::alloc::Global;
-
-fn copy_parts(alloc: Global, parts: &Parts) -> Result<Parts, NoMemory>
-    ensures { IfOk result (λ copy. copy ≡ parts.now) }
-{
-    let mut copy = Vec::new(alloc);
-    copy.extend_from_slice(parts.as_slice())?;
-    Ok(Parts::new(copy))
-}
 
 // A copy of a Change, or None of another record.
 fn copy_change(alloc: Global, entry: &Record) -> Result<Option<Record>, NoMemory>
     ensures { IfOk result (λ copy. copy ≡ change_in entry.now) }
 {
     match &entry.kind {
-        Kind::Change {
-            home,
-            before,
-            after,
-            parts,
-        } => {
-            let before = copy_row(alloc, before.as_ref())?;
-            let after = copy_row(alloc, after.as_ref())?;
-            let parts = copy_parts(alloc, parts)?;
-            Ok(Some(Record {
-                position: entry.position,
-                tran: entry.tran,
-                back: entry.back,
-                kind: Kind::Change {
-                    home: *home,
-                    before,
-                    after,
-                    parts,
-                },
-            }))
-        }
+        Kind::Change { .. } => Ok(Some(entry.copy(alloc)?)),
         _ => Ok(None),
     }
+}
+
+// Appends the record of an undo. What was reserved for it and is left stays reserved.
+fn append_undo(log: &mut Log, undo: Record)
+    requires spelled { IsRecord undo }
+    requires undo { is_undo undo.kind ≡ true }
+    requires next { undo.position.0 ≡ length log.old.records + 1 }
+    requires room { 911 ≤ log.old.reserved }
+    ensures records { log.new.records ≡ log.old.records ++ undo ∷ [] }
+    ensures reserved { log.new.reserved ≤ log.old.reserved }
+    ensures least { log.old.reserved ≤ log.new.reserved + 911 }
+    ensures taken { taken_of log.new ≡ taken_of log.old }
+    ensures pages { log.new.pages ≡ log.old.pages }
+{
+    undo.fits();
+    append(log, undo);
 }
 
 impl Engine {
     // Copies of a unit's Changes, from its last one back.
     fn collect(&self, unit: OpenUnit) -> Result<Vec<Record>, NoMemory>
-        requires writes { HasWrites self.now.records.records unit }
+        requires writes { HasWrites self.now.log.records unit }
         ensures { IfOk result (λ changes. (ws : List Write)
-            → Walks self.now.records.records unit.tran.0 unit.last.0 ws
-            → length ws ≡ unit.writes → AreChain self.now.records.records unit.tran.0
+            → Walks self.now.log.records unit.tran.0 unit.last.0 ws
+            → length ws ≡ unit.writes → AreChain self.now.log.records unit.tran.0
             unit.last.0 ws changes.items) }
     {
         let mut changes = Vec::new(self.alloc);
         let mut at = unit.last;
         for _ in 0..unit.writes {
-            let Some(entry) = self.records.at(at) else {
+            let Some(entry) = record_at(&self.log, at) else {
                 unreachable!()
             };
             let Some(copy) = copy_change(self.alloc, entry)? else {
@@ -91,7 +82,7 @@ impl Engine {
         requires can { CanUnlist self.old at.0 }
         ensures { Unlists self.old at.0 result.0 self.new }
     {
-        let Some(entry) = self.records.at(at) else {
+        let Some(entry) = record_at(&self.log, at) else {
             unreachable!()
         };
         match &entry.kind {
@@ -116,10 +107,10 @@ impl Engine {
         ensures { UndidNext self.old work.old at.0 back.0 result.0 self.new work.new }
     {
         let next = self.unlist(at);
-        let position = self.records.next();
+        let position = next_position(&self.log);
         match work.next(&mut self.space, position, back) {
             Ok(Some(undo)) => {
-                self.records.append(undo);
+                append_undo(&mut self.log, undo);
                 next
             }
             _ => unreachable!(),
@@ -143,7 +134,7 @@ impl Engine {
         let mut at = unit.last;
         let mut back = unit.last;
         for _ in 0..unit.writes {
-            let position = self.records.next();
+            let position = next_position(&self.log);
             at = self.undo_next(&mut work, at, back);
             back = position;
         }

@@ -11,7 +11,9 @@ use Rattle.rg_stmt.specs.Entries.{said_entry}
 use Rattle.rg_desk.specs.Answers.{is_answer}
 use Rattle.rg_desk.specs.Chronicle.{system_entry}
 use Rattle.rg_desk.specs.Desk.{DeskState, EndsWithRows, IsLayout, Stays, first_entry}
+use Rattle.rg_image.specs.Rules.{limit_of}
 use Rattle.rg_run.specs.Full.{IsFullOnlyFrom}
+use Rattle.rg_run.specs.LogFull.{IsLogFullOnlyFrom}
 use Rattle.rg_run.specs.declared.played.RunEnd.{RunEnd}
 use Rattle.rg_run.specs.declared.played.RunEnd.TheVariants.{Whole, NoMemory}
 
@@ -55,5 +57,6 @@ Ends lines trace NoMemory = (trace ≡ []) ⊎ TraceOfFront lines trace
 pub record Goes {V O : Type 0} (first : DeskState V O) (lines : List Line) (desk : DeskState V O)
     : Type 0 where
   pub entries : TraceOf lines desk.trace
-  pub full : IsFullOnlyFrom (3221 * desk.capacity) 0 desk.trace
+  pub full : IsFullOnlyFrom (3221 * desk.ground.capacity) 0 desk.trace
+  pub log_full : IsLogFullOnlyFrom (limit_of desk.ground.log.pages) 0 desk.trace
   pub stays : Stays first desk

@@ -7,7 +7,10 @@ ghost use Rattle.std.specs.List.{AllByRecursion};
 ghost use Rattle.rg_stmt.specs.declared.line.Line.{Line};
 ghost use Rattle.rg_model.specs.Legal.{Legal};
 ghost use Rattle.rg_desk.specs.Desk.{DeskState, copy_capacity, first_entry, no_rows};
+ghost use Rattle.rg_image.specs.Rules.{limit_of};
+ghost use Rattle.rg_log.specs.Kept.{log_pages};
 ghost use Rattle.rg_run.specs.Full.{IsFullOnlyFrom};
+ghost use Rattle.rg_run.specs.LogFull.{IsLogFullOnlyFrom};
 ghost use Rattle.rg_run.specs.Played.{IsPlayed, Ends, Goes};
 
 use crate::played::{Played, RunEnd};
@@ -19,8 +22,8 @@ use rg_stmt::line::Line;
 use std::alloc::Global;
 
 /// Plays the lines in order over a table without rows. The table lies in memory, in as many pages
-/// as the first set of the volume has, and no more than 65,536. Neither the volume nor the operator
-/// is called.
+/// as the first set of the volume has, and no more than 65,536; its log has as many bytes as the log
+/// set of the volume has room for. Neither the volume nor the operator is called.
 pub fn run<V: Volume, O: Operator>(
     alloc: Global,
     volume: V,
@@ -31,6 +34,8 @@ pub fn run<V: Volume, O: Operator>(
     ensures ends { Ends lines.items result.trace.items result.end }
     ensures legal { Legal no_rows result.trace.items }
     ensures full { IsFullOnlyFrom (3221 * copy_capacity (V.capacities volume)) 0
+        result.trace.items }
+    ensures log_full { IsLogFullOnlyFrom (limit_of (log_pages (V.capacities volume))) 0
         result.trace.items }
     ensures volume { result.volume ≡ volume }
     ensures operator { result.operator ≡ operator }
@@ -72,7 +77,8 @@ fn play<V: Volume, O: Operator>(mut desk: Desk<V, O>, lines: Vec<Line>) -> Playe
     requires opened { desk.trace ≡ first_entry ∷ [] }
     ensures ends { Ends lines.items result.trace.items result.end }
     ensures legal { Legal no_rows result.trace.items }
-    ensures full { IsFullOnlyFrom (3221 * desk.capacity) 0 result.trace.items }
+    ensures full { IsFullOnlyFrom (3221 * desk.ground.capacity) 0 result.trace.items }
+    ensures log_full { IsLogFullOnlyFrom (limit_of desk.ground.log.pages) 0 result.trace.items }
     ensures volume { result.volume ≡ desk.volume }
     ensures operator { result.operator ≡ desk.operator }
 {

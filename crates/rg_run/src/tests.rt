@@ -48,7 +48,12 @@ const HELD: i32 = -913;
 
 const FULL: i32 = -904;
 
+const LOG_FULL: i32 = 2;
+
 const SHOWN: i32 = 1;
+
+// A log that none of these decks fills.
+const WIDE_LOG: u32 = 2000;
 
 fn insert(key: u64, clus: u64) -> Ask {
     Ask::Insert { key, clus, cat: 0 }
@@ -120,12 +125,14 @@ fn number_of(reply: &Reply) -> i32 {
         Reply::Duplicate => DUPLICATE,
         Reply::Held(_) => HELD,
         Reply::Full { .. } => FULL,
+        Reply::LogFull { .. } => LOG_FULL,
         Reply::NoMemory => 5,
         _ => -1,
     }
 }
 
-// The key and the `clus` of each row, the keys, or the session that holds the statement up.
+// The key and the `clus` of each row, the keys, the session that holds the statement up, or what is
+// needed of the log and what is left.
 fn told_of(alloc: Global, reply: &Reply) -> Result<Vec<u64>, AllocError> {
     let mut told = Vec::new(alloc);
     match reply {
@@ -145,6 +152,10 @@ fn told_of(alloc: Global, reply: &Reply) -> Result<Vec<u64>, AllocError> {
             }
         }
         Reply::Held(owner) => told.push(u64::from(owner.0))?,
+        Reply::LogFull { need, left } => {
+            told.push(u64::from(*need))?;
+            told.push(u64::from(*left))?;
+        }
         _ => {}
     }
     Ok(told)
@@ -187,15 +198,16 @@ fn lines_of(alloc: Global, steps: &[Step]) -> Result<Vec<Line>, Fail>
     Ok(lines)
 }
 
-// A run of these lines over copies of so many pages.
+// A run of these lines over a log and copies of so many pages.
 fn played(
     alloc: Global,
+    log: u32,
     pages: u32,
     lines: Vec<Line>,
 ) -> Result<Played<MemVolume, ScriptOperator>, Fail>
     requires { AllByRecursion IsPlayed lines.items }
 {
-    let volume = MemVolume::new(alloc, 1, pages, pages, 0, 0, &[], None)?;
+    let volume = MemVolume::new(alloc, log, pages, pages, 0, 0, &[], None)?;
     let operator = ScriptOperator::new(alloc, &[])?;
     Ok(run(alloc, volume, operator, lines))
 }
@@ -209,7 +221,19 @@ fn expect_steps(
     steps: &[Step],
     rows: u64,
 ) -> Result<(), Fail> {
-    let played = played(alloc, pages, lines_of(alloc, steps)?)?;
+    expect_logged_steps(rt, alloc, WIDE_LOG, pages, steps, rows)
+}
+
+// The same, over a log of so many pages.
+fn expect_logged_steps(
+    rt: &impl Abort,
+    alloc: Global,
+    log: u32,
+    pages: u32,
+    steps: &[Step],
+    rows: u64,
+) -> Result<(), Fail> {
+    let played = played(alloc, log, pages, lines_of(alloc, steps)?)?;
     assert_eq!(rt; played.end, RunEnd::Whole { rows });
     assert_eq!(rt; played.trace.len(), steps.len() + 1);
     let entries = played.trace.iter().skip(1);
@@ -513,6 +537,48 @@ fn moves_and_fills(rt: HostRuntime) -> Result<(), Fail> {
     Ok(())
 }
 
+// A log of four pages may have 6,810 bytes. An INSERT of a row of 26 bytes takes 69, and reserves 911
+// for its undo; 23 more are reserved with the first write of a unit. The end of a unit gives back
+// what its undo did not take.
+#[test]
+fn answers_log_full(rt: HostRuntime) -> Result<(), Fail> {
+    let steps: [Step; 25] = [
+        (1, insert(1, 0), DONE, NOTHING),
+        (1, insert(2, 0), DONE, NOTHING),
+        (1, insert(3, 0), DONE, NOTHING),
+        (1, insert(4, 0), DONE, NOTHING),
+        (1, insert(5, 0), DONE, NOTHING),
+        (1, insert(6, 0), DONE, NOTHING),
+        (1, insert(7, 0), LOG_FULL, &[980, 907]),
+        (2, insert(8, 0), LOG_FULL, &[1003, 907]),
+        (1, update(1, 0), LOG_FULL, &[1006, 907]),
+        (1, Ask::Delete(1), LOG_FULL, &[980, 907]),
+        (1, Ask::Delete(7), ABSENT, NOTHING),
+        (1, Ask::Select(1), DONE, &[1, 0]),
+        (1, Ask::Commit, DONE, NOTHING),
+        (2, insert(8, 0), DONE, NOTHING),
+        (2, Ask::Delete(1), DONE, NOTHING),
+        (2, Ask::Rollback, DONE, NOTHING),
+        (3, insert(10, 0), DONE, NOTHING),
+        (3, insert(11, 0), DONE, NOTHING),
+        (3, insert(12, 0), DONE, NOTHING),
+        (3, insert(13, 0), DONE, NOTHING),
+        (3, insert(14, 0), DONE, NOTHING),
+        (3, insert(15, 0), DONE, NOTHING),
+        (3, insert(16, 0), LOG_FULL, &[980, 185]),
+        (3, Ask::Delete(10), LOG_FULL, &[980, 185]),
+        (2, scan(1, 6), DONE, &[1, 0, 2, 0, 3, 0, 4, 0, 5, 0, 6, 0]),
+    ];
+    expect_logged_steps(&rt, rt.alloc(), 4, 2, &steps, 6)?;
+    let none: [Step; 3] = [
+        (1, insert(1, 0), LOG_FULL, &[1003, 0]),
+        (1, Ask::Commit, DONE, NOTHING),
+        (1, scan(0, 9), DONE, NOTHING),
+    ];
+    expect_logged_steps(&rt, rt.alloc(), 1, 2, &none, 0)?;
+    Ok(())
+}
+
 // A linear congruential generator. Its upper bits are used, since the lower ones repeat soon.
 #[derive(Drop)]
 struct Draws {
@@ -583,7 +649,7 @@ fn drawn(alloc: Global, count: u32) -> Result<Vec<Line>, Fail>
 #[test]
 fn answers_as_the_plain_program(rt: HostRuntime) -> Result<(), Fail> {
     let alloc = rt.alloc();
-    let played = played(alloc, 9, drawn(alloc, 600)?)?;
+    let played = played(alloc, WIDE_LOG, 9, drawn(alloc, 600)?)?;
     let mut plain = PlainState::new(alloc, 1);
     assert_eq!(rt; played.trace.len(), 601);
     for (at, entry) in played.trace.iter().enumerate() {
@@ -606,7 +672,7 @@ fn answers_as_the_plain_program(rt: HostRuntime) -> Result<(), Fail> {
 
 #[test]
 fn runs_empty_deck(rt: HostRuntime) -> Result<(), Fail> {
-    let played = played(rt.alloc(), 1, Vec::new(rt.alloc()))?;
+    let played = played(rt.alloc(), 0, 1, Vec::new(rt.alloc()))?;
     assert_eq!(rt; played.end, RunEnd::Whole { rows: 0 });
     assert_eq!(rt; played.trace.len(), 1);
     assert_eq!(rt; played.trace[0].actor, Actor::System);

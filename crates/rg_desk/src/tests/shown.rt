@@ -1,3 +1,4 @@
+ghost use Rattle.std.specs.Prelude.{◌≤◌};
 ghost use Rattle.rg_base.specs.Session.{IsSession};
 
 use crate::engine::Engine;
@@ -25,9 +26,11 @@ impl Model for ShownEngine {
 }
 
 impl ShownEngine {
-    pub fn new(alloc: Global, capacity: u32) -> Result<ShownEngine, NoMemory> {
+    pub fn new(alloc: Global, capacity: u32, log_pages: u32) -> Result<ShownEngine, NoMemory>
+        requires { log_pages ≤ 65536 }
+    {
         Ok(ShownEngine {
-            engine: Engine::new(alloc, capacity)?,
+            engine: Engine::new(alloc, capacity, log_pages)?,
         })
     }
 

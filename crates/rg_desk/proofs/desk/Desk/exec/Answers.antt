@@ -2,9 +2,11 @@ use Rattle.std.proofs.Common.{List, [], ◌∷◌, ◌++◌, ◌∙◌, ap, subs
 use Rattle.rg_space.specs.Space.{capacity_in}
 use Rattle.rg_stmt.specs.Entries.{said_entry}
 use Rattle.rg_stmt.specs.declared.event.Entry.{Entry}
-use Rattle.rg_desk.specs.Answers.{IfFull}
-use Rattle.rg_desk.specs.Chronicle.{allowed_by}
-use Rattle.rg_desk.proofs.DeskGoes.{desk_room, desk_said}
+use Rattle.rg_desk.specs.Answers.{IfFull, IfLogFull}
+use Rattle.rg_desk.specs.Chronicle.{allowed_by, logged_by}
+use Rattle.rg_desk.specs.Engine.{ground_of}
+use Rattle.rg_desk.specs.Room.{SaysLog, SaysRoom}
+use Rattle.rg_desk.proofs.DeskGoes.{desk_room, desk_said, log_full_so}
 use Rattle.rg_desk.proofs.desk.Desk.exec.Goals as goal
 
 pub invariant_of-self-2 : goal.invariant_of-self-2
@@ -30,10 +32,16 @@ returns-clause-made g c =
           ∙ ap (λ (es : List Entry). es ++ said_entry c.args.session c.args.stmt c.say-reply.result 0 ∷ []) trace;
       is = answered.is;
       full =
-          subst (IfFull c.say-reply.result (allowed_by 0 c.args.self.now.trace)) (ap (λ d. d.capacity) c.self.view_is)
+          subst (IfFull c.say-reply.result (allowed_by 0 c.args.self.now.trace)) (ap (λ d. d.ground.capacity) c.self.view_is)
           (subst (λ (es : List Entry). IfFull c.say-reply.result (allowed_by 0 es) (capacity_in inside.engine.space)) trace answered.full);
+      room = subst (λ d. SaysRoom d.ground c.args.session.0 c.args.stmt c.say-reply.result) c.self.view_is answered.room;
+      log = subst (λ d. SaysLog d.ground c.args.session.0 c.args.stmt c.say-reply.result) c.self.view_is answered.log;
+      log_full =
+          subst (λ d. IfLogFull c.say-reply.result (logged_by 0 d.trace) d.ground.log.pages) c.self.view_is
+          (log_full_so (ground_of inside.engine) c.args.session.0 c.args.stmt c.say-reply.result (logged_by 0 inside.chronicle.trace) answered.log c.self.invariant.logged);
       stays = record {
-        capacity = answered.capacity ∙ ap (λ d. d.capacity) c.self.view_is;
+        log_pages = answered.log_pages ∙ ap (λ d. d.ground.log.pages) c.self.view_is;
+        capacity = answered.capacity ∙ ap (λ d. d.ground.capacity) c.self.view_is;
         volume = ap (λ d. d.volume) c.self.view_is;
         operator = ap (λ d. d.operator) c.self.view_is;
       };

@@ -1,10 +1,21 @@
 use Rattle.std.proofs.Common.{◌≤◌, ℕ, sym, subst}
 use Rattle.rg_stmt.specs.declared.stmt.Stmt.TheVariants.{Update}
+use Rattle.rg_base.specs.RowBytes.{row_size}
+use Rattle.rg_space.specs.Space.{capacity_in}
+use Rattle.rg_desk.specs.Engine.{slots_in}
+use Rattle.rg_desk.specs.Planned.{units_with}
 use Rattle.rg_desk.specs.Steps.{Goes}
-use Rattle.rg_desk.proofs.Same.{same_shows}
+use Rattle.rg_desk.proofs.Same.{same_shows, same_sound}
+use Rattle.rg_desk.proofs.Spelled.{change_spelled}
 use Rattle.rg_desk.proofs.Statements.{key_some, update_done}
 use Rattle.rg_desk.proofs.WritesGo.{change_goes, change_listed, change_refused}
 use Rattle.rg_desk.proofs.engine.Engine.change_row.Goals as goal
+
+pub write-requires-clause-spelled : goal.write-requires-clause-spelled
+write-requires-clause-spelled c =
+    let mid = c.plan_change.new.self in
+    change_spelled (units_with c.in-Some.unit.tran.0 mid) (row_size c.args.row) (capacity_in mid.space) (slots_in mid) c.args.home c.in-Ok.plan
+    (same_sound c.requires.shown.state c.requires.shown.allowed c.args.self.now c.plan_change.new.self c.in-Ok.ensures.same c.requires.shown.shows) c.in-Ok.ensures.plan
 
 pub write-requires-clause-listed : goal.write-requires-clause-listed
 write-requires-clause-listed c =
@@ -32,4 +43,4 @@ returns-in-Err c = λ st allowed shows.
     let at = key_some st allowed d shows c.args.session c.args.row.key c.args.home c.requires.there in
     subst (λ reply. Goes st allowed d c.args.session (Update c.args.row) reply mid) (sym c.reply_of.ensures)
     (change_refused st allowed d shows c.args.session c.in-Some.unit c.in-Some.ensures.unit mid c.in-Err.ensures.same (same_shows st allowed d mid c.in-Err.ensures.same shows)
-    c.args.home c.args.row c.in-Err.fault (subst (λ (n : ℕ). n ≤ 826) c.size-size.ensures.size c.size-size.ensures.high) c.in-Err.ensures.refusal (update_done st allowed d shows c.args.session c.args.row at.row c.requires.alone at.now))
+    c.args.home at.row c.args.row c.in-Err.fault at.there (sym at.key_is) (subst (λ (n : ℕ). n ≤ 826) c.size-size.ensures.size c.size-size.ensures.high) c.in-Err.ensures.refusal (update_done st allowed d shows c.args.session c.args.row at.row c.requires.alone at.now))

@@ -23,8 +23,8 @@ returns c =
     let old = c.args.self.now in
     let unit = c.args.unit in
     let k = capacity_in old.space in
-    let base = records_cleared old.records.records plan.purge in
-    let at : c.next-position.result.0 ≡ length base + 1 = c.next-position.ensures ∙ ap (λ (rs : List Record). length rs + 1) c.clear.ensures.records in
+    let base = records_cleared old.log.records plan.purge in
+    let at : c.next_position-position.result.0 ≡ length base + 1 = c.next_position-position.ensures ∙ ap (λ (rs : List Record). length rs + 1) c.clear.ensures.records in
     let change : Position → Record = λ p. record { position = p; tran = unit.tran; back = unit.last; kind = Change plan.home plan.before c.args.after plan.parts } in
     record {
       capacity = c.make.ensures.capacity ∙ c.clear.ensures.capacity;
@@ -39,9 +39,10 @@ returns c =
           ∙ ap (λ (ps : List (List Slot)). applied unit.tran.0 (row_or_empty c.args.after) ps plan.parts) is;
       records =
           c.make.ensures.records
-          ∙ ap (λ (rs : List Record). rs ++ change c.next-position.result ∷ []) c.clear.ensures.records
+          ∙ ap (λ (rs : List Record). rs ++ change c.next_position-position.result ∷ []) c.clear.ensures.records
           ∙ ap (λ (n : ℕ). base ++ change (record { 0 = n }) ∷ []) at;
       reserved = omega (arith, c.make.ensures.reserved, c.clear.ensures.reserved);
+      log_pages = c.make.ensures.pages ∙ c.clear.ensures.pages;
       indexes = λ rows next are here sets. c.replace.ensures.listings rows next are (here ∙ sym c.as_ref.ensures.value) (subst (SetsRow rows next plan.home) (sym c.as_ref-2.ensures.value) sets);
       locks = refl;
       claims = refl;

@@ -1,10 +1,23 @@
 use Rattle.std.proofs.Common.{◌≤◌, ℕ, sym, subst}
 use Rattle.rg_stmt.specs.declared.stmt.Stmt.TheVariants.{Insert}
+use Rattle.rg_base.specs.RowBytes.{row_size}
+use Rattle.rg_home.specs.Plan.{new_area}
+use Rattle.rg_space.specs.Space.{capacity_in}
+use Rattle.rg_desk.specs.Engine.{slots_in}
+use Rattle.rg_desk.specs.Planned.{units_with}
 use Rattle.rg_desk.specs.Steps.{Goes}
-use Rattle.rg_desk.proofs.Same.{same_shows}
+use Rattle.rg_desk.proofs.Same.{same_shows, same_sound}
+use Rattle.rg_desk.proofs.Spelled.{put_spelled}
 use Rattle.rg_desk.proofs.Statements.{key_none, insert_done}
 use Rattle.rg_desk.proofs.WritesGo.{put_goes, put_listed, put_refused}
 use Rattle.rg_desk.proofs.engine.Engine.put_row.Goals as goal
+
+pub write-requires-clause-spelled : goal.write-requires-clause-spelled
+write-requires-clause-spelled c =
+    let mid = c.plan_put.new.self in
+    let live = units_with c.in-Some.unit.tran.0 mid in
+    put_spelled live (row_size c.args.row) (slots_in mid) (new_area live (row_size c.args.row) (capacity_in mid.space) (slots_in mid)) c.in-Ok.plan
+    (same_sound c.requires.shown.state c.requires.shown.allowed c.args.self.now c.plan_put.new.self c.in-Ok.ensures.same c.requires.shown.shows) c.in-Ok.ensures.plan
 
 pub write-requires-clause-listed : goal.write-requires-clause-listed
 write-requires-clause-listed c =

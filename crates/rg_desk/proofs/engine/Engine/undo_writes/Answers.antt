@@ -13,7 +13,7 @@ collect-requires c = record { writes = has_writes c.requires.shown.state c.requi
 pub new-requires : goal.new-requires
 new-requires c =
     let w = has_writes c.requires.shown.state c.requires.shown.allowed c.args.self.now c.requires.shown.shows c.args.session.0 c.args.unit c.requires.unit in
-    record { changes = chain_changes c.args.self.now.records.records c.args.unit.tran.0 c.args.unit.last.0 w.writes c.in_ok-changes.changes.items (c.in_ok-changes.ensures w.writes w.walks w.count) }
+    record { changes = chain_changes c.args.self.now.log.records c.args.unit.tran.0 c.args.unit.last.0 w.writes c.in_ok-changes.changes.items (c.in_ok-changes.ensures w.writes w.walks w.count) }
 
 pub loop-init : goal.loop-init
 loop-init c = λ st allowed shows.
@@ -21,7 +21,7 @@ loop-init c = λ st allowed shows.
     let one = shows.by.units.each c.args.session.0 c.args.unit c.requires.unit in
     let ws = own_of c.args.unit.tran.0 (left_by shows.first d).writes in
     undo_begins st allowed d _ shows c.args.session.0 c.args.unit c.in_ok-work.work c.in-Ok.more c.requires.unit
-    (subst (AreChain d.records.records c.args.unit.tran.0 c.args.unit.last.0 ws) (sym c.in_ok-work.ensures.work) (c.in_ok-changes.ensures ws one.walks one.count))
+    (subst (AreChain d.log.records c.args.unit.tran.0 c.args.unit.last.0 ws) (sym c.in_ok-work.ensures.work) (c.in_ok-changes.ensures ws one.walks one.count))
     (omega (arith, c.in-Ok.ensures, c.len.ensures, ap length c.in_ok-work.ensures.work)) c.in_ok-reserve.ensures.ok c.in_ok-reserve.ensures.same c.in_ok-work.ensures.frames c.in_ok-work.ensures.index c.in_ok-work.ensures.capacity
     (omega (arith, c.in_ok-work.ensures.room, ap length c.in_ok-work.ensures.work)) refl refl refl refl refl
 

@@ -1,0 +1,29 @@
+use Rattle.std.proofs.Common.{ℕ, [], ◌∷◌, ◌++◌, refl, sym, ◌∙◌, ap, arith}
+use Rattle.rg_log.specs.Kept.{Listed}
+use Rattle.rg_desk.specs.Ended.{commit_record, records_committed}
+use Rattle.rg_desk.specs.Units.{owed_to}
+use Rattle.rg_desk.proofs.Spelled.{commit_bytes}
+use Rattle.rg_desk.proofs.UndoBegins.{has_room}
+use Rattle.rg_desk.proofs.engine.Engine.log_commit.Goals as goal
+
+pub append-requires-clause-room : goal.append-requires-clause-room
+append-requires-clause-room c =
+    omega (arith, commit_bytes, has_room c.requires.shown.state c.requires.shown.allowed c.args.self.now c.requires.shown.shows c.args.session.0 c.in-Some.unit (sym c.in-Some.ensures))
+
+pub give_back-requires : goal.give_back-requires
+give_back-requires c =
+    omega (arith, c.undo_bytes-undo.ensures, c.append.ensures.reserved, commit_bytes, has_room c.requires.shown.state c.requires.shown.allowed c.args.self.now c.requires.shown.shows c.args.session.0 c.in-Some.unit (sym c.in-Some.ensures))
+
+pub returns : goal.returns
+returns c =
+    let room = has_room c.requires.shown.state c.requires.shown.allowed c.args.self.now c.requires.shown.shows c.args.session.0 c.in-Some.unit (sym c.in-Some.ensures) in
+    record {
+      same = refl;
+      records =
+          ap (λ (l : Listed). l.records) c.give_back.ensures
+          ∙ c.append.ensures.records
+          ∙ ap (λ (n : ℕ). c.args.self.now.log.records ++ commit_record n c.in-Some.unit ∷ []) c.next_position.ensures
+          ∙ ap (records_committed c.args.self.now.log.records) c.in-Some.ensures;
+      reserved = omega (arith, ap (λ (l : Listed). l.reserved) c.give_back.ensures, c.append.ensures.reserved, commit_bytes, c.undo_bytes-undo.ensures, ap owed_to c.in-Some.ensures, room);
+      pages = ap (λ (l : Listed). l.pages) c.give_back.ensures ∙ c.append.ensures.pages;
+    }

@@ -1,0 +1,24 @@
+use Rattle.std.proofs.Common.{ℕ, [], ◌∷◌, ◌++◌, refl, ◌∙◌, ap, arith}
+use Rattle.rg_image.specs.Pack.{log_bytes}
+use Rattle.rg_log.specs.Kept.{Listed}
+use Rattle.rg_desk.specs.Ended.{rolled_record}
+use Rattle.rg_desk.proofs.Spelled.{rolled_bytes}
+use Rattle.rg_desk.proofs.engine.Engine.log_rolled_back.Goals as goal
+
+pub append-requires-clause-room : goal.append-requires-clause-room
+append-requires-clause-room c = omega (arith, rolled_bytes, c.requires)
+
+pub overflow_sub-left : goal.overflow_sub-left
+overflow_sub-left c = omega (arith, c.reserved.ensures, c.append.ensures.reserved, rolled_bytes, c.requires)
+
+pub returns : goal.returns
+returns c = record {
+  same = refl;
+  records =
+      ap (λ (l : Listed). l.records) c.give_back.ensures
+      ∙ c.append.ensures.records
+      ∙ ap (λ (n : ℕ). c.args.self.now.log.records ++ rolled_record n c.args.last.0 c.args.unit ∷ []) c.next_position.ensures;
+  reserved = omega (arith, ap (λ (l : Listed). l.reserved) c.give_back.ensures, c.reserved.ensures, c.append.ensures.reserved, rolled_bytes, c.requires);
+  taken = omega (arith, ap (λ (l : Listed). l.reserved) c.give_back.ensures, ap (λ (l : Listed). log_bytes l.records) c.give_back.ensures, c.append.ensures.taken);
+  pages = ap (λ (l : Listed). l.pages) c.give_back.ensures ∙ c.append.ensures.pages;
+}
