@@ -1,4 +1,4 @@
-ghost use Rattle.std.specs.Prelude.{◌≡◌, ◌+◌, length};
+ghost use Rattle.std.specs.Prelude.{◌≡◌, ◌≤◌, ◌+◌, length};
 ghost use Rattle.rg_outside.specs.Moments.{IfTold};
 
 use crate::source::Failed;
@@ -41,9 +41,10 @@ impl<V: Volume> Counted<V> {
         Counted { volume, calls: 0 }
     }
 
-    /// The volume below.
+    /// The volume below. Of a known one no more calls were counted than it has had.
     pub fn into_volume(self) -> V
-        ensures { result ≡ self.volume }
+        ensures volume { result ≡ self.volume }
+        ensures counted { IfTold (V.told result) (λ t. self.calls ≤ length t.calls) }
     {
         let Counted { volume, calls: _ } = self;
         volume
