@@ -7,8 +7,8 @@ use Rattle.rg_turn.specs.UtilityOf.{utility_of}
 -- a state
 abbrev pub state_of : Possibility → State
 state_of st = record {
-  table = st.table;
-  locks = st.locks;
+  table = st.rows.table;
+  locks = st.rows.locks;
   claims = st.claims.claims;
   drain = st.claims.drain;
   utility = option_map utility_of st.utility;

@@ -42,7 +42,7 @@ fn fail(mut st: Possibility, session: Session, stmt: &Stmt) -> Option<Possibilit
 {
     match stmt {
         Stmt::Commit => {
-            let wrote = has_locks(st.locks.as_map(), session);
+            let wrote = has_locks(st.rows.locks().as_map(), session);
             st.down = true;
             st.doubt = Some(session);
             if_allowed(wrote, st)
@@ -90,6 +90,7 @@ fn leave(
 
 // A unit whose statement another session blocked was rolled back.
 fn roll_victim(
+    alloc: Global,
     st: Possibility,
     session: Session,
     owner: Session,
@@ -103,7 +104,7 @@ fn roll_victim(
     if !same_reply(&Reply::Held(owner), plain) {
         return Ok(None);
     }
-    Ok(Some(rollback(st, session)?))
+    Ok(Some(rollback(alloc, st, session)?))
 }
 
 // The reply is the plain table's.
@@ -143,7 +144,7 @@ pub fn answer(
     let plain = reply_to(alloc, &st, session, stmt)?;
     match reply {
         Reply::NoMemory => Ok(if_allowed(may_want_memory(stmt), st)),
-        Reply::Victim(owner) => roll_victim(st, session, *owner, &plain),
+        Reply::Victim(owner) => roll_victim(alloc, st, session, *owner, &plain),
         Reply::Full { .. } => Ok(if_allowed(may_want_room(stmt) && is_done(&plain), st)),
         Reply::LogFull { .. } => Ok(if_allowed(may_want_log(stmt) && is_done(&plain), st)),
         Reply::Device => Ok(refuse(st, session, stmt, &plain)),

@@ -20,6 +20,7 @@ use crate::opened::rest;
 use crate::possibility::Possibility;
 use rg_base::no_memory::NoMemory;
 use rg_base::table::Table;
+use rg_cats::cat_table::CatTable;
 use rg_model::plain::walks::copy_table;
 use rg_stmt::event::{Actor, Entry, Event};
 use rg_tally::tally::Tally;
@@ -81,7 +82,8 @@ fn begin(alloc: Global, start: &Table, event: &Event) -> Result<Vec<Possibility>
     match event {
         Event::Opened { copy, .. } => {
             if *copy == 1 || *copy == 2 {
-                states.push(rest(alloc, copy_table(alloc, start)?, *copy)?)?;
+                let table = CatTable::new(alloc, copy_table(alloc, start)?)?;
+                states.push(rest(alloc, table, *copy)?)?;
                 return Ok(states);
             }
             Ok(states)

@@ -39,7 +39,7 @@ fn judge_shown(
     if st.down || copy != st.copy {
         return Ok(None);
     }
-    let right = is_right_side(alloc, &st.table, side)?;
+    let right = is_right_side(alloc, st.rows.table().rows(), side)?;
     Ok(if_allowed(right, st))
 }
 

@@ -14,19 +14,18 @@ use crate::possibility::Possibility;
 use crate::walk::{put_back, put_back_others};
 use rg_base::no_memory::NoMemory;
 use rg_base::session::Session;
-use rg_base::table::Table;
+use rg_cats::cat_table::CatTable;
+use rg_cats::locked_rows::LockedRows;
 use rg_claim::claims::Claims;
-use rg_lock::locks::Locks;
 use rg_model::plain::walks::copy_table;
 use std::alloc::Global;
 
 /// A table and a copy that nobody uses.
-pub fn rest(alloc: Global, table: Table, copy: u8) -> Result<Possibility, NoMemory>
+pub fn rest(alloc: Global, table: CatTable, copy: u8) -> Result<Possibility, NoMemory>
     ensures { IfOk result (λ st. state_of st ≡ at_rest table copy) }
 {
     Ok(Possibility {
-        table,
-        locks: Locks::new(alloc)?,
+        rows: LockedRows::new(alloc, table)?,
         claims: Claims::new(alloc)?,
         utility: None,
         copy,
@@ -45,26 +44,25 @@ fn is_copy_left(st: &Possibility, copy: u8) -> bool
 // The state that a table leaves, where it has as many rows.
 fn rest_with(
     alloc: Global,
-    table: Table,
+    table: CatTable,
     copy: u8,
     rows: u64,
 ) -> Result<Option<Possibility>, NoMemory>
     ensures { IfOk result (λ st. option_map state_of st
         ≡ (if row_count table == rows then Some (at_rest table copy) else None)) }
 {
-    if table.len() as u64 == rows {
+    if table.rows().len() as u64 == rows {
         return Ok(Some(rest(alloc, table, copy)?));
     }
     Ok(None)
 }
 
 // The committed rows.
-fn committed(alloc: Global, st: Possibility) -> Result<Table, NoMemory>
+fn committed(alloc: Global, st: Possibility) -> Result<CatTable, NoMemory>
     ensures { IfOk result (λ table. table ≡ committed_table (state_of st)) }
 {
     let Possibility {
-        mut table,
-        locks,
+        rows,
         claims: _,
         utility: _,
         copy: _,
@@ -72,17 +70,16 @@ fn committed(alloc: Global, st: Possibility) -> Result<Table, NoMemory>
         doubt: _,
         copydoubt: _,
     } = st;
-    put_back(alloc, &mut table, locks.as_map())?;
-    Ok(table)
+    let (table, locks) = rows.into_parts();
+    put_back(alloc, table, locks.as_map())
 }
 
 // The committed rows, with what a session wrote.
-fn committed_with(alloc: Global, st: &Possibility, session: Session) -> Result<Table, NoMemory>
+fn committed_with(alloc: Global, st: &Possibility, session: Session) -> Result<CatTable, NoMemory>
     ensures { IfOk result (λ table. table ≡ committed_table_with (state_of st.now) session) }
 {
-    let mut table = copy_table(alloc, &st.table)?;
-    put_back_others(alloc, &mut table, st.locks.as_map(), session)?;
-    Ok(table)
+    let table = CatTable::new(alloc, copy_table(alloc, st.rows.table().rows())?)?;
+    put_back_others(alloc, table, st.rows.locks().as_map(), session)
 }
 
 /// The states that an opening allows: one for each table that it may find.

@@ -5,17 +5,15 @@ ghost use Rattle.std.specs.Option.{option_map};
 ghost use Rattle.rg_model.specs.Said.{if_allowed};
 
 use rg_base::session::Session;
-use rg_base::table::Table;
+use rg_cats::locked_rows::LockedRows;
 use rg_claim::claims::Claims;
-use rg_lock::locks::Locks;
 use rg_turn::progress::Progress;
 
 /// A state that the entries so far allow. There is more than one where an opening found a table
 /// that a refused COMMIT leaves open.
 #[derive(Drop)]
 pub struct Possibility {
-    pub table: Table,
-    pub locks: Locks,
+    pub rows: LockedRows,
     pub claims: Claims,
     pub utility: Option<Progress>,
     pub copy: u8,

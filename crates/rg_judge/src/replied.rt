@@ -1,6 +1,7 @@
 // The plain table's reply to a statement, in a state.
 // (1) A key that another session has locked comes before any other reply.
-// (2) A SCAN and a FIND walk the keys in their order.
+// (2) A SCAN and a FIND list the rows that they show in the order of their keys, and look at no
+//     other.
 ghost use Rattle.std.specs.Prelude.{◌≡◌, IfOk};
 ghost use Rattle.rg_judge.specs.StateOf.{state_of};
 ghost use Rattle.rg_model.specs.Held.{holder};
@@ -12,7 +13,6 @@ use rg_base::no_memory::NoMemory;
 use rg_base::row::copy_row;
 use rg_base::session::Session;
 use rg_lock::locks::Locks;
-use rg_model::plain::walks::{find_holder, keys_with_cat, rows_between, scan_holder};
 use rg_stmt::stmt::{Reply, Stmt};
 use std::alloc::Global;
 
@@ -27,9 +27,9 @@ fn holder(locks: &Locks, session: Session, key: u64) -> Option<Session>
 }
 
 fn reply_insert(st: &Possibility, key: u64) -> Reply
-    ensures { result ≡ insert_reply (is_present st.now.table key) }
+    ensures { result ≡ insert_reply (is_present st.now.rows.table key) }
 {
-    if st.table.contains_key(key) {
+    if st.rows.table().rows().contains_key(key) {
         Reply::Duplicate
     } else {
         Reply::Done
@@ -37,9 +37,9 @@ fn reply_insert(st: &Possibility, key: u64) -> Reply
 }
 
 fn reply_change(st: &Possibility, key: u64) -> Reply
-    ensures { result ≡ change_reply (is_present st.now.table key) }
+    ensures { result ≡ change_reply (is_present st.now.rows.table key) }
 {
-    if st.table.contains_key(key) {
+    if st.rows.table().rows().contains_key(key) {
         Reply::Done
     } else {
         Reply::Absent
@@ -47,9 +47,9 @@ fn reply_change(st: &Possibility, key: u64) -> Reply
 }
 
 fn reply_select(alloc: Global, st: &Possibility, key: u64) -> Result<Reply, NoMemory>
-    ensures { IfOk result (λ reply. reply ≡ row_reply (row_of st.now.table key)) }
+    ensures { IfOk result (λ reply. reply ≡ row_reply (row_of st.now.rows.table key)) }
 {
-    match copy_row(alloc, st.table.get(key))? {
+    match copy_row(alloc, st.rows.table().rows().get(key))? {
         Some(row) => Ok(Reply::Found(row)),
         None => Ok(Reply::Absent),
     }
@@ -65,29 +65,29 @@ pub fn reply_to(
     ensures { IfOk result (λ reply. reply ≡ plain_reply (state_of st.now) session stmt.now) }
 {
     match stmt {
-        Stmt::Insert(row) => match holder(&st.locks, session, row.key) {
+        Stmt::Insert(row) => match holder(st.rows.locks(), session, row.key) {
             Some(owner) => Ok(Reply::Held(owner)),
             None => Ok(reply_insert(st, row.key)),
         },
-        Stmt::Update(row) => match holder(&st.locks, session, row.key) {
+        Stmt::Update(row) => match holder(st.rows.locks(), session, row.key) {
             Some(owner) => Ok(Reply::Held(owner)),
             None => Ok(reply_change(st, row.key)),
         },
-        Stmt::Delete(key) => match holder(&st.locks, session, *key) {
+        Stmt::Delete(key) => match holder(st.rows.locks(), session, *key) {
             Some(owner) => Ok(Reply::Held(owner)),
             None => Ok(reply_change(st, *key)),
         },
-        Stmt::Select(key) => match holder(&st.locks, session, *key) {
+        Stmt::Select(key) => match holder(st.rows.locks(), session, *key) {
             Some(owner) => Ok(Reply::Held(owner)),
             None => reply_select(alloc, st, *key),
         },
-        Stmt::Scan { lo, hi } => match scan_holder(st.locks.as_map(), session, *lo, *hi) {
+        Stmt::Scan { lo, hi } => match st.rows.scan_holder(session, *lo, *hi) {
             Some(owner) => Ok(Reply::Held(owner)),
-            None => Ok(Reply::Listed(rows_between(alloc, &st.table, *lo, *hi)?)),
+            None => Ok(Reply::Listed(st.rows.table().rows_between(alloc, *lo, *hi)?)),
         },
-        Stmt::Find(cat) => match find_holder(&st.table, st.locks.as_map(), session, *cat) {
+        Stmt::Find(cat) => match st.rows.find_holder(session, *cat) {
             Some(owner) => Ok(Reply::Held(owner)),
-            None => Ok(Reply::Keyed(keys_with_cat(alloc, &st.table, *cat)?)),
+            None => Ok(Reply::Keyed(st.rows.table().keys_with_cat(alloc, *cat)?)),
         },
         Stmt::Commit | Stmt::Rollback => Ok(Reply::Done),
     }

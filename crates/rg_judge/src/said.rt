@@ -29,7 +29,8 @@ fn says_drained(reply: &Reply) -> bool
 }
 
 /// The state after a statement of a session, if its reply is allowed. It is logarithmic in the rows
-/// and locks, but for the rows of a SCAN or a FIND and the locks of a unit's end.
+/// and locks, but for the rows that a SCAN or a FIND shows, the session's own locks in the range of
+/// a SCAN, the locks of a unit's end, and all locks where the device refused a COMMIT.
 pub fn judge_said(
     alloc: Global,
     st: Possibility,

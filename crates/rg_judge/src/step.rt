@@ -52,7 +52,14 @@ fn switch(
         (Switches copy sides.now (utility_of progress))) }
 {
     let unclaimed = is_unclaimed(&mut st.claims);
-    let right = is_right_switch(alloc, &st.table, unclaimed, tally, &u.options, sides)?;
+    let right = is_right_switch(
+        alloc,
+        st.rows.table().rows(),
+        unclaimed,
+        tally,
+        &u.options,
+        sides,
+    )?;
     let allowed = is_other_copy(&st, copy, sides.new.pages, u.shadow, right);
     st.copy = copy;
     st.utility = Some(progress);

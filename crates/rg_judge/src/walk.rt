@@ -1,5 +1,5 @@
 // Walks over the locks, from key to key.
-ghost use Rattle.std.specs.Prelude.{◌≡◌, OnOk};
+ghost use Rattle.std.specs.Prelude.{◌≡◌, IfOk};
 ghost use Rattle.std.specs.FinMap as map;
 ghost use Rattle.rg_model.specs.Committed.{locks_without, put_back};
 ghost use Rattle.rg_model.specs.Said.{has_locks};
@@ -9,8 +9,8 @@ use rg_base::map::NumberMap;
 use rg_base::no_memory::NoMemory;
 use rg_base::row::copy_row;
 use rg_base::session::Session;
-use rg_base::table::Table;
-use rg_model::plain::parts::{is_others, set_row};
+use rg_cats::cat_table::CatTable;
+use rg_model::plain::parts::is_others;
 use rg_model::plain::walks::entry_behind;
 use std::alloc::Global;
 
@@ -28,34 +28,44 @@ pub fn has_locks(locks: &NumberMap<Lock>, session: Session) -> bool
     false
 }
 
-/// Puts back the rows that the locks keep, and leaves the locks.
-pub fn put_back(alloc: Global, table: &mut Table, locks: &NumberMap<Lock>) -> Result<(), NoMemory>
-    ensures { OnOk result (table.new ≡ put_back (map.entries locks.now) table.old) }
+/// The table with the rows put back that the locks keep.
+pub fn put_back(
+    alloc: Global,
+    table: CatTable,
+    locks: &NumberMap<Lock>,
+) -> Result<CatTable, NoMemory>
+    ensures { IfOk result (λ after. after ≡ put_back (map.entries locks.now) table) }
 {
+    let mut after = table;
     let mut last = None;
     while let Some((key, kept)) = entry_behind(locks, last) {
-        set_row(table, key, copy_row(alloc, kept.row.as_ref())?)?;
+        let row = copy_row(alloc, kept.row.as_ref())?;
+        let (next, _) = after.set(alloc, key, row)?;
+        after = next;
         last = Some(key);
     }
-    Ok(())
+    Ok(after)
 }
 
-/// Puts back the rows that the locks of the other sessions keep, and leaves the locks.
+/// The table with the rows put back that the locks of the other sessions keep.
 pub fn put_back_others(
     alloc: Global,
-    table: &mut Table,
+    table: CatTable,
     locks: &NumberMap<Lock>,
     session: Session,
-) -> Result<(), NoMemory>
-    ensures { OnOk result
-        (table.new ≡ put_back (map.entries (locks_without session locks.now)) table.old) }
+) -> Result<CatTable, NoMemory>
+    ensures { IfOk result (λ after.
+        after ≡ put_back (map.entries (locks_without session locks.now)) table) }
 {
+    let mut after = table;
     let mut last = None;
     while let Some((key, kept)) = entry_behind(locks, last) {
         if is_others(session, kept) {
-            set_row(table, key, copy_row(alloc, kept.row.as_ref())?)?;
+            let row = copy_row(alloc, kept.row.as_ref())?;
+            let (next, _) = after.set(alloc, key, row)?;
+            after = next;
         }
         last = Some(key);
     }
-    Ok(())
+    Ok(after)
 }

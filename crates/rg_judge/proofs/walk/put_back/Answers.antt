@@ -13,25 +13,25 @@ get_back : (locks : Locks) (table : Table) (q : ℕ) → map.get (put_back (map.
 get_back locks table q = get-put_back (map.entries locks) table q ∙ ap (λ found. kept_or found (map.get table q)) (sym (get-entries locks q))
 
 pub loop-key-init : goal.loop-key-init
-loop-key-init c = turned-begins c.args.table.now (put_back (map.entries c.args.locks.now) c.args.table.now)
+loop-key-init c = turned-begins c.args.table (put_back (map.entries c.args.locks.now) c.args.table)
 
 pub loop-key-preserved : goal.loop-key-preserved
 loop-key-preserved c =
-    let table = c.args.table.now in
+    let table = c.args.table in
     let locks = c.args.locks.now in
     let after = put_back (map.entries locks) table in
-    let now = c.loop-key.table in
+    let now = c.loop-key.after in
     let key = c.in-Some.key in
     let first = c.in-Some.ensures in
     turned-set table after now (start_of c.loop-key.last) key c.loop-key.invariant first.0
-    (λ q low below. get_back locks table q ∙ ap (λ found. kept_or found (map.get table q)) (first.2 q low below)) c.set_row.new.table
-    (λ q. ap (λ (m : Table). map.get m q) c.in_ok-set_row.ensures.ok ∙ get-set_to now key _ q
+    (λ q low below. get_back locks table q ∙ ap (λ found. kept_or found (map.get table q)) (first.2 q low below)) c.in_ok-next.next
+    (λ q. ap (λ (m : Table). map.get m q) c.in_ok-next.ensures.table ∙ get-set_to now key _ q
     ∙ ap (λ found. cond (eq_by_cmp nat_cmp q key) found (map.get now q))
-    (c.in_ok-copy_row.ensures ∙ c.as_ref.ensures.value ∙ sym (get_back locks table key ∙ ap (λ found. kept_or found (map.get table key)) first.1)))
+    (c.in_ok-row.ensures ∙ c.as_ref.ensures.value ∙ sym (get_back locks table key ∙ ap (λ found. kept_or found (map.get table key)) first.1)))
 
 pub returns : goal.returns
 returns c =
-    let table = c.args.table.now in
+    let table = c.args.table in
     let locks = c.args.locks.now in
-    turned-ends table (put_back (map.entries locks) table) c.loop-key.table (start_of c.loop-key.last) 0 c.loop-key.invariant
+    turned-ends table (put_back (map.entries locks) table) c.loop-key.after (start_of c.loop-key.last) 0 c.loop-key.invariant
     (λ key above. get_back locks table key ∙ ap (λ found. kept_or found (map.get table key)) (c.in_default.ensures key above))

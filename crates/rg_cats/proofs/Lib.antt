@@ -1,0 +1,9 @@
+mod Tests
+mod Replaced
+mod SetsKept
+mod CatsKept
+mod Listing
+mod HeldKept
+mod LeastHeld
+mod Ended
+mod ScanHeld

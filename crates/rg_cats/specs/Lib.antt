@@ -1,0 +1,4 @@
+pub mod Sets
+pub mod Cats
+pub mod Owners
+pub mod Locked
