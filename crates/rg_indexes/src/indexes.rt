@@ -31,8 +31,8 @@ pub struct Indexes {
     pub cats: Tree,
 }
 
-// The value that an index lists of a row.
-fn value_of(which: Which, row: &Row) -> u64
+/// The value that an index lists of a row.
+pub fn value_of(which: Which, row: &Row) -> u64
     ensures { result ≡ value_of which row.now }
 {
     match which {
@@ -42,8 +42,15 @@ fn value_of(which: Which, row: &Row) -> u64
     }
 }
 
-// An index follows the row of a home.
-fn follow(which: Which, index: &mut Tree, home: Place, before: Option<&Row>, after: Option<&Row>)
+/// One index follows the row of a home: it was the one before, or none, and is the one after. It
+/// takes no memory.
+pub fn follow(
+    which: Which,
+    index: &mut Tree,
+    home: Place,
+    before: Option<&Row>,
+    after: Option<&Row>,
+)
     requires listed { IsListedAt which (entries_of index.old) home (option_copied before) }
     requires spare { 1 ≤ index.old.spare }
     ensures listing { (old new : Place → Option Row) → IsListingOf which old (entries_of index.old)

@@ -1,11 +1,12 @@
 -- The pages of a new copy, as they are added.
-use Rattle.std.proofs.Common.{◌≡◌, ℕ, zero, suc, ◌+◌, ◌==◌, ◌≤◌, ◌<◌, Bool, true, false, List, [], ◌∷◌, ◌++◌, if◌then◌else◌, length, get_or, refl, sym, ap, ◌∙◌, arith, append-nil}
+use Rattle.std.proofs.Common.{◌≡◌, ℕ, zero, suc, ◌+◌, ◌==◌, ◌≤◌, ◌<◌, Bool, true, false, List, [], ◌∷◌, ◌++◌, if◌then◌else◌, length, get_or, refl, sym, ap, subst, ◌∙◌, arith, append-nil}
 use Rattle.std.proofs.lemmas.Bool.{eqb-true}
 use Rattle.std.proofs.lemmas.Bool.Decides.{nat_tests}
 use Rattle.rg_base.specs.declared.place.Place.{Place}
 use Rattle.rg_base.specs.declared.row.Row.{Row as TableRow}
 use Rattle.rg_home.specs.Pages.{page_at}
 use Rattle.rg_home.specs.Slot.{Slot}
+use Rattle.rg_home.specs.Slots.{Fits}
 use Rattle.rg_page.specs.Content.{Content, content_at, slots_of}
 use Rattle.rg_reload.specs.Moved.{Moved, moved_on}
 use Rattle.rg_reload.specs.Pages.{HasRows, page_of, row_slot, row_slots, slots_on}
@@ -61,9 +62,14 @@ pub rows-pad : (pages : List Content) (x : Content) (rows : List Moved) → x.po
     → x.slots ≡ [] → HasRows pages rows → HasRows (pages ++ x ∷ []) rows
 rows-pad pages x rows e f h = record {
   slots = λ n. go n (n == length pages + 1) refl;
+  fits = λ n. within n (n == length pages + 1) refl;
   positions = λ n. position-add pages x n e (h.positions n);
 }
   where
+    within : (n : ℕ) (b : Bool) → (n == length pages + 1) ≡ b → Fits (page_at (slots_of (pages ++ x ∷ [])) n)
+    within n true t = subst Fits (sym (page_at-new pages x n (eqb-true n (length pages + 1) t) ∙ f)) (omega arith)
+    within n false t = subst Fits (sym (page_at-old pages x n (decided n (length pages + 1) t))) (h.fits n)
+
     go : (n : ℕ) (b : Bool) → (n == length pages + 1) ≡ b → page_at (slots_of (pages ++ x ∷ [])) n ≡ slots_on n rows
     go n true t =
         let same : n ≡ length pages + 1 = eqb-true n (length pages + 1) t in
@@ -102,13 +108,21 @@ other_number a b e = grind (arith, nat_tests)
 
 -- the next page, with rows
 pub rows-fill : (pages : List Content) (copy number : ℕ) (rows : List Moved) (taken : List (Place × TableRow))
-    → number ≡ length pages + 1 → HasRows pages rows
+    → number ≡ length pages + 1 → Fits (row_slots taken) → HasRows pages rows
     → HasRows (pages ++ page_of copy number (row_slots taken) ∷ []) (rows ++ moved_on number 0 taken)
-rows-fill pages copy number rows taken e h = record {
+rows-fill pages copy number rows taken e f h = record {
   slots = λ n. go n (n == number) refl;
+  fits = λ n. within n (n == number) refl;
   positions = λ n. position-add pages (page_of copy number (row_slots taken)) n refl (h.positions n);
 }
   where
+    within : (n : ℕ) (b : Bool) → (n == number) ≡ b
+        → Fits (page_at (slots_of (pages ++ page_of copy number (row_slots taken) ∷ [])) n)
+    within n true t =
+        subst Fits (sym (page_at-new pages (page_of copy number (row_slots taken)) n (eqb-true n number t ∙ e))) f
+    within n false t =
+        subst Fits (sym (page_at-old pages (page_of copy number (row_slots taken)) n (λ q. decided n number t (q ∙ sym e)))) (h.fits n)
+
     go : (n : ℕ) (b : Bool) → (n == number) ≡ b
         → page_at (slots_of (pages ++ page_of copy number (row_slots taken) ∷ [])) n ≡ slots_on n (rows ++ moved_on number 0 taken)
     go n true t =

@@ -10,6 +10,7 @@ use Rattle.rg_page.specs.Content.{Content}
 use Rattle.rg_page.specs.declared.list.ListFrames.{ListFrames}
 use Rattle.rg_reload.specs.Moved.{Moved, moved_on, moved_from, packed_rows, page_taken, pages_filled, pairs_of}
 use Rattle.rg_home.specs.Slot.{Slot}
+use Rattle.rg_home.specs.Slots.{Fits}
 use Rattle.rg_reload.specs.Pages.{HasRows, page_of, row_slots, slots_on}
 use Rattle.rg_reload.specs.Reloading.{Reloading, IsReloading, placed_rows, rows_left}
 use Rattle.rg_reload.specs.declared.packer.NewCopy.{NewCopy}
@@ -32,6 +33,7 @@ pub record AddsPage (p : Reloading) (pairs pairs_new : Vec (Place × Place) Glob
   pub rows : HasRows pages (placed_rows p)
   pub page : frames.pages.items ≡ pages
       ++ page_of p.copy (page_count p.options.freepage p.filled + 1) (row_slots (take (page_taken p.options (rows_left p)) (rows_left p))) ∷ []
+  pub fits : Fits (row_slots (take (page_taken p.options (rows_left p)) (rows_left p)))
   pub copy : frames.copy ≡ p.copy
   pub reserved : frames.reserved.items ≡ []
   pub pairs_are : pairs_new.items ≡ pairs.items
@@ -72,7 +74,7 @@ page_added p pairs pairs_new made pages frames i a =
         reserved = a.reserved;
         rows_are = subst (λ (ps : List Content). HasRows ps (placed_rows (one_more p))) (sym a.page)
             (subst (λ (m : List Moved). HasRows (pages ++ page_of p.copy number (row_slots first) ∷ []) m) (sym placed)
-            (rows-fill pages p.copy number (placed_rows p) first (omega (arith, a.count)) a.rows));
+            (rows-fill pages p.copy number (placed_rows p) first (omega (arith, a.count)) a.fits a.rows));
       };
     }
 

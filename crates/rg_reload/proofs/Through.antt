@@ -1,21 +1,23 @@
 -- The old place of each row leads to its new one.
-use Rattle.std.proofs.Common.{◌≡◌, ℕ, ◌+◌, ◌-◌, Bool, true, false, nat_le, List, [], ◌∷◌, Option, Some, None, if◌then◌else◌, refl, sym, ap, subst, ◌∙◌}
-use Rattle.std.specs.List.{AllByRecursion}
+use Rattle.std.proofs.Common.{◌≡◌, ◌==◌, ◌&&◌, ◌||◌, ℕ, ◌+◌, ◌-◌, Bool, true, false, nat_le, List, [], ◌∷◌, Option, Some, None, if◌then◌else◌, is_some, refl, sym, ap, subst, ◌∙◌, arith}
+use Rattle.std.proofs.lemmas.Bool.Decides.{nat_tests}
+use Rattle.std.specs.List.{AllByRecursion, list_any}
 use Rattle.rg_base.specs.declared.options.Options.{Options}
 use Rattle.rg_base.specs.declared.place.Place.{Place}
 use Rattle.rg_base.specs.declared.row.Row.{Row}
 use Rattle.rg_fold.proofs.Places.{one_place, place_itself}
 use Rattle.rg_fold.specs.Fold.{row_in}
 use Rattle.rg_fold.specs.Lawful.{AreApart}
+use Rattle.rg_home.specs.Able.{Holds, Proper}
 use Rattle.rg_home.specs.Pages.{slot_of}
 use Rattle.rg_home.specs.Rows.{Tied, TiesAt, home_row, row_at}
 use Rattle.rg_home.specs.Slot.{Slot}
-use Rattle.rg_home.specs.Slots.{slot_at}
+use Rattle.rg_home.specs.Slots.{IsTrimmed, slot_at, trim}
 use Rattle.rg_model.specs.Layout.{same_place}
 use Rattle.rg_model.specs.Packed.{area_of, free_part, page_at}
 use Rattle.rg_page.specs.Content.{Content, slots_of}
-use Rattle.rg_reload.specs.Moved.{AreOneToOne, AreOther, Moved, moved_from, moved_to, new_homes, packed_rows, pairs_of, row_through, target_in}
-use Rattle.rg_reload.specs.Pages.{HasRows, slot_with}
+use Rattle.rg_reload.specs.Moved.{AreOneToOne, AreOther, AreTargets, Moved, moved_from, moved_to, new_homes, packed_rows, pairs_of, row_through, target_in}
+use Rattle.rg_reload.specs.Pages.{HasRows, row_slot, slot_with, slots_on}
 use Rattle.rg_reload.proofs.Lying.{packed_lie, targets_apart}
 
 abbrev pub old_homes : List Moved → List (Place × Row)
@@ -95,11 +97,61 @@ ties_with : (at : Place → Slot) (p : Place) (o : Option Row) → TiesAt at p (
 ties_with at p None = tt
 ties_with at p (Some row) = tt
 
-pub tied_is : (options : Options) (rows : List (Place × Row)) (pages : List Content) → HasRows pages (packed_rows options rows)
+tied_is : (options : Options) (rows : List (Place × Row)) (pages : List Content) → HasRows pages (packed_rows options rows)
     → Tied (slot_of (slots_of pages))
 tied_is options rows pages h = λ p.
     subst (λ (s : Slot). TiesAt (slot_of (slots_of pages)) p s) (sym (slot_is options rows pages h p))
     (ties_with (slot_of (slots_of pages)) p (row_in (new_homes (packed_rows options rows)) p))
+
+trimmed_on : (n : ℕ) (rows : List Moved) → IsTrimmed (slots_on n rows)
+trimmed_on n [] = refl
+trimmed_on n (m ∷ rows) = go (m.target.page == n) (trimmed_on n rows)
+  where
+    go : (b : Bool) → trim (slots_on n rows) ≡ slots_on n rows
+        → trim (if b then row_slot m.row ∷ slots_on n rows else slots_on n rows)
+        ≡ (if b then row_slot m.row ∷ slots_on n rows else slots_on n rows)
+    go true e = ap (λ (s : List Slot). row_slot m.row ∷ s) e
+    go false e = e
+
+holds_with : (o : Option Row) → Holds (slot_with o)
+holds_with None = tt
+holds_with (Some row) = omega arith
+
+pub proper_is : (options : Options) (rows : List (Place × Row)) (pages : List Content) → HasRows pages (packed_rows options rows)
+    → Proper (slots_of pages)
+proper_is options rows pages h = record {
+  tied = tied_is options rows pages h;
+  sound = record {
+    trimmed = λ n. subst IsTrimmed (sym (h.slots n)) (trimmed_on n (packed_rows options rows));
+    fits = h.fits;
+  };
+  holds = λ p. subst Holds (sym (slot_is options rows pages h p)) (holds_with (row_in (new_homes (packed_rows options rows)) p));
+}
+
+turned : (a b : Place) → same_place a b ≡ same_place b a
+turned a b = ap (λ t. t && a.slot == b.slot) (even a.page b.page) ∙ ap (λ t. b.page == a.page && t) (even a.slot b.slot)
+  where
+    even : (m n : ℕ) → (m == n) ≡ (n == m)
+    even m n = grind (arith, nat_tests)
+
+targets_of : (rows : List Moved) (place : Place)
+    → list_any (λ (pair : Place × Place). same_place place pair.1) (pairs_of rows) ≡ is_some (row_in (new_homes rows) place)
+targets_of [] place = refl
+targets_of (m ∷ rows) place =
+    ap (λ t. t || list_any (λ (pair : Place × Place). same_place place pair.1) (pairs_of rows)) (turned place m.target)
+    ∙ go (same_place m.target place) (targets_of rows place)
+  where
+    go : (b : Bool) → list_any (λ (pair : Place × Place). same_place place pair.1) (pairs_of rows) ≡ is_some (row_in (new_homes rows) place)
+        → (b || list_any (λ (pair : Place × Place). same_place place pair.1) (pairs_of rows))
+        ≡ is_some (if b then Some m.row else row_in (new_homes rows) place)
+    go true e = refl
+    go false e = e
+
+-- the new places are those with a row
+pub homes_are : (options : Options) (rows : List (Place × Row)) (pages : List Content) → HasRows pages (packed_rows options rows)
+    → AreTargets (pairs_of (packed_rows options rows)) (row_at (slot_of (slots_of pages)))
+homes_are options rows pages h place =
+    targets_of (packed_rows options rows) place ∙ ap is_some (sym (row_is options rows pages h place))
 
 pub source_is : (options : Options) (rows : List (Place × Row)) (pages : List Content) → HasRows pages (packed_rows options rows)
     → (p : Place) → row_through (row_at (slot_of (slots_of pages))) (target_in (pairs_of (packed_rows options rows)) p) ≡ row_in rows p

@@ -6,8 +6,8 @@
 --    ones.
 -- 3. The new places are those of `spots_from`, which says how the rows of a table are packed. Here
 --    each row keeps the place of its old home beside it.
-use Rattle.std.specs.Prelude.{◌≡◌, ℕ, ◌+◌, ◌-◌, ◌==◌, false, suc, List, [], ◌∷◌, nat_le, length, filter, if◌then◌else◌, Option, Some, None}
-use Rattle.std.specs.List.{AllByRecursion}
+use Rattle.std.specs.Prelude.{◌≡◌, ℕ, ◌+◌, ◌-◌, ◌==◌, false, suc, List, [], ◌∷◌, nat_le, length, filter, if◌then◌else◌, Option, Some, None, is_some}
+use Rattle.std.specs.List.{AllByRecursion, list_any}
 use Rattle.rg_base.specs.declared.options.Options.{Options}
 use Rattle.rg_base.specs.declared.place.Place.{Place}
 use Rattle.rg_base.specs.declared.row.Row.{Row}
@@ -98,6 +98,11 @@ AreOther p q = (same_place p.0 q.0 ≡ false) × (same_place p.1 q.1 ≡ false)
 abbrev pub AreOneToOne : List (Place × Place) → Type 0
 AreOneToOne [] = Unit {0}
 AreOneToOne (pair ∷ pairs) = AllByRecursion (AreOther pair) pairs × AreOneToOne pairs
+
+-- the new places are exactly those that have a row
+abbrev pub AreTargets : List (Place × Place) → (Place → Option Row) → Type 0
+AreTargets pairs rows =
+    (place : Place) → list_any (λ pair. same_place place pair.1) pairs ≡ is_some (rows place)
 
 -- the new place of an old one
 abbrev pub target_in : List (Place × Place) → Place → Option Place

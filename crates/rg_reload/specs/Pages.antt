@@ -10,6 +10,7 @@ use Rattle.rg_base.specs.declared.row.Row.{Row as TableRow}
 use Rattle.rg_home.specs.Pages.{page_at}
 use Rattle.rg_home.specs.Slot.{Slot}
 use Rattle.rg_home.specs.Slot.{Free, Row}
+use Rattle.rg_home.specs.Slots.{Fits}
 use Rattle.rg_page.specs.Content.{Content, content_at, slots_of}
 use Rattle.rg_page.specs.Seen.{Seen}
 use Rattle.rg_page.specs.declared.list.ListFrames.{ListFrames}
@@ -39,9 +40,10 @@ abbrev pub page_of : (copy number : ℕ) → List Slot → Content
 page_of copy number slots =
     record { copy = copy; number = number; position = 0; slots = slots }
 
--- pages have these rows, each where it was moved to
+-- pages have these rows, each where it was moved to, and are within their bytes
 pub record HasRows (pages : List Content) (rows : List Moved) : Type 0 where
   pub slots : (n : ℕ) → page_at (slots_of pages) n ≡ slots_on n rows
+  pub fits : (n : ℕ) → Fits (page_at (slots_of pages) n)
   pub positions : (n : ℕ) → (content_at pages n).position ≡ 0
 
 -- what is seen of frames that keep all pages

@@ -9,10 +9,12 @@ ghost use Rattle.std.specs.List.Sorted.{IsPermutation};
 ghost use Rattle.rg_base.specs.declared.place.Place.{Place as ThePlace};
 ghost use Rattle.rg_fold.specs.Fold.{row_in};
 ghost use Rattle.rg_fold.specs.Lawful.{AreApart};
-ghost use Rattle.rg_home.specs.Rows.{Tied, row_at};
+ghost use Rattle.rg_home.specs.Able.{Proper};
+ghost use Rattle.rg_home.specs.Rows.{row_at};
 ghost use Rattle.rg_model.specs.Layout.{are_rising};
 ghost use Rattle.rg_model.specs.Packed.{page_count, spots_from};
-ghost use Rattle.rg_reload.specs.Moved.{AreOneToOne, new_homes, packed_rows, pairs_of, row_through, rows_in, moved_spots, target_in};
+ghost use Rattle.rg_page.specs.Content.{slots_of};
+ghost use Rattle.rg_reload.specs.Moved.{AreOneToOne, AreTargets, new_homes, packed_rows, pairs_of, row_through, rows_in, moved_spots, target_in};
 ghost use Rattle.rg_reload.specs.Order.{IsInOrder};
 ghost use Rattle.rg_reload.specs.Reloading.{Fills, GoesOn, Stops, IsCopy, space_slots};
 ghost use Rattle.rg_reload.specs.Pages.{slot_with};
@@ -210,11 +212,12 @@ impl Packer {
             (spots_from self.options 0 0 0 (rows_in self.rows)))) }
         ensures pairs { result.1 ≡ pairs_of (packed_rows self.options self.rows) }
         ensures one_to_one { AreOneToOne result.1 }
+        ensures homes { AreTargets result.1 (row_at (space_slots result.0)) }
         ensures rising { are_rising (map (λ pair. pair.1) result.1) ≡ true }
         // Each row lies at home, in an area as long as it is, and nothing else is there.
         ensures slots { (place : ThePlace) → space_slots result.0 place
             ≡ slot_with (row_in (new_homes (packed_rows self.options self.rows)) place) }
-        ensures tied { Tied (space_slots result.0) }
+        ensures proper { Proper (slots_of (frames_of result.0).pages.items) }
         // The old place of each row leads to the row.
         ensures rows { (place : ThePlace) → row_through (row_at (space_slots result.0))
             (target_in result.1 place) ≡ row_in self.rows place }

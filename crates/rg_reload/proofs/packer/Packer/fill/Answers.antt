@@ -1,6 +1,6 @@
 use Rattle.std.proofs.Common.{◌≡◌, ◌∙◌, ◌≤◌, ◌<◌, ◌+◌, ◌++◌, ◌∷◌, [], ℕ, sym, ap, subst, length, take, drop, arith}
 use Rattle.rg_home.proofs.Slots.{used-length}
-use Rattle.rg_home.specs.Slots.{used}
+use Rattle.rg_home.specs.Slots.{Fits, used}
 use Rattle.rg_model.specs.Packed.{page_at, page_count}
 use Rattle.rg_page.specs.Content.{Content}
 use Rattle.rg_reload.specs.Moved.{moved_on, packed_rows, page_taken, pairs_of}
@@ -70,6 +70,7 @@ invariant_of-self-2 c =
       count = c.in_ok-add_empty.ensures.count ∙ before;
       rows = c.add_empty.ensures.rows (placed_rows p) i.made_is.rows_are;
       page = c.in_ok-push.ensures.ok ∙ ap (λ page. c.add_empty.new.frames.pages.items ++ page ∷ []) page;
+      fits = subst Fits (ap (λ rows. row_slots rows) (ap (λ rows. take c.count_taken-count.result rows) left ∙ ap (λ n. take n (rows_left p)) count)) c.count_taken-count.ensures.fits;
       copy = c.push.ensures.copy_same ∙ c.add_empty.ensures.copy_same;
       reserved = c.push.ensures.reserved ∙ c.add_empty.ensures.reserved;
       pairs_are = c.add_pairs.ensures.pairs

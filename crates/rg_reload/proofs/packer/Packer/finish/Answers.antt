@@ -10,14 +10,14 @@ use Rattle.rg_page.specs.Content.{slots_of}
 use Rattle.rg_space.specs.Space.{frames_of}
 use Rattle.rg_stmt.specs.declared.layout.Spot.{Spot}
 use Rattle.rg_model.specs.Packed.{page_count}
-use Rattle.rg_reload.specs.Moved.{AreOneToOne, Moved, packed_rows, pages_filled, pairs_of, row_through, target_in}
+use Rattle.rg_reload.specs.Moved.{AreOneToOne, AreTargets, Moved, packed_rows, pages_filled, pairs_of, row_through, target_in}
 use Rattle.rg_reload.specs.Reloading.{Reloading, HasMade, IsCopy, reloading_at}
 use Rattle.rg_reload.specs.declared.packer.NewCopy.{NewCopy}
 use Rattle.rg_reload.specs.declared.packer.NewCopy.TheVariants.{Whole}
 use Rattle.rg_model.specs.Layout.{are_rising}
 use Rattle.rg_reload.proofs.Rising.{targets_rise}
 use Rattle.rg_reload.proofs.Steps.{first_spots, length-moved_from, moved_spots-moved}
-use Rattle.rg_reload.proofs.Through.{one_to_one_is, slot_is, source_is, tied_is}
+use Rattle.rg_reload.proofs.Through.{homes_are, one_to_one_is, proper_is, slot_is, source_is}
 use Rattle.rg_reload.proofs.packer.Packer.finish.Goals as goal
 
 all_placed : (options : Options) (rows : List (Place × Row)) (count : ℕ) → count ≡ length rows
@@ -58,8 +58,13 @@ returns-clause-one_to_one c =
 pub returns-clause-slots : goal.returns-clause-slots
 returns-clause-slots c = slot_is c.args.self.options c.args.self.rows (frames_of c.in-Whole.space).pages.items (copy_of c).rows_are
 
-pub returns-clause-tied : goal.returns-clause-tied
-returns-clause-tied c = tied_is c.args.self.options c.args.self.rows (frames_of c.in-Whole.space).pages.items (copy_of c).rows_are
+pub returns-clause-proper : goal.returns-clause-proper
+returns-clause-proper c = proper_is c.args.self.options c.args.self.rows (frames_of c.in-Whole.space).pages.items (copy_of c).rows_are
+
+pub returns-clause-homes : goal.returns-clause-homes
+returns-clause-homes c =
+    subst (λ (pairs : List (Place × Place)). AreTargets pairs (row_at (slot_of (slots_of (frames_of c.in-Whole.space).pages.items)))) (sym (pairs_is c))
+    (homes_are c.args.self.options c.args.self.rows (frames_of c.in-Whole.space).pages.items (copy_of c).rows_are)
 
 pub returns-clause-rows : goal.returns-clause-rows
 returns-clause-rows c = λ place.

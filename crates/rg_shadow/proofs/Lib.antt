@@ -1,0 +1,9 @@
+pub mod Holding
+pub mod Planning
+pub mod Moving
+pub mod Keeping
+pub mod Pairing
+pub mod Everywhere
+pub mod Running
+pub mod Merging
+pub mod Changing

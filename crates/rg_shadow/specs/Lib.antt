@@ -1,0 +1,6 @@
+pub mod Drafts
+pub mod Planned
+pub mod Shade
+pub mod Pieces
+pub mod Runs
+pub mod Stored
