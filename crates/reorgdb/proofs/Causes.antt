@@ -1,9 +1,10 @@
 -- The contract of a call follows from what it comes to.
-use Rattle.std.proofs.Common.{◌≡◌, ◌≢◌, ◌<◌, ◌≤◌, ◌+◌, ◌*◌, ◌⊎◌, inl, inr, ℕ, Bool, true, false, nat_le, if◌then◌else◌, List, [], ◌∷◌, ◌++◌, Option, Some, None, length, refl, sym, ◌∙◌, ap, subst, arith, append-nil, length-append}
+use Rattle.std.proofs.Common.{◌≡◌, ◌≢◌, ◌<◌, ◌≤◌, ◌+◌, ◌*◌, ◌⊎◌, inl, inr, ℕ, zero, suc, ◌-◌, ◌^◌, Bool, true, false, nat_le, if◌then◌else◌, slice_index_or, List, [], ◌∷◌, ◌++◌, Option, Some, None, length, refl, sym, ◌∙◌, ap, subst, arith, append-nil, length-append}
 use Rattle.std.proofs.lemmas.Bool.Decides.{nat_tests}
-use Rattle.std.specs.List.{Contains}
+use Rattle.std.specs.List.{AllByRecursion, Contains}
 use Rattle.std.specs.Io.KnownBytes.{Consumes, Appends, IsAtEnd}
-use Rattle.rg_base.specs.declared.set.Set.TheVariants.{First, Second}
+use Rattle.rg_base.specs.declared.set.Set.{Set}
+use Rattle.rg_base.specs.declared.set.Set.TheVariants.{First, Log, Second}
 use Rattle.rg_deck.specs.declared.read.TheConstants.{DECK_LIMIT}
 use Rattle.rg_model.specs.Legal.{Legal}
 use Rattle.rg_outside.specs.Faults.{Rose}
@@ -13,18 +14,26 @@ use Rattle.rg_image.specs.Rules.{limit_of}
 use Rattle.rg_log.specs.Kept.{log_pages}
 use Rattle.rg_run.specs.Full.{IsFullFrom, IsFullOnlyFrom}
 use Rattle.rg_run.specs.LogFull.{IsLogFullOnlyFrom}
+use Rattle.rg_run.specs.Outside.{IfCounted, IsDeviceOnlyIf, IsEnd, MadeSince, MakesOnly}
+use Rattle.rg_run.specs.declared.played.RunEnd.TheVariants as ends
+use Rattle.rg_restart.specs.Opening.{HasFreshLog}
+use Rattle.rg_image.specs.Rules.{HasLogPages}
+use Rattle.rg_log.specs.Open.{IsQuiet}
+use Rattle.rg_outside.specs.Calls.{Call, Image, Told, read_of, Read, Wrote, Synced, FailedRead, FailedWrite, FailedSync, Refused}
+use Rattle.rg_outside.specs.Made.{WritesIn}
+use Rattle.rg_desk.specs.Volume.{VolumeSeen}
 use Rattle.rg_desk.specs.Chronicle.{allowed_after}
 use Rattle.rg_stmt.specs.declared.event.Entry.{Entry}
 use Rattle.rg_stmt.specs.declared.event.Event.{Event}
 use Rattle.rg_stmt.specs.declared.event.Event.TheVariants.{Said}
 use Rattle.rg_stmt.specs.declared.stmt.Reply.TheVariants.{Full}
-use Rattle.reorgdb.specs.Answer.{Seen, IsPlay, IsDeck, ReadsDeck, Comes, Concludes, output_of}
-use Rattle.reorgdb.specs.Causes.{Plays, RefusesDeck, IsDue, GivesDue}
+use Rattle.reorgdb.specs.Answer.{Seen, IsPlay, IsDeck, ReadsDeck, Comes, Concludes, Finds, output_of}
+use Rattle.reorgdb.specs.Causes.{IsFreshVolume, Plays, RefusesDeck, RefusesVolume, IsDue, GivesDue}
 use Rattle.reorgdb.specs.Contract.{Completes, pages_of, smaller_pages}
 use Rattle.reorgdb.specs.Reading.{TakesAtMost, TakesTooMany}
 use Rattle.reorgdb.specs.Refusals.{status_of}
 use Rattle.reorgdb.specs.declared.outcome.Outcome.{Outcome}
-use Rattle.reorgdb.specs.declared.outcome.Outcome.TheVariants.{Played, Words, Deck, Source, Long, NoMemory}
+use Rattle.reorgdb.specs.declared.outcome.Outcome.TheVariants.{Played, Down, Words, Deck, Source, Damaged, Device, Long, NoMemory}
 
 -- ---- FULL
 
@@ -50,9 +59,12 @@ full_less less more allowed (entry ∷ entries) le all = (full_one less more all
 
 not_four : (a : Outcome) → status_of a ≢ 4
 not_four Played e = omega arith
+not_four Down e = omega arith
 not_four Words e = omega arith
 not_four (Deck line) e = omega arith
 not_four Source e = omega arith
+not_four (Damaged set page) e = omega arith
+not_four Device e = omega arith
 not_four Long e = omega arith
 not_four NoMemory e = omega arith
 
@@ -77,16 +89,64 @@ too_many (Some all) (Some left) taken bytes told consumed many short =
     let again : length all ≡ length bytes = ap length same in
     omega (arith, length-append taken left)
 
-module _ (words : List (List ℕ)) (source source_after sink sink_after : Seen) (status : ℕ) (trace : List Entry) where
+-- ---- the volume
+
+-- calls that write nothing leave what reads
+quiet_reads : (first : Image) (fresh calls : List Call) (s : Set) (p : ℕ) → AllByRecursion IsQuiet fresh → read_of first (fresh ++ calls) s p ≡ read_of first calls s p
+quiet_reads first [] calls s p all = refl
+quiet_reads first (Read ∷ fresh) calls s p all = quiet_reads first fresh calls s p all.1
+quiet_reads first (Wrote set page bytes ∷ fresh) calls s p all = absurd all.0
+quiet_reads first (Synced ∷ fresh) calls s p all = quiet_reads first fresh calls s p all.1
+quiet_reads first (FailedRead ∷ fresh) calls s p all = quiet_reads first fresh calls s p all.1
+quiet_reads first (FailedWrite set page bytes reads ∷ fresh) calls s p all = absurd all.0
+quiet_reads first (FailedSync ∷ fresh) calls s p all = quiet_reads first fresh calls s p all.1
+quiet_reads first (Refused ∷ fresh) calls s p all = quiet_reads first fresh calls s p all.1
+
+same_image : (old new : Told) (since : MadeSince IsQuiet (Some old) new) → read_of new.first new.calls ≡ read_of old.first old.calls
+same_image old new since =
+    let is : since.before ≡ old = cc (since.was) in
+    let first : new.first ≡ old.first = since.first ∙ ap (λ (t : Told). t.first) is in
+    let calls : new.calls ≡ since.fresh ++ old.calls = since.calls ∙ ap (λ (t : Told). since.fresh ++ t.calls) is in
+    ap (λ (i : Image). read_of i new.calls) first ∙ ap (read_of old.first) calls ∙ (λ i s p. quiet_reads old.first since.fresh old.calls s p since.each i)
+
+-- an opening that is refused finds the log as it was
+still_fresh : (before after : VolumeSeen) (set : Set) (page : ℕ) → IsFreshVolume before after → IsEnd before after (ends.Damaged set page) → ⊥
+still_fresh before after set page fresh end =
+    let told = fresh.is in
+    let used : length fresh.new.calls < 2 ^ 64 - 1 → HasFreshLog after fresh.new → ⊥ = subst (λ (o : Option Told). IfCounted o (λ t. HasFreshLog after t → ⊥)) told end.1 in
+    let quiet : length fresh.new.calls < 2 ^ 64 - 1 → MadeSince IsQuiet before.told fresh.new = subst (λ (o : Option Told). IfCounted o (MadeSince IsQuiet before.told)) told end.2 in
+    let image : read_of fresh.new.first fresh.new.calls ≡ read_of fresh.old.first fresh.old.calls = same_image fresh.old fresh.new (subst (λ (o : Option Told). MadeSince IsQuiet o fresh.new) fresh.was (quiet fresh.few)) in
+    used fresh.few
+    (subst (λ (i : Image). HasLogPages (log_pages after.capacities) i []) (sym image)
+    (subst (λ (c : Capacities). HasLogPages (log_pages c) (read_of fresh.old.first fresh.old.calls) []) (sym end.3) fresh.fresh))
+
+-- ---- statuses
+
+-- those that come before the opening are no other
+not_early : (status : ℕ) → Contains (1 ∷ 2 ∷ 3 ∷ 7 ∷ []) status → (status ≡ 4) ⊎ ((status ≡ 5) ⊎ ((status ≡ 6) ⊎ ((status ≡ 0) ⊎ (status ≡ 8)))) → ⊥
+not_early status (i, low, is) other = by_place i low is
+  where
+    differs : (n : ℕ) → status ≡ n → (n ≡ 1) ⊎ ((n ≡ 2) ⊎ ((n ≡ 3) ⊎ (n ≡ 7))) → ⊥
+    differs n e f = grind (arith, e, f, other)
+
+    by_place : (i : ℕ) → i < 4 → slice_index_or (1 ∷ 2 ∷ 3 ∷ 7 ∷ []) i status ≡ status → ⊥
+    by_place zero low is = differs 1 (sym is) (inl refl)
+    by_place (suc zero) low is = differs 2 (sym is) (inr (inl refl))
+    by_place (suc (suc zero)) low is = differs 3 (sym is) (inr (inr (inl refl)))
+    by_place (suc (suc (suc zero))) low is = differs 7 (sym is) (inr (inr (inr refl)))
+    by_place (suc (suc (suc (suc i)))) low is = omega (arith, low)
+
+module _ (words : List (List ℕ)) (source source_after sink sink_after : Seen) (volume volume_after : VolumeSeen) (status : ℕ) (trace : List Entry) where
   -- a status but 4 and 8 is the outcome's
   record OfStatus (outcome : Outcome) (print : List ℕ) : Type 0 where
     is : status ≡ status_of outcome
     comes : Comes outcome words source source_after trace print
+    finds : Finds outcome volume volume_after
     shown : Appends sink.bytes sink_after.bytes (output_of outcome print)
 
-  by_status : status ≢ 4 → status ≢ 8 → (a : Concludes words source source_after sink sink_after status trace) → OfStatus a.outcome a.print
+  by_status : status ≢ 4 → status ≢ 8 → (a : Concludes words source source_after sink sink_after volume volume_after status trace) → OfStatus a.outcome a.print
   by_status four eight a = elim a.delivered [
-    | inl whole ↦ record { is = whole.0; comes = a.comes; shown = whole.1 }
+    | inl whole ↦ record { is = whole.0; comes = a.comes; finds = a.finds; shown = whole.1 }
     | inr front ↦ elim front [ inl failed ↦ absurd (four failed.0) | inr wanted ↦ absurd (eight wanted.0) ]
   ]
 
@@ -107,14 +167,14 @@ module _ (words : List (List ℕ)) (source source_after sink sink_after : Seen) 
       }
   played_of outcome print is of = absurd (omega (arith, of.is, is))
 
-  plays : Concludes words source source_after sink sink_after status trace → status ≡ 0 → Plays words source source_after sink sink_after trace
+  plays : Concludes words source source_after sink sink_after volume volume_after status trace → status ≡ 0 → Plays words source source_after sink sink_after trace
   plays a is = played_of a.outcome a.print is (by_status (λ e. omega arith) (λ e. omega arith) a)
 
   words_of : (outcome : Outcome) (print : List ℕ) → status ≡ 1 → OfStatus outcome print → IsPlay words → ⊥
   words_of Words print is of = of.comes.0
   words_of outcome print is of = absurd (omega (arith, of.is, is))
 
-  no_words : Concludes words source source_after sink sink_after status trace → status ≡ 1 → IsPlay words → ⊥
+  no_words : Concludes words source source_after sink sink_after volume volume_after status trace → status ≡ 1 → IsPlay words → ⊥
   no_words a is = words_of a.outcome a.print is (by_status (λ e. omega arith) (λ e. omega arith) a)
 
   deck_of : (outcome : Outcome) (print : List ℕ) → status ≡ 2 → OfStatus outcome print → RefusesDeck source source_after sink sink_after
@@ -124,30 +184,66 @@ module _ (words : List (List ℕ)) (source source_after sink sink_after : Seen) 
       record { bytes = bytes; line = line; read = read; refused = refused; shown = subst (Appends sink.bytes sink_after.bytes) printed of.shown }
   deck_of outcome print is of = absurd (omega (arith, of.is, is))
 
-  no_deck : Concludes words source source_after sink sink_after status trace → status ≡ 2 → RefusesDeck source source_after sink sink_after
+  no_deck : Concludes words source source_after sink sink_after volume volume_after status trace → status ≡ 2 → RefusesDeck source source_after sink sink_after
   no_deck a is = deck_of a.outcome a.print is (by_status (λ e. omega arith) (λ e. omega arith) a)
 
   source_of : (outcome : Outcome) (print : List ℕ) → status ≡ 3 → OfStatus outcome print → Rose source.faults source_after.faults
   source_of Source print is of = of.comes.1
   source_of outcome print is of = absurd (omega (arith, of.is, is))
 
-  no_source : Concludes words source source_after sink sink_after status trace → status ≡ 3 → Rose source.faults source_after.faults
+  no_source : Concludes words source source_after sink sink_after volume volume_after status trace → status ≡ 3 → Rose source.faults source_after.faults
   no_source a is = source_of a.outcome a.print is (by_status (λ e. omega arith) (λ e. omega arith) a)
+
+  damaged_of : (outcome : Outcome) (print : List ℕ) → status ≡ 5 → OfStatus outcome print → RefusesVolume sink sink_after volume volume_after trace
+  damaged_of (Damaged set page) print is of =
+      let (play, bytes, read, deals) = of.comes in
+      let (lines, spelled, none, printed) = deals in
+      record { set = set; page = page; because = of.finds; none = none; shown = subst (Appends sink.bytes sink_after.bytes) printed of.shown }
+  damaged_of outcome print is of = absurd (omega (arith, of.is, is))
+
+  no_volume : Concludes words source source_after sink sink_after volume volume_after status trace → status ≡ 5 → RefusesVolume sink sink_after volume volume_after trace
+  no_volume a is = damaged_of a.outcome a.print is (by_status (λ e. omega arith) (λ e. omega arith) a)
+
+  failed_of : (outcome : Outcome) (print : List ℕ) → status ≡ 6 → OfStatus outcome print → Rose volume.faults volume_after.faults
+  failed_of Down print is of = of.finds
+  failed_of Device print is of = of.finds
+  failed_of outcome print is of = absurd (omega (arith, of.is, is))
+
+  volume_fails : Concludes words source source_after sink sink_after volume volume_after status trace → status ≡ 6 → Rose volume.faults volume_after.faults
+  volume_fails a is = failed_of a.outcome a.print is (by_status (λ e. omega arith) (λ e. omega arith) a)
+
+  -- a refusal before the opening calls no volume
+  uncalled_of : (outcome : Outcome) (print : List ℕ) → Contains (1 ∷ 2 ∷ 3 ∷ 7 ∷ []) status → OfStatus outcome print → volume_after ≡ volume
+  uncalled_of Words print is of = of.finds
+  uncalled_of (Deck line) print is of = of.finds
+  uncalled_of Source print is of = of.finds
+  uncalled_of Long print is of = of.finds
+  uncalled_of Played print is of = absurd (not_early status is (inr (inr (inr (inl of.is)))))
+  uncalled_of Down print is of = absurd (not_early status is (inr (inr (inl of.is))))
+  uncalled_of (Damaged set page) print is of = absurd (not_early status is (inr (inl of.is)))
+  uncalled_of Device print is of = absurd (not_early status is (inr (inr (inl of.is))))
+  uncalled_of NoMemory print is of = absurd (not_early status is (inr (inr (inr (inr of.is)))))
+
+  early_so : Contains (1 ∷ 2 ∷ 3 ∷ 7 ∷ []) status → (status ≢ 4) × (status ≢ 8)
+  early_so is = (λ e. not_early status is (inl e), λ e. not_early status is (inr (inr (inr (inr e)))))
+
+  uncalled : Concludes words source source_after sink sink_after volume volume_after status trace → Contains (1 ∷ 2 ∷ 3 ∷ 7 ∷ []) status → volume_after ≡ volume
+  uncalled a is = uncalled_of a.outcome a.print is (by_status (early_so is).0 (early_so is).1 a)
 
   long_of : (outcome : Outcome) (print : List ℕ) → status ≡ 7 → OfStatus outcome print → TakesTooMany source.bytes source_after.bytes
   long_of Long print is of = of.comes.1
   long_of outcome print is of = absurd (omega (arith, of.is, is))
 
-  too_long : Concludes words source source_after sink sink_after status trace → status ≡ 7 → TakesTooMany source.bytes source_after.bytes
+  too_long : Concludes words source source_after sink sink_after volume volume_after status trace → status ≡ 7 → TakesTooMany source.bytes source_after.bytes
   too_long a is = long_of a.outcome a.print is (by_status (λ e. omega arith) (λ e. omega arith) a)
 
-  no_sink : Concludes words source source_after sink sink_after status trace → status ≡ 4 → Rose sink.faults sink_after.faults
+  no_sink : Concludes words source source_after sink sink_after volume volume_after status trace → status ≡ 4 → Rose sink.faults sink_after.faults
   no_sink a is = elim a.delivered [
     | inl whole ↦ absurd (not_four a.outcome (sym whole.0 ∙ is))
     | inr front ↦ elim front [ inl failed ↦ failed.1 | inr wanted ↦ absurd (omega arith) ]
   ]
 
-  other_words : Concludes words source source_after sink sink_after status trace → (IsPlay words → ⊥) → Contains (1 ∷ 4 ∷ 8 ∷ []) status
+  other_words : Concludes words source source_after sink sink_after volume volume_after status trace → (IsPlay words → ⊥) → Contains (1 ∷ 4 ∷ 8 ∷ []) status
   other_words a other = elim a.delivered [
     | inl whole ↦ (0, omega arith, sym (whole.0 ∙ ap status_of (refused a.outcome a.print a.comes)))
     | inr front ↦ elim front [ inl failed ↦ (1, omega arith, sym failed.0) | inr wanted ↦ (2, omega arith, sym wanted.0) ]
@@ -156,6 +252,9 @@ module _ (words : List (List ℕ)) (source source_after sink sink_after : Seen) 
       refused : (outcome : Outcome) (print : List ℕ) → Comes outcome words source source_after trace print → outcome ≡ Words
       refused Words print comes = refl
       refused Played print comes = absurd (other comes.0)
+      refused Down print comes = absurd (other comes.0)
+      refused (Damaged set page) print comes = absurd (other comes.0)
+      refused Device print comes = absurd (other comes.0)
       refused (Deck line) print comes = absurd (other comes.0)
       refused Source print comes = absurd (other comes.0)
       refused Long print comes = absurd (other comes.0)
@@ -166,40 +265,56 @@ module _ (words : List (List ℕ)) (source source_after sink sink_after : Seen) 
   all_read read bytes told reads = whole_read source.bytes source_after.bytes read bytes told reads.taken reads.end
 
   -- what comes where nothing fails has the status of what is due, or is want of memory
-  due_outcome : (outcome due : Outcome) (bytes print : List ℕ) → source.bytes ≡ Some bytes → IsDue due words bytes → (Rose source.faults source_after.faults → ⊥)
-      → Comes outcome words source source_after trace print → (status_of outcome ≡ status_of due) ⊎ (outcome ≡ NoMemory)
-  due_outcome NoMemory due bytes print told is_due sure comes = inr refl
-  due_outcome Source due bytes print told is_due sure comes = absurd (sure comes.1)
-  due_outcome outcome Source bytes print told is_due sure comes = absurd is_due
-  due_outcome outcome NoMemory bytes print told is_due sure comes = absurd is_due
-  due_outcome Words Words bytes print told is_due sure comes = inl refl
-  due_outcome Words Played bytes print told is_due sure comes = absurd (comes.0 is_due.0)
-  due_outcome Words (Deck line) bytes print told is_due sure comes = absurd (comes.0 is_due.0)
-  due_outcome Words Long bytes print told is_due sure comes = absurd (comes.0 is_due.0)
-  due_outcome Played Words bytes print told is_due sure comes = absurd (is_due comes.0)
-  due_outcome (Deck line) Words bytes print told is_due sure comes = absurd (is_due comes.0)
-  due_outcome Long Words bytes print told is_due sure comes = absurd (is_due comes.0)
-  due_outcome Played Played bytes print told is_due sure comes = inl refl
-  due_outcome (Deck line) (Deck other) bytes print told is_due sure comes = inl refl
-  due_outcome Long Long bytes print told is_due sure comes = inl refl
-  due_outcome Played (Deck line) bytes print told is_due sure comes =
+  due_outcome : (outcome due : Outcome) (bytes print : List ℕ) → source.bytes ≡ Some bytes → IsDue due words bytes volume volume_after → (Rose source.faults source_after.faults → ⊥)
+      → Comes outcome words source source_after trace print → Finds outcome volume volume_after → (status_of outcome ≡ status_of due) ⊎ (outcome ≡ NoMemory)
+  due_outcome NoMemory due bytes print told is_due sure comes finds = inr refl
+  due_outcome Source due bytes print told is_due sure comes finds = absurd (sure comes.1)
+  due_outcome outcome Source bytes print told is_due sure comes finds = absurd is_due
+  due_outcome outcome NoMemory bytes print told is_due sure comes finds = absurd is_due
+  due_outcome outcome Down bytes print told is_due sure comes finds = absurd is_due
+  due_outcome outcome (Damaged set page) bytes print told is_due sure comes finds = absurd is_due
+  due_outcome outcome Device bytes print told is_due sure comes finds = absurd is_due
+  due_outcome Words Words bytes print told is_due sure comes finds = inl refl
+  due_outcome Words Played bytes print told is_due sure comes finds = absurd (comes.0 is_due.0)
+  due_outcome Words (Deck line) bytes print told is_due sure comes finds = absurd (comes.0 is_due.0)
+  due_outcome Words Long bytes print told is_due sure comes finds = absurd (comes.0 is_due.0)
+  due_outcome Long Long bytes print told is_due sure comes finds = inl refl
+  due_outcome Long Words bytes print told is_due sure comes finds = absurd (is_due comes.0)
+  due_outcome Long Played bytes print told is_due sure comes finds = absurd (too_many source.bytes source_after.bytes comes.1.0 bytes told comes.1.2 comes.1.1 is_due.1)
+  due_outcome Long (Deck line) bytes print told is_due sure comes finds = absurd (too_many source.bytes source_after.bytes comes.1.0 bytes told comes.1.2 comes.1.1 is_due.1)
+  due_outcome Played Played bytes print told is_due sure comes finds = inl refl
+  due_outcome (Deck line) (Deck other) bytes print told is_due sure comes finds = inl refl
+  due_outcome (Deck line) Played bytes print told is_due sure comes finds =
+      let (play, read, reads, deals) = comes in
+      let (refused, none, printed) = deals in
+      let (lines, spelled) = is_due.2 in
+      absurd (refused.1 lines (subst (λ b. IsDeck b lines) (sym (all_read read bytes told reads)) spelled))
+  due_outcome Down Played bytes print told is_due sure comes finds = absurd (is_due.3.sure finds)
+  due_outcome Device Played bytes print told is_due sure comes finds = absurd (is_due.3.sure finds)
+  due_outcome (Damaged set page) Played bytes print told is_due sure comes finds = absurd (still_fresh volume volume_after set page is_due.3 finds)
+  due_outcome outcome Words bytes print told is_due sure comes finds = absurd (is_due comes.0)
+  due_outcome Played (Deck line) bytes print told is_due sure comes finds =
       let (play, read, reads, deals) = comes in
       let (lines, spelled, printed) = deals in
       absurd (is_due.2 lines (subst (λ b. IsDeck b lines) (all_read read bytes told reads) spelled))
-  due_outcome (Deck line) Played bytes print told is_due sure comes =
+  due_outcome Down (Deck line) bytes print told is_due sure comes finds =
       let (play, read, reads, deals) = comes in
-      let (refused, none, printed) = deals in
-      absurd (refused.1 is_due.2 (subst (λ b. IsDeck b is_due.2) (sym (all_read read bytes told reads)) is_due.3))
-  due_outcome Played Long bytes print told is_due sure comes =
+      let (lines, spelled, printed) = deals in
+      absurd (is_due.2 lines (subst (λ b. IsDeck b lines) (all_read read bytes told reads) spelled))
+  due_outcome (Damaged set page) (Deck line) bytes print told is_due sure comes finds =
+      let (play, read, reads, deals) = comes in
+      let (lines, spelled, none, printed) = deals in
+      absurd (is_due.2 lines (subst (λ b. IsDeck b lines) (all_read read bytes told reads) spelled))
+  due_outcome Device (Deck line) bytes print told is_due sure comes finds =
+      let (play, read, reads, deals) = comes in
+      let (lines, spelled, none) = deals in
+      absurd (is_due.2 lines (subst (λ b. IsDeck b lines) (all_read read bytes told reads) spelled))
+  due_outcome outcome Long bytes print told is_due sure comes finds =
       absurd (short_and_long comes.1 bytes (all_read comes.1 bytes told comes.2) comes.2.short is_due.1)
-  due_outcome (Deck line) Long bytes print told is_due sure comes =
-      absurd (short_and_long comes.1 bytes (all_read comes.1 bytes told comes.2) comes.2.short is_due.1)
-  due_outcome Long Played bytes print told is_due sure comes = absurd (too_many source.bytes source_after.bytes comes.1.0 bytes told comes.1.2 comes.1.1 is_due.1)
-  due_outcome Long (Deck line) bytes print told is_due sure comes = absurd (too_many source.bytes source_after.bytes comes.1.0 bytes told comes.1.2 comes.1.1 is_due.1)
 
-  gives_due : Concludes words source source_after sink sink_after status trace → GivesDue words source source_after sink sink_after status
+  gives_due : Concludes words source source_after sink sink_after volume volume_after status trace → GivesDue words source source_after sink sink_after volume volume_after status
   gives_due a due bytes told is_due sure_source sure_sink = elim a.delivered [
-    | inl whole ↦ elim (due_outcome a.outcome due bytes a.print told is_due sure_source a.comes) [
+    | inl whole ↦ elim (due_outcome a.outcome due bytes a.print told is_due sure_source a.comes a.finds) [
       | inl same ↦ inl (whole.0 ∙ same)
       | inr none ↦ inr (whole.0 ∙ ap status_of none)
     ]
@@ -207,23 +322,30 @@ module _ (words : List (List ℕ)) (source source_after sink sink_after : Seen) 
   ]
 
   -- the whole contract, by what the call comes to
-  pub completes : (capacities : Capacities)
-      → Concludes words source source_after sink sink_after status trace → Legal no_rows trace
-      → IsFullOnlyFrom (3221 * copy_capacity capacities) 0 trace
-      → IsLogFullOnlyFrom (limit_of (log_pages capacities)) 0 trace
+  pub completes :
+      Concludes words source source_after sink sink_after volume volume_after status trace → Legal no_rows trace
+      → IsFullOnlyFrom (3221 * copy_capacity volume.capacities) 0 trace
+      → IsLogFullOnlyFrom (limit_of (log_pages volume.capacities)) 0 trace
+      → IsDeviceOnlyIf (Rose volume.faults volume_after.faults) trace
+      → MakesOnly (WritesIn Log) volume.told volume_after.told
       → TakesAtMost (DECK_LIMIT + 1) source.bytes source_after.bytes
-      → Completes words source source_after sink sink_after capacities status trace
-  completes capacities concludes legal full log_full bounded = record {
+      → Completes words source source_after sink sink_after volume volume_after status trace
+  completes concludes legal full log_full device only bounded = record {
     concludes = concludes;
     legal = legal;
-    full = full_less (3200 * smaller_pages capacities) (3221 * copy_capacity capacities) 0 trace (few_pages capacities) full;
+    full = full_less (3200 * smaller_pages volume.capacities) (3221 * copy_capacity volume.capacities) 0 trace (few_pages volume.capacities) full;
     log_full = log_full;
+    device = device;
+    only = only;
     played = plays concludes;
     no_command = no_words concludes;
     other_words = other_words concludes;
     deck = no_deck concludes;
     source_failed = no_source concludes;
     sink_failed = no_sink concludes;
+    no_call = uncalled concludes;
+    damaged = no_volume concludes;
+    volume_failed = volume_fails concludes;
     long = too_long concludes;
     due = gives_due concludes;
     bounded = bounded;

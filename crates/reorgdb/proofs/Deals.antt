@@ -1,5 +1,9 @@
 -- From lines to the bytes that spell them.
-use Rattle.std.proofs.Common.{◌≡◌, ℕ, Bool, List, [], ◌∷◌, sym, subst, append-nil, inl, inr, ◌⊎◌}
+use Rattle.std.proofs.Common.{◌≡◌, ℕ, Bool, List, [], ◌∷◌, Result, Ok, Err, IfOk, OnErr, sym, ◌∙◌, ap, subst, append-nil, inl, inr, ◌⊎◌}
+use Rattle.rg_base.specs.declared.bytes.Bytes.{Bytes}
+use Rattle.rg_base.specs.declared.no_memory.NoMemory.{NoMemory as WantsMemory}
+use Rattle.rg_print.specs.Print.{print_text}
+use Rattle.rg_print.specs.declared.print.Close.TheVariants as closes
 use Rattle.rg_stmt.specs.declared.event.Entry.{Entry}
 use Rattle.std.specs.List.{AllByRecursion}
 use Rattle.rg_stmt.specs.declared.line.Line.{Line}
@@ -8,10 +12,10 @@ use Rattle.rg_deck.specs.Grammar.{IsAdmitted}
 use Rattle.rg_deck.specs.declared.read.Admits.TheVariants.{Layouts}
 use Rattle.rg_run.specs.Played.{IsPlayed, TraceOf, TraceOfFront, Ends}
 use Rattle.rg_run.specs.declared.played.RunEnd.{RunEnd}
-use Rattle.rg_run.specs.declared.played.RunEnd.TheVariants.{Whole}
+use Rattle.rg_run.specs.declared.played.RunEnd.TheVariants.{Whole, Down as Ended}
 use Rattle.reorgdb.specs.Answer.{Comes, DealsWithBytes, DealsWithLines, IsDeck, IsPlay, ReadsDeck, Seen}
 use Rattle.reorgdb.specs.declared.outcome.Outcome.{Outcome}
-use Rattle.reorgdb.specs.declared.outcome.Outcome.TheVariants.{Played, Words, Deck, Source, Long, NoMemory}
+use Rattle.reorgdb.specs.declared.outcome.Outcome.TheVariants.{Played, Down, Words, Deck, Source, Damaged, Device, Long, NoMemory}
 
 -- the trace of all lines is one of some first lines
 pub TraceOfFront-whole : (lines : List Line) (trace : List Entry) → TraceOf lines trace → TraceOfFront lines trace
@@ -25,23 +29,44 @@ front_of bytes lines trace spelled (inr front) = inr (lines, spelled, front)
 pub DealsWithBytes-lines : (full : Bool) (outcome : Outcome) (bytes : List ℕ) (lines : List Line) (trace : List Entry) (print : List ℕ) → IsDeck bytes lines
     → DealsWithLines full lines outcome trace print → DealsWithBytes full bytes outcome trace print
 DealsWithBytes-lines full Played bytes lines trace print spelled deals = (lines, spelled, deals)
+DealsWithBytes-lines full Down bytes lines trace print spelled deals = (lines, spelled, deals)
+DealsWithBytes-lines full (Damaged set page) bytes lines trace print spelled deals = (lines, spelled, deals.0, deals.1)
+DealsWithBytes-lines full Device bytes lines trace print spelled deals = (lines, spelled, deals)
 DealsWithBytes-lines full NoMemory bytes lines trace print spelled deals = front_of bytes lines trace spelled deals
 DealsWithBytes-lines full Words bytes lines trace print spelled deals = deals
 DealsWithBytes-lines full (Deck line) bytes lines trace print spelled deals = absurd deals
 DealsWithBytes-lines full Source bytes lines trace print spelled deals = deals
 DealsWithBytes-lines full Long bytes lines trace print spelled deals = deals
 
--- lines that were played, but not printed for want of memory
-pub DealsWithLines-unprinted : (full : Bool) (lines : List Line) (played : List Entry) (end : RunEnd) (rows : ℕ) (outcome : Outcome) (trace : List Entry) (print : List ℕ)
-    → end ≡ Whole rows → outcome ≡ NoMemory → trace ≡ played → Ends lines played end → DealsWithLines full lines outcome trace print
-DealsWithLines-unprinted full lines played end rows outcome trace print is none same ends =
-    let whole : Ends lines played (Whole rows) = subst (Ends lines played) is ends in
-    rw (none, same) (inr (TraceOfFront-whole lines played whole.0))
+-- what a run comes to, once its print was made, or there was no memory for it
+
+pub prints_whole : (full : Bool) (lines : List Line) (trace read shown : List Entry) (rows : ℕ) (end : RunEnd) (text : Result Bytes WantsMemory) (outcome : Outcome) (print : List ℕ)
+    → end ≡ Whole rows → read ≡ trace → shown ≡ trace → IfOk text (λ p. p ≡ print_text read full (closes.Rows rows)) → IfOk text (λ p. (outcome ≡ Played) × (print ≡ p)) → OnErr text (outcome ≡ NoMemory)
+    → Ends lines trace end → DealsWithLines full lines outcome shown print
+prints_whole full lines trace read shown rows end (Ok text) outcome print is read_is same printed made none ends =
+    let whole : Ends lines trace (Whole rows) = subst (Ends lines trace) is ends in
+    rw (made.0, same) (record { entries = whole.0; rows = rows; counted = whole.1; printed = made.1 ∙ printed ∙ ap (λ (es : List Entry). print_text es full (closes.Rows rows)) read_is })
+prints_whole full lines trace read shown rows end (Err e) outcome print is read_is same printed made none ends =
+    let whole : Ends lines trace (Whole rows) = subst (Ends lines trace) is ends in
+    rw (none, same) (inr (TraceOfFront-whole lines trace whole.0))
+
+pub prints_down : (full : Bool) (lines : List Line) (trace read shown : List Entry) (end : RunEnd) (text : Result Bytes WantsMemory) (outcome : Outcome) (print : List ℕ)
+    → end ≡ Ended → read ≡ trace → shown ≡ trace → IfOk text (λ p. p ≡ print_text read full closes.Down) → IfOk text (λ p. (outcome ≡ Down) × (print ≡ p)) → OnErr text (outcome ≡ NoMemory)
+    → Ends lines trace end → DealsWithLines full lines outcome shown print
+prints_down full lines trace read shown end (Ok text) outcome print is read_is same printed made none ends =
+    let down : Ends lines trace Ended = subst (Ends lines trace) is ends in
+    rw (made.0, same) (record { entries = down.0; down = down.1; printed = made.1 ∙ printed ∙ ap (λ (es : List Entry). print_text es full closes.Down) read_is })
+prints_down full lines trace read shown end (Err e) outcome print is read_is same printed made none ends =
+    let down : Ends lines trace Ended = subst (Ends lines trace) is ends in
+    rw (none, same) (inr (TraceOfFront-whole lines trace down.0))
 
 -- what a call comes to whose words and bytes were read
 pub comes_read : (outcome : Outcome) (words : List (List ℕ)) (before after : Seen) (bytes : List ℕ) (trace : List Entry) (print : List ℕ) (asked : IsPlay words) → ReadsDeck before bytes after
     → DealsWithBytes asked.0 bytes outcome trace print → Comes outcome words before after trace print
 comes_read Played words before after bytes trace print asked reads deals = (asked, bytes, reads, deals)
+comes_read Down words before after bytes trace print asked reads deals = (asked, bytes, reads, deals)
+comes_read (Damaged set page) words before after bytes trace print asked reads deals = (asked, bytes, reads, deals)
+comes_read Device words before after bytes trace print asked reads deals = (asked, bytes, reads, deals)
 comes_read (Deck line) words before after bytes trace print asked reads deals = (asked, bytes, reads, deals)
 comes_read NoMemory words before after bytes trace print asked reads deals = (asked, inr (bytes, reads, deals))
 comes_read Words words before after bytes trace print asked reads deals = absurd deals

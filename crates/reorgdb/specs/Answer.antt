@@ -5,10 +5,13 @@ use Rattle.rg_deck.specs.Grammar.{LinesOf, IsFirstOutside}
 use Rattle.rg_deck.specs.declared.read.Admits.TheVariants.{Layouts}
 use Rattle.rg_deck.specs.declared.read.TheConstants.{DECK_LIMIT}
 use Rattle.rg_outside.specs.Faults.{Rose}
-use Rattle.rg_print.specs.Print.{print_text}
+use Rattle.rg_print.specs.Print.{damaged_text, print_text}
 use Rattle.rg_print.specs.declared.print.Close.TheVariants as closes
-use Rattle.rg_desk.specs.Desk.{EndsWithRows}
+use Rattle.rg_desk.specs.Desk.{EndsDown, EndsWithRows}
+use Rattle.rg_desk.specs.Volume.{VolumeSeen}
+use Rattle.rg_run.specs.Outside.{IsEnd}
 use Rattle.rg_run.specs.Played.{TraceOf, TraceOfFront}
+use Rattle.rg_run.specs.declared.played.RunEnd.TheVariants as ends
 use Rattle.rg_stmt.specs.declared.event.Entry.{Entry}
 use Rattle.rg_stmt.specs.declared.line.Line.{Line}
 use Rattle.rg_words.specs.Spelling.{Spells}
@@ -17,8 +20,8 @@ use Rattle.reorgdb.specs.Giving.{GivesPrefix}
 use Rattle.reorgdb.specs.Reading.{TakesTooMany}
 use Rattle.reorgdb.specs.Refusals.{status_of, fixed_text, deck_refusal}
 use Rattle.reorgdb.specs.declared.outcome.Outcome.{Outcome}
-use Rattle.reorgdb.specs.declared.outcome.Outcome.TheVariants.{Played, Words, Deck, Source, Long}
-use Rattle.reorgdb.specs.declared.outcome.Outcome.TheVariants.{NoMemory}
+use Rattle.reorgdb.specs.declared.outcome.Outcome.TheVariants.{Played, Down, Words, Deck, Source}
+use Rattle.reorgdb.specs.declared.outcome.Outcome.TheVariants.{Damaged, Device, Long, NoMemory}
 
 -- what is known of a source or a sink at one moment: the bytes that it has left or holds, where it
 -- reports them, and its count of faults
@@ -61,9 +64,20 @@ pub record PrintsPlayed (full : Bool) (lines : List Line) (trace : List Entry) (
   pub counted : EndsWithRows trace rows
   pub printed : print ≡ print_text trace full (closes.Rows rows)
 
+-- the same, where the device refused a COMMIT: the print says DOWN at its end
+pub record PrintsDown (full : Bool) (lines : List Line) (trace : List Entry) (print : List ℕ)
+    : Type 0 where
+  pub entries : TraceOf lines trace
+  pub down : EndsDown trace
+  pub printed : print ≡ print_text trace full closes.Down
+
 -- what lines that were read come to
 abbrev pub DealsWithLines : Bool → List Line → Outcome → List Entry → List ℕ → Type 0
 DealsWithLines full lines Played trace print = PrintsPlayed full lines trace print
+DealsWithLines full lines Down trace print = PrintsDown full lines trace print
+DealsWithLines full lines (Damaged set page) trace print =
+    (trace ≡ []) × (print ≡ damaged_text set page)
+DealsWithLines full lines Device trace print = trace ≡ []
 DealsWithLines full lines NoMemory trace print = (trace ≡ []) ⊎ TraceOfFront lines trace
 DealsWithLines full lines Words trace print = ⊥
 DealsWithLines full lines (Deck line) trace print = ⊥
@@ -74,6 +88,12 @@ DealsWithLines full lines Long trace print = ⊥
 abbrev pub DealsWithBytes : Bool → List ℕ → Outcome → List Entry → List ℕ → Type 0
 DealsWithBytes full bytes Played trace print =
     (lines : List Line) × IsDeck bytes lines × PrintsPlayed full lines trace print
+DealsWithBytes full bytes Down trace print =
+    (lines : List Line) × IsDeck bytes lines × PrintsDown full lines trace print
+DealsWithBytes full bytes (Damaged set page) trace print =
+    (lines : List Line) × IsDeck bytes lines × (trace ≡ []) × (print ≡ damaged_text set page)
+DealsWithBytes full bytes Device trace print =
+    (lines : List Line) × IsDeck bytes lines × (trace ≡ [])
 DealsWithBytes full bytes (Deck line) trace print =
     IsRefusedAt bytes line × (trace ≡ []) × (print ≡ deck_refusal line)
 DealsWithBytes full bytes NoMemory trace print =
@@ -87,6 +107,15 @@ abbrev pub Comes : Outcome → List (List ℕ) → Seen → Seen → List Entry 
 Comes Played words before after trace print =
     (asked : IsPlay words) × (bytes : List ℕ) × ReadsDeck before bytes after
     × DealsWithBytes asked.0 bytes Played trace print
+Comes Down words before after trace print =
+    (asked : IsPlay words) × (bytes : List ℕ) × ReadsDeck before bytes after
+    × DealsWithBytes asked.0 bytes Down trace print
+Comes (Damaged set page) words before after trace print =
+    (asked : IsPlay words) × (bytes : List ℕ) × ReadsDeck before bytes after
+    × DealsWithBytes asked.0 bytes (Damaged set page) trace print
+Comes Device words before after trace print =
+    (asked : IsPlay words) × (bytes : List ℕ) × ReadsDeck before bytes after
+    × DealsWithBytes asked.0 bytes Device trace print
 Comes Words words before after trace print = (IsPlay words → ⊥) × (after ≡ before) × (trace ≡ [])
 Comes (Deck line) words before after trace print =
     (asked : IsPlay words) × (bytes : List ℕ) × ReadsDeck before bytes after
@@ -101,9 +130,23 @@ Comes NoMemory words before after trace print =
     ⊎ ((bytes : List ℕ) × ReadsDeck before bytes after
     × DealsWithBytes asked.0 bytes NoMemory trace print))
 
+-- What each outcome says of the volume. A refusal before the opening calls it not.
+abbrev pub Finds : Outcome → (before after : VolumeSeen) → Type 0
+Finds Played before after = Unit {0}
+Finds Down before after = IsEnd before after ends.Down
+Finds Words before after = after ≡ before
+Finds (Deck line) before after = after ≡ before
+Finds Source before after = after ≡ before
+Finds (Damaged set page) before after = IsEnd before after (ends.Damaged set page)
+Finds Device before after = IsEnd before after ends.DeviceAtOpening
+Finds Long before after = after ≡ before
+Finds NoMemory before after = Unit {0}
+
 -- the whole output
 abbrev pub output_of : Outcome → List ℕ → List ℕ
 output_of Played print = print
+output_of Down print = print
+output_of (Damaged set page) print = print
 output_of (Deck line) print = print
 output_of outcome print = fixed_text outcome
 
@@ -115,11 +158,12 @@ Delivers outcome text before after status =
     ⊎ (((status ≡ 4) × Rose before.faults after.faults × GivesPrefix text before.bytes after.bytes)
     ⊎ ((status ≡ 8) × GivesPrefix text before.bytes after.bytes))
 
--- What a call comes to and how its output is given, by the words and by what is known of the source
--- and the sink before and after it.
+-- What a call comes to and how its output is given, by the words and by what is known of the source,
+-- the sink and the volume before and after it.
 pub record Concludes (words : List (List ℕ)) (source source_after sink sink_after : Seen)
-    (status : ℕ) (trace : List Entry) : Type 0 where
+    (volume volume_after : VolumeSeen) (status : ℕ) (trace : List Entry) : Type 0 where
   pub outcome : Outcome
   pub print : List ℕ
   pub comes : Comes outcome words source source_after trace print
+  pub finds : Finds outcome volume volume_after
   pub delivered : Delivers outcome (output_of outcome print) sink sink_after status

@@ -1,11 +1,17 @@
 -- What each status of a call says, and which status is due.
-use Rattle.std.specs.Prelude.{ℕ, ◌≡◌, ◌<◌, ◌≤◌, ◌⊎◌, List, Some, length}
+use Rattle.std.specs.Prelude.{ℕ, ◌≡◌, ◌<◌, ◌≤◌, ◌-◌, ◌^◌, ◌⊎◌, List, [], Some, length}
 use Rattle.std.specs.Io.KnownBytes.{Appends}
 use Rattle.rg_deck.specs.declared.read.TheConstants.{DECK_LIMIT}
 use Rattle.rg_outside.specs.Faults.{Rose}
-use Rattle.rg_print.specs.Print.{print_text}
+use Rattle.rg_print.specs.Print.{damaged_text, print_text}
 use Rattle.rg_print.specs.declared.print.Close.TheVariants as closes
 use Rattle.rg_desk.specs.Desk.{EndsWithRows}
+use Rattle.rg_desk.specs.Volume.{VolumeSeen}
+use Rattle.rg_base.specs.declared.set.Set.{Set}
+use Rattle.rg_outside.specs.Calls.{Told}
+use Rattle.rg_restart.specs.Opening.{HasFreshLog}
+use Rattle.rg_run.specs.Outside.{IsEnd}
+use Rattle.rg_run.specs.declared.played.RunEnd.TheVariants as ends
 use Rattle.rg_run.specs.Played.{TraceOf}
 use Rattle.rg_stmt.specs.declared.event.Entry.{Entry}
 use Rattle.rg_stmt.specs.declared.line.Line.{Line}
@@ -37,20 +43,48 @@ pub record RefusesDeck (source source_after sink sink_after : Seen) : Type 0 whe
   pub refused : IsRefusedAt bytes line
   pub shown : Appends sink.bytes sink_after.bytes (deck_refusal line)
 
+-- Status 5: the opening found that this page breaks a rule of a sound volume, or that the log has
+-- records, which no opening takes yet. No line was played, and the sink got the page.
+pub record RefusesVolume (sink sink_after : Seen) (volume volume_after : VolumeSeen)
+    (trace : List Entry) : Type 0 where
+  pub set : Set
+  pub page : ℕ
+  pub because : IsEnd volume volume_after (ends.Damaged set page)
+  pub none : trace ≡ []
+  pub shown : Appends sink.bytes sink_after.bytes (damaged_text set page)
+
+-- A volume that reports its calls, as many as can be counted, that had no records in its log, and of
+-- which no call failed.
+pub record IsFreshVolume (before after : VolumeSeen) : Type 0 where
+  pub old : Told
+  pub was : before.told ≡ Some old
+  pub fresh : HasFreshLog before old
+  pub new : Told
+  pub is : after.told ≡ Some new
+  pub few : length new.calls < 2 ^ 64 - 1
+  pub sure : Rose before.faults after.faults → ⊥
+
 -- what is due for these words and these bytes of the source, where nothing fails
-abbrev pub IsDue : Outcome → List (List ℕ) → List ℕ → Type 0
-IsDue outcomes.Played words bytes =
-    IsPlay words × (length bytes ≤ DECK_LIMIT) × (lines : List Line) × IsDeck bytes lines
-IsDue outcomes.Words words bytes = IsPlay words → ⊥
-IsDue (outcomes.Deck line) words bytes = IsPlay words × (length bytes ≤ DECK_LIMIT) × IsNoDeck bytes
-IsDue outcomes.Long words bytes = IsPlay words × (DECK_LIMIT < length bytes)
-IsDue outcomes.Source words bytes = ⊥
-IsDue outcomes.NoMemory words bytes = ⊥
+abbrev pub IsDue : Outcome → List (List ℕ) → List ℕ → (before after : VolumeSeen) → Type 0
+IsDue outcomes.Played words bytes before after =
+    IsPlay words × (length bytes ≤ DECK_LIMIT)
+    × ((lines : List Line) × IsDeck bytes lines) × IsFreshVolume before after
+IsDue outcomes.Down words bytes before after = ⊥
+IsDue outcomes.Words words bytes before after = IsPlay words → ⊥
+IsDue (outcomes.Deck line) words bytes before after =
+    IsPlay words × (length bytes ≤ DECK_LIMIT) × IsNoDeck bytes
+IsDue outcomes.Long words bytes before after = IsPlay words × (DECK_LIMIT < length bytes)
+IsDue outcomes.Source words bytes before after = ⊥
+IsDue (outcomes.Damaged set page) words bytes before after = ⊥
+IsDue outcomes.Device words bytes before after = ⊥
+IsDue outcomes.NoMemory words bytes before after = ⊥
 
 -- Where the source reports its bytes and neither it nor the sink fails, the status is the one that
 -- is due, or 8.
-abbrev pub GivesDue : List (List ℕ) → Seen → Seen → Seen → Seen → ℕ → Type 0
-GivesDue words source source_after sink sink_after status =
-    (due : Outcome) (bytes : List ℕ) → source.bytes ≡ Some bytes → IsDue due words bytes
+abbrev pub GivesDue :
+    List (List ℕ) → Seen → Seen → Seen → Seen → VolumeSeen → VolumeSeen → ℕ → Type 0
+GivesDue words source source_after sink sink_after volume volume_after status =
+    (due : Outcome) (bytes : List ℕ) → source.bytes ≡ Some bytes
+    → IsDue due words bytes volume volume_after
     → (Rose source.faults source_after.faults → ⊥) → (Rose sink.faults sink_after.faults → ⊥)
     → (status ≡ status_of due) ⊎ (status ≡ 8)

@@ -1,14 +1,17 @@
 -- What the program's call does: the one contract of `reorg_main` and `reorg_alone`, by the words,
--- by what is known of the source and the sink before and after the call, and by the status and the
--- trace that it leaves. Out of memory is the one answer that may come at any time: status 8 may
+-- by what is known of the source, the sink and the volume before and after the call, and by the
+-- status and the trace that it leaves. Out of memory is the one answer that may come at any time: status 8 may
 -- stand in place of any other.
 use Rattle.std.specs.Prelude.{ℕ, ◌≡◌, ◌+◌, ◌*◌, List, [], ◌∷◌, nat_le, if◌then◌else◌}
 use Rattle.std.specs.List.{Contains}
 use Rattle.rg_base.specs.declared.set.Set.{Set}
-use Rattle.rg_base.specs.declared.set.Set.TheVariants.{First, Second}
+use Rattle.rg_base.specs.declared.set.Set.TheVariants.{First, Log, Second}
 use Rattle.rg_deck.specs.declared.read.TheConstants.{DECK_LIMIT}
 use Rattle.rg_model.specs.Legal.{Legal}
 use Rattle.rg_outside.specs.Faults.{Rose}
+use Rattle.rg_outside.specs.Made.{WritesIn}
+use Rattle.rg_desk.specs.Volume.{VolumeSeen}
+use Rattle.rg_run.specs.Outside.{IsDeviceOnlyIf, MakesOnly}
 use Rattle.rg_desk.specs.Desk.{no_rows}
 use Rattle.rg_outside.specs.Capacities.{Capacities, capacity_of}
 use Rattle.rg_image.specs.Rules.{limit_of}
@@ -17,7 +20,7 @@ use Rattle.rg_run.specs.Full.{IsFullOnlyFrom}
 use Rattle.rg_run.specs.LogFull.{IsLogFullOnlyFrom}
 use Rattle.rg_stmt.specs.declared.event.Entry.{Entry}
 use Rattle.reorgdb.specs.Answer.{Seen, IsPlay, Concludes}
-use Rattle.reorgdb.specs.Causes.{Plays, RefusesDeck, GivesDue}
+use Rattle.reorgdb.specs.Causes.{Plays, RefusesDeck, RefusesVolume, GivesDue}
 use Rattle.reorgdb.specs.Reading.{TakesAtMost, TakesTooMany}
 
 -- how many pages a copy may have: those of its set, and no more than 65,536
@@ -33,22 +36,28 @@ smaller_pages capacities =
     else pages_of capacities Second
 
 pub record Completes (words : List (List ℕ)) (source source_after sink sink_after : Seen)
-    (capacities : Capacities) (status : ℕ) (trace : List Entry) : Type 0 where
+    (volume volume_after : VolumeSeen) (status : ℕ) (trace : List Entry) : Type 0 where
   -- What the call comes to, and how its output is given. At status 4 all holds that is said of the
   -- status in whose place it stands, but that the sink has a prefix of the text.
-  pub concludes : Concludes words source source_after sink sink_after status trace
+  pub concludes :
+      Concludes words source source_after sink sink_after volume volume_after status trace
   -- Each reply is that of a table never reorganised, or says that memory, room or bytes of the log
-  -- were wanting; each layout is right for the table.
+  -- were wanting, or that the device refused; each layout is right for the table.
   pub legal : Legal no_rows trace
   -- FULL is answered only where what was written reaches 3,200 bytes for each page of the smaller
   -- copy.
-  pub full : IsFullOnlyFrom (3200 * smaller_pages capacities) 0 trace
+  pub full : IsFullOnlyFrom (3200 * smaller_pages volume.capacities) 0 trace
   -- LOGFULL is answered only where 4,264 bytes for each write so far, and for one more, are more than
   -- the log may have: 2,270 bytes for each of its pages but one.
-  pub log_full : IsLogFullOnlyFrom (limit_of (log_pages capacities)) 0 trace
+  pub log_full : IsLogFullOnlyFrom (limit_of (log_pages volume.capacities)) 0 trace
+  -- DEVICE is answered only where a call of the volume failed.
+  pub device : IsDeviceOnlyIf (Rose volume.faults volume_after.faults) trace
+  -- No page of a copy is written.
+  pub only : MakesOnly (WritesIn Log) volume.told volume_after.told
   -- Status 0: the deck was played, and its print given.
   pub played : status ≡ 0 → Plays words source source_after sink sink_after trace
-  -- Status 1 is returned only if the words do not ask for `play`; then no other is but 4 and 8.
+  -- Status 1 is returned only if the words do not ask for `play`; then no other is but 4 and 8. It and
+  -- the statuses 2, 3 and 7 call no volume.
   pub no_command : status ≡ 1 → IsPlay words → ⊥
   pub other_words : (IsPlay words → ⊥) → Contains (1 ∷ 4 ∷ 8 ∷ []) status
   -- Status 2: the bytes were read to their end, and the output names the first line that is outside
@@ -57,8 +66,14 @@ pub record Completes (words : List (List ℕ)) (source source_after sink sink_af
   -- Statuses 3 and 4 are returned only if the source, or the sink, failed in this call.
   pub source_failed : status ≡ 3 → Rose source.faults source_after.faults
   pub sink_failed : status ≡ 4 → Rose sink.faults sink_after.faults
+  pub no_call : Contains (1 ∷ 2 ∷ 3 ∷ 7 ∷ []) status → volume_after ≡ volume
+  -- Status 5: the opening refused the volume.
+  pub damaged : status ≡ 5 → RefusesVolume sink sink_after volume volume_after trace
+  -- Status 6 is returned only if a call of the volume failed: in the opening, or in a COMMIT.
+  pub volume_failed : status ≡ 6 → Rose volume.faults volume_after.faults
   -- Status 7: one byte more than the limit was read.
   pub long : status ≡ 7 → TakesTooMany source.bytes source_after.bytes
   -- Where the source reports its bytes and nothing fails, the status is the one that is due, or 8.
-  pub due : GivesDue words source source_after sink sink_after status
+  -- For a deck that is to be played the volume reports, too, and its log has no records.
+  pub due : GivesDue words source source_after sink sink_after volume volume_after status
   pub bounded : TakesAtMost (DECK_LIMIT + 1) source.bytes source_after.bytes

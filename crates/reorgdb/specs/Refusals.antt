@@ -6,18 +6,24 @@ use Rattle.reorgdb.specs.declared.outcome.Outcome.TheVariants as outcomes
 
 abbrev pub status_of : Outcome → ℕ
 status_of outcomes.Played = 0
+status_of outcomes.Down = 6
 status_of outcomes.Words = 1
 status_of (outcomes.Deck line) = 2
 status_of outcomes.Source = 3
+status_of (outcomes.Damaged set page) = 5
+status_of outcomes.Device = 6
 status_of outcomes.Long = 7
 status_of outcomes.NoMemory = 8
 
 -- the whole output of a refusal that has no number in it
 abbrev pub fixed_text : Outcome → List ℕ
 fixed_text outcomes.Played = codes ""
+fixed_text outcomes.Down = codes ""
 fixed_text outcomes.Words = codes "REFUSED words\n"
 fixed_text (outcomes.Deck line) = codes ""
 fixed_text outcomes.Source = codes "REFUSED source\n"
+fixed_text (outcomes.Damaged set page) = codes ""
+fixed_text outcomes.Device = codes "REFUSED volume device\n"
 fixed_text outcomes.Long = codes "REFUSED deck long\n"
 fixed_text outcomes.NoMemory = codes ""
 

@@ -1,15 +1,17 @@
-//! Plays a deck of statements, read from standard input, and prints every reply.
+//! Plays a deck of statements, read from standard input, over the volume `reorgdb.vol`, and prints
+//! every reply.
 #![tactic(auto)]
 
-use edge::{AbsentVolume, IdleOperator};
+use edge::IdleOperator;
 use rg_file::sink::OutputSink;
 use rg_file::source::InputSource;
+use rg_file::volume::FileVolume;
 use std::process::ExitCode;
 use std::rt::Env;
 use std::{env, io};
 use top::reorg_main;
 
-/// The volume and the operator, which no line asks yet.
+/// The operator, which no line asks yet.
 mod edge;
 /// Giving the output to the sink.
 mod giving;
@@ -49,7 +51,7 @@ fn main(rt: HostRuntime) -> ExitCode {
         &words,
         &mut InputSource::new(rt.stdin()),
         &mut OutputSink::new(rt.stdout()),
-        AbsentVolume::new(),
+        FileVolume::new(&rt, "reorgdb.vol"),
         operator,
     );
     ExitCode::from(finished.status)

@@ -1,9 +1,11 @@
 use crate::edge::IdleOperator;
 use crate::top::{Finished, reorg_alone, reorg_main};
 use outside::{BytesSink, BytesSource, RubbishSource};
-use rg_mem::volume::MemVolume;
+use rg_base::set::Set;
+use rg_mem::volume::{Failing, MemVolume};
 use rg_outside::sink::{GiveFault, Sink};
 use rg_outside::source::Source;
+use rg_outside::volume::Volume;
 use std::alloc::{AllocError, Global};
 use std::test::Fail;
 
@@ -29,9 +31,18 @@ fn came<V>(finished: &Finished<V>) -> Came {
     (finished.status, finished.trace.len())
 }
 
-// A volume whose copies have so many pages.
+// A volume whose copies have so many pages. Call `fails_at`, counted from 1, fails.
+fn volume_failing(alloc: Global, pages: u32, fails_at: u64) -> Result<MemVolume, AllocError> {
+    let failing = [Failing {
+        call: fails_at,
+        written: false,
+    }];
+    MemVolume::new(alloc, 1000, pages, pages, 1000, 400, &failing, None).map_err(|_| AllocError)
+}
+
+// The same, of which no call fails.
 fn volume(alloc: Global, pages: u32) -> Result<MemVolume, AllocError> {
-    MemVolume::new(alloc, 1000, pages, pages, 0, 0, &[], None).map_err(|_| AllocError)
+    volume_failing(alloc, pages, NEVER)
 }
 
 fn owned(alloc: Global, words: &[&str]) -> Result<Vec<String>, AllocError> {
@@ -307,5 +318,61 @@ fn first_session(rt: HostRuntime) -> Result<(), Fail> {
     );
     assert_eq!(rt; came(&finished), (0, 4));
     assert_eq!(rt; sink.held(), FIRST_PRINT);
+    Ok(())
+}
+
+// What a call over this volume prints, and its status and the entries of its trace.
+fn print_over(
+    alloc: Global,
+    volume: MemVolume,
+    deck: &[u8],
+) -> Result<(Came, Vec<u8>), AllocError> {
+    let words = owned(alloc, &PLAY)?;
+    let operator = Box::new(alloc, IdleOperator)?;
+    let mut source = BytesSource::new(deck, ALL, NEVER);
+    let mut sink = whole(alloc, ALL);
+    let finished = reorg_alone(alloc, &words, &mut source, &mut sink, volume, operator);
+    Ok((came(&finished), sink.held().to_vec(alloc)?))
+}
+
+// The write of the COMMIT fails, or its sync: the print says DOWN. The calls of the opening fail
+// before any line.
+#[test]
+fn ends_down(rt: HostRuntime) -> Result<(), Fail> {
+    let alloc = rt.alloc();
+    let deck = b"1 INSERT 1 10 1 a\n1 COMMIT\n1 SELECT 1\nL\n";
+    let down = b"0 - OPENED copy=1 rows=0 pages=0\n1 1 OK\n2 1 3 DEVICE\n3 1 4 DOWN\n4 - 4 DOWN\n\
+        END entries=5 DOWN\n"
+        .as_slice();
+    let device = b"REFUSED volume device\n".as_slice();
+    for (fails_at, entries, print) in [(1, 0, device), (2, 0, device), (3, 5, down), (4, 5, down)] {
+        let volume = volume_failing(alloc, 1, fails_at)?;
+        let (came, printed) = print_over(alloc, volume, deck)?;
+        assert_eq!(rt; came, (6, entries), "at {fails_at}");
+        assert_eq!(rt; printed.as_slice(), print, "at {fails_at}");
+    }
+    Ok(())
+}
+
+// The log's first page is no log page, or has the records of a call before.
+#[test]
+fn refuses_volumes(rt: HostRuntime) -> Result<(), Fail> {
+    let alloc = rt.alloc();
+    let mut torn = volume(alloc, 1)?;
+    torn.write(Set::Log, 1, &[255; 4096])?;
+    let words = owned(alloc, &PLAY)?;
+    let operator = Box::new(alloc, IdleOperator)?;
+    let mut source = BytesSource::new(FIRST_DECK, ALL, NEVER);
+    let mut sink = whole(alloc, ALL);
+    let fresh = volume(alloc, 1)?;
+    let used = reorg_alone(alloc, &words, &mut source, &mut sink, fresh, operator).volume;
+    for volume in [torn, used] {
+        let (came, printed) = print_over(alloc, volume, FIRST_DECK)?;
+        assert_eq!(rt; came, (5, 0));
+        assert_eq!(rt;
+            printed.as_slice(),
+            b"REFUSED volume damaged LOG 1\n".as_slice()
+        );
+    }
     Ok(())
 }

@@ -1,6 +1,9 @@
 // The program's call. All that it promises is in specs/Contract.antt.
 ghost use Rattle.std.specs.Prelude.{◌≡◌, ◌+◌, ◌*◌, map, string_bytes};
+ghost use Rattle.rg_base.specs.declared.set.Set.TheVariants.{Log};
 ghost use Rattle.rg_model.specs.Legal.{Legal};
+ghost use Rattle.rg_outside.specs.Faults.{Rose};
+ghost use Rattle.rg_outside.specs.Made.{WritesIn};
 ghost use Rattle.reorgdb.specs.Answer.{seen, Concludes, Delivers, output_of};
 ghost use Rattle.reorgdb.specs.Contract.{Completes};
 ghost use Rattle.rg_desk.specs.Desk.{copy_capacity, no_rows};
@@ -8,6 +11,8 @@ ghost use Rattle.rg_image.specs.Rules.{limit_of};
 ghost use Rattle.rg_log.specs.Kept.{log_pages};
 ghost use Rattle.rg_run.specs.Full.{IsFullOnlyFrom};
 ghost use Rattle.rg_run.specs.LogFull.{IsLogFullOnlyFrom};
+ghost use Rattle.rg_run.specs.Outside.{IsDeviceOnlyIf, MakesOnly};
+ghost use Rattle.rg_desk.specs.Volume.{seen_volume};
 ghost use Rattle.reorgdb.specs.Reading.{TakesAtMost};
 
 use crate::giving::{Given, give_all};
@@ -33,9 +38,10 @@ pub struct Finished<V> {
     pub operator: Box<dyn Operator + Send>,
 }
 
-/// The call of the program: reads the words, then the whole deck from the source, plays it over a
-/// table without rows, and gives the whole print to the sink. It does all that `reorg_alone` says,
-/// in one call of it; no command uses the runtime yet.
+/// The call of the program: reads the words, then the whole deck from the source, opens the volume,
+/// whose log must not have a record yet, plays the deck over a table without rows, and gives the whole
+/// print to the sink. It does all that `reorg_alone` says, in one call of it; no command uses the
+/// runtime yet.
 pub fn reorg_main<R: Threads + Wait + Clock + Sync, S: Source, K: Sink, V: Volume + Send>(
     rt: &R,
     alloc: Global,
@@ -48,15 +54,15 @@ pub fn reorg_main<R: Threads + Wait + Clock + Sync, S: Source, K: Sink, V: Volum
     ensures completes { Completes (map string_bytes words.now)
         (seen S.left S.faults source.old) (seen S.left S.faults source.new)
         (seen K.contents K.faults sink.old) (seen K.contents K.faults sink.new)
-        (V.capacities volume) result.status result.trace.items }
-    ensures volume { result.volume ≡ volume }
+        (seen_volume V.told V.faults V.capacities volume)
+        (seen_volume V.told V.faults V.capacities result.volume)
+        result.status result.trace.items }
     ensures operator { result.operator ≡ operator }
 {
     reorg_alone(alloc, words, source, sink, volume, operator)
 }
 
-/// The same, on one thread and without a runtime, so it returns. Neither the volume nor the
-/// operator is called.
+/// The same, on one thread and without a runtime, so it returns. The operator is not asked.
 pub fn reorg_alone<S: Source, K: Sink, V: Volume + Send>(
     alloc: Global,
     words: &[String],
@@ -68,8 +74,9 @@ pub fn reorg_alone<S: Source, K: Sink, V: Volume + Send>(
     ensures completes { Completes (map string_bytes words.now)
         (seen S.left S.faults source.old) (seen S.left S.faults source.new)
         (seen K.contents K.faults sink.old) (seen K.contents K.faults sink.new)
-        (V.capacities volume) result.status result.trace.items }
-    ensures volume { result.volume ≡ volume }
+        (seen_volume V.told V.faults V.capacities volume)
+        (seen_volume V.told V.faults V.capacities result.volume)
+        result.status result.trace.items }
     ensures operator { result.operator ≡ operator }
 {
     let (status, trace, volume, operator) = answer(alloc, words, source, sink, volume, operator);
@@ -106,13 +113,16 @@ fn answer<S: Source, K: Sink, V: Volume, O: Operator>(
     ensures concludes { Concludes (map string_bytes words.now)
         (seen S.left S.faults source.old) (seen S.left S.faults source.new)
         (seen K.contents K.faults sink.old) (seen K.contents K.faults sink.new)
+        (seen_volume V.told V.faults V.capacities volume)
+        (seen_volume V.told V.faults V.capacities result.2)
         result.0 result.1.items }
     ensures legal { Legal no_rows result.1.items }
     ensures full { IsFullOnlyFrom (3221 * copy_capacity (V.capacities volume)) 0 result.1.items }
     ensures log_full { IsLogFullOnlyFrom (limit_of (log_pages (V.capacities volume))) 0
         result.1.items }
     ensures bounded { TakesAtMost (DECK_LIMIT + 1) (S.left source.old) (S.left source.new) }
-    ensures volume { result.2 ≡ volume }
+    ensures device { IsDeviceOnlyIf (Rose (V.faults volume) (V.faults result.2)) result.1.items }
+    ensures only { MakesOnly (WritesIn Log) (V.told volume) (V.told result.2) }
     ensures operator { result.3 ≡ operator }
 {
     let work = carry_out(alloc, words, source, volume, operator);

@@ -2,26 +2,33 @@
 // (1) The words are looked at first. Where they are no command, the source isn't read.
 // (2) The whole deck is read before any line of it is played.
 // (3) The whole output is made before any of it is given.
-// (4) Neither the volume nor the operator is called.
-ghost use Rattle.std.specs.Prelude.{ℕ, ◌≡◌, ◌≤◌, ◌+◌, ◌*◌, [], Bool, List, length, map, IfSome, IfNone};
+// (4) The volume is opened after the deck was read, and before any line is played. A call that is
+//     refused before calls it not. The operator is not asked.
+ghost use Rattle.std.specs.Prelude.{ℕ, ◌≡◌, ◌≤◌, ◌+◌, ◌*◌, [], Bool, List, length, map, IfOk, IfSome, IfNone, OnErr};
 ghost use Rattle.std.specs.Prelude.{string_bytes};
 ghost use Rattle.rg_stmt.specs.declared.line.Line.{Line};
+ghost use Rattle.rg_base.specs.declared.set.Set.TheVariants.{Log};
 ghost use Rattle.rg_model.specs.Legal.{Legal};
+ghost use Rattle.rg_outside.specs.Faults.{Rose};
+ghost use Rattle.rg_outside.specs.Made.{WritesIn};
+ghost use Rattle.rg_desk.specs.Volume.{VolumeSeen, seen_volume};
 ghost use Rattle.rg_desk.specs.Desk.{copy_capacity, no_rows};
 ghost use Rattle.rg_image.specs.Rules.{limit_of};
 ghost use Rattle.rg_log.specs.Kept.{log_pages};
 ghost use Rattle.rg_run.specs.Full.{IsFullOnlyFrom};
 ghost use Rattle.rg_run.specs.LogFull.{IsLogFullOnlyFrom};
+ghost use Rattle.rg_run.specs.Outside.{IsDeviceOnlyIf, IsEnd, MakesOnly};
 ghost use Rattle.rg_run.specs.Played.{Ends};
 ghost use Rattle.rg_words.specs.Spelling.{Spells};
 ghost use Rattle.rg_words.specs.declared.words.Words.TheVariants as asks;
 ghost use Rattle.reorgdb.specs.Answer.{Seen, seen, IsPlay, IsRefusedAt, DealsWithLines, DealsWithBytes};
-ghost use Rattle.reorgdb.specs.Answer.{Comes, output_of};
+ghost use Rattle.reorgdb.specs.Answer.{Comes, Finds, output_of};
 ghost use Rattle.reorgdb.specs.Reading.{TakesAtMost};
 
-use crate::outcome::{Outcome, deck_refusal};
+use crate::outcome::{Outcome, damaged_refusal, deck_refusal};
 use crate::reading::{ReadFault, read_source};
 use rg_base::bytes::Bytes;
+use rg_base::no_memory::NoMemory;
 use rg_deck::read::{Admits, DECK_LIMIT, DeckFault, read_admitted};
 use rg_outside::operator::Operator;
 use rg_outside::source::Source;
@@ -68,6 +75,34 @@ impl<V, O> Work<V, O> {
         }
     }
 
+    // The outcome with a trace and its text, or want of memory where there was none for the text.
+    fn with_text(
+        alloc: Global,
+        outcome: Outcome,
+        text: Result<Bytes, NoMemory>,
+        trace: Vec<Entry>,
+        volume: V,
+        operator: O,
+    ) -> Work<V, O>
+        ensures ok { IfOk text
+            (λ print. (result.outcome ≡ outcome) × (result.print ≡ print)) }
+        ensures err { OnErr text (result.outcome ≡ Outcome.NoMemory) }
+        ensures trace { result.trace ≡ trace }
+        ensures volume { result.volume ≡ volume }
+        ensures operator { result.operator ≡ operator }
+    {
+        match text {
+            Ok(print) => Work {
+                outcome,
+                trace,
+                print,
+                volume,
+                operator,
+            },
+            Err(_) => Work::with_trace(alloc, Outcome::NoMemory, trace, volume, operator),
+        }
+    }
+
     // The outcome without a trace.
     fn bare(alloc: Global, outcome: Outcome, volume: V, operator: O) -> Work<V, O>
         ensures outcome { result.outcome ≡ outcome }
@@ -83,7 +118,9 @@ impl<V, O> Work<V, O> {
         ensures { result.now ≡ output_of self.now.outcome self.now.print }
     {
         match self.outcome {
-            Outcome::Played | Outcome::Deck { .. } => self.print.as_slice(),
+            Outcome::Played | Outcome::Down | Outcome::Deck { .. } | Outcome::Damaged { .. } => {
+                self.print.as_slice()
+            }
             other => other.fixed_text(),
         }
     }
@@ -107,7 +144,11 @@ pub fn carry_out<S: Source, V: Volume, O: Operator>(
         result.trace.items }
     ensures bounded { TakesAtMost (DECK_LIMIT + 1) (S.left source.old) (S.left source.new) }
     ensures later { S.faults source.old ≤ S.faults source.new }
-    ensures volume { result.volume ≡ volume }
+    ensures device { IsDeviceOnlyIf (Rose (V.faults volume) (V.faults result.volume))
+        result.trace.items }
+    ensures finds { Finds result.outcome (seen_volume V.told V.faults V.capacities volume)
+        (seen_volume V.told V.faults V.capacities result.volume) }
+    ensures only { MakesOnly (WritesIn Log) (V.told volume) (V.told result.volume) }
     ensures operator { result.operator ≡ operator }
 {
     let Some(full) = asks_play(words) else {
@@ -149,7 +190,11 @@ fn play_bytes<V: Volume, O: Operator>(
         result.trace.items }
     ensures log_full { IsLogFullOnlyFrom (limit_of (log_pages (V.capacities volume))) 0
         result.trace.items }
-    ensures volume { result.volume ≡ volume }
+    ensures device { IsDeviceOnlyIf (Rose (V.faults volume) (V.faults result.volume))
+        result.trace.items }
+    ensures finds { Finds result.outcome (seen_volume V.told V.faults V.capacities volume)
+        (seen_volume V.told V.faults V.capacities result.volume) }
+    ensures only { MakesOnly (WritesIn Log) (V.told volume) (V.told result.volume) }
     ensures operator { result.operator ≡ operator }
 {
     match read_admitted(alloc, bytes, Admits::Layouts) {
@@ -163,6 +208,7 @@ fn play_bytes<V: Volume, O: Operator>(
 fn refuse_line<V, O>(alloc: Global, line: u32, volume: V, operator: O) -> Work<V, O>
     ensures deals { (full : Bool) (bytes : List ℕ) → IsRefusedAt bytes line
         → DealsWithBytes full bytes result.outcome result.trace.items result.print }
+    ensures outcome { (before : VolumeSeen) → Finds result.outcome before before }
     ensures trace { result.trace.items ≡ [] }
     ensures volume { result.volume ≡ volume }
     ensures operator { result.operator ≡ operator }
@@ -182,6 +228,8 @@ fn refuse_line<V, O>(alloc: Global, line: u32, volume: V, operator: O) -> Work<V
 fn print_played<V, O>(alloc: Global, full: bool, played: Played<V, O>) -> Work<V, O>
     ensures deals { (lines : List Line) → Ends lines played.trace.items played.end →
         DealsWithLines full lines result.outcome result.trace.items result.print }
+    ensures finds { (before after : VolumeSeen) → IsEnd before after played.end →
+        Finds result.outcome before after }
     ensures trace { result.trace.items ≡ played.trace.items }
     ensures volume { result.volume ≡ played.volume }
     ensures operator { result.operator ≡ played.operator }
@@ -194,15 +242,25 @@ fn print_played<V, O>(alloc: Global, full: bool, played: Played<V, O>) -> Work<V
     } = played;
     match end {
         RunEnd::NoMemory => Work::with_trace(alloc, Outcome::NoMemory, trace, volume, operator),
-        RunEnd::Whole { rows } => match print(alloc, &trace, full, Close::Rows(rows)) {
-            Ok(print) => Work {
-                outcome: Outcome::Played,
-                trace,
-                print,
-                volume,
-                operator,
-            },
-            Err(_) => Work::with_trace(alloc, Outcome::NoMemory, trace, volume, operator),
-        },
+        RunEnd::DeviceAtOpening => Work::with_trace(
+            alloc,
+            Outcome::Device,
+            trace,
+            volume,
+            operator,
+        ),
+        RunEnd::Damaged { set, page } => {
+            let text = damaged_refusal(alloc, set, page);
+            let outcome = Outcome::Damaged { set, page };
+            Work::with_text(alloc, outcome, text, trace, volume, operator)
+        }
+        RunEnd::Down => {
+            let text = print(alloc, &trace, full, Close::Down);
+            Work::with_text(alloc, Outcome::Down, text, trace, volume, operator)
+        }
+        RunEnd::Whole { rows } => {
+            let text = print(alloc, &trace, full, Close::Rows(rows));
+            Work::with_text(alloc, Outcome::Played, text, trace, volume, operator)
+        }
     }
 }

@@ -16,8 +16,10 @@ use Rattle.rg_model.specs.Plain.{after, after_answer, is_done, write_key}
 use Rattle.rg_model.specs.State.{State, Table, is_present, row_count}
 use Rattle.rg_model.proofs.Overlay.{get-committed, get-put_back, get-set_to, kept_or, key_of}
 use Rattle.rg_stmt.specs.declared.stmt.Reply.{Reply}
+use Rattle.rg_stmt.specs.declared.stmt.Reply.TheVariants.{Device}
 use Rattle.rg_stmt.specs.declared.stmt.Stmt.{Stmt}
 use Rattle.rg_stmt.specs.declared.stmt.Stmt.TheVariants.{Insert, Update, Delete, Select, Scan, Find, Commit, Rollback}
+use Rattle.rg_desk.specs.Answers.{state_left}
 use Rattle.rg_desk.specs.Desk.{AreKeys, IsAmong}
 
 -- ---- a table has no more rows than its keys are among
@@ -167,3 +169,7 @@ module _ (keys : List ℕ) (st : State) (are : AreKeys keys st) (session : Sessi
       by_done : (b : Bool) → AreKeys (keys_with stmt keys) (cond b (claim_classes (after st session stmt) session (classes_needed stmt)) st)
       by_done true = let done = keys_done stmt in record { present = done.present; locked = done.locked }
       by_done false = keys_stay stmt
+
+  pub keys_left : (stmt : Stmt) (reply : Reply) → AreKeys (keys_with stmt keys) (state_left st session stmt reply)
+  keys_left stmt Device = let stay = keys_stay stmt in record { present = stay.present; locked = stay.locked }
+  keys_left stmt reply = keys_after stmt reply

@@ -9,6 +9,7 @@ use Rattle.rg_model.specs.Claims.{claim_classes, claims_with, classes_needed, is
 use Rattle.rg_model.specs.Plain.{after, after_answer, change_reply, insert_reply, is_done, plain_reply, row_reply, unless_held}
 use Rattle.rg_model.specs.Held.{find_holder, holder, scan_holder}
 use Rattle.rg_model.specs.Run.{Says}
+use Rattle.rg_model.specs.Said.{if_allowed, state_refused}
 use Rattle.rg_model.specs.State.{Claims, State, is_present, row_of}
 use Rattle.rg_base.specs.declared.row.Row.{Row}
 use Rattle.rg_stmt.specs.declared.stmt.Reply.{Reply}
@@ -17,9 +18,15 @@ use Rattle.rg_stmt.specs.declared.stmt.Stmt.{Stmt}
 use Rattle.rg_stmt.specs.declared.stmt.Stmt.TheVariants.{Insert, Update, Delete, Select, Scan, Find, Commit, Rollback}
 use Rattle.rg_space.specs.Space.{capacity_in}
 use Rattle.rg_desk.specs.Bytes.{taken_of}
-use Rattle.rg_desk.specs.Answers.{Answered, Answers, IfFull, is_answer}
+use Rattle.rg_desk.specs.Answers.{Answered, Answers, Asks, IfFull, Replies, forces, is_answer, is_commit, is_device, state_left}
 use Rattle.rg_desk.specs.Shows.{IsShown, Shows}
-use Rattle.rg_desk.specs.Steps.{Goes, MayReply, more_allowed, unclaimed}
+use Rattle.rg_desk.specs.Steps.{Goes, IfUp, MayFail, Steps, MayReply, more_allowed, unclaimed}
+use Rattle.rg_base.specs.declared.set.Set.TheVariants.{Log}
+use Rattle.rg_log.specs.Kept.{Listed as LogList, log_pages}
+use Rattle.rg_outside.specs.Made.{WritesIn}
+use Rattle.rg_outside.proofs.Frame.{no_calls}
+use Rattle.rg_desk.specs.Volume.{CallsLog, VolumeSeen}
+use Rattle.rg_desk.specs.declared.units.OpenUnit.{OpenUnit}
 use Rattle.rg_desk.specs.declared.engine.Engine.{Engine}
 
 -- no drain keeps anybody out
@@ -55,9 +62,41 @@ plain_is st session (Find cat) = held_or (Find cat) (find_holder st.table st.loc
 plain_is st session Commit = refl
 plain_is st session Rollback = refl
 
+-- the device refuses a COMMIT, and leaves it open whether it is in
+fails : (st : State) (session : Session) (stmt : Stmt) → MayFail st session stmt → state_refused st session stmt (plain_reply st session stmt) ≡ Some (record st { down = true; doubt = Some session })
+fails st session Commit e = ap (λ (b : Bool). if_allowed b (record st { down = true; doubt = Some session })) e
+fails st session stmt e = absurd e
+
+fails_commit : (st : State) (session : Session) (stmt : Stmt) → MayFail st session stmt → is_commit stmt ≡ true
+fails_commit st session Commit e = refl
+fails_commit st session stmt e = absurd e
+
+-- what holds after a reply that leaves the engine up
+
+up_of : (P : Type 0) (reply : Reply) → is_done reply ≡ true → IfUp reply P → P
+up_of P Device e p = absurd (cc (e))
+up_of P reply e p = p
+
+pub up_if : (P : Type 0) (reply : Reply) → is_device reply ≡ false → IfUp reply P → P
+up_if P Device e p = absurd (cc (e))
+up_if P reply e p = p
+
+if_up : (P : Type 0) (reply : Reply) → P → IfUp reply P
+if_up P Device p = tt
+if_up P reply p = p
+
+left_done : (st : State) (session : Session) (stmt : Stmt) (reply : Reply) → is_done reply ≡ true → state_left st session stmt reply ≡ after_answer st session stmt reply
+left_done st session stmt Device e = absurd (cc (e))
+left_done st session stmt reply e = refl
+
+left_refused : (st : State) (session : Session) (stmt : Stmt) (n : ℕ) (mid : Engine) (reply : Reply) → after_answer st session stmt reply ≡ unclaimed st session stmt reply
+    → IfUp reply (Shows (unclaimed st session stmt reply) n mid) → IfUp reply (Shows (state_left st session stmt reply) n mid)
+left_refused st session stmt n mid Device is p = tt
+left_refused st session stmt n mid reply is p = subst (λ (after : State). Shows after n mid) (sym is) p
+
 -- what a reply is that stands for the plain table's
 record IsSaid (st : State) (allowed capacity : ℕ) (session : Session) (stmt : Stmt) (reply : Reply) : Type 0 where
-  says : Says st session stmt reply (after_answer st session stmt reply)
+  says : Says st session stmt reply (state_left st session stmt reply)
   is : is_answer stmt reply ≡ true
   full : IfFull reply allowed capacity
 
@@ -77,7 +116,7 @@ module _ (st : State) (allowed capacity : ℕ) (session : Session) (stmt : Stmt)
   said Drained e = absurd (never Drained refl e)
   said (Full need) e = record { says = (up, free, (e.0, e.1, refl)); is = e.0; full = e.2 }
   said (LogFull need left) e = record { says = (up, free, (e.0, e.1, refl)); is = e.0; full = tt }
-  said Device e = absurd (never Device refl e)
+  said Device e = record { says = (up, free, fails st session stmt e); is = fails_commit st session stmt e; full = tt }
   said Down e = absurd (never Down refl e)
   said NoMemory e = record { says = (up, free, (e, refl)); is = e; full = tt }
 
@@ -137,10 +176,10 @@ module _ (st : State) (allowed : ℕ) (d : Engine) (shows : Shows st allowed d) 
   not_drained : is_drained st session stmt ≡ false
   not_drained = sym (out_is st allowed d shows session (classes_needed stmt)) ∙ nobody_out st allowed d shows session (classes_needed stmt)
 
-  pub still_admitted : (classes : List Class) → classes ≡ classes_needed stmt → is_kept_out mid.claims.drain (map.get mid.claims.claims session.0) classes ≡ false
-  still_admitted classes is =
+  pub still_admitted : (classes : List Class) → classes ≡ classes_needed stmt → is_done reply ≡ true → is_kept_out mid.claims.drain (map.get mid.claims.claims session.0) classes ≡ false
+  still_admitted classes is done =
       ap (is_kept_out mid.claims.drain (map.get mid.claims.claims session.0)) is
-      ∙ out_is (unclaimed st session stmt reply) (allowed + more_allowed stmt reply) mid goes.shows session (classes_needed stmt)
+      ∙ out_is (unclaimed st session stmt reply) (allowed + more_allowed stmt reply) mid (up_of _ reply done goes.shows) session (classes_needed stmt)
       ∙ by_done st session stmt (is_done reply)
       ∙ not_drained
 
@@ -161,7 +200,7 @@ module _ (st : State) (allowed : ℕ) (d : Engine) (shows : Shows st allowed d) 
   pub done_answers : (classes : List Class) (new : Engine) → classes ≡ classes_needed stmt → is_done reply ≡ true
       → new ≡ record mid { claims = record mid.claims { claims = claims_with mid.claims.claims session classes } } → Answered st allowed d session stmt reply new
   done_answers classes new is done e = record {
-    after = after_answer st session stmt reply;
+    after = state_left st session stmt reply;
     is_after = refl;
     says = is_said.says;
     is = is_said.is;
@@ -171,15 +210,16 @@ module _ (st : State) (allowed : ℕ) (d : Engine) (shows : Shows st allowed d) 
     logged = omega (arith, ap (λ (x : Engine). taken_of x.log) e, goes.logged);
     log_pages = ap (λ (x : Engine). x.log.pages) e ∙ goes.log_pages;
     shows =
-        subst (λ (after : State). Shows after (allowed + more_allowed stmt reply) new) (sym (after_is true done))
+        if_up _ reply
+        (subst (λ (after : State). Shows after (allowed + more_allowed stmt reply) new) (sym (left_done st session stmt reply done ∙ after_is true done))
         (subst (λ (cs : List Class). Shows (claim_classes (unclaimed st session stmt reply) session cs) (allowed + more_allowed stmt reply) new) is
-        (registered_shows (unclaimed st session stmt reply) (allowed + more_allowed stmt reply) mid goes.shows session classes new e));
+        (registered_shows (unclaimed st session stmt reply) (allowed + more_allowed stmt reply) mid (up_of _ reply done goes.shows) session classes new e)));
     capacity = ap (λ (x : Engine). capacity_in x.space) e ∙ goes.capacity;
   }
 
   pub refused_answers : is_done reply ≡ false → Answered st allowed d session stmt reply mid
   refused_answers done = record {
-    after = after_answer st session stmt reply;
+    after = state_left st session stmt reply;
     is_after = refl;
     says = is_said.says;
     is = is_said.is;
@@ -188,12 +228,57 @@ module _ (st : State) (allowed : ℕ) (d : Engine) (shows : Shows st allowed d) 
     log = goes.log;
     logged = goes.logged;
     log_pages = goes.log_pages;
-    shows = subst (λ (after : State). Shows after (allowed + more_allowed stmt reply) mid) (sym (after_is false done)) goes.shows;
+    shows = left_refused st session stmt (allowed + more_allowed stmt reply) mid reply (after_is false done) goes.shows;
     capacity = goes.capacity;
   }
 
--- an engine that shows some state shows one after the answer
-pub answers_shown : (old new : Engine) (session : Session) (stmt : Stmt) (reply : Reply) → IsShown old → Answers old session stmt reply new → IsShown new
-answers_shown old new session stmt reply shown answers =
-    let answered = answers shown.state shown.allowed shown.shows in
-    record { state = answered.after; allowed = shown.allowed + more_allowed stmt reply; shows = answered.shows }
+-- a statement that is no COMMIT asks nothing of the volume
+
+not_device : (st : State) (allowed : ℕ) (d : Engine) (session : Session) (stmt : Stmt) (reply : Reply) (new : Engine) → is_commit stmt ≡ false → Goes st allowed d session stmt reply new → reply ≡ Device → ⊥
+not_device st allowed d session stmt reply new other goes is = by_stmt stmt other (subst (λ (r : Reply). MayReply st allowed (capacity_in d.space) session stmt r) is goes.says)
+  where
+    by_stmt : (stmt : Stmt) → is_commit stmt ≡ false → MayReply st allowed (capacity_in d.space) session stmt Device → ⊥
+    by_stmt Commit other may = absurd (cc (other))
+    by_stmt stmt other may = may
+
+pub commit_is : (stmt : Stmt) → is_commit stmt ≡ true → stmt ≡ Commit
+commit_is Commit e = refl
+commit_is stmt e = absurd (cc (e))
+
+no_force : (units : List (Option OpenUnit)) (session : Session) (stmt : Stmt) → is_commit stmt ≡ false → forces units session stmt ≡ false
+no_force units session Commit other = absurd (cc (other))
+no_force units session stmt other = refl
+
+pub same_calls : (seen : VolumeSeen) → CallsLog seen seen
+same_calls seen = record { only = no_calls (WritesIn Log) seen.told; later = omega arith; capacities = refl }
+
+pub asks_nothing : (units : List (Option OpenUnit)) (session : Session) (stmt : Stmt) (reply : Reply) (log : LogList) (seen : VolumeSeen) → forces units session stmt ≡ false → (reply ≡ Device → ⊥) → Asks (forces units session stmt) reply log seen seen
+asks_nothing units session stmt reply log seen none never = record {
+  calls = same_calls seen;
+  none = λ e. refl;
+  device = λ e. absurd (never e);
+  forced = λ force e. absurd (cc (force, none));
+}
+
+pub other_asks : (old : Engine) (shown : IsShown old) (session : Session) (stmt : Stmt) (reply : Reply) (new : Engine) (seen : VolumeSeen) → is_commit stmt ≡ false → Steps old session stmt reply new → Asks (forces old.units session stmt) reply new.log seen seen
+other_asks old shown session stmt reply new seen other steps =
+    asks_nothing old.units session stmt reply new.log seen (no_force old.units session stmt other)
+    (not_device shown.state shown.allowed old session stmt reply new other (steps shown.state shown.allowed shown.shows))
+
+-- an engine that is up shows some state, and after a reply it shows one unless it is down
+pub replies_shown : (down : Bool) (old : Engine) (session : Session) (stmt : Stmt) (reply : Reply) (new : Engine) (after : Bool) (seen_old seen_new : VolumeSeen)
+    → Replies down old session stmt reply new after seen_old seen_new → (down ≡ false → IsShown old) → after ≡ false → IsShown new
+replies_shown true old session stmt reply new after seen_old seen_new replies shown up = absurd (cc (replies.2, up))
+replies_shown false old session stmt reply new after seen_old seen_new replies shown up =
+    let some = shown refl in
+    let answered = replies.0 some.state some.allowed some.shows in
+    record { state = answered.after; allowed = some.allowed + more_allowed stmt reply; shows = up_if _ reply (sym replies.2 ∙ up) answered.shows }
+
+-- the log keeps the pages of its set
+pub replies_pages : (down : Bool) (old : Engine) (session : Session) (stmt : Stmt) (reply : Reply) (new : Engine) (after : Bool) (seen_old seen_new : VolumeSeen)
+    → Replies down old session stmt reply new after seen_old seen_new → (down ≡ false → IsShown old) → old.log.pages ≡ log_pages seen_old.capacities → new.log.pages ≡ log_pages seen_new.capacities
+replies_pages true old session stmt reply new after seen_old seen_new replies shown is =
+    ap (λ (d : Engine). d.log.pages) replies.1 ∙ is ∙ ap (λ (v : VolumeSeen). log_pages v.capacities) (sym replies.3)
+replies_pages false old session stmt reply new after seen_old seen_new replies shown is =
+    let some = shown refl in
+    (replies.0 some.state some.allowed some.shows).log_pages ∙ is ∙ ap (λ c. log_pages c) (sym replies.1.calls.capacities)

@@ -1,5 +1,5 @@
 -- A desk goes on by one entry, and its trace is legal.
-use Rattle.std.proofs.Common.{◌≡◌, ◌≢◌, ◌==◌, ◌&&◌, not, ◌≤◌, ℕ, Bool, true, false, cond, List, [], ◌∷◌, ◌++◌, length, Option, Some, None, refl, sym, ◌∙◌, ap, subst, arith, length-append}
+use Rattle.std.proofs.Common.{◌≡◌, ◌≢◌, ◌==◌, ◌&&◌, ◌||◌, not, ◌≤◌, ◌+◌, ℕ, Bool, true, false, cond, List, [], ◌∷◌, ◌++◌, length, Option, Some, None, refl, sym, ◌∙◌, ap, subst, arith, length-append}
 use Rattle.std.specs.FinMap as map
 use Rattle.std.specs.FinMap.{len-empty, get-empty}
 use Rattle.std.specs.Option.{is_some}
@@ -14,7 +14,11 @@ use Rattle.rg_model.specs.Layout.{is_right_side}
 use Rattle.rg_model.specs.Legal.{Legal, IsActor, asks}
 use Rattle.rg_model.specs.Plain.{after, after_answer, is_done}
 use Rattle.rg_model.specs.Possible.{next_state, possible, state_shown, states_before}
-use Rattle.rg_model.specs.Run.{Run}
+use Rattle.rg_model.specs.Run.{Run, Says}
+use Rattle.rg_base.specs.declared.set.Set.TheVariants.{Log}
+use Rattle.rg_outside.specs.Calls.{Told}
+use Rattle.rg_outside.specs.Made.{WritesIn}
+use Rattle.rg_outside.specs.Moments.{EachCall, IfTold}
 use Rattle.rg_model.specs.Said.{if_allowed}
 use Rattle.rg_model.specs.State.{State, at_rest}
 use Rattle.rg_model.proofs.Members.{only_one}
@@ -25,23 +29,29 @@ use Rattle.rg_stmt.specs.Entries.{said_entry}
 use Rattle.rg_stmt.specs.declared.event.Actor.TheVariants as actors
 use Rattle.rg_stmt.specs.declared.event.Entry.{Entry}
 use Rattle.rg_stmt.specs.declared.event.Event.{Event}
-use Rattle.rg_stmt.specs.declared.event.Event.TheVariants.{Layout, LayoutNoMemory}
+use Rattle.rg_stmt.specs.declared.event.Event.TheVariants.{Layout, LayoutDown, LayoutNoMemory}
 use Rattle.rg_stmt.specs.declared.layout.Side.{Side}
 use Rattle.rg_stmt.specs.declared.stmt.Reply.{Reply}
 use Rattle.rg_stmt.specs.declared.stmt.Reply.TheVariants.{Done, Found, Listed, Keyed, Absent, Duplicate, Held, Victim, Drained, Full, LogFull, Device, Down, NoMemory}
 use Rattle.rg_stmt.specs.declared.stmt.Stmt.{Stmt}
 use Rattle.rg_stmt.specs.declared.stmt.Stmt.TheVariants.{Insert, Update, Delete, Select, Scan, Find, Commit, Rollback}
-use Rattle.rg_log.specs.Kept.{Listed as LogList}
-use Rattle.rg_desk.specs.Answers.{Answered, IfLogFull}
+use Rattle.rg_log.specs.Kept.{Listed as LogList, log_pages}
+use Rattle.rg_desk.specs.Answers.{IfFull, IfLogFull, Replies, forces, is_answer, is_device, state_left}
+use Rattle.rg_desk.specs.Steps.{more_allowed, more_logged}
+use Rattle.rg_desk.specs.Volume.{CallsLog, HasCalls, IsCount, VolumeSeen}
 use Rattle.rg_desk.specs.Bytes.{taken_of}
 use Rattle.rg_desk.specs.Chronicle.{ChronicleState, IsEntry, IsRecorded, allowed_after, allowed_by, logged_after, logged_by, system_entry}
-use Rattle.rg_desk.specs.Desk.{AreKeys, IsBegun, IsDesk, IsLayout, first_entry, no_rows}
+use Rattle.rg_desk.specs.Desk.{AreKeys, IsBegun, IsDesk, IsLayout, first_entry, is_reply, no_rows}
+use Rattle.rg_desk.specs.Engine.{ground_of}
+use Rattle.rg_outside.specs.Faults.{Rose}
+use Rattle.rg_space.specs.Space.{capacity_in}
 use Rattle.rg_desk.specs.Count.{IsShownFew}
-use Rattle.rg_desk.specs.Room.{Ground, SaysLog}
-use Rattle.rg_desk.specs.Shows.{Shows}
+use Rattle.rg_desk.specs.Room.{Ground, SaysLog, SaysRoom}
+use Rattle.rg_desk.specs.Shows.{IsShown, Shows}
 use Rattle.rg_desk.specs.Wrote.{SameEngine}
 use Rattle.rg_desk.specs.declared.engine.Engine.{Engine}
-use Rattle.rg_desk.proofs.Among.{few_committed, few_with, keys_after, keys_with}
+use Rattle.rg_desk.proofs.Among.{few_committed, few_with, keys_left, keys_with}
+use Rattle.rg_desk.proofs.Answering.{same_calls, up_if}
 use Rattle.rg_desk.proofs.Same.{same_shows}
 
 pub allowed-push : (allowed : ℕ) (entries : List Entry) (entry : Entry) → allowed_by allowed (entries ++ entry ∷ []) ≡ allowed_after (allowed_by allowed entries) entry.event
@@ -92,52 +102,103 @@ copy_after st session stmt reply = by_done stmt (is_done reply)
 pub shown_so : (st : State) (side : Side) → st.down ≡ false → st.copy ≡ 1 → is_right_side st.table side ≡ true → state_shown st 1 side ≡ Some st
 shown_so st side up one right = λ i. if_allowed (not (up i) && ((1 == one i) && right i)) st
 
-module _ (d : Engine) (c : ChronicleState) (desk : IsDesk d c) where
+-- a reply leaves the engine down if it is the device's, and up else
+down_left : (st : State) (session : Session) (stmt : Stmt) (reply : Reply) → st.down ≡ false → (state_left st session stmt reply).down ≡ is_device reply
+down_left st session stmt Device up = refl
+down_left st session stmt reply up = by_done stmt (is_done reply) ∙ up
+  where
+    by_done : (stmt : Stmt) (b : Bool) → (cond b (claim_classes (after st session stmt) session (classes_needed stmt)) st).down ≡ st.down
+    by_done stmt false = refl
+    by_done (Insert row) true = refl
+    by_done (Update row) true = refl
+    by_done (Delete key) true = refl
+    by_done (Select key) true = refl
+    by_done (Scan lo hi) true = refl
+    by_done (Find cat) true = refl
+    by_done Commit true = refl
+    by_done Rollback true = refl
+
+copy_left : (st : State) (session : Session) (stmt : Stmt) (reply : Reply) → (state_left st session stmt reply).copy ≡ st.copy
+copy_left st session stmt Device = refl
+copy_left st session stmt reply = copy_after st session stmt reply
+
+-- ---- the calls of the volume
+
+count_has : (told : Option Told) (n : ℕ) → IfTold told (λ t. length t.calls ≡ t.start + n) → IfTold told (λ t. t.start + n ≤ length t.calls)
+count_has None n e = tt
+count_has (Some t) n e = omega (arith, e)
+
+pub count_is : (seen : VolumeSeen) (calls n : ℕ) → IsCount seen calls → n ≡ calls → HasCalls seen n
+count_is seen calls n e is = subst (HasCalls seen) (sym is) (count_has seen.told calls e)
+
+-- more calls are no fewer
+more_calls : (old new : Option Told) (n : ℕ) → EachCall old new (WritesIn Log) → IfTold old (λ t. t.start + n ≤ length t.calls) → IfTold new (λ t. t.start + n ≤ length t.calls)
+more_calls old None n made e = tt
+more_calls old (Some after) n made e =
+    let before : Told = made.0 in
+    let there : before.start + n ≤ length before.calls = subst (λ (o : Option Told). IfTold o (λ t. t.start + n ≤ length t.calls)) made.2 e in
+    let longer = length-append made.1 before.calls in
+    omega (arith, there, longer, ap (λ (t : Told). t.start) made.3, ap (λ (t : Told). length t.calls) made.3)
+
+pub calls_on : (old new : VolumeSeen) (n : ℕ) → CallsLog old new → HasCalls old n → HasCalls new n
+calls_on old new n calls e = more_calls old.told new.told n calls.only e
+
+module _ (d : Engine) (c : ChronicleState) (down : Bool) (seen : VolumeSeen) (desk : IsDesk d c down seen) where
   -- room for an entry changes nothing
-  pub desk_room : (mid : ChronicleState) → mid.trace ≡ c.trace → mid.calls ≡ c.calls → IsDesk d mid
+  pub desk_room : (mid : ChronicleState) → mid.trace ≡ c.trace → mid.calls ≡ c.calls → IsDesk d mid down seen
   desk_room mid trace calls = record {
     state = desk.state;
     begun = subst IsBegun (sym trace) desk.begun;
     run = subst (λ (es : List Entry). Run [] (at_rest no_rows 1) es desk.state) (sym trace) desk.run;
     copy = desk.copy;
-    quiet = calls ∙ desk.quiet;
+    down_is = desk.down_is;
+    counted = subst (HasCalls seen) (sym calls) desk.counted;
     recorded = subst (IsRecorded mid.trace) (sym calls) (subst (λ (es : List Entry). IsRecorded es c.calls) (sym trace) desk.recorded);
-    shown = subst (λ (es : List Entry). Shows desk.state (allowed_by 0 es) d) (sym trace) desk.shown;
+    shown = λ up. subst (λ (es : List Entry). Shows desk.state (allowed_by 0 es) d) (sym trace) (desk.shown up);
     logged = subst (λ (es : List Entry). taken_of d.log ≤ logged_by 0 es) (sym trace) desk.logged;
+    pages = desk.pages;
     keys = desk.keys;
     among = desk.among;
     few = subst (λ (es : List Entry). length desk.keys ≤ length es) (sym trace) desk.few;
   }
 
+  -- while it is up it shows a state
+  pub desk_shown : down ≡ false → IsShown d
+  desk_shown up = record { state = desk.state; allowed = allowed_by 0 c.trace; shows = desk.shown up }
+
   -- the entry of a statement
-  pub desk_said : (session : Session) (stmt : Stmt) (reply : Reply) (next : Engine) (new : ChronicleState)
-      → Answered desk.state (allowed_by 0 c.trace) d session stmt reply next → new.trace ≡ c.trace ++ said_entry session stmt reply 0 ∷ [] → new.calls ≡ 0 → IsRecorded new.trace new.calls → IsDesk next new
-  desk_said session stmt reply next new answered trace quiet recorded =
-      let entry = said_entry session stmt reply 0 in
+  desk_on : (session : Session) (stmt : Stmt) (reply : Reply) (calls : ℕ) (after : State) (next : Engine) (down_after : Bool) (seen_after : VolumeSeen) (new : ChronicleState) (keys : List ℕ)
+      → AreKeys keys after → length keys ≤ length desk.keys + 1 → Says desk.state session stmt reply after → after.copy ≡ 1 → after.down ≡ down_after
+      → (down_after ≡ false → Shows after (allowed_by 0 c.trace + more_allowed stmt reply) next)
+      → taken_of next.log ≤ taken_of d.log + more_logged stmt reply → next.log.pages ≡ log_pages seen_after.capacities
+      → new.trace ≡ c.trace ++ said_entry session stmt reply calls ∷ [] → new.calls ≡ calls → IsCount seen_after calls → IsRecorded new.trace new.calls → IsDesk next new down_after seen_after
+  desk_on session stmt reply calls after next down_after seen_after new keys among more says copy down_is shown logged pages trace at counted recorded =
+      let entry = said_entry session stmt reply calls in
       let longer = ap (λ (es : List Entry). length es) trace ∙ length-append c.trace (entry ∷ []) in
       let few = desk.few in
-      let more = few_with stmt desk.keys in
       record {
-        state = answered.after;
+        state = after;
         begun = subst IsBegun (sym trace) (begun-push c.trace entry desk.begun);
-        run = subst (λ (es : List Entry). Run [] (at_rest no_rows 1) es answered.after) (sym trace)
-            (Run-push [] (at_rest no_rows 1) desk.state answered.after c.trace entry desk.run answered.says);
-        copy = ap (λ (st : State). st.copy) answered.is_after ∙ copy_after desk.state session stmt reply ∙ desk.copy;
-        quiet = quiet;
+        run = subst (λ (es : List Entry). Run [] (at_rest no_rows 1) es after) (sym trace)
+            (Run-push [] (at_rest no_rows 1) desk.state after c.trace entry desk.run says);
+        copy = copy;
+        down_is = down_is;
+        counted = count_is seen_after calls new.calls counted at;
         recorded = recorded;
-        shown = subst (λ (n : ℕ). Shows answered.after n next) (sym (ap (allowed_by 0) trace ∙ allowed-push 0 c.trace entry)) answered.shows;
-        logged = omega (arith, ap (logged_by 0) trace, logged-push 0 c.trace entry, answered.logged, desk.logged);
-        keys = keys_with stmt desk.keys;
-        among = subst (AreKeys (keys_with stmt desk.keys)) (sym answered.is_after) (keys_after desk.keys desk.state desk.among session stmt reply);
+        shown = λ up. subst (λ (n : ℕ). Shows after n next) (sym (ap (allowed_by 0) trace ∙ allowed-push 0 c.trace entry)) (shown up);
+        logged = omega (arith, ap (logged_by 0) trace, logged-push 0 c.trace entry, logged, desk.logged);
+        pages = pages;
+        keys = keys;
+        among = among;
         few = omega (arith, longer, few, more);
       }
 
   -- the entry of an event that changes nothing
-  pub desk_same : (event : Event) (next : Engine) (new : ChronicleState)
-      → SameEngine d next → IsLayout event → next_state [] None actors.System event desk.state ≡ Some desk.state
-      → new.trace ≡ c.trace ++ system_entry event 0 ∷ [] → new.calls ≡ 0 → IsRecorded new.trace new.calls → IsDesk next new
-  desk_same event next new same is allows trace quiet recorded =
-      let entry = system_entry event 0 in
+  pub desk_same : (event : Event) (calls : ℕ) (next : Engine) (new : ChronicleState)
+      → (down ≡ false → SameEngine d next) → next.log ≡ d.log → IsLayout event → next_state [] None actors.System event desk.state ≡ Some desk.state
+      → new.trace ≡ c.trace ++ system_entry event calls ∷ [] → new.calls ≡ calls → IsCount seen calls → IsRecorded new.trace new.calls → IsDesk next new down seen
+  desk_same event calls next new same log is allows trace at counted recorded =
+      let entry = system_entry event calls in
       let longer = ap (λ (es : List Entry). length es) trace ∙ length-append c.trace (entry ∷ []) in
       let few = desk.few in
       record {
@@ -145,11 +206,13 @@ module _ (d : Engine) (c : ChronicleState) (desk : IsDesk d c) where
         begun = subst IsBegun (sym trace) (begun-push c.trace entry desk.begun);
         run = subst (λ (es : List Entry). Run [] (at_rest no_rows 1) es desk.state) (sym trace) (pushed event is allows);
         copy = desk.copy;
-        quiet = quiet;
+        down_is = desk.down_is;
+        counted = count_is seen calls new.calls counted at;
         recorded = recorded;
-        shown = subst (λ (n : ℕ). Shows desk.state n next) (sym (ap (allowed_by 0) trace ∙ allowed-push 0 c.trace entry ∙ none_allowed event is (allowed_by 0 c.trace)))
-            (same_shows desk.state (allowed_by 0 c.trace) d next same desk.shown);
-        logged = omega (arith, ap (logged_by 0) trace, logged-push 0 c.trace entry, none_logged event is (logged_by 0 c.trace), ap (λ (l : LogList). taken_of l) same.log, desk.logged);
+        shown = λ up. subst (λ (n : ℕ). Shows desk.state n next) (sym (ap (allowed_by 0) trace ∙ allowed-push 0 c.trace entry ∙ none_allowed event is (allowed_by 0 c.trace)))
+            (same_shows desk.state (allowed_by 0 c.trace) d next (same up) (desk.shown up));
+        logged = omega (arith, ap (logged_by 0) trace, logged-push 0 c.trace entry, none_logged event is (logged_by 0 c.trace), ap (λ (l : LogList). taken_of l) log, desk.logged);
+        pages = ap (λ (l : LogList). l.pages) log ∙ desk.pages;
         keys = desk.keys;
         among = desk.among;
         few = omega (arith, longer, few);
@@ -158,16 +221,19 @@ module _ (d : Engine) (c : ChronicleState) (desk : IsDesk d c) where
       none_allowed : (event : Event) → IsLayout event → (n : ℕ) → allowed_after n event ≡ n
       none_allowed (Layout copy side) is n = refl
       none_allowed LayoutNoMemory is n = refl
+      none_allowed LayoutDown is n = refl
       none_allowed event is n = absurd is
 
       none_logged : (event : Event) → IsLayout event → (n : ℕ) → logged_after n event ≡ n
       none_logged (Layout copy side) is n = refl
       none_logged LayoutNoMemory is n = refl
+      none_logged LayoutDown is n = refl
       none_logged event is n = absurd is
 
-      pushed : (event : Event) → IsLayout event → next_state [] None actors.System event desk.state ≡ Some desk.state → Run [] (at_rest no_rows 1) (c.trace ++ system_entry event 0 ∷ []) desk.state
-      pushed (Layout copy side) is allows = Run-push [] (at_rest no_rows 1) desk.state desk.state c.trace (system_entry (Layout copy side) 0) desk.run allows
-      pushed LayoutNoMemory is allows = Run-push [] (at_rest no_rows 1) desk.state desk.state c.trace (system_entry LayoutNoMemory 0) desk.run allows
+      pushed : (event : Event) → IsLayout event → next_state [] None actors.System event desk.state ≡ Some desk.state → Run [] (at_rest no_rows 1) (c.trace ++ system_entry event calls ∷ []) desk.state
+      pushed (Layout copy side) is allows = Run-push [] (at_rest no_rows 1) desk.state desk.state c.trace (system_entry (Layout copy side) calls) desk.run allows
+      pushed LayoutNoMemory is allows = Run-push [] (at_rest no_rows 1) desk.state desk.state c.trace (system_entry LayoutNoMemory calls) desk.run allows
+      pushed LayoutDown is allows = Run-push [] (at_rest no_rows 1) desk.state desk.state c.trace (system_entry LayoutDown calls) desk.run allows
       pushed event is allows = absurd is
 
   -- ---- the trace is legal
@@ -197,23 +263,109 @@ module _ (d : Engine) (c : ChronicleState) (desk : IsDesk d c) where
   }
 
   -- as many committed rows as entries at most
-  pub desk_few : IsShownFew d
-  desk_few =
+  pub desk_few : down ≡ false → IsShownFew d
+  desk_few up =
       let bound = desk.recorded.few in
       let committed = few_committed desk.keys desk.state desk.among in
       let few = desk.few in
-      record { state = desk.state; allowed = allowed_by 0 c.trace; shows = desk.shown; few = omega (arith, committed, few, bound) }
+      record { state = desk.state; allowed = allowed_by 0 c.trace; shows = desk.shown up; few = omega (arith, committed, few, bound) }
+
+-- the entry of a statement, whether the desk is up or down
+pub desk_replied : (d : Engine) (c : ChronicleState) (down : Bool) (seen : VolumeSeen) (desk : IsDesk d c down seen) (session : Session) (stmt : Stmt) (reply : Reply) (calls : ℕ)
+    (next : Engine) (down_after : Bool) (seen_after : VolumeSeen) (new : ChronicleState)
+    → Replies down d session stmt reply next down_after seen seen_after
+    → new.trace ≡ c.trace ++ said_entry session stmt reply calls ∷ [] → new.calls ≡ calls → IsCount seen_after calls → IsRecorded new.trace new.calls → IsDesk next new down_after seen_after
+desk_replied d c true seen desk session stmt reply calls next down_after seen_after new replies trace at counted recorded =
+    desk_on d c true seen desk session stmt reply calls desk.state next down_after seen_after new desk.keys desk.among (omega arith)
+    (subst (λ (r : Reply). Says desk.state session stmt r desk.state) (sym replies.0) (desk.down_is, refl)) desk.copy (desk.down_is ∙ sym replies.2)
+    (λ up. absurd (cc (up, replies.2)))
+    (omega (arith, ap (λ (x : Engine). taken_of x.log) replies.1))
+    (ap (λ (x : Engine). x.log.pages) replies.1 ∙ desk.pages ∙ ap (λ (v : VolumeSeen). log_pages v.capacities) (sym replies.3))
+    trace at counted recorded
+desk_replied d c false seen desk session stmt reply calls next down_after seen_after new replies trace at counted recorded =
+    let answered = replies.0 desk.state (allowed_by 0 c.trace) (desk.shown refl) in
+    let asks = replies.1 in
+    desk_on d c false seen desk session stmt reply calls answered.after next down_after seen_after new (keys_with stmt desk.keys)
+    (subst (AreKeys (keys_with stmt desk.keys)) (sym answered.is_after) (keys_left desk.keys desk.state desk.among session stmt reply)) (few_with stmt desk.keys)
+    answered.says (ap (λ (st : State). st.copy) answered.is_after ∙ copy_left desk.state session stmt reply ∙ desk.copy)
+    (ap (λ (st : State). st.down) answered.is_after ∙ down_left desk.state session stmt reply desk.down_is ∙ sym replies.2)
+    (λ up. up_if _ reply (sym replies.2 ∙ up) answered.shows)
+    answered.logged
+    (answered.log_pages ∙ desk.pages ∙ ap (λ x. log_pages x) (sym asks.calls.capacities))
+    trace at counted recorded
+
+-- what the entry of a statement says
+pub record Replied (d : Engine) (c : ChronicleState) (down : Bool) (seen : VolumeSeen) (session : Session) (stmt : Stmt) (reply : Reply) (next : Engine) (after : Bool) (seen_after : VolumeSeen) : Type 0 where
+  pub is : is_reply stmt reply ≡ true
+  pub was_down : down ≡ true → reply ≡ Down
+  pub was_up : down ≡ false → reply ≡ Down → ⊥
+  pub down_after : after ≡ (down || is_device reply)
+  pub device : reply ≡ Device → Rose seen.faults seen_after.faults
+  pub quiet : forces d.units session stmt ≡ false → seen_after ≡ seen
+  pub forced : forces d.units session stmt ≡ true → reply ≡ Done → next.log.forced ≡ length next.log.records
+  pub room : SaysRoom (ground_of d) session.0 stmt reply
+  pub full : IfFull reply (allowed_by 0 c.trace) (capacity_in d.space)
+  pub log : SaysLog (ground_of d) session.0 stmt reply
+  pub log_full : IfLogFull reply (logged_by 0 c.trace) d.log.pages
+  pub capacity : capacity_in next.space ≡ capacity_in d.space
+  pub log_pages : next.log.pages ≡ d.log.pages
+  pub calls : CallsLog seen seen_after
+
+reply_so : (stmt : Stmt) (reply : Reply) → is_answer stmt reply ≡ true → is_reply stmt reply ≡ true
+reply_so stmt Down e = refl
+reply_so stmt reply e = e
+
+not_down : (stmt : Stmt) (reply : Reply) → is_answer stmt reply ≡ true → reply ≡ Down → ⊥
+not_down stmt reply e is = absurd (cc (ap (is_answer stmt) (sym is), e))
+
+pub replied : (d : Engine) (c : ChronicleState) (down : Bool) (seen : VolumeSeen) (desk : IsDesk d c down seen) (session : Session) (stmt : Stmt) (reply : Reply) (next : Engine) (after : Bool) (seen_after : VolumeSeen)
+    → Replies down d session stmt reply next after seen seen_after → Replied d c down seen session stmt reply next after seen_after
+replied d c true seen desk session stmt reply next after seen_after replies = record {
+  is = subst (λ (r : Reply). is_reply stmt r ≡ true) (sym replies.0) refl;
+  was_down = λ e. replies.0;
+  was_up = λ e. absurd (cc (e));
+  down_after = replies.2;
+  device = λ e. absurd (cc (replies.0, e));
+  quiet = λ e. replies.3;
+  forced = λ force e. absurd (cc (replies.0, e));
+  room = subst (λ (r : Reply). SaysRoom (ground_of d) session.0 stmt r) (sym replies.0) tt;
+  full = subst (λ (r : Reply). IfFull r (allowed_by 0 c.trace) (capacity_in d.space)) (sym replies.0) tt;
+  log = subst (λ (r : Reply). SaysLog (ground_of d) session.0 stmt r) (sym replies.0) tt;
+  log_full = subst (λ (r : Reply). IfLogFull r (logged_by 0 c.trace) d.log.pages) (sym replies.0) tt;
+  capacity = ap (λ (x : Engine). capacity_in x.space) replies.1;
+  log_pages = ap (λ (x : Engine). x.log.pages) replies.1;
+  calls = subst (CallsLog seen) (sym replies.3) (same_calls seen);
+}
+replied d c false seen desk session stmt reply next after seen_after replies =
+    let answered = replies.0 desk.state (allowed_by 0 c.trace) (desk.shown refl) in
+    record {
+      is = reply_so stmt reply answered.is;
+      was_down = λ e. absurd (cc (e));
+      was_up = λ e. not_down stmt reply answered.is;
+      down_after = replies.2;
+      device = replies.1.device;
+      quiet = replies.1.none;
+      forced = replies.1.forced;
+      room = answered.room;
+      full = answered.full;
+      log = answered.log;
+      log_full = log_full_so (ground_of d) session.0 stmt reply (logged_by 0 c.trace) answered.log desk.logged;
+      capacity = answered.capacity;
+      log_pages = answered.log_pages;
+      calls = replies.1.calls;
+    }
 
 -- ---- the opening
 
 none : committed_table (at_rest no_rows 1) ≡ no_rows
 none = committed-at_rest no_rows 1
 
-pub desk_opened : (d : Engine) (c : ChronicleState) → Shows (at_rest no_rows 1) 0 d → taken_of d.log ≡ 0 → c.trace ≡ first_entry ∷ [] → c.calls ≡ 0 → IsRecorded c.trace c.calls → IsDesk d c
-desk_opened d c shown taken trace quiet recorded =
+pub desk_opened : (d : Engine) (c : ChronicleState) (calls : ℕ) (seen : VolumeSeen) → Shows (at_rest no_rows 1) 0 d → taken_of d.log ≡ 0 → d.log.pages ≡ log_pages seen.capacities
+    → c.trace ≡ first_entry calls ∷ [] → c.calls ≡ calls → IsCount seen calls → IsRecorded c.trace c.calls → IsDesk d c false seen
+desk_opened d c calls seen shown taken pages trace at counted recorded =
     let opened : State = at_rest (committed_table (at_rest no_rows 1)) 1 in
     let is : opened ≡ at_rest no_rows 1 = ap (λ t. at_rest t 1) none in
-    let run : Run [] (at_rest no_rows 1) (first_entry ∷ []) opened = (
+    let run : Run [] (at_rest no_rows 1) (first_entry calls ∷ []) opened = (
       opened,
       record {
         table = committed_table (at_rest no_rows 1);
@@ -229,10 +381,12 @@ desk_opened d c shown taken trace quiet recorded =
       begun = subst IsBegun (sym trace) refl;
       run = subst (λ (st : State). Run [] (at_rest no_rows 1) c.trace st) is (subst (λ (es : List Entry). Run [] (at_rest no_rows 1) es opened) (sym trace) run);
       copy = refl;
-      quiet = quiet;
+      down_is = refl;
+      counted = count_is seen calls c.calls counted at;
       recorded = recorded;
-      shown = subst (λ (es : List Entry). Shows (at_rest no_rows 1) (allowed_by 0 es) d) (sym trace) shown;
+      shown = λ up. subst (λ (es : List Entry). Shows (at_rest no_rows 1) (allowed_by 0 es) d) (sym trace) shown;
       logged = omega (arith, taken);
+      pages = pages;
       keys = [];
       among = record {
         present = λ k there. absurd (cc (there, ap (λ (o : Option Row). is_some o) (get-empty {X = Row} nat_cmp k)));

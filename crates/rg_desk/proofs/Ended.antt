@@ -91,6 +91,7 @@ module _ (t : ℕ) (s left : LogState) (session : Session) (unit : OpenUnit) (un
             steady = ended.steady u.tran.0 apart one.steady;
             walks = subst (Walks (records ++ more) u.tran.0 u.last.0) (sym own) (walks_longer records more u.tran.0 u.last.0 (own_of u.tran.0 s.writes) one.walks);
             count = ap length own ∙ one.count;
+            wrote = one.wrote;
           }
 
       apart : (m n : ℕ) (one other : OpenUnit) → unit_at later m ≡ Some one → unit_at later n ≡ Some other → one.tran.0 ≡ other.tran.0 → m ≡ n

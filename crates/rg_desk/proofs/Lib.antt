@@ -34,6 +34,7 @@ pub mod Collecting
 pub mod UndoSteps
 pub mod UndoBegins
 pub mod RollbackGoes
+pub mod Locked
 pub mod Answering
 pub mod Counting
 pub mod Among

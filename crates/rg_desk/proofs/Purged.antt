@@ -18,7 +18,7 @@ key_purged units s parts (Some lock) k h = record { unit = h.unit; has = h.has; 
 
 pub units_purged : (records : List Record) (units : List (Option OpenUnit)) (s : LogState) (parts : List Part) → UnitsShown records s units → UnitsShown records (step s (Purge parts)) units
 units_purged records units s parts h = record {
-  each = λ n unit has. let u = h.each n unit has in record { live = u.live; steady = u.steady; walks = u.walks; count = u.count };
+  each = λ n unit has. let u = h.each n unit has in record { live = u.live; steady = u.steady; walks = u.walks; count = u.count; wrote = u.wrote };
   apart = h.apart;
   all = h.all;
 }

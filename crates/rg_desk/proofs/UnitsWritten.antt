@@ -74,6 +74,7 @@ module _ (records base : List Record) (units : List (Option OpenUnit)) (s : LogS
         (subst (λ (e : ℕ). Walks (base ++ entry ∷ []) unit.tran.0 e (own_of unit.tran.0 (w ∷ s.writes))) (sym last)
         (subst (Walks (base ++ entry ∷ []) unit.tran.0 (length base + 1)) (sym grown) (walks_more base unit.tran.0 unit.last.0 w (own_of unit.tran.0 s.writes) walked)));
     count = ap (λ (t : ℕ). length (own_of t (w ∷ s.writes))) tran ∙ omega (arith, ap length grown, counted, writes);
+    wrote = omega (arith, writes);
   }
 
   -- no other session has this transaction
@@ -93,6 +94,7 @@ module _ (records base : List Record) (units : List (Option OpenUnit)) (s : LogS
         steady = old.steady;
         walks = subst (Walks (base ++ entry ∷ []) u.tran.0 u.last.0) (sym same) (walks_longer base (entry ∷ []) u.tran.0 u.last.0 (own_of u.tran.0 s.writes) (longer u.tran.0 u.last.0 (own_of u.tran.0 s.writes) old.walks));
         count = ap length same ∙ old.count;
+        wrote = old.wrote;
       }
 
   is_next : (u : OpenUnit) → Some next ≡ Some u → next ≡ u

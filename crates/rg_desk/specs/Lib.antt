@@ -13,6 +13,7 @@ pub mod Ended
 pub mod Reads
 pub mod Undoing
 pub mod Undone
+pub mod Volume
 pub mod Answers
 pub mod Chronicle
 pub mod Desk

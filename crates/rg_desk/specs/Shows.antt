@@ -50,6 +50,7 @@ pub record UnitShown (records : List Record) (s : LogState) (unit : OpenUnit) : 
   pub steady : is_in unit.tran.0 s.rolling ≡ false
   pub walks : Walks records unit.tran.0 unit.last.0 (own_of unit.tran.0 s.writes)
   pub count : length (own_of unit.tran.0 s.writes) ≡ unit.writes
+  pub wrote : 1 ≤ unit.writes
 
 -- the live unit of this number is the open one of some session
 pub record HasSession (units : List (Option OpenUnit)) (t : ℕ) : Type 0 where

@@ -3,16 +3,18 @@
 -- 1. The reply is the plain table's, or NOMEMORY, FULL or LOGFULL stands for it. FULL comes exactly
 --    where there is no plan of the write, and then the writes so far have allowed 3,221 bytes for
 --    each page of the copy. LOGFULL comes exactly where the log has less left than the write needs.
--- 2. A put or a change allows 18 bytes more than its row has.
+-- 2. DEVICE comes only to the COMMIT of a session that has locks. It leaves nothing to be said of
+--    the engine, which is down from then on.
+-- 3. A put or a change allows 18 bytes more than its row has.
 use Rattle.std.specs.Prelude.{◌≡◌, ◌≤◌, ◌+◌, ◌*◌, ℕ, true, Some, None, ◌⊎◌, if◌then◌else◌}
 use Rattle.rg_base.specs.RowBytes.{row_size}
 use Rattle.rg_base.specs.declared.session.Session.{Session}
 use Rattle.rg_stmt.specs.declared.stmt.Reply.{Reply}
-use Rattle.rg_stmt.specs.declared.stmt.Reply.TheVariants.{Done, Full, LogFull, NoMemory}
+use Rattle.rg_stmt.specs.declared.stmt.Reply.TheVariants.{Device, Done, Full, LogFull, NoMemory}
 use Rattle.rg_stmt.specs.declared.stmt.Stmt.{Stmt}
-use Rattle.rg_stmt.specs.declared.stmt.Stmt.TheVariants.{Insert, Update}
+use Rattle.rg_stmt.specs.declared.stmt.Stmt.TheVariants.{Commit, Insert, Update}
 use Rattle.rg_model.specs.Plain.{after, is_done, plain_reply}
-use Rattle.rg_model.specs.Said.{may_want_log, may_want_memory, may_want_room}
+use Rattle.rg_model.specs.Said.{has_locks, may_want_log, may_want_memory, may_want_room}
 use Rattle.rg_model.specs.State.{State}
 use Rattle.rg_space.specs.Space.{capacity_in}
 use Rattle.rg_desk.specs.Bytes.{most_needed, taken_of}
@@ -37,6 +39,11 @@ IsUnitOf d n unit =
     (unit_at d.units n ≡ Some unit)
     ⊎ ((unit_at d.units n ≡ None) × (unit ≡ new_unit (d.top + 1)))
 
+-- the device may refuse a COMMIT that has something to keep
+abbrev pub MayFail : State → Session → Stmt → Type 0
+MayFail st session Commit = has_locks st.locks session ≡ true
+MayFail st session stmt = ⊥
+
 -- from a state with so many bytes allowed, a copy of so many pages may answer so
 abbrev pub MayReply : State → (allowed capacity : ℕ) → Session → Stmt → Reply → Type 0
 MayReply st allowed capacity session stmt NoMemory = may_want_memory stmt ≡ true
@@ -45,6 +52,7 @@ MayReply st allowed capacity session stmt (Full need) =
     × (3221 * capacity ≤ allowed)
 MayReply st allowed capacity session stmt (LogFull need left) =
     (may_want_log stmt ≡ true) × (is_done (plain_reply st session stmt) ≡ true)
+MayReply st allowed capacity session stmt Device = MayFail st session stmt
 MayReply st allowed capacity session stmt reply = reply ≡ plain_reply st session stmt
 
 -- the state after a reply, without the claim
@@ -67,6 +75,11 @@ abbrev pub more_logged : Stmt → Reply → ℕ
 more_logged stmt Done = if may_want_log stmt then most_needed else 0
 more_logged stmt reply = 0
 
+-- this holds after a reply that leaves the engine up
+abbrev pub IfUp : Reply → Type 0 → Type 0
+IfUp Device P = Unit {0}
+IfUp reply P = P
+
 -- the statement is answered so from this state, and leaves the next one
 pub record Goes
     (st : State) (allowed : ℕ) (old : Engine) (session : Session) (stmt : Stmt) (reply : Reply)
@@ -76,7 +89,8 @@ pub record Goes
   pub log : SaysLog (ground_of old) session.0 stmt reply
   pub logged : taken_of new.log ≤ taken_of old.log + more_logged stmt reply
   pub log_pages : new.log.pages ≡ old.log.pages
-  pub shows : Shows (unclaimed st session stmt reply) (allowed + more_allowed stmt reply) new
+  pub shows :
+      IfUp reply (Shows (unclaimed st session stmt reply) (allowed + more_allowed stmt reply) new)
   pub capacity : capacity_in new.space ≡ capacity_in old.space
 
 -- from each state that the engine shows

@@ -3,18 +3,22 @@
 // 1. The room of an entry is taken first. Where there is none, nothing is done.
 // 2. What an entry says was done, and the state that the trace leads to is the one that the pages,
 //    the locks and the claims show.
-ghost use Rattle.std.specs.Prelude.{◌≡◌, ◌∷◌, [], ℕ, OnOk, OnErr, IfOk, IfErr, Some, None};
+// 3. Once the device has refused a COMMIT the desk is down: nothing more is done, and every statement
+//    is answered DOWN.
+ghost use Rattle.std.specs.Prelude.{◌≡◌, ◌≤◌, ◌∷◌, [], ℕ, true, false, OnOk, OnErr, IfOk, IfErr, Some, None};
 ghost use Rattle.rg_base.specs.Session.{IsSession};
 ghost use Rattle.rg_model.specs.Legal.{Legal};
 ghost use Rattle.rg_model.specs.Possible.{next_state};
 ghost use Rattle.rg_model.specs.State.{State};
 ghost use Rattle.rg_stmt.specs.declared.event.Actor.TheVariants as actors;
+ghost use Rattle.rg_desk.specs.Answers.{Replies};
 ghost use Rattle.rg_log.specs.Kept.{log_pages};
 ghost use Rattle.rg_desk.specs.Chronicle.{system_entry};
-ghost use Rattle.rg_desk.specs.Desk.{EndsWithRows, IsLayout, MadeLayout, MadeSaid};
-ghost use Rattle.rg_desk.specs.Desk.{copy_capacity, first_entry, no_rows};
-ghost use Rattle.rg_desk.specs.Engine.{HasPages};
-ghost use Rattle.rg_desk.specs.Shows.{Shows};
+ghost use Rattle.rg_desk.specs.Desk.{EndsDown, EndsWithRows, IsLayout, MadeLayout, MadeSaid, Opens};
+ghost use Rattle.rg_desk.specs.Desk.{no_rows};
+ghost use Rattle.rg_desk.specs.Engine.{HasPages, ground_of};
+ghost use Rattle.rg_desk.specs.Shows.{IsShown, Shows};
+ghost use Rattle.rg_desk.specs.Volume.{HasCalls, IsCount, seen_volume};
 ghost use Rattle.rg_desk.specs.Wrote.{SameEngine};
 
 use crate::chronicle::Chronicle;
@@ -22,58 +26,108 @@ use crate::engine::Engine;
 use rg_base::no_memory::NoMemory;
 use rg_base::session::Session;
 use rg_base::set::Set;
+use rg_log::log::Log;
+use rg_outside::counted::Counts;
 use rg_outside::operator::Operator;
 use rg_outside::volume::Volume;
 use rg_stmt::event::{Actor, Entry, Event};
-use rg_stmt::stmt::Stmt;
+use rg_stmt::stmt::{Reply, Stmt};
 use std::alloc::Global;
 use std::marker::Model;
 
-// No copy has more pages, and no log.
+// No copy has more pages.
 const MOST_PAGES: u32 = 65_536;
 
-/// What an opening that found no memory was handed.
+/// What an opening that was refused was handed, and why.
 #[derive(Drop)]
 pub struct OpenFault<V, O> {
     pub volume: V,
     pub operator: O,
+    pub cause: OpenCause,
+}
+
+/// Why a volume is not opened.
+#[derive(Clone, Copy, Debug, PartialEq, Eq)]
+pub enum OpenCause {
+    /// This page breaks a rule of a sound volume.
+    Damaged { set: Set, page: u32 },
+    /// A call of the volume failed.
+    Device,
+    /// Out of memory.
+    NoMemory,
 }
 
 /// A table over pages with its sessions, and the trace of all that was done.
 #[derive(Drop)]
-pub struct Desk<V, O> {
+pub struct Desk<V: Counts, O> {
     engine: Engine,
     chronicle: Chronicle,
+    down: bool,
     volume: V,
     operator: O,
 }
 
-impl<V, O> Model for Desk<V, O> {
+impl<V: Counts, O> Model for Desk<V, O> {
     ghost use Rattle.rg_desk.specs.Desk.{DeskState, IsDesk};
     ghost use Rattle.rg_desk.specs.Engine.{ground_of};
+    ghost use Rattle.rg_desk.specs.Volume.{seen_volume};
 
     ghost Value = { DeskState V O };
 
     ghost view = { λ d. record {
       trace = d.chronicle.trace;
       ground = ground_of d.engine;
+      down = d.down;
       volume = d.volume;
       operator = d.operator;
     } };
 
-    ghost invariant = { λ d. IsDesk d.engine d.chronicle };
+    ghost invariant = { λ d. IsDesk d.engine d.chronicle d.down
+        (seen_volume V.told V.faults V.capacities d.volume) };
 }
 
-// The entry of an event that the system makes.
-fn system(event: Event) -> Entry
-    ensures { result ≡ system_entry event 0 }
+// The entry of an event that the system makes, after so many calls.
+fn system(event: Event, calls: u64) -> Entry
+    ensures { result ≡ system_entry event calls }
 {
     Entry {
         actor: Actor::System,
         event,
         answer: None,
-        calls: 0,
+        calls,
     }
+}
+
+// The number of calls up to now. It never falls, also where the volume does not report.
+fn calls_now<V: Counts>(volume: &V, chronicle: &Chronicle) -> u64
+    requires { HasCalls (seen_volume V.told V.faults V.capacities volume.now) chronicle.now.calls }
+    ensures least { chronicle.now.calls ≤ result }
+    ensures counted { IsCount (seen_volume V.told V.faults V.capacities volume.now) result }
+{
+    volume.calls().max(chronicle.calls())
+}
+
+/// The reply to a statement, where the desk is up or down before. The device's refusal brings it down.
+pub fn reply_to<V: Volume>(
+    engine: &mut Engine,
+    down: &mut bool,
+    volume: &mut V,
+    session: Session,
+    stmt: &Stmt,
+) -> Reply
+    requires session { IsSession session }
+    requires shown { down.old ≡ false → IsShown engine.old }
+    requires pages { engine.old.log.pages ≡ log_pages (V.capacities volume.old) }
+    ensures { Replies down.old engine.old session stmt.now result engine.new down.new
+        (seen_volume V.told V.faults V.capacities volume.old)
+        (seen_volume V.told V.faults V.capacities volume.new) }
+{
+    if *down {
+        return Reply::Down;
+    }
+    let reply = engine.say(volume, session, stmt);
+    *down = matches!(reply, Reply::Device);
+    reply
 }
 
 impl Engine {
@@ -92,42 +146,67 @@ impl Engine {
     }
 }
 
-impl<V: Volume, O: Operator> Desk<V, O> {
-    /// A desk over a table without rows, whose first entry is that of the opening. Its copy may
-    /// have as many pages as the volume's first set has, and no more than 65,536. Neither the
-    /// volume nor the operator is called.
-    pub fn new(alloc: Global, volume: V, operator: O) -> Result<Desk<V, O>, OpenFault<V, O>>
-        ensures trace { IfOk result (λ desk. desk.trace ≡ first_entry ∷ []) }
-        ensures pages { IfOk result (λ desk. desk.ground.pages ≡ []) }
-        ensures capacity { IfOk result (λ desk.
-            desk.ground.capacity ≡ copy_capacity (V.capacities volume)) }
-        ensures log { IfOk result (λ desk. desk.ground.log ≡ record {
-          records = [];
-          forced = 0;
-          reserved = 0;
-          pages = log_pages (V.capacities volume);
-        }) }
-        ensures volume { IfOk result (λ desk. desk.volume ≡ volume) }
-        ensures operator { IfOk result (λ desk. desk.operator ≡ operator) }
+// The event of a layout, where the desk is up or down.
+fn tell_layout(engine: &mut Engine, down: bool) -> Event
+    requires pages { down ≡ false → HasPages engine.old }
+    ensures same { down ≡ false → SameEngine engine.old engine.new }
+    ensures ground { ground_of engine.new ≡ ground_of engine.old }
+    ensures is { IsLayout result }
+    ensures right { (st : State) (allowed : ℕ) → (down ≡ false → Shows st allowed engine.old)
+        → st.down ≡ down → st.copy ≡ 1 → next_state [] None actors.System result st ≡ Some st }
+{
+    if down {
+        return Event::LayoutDown;
+    }
+    engine.layout()
+}
+
+impl<V: Counts, O: Operator> Desk<V, O> {
+    /// A desk over a table without rows, whose log has no records. Its first entry is that of the
+    /// opening. Its copy may have as many pages as the volume's first set has, and no more than
+    /// 65,536. Neither the volume nor the operator is called.
+    pub fn new(
+        alloc: Global,
+        volume: V,
+        operator: O,
+        log: Log,
+    ) -> Result<Desk<V, O>, OpenFault<V, O>>
+        requires empty { log.records ≡ [] }
+        requires idle { log.reserved ≡ 0 }
+        requires pages { log.pages ≡ log_pages (V.capacities volume) }
+        ensures opens { IfOk result
+            (Opens (seen_volume V.told V.faults V.capacities) volume operator log) }
         ensures err { IfErr result (λ fault. fault ≡ record {
           volume = volume;
           operator = operator;
+          cause = OpenCause.NoMemory;
         }) }
     {
         let capacity = volume.capacity(Set::First).min(MOST_PAGES);
-        let pages = volume.capacity(Set::Log).min(MOST_PAGES);
-        let Ok(engine) = Engine::new(alloc, capacity, pages) else {
-            return Err(OpenFault { volume, operator });
+        let Ok(engine) = Engine::new(alloc, capacity, log) else {
+            return Err(OpenFault {
+                volume,
+                operator,
+                cause: OpenCause::NoMemory,
+            });
         };
         let mut chronicle = Chronicle::new(alloc);
         match chronicle.make_room() {
             Ok(()) => {}
-            Err(_) => return Err(OpenFault { volume, operator }),
+            Err(_) => {
+                return Err(OpenFault {
+                    volume,
+                    operator,
+                    cause: OpenCause::NoMemory,
+                });
+            }
         }
-        chronicle.push(Entry::opened(1, 0, 0, 0, 0));
+        let calls = volume.calls();
+        chronicle.push(Entry::opened(1, 0, 0, 0, calls));
         Ok(Desk {
             engine,
             chronicle,
+            down: false,
             volume,
             operator,
         })
@@ -138,30 +217,51 @@ impl<V: Volume, O: Operator> Desk<V, O> {
     /// NOMEMORY.
     pub fn exec(&mut self, session: Session, stmt: Stmt) -> Result<(), NoMemory>
         requires { IsSession session }
-        ensures made { OnOk result (MadeSaid self.old session stmt self.new) }
+        ensures made { OnOk result (MadeSaid (seen_volume V.told V.faults V.capacities)
+            self.old session stmt self.new) }
         ensures err { OnErr result (self.new ≡ self.old) }
     {
         self.chronicle.make_room()?;
-        let reply = self.engine.say(session, &stmt);
-        self.chronicle.push(Entry::said(session, stmt, reply, 0));
+        let reply = reply_to(
+            &mut self.engine,
+            &mut self.down,
+            &mut self.volume,
+            session,
+            &stmt,
+        );
+        let calls = calls_now(&self.volume, &self.chronicle);
+        self.chronicle
+            .push(Entry::said(session, stmt, reply, calls));
         Ok(())
     }
 
     /// Tells the layout of the copy, which makes one entry. If there is no memory for the entry, the
-    /// call is refused and nothing was done. If there is none for the layout, the entry says so.
+    /// call is refused and nothing was done. If there is none for the layout, the entry says so, and
+    /// so it does where the desk is down.
     pub fn show(&mut self) -> Result<(), NoMemory>
-        ensures made { OnOk result (MadeLayout self.old self.new) }
+        ensures made { OnOk result
+            (MadeLayout (seen_volume V.told V.faults V.capacities) self.old self.new) }
         ensures err { OnErr result (self.new ≡ self.old) }
     {
         self.chronicle.make_room()?;
-        let event = self.engine.layout();
-        self.chronicle.push(system(event));
+        let event = tell_layout(&mut self.engine, self.down);
+        let calls = calls_now(&self.volume, &self.chronicle);
+        self.chronicle.push(system(event, calls));
         Ok(())
+    }
+
+    /// Whether the device has refused a COMMIT.
+    pub fn down(&self) -> bool
+        ensures is { result ≡ self.now.down }
+        ensures ends { self.now.down ≡ true → EndsDown self.now.trace }
+    {
+        self.down
     }
 
     /// The number of committed rows: those of a unit that is still open are not among them. It
     /// looks at each lock.
     pub fn committed_rows(&self) -> u64
+        requires { self.now.down ≡ false }
         ensures { EndsWithRows self.now.trace result }
     {
         self.engine.committed_rows()
@@ -177,6 +277,7 @@ impl<V: Volume, O: Operator> Desk<V, O> {
         let Desk {
             engine: _,
             chronicle,
+            down: _,
             volume,
             operator,
         } = self;

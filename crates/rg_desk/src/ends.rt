@@ -1,13 +1,18 @@
 // COMMIT and ROLLBACK.
 //
 // 1. The room for the record of a unit's end was reserved with its first write. So a COMMIT takes
-//    no memory, and is never refused.
+//    no memory.
 // 2. What was reserved for undoing the unit is given back.
+// 3. A unit that has written is committed once its records are on the volume for good. Until then
+//    it keeps its locks. A COMMIT of one that has not calls no volume.
 ghost use Rattle.rg_base.specs.Session.{IsSession};
 ghost use Rattle.std.specs.Prelude.{◌≡◌, ◌≤◌, ◌+◌, ◌*◌};
+ghost use Rattle.rg_log.specs.Kept.{log_pages};
+ghost use Rattle.rg_desk.specs.Answers.{Asks, forces};
 ghost use Rattle.rg_desk.specs.Ended.{EndsSession, LogsCommit, LogsRolledBack};
 ghost use Rattle.rg_desk.specs.Shows.{IsShown};
 ghost use Rattle.rg_desk.specs.Steps.{Steps};
+ghost use Rattle.rg_desk.specs.Volume.{seen_volume};
 
 use crate::bytes::{END_BYTES, UNDO_BYTES};
 use crate::engine::Engine;
@@ -15,6 +20,7 @@ use crate::records::{append, next_position};
 use crate::units::OpenUnit;
 use rg_base::position::Position;
 use rg_base::session::Session;
+use rg_outside::volume::Volume;
 use rg_record::record::{Kind, Record};
 use rg_stmt::stmt::{Reply, Stmt};
 
@@ -47,15 +53,29 @@ impl Engine {
         self.log.give_back(undo);
     }
 
-    /// Ends the unit of work and keeps what it wrote. It takes no memory.
-    pub fn commit(&mut self, session: Session) -> Reply
+    /// Ends the unit of work and keeps what it wrote, on the volume for good. It takes no memory.
+    /// Where the device fails nothing is known of the unit, and the engine is down.
+    pub fn commit<V: Volume>(&mut self, volume: &mut V, session: Session) -> Reply
         requires session { IsSession session }
         requires shown { IsShown self.old }
-        ensures { Steps self.old session Stmt.Commit result self.new }
+        requires pages { self.old.log.pages ≡ log_pages (V.capacities volume.old) }
+        ensures steps { Steps self.old session Stmt.Commit result self.new }
+        ensures asks { Asks (forces self.old.units session Stmt.Commit) result self.new.log
+            (seen_volume V.told V.faults V.capacities volume.old)
+            (seen_volume V.told V.faults V.capacities volume.new) }
     {
+        if self.units.get(session).is_none() {
+            self.end(session);
+            return Reply::Done;
+        }
         self.log_commit(session);
-        self.end(session);
-        Reply::Done
+        match self.log.force(volume) {
+            Ok(()) => {
+                self.end(session);
+                Reply::Done
+            }
+            Err(_) => Reply::Device,
+        }
     }
 
     // Appends the RolledBack of a unit, whose last record this is, and gives back what was reserved

@@ -128,14 +128,14 @@ fn greater(top: u32, tran: Tran) -> u32
 }
 
 impl Engine {
-    /// A table without rows, in a copy that may have `capacity` pages, with a log of so many pages.
-    pub fn new(alloc: Global, capacity: u32, pages: u32) -> Result<Engine, NoMemory>
-        requires { pages ≤ 65536 }
+    /// A table without rows, in a copy that may have `capacity` pages, with a log without records.
+    pub fn new(alloc: Global, capacity: u32, log: Log) -> Result<Engine, NoMemory>
+        requires empty { log.records ≡ [] }
+        requires idle { log.reserved ≡ 0 }
         ensures shows { IfOk result (λ d. Shows (at_rest map.empty 1) 0 d) }
         ensures capacity { IfOk result (λ d. capacity_in d.space ≡ capacity) }
         ensures pages { IfOk result (λ d. slots_in d ≡ []) }
-        ensures log { IfOk result (λ d. d.log
-            ≡ record { records = []; forced = 0; reserved = 0; pages = pages }) }
+        ensures log { IfOk result (λ d. d.log ≡ log) }
     {
         let Ok(space) = Space::new(alloc, ListFrames::new(alloc, 1), capacity) else {
             return Err(NoMemory);
@@ -147,7 +147,7 @@ impl Engine {
         Ok(Engine {
             alloc,
             space,
-            log: Log::empty(alloc, pages),
+            log,
             indexes,
             locks,
             claims,

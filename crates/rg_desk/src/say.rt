@@ -8,13 +8,16 @@ ghost use Rattle.std.specs.FinMap as map;
 ghost use Rattle.rg_base.specs.Session.{IsSession};
 ghost use Rattle.rg_model.specs.Claims.{claims_with, classes_needed, is_kept_out};
 ghost use Rattle.rg_model.specs.Plain.{is_done};
-ghost use Rattle.rg_desk.specs.Answers.{Answers, classes_in};
+ghost use Rattle.rg_log.specs.Kept.{log_pages};
+ghost use Rattle.rg_desk.specs.Answers.{Answers, Asks, classes_in, forces, is_commit};
 ghost use Rattle.rg_desk.specs.Shows.{IsShown};
 ghost use Rattle.rg_desk.specs.Steps.{Steps};
+ghost use Rattle.rg_desk.specs.Volume.{seen_volume};
 
 use crate::engine::Engine;
 use rg_base::session::{Class, Session};
 use rg_model::plain::parts::is_done;
+use rg_outside::volume::Volume;
 use rg_stmt::stmt::{Reply, Stmt};
 
 // The class that a statement takes. The ends of a unit take none.
@@ -26,6 +29,13 @@ fn class_of(stmt: &Stmt) -> Option<Class>
         Stmt::Select(_) | Stmt::Scan { .. } | Stmt::Find(_) => Some(Class::Reader),
         Stmt::Commit | Stmt::Rollback => None,
     }
+}
+
+// Whether a statement may call the volume.
+fn is_commit(stmt: &Stmt) -> bool
+    ensures { result ≡ is_commit stmt.now }
+{
+    matches!(stmt, Stmt::Commit)
 }
 
 impl Engine {
@@ -61,8 +71,10 @@ impl Engine {
         }
     }
 
-    // The answer to a statement that no drain keeps out. Its claim is not registered yet.
+    // The answer to a statement that calls no volume and that no drain keeps out. Its claim is not
+    // registered yet.
     fn answer(&mut self, session: Session, stmt: &Stmt) -> Reply
+        requires other { is_commit stmt.now ≡ false }
         requires session { IsSession session }
         requires shown { IsShown self.old }
         ensures { Steps self.old session stmt.now result self.new }
@@ -74,22 +86,42 @@ impl Engine {
             Stmt::Select(key) => self.select(session, *key),
             Stmt::Scan { lo, hi } => self.scan(session, *lo, *hi),
             Stmt::Find(cat) => self.find(session, *cat),
-            Stmt::Commit => self.commit(session),
+            Stmt::Commit => unreachable!(),
             Stmt::Rollback => self.rollback(session),
         }
     }
 
-    /// Answers a statement of a session.
-    pub fn say(&mut self, session: Session, stmt: &Stmt) -> Reply
+    // The answer to any statement that no drain keeps out. Its claim is not registered yet.
+    fn answer_over<V: Volume>(&mut self, volume: &mut V, session: Session, stmt: &Stmt) -> Reply
         requires session { IsSession session }
         requires shown { IsShown self.old }
-        ensures { Answers self.old session stmt.now result self.new }
+        requires pages { self.old.log.pages ≡ log_pages (V.capacities volume.old) }
+        ensures steps { Steps self.old session stmt.now result self.new }
+        ensures asks { Asks (forces self.old.units session stmt.now) result self.new.log
+            (seen_volume V.told V.faults V.capacities volume.old)
+            (seen_volume V.told V.faults V.capacities volume.new) }
+    {
+        if is_commit(stmt) {
+            return self.commit(volume, session);
+        }
+        self.answer(session, stmt)
+    }
+
+    /// Answers a statement of a session.
+    pub fn say<V: Volume>(&mut self, volume: &mut V, session: Session, stmt: &Stmt) -> Reply
+        requires session { IsSession session }
+        requires shown { IsShown self.old }
+        requires pages { self.old.log.pages ≡ log_pages (V.capacities volume.old) }
+        ensures answers { Answers self.old session stmt.now result self.new }
+        ensures asks { Asks (forces self.old.units session stmt.now) result self.new.log
+            (seen_volume V.told V.faults V.capacities volume.old)
+            (seen_volume V.told V.faults V.capacities volume.new) }
     {
         let class = class_of(stmt);
         if self.is_drained(session, class) {
             return Reply::Drained;
         }
-        let reply = self.answer(session, stmt);
+        let reply = self.answer_over(volume, session, stmt);
         if is_done(&reply) {
             self.register(session, class);
         }

@@ -144,7 +144,8 @@ fn push_end_down(out: &mut Vec<u8>, entries: u64) -> Result<(), NoMemory>
     writeln!(out, "END entries={entries} DOWN").map_err(|_| NoMemory)
 }
 
-fn push_damaged(out: &mut Vec<u8>, set: Set, page: u32) -> Result<(), NoMemory>
+/// Appends the line that names a page of the volume which breaks a rule.
+pub fn push_damaged(out: &mut Vec<u8>, set: Set, page: u32) -> Result<(), NoMemory>
     ensures { OnOk result (out.new.items ≡ out.old.items ++ damaged_text set page) }
 {
     push_word(out, b"REFUSED volume damaged ", set_name(set))?;

@@ -1,12 +1,12 @@
 -- A run goes on by one line.
-use Rattle.std.proofs.Common.{◌≡◌, ◌*◌, ℕ, List, [], ◌∷◌, ◌++◌, refl, sym, ◌∙◌, subst}
+use Rattle.std.proofs.Common.{◌≡◌, ◌≤◌, ◌||◌, ◌*◌, ℕ, Bool, true, false, List, [], ◌∷◌, ◌++◌, refl, sym, ◌∙◌, subst, arith}
 use Rattle.std.specs.Prelude.{Result, Ok, Err, OnOk}
 use Rattle.std.specs.List.{AllZip}
 use Rattle.rg_base.specs.declared.no_memory.NoMemory.{NoMemory as WantsMemory}
 use Rattle.rg_base.specs.declared.session.Session.{Session}
 use Rattle.rg_stmt.specs.declared.event.Entry.{Entry}
 use Rattle.rg_stmt.specs.declared.event.Event.{Event}
-use Rattle.rg_stmt.specs.declared.event.Event.TheVariants.{Layout, LayoutNoMemory}
+use Rattle.rg_stmt.specs.declared.event.Event.TheVariants.{Layout, LayoutDown, LayoutNoMemory, Said as EventSaid}
 use Rattle.rg_stmt.specs.declared.line.Line.{Line}
 use Rattle.rg_stmt.specs.declared.line.Line.TheVariants.{Said, Show}
 use Rattle.rg_stmt.specs.declared.stmt.Reply.{Reply}
@@ -14,12 +14,21 @@ use Rattle.rg_stmt.specs.declared.stmt.Reply.TheVariants.{Done, Found, Listed, K
 use Rattle.rg_stmt.specs.declared.stmt.Stmt.{Stmt}
 use Rattle.rg_stmt.specs.Entries.{said_entry}
 use Rattle.rg_image.specs.Rules.{limit_of}
-use Rattle.rg_desk.specs.Answers.{IfFull, IfLogFull}
+use Rattle.rg_base.specs.declared.set.Set.TheVariants.{Log}
+use Rattle.rg_desk.specs.Answers.{IfFull, IfLogFull, is_device}
 use Rattle.rg_desk.specs.Chronicle.{allowed_after, allowed_by, logged_after, logged_by, system_entry}
-use Rattle.rg_desk.specs.Desk.{DeskState, IsLayout, MadeLayout, MadeSaid, Stays, first_entry}
+use Rattle.rg_desk.specs.Desk.{DeskState, IsLayout, MadeLayout, MadeSaid, Stays, first_entry, no_rows}
+use Rattle.rg_desk.specs.Volume.{CallsLog, VolumeSeen}
+use Rattle.rg_model.specs.Legal.{Legal}
+use Rattle.rg_outside.specs.Faults.{Rose}
+use Rattle.rg_outside.specs.Made.{WritesIn}
+use Rattle.rg_outside.proofs.Frame.{calls_join, no_calls}
 use Rattle.rg_run.specs.Full.{IsFullFrom, IsFullOnlyFrom}
 use Rattle.rg_run.specs.LogFull.{IsLogFullFrom, IsLogFullOnlyFrom}
-use Rattle.rg_run.specs.Played.{EntryOf, Goes, TraceOf}
+use Rattle.rg_run.specs.Outside.{IsDeviceIf, IsDeviceOnlyIf, IsEnd}
+use Rattle.rg_run.specs.Played.{Ends, EntryOf, Goes, IsLate, IsOpened, IsRun, TraceOf}
+use Rattle.rg_run.specs.declared.played.RunEnd.{RunEnd}
+use Rattle.rg_run.specs.declared.played.RunEnd.TheVariants.{Whole, Down as Ended, Damaged, DeviceAtOpening, NoMemory as Wanting}
 
 entries_push : (lines : List Line) (entries : List Entry) (line : Line) (entry : Entry) → AllZip EntryOf lines entries → EntryOf line entry → AllZip EntryOf (lines ++ line ∷ []) (entries ++ entry ∷ [])
 entries_push [] [] line entry all of = (of, tt)
@@ -74,24 +83,81 @@ log_said session stmt NoMemory logged pages is = tt
 log_layout : (event : Event) (limit logged : ℕ) → IsLayout event → IsLogFullFrom limit logged event
 log_layout (Layout copy side) limit logged is = tt
 log_layout LayoutNoMemory limit logged is = tt
+log_layout LayoutDown limit logged is = tt
 log_layout event limit logged is = absurd is
 
 full_layout : (event : Event) (least allowed : ℕ) → IsLayout event → IsFullFrom least allowed event
 full_layout (Layout copy side) least allowed is = tt
 full_layout LayoutNoMemory least allowed is = tt
+full_layout LayoutDown least allowed is = tt
 full_layout event least allowed is = absurd is
 
-module _ {V O : Type 0} (first old new : DeskState V O) (lines : List Line) (goes : Goes first lines old) where
-  stays_on : Stays old new → Stays first new
+device_layout : (P : Type 0) (event : Event) → IsLayout event → IsDeviceIf P event
+device_layout P (Layout copy side) is = tt
+device_layout P LayoutNoMemory is = tt
+device_layout P LayoutDown is = tt
+device_layout P event is = absurd is
+
+device_said : (P : Type 0) (session : Session) (stmt : Stmt) (reply : Reply) → (reply ≡ Device → P) → IsDeviceIf P (said_entry session stmt reply 0).event
+device_said P session stmt Device is = is refl
+device_said P session stmt reply is = tt
+
+-- what holds where DEVICE is answered holds by another reason
+one_more : (P Q : Type 0) (event : Event) → (P → Q) → IsDeviceIf P event → IsDeviceIf Q event
+one_more P Q (EventSaid stmt Device) f is = f is
+one_more P Q (EventSaid stmt reply) f is = tt
+one_more P Q event f is = tt
+
+pub device_more : (P Q : Type 0) (entries : List Entry) → (P → Q) → IsDeviceOnlyIf P entries → IsDeviceOnlyIf Q entries
+device_more P Q [] f all = tt
+device_more P Q (entry ∷ entries) f all = (one_more P Q entry.event f all.0, device_more P Q entries f all.1)
+
+device_push : (P : Type 0) (entries : List Entry) (entry : Entry) → IsDeviceOnlyIf P entries → IsDeviceIf P entry.event → IsDeviceOnlyIf P (entries ++ entry ∷ [])
+device_push P [] entry all one = (one, tt)
+device_push P (e ∷ entries) entry all one = (all.0, device_push P entries entry all.1 one)
+
+device_is : (reply : Reply) → is_device reply ≡ true → reply ≡ Device
+device_is Device e = refl
+device_is reply e = absurd (cc (e))
+
+-- ---- faults and calls
+
+-- from fewer faults before, to more now
+pub rose_wider : (a b c d : ℕ) → c ≤ a → b ≤ d → Rose a b → Rose c d
+rose_wider a b c d low high rose = λ few. let lt = rose (omega (arith, few, high)) in omega (arith, lt, low, high)
+
+pub rose_later : (a b c : ℕ) → b ≤ c → Rose a b → Rose a c
+rose_later a b c le rose = λ low. let lt = rose (omega (arith, low, le)) in omega (arith, lt, le)
+
+pub rose_earlier : (a b c : ℕ) → a ≤ b → Rose b c → Rose a c
+rose_earlier a b c le rose = λ low. let lt = rose low in omega (arith, lt, le)
+
+pub log_calls_join : (a b c : VolumeSeen) → CallsLog a b → CallsLog b c → CallsLog a c
+log_calls_join a b c x y = record {
+  only = calls_join (WritesIn Log) a.told b.told c.told x.only y.only;
+  later = omega (arith, x.later, y.later);
+  capacities = y.capacities ∙ x.capacities;
+}
+
+module _ {V O : Type 0} (look : V → VolumeSeen) (first old new : DeskState V O) (lines : List Line) (goes : Goes look first lines old) where
+  stays_on : Stays look old new → Stays look first new
   stays_on stays = record {
     capacity = stays.capacity ∙ goes.stays.capacity;
     log_pages = stays.log_pages ∙ goes.stays.log_pages;
-    volume = stays.volume ∙ goes.stays.volume;
+    calls = log_calls_join (look first.volume) (look old.volume) (look new.volume) goes.stays.calls stays.calls;
     operator = stays.operator ∙ goes.stays.operator;
   }
 
-  on : (line : Line) (entry : Entry) → new.trace ≡ old.trace ++ entry ∷ [] → EntryOf line entry → IsFullFrom (3221 * old.ground.capacity) (allowed_by 0 old.trace) entry.event → IsLogFullFrom (limit_of old.ground.log.pages) (logged_by 0 old.trace) entry.event → Stays old new → Goes first (lines ++ line ∷ []) new
-  on line entry made of full log stays = record {
+  -- faults that rose before have risen, and so have those that rose now
+  risen : Stays look old new → Rose (look first.volume).faults (look old.volume).faults → Rose (look first.volume).faults (look new.volume).faults
+  risen stays rose = rose_later (look first.volume).faults (look old.volume).faults (look new.volume).faults stays.calls.later rose
+
+  rises : Rose (look old.volume).faults (look new.volume).faults → Rose (look first.volume).faults (look new.volume).faults
+  rises rose = rose_earlier (look first.volume).faults (look old.volume).faults (look new.volume).faults goes.stays.calls.later rose
+
+  on : (line : Line) (entry : Entry) → new.trace ≡ old.trace ++ entry ∷ [] → EntryOf line entry → IsFullFrom (3221 * old.ground.capacity) (allowed_by 0 old.trace) entry.event → IsLogFullFrom (limit_of old.ground.log.pages) (logged_by 0 old.trace) entry.event
+      → IsDeviceIf (Rose (look first.volume).faults (look new.volume).faults) entry.event → (new.down ≡ true → Rose (look first.volume).faults (look new.volume).faults) → Stays look old new → Goes look first (lines ++ line ∷ []) new
+  on line entry made of full log device down stays = record {
     entries = subst (TraceOf (lines ++ line ∷ [])) (sym made) (trace_push lines old.trace line entry goes.entries of);
     full =
         subst (λ (n : ℕ). IsFullOnlyFrom (3221 * n) 0 new.trace) (sym stays.capacity)
@@ -99,25 +165,74 @@ module _ {V O : Type 0} (first old new : DeskState V O) (lines : List Line) (goe
     log_full =
         subst (λ (n : ℕ). IsLogFullOnlyFrom (limit_of n) 0 new.trace) (sym stays.log_pages)
         (subst (IsLogFullOnlyFrom (limit_of old.ground.log.pages) 0) (sym made) (log_push (limit_of old.ground.log.pages) 0 old.trace entry goes.log_full log));
+    device =
+        subst (IsDeviceOnlyIf (Rose (look first.volume).faults (look new.volume).faults)) (sym made)
+        (device_push (Rose (look first.volume).faults (look new.volume).faults) old.trace entry
+        (device_more (Rose (look first.volume).faults (look old.volume).faults) (Rose (look first.volume).faults (look new.volume).faults) old.trace (risen stays) goes.device) device);
+    down = down;
     stays = stays_on stays;
   }
 
-  pub goes_said : (session : Session) (stmt : Stmt) → MadeSaid old session stmt new → Goes first (lines ++ Said session stmt ∷ []) new
+  pub goes_said : (session : Session) (stmt : Stmt) → MadeSaid look old session stmt new → Goes look first (lines ++ Said session stmt ∷ []) new
   goes_said session stmt said =
-      on (Said session stmt) (said_entry session stmt said.reply 0) said.made (said.reply, refl, said.is) (full_said session stmt said.reply (allowed_by 0 old.trace) old.ground.capacity said.full) (log_said session stmt said.reply (logged_by 0 old.trace) old.ground.log.pages said.log_full) said.stays
+      on (Said session stmt) (said_entry session stmt said.reply said.calls) said.made (said.reply, refl, said.is) (full_said session stmt said.reply (allowed_by 0 old.trace) old.ground.capacity said.full) (log_said session stmt said.reply (logged_by 0 old.trace) old.ground.log.pages said.log_full)
+      (device_said (Rose (look first.volume).faults (look new.volume).faults) session stmt said.reply (λ is. rises (said.device is)))
+      (λ down. by_old old.down refl (sym said.down ∙ down)) said.stays
+    where
+      by_old : (b : Bool) → old.down ≡ b → (b || is_device said.reply) ≡ true → Rose (look first.volume).faults (look new.volume).faults
+      by_old true e down = risen said.stays (goes.down e)
+      by_old false e down = rises (said.device (device_is said.reply down))
 
-  pub goes_shown : MadeLayout old new → Goes first (lines ++ Show ∷ []) new
+  pub goes_shown : MadeLayout look old new → Goes look first (lines ++ Show ∷ []) new
   goes_shown shown =
-      on Show (system_entry shown.event 0) shown.made (shown.event, refl, shown.is) (full_layout shown.event (3221 * old.ground.capacity) (allowed_by 0 old.trace) shown.is) (log_layout shown.event (limit_of old.ground.log.pages) (logged_by 0 old.trace) shown.is) shown.stays
+      on Show (system_entry shown.event shown.calls) shown.made (shown.event, refl, shown.is) (full_layout shown.event (3221 * old.ground.capacity) (allowed_by 0 old.trace) shown.is) (log_layout shown.event (limit_of old.ground.log.pages) (logged_by 0 old.trace) shown.is)
+      (device_layout (Rose (look first.volume).faults (look new.volume).faults) shown.event shown.is) (λ down. risen shown.stays (goes.down (sym shown.down ∙ down))) shown.stays
 
 -- the run begins with the entry of the opening
-pub goes_opened : {V O : Type 0} (desk : DeskState V O) → desk.trace ≡ first_entry ∷ [] → Goes desk [] desk
-goes_opened desk opened = record {
-  entries = subst (TraceOf []) (sym opened) (refl, tt);
-  full = subst (IsFullOnlyFrom (3221 * desk.ground.capacity) 0) (sym opened) (tt, tt);
-  log_full = subst (IsLogFullOnlyFrom (limit_of desk.ground.log.pages) 0) (sym opened) (tt, tt);
-  stays = record { capacity = refl; log_pages = refl; volume = refl; operator = refl };
+pub goes_opened : {V O : Type 0} (look : V → VolumeSeen) (desk : DeskState V O) → IsOpened desk → Goes look desk [] desk
+goes_opened look desk opened = record {
+  entries = subst (TraceOf []) (sym opened.trace) (refl, tt);
+  full = subst (IsFullOnlyFrom (3221 * desk.ground.capacity) 0) (sym opened.trace) (tt, tt);
+  log_full = subst (IsLogFullOnlyFrom (limit_of desk.ground.log.pages) 0) (sym opened.trace) (tt, tt);
+  device = subst (IsDeviceOnlyIf (Rose (look desk.volume).faults (look desk.volume).faults)) (sym opened.trace) (tt, tt);
+  down = λ down. absurd (cc (down, opened.up));
+  stays = record {
+    capacity = refl;
+    log_pages = refl;
+    calls = record { only = no_calls (WritesIn Log) (look desk.volume).told; later = omega arith; capacities = refl };
+    operator = refl;
+  };
 }
+
+-- what the run of some first lines leaves
+pub run_left : {V O : Type 0} (look : V → VolumeSeen) (first desk : DeskState V O) (front lines : List Line) (seen : VolumeSeen) (operator : O) (trace : List Entry) (end : RunEnd)
+    → Goes look first front desk → seen ≡ (look desk.volume) → operator ≡ desk.operator → trace ≡ desk.trace → Legal no_rows desk.trace → Ends lines desk.trace end → IsLate end → (end ≡ Ended → desk.down ≡ true)
+    → IsRun look first lines seen operator trace end
+run_left look first desk front lines seen operator trace end goes seen_is operator_is trace_is legal ends late down = record {
+  late = late;
+  ends = subst (λ (es : List Entry). Ends lines es end) (sym trace_is) ends;
+  legal = subst (Legal no_rows) (sym trace_is) legal;
+  full =
+      subst (λ (n : ℕ). IsFullOnlyFrom (3221 * n) 0 trace) goes.stays.capacity
+      (subst (IsFullOnlyFrom (3221 * desk.ground.capacity) 0) (sym trace_is) goes.full);
+  log_full =
+      subst (λ (n : ℕ). IsLogFullOnlyFrom (limit_of n) 0 trace) goes.stays.log_pages
+      (subst (IsLogFullOnlyFrom (limit_of desk.ground.log.pages) 0) (sym trace_is) goes.log_full);
+  device =
+      subst (λ (v : VolumeSeen). IsDeviceOnlyIf (Rose (look first.volume).faults v.faults) trace) (sym seen_is)
+      (subst (IsDeviceOnlyIf (Rose (look first.volume).faults (look desk.volume).faults)) (sym trace_is) goes.device);
+  down = λ is. subst (λ (v : VolumeSeen). Rose (look first.volume).faults v.faults) (sym seen_is) (goes.down (down is));
+  calls = subst (CallsLog (look first.volume)) (sym seen_is) goes.stays.calls;
+  asked = operator_is ∙ goes.stays.operator;
+}
+
+-- why it ended so
+pub end_so : (old new : VolumeSeen) (end : RunEnd) → IsLate end → (end ≡ Ended → Rose old.faults new.faults) → IsEnd old new end
+end_so old new (Whole rows) late down = tt
+end_so old new Ended late down = down refl
+end_so old new (Damaged set page) late down = absurd late
+end_so old new DeviceAtOpening late down = absurd late
+end_so old new Wanting late down = tt
 
 -- what a result that is no refusal says
 pub ok_so : {P Q : Type 0} (result : Result (Unit {0}) WantsMemory) → (P → Q) → OnOk result P → OnOk result Q

@@ -1,3 +1,4 @@
 pub mod Full
 pub mod LogFull
+pub mod Outside
 pub mod Played

@@ -1,5 +1,5 @@
 -- What the run of a deck leaves.
-use Rattle.std.specs.Prelude.{◌≡◌, ◌⊎◌, ◌*◌, true, List, [], ◌∷◌, ◌++◌}
+use Rattle.std.specs.Prelude.{◌≡◌, ◌⊎◌, ◌*◌, ℕ, true, false, List, [], ◌∷◌, ◌++◌}
 use Rattle.std.specs.List.{AllZip}
 use Rattle.rg_base.specs.Session.{IsSession}
 use Rattle.rg_stmt.specs.declared.event.Entry.{Entry}
@@ -8,14 +8,17 @@ use Rattle.rg_stmt.specs.declared.line.Line.{Line}
 use Rattle.rg_stmt.specs.declared.line.Line.TheVariants.{Said, Reorg, Step, Flush, Show, Death}
 use Rattle.rg_stmt.specs.declared.stmt.Reply.{Reply}
 use Rattle.rg_stmt.specs.Entries.{said_entry}
-use Rattle.rg_desk.specs.Answers.{is_answer}
 use Rattle.rg_desk.specs.Chronicle.{system_entry}
-use Rattle.rg_desk.specs.Desk.{DeskState, EndsWithRows, IsLayout, Stays, first_entry}
+use Rattle.rg_desk.specs.Desk.{DeskState, EndsDown, EndsWithRows, IsLayout, Stays, first_entry, is_reply, no_rows}
+use Rattle.rg_desk.specs.Volume.{CallsLog, VolumeSeen}
+use Rattle.rg_outside.specs.Faults.{Rose}
 use Rattle.rg_image.specs.Rules.{limit_of}
+use Rattle.rg_model.specs.Legal.{Legal}
 use Rattle.rg_run.specs.Full.{IsFullOnlyFrom}
 use Rattle.rg_run.specs.LogFull.{IsLogFullOnlyFrom}
 use Rattle.rg_run.specs.declared.played.RunEnd.{RunEnd}
-use Rattle.rg_run.specs.declared.played.RunEnd.TheVariants.{Whole, NoMemory}
+use Rattle.rg_run.specs.Outside.{IsDeviceOnlyIf}
+use Rattle.rg_run.specs.declared.played.RunEnd.TheVariants.{Whole, Down, Damaged, DeviceAtOpening, NoMemory}
 
 -- statements and layouts are played, and no other line is yet
 abbrev pub IsPlayed : Line → Type 0
@@ -27,11 +30,13 @@ IsPlayed Show = Unit {0}
 IsPlayed Death = ⊥
 
 -- The entry of a line has its session and its statement, and a reply; or it is a layout, or says
--- that there was no memory for one. Neither the operator nor the volume was called.
+-- that there is none. The operator was not asked.
 abbrev pub EntryOf : Line → Entry → Type 0
 EntryOf (Said session stmt) entry =
-    (reply : Reply) × (entry ≡ said_entry session stmt reply 0) × (is_answer stmt reply ≡ true)
-EntryOf Show entry = (event : Event) × (entry ≡ system_entry event 0) × IsLayout event
+    (reply : Reply) × (entry ≡ said_entry session stmt reply entry.calls)
+    × (is_reply stmt reply ≡ true)
+EntryOf Show entry =
+    (event : Event) × (entry ≡ system_entry event entry.calls) × IsLayout event
 EntryOf (Reorg options) entry = ⊥
 EntryOf Step entry = ⊥
 EntryOf Flush entry = ⊥
@@ -40,23 +45,59 @@ EntryOf Death entry = ⊥
 -- entry 0, and then one entry for each line
 abbrev pub TraceOf : List Line → List Entry → Type 0
 TraceOf lines [] = ⊥
-TraceOf lines (entry ∷ entries) = (entry ≡ first_entry) × AllZip EntryOf lines entries
+TraceOf lines (entry ∷ entries) =
+    (entry ≡ first_entry entry.calls) × AllZip EntryOf lines entries
 
 -- the trace of some first lines
 abbrev pub TraceOfFront : List Line → List Entry → Type 0
 TraceOfFront lines trace =
     (front : List Line) × (rest : List Line) × (lines ≡ front ++ rest) × TraceOf front trace
 
--- a whole run has an entry for each line; one that ran out of memory has those of some first lines,
--- or none at all
+-- A whole run has an entry for each line, and ends up or down. One that was refused at its opening has
+-- none. One that ran out of memory has those of some first lines, or none at all.
 abbrev pub Ends : List Line → List Entry → RunEnd → Type 0
 Ends lines trace (Whole rows) = TraceOf lines trace × EndsWithRows trace rows
+Ends lines trace Down = TraceOf lines trace × EndsDown trace
+Ends lines trace (Damaged set page) = trace ≡ []
+Ends lines trace DeviceAtOpening = trace ≡ []
 Ends lines trace NoMemory = (trace ≡ []) ⊎ TraceOfFront lines trace
 
 -- the run so far, from a desk that was opened
-pub record Goes {V O : Type 0} (first : DeskState V O) (lines : List Line) (desk : DeskState V O)
+pub record Goes {V O : Type 0}
+    (look : V → VolumeSeen) (first : DeskState V O) (lines : List Line) (desk : DeskState V O)
     : Type 0 where
   pub entries : TraceOf lines desk.trace
   pub full : IsFullOnlyFrom (3221 * desk.ground.capacity) 0 desk.trace
   pub log_full : IsLogFullOnlyFrom (limit_of desk.ground.log.pages) 0 desk.trace
-  pub stays : Stays first desk
+  pub device :
+      IsDeviceOnlyIf (Rose (look first.volume).faults (look desk.volume).faults) desk.trace
+  pub down : desk.down ≡ true → Rose (look first.volume).faults (look desk.volume).faults
+  pub stays : Stays look first desk
+
+-- a desk whose trace is that of its opening, and which is up
+pub record IsOpened {V O : Type 0} (desk : DeskState V O) : Type 0 where
+  pub calls : ℕ
+  pub trace : desk.trace ≡ first_entry calls ∷ []
+  pub up : desk.down ≡ false
+
+-- how a run may end that began with a desk that was opened
+abbrev pub IsLate : RunEnd → Type 0
+IsLate (Whole rows) = Unit {0}
+IsLate Down = Unit {0}
+IsLate (Damaged set page) = ⊥
+IsLate DeviceAtOpening = ⊥
+IsLate NoMemory = Unit {0}
+
+-- what it leaves
+pub record IsRun {V O : Type 0}
+    (look : V → VolumeSeen) (first : DeskState V O) (lines : List Line) (seen : VolumeSeen)
+    (operator : O) (trace : List Entry) (end : RunEnd) : Type 0 where
+  pub ends : Ends lines trace end
+  pub late : IsLate end
+  pub legal : Legal no_rows trace
+  pub full : IsFullOnlyFrom (3221 * first.ground.capacity) 0 trace
+  pub log_full : IsLogFullOnlyFrom (limit_of first.ground.log.pages) 0 trace
+  pub device : IsDeviceOnlyIf (Rose (look first.volume).faults seen.faults) trace
+  pub down : end ≡ Down → Rose (look first.volume).faults seen.faults
+  pub calls : CallsLog (look first.volume) seen
+  pub asked : operator ≡ first.operator

@@ -1,3 +1,4 @@
+use rg_base::set::Set;
 use rg_stmt::event::Entry;
 
 /// How a run ended.
@@ -6,7 +7,13 @@ pub enum RunEnd {
     /// Each line has its entry. `rows` is the number of committed rows: those of a unit that is
     /// still open are not among them.
     Whole { rows: u64 },
-    /// Out of memory for an entry; nothing of its line was done.
+    /// Each line has its entry, and the device has refused a COMMIT.
+    Down,
+    /// The opening was refused: this page breaks a rule of a sound volume.
+    Damaged { set: Set, page: u32 },
+    /// The opening was refused: a call of the volume failed.
+    DeviceAtOpening,
+    /// Out of memory in the opening, or for an entry; nothing of its line was done.
     NoMemory,
 }
 

@@ -1,29 +1,39 @@
 // The run of a deck.
 //
-// 1. Each line makes one entry, in the order of the lines.
-// 2. Where there is no memory for an entry, nothing of its line is done, and the run ends.
-ghost use Rattle.std.specs.Prelude.{◌≡◌, ◌*◌, List, [], ◌∷◌, ◌++◌, OnOk, OnErr};
+// 1. The volume is opened first. Where it is refused no line is played.
+// 2. Each line makes one entry, in the order of the lines.
+// 3. Where there is no memory for an entry, nothing of its line is done, and the run ends.
+// 4. The calls of the volume are counted from the opening on.
+ghost use Rattle.std.specs.Prelude.{◌≡◌, ◌≤◌, ◌*◌, List, [], ◌∷◌, ◌++◌, OnOk, OnErr, length};
 ghost use Rattle.std.specs.List.{AllByRecursion};
 ghost use Rattle.rg_stmt.specs.declared.line.Line.{Line};
 ghost use Rattle.rg_model.specs.Legal.{Legal};
-ghost use Rattle.rg_desk.specs.Desk.{DeskState, copy_capacity, first_entry, no_rows};
+ghost use Rattle.rg_base.specs.declared.set.Set.TheVariants.{Log as LogSet};
+ghost use Rattle.rg_desk.specs.Desk.{DeskState, copy_capacity, no_rows};
+ghost use Rattle.rg_desk.specs.Volume.{seen_volume};
+ghost use Rattle.rg_outside.specs.Faults.{Rose};
+ghost use Rattle.rg_outside.specs.Made.{WritesIn};
+ghost use Rattle.rg_outside.specs.Moments.{IfTold};
 ghost use Rattle.rg_image.specs.Rules.{limit_of};
 ghost use Rattle.rg_log.specs.Kept.{log_pages};
 ghost use Rattle.rg_run.specs.Full.{IsFullOnlyFrom};
 ghost use Rattle.rg_run.specs.LogFull.{IsLogFullOnlyFrom};
-ghost use Rattle.rg_run.specs.Played.{IsPlayed, Ends, Goes};
+ghost use Rattle.rg_run.specs.Outside.{IsDeviceOnlyIf, IsEnd, MakesOnly, end_of};
+ghost use Rattle.rg_run.specs.Played.{IsPlayed, Ends, Goes, IsOpened, IsRun};
 
 use crate::played::{Played, RunEnd};
 use rg_base::no_memory::NoMemory;
-use rg_desk::desk::{Desk, OpenFault};
+use rg_desk::desk::{Desk, OpenCause, OpenFault};
+use rg_outside::counted::{Counted, Counts};
 use rg_outside::operator::Operator;
 use rg_outside::volume::Volume;
+use rg_restart::open::open_desk;
 use rg_stmt::line::Line;
 use std::alloc::Global;
 
-/// Plays the lines in order over a table without rows. The table lies in memory, in as many pages
-/// as the first set of the volume has, and no more than 65,536; its log has as many bytes as the log
-/// set of the volume has room for. Neither the volume nor the operator is called.
+/// Opens the volume, whose log must not have a record yet, and plays the lines in order over a table
+/// without rows. The table lies in memory, in as many pages as the first set of the volume has, and
+/// no more than 65,536. The records of committed units are on the volume. The operator is not asked.
 pub fn run<V: Volume, O: Operator>(
     alloc: Global,
     volume: V,
@@ -37,25 +47,70 @@ pub fn run<V: Volume, O: Operator>(
         result.trace.items }
     ensures log_full { IsLogFullOnlyFrom (limit_of (log_pages (V.capacities volume))) 0
         result.trace.items }
-    ensures volume { result.volume ≡ volume }
+    ensures device { IsDeviceOnlyIf (Rose (V.faults volume) (V.faults result.volume))
+        result.trace.items }
+    ensures end { IsEnd (seen_volume V.told V.faults V.capacities volume)
+        (seen_volume V.told V.faults V.capacities result.volume) result.end }
+    // No page of a copy is written.
+    ensures only { MakesOnly (WritesIn LogSet) (V.told volume) (V.told result.volume) }
+    ensures later { V.faults volume ≤ V.faults result.volume }
     ensures operator { result.operator ≡ operator }
 {
-    match Desk::new(alloc, volume, operator) {
-        Ok(desk) => play(desk, lines),
+    match open_desk(alloc, Counted::new(volume), operator) {
+        Ok(desk) => play(desk, lines).uncounted(),
         Err(fault) => {
-            let OpenFault { volume, operator } = fault;
-            Played {
+            let OpenFault {
                 volume,
                 operator,
+                cause,
+            } = fault;
+            Played {
+                volume: volume.into_volume(),
+                operator,
                 trace: Vec::new(alloc),
-                end: RunEnd::NoMemory,
+                end: end_of(cause),
             }
         }
     }
 }
 
+// The end of a run whose opening was refused.
+fn end_of(cause: OpenCause) -> RunEnd
+    ensures { result ≡ end_of cause }
+{
+    match cause {
+        OpenCause::Damaged { set, page } => RunEnd::Damaged { set, page },
+        OpenCause::Device => RunEnd::DeviceAtOpening,
+        OpenCause::NoMemory => RunEnd::NoMemory,
+    }
+}
+
+impl<V: Volume, O> Played<Counted<V>, O> {
+    // The same, with the volume that was counted.
+    fn uncounted(self) -> Played<V, O>
+        ensures trace { result.trace ≡ self.trace }
+        ensures end { result.end ≡ self.end }
+        ensures volume { result.volume ≡ self.volume.volume }
+        ensures counted { IfTold (V.told result.volume) (λ t. self.volume.calls ≤ length t.calls) }
+        ensures operator { result.operator ≡ self.operator }
+    {
+        let Played {
+            volume,
+            operator,
+            trace,
+            end,
+        } = self;
+        Played {
+            volume: volume.into_volume(),
+            operator,
+            trace,
+            end,
+        }
+    }
+}
+
 // What a run leaves.
-fn close<V: Volume, O: Operator>(desk: Desk<V, O>, end: RunEnd) -> Played<V, O>
+fn close<V: Counts, O: Operator>(desk: Desk<V, O>, end: RunEnd) -> Played<V, O>
     ensures trace { result.trace.items ≡ desk.trace }
     ensures end { result.end ≡ end }
     ensures legal { Legal no_rows desk.trace }
@@ -72,15 +127,12 @@ fn close<V: Volume, O: Operator>(desk: Desk<V, O>, end: RunEnd) -> Played<V, O>
 }
 
 // Plays the lines over a table that was opened.
-fn play<V: Volume, O: Operator>(mut desk: Desk<V, O>, lines: Vec<Line>) -> Played<V, O>
+fn play<V: Counts, O: Operator>(mut desk: Desk<V, O>, lines: Vec<Line>) -> Played<V, O>
     requires lines { AllByRecursion IsPlayed lines.items }
-    requires opened { desk.trace ≡ first_entry ∷ [] }
-    ensures ends { Ends lines.items result.trace.items result.end }
-    ensures legal { Legal no_rows result.trace.items }
-    ensures full { IsFullOnlyFrom (3221 * desk.ground.capacity) 0 result.trace.items }
-    ensures log_full { IsLogFullOnlyFrom (limit_of desk.ground.log.pages) 0 result.trace.items }
-    ensures volume { result.volume ≡ desk.volume }
-    ensures operator { result.operator ≡ desk.operator }
+    requires opened { IsOpened desk }
+    ensures { IsRun (seen_volume V.told V.faults V.capacities) desk lines.items
+        (seen_volume V.told V.faults V.capacities result.volume)
+        result.operator result.trace.items result.end }
 {
     for line in lines {
         match play_line(&mut desk, line) {
@@ -88,16 +140,20 @@ fn play<V: Volume, O: Operator>(mut desk: Desk<V, O>, lines: Vec<Line>) -> Playe
             Err(_) => return close(desk, RunEnd::NoMemory),
         }
     }
+    if desk.down() {
+        return close(desk, RunEnd::Down);
+    }
     let rows = desk.committed_rows();
     close(desk, RunEnd::Whole { rows })
 }
 
 // Makes the entry of a line, which is a statement or a layout. If there is no memory for the entry,
 // nothing is done.
-fn play_line<V: Volume, O: Operator>(desk: &mut Desk<V, O>, line: Line) -> Result<(), NoMemory>
+fn play_line<V: Counts, O: Operator>(desk: &mut Desk<V, O>, line: Line) -> Result<(), NoMemory>
     requires line { IsPlayed line }
     ensures goes { OnOk result ((first : DeskState V O) (lines : List Line)
-        → Goes first lines desk.old → Goes first (lines ++ line ∷ []) desk.new) }
+        → Goes (seen_volume V.told V.faults V.capacities) first lines desk.old
+        → Goes (seen_volume V.told V.faults V.capacities) first (lines ++ line ∷ []) desk.new) }
     ensures err { OnErr result (desk.new ≡ desk.old) }
 {
     match line {

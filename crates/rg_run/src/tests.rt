@@ -8,9 +8,11 @@ use crate::run::run;
 use rg_base::row::Row;
 use rg_base::row_bytes::read_row;
 use rg_base::session::Session;
+use rg_base::set::Set;
 use rg_mem::script::ScriptOperator;
-use rg_mem::volume::MemVolume;
+use rg_mem::volume::{Failing, MemVolume};
 use rg_model::plain::PlainState;
+use rg_outside::volume::Volume;
 use rg_stmt::event::{Actor, Entry, Event};
 use rg_stmt::layout::Side;
 use rg_stmt::line::Line;
@@ -51,6 +53,13 @@ const FULL: i32 = -904;
 const LOG_FULL: i32 = 2;
 
 const SHOWN: i32 = 1;
+
+const DEVICE: i32 = 3;
+
+const DOWN: i32 = 4;
+
+// Room for more calls than any of these decks makes.
+const CALLS: u32 = 4096;
 
 // A log that none of these decks fills.
 const WIDE_LOG: u32 = 2000;
@@ -126,6 +135,8 @@ fn number_of(reply: &Reply) -> i32 {
         Reply::Held(_) => HELD,
         Reply::Full { .. } => FULL,
         Reply::LogFull { .. } => LOG_FULL,
+        Reply::Device => DEVICE,
+        Reply::Down => DOWN,
         Reply::NoMemory => 5,
         _ => -1,
     }
@@ -183,6 +194,7 @@ fn seen_of(alloc: Global, entry: &Entry) -> Result<(u8, i32, Vec<u64>), AllocErr
     match &entry.event {
         Event::Said { reply, .. } => Ok((session, number_of(reply), told_of(alloc, reply)?)),
         Event::Layout { side, .. } => Ok((session, SHOWN, shown_of(alloc, side)?)),
+        Event::LayoutDown => Ok((session, DOWN, Vec::new(alloc))),
         _ => Ok((session, -1, Vec::new(alloc))),
     }
 }
@@ -207,7 +219,7 @@ fn played(
 ) -> Result<Played<MemVolume, ScriptOperator>, Fail>
     requires { AllByRecursion IsPlayed lines.items }
 {
-    let volume = MemVolume::new(alloc, log, pages, pages, 0, 0, &[], None)?;
+    let volume = MemVolume::new(alloc, log, pages, pages, CALLS, CALLS, &[], None)?;
     let operator = ScriptOperator::new(alloc, &[])?;
     Ok(run(alloc, volume, operator, lines))
 }
@@ -242,7 +254,7 @@ fn expect_logged_steps(
         assert_eq!(rt; session, number, "at {at}");
         assert_eq!(rt; came, reply, "at {at}");
         assert_eq!(rt; numbers.as_slice(), told, "at {at}");
-        assert_eq!(rt; (entry.answer, entry.calls), (None, 0), "at {at}");
+        assert_eq!(rt; entry.answer, None, "at {at}");
     }
     Ok(())
 }
@@ -686,5 +698,93 @@ fn runs_empty_deck(rt: HostRuntime) -> Result<(), Fail> {
         }
     );
     assert!(rt; is_opened);
+    Ok(())
+}
+
+// A unit that commits is put on the volume by a write and a sync of one page; one without writes, and
+// every other statement, calls nothing.
+#[test]
+fn counts_calls(rt: HostRuntime) -> Result<(), Fail> {
+    let steps: [(u8, Ask, u64); 9] = [
+        (1, insert(1, 10), 2),
+        (1, Ask::Commit, 4),
+        (1, Ask::Select(1), 4),
+        (1, Ask::Commit, 4),
+        (2, insert(2, 20), 4),
+        (2, Ask::Rollback, 4),
+        (2, Ask::Show, 4),
+        (2, Ask::Delete(1), 4),
+        (2, Ask::Commit, 6),
+    ];
+    let alloc = rt.alloc();
+    let mut lines = Vec::new(alloc);
+    for (number, ask, _) in steps {
+        lines.push(line_of(alloc, number, ask)?)?;
+    }
+    let played = played(alloc, 9, 1, lines)?;
+    assert_eq!(rt; played.end, RunEnd::Whole { rows: 0 });
+    assert_eq!(rt; played.trace[0].calls, 2);
+    for (at, (_, _, calls)) in steps.iter().copied().enumerate() {
+        assert_eq!(rt; played.trace[at + 1].calls, calls, "at {at}");
+    }
+    Ok(())
+}
+
+// The device refuses a COMMIT by its write or by its sync. From then on nothing is done.
+#[test]
+fn goes_down(rt: HostRuntime) -> Result<(), Fail> {
+    let steps: [Step; 6] = [
+        (1, insert(1, 10), DONE, NOTHING),
+        (2, Ask::Commit, DONE, NOTHING),
+        (1, Ask::Commit, DEVICE, NOTHING),
+        (1, Ask::Select(1), DOWN, NOTHING),
+        (2, insert(2, 20), DOWN, NOTHING),
+        (0, Ask::Show, DOWN, NOTHING),
+    ];
+    let alloc = rt.alloc();
+    for call in [3, 4] {
+        let failing = [Failing {
+            call,
+            written: false,
+        }];
+        let volume = MemVolume::new(alloc, 9, 1, 1, CALLS, CALLS, &failing, None)?;
+        let operator = ScriptOperator::new(alloc, &[])?;
+        let played = run(alloc, volume, operator, lines_of(alloc, &steps)?);
+        assert_eq!(rt; played.end, RunEnd::Down);
+        for (at, (number, _, reply, _)) in steps.iter().copied().enumerate() {
+            let (session, came, _) = seen_of(alloc, &played.trace[at + 1])?;
+            assert_eq!(rt; (session, came), (number, reply), "at {at}");
+        }
+    }
+    Ok(())
+}
+
+// An opening that finds a log with records, or a page that is no log page, names the page; one whose
+// first call fails says so. No line is played.
+#[test]
+fn refuses_at_the_opening(rt: HostRuntime) -> Result<(), Fail> {
+    let alloc = rt.alloc();
+    let deck = [
+        (1, insert(1, 10), DONE, NOTHING),
+        (1, Ask::Commit, DONE, NOTHING),
+    ];
+    let first = played(alloc, 9, 1, lines_of(alloc, &deck)?)?;
+    let operator = ScriptOperator::new(alloc, &[])?;
+    let again = run(alloc, first.volume, operator, lines_of(alloc, &deck)?);
+    let damaged = RunEnd::Damaged {
+        set: Set::Log,
+        page: 1,
+    };
+    assert_eq!(rt; (again.end, again.trace.len()), (damaged, 0));
+    let mut volume = MemVolume::new(alloc, 9, 1, 1, CALLS, CALLS, &[], None)?;
+    volume.write(Set::Log, 1, &[255; 4096])?;
+    let torn = run(alloc, volume, again.operator, lines_of(alloc, &deck)?);
+    assert_eq!(rt; (torn.end, torn.trace.len()), (damaged, 0));
+    let volume = MemVolume::new(alloc, 9, 1, 1, CALLS, CALLS, &[], Some(0))?;
+    let failed = run(alloc, volume, torn.operator, lines_of(alloc, &deck)?);
+    assert_eq!(rt;
+        (failed.end, failed.trace.len()),
+        (RunEnd::DeviceAtOpening, 0)
+    );
     Ok(())
 }

@@ -1,36 +1,49 @@
 ghost use Rattle.std.specs.Prelude.{◌≤◌};
 ghost use Rattle.rg_base.specs.Session.{IsSession};
 
+use crate::desk::reply_to;
 use crate::engine::Engine;
 use rg_base::no_memory::NoMemory;
 use rg_base::session::Session;
+use rg_base::set::Set;
+use rg_log::log::Log;
+use rg_mem::volume::MemVolume;
+use rg_outside::volume::Volume;
 use rg_stmt::stmt::{Reply, Stmt};
 use std::alloc::Global;
 use std::marker::Model;
 
-/// An engine that shows a state of a trace.
+/// An engine that shows a state of a trace, over a volume.
 #[derive(Drop)]
 pub struct ShownEngine {
     engine: Engine,
+    down: bool,
+    volume: MemVolume,
 }
 
 impl Model for ShownEngine {
-    ghost use Rattle.std.specs.Prelude.{ℕ};
+    ghost use Rattle.std.specs.Prelude.{◌≡◌, ℕ, false};
+    ghost use Rattle.rg_log.specs.Kept.{log_pages};
     ghost use Rattle.rg_desk.specs.Shows.{IsShown};
 
     ghost Value = { ℕ };
 
     ghost view = { λ e. e.engine.top };
 
-    ghost invariant = { λ e. IsShown e.engine };
+    ghost invariant = { λ e. (e.down ≡ false → IsShown e.engine)
+        × (e.engine.log.pages ≡ log_pages (MemVolume.capacities e.volume)) };
 }
 
 impl ShownEngine {
     pub fn new(alloc: Global, capacity: u32, log_pages: u32) -> Result<ShownEngine, NoMemory>
         requires { log_pages ≤ 65536 }
     {
+        let volume = MemVolume::new(alloc, log_pages, 0, 0, 64, 64, &[], None)?;
+        let pages = volume.capacity(Set::Log).min(65_536);
         Ok(ShownEngine {
-            engine: Engine::new(alloc, capacity, log_pages)?,
+            engine: Engine::new(alloc, capacity, Log::empty(alloc, pages))?,
+            down: false,
+            volume,
         })
     }
 
@@ -38,6 +51,12 @@ impl ShownEngine {
     pub fn say(&mut self, session: Session, stmt: &Stmt) -> Reply
         requires { IsSession session }
     {
-        self.engine.say(session, stmt)
+        reply_to(
+            &mut self.engine,
+            &mut self.down,
+            &mut self.volume,
+            session,
+            stmt,
+        )
     }
 }

@@ -1,3 +1,7 @@
+use Rattle.std.proofs.Common.{List, sym, subst}
+use Rattle.rg_outside.specs.Faults.{Rose}
+use Rattle.rg_run.specs.Outside.{IsDeviceOnlyIf}
+use Rattle.rg_stmt.specs.declared.event.Entry.{Entry}
 use Rattle.reorgdb.proofs.Deals.{DealsWithBytes-lines, all_played}
 use Rattle.reorgdb.proofs.work.play_bytes.Goals as goal
 
@@ -7,3 +11,8 @@ run-requires g c = all_played c.in-Ok.lines.items c.in-Ok.ensures.lines.each
 pub returns-in-Ok-clause-deals : goal.returns-in-Ok-clause-deals
 returns-in-Ok-clause-deals g c =
     DealsWithBytes-lines c.args.full c.print_played.result.outcome c.args.bytes.now c.in-Ok.lines.items _ _ c.in-Ok.ensures.lines (c.print_played.ensures.deals c.in-Ok.lines.items c.run.ensures.ends)
+
+pub returns-in-Ok-clause-device : goal.returns-in-Ok-clause-device
+returns-in-Ok-clause-device g c =
+    subst (λ (v : g.row.V.Denot). IsDeviceOnlyIf (Rose (g.V.Volume.faults c.args.volume) (g.V.Volume.faults v)) c.print_played.result.trace.items) (sym c.print_played.ensures.volume)
+    (subst (λ (es : List Entry). IsDeviceOnlyIf (Rose (g.V.Volume.faults c.args.volume) (g.V.Volume.faults c.run.result.volume)) es) (sym c.print_played.ensures.trace) c.run.ensures.device)

@@ -1,48 +1,60 @@
-use Rattle.std.proofs.Common.{List, [], ◌∷◌, ◌++◌, ◌∙◌, ap, subst}
-use Rattle.rg_space.specs.Space.{capacity_in}
+use Rattle.std.proofs.Common.{◌≡◌, ◌||◌, true, false, List, [], ◌∷◌, ◌++◌, length, ◌∙◌, ap, subst}
+use Rattle.rg_outside.specs.Faults.{Rose}
 use Rattle.rg_stmt.specs.Entries.{said_entry}
 use Rattle.rg_stmt.specs.declared.event.Entry.{Entry}
-use Rattle.rg_desk.specs.Answers.{IfFull, IfLogFull}
+use Rattle.rg_stmt.specs.declared.stmt.Reply.TheVariants.{Device, Done}
+use Rattle.rg_desk.specs.Answers.{IfFull, IfLogFull, forces, is_device}
 use Rattle.rg_desk.specs.Chronicle.{allowed_by, logged_by}
-use Rattle.rg_desk.specs.Engine.{ground_of}
 use Rattle.rg_desk.specs.Room.{SaysLog, SaysRoom}
-use Rattle.rg_desk.proofs.DeskGoes.{desk_room, desk_said, log_full_so}
+use Rattle.rg_desk.specs.Volume.{CallsLog, seen_volume}
+use Rattle.rg_desk.proofs.DeskGoes.{desk_replied, desk_room, desk_shown, replied}
 use Rattle.rg_desk.proofs.desk.Desk.exec.Goals as goal
+
+pub reply_to-reply-requires-clause-shown : goal.reply_to-reply-requires-clause-shown
+reply_to-reply-requires-clause-shown g c = desk_shown c.self.inside.engine c.self.inside.chronicle c.self.inside.down _ c.self.invariant
 
 pub invariant_of-self-2 : goal.invariant_of-self-2
 invariant_of-self-2 g c =
-    let room = desk_room c.self.inside.engine c.self.inside.chronicle c.self.invariant c.make_room.new.self c.make_room.ensures.trace c.make_room.ensures.calls in
-    desk_said c.self.inside.engine c.make_room.new.self room c.args.session c.args.stmt c.say-reply.result c.say-reply.new.self c.push.new.self
-    (c.say-reply.ensures room.state (allowed_by 0 c.make_room.new.self.trace) room.shown)
+    let inside = c.self.inside in
+    let room = desk_room inside.engine inside.chronicle inside.down _ c.self.invariant c.make_room.new.self c.make_room.ensures.trace c.make_room.ensures.calls in
+    desk_replied inside.engine c.make_room.new.self inside.down _ room c.args.session c.args.stmt c.reply_to-reply.result c.calls_now-calls.result c.reply_to-reply.new.engine c.reply_to-reply.new.down _ c.push.new.self c.reply_to-reply.ensures
     (c.push.ensures.trace ∙ ap (λ (e : Entry). c.make_room.new.self.trace ++ e ∷ []) c.said.ensures)
     (c.push.ensures.calls ∙ ap (λ (e : Entry). e.calls) c.said.ensures)
-    c.push.ensures.recorded
+    c.calls_now-calls.ensures.counted c.push.ensures.recorded
 
 pub returns-clause-made : goal.returns-clause-made
 returns-clause-made g c =
     let inside = c.self.inside in
-    let room = desk_room inside.engine inside.chronicle c.self.invariant c.make_room.new.self c.make_room.ensures.trace c.make_room.ensures.calls in
-    let answered = c.say-reply.ensures room.state (allowed_by 0 c.make_room.new.self.trace) room.shown in
+    let reply = c.reply_to-reply.result in
+    let session = c.args.session in
+    let stmt = c.args.stmt in
+    let volume = c.reply_to-reply.new.volume in
+    let calls = c.calls_now-calls.result in
+    let said = replied inside.engine inside.chronicle inside.down _ c.self.invariant session stmt reply c.reply_to-reply.new.engine c.reply_to-reply.new.down _ c.reply_to-reply.ensures in
     let trace = c.make_room.ensures.trace ∙ ap (λ d. d.trace) c.self.view_is in
     record {
-      reply = c.say-reply.result;
+      reply = reply;
+      calls = calls;
       made =
           c.push.ensures.trace
           ∙ ap (λ (e : Entry). c.make_room.new.self.trace ++ e ∷ []) c.said.ensures
-          ∙ ap (λ (es : List Entry). es ++ said_entry c.args.session c.args.stmt c.say-reply.result 0 ∷ []) trace;
-      is = answered.is;
-      full =
-          subst (IfFull c.say-reply.result (allowed_by 0 c.args.self.now.trace)) (ap (λ d. d.ground.capacity) c.self.view_is)
-          (subst (λ (es : List Entry). IfFull c.say-reply.result (allowed_by 0 es) (capacity_in inside.engine.space)) trace answered.full);
-      room = subst (λ d. SaysRoom d.ground c.args.session.0 c.args.stmt c.say-reply.result) c.self.view_is answered.room;
-      log = subst (λ d. SaysLog d.ground c.args.session.0 c.args.stmt c.say-reply.result) c.self.view_is answered.log;
-      log_full =
-          subst (λ d. IfLogFull c.say-reply.result (logged_by 0 d.trace) d.ground.log.pages) c.self.view_is
-          (log_full_so (ground_of inside.engine) c.args.session.0 c.args.stmt c.say-reply.result (logged_by 0 inside.chronicle.trace) answered.log c.self.invariant.logged);
+          ∙ ap (λ (es : List Entry). es ++ said_entry session stmt reply calls ∷ []) trace;
+      counted = c.calls_now-calls.ensures.counted;
+      is = said.is;
+      was_down = λ e. said.was_down (ap (λ d. d.down) c.self.view_is ∙ e);
+      was_up = λ e. said.was_up (ap (λ d. d.down) c.self.view_is ∙ e);
+      down = said.down_after ∙ ap (λ d. d.down || is_device reply) c.self.view_is;
+      device = subst (λ d. reply ≡ Device → Rose (g.V.Volume.faults d.volume) (g.V.Volume.faults volume)) c.self.view_is said.device;
+      quiet = subst (λ d. forces d.ground.units session stmt ≡ false → seen_volume g.V.Volume.told g.V.Volume.faults g.V.Volume.capacities volume ≡ seen_volume g.V.Volume.told g.V.Volume.faults g.V.Volume.capacities d.volume) c.self.view_is said.quiet;
+      forced = subst (λ d. forces d.ground.units session stmt ≡ true → reply ≡ Done → c.reply_to-reply.new.engine.log.forced ≡ length c.reply_to-reply.new.engine.log.records) c.self.view_is said.forced;
+      room = subst (λ d. SaysRoom d.ground session.0 stmt reply) c.self.view_is said.room;
+      full = subst (λ d. IfFull reply (allowed_by 0 d.trace) d.ground.capacity) c.self.view_is said.full;
+      log = subst (λ d. SaysLog d.ground session.0 stmt reply) c.self.view_is said.log;
+      log_full = subst (λ d. IfLogFull reply (logged_by 0 d.trace) d.ground.log.pages) c.self.view_is said.log_full;
       stays = record {
-        log_pages = answered.log_pages ∙ ap (λ d. d.ground.log.pages) c.self.view_is;
-        capacity = answered.capacity ∙ ap (λ d. d.ground.capacity) c.self.view_is;
-        volume = ap (λ d. d.volume) c.self.view_is;
+        capacity = said.capacity ∙ ap (λ d. d.ground.capacity) c.self.view_is;
+        log_pages = said.log_pages ∙ ap (λ d. d.ground.log.pages) c.self.view_is;
+        calls = subst (λ d. CallsLog (seen_volume g.V.Volume.told g.V.Volume.faults g.V.Volume.capacities d.volume) (seen_volume g.V.Volume.told g.V.Volume.faults g.V.Volume.capacities volume)) c.self.view_is said.calls;
         operator = ap (λ d. d.operator) c.self.view_is;
       };
     }

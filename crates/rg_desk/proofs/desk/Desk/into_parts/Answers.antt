@@ -5,4 +5,4 @@ use Rattle.rg_desk.proofs.DeskGoes.{desk_legal}
 use Rattle.rg_desk.proofs.desk.Desk.into_parts.Goals as goal
 
 pub returns-clause-legal : goal.returns-clause-legal
-returns-clause-legal g c = subst (λ d. Legal no_rows d.trace) c.self.view_is (desk_legal c.self.inside.engine c.self.inside.chronicle c.self.invariant)
+returns-clause-legal g c = subst (λ d. Legal no_rows d.trace) c.self.view_is (desk_legal c.self.inside.engine c.self.inside.chronicle c.self.inside.down _ c.self.invariant)

@@ -21,8 +21,5 @@ returns-in-Scan c = subst (λ (s : Stmt). Steps c.args.self.now c.args.session s
 pub returns-in-Find : goal.returns-in-Find
 returns-in-Find c = subst (λ (s : Stmt). Steps c.args.self.now c.args.session s c.find.result c.find.new.self) (sym c.in-Find.is) c.find.ensures
 
-pub returns-in-Commit : goal.returns-in-Commit
-returns-in-Commit c = subst (λ (s : Stmt). Steps c.args.self.now c.args.session s c.commit.result c.commit.new.self) (sym c.in-Commit.is) c.commit.ensures
-
 pub returns-in-Rollback : goal.returns-in-Rollback
 returns-in-Rollback c = subst (λ (s : Stmt). Steps c.args.self.now c.args.session s c.rollback.result c.rollback.new.self) (sym c.in-Rollback.is) c.rollback.ensures

@@ -1,21 +1,43 @@
-use Rattle.std.proofs.Common.{◌∙◌, None, ap, set, arith}
+use Rattle.std.proofs.Common.{ℕ, List, Option, None, Some, ◌≡◌, ◌∙◌, refl, sym, ap, set, arith}
 use Rattle.std.specs.FinMap as fin
 use Rattle.rg_claim.specs.declared.claims.Claims.{Claims}
 use Rattle.rg_model.specs.Committed.{locks_without}
 use Rattle.rg_log.specs.Kept.{Listed}
+use Rattle.rg_desk.specs.Ended.{records_committed}
+use Rattle.rg_desk.specs.Units.{owed_to, unit_at}
 use Rattle.rg_desk.specs.declared.engine.Engine.{Engine}
+use Rattle.rg_desk.specs.declared.units.OpenUnit.{OpenUnit}
 use Rattle.rg_desk.proofs.CommitShows.{commit_goes}
+use Rattle.rg_desk.proofs.Locked.{commit_fails, has_unit, no_unit}
 use Rattle.rg_desk.proofs.engine.Engine.commit.Goals as goal
 
-pub returns : goal.returns
-returns c = λ st allowed shows.
+pub returns-then-is_none-clause-steps : goal.returns-then-is_none-clause-steps
+returns-then-is_none-clause-steps g c = λ st allowed shows.
+    let d = c.args.self.now in
+    let ended = c.end.ensures in
+    let none : unit_at d.units c.args.session.0 ≡ None = no_unit _ _ (sym c.get.ensures) c.is_none.ensures c.if-is_none.true in
+    commit_goes st allowed d _ c.args.session shows (omega (arith, c.requires.session.most)) ended.space ended.indexes ended.top ended.locks ended.claims ended.units
+    (ap (λ (l : Listed). l.records) ended.log ∙ ap (records_committed d.log.records) (sym none))
+    (omega (arith, ap owed_to none, ap (λ (l : Listed). l.reserved) ended.log))
+    (ap (λ (l : Listed). l.pages) ended.log)
+
+pub returns-in-Ok-clause-steps : goal.returns-in-Ok-clause-steps
+returns-in-Ok-clause-steps g c = λ st allowed shows.
     let d = c.args.self.now in
     let same = c.log_commit.ensures.same in
-    let ended = c.end.ensures in
+    let ended = c.end-in-Ok.ensures in
+    let log : c.end-in-Ok.new.self.log ≡ record c.log_commit.new.self.log { forced = c.force.new.self.forced } = ended.log ∙ c.force.ensures.kept in
     commit_goes st allowed d _ c.args.session shows (omega (arith, c.requires.session.most)) (ended.space ∙ ap (λ x. x.space) same) (ended.indexes ∙ ap (λ x. x.indexes) same) (ended.top ∙ ap (λ x. x.top) same)
     (ended.locks ∙ ap (λ x. locks_without c.args.session x.locks) same)
     (ended.claims ∙ ap (λ (x : Engine). let left : Claims = record x.claims { claims = fin.remove x.claims.claims c.args.session.0 } in left) same)
     (ended.units ∙ ap (λ x. set x.units c.args.session.0 None) same)
-    (ap (λ (l : Listed). l.records) ended.log ∙ c.log_commit.ensures.records)
-    (omega (arith, ap (λ (l : Listed). l.reserved) ended.log, c.log_commit.ensures.reserved))
-    (ap (λ (l : Listed). l.pages) ended.log ∙ c.log_commit.ensures.pages)
+    (ap (λ (l : Listed). l.records) log ∙ c.log_commit.ensures.records)
+    (omega (arith, ap (λ (l : Listed). l.reserved) log, c.log_commit.ensures.reserved))
+    (ap (λ (l : Listed). l.pages) log ∙ c.log_commit.ensures.pages)
+
+pub returns-in-Err-clause-steps : goal.returns-in-Err-clause-steps
+returns-in-Err-clause-steps g c = λ st allowed shows.
+    let d = c.args.self.now in
+    let unit = has_unit (unit_at d.units c.args.session.0) _ (sym c.get.ensures) c.is_none.ensures c.if-is_none.false in
+    commit_fails st allowed d c.args.session shows unit.0 unit.1 _ c.log_commit.new.self c.log_commit.ensures refl
+    (ap (λ (l : Listed). l.records) c.force.ensures.kept) (ap (λ (l : Listed). l.reserved) c.force.ensures.kept) (ap (λ (l : Listed). l.pages) c.force.ensures.kept)

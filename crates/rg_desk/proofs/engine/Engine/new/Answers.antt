@@ -1,5 +1,4 @@
-use Rattle.std.proofs.Common.{refl, ◌∙◌, ap}
-use Rattle.rg_log.specs.Kept.{Listed}
+use Rattle.std.proofs.Common.{refl, ◌∙◌}
 use Rattle.rg_desk.proofs.Empty.{empty_shows}
 use Rattle.rg_desk.proofs.engine.Engine.new.Goals as goal
 
@@ -7,4 +6,4 @@ pub returns-clause-shows : goal.returns-clause-shows
 returns-clause-shows c =
     empty_shows _ (record { step = c.in-Ok.ensures.step; agree = c.in-Ok.ensures.agree refl }) (c.in-Ok.ensures.reads.same refl ∙ c.new.ensures.pages)
     c.in_ok-indexes.ensures.keys c.in_ok-indexes.ensures.cluses c.in_ok-indexes.ensures.cats c.in_ok-locks.ensures c.in_ok-claims.ensures
-    c.in_ok-units.ensures.none c.in_ok-units.ensures.owed c.in_ok-units.ensures.places (ap (λ (l : Listed). l.records) c.empty.ensures) (ap (λ (l : Listed). l.reserved) c.empty.ensures) refl
+    c.in_ok-units.ensures.none c.in_ok-units.ensures.owed c.in_ok-units.ensures.places c.requires.empty c.requires.idle refl

@@ -1,0 +1,37 @@
+-- What is seen of the volume of a desk.
+--
+-- 1. Only the log's pages are written.
+-- 2. The calls are counted from some moment on. An entry has their number up to it.
+use Rattle.std.specs.Prelude.{◌≡◌, ◌≤◌, ◌+◌, ℕ, Option, length}
+use Rattle.rg_base.specs.declared.set.Set.TheVariants.{Log}
+use Rattle.rg_outside.specs.Calls.{Told}
+use Rattle.rg_outside.specs.Capacities.{Capacities}
+use Rattle.rg_outside.specs.Made.{WritesIn}
+use Rattle.rg_outside.specs.Moments.{EachCall, IfTold}
+
+-- what a volume reports of its contents and calls, how often a call has failed, and how many pages
+-- each set has
+pub record VolumeSeen : Type 0 where
+  pub told : Option Told
+  pub faults : ℕ
+  pub capacities : Capacities
+
+-- the same, by the three members of its trait
+abbrev pub seen_volume :
+    {V : Type 0} → (V → Option Told) → (V → ℕ) → (V → Capacities) → V → VolumeSeen
+seen_volume told faults capacities v =
+    record { told = told v; faults = faults v; capacities = capacities v }
+
+-- calls that write no page of a copy
+pub record CallsLog (old new : VolumeSeen) : Type 0 where
+  pub only : EachCall old.told new.told (WritesIn Log)
+  pub later : old.faults ≤ new.faults
+  pub capacities : new.capacities ≡ old.capacities
+
+-- so many calls were made since the count began
+abbrev pub IsCount : VolumeSeen → (calls : ℕ) → Type 0
+IsCount seen calls = IfTold seen.told (λ t. length t.calls ≡ t.start + calls)
+
+-- no fewer than that
+abbrev pub HasCalls : VolumeSeen → (calls : ℕ) → Type 0
+HasCalls seen calls = IfTold seen.told (λ t. t.start + calls ≤ length t.calls)

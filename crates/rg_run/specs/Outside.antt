@@ -1,0 +1,67 @@
+-- What a run asks of the volume, and what it ends with.
+--
+-- 1. DEVICE is answered only where a call of the volume failed, and so is a run's end that the device
+--    brought about.
+-- 2. The opening writes nothing. No page of a copy is written.
+-- 3. What is said of a known volume's contents holds while its calls are fewer than 2 ^ 64 - 1, for so
+--    many can be counted.
+use Rattle.std.specs.Prelude.{◌≡◌, ◌<◌, ◌-◌, ◌^◌, ◌++◌, ℕ, List, [], ◌∷◌, Option, Some, length}
+use Rattle.std.specs.List.{AllByRecursion}
+use Rattle.rg_base.specs.declared.set.Set.TheVariants.{Log}
+use Rattle.rg_desk.specs.Volume.{VolumeSeen}
+use Rattle.rg_desk.specs.declared.desk.OpenCause.{OpenCause}
+use Rattle.rg_desk.specs.declared.desk.OpenCause.TheVariants as causes
+use Rattle.rg_log.specs.Open.{IsQuiet}
+use Rattle.rg_outside.specs.Calls.{Call, Told}
+use Rattle.rg_outside.specs.Faults.{Rose}
+use Rattle.rg_outside.specs.Moments.{IfTold}
+use Rattle.rg_restart.specs.Opening.{HasFreshLog}
+use Rattle.rg_run.specs.declared.played.RunEnd.{RunEnd}
+use Rattle.rg_run.specs.declared.played.RunEnd.TheVariants.{Whole, Down, Damaged, DeviceAtOpening, NoMemory}
+use Rattle.rg_stmt.specs.declared.event.Entry.{Entry}
+use Rattle.rg_stmt.specs.declared.event.Event.{Event}
+use Rattle.rg_stmt.specs.declared.event.Event.TheVariants.{Said}
+use Rattle.rg_stmt.specs.declared.stmt.Reply.TheVariants.{Device}
+
+-- the event is no DEVICE, or this holds
+abbrev pub IsDeviceIf : Type 0 → Event → Type 0
+IsDeviceIf P (Said stmt Device) = P
+IsDeviceIf P event = Unit {0}
+
+-- DEVICE is answered only if this holds
+abbrev pub IsDeviceOnlyIf : Type 0 → List Entry → Type 0
+IsDeviceOnlyIf P [] = Unit {0}
+IsDeviceOnlyIf P (entry ∷ entries) = IsDeviceIf P entry.event × IsDeviceOnlyIf P entries
+
+-- this holds of what is reported, while its calls can be counted
+abbrev pub IfCounted : Option Told → (Told → Type 0) → Type 0
+IfCounted told P = IfTold told (λ t. length t.calls < 2 ^ 64 - 1 → P t)
+
+-- calls of a kind were made since
+pub record MadeSince (Kind : Call → Type 0) (old : Option Told) (now : Told) : Type 0 where
+  pub before : Told
+  pub was : old ≡ Some before
+  pub fresh : List Call
+  pub first : now.first ≡ before.first
+  pub calls : now.calls ≡ fresh ++ before.calls
+  pub each : AllByRecursion Kind fresh
+
+-- only calls of a kind were made
+abbrev pub MakesOnly : (Call → Type 0) → (old new : Option Told) → Type 0
+MakesOnly Kind old new = IfCounted new (MadeSince Kind old)
+
+-- the end of a run whose opening was refused
+abbrev pub end_of : OpenCause → RunEnd
+end_of (causes.Damaged set page) = Damaged set page
+end_of causes.Device = DeviceAtOpening
+end_of causes.NoMemory = NoMemory
+
+-- Why a run ended so: a page breaks a rule of a sound volume, or a call of the volume failed.
+abbrev pub IsEnd : (old new : VolumeSeen) → RunEnd → Type 0
+IsEnd old new (Whole rows) = Unit {0}
+IsEnd old new Down = Rose old.faults new.faults
+IsEnd old new (Damaged set page) =
+    (set ≡ Log) × IfCounted new.told (λ t. HasFreshLog new t → ⊥)
+    × MakesOnly IsQuiet old.told new.told × (new.capacities ≡ old.capacities)
+IsEnd old new DeviceAtOpening = Rose old.faults new.faults
+IsEnd old new NoMemory = Unit {0}
