@@ -705,27 +705,43 @@ fn runs_empty_deck(rt: HostRuntime) -> Result<(), Fail> {
 // every other statement, calls nothing.
 #[test]
 fn counts_calls(rt: HostRuntime) -> Result<(), Fail> {
-    let steps: [(u8, Ask, u64); 9] = [
-        (1, insert(1, 10), 2),
-        (1, Ask::Commit, 4),
-        (1, Ask::Select(1), 4),
-        (1, Ask::Commit, 4),
-        (2, insert(2, 20), 4),
-        (2, Ask::Rollback, 4),
-        (2, Ask::Show, 4),
-        (2, Ask::Delete(1), 4),
-        (2, Ask::Commit, 6),
+    let steps: [Step; 9] = [
+        (1, insert(1, 10), DONE, NOTHING),
+        (1, Ask::Commit, DONE, NOTHING),
+        (1, Ask::Select(1), DONE, NOTHING),
+        (1, Ask::Commit, DONE, NOTHING),
+        (2, insert(2, 20), DONE, NOTHING),
+        (2, Ask::Rollback, DONE, NOTHING),
+        (2, Ask::Show, SHOWN, NOTHING),
+        (2, Ask::Delete(1), DONE, NOTHING),
+        (2, Ask::Commit, DONE, NOTHING),
     ];
+    // The entry of the opening is the first.
+    let calls: [u64; 10] = [2, 2, 4, 4, 4, 4, 4, 4, 4, 6];
     let alloc = rt.alloc();
-    let mut lines = Vec::new(alloc);
-    for (number, ask, _) in steps {
-        lines.push(line_of(alloc, number, ask)?)?;
-    }
-    let played = played(alloc, 9, 1, lines)?;
+    let played = played(alloc, 9, 1, lines_of(alloc, &steps)?)?;
     assert_eq!(rt; played.end, RunEnd::Whole { rows: 0 });
-    assert_eq!(rt; played.trace[0].calls, 2);
-    for (at, (_, _, calls)) in steps.iter().copied().enumerate() {
-        assert_eq!(rt; played.trace[at + 1].calls, calls, "at {at}");
+    assert_eq!(rt; played.trace.len(), calls.len());
+    for (entry, calls) in played.trace.iter().zip(calls.iter().copied()) {
+        assert_eq!(rt; entry.calls, calls);
+    }
+    Ok(())
+}
+
+// The run of these steps over a volume whose call of this number fails ends down.
+fn expect_down(rt: &impl Abort, alloc: Global, call: u64, steps: &[Step]) -> Result<(), Fail> {
+    let failing = [Failing {
+        call,
+        written: false,
+    }];
+    let volume = MemVolume::new(alloc, 9, 1, 1, CALLS, CALLS, &failing, None)?;
+    let operator = ScriptOperator::new(alloc, &[])?;
+    let played = run(alloc, volume, operator, lines_of(alloc, steps)?);
+    assert_eq!(rt; played.end, RunEnd::Down);
+    let entries = played.trace.iter().skip(1);
+    for (entry, (number, _, reply, _)) in entries.zip(steps.iter().copied()) {
+        let (session, came, _) = seen_of(alloc, entry)?;
+        assert_eq!(rt; (session, came), (number, reply));
     }
     Ok(())
 }
@@ -741,21 +757,8 @@ fn goes_down(rt: HostRuntime) -> Result<(), Fail> {
         (2, insert(2, 20), DOWN, NOTHING),
         (0, Ask::Show, DOWN, NOTHING),
     ];
-    let alloc = rt.alloc();
-    for call in [3, 4] {
-        let failing = [Failing {
-            call,
-            written: false,
-        }];
-        let volume = MemVolume::new(alloc, 9, 1, 1, CALLS, CALLS, &failing, None)?;
-        let operator = ScriptOperator::new(alloc, &[])?;
-        let played = run(alloc, volume, operator, lines_of(alloc, &steps)?);
-        assert_eq!(rt; played.end, RunEnd::Down);
-        for (at, (number, _, reply, _)) in steps.iter().copied().enumerate() {
-            let (session, came, _) = seen_of(alloc, &played.trace[at + 1])?;
-            assert_eq!(rt; (session, came), (number, reply), "at {at}");
-        }
-    }
+    expect_down(&rt, rt.alloc(), 3, &steps)?;
+    expect_down(&rt, rt.alloc(), 4, &steps)?;
     Ok(())
 }
 
