@@ -358,7 +358,7 @@ fn ends_down(rt: HostRuntime) -> Result<(), Fail> {
 #[test]
 fn refuses_volumes(rt: HostRuntime) -> Result<(), Fail> {
     let alloc = rt.alloc();
-    let mut torn = volume(alloc, 1)?;
+    let mut torn = MemVolume::new(alloc, 9, 1, 1, 1000, 400, &[], None)?;
     torn.write(Set::Log, 1, &[255; 4096])?;
     let words = owned(alloc, &PLAY)?;
     let operator = Box::new(alloc, IdleOperator)?;

@@ -24,6 +24,7 @@ pub struct ShownEngine {
 impl Model for ShownEngine {
     ghost use Rattle.std.specs.Prelude.{◌≡◌, ℕ, false};
     ghost use Rattle.rg_log.specs.Kept.{log_pages};
+    ghost use Rattle.rg_mem.specs.Shown.{capacities_of};
     ghost use Rattle.rg_desk.specs.Shows.{IsShown};
 
     ghost Value = { ℕ };
@@ -31,7 +32,7 @@ impl Model for ShownEngine {
     ghost view = { λ e. e.engine.top };
 
     ghost invariant = { λ e. (e.down ≡ false → IsShown e.engine)
-        × (e.engine.log.pages ≡ log_pages (MemVolume.capacities e.volume)) };
+        × (e.engine.log.pages ≡ log_pages (capacities_of e.volume)) };
 }
 
 impl ShownEngine {
