@@ -10,7 +10,7 @@ use Rattle.rg_model.specs.State.{Table}
 use Rattle.rg_model.proofs.Overlay.{get-set_to}
 use Rattle.rg_cats.specs.Sets.{Sets, is_key_in, IsPutIn, IsTakenOut}
 use Rattle.rg_cats.specs.Cats.{AreCats, IsListed, IsStruck}
-use Rattle.rg_cats.proofs.Tests.{same, apart, below, not_below, agree, equal_of, and_false, or_false, and_comm, not_and}
+use Rattle.rg_cats.proofs.ByTest.{same, apart, below, not_below, agree, equal_of, and_false, or_false, and_comm, not_and}
 
 module _ (old : Sets) (key : ℕ) where
   pub struck : (new : Sets) (row : Row) → IsTakenOut old new row.cat key → IsStruck old new key (Some row)

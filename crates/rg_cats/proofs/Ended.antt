@@ -11,7 +11,7 @@ use Rattle.rg_model.specs.State.{Table, Locks}
 use Rattle.rg_model.proofs.Overlay.{get-put_back, get-without, kept_or}
 use Rattle.rg_cats.specs.Owners.{Owners, has_in, holds_cat, AreHeld}
 use Rattle.rg_cats.proofs.Replaced.{get-dropped}
-use Rattle.rg_cats.proofs.Tests.{equal_of}
+use Rattle.rg_cats.proofs.ByTest.{equal_of}
 
 -- without locks no session holds a key
 pub held-none : (table : Table) (locks : Locks) (owners : Owners) → locks ≡ map.empty → owners ≡ map.empty → AreHeld table locks owners

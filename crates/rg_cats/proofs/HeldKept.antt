@@ -14,7 +14,7 @@ use Rattle.rg_cats.specs.Owners.{Owners, has_in, is_held_in, holds_cat, owner_or
 use Rattle.rg_cats.specs.Sets.{Sets, is_key_in}
 use Rattle.rg_cats.specs.declared.key_sets.KeySets.{KeySets}
 use Rattle.rg_cats.proofs.Replaced.{get-replaced, get-put}
-use Rattle.rg_cats.proofs.Tests.{agree, and_false, equal_of}
+use Rattle.rg_cats.proofs.ByTest.{agree, and_false, equal_of}
 
 -- a key that was struck by two `cat`s and listed by two has the latter
 mixed : (hc hr hp was : Bool) → (was ≡ true → (hp || hc) ≡ true) → (hc || (hr || (not hc && (not hp && was)))) ≡ (hr || hc)

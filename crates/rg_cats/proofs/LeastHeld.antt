@@ -11,7 +11,7 @@ use Rattle.rg_model.specs.State.{Table, Locks, row_of}
 use Rattle.rg_cats.specs.Owners.{Owners, has_in, is_held_in, holds_cat, lesser, AreHeld, IsHeldByOther, IsLeastHeld}
 use Rattle.rg_cats.specs.Sets.{is_key_in, IsFirstIn}
 use Rattle.rg_cats.specs.declared.key_sets.KeySets.{KeySets}
-use Rattle.rg_cats.proofs.Tests.{equal_of, same}
+use Rattle.rg_cats.proofs.ByTest.{equal_of, same}
 
 -- the least key among the sessions below a number
 abbrev pub IsLeastBefore : Owners → (own cat from : ℕ) → Option ℕ → Type 0

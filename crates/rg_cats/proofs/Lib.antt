@@ -1,4 +1,4 @@
-mod Tests
+mod ByTest
 mod Replaced
 mod SetsKept
 mod CatsKept

@@ -4,7 +4,7 @@ use Rattle.std.specs.Ordering.{nat_cmp, eq_by_cmp}
 use Rattle.std.specs.FinMap as map
 use Rattle.std.specs.FinMap.{get-insert, get-remove}
 use Rattle.std.proofs.lemmas.Cmp.{nat_cmp_total}
-use Rattle.rg_cats.proofs.Tests.{agree, twice}
+use Rattle.rg_cats.proofs.ByTest.{agree, twice}
 
 module _ {X : Type 0} (old : map.FinMap nat_cmp X) (number : ℕ) where
   pub get-replaced : (v : X) (n : ℕ) → map.get (map.insert (map.remove old number) number v) n ≡ cond (number == n) (Some v) (map.get old n)

@@ -6,7 +6,7 @@ use Rattle.std.proofs.lemmas.Cmp.{nat_cmp_total}
 use Rattle.rg_base.specs.First.{IsEmptyFrom, IsFirstFrom}
 use Rattle.rg_cats.specs.Sets.{Set, Sets, has_key, IsFirstIn, IsPutIn, IsTakenOut}
 use Rattle.rg_cats.proofs.Replaced.{get-replaced, get-dropped}
-use Rattle.rg_cats.proofs.Tests.{agree, equal_of, some_or, none_or, and_false}
+use Rattle.rg_cats.proofs.ByTest.{agree, equal_of, some_or, none_or, and_false}
 
 module _ (old : Sets) (number : ℕ) where
   module _ (key : ℕ) where
