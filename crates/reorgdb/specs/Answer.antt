@@ -158,8 +158,8 @@ Delivers outcome text before after status =
     ⊎ (((status ≡ 4) × Rose before.faults after.faults × GivesPrefix text before.bytes after.bytes)
     ⊎ ((status ≡ 8) × GivesPrefix text before.bytes after.bytes))
 
--- What a call comes to and how its output is given, by the words and by what is known of the source,
--- the sink and the volume before and after it.
+-- What a call comes to and how its output is given, by the words and by what is known of the
+-- source, the sink and the volume before and after it.
 pub record Concludes (words : List (List ℕ)) (source source_after sink sink_after : Seen)
     (volume volume_after : VolumeSeen) (status : ℕ) (trace : List Entry) : Type 0 where
   pub outcome : Outcome

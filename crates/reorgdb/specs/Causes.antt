@@ -53,8 +53,8 @@ pub record RefusesVolume (sink sink_after : Seen) (volume volume_after : VolumeS
   pub none : trace ≡ []
   pub shown : Appends sink.bytes sink_after.bytes (damaged_text set page)
 
--- A volume that reports its calls, as many as can be counted, that had no records in its log, and of
--- which no call failed.
+-- A volume that reports its calls, as many as can be counted, that had no records in its log, and
+-- of which no call failed.
 pub record IsFreshVolume (before after : VolumeSeen) : Type 0 where
   pub old : Told
   pub was : before.told ≡ Some old

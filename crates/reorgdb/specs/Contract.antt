@@ -1,7 +1,7 @@
 -- What the program's call does: the one contract of `reorg_main` and `reorg_alone`, by the words,
 -- by what is known of the source, the sink and the volume before and after the call, and by the
--- status and the trace that it leaves. Out of memory is the one answer that may come at any time: status 8 may
--- stand in place of any other.
+-- status and the trace that it leaves. Out of memory is the one answer that may come at any time:
+-- status 8 may stand in place of any other.
 use Rattle.std.specs.Prelude.{ℕ, ◌≡◌, ◌+◌, ◌*◌, List, [], ◌∷◌, nat_le, if◌then◌else◌}
 use Rattle.std.specs.List.{Contains}
 use Rattle.rg_base.specs.declared.set.Set.{Set}
@@ -47,8 +47,8 @@ pub record Completes (words : List (List ℕ)) (source source_after sink sink_af
   -- FULL is answered only where what was written reaches 3,200 bytes for each page of the smaller
   -- copy.
   pub full : IsFullOnlyFrom (3200 * smaller_pages volume.capacities) 0 trace
-  -- LOGFULL is answered only where 4,264 bytes for each write so far, and for one more, are more than
-  -- the log may have: 2,270 bytes for each of its pages but one.
+  -- LOGFULL is answered only where 4,264 bytes for each write so far, and for one more, are more
+  -- than the log may have: 2,270 bytes for each of its pages but one.
   pub log_full : IsLogFullOnlyFrom (limit_of (log_pages volume.capacities)) 0 trace
   -- DEVICE is answered only where a call of the volume failed.
   pub device : IsDeviceOnlyIf (Rose volume.faults volume_after.faults) trace
@@ -56,8 +56,8 @@ pub record Completes (words : List (List ℕ)) (source source_after sink sink_af
   pub only : MakesOnly (WritesIn Log) volume.told volume_after.told
   -- Status 0: the deck was played, and its print given.
   pub played : status ≡ 0 → Plays words source source_after sink sink_after trace
-  -- Status 1 is returned only if the words do not ask for `play`; then no other is but 4 and 8. It and
-  -- the statuses 2, 3 and 7 call no volume.
+  -- Status 1 is returned only if the words do not ask for `play`; then no other is but 4 and 8. It
+  -- and the statuses 2, 3 and 7 call no volume.
   pub no_command : status ≡ 1 → IsPlay words → ⊥
   pub other_words : (IsPlay words → ⊥) → Contains (1 ∷ 4 ∷ 8 ∷ []) status
   -- Status 2: the bytes were read to their end, and the output names the first line that is outside

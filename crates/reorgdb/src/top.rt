@@ -39,9 +39,9 @@ pub struct Finished<V> {
 }
 
 /// The call of the program: reads the words, then the whole deck from the source, opens the volume,
-/// whose log must not have a record yet, plays the deck over a table without rows, and gives the whole
-/// print to the sink. It does all that `reorg_alone` says, in one call of it; no command uses the
-/// runtime yet.
+/// whose log must not have a record yet, plays the deck over a table without rows, and gives the
+/// whole print to the sink. It does all that `reorg_alone` says, in one call of it; no command uses
+/// the runtime yet.
 pub fn reorg_main<R: Threads + Wait + Clock + Sync, S: Source, K: Sink, V: Volume + Send>(
     rt: &R,
     alloc: Global,

@@ -75,7 +75,7 @@ impl<V, O> Work<V, O> {
         }
     }
 
-    // The outcome with a trace and its text, or want of memory where there was none for the text.
+    // The outcome with a trace and its text, or out of memory where there was none for the text.
     fn with_text(
         alloc: Global,
         outcome: Outcome,

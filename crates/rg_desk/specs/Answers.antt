@@ -4,8 +4,8 @@
 --    its session does not hold.
 -- 2. A statement that is answered with number 0 registers its classes, and no other does.
 -- 3. Only the COMMIT of a unit that has written calls the volume. At OK all records are forced, and
---    DEVICE comes only where a call of the volume failed. From then on the engine is down, and it is
---    open whether the commit is in.
+--    DEVICE comes only where a call of the volume failed. From then on the engine is down, and it
+--    is open whether the commit is in.
 use Rattle.std.specs.Prelude.{◌≡◌, ◌≤◌, ◌<◌, ◌+◌, ◌*◌, ℕ, Bool, true, false, List, [], Option, Some, None, is_some, length}
 use Rattle.rg_base.specs.declared.session.Class.{Class}
 use Rattle.rg_base.specs.declared.session.Session.{Session}

@@ -73,8 +73,8 @@ pub record IsDesk (d : Engine) (c : ChronicleState) (down : Bool) (seen : Volume
   pub among : AreKeys keys state
   pub few : length keys ≤ length c.trace
 
--- what callers see of a desk: its entries, what its writes are planned over, whether it is down, and
--- what it was handed
+-- what callers see of a desk: its entries, what its writes are planned over, whether it is down,
+-- and what it was handed
 pub record DeskState (V O : Type 0) : Type 0 where
   pub trace : List Entry
   pub ground : Ground
@@ -114,11 +114,12 @@ abbrev pub is_reply : Stmt → Reply → Bool
 is_reply stmt Down = true
 is_reply stmt reply = is_answer stmt reply
 
--- A statement has one entry more, with the number of calls up to it. It is answered DOWN if and only
--- if the desk is down. The volume is called only for the COMMIT of a unit that has written: at OK all
--- records are forced, and DEVICE, which brings the desk down, comes only where a call failed. FULL stands in it exactly where there is no plan of the write, and
--- then the writes before have allowed so many bytes. LOGFULL stands in it exactly where the log has
--- less left than the write needs, and then the writes before have taken nearly all of it.
+-- A statement has one entry more, with the number of calls up to it. It is answered DOWN if and
+-- only if the desk is down. The volume is called only for the COMMIT of a unit that has written: at
+-- OK all records are forced, and DEVICE, which brings the desk down, comes only where a call
+-- failed. FULL stands in it exactly where there is no plan of the write, and then the writes before
+-- have allowed so many bytes. LOGFULL stands in it exactly where the log has less left than the
+-- write needs, and then the writes before have taken nearly all of it.
 pub record MadeSaid {V O : Type 0}
     (look : V → VolumeSeen) (old : DeskState V O) (session : Session) (stmt : Stmt)
     (new : DeskState V O) : Type 0 where

@@ -4,8 +4,8 @@
 --    the row needs, and the copy has as many pages as it may have. What it needs is its length.
 -- 2. A write is planned for its own unit and for all open ones, whose areas are not freed. A unit
 --    that writes for the first time has the next number.
--- 3. A write is LOGFULL exactly where its records, the reserve for its undo and, with the first write
---    of a unit, for the record of its end are more bytes than the log has left.
+-- 3. A write is LOGFULL exactly where its records, the reserve for its undo and, with the first
+--    write of a unit, for the record of its end are more bytes than the log has left.
 use Rattle.std.specs.Prelude.{◌≡◌, ◌≤◌, ◌<◌, ◌+◌, ℕ, Bool, true, false, List, ◌∷◌, Option, Some, None, is_some}
 use Rattle.rg_base.specs.RowBytes.{row_size}
 use Rattle.rg_base.specs.declared.place.Place.{Place}

@@ -2,7 +2,8 @@
 --
 -- 1. The reply is the plain table's, or NOMEMORY, FULL or LOGFULL stands for it. FULL comes exactly
 --    where there is no plan of the write, and then the writes so far have allowed 3,221 bytes for
---    each page of the copy. LOGFULL comes exactly where the log has less left than the write needs.
+--    each page of the copy. LOGFULL is returned if and only if the log has less left than the write
+--    needs.
 -- 2. DEVICE comes only to the COMMIT of a session that has locks. It leaves nothing to be said of
 --    the engine, which is down from then on.
 -- 3. A put or a change allows 18 bytes more than its row has.

@@ -3,8 +3,8 @@
 // 1. The room of an entry is taken first. Where there is none, nothing is done.
 // 2. What an entry says was done, and the state that the trace leads to is the one that the pages,
 //    the locks and the claims show.
-// 3. Once the device has refused a COMMIT the desk is down: nothing more is done, and every statement
-//    is answered DOWN.
+// 3. Once the device has refused a COMMIT the desk is down: nothing more is done, and every
+//    statement is answered DOWN.
 ghost use Rattle.std.specs.Prelude.{◌≡◌, ◌≤◌, ◌∷◌, [], ℕ, true, false, OnOk, OnErr, IfOk, IfErr, Some, None};
 ghost use Rattle.rg_base.specs.Session.{IsSession};
 ghost use Rattle.rg_model.specs.Legal.{Legal};
@@ -107,7 +107,8 @@ fn calls_now<V: Counts>(volume: &V, chronicle: &Chronicle) -> u64
     volume.calls().max(chronicle.calls())
 }
 
-/// The reply to a statement, where the desk is up or down before. The device's refusal brings it down.
+/// The reply to a statement, where the desk is up or down before. The device's refusal brings it
+/// down.
 pub fn reply_to<V: Volume>(
     engine: &mut Engine,
     down: &mut bool,
@@ -212,9 +213,9 @@ impl<V: Counts, O: Operator> Desk<V, O> {
         })
     }
 
-    /// Answers a statement of a session, which makes one entry. If there is no memory for the entry,
-    /// the call is refused and nothing was done. If there is none for the answer, the entry says
-    /// NOMEMORY.
+    /// Answers a statement of a session, which makes one entry. If there is no memory for the
+    /// entry, the call is refused and nothing was done. If there is none for the answer, the entry
+    /// says NOMEMORY.
     pub fn exec(&mut self, session: Session, stmt: Stmt) -> Result<(), NoMemory>
         requires { IsSession session }
         ensures made { OnOk result (MadeSaid (seen_volume V.told V.faults V.capacities)
@@ -235,9 +236,9 @@ impl<V: Counts, O: Operator> Desk<V, O> {
         Ok(())
     }
 
-    /// Tells the layout of the copy, which makes one entry. If there is no memory for the entry, the
-    /// call is refused and nothing was done. If there is none for the layout, the entry says so, and
-    /// so it does where the desk is down.
+    /// Tells the layout of the copy, which makes one entry. If there is no memory for the entry,
+    /// the call is refused and nothing was done. If there is none for the layout, the entry says
+    /// so, and so it does where the desk is down.
     pub fn show(&mut self) -> Result<(), NoMemory>
         ensures made { OnOk result
             (MadeLayout (seen_volume V.told V.faults V.capacities) self.old self.new) }

@@ -197,8 +197,8 @@ impl Engine {
         self.top = greater(self.top, unit.tran);
     }
 
-    // Takes all that a write may be refused: room in the indexes, bytes of the log, and last the lock
-    // of its key.
+    // Takes all that a write may be refused: room in the indexes, bytes of the log, and last the
+    // lock of its key.
     fn prepare(
         &mut self,
         session: Session,

@@ -1,3 +1,7 @@
+// Calls over both ends of a feed.
+//
+// 1. The ring has room for 256 items. What is sent waits at the outlet where the ring is full, and
+//    nothing is refused or lost.
 ghost use Rattle.std.specs.Prelude.{◌≡◌, [], IfOk};
 ghost use Rattle.rg_feed.specs.Ends.{Joined, SameReceived, SameSent, sent_items, waiting};
 

@@ -1,3 +1,7 @@
+// What the table sends to the utility.
+//
+// 1. A page is copied once, and a change has the position of its record. So a change that the copy
+//    of its page already has is known by its position.
 use rg_base::change::Change;
 use rg_base::homes::Homes;
 use rg_base::options::{DrainState, Options};

@@ -1,3 +1,8 @@
+// The print of a trace.
+//
+// 1. Entries are numbered from 0, and each has one line or more. The last line says how
+//    the run ended.
+// 2. The text is made whole before any of it is given. Out of memory gives none of it.
 ghost use Rattle.std.specs.Prelude.{◌≡◌, ◌++◌, OnOk, IfOk};
 ghost use Rattle.rg_print.specs.Print.{actor_text, close_text, damaged_text, end_down_text};
 ghost use Rattle.rg_print.specs.Print.{end_text, entry_text, event_text, opened_text};

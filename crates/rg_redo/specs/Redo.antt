@@ -56,8 +56,8 @@ pub record CanRedo (pages forced : ℕ) (entry : Record) : Type 0 where
   pub there : AllThere pages (parts_of entry.kind)
   pub is_forced : entry.position.0 ≤ forced
 
--- why a log was not redone: this record is the first that does not fit, where what was read is sure;
--- or a page could not be read
+-- why a log was not redone: this record is the first that does not fit, where what was read is
+-- sure; or a page could not be read
 abbrev pub IsRedoFault : RedoFault → List Record → Seen → Seen → Type 0
 IsRedoFault (Unfit position) rs a b = b.sure ≡ true → FailsAt position.0 rs a.pages
 IsRedoFault Device rs a b = Rose a.faults b.faults

@@ -1,3 +1,7 @@
+// Why a log is not redone.
+//
+// 1. The record that is named is the first in the log that does not fit. Nothing was written to a
+//    volume.
 use rg_base::position::Position;
 
 /// Why a log is not redone.

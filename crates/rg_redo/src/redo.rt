@@ -1,7 +1,7 @@
 // The redo of a log.
 //
-// 1. The records after the last Switch are redone, the earliest first. Those before it are of a copy
-//    that is no longer the current one.
+// 1. The records after the last Switch are redone, the earliest first. Those before it are of a
+//    copy that is no longer the current one.
 // 2. A page gets the records that are above its position and nothing else, so a log is redone once.
 // 3. The first record that does not fit is named, and no later one is redone.
 ghost use Rattle.std.specs.Prelude.{◌≡◌, ◌≤◌, true, length, drop, OnOk, IfErr};

@@ -116,8 +116,8 @@ fn redo<F: Frames>(rt: &impl Abort, space: &mut Space<F>, log: &Log) -> Result<(
     redo_all(space, log)
 }
 
-// The steps of a log, what its redo answers, and the key of the row at slot 0 of page 1 and of page 2
-// then, or 0.
+// The steps of a log, what its redo answers, and the key of the row at slot 0 of page 1 and of page
+// 2 then, or 0.
 #[derive(Drop)]
 struct Case {
     steps: &'static [Step],

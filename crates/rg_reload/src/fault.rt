@@ -1,7 +1,7 @@
 // Why a page of a new copy is not filled.
 //
-// 1. NoSpace comes exactly where the page, or the empty page due after it, is above the capacity.
-//    It is found before memory is taken.
+// 1. NoSpace is returned if and only if the page, or the empty page due after it, is above the
+//    capacity. It is found before memory is taken.
 ghost use Rattle.std.specs.Prelude.{◌≡◌};
 ghost use Rattle.rg_reload.specs.declared.fault.ReloadFault.TheVariants.{NoMemory};
 

@@ -1,3 +1,6 @@
+// Old places with new ones.
+//
+// 1. A packer adds each row once, so both places of a pair are in no other pair.
 ghost use Rattle.std.specs.Prelude.{◌≡◌};
 
 use rg_base::place::Place;

@@ -14,8 +14,8 @@ use std::test::Fail;
 // or a Commit, where both are 0.
 type Step = (u32, u64, u64);
 
-// The records, and of each row that they store the key that leads to it and its `clus`, which is the
-// position of the record that made it.
+// The records, and of each row that they store the key that leads to it and its `clus`, which is
+// the position of the record that made it.
 type Case = (&'static [Step], &'static [(u64, u64)]);
 
 fn row(alloc: Global, key: u64, clus: u64) -> Option<Row> {

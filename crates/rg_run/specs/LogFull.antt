@@ -12,8 +12,8 @@ abbrev pub IsLogFullFrom : (limit logged : ℕ) → Event → Type 0
 IsLogFullFrom limit logged (Said stmt (LogFull need left)) = limit < logged + most_needed
 IsLogFullFrom limit logged event = Unit {0}
 
--- LOGFULL is answered only where the entries before may have taken so much of the log: what the last
--- opening found, and 4,264 bytes for each write since
+-- LOGFULL is answered only where the entries before may have taken so much of the log: what the
+-- last opening found, and 4,264 bytes for each write since
 abbrev pub IsLogFullOnlyFrom : (limit logged : ℕ) → List Entry → Type 0
 IsLogFullOnlyFrom limit logged [] = Unit {0}
 IsLogFullOnlyFrom limit logged (entry ∷ entries) =

@@ -1,10 +1,10 @@
 -- What a run asks of the volume, and what it ends with.
 --
--- 1. DEVICE is answered only where a call of the volume failed, and so is a run's end that the device
---    brought about.
+-- 1. DEVICE is answered only where a call of the volume failed, and so is a run's end that the
+--    device brought about.
 -- 2. The opening writes nothing. No page of a copy is written.
--- 3. What is said of a known volume's contents holds while its calls are fewer than 2 ^ 64 - 1, for so
---    many can be counted.
+-- 3. What is said of a known volume's contents holds while its calls are fewer than 2 ^ 64 - 1, for
+--    so many can be counted.
 use Rattle.std.specs.Prelude.{◌≡◌, ◌<◌, ◌-◌, ◌^◌, ◌++◌, ℕ, List, [], ◌∷◌, Option, Some, length}
 use Rattle.std.specs.List.{AllByRecursion}
 use Rattle.rg_base.specs.declared.set.Set.TheVariants.{Log}

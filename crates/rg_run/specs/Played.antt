@@ -53,8 +53,8 @@ abbrev pub TraceOfFront : List Line → List Entry → Type 0
 TraceOfFront lines trace =
     (front : List Line) × (rest : List Line) × (lines ≡ front ++ rest) × TraceOf front trace
 
--- A whole run has an entry for each line, and ends up or down. One that was refused at its opening has
--- none. One that ran out of memory has those of some first lines, or none at all.
+-- A whole run has an entry for each line, and ends up or down. One that was refused at its opening
+-- has none. One that ran out of memory has those of some first lines, or none at all.
 abbrev pub Ends : List Line → List Entry → RunEnd → Type 0
 Ends lines trace (Whole rows) = TraceOf lines trace × EndsWithRows trace rows
 Ends lines trace Down = TraceOf lines trace × EndsDown trace

@@ -31,9 +31,10 @@ use rg_restart::open::open_desk;
 use rg_stmt::line::Line;
 use std::alloc::Global;
 
-/// Opens the volume, whose log must not have a record yet, and plays the lines in order over a table
-/// without rows. The table lies in memory, in as many pages as the first set of the volume has, and
-/// no more than 65,536. The records of committed units are on the volume. The operator is not asked.
+/// Opens the volume, whose log must not have a record yet, and plays the lines in order over a
+/// table without rows. The table lies in memory, in as many pages as the first set of the volume
+/// has, and no more than 65,536. The records of committed units are on the volume. The operator is
+/// not asked.
 pub fn run<V: Volume, O: Operator>(
     alloc: Global,
     volume: V,

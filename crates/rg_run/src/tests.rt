@@ -549,9 +549,9 @@ fn moves_and_fills(rt: HostRuntime) -> Result<(), Fail> {
     Ok(())
 }
 
-// A log of four pages may have 6,810 bytes. An INSERT of a row of 26 bytes takes 69, and reserves 911
-// for its undo; 23 more are reserved with the first write of a unit. The end of a unit gives back
-// what its undo did not take.
+// A log of four pages may have 6,810 bytes. An INSERT of a row of 26 bytes takes 69, and reserves
+// 911 for its undo; 23 more are reserved with the first write of a unit. The end of a unit gives
+// back what its undo did not take.
 #[test]
 fn answers_log_full(rt: HostRuntime) -> Result<(), Fail> {
     let steps: [Step; 25] = [
@@ -701,8 +701,8 @@ fn runs_empty_deck(rt: HostRuntime) -> Result<(), Fail> {
     Ok(())
 }
 
-// A unit that commits is put on the volume by a write and a sync of one page; one without writes, and
-// every other statement, calls nothing.
+// A unit that commits is put on the volume by a write and a sync of one page; one without writes,
+// and every other statement, calls nothing.
 #[test]
 fn counts_calls(rt: HostRuntime) -> Result<(), Fail> {
     let steps: [Step; 9] = [
@@ -762,8 +762,8 @@ fn goes_down(rt: HostRuntime) -> Result<(), Fail> {
     Ok(())
 }
 
-// An opening that finds a log with records, or a page that is no log page, names the page; one whose
-// first call fails says so. No line is played.
+// An opening that finds a log with records, or a page that is no log page, names the page; one
+// whose first call fails says so. No line is played.
 #[test]
 fn refuses_at_the_opening(rt: HostRuntime) -> Result<(), Fail> {
     let alloc = rt.alloc();

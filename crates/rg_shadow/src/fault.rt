@@ -1,6 +1,6 @@
 // Why a change of the old copy is not made in the new one.
 //
-// 1. NoSpace comes exactly where the space of the new copy has no room for the row.
+// 1. NoSpace is returned if and only if the space of the new copy has no room for the row.
 // 2. After a fault the new copy is as it was.
 ghost use Rattle.std.specs.Prelude.{◌≡◌};
 ghost use Rattle.rg_shadow.specs.declared.fault.ShadowFault.TheVariants.{NoMemory};
