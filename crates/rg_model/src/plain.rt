@@ -1,3 +1,8 @@
+// The rules kept here:
+//
+// 1. Each statement answers and changes the state as the definitions say, by walks over plain maps.
+// 2. A statement that is out of memory changes nothing.
+
 ghost use Rattle.std.specs.Prelude.{◌≡◌, ◌∷◌, [], OnOk, OnErr, IfOk, Some, None, not, true};
 ghost use Rattle.std.specs.FinMap as map;
 ghost use Rattle.rg_model.specs.Claims.{claim_classes};

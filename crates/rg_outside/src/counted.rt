@@ -1,3 +1,9 @@
+// The rules kept here:
+//
+// 1. Each call that is passed to the volume below is counted once, a failed one too.
+// 2. The count stays at 2 ^ 64 - 1 once it stands there, so it never wraps round.
+// 3. So the count is at most the number of calls that a known volume has seen.
+
 ghost use Rattle.std.specs.Prelude.{◌≡◌, ◌≤◌, ◌+◌, length};
 ghost use Rattle.rg_outside.specs.Moments.{IfTold};
 

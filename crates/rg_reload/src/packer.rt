@@ -73,8 +73,8 @@ impl Model for Packer {
     ghost view = { λ p. reloading_at p.copy p.capacity p.options p.rows.items p.count p.filled
         p.made };
 
-    ghost invariant = { λ p. IsReloading (reloading_at p.copy p.capacity p.options p.rows.items p.count
-        p.filled p.made) p.pairs p.made };
+    ghost invariant = { λ p. IsReloading (reloading_at p.copy p.capacity p.options p.rows.items
+        p.count p.filled p.made) p.pairs p.made };
 }
 
 impl Packer {
@@ -202,8 +202,9 @@ impl Packer {
     /// The space of the new copy, and the old and the new place of each row.
     pub fn finish(self) -> (Space<ListFrames>, Pairs)
         requires { self.whole ≡ true }
-        ensures space { IsCopy self.copy self.capacity (page_count self.options.freepage self.filled)
-            (packed_rows self.options self.rows) result.0 }
+        ensures space { IsCopy self.copy self.capacity
+            (page_count self.options.freepage self.filled) (packed_rows self.options self.rows)
+            result.0 }
         // The pages and their spots are those of packed rows.
         ensures spots { moved_spots (packed_rows self.options self.rows)
             ≡ spots_from self.options 0 0 0 (rows_in self.rows) }
