@@ -1,0 +1,10 @@
+pub mod Looked
+pub mod Places
+pub mod Outline
+pub mod Ties
+pub mod Keys
+pub mod Twins
+pub mod StoredRows
+pub mod Breach
+pub mod Turns
+pub mod Laws
