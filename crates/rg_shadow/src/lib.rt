@@ -12,8 +12,8 @@ mod plans;
 mod pieces;
 // The mapping table of pairs.
 mod mapping;
-// The list of an index.
-mod sort;
+/// The list of an index.
+pub mod sort;
 /// The new copy.
 pub mod shadow;
 #[cfg(test)]

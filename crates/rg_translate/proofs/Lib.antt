@@ -1,0 +1,4 @@
+pub mod Later
+pub mod Taking
+pub mod Making
+pub mod Replaying

@@ -1,0 +1,137 @@
+-- Changes made one after another: the rows that they leave, and what none of them names.
+use Rattle.std.proofs.Common.{◌≡◌, ℕ, ◌+◌, ◌<◌, ◌≤◌, zero, suc, Bool, true, false, List, [], ◌∷◌, ◌++◌, Option, Some, None, refl, sym, ◌∙◌, ap, subst, arith, get_or, if◌then◌else◌, length, take, drop}
+use Rattle.std.proofs.lemmas.List.{take_more}
+use Rattle.std.proofs.lemmas.List.Elements.{All-contains}
+use Rattle.std.specs.List.{All, Contains}
+use Rattle.rg_base.specs.declared.change.Change.{Change}
+use Rattle.rg_base.specs.declared.place.Place.{Place}
+use Rattle.rg_base.specs.declared.row.Row.{Row}
+use Rattle.rg_fold.specs.Fed.{SetsRow}
+use Rattle.rg_fold.specs.Fold.{changes, fold_to, since_begin}
+use Rattle.rg_fold.specs.Last.{applied_at, changed_at, last_at, later_of}
+use Rattle.rg_fold.specs.Lawful.{Lawful, kept, passes_over}
+use Rattle.rg_fold.specs.declared.item.Item.{Item}
+use Rattle.rg_fold.proofs.Batches.{batch}
+use Rattle.rg_fold.proofs.Places.{one_place, place_itself}
+use Rattle.rg_model.specs.Layout.{same_place}
+use Rattle.rg_feed.specs.Ends.{Received}
+use Rattle.rg_shadow.specs.Shade.{Applies, Shade, source_rows}
+use Rattle.rg_translate.specs.Backlog.{next_changes, to_make}
+use Rattle.rg_shadow.specs.declared.fault.ShadowFault.{ShadowFault}
+use Rattle.rg_shadow.specs.declared.fault.ShadowFault.TheVariants.{NoMemory, NoSpace}
+use Rattle.rg_translate.specs.Caught.{Caught, IsRefusedOf, SameCopy, Unmoved}
+
+applied_at-append : (place : Place) (xs ys : List Change) (row : Option Row) → applied_at place (xs ++ ys) row ≡ applied_at place ys (applied_at place xs row)
+applied_at-append place [] ys row = refl
+applied_at-append place (x ∷ xs) ys row = applied_at-append place xs ys (changed_at place x row)
+
+sets_changed : (old new : Place → Option Row) (change : Change) → SetsRow old new change.home change.after → (place : Place) → new place ≡ changed_at place change (old place)
+sets_changed old new change sets place = go (same_place change.home place) refl
+  where
+    go : (b : Bool) → same_place change.home place ≡ b → new place ≡ (if b then change.after else old place)
+    go true same = ap new (sym (one_place change.home place same)) ∙ sets.here
+    go false other = sets.others place other
+
+-- one change more is made
+pub made_more : (cs : List Change) (i : ℕ) (change : Change) (after : Option Row) (start old new : Shade) → i < length cs → change ≡ get_or cs i change → after ≡ change.after
+    → ((place : Place) → source_rows old place ≡ applied_at place (take i cs) (source_rows start place)) → Applies old change.home after new
+    → (place : Place) → source_rows new place ≡ applied_at place (take (i + 1) cs) (source_rows start place)
+made_more cs i change after start old new within is same rows applies place =
+    let sets : SetsRow (source_rows old) (source_rows new) change.home change.after = subst (SetsRow (source_rows old) (source_rows new) change.home) same applies.rows in
+    sets_changed (source_rows old) (source_rows new) change sets place ∙ ap (changed_at place change) (rows place)
+    ∙ sym (ap (λ ds. applied_at place ds (source_rows start place)) (take_more cs i change within ∙ ap (λ c. take i cs ++ c ∷ []) (sym is)) ∙ applied_at-append place (take i cs) (change ∷ []) (source_rows start place))
+
+-- places that changes do not name
+
+both_none : (later earlier : Option Change) → later_of later earlier ≡ None → (later ≡ None) × (earlier ≡ None)
+both_none None earlier e = (refl, e)
+both_none (Some change) earlier e = absurd (cc (e))
+
+off_home : (change : Change) (b : Bool) → (if b then Some change else None) ≡ None → b ≡ false
+off_home change true e = absurd (cc (e))
+off_home change false e = refl
+
+parts_of : (place : Place) (c : Change) (cs : List Change) → last_at place (c ∷ cs) ≡ None → (last_at place cs ≡ None) × (same_place c.home place ≡ false)
+parts_of place c cs e =
+    let parts = both_none (last_at place cs) (if same_place c.home place then Some c else None) e in
+    (parts.0, off_home c (same_place c.home place) parts.1)
+
+unnamed_each : (place : Place) (cs : List Change) (i : ℕ) (d : Change) → i < length cs → last_at place cs ≡ None → same_place (get_or cs i d).home place ≡ false
+unnamed_each place [] i d within e = absurd (omega (arith, within))
+unnamed_each place (c ∷ cs) zero d within e = (parts_of place c cs e).1
+unnamed_each place (c ∷ cs) (suc i) d within e = unnamed_each place cs i d (omega (arith, within)) (parts_of place c cs e).0
+
+pub unmoved_none : (old : Shade) (cs : List Change) → Unmoved old old cs
+unmoved_none old cs = record { rows = λ source e. refl; targets = λ source e. refl; lie = λ source target e f. refl }
+
+pub unmoved_more : (cs : List Change) (i : ℕ) (change : Change) (after : Option Row) (start old new : Shade) → i < length cs → change ≡ get_or cs i change → Unmoved start old cs
+    → Applies old change.home after new → Unmoved start new cs
+unmoved_more cs i change after start old new within is unmoved applies = record {
+  rows = λ source e. applies.rows.others source (off source e) ∙ unmoved.rows source e;
+  targets = λ source e. applies.targets source (off source e) ∙ unmoved.targets source e;
+  lie = λ source target e f. applies.lie source target (off source e) (unmoved.targets source e ∙ f) ∙ unmoved.lie source target e f;
+}
+  where
+    off : (source : Place) → last_at source cs ≡ None → same_place change.home source ≡ false
+    off source e = ap (λ (c : Change). same_place c.home source) is ∙ unnamed_each source cs i change within e
+
+pub unmoved_fewer : (old new : Shade) (cs ds : List Change) → ((source : Place) → last_at source cs ≡ None → last_at source ds ≡ None) → Unmoved old new ds → Unmoved old new cs
+unmoved_fewer old new cs ds none unmoved = record {
+  rows = λ source e. unmoved.rows source (none source e);
+  targets = λ source e. unmoved.targets source (none source e);
+  lie = λ source target e f. unmoved.lie source target (none source e) f;
+}
+
+pub none_kept : (place : Place) (feed : List Item) (cs : List Change) → last_at place cs ≡ None → last_at place (kept feed cs) ≡ None
+none_kept place feed [] e = refl
+none_kept place feed (c ∷ cs) e = go (passes_over feed c) (both_none (last_at place cs) (if same_place c.home place then Some c else None) e) (none_kept place feed cs)
+  where
+    go : (b : Bool) → (last_at place cs ≡ None) × ((if same_place c.home place then Some c else None) ≡ None) → (last_at place cs ≡ None → last_at place (kept feed cs) ≡ None)
+        → last_at place (if b then kept feed cs else c ∷ kept feed cs) ≡ None
+    go true none rest = rest none.0
+    go false none rest = ap (λ later. later_of later (if same_place c.home place then Some c else None)) (rest none.0) ∙ none.1
+
+-- changes that name no place are none
+pub none_named : (cs : List Change) → ((place : Place) → last_at place cs ≡ None) → cs ≡ []
+none_named [] none = refl
+none_named (c ∷ cs) none = absurd (cc (sym (place_itself c.home) ∙ (parts_of c.home c cs (none c.home)).1))
+
+-- the copy
+
+pub copy_none : (old : Shade) → SameCopy old old
+copy_none old = record { copy = refl; capacity = refl; built = λ which e. e }
+
+pub copy_more : (start old new : Shade) (source : Place) (after : Option Row) → SameCopy start old → Applies old source after new → SameCopy start new
+copy_more start old new source after same applies = record {
+  copy = applies.copy ∙ same.copy;
+  capacity = applies.capacity ∙ same.capacity;
+  built = λ which e. applies.built which (same.built which e);
+}
+
+-- a batch
+
+-- once the net of a batch is made, the new copy is caught up
+pub caught_up : (old new : Shade) (inlet later : Received) (n : ℕ) (net : List Change) → Lawful (since_begin inlet.items) → Caught old inlet
+    → n ≤ length (drop inlet.taken (changes (since_begin inlet.items))) → later.items ≡ inlet.items → later.taken ≡ inlet.taken + n
+    → ((place : Place) (row : Option Row) → applied_at place net row ≡ applied_at place (to_make n inlet) row)
+    → ((place : Place) → source_rows new place ≡ applied_at place net (source_rows old place)) → Caught new later
+caught_up old new inlet later n net lawful caught within items taken same rows place =
+    let k : later.taken ≡ n + inlet.taken = omega (arith, taken) in
+    rows place ∙ same place (source_rows old place) ∙ ap (applied_at place (to_make n inlet)) (caught place)
+    ∙ sym (batch inlet.items n inlet.taken (drop inlet.taken (changes (since_begin inlet.items))) lawful refl within place)
+    ∙ sym (ap (λ xs. fold_to xs later.taken place) items ∙ ap (λ m. fold_to inlet.items m place) k)
+
+-- what no change of the batch names, none of its net does
+pub unmoved_by : (old new : Shade) (inlet : Received) (n : ℕ) (net : List Change)
+    → ((place : Place) → last_at place net ≡ last_at place (to_make n inlet)) → Unmoved old new net → Unmoved old new (next_changes n inlet)
+unmoved_by old new inlet n net last unmoved =
+    unmoved_fewer old new (next_changes n inlet) net (λ source e. last source ∙ none_kept source (since_begin inlet.items) (next_changes n inlet) e) unmoved
+
+-- so it is where nothing is to be made
+pub idle_by : (old new : Shade) (batch net : List Change) → ((place : Place) → last_at place net ≡ last_at place batch) → (net ≡ [] → new ≡ old) → batch ≡ [] → new ≡ old
+idle_by old new batch net last idle none = idle (none_named net (λ place. last place ∙ ap (last_at place) none))
+
+-- a change that is refused is one of the batch
+pub refused_by : (shadow : Shade) (batch net : List Change) (fault : ShadowFault) → All (Contains batch) net → IsRefusedOf shadow net fault → IsRefusedOf shadow batch fault
+refused_by shadow batch net NoSpace members (change, within, refuses) = (change, All-contains (Contains batch) net change members within, refuses)
+refused_by shadow batch net NoMemory members refused = tt

@@ -1,0 +1,18 @@
+use Rattle.std.proofs.Common.{ap, arith, length}
+use Rattle.rg_translate.proofs.Making.{copy_more, made_more, unmoved_more}
+use Rattle.rg_translate.proofs.make.make_changes.Goals as goal
+
+pub loop-change-preserved : goal.loop-change-preserved
+loop-change-preserved c =
+    let i = c.loop-change.invariant in
+    let cs = c.args.changes.now in
+    let change = c.change-item.result in
+    let start = c.args.shadow.now in
+    let old = c.loop-change.shadow in
+    let new = c.apply.new.self in
+    let applies = c.in_ok-apply.ensures.applies in record {
+      rows = made_more cs c.loop-change.change-index change _ start old new c.loop-change-test.true c.change-item.is c.as_ref.ensures.value i.rows applies;
+      unmoved = unmoved_more cs c.loop-change.change-index change _ start old new c.loop-change-test.true c.change-item.is i.unmoved applies;
+      copy = copy_more start old new change.home _ i.copy applies;
+      idle = λ none. absurd (omega (arith, c.loop-change-test.true, ap length none));
+    }

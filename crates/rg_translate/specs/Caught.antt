@@ -1,0 +1,45 @@
+-- What it is to be up to date, and what the changes of one batch leave alone.
+--
+-- 1. A new copy is caught up where the row of each source is the one that the items received give
+--    it, without the changes that were not taken yet.
+-- 2. A source that no change of a batch names has the row and the target that it had, and its row
+--    lies where it lay. So what was packed stays packed where nothing was written.
+-- 3. Only a change that is made can be refused.
+use Rattle.std.specs.Prelude.{◌≡◌, List, Some, None, Contains}
+use Rattle.rg_base.specs.declared.change.Change.{Change}
+use Rattle.rg_base.specs.declared.place.Place.{Place}
+use Rattle.rg_base.specs.declared.which.Which.{Which}
+use Rattle.rg_feed.specs.Ends.{Received}
+use Rattle.rg_fold.specs.Fold.{fold_to}
+use Rattle.rg_fold.specs.Last.{last_at}
+use Rattle.rg_shadow.specs.Shade.{Refuses, Shade, lies_in, source_rows, stage_in, target_of}
+use Rattle.rg_shadow.specs.declared.drafts.IndexStage.TheVariants.{Built}
+use Rattle.rg_shadow.specs.declared.fault.ShadowFault.{ShadowFault}
+use Rattle.rg_shadow.specs.declared.fault.ShadowFault.TheVariants.{NoMemory, NoSpace}
+
+-- the rows of sources are those that the items give, up to the changes taken
+abbrev pub Caught : Shade → Received → Type 0
+Caught shadow inlet =
+    (source : Place) → source_rows shadow source ≡ fold_to inlet.items inlet.taken source
+
+-- a source that none of these changes names has its row and its target, and its row lies where it
+-- lay
+pub record Unmoved (old new : Shade) (cs : List Change) : Type 0 where
+  pub rows : (source : Place) → last_at source cs ≡ None
+      → source_rows new source ≡ source_rows old source
+  pub targets : (source : Place) → last_at source cs ≡ None
+      → target_of new source ≡ target_of old source
+  pub lie : (source target : Place) → last_at source cs ≡ None
+      → target_of old source ≡ Some target → lies_in new target ≡ lies_in old target
+
+-- the number of the copy and its capacity are the same, and what was built stays so
+pub record SameCopy (old new : Shade) : Type 0 where
+  pub copy : new.copy ≡ old.copy
+  pub capacity : new.capacity ≡ old.capacity
+  pub built : (which : Which) → stage_in which old ≡ Built → stage_in which new ≡ Built
+
+-- as it is, a new copy has no room for the row of one of these changes; or there is no memory
+abbrev pub IsRefusedOf : Shade → List Change → ShadowFault → Type 0
+IsRefusedOf shadow cs NoSpace =
+    (change : Change) × Contains cs change × Refuses shadow change.home change.after NoSpace
+IsRefusedOf shadow cs NoMemory = Unit {0}
