@@ -1,0 +1,4 @@
+pub mod Blank
+pub mod Sounding
+pub mod Covering
+pub mod Redoable

@@ -1,0 +1,3 @@
+pub mod Laws
+pub mod Rebuilt
+pub mod Seen
