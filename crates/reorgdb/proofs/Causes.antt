@@ -1,61 +1,35 @@
 -- The contract of a call follows from what it comes to.
-use Rattle.std.proofs.Common.{◌≡◌, ◌≢◌, ◌<◌, ◌≤◌, ◌+◌, ◌*◌, ◌⊎◌, inl, inr, ℕ, zero, suc, ◌-◌, ◌^◌, Bool, true, false, nat_le, if◌then◌else◌, slice_index_or, List, [], ◌∷◌, ◌++◌, Option, Some, None, length, refl, sym, ◌∙◌, ap, subst, arith, append-nil, length-append}
-use Rattle.std.proofs.lemmas.Bool.Decides.{nat_tests}
-use Rattle.std.specs.List.{AllByRecursion, Contains}
+use Rattle.std.proofs.Common.{◌≡◌, ◌≢◌, ◌<◌, ◌≤◌, ◌+◌, ◌*◌, ◌⊎◌, inl, inr, ℕ, zero, suc, ◌-◌, ◌^◌, slice_index_or, List, [], ◌∷◌, ◌++◌, Option, Some, None, length, refl, sym, ◌∙◌, ap, subst, arith, append-nil, length-append}
+use Rattle.std.specs.List.{Contains}
 use Rattle.std.specs.Io.KnownBytes.{Consumes, Appends, IsAtEnd}
 use Rattle.rg_base.specs.declared.set.Set.{Set}
-use Rattle.rg_base.specs.declared.set.Set.TheVariants.{First, Log, Second}
+use Rattle.rg_base.specs.declared.set.Set.TheVariants.{Log}
 use Rattle.rg_deck.specs.declared.read.TheConstants.{DECK_LIMIT}
-use Rattle.rg_model.specs.Legal.{Legal}
 use Rattle.rg_outside.specs.Faults.{Rose}
-use Rattle.rg_desk.specs.Desk.{copy_capacity, no_rows}
 use Rattle.rg_outside.specs.Capacities.{Capacities}
 use Rattle.rg_image.specs.Rules.{limit_of}
 use Rattle.rg_log.specs.Kept.{log_pages}
-use Rattle.rg_run.specs.Full.{IsFullFrom, IsFullOnlyFrom}
+use Rattle.rg_run.specs.Full.{IsFullOnlyFrom, smaller_pages}
 use Rattle.rg_run.specs.LogFull.{IsLogFullOnlyFrom}
 use Rattle.rg_run.specs.Outside.{IfCounted, IsDeviceOnlyIf, IsEnd, MadeSince, MakesOnly}
+use Rattle.rg_run.specs.Table.{IsLegalRun, IsOpening}
 use Rattle.rg_run.specs.declared.played.RunEnd.TheVariants as ends
-use Rattle.rg_restart.specs.Opening.{HasFreshLog}
-use Rattle.rg_image.specs.Rules.{HasLogPages}
+use Rattle.rg_run.proofs.Between.{quiet_reads}
+use Rattle.rg_run.proofs.Fullness.{full_less}
+use Rattle.rg_restart.specs.Sound.{IsDamage}
+use Rattle.rg_restart.proofs.Exact.{sound_breaks_none}
 use Rattle.rg_log.specs.Open.{IsQuiet}
-use Rattle.rg_outside.specs.Calls.{Call, Image, Told, read_of, Read, Wrote, Synced, FailedRead, FailedWrite, FailedSync, Refused}
+use Rattle.rg_outside.specs.Calls.{Image, Told, read_of}
 use Rattle.rg_outside.specs.Made.{WritesIn}
 use Rattle.rg_desk.specs.Volume.{VolumeSeen}
-use Rattle.rg_desk.specs.Chronicle.{allowed_after}
 use Rattle.rg_stmt.specs.declared.event.Entry.{Entry}
-use Rattle.rg_stmt.specs.declared.event.Event.{Event}
-use Rattle.rg_stmt.specs.declared.event.Event.TheVariants.{Said}
-use Rattle.rg_stmt.specs.declared.stmt.Reply.TheVariants.{Full}
 use Rattle.reorgdb.specs.Answer.{Seen, IsPlay, IsDeck, ReadsDeck, Comes, Concludes, Finds, output_of}
-use Rattle.reorgdb.specs.Causes.{IsFreshVolume, Plays, RefusesDeck, RefusesVolume, IsDue, GivesDue}
-use Rattle.reorgdb.specs.Contract.{Completes, pages_of, smaller_pages}
+use Rattle.reorgdb.specs.Causes.{IsSoundVolume, Plays, RefusesDeck, RefusesVolume, IsDue, GivesDue}
+use Rattle.reorgdb.specs.Contract.{Completes}
 use Rattle.reorgdb.specs.Reading.{TakesAtMost, TakesTooMany}
 use Rattle.reorgdb.specs.Refusals.{status_of}
 use Rattle.reorgdb.specs.declared.outcome.Outcome.{Outcome}
 use Rattle.reorgdb.specs.declared.outcome.Outcome.TheVariants.{Played, Down, Words, Deck, Source, Damaged, Device, Long, NoMemory}
-
--- ---- FULL
-
--- the smaller copy has no more pages than the first
-smaller : (first second : ℕ) → (if nat_le first second then first else second) ≤ first
-smaller first second = by_test (nat_le first second) refl
-  where
-    by_test : (b : Bool) → nat_le first second ≡ b → (if b then first else second) ≤ first
-    by_test true e = omega arith
-    by_test false e = grind (arith, nat_tests, e)
-
-few_pages : (capacities : Capacities) → 3200 * smaller_pages capacities ≤ 3221 * copy_capacity capacities
-few_pages capacities = let least = smaller (pages_of capacities First) (pages_of capacities Second) in omega (arith, least)
-
-full_one : (less more allowed : ℕ) (event : Event) → less ≤ more → IsFullFrom more allowed event → IsFullFrom less allowed event
-full_one less more allowed (Said stmt (Full need)) le is = omega (arith, le, is)
-full_one less more allowed (Said stmt reply) le is = is
-full_one less more allowed event le is = is
-
-full_less : (less more allowed : ℕ) (entries : List Entry) → less ≤ more → IsFullOnlyFrom more allowed entries → IsFullOnlyFrom less allowed entries
-full_less less more allowed [] le all = tt
-full_less less more allowed (entry ∷ entries) le all = (full_one less more allowed entry.event le all.0, full_less less more (allowed_after allowed entry.event) entries le all.1)
 
 not_four : (a : Outcome) → status_of a ≢ 4
 not_four Played e = omega arith
@@ -91,17 +65,6 @@ too_many (Some all) (Some left) taken bytes told consumed many short =
 
 -- ---- the volume
 
--- calls that write nothing leave what reads
-quiet_reads : (first : Image) (fresh calls : List Call) (s : Set) (p : ℕ) → AllByRecursion IsQuiet fresh → read_of first (fresh ++ calls) s p ≡ read_of first calls s p
-quiet_reads first [] calls s p all = refl
-quiet_reads first (Read ∷ fresh) calls s p all = quiet_reads first fresh calls s p all.1
-quiet_reads first (Wrote set page bytes ∷ fresh) calls s p all = absurd all.0
-quiet_reads first (Synced ∷ fresh) calls s p all = quiet_reads first fresh calls s p all.1
-quiet_reads first (FailedRead ∷ fresh) calls s p all = quiet_reads first fresh calls s p all.1
-quiet_reads first (FailedWrite set page bytes reads ∷ fresh) calls s p all = absurd all.0
-quiet_reads first (FailedSync ∷ fresh) calls s p all = quiet_reads first fresh calls s p all.1
-quiet_reads first (Refused ∷ fresh) calls s p all = quiet_reads first fresh calls s p all.1
-
 same_image : (old new : Told) (since : MadeSince IsQuiet (Some old) new) → read_of new.first new.calls ≡ read_of old.first old.calls
 same_image old new since =
     let is : since.before ≡ old = cc (since.was) in
@@ -109,16 +72,18 @@ same_image old new since =
     let calls : new.calls ≡ since.fresh ++ old.calls = since.calls ∙ ap (λ (t : Told). since.fresh ++ t.calls) is in
     ap (λ (i : Image). read_of i new.calls) first ∙ ap (read_of old.first) calls ∙ (λ i s p. quiet_reads old.first since.fresh old.calls s p since.each i)
 
--- an opening that is refused finds the log as it was
-still_fresh : (before after : VolumeSeen) (set : Set) (page : ℕ) → IsFreshVolume before after → IsEnd before after (ends.Damaged set page) → ⊥
-still_fresh before after set page fresh end =
-    let told = fresh.is in
-    let used : length fresh.new.calls < 2 ^ 64 - 1 → HasFreshLog after fresh.new → ⊥ = subst (λ (o : Option Told). IfCounted o (λ t. HasFreshLog after t → ⊥)) told end.1 in
-    let quiet : length fresh.new.calls < 2 ^ 64 - 1 → MadeSince IsQuiet before.told fresh.new = subst (λ (o : Option Told). IfCounted o (MadeSince IsQuiet before.told)) told end.2 in
-    let image : read_of fresh.new.first fresh.new.calls ≡ read_of fresh.old.first fresh.old.calls = same_image fresh.old fresh.new (subst (λ (o : Option Told). MadeSince IsQuiet o fresh.new) fresh.was (quiet fresh.few)) in
-    used fresh.few
-    (subst (λ (i : Image). HasLogPages (log_pages after.capacities) i []) (sym image)
-    (subst (λ (c : Capacities). HasLogPages (log_pages c) (read_of fresh.old.first fresh.old.calls) []) (sym end.3) fresh.fresh))
+-- an opening that is refused finds the volume as it was
+still_sound : (before after : VolumeSeen) (set : Set) (page : ℕ) → IsSoundVolume before after → IsEnd before after (ends.Damaged set page) → ⊥
+still_sound before after set page volume end =
+    let told = volume.is in
+    let damage : length volume.new.calls < 2 ^ 64 - 1 → IsDamage after.capacities (read_of volume.new.first volume.new.calls) set page =
+    subst (λ (o : Option Told). IfCounted o (λ t. IsDamage after.capacities (read_of t.first t.calls) set page)) told end.0 in
+    let quiet : length volume.new.calls < 2 ^ 64 - 1 → MadeSince IsQuiet before.told volume.new = subst (λ (o : Option Told). IfCounted o (MadeSince IsQuiet before.told)) told end.1 in
+    let image : read_of volume.new.first volume.new.calls ≡ read_of volume.old.first volume.old.calls =
+    same_image volume.old volume.new (subst (λ (o : Option Told). MadeSince IsQuiet o volume.new) volume.was (quiet volume.few)) in
+    sound_breaks_none before.capacities (read_of volume.old.first volume.old.calls) set page volume.sound.0 volume.sound.1
+    (subst (λ (c : Capacities). IsDamage c (read_of volume.old.first volume.old.calls) set page) end.2
+    (subst (λ (i : Image). IsDamage after.capacities i set page) image (damage volume.few)))
 
 -- ---- statuses
 
@@ -140,7 +105,7 @@ module _ (words : List (List ℕ)) (source source_after sink sink_after : Seen) 
   -- a status but 4 and 8 is the outcome's
   record OfStatus (outcome : Outcome) (print : List ℕ) : Type 0 where
     is : status ≡ status_of outcome
-    comes : Comes outcome words source source_after trace print
+    comes : Comes outcome words source source_after volume volume_after trace print
     finds : Finds outcome volume volume_after
     shown : Appends sink.bytes sink_after.bytes (output_of outcome print)
 
@@ -150,7 +115,7 @@ module _ (words : List (List ℕ)) (source source_after sink sink_after : Seen) 
     | inr front ↦ elim front [ inl failed ↦ absurd (four failed.0) | inr wanted ↦ absurd (eight wanted.0) ]
   ]
 
-  played_of : (outcome : Outcome) (print : List ℕ) → status ≡ 0 → OfStatus outcome print → Plays words source source_after sink sink_after trace
+  played_of : (outcome : Outcome) (print : List ℕ) → status ≡ 0 → OfStatus outcome print → Plays words source source_after sink sink_after volume volume_after trace
   played_of Played print is of =
       let (play, bytes, read, deals) = of.comes in
       let (lines, spelled, printed) = deals in
@@ -167,7 +132,7 @@ module _ (words : List (List ℕ)) (source source_after sink sink_after : Seen) 
       }
   played_of outcome print is of = absurd (omega (arith, of.is, is))
 
-  plays : Concludes words source source_after sink sink_after volume volume_after status trace → status ≡ 0 → Plays words source source_after sink sink_after trace
+  plays : Concludes words source source_after sink sink_after volume volume_after status trace → status ≡ 0 → Plays words source source_after sink sink_after volume volume_after trace
   plays a is = played_of a.outcome a.print is (by_status (λ e. omega arith) (λ e. omega arith) a)
 
   words_of : (outcome : Outcome) (print : List ℕ) → status ≡ 1 → OfStatus outcome print → IsPlay words → ⊥
@@ -249,7 +214,7 @@ module _ (words : List (List ℕ)) (source source_after sink sink_after : Seen) 
     | inr front ↦ elim front [ inl failed ↦ (1, omega arith, sym failed.0) | inr wanted ↦ (2, omega arith, sym wanted.0) ]
   ]
     where
-      refused : (outcome : Outcome) (print : List ℕ) → Comes outcome words source source_after trace print → outcome ≡ Words
+      refused : (outcome : Outcome) (print : List ℕ) → Comes outcome words source source_after volume volume_after trace print → outcome ≡ Words
       refused Words print comes = refl
       refused Played print comes = absurd (other comes.0)
       refused Down print comes = absurd (other comes.0)
@@ -266,7 +231,7 @@ module _ (words : List (List ℕ)) (source source_after sink sink_after : Seen) 
 
   -- what comes where nothing fails has the status of what is due, or is want of memory
   due_outcome : (outcome due : Outcome) (bytes print : List ℕ) → source.bytes ≡ Some bytes → IsDue due words bytes volume volume_after → (Rose source.faults source_after.faults → ⊥)
-      → Comes outcome words source source_after trace print → Finds outcome volume volume_after → (status_of outcome ≡ status_of due) ⊎ (outcome ≡ NoMemory)
+      → Comes outcome words source source_after volume volume_after trace print → Finds outcome volume volume_after → (status_of outcome ≡ status_of due) ⊎ (outcome ≡ NoMemory)
   due_outcome NoMemory due bytes print told is_due sure comes finds = inr refl
   due_outcome Source due bytes print told is_due sure comes finds = absurd (sure comes.1)
   due_outcome outcome Source bytes print told is_due sure comes finds = absurd is_due
@@ -291,7 +256,7 @@ module _ (words : List (List ℕ)) (source source_after sink sink_after : Seen) 
       absurd (refused.1 lines (subst (λ b. IsDeck b lines) (sym (all_read read bytes told reads)) spelled))
   due_outcome Down Played bytes print told is_due sure comes finds = absurd (is_due.3.sure finds)
   due_outcome Device Played bytes print told is_due sure comes finds = absurd (is_due.3.sure finds)
-  due_outcome (Damaged set page) Played bytes print told is_due sure comes finds = absurd (still_fresh volume volume_after set page is_due.3 finds)
+  due_outcome (Damaged set page) Played bytes print told is_due sure comes finds = absurd (still_sound volume volume_after set page is_due.3 finds)
   due_outcome outcome Words bytes print told is_due sure comes finds = absurd (is_due comes.0)
   due_outcome Played (Deck line) bytes print told is_due sure comes finds =
       let (play, read, reads, deals) = comes in
@@ -323,17 +288,18 @@ module _ (words : List (List ℕ)) (source source_after sink sink_after : Seen) 
 
   -- the whole contract, by what the call comes to
   pub completes :
-      Concludes words source source_after sink sink_after volume volume_after status trace → Legal no_rows trace
-      → IsFullOnlyFrom (3221 * copy_capacity volume.capacities) 0 trace
+      Concludes words source source_after sink sink_after volume volume_after status trace → IsLegalRun volume volume_after trace → IsOpening volume volume_after trace
+      → IsFullOnlyFrom (3221 * smaller_pages volume.capacities) 0 trace
       → IsLogFullOnlyFrom (limit_of (log_pages volume.capacities)) 0 trace
       → IsDeviceOnlyIf (Rose volume.faults volume_after.faults) trace
       → MakesOnly (WritesIn Log) volume.told volume_after.told
       → TakesAtMost (DECK_LIMIT + 1) source.bytes source_after.bytes
       → Completes words source source_after sink sink_after volume volume_after status trace
-  completes concludes legal full log_full device only bounded = record {
+  completes concludes legal opening full log_full device only bounded = record {
     concludes = concludes;
     legal = legal;
-    full = full_less (3200 * smaller_pages volume.capacities) (3221 * copy_capacity volume.capacities) 0 trace (few_pages volume.capacities) full;
+    opening = opening;
+    full = full_less (3200 * smaller_pages volume.capacities) (3221 * smaller_pages volume.capacities) 0 trace (omega arith) full;
     log_full = log_full;
     device = device;
     only = only;

@@ -10,7 +10,9 @@ use Rattle.rg_stmt.specs.declared.line.Line.{Line}
 use Rattle.rg_stmt.specs.declared.line.Line.TheVariants.{Said, Show}
 use Rattle.rg_deck.specs.Grammar.{IsAdmitted}
 use Rattle.rg_deck.specs.declared.read.Admits.TheVariants.{Layouts}
-use Rattle.rg_run.specs.Played.{IsPlayed, TraceOf, TraceOfFront, Ends}
+use Rattle.rg_desk.specs.Volume.{VolumeSeen}
+use Rattle.rg_run.specs.Played.{IsPlayed, TraceOf, TraceOfFront}
+use Rattle.rg_run.specs.Table.{Ends}
 use Rattle.rg_run.specs.declared.played.RunEnd.{RunEnd}
 use Rattle.rg_run.specs.declared.played.RunEnd.TheVariants.{Whole, Down as Ended}
 use Rattle.reorgdb.specs.Answer.{Comes, DealsWithBytes, DealsWithLines, IsDeck, IsPlay, ReadsDeck, Seen}
@@ -26,52 +28,52 @@ front_of : (bytes : List ℕ) (lines : List Line) (trace : List Entry) → IsDec
 front_of bytes lines trace spelled (inl none) = inl none
 front_of bytes lines trace spelled (inr front) = inr (lines, spelled, front)
 
-pub DealsWithBytes-lines : (full : Bool) (outcome : Outcome) (bytes : List ℕ) (lines : List Line) (trace : List Entry) (print : List ℕ) → IsDeck bytes lines
-    → DealsWithLines full lines outcome trace print → DealsWithBytes full bytes outcome trace print
-DealsWithBytes-lines full Played bytes lines trace print spelled deals = (lines, spelled, deals)
-DealsWithBytes-lines full Down bytes lines trace print spelled deals = (lines, spelled, deals)
-DealsWithBytes-lines full (Damaged set page) bytes lines trace print spelled deals = (lines, spelled, deals.0, deals.1)
-DealsWithBytes-lines full Device bytes lines trace print spelled deals = (lines, spelled, deals)
-DealsWithBytes-lines full NoMemory bytes lines trace print spelled deals = front_of bytes lines trace spelled deals
-DealsWithBytes-lines full Words bytes lines trace print spelled deals = deals
-DealsWithBytes-lines full (Deck line) bytes lines trace print spelled deals = absurd deals
-DealsWithBytes-lines full Source bytes lines trace print spelled deals = deals
-DealsWithBytes-lines full Long bytes lines trace print spelled deals = deals
+pub DealsWithBytes-lines : (full : Bool) (volume volume_after : VolumeSeen) (outcome : Outcome) (bytes : List ℕ) (lines : List Line) (trace : List Entry) (print : List ℕ) → IsDeck bytes lines
+    → DealsWithLines full volume volume_after lines outcome trace print → DealsWithBytes full volume volume_after bytes outcome trace print
+DealsWithBytes-lines full volume volume_after Played bytes lines trace print spelled deals = (lines, spelled, deals)
+DealsWithBytes-lines full volume volume_after Down bytes lines trace print spelled deals = (lines, spelled, deals)
+DealsWithBytes-lines full volume volume_after (Damaged set page) bytes lines trace print spelled deals = (lines, spelled, deals.0, deals.1)
+DealsWithBytes-lines full volume volume_after Device bytes lines trace print spelled deals = (lines, spelled, deals)
+DealsWithBytes-lines full volume volume_after NoMemory bytes lines trace print spelled deals = front_of bytes lines trace spelled deals
+DealsWithBytes-lines full volume volume_after Words bytes lines trace print spelled deals = deals
+DealsWithBytes-lines full volume volume_after (Deck line) bytes lines trace print spelled deals = absurd deals
+DealsWithBytes-lines full volume volume_after Source bytes lines trace print spelled deals = deals
+DealsWithBytes-lines full volume volume_after Long bytes lines trace print spelled deals = deals
 
 -- what a run comes to, once its print was made, or there was no memory for it
 
-pub prints_whole : (full : Bool) (lines : List Line) (trace read shown : List Entry) (rows : ℕ) (end : RunEnd) (text : Result Bytes WantsMemory) (outcome : Outcome) (print : List ℕ)
+pub prints_whole : (full : Bool) (volume volume_after : VolumeSeen) (lines : List Line) (trace read shown : List Entry) (rows : ℕ) (end : RunEnd) (text : Result Bytes WantsMemory) (outcome : Outcome) (print : List ℕ)
     → end ≡ Whole rows → read ≡ trace → shown ≡ trace → IfOk text (λ p. p ≡ print_text read full (closes.Rows rows)) → IfOk text (λ p. (outcome ≡ Played) × (print ≡ p)) → OnErr text (outcome ≡ NoMemory)
-    → Ends lines trace end → DealsWithLines full lines outcome shown print
-prints_whole full lines trace read shown rows end (Ok text) outcome print is read_is same printed made none ends =
-    let whole : Ends lines trace (Whole rows) = subst (Ends lines trace) is ends in
+    → Ends volume volume_after lines trace end → DealsWithLines full volume volume_after lines outcome shown print
+prints_whole full volume volume_after lines trace read shown rows end (Ok text) outcome print is read_is same printed made none ends =
+    let whole : Ends volume volume_after lines trace (Whole rows) = subst (Ends volume volume_after lines trace) is ends in
     rw (made.0, same) (record { entries = whole.0; rows = rows; counted = whole.1; printed = made.1 ∙ printed ∙ ap (λ (es : List Entry). print_text es full (closes.Rows rows)) read_is })
-prints_whole full lines trace read shown rows end (Err e) outcome print is read_is same printed made none ends =
-    let whole : Ends lines trace (Whole rows) = subst (Ends lines trace) is ends in
+prints_whole full volume volume_after lines trace read shown rows end (Err e) outcome print is read_is same printed made none ends =
+    let whole : Ends volume volume_after lines trace (Whole rows) = subst (Ends volume volume_after lines trace) is ends in
     rw (none, same) (inr (TraceOfFront-whole lines trace whole.0))
 
-pub prints_down : (full : Bool) (lines : List Line) (trace read shown : List Entry) (end : RunEnd) (text : Result Bytes WantsMemory) (outcome : Outcome) (print : List ℕ)
+pub prints_down : (full : Bool) (volume volume_after : VolumeSeen) (lines : List Line) (trace read shown : List Entry) (end : RunEnd) (text : Result Bytes WantsMemory) (outcome : Outcome) (print : List ℕ)
     → end ≡ Ended → read ≡ trace → shown ≡ trace → IfOk text (λ p. p ≡ print_text read full closes.Down) → IfOk text (λ p. (outcome ≡ Down) × (print ≡ p)) → OnErr text (outcome ≡ NoMemory)
-    → Ends lines trace end → DealsWithLines full lines outcome shown print
-prints_down full lines trace read shown end (Ok text) outcome print is read_is same printed made none ends =
-    let down : Ends lines trace Ended = subst (Ends lines trace) is ends in
+    → Ends volume volume_after lines trace end → DealsWithLines full volume volume_after lines outcome shown print
+prints_down full volume volume_after lines trace read shown end (Ok text) outcome print is read_is same printed made none ends =
+    let down : Ends volume volume_after lines trace Ended = subst (Ends volume volume_after lines trace) is ends in
     rw (made.0, same) (record { entries = down.0; down = down.1; printed = made.1 ∙ printed ∙ ap (λ (es : List Entry). print_text es full closes.Down) read_is })
-prints_down full lines trace read shown end (Err e) outcome print is read_is same printed made none ends =
-    let down : Ends lines trace Ended = subst (Ends lines trace) is ends in
+prints_down full volume volume_after lines trace read shown end (Err e) outcome print is read_is same printed made none ends =
+    let down : Ends volume volume_after lines trace Ended = subst (Ends volume volume_after lines trace) is ends in
     rw (none, same) (inr (TraceOfFront-whole lines trace down.0))
 
 -- what a call comes to whose words and bytes were read
-pub comes_read : (outcome : Outcome) (words : List (List ℕ)) (before after : Seen) (bytes : List ℕ) (trace : List Entry) (print : List ℕ) (asked : IsPlay words) → ReadsDeck before bytes after
-    → DealsWithBytes asked.0 bytes outcome trace print → Comes outcome words before after trace print
-comes_read Played words before after bytes trace print asked reads deals = (asked, bytes, reads, deals)
-comes_read Down words before after bytes trace print asked reads deals = (asked, bytes, reads, deals)
-comes_read (Damaged set page) words before after bytes trace print asked reads deals = (asked, bytes, reads, deals)
-comes_read Device words before after bytes trace print asked reads deals = (asked, bytes, reads, deals)
-comes_read (Deck line) words before after bytes trace print asked reads deals = (asked, bytes, reads, deals)
-comes_read NoMemory words before after bytes trace print asked reads deals = (asked, inr (bytes, reads, deals))
-comes_read Words words before after bytes trace print asked reads deals = absurd deals
-comes_read Source words before after bytes trace print asked reads deals = absurd deals
-comes_read Long words before after bytes trace print asked reads deals = absurd deals
+pub comes_read : (outcome : Outcome) (words : List (List ℕ)) (before after : Seen) (volume volume_after : VolumeSeen) (bytes : List ℕ) (trace : List Entry) (print : List ℕ) (asked : IsPlay words) → ReadsDeck before bytes after
+    → DealsWithBytes asked.0 volume volume_after bytes outcome trace print → Comes outcome words before after volume volume_after trace print
+comes_read Played words before after volume volume_after bytes trace print asked reads deals = (asked, bytes, reads, deals)
+comes_read Down words before after volume volume_after bytes trace print asked reads deals = (asked, bytes, reads, deals)
+comes_read (Damaged set page) words before after volume volume_after bytes trace print asked reads deals = (asked, bytes, reads, deals)
+comes_read Device words before after volume volume_after bytes trace print asked reads deals = (asked, bytes, reads, deals)
+comes_read (Deck line) words before after volume volume_after bytes trace print asked reads deals = (asked, bytes, reads, deals)
+comes_read NoMemory words before after volume volume_after bytes trace print asked reads deals = (asked, inr (bytes, reads, deals))
+comes_read Words words before after volume volume_after bytes trace print asked reads deals = absurd deals
+comes_read Source words before after volume volume_after bytes trace print asked reads deals = absurd deals
+comes_read Long words before after volume volume_after bytes trace print asked reads deals = absurd deals
 
 -- statements and layouts are played
 each_played : (line : Line) → IsAdmitted Layouts line → IsPlayed line

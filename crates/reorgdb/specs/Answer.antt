@@ -7,10 +7,10 @@ use Rattle.rg_deck.specs.declared.read.TheConstants.{DECK_LIMIT}
 use Rattle.rg_outside.specs.Faults.{Rose}
 use Rattle.rg_print.specs.Print.{damaged_text, print_text}
 use Rattle.rg_print.specs.declared.print.Close.TheVariants as closes
-use Rattle.rg_desk.specs.Desk.{EndsDown, EndsWithRows}
 use Rattle.rg_desk.specs.Volume.{VolumeSeen}
 use Rattle.rg_run.specs.Outside.{IsEnd}
 use Rattle.rg_run.specs.Played.{TraceOf, TraceOfFront}
+use Rattle.rg_run.specs.Table.{EndsAtDown, EndsWhole}
 use Rattle.rg_run.specs.declared.played.RunEnd.TheVariants as ends
 use Rattle.rg_stmt.specs.declared.event.Entry.{Entry}
 use Rattle.rg_stmt.specs.declared.line.Line.{Line}
@@ -57,78 +57,91 @@ pub record ReadsDeck (before : Seen) (bytes : List ℕ) (after : Seen) : Type 0 
 
 -- the trace has an entry for each line, and the print is the trace with the number of committed
 -- rows at its end, and with full layouts or brief ones
-pub record PrintsPlayed (full : Bool) (lines : List Line) (trace : List Entry) (print : List ℕ)
-    : Type 0 where
+pub record PrintsPlayed
+    (full : Bool) (volume volume_after : VolumeSeen) (lines : List Line) (trace : List Entry)
+    (print : List ℕ) : Type 0 where
   pub entries : TraceOf lines trace
   pub rows : ℕ
-  pub counted : EndsWithRows trace rows
+  pub counted : EndsWhole volume volume_after trace rows
   pub printed : print ≡ print_text trace full (closes.Rows rows)
 
 -- the same, where the device refused a COMMIT: the print says DOWN at its end
-pub record PrintsDown (full : Bool) (lines : List Line) (trace : List Entry) (print : List ℕ)
-    : Type 0 where
+pub record PrintsDown
+    (full : Bool) (volume volume_after : VolumeSeen) (lines : List Line) (trace : List Entry)
+    (print : List ℕ) : Type 0 where
   pub entries : TraceOf lines trace
-  pub down : EndsDown trace
+  pub down : EndsAtDown volume volume_after trace
   pub printed : print ≡ print_text trace full closes.Down
 
 -- what lines that were read come to
-abbrev pub DealsWithLines : Bool → List Line → Outcome → List Entry → List ℕ → Type 0
-DealsWithLines full lines Played trace print = PrintsPlayed full lines trace print
-DealsWithLines full lines Down trace print = PrintsDown full lines trace print
-DealsWithLines full lines (Damaged set page) trace print =
+abbrev pub DealsWithLines :
+    Bool → (volume volume_after : VolumeSeen) → List Line → Outcome → List Entry → List ℕ
+    → Type 0
+DealsWithLines full volume volume_after lines Played trace print =
+    PrintsPlayed full volume volume_after lines trace print
+DealsWithLines full volume volume_after lines Down trace print =
+    PrintsDown full volume volume_after lines trace print
+DealsWithLines full volume volume_after lines (Damaged set page) trace print =
     (trace ≡ []) × (print ≡ damaged_text set page)
-DealsWithLines full lines Device trace print = trace ≡ []
-DealsWithLines full lines NoMemory trace print = (trace ≡ []) ⊎ TraceOfFront lines trace
-DealsWithLines full lines Words trace print = ⊥
-DealsWithLines full lines (Deck line) trace print = ⊥
-DealsWithLines full lines Source trace print = ⊥
-DealsWithLines full lines Long trace print = ⊥
+DealsWithLines full volume volume_after lines Device trace print = trace ≡ []
+DealsWithLines full volume volume_after lines NoMemory trace print =
+    (trace ≡ []) ⊎ TraceOfFront lines trace
+DealsWithLines full volume volume_after lines Words trace print = ⊥
+DealsWithLines full volume volume_after lines (Deck line) trace print = ⊥
+DealsWithLines full volume volume_after lines Source trace print = ⊥
+DealsWithLines full volume volume_after lines Long trace print = ⊥
 
 -- what bytes that were read come to
-abbrev pub DealsWithBytes : Bool → List ℕ → Outcome → List Entry → List ℕ → Type 0
-DealsWithBytes full bytes Played trace print =
-    (lines : List Line) × IsDeck bytes lines × PrintsPlayed full lines trace print
-DealsWithBytes full bytes Down trace print =
-    (lines : List Line) × IsDeck bytes lines × PrintsDown full lines trace print
-DealsWithBytes full bytes (Damaged set page) trace print =
+abbrev pub DealsWithBytes :
+    Bool → (volume volume_after : VolumeSeen) → List ℕ → Outcome → List Entry → List ℕ → Type 0
+DealsWithBytes full volume volume_after bytes Played trace print =
+    (lines : List Line) × IsDeck bytes lines
+    × PrintsPlayed full volume volume_after lines trace print
+DealsWithBytes full volume volume_after bytes Down trace print =
+    (lines : List Line) × IsDeck bytes lines
+    × PrintsDown full volume volume_after lines trace print
+DealsWithBytes full volume volume_after bytes (Damaged set page) trace print =
     (lines : List Line) × IsDeck bytes lines × (trace ≡ []) × (print ≡ damaged_text set page)
-DealsWithBytes full bytes Device trace print =
+DealsWithBytes full volume volume_after bytes Device trace print =
     (lines : List Line) × IsDeck bytes lines × (trace ≡ [])
-DealsWithBytes full bytes (Deck line) trace print =
+DealsWithBytes full volume volume_after bytes (Deck line) trace print =
     IsRefusedAt bytes line × (trace ≡ []) × (print ≡ deck_refusal line)
-DealsWithBytes full bytes NoMemory trace print =
+DealsWithBytes full volume volume_after bytes NoMemory trace print =
     (trace ≡ []) ⊎ ((lines : List Line) × IsDeck bytes lines × TraceOfFront lines trace)
-DealsWithBytes full bytes Words trace print = ⊥
-DealsWithBytes full bytes Source trace print = ⊥
-DealsWithBytes full bytes Long trace print = ⊥
+DealsWithBytes full volume volume_after bytes Words trace print = ⊥
+DealsWithBytes full volume volume_after bytes Source trace print = ⊥
+DealsWithBytes full volume volume_after bytes Long trace print = ⊥
 
 -- what each outcome says of the call before its output is given
-abbrev pub Comes : Outcome → List (List ℕ) → Seen → Seen → List Entry → List ℕ → Type 0
-Comes Played words before after trace print =
+abbrev pub Comes :
+    Outcome → List (List ℕ) → Seen → Seen → (volume volume_after : VolumeSeen) → List Entry
+    → List ℕ → Type 0
+Comes Played words before after volume volume_after trace print =
     (asked : IsPlay words) × (bytes : List ℕ) × ReadsDeck before bytes after
-    × DealsWithBytes asked.0 bytes Played trace print
-Comes Down words before after trace print =
+    × DealsWithBytes asked.0 volume volume_after bytes Played trace print
+Comes Down words before after volume volume_after trace print =
     (asked : IsPlay words) × (bytes : List ℕ) × ReadsDeck before bytes after
-    × DealsWithBytes asked.0 bytes Down trace print
-Comes (Damaged set page) words before after trace print =
+    × DealsWithBytes asked.0 volume volume_after bytes Down trace print
+Comes (Damaged set page) words before after volume volume_after trace print =
     (asked : IsPlay words) × (bytes : List ℕ) × ReadsDeck before bytes after
-    × DealsWithBytes asked.0 bytes (Damaged set page) trace print
-Comes Device words before after trace print =
+    × DealsWithBytes asked.0 volume volume_after bytes (Damaged set page) trace print
+Comes Device words before after volume volume_after trace print =
     (asked : IsPlay words) × (bytes : List ℕ) × ReadsDeck before bytes after
-    × DealsWithBytes asked.0 bytes Device trace print
-Comes Words words before after trace print = (IsPlay words → ⊥) × (after ≡ before) × (trace ≡ [])
-Comes (Deck line) words before after trace print =
+    × DealsWithBytes asked.0 volume volume_after bytes Device trace print
+Comes Words words before after volume volume_after trace print =
+    (IsPlay words → ⊥) × (after ≡ before) × (trace ≡ [])
+Comes (Deck line) words before after volume volume_after trace print =
     (asked : IsPlay words) × (bytes : List ℕ) × ReadsDeck before bytes after
-    × DealsWithBytes asked.0 bytes (Deck line) trace print
-Comes Source words before after trace print =
+    × DealsWithBytes asked.0 volume volume_after bytes (Deck line) trace print
+Comes Source words before after volume volume_after trace print =
     IsPlay words × Rose before.faults after.faults × (trace ≡ [])
-Comes Long words before after trace print =
+Comes Long words before after volume volume_after trace print =
     IsPlay words × TakesTooMany before.bytes after.bytes × (trace ≡ [])
-Comes NoMemory words before after trace print =
+Comes NoMemory words before after volume volume_after trace print =
     (asked : IsPlay words)
     × ((trace ≡ [])
     ⊎ ((bytes : List ℕ) × ReadsDeck before bytes after
-    × DealsWithBytes asked.0 bytes NoMemory trace print))
+    × DealsWithBytes asked.0 volume volume_after bytes NoMemory trace print))
 
 -- What each outcome says of the volume. A refusal before the opening calls it not.
 abbrev pub Finds : Outcome → (before after : VolumeSeen) → Type 0
@@ -164,6 +177,6 @@ pub record Concludes (words : List (List ℕ)) (source source_after sink sink_af
     (volume volume_after : VolumeSeen) (status : ℕ) (trace : List Entry) : Type 0 where
   pub outcome : Outcome
   pub print : List ℕ
-  pub comes : Comes outcome words source source_after trace print
+  pub comes : Comes outcome words source source_after volume volume_after trace print
   pub finds : Finds outcome volume volume_after
   pub delivered : Delivers outcome (output_of outcome print) sink sink_after status

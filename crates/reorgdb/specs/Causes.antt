@@ -5,14 +5,14 @@ use Rattle.rg_deck.specs.declared.read.TheConstants.{DECK_LIMIT}
 use Rattle.rg_outside.specs.Faults.{Rose}
 use Rattle.rg_print.specs.Print.{damaged_text, print_text}
 use Rattle.rg_print.specs.declared.print.Close.TheVariants as closes
-use Rattle.rg_desk.specs.Desk.{EndsWithRows}
 use Rattle.rg_desk.specs.Volume.{VolumeSeen}
 use Rattle.rg_base.specs.declared.set.Set.{Set}
-use Rattle.rg_outside.specs.Calls.{Told}
-use Rattle.rg_restart.specs.Opening.{HasFreshLog}
+use Rattle.rg_outside.specs.Calls.{Told, read_of}
+use Rattle.rg_restart.specs.Sound.{IsSound}
 use Rattle.rg_run.specs.Outside.{IsEnd}
 use Rattle.rg_run.specs.declared.played.RunEnd.TheVariants as ends
 use Rattle.rg_run.specs.Played.{TraceOf}
+use Rattle.rg_run.specs.Table.{EndsWhole}
 use Rattle.rg_stmt.specs.declared.event.Entry.{Entry}
 use Rattle.rg_stmt.specs.declared.line.Line.{Line}
 use Rattle.reorgdb.specs.Answer.{Seen, IsPlay, IsDeck, IsNoDeck, IsRefusedAt, ReadsDeck}
@@ -21,9 +21,10 @@ use Rattle.reorgdb.specs.declared.outcome.Outcome.{Outcome}
 use Rattle.reorgdb.specs.declared.outcome.Outcome.TheVariants as outcomes
 
 -- Status 0: the source was read to its end, its bytes are statements and layouts, the trace is
--- theirs, and its print was appended to what the sink held, with layouts as the words ask.
+-- theirs, and its print was appended to what the sink held, with layouts as the words ask. The
+-- committed rows are as many as the print says, and the volume stores them.
 pub record Plays (words : List (List ℕ)) (source source_after sink sink_after : Seen)
-    (trace : List Entry) : Type 0 where
+    (volume volume_after : VolumeSeen) (trace : List Entry) : Type 0 where
   pub asked : IsPlay words
   pub bytes : List ℕ
   pub lines : List Line
@@ -31,7 +32,7 @@ pub record Plays (words : List (List ℕ)) (source source_after sink sink_after 
   pub read : ReadsDeck source bytes source_after
   pub spelled : IsDeck bytes lines
   pub entries : TraceOf lines trace
-  pub counted : EndsWithRows trace rows
+  pub counted : EndsWhole volume volume_after trace rows
   pub shown : Appends sink.bytes sink_after.bytes (print_text trace asked.0 (closes.Rows rows))
 
 -- Status 2: the source was read to its end, and the sink got the number of the first line that is
@@ -43,8 +44,8 @@ pub record RefusesDeck (source source_after sink sink_after : Seen) : Type 0 whe
   pub refused : IsRefusedAt bytes line
   pub shown : Appends sink.bytes sink_after.bytes (deck_refusal line)
 
--- Status 5: the opening found that this page breaks a rule of a sound volume, or that the log has
--- records, which no opening takes yet. No line was played, and the sink got the page.
+-- Status 5: this page breaks a rule of a sound volume, the first one that is broken. No line was
+-- played, and the sink got the page.
 pub record RefusesVolume (sink sink_after : Seen) (volume volume_after : VolumeSeen)
     (trace : List Entry) : Type 0 where
   pub set : Set
@@ -53,12 +54,12 @@ pub record RefusesVolume (sink sink_after : Seen) (volume volume_after : VolumeS
   pub none : trace ≡ []
   pub shown : Appends sink.bytes sink_after.bytes (damaged_text set page)
 
--- A volume that reports its calls, as many as can be counted, that had no records in its log, and
--- of which no call failed.
-pub record IsFreshVolume (before after : VolumeSeen) : Type 0 where
+-- A volume that reports its calls, as many as can be counted, that read sound, and of which no call
+-- failed.
+pub record IsSoundVolume (before after : VolumeSeen) : Type 0 where
   pub old : Told
   pub was : before.told ≡ Some old
-  pub fresh : HasFreshLog before old
+  pub sound : IsSound before.capacities (read_of old.first old.calls)
   pub new : Told
   pub is : after.told ≡ Some new
   pub few : length new.calls < 2 ^ 64 - 1
@@ -68,7 +69,7 @@ pub record IsFreshVolume (before after : VolumeSeen) : Type 0 where
 abbrev pub IsDue : Outcome → List (List ℕ) → List ℕ → (before after : VolumeSeen) → Type 0
 IsDue outcomes.Played words bytes before after =
     IsPlay words × (length bytes ≤ DECK_LIMIT)
-    × ((lines : List Line) × IsDeck bytes lines) × IsFreshVolume before after
+    × ((lines : List Line) × IsDeck bytes lines) × IsSoundVolume before after
 IsDue outcomes.Down words bytes before after = ⊥
 IsDue outcomes.Words words bytes before after = IsPlay words → ⊥
 IsDue (outcomes.Deck line) words bytes before after =

@@ -2,38 +2,23 @@
 -- by what is known of the source, the sink and the volume before and after the call, and by the
 -- status and the trace that it leaves. Out of memory is the one answer that may come at any time:
 -- status 8 may stand in place of any other.
-use Rattle.std.specs.Prelude.{ℕ, ◌≡◌, ◌+◌, ◌*◌, List, [], ◌∷◌, nat_le, if◌then◌else◌}
+use Rattle.std.specs.Prelude.{ℕ, ◌≡◌, ◌+◌, ◌*◌, List, [], ◌∷◌}
 use Rattle.std.specs.List.{Contains}
-use Rattle.rg_base.specs.declared.set.Set.{Set}
-use Rattle.rg_base.specs.declared.set.Set.TheVariants.{First, Log, Second}
+use Rattle.rg_base.specs.declared.set.Set.TheVariants.{Log}
 use Rattle.rg_deck.specs.declared.read.TheConstants.{DECK_LIMIT}
-use Rattle.rg_model.specs.Legal.{Legal}
 use Rattle.rg_outside.specs.Faults.{Rose}
 use Rattle.rg_outside.specs.Made.{WritesIn}
 use Rattle.rg_desk.specs.Volume.{VolumeSeen}
 use Rattle.rg_run.specs.Outside.{IsDeviceOnlyIf, MakesOnly}
-use Rattle.rg_desk.specs.Desk.{no_rows}
-use Rattle.rg_outside.specs.Capacities.{Capacities, capacity_of}
+use Rattle.rg_run.specs.Table.{IsLegalRun, IsOpening}
 use Rattle.rg_image.specs.Rules.{limit_of}
 use Rattle.rg_log.specs.Kept.{log_pages}
-use Rattle.rg_run.specs.Full.{IsFullOnlyFrom}
+use Rattle.rg_run.specs.Full.{IsFullOnlyFrom, smaller_pages}
 use Rattle.rg_run.specs.LogFull.{IsLogFullOnlyFrom}
 use Rattle.rg_stmt.specs.declared.event.Entry.{Entry}
 use Rattle.reorgdb.specs.Answer.{Seen, IsPlay, Concludes}
 use Rattle.reorgdb.specs.Causes.{Plays, RefusesDeck, RefusesVolume, GivesDue}
 use Rattle.reorgdb.specs.Reading.{TakesAtMost, TakesTooMany}
-
--- how many pages a copy may have: those of its set, and no more than 65,536
-abbrev pub pages_of : Capacities → Set → ℕ
-pages_of capacities set =
-    if nat_le (capacity_of capacities set) 65536 then capacity_of capacities set else 65536
-
--- how many the smaller of both copies may have
-abbrev pub smaller_pages : Capacities → ℕ
-smaller_pages capacities =
-    if nat_le (pages_of capacities First) (pages_of capacities Second)
-    then pages_of capacities First
-    else pages_of capacities Second
 
 pub record Completes (words : List (List ℕ)) (source source_after sink sink_after : Seen)
     (volume volume_after : VolumeSeen) (status : ℕ) (trace : List Entry) : Type 0 where
@@ -42,8 +27,11 @@ pub record Completes (words : List (List ℕ)) (source source_after sink sink_af
   pub concludes :
       Concludes words source source_after sink sink_after volume volume_after status trace
   -- Each reply is that of a table never reorganised, or says that memory, room or bytes of the log
-  -- were wanting, or that the device refused; each layout is right for the table.
-  pub legal : Legal no_rows trace
+  -- were wanting, or that the device refused; each layout is right for the table. The table at the
+  -- beginning is the one that the log stored.
+  pub legal : IsLegalRun volume volume_after trace
+  -- Entry 0 has the copy, the rows and the pages of the log as it read when the call began.
+  pub opening : IsOpening volume volume_after trace
   -- FULL is answered only where what was written reaches 3,200 bytes for each page of the smaller
   -- copy.
   pub full : IsFullOnlyFrom (3200 * smaller_pages volume.capacities) 0 trace
@@ -54,8 +42,11 @@ pub record Completes (words : List (List ℕ)) (source source_after sink sink_af
   pub device : IsDeviceOnlyIf (Rose volume.faults volume_after.faults) trace
   -- No page of a copy is written.
   pub only : MakesOnly (WritesIn Log) volume.told volume_after.told
-  -- Status 0: the deck was played, and its print given.
-  pub played : status ≡ 0 → Plays words source source_after sink sink_after trace
+  -- Status 0: the deck was played, and its print given. Whatever a crash leaves of the volume then
+  -- stores the committed rows, if the log read tidy when the call began.
+  pub played :
+      status ≡ 0
+      → Plays words source source_after sink sink_after volume volume_after trace
   -- Status 1 is returned only if the words do not ask for `play`; then no other is but 4 and 8. It
   -- and the statuses 2, 3 and 7 call no volume.
   pub no_command : status ≡ 1 → IsPlay words → ⊥
@@ -67,13 +58,13 @@ pub record Completes (words : List (List ℕ)) (source source_after sink sink_af
   pub source_failed : status ≡ 3 → Rose source.faults source_after.faults
   pub sink_failed : status ≡ 4 → Rose sink.faults sink_after.faults
   pub no_call : Contains (1 ∷ 2 ∷ 3 ∷ 7 ∷ []) status → volume_after ≡ volume
-  -- Status 5: the opening refused the volume.
+  -- Status 5: a page of the volume breaks a rule.
   pub damaged : status ≡ 5 → RefusesVolume sink sink_after volume volume_after trace
   -- Status 6 is returned only if a call of the volume failed: in the opening, or in a COMMIT.
   pub volume_failed : status ≡ 6 → Rose volume.faults volume_after.faults
   -- Status 7: one byte more than the limit was read.
   pub long : status ≡ 7 → TakesTooMany source.bytes source_after.bytes
   -- Where the source reports its bytes and nothing fails, the status is the one that is due, or 8.
-  -- For a deck that is to be played the volume reports, too, and its log has no records.
+  -- For a deck that is to be played the volume reports, too, and reads sound.
   pub due : GivesDue words source source_after sink sink_after volume volume_after status
   pub bounded : TakesAtMost (DECK_LIMIT + 1) source.bytes source_after.bytes

@@ -11,6 +11,7 @@ use std::test::Fail;
 
 mod decks;
 mod layouts;
+mod openings;
 mod outside;
 
 const ALL: usize = usize::MAX;
@@ -354,25 +355,36 @@ fn ends_down(rt: HostRuntime) -> Result<(), Fail> {
     Ok(())
 }
 
-// The log's first page is no log page, or has the records of a call before.
+// The log's first page is no log page.
 #[test]
-fn refuses_volumes(rt: HostRuntime) -> Result<(), Fail> {
+fn refuses_a_torn_log(rt: HostRuntime) -> Result<(), Fail> {
     let alloc = rt.alloc();
     let mut torn = MemVolume::new(alloc, 9, 1, 1, 1000, 400, &[], None)?;
     torn.write(Set::Log, 1, &[255; 4096])?;
+    let (came, printed) = print_over(alloc, torn, FIRST_DECK)?;
+    assert_eq!(rt; came, (5, 0));
+    assert_eq!(rt;
+        printed.as_slice(),
+        b"REFUSED volume damaged LOG 1\n".as_slice()
+    );
+    Ok(())
+}
+
+// A call goes on from what the call before it committed. Its open unit is gone.
+#[test]
+fn goes_on(rt: HostRuntime) -> Result<(), Fail> {
+    let alloc = rt.alloc();
     let words = owned(alloc, &PLAY)?;
     let operator = Box::new(alloc, IdleOperator)?;
-    let mut source = BytesSource::new(FIRST_DECK, ALL, NEVER);
+    let deck = b"1 INSERT 5 50 1 abc\n1 COMMIT\n2 DELETE 5\n3 INSERT 6 60 1 d\n4 COMMIT\n";
+    let mut source = BytesSource::new(deck, ALL, NEVER);
     let mut sink = whole(alloc, ALL);
     let fresh = volume(alloc, 1)?;
     let used = reorg_alone(alloc, &words, &mut source, &mut sink, fresh, operator).volume;
-    for volume in [torn, used] {
-        let (came, printed) = print_over(alloc, volume, FIRST_DECK)?;
-        assert_eq!(rt; came, (5, 0));
-        assert_eq!(rt;
-            printed.as_slice(),
-            b"REFUSED volume damaged LOG 1\n".as_slice()
-        );
-    }
+    let (came, printed) = print_over(alloc, used, b"1 SELECT 5\n1 SELECT 6\n")?;
+    let print = b"0 - OPENED copy=1 rows=1 pages=1\n1 1 ROW 5 50 1 abc\n2 1 100 NONE\n\
+        END entries=3 rows=1\n";
+    assert_eq!(rt; came, (0, 3));
+    assert_eq!(rt; printed.as_slice(), print.as_slice());
     Ok(())
 }

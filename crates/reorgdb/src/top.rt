@@ -1,17 +1,16 @@
 // The program's call. All that it promises is in specs/Contract.antt.
 ghost use Rattle.std.specs.Prelude.{◌≡◌, ◌+◌, ◌*◌, map, string_bytes};
 ghost use Rattle.rg_base.specs.declared.set.Set.TheVariants.{Log};
-ghost use Rattle.rg_model.specs.Legal.{Legal};
 ghost use Rattle.rg_outside.specs.Faults.{Rose};
 ghost use Rattle.rg_outside.specs.Made.{WritesIn};
 ghost use Rattle.reorgdb.specs.Answer.{seen, Concludes, Delivers, output_of};
 ghost use Rattle.reorgdb.specs.Contract.{Completes};
-ghost use Rattle.rg_desk.specs.Desk.{copy_capacity, no_rows};
 ghost use Rattle.rg_image.specs.Rules.{limit_of};
 ghost use Rattle.rg_log.specs.Kept.{log_pages};
-ghost use Rattle.rg_run.specs.Full.{IsFullOnlyFrom};
+ghost use Rattle.rg_run.specs.Full.{IsFullOnlyFrom, smaller_pages};
 ghost use Rattle.rg_run.specs.LogFull.{IsLogFullOnlyFrom};
 ghost use Rattle.rg_run.specs.Outside.{IsDeviceOnlyIf, MakesOnly};
+ghost use Rattle.rg_run.specs.Table.{IsLegalRun, IsOpening};
 ghost use Rattle.rg_desk.specs.Volume.{seen_volume};
 ghost use Rattle.reorgdb.specs.Reading.{TakesAtMost};
 
@@ -39,9 +38,9 @@ pub struct Finished<V> {
 }
 
 /// The call of the program: reads the words, then the whole deck from the source, opens the volume,
-/// whose log must not have a record yet, plays the deck over a table without rows, and gives the
-/// whole print to the sink. It does all that `reorg_alone` says, in one call of it; no command uses
-/// the runtime yet.
+/// whose log must not have a record yet, plays the deck over the table that the log stores, and
+/// gives the whole print to the sink. It does all that `reorg_alone` says, in one call of it; no
+/// command uses the runtime yet.
 pub fn reorg_main<R: Threads + Wait + Clock + Sync, S: Source, K: Sink, V: Volume + Send>(
     rt: &R,
     alloc: Global,
@@ -116,8 +115,11 @@ fn answer<S: Source, K: Sink, V: Volume, O: Operator>(
         (seen_volume V.told V.faults V.capacities volume)
         (seen_volume V.told V.faults V.capacities result.2)
         result.0 result.1.items }
-    ensures legal { Legal no_rows result.1.items }
-    ensures full { IsFullOnlyFrom (3221 * copy_capacity (V.capacities volume)) 0 result.1.items }
+    ensures legal { IsLegalRun (seen_volume V.told V.faults V.capacities volume)
+        (seen_volume V.told V.faults V.capacities result.2) result.1.items }
+    ensures opening { IsOpening (seen_volume V.told V.faults V.capacities volume)
+        (seen_volume V.told V.faults V.capacities result.2) result.1.items }
+    ensures full { IsFullOnlyFrom (3221 * smaller_pages (V.capacities volume)) 0 result.1.items }
     ensures log_full { IsLogFullOnlyFrom (limit_of (log_pages (V.capacities volume))) 0
         result.1.items }
     ensures bounded { TakesAtMost (DECK_LIMIT + 1) (S.left source.old) (S.left source.new) }

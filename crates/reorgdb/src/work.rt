@@ -8,17 +8,15 @@ ghost use Rattle.std.specs.Prelude.{ℕ, ◌≡◌, ◌≤◌, ◌+◌, ◌*◌,
 ghost use Rattle.std.specs.Prelude.{string_bytes};
 ghost use Rattle.rg_stmt.specs.declared.line.Line.{Line};
 ghost use Rattle.rg_base.specs.declared.set.Set.TheVariants.{Log};
-ghost use Rattle.rg_model.specs.Legal.{Legal};
 ghost use Rattle.rg_outside.specs.Faults.{Rose};
 ghost use Rattle.rg_outside.specs.Made.{WritesIn};
 ghost use Rattle.rg_desk.specs.Volume.{VolumeSeen, seen_volume};
-ghost use Rattle.rg_desk.specs.Desk.{copy_capacity, no_rows};
 ghost use Rattle.rg_image.specs.Rules.{limit_of};
 ghost use Rattle.rg_log.specs.Kept.{log_pages};
-ghost use Rattle.rg_run.specs.Full.{IsFullOnlyFrom};
+ghost use Rattle.rg_run.specs.Full.{IsFullOnlyFrom, smaller_pages};
 ghost use Rattle.rg_run.specs.LogFull.{IsLogFullOnlyFrom};
 ghost use Rattle.rg_run.specs.Outside.{IsDeviceOnlyIf, IsEnd, MakesOnly};
-ghost use Rattle.rg_run.specs.Played.{Ends};
+ghost use Rattle.rg_run.specs.Table.{Ends, IsLegalRun, IsOpening};
 ghost use Rattle.rg_words.specs.Spelling.{Spells};
 ghost use Rattle.rg_words.specs.declared.words.Words.TheVariants as asks;
 ghost use Rattle.reorgdb.specs.Answer.{Seen, seen, IsPlay, IsRefusedAt, DealsWithLines, DealsWithBytes};
@@ -136,9 +134,14 @@ pub fn carry_out<S: Source, V: Volume, O: Operator>(
 ) -> Work<V, O>
     ensures comes { Comes result.outcome (map string_bytes words.now)
         (seen S.left S.faults source.old) (seen S.left S.faults source.new)
+        (seen_volume V.told V.faults V.capacities volume)
+        (seen_volume V.told V.faults V.capacities result.volume)
         result.trace.items result.print }
-    ensures legal { Legal no_rows result.trace.items }
-    ensures full { IsFullOnlyFrom (3221 * copy_capacity (V.capacities volume)) 0
+    ensures legal { IsLegalRun (seen_volume V.told V.faults V.capacities volume)
+        (seen_volume V.told V.faults V.capacities result.volume) result.trace.items }
+    ensures opening { IsOpening (seen_volume V.told V.faults V.capacities volume)
+        (seen_volume V.told V.faults V.capacities result.volume) result.trace.items }
+    ensures full { IsFullOnlyFrom (3221 * smaller_pages (V.capacities volume)) 0
         result.trace.items }
     ensures log_full { IsLogFullOnlyFrom (limit_of (log_pages (V.capacities volume))) 0
         result.trace.items }
@@ -184,9 +187,14 @@ fn play_bytes<V: Volume, O: Operator>(
     operator: O,
 ) -> Work<V, O>
     requires { length bytes.now ≤ DECK_LIMIT }
-    ensures deals { DealsWithBytes full bytes.now result.outcome result.trace.items result.print }
-    ensures legal { Legal no_rows result.trace.items }
-    ensures full { IsFullOnlyFrom (3221 * copy_capacity (V.capacities volume)) 0
+    ensures deals { DealsWithBytes full (seen_volume V.told V.faults V.capacities volume)
+        (seen_volume V.told V.faults V.capacities result.volume) bytes.now result.outcome
+        result.trace.items result.print }
+    ensures legal { IsLegalRun (seen_volume V.told V.faults V.capacities volume)
+        (seen_volume V.told V.faults V.capacities result.volume) result.trace.items }
+    ensures opening { IsOpening (seen_volume V.told V.faults V.capacities volume)
+        (seen_volume V.told V.faults V.capacities result.volume) result.trace.items }
+    ensures full { IsFullOnlyFrom (3221 * smaller_pages (V.capacities volume)) 0
         result.trace.items }
     ensures log_full { IsLogFullOnlyFrom (limit_of (log_pages (V.capacities volume))) 0
         result.trace.items }
@@ -206,8 +214,10 @@ fn play_bytes<V: Volume, O: Operator>(
 
 // The refusal of a deck by the number of a line.
 fn refuse_line<V, O>(alloc: Global, line: u32, volume: V, operator: O) -> Work<V, O>
-    ensures deals { (full : Bool) (bytes : List ℕ) → IsRefusedAt bytes line
-        → DealsWithBytes full bytes result.outcome result.trace.items result.print }
+    ensures deals { (full : Bool) (before after : VolumeSeen) (bytes : List ℕ)
+        → IsRefusedAt bytes line
+        → DealsWithBytes full before after bytes result.outcome result.trace.items
+        result.print }
     ensures outcome { (before : VolumeSeen) → Finds result.outcome before before }
     ensures trace { result.trace.items ≡ [] }
     ensures volume { result.volume ≡ volume }
@@ -226,8 +236,10 @@ fn refuse_line<V, O>(alloc: Global, line: u32, volume: V, operator: O) -> Work<V
 }
 
 fn print_played<V, O>(alloc: Global, full: bool, played: Played<V, O>) -> Work<V, O>
-    ensures deals { (lines : List Line) → Ends lines played.trace.items played.end →
-        DealsWithLines full lines result.outcome result.trace.items result.print }
+    ensures deals { (before after : VolumeSeen) (lines : List Line)
+        → Ends before after lines played.trace.items played.end
+        → DealsWithLines full before after lines result.outcome result.trace.items
+        result.print }
     ensures finds { (before after : VolumeSeen) → IsEnd before after played.end →
         Finds result.outcome before after }
     ensures trace { result.trace.items ≡ played.trace.items }

@@ -18,16 +18,18 @@ use Rattle.rg_stmt.specs.declared.stmt.Stmt.{Stmt}
 use Rattle.rg_stmt.specs.declared.stmt.Stmt.TheVariants.{Insert, Update, Delete, Select, Scan, Find, Commit, Rollback}
 use Rattle.rg_space.specs.Space.{capacity_in}
 use Rattle.rg_desk.specs.Bytes.{taken_of}
-use Rattle.rg_desk.specs.Answers.{Answered, Answers, Asks, IfFull, Replies, forces, is_answer, is_commit, is_device, state_left}
+use Rattle.rg_desk.specs.Answers.{Answered, Answers, Asks, IfFull, Replies, forces, is_answer, is_device, state_left}
 use Rattle.rg_desk.specs.Shows.{IsShown, Shows}
-use Rattle.rg_desk.specs.Steps.{Goes, IfUp, MayFail, Steps, MayReply, more_allowed, unclaimed}
+use Rattle.rg_desk.specs.Steps.{Goes, IfUp, MayFail, Steps, MayReply, is_commit, more_allowed, unclaimed}
+use Rattle.rg_desk.specs.Stored.{Grows}
 use Rattle.rg_base.specs.declared.set.Set.TheVariants.{Log}
 use Rattle.rg_log.specs.Kept.{Listed as LogList, log_pages}
 use Rattle.rg_outside.specs.Made.{WritesIn}
 use Rattle.rg_outside.proofs.Frame.{no_calls}
-use Rattle.rg_desk.specs.Volume.{CallsLog, VolumeSeen}
+use Rattle.rg_desk.specs.Volume.{CallsLog, Leaves, VolumeSeen}
 use Rattle.rg_desk.specs.declared.units.OpenUnit.{OpenUnit}
 use Rattle.rg_desk.specs.declared.engine.Engine.{Engine}
+use Rattle.rg_desk.proofs.Leaving.{leaves_grown}
 
 -- no drain keeps anybody out
 pub none_kept_out : (claim : Option Class) (classes : List Class) → is_kept_out Free claim classes ≡ false
@@ -149,6 +151,9 @@ module _ (st : State) (allowed : ℕ) (d : Engine) (shows : Shows st allowed d) 
   registered_shows classes new is = subst (Shows (claim_classes st session classes) allowed) (sym is) (record {
     first = shows.first;
     begun = shows.begun;
+    within = shows.within;
+    stores = shows.stores;
+    settled = shows.settled;
     runs = shows.runs;
     by = record {
       up = shows.by.up;
@@ -208,7 +213,8 @@ module _ (st : State) (allowed : ℕ) (d : Engine) (shows : Shows st allowed d) 
     room = goes.room;
     log = goes.log;
     logged = omega (arith, ap (λ (x : Engine). taken_of x.log) e, goes.logged);
-    log_pages = ap (λ (x : Engine). x.log.pages) e ∙ goes.log_pages;
+    opened = ap (λ (x : Engine). x.opened) e ∙ goes.opened;
+    grows = subst (λ (l : LogList). Grows d.log l) (ap (λ (x : Engine). x.log) (sym e)) goes.grows;
     shows =
         if_up _ reply
         (subst (λ (after : State). Shows after (allowed + more_allowed stmt reply) new) (sym (left_done st session stmt reply done ∙ after_is true done))
@@ -227,7 +233,8 @@ module _ (st : State) (allowed : ℕ) (d : Engine) (shows : Shows st allowed d) 
     room = goes.room;
     log = goes.log;
     logged = goes.logged;
-    log_pages = goes.log_pages;
+    opened = goes.opened;
+    grows = goes.grows;
     shows = left_refused st session stmt (allowed + more_allowed stmt reply) mid reply (after_is false done) goes.shows;
     capacity = goes.capacity;
   }
@@ -252,18 +259,22 @@ no_force units session stmt other = refl
 pub same_calls : (seen : VolumeSeen) → CallsLog seen seen
 same_calls seen = record { only = no_calls (WritesIn Log) seen.told; later = omega arith; capacities = refl }
 
-pub asks_nothing : (units : List (Option OpenUnit)) (session : Session) (stmt : Stmt) (reply : Reply) (log : LogList) (seen : VolumeSeen) → forces units session stmt ≡ false → (reply ≡ Device → ⊥) → Asks (forces units session stmt) reply log seen seen
-asks_nothing units session stmt reply log seen none never = record {
+pub asks_nothing : (units : List (Option OpenUnit)) (session : Session) (stmt : Stmt) (reply : Reply) (old_log log : LogList) (seen : VolumeSeen) → forces units session stmt ≡ false → (reply ≡ Device → ⊥) → (Leaves seen old_log → Leaves seen log)
+    → Asks (forces units session stmt) reply old_log log seen seen
+asks_nothing units session stmt reply old_log log seen none never leaves = record {
   calls = same_calls seen;
   none = λ e. refl;
   device = λ e. absurd (never e);
   forced = λ force e. absurd (cc (force, none));
+  leaves = leaves;
 }
 
-pub other_asks : (old : Engine) (shown : IsShown old) (session : Session) (stmt : Stmt) (reply : Reply) (new : Engine) (seen : VolumeSeen) → is_commit stmt ≡ false → Steps old session stmt reply new → Asks (forces old.units session stmt) reply new.log seen seen
+pub other_asks : (old : Engine) (shown : IsShown old) (session : Session) (stmt : Stmt) (reply : Reply) (new : Engine) (seen : VolumeSeen) → is_commit stmt ≡ false → Steps old session stmt reply new → Asks (forces old.units session stmt) reply old.log new.log seen seen
 other_asks old shown session stmt reply new seen other steps =
-    asks_nothing old.units session stmt reply new.log seen (no_force old.units session stmt other)
-    (not_device shown.state shown.allowed old session stmt reply new other (steps shown.state shown.allowed shown.shows))
+    let goes = steps shown.state shown.allowed shown.shows in
+    asks_nothing old.units session stmt reply old.log new.log seen (no_force old.units session stmt other)
+    (not_device shown.state shown.allowed old session stmt reply new other goes)
+    (leaves_grown seen old.log new.log goes.grows (goes.forced other))
 
 -- an engine that is up shows some state, and after a reply it shows one unless it is down
 pub replies_shown : (down : Bool) (old : Engine) (session : Session) (stmt : Stmt) (reply : Reply) (new : Engine) (after : Bool) (seen_old seen_new : VolumeSeen)
@@ -281,4 +292,4 @@ replies_pages true old session stmt reply new after seen_old seen_new replies sh
     ap (λ (d : Engine). d.log.pages) replies.1 ∙ is ∙ ap (λ (v : VolumeSeen). log_pages v.capacities) (sym replies.3)
 replies_pages false old session stmt reply new after seen_old seen_new replies shown is =
     let some = shown refl in
-    (replies.0 some.state some.allowed some.shows).log_pages ∙ is ∙ ap (λ c. log_pages c) (sym replies.1.calls.capacities)
+    (replies.0 some.state some.allowed some.shows).grows.pages ∙ is ∙ ap (λ c. log_pages c) (sym replies.1.calls.capacities)

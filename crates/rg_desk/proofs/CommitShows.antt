@@ -1,5 +1,5 @@
 -- A COMMIT leaves the state of the trace after it.
-use Rattle.std.proofs.Common.{◌≡◌, ◌==◌, ◌≤◌, ◌<◌, ◌+◌, ℕ, suc, Bool, true, false, not, List, [], ◌∷◌, ◌++◌, Option, Some, None, length, set, refl, sym, ◌∙◌, ap, subst, arith}
+use Rattle.std.proofs.Common.{◌≡◌, ◌==◌, ◌≤◌, ◌<◌, ◌+◌, ℕ, suc, Bool, true, false, not, List, [], ◌∷◌, ◌++◌, Option, Some, None, length, set, refl, sym, ◌∙◌, ap, subst, arith, append-nil}
 use Rattle.std.specs.FinMap as fin
 use Rattle.std.proofs.lemmas.Bool.{eqb-true}
 use Rattle.std.proofs.lemmas.List.{length-set, set-get_or}
@@ -19,11 +19,8 @@ use Rattle.rg_model.specs.Plain.{after_commit}
 use Rattle.rg_model.specs.State.{Locks, State}
 use Rattle.rg_model.proofs.Ends.{without-none}
 use Rattle.rg_record.specs.declared.record.Record.{Record}
-use Rattle.rg_lawful.specs.Act.{LogState, others, state, step}
+use Rattle.rg_lawful.specs.Act.{LogState, others, step}
 use Rattle.rg_lawful.specs.Act.{Commit}
-use Rattle.rg_lawful.specs.Consistent.{IsConsistent}
-use Rattle.rg_lawful.specs.Lawful.{Runs}
-use Rattle.rg_lawful.specs.Records.{acts_of}
 use Rattle.rg_lawful.proofs.Live.{live_was}
 use Rattle.rg_lawful.proofs.Units.{stored_other}
 use Rattle.rg_space.specs.Space.{Agree, InStep, capacity_in, frames_of, index_of}
@@ -35,12 +32,13 @@ use Rattle.rg_desk.specs.Engine.{HasPages, slots_in}
 use Rattle.rg_desk.specs.Pages.{list_seen}
 use Rattle.rg_desk.specs.Shows.{KeyShown, Shows, ShowsBy, UnitsShown, left_by}
 use Rattle.rg_desk.specs.Steps.{Goes}
+use Rattle.rg_desk.specs.Stored.{Grows, IsSettled}
 use Rattle.rg_desk.specs.Units.{owed, owed_to, unit_at}
 use Rattle.rg_desk.specs.declared.engine.Engine.{Engine}
 use Rattle.rg_desk.specs.declared.units.OpenUnit.{OpenUnit}
-use Rattle.rg_desk.proofs.Appended.{acts_snoc}
 use Rattle.rg_desk.proofs.Ended.{keys_ended, units_ended}
 use Rattle.rg_desk.proofs.Logged.{bytes_committed}
+use Rattle.rg_desk.proofs.Settled.{shows_more}
 use Rattle.rg_desk.proofs.UnitSlots.{owed-set}
 
 -- the state after the Commit of unit t
@@ -59,7 +57,7 @@ module _ (st : State) (allowed : ℕ) (d new : Engine) (session : Session) (show
     (units : new.units ≡ set d.units session.0 None)
     (records : new.log.records ≡ records_committed d.log.records (unit_at d.units session.0))
     (reserved : new.log.reserved + owed_to (unit_at d.units session.0) ≡ d.log.reserved)
-    (log_pages : new.log.pages ≡ d.log.pages) where
+    (opened : new.opened ≡ d.opened) (settled : IsSettled new.log) (grows : Grows d.log new.log) where
   abbrev s : LogState
   s = left_by shows.first d
 
@@ -114,20 +112,13 @@ module _ (st : State) (allowed : ℕ) (d new : Engine) (session : Session) (show
       let same : new.log.records ≡ d.log.records = records ∙ ap (records_committed d.log.records) none in
       let same_units : set d.units session.0 None ≡ d.units = ap (set d.units session.0) (sym none) ∙ set-get_or d.units session.0 None in
       let same_locks : locks_without session d.locks ≡ d.locks = without-none session d.locks (λ k. unlocked (fin.get d.locks k) k (shows.by.keys k)) in
-      record {
-        first = shows.first;
-        begun = subst (λ sp. IsConsistent (capacity_in sp) shows.first) (sym space) shows.begun;
-        runs =
-            subst (λ sp. Runs (capacity_in sp) shows.first (acts_of [] new.log.records)) (sym space)
-            (subst (λ (rs : List Record). Runs (capacity_in d.space) shows.first (acts_of [] rs)) (sym same) shows.runs);
-        by = subst (ShowsBy (after_commit st session) (allowed + 0) new) (ap (λ (rs : List Record). state shows.first (acts_of [] rs)) (sym same))
-            (by s refl (λ k. refl) refl
-            (λ k.
-            subst (λ (us : List (Option OpenUnit)). KeyShown us s (fin.get (locks_without session d.locks) k) k) (sym same_units)
-            (subst (λ (ls : Locks). KeyShown d.units s (fin.get ls k) k) (sym same_locks) (shows.by.keys k)))
-            (subst (UnitsShown new.log.records s) (sym same_units) (subst (λ (rs : List Record). UnitsShown rs s d.units) (sym same) shows.by.units))
-            shows.by.claimed);
-      }
+      shows_more st allowed d shows (after_commit st session) (allowed + 0) new [] opened (same ∙ sym (append-nil d.log.records)) (ap (λ sp. capacity_in sp) space) tt settled
+      (by s refl (λ k. refl) refl
+      (λ k.
+      subst (λ (us : List (Option OpenUnit)). KeyShown us s (fin.get (locks_without session d.locks) k) k) (sym same_units)
+      (subst (λ (ls : Locks). KeyShown d.units s (fin.get ls k) k) (sym same_locks) (shows.by.keys k)))
+      (subst (UnitsShown new.log.records s) (sym same_units) (subst (λ (rs : List Record). UnitsShown rs s d.units) (sym same) shows.by.units))
+      shows.by.claimed)
     where
       unlocked : (o : Option Lock) (k : ℕ) → KeyShown d.units s o k → is_others session o ≡ true
       unlocked None k h = refl
@@ -143,23 +134,15 @@ module _ (st : State) (allowed : ℕ) (d new : Engine) (session : Session) (show
       let t : ℕ = unit.tran.0 in
       let entry : Record = commit_record (length d.log.records + 1) unit in
       let same : new.log.records ≡ d.log.records ++ entry ∷ [] = records ∙ ap (records_committed d.log.records) has in
-      let acts : acts_of [] new.log.records ≡ Commit t ∷ acts_of [] d.log.records = ap (acts_of []) same ∙ acts_snoc d.log.records entry in
       let one = shows.by.units.each session.0 unit has in
       let left : LogState = step s (Commit t) in
-      record {
-        first = shows.first;
-        begun = subst (λ sp. IsConsistent (capacity_in sp) shows.first) (sym space) shows.begun;
-        runs =
-            subst (λ sp. Runs (capacity_in sp) shows.first (acts_of [] new.log.records)) (sym space)
-            (subst (Runs (capacity_in d.space) shows.first) (sym acts) ((one.live, one.steady), shows.runs));
-        by = subst (ShowsBy (after_commit st session) (allowed + 0) new) (ap (state shows.first) (sym acts))
-            (by left refl (λ k. refl) refl
-            (keys_ended t s left session unit d.units d.locks place has refl (committed (capacity_in d.space) s t)
-            (λ n other e f. shows.by.units.apart n session.0 other unit e has f) shows.by.keys)
-            (subst (λ (rs : List Record). UnitsShown rs left (set d.units session.0 None)) (sym same)
-            (units_ended t s left session unit d.units d.locks place has refl (committed (capacity_in d.space) s t) d.log.records (entry ∷ []) shows.by.units))
-            (omega (arith, shows.by.claimed, claimed_all-fewer (holding s.live (suc s.top)) (holding (others t s.live) (suc s.top)) (ends s.live (others t s.live) (suc s.top) (λ u l. live_was t u s.live l)) s.pages)));
-      }
+      shows_more st allowed d shows (after_commit st session) (allowed + 0) new (entry ∷ []) opened same (ap (λ sp. capacity_in sp) space) ((one.live, one.steady), tt) settled
+      (by left refl (λ k. refl) refl
+      (keys_ended t s left session unit d.units d.locks place has refl (committed (capacity_in d.space) s t)
+      (λ n other e f. shows.by.units.apart n session.0 other unit e has f) shows.by.keys)
+      (subst (λ (rs : List Record). UnitsShown rs left (set d.units session.0 None)) (sym same)
+      (units_ended t s left session unit d.units d.locks place has refl (committed (capacity_in d.space) s t) d.log.records (entry ∷ []) shows.by.units))
+      (omega (arith, shows.by.claimed, claimed_all-fewer (holding s.live (suc s.top)) (holding (others t s.live) (suc s.top)) (ends s.live (others t s.live) (suc s.top) (λ u l. live_was t u s.live l)) s.pages)))
 
   pub commit_goes : Goes st allowed d session stmts.Commit Done new
   commit_goes = record {
@@ -167,7 +150,9 @@ module _ (st : State) (allowed : ℕ) (d new : Engine) (session : Session) (show
     room = tt;
     log = tt;
     logged = omega (arith, ap log_bytes records, bytes_committed d.log.records (unit_at d.units session.0) d.log.reserved new.log.reserved reserved);
-    log_pages = log_pages;
+    opened = opened;
+    grows = grows;
+    forced = λ e. absurd (cc (e));
     shows = go (unit_at d.units session.0) refl;
     capacity = ap (λ sp. capacity_in sp) space;
   }

@@ -1,9 +1,11 @@
 -- A desk goes on by one entry, and its trace is legal.
-use Rattle.std.proofs.Common.{◌≡◌, ◌≢◌, ◌==◌, ◌&&◌, ◌||◌, not, ◌≤◌, ◌+◌, ℕ, Bool, true, false, cond, List, [], ◌∷◌, ◌++◌, length, Option, Some, None, refl, sym, ◌∙◌, ap, subst, arith, length-append}
+use Rattle.std.proofs.Common.{◌≡◌, ◌≢◌, ◌==◌, ◌&&◌, ◌||◌, not, ◌≤◌, ◌<◌, ◌+◌, ◌-◌, ◌*◌, ◌^◌, ◌⊎◌, inl, inr, ℕ, suc, Bool, true, false, cond, List, [], ◌∷◌, ◌++◌, length, take, Option, Some, None, refl, sym, ◌∙◌, ap, subst, arith, length-append}
+use Rattle.std.proofs.lemmas.List.{take-append-le}
+use Rattle.std.proofs.Math.Seq.{take-length}
 use Rattle.std.specs.FinMap as map
-use Rattle.std.specs.FinMap.{len-empty, get-empty}
+use Rattle.std.specs.FinMap.{get-empty, get-entries, len-entries}
 use Rattle.std.specs.Option.{is_some}
-use Rattle.std.specs.Ordering.{nat_cmp}
+use Rattle.std.specs.Ordering.{nat_cmp, eq_by_cmp}
 use Rattle.std.specs.List.{AllByRecursion, Contains}
 use Rattle.rg_base.specs.declared.lock.Lock.{Lock}
 use Rattle.rg_base.specs.declared.row.Row.{Row}
@@ -20,12 +22,14 @@ use Rattle.rg_outside.specs.Calls.{Told}
 use Rattle.rg_outside.specs.Made.{WritesIn}
 use Rattle.rg_outside.specs.Moments.{EachCall, IfTold}
 use Rattle.rg_model.specs.Said.{if_allowed}
-use Rattle.rg_model.specs.State.{State, at_rest}
+use Rattle.rg_model.specs.State.{State, Table, at_rest, row_count}
 use Rattle.rg_model.proofs.Members.{only_one}
-use Rattle.rg_model.proofs.Overlay.{committed-at_rest}
+use Rattle.rg_model.proofs.Overlay.{committed-at_rest, key_of}
 use Rattle.rg_model.proofs.RunPossible.{run_possible_start}
 use Rattle.rg_model.proofs.RunPush.{Run-push}
-use Rattle.rg_stmt.specs.Entries.{said_entry}
+use Rattle.rg_stmt.specs.Entries.{opened_entry, said_entry}
+use Rattle.rg_record.specs.declared.record.Record.{Record}
+use Rattle.rg_lawful.proofs.Tables.{eqb-refl}
 use Rattle.rg_stmt.specs.declared.event.Actor.TheVariants as actors
 use Rattle.rg_stmt.specs.declared.event.Entry.{Entry}
 use Rattle.rg_stmt.specs.declared.event.Event.{Event}
@@ -38,10 +42,11 @@ use Rattle.rg_stmt.specs.declared.stmt.Stmt.TheVariants.{Insert, Update, Delete,
 use Rattle.rg_log.specs.Kept.{Listed as LogList, log_pages}
 use Rattle.rg_desk.specs.Answers.{IfFull, IfLogFull, Replies, forces, is_answer, is_device, state_left}
 use Rattle.rg_desk.specs.Steps.{more_allowed, more_logged}
-use Rattle.rg_desk.specs.Volume.{CallsLog, HasCalls, IsCount, VolumeSeen}
+use Rattle.rg_desk.specs.Stored.{Grows, IsStored}
+use Rattle.rg_desk.specs.Volume.{CallsLog, HasCalls, IsCount, LeavesIfTidy, VolumeSeen}
 use Rattle.rg_desk.specs.Bytes.{taken_of}
 use Rattle.rg_desk.specs.Chronicle.{ChronicleState, IsEntry, IsRecorded, allowed_after, allowed_by, logged_after, logged_by, system_entry}
-use Rattle.rg_desk.specs.Desk.{AreKeys, IsBegun, IsDesk, IsLayout, first_entry, is_reply, no_rows}
+use Rattle.rg_desk.specs.Desk.{AreKeys, IsAmong, IsBegun, IsCopy, IsDesk, IsLayout, is_reply}
 use Rattle.rg_desk.specs.Engine.{ground_of}
 use Rattle.rg_outside.specs.Faults.{Rose}
 use Rattle.rg_space.specs.Space.{capacity_in}
@@ -52,7 +57,9 @@ use Rattle.rg_desk.specs.Wrote.{SameEngine}
 use Rattle.rg_desk.specs.declared.engine.Engine.{Engine}
 use Rattle.rg_desk.proofs.Among.{few_committed, few_with, keys_left, keys_with}
 use Rattle.rg_desk.proofs.Answering.{same_calls, up_if}
+use Rattle.rg_desk.proofs.Leaving.{leaves_on}
 use Rattle.rg_desk.proofs.Same.{same_shows}
+use Rattle.rg_desk.proofs.Settled.{grows_same}
 
 pub allowed-push : (allowed : ℕ) (entries : List Entry) (entry : Entry) → allowed_by allowed (entries ++ entry ∷ []) ≡ allowed_after (allowed_by allowed entries) entry.event
 allowed-push allowed [] entry = refl
@@ -79,9 +86,9 @@ log_full_so g session stmt Device logged says most = tt
 log_full_so g session stmt Down logged says most = tt
 log_full_so g session stmt NoMemory logged says most = tt
 
-begun-push : (entries : List Entry) (entry : Entry) → IsBegun entries → IsBegun (entries ++ entry ∷ [])
-begun-push [] entry begun = absurd begun
-begun-push (e ∷ entries) entry begun = begun
+begun-push : (copy rows : ℕ) (entries : List Entry) (entry : Entry) → IsBegun copy rows entries → IsBegun copy rows (entries ++ entry ∷ [])
+begun-push copy rows [] entry begun = absurd begun
+begun-push copy rows (e ∷ entries) entry begun = begun
 
 -- a statement keeps the number of the copy
 copy_after : (st : State) (session : Session) (stmt : Stmt) (reply : Reply) → (after_answer st session stmt reply).copy ≡ st.copy
@@ -98,9 +105,9 @@ copy_after st session stmt reply = by_done stmt (is_done reply)
     by_done Commit true = refl
     by_done Rollback true = refl
 
--- a layout of copy 1 that is right for the table changes nothing
-pub shown_so : (st : State) (side : Side) → st.down ≡ false → st.copy ≡ 1 → is_right_side st.table side ≡ true → state_shown st 1 side ≡ Some st
-shown_so st side up one right = λ i. if_allowed (not (up i) && ((1 == one i) && right i)) st
+-- a layout of the copy that is right for the table changes nothing
+pub shown_so : (st : State) (copy : ℕ) (side : Side) → st.down ≡ false → st.copy ≡ copy → is_right_side st.table side ≡ true → state_shown st copy side ≡ Some st
+shown_so st copy side up same right = ap (λ (b : Bool). if_allowed b st) (ap (λ (b : Bool). not b && ((copy == st.copy) && is_right_side st.table side)) up ∙ ap (λ (n : ℕ). (copy == n) && is_right_side st.table side) same ∙ ap (λ (b : Bool). b && is_right_side st.table side) (eqb-refl copy) ∙ right)
 
 -- a reply leaves the engine down if it is the device's, and up else
 down_left : (st : State) (session : Session) (stmt : Stmt) (reply : Reply) → st.down ≡ false → (state_left st session stmt reply).down ≡ is_device reply
@@ -143,69 +150,92 @@ more_calls old (Some after) n made e =
 pub calls_on : (old new : VolumeSeen) (n : ℕ) → CallsLog old new → HasCalls old n → HasCalls new n
 calls_on old new n calls e = more_calls old.told new.told n calls.only e
 
-module _ (d : Engine) (c : ChronicleState) (down : Bool) (seen : VolumeSeen) (desk : IsDesk d c down seen) where
+module _ (d : Engine) (c : ChronicleState) (copy : ℕ) (down : Bool) (seen : VolumeSeen) (desk : IsDesk d c copy down seen) where
   -- room for an entry changes nothing
-  pub desk_room : (mid : ChronicleState) → mid.trace ≡ c.trace → mid.calls ≡ c.calls → IsDesk d mid down seen
+  pub desk_room : (mid : ChronicleState) → mid.trace ≡ c.trace → mid.calls ≡ c.calls → IsDesk d mid copy down seen
   desk_room mid trace calls = record {
+    start = desk.start;
+    starts = desk.starts;
+    within = desk.within;
     state = desk.state;
-    begun = subst IsBegun (sym trace) desk.begun;
-    run = subst (λ (es : List Entry). Run [] (at_rest no_rows 1) es desk.state) (sym trace) desk.run;
-    copy = desk.copy;
+    begun = subst (IsBegun copy (row_count desk.start)) (sym trace) desk.begun;
+    run = subst (λ (es : List Entry). Run [] (at_rest desk.start copy) es desk.state) (sym trace) desk.run;
+    is_copy = desk.is_copy;
+    copy_is = desk.copy_is;
     down_is = desk.down_is;
     counted = subst (HasCalls seen) (sym calls) desk.counted;
     recorded = subst (IsRecorded mid.trace) (sym calls) (subst (λ (es : List Entry). IsRecorded es c.calls) (sym trace) desk.recorded);
     shown = λ up. subst (λ (es : List Entry). Shows desk.state (allowed_by 0 es) d) (sym trace) (desk.shown up);
     logged = subst (λ (es : List Entry). taken_of d.log ≤ logged_by 0 es) (sym trace) desk.logged;
     pages = desk.pages;
+    leaves = desk.leaves;
     keys = desk.keys;
     among = desk.among;
-    few = subst (λ (es : List Entry). length desk.keys ≤ length es) (sym trace) desk.few;
+    few = subst (λ (es : List Entry). length desk.keys ≤ length es + row_count desk.start) (sym trace) desk.few;
+    few_rows = desk.few_rows;
   }
 
   -- while it is up it shows a state
   pub desk_shown : down ≡ false → IsShown d
   desk_shown up = record { state = desk.state; allowed = allowed_by 0 c.trace; shows = desk.shown up }
 
+  -- the records that the log had when it was opened stay the first ones
+  pub old_same : (next : Engine) → next.opened ≡ d.opened → Grows d.log next.log → take next.opened next.log.records ≡ take d.opened d.log.records
+  old_same next opened grows = ap (λ (n : ℕ). take n next.log.records) opened ∙ ap (take d.opened) grows.records ∙ take-append-le d.opened d.log.records grows.more desk.within
+
   -- the entry of a statement
   desk_on : (session : Session) (stmt : Stmt) (reply : Reply) (calls : ℕ) (after : State) (next : Engine) (down_after : Bool) (seen_after : VolumeSeen) (new : ChronicleState) (keys : List ℕ)
-      → AreKeys keys after → length keys ≤ length desk.keys + 1 → Says desk.state session stmt reply after → after.copy ≡ 1 → after.down ≡ down_after
+      → AreKeys keys after → length keys ≤ length desk.keys + 1 → Says desk.state session stmt reply after → after.copy ≡ copy → after.down ≡ down_after
       → (down_after ≡ false → Shows after (allowed_by 0 c.trace + more_allowed stmt reply) next)
       → taken_of next.log ≤ taken_of d.log + more_logged stmt reply → next.log.pages ≡ log_pages seen_after.capacities
-      → new.trace ≡ c.trace ++ said_entry session stmt reply calls ∷ [] → new.calls ≡ calls → IsCount seen_after calls → IsRecorded new.trace new.calls → IsDesk next new down_after seen_after
-  desk_on session stmt reply calls after next down_after seen_after new keys among more says copy down_is shown logged pages trace at counted recorded =
+      → next.opened ≡ d.opened → Grows d.log next.log → LeavesIfTidy seen_after next.log
+      → new.trace ≡ c.trace ++ said_entry session stmt reply calls ∷ [] → new.calls ≡ calls → IsCount seen_after calls → IsRecorded new.trace new.calls → IsDesk next new copy down_after seen_after
+  desk_on session stmt reply calls after next down_after seen_after new keys among more says copy_is down_is shown logged pages opened grows leaves trace at counted recorded =
       let entry = said_entry session stmt reply calls in
       let longer = ap (λ (es : List Entry). length es) trace ∙ length-append c.trace (entry ∷ []) in
       let few = desk.few in
+      let within = desk.within in
+      let more_records = ap (λ (rs : List Record). length rs) grows.records ∙ length-append d.log.records grows.more in
       record {
+        start = desk.start;
+        starts = subst (λ (rs : List Record). IsStored rs desk.start) (sym (old_same next opened grows)) desk.starts;
+        within = omega (arith, opened, within, more_records);
         state = after;
-        begun = subst IsBegun (sym trace) (begun-push c.trace entry desk.begun);
-        run = subst (λ (es : List Entry). Run [] (at_rest no_rows 1) es after) (sym trace)
-            (Run-push [] (at_rest no_rows 1) desk.state after c.trace entry desk.run says);
-        copy = copy;
+        begun = subst (IsBegun copy (row_count desk.start)) (sym trace) (begun-push copy (row_count desk.start) c.trace entry desk.begun);
+        run = subst (λ (es : List Entry). Run [] (at_rest desk.start copy) es after) (sym trace)
+            (Run-push [] (at_rest desk.start copy) desk.state after c.trace entry desk.run says);
+        is_copy = desk.is_copy;
+        copy_is = copy_is;
         down_is = down_is;
         counted = count_is seen_after calls new.calls counted at;
         recorded = recorded;
         shown = λ up. subst (λ (n : ℕ). Shows after n next) (sym (ap (allowed_by 0) trace ∙ allowed-push 0 c.trace entry)) (shown up);
         logged = omega (arith, ap (logged_by 0) trace, logged-push 0 c.trace entry, logged, desk.logged);
         pages = pages;
+        leaves = leaves;
         keys = keys;
         among = among;
         few = omega (arith, longer, few, more);
+        few_rows = desk.few_rows;
       }
 
   -- the entry of an event that changes nothing
   pub desk_same : (event : Event) (calls : ℕ) (next : Engine) (new : ChronicleState)
-      → (down ≡ false → SameEngine d next) → next.log ≡ d.log → IsLayout event → next_state [] None actors.System event desk.state ≡ Some desk.state
-      → new.trace ≡ c.trace ++ system_entry event calls ∷ [] → new.calls ≡ calls → IsCount seen calls → IsRecorded new.trace new.calls → IsDesk next new down seen
-  desk_same event calls next new same log is allows trace at counted recorded =
+      → (down ≡ false → SameEngine d next) → next.log ≡ d.log → next.opened ≡ d.opened → IsLayout copy event → next_state [] None actors.System event desk.state ≡ Some desk.state
+      → new.trace ≡ c.trace ++ system_entry event calls ∷ [] → new.calls ≡ calls → IsCount seen calls → IsRecorded new.trace new.calls → IsDesk next new copy down seen
+  desk_same event calls next new same log opened is allows trace at counted recorded =
       let entry = system_entry event calls in
       let longer = ap (λ (es : List Entry). length es) trace ∙ length-append c.trace (entry ∷ []) in
       let few = desk.few in
       record {
+        start = desk.start;
+        starts = subst (λ (rs : List Record). IsStored rs desk.start) (sym (ap (λ (n : ℕ). take n next.log.records) opened ∙ ap (λ (l : LogList). take d.opened l.records) log)) desk.starts;
+        within = subst (λ (n : ℕ). n ≤ length next.log.records) (sym opened) (subst (λ (l : LogList). d.opened ≤ length l.records) (sym log) desk.within);
         state = desk.state;
-        begun = subst IsBegun (sym trace) (begun-push c.trace entry desk.begun);
-        run = subst (λ (es : List Entry). Run [] (at_rest no_rows 1) es desk.state) (sym trace) (pushed event is allows);
-        copy = desk.copy;
+        begun = subst (IsBegun copy (row_count desk.start)) (sym trace) (begun-push copy (row_count desk.start) c.trace entry desk.begun);
+        run = subst (λ (es : List Entry). Run [] (at_rest desk.start copy) es desk.state) (sym trace) (pushed event is allows);
+        is_copy = desk.is_copy;
+        copy_is = desk.copy_is;
         down_is = desk.down_is;
         counted = count_is seen calls new.calls counted at;
         recorded = recorded;
@@ -213,27 +243,29 @@ module _ (d : Engine) (c : ChronicleState) (down : Bool) (seen : VolumeSeen) (de
             (same_shows desk.state (allowed_by 0 c.trace) d next (same up) (desk.shown up));
         logged = omega (arith, ap (logged_by 0) trace, logged-push 0 c.trace entry, none_logged event is (logged_by 0 c.trace), ap (λ (l : LogList). taken_of l) log, desk.logged);
         pages = ap (λ (l : LogList). l.pages) log ∙ desk.pages;
+        leaves = subst (LeavesIfTidy seen) (sym log) desk.leaves;
         keys = desk.keys;
         among = desk.among;
         few = omega (arith, longer, few);
+        few_rows = desk.few_rows;
       }
     where
-      none_allowed : (event : Event) → IsLayout event → (n : ℕ) → allowed_after n event ≡ n
-      none_allowed (Layout copy side) is n = refl
+      none_allowed : (event : Event) → IsLayout copy event → (n : ℕ) → allowed_after n event ≡ n
+      none_allowed (Layout shown side) is n = refl
       none_allowed LayoutNoMemory is n = refl
       none_allowed LayoutDown is n = refl
       none_allowed event is n = absurd is
 
-      none_logged : (event : Event) → IsLayout event → (n : ℕ) → logged_after n event ≡ n
-      none_logged (Layout copy side) is n = refl
+      none_logged : (event : Event) → IsLayout copy event → (n : ℕ) → logged_after n event ≡ n
+      none_logged (Layout shown side) is n = refl
       none_logged LayoutNoMemory is n = refl
       none_logged LayoutDown is n = refl
       none_logged event is n = absurd is
 
-      pushed : (event : Event) → IsLayout event → next_state [] None actors.System event desk.state ≡ Some desk.state → Run [] (at_rest no_rows 1) (c.trace ++ system_entry event calls ∷ []) desk.state
-      pushed (Layout copy side) is allows = Run-push [] (at_rest no_rows 1) desk.state desk.state c.trace (system_entry (Layout copy side) calls) desk.run allows
-      pushed LayoutNoMemory is allows = Run-push [] (at_rest no_rows 1) desk.state desk.state c.trace (system_entry LayoutNoMemory calls) desk.run allows
-      pushed LayoutDown is allows = Run-push [] (at_rest no_rows 1) desk.state desk.state c.trace (system_entry LayoutDown calls) desk.run allows
+      pushed : (event : Event) → IsLayout copy event → next_state [] None actors.System event desk.state ≡ Some desk.state → Run [] (at_rest desk.start copy) (c.trace ++ system_entry event calls ∷ []) desk.state
+      pushed (Layout shown side) is allows = Run-push [] (at_rest desk.start copy) desk.state desk.state c.trace (system_entry (Layout shown side) calls) desk.run allows
+      pushed LayoutNoMemory is allows = Run-push [] (at_rest desk.start copy) desk.state desk.state c.trace (system_entry LayoutNoMemory calls) desk.run allows
+      pushed LayoutDown is allows = Run-push [] (at_rest desk.start copy) desk.state desk.state c.trace (system_entry LayoutDown calls) desk.run allows
       pushed event is allows = absurd is
 
   -- ---- the trace is legal
@@ -250,48 +282,59 @@ module _ (d : Engine) (c : ChronicleState) (down : Bool) (seen : VolumeSeen) (de
   some_state [] state (k, lt, is) = absurd (omega arith)
   some_state (st ∷ states) state here = λ e. cc (e)
 
-  ends_possible : (es : List Entry) → IsBegun es → Run [] (at_rest no_rows 1) es desk.state → Contains (possible no_rows es) desk.state
-  ends_possible [] begun run = absurd begun
-  ends_possible (e ∷ es) begun run = run_possible_start no_rows 1 e es desk.state (ap (λ (f : Entry). states_before no_rows f.event) begun) run
+  known : (n : ℕ) → IsCopy n → (n == 1 || n == 2) ≡ true
+  known n (inl e) = ap (λ (k : ℕ). k == 1 || k == 2) e
+  known n (inr e) = ap (λ (k : ℕ). k == 1 || k == 2) e
 
-  pub desk_legal : Legal no_rows c.trace
+  ends_possible : (es : List Entry) → IsBegun copy (row_count desk.start) es → Run [] (at_rest desk.start copy) es desk.state → Contains (possible desk.start es) desk.state
+  ends_possible [] begun run = absurd begun
+  ends_possible (e ∷ es) begun run =
+      run_possible_start desk.start copy e es desk.state
+      (ap (λ (f : Entry). states_before desk.start f.event) begun.2 ∙ ap (λ (b : Bool). cond b (at_rest desk.start copy ∷ []) []) (known copy desk.is_copy)) run
+
+  pub desk_legal : Legal desk.start c.trace
   desk_legal = record {
-    allowed = some_state (possible no_rows c.trace) desk.state (ends_possible c.trace desk.begun desk.run);
+    allowed = some_state (possible desk.start c.trace) desk.state (ends_possible c.trace desk.begun desk.run);
     sessions = actors_stand c.trace desk.recorded.each;
     calls = desk.recorded.rising;
     answers = answers_stand c.trace desk.recorded.each;
   }
 
-  -- as many committed rows as entries at most
+  -- as many committed rows as entries and rows at the opening at most
   pub desk_few : down ≡ false → IsShownFew d
   desk_few up =
       let bound = desk.recorded.few in
       let committed = few_committed desk.keys desk.state desk.among in
       let few = desk.few in
-      record { state = desk.state; allowed = allowed_by 0 c.trace; shows = desk.shown up; few = omega (arith, committed, few, bound) }
+      let few_rows = desk.few_rows in
+      record { state = desk.state; allowed = allowed_by 0 c.trace; shows = desk.shown up; few = omega (arith, committed, few, bound, few_rows) }
 
 -- the entry of a statement, whether the desk is up or down
-pub desk_replied : (d : Engine) (c : ChronicleState) (down : Bool) (seen : VolumeSeen) (desk : IsDesk d c down seen) (session : Session) (stmt : Stmt) (reply : Reply) (calls : ℕ)
+pub desk_replied : (d : Engine) (c : ChronicleState) (copy : ℕ) (down : Bool) (seen : VolumeSeen) (desk : IsDesk d c copy down seen) (session : Session) (stmt : Stmt) (reply : Reply) (calls : ℕ)
     (next : Engine) (down_after : Bool) (seen_after : VolumeSeen) (new : ChronicleState)
     → Replies down d session stmt reply next down_after seen seen_after
-    → new.trace ≡ c.trace ++ said_entry session stmt reply calls ∷ [] → new.calls ≡ calls → IsCount seen_after calls → IsRecorded new.trace new.calls → IsDesk next new down_after seen_after
-desk_replied d c true seen desk session stmt reply calls next down_after seen_after new replies trace at counted recorded =
-    desk_on d c true seen desk session stmt reply calls desk.state next down_after seen_after new desk.keys desk.among (omega arith)
-    (subst (λ (r : Reply). Says desk.state session stmt r desk.state) (sym replies.0) (desk.down_is, refl)) desk.copy (desk.down_is ∙ sym replies.2)
+    → new.trace ≡ c.trace ++ said_entry session stmt reply calls ∷ [] → new.calls ≡ calls → IsCount seen_after calls → IsRecorded new.trace new.calls → IsDesk next new copy down_after seen_after
+desk_replied d c copy true seen desk session stmt reply calls next down_after seen_after new replies trace at counted recorded =
+    desk_on d c copy true seen desk session stmt reply calls desk.state next down_after seen_after new desk.keys desk.among (omega arith)
+    (subst (λ (r : Reply). Says desk.state session stmt r desk.state) (sym replies.0) (desk.down_is, refl)) desk.copy_is (desk.down_is ∙ sym replies.2)
     (λ up. absurd (cc (up, replies.2)))
     (omega (arith, ap (λ (x : Engine). taken_of x.log) replies.1))
     (ap (λ (x : Engine). x.log.pages) replies.1 ∙ desk.pages ∙ ap (λ (v : VolumeSeen). log_pages v.capacities) (sym replies.3))
+    (ap (λ (x : Engine). x.opened) replies.1) (grows_same d.log next.log (ap (λ (x : Engine). x.log) replies.1))
+    (subst (λ (v : VolumeSeen). LeavesIfTidy v next.log) (sym replies.3) (subst (LeavesIfTidy seen) (ap (λ (x : Engine). x.log) (sym replies.1)) desk.leaves))
     trace at counted recorded
-desk_replied d c false seen desk session stmt reply calls next down_after seen_after new replies trace at counted recorded =
+desk_replied d c copy false seen desk session stmt reply calls next down_after seen_after new replies trace at counted recorded =
     let answered = replies.0 desk.state (allowed_by 0 c.trace) (desk.shown refl) in
     let asks = replies.1 in
-    desk_on d c false seen desk session stmt reply calls answered.after next down_after seen_after new (keys_with stmt desk.keys)
+    desk_on d c copy false seen desk session stmt reply calls answered.after next down_after seen_after new (keys_with stmt desk.keys)
     (subst (AreKeys (keys_with stmt desk.keys)) (sym answered.is_after) (keys_left desk.keys desk.state desk.among session stmt reply)) (few_with stmt desk.keys)
-    answered.says (ap (λ (st : State). st.copy) answered.is_after ∙ copy_left desk.state session stmt reply ∙ desk.copy)
+    answered.says (ap (λ (st : State). st.copy) answered.is_after ∙ copy_left desk.state session stmt reply ∙ desk.copy_is)
     (ap (λ (st : State). st.down) answered.is_after ∙ down_left desk.state session stmt reply desk.down_is ∙ sym replies.2)
     (λ up. up_if _ reply (sym replies.2 ∙ up) answered.shows)
     answered.logged
-    (answered.log_pages ∙ desk.pages ∙ ap (λ x. log_pages x) (sym asks.calls.capacities))
+    (answered.grows.pages ∙ desk.pages ∙ ap (λ x. log_pages x) (sym asks.calls.capacities))
+    answered.opened answered.grows
+    (leaves_on seen seen_after d.log next.log c.calls asks.calls desk.counted answered.grows.pages asks.leaves desk.leaves)
     trace at counted recorded
 
 -- what the entry of a statement says
@@ -308,7 +351,8 @@ pub record Replied (d : Engine) (c : ChronicleState) (down : Bool) (seen : Volum
   pub log : SaysLog (ground_of d) session.0 stmt reply
   pub log_full : IfLogFull reply (logged_by 0 c.trace) d.log.pages
   pub capacity : capacity_in next.space ≡ capacity_in d.space
-  pub log_pages : next.log.pages ≡ d.log.pages
+  pub opened : next.opened ≡ d.opened
+  pub grows : Grows d.log next.log
   pub calls : CallsLog seen seen_after
 
 reply_so : (stmt : Stmt) (reply : Reply) → is_answer stmt reply ≡ true → is_reply stmt reply ≡ true
@@ -318,9 +362,9 @@ reply_so stmt reply e = e
 not_down : (stmt : Stmt) (reply : Reply) → is_answer stmt reply ≡ true → reply ≡ Down → ⊥
 not_down stmt reply e is = absurd (cc (ap (is_answer stmt) (sym is), e))
 
-pub replied : (d : Engine) (c : ChronicleState) (down : Bool) (seen : VolumeSeen) (desk : IsDesk d c down seen) (session : Session) (stmt : Stmt) (reply : Reply) (next : Engine) (after : Bool) (seen_after : VolumeSeen)
+pub replied : (d : Engine) (c : ChronicleState) (copy : ℕ) (down : Bool) (seen : VolumeSeen) (desk : IsDesk d c copy down seen) (session : Session) (stmt : Stmt) (reply : Reply) (next : Engine) (after : Bool) (seen_after : VolumeSeen)
     → Replies down d session stmt reply next after seen seen_after → Replied d c down seen session stmt reply next after seen_after
-replied d c true seen desk session stmt reply next after seen_after replies = record {
+replied d c copy true seen desk session stmt reply next after seen_after replies = record {
   is = subst (λ (r : Reply). is_reply stmt r ≡ true) (sym replies.0) refl;
   was_down = λ e. replies.0;
   was_up = λ e. absurd (cc (e));
@@ -333,10 +377,11 @@ replied d c true seen desk session stmt reply next after seen_after replies = re
   log = subst (λ (r : Reply). SaysLog (ground_of d) session.0 stmt r) (sym replies.0) tt;
   log_full = subst (λ (r : Reply). IfLogFull r (logged_by 0 c.trace) d.log.pages) (sym replies.0) tt;
   capacity = ap (λ (x : Engine). capacity_in x.space) replies.1;
-  log_pages = ap (λ (x : Engine). x.log.pages) replies.1;
+  opened = ap (λ (x : Engine). x.opened) replies.1;
+  grows = grows_same d.log next.log (ap (λ (x : Engine). x.log) replies.1);
   calls = subst (CallsLog seen) (sym replies.3) (same_calls seen);
 }
-replied d c false seen desk session stmt reply next after seen_after replies =
+replied d c copy false seen desk session stmt reply next after seen_after replies =
     let answered = replies.0 desk.state (allowed_by 0 c.trace) (desk.shown refl) in
     record {
       is = reply_so stmt reply answered.is;
@@ -351,46 +396,69 @@ replied d c false seen desk session stmt reply next after seen_after replies =
       log = answered.log;
       log_full = log_full_so (ground_of d) session.0 stmt reply (logged_by 0 c.trace) answered.log desk.logged;
       capacity = answered.capacity;
-      log_pages = answered.log_pages;
+      opened = answered.opened;
+      grows = answered.grows;
       calls = replies.1.calls;
     }
 
 -- ---- the opening
 
-none : committed_table (at_rest no_rows 1) ≡ no_rows
-none = committed-at_rest no_rows 1
+-- the keys of entries
+abbrev keys_in : List (ℕ × Row) → List ℕ
+keys_in [] = []
+keys_in (e ∷ es) = e.0 ∷ keys_in es
 
-pub desk_opened : (d : Engine) (c : ChronicleState) (calls : ℕ) (seen : VolumeSeen) → Shows (at_rest no_rows 1) 0 d → taken_of d.log ≡ 0 → d.log.pages ≡ log_pages seen.capacities
-    → c.trace ≡ first_entry calls ∷ [] → c.calls ≡ calls → IsCount seen calls → IsRecorded c.trace c.calls → IsDesk d c false seen
-desk_opened d c calls seen shown taken pages trace at counted recorded =
-    let opened : State = at_rest (committed_table (at_rest no_rows 1)) 1 in
-    let is : opened ≡ at_rest no_rows 1 = ap (λ t. at_rest t 1) none in
-    let run : Run [] (at_rest no_rows 1) (first_entry calls ∷ []) opened = (
-      opened,
+first_among : (table : Table) (es : List (ℕ × Row)) (k : ℕ) → is_some (map.find nat_cmp k es) ≡ true → IsAmong (keys_in es) k
+first_among table [] k there = absurd (cc (there))
+first_among table (e ∷ es) k there = by_test (eq_by_cmp nat_cmp k e.0) refl there (λ h. first_among table es k h)
+  where
+    by_test : (b : Bool) → eq_by_cmp nat_cmp k e.0 ≡ b → is_some (cond b (Some e.1) (map.find nat_cmp k es)) ≡ true → (is_some (map.find nat_cmp k es) ≡ true → IsAmong (keys_in es) k) → IsAmong (keys_in (e ∷ es)) k
+    by_test true same h rest = inl (key_of k e.0 same)
+    by_test false same h rest = inr (rest h)
+
+keys_count : (es : List (ℕ × Row)) → length (keys_in es) ≡ length es
+keys_count [] = refl
+keys_count (e ∷ es) = ap suc (keys_count es)
+
+pub desk_opened : (d : Engine) (c : ChronicleState) (copy pages used calls : ℕ) (seen : VolumeSeen) (start : Table) → IsCopy copy → Shows (at_rest start copy) (4064 * pages) d → IsStored d.log.records start → d.opened ≡ length d.log.records
+    → taken_of d.log ≤ used → d.log.pages ≡ log_pages seen.capacities → LeavesIfTidy seen d.log → row_count start < 2 ^ 32
+    → c.trace ≡ opened_entry copy (row_count start) pages used calls ∷ [] → c.calls ≡ calls → IsCount seen calls → IsRecorded c.trace c.calls → IsDesk d c copy false seen
+desk_opened d c copy pages used calls seen start is_copy shown starts opened taken log_pages_are leaves few trace at counted recorded =
+    let none : committed_table (at_rest start copy) ≡ start = committed-at_rest start copy in
+    let first : State = at_rest (committed_table (at_rest start copy)) copy in
+    let is : first ≡ at_rest start copy = ap (λ t. at_rest t copy) none in
+    let run : Run [] (at_rest start copy) (opened_entry copy (row_count start) pages used calls ∷ []) first = (
+      first,
       record {
-        table = committed_table (at_rest no_rows 1);
-        left = only_one (committed_table (at_rest no_rows 1)) (committed_table (at_rest no_rows 1)) refl;
-        copy_left = refl;
-        counted = ap map.len none ∙ len-empty nat_cmp Row;
+        table = committed_table (at_rest start copy);
+        left = only_one (committed_table (at_rest start copy)) (committed_table (at_rest start copy)) refl;
+        copy_left = ap (λ (b : Bool). b || (false && (copy == 3 - copy))) (eqb-refl copy);
+        counted = ap map.len none;
         at_rest = refl;
       },
       refl,
     ) in
     record {
-      state = at_rest no_rows 1;
-      begun = subst IsBegun (sym trace) refl;
-      run = subst (λ (st : State). Run [] (at_rest no_rows 1) c.trace st) is (subst (λ (es : List Entry). Run [] (at_rest no_rows 1) es opened) (sym trace) run);
-      copy = refl;
+      start = start;
+      starts = subst (λ (rs : List Record). IsStored rs start) (sym (ap (λ (n : ℕ). take n d.log.records) opened ∙ take-length d.log.records)) starts;
+      within = omega (arith, opened);
+      state = at_rest start copy;
+      begun = subst (IsBegun copy (row_count start)) (sym trace) (pages, used, refl);
+      run = subst (λ (st : State). Run [] (at_rest start copy) c.trace st) is (subst (λ (es : List Entry). Run [] (at_rest start copy) es first) (sym trace) run);
+      is_copy = is_copy;
+      copy_is = refl;
       down_is = refl;
       counted = count_is seen calls c.calls counted at;
       recorded = recorded;
-      shown = λ up. subst (λ (es : List Entry). Shows (at_rest no_rows 1) (allowed_by 0 es) d) (sym trace) shown;
-      logged = omega (arith, taken);
-      pages = pages;
-      keys = [];
+      shown = λ up. subst (λ (es : List Entry). Shows (at_rest start copy) (allowed_by 0 es) d) (sym trace) shown;
+      logged = subst (λ (es : List Entry). taken_of d.log ≤ logged_by 0 es) (sym trace) taken;
+      pages = log_pages_are;
+      leaves = leaves;
+      keys = keys_in (map.entries start);
       among = record {
-        present = λ k there. absurd (cc (there, ap (λ (o : Option Row). is_some o) (get-empty {X = Row} nat_cmp k)));
+        present = λ k there. first_among start (map.entries start) k (ap (λ (o : Option Row). is_some o) (sym (get-entries start k)) ∙ there);
         locked = λ k there. absurd (cc (there, ap (λ (o : Option Lock). is_some o) (get-empty {X = Lock} nat_cmp k)));
       };
-      few = omega arith;
+      few = omega (arith, keys_count (map.entries start), len-entries start);
+      few_rows = few;
     }

@@ -7,6 +7,8 @@ pub mod UnitSlots
 pub mod Keys
 pub mod KeysWritten
 pub mod UnitsWritten
+pub mod Settled
+pub mod Leaving
 pub mod Appended
 pub mod Purged
 pub mod Written
@@ -21,7 +23,7 @@ pub mod Statements
 pub mod RoomSaid
 pub mod WritesGo
 pub mod DropHand
-pub mod Empty
+pub mod Begins
 pub mod Ended
 pub mod CommitShows
 pub mod ReadRows
@@ -35,8 +37,10 @@ pub mod UndoSteps
 pub mod UndoBegins
 pub mod RollbackGoes
 pub mod Locked
+pub mod Forcing
 pub mod Answering
 pub mod Counting
 pub mod Among
+pub mod Exits
 pub mod DeskGoes
 pub mod Recorded

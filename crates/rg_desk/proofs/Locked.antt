@@ -16,7 +16,7 @@ use Rattle.rg_model.specs.State.{Locks, State}
 use Rattle.rg_space.specs.Space.{capacity_in}
 use Rattle.rg_stmt.specs.declared.stmt.Reply.TheVariants.{Device}
 use Rattle.rg_stmt.specs.declared.stmt.Stmt.TheVariants.{Commit}
-use Rattle.rg_desk.specs.Ended.{LogsCommit}
+use Rattle.rg_desk.specs.Ended.{LogsCommit, commit_record, records_committed}
 use Rattle.rg_desk.specs.Shows.{KeyShown, Shows, left_by}
 use Rattle.rg_desk.specs.Steps.{Goes}
 use Rattle.rg_desk.specs.Units.{unit_at}
@@ -74,13 +74,19 @@ module _ (st : State) (allowed : ℕ) (d : Engine) (session : Session) (shows : 
           (shows.by.units.apart lock.owner.0 session.0 h.unit unit h.has has (key.by h.unit.tran.0 h.own))
 
   -- the device refused its COMMIT
-  pub commit_fails : (new mid : Engine) → LogsCommit d session mid → new.space ≡ mid.space → new.log.records ≡ mid.log.records → new.log.reserved ≡ mid.log.reserved → new.log.pages ≡ mid.log.pages → Goes st allowed d session Commit Device new
-  commit_fails new mid logged space records reserved pages = record {
+  pub commit_fails : (new mid : Engine) → LogsCommit d session mid → new.space ≡ mid.space → new.log.records ≡ mid.log.records → new.log.reserved ≡ mid.log.reserved → new.log.pages ≡ mid.log.pages → new.opened ≡ mid.opened → Goes st allowed d session Commit Device new
+  commit_fails new mid logged space records reserved pages opened = record {
     says = ap (λ (ls : Locks). has_locks ls session) shows.by.locks ∙ locked;
     room = tt;
     log = tt;
     logged = omega (arith, ap log_bytes records, reserved, ap log_bytes logged.records, bytes_committed d.log.records (unit_at d.units session.0) d.log.reserved mid.log.reserved logged.reserved);
-    log_pages = pages ∙ logged.pages;
+    opened = opened ∙ logged.base.opened;
+    forced = λ e. absurd (cc (e));
+    grows = record {
+      more = commit_record (length d.log.records + 1) unit ∷ [];
+      records = records ∙ logged.records ∙ ap (records_committed d.log.records) has;
+      pages = pages ∙ logged.base.pages;
+    };
     shows = tt;
     capacity = ap (λ sp. capacity_in sp) space ∙ ap (λ (x : Engine). capacity_in x.space) logged.same;
   }

@@ -39,6 +39,7 @@ use Rattle.rg_desk.specs.declared.engine.Engine.{Engine}
 use Rattle.rg_desk.proofs.LockWalk.{scan_free, scan_held}
 use Rattle.rg_desk.proofs.Same.{same_shows}
 use Rattle.rg_desk.proofs.Sessions.{left_consistent}
+use Rattle.rg_desk.proofs.Settled.{grows_same}
 use Rattle.rg_desk.proofs.Statements.{IsKeyAt, go_held, held_is, key_none, key_some, none_more}
 
 module _ (st : State) (allowed : ℕ) (d : Engine) (shows : Shows st allowed d) (session : Session) where
@@ -67,8 +68,8 @@ module _ (st : State) (allowed : ℕ) (d : Engine) (shows : Shows st allowed d) 
       ∙ ap row_reply is
 
   select_so : (key : ℕ) (found : Option Row) (new : Engine) → plain_reply st session (Select key) ≡ row_reply found → SameEngine d new → Goes st allowed d session (Select key) (row_reply found) new
-  select_so key None new is same = record { says = sym is; room = tt; log = tt; logged = logged_same new same; log_pages = ap (λ (l : LogList). l.pages) same.log; shows = later new same; capacity = same.capacity }
-  select_so key (Some row) new is same = record { says = sym is; room = tt; log = tt; logged = logged_same new same; log_pages = ap (λ (l : LogList). l.pages) same.log; shows = later new same; capacity = same.capacity }
+  select_so key None new is same = record { says = sym is; room = tt; log = tt; logged = logged_same new same; opened = same.opened; grows = grows_same d.log new.log same.log; forced = λ e. ap (λ (l : LogList). l.forced) same.log; shows = later new same; capacity = same.capacity }
+  select_so key (Some row) new is same = record { says = sym is; room = tt; log = tt; logged = logged_same new same; opened = same.opened; grows = grows_same d.log new.log same.log; forced = λ e. ap (λ (l : LogList). l.forced) same.log; shows = later new same; capacity = same.capacity }
 
   pub select_goes : (key : ℕ) (found : Option Row) (reply : Reply) (new : Engine) → holder d.locks session key ≡ None → row_of st.table key ≡ found → reply ≡ row_reply found → SameEngine d new → Goes st allowed d session (Select key) reply new
   select_goes key found reply new alone is says same =
@@ -94,7 +95,9 @@ module _ (st : State) (allowed : ℕ) (d : Engine) (shows : Shows st allowed d) 
         room = tt;
         log = tt;
         logged = logged_same new same;
-        log_pages = ap (λ (l : LogList). l.pages) same.log;
+        opened = same.opened;
+        grows = grows_same d.log new.log same.log;
+        forced = λ e. ap (λ (l : LogList). l.forced) same.log;
         shows = later new same;
         capacity = same.capacity;
       }
@@ -151,7 +154,9 @@ module _ (st : State) (allowed : ℕ) (d : Engine) (shows : Shows st allowed d) 
         room = tt;
         log = tt;
         logged = logged_same new same;
-        log_pages = ap (λ (l : LogList). l.pages) same.log;
+        opened = same.opened;
+        grows = grows_same d.log new.log same.log;
+        forced = λ e. ap (λ (l : LogList). l.forced) same.log;
         shows = later new same;
         capacity = same.capacity;
       }

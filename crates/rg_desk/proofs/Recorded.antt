@@ -29,7 +29,7 @@ all_more : (a b : ℕ) (xs : List Entry) → a ≤ b → AllByRecursion (λ e. e
 all_more a b [] le all = tt
 all_more a b (y ∷ xs) le all = (omega (arith, le, all.0), all_more a b xs le all.1)
 
-pub recorded_push : (trace : List Entry) (calls : ℕ) (e : Entry) → IsRecorded trace calls → calls ≤ e.calls → IsEntry e → length (trace ++ e ∷ []) < 2 ^ 64 → IsRecorded (trace ++ e ∷ []) e.calls
+pub recorded_push : (trace : List Entry) (calls : ℕ) (e : Entry) → IsRecorded trace calls → calls ≤ e.calls → IsEntry e → length (trace ++ e ∷ []) < 2 ^ 63 → IsRecorded (trace ++ e ∷ []) e.calls
 recorded_push trace calls e was le is few = record {
   rising = λ i j d below lt. by_place i j d below lt (place j (length trace));
   below = all_push (λ x. x.calls ≤ e.calls) trace e (all_more calls e.calls trace le was.below) (omega arith);

@@ -31,6 +31,7 @@ use Rattle.rg_desk.specs.Engine.{slots_in}
 use Rattle.rg_desk.specs.Pages.{list_seen}
 use Rattle.rg_desk.specs.Shows.{KeyShown, Shows, left_by}
 use Rattle.rg_desk.specs.Steps.{Goes}
+use Rattle.rg_desk.specs.Stored.{IsSettled}
 use Rattle.rg_desk.specs.Undone.{IsUndoing}
 use Rattle.rg_log.specs.Kept.{Listed}
 use Rattle.rg_desk.specs.Bytes.{taken_of}
@@ -41,6 +42,7 @@ use Rattle.rg_desk.proofs.Appended.{acts_snoc}
 use Rattle.rg_desk.proofs.CommitShows.{idle_shows}
 use Rattle.rg_desk.proofs.Rolled.{undos_leave}
 use Rattle.rg_desk.proofs.RollbackShows.{rollback_goes}
+use Rattle.rg_desk.proofs.Settled.{grows_same}
 
 -- no own writes are left
 none_left : (ws : List Write) (n : ℕ) → length ws + n ≡ n → ws ≡ []
@@ -69,7 +71,8 @@ module _ (st : State) (allowed : ℕ) (d : Engine) (session : Session) (shows : 
       let same_space : new.space ≡ mid.space = ended.space ∙ space in
       rollback_goes st allowed d new session shows low unit has so.undos so.are lawful (so.more ++ r ∷ [])
       (all ∙ ap (λ (rs : List Record). rs ++ r ∷ []) so.records ∙ append_assoc d.log.records so.more (r ∷ []))
-      (ap (acts_of []) all ∙ acts_snoc mid.log.records r ∙ ap (λ (acts : List Act). RollBack t ∷ acts) so.acts)
+      (acts_snoc so.more r ∙ ap (λ (acts : List Act). RollBack t ∷ acts) so.acts)
+      (ended.opened ∙ logged.base.opened ∙ so.base.opened) (ap (λ (l : Listed). l.forced) ended.log ∙ logged.base.forced ∙ so.base.forced)
       (ap (λ sp. capacity_in sp) same_space ∙ so.capacity)
       (record {
         step = subst (λ sp. InStep (list_seen (frames_of sp)) (index_of sp) (capacity_in sp)) (sym same_space) so.pages.step;
@@ -83,7 +86,7 @@ module _ (st : State) (allowed : ℕ) (d : Engine) (session : Session) (shows : 
       (ended.top ∙ top ∙ so.top)
       (omega (arith, ap (λ (l : Listed). l.reserved) ended.log, logged.reserved, room))
       (omega (arith, ap (λ (l : Listed). taken_of l) ended.log, logged.taken, so.taken))
-      (ap (λ (l : Listed). l.pages) ended.log ∙ logged.pages ∙ so.log_pages)
+      (ap (λ (l : Listed). l.pages) ended.log ∙ logged.base.pages ∙ so.base.pages)
 
   -- without a unit nothing is put back
   pub rollback_idle : (new : Engine) → unit_at d.units session.0 ≡ None → EndsSession d session new → Goes st allowed d session Rollback Done new
@@ -97,9 +100,11 @@ module _ (st : State) (allowed : ℕ) (d : Engine) (session : Session) (shows : 
         room = tt;
         log = tt;
         logged = omega (arith, ap (λ (l : Listed). taken_of l) ended.log);
-        log_pages = ap (λ (l : Listed). l.pages) ended.log;
+        opened = ended.opened;
+        grows = grows_same d.log new.log ended.log;
+        forced = λ e. ap (λ (l : Listed). l.forced) ended.log;
         shows = subst (λ (x : State). Shows x (allowed + 0) new) state_is
-            (idle_shows st allowed d new session shows low ended.space ended.indexes ended.top ended.locks ended.claims ended.units (ap (λ (l : Listed). l.records) ended.log ∙ ap (records_committed d.log.records) (sym none)) (omega (arith, ap owed_to none, ap (λ (l : Listed). l.reserved) ended.log)) (ap (λ (l : Listed). l.pages) ended.log) none);
+            (idle_shows st allowed d new session shows low ended.space ended.indexes ended.top ended.locks ended.claims ended.units (ap (λ (l : Listed). l.records) ended.log ∙ ap (records_committed d.log.records) (sym none)) (omega (arith, ap owed_to none, ap (λ (l : Listed). l.reserved) ended.log)) ended.opened (subst IsSettled (sym ended.log) shows.settled) (grows_same d.log new.log ended.log) none);
         capacity = ap (λ sp. capacity_in sp) ended.space;
       }
     where

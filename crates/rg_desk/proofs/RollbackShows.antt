@@ -29,7 +29,6 @@ use Rattle.rg_lawful.specs.Write.{HitBy, NoneHit, at_key, own_of}
 use Rattle.rg_lawful.proofs.Free.{free_apart, free_kept}
 use Rattle.rg_lawful.proofs.Live.{live_was}
 use Rattle.rg_lawful.proofs.Rolls.{rollback_rows}
-use Rattle.rg_lawful.proofs.Runs.{runs_joined, state_joined}
 use Rattle.rg_space.specs.Space.{capacity_in}
 use Rattle.rg_stmt.specs.declared.stmt.Reply.TheVariants.{Done}
 use Rattle.rg_stmt.specs.declared.stmt.Stmt.TheVariants as stmts
@@ -37,19 +36,22 @@ use Rattle.rg_desk.specs.Bytes.{taken_of}
 use Rattle.rg_desk.specs.Engine.{HasPages, slots_in}
 use Rattle.rg_desk.specs.Shows.{IsLocked, KeyShown, Shows, ShowsBy, UnitsShown, left_by}
 use Rattle.rg_desk.specs.Steps.{Goes}
+use Rattle.rg_desk.specs.Stored.{IsQuiet}
 use Rattle.rg_desk.specs.Units.{owed, owed_to, unit_at}
 use Rattle.rg_desk.specs.declared.engine.Engine.{Engine}
 use Rattle.rg_desk.specs.declared.units.OpenUnit.{OpenUnit}
 use Rattle.rg_desk.proofs.Ended.{keys_ended, units_ended}
 use Rattle.rg_desk.proofs.Rolled.{rolled_back, undos_claim, undos_leave}
 use Rattle.rg_desk.proofs.Sessions.{left_consistent}
+use Rattle.rg_desk.proofs.Settled.{quiet_undos, settled_more, shows_more}
 use Rattle.rg_desk.proofs.UnitSlots.{owed-set}
 
 module _ (st : State) (allowed : ℕ) (d new : Engine) (session : Session) (shows : Shows st allowed d) (low : session.0 < 256) (unit : OpenUnit)
     (has : unit_at d.units session.0 ≡ Some unit) (undos : List Act) (are : AreUndos unit.tran.0 undos)
     (lawful : Runs (capacity_in d.space) (left_by shows.first d) (RollBack unit.tran.0 ∷ undos))
     (more : List Record) (records : new.log.records ≡ d.log.records ++ more)
-    (acts : acts_of [] new.log.records ≡ (RollBack unit.tran.0 ∷ undos) ++ acts_of [] d.log.records)
+    (acts : acts_of [] more ≡ RollBack unit.tran.0 ∷ undos)
+    (opened : new.opened ≡ d.opened) (forced : new.log.forced ≡ d.log.forced)
     (capacity : capacity_in new.space ≡ capacity_in d.space) (pages : HasPages new) where
   abbrev s : LogState
   s = left_by shows.first d
@@ -116,40 +118,41 @@ module _ (st : State) (allowed : ℕ) (d new : Engine) (session : Session) (show
     room = tt;
     log = tt;
     logged = omega (arith, taken);
-    log_pages = log_pages;
-    shows = record {
-      first = shows.first;
-      begun = subst (λ (n : ℕ). IsConsistent n shows.first) (sym capacity) shows.begun;
-      runs =
-          subst (λ (n : ℕ). Runs n shows.first (acts_of [] new.log.records)) (sym capacity)
-          (subst (Runs limit shows.first) (sym acts) (runs_joined limit shows.first (RollBack t ∷ undos) (acts_of [] d.log.records) shows.runs lawful));
-      by = subst (ShowsBy (after_rollback st session) (allowed + 0) new) (sym (ap (state shows.first) acts ∙ state_joined shows.first (RollBack t ∷ undos) (acts_of [] d.log.records))) (record {
-        up = shows.by.up;
-        idle = shows.by.idle;
-        sure = shows.by.sure;
-        copy = shows.by.copy;
-        table = table;
-        locks = ap (locks_without session) shows.by.locks ∙ sym locks;
-        claims = ap (λ c. fin.remove c session.0) shows.by.claims ∙ ap (λ (c : Claims). c.claims) (sym claims);
-        drain = shows.by.drain ∙ ap (λ (c : Claims). c.drain) (sym claims);
-        free = ap (λ (c : Claims). c.drain) claims ∙ shows.by.free;
-        pages = pages;
-        slots = slots;
-        indexes = indexes;
-        keys = λ k.
-            subst (λ (us : List (Option OpenUnit)). KeyShown us s_rolled (fin.get new.locks k) k) (sym units)
-            (subst (λ (ls : Locks). KeyShown (set d.units session.0 None) s_rolled (fin.get ls k) k) (sym locks)
-            (keys_ended t s s_rolled session unit d.units d.locks place has refl (rolled_back limit s good t undos are lawful)
-            (λ n other e f. shows.by.units.apart n session.0 other unit e has f) shows.by.keys k));
-        places = ap length units ∙ length-set d.units session.0 None ∙ shows.by.places;
-        units =
-            subst (UnitsShown new.log.records s_rolled) (sym units)
-            (subst (λ (rs : List Record). UnitsShown rs s_rolled (set d.units session.0 None)) (sym records)
-            (units_ended t s s_rolled session unit d.units d.locks place has refl (rolled_back limit s good t undos are lawful) d.log.records more shows.by.units));
-        top = top ∙ shows.by.top ∙ sym (undos_leave t s undos are).top;
-        owed = omega (arith, ap owed units, owed-set d.units session.0 None place, ap owed_to has, reserved, shows.by.owed);
-        claimed = omega (arith, claimed);
-      });
-    };
+    opened = opened;
+    grows = record { more = more; records = records; pages = log_pages };
+    forced = λ e. forced;
+    shows =
+        shows_more st allowed d shows (after_rollback st session) (allowed + 0) new more opened records capacity runs
+        (settled_more st allowed d shows more runs (subst IsQuiet (sym acts) (quiet_undos t undos are)) new.log records forced)
+        (subst (ShowsBy (after_rollback st session) (allowed + 0) new) (sym (ap (state s) acts)) (record {
+          up = shows.by.up;
+          idle = shows.by.idle;
+          sure = shows.by.sure;
+          copy = shows.by.copy;
+          table = table;
+          locks = ap (locks_without session) shows.by.locks ∙ sym locks;
+          claims = ap (λ c. fin.remove c session.0) shows.by.claims ∙ ap (λ (c : Claims). c.claims) (sym claims);
+          drain = shows.by.drain ∙ ap (λ (c : Claims). c.drain) (sym claims);
+          free = ap (λ (c : Claims). c.drain) claims ∙ shows.by.free;
+          pages = pages;
+          slots = slots;
+          indexes = indexes;
+          keys = λ k.
+              subst (λ (us : List (Option OpenUnit)). KeyShown us s_rolled (fin.get new.locks k) k) (sym units)
+              (subst (λ (ls : Locks). KeyShown (set d.units session.0 None) s_rolled (fin.get ls k) k) (sym locks)
+              (keys_ended t s s_rolled session unit d.units d.locks place has refl (rolled_back limit s good t undos are lawful)
+              (λ n other e f. shows.by.units.apart n session.0 other unit e has f) shows.by.keys k));
+          places = ap length units ∙ length-set d.units session.0 None ∙ shows.by.places;
+          units =
+              subst (UnitsShown new.log.records s_rolled) (sym units)
+              (subst (λ (rs : List Record). UnitsShown rs s_rolled (set d.units session.0 None)) (sym records)
+              (units_ended t s s_rolled session unit d.units d.locks place has refl (rolled_back limit s good t undos are lawful) d.log.records more shows.by.units));
+          top = top ∙ shows.by.top ∙ sym (undos_leave t s undos are).top;
+          owed = omega (arith, ap owed units, owed-set d.units session.0 None place, ap owed_to has, reserved, shows.by.owed);
+          claimed = omega (arith, claimed);
+        }));
     capacity = capacity;
   }
+    where
+      runs : Runs limit s (acts_of [] more)
+      runs = subst (Runs limit s) (sym acts) lawful

@@ -1,5 +1,5 @@
 -- What is as it was, but for room, shows what it showed.
-use Rattle.std.proofs.Common.{◌≡◌, ℕ, List, [], length, Option, sym, ◌∙◌, ap, subst}
+use Rattle.std.proofs.Common.{◌≡◌, ℕ, List, [], length, Option, sym, ◌∙◌, ap, subst, append-nil}
 use Rattle.std.specs.FinMap as fin
 use Rattle.rg_claim.specs.declared.claims.Claims.{Claims}
 use Rattle.rg_home.specs.Pages.{Sound, slot_of}
@@ -7,57 +7,48 @@ use Rattle.rg_home.specs.Slot.{Slot}
 use Rattle.rg_home.specs.Rows.{row_at}
 use Rattle.rg_model.specs.State.{Locks, State}
 use Rattle.rg_record.specs.declared.record.Record.{Record}
-use Rattle.rg_lawful.specs.Act.{LogState, state}
-use Rattle.rg_lawful.specs.Consistent.{IsConsistent}
-use Rattle.rg_lawful.specs.Lawful.{Runs}
-use Rattle.rg_lawful.specs.Records.{acts_of}
-use Rattle.rg_space.specs.Space.{capacity_in}
+use Rattle.rg_lawful.specs.Act.{LogState}
 use Rattle.rg_log.specs.Kept.{Listed}
 use Rattle.rg_desk.specs.Engine.{slots_in}
 use Rattle.rg_desk.specs.Shows.{KeyShown, Shows, ShowsBy, UnitsShown, left_by}
+use Rattle.rg_desk.specs.Stored.{IsSettled}
 use Rattle.rg_desk.specs.Units.{owed}
 use Rattle.rg_desk.specs.Wrote.{SameEngine}
 use Rattle.rg_desk.specs.declared.engine.Engine.{Engine}
 use Rattle.rg_desk.specs.declared.units.OpenUnit.{OpenUnit}
 use Rattle.rg_desk.proofs.Sessions.{left_consistent}
+use Rattle.rg_desk.proofs.Settled.{shows_more}
 use Rattle.rg_desk.proofs.Written.{same_listings}
 
 pub same_shows : (st : State) (allowed : ℕ) (old new : Engine) → SameEngine old new → Shows st allowed old → Shows st allowed new
 same_shows st allowed old new same shows =
     let s : LogState = left_by shows.first old in
     let records : old.log.records ≡ new.log.records = ap (λ (l : Listed). l.records) (sym same.log) in
-    let left : left_by shows.first old ≡ left_by shows.first new = ap (λ (rs : List Record). state shows.first (acts_of [] rs)) records in
-    record {
-      first = shows.first;
-      begun = subst (λ (n : ℕ). IsConsistent n shows.first) (sym same.capacity) shows.begun;
-      runs =
-          subst (λ (n : ℕ). Runs n shows.first (acts_of [] new.log.records)) (sym same.capacity)
-          (subst (λ (rs : List Record). Runs (capacity_in old.space) shows.first (acts_of [] rs)) records shows.runs);
-      by = subst (ShowsBy st allowed new) left (record {
-        up = shows.by.up;
-        idle = shows.by.idle;
-        sure = shows.by.sure;
-        copy = shows.by.copy;
-        table = shows.by.table;
-        locks = shows.by.locks ∙ sym same.locks;
-        claims = shows.by.claims ∙ ap (λ (c : Claims). c.claims) (sym same.claims);
-        drain = shows.by.drain ∙ ap (λ (c : Claims). c.drain) (sym same.claims);
-        free = ap (λ (c : Claims). c.drain) same.claims ∙ shows.by.free;
-        pages = same.pages shows.by.pages;
-        slots = same.slots ∙ shows.by.slots;
-        indexes = same_listings (row_at (slot_of s.pages)) old.indexes new.indexes same.entries shows.by.indexes;
-        keys = λ k.
-            subst (λ (us : List (Option OpenUnit)). KeyShown us s (fin.get new.locks k) k) (sym same.units)
-            (subst (λ (ls : Locks). KeyShown old.units s (fin.get ls k) k) (sym same.locks) (shows.by.keys k));
-        places = ap length same.units ∙ shows.by.places;
-        units =
-            subst (λ (us : List (Option OpenUnit)). UnitsShown new.log.records s us) (sym same.units)
-            (subst (λ (rs : List Record). UnitsShown rs s old.units) records shows.by.units);
-        top = same.top ∙ shows.by.top;
-        owed = ap owed same.units ∙ shows.by.owed ∙ ap (λ (l : Listed). l.reserved) (sym same.log);
-        claimed = shows.by.claimed;
-      });
-    }
+    shows_more st allowed old shows st allowed new [] same.opened (sym records ∙ sym (append-nil old.log.records)) same.capacity tt (subst IsSettled (sym same.log) shows.settled)
+    (record {
+      up = shows.by.up;
+      idle = shows.by.idle;
+      sure = shows.by.sure;
+      copy = shows.by.copy;
+      table = shows.by.table;
+      locks = shows.by.locks ∙ sym same.locks;
+      claims = shows.by.claims ∙ ap (λ (c : Claims). c.claims) (sym same.claims);
+      drain = shows.by.drain ∙ ap (λ (c : Claims). c.drain) (sym same.claims);
+      free = ap (λ (c : Claims). c.drain) same.claims ∙ shows.by.free;
+      pages = same.pages shows.by.pages;
+      slots = same.slots ∙ shows.by.slots;
+      indexes = same_listings (row_at (slot_of s.pages)) old.indexes new.indexes same.entries shows.by.indexes;
+      keys = λ k.
+          subst (λ (us : List (Option OpenUnit)). KeyShown us s (fin.get new.locks k) k) (sym same.units)
+          (subst (λ (ls : Locks). KeyShown old.units s (fin.get ls k) k) (sym same.locks) (shows.by.keys k));
+      places = ap length same.units ∙ shows.by.places;
+      units =
+          subst (λ (us : List (Option OpenUnit)). UnitsShown new.log.records s us) (sym same.units)
+          (subst (λ (rs : List Record). UnitsShown rs s old.units) records shows.by.units);
+      top = same.top ∙ shows.by.top;
+      owed = ap owed same.units ∙ shows.by.owed ∙ ap (λ (l : Listed). l.reserved) (sym same.log);
+      claimed = shows.by.claimed;
+    })
 
 -- the pages are sound
 pub same_sound : (st : State) (allowed : ℕ) (old new : Engine) → SameEngine old new → Shows st allowed old → Sound (slots_in new)

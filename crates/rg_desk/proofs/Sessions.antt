@@ -10,13 +10,12 @@ use Rattle.rg_lawful.specs.Act.{LogState}
 use Rattle.rg_lawful.specs.Consistent.{IsConsistent}
 use Rattle.rg_lawful.specs.DeskLaws.{AreLiveWith}
 use Rattle.rg_lawful.specs.Lawful.{MayBegin}
-use Rattle.rg_lawful.specs.Records.{acts_of}
 use Rattle.rg_lawful.specs.Write.{HitBy, at_key}
 use Rattle.rg_lawful.proofs.Free.{free_any}
 use Rattle.rg_lawful.proofs.Live.{live_same, live_more, live_other}
 use Rattle.rg_lawful.proofs.Runs.{runs_consistent}
 use Rattle.rg_space.specs.Space.{capacity_in}
-use Rattle.rg_desk.specs.Shows.{KeyShown, Shows, left_by}
+use Rattle.rg_desk.specs.Shows.{KeyShown, Shows, left_by, since}
 use Rattle.rg_desk.specs.Units.{trans_of, unit_at}
 use Rattle.rg_desk.specs.declared.engine.Engine.{Engine}
 use Rattle.rg_desk.specs.declared.units.OpenUnit.{OpenUnit}
@@ -27,7 +26,7 @@ use Rattle.rg_desk.proofs.UnitsWritten.{IsUnitFor}
 
 -- the records leave a consistent state
 pub left_consistent : (st : State) (allowed : ℕ) (d : Engine) (shows : Shows st allowed d) → IsConsistent (capacity_in d.space) (left_by shows.first d)
-left_consistent st allowed d shows = runs_consistent (capacity_in d.space) shows.first shows.begun (acts_of [] d.log.records) shows.runs
+left_consistent st allowed d shows = runs_consistent (capacity_in d.space) shows.first shows.begun (since d) shows.runs
 
 module _ (st : State) (allowed : ℕ) (d : Engine) (shows : Shows st allowed d) (session : Session) (unit : OpenUnit)
     (own : IsUnitFor d.units (left_by shows.first d) session.0 unit) where

@@ -167,7 +167,7 @@ module _ (old : Engine) (s : LogState) (good : IsConsistent (capacity_in old.spa
           runs = (may, so.runs);
           more = so.more ++ r ∷ [];
           records = records ∙ ap (λ (rs : List Record). rs ++ r ∷ []) so.records ∙ append_assoc old.log.records so.more (r ∷ []);
-          acts = ap (acts_of []) records ∙ acts_snoc now.log.records r ∙ ap (λ (x : Act). x ∷ acts_of [] now.log.records) (act_is n) ∙ ap (λ (acts : List Act). a ∷ acts) so.acts;
+          acts = acts_snoc so.more r ∙ ap (λ (x : Act). x ∷ acts_of [] so.more) (act_is n) ∙ ap (λ (acts : List Act). a ∷ acts) so.acts;
           capacity = did.capacity ∙ so.capacity;
           pages = did.pages;
           slots =
@@ -188,7 +188,7 @@ module _ (old : Engine) (s : LogState) (good : IsConsistent (capacity_in old.spa
           reserved = omega (arith, did.reserved, so.reserved);
           least = omega (arith, did.least, so.least);
           taken = did.taken ∙ so.taken;
-          log_pages = did.log_pages ∙ so.log_pages;
+          base = record { opened = did.base.opened ∙ so.base.opened; forced = did.base.forced ∙ so.base.forced; pages = did.base.pages ∙ so.base.pages };
           locks = did.locks ∙ so.locks;
           claims = did.claims ∙ so.claims;
           units = did.units ∙ so.units;

@@ -1,5 +1,5 @@
 -- How a write goes that was planned, from a state that the engine shows.
-use Rattle.std.proofs.Common.{◌≡◌, ◌≤◌, ◌<◌, ◌+◌, ◌*◌, ℕ, true, false, List, Option, Some, None, refl, sym, ◌∙◌, ap, subst, arith}
+use Rattle.std.proofs.Common.{◌≡◌, ◌≤◌, ◌<◌, ◌+◌, ◌*◌, ℕ, true, false, List, Option, Some, None, refl, sym, ◌∙◌, ap, subst, arith, ◌++◌}
 use Rattle.rg_base.specs.RowBytes.{row_size}
 use Rattle.rg_base.specs.declared.place.Place.{Place}
 use Rattle.rg_base.specs.declared.row.Row.{Row}
@@ -18,7 +18,7 @@ use Rattle.rg_stmt.specs.declared.stmt.Reply.{Reply}
 use Rattle.rg_stmt.specs.declared.stmt.Reply.TheVariants.{Done, Full, LogFull, NoMemory}
 use Rattle.rg_stmt.specs.declared.stmt.Stmt.{Stmt}
 use Rattle.rg_stmt.specs.declared.stmt.Stmt.TheVariants.{Insert, Update, Delete}
-use Rattle.rg_lawful.specs.Write.{key_of}
+use Rattle.rg_lawful.specs.Write.{key_of, write_of}
 use Rattle.rg_space.specs.Space.{capacity_in}
 use Rattle.rg_space.specs.declared.fault.SpaceFault.{SpaceFault}
 use Rattle.rg_space.specs.declared.fault.SpaceFault.TheVariants as faults
@@ -30,9 +30,11 @@ use Rattle.rg_desk.specs.Planned.{IsRefusal, change_plan, drop_plan, put_plan, r
 use Rattle.rg_desk.specs.Shows.{Shows, left_by}
 use Rattle.rg_desk.specs.Room.{IfNeeds}
 use Rattle.rg_desk.specs.Steps.{Goes, IsUnitOf}
-use Rattle.rg_desk.specs.Wrote.{Refuses, SameEngine, Writes, Wrote}
+use Rattle.rg_desk.specs.Stored.{Grows}
+use Rattle.rg_desk.specs.Wrote.{Refuses, SameEngine, Writes, Wrote, records_wrote}
 use Rattle.rg_desk.specs.declared.engine.Engine.{Engine}
 use Rattle.rg_desk.specs.declared.units.OpenUnit.{OpenUnit}
+use Rattle.rg_desk.proofs.Appended.{more_wrote, wrote_more}
 use Rattle.rg_desk.proofs.Logged.{bytes_wrote}
 use Rattle.rg_desk.proofs.RoomSaid.{change_needs, change_room, drop_needs, put_needs, put_room}
 use Rattle.rg_desk.proofs.EngineWrites.{Plans, engine_change, engine_drop, engine_full_change, engine_full_put, engine_put, plan_listed, plan_shows}
@@ -51,6 +53,7 @@ same_same a b c f g = record {
   claims = g.claims ∙ f.claims;
   units = g.units ∙ f.units;
   top = g.top ∙ f.top;
+  opened = g.opened ∙ f.opened;
 }
 
 -- `mid` is the engine once the write was planned, which shows the same state
@@ -106,8 +109,24 @@ module _ (st : State) (allowed : ℕ) (d : Engine) (shows : Shows st allowed d) 
   wrote_logged key after plan new w =
       omega (arith, ap log_bytes w.put.records, bytes_wrote w.middle.log.records unit plan after, w.put.reserved, ap (λ (l : Listed). log_bytes l.records) w.prepared.log, ap (λ (l : Listed). l.reserved) w.prepared.log, w.most, ap (λ (l : Listed). taken_of l) same.log)
 
-  wrote_pages : (key : ℕ) (after : Option Row) (plan : Plan) (new : Engine) → Wrote mid session unit plan key after new → new.log.pages ≡ d.log.pages
-  wrote_pages key after plan new w = w.put.log_pages ∙ ap (λ (l : Listed). l.pages) w.prepared.log ∙ ap (λ (l : Listed). l.pages) same.log
+  wrote_opened : (key : ℕ) (after : Option Row) (plan : Plan) (new : Engine) → Wrote mid session unit plan key after new → new.opened ≡ d.opened
+  wrote_opened key after plan new w = w.put.base.opened ∙ w.prepared.opened ∙ same.opened
+
+  wrote_forced : (key : ℕ) (after : Option Row) (plan : Plan) (new : Engine) → Wrote mid session unit plan key after new → new.log.forced ≡ d.log.forced
+  wrote_forced key after plan new w = w.put.base.forced ∙ ap (λ (l : Listed). l.forced) w.prepared.log ∙ ap (λ (l : Listed). l.forced) same.log
+
+  wrote_grows : (key : ℕ) (after : Option Row) (plan : Plan) (new : Engine) → Wrote mid session unit plan key after new → Grows d.log new.log
+  wrote_grows key after plan new w =
+      let more = more_wrote mid.log.records unit plan.purge (write_of unit.tran.0 plan.home plan.before after plan.parts) in
+      record {
+        more = more;
+        records =
+            w.put.records
+            ∙ ap (λ (l : Listed). records_wrote l.records unit plan after) w.prepared.log
+            ∙ wrote_more mid.log.records unit plan after
+            ∙ ap (λ (l : Listed). l.records ++ more) same.log;
+        pages = w.put.base.pages ∙ ap (λ (l : Listed). l.pages) w.prepared.log ∙ ap (λ (l : Listed). l.pages) same.log;
+      }
 
   -- a write has room in the log as the engine had it
   within : (n : ℕ) → n ≤ left_of mid.log → n ≤ left_of d.log
@@ -129,7 +148,7 @@ module _ (st : State) (allowed : ℕ) (d : Engine) (shows : Shows st allowed d) 
   put_goes row plan Done new low absent alone small is done w =
       let plans = put row plan absent alone small is in
       let shown = plan_shows st allowed mid shows_mid session unit own_mid (18 + row_size row) row.key (Some row) plan new plans refl (alone_mid row.key alone) low w in
-      record { says = sym done; room = put_room st allowed d shows session unit is_unit mid same row (Some plan) true is refl; log = put_needs st allowed d shows session unit is_unit mid same row plan (λ n. n ≤ left_of d.log) is (within _ w.prepared.room); logged = wrote_logged row.key (Some row) plan new w; log_pages = wrote_pages row.key (Some row) plan new w; shows = shown; capacity = wrote (Insert row) (18 + row_size row) row.key (Some row) plan new done shown w }
+      record { says = sym done; room = put_room st allowed d shows session unit is_unit mid same row (Some plan) true is refl; log = put_needs st allowed d shows session unit is_unit mid same row plan (λ n. n ≤ left_of d.log) is (within _ w.prepared.room); logged = wrote_logged row.key (Some row) plan new w; opened = wrote_opened row.key (Some row) plan new w; grows = wrote_grows row.key (Some row) plan new w; forced = λ e. wrote_forced row.key (Some row) plan new w; shows = shown; capacity = wrote (Insert row) (18 + row_size row) row.key (Some row) plan new done shown w }
   put_goes row plan (LogFull need left) new low absent alone small is done w =
       log_full (Insert row) _ need left new refl done w (put_needs st allowed d shows session unit is_unit mid same row plan (λ n. need ≡ n) is w.0)
   put_goes row plan NoMemory new low absent alone small is done w = go_wanting st allowed d shows session (Insert row) new refl (same_same d mid new same w)
@@ -141,7 +160,7 @@ module _ (st : State) (allowed : ℕ) (d : Engine) (shows : Shows st allowed d) 
   change_goes home old row plan Done new low there is_there alone key small is done w =
       let plans = change home old row plan there is_there alone key small is in
       let shown = plan_shows st allowed mid shows_mid session unit own_mid (18 + row_size row) row.key (Some row) plan new plans refl (alone_mid row.key alone) low w in
-      record { says = sym done; room = change_room st allowed d shows session unit is_unit mid same home old row (Some plan) true there key is refl; log = change_needs st allowed d shows session unit is_unit mid same home old row plan (λ n. n ≤ left_of d.log) there key is (within _ w.prepared.room); logged = wrote_logged row.key (Some row) plan new w; log_pages = wrote_pages row.key (Some row) plan new w; shows = shown; capacity = wrote (Update row) (18 + row_size row) row.key (Some row) plan new done shown w }
+      record { says = sym done; room = change_room st allowed d shows session unit is_unit mid same home old row (Some plan) true there key is refl; log = change_needs st allowed d shows session unit is_unit mid same home old row plan (λ n. n ≤ left_of d.log) there key is (within _ w.prepared.room); logged = wrote_logged row.key (Some row) plan new w; opened = wrote_opened row.key (Some row) plan new w; grows = wrote_grows row.key (Some row) plan new w; forced = λ e. wrote_forced row.key (Some row) plan new w; shows = shown; capacity = wrote (Update row) (18 + row_size row) row.key (Some row) plan new done shown w }
   change_goes home old row plan (LogFull need left) new low there is_there alone key small is done w =
       log_full (Update row) _ need left new refl done w (change_needs st allowed d shows session unit is_unit mid same home old row plan (λ n. need ≡ n) there key is w.0)
   change_goes home old row plan NoMemory new low there is_there alone key small is done w = go_wanting st allowed d shows session (Update row) new refl (same_same d mid new same w)
@@ -154,7 +173,7 @@ module _ (st : State) (allowed : ℕ) (d : Engine) (shows : Shows st allowed d) 
       let plans = drop home old plan there is_there (subst (λ (k : ℕ). holder d.locks session k ≡ None) (sym of_key) alone) is in
       let same_key : key_of plan.before None ≡ key = ap (λ (x : Option Row). key_of x None) plans.0 ∙ of_key in
       let shown = plan_shows st allowed mid shows_mid session unit own_mid 0 key None plan new plans.1 same_key (alone_mid key alone) low w in
-      record { says = sym done; room = tt; log = drop_needs st allowed d shows session unit is_unit mid same home old key plan (λ n. n ≤ left_of d.log) there of_key is (within _ w.prepared.room); logged = wrote_logged key None plan new w; log_pages = wrote_pages key None plan new w; shows = shown; capacity = wrote (Delete key) 0 key None plan new done shown w }
+      record { says = sym done; room = tt; log = drop_needs st allowed d shows session unit is_unit mid same home old key plan (λ n. n ≤ left_of d.log) there of_key is (within _ w.prepared.room); logged = wrote_logged key None plan new w; opened = wrote_opened key None plan new w; grows = wrote_grows key None plan new w; forced = λ e. wrote_forced key None plan new w; shows = shown; capacity = wrote (Delete key) 0 key None plan new done shown w }
   drop_goes home old key plan (LogFull need left) new low there is_there alone of_key is done w =
       log_full (Delete key) _ need left new refl done w (drop_needs st allowed d shows session unit is_unit mid same home old key plan (λ n. need ≡ n) there of_key is w.0)
   drop_goes home old key plan NoMemory new low there is_there alone of_key is done w = go_wanting st allowed d shows session (Delete key) new refl (same_same d mid new same w)

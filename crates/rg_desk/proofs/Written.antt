@@ -29,22 +29,24 @@ use Rattle.rg_lawful.specs.DeskLaws.{DeskWrites, purge_acts}
 use Rattle.rg_lawful.specs.Lawful.{Runs}
 use Rattle.rg_lawful.specs.Records.{acts_of}
 use Rattle.rg_lawful.specs.Write.{Write, key_of, write_of}
-use Rattle.rg_lawful.proofs.Runs.{runs_consistent, runs_joined, state_joined}
 use Rattle.rg_space.specs.Carries.{Carries, cleared}
 use Rattle.rg_space.specs.Space.{Agree, InStep, capacity_in, frames_of, index_of}
 use Rattle.rg_desk.specs.Engine.{HasPages, slots_in}
 use Rattle.rg_desk.specs.Pages.{list_seen}
 use Rattle.rg_desk.specs.Shows.{KeyShown, Shows, ShowsBy, UnitsShown, left_by}
+use Rattle.rg_desk.specs.Stored.{IsQuiet, IsSettled}
 use Rattle.rg_desk.specs.Units.{owed, owed_to, unit_at}
 use Rattle.rg_desk.specs.Bytes.{end_bytes}
 use Rattle.rg_log.specs.Kept.{Listed}
 use Rattle.rg_desk.specs.Wrote.{Wrote, records_cleared, records_wrote, unit_wrote}
 use Rattle.rg_desk.specs.declared.engine.Engine.{Engine}
 use Rattle.rg_desk.specs.declared.units.OpenUnit.{OpenUnit}
-use Rattle.rg_desk.proofs.Appended.{acts_wrote}
+use Rattle.rg_desk.proofs.Appended.{acts_wrote, more_wrote, quiet_wrote, wrote_more}
 use Rattle.rg_desk.proofs.Keys.{set_table}
 use Rattle.rg_desk.proofs.KeysWritten.{IsOwnUnit, keys_written}
 use Rattle.rg_desk.proofs.Purged.{key_purged, units_purged, walks_cleared}
+use Rattle.rg_desk.proofs.Sessions.{left_consistent}
+use Rattle.rg_desk.proofs.Settled.{settled_more, shows_more}
 use Rattle.rg_desk.proofs.UnitSlots.{owed-set}
 use Rattle.rg_desk.proofs.UnitsWritten.{IsUnitFor, units_written}
 
@@ -90,19 +92,30 @@ module _ (st : State) (allowed more : ℕ) (old new : Engine) (session : Session
   records : new.log.records ≡ records_wrote old.log.records unit plan after
   records = wrote.put.records ∙ ap (λ (l : Listed). records_wrote l.records unit plan after) wrote.prepared.log
 
-  acts : acts_of [] new.log.records ≡ (Change w ∷ purge_acts plan.purge) ++ acts_of [] old.log.records
-  acts = ap (acts_of []) records ∙ acts_wrote old.log.records unit plan after
+  -- the records that it appends
+  abbrev entries : List Record
+  entries = more_wrote old.log.records unit plan.purge w
 
-  left : left_by shows.first new ≡ s_written
-  left = ap (state shows.first) acts ∙ state_joined shows.first (Change w ∷ purge_acts plan.purge) (acts_of [] old.log.records) ∙ lawful.leaves
+  appended : new.log.records ≡ old.log.records ++ entries
+  appended = records ∙ wrote_more old.log.records unit plan after
 
-  runs : Runs (capacity_in new.space) shows.first (acts_of [] new.log.records)
-  runs =
-      subst (λ (n : ℕ). Runs n shows.first (acts_of [] new.log.records)) (sym capacity)
-      (subst (Runs limit shows.first) (sym acts) (runs_joined limit shows.first (Change w ∷ purge_acts plan.purge) (acts_of [] old.log.records) shows.runs lawful.runs))
+  acts : acts_of [] entries ≡ Change w ∷ purge_acts plan.purge
+  acts = acts_wrote old.log.records unit plan after
+
+  left : state s (acts_of [] entries) ≡ s_written
+  left = ap (state s) acts ∙ lawful.leaves
+
+  runs : Runs limit s (acts_of [] entries)
+  runs = subst (Runs limit s) (sym acts) lawful.runs
+
+  forced : new.log.forced ≡ old.log.forced
+  forced = wrote.put.base.forced ∙ ap (λ (l : Listed). l.forced) wrote.prepared.log
+
+  settled : IsSettled new.log
+  settled = settled_more st allowed old shows entries runs (subst IsQuiet (sym acts) (quiet_wrote w plan.purge)) new.log appended forced
 
   consistent : IsConsistent limit s
-  consistent = runs_consistent limit shows.first shows.begun (acts_of [] old.log.records) shows.runs
+  consistent = left_consistent st allowed old shows
 
   present : s.now key ≡ plan.before
   present = subst (λ (k : ℕ). s.now k ≡ plan.before) of_key lawful.change.present
@@ -222,9 +235,6 @@ module _ (st : State) (allowed more : ℕ) (old new : Engine) (session : Session
   }
 
   pub written_shows : claimed_all (holding s_written.live (suc s_written.top)) s_written.pages ≤ allowed + more → Shows (write_key st session key after) (allowed + more) new
-  written_shows bound = record {
-    first = shows.first;
-    begun = subst (λ (n : ℕ). IsConsistent n shows.first) (sym capacity) shows.begun;
-    runs = runs;
-    by = subst (ShowsBy (write_key st session key after) (allowed + more) new) (sym left) (by bound);
-  }
+  written_shows bound =
+      shows_more st allowed old shows (write_key st session key after) (allowed + more) new entries (wrote.put.base.opened ∙ wrote.prepared.opened) appended capacity runs settled
+      (subst (ShowsBy (write_key st session key after) (allowed + more) new) (sym left) (by bound))

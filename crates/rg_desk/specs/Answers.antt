@@ -27,9 +27,10 @@ use Rattle.rg_desk.specs.Engine.{ground_of}
 use Rattle.rg_desk.specs.Room.{SaysLog, SaysRoom}
 use Rattle.rg_desk.specs.Shows.{Shows}
 use Rattle.rg_desk.specs.Bytes.{most_needed, taken_of}
-use Rattle.rg_desk.specs.Steps.{IfUp, more_allowed, more_logged}
+use Rattle.rg_desk.specs.Steps.{IfUp, is_commit, more_allowed, more_logged}
+use Rattle.rg_desk.specs.Stored.{Grows}
 use Rattle.rg_desk.specs.Units.{unit_at}
-use Rattle.rg_desk.specs.Volume.{CallsLog, VolumeSeen}
+use Rattle.rg_desk.specs.Volume.{CallsLog, Leaves, VolumeSeen}
 use Rattle.rg_desk.specs.declared.engine.Engine.{Engine}
 use Rattle.rg_desk.specs.declared.units.OpenUnit.{OpenUnit}
 
@@ -37,10 +38,6 @@ use Rattle.rg_desk.specs.declared.units.OpenUnit.{OpenUnit}
 abbrev pub classes_in : Option Class → List Class
 classes_in None = []
 classes_in (Some class) = classes_of class
-
-abbrev pub is_commit : Stmt → Bool
-is_commit Commit = true
-is_commit stmt = false
 
 -- There are no victims, and no drain refuses. The device refuses only what forces the log. The end
 -- of a unit that commits takes no memory. A row needs room only where it is written, and only a
@@ -88,7 +85,8 @@ pub record Answered
   pub room : SaysRoom (ground_of old) session.0 stmt reply
   pub log : SaysLog (ground_of old) session.0 stmt reply
   pub logged : taken_of new.log ≤ taken_of old.log + more_logged stmt reply
-  pub log_pages : new.log.pages ≡ old.log.pages
+  pub opened : new.opened ≡ old.opened
+  pub grows : Grows old.log new.log
   pub shows : IfUp reply (Shows after (allowed + more_allowed stmt reply) new)
   pub capacity : capacity_in new.space ≡ capacity_in old.space
 
@@ -104,11 +102,13 @@ forces units session Commit = is_some (unit_at units session.0)
 forces units session stmt = false
 
 -- what a statement asks of the volume, and what it leaves of the log then
-pub record Asks (force : Bool) (reply : Reply) (log : Listed) (old new : VolumeSeen) : Type 0 where
+pub record Asks
+    (force : Bool) (reply : Reply) (old_log log : Listed) (old new : VolumeSeen) : Type 0 where
   pub calls : CallsLog old new
   pub none : force ≡ false → new ≡ old
   pub device : reply ≡ Device → Rose old.faults new.faults
   pub forced : force ≡ true → reply ≡ Done → log.forced ≡ length log.records
+  pub leaves : Leaves old old_log → Leaves new log
 
 -- A statement is answered DOWN if and only if the engine is down. Then nothing changes.
 abbrev pub Replies :
@@ -118,5 +118,5 @@ Replies true old session stmt reply new after seen_old seen_new =
     (reply ≡ Down) × (new ≡ old) × (after ≡ true) × (seen_new ≡ seen_old)
 Replies false old session stmt reply new after seen_old seen_new =
     Answers old session stmt reply new
-    × Asks (forces old.units session stmt) reply new.log seen_old seen_new
+    × Asks (forces old.units session stmt) reply old.log new.log seen_old seen_new
     × (after ≡ is_device reply)

@@ -25,12 +25,12 @@ pub record IsEntry (entry : Entry) : Type 0 where
   pub actor : IsActor entry.actor
   pub answer : is_some entry.answer ≡ asks entry.event
 
--- the number of calls never falls, each entry may be made, and their number has 64 bits
+-- the number of calls never falls, each entry may be made, and their number has 63 bits
 pub record IsRecorded (trace : List Entry) (calls : ℕ) : Type 0 where
   pub rising : IsNonDecreasingBy (λ entry. entry.calls) trace
   pub below : AllByRecursion (λ entry. entry.calls ≤ calls) trace
   pub each : AllByRecursion IsEntry trace
-  pub few : length trace < 2 ^ 64
+  pub few : length trace < 2 ^ 63
 
 -- the entry of an event that the system makes
 abbrev pub system_entry : Event → (calls : ℕ) → Entry

@@ -1,22 +1,32 @@
 -- What a desk keeps.
 --
--- 1. Its trace begins with the opening of a table without rows. It leads to a state, and that is
---    the one that the engine shows.
+-- 1. Its trace begins with the opening of the table that the log stored then. It leads to a state,
+--    and that is the one that the engine shows.
 -- 2. The writes of the trace have allowed the bytes that the engine's pages claim.
 -- 3. An entry has the number of the volume's calls up to it.
 -- 4. The log has no more bytes taken or reserved than the entries say.
 -- 5. It is down if and only if its state is, and then nothing is known of its engine but the log's
 --    size.
--- 6. Each key with a row, and each locked one, is among some keys that are no more than the
---    entries.
-use Rattle.std.specs.Prelude.{◌≡◌, ◌≤◌, ◌⊎◌, ◌||◌, ◌++◌, ℕ, Bool, true, false, List, [], ◌∷◌, if◌then◌else◌, nat_le, length}
+-- 6. Where the log read tidy when the count began, a crash leaves all of it that is forced.
+-- 7. Each key with a row, and each locked one, is among some keys that are no more than the entries
+--    and the rows at the opening.
+use Rattle.std.specs.Prelude.{◌≡◌, ◌≤◌, ◌<◌, ◌+◌, ◌*◌, ◌^◌, ◌⊎◌, ◌||◌, ◌++◌, ℕ, suc, Bool, true, false, List, [], ◌∷◌, if◌then◌else◌, nat_le, length, take}
 use Rattle.std.specs.FinMap as map
 use Rattle.rg_base.specs.declared.session.Session.{Session}
 use Rattle.rg_base.specs.declared.set.Set.TheVariants.{First}
 use Rattle.rg_model.specs.Committed.{committed_table}
+use Rattle.rg_model.specs.Legal.{Legal}
 use Rattle.rg_model.specs.Run.{Run}
 use Rattle.rg_model.specs.State.{State, Table, at_rest, is_present, row_count}
 use Rattle.rg_outside.specs.Capacities.{Capacities, capacity_of}
+use Rattle.rg_outside.specs.Moments.{EachImage, IfTold}
+use Rattle.rg_claimed.specs.Claim.{claimed_all, holding}
+use Rattle.rg_home.specs.Slot.{Slot}
+use Rattle.rg_image.specs.Log.{log_of}
+use Rattle.rg_image.specs.Pack.{log_bytes}
+use Rattle.rg_lawful.specs.Act.{LogState}
+use Rattle.rg_lawful.specs.Consistent.{IsConsistent}
+use Rattle.rg_record.specs.declared.record.Record.{Record}
 use Rattle.rg_stmt.specs.Entries.{opened_entry, said_entry}
 use Rattle.rg_stmt.specs.declared.event.Entry.{Entry}
 use Rattle.rg_stmt.specs.declared.event.Event.{Event}
@@ -31,21 +41,19 @@ use Rattle.rg_desk.specs.Bytes.{taken_of}
 use Rattle.rg_desk.specs.Chronicle.{ChronicleState, IsRecorded, allowed_by, logged_by, system_entry}
 use Rattle.rg_desk.specs.Room.{Ground, SaysLog, SaysRoom}
 use Rattle.rg_desk.specs.Shows.{Shows}
-use Rattle.rg_desk.specs.Volume.{CallsLog, HasCalls, IsCount, VolumeSeen}
+use Rattle.rg_desk.specs.Stored.{IsSettled, IsStored, StoresCommitted}
+use Rattle.rg_desk.specs.Volume.{CallsLog, HasCalls, IsCount, LeavesIfTidy, VolumeSeen, WasTidy}
 use Rattle.rg_desk.specs.declared.engine.Engine.{Engine}
 
--- the table before a deck
-abbrev pub no_rows : Table
-no_rows = map.empty
+-- a number that a copy has
+abbrev pub IsCopy : (copy : ℕ) → Type 0
+IsCopy copy = (copy ≡ 1) ⊎ (copy ≡ 2)
 
--- entry 0 opens copy 1 of a table without rows, after so many calls of the volume
-abbrev pub first_entry : (calls : ℕ) → Entry
-first_entry calls = opened_entry 1 0 0 0 calls
-
--- a trace begins so
-abbrev pub IsBegun : List Entry → Type 0
-IsBegun [] = ⊥
-IsBegun (entry ∷ entries) = entry ≡ first_entry entry.calls
+-- a trace begins with the opening of this copy, of so many rows
+abbrev pub IsBegun : (copy rows : ℕ) → List Entry → Type 0
+IsBegun copy rows [] = ⊥
+IsBegun copy rows (entry ∷ entries) =
+    (pages used : ℕ) × (entry ≡ opened_entry copy rows pages used entry.calls)
 
 -- a key is one of these
 abbrev pub IsAmong : List ℕ → ℕ → Type 0
@@ -58,45 +66,82 @@ pub record AreKeys (keys : List ℕ) (st : State) : Type 0 where
   pub locked : (k : ℕ) → map.contains_key st.locks k ≡ true → IsAmong keys k
 
 -- what a desk keeps of its engine and its entries, over a volume of which so much is seen
-pub record IsDesk (d : Engine) (c : ChronicleState) (down : Bool) (seen : VolumeSeen) : Type 0 where
+pub record IsDesk (d : Engine) (c : ChronicleState) (copy : ℕ) (down : Bool) (seen : VolumeSeen)
+    : Type 0 where
+  pub start : Table
+  pub starts : IsStored (take d.opened d.log.records) start
+  pub within : d.opened ≤ length d.log.records
   pub state : State
-  pub begun : IsBegun c.trace
-  pub run : Run [] (at_rest no_rows 1) c.trace state
-  pub copy : state.copy ≡ 1
+  pub begun : IsBegun copy (row_count start) c.trace
+  pub run : Run [] (at_rest start copy) c.trace state
+  pub is_copy : IsCopy copy
+  pub copy_is : state.copy ≡ copy
   pub down_is : state.down ≡ down
   pub counted : HasCalls seen c.calls
   pub recorded : IsRecorded c.trace c.calls
   pub shown : down ≡ false → Shows state (allowed_by 0 c.trace) d
   pub logged : taken_of d.log ≤ logged_by 0 c.trace
   pub pages : d.log.pages ≡ log_pages seen.capacities
+  pub leaves : LeavesIfTidy seen d.log
   pub keys : List ℕ
   pub among : AreKeys keys state
-  pub few : length keys ≤ length c.trace
+  pub few : length keys ≤ length c.trace + row_count start
+  pub few_rows : row_count start < 2 ^ 32
 
--- what callers see of a desk: its entries, what its writes are planned over, whether it is down,
--- and what it was handed
+-- what callers see of a desk: its entries, what its writes are planned over, how many records the
+-- log had when it was opened, the number of the copy, whether it is down, and what it was handed
 pub record DeskState (V O : Type 0) : Type 0 where
   pub trace : List Entry
   pub ground : Ground
+  pub opened : ℕ
+  pub copy : ℕ
   pub down : Bool
   pub volume : V
   pub operator : O
+
+-- the records that the log had when it was opened
+abbrev pub old_records : {V O : Type 0} → DeskState V O → List Record
+old_records desk = take desk.opened desk.ground.log.records
 
 -- a copy has at most 65,536 pages, and no more than its set
 abbrev pub copy_capacity : Capacities → ℕ
 copy_capacity c =
     if nat_le (capacity_of c First) 65536 then capacity_of c First else 65536
 
--- a desk that was opened over a volume, with this log
+-- Pages and a log that a desk may begin with: all units of the log have ended, the rows that are
+-- there are the stored ones and fewer than 2^32, and the pages claim no more bytes than pages have.
+pub record CanBegin (capacity : ℕ) (pages : List (List Slot)) (log : Listed) (top : ℕ) : Type 0
+  where
+    pub first : LogState
+    pub good : IsConsistent capacity first
+    pub stores : StoresCommitted capacity first log.records
+    pub settled : IsSettled log
+    pub pages_are : first.pages ≡ pages
+    pub live : first.live ≡ []
+    pub writes : first.writes ≡ []
+    pub top_is : first.top ≡ top
+    pub idle : log.reserved ≡ 0
+    pub claimed : claimed_all (holding [] (suc top)) pages ≤ 4064 * length pages
+    pub start : Table
+    pub starts : IsStored log.records start
+    pub few : row_count start < 2 ^ 32
+
+-- a desk that was opened over a volume, with this log and these pages
 pub record Opens {V O : Type 0}
-    (look : V → VolumeSeen) (volume : V) (operator : O) (listed : Listed) (desk : DeskState V O)
-    : Type 0 where
+    (look : V → VolumeSeen) (volume : V) (operator : O) (log : Listed) (copy capacity : ℕ)
+    (pages : List (List Slot)) (desk : DeskState V O) : Type 0 where
   pub calls : ℕ
-  pub trace : desk.trace ≡ first_entry calls ∷ []
+  pub start : Table
+  pub starts : IsStored log.records start
+  pub trace :
+      desk.trace
+      ≡ opened_entry copy (row_count start) (length pages) (log_bytes log.records) calls ∷ []
   pub counted : IsCount (look volume) calls
-  pub pages : desk.ground.pages ≡ []
-  pub capacity : desk.ground.capacity ≡ copy_capacity (look volume).capacities
-  pub log : desk.ground.log ≡ listed
+  pub pages_are : desk.ground.pages ≡ pages
+  pub capacity_is : desk.ground.capacity ≡ capacity
+  pub log_is : desk.ground.log ≡ log
+  pub opened : desk.opened ≡ length log.records
+  pub copy_is : desk.copy ≡ copy
   pub up : desk.down ≡ false
   pub same : desk.volume ≡ volume
   pub asked : desk.operator ≡ operator
@@ -106,6 +151,9 @@ pub record Opens {V O : Type 0}
 pub record Stays {V O : Type 0} (look : V → VolumeSeen) (old new : DeskState V O) : Type 0 where
   pub capacity : new.ground.capacity ≡ old.ground.capacity
   pub log_pages : new.ground.log.pages ≡ old.ground.log.pages
+  pub opened : new.opened ≡ old.opened
+  pub old_same : old_records new ≡ old_records old
+  pub copy : new.copy ≡ old.copy
   pub calls : CallsLog (look old.volume) (look new.volume)
   pub operator : new.operator ≡ old.operator
 
@@ -143,12 +191,12 @@ pub record MadeSaid {V O : Type 0}
   pub log_full : IfLogFull reply (logged_by 0 old.trace) old.ground.log.pages
   pub stays : Stays look old new
 
--- a layout of copy 1, or the desk was down, or there was no memory for one
-abbrev pub IsLayout : Event → Type 0
-IsLayout (Layout copy side) = copy ≡ 1
-IsLayout LayoutNoMemory = Unit {0}
-IsLayout LayoutDown = Unit {0}
-IsLayout event = ⊥
+-- a layout of this copy, or the desk was down, or there was no memory for one
+abbrev pub IsLayout : (copy : ℕ) → Event → Type 0
+IsLayout copy (Layout shown side) = shown ≡ copy
+IsLayout copy LayoutNoMemory = Unit {0}
+IsLayout copy LayoutDown = Unit {0}
+IsLayout copy event = ⊥
 
 -- a layout has one entry more, and calls no volume
 pub record MadeLayout {V O : Type 0} (look : V → VolumeSeen) (old new : DeskState V O) : Type 0
@@ -157,20 +205,38 @@ pub record MadeLayout {V O : Type 0} (look : V → VolumeSeen) (old new : DeskSt
     pub calls : ℕ
     pub made : new.trace ≡ old.trace ++ system_entry event calls ∷ []
     pub counted : IsCount (look new.volume) calls
-    pub is : IsLayout event
+    pub is : IsLayout old.copy event
     pub ground : new.ground ≡ old.ground
     pub down : new.down ≡ old.down
     pub volume : new.volume ≡ old.volume
     pub stays : Stays look old new
 
--- The trace leads from the table without rows to a last state that is up, and that has so many
--- committed rows. Nothing is in doubt on the way, so no other state can be the last.
-abbrev pub EndsWithRows : List Entry → ℕ → Type 0
-EndsWithRows trace rows =
-    (state : State) × Run [] (at_rest no_rows 1) trace state × (state.down ≡ false)
-    × (rows ≡ row_count (committed_table state))
+-- the trace is legal from the table that these records store
+abbrev pub LegalFrom : List Record → List Entry → Type 0
+LegalFrom old trace = (start : Table) × IsStored old start × Legal start trace
+
+-- It leads from that table, in this copy, to a last state that is up or down. Nothing is in doubt
+-- on the way, so no other state can be the last.
+pub record EndsIn
+    (old : List Record) (copy : ℕ) (trace : List Entry) (down : Bool) (last : State) : Type 0
+  where
+    pub start : Table
+    pub starts : IsStored old start
+    pub run : Run [] (at_rest start copy) trace last
+    pub down_is : last.down ≡ down
 
 -- it leads to a state that is down
-abbrev pub EndsDown : List Entry → Type 0
-EndsDown trace =
-    (state : State) × Run [] (at_rest no_rows 1) trace state × (state.down ≡ true)
+abbrev pub EndsDown : List Record → (copy : ℕ) → List Entry → Type 0
+EndsDown old copy trace = (last : State) × EndsIn old copy trace true last
+
+-- It leads to a state that is up, with so many committed rows. Where the log read tidy, whatever a
+-- crash leaves of the volume stores these rows.
+pub record EndsWithRows
+    (old : List Record) (copy pages : ℕ) (seen : VolumeSeen) (trace : List Entry) (rows : ℕ)
+    : Type 0 where
+  pub last : State
+  pub ends : EndsIn old copy trace false last
+  pub rows_are : rows ≡ row_count (committed_table last)
+  pub stored :
+      IfTold seen.told (λ t. WasTidy pages t
+      → EachImage (λ i. IsStored (log_of pages i) (committed_table last)) t)

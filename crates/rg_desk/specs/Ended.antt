@@ -12,6 +12,7 @@ use Rattle.rg_lawful.specs.Act.{LogState, is_in, not_of, others}
 use Rattle.rg_lawful.specs.Consistent.{stored_of}
 use Rattle.rg_lawful.specs.Write.{NoneHit, at_key, kept_of, own_of}
 use Rattle.rg_desk.specs.Bytes.{taken_of}
+use Rattle.rg_desk.specs.Stored.{SameBase}
 use Rattle.rg_desk.specs.Units.{owed_to, unit_at}
 use Rattle.rg_desk.specs.declared.engine.Engine.{Engine}
 use Rattle.rg_desk.specs.declared.units.OpenUnit.{OpenUnit}
@@ -46,7 +47,7 @@ pub record LogsCommit (old : Engine) (session : Session) (new : Engine) : Type 0
       new.log.records ≡ records_committed old.log.records (unit_at old.units session.0)
   pub reserved :
       new.log.reserved + owed_to (unit_at old.units session.0) ≡ old.log.reserved
-  pub pages : new.log.pages ≡ old.log.pages
+  pub base : SameBase old new
 
 -- a session has no unit, no locks and no claim any more
 pub record EndsSession (old : Engine) (session : Session) (new : Engine) : Type 0 where
@@ -57,6 +58,7 @@ pub record EndsSession (old : Engine) (session : Session) (new : Engine) : Type 
   pub locks : new.locks ≡ locks_without session old.locks
   pub claims : new.claims ≡ record old.claims { claims = fin.remove old.claims.claims session.0 }
   pub units : new.units ≡ slice_set old.units session.0 None
+  pub opened : new.opened ≡ old.opened
 
 -- the RolledBack record of a unit
 abbrev pub rolled_record : (position last : ℕ) → OpenUnit → Record
@@ -76,4 +78,4 @@ pub record LogsRolledBack
       ≡ old.log.records ++ rolled_record (length old.log.records + 1) last unit ∷ []
   pub reserved : new.log.reserved ≡ others
   pub taken : taken_of new.log ≤ taken_of old.log
-  pub pages : new.log.pages ≡ old.log.pages
+  pub base : SameBase old new

@@ -5,6 +5,7 @@ pub mod Pages
 pub mod Room
 pub mod Engine
 pub mod Walks
+pub mod Stored
 pub mod Wrote
 pub mod Shows
 pub mod Planned
@@ -17,4 +18,5 @@ pub mod Volume
 pub mod Answers
 pub mod Chronicle
 pub mod Desk
+pub mod Begun
 pub mod Count

@@ -1,7 +1,11 @@
 -- What is seen of pages in memory.
-use Rattle.std.specs.Prelude.{true, length}
+use Rattle.std.specs.Prelude.{List, true, length}
 use Rattle.rg_page.specs.Seen.{Seen}
+use Rattle.rg_home.specs.Slot.{Slot}
+use Rattle.rg_page.specs.Content.{slots_of}
 use Rattle.rg_page.specs.declared.list.ListFrames.{ListFrames}
+use Rattle.rg_space.specs.Space.{frames_of}
+use Rattle.rg_space.specs.declared.space.Space.{Space}
 
 -- frames that keep all pages, of which all are held
 abbrev pub list_seen : ListFrames → Seen
@@ -18,3 +22,7 @@ list_seen f = record {
   sure = true;
   fixed = λ _. true;
 }
+
+-- the slots of the pages of a space
+abbrev pub space_pages : Space ListFrames → List (List Slot)
+space_pages space = slots_of (list_seen (frames_of space)).pages

@@ -8,7 +8,8 @@
 --    one transaction. Every live unit is some session's.
 -- 4. The log has reserved what the open units are owed, and nothing else.
 -- 5. The pages claim no more bytes than the writes so far have allowed.
-use Rattle.std.specs.Prelude.{◌≡◌, ◌≤◌, ℕ, suc, false, List, [], Option, Some, None, length}
+-- 6. The log stores the committed rows, and what is forced of it stores no others.
+use Rattle.std.specs.Prelude.{◌≡◌, ◌≤◌, ℕ, suc, false, List, [], Option, Some, None, length, take, drop}
 use Rattle.rg_base.specs.declared.lock.Lock.{Lock}
 use Rattle.rg_base.specs.declared.options.DrainState.TheVariants.{Free}
 use Rattle.rg_home.specs.Able.{IsLive}
@@ -17,7 +18,7 @@ use Rattle.rg_home.specs.Rows.{row_at}
 use Rattle.rg_claimed.specs.Claim.{claimed_all, holding}
 use Rattle.rg_indexes.specs.Listings.{AreListings}
 use Rattle.rg_record.specs.declared.record.Record.{Record}
-use Rattle.rg_lawful.specs.Act.{LogState, is_in, state}
+use Rattle.rg_lawful.specs.Act.{Act, LogState, is_in, state}
 use Rattle.rg_lawful.specs.Consistent.{IsConsistent, stored_of}
 use Rattle.rg_lawful.specs.Lawful.{Runs}
 use Rattle.rg_lawful.specs.Records.{acts_of}
@@ -26,6 +27,7 @@ use Rattle.rg_model.specs.State.{State, row_of}
 use Rattle.std.specs.FinMap as fin
 use Rattle.rg_space.specs.Space.{capacity_in}
 use Rattle.rg_desk.specs.Engine.{HasPages, slots_in}
+use Rattle.rg_desk.specs.Stored.{IsSettled, StoresCommitted}
 use Rattle.rg_desk.specs.Units.{owed, unit_at}
 use Rattle.rg_desk.specs.Walks.{Walks}
 use Rattle.rg_desk.specs.declared.engine.Engine.{Engine}
@@ -90,15 +92,22 @@ pub record ShowsBy (st : State) (allowed : ℕ) (d : Engine) (s : LogState) : Ty
   pub owed : owed d.units ≡ d.log.reserved
   pub claimed : claimed_all (holding s.live (suc s.top)) s.pages ≤ allowed
 
+-- what the records do that the log did not have when the engine began
+abbrev pub since : Engine → List Act
+since d = acts_of [] (drop d.opened d.log.records)
+
 -- the state that the records leave
 abbrev pub left_by : LogState → Engine → LogState
-left_by first d = state first (acts_of [] d.log.records)
+left_by first d = state first (since d)
 
 -- the engine shows the state
 pub record Shows (st : State) (allowed : ℕ) (d : Engine) : Type 0 where
   pub first : LogState
   pub begun : IsConsistent (capacity_in d.space) first
-  pub runs : Runs (capacity_in d.space) first (acts_of [] d.log.records)
+  pub within : d.opened ≤ length d.log.records
+  pub stores : StoresCommitted (capacity_in d.space) first (take d.opened d.log.records)
+  pub settled : IsSettled d.log
+  pub runs : Runs (capacity_in d.space) first (since d)
   pub by : ShowsBy st allowed d (left_by first d)
 
 -- it shows some state

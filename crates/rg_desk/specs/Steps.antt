@@ -1,13 +1,13 @@
 -- What a statement answers and leaves, but for its claim.
 --
--- 1. The reply is the plain table's, or NOMEMORY, FULL or LOGFULL stands for it. FULL comes exactly
---    where there is no plan of the write, and then the writes so far have allowed 3,221 bytes for
---    each page of the copy. LOGFULL is returned if and only if the log has less left than the write
---    needs.
--- 2. DEVICE comes only to the COMMIT of a session that has locks. It leaves nothing to be said of
+-- 1. The reply is the plain table's, or NOMEMORY, FULL or LOGFULL in its place. FULL is returned if
+--    and only if there is no plan of the write, and then the writes so far have allowed 3,221 bytes
+--    for each page of the copy. LOGFULL is returned if and only if the log has less left than the
+--    write needs.
+-- 2. DEVICE is returned only for the COMMIT of a session that has locks. Then nothing is said of
 --    the engine, which is down from then on.
 -- 3. A put or a change allows 18 bytes more than its row has.
-use Rattle.std.specs.Prelude.{◌≡◌, ◌≤◌, ◌+◌, ◌*◌, ℕ, true, Some, None, ◌⊎◌, if◌then◌else◌}
+use Rattle.std.specs.Prelude.{◌≡◌, ◌≤◌, ◌+◌, ◌*◌, ℕ, Bool, true, false, Some, None, ◌⊎◌, if◌then◌else◌}
 use Rattle.rg_base.specs.RowBytes.{row_size}
 use Rattle.rg_base.specs.declared.session.Session.{Session}
 use Rattle.rg_stmt.specs.declared.stmt.Reply.{Reply}
@@ -22,6 +22,7 @@ use Rattle.rg_desk.specs.Bytes.{most_needed, taken_of}
 use Rattle.rg_desk.specs.Engine.{ground_of}
 use Rattle.rg_desk.specs.Room.{SaysLog, SaysRoom}
 use Rattle.rg_desk.specs.Shows.{Shows}
+use Rattle.rg_desk.specs.Stored.{Grows}
 use Rattle.rg_desk.specs.Units.{unit_at}
 use Rattle.rg_desk.specs.declared.engine.Engine.{Engine}
 use Rattle.rg_desk.specs.declared.units.OpenUnit.{OpenUnit}
@@ -60,6 +61,10 @@ MayReply st allowed capacity session stmt reply = reply ≡ plain_reply st sessi
 abbrev pub unclaimed : State → Session → Stmt → Reply → State
 unclaimed st session stmt reply = if is_done reply then after st session stmt else st
 
+abbrev pub is_commit : Stmt → Bool
+is_commit Commit = true
+is_commit stmt = false
+
 -- how many bytes more a write allows
 abbrev pub bytes_allowed : Stmt → ℕ
 bytes_allowed (Insert row) = 18 + row_size row
@@ -89,7 +94,9 @@ pub record Goes
   pub room : SaysRoom (ground_of old) session.0 stmt reply
   pub log : SaysLog (ground_of old) session.0 stmt reply
   pub logged : taken_of new.log ≤ taken_of old.log + more_logged stmt reply
-  pub log_pages : new.log.pages ≡ old.log.pages
+  pub opened : new.opened ≡ old.opened
+  pub grows : Grows old.log new.log
+  pub forced : is_commit stmt ≡ false → new.log.forced ≡ old.log.forced
   pub shows :
       IfUp reply (Shows (unclaimed st session stmt reply) (allowed + more_allowed stmt reply) new)
   pub capacity : capacity_in new.space ≡ capacity_in old.space

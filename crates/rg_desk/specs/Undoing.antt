@@ -17,6 +17,7 @@ use Rattle.rg_undo.specs.Undoing.{CanUndoChange, is_change, undo_record, written
 use Rattle.rg_desk.specs.Bytes.{taken_of}
 use Rattle.rg_desk.specs.Engine.{HasPages, seen_in, slots_in}
 use Rattle.rg_desk.specs.RecordList.{record_at}
+use Rattle.rg_desk.specs.Stored.{SameBase}
 use Rattle.rg_desk.specs.Walks.{Walks, change_record}
 use Rattle.rg_desk.specs.declared.engine.Engine.{Engine}
 use Rattle.rg_desk.specs.declared.units.OpenUnit.{OpenUnit}
@@ -120,7 +121,7 @@ pub record UndidNext
   pub reserved : new.log.reserved ≤ old.log.reserved
   pub least : old.log.reserved ≤ new.log.reserved + 911
   pub taken : taken_of new.log ≡ taken_of old.log
-  pub log_pages : new.log.pages ≡ old.log.pages
+  pub base : SameBase old new
   pub left_is :
       (t before : ℕ) (w : Write) (later : List Record)
       → work ≡ change_record at t before w ∷ later → left ≡ later

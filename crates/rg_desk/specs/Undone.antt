@@ -14,6 +14,7 @@ use Rattle.rg_space.specs.Space.{capacity_in, undos_in}
 use Rattle.rg_desk.specs.Bytes.{taken_of}
 use Rattle.rg_desk.specs.Engine.{HasPages, slots_in}
 use Rattle.rg_desk.specs.Shows.{Shows, left_by}
+use Rattle.rg_desk.specs.Stored.{SameBase}
 use Rattle.rg_desk.specs.Undoing.{AreChain}
 use Rattle.rg_desk.specs.declared.engine.Engine.{Engine}
 use Rattle.rg_desk.specs.declared.units.OpenUnit.{OpenUnit}
@@ -27,7 +28,7 @@ pub record IsUndoing
   pub runs : Runs (capacity_in old.space) s undos
   pub more : List Record
   pub records : now.log.records ≡ old.log.records ++ more
-  pub acts : acts_of [] now.log.records ≡ undos ++ acts_of [] old.log.records
+  pub acts : acts_of [] more ≡ undos
   pub capacity : capacity_in now.space ≡ capacity_in old.space
   pub pages : HasPages now
   pub slots : slots_in now ≡ (state s undos).pages
@@ -40,7 +41,7 @@ pub record IsUndoing
   pub reserved : now.log.reserved ≤ old.log.reserved
   pub least : old.log.reserved ≤ now.log.reserved + 911 * i
   pub taken : taken_of now.log ≡ taken_of old.log
-  pub log_pages : now.log.pages ≡ old.log.pages
+  pub base : SameBase old now
   pub locks : now.locks ≡ old.locks
   pub claims : now.claims ≡ old.claims
   pub units : now.units ≡ old.units

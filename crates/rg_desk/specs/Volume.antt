@@ -2,12 +2,17 @@
 --
 -- 1. Only the log's pages are written.
 -- 2. The calls are counted from some moment on. An entry has their number up to it.
+-- 3. Where the log read tidy at that moment, whatever a crash leaves spells a part of the log's
+--    records that has all that are forced.
 use Rattle.std.specs.Prelude.{◌≡◌, ◌≤◌, ◌+◌, ℕ, Option, length}
 use Rattle.rg_base.specs.declared.set.Set.TheVariants.{Log}
 use Rattle.rg_outside.specs.Calls.{Told}
 use Rattle.rg_outside.specs.Capacities.{Capacities}
 use Rattle.rg_outside.specs.Made.{WritesIn}
-use Rattle.rg_outside.specs.Moments.{EachCall, IfTold}
+use Rattle.rg_outside.specs.Moments.{EachCall, EachImage, IfTold, read_at}
+use Rattle.rg_image.specs.Log.{SpellsFrom}
+use Rattle.rg_image.specs.Rules.{IsTidyLog}
+use Rattle.rg_log.specs.Kept.{LeavesLog, Listed}
 
 -- what a volume reports of its contents and calls, how often a call has failed, and how many pages
 -- each set has
@@ -35,3 +40,17 @@ IsCount seen calls = IfTold seen.told (λ t. length t.calls ≡ t.start + calls)
 -- no fewer than that
 abbrev pub HasCalls : VolumeSeen → (calls : ℕ) → Type 0
 HasCalls seen calls = IfTold seen.told (λ t. t.start + calls ≤ length t.calls)
+
+-- whatever a crash leaves spells the log, no less than what is forced
+abbrev pub Leaves : VolumeSeen → Listed → Type 0
+Leaves seen log = LeavesLog seen.told log.pages log.records log.forced
+
+-- the log read tidy when the count began
+abbrev pub WasTidy : (pages : ℕ) → Told → Type 0
+WasTidy pages t = IsTidyLog pages (read_at t t.start)
+
+-- where it did, a crash leaves the log
+abbrev pub LeavesIfTidy : VolumeSeen → Listed → Type 0
+LeavesIfTidy seen log =
+    IfTold seen.told (λ t. WasTidy log.pages t
+    → EachImage (SpellsFrom log.pages log.records log.forced) t)

@@ -23,6 +23,7 @@ use Rattle.rg_space.specs.Carries.{Carries, cleared}
 use Rattle.rg_space.specs.Space.{capacity_in}
 use Rattle.rg_desk.specs.Bytes.{most_needed, needed, plan_bytes}
 use Rattle.rg_desk.specs.Engine.{HasPages, slots_in}
+use Rattle.rg_desk.specs.Stored.{SameBase}
 use Rattle.rg_desk.specs.Units.{unit_at}
 use Rattle.rg_desk.specs.Walks.{change_record}
 use Rattle.rg_desk.specs.declared.engine.Engine.{Engine}
@@ -71,7 +72,7 @@ pub record Puts
       ≡ applied unit.tran.0 (row_or_empty after) (cleared 0 (slots_in old) plan) plan.parts
   pub records : new.log.records ≡ records_wrote old.log.records unit plan after
   pub reserved : new.log.reserved + plan_bytes plan after ≡ old.log.reserved
-  pub log_pages : new.log.pages ≡ old.log.pages
+  pub base : SameBase old new
   pub indexes :
       (rows next : Place → Option Row) → AreListings rows old.indexes
       → rows plan.home ≡ plan.before → SetsRow rows next plan.home after
@@ -97,6 +98,7 @@ pub record Prepares
     pub claims : new.claims ≡ old.claims
     pub units : new.units ≡ old.units
     pub top : new.top ≡ old.top
+    pub opened : new.opened ≡ old.opened
 
 -- a write: it was prepared and carried out
 pub record Wrote
@@ -119,6 +121,7 @@ pub record SameEngine (old new : Engine) : Type 0 where
   pub claims : new.claims ≡ old.claims
   pub units : new.units ≡ old.units
   pub top : new.top ≡ old.top
+  pub opened : new.opened ≡ old.opened
 
 -- so many bytes are more than the log has left, or it is out of memory; and all is as it was
 abbrev pub Refuses : Engine → (need : ℕ) → Reply → Engine → Type 0

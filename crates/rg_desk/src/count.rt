@@ -49,8 +49,8 @@ impl Engine {
         }
     }
 
-    // The number of rows whose keys are not locked.
-    fn unlocked_rows(&self) -> u64
+    /// The number of rows whose keys are not locked. It looks at each lock.
+    pub fn unlocked_rows(&self) -> u64
         requires { IsShown self.now }
         ensures { (st : State) (allowed : ℕ) → Shows st allowed self.now
             → result + locked_present st ≡ row_count st.table }

@@ -6,27 +6,32 @@
 // 3. Once the device has refused a COMMIT the desk is down: nothing more is done, and every
 //    statement is answered DOWN.
 ghost use Rattle.std.specs.Prelude.{◌≡◌, ◌≤◌, ◌∷◌, [], ℕ, true, false, OnOk, OnErr, IfOk, IfErr, Some, None};
+ghost use Rattle.rg_home.specs.Pages.{slot_of};
+ghost use Rattle.rg_home.specs.Rows.{row_at};
+ghost use Rattle.rg_indexes.specs.Listings.{AreListings};
+ghost use Rattle.rg_space.specs.Space.{Agree, InStep, capacity_in, frames_of, index_of};
 ghost use Rattle.rg_base.specs.Session.{IsSession};
-ghost use Rattle.rg_model.specs.Legal.{Legal};
 ghost use Rattle.rg_model.specs.Possible.{next_state};
 ghost use Rattle.rg_model.specs.State.{State};
 ghost use Rattle.rg_stmt.specs.declared.event.Actor.TheVariants as actors;
 ghost use Rattle.rg_desk.specs.Answers.{Replies};
 ghost use Rattle.rg_log.specs.Kept.{log_pages};
 ghost use Rattle.rg_desk.specs.Chronicle.{system_entry};
-ghost use Rattle.rg_desk.specs.Desk.{EndsDown, EndsWithRows, IsLayout, MadeLayout, MadeSaid, Opens};
-ghost use Rattle.rg_desk.specs.Desk.{no_rows};
+ghost use Rattle.rg_desk.specs.Begun.{Begun};
+ghost use Rattle.rg_desk.specs.Desk.{CanBegin, EndsDown, EndsWithRows, IsCopy, IsLayout, LegalFrom, MadeLayout};
+ghost use Rattle.rg_desk.specs.Desk.{MadeSaid, Opens, old_records};
+ghost use Rattle.rg_desk.specs.Pages.{list_seen, space_pages};
 ghost use Rattle.rg_desk.specs.Engine.{HasPages, ground_of};
 ghost use Rattle.rg_desk.specs.Shows.{IsShown, Shows};
-ghost use Rattle.rg_desk.specs.Volume.{HasCalls, IsCount, seen_volume};
+ghost use Rattle.rg_desk.specs.Volume.{HasCalls, IsCount, LeavesIfTidy, seen_volume};
 ghost use Rattle.rg_desk.specs.Wrote.{SameEngine};
 
 use crate::chronicle::Chronicle;
 use crate::engine::Engine;
+use crate::found::Found;
 use rg_base::no_memory::NoMemory;
 use rg_base::session::Session;
 use rg_base::set::Set;
-use rg_log::log::Log;
 use rg_outside::counted::Counts;
 use rg_outside::operator::Operator;
 use rg_outside::volume::Volume;
@@ -34,9 +39,6 @@ use rg_stmt::event::{Actor, Entry, Event};
 use rg_stmt::stmt::{Reply, Stmt};
 use std::alloc::Global;
 use std::marker::Model;
-
-// No copy has more pages.
-const MOST_PAGES: u32 = 65_536;
 
 /// What an opening that was refused was handed, and why.
 #[derive(Drop)]
@@ -62,6 +64,7 @@ pub enum OpenCause {
 pub struct Desk<V: Counts, O> {
     engine: Engine,
     chronicle: Chronicle,
+    copy: u8,
     down: bool,
     volume: V,
     operator: O,
@@ -77,12 +80,14 @@ impl<V: Counts, O> Model for Desk<V, O> {
     ghost view = { λ d. record {
       trace = d.chronicle.trace;
       ground = ground_of d.engine;
+      opened = d.engine.opened;
+      copy = d.copy;
       down = d.down;
       volume = d.volume;
       operator = d.operator;
     } };
 
-    ghost invariant = { λ d. IsDesk d.engine d.chronicle d.down
+    ghost invariant = { λ d. IsDesk d.engine d.chronicle d.copy d.down
         (seen_volume V.told V.faults V.capacities d.volume) };
 }
 
@@ -96,6 +101,32 @@ fn system(event: Event, calls: u64) -> Entry
         answer: None,
         calls,
     }
+}
+
+// The engine over what was found, and the entry of the opening, after so many calls.
+fn begin(alloc: Global, found: Found, calls: u64) -> Result<(Engine, Chronicle), NoMemory>
+    requires begins { CanBegin (capacity_in found.space) (space_pages found.space) found.log
+        found.top }
+    requires step { InStep (list_seen (frames_of found.space)) (index_of found.space)
+        (capacity_in found.space) }
+    requires agree { Agree (list_seen (frames_of found.space)) (index_of found.space) }
+    requires listings { AreListings (row_at (slot_of (space_pages found.space))) found.indexes }
+    ensures { IfOk result (λ made. Begun found calls made.0 made.1) }
+{
+    let Found {
+        log,
+        space,
+        copy,
+        indexes,
+        top,
+    } = found;
+    let (pages, used) = (space.count(), log.used());
+    let engine = Engine::new(alloc, log, space, indexes, top)?;
+    let rows = engine.unlocked_rows();
+    let mut chronicle = Chronicle::new(alloc);
+    chronicle.make_room()?;
+    chronicle.push(Entry::opened(copy, rows, pages, used, calls));
+    Ok((engine, chronicle))
 }
 
 // The number of calls up to now. It never falls, also where the volume does not report.
@@ -126,96 +157,101 @@ pub fn reply_to<V: Volume>(
     if *down {
         return Reply::Down;
     }
+    engine.make_spare();
     let reply = engine.say(volume, session, stmt);
     *down = matches!(reply, Reply::Device);
     reply
 }
 
 impl Engine {
+    // Makes frames spare for a statement or a layout, before it touches a page. All frames of a
+    // list are in memory, and so are always spare: there is nothing to let go.
+    fn make_spare(&self) {}
+
     // The event of a layout.
-    fn layout(&mut self) -> Event
+    fn layout(&mut self, copy: u8) -> Event
         requires pages { HasPages self.old }
         ensures same { SameEngine self.old self.new }
-        ensures is { IsLayout result }
-        ensures right { (st : State) (allowed : ℕ) → Shows st allowed self.old → st.copy ≡ 1
+        ensures is { IsLayout copy result }
+        ensures right { (st : State) (allowed : ℕ) → Shows st allowed self.old → st.copy ≡ copy
             → next_state [] None actors.System result st ≡ Some st }
     {
         match self.side() {
-            Ok(side) => Event::Layout { copy: 1, side },
+            Ok(side) => Event::Layout { copy, side },
             Err(_) => Event::LayoutNoMemory,
         }
     }
 }
 
 // The event of a layout, where the desk is up or down.
-fn tell_layout(engine: &mut Engine, down: bool) -> Event
+fn tell_layout(engine: &mut Engine, copy: u8, down: bool) -> Event
     requires pages { down ≡ false → HasPages engine.old }
     ensures same { down ≡ false → SameEngine engine.old engine.new }
     ensures ground { ground_of engine.new ≡ ground_of engine.old }
-    ensures is { IsLayout result }
+    ensures opened { engine.new.opened ≡ engine.old.opened }
+    ensures is { IsLayout copy result }
     ensures right { (st : State) (allowed : ℕ) → (down ≡ false → Shows st allowed engine.old)
-        → st.down ≡ down → st.copy ≡ 1 → next_state [] None actors.System result st ≡ Some st }
+        → st.down ≡ down → st.copy ≡ copy → next_state [] None actors.System result st ≡ Some st }
 {
     if down {
         return Event::LayoutDown;
     }
-    engine.layout()
+    engine.make_spare();
+    engine.layout(copy)
 }
 
 impl<V: Counts, O: Operator> Desk<V, O> {
-    /// A desk over a table without rows, whose log has no records. Its first entry is that of the
-    /// opening. Its copy may have as many pages as the volume's first set has, and no more than
-    /// 65,536. Neither the volume nor the operator is called.
+    /// A desk over the table that a log stores. Its first entry is that of the opening, with the
+    /// rows, the pages and the bytes of the log that were found. Neither the volume nor the
+    /// operator is called.
     pub fn new(
         alloc: Global,
         volume: V,
         operator: O,
-        log: Log,
+        found: Found,
     ) -> Result<Desk<V, O>, OpenFault<V, O>>
-        requires empty { log.records ≡ [] }
-        requires idle { log.reserved ≡ 0 }
-        requires pages { log.pages ≡ log_pages (V.capacities volume) }
-        ensures opens { IfOk result
-            (Opens (seen_volume V.told V.faults V.capacities) volume operator log) }
+        requires begins { CanBegin (capacity_in found.space) (space_pages found.space) found.log
+            found.top }
+        requires step { InStep (list_seen (frames_of found.space)) (index_of found.space)
+            (capacity_in found.space) }
+        requires agree { Agree (list_seen (frames_of found.space)) (index_of found.space) }
+        requires listings { AreListings (row_at (slot_of (space_pages found.space)))
+            found.indexes }
+        requires copy { IsCopy found.copy }
+        requires pages { found.log.pages ≡ log_pages (V.capacities volume) }
+        requires leaves { LeavesIfTidy (seen_volume V.told V.faults V.capacities volume)
+            found.log }
+        ensures opens { IfOk result (Opens (seen_volume V.told V.faults V.capacities) volume
+            operator found.log found.copy (capacity_in found.space) (space_pages found.space)) }
         ensures err { IfErr result (λ fault. fault ≡ record {
           volume = volume;
           operator = operator;
           cause = OpenCause.NoMemory;
         }) }
     {
-        let capacity = volume.capacity(Set::First).min(MOST_PAGES);
-        let Ok(engine) = Engine::new(alloc, capacity, log) else {
-            return Err(OpenFault {
+        let copy = found.copy;
+        let calls = volume.calls();
+        match begin(alloc, found, calls) {
+            Ok((engine, chronicle)) => Ok(Desk {
+                engine,
+                chronicle,
+                copy,
+                down: false,
+                volume,
+                operator,
+            }),
+            Err(_) => Err(OpenFault {
                 volume,
                 operator,
                 cause: OpenCause::NoMemory,
-            });
-        };
-        let mut chronicle = Chronicle::new(alloc);
-        match chronicle.make_room() {
-            Ok(()) => {}
-            Err(_) => {
-                return Err(OpenFault {
-                    volume,
-                    operator,
-                    cause: OpenCause::NoMemory,
-                });
-            }
+            }),
         }
-        let calls = volume.calls();
-        chronicle.push(Entry::opened(1, 0, 0, 0, calls));
-        Ok(Desk {
-            engine,
-            chronicle,
-            down: false,
-            volume,
-            operator,
-        })
     }
 
     /// Answers a statement of a session, which makes one entry. If there is no memory for the
     /// entry, the call is refused and nothing was done. If there is none for the answer, the entry
-    /// says NOMEMORY.
+    /// says NOMEMORY. The reply stands in the entry: handing out a copy of it too would take memory
+    /// after the statement was done.
     pub fn exec(&mut self, session: Session, stmt: Stmt) -> Result<(), NoMemory>
         requires { IsSession session }
         ensures made { OnOk result (MadeSaid (seen_volume V.told V.faults V.capacities)
@@ -245,16 +281,24 @@ impl<V: Counts, O: Operator> Desk<V, O> {
         ensures err { OnErr result (self.new ≡ self.old) }
     {
         self.chronicle.make_room()?;
-        let event = tell_layout(&mut self.engine, self.down);
+        let event = tell_layout(&mut self.engine, self.copy, self.down);
         let calls = calls_now(&self.volume, &self.chronicle);
         self.chronicle.push(system(event, calls));
         Ok(())
     }
 
+    /// The entries so far. The reply to the last statement is in the last entry.
+    pub fn trace(&self) -> &[Entry]
+        ensures { result.now ≡ self.now.trace }
+    {
+        self.chronicle.trace()
+    }
+
     /// Whether the device has refused a COMMIT.
     pub fn down(&self) -> bool
         ensures is { result ≡ self.now.down }
-        ensures ends { self.now.down ≡ true → EndsDown self.now.trace }
+        ensures ends { self.now.down ≡ true
+            → EndsDown (old_records self.now) self.now.copy self.now.trace }
     {
         self.down
     }
@@ -263,8 +307,11 @@ impl<V: Counts, O: Operator> Desk<V, O> {
     /// looks at each lock.
     pub fn committed_rows(&self) -> u64
         requires { self.now.down ≡ false }
-        ensures { EndsWithRows self.now.trace result }
+        ensures { EndsWithRows (old_records self.now) self.now.copy self.now.ground.log.pages
+            (seen_volume V.told V.faults V.capacities self.now.volume) self.now.trace result }
     {
+        // That the records fit their set: the clause on what a crash leaves needs it.
+        let _ = self.engine.log.records();
         self.engine.committed_rows()
     }
 
@@ -273,11 +320,12 @@ impl<V: Counts, O: Operator> Desk<V, O> {
         ensures volume { result.0 ≡ self.volume }
         ensures operator { result.1 ≡ self.operator }
         ensures trace { result.2.items ≡ self.trace }
-        ensures legal { Legal no_rows self.trace }
+        ensures legal { LegalFrom (old_records self) self.trace }
     {
         let Desk {
             engine: _,
             chronicle,
+            copy: _,
             down: _,
             volume,
             operator,

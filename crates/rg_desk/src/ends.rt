@@ -60,7 +60,8 @@ impl Engine {
         requires shown { IsShown self.old }
         requires pages { self.old.log.pages ≡ log_pages (V.capacities volume.old) }
         ensures steps { Steps self.old session Stmt.Commit result self.new }
-        ensures asks { Asks (forces self.old.units session Stmt.Commit) result self.new.log
+        ensures asks { Asks (forces self.old.units session Stmt.Commit) result
+            self.old.log self.new.log
             (seen_volume V.told V.faults V.capacities volume.old)
             (seen_volume V.told V.faults V.capacities volume.new) }
     {

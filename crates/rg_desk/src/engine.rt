@@ -4,21 +4,24 @@
 //    indexes, bytes of the log, and last the lock. After that nothing fails.
 // 2. A record is applied to the pages and then appended. So the pages are always those that the
 //    records leave.
-ghost use Rattle.std.specs.Prelude.{◌≡◌, ◌≤◌, ◌<◌, ◌+◌, ◌^◌, ◌∷◌, ◌++◌, [], List, None, nat_le, if◌then◌else◌, length, IfOk, IfErr, OnOk};
+ghost use Rattle.std.specs.Prelude.{◌≡◌, ◌≤◌, ◌<◌, ◌+◌, ◌*◌, ◌^◌, ℕ, ◌∷◌, ◌++◌, [], List, None, nat_le, if◌then◌else◌, length, IfOk, IfErr, OnOk};
 ghost use Rattle.rg_base.specs.declared.part.Part.{Part};
 ghost use Rattle.rg_home.specs.Pages.{applied, row_or_empty};
 ghost use Rattle.rg_space.specs.Carries.{AllThere};
-ghost use Rattle.rg_indexes.specs.Listings.{AreListedAt, HasSpare};
+ghost use Rattle.rg_indexes.specs.Listings.{AreListedAt, AreListings, HasSpare};
 ghost use Rattle.rg_record.specs.Applied.{parts_of};
 ghost use Rattle.rg_record.specs.Spelled.{IsRecord};
 ghost use Rattle.rg_space.specs.Ready.{CanApply, CanApplyRecord, IsAtHand, AllReady, record_applied};
 ghost use Rattle.rg_space.specs.Space.{Agree, InStep, capacity_in, frames_of, index_of};
 ghost use Rattle.rg_page.specs.Content.{slots_of};
-ghost use Rattle.std.specs.FinMap as map;
 ghost use Rattle.rg_model.specs.Held.{holder};
-ghost use Rattle.rg_model.specs.State.{at_rest};
-ghost use Rattle.rg_desk.specs.Pages.{list_seen};
-ghost use Rattle.rg_desk.specs.Engine.{HasPages, seen_in, slots_in};
+ghost use Rattle.rg_model.specs.State.{Table, at_rest};
+ghost use Rattle.rg_home.specs.Pages.{slot_of};
+ghost use Rattle.rg_home.specs.Rows.{row_at};
+ghost use Rattle.rg_desk.specs.Desk.{CanBegin};
+ghost use Rattle.rg_desk.specs.Stored.{IsStored};
+ghost use Rattle.rg_desk.specs.Pages.{list_seen, space_pages};
+ghost use Rattle.rg_desk.specs.Engine.{HasPages, seen_in};
 ghost use Rattle.rg_desk.specs.Shows.{Shows};
 ghost use Rattle.rg_desk.specs.Bytes.{IsPurge, IsSpelled, kind_bytes, most_needed, plan_bytes, purge_bytes};
 ghost use Rattle.rg_desk.specs.Wrote.{Prepares, Puts, Refuses, Writes, records_cleared};
@@ -55,6 +58,8 @@ pub struct Engine {
     pub claims: Claims,
     pub units: Units,
     pub top: u32,
+    /// How many records the log had when it was opened.
+    pub opened: usize,
 }
 
 // Applies a record to the pages, and appends it. It takes no memory.
@@ -80,6 +85,7 @@ fn make(space: &mut Space<ListFrames>, log: &mut Log, entry: Record)
     ensures records { log.new.records ≡ log.old.records ++ entry ∷ [] }
     ensures reserved { log.new.reserved + kind_bytes entry.kind ≡ log.old.reserved }
     ensures pages { log.new.pages ≡ log.old.pages }
+    ensures forced { log.new.forced ≡ log.old.forced }
 {
     space.apply(&entry);
     append(log, entry);
@@ -107,6 +113,7 @@ fn clear(space: &mut Space<ListFrames>, log: &mut Log, purge: Parts)
     ensures records { log.new.records ≡ records_cleared log.old.records purge }
     ensures reserved { log.new.reserved + purge_bytes purge ≡ log.old.reserved }
     ensures pages { log.new.pages ≡ log.old.pages }
+    ensures forced { log.new.forced ≡ log.old.forced }
 {
     if purge.as_slice().is_empty() {
         return;
@@ -128,19 +135,26 @@ fn greater(top: u32, tran: Tran) -> u32
 }
 
 impl Engine {
-    /// A table without rows, in a copy that may have `capacity` pages, with a log without records.
-    pub fn new(alloc: Global, capacity: u32, log: Log) -> Result<Engine, NoMemory>
-        requires empty { log.records ≡ [] }
-        requires idle { log.reserved ≡ 0 }
-        ensures shows { IfOk result (λ d. Shows (at_rest map.empty 1) 0 d) }
-        ensures capacity { IfOk result (λ d. capacity_in d.space ≡ capacity) }
-        ensures pages { IfOk result (λ d. slots_in d ≡ []) }
+    /// The table that a log stores, over the pages that its records leave. All units of the log
+    /// have ended, and `top` is the greatest number of a transaction.
+    pub fn new(
+        alloc: Global,
+        log: Log,
+        space: Space<ListFrames>,
+        indexes: Indexes,
+        top: u32,
+    ) -> Result<Engine, NoMemory>
+        requires begins { CanBegin (capacity_in space) (space_pages space) log top }
+        requires step { InStep (list_seen (frames_of space)) (index_of space) (capacity_in space) }
+        requires agree { Agree (list_seen (frames_of space)) (index_of space) }
+        requires listings { AreListings (row_at (slot_of (space_pages space))) indexes }
+        ensures shows { IfOk result (λ d. (start : Table) (copy : ℕ) → IsStored log.records start
+            → Shows (at_rest start copy) (4064 * length (space_pages space)) d) }
+        ensures space { IfOk result (λ d. d.space ≡ space) }
         ensures log { IfOk result (λ d. d.log ≡ log) }
+        ensures opened { IfOk result (λ d. d.opened ≡ length log.records) }
     {
-        let Ok(space) = Space::new(alloc, ListFrames::new(alloc, 1), capacity) else {
-            return Err(NoMemory);
-        };
-        let indexes = Indexes::new(alloc)?;
+        let opened = log.records().len();
         let locks = Locks::new(alloc)?;
         let claims = Claims::new(alloc)?;
         let units = Units::new(alloc)?;
@@ -152,7 +166,8 @@ impl Engine {
             locks,
             claims,
             units,
-            top: 0,
+            top,
+            opened,
         })
     }
 

@@ -13,6 +13,8 @@ pub mod desk;
 pub mod ends;
 /// The table, and what its sessions hold of it.
 pub mod engine;
+/// What an opening found.
+pub mod found;
 /// The layout of the copy.
 pub mod layout;
 /// SELECT, SCAN and FIND.
@@ -21,8 +23,6 @@ pub mod reads;
 pub mod records;
 /// The answer to any statement.
 pub mod say;
-#[cfg(test)]
-mod tests;
 /// The undo of a unit's writes.
 pub mod undo;
 /// The open units of sessions.

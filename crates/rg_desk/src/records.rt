@@ -36,6 +36,7 @@ pub fn append(log: &mut Log, entry: Record)
     ensures reserved { log.new.reserved + kind_bytes entry.kind ≡ log.old.reserved }
     ensures taken { taken_of log.new ≡ taken_of log.old }
     ensures pages { log.new.pages ≡ log.old.pages }
+    ensures forced { log.new.forced ≡ log.old.forced }
 {
     entry.fits();
     log.append(entry);

@@ -9,9 +9,9 @@ ghost use Rattle.rg_base.specs.Session.{IsSession};
 ghost use Rattle.rg_model.specs.Claims.{claims_with, classes_needed, is_kept_out};
 ghost use Rattle.rg_model.specs.Plain.{is_done};
 ghost use Rattle.rg_log.specs.Kept.{log_pages};
-ghost use Rattle.rg_desk.specs.Answers.{Answers, Asks, classes_in, forces, is_commit};
+ghost use Rattle.rg_desk.specs.Answers.{Answers, Asks, classes_in, forces};
 ghost use Rattle.rg_desk.specs.Shows.{IsShown};
-ghost use Rattle.rg_desk.specs.Steps.{Steps};
+ghost use Rattle.rg_desk.specs.Steps.{Steps, is_commit};
 ghost use Rattle.rg_desk.specs.Volume.{seen_volume};
 
 use crate::engine::Engine;
@@ -97,7 +97,8 @@ impl Engine {
         requires shown { IsShown self.old }
         requires pages { self.old.log.pages ≡ log_pages (V.capacities volume.old) }
         ensures steps { Steps self.old session stmt.now result self.new }
-        ensures asks { Asks (forces self.old.units session stmt.now) result self.new.log
+        ensures asks { Asks (forces self.old.units session stmt.now) result
+            self.old.log self.new.log
             (seen_volume V.told V.faults V.capacities volume.old)
             (seen_volume V.told V.faults V.capacities volume.new) }
     {
@@ -113,7 +114,8 @@ impl Engine {
         requires shown { IsShown self.old }
         requires pages { self.old.log.pages ≡ log_pages (V.capacities volume.old) }
         ensures answers { Answers self.old session stmt.now result self.new }
-        ensures asks { Asks (forces self.old.units session stmt.now) result self.new.log
+        ensures asks { Asks (forces self.old.units session stmt.now) result
+            self.old.log self.new.log
             (seen_volume V.told V.faults V.capacities volume.old)
             (seen_volume V.told V.faults V.capacities volume.new) }
     {

@@ -46,6 +46,7 @@ fn append_undo(log: &mut Log, undo: Record)
     ensures least { log.old.reserved ≤ log.new.reserved + 911 }
     ensures taken { taken_of log.new ≡ taken_of log.old }
     ensures pages { log.new.pages ≡ log.old.pages }
+    ensures forced { log.new.forced ≡ log.old.forced }
 {
     undo.fits();
     append(log, undo);

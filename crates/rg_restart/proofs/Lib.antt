@@ -1,2 +1,10 @@
 pub mod Stores
-pub mod Refused
+pub mod Tidy
+pub mod Beginning
+pub mod Exact
+pub mod Undos
+pub mod Closing
+pub mod Reading
+pub mod Looking
+pub mod Finding
+pub mod Matching

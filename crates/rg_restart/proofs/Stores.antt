@@ -1,15 +1,15 @@
 -- The rows of a log so far, and those of the records that are left.
 --
 -- 1. What is said of the records that are left, over the rows so far, holds of all records.
-use Rattle.std.proofs.Common.{◌≡◌, ◌==◌, ◌<◌, ◌+◌, ◌&&◌, ◌||◌, ℕ, suc, Bool, true, false, cond, if◌then◌else◌, List, [], ◌∷◌, Option, Some, None, drop, get_or, length, refl, sym, ◌∙◌, ap, subst, arith, drop-cons}
+use Rattle.std.proofs.Common.{◌≡◌, ◌==◌, ◌≤◌, ◌<◌, ◌+◌, ◌-◌, ◌&&◌, ◌||◌, ℕ, suc, Bool, true, false, cond, if◌then◌else◌, List, ◌∷◌, Option, Some, None, drop, get_or, length, refl, sym, ◌∙◌, ap, arith, drop-cons}
 use Rattle.std.specs.FinMap as map
-use Rattle.std.specs.FinMap.{get-insert}
+use Rattle.std.specs.FinMap.{get-insert, len-insert, len-remove}
 use Rattle.std.specs.Option.{is_some}
 use Rattle.std.proofs.lemmas.Cmp.{nat_cmp_total}
 use Rattle.std.specs.Ordering.{eq_by_cmp, nat_cmp}
 use Rattle.std.proofs.lemmas.Bool.Decides.{nat_tests}
 use Rattle.rg_base.specs.declared.row.Row.{Row}
-use Rattle.rg_image.specs.Meaning.{has_key, is_commit, is_committed, last_made, made_of, or_before, row_made}
+use Rattle.rg_image.specs.Meaning.{is_commit, is_committed, last_made, made_of, or_before, row_made}
 use Rattle.rg_model.specs.Committed.{set_to}
 use Rattle.rg_model.specs.State.{Table}
 use Rattle.rg_model.proofs.Overlay.{get-set_to}
@@ -28,6 +28,19 @@ turned q key = grind (arith, nat_tests)
 
 pub key_set : (table : Table) (key : ℕ) (row : Option Row) (q : ℕ) → map.get (set_to table key row) q ≡ (if key == q then row else map.get table q)
 key_set table key row q = get-set_to table key row q ∙ ap (λ (b : Bool). cond b row (map.get table q)) (turned q key)
+
+-- and at most one row more
+pub set_few : (table : Table) (key : ℕ) (row : Option Row) → map.len (set_to table key row) ≤ map.len table + 1
+set_few table key None = by_removed (map.contains_key table key) (len-remove nat_cmp_total table key)
+  where
+    by_removed : (b : Bool) → map.len (map.remove table key) ≡ cond b (map.len table - 1) (map.len table) → map.len (map.remove table key) ≤ map.len table + 1
+    by_removed true e = omega (arith, e)
+    by_removed false e = omega (arith, e)
+set_few table key (Some row) = by_added (map.contains_key table key) (len-insert nat_cmp_total table key row)
+  where
+    by_added : (b : Bool) → map.len (map.insert table key row) ≡ cond b (map.len table) (map.len table + 1) → map.len (map.insert table key row) ≤ map.len table + 1
+    by_added true e = omega (arith, e)
+    by_added false e = omega (arith, e)
 
 by_test : (c : Bool) (o : Option Bool) → is_some (cond c (Some true) o) ≡ (is_some o || c)
 by_test true None = refl

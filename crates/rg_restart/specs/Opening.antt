@@ -1,25 +1,38 @@
 -- What an opening finds, and when it is refused.
 --
--- 1. A volume is fresh whose log has no records: its first log page is all zeros, or there is none.
--- 2. An opening writes nothing.
-use Rattle.std.specs.Prelude.{◌≡◌, ◌≤◌, List, []}
+-- 1. An opening writes nothing. What its undo appends stays in memory until a COMMIT forces it.
+-- 2. It is refused only where a page breaks a rule of a sound volume, a call of the volume failed,
+--    or memory ran out. The page is that of the first rule that is broken.
+use Rattle.std.specs.Prelude.{◌≡◌, ◌≤◌, ◌⊎◌, List, length}
 use Rattle.rg_base.specs.declared.set.Set.TheVariants.{Log}
 use Rattle.rg_desk.specs.Desk.{DeskState, Opens}
-use Rattle.rg_desk.specs.Volume.{VolumeSeen}
+use Rattle.rg_desk.specs.Volume.{LeavesIfTidy, VolumeSeen, WasTidy}
 use Rattle.rg_desk.specs.declared.desk.OpenCause.{OpenCause}
 use Rattle.rg_desk.specs.declared.desk.OpenCause.TheVariants.{Damaged, Device, NoMemory}
-use Rattle.rg_image.specs.Rules.{HasLogPages}
+use Rattle.rg_desk.specs.declared.found.Found.{Found}
+use Rattle.rg_home.specs.Slot.{Slot}
+use Rattle.rg_image.specs.Rules.{BreaksChain, BreaksSpace, IsChain, IsTidyLog, copy_capacity, owed}
 use Rattle.rg_log.specs.Kept.{Listed, log_pages}
 use Rattle.rg_log.specs.Open.{IsQuiet}
 use Rattle.rg_log.specs.declared.fault.LogFault.{LogFault}
 use Rattle.rg_log.specs.declared.fault.LogFault.TheVariants as log_faults
-use Rattle.rg_outside.specs.Calls.{Told, read_of}
+use Rattle.rg_outside.specs.Calls.{read_of}
+use Rattle.rg_outside.specs.Capacities.{Capacities}
 use Rattle.rg_outside.specs.Faults.{Rose}
 use Rattle.rg_outside.specs.Moments.{EachCall, IfTold}
+use Rattle.rg_record.specs.declared.record.Record.{Record}
+use Rattle.rg_unended.specs.Unended.{open_in}
+use Rattle.rg_restart.specs.Closed.{TookBack}
+use Rattle.rg_restart.specs.Found.{Finds}
+use Rattle.rg_restart.specs.Pages.{copy_of, count_of}
+use Rattle.rg_restart.specs.Sound.{IsDamage, IsSoundBy}
 
--- as they read, the pages of the log have no records
-abbrev pub HasFreshLog : VolumeSeen → Told → Type 0
-HasFreshLog seen t = HasLogPages (log_pages seen.capacities) (read_of t.first t.calls) []
+-- If the log read tidy when the count began, it does so now.
+abbrev pub GoesOnTidy : VolumeSeen → Type 0
+GoesOnTidy seen =
+    IfTold seen.told (λ t. (t.start ≤ length t.calls)
+    × (WasTidy (log_pages seen.capacities) t
+    → IsTidyLog (log_pages seen.capacities) (read_of t.first t.calls)))
 
 -- calls that write nothing
 pub record CallsQuiet (old new : VolumeSeen) : Type 0 where
@@ -33,10 +46,19 @@ cause_of (log_faults.Damaged page) = Damaged Log page
 cause_of log_faults.Device = Device
 cause_of log_faults.NoMemory = NoMemory
 
--- Why an opening was refused: the log is not fresh, a call failed, or memory ran out.
+-- why the records of a log were refused: one does not follow, or there is no space
+abbrev pub BreaksLog : Capacities → List Record → OpenCause → Type 0
+BreaksLog capacities rs (Damaged set page) =
+    (set ≡ Log)
+    × (BreaksChain capacities rs page
+    ⊎ (IsChain capacities rs × BreaksSpace (log_pages capacities) rs page))
+BreaksLog capacities rs Device = ⊥
+BreaksLog capacities rs NoMemory = Unit {0}
+
+-- why an opening was refused
 abbrev pub IsCause : (old new : VolumeSeen) → OpenCause → Type 0
 IsCause old new (Damaged set page) =
-    (set ≡ Log) × IfTold new.told (λ t. HasFreshLog new t → ⊥)
+    IfTold new.told (λ t. IsDamage new.capacities (read_of t.first t.calls) set page)
 IsCause old new Device = Rose old.faults new.faults
 IsCause old new NoMemory = Unit {0}
 
@@ -45,12 +67,33 @@ pub record IsRefused (old new : VolumeSeen) (cause : OpenCause) : Type 0 where
   pub calls : CallsQuiet old new
   pub because : IsCause old new cause
 
--- a desk that was opened over a fresh volume
-pub record OpensFresh {V O : Type 0}
-    (look : V → VolumeSeen) (old : VolumeSeen) (operator : O) (desk : DeskState V O) : Type 0 where
+-- the volume reads sound, and its log has these records
+abbrev pub ReadsSound : VolumeSeen → List Record → Type 0
+ReadsSound seen rs =
+    IfTold seen.told (λ t. IsSoundBy seen.capacities (read_of t.first t.calls) rs)
+
+-- what is found of a volume
+pub record Looks (old new : VolumeSeen) (found : Found) : Type 0 where
   pub log : Listed
-  pub empty : log.records ≡ []
   pub pages : log.pages ≡ log_pages old.capacities
-  pub opens : Opens look desk.volume operator log desk
-  pub calls : CallsQuiet old (look desk.volume)
-  pub fresh : IfTold (look desk.volume).told (HasFreshLog (look desk.volume))
+  pub finds : Finds log (copy_capacity old.capacities (copy_of log.records)) found
+  pub calls : CallsQuiet old new
+  pub sound : ReadsSound new log.records
+  pub leaves : LeavesIfTidy new found.log
+
+-- A desk that was opened over a volume: over its log as it read, to which the undo of open units
+-- was appended, and over the pages that this log leaves.
+pub record OpensStored {V O : Type 0}
+    (look : V → VolumeSeen) (old : VolumeSeen) (operator : O) (desk : DeskState V O) : Type 0
+  where
+    pub log : Listed
+    pub pages : log.pages ≡ log_pages old.capacities
+    pub now : Listed
+    pub took : TookBack (open_in log.records) (owed log.records) log now
+    pub slots : List (List Slot)
+    pub count_is : length slots ≡ count_of log.records
+    pub opens :
+        Opens look desk.volume operator now (copy_of log.records)
+        (copy_capacity old.capacities (copy_of log.records)) slots desk
+    pub calls : CallsQuiet old (look desk.volume)
+    pub sound : ReadsSound (look desk.volume) log.records

@@ -1,19 +1,32 @@
 // The opening of a volume.
 //
-// 1. Its log is read first. A page that breaks the rule for log pages is named, and nothing is
-//    written.
-// 2. A log that has records is refused at its first page: the table that it stores is not opened
-//    yet.
+// 1. All rules on the log are tested first, each over the whole log. Then the pages of the current
+//    copy are read, and last the rules on pages are tested.
+// 2. The first rule that is broken names its page. Nothing is written, and the operator is not
+//    asked.
 ghost use Rattle.std.specs.Prelude.{◌≡◌, IfOk, IfErr};
+ghost use Rattle.rg_chain.specs.Kept.{IsKept};
 ghost use Rattle.rg_desk.specs.Volume.{seen_volume};
-ghost use Rattle.rg_restart.specs.Opening.{IsRefused, OpensFresh, cause_of};
+ghost use Rattle.rg_image.specs.Rules.{HasSpace, IsChain};
+ghost use Rattle.rg_log.specs.Kept.{log_pages};
+ghost use Rattle.rg_rebuilt.specs.Laws.{CoversAll};
+ghost use Rattle.rg_restart.specs.Opening.{BreaksLog, GoesOnTidy, IsRefused, Looks, OpensStored, cause_of};
 
+use crate::data::used_page;
+use crate::find::{damaged, find, set_of};
+use rg_base::no_memory::NoMemory;
 use rg_base::set::Set;
+use rg_chain::chain::Chain;
+use rg_chain::names::copy_pages;
+use rg_chain::test::{LogTest, test_log};
 use rg_desk::desk::{Desk, OpenCause, OpenFault};
+use rg_desk::found::Found;
 use rg_log::fault::LogFault;
+use rg_log::log::Log;
 use rg_log::open::open_log;
 use rg_outside::counted::Counts;
 use rg_outside::operator::Operator;
+use rg_outside::volume::Volume;
 use std::alloc::Global;
 
 // The cause of a log that was not read.
@@ -30,14 +43,58 @@ fn cause_of(fault: LogFault) -> OpenCause
     }
 }
 
-/// Opens a volume. Its log must not have a record yet: the table has no rows then. The operator is
-/// not asked.
+// Tests the records of a log, and keeps what was learned of them.
+fn sound_log<V: Volume>(alloc: Global, volume: &V, log: &Log) -> Result<Chain, OpenCause>
+    ensures chain { IfOk result (λ chain. IsChain (V.capacities volume.now) log.now.records) }
+    ensures space { IfOk result (λ chain. HasSpace (log_pages (V.capacities volume.now))
+        log.now.records) }
+    ensures kept { IfOk result (λ chain. IsKept log.now.records chain) }
+    ensures covers { IfOk result (λ chain. CoversAll (V.capacities volume.now)
+        log.now.records) }
+    ensures refused { IfErr result (BreaksLog (V.capacities volume.now) log.now.records) }
+{
+    match test_log(alloc, volume, log.records()) {
+        Err(NoMemory) => Err(OpenCause::NoMemory),
+        Ok(LogTest::Sound(chain)) => Ok(chain),
+        Ok(LogTest::BrokenChain { page }) => Err(damaged(Set::Log, page)),
+        Ok(LogTest::NoSpace { page }) => Err(damaged(Set::Log, page)),
+    }
+}
+
+// What is found of a volume.
+fn look<V: Volume>(alloc: Global, volume: &mut V) -> Result<Found, OpenCause>
+    requires { GoesOnTidy (seen_volume V.told V.faults V.capacities volume.old) }
+    ensures looks { IfOk result (Looks (seen_volume V.told V.faults V.capacities volume.old)
+        (seen_volume V.told V.faults V.capacities volume.new)) }
+    ensures refused { IfErr result
+        (IsRefused (seen_volume V.told V.faults V.capacities volume.old)
+        (seen_volume V.told V.faults V.capacities volume.new)) }
+{
+    let log = match open_log(alloc, volume) {
+        Ok(log) => log,
+        Err(fault) => return Err(cause_of(fault)),
+    };
+    let chain = sound_log(alloc, volume, &log)?;
+    let set = set_of(chain.copy());
+    match used_page(volume, set, chain.pages()) {
+        Err(_) => return Err(OpenCause::Device),
+        Ok(Some(page)) => return Err(damaged(set, page)),
+        Ok(None) => {}
+    }
+    let capacity = copy_pages(volume, chain.copy());
+    find(alloc, log, &chain, capacity)
+}
+
+/// Opens a volume over the table that its log stores. A page that breaks a rule of a sound volume
+/// is named. The undo of open units is appended to the log in memory, and written by the next
+/// COMMIT.
 pub fn open_desk<V: Counts, O: Operator>(
     alloc: Global,
     volume: V,
     operator: O,
 ) -> Result<Desk<V, O>, OpenFault<V, O>>
-    ensures opens { IfOk result (OpensFresh (seen_volume V.told V.faults V.capacities)
+    requires tidy { GoesOnTidy (seen_volume V.told V.faults V.capacities volume) }
+    ensures opens { IfOk result (OpensStored (seen_volume V.told V.faults V.capacities)
         (seen_volume V.told V.faults V.capacities volume) operator) }
     ensures refused { IfErr result (λ fault. IsRefused
         (seen_volume V.told V.faults V.capacities volume)
@@ -45,24 +102,12 @@ pub fn open_desk<V: Counts, O: Operator>(
     ensures operator { IfErr result (λ fault. fault.operator ≡ operator) }
 {
     let mut volume = volume;
-    match open_log(alloc, &mut volume) {
-        Ok(log) => {
-            if log.last().0 == 0 {
-                return Desk::new(alloc, volume, operator, log);
-            }
-            Err(OpenFault {
-                volume,
-                operator,
-                cause: OpenCause::Damaged {
-                    set: Set::Log,
-                    page: 1,
-                },
-            })
-        }
-        Err(fault) => Err(OpenFault {
+    match look(alloc, &mut volume) {
+        Ok(found) => Desk::new(alloc, volume, operator, found),
+        Err(cause) => Err(OpenFault {
             volume,
             operator,
-            cause: cause_of(fault),
+            cause,
         }),
     }
 }

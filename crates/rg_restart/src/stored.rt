@@ -4,7 +4,7 @@
 //    transaction that was committed; it has none where there is no such Change.
 // 2. The log is walked twice: first for the transactions that were committed, and then for their
 //    Changes, the first one first.
-ghost use Rattle.std.specs.Prelude.{◌≡◌, ◌==◌, ◌&&◌, ◌||◌, ℕ, if◌then◌else◌, OnOk, IfOk};
+ghost use Rattle.std.specs.Prelude.{◌≡◌, ◌≤◌, ◌==◌, ◌+◌, ◌*◌, ◌&&◌, ◌||◌, ℕ, if◌then◌else◌, length, OnOk, IfOk};
 ghost use Rattle.std.specs.FinMap as map;
 ghost use Rattle.std.specs.Option.{option_copied};
 ghost use Rattle.rg_image.specs.Meaning.{has_key, is_commit, is_committed, stored};
@@ -66,9 +66,10 @@ fn set_key(
     named: Option<&Row>,
     after: Option<&Row>,
 ) -> Result<(), NoMemory>
-    ensures { OnOk result ((key : ℕ) → map.get table.new key
+    ensures row { OnOk result ((key : ℕ) → map.get table.new key
         ≡ (if has_key key (option_copied named.entry) then option_copied after.entry
         else map.get table.old key)) }
+    ensures few { OnOk result (map.len table.new ≤ map.len table.old + 1) }
 {
     let Some(row) = named else {
         return Ok(());
@@ -87,10 +88,11 @@ fn set_keys(
     before: Option<&Row>,
     after: Option<&Row>,
 ) -> Result<(), NoMemory>
-    ensures { OnOk result ((key : ℕ) → map.get table.new key
+    ensures row { OnOk result ((key : ℕ) → map.get table.new key
         ≡ (if has_key key (option_copied before.entry) || has_key key (option_copied after.entry)
         then option_copied after.entry
         else map.get table.old key)) }
+    ensures few { OnOk result (map.len table.new ≤ map.len table.old + 2) }
 {
     set_key(alloc, table, before, after)?;
     set_key(alloc, table, after, after)
@@ -98,8 +100,9 @@ fn set_keys(
 
 // Does what a record makes of the rows, where its transaction was committed.
 fn make(alloc: Global, table: &mut NumberMap<Row>, kind: &Kind) -> Result<(), NoMemory>
-    ensures { OnOk result ((key : ℕ) → map.get table.new key
+    ensures row { OnOk result ((key : ℕ) → map.get table.new key
         ≡ made_over (made_by kind.now key) (map.get table.old key)) }
+    ensures few { OnOk result (map.len table.new ≤ map.len table.old + 2) }
 {
     match kind {
         Kind::Change { before, after, .. } => {
@@ -113,9 +116,11 @@ fn make(alloc: Global, table: &mut NumberMap<Row>, kind: &Kind) -> Result<(), No
     }
 }
 
-/// The rows of the committed transactions of these records, by key.
+/// The rows of the committed transactions of these records, by key: at most two for each record.
 pub fn stored_rows(alloc: Global, records: &[Record]) -> Result<NumberMap<Row>, NoMemory>
-    ensures { IfOk result (λ table. (key : ℕ) → map.get table key ≡ stored records.now key) }
+    ensures rows { IfOk result (λ table. (key : ℕ)
+        → map.get table key ≡ stored records.now key) }
+    ensures few { IfOk result (λ table. map.len table ≤ 2 * length records.now) }
 {
     let ended = committed_in(alloc, records)?;
     let mut table = NumberMap::new(alloc);

@@ -1,5 +1,5 @@
 -- A run goes on by one line.
-use Rattle.std.proofs.Common.{◌≡◌, ◌≤◌, ◌||◌, ◌*◌, ℕ, Bool, true, false, List, [], ◌∷◌, ◌++◌, refl, sym, ◌∙◌, subst, arith}
+use Rattle.std.proofs.Common.{◌≡◌, ◌≤◌, ◌||◌, ◌*◌, ℕ, Bool, true, false, List, [], ◌∷◌, ◌++◌, refl, sym, ◌∙◌, ap, subst, arith}
 use Rattle.std.specs.Prelude.{Result, Ok, Err, OnOk}
 use Rattle.std.specs.List.{AllZip}
 use Rattle.rg_base.specs.declared.no_memory.NoMemory.{NoMemory as WantsMemory}
@@ -17,16 +17,16 @@ use Rattle.rg_image.specs.Rules.{limit_of}
 use Rattle.rg_base.specs.declared.set.Set.TheVariants.{Log}
 use Rattle.rg_desk.specs.Answers.{IfFull, IfLogFull, is_device}
 use Rattle.rg_desk.specs.Chronicle.{allowed_after, allowed_by, logged_after, logged_by, system_entry}
-use Rattle.rg_desk.specs.Desk.{DeskState, IsLayout, MadeLayout, MadeSaid, Stays, first_entry, no_rows}
+use Rattle.rg_desk.specs.Desk.{DeskState, IsLayout, LegalFrom, MadeLayout, MadeSaid, Stays, old_records}
 use Rattle.rg_desk.specs.Volume.{CallsLog, VolumeSeen}
-use Rattle.rg_model.specs.Legal.{Legal}
+use Rattle.rg_record.specs.declared.record.Record.{Record}
 use Rattle.rg_outside.specs.Faults.{Rose}
 use Rattle.rg_outside.specs.Made.{WritesIn}
 use Rattle.rg_outside.proofs.Frame.{calls_join, no_calls}
 use Rattle.rg_run.specs.Full.{IsFullFrom, IsFullOnlyFrom}
 use Rattle.rg_run.specs.LogFull.{IsLogFullFrom, IsLogFullOnlyFrom}
 use Rattle.rg_run.specs.Outside.{IsDeviceIf, IsDeviceOnlyIf, IsEnd}
-use Rattle.rg_run.specs.Played.{Ends, EntryOf, Goes, IsLate, IsOpened, IsRun, TraceOf}
+use Rattle.rg_run.specs.Played.{DeskEnds, EntryOf, Goes, IsLate, IsOpened, IsOpenedEntry, IsRun, TraceOf, first_of}
 use Rattle.rg_run.specs.declared.played.RunEnd.{RunEnd}
 use Rattle.rg_run.specs.declared.played.RunEnd.TheVariants.{Whole, Down as Ended, Damaged, DeviceAtOpening, NoMemory as Wanting}
 
@@ -35,6 +35,10 @@ entries_push [] [] line entry all of = (of, tt)
 entries_push [] (e ∷ entries) line entry all of = absurd all
 entries_push (l ∷ lines) [] line entry all of = absurd all
 entries_push (l ∷ lines) (e ∷ entries) line entry all of = (all.0, entries_push lines entries line entry all.1 of)
+
+first_push : (lines : List Line) (trace : List Entry) (entry : Entry) → TraceOf lines trace → first_of (trace ++ entry ∷ []) ≡ first_of trace
+first_push lines [] entry of = absurd of
+first_push lines (e ∷ entries) entry of = refl
 
 trace_push : (lines : List Line) (trace : List Entry) (line : Line) (entry : Entry) → TraceOf lines trace → EntryOf line entry → TraceOf (lines ++ line ∷ []) (trace ++ entry ∷ [])
 trace_push lines [] line entry of one = absurd of
@@ -80,23 +84,23 @@ log_said session stmt Device logged pages is = tt
 log_said session stmt Down logged pages is = tt
 log_said session stmt NoMemory logged pages is = tt
 
-log_layout : (event : Event) (limit logged : ℕ) → IsLayout event → IsLogFullFrom limit logged event
-log_layout (Layout copy side) limit logged is = tt
-log_layout LayoutNoMemory limit logged is = tt
-log_layout LayoutDown limit logged is = tt
-log_layout event limit logged is = absurd is
+log_layout : (copy : ℕ) (event : Event) (limit logged : ℕ) → IsLayout copy event → IsLogFullFrom limit logged event
+log_layout copy (Layout shown side) limit logged is = tt
+log_layout copy LayoutNoMemory limit logged is = tt
+log_layout copy LayoutDown limit logged is = tt
+log_layout copy event limit logged is = absurd is
 
-full_layout : (event : Event) (least allowed : ℕ) → IsLayout event → IsFullFrom least allowed event
-full_layout (Layout copy side) least allowed is = tt
-full_layout LayoutNoMemory least allowed is = tt
-full_layout LayoutDown least allowed is = tt
-full_layout event least allowed is = absurd is
+full_layout : (copy : ℕ) (event : Event) (least allowed : ℕ) → IsLayout copy event → IsFullFrom least allowed event
+full_layout copy (Layout shown side) least allowed is = tt
+full_layout copy LayoutNoMemory least allowed is = tt
+full_layout copy LayoutDown least allowed is = tt
+full_layout copy event least allowed is = absurd is
 
-device_layout : (P : Type 0) (event : Event) → IsLayout event → IsDeviceIf P event
-device_layout P (Layout copy side) is = tt
-device_layout P LayoutNoMemory is = tt
-device_layout P LayoutDown is = tt
-device_layout P event is = absurd is
+device_layout : (P : Type 0) (copy : ℕ) (event : Event) → IsLayout copy event → IsDeviceIf P event
+device_layout P copy (Layout shown side) is = tt
+device_layout P copy LayoutNoMemory is = tt
+device_layout P copy LayoutDown is = tt
+device_layout P copy event is = absurd is
 
 device_said : (P : Type 0) (session : Session) (stmt : Stmt) (reply : Reply) → (reply ≡ Device → P) → IsDeviceIf P (said_entry session stmt reply 0).event
 device_said P session stmt Device is = is refl
@@ -144,6 +148,9 @@ module _ {V O : Type 0} (look : V → VolumeSeen) (first old new : DeskState V O
   stays_on stays = record {
     capacity = stays.capacity ∙ goes.stays.capacity;
     log_pages = stays.log_pages ∙ goes.stays.log_pages;
+    opened = stays.opened ∙ goes.stays.opened;
+    old_same = stays.old_same ∙ goes.stays.old_same;
+    copy = stays.copy ∙ goes.stays.copy;
     calls = log_calls_join (look first.volume) (look old.volume) (look new.volume) goes.stays.calls stays.calls;
     operator = stays.operator ∙ goes.stays.operator;
   }
@@ -159,6 +166,7 @@ module _ {V O : Type 0} (look : V → VolumeSeen) (first old new : DeskState V O
       → IsDeviceIf (Rose (look first.volume).faults (look new.volume).faults) entry.event → (new.down ≡ true → Rose (look first.volume).faults (look new.volume).faults) → Stays look old new → Goes look first (lines ++ line ∷ []) new
   on line entry made of full log device down stays = record {
     entries = subst (TraceOf (lines ++ line ∷ [])) (sym made) (trace_push lines old.trace line entry goes.entries of);
+    begins = ap first_of made ∙ first_push lines old.trace entry goes.entries ∙ goes.begins;
     full =
         subst (λ (n : ℕ). IsFullOnlyFrom (3221 * n) 0 new.trace) (sym stays.capacity)
         (subst (IsFullOnlyFrom (3221 * old.ground.capacity) 0) (sym made) (full_push (3221 * old.ground.capacity) 0 old.trace entry goes.full full));
@@ -185,20 +193,34 @@ module _ {V O : Type 0} (look : V → VolumeSeen) (first old new : DeskState V O
 
   pub goes_shown : MadeLayout look old new → Goes look first (lines ++ Show ∷ []) new
   goes_shown shown =
-      on Show (system_entry shown.event shown.calls) shown.made (shown.event, refl, shown.is) (full_layout shown.event (3221 * old.ground.capacity) (allowed_by 0 old.trace) shown.is) (log_layout shown.event (limit_of old.ground.log.pages) (logged_by 0 old.trace) shown.is)
-      (device_layout (Rose (look first.volume).faults (look new.volume).faults) shown.event shown.is) (λ down. risen shown.stays (goes.down (sym shown.down ∙ down))) shown.stays
+      on Show (system_entry shown.event shown.calls) shown.made (old.copy, shown.event, refl, shown.is) (full_layout old.copy shown.event (3221 * old.ground.capacity) (allowed_by 0 old.trace) shown.is) (log_layout old.copy shown.event (limit_of old.ground.log.pages) (logged_by 0 old.trace) shown.is)
+      (device_layout (Rose (look first.volume).faults (look new.volume).faults) old.copy shown.event shown.is) (λ down. risen shown.stays (goes.down (sym shown.down ∙ down))) shown.stays
+
+-- the entry of an opening answers no statement
+full_opened : (entry : Entry) → IsOpenedEntry entry → (least allowed : ℕ) → IsFullFrom least allowed entry.event
+full_opened entry is least allowed = subst (λ (e : Entry). IsFullFrom least allowed e.event) (sym is.is) tt
+
+log_opened : (entry : Entry) → IsOpenedEntry entry → (limit logged : ℕ) → IsLogFullFrom limit logged entry.event
+log_opened entry is limit logged = subst (λ (e : Entry). IsLogFullFrom limit logged e.event) (sym is.is) tt
+
+device_opened : (entry : Entry) → IsOpenedEntry entry → (P : Type 0) → IsDeviceIf P entry.event
+device_opened entry is P = subst (λ (e : Entry). IsDeviceIf P e.event) (sym is.is) tt
 
 -- the run begins with the entry of the opening
 pub goes_opened : {V O : Type 0} (look : V → VolumeSeen) (desk : DeskState V O) → IsOpened desk → Goes look desk [] desk
 goes_opened look desk opened = record {
-  entries = subst (TraceOf []) (sym opened.trace) (refl, tt);
-  full = subst (IsFullOnlyFrom (3221 * desk.ground.capacity) 0) (sym opened.trace) (tt, tt);
-  log_full = subst (IsLogFullOnlyFrom (limit_of desk.ground.log.pages) 0) (sym opened.trace) (tt, tt);
-  device = subst (IsDeviceOnlyIf (Rose (look desk.volume).faults (look desk.volume).faults)) (sym opened.trace) (tt, tt);
+  entries = subst (TraceOf []) (sym opened.trace) (opened.is, tt);
+  begins = refl;
+  full = subst (IsFullOnlyFrom (3221 * desk.ground.capacity) 0) (sym opened.trace) (full_opened opened.entry opened.is (3221 * desk.ground.capacity) 0, tt);
+  log_full = subst (IsLogFullOnlyFrom (limit_of desk.ground.log.pages) 0) (sym opened.trace) (log_opened opened.entry opened.is (limit_of desk.ground.log.pages) 0, tt);
+  device = subst (IsDeviceOnlyIf (Rose (look desk.volume).faults (look desk.volume).faults)) (sym opened.trace) (device_opened opened.entry opened.is (Rose (look desk.volume).faults (look desk.volume).faults), tt);
   down = λ down. absurd (cc (down, opened.up));
   stays = record {
     capacity = refl;
     log_pages = refl;
+    opened = refl;
+    old_same = refl;
+    copy = refl;
     calls = record { only = no_calls (WritesIn Log) (look desk.volume).told; later = omega arith; capacities = refl };
     operator = refl;
   };
@@ -206,12 +228,18 @@ goes_opened look desk opened = record {
 
 -- what the run of some first lines leaves
 pub run_left : {V O : Type 0} (look : V → VolumeSeen) (first desk : DeskState V O) (front lines : List Line) (seen : VolumeSeen) (operator : O) (trace : List Entry) (end : RunEnd)
-    → Goes look first front desk → seen ≡ (look desk.volume) → operator ≡ desk.operator → trace ≡ desk.trace → Legal no_rows desk.trace → Ends lines desk.trace end → IsLate end → (end ≡ Ended → desk.down ≡ true)
+    → Goes look first front desk → seen ≡ (look desk.volume) → operator ≡ desk.operator → trace ≡ desk.trace → LegalFrom (old_records desk) desk.trace → DeskEnds (old_records desk) desk.copy desk.ground.log.pages (look desk.volume) lines desk.trace end → IsLate end → (end ≡ Ended → desk.down ≡ true)
     → IsRun look first lines seen operator trace end
 run_left look first desk front lines seen operator trace end goes seen_is operator_is trace_is legal ends late down = record {
   late = late;
-  ends = subst (λ (es : List Entry). Ends lines es end) (sym trace_is) ends;
-  legal = subst (Legal no_rows) (sym trace_is) legal;
+  ends =
+      subst (λ (rs : List Record). DeskEnds rs first.copy first.ground.log.pages seen lines trace end) goes.stays.old_same
+      (subst (λ (n : ℕ). DeskEnds (old_records desk) n first.ground.log.pages seen lines trace end) goes.stays.copy
+      (subst (λ (n : ℕ). DeskEnds (old_records desk) desk.copy n seen lines trace end) goes.stays.log_pages
+      (subst (λ (v : VolumeSeen). DeskEnds (old_records desk) desk.copy desk.ground.log.pages v lines trace end) (sym seen_is)
+      (subst (λ (es : List Entry). DeskEnds (old_records desk) desk.copy desk.ground.log.pages (look desk.volume) lines es end) (sym trace_is) ends))));
+  begins = ap first_of trace_is ∙ goes.begins;
+  legal = subst (λ (rs : List Record). LegalFrom rs trace) goes.stays.old_same (subst (LegalFrom (old_records desk)) (sym trace_is) legal);
   full =
       subst (λ (n : ℕ). IsFullOnlyFrom (3221 * n) 0 trace) goes.stays.capacity
       (subst (IsFullOnlyFrom (3221 * desk.ground.capacity) 0) (sym trace_is) goes.full);

@@ -1,5 +1,5 @@
 -- What a counted volume reports says the same of the volume below, while its calls can be counted.
-use Rattle.std.proofs.Common.{◌≡◌, ◌≤◌, ◌<◌, ◌-◌, ◌^◌, ◌++◌, nat_lt, ℕ, Bool, true, false, List, Option, Some, None, length, refl, sym, ◌∙◌, ap, subst, arith}
+use Rattle.std.proofs.Common.{◌≡◌, ◌≤◌, ◌<◌, ◌-◌, ◌^◌, ◌++◌, nat_lt, ℕ, Bool, true, List, Option, Some, None, length, refl, sym, ◌∙◌, ap, subst, arith}
 use Rattle.std.proofs.lemmas.Bool.Decides.{nat_tests}
 use Rattle.rg_outside.specs.Calls.{Call, Told, Wrote, FailedWrite}
 use Rattle.rg_outside.specs.Counts.{CountedCalls, counted, counted_if}
@@ -10,7 +10,7 @@ use Rattle.rg_outside.specs.Moments.{EachCall, IfTold}
 use Rattle.rg_run.specs.Outside.{IfCounted, MadeSince, MakesOnly}
 
 -- its count is not at its end
-counted_so : (t : Told) (n : ℕ) → n ≤ length t.calls → length t.calls < 2 ^ 64 - 1 → counted (Some t) n ≡ Some (record t { start = length t.calls - n })
+pub counted_so : (t : Told) (n : ℕ) → n ≤ length t.calls → length t.calls < 2 ^ 64 - 1 → counted (Some t) n ≡ Some (record t { start = length t.calls - n })
 counted_so t n le few = ap (λ (b : Bool). counted_if b t n) (low (omega (arith, le, few)))
   where
     low : n < 2 ^ 64 - 1 → nat_lt n (2 ^ 64 - 1) ≡ true
@@ -57,9 +57,13 @@ module _ {V : Type 0} (told : V → Option Told) (Kind : Call → Type 0) (volum
   abbrev look : CountedCalls V → Option Told
   look c = counted (told c.volume) c.calls
 
+  -- the calls of a run that was counted, of the volume below
+  pub counted_calls : begun ≡ record { volume = volume; calls = 0 } → below ≡ ended.volume → EachCall (look begun) (look ended) Kind → EachCall (counted (told volume) 0) (counted (told below) ended.calls) Kind
+  counted_calls begins ends made =
+      subst (λ (v : V). EachCall (counted (told volume) 0) (counted (told v) ended.calls) Kind) (sym ends)
+      (subst (λ (x : CountedCalls V). EachCall (look x) (look ended) Kind) begins made)
+
   pub counted_only : begun ≡ record { volume = volume; calls = 0 } → below ≡ ended.volume → IfTold (told below) (λ t. ended.calls ≤ length t.calls)
       → EachCall (look begun) (look ended) Kind → MakesOnly Kind (told volume) (told below)
   counted_only begins ends le made =
-      uncounted_only Kind (told volume) (told below) ended.calls le
-      (subst (λ (v : V). EachCall (counted (told volume) 0) (counted (told v) ended.calls) Kind) (sym ends)
-      (subst (λ (x : CountedCalls V). EachCall (look x) (look ended) Kind) begins made))
+      uncounted_only Kind (told volume) (told below) ended.calls le (counted_calls begins ends made)

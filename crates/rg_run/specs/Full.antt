@@ -1,10 +1,19 @@
 -- When FULL is answered.
-use Rattle.std.specs.Prelude.{◌≤◌, ℕ, List, [], ◌∷◌}
+use Rattle.std.specs.Prelude.{◌≤◌, nat_le, ℕ, if◌then◌else◌, List, [], ◌∷◌}
 use Rattle.rg_desk.specs.Chronicle.{allowed_after}
+use Rattle.rg_image.specs.Rules.{copy_capacity}
+use Rattle.rg_outside.specs.Capacities.{Capacities}
 use Rattle.rg_stmt.specs.declared.event.Entry.{Entry}
 use Rattle.rg_stmt.specs.declared.event.Event.{Event}
 use Rattle.rg_stmt.specs.declared.event.Event.TheVariants.{Said}
 use Rattle.rg_stmt.specs.declared.stmt.Reply.TheVariants.{Full}
+
+-- how many pages the smaller of both copies may have
+abbrev pub smaller_pages : Capacities → ℕ
+smaller_pages capacities =
+    if nat_le (copy_capacity capacities 1) (copy_capacity capacities 2)
+    then copy_capacity capacities 1
+    else copy_capacity capacities 2
 
 -- the event is no FULL, or so many bytes were allowed before it
 abbrev pub IsFullFrom : (least allowed : ℕ) → Event → Type 0

@@ -2,3 +2,4 @@ pub mod Full
 pub mod LogFull
 pub mod Outside
 pub mod Played
+pub mod Table

@@ -7,15 +7,16 @@
 --    so many can be counted.
 use Rattle.std.specs.Prelude.{◌≡◌, ◌<◌, ◌-◌, ◌^◌, ◌++◌, ℕ, List, [], ◌∷◌, Option, Some, length}
 use Rattle.std.specs.List.{AllByRecursion}
-use Rattle.rg_base.specs.declared.set.Set.TheVariants.{Log}
 use Rattle.rg_desk.specs.Volume.{VolumeSeen}
 use Rattle.rg_desk.specs.declared.desk.OpenCause.{OpenCause}
 use Rattle.rg_desk.specs.declared.desk.OpenCause.TheVariants as causes
 use Rattle.rg_log.specs.Open.{IsQuiet}
-use Rattle.rg_outside.specs.Calls.{Call, Told}
+use Rattle.rg_image.specs.Log.{log_of}
+use Rattle.rg_outside.specs.Calls.{Call, Told, read_of}
+use Rattle.rg_record.specs.declared.record.Record.{Record}
 use Rattle.rg_outside.specs.Faults.{Rose}
 use Rattle.rg_outside.specs.Moments.{IfTold}
-use Rattle.rg_restart.specs.Opening.{HasFreshLog}
+use Rattle.rg_restart.specs.Sound.{IsDamage}
 use Rattle.rg_run.specs.declared.played.RunEnd.{RunEnd}
 use Rattle.rg_run.specs.declared.played.RunEnd.TheVariants.{Whole, Down, Damaged, DeviceAtOpening, NoMemory}
 use Rattle.rg_stmt.specs.declared.event.Entry.{Entry}
@@ -36,6 +37,14 @@ IsDeviceOnlyIf P (entry ∷ entries) = IsDeviceIf P entry.event × IsDeviceOnlyI
 -- this holds of what is reported, while its calls can be counted
 abbrev pub IfCounted : Option Told → (Told → Type 0) → Type 0
 IfCounted told P = IfTold told (λ t. length t.calls < 2 ^ 64 - 1 → P t)
+
+-- this holds of what was known when a run began, and of what is known now
+abbrev pub IfBoth : (old new : Option Told) → (Told → Told → Type 0) → Type 0
+IfBoth old new P = IfCounted new (λ t. (before : Told) → old ≡ Some before → P before t)
+
+-- the log as it read then
+abbrev pub log_at : (pages : ℕ) → Told → List Record
+log_at pages before = log_of pages (read_of before.first before.calls)
 
 -- calls of a kind were made since
 pub record MadeSince (Kind : Call → Type 0) (old : Option Told) (now : Told) : Type 0 where
@@ -61,7 +70,7 @@ abbrev pub IsEnd : (old new : VolumeSeen) → RunEnd → Type 0
 IsEnd old new (Whole rows) = Unit {0}
 IsEnd old new Down = Rose old.faults new.faults
 IsEnd old new (Damaged set page) =
-    (set ≡ Log) × IfCounted new.told (λ t. HasFreshLog new t → ⊥)
+    IfCounted new.told (λ t. IsDamage new.capacities (read_of t.first t.calls) set page)
     × MakesOnly IsQuiet old.told new.told × (new.capacities ≡ old.capacities)
 IsEnd old new DeviceAtOpening = Rose old.faults new.faults
 IsEnd old new NoMemory = Unit {0}

@@ -1,5 +1,5 @@
 -- What the run of a deck leaves.
-use Rattle.std.specs.Prelude.{◌≡◌, ◌⊎◌, ◌*◌, ℕ, true, false, List, [], ◌∷◌, ◌++◌}
+use Rattle.std.specs.Prelude.{◌≡◌, ◌⊎◌, ◌*◌, ℕ, true, false, List, [], ◌∷◌, ◌++◌, Option, Some, None}
 use Rattle.std.specs.List.{AllZip}
 use Rattle.rg_base.specs.Session.{IsSession}
 use Rattle.rg_stmt.specs.declared.event.Entry.{Entry}
@@ -7,13 +7,14 @@ use Rattle.rg_stmt.specs.declared.event.Event.{Event}
 use Rattle.rg_stmt.specs.declared.line.Line.{Line}
 use Rattle.rg_stmt.specs.declared.line.Line.TheVariants.{Said, Reorg, Step, Flush, Show, Death}
 use Rattle.rg_stmt.specs.declared.stmt.Reply.{Reply}
-use Rattle.rg_stmt.specs.Entries.{said_entry}
+use Rattle.rg_stmt.specs.Entries.{opened_entry, said_entry}
+use Rattle.rg_record.specs.declared.record.Record.{Record}
 use Rattle.rg_desk.specs.Chronicle.{system_entry}
-use Rattle.rg_desk.specs.Desk.{DeskState, EndsDown, EndsWithRows, IsLayout, Stays, first_entry, is_reply, no_rows}
+use Rattle.rg_desk.specs.Desk.{DeskState, EndsDown, EndsWithRows, IsLayout, LegalFrom, Stays}
+use Rattle.rg_desk.specs.Desk.{is_reply, old_records}
 use Rattle.rg_desk.specs.Volume.{CallsLog, VolumeSeen}
 use Rattle.rg_outside.specs.Faults.{Rose}
 use Rattle.rg_image.specs.Rules.{limit_of}
-use Rattle.rg_model.specs.Legal.{Legal}
 use Rattle.rg_run.specs.Full.{IsFullOnlyFrom}
 use Rattle.rg_run.specs.LogFull.{IsLogFullOnlyFrom}
 use Rattle.rg_run.specs.declared.played.RunEnd.{RunEnd}
@@ -29,6 +30,14 @@ IsPlayed Flush = ⊥
 IsPlayed Show = Unit {0}
 IsPlayed Death = ⊥
 
+-- the entry of an opening
+pub record IsOpenedEntry (entry : Entry) : Type 0 where
+  pub copy : ℕ
+  pub rows : ℕ
+  pub pages : ℕ
+  pub used : ℕ
+  pub is : entry ≡ opened_entry copy rows pages used entry.calls
+
 -- The entry of a line has its session and its statement, and a reply; or it is a layout, or says
 -- that there is none. The operator was not asked.
 abbrev pub EntryOf : Line → Entry → Type 0
@@ -36,37 +45,46 @@ EntryOf (Said session stmt) entry =
     (reply : Reply) × (entry ≡ said_entry session stmt reply entry.calls)
     × (is_reply stmt reply ≡ true)
 EntryOf Show entry =
-    (event : Event) × (entry ≡ system_entry event entry.calls) × IsLayout event
+    (copy : ℕ) × (event : Event) × (entry ≡ system_entry event entry.calls)
+    × IsLayout copy event
 EntryOf (Reorg options) entry = ⊥
 EntryOf Step entry = ⊥
 EntryOf Flush entry = ⊥
 EntryOf Death entry = ⊥
 
--- entry 0, and then one entry for each line
+-- entry 0 is that of an opening, and then there is one entry for each line
 abbrev pub TraceOf : List Line → List Entry → Type 0
 TraceOf lines [] = ⊥
-TraceOf lines (entry ∷ entries) =
-    (entry ≡ first_entry entry.calls) × AllZip EntryOf lines entries
+TraceOf lines (entry ∷ entries) = IsOpenedEntry entry × AllZip EntryOf lines entries
 
 -- the trace of some first lines
 abbrev pub TraceOfFront : List Line → List Entry → Type 0
 TraceOfFront lines trace =
     (front : List Line) × (rest : List Line) × (lines ≡ front ++ rest) × TraceOf front trace
 
--- A whole run has an entry for each line, and ends up or down. One that was refused at its opening
--- has none. One that ran out of memory has those of some first lines, or none at all.
-abbrev pub Ends : List Line → List Entry → RunEnd → Type 0
-Ends lines trace (Whole rows) = TraceOf lines trace × EndsWithRows trace rows
-Ends lines trace Down = TraceOf lines trace × EndsDown trace
-Ends lines trace (Damaged set page) = trace ≡ []
-Ends lines trace DeviceAtOpening = trace ≡ []
-Ends lines trace NoMemory = (trace ≡ []) ⊎ TraceOfFront lines trace
+-- A whole run has an entry for each line, and ends up or down, from the table that these records
+-- store. One that was refused at its opening has none. One that ran out of memory has those of some
+-- first lines, or none at all.
+abbrev pub DeskEnds :
+    (old : List Record) → (copy pages : ℕ) → VolumeSeen → List Line → List Entry → RunEnd → Type 0
+DeskEnds old copy pages seen lines trace (Whole rows) =
+    TraceOf lines trace × EndsWithRows old copy pages seen trace rows
+DeskEnds old copy pages seen lines trace Down = TraceOf lines trace × EndsDown old copy trace
+DeskEnds old copy pages seen lines trace (Damaged set page) = trace ≡ []
+DeskEnds old copy pages seen lines trace DeviceAtOpening = trace ≡ []
+DeskEnds old copy pages seen lines trace NoMemory = (trace ≡ []) ⊎ TraceOfFront lines trace
+
+-- the entry of the opening
+abbrev pub first_of : List Entry → Option Entry
+first_of [] = None
+first_of (entry ∷ entries) = Some entry
 
 -- the run so far, from a desk that was opened
 pub record Goes {V O : Type 0}
     (look : V → VolumeSeen) (first : DeskState V O) (lines : List Line) (desk : DeskState V O)
     : Type 0 where
   pub entries : TraceOf lines desk.trace
+  pub begins : first_of desk.trace ≡ first_of first.trace
   pub full : IsFullOnlyFrom (3221 * desk.ground.capacity) 0 desk.trace
   pub log_full : IsLogFullOnlyFrom (limit_of desk.ground.log.pages) 0 desk.trace
   pub device :
@@ -76,8 +94,9 @@ pub record Goes {V O : Type 0}
 
 -- a desk whose trace is that of its opening, and which is up
 pub record IsOpened {V O : Type 0} (desk : DeskState V O) : Type 0 where
-  pub calls : ℕ
-  pub trace : desk.trace ≡ first_entry calls ∷ []
+  pub entry : Entry
+  pub is : IsOpenedEntry entry
+  pub trace : desk.trace ≡ entry ∷ []
   pub up : desk.down ≡ false
 
 -- how a run may end that began with a desk that was opened
@@ -92,9 +111,11 @@ IsLate NoMemory = Unit {0}
 pub record IsRun {V O : Type 0}
     (look : V → VolumeSeen) (first : DeskState V O) (lines : List Line) (seen : VolumeSeen)
     (operator : O) (trace : List Entry) (end : RunEnd) : Type 0 where
-  pub ends : Ends lines trace end
+  pub ends :
+      DeskEnds (old_records first) first.copy first.ground.log.pages seen lines trace end
   pub late : IsLate end
-  pub legal : Legal no_rows trace
+  pub begins : first_of trace ≡ first_of first.trace
+  pub legal : LegalFrom (old_records first) trace
   pub full : IsFullOnlyFrom (3221 * first.ground.capacity) 0 trace
   pub log_full : IsLogFullOnlyFrom (limit_of first.ground.log.pages) 0 trace
   pub device : IsDeviceOnlyIf (Rose (look first.volume).faults seen.faults) trace

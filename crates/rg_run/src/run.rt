@@ -7,19 +7,19 @@
 ghost use Rattle.std.specs.Prelude.{◌≡◌, ◌≤◌, ◌*◌, List, [], ◌∷◌, ◌++◌, OnOk, OnErr, length};
 ghost use Rattle.std.specs.List.{AllByRecursion};
 ghost use Rattle.rg_stmt.specs.declared.line.Line.{Line};
-ghost use Rattle.rg_model.specs.Legal.{Legal};
 ghost use Rattle.rg_base.specs.declared.set.Set.TheVariants.{Log as LogSet};
-ghost use Rattle.rg_desk.specs.Desk.{DeskState, copy_capacity, no_rows};
+ghost use Rattle.rg_desk.specs.Desk.{DeskState, LegalFrom, old_records};
 ghost use Rattle.rg_desk.specs.Volume.{seen_volume};
 ghost use Rattle.rg_outside.specs.Faults.{Rose};
 ghost use Rattle.rg_outside.specs.Made.{WritesIn};
 ghost use Rattle.rg_outside.specs.Moments.{IfTold};
 ghost use Rattle.rg_image.specs.Rules.{limit_of};
 ghost use Rattle.rg_log.specs.Kept.{log_pages};
-ghost use Rattle.rg_run.specs.Full.{IsFullOnlyFrom};
+ghost use Rattle.rg_run.specs.Full.{IsFullOnlyFrom, smaller_pages};
 ghost use Rattle.rg_run.specs.LogFull.{IsLogFullOnlyFrom};
 ghost use Rattle.rg_run.specs.Outside.{IsDeviceOnlyIf, IsEnd, MakesOnly, end_of};
-ghost use Rattle.rg_run.specs.Played.{IsPlayed, Ends, Goes, IsOpened, IsRun};
+ghost use Rattle.rg_run.specs.Played.{IsPlayed, Goes, IsOpened, IsRun};
+ghost use Rattle.rg_run.specs.Table.{Ends, IsLegalRun, IsOpening};
 
 use crate::played::{Played, RunEnd};
 use rg_base::no_memory::NoMemory;
@@ -31,10 +31,9 @@ use rg_restart::open::open_desk;
 use rg_stmt::line::Line;
 use std::alloc::Global;
 
-/// Opens the volume, whose log must not have a record yet, and plays the lines in order over a
-/// table without rows. The table lies in memory, in as many pages as the first set of the volume
-/// has, and no more than 65,536. The records of committed units are on the volume. The operator is
-/// not asked.
+/// Opens the volume, and plays the lines in order over the table that its log stores. The table
+/// lies in memory, in as many pages as the set of the current copy has, and no more than 65,536.
+/// The records of committed units are on the volume. The operator is not asked.
 pub fn run<V: Volume, O: Operator>(
     alloc: Global,
     volume: V,
@@ -42,9 +41,14 @@ pub fn run<V: Volume, O: Operator>(
     lines: Vec<Line>,
 ) -> Played<V, O>
     requires { AllByRecursion IsPlayed lines.items }
-    ensures ends { Ends lines.items result.trace.items result.end }
-    ensures legal { Legal no_rows result.trace.items }
-    ensures full { IsFullOnlyFrom (3221 * copy_capacity (V.capacities volume)) 0
+    ensures ends { Ends (seen_volume V.told V.faults V.capacities volume)
+        (seen_volume V.told V.faults V.capacities result.volume) lines.items
+        result.trace.items result.end }
+    ensures legal { IsLegalRun (seen_volume V.told V.faults V.capacities volume)
+        (seen_volume V.told V.faults V.capacities result.volume) result.trace.items }
+    ensures opening { IsOpening (seen_volume V.told V.faults V.capacities volume)
+        (seen_volume V.told V.faults V.capacities result.volume) result.trace.items }
+    ensures full { IsFullOnlyFrom (3221 * smaller_pages (V.capacities volume)) 0
         result.trace.items }
     ensures log_full { IsLogFullOnlyFrom (limit_of (log_pages (V.capacities volume))) 0
         result.trace.items }
@@ -114,7 +118,7 @@ impl<V: Volume, O> Played<Counted<V>, O> {
 fn close<V: Counts, O: Operator>(desk: Desk<V, O>, end: RunEnd) -> Played<V, O>
     ensures trace { result.trace.items ≡ desk.trace }
     ensures end { result.end ≡ end }
-    ensures legal { Legal no_rows desk.trace }
+    ensures legal { LegalFrom (old_records desk) desk.trace }
     ensures volume { result.volume ≡ desk.volume }
     ensures operator { result.operator ≡ desk.operator }
 {

@@ -9,10 +9,12 @@ use rg_base::row::Row;
 use rg_base::row_bytes::read_row;
 use rg_base::session::Session;
 use rg_base::set::Set;
+use rg_log::open::open_log;
 use rg_mem::script::ScriptOperator;
 use rg_mem::volume::{Failing, MemVolume};
 use rg_model::plain::PlainState;
 use rg_outside::volume::Volume;
+use rg_restart::stored::stored_rows;
 use rg_stmt::event::{Actor, Entry, Event};
 use rg_stmt::layout::Side;
 use rg_stmt::line::Line;
@@ -789,5 +791,82 @@ fn refuses_at_the_opening(rt: HostRuntime) -> Result<(), Fail> {
         (failed.end, failed.trace.len()),
         (RunEnd::DeviceAtOpening, 0)
     );
+    Ok(())
+}
+
+// The keys below 10 that the log of a volume stores.
+fn stored_keys(rt: &impl Abort, alloc: Global, volume: &mut MemVolume) -> Result<Vec<u64>, Fail> {
+    let mut keys = Vec::new(alloc);
+    let Ok(log) = open_log(alloc, volume) else {
+        assert!(rt; false);
+        return Ok(keys);
+    };
+    let table = stored_rows(alloc, log.records())?;
+    for key in 1..10 {
+        if table.contains_key(key) {
+            keys.push(key)?;
+        }
+    }
+    Ok(keys)
+}
+
+// How many COMMITs of a trace were answered OK.
+fn commits_of(trace: &[Entry]) -> usize {
+    let mut count: usize = 0;
+    for entry in trace {
+        if let Event::Said { stmt, reply } = &entry.event {
+            if matches!(stmt, Stmt::Commit) && matches!(reply, Reply::Done) {
+                count = count.saturating_add(1);
+            }
+        }
+    }
+    count
+}
+
+// After a run that the device may have brought down, each of these images stores what so many
+// COMMITs have kept; or one more, if the device refused it.
+fn expect_stored(
+    rt: &impl Abort,
+    alloc: Global,
+    played: &Played<MemVolume, ScriptOperator>,
+    kept: &[&[u64]],
+) -> Result<(), Fail> {
+    let done = commits_of(played.trace.as_slice());
+    let before = kept.get(done).copied().unwrap_or(&[]);
+    let after = kept.get(done.saturating_add(1)).copied().unwrap_or(&[]);
+    for pick in 0..4 {
+        let mut image = played.volume.crash(pick)?;
+        let keys = stored_keys(rt, alloc, &mut image)?;
+        let is_refused = played.end == RunEnd::Down && keys.as_slice() == after;
+        assert!(rt; is_refused || keys.as_slice() == before);
+    }
+    Ok(())
+}
+
+// Wherever the device stops, a crash leaves the rows of the units that were committed. The unit of
+// the second session stays open, and one of the first is rolled back.
+#[test]
+fn stores_committed_rows(rt: HostRuntime) -> Result<(), Fail> {
+    let steps: [Step; 11] = [
+        (1, insert(1, 10), DONE, NOTHING),
+        (2, insert(9, 90), DONE, NOTHING),
+        (1, Ask::Commit, DONE, NOTHING),
+        (1, insert(2, 20), DONE, NOTHING),
+        (1, Ask::Commit, DONE, NOTHING),
+        (1, insert(4, 40), DONE, NOTHING),
+        (1, Ask::Rollback, DONE, NOTHING),
+        (1, Ask::Delete(1), DONE, NOTHING),
+        (1, insert(3, 700), DONE, NOTHING),
+        (1, Ask::Commit, DONE, NOTHING),
+        (2, update(9, 91), DONE, NOTHING),
+    ];
+    let kept: [&[u64]; 4] = [&[], &[1], &[1, 2], &[2, 3]];
+    let alloc = rt.alloc();
+    for stop in 0..10 {
+        let volume = MemVolume::new(alloc, 9, 1, 1, CALLS, CALLS, &[], Some(stop))?;
+        let operator = ScriptOperator::new(alloc, &[])?;
+        let played = run(alloc, volume, operator, lines_of(alloc, &steps)?);
+        expect_stored(&rt, alloc, &played, &kept)?;
+    }
     Ok(())
 }

@@ -1,6 +1,8 @@
 use Rattle.std.proofs.Common.{List, sym, subst}
 use Rattle.rg_outside.specs.Faults.{Rose}
+use Rattle.rg_desk.specs.Volume.{seen_volume}
 use Rattle.rg_run.specs.Outside.{IsDeviceOnlyIf}
+use Rattle.rg_run.specs.Table.{Ends}
 use Rattle.rg_stmt.specs.declared.event.Entry.{Entry}
 use Rattle.reorgdb.proofs.Deals.{DealsWithBytes-lines, all_played}
 use Rattle.reorgdb.proofs.work.play_bytes.Goals as goal
@@ -10,7 +12,10 @@ run-requires g c = all_played c.in-Ok.lines.items c.in-Ok.ensures.lines.each
 
 pub returns-in-Ok-clause-deals : goal.returns-in-Ok-clause-deals
 returns-in-Ok-clause-deals g c =
-    DealsWithBytes-lines c.args.full c.print_played.result.outcome c.args.bytes.now c.in-Ok.lines.items _ _ c.in-Ok.ensures.lines (c.print_played.ensures.deals c.in-Ok.lines.items c.run.ensures.ends)
+    let look = seen_volume g.V.Volume.told g.V.Volume.faults g.V.Volume.capacities in
+    let ends = subst (λ (v : g.row.V.Denot). Ends (look c.args.volume) (look v) c.in-Ok.lines.items c.run.result.trace.items c.run.result.end) (sym c.print_played.ensures.volume) c.run.ensures.ends in
+    DealsWithBytes-lines c.args.full (look c.args.volume) (look c.print_played.result.volume) c.print_played.result.outcome c.args.bytes.now c.in-Ok.lines.items _ _ c.in-Ok.ensures.lines
+    (c.print_played.ensures.deals (look c.args.volume) (look c.print_played.result.volume) c.in-Ok.lines.items ends)
 
 pub returns-in-Ok-clause-device : goal.returns-in-Ok-clause-device
 returns-in-Ok-clause-device g c =

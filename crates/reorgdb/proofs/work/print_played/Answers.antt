@@ -3,13 +3,13 @@ use Rattle.reorgdb.proofs.Deals.{prints_down, prints_whole}
 use Rattle.reorgdb.proofs.work.print_played.Goals as goal
 
 pub returns-in-Down-clause-deals : goal.returns-in-Down-clause-deals
-returns-in-Down-clause-deals g c = λ lines ends.
+returns-in-Down-clause-deals g c = λ before after lines ends.
     let made = c.with_text-in-Down in
-    prints_down c.args.full lines c.args.played.trace.items c.deref.result.now made.result.trace.items c.args.played.end c.print-text.result made.result.outcome made.result.print
+    prints_down c.args.full before after lines c.args.played.trace.items c.deref.result.now made.result.trace.items c.args.played.end c.print-text.result made.result.outcome made.result.print
     c.in-Down.is c.deref.ensures.value (ap (λ trace. trace.items) made.ensures.trace) c.print-text.ensures made.ensures.ok made.ensures.err ends
 
 pub returns-in-Whole-clause-deals : goal.returns-in-Whole-clause-deals
-returns-in-Whole-clause-deals g c = λ lines ends.
+returns-in-Whole-clause-deals g c = λ before after lines ends.
     let made = c.with_text-in-Whole in
-    prints_whole c.args.full lines c.args.played.trace.items c.deref-in-Whole.result.now made.result.trace.items c.in-Whole.rows c.args.played.end c.print-text-in-Whole.result made.result.outcome made.result.print
+    prints_whole c.args.full before after lines c.args.played.trace.items c.deref-in-Whole.result.now made.result.trace.items c.in-Whole.rows c.args.played.end c.print-text-in-Whole.result made.result.outcome made.result.print
     c.in-Whole.is c.deref-in-Whole.ensures.value (ap (λ trace. trace.items) made.ensures.trace) c.print-text-in-Whole.ensures made.ensures.ok made.ensures.err ends

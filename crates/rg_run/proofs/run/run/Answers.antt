@@ -1,4 +1,4 @@
-use Rattle.std.proofs.Common.{◌≡◌, ◌≤◌, sym, ◌∙◌, ap, subst, arith}
+use Rattle.std.proofs.Common.{◌≡◌, ◌*◌, sym, ◌∙◌, ap, subst, arith}
 use Rattle.std.specs.declared.vec.Vec.{Vec}
 use Rattle.std.specs.declared.alloc.Global.{Global}
 use Rattle.rg_base.specs.declared.set.Set.TheVariants.{Log}
@@ -10,15 +10,50 @@ use Rattle.rg_outside.specs.Made.{WritesIn}
 use Rattle.rg_outside.proofs.Frame.{calls_join, calls_weaken}
 use Rattle.rg_stmt.specs.declared.event.Entry.{Entry}
 use Rattle.rg_run.specs.Outside.{IsDeviceOnlyIf}
-use Rattle.rg_run.specs.Played.{Ends}
+use Rattle.rg_run.specs.Table.{Ends, IsLegalRun, IsOpening}
+use Rattle.rg_image.specs.Rules.{copy_capacity}
+use Rattle.rg_restart.specs.Pages.{copy_of}
+use Rattle.rg_run.specs.Full.{IsFullOnlyFrom, smaller_pages}
+use Rattle.rg_run.proofs.Fullness.{full_less, smaller_least}
+use Rattle.rg_run.proofs.Ending.{opened_first}
+use Rattle.rg_run.proofs.Wholly.{begun_tidy, whole_ends}
 use Rattle.rg_run.proofs.Plays.{device_more, end_so, rose_wider}
 use Rattle.rg_run.proofs.Uncounted.{counted_only, quiet_in}
 use Rattle.rg_run.proofs.run.run.Goals as goal
 
+-- the count has just begun
+pub open_desk-requires : goal.open_desk-requires
+open_desk-requires g c = record { tidy = begun_tidy g.V.Volume.told g.V.Volume.faults g.V.Volume.capacities c.args.volume c.new.result c.new.ensures }
+
+pub play-requires-clause-opened : goal.play-requires-clause-opened
+play-requires-clause-opened g c = opened_first _ _ _ c.in-Ok.desk c.in-Ok.ensures.opens
+
+-- the run that was counted is one of the volume below
 pub returns-in-Ok-clause-ends : goal.returns-in-Ok-clause-ends
 returns-in-Ok-clause-ends g c =
-    subst (λ (es : Vec Entry Global). Ends c.args.lines.items es.items c.uncounted.result.end) (sym c.uncounted.ensures.trace)
-    (subst (Ends c.args.lines.items c.play.result.trace.items) (sym c.uncounted.ensures.end) c.play.ensures.ends)
+    subst (λ (es : Vec Entry Global). Ends (seen_volume g.V.Volume.told g.V.Volume.faults g.V.Volume.capacities c.args.volume) (seen_volume g.V.Volume.told g.V.Volume.faults g.V.Volume.capacities c.uncounted.result.volume) c.args.lines.items es.items c.uncounted.result.end) (sym c.uncounted.ensures.trace)
+    (subst (Ends (seen_volume g.V.Volume.told g.V.Volume.faults g.V.Volume.capacities c.args.volume) (seen_volume g.V.Volume.told g.V.Volume.faults g.V.Volume.capacities c.uncounted.result.volume) c.args.lines.items c.play.result.trace.items) (sym c.uncounted.ensures.end)
+    (whole_ends g.V.Volume.told g.V.Volume.faults g.V.Volume.capacities c.args.volume c.uncounted.result.volume c.new.result c.play.result.volume c.new.ensures c.uncounted.ensures.volume c.uncounted.ensures.counted _ c.in-Ok.desk c.in-Ok.ensures.opens c.args.lines.items c.play.result.operator c.play.result.trace.items c.play.result.end c.play.ensures).ends)
+
+pub returns-in-Ok-clause-legal : goal.returns-in-Ok-clause-legal
+returns-in-Ok-clause-legal g c =
+    subst (λ (es : Vec Entry Global). IsLegalRun (seen_volume g.V.Volume.told g.V.Volume.faults g.V.Volume.capacities c.args.volume) (seen_volume g.V.Volume.told g.V.Volume.faults g.V.Volume.capacities c.uncounted.result.volume) es.items) (sym c.uncounted.ensures.trace)
+    (whole_ends g.V.Volume.told g.V.Volume.faults g.V.Volume.capacities c.args.volume c.uncounted.result.volume c.new.result c.play.result.volume c.new.ensures c.uncounted.ensures.volume c.uncounted.ensures.counted _ c.in-Ok.desk c.in-Ok.ensures.opens c.args.lines.items c.play.result.operator c.play.result.trace.items c.play.result.end c.play.ensures).legal
+
+pub returns-in-Ok-clause-opening : goal.returns-in-Ok-clause-opening
+returns-in-Ok-clause-opening g c =
+    subst (λ (es : Vec Entry Global). IsOpening (seen_volume g.V.Volume.told g.V.Volume.faults g.V.Volume.capacities c.args.volume) (seen_volume g.V.Volume.told g.V.Volume.faults g.V.Volume.capacities c.uncounted.result.volume) es.items) (sym c.uncounted.ensures.trace)
+    (whole_ends g.V.Volume.told g.V.Volume.faults g.V.Volume.capacities c.args.volume c.uncounted.result.volume c.new.result c.play.result.volume c.new.ensures c.uncounted.ensures.volume c.uncounted.ensures.counted _ c.in-Ok.desk c.in-Ok.ensures.opens c.args.lines.items c.play.result.operator c.play.result.trace.items c.play.result.end c.play.ensures).opening
+
+pub returns-in-Ok-clause-full : goal.returns-in-Ok-clause-full
+returns-in-Ok-clause-full g c =
+    let opens = c.in-Ok.ensures.opens in
+    let capacities = g.V.Volume.capacities c.args.volume in
+    let copy = copy_of opens.log.records in
+    let pages : c.in-Ok.desk.ground.capacity ≡ copy_capacity capacities copy =
+    opens.opens.capacity_is ∙ ap (λ (x : CountedCalls g.row.V.Denot). copy_capacity (g.V.Volume.capacities x.volume) copy) c.new.ensures in
+    subst (λ (es : Vec Entry Global). IsFullOnlyFrom (3221 * smaller_pages capacities) 0 es.items) (sym c.uncounted.ensures.trace)
+    (full_less (3221 * smaller_pages capacities) (3221 * c.in-Ok.desk.ground.capacity) 0 c.play.result.trace.items (omega (arith, smaller_least capacities copy, pages)) c.play.ensures.full)
 
 pub returns-in-Ok-clause-device : goal.returns-in-Ok-clause-device
 returns-in-Ok-clause-device g c =

@@ -7,8 +7,8 @@ use Rattle.rg_desk.proofs.chronicle.Chronicle.push.Goals as goal
 room : (len cap spare len1 cap1 : ℕ) → len + spare ≤ cap → 1 ≤ spare → len1 ≡ len + 1 → cap1 ≡ cap → len1 + (spare - 1) ≤ cap1
 room len cap spare len1 cap1 a b c d = omega arith
 
--- a vector has fewer than 2 ^ 64 elements
-short_of : (v : Vec Entry Global) (entries : List Entry) → v.items ≡ entries → length entries < 2 ^ 64
+-- a vector has fewer than 2 ^ 63 elements
+short_of : (v : Vec Entry Global) (entries : List Entry) → v.items ≡ entries → length entries < 2 ^ 63
 short_of v entries e = let same = ap (λ (es : List Entry). length es) e in omega (arith, v.ok.0, v.ok.1, v.small, same)
 
 pub invariant_of-self : goal.invariant_of-self

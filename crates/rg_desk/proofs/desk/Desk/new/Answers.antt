@@ -1,18 +1,43 @@
-use Rattle.std.proofs.Common.{List, [], ◌∷◌, ◌++◌, ◌∙◌, ap, arith}
-use Rattle.rg_stmt.specs.declared.event.Entry.{Entry}
+use Rattle.std.proofs.Common.{List, length, refl, sym, ◌∙◌, ap, subst, arith}
 use Rattle.rg_image.specs.Pack.{log_bytes}
 use Rattle.rg_log.specs.Kept.{Listed}
+use Rattle.rg_record.specs.declared.record.Record.{Record}
+use Rattle.rg_space.specs.Space.{capacity_in}
 use Rattle.rg_desk.specs.Bytes.{taken_of}
-use Rattle.rg_desk.specs.Chronicle.{ChronicleState}
+use Rattle.rg_desk.specs.Pages.{space_pages}
+use Rattle.rg_desk.specs.Stored.{IsStored}
+use Rattle.rg_desk.specs.Volume.{LeavesIfTidy, seen_volume}
 use Rattle.rg_desk.proofs.DeskGoes.{desk_opened}
 use Rattle.rg_desk.proofs.desk.Desk.new.Goals as goal
 
 pub invariant_of-result : goal.invariant_of-result
 invariant_of-result g c =
-    let trace = c.make_room.ensures.trace ∙ ap (λ (x : ChronicleState). x.trace) c.new-chronicle.ensures in
-    desk_opened c.in-Ok.engine c.push.new.self c.calls-calls.result _ c.in-Ok.ensures.shows
-    (omega (arith, ap (λ (l : Listed). taken_of l) c.in-Ok.ensures.log, ap log_bytes c.requires.empty, c.requires.idle))
-    (ap (λ (l : Listed). l.pages) c.in-Ok.ensures.log ∙ c.requires.pages)
-    (c.push.ensures.trace ∙ ap (λ (xs : List Entry). xs ++ c.opened.result ∷ []) trace ∙ ap (λ (e : Entry). e ∷ []) c.opened.ensures)
-    (c.push.ensures.calls ∙ ap (λ (e : Entry). e.calls) c.opened.ensures)
-    c.calls-calls.ensures c.push.ensures.recorded
+    let b = c.in-Ok.ensures in
+    let found = c.args.found in
+    let seen = seen_volume g.V.Volume.told g.V.Volume.faults g.V.Volume.capacities c.args.volume in
+    desk_opened c.in-Ok.engine c.in-Ok.chronicle found.copy (length (space_pages found.space)) (log_bytes found.log.records) c.calls-calls.result seen b.start c.requires.copy b.shows
+    (subst (λ (rs : List Record). IsStored rs b.start) (ap (λ (l : Listed). l.records) (sym b.log)) b.starts)
+    (b.opened ∙ ap (λ (l : Listed). length l.records) (sym b.log))
+    (omega (arith, ap (λ (l : Listed). taken_of l) b.log, c.requires.begins.idle))
+    (ap (λ (l : Listed). l.pages) b.log ∙ c.requires.pages)
+    (subst (LeavesIfTidy seen) (sym b.log) c.requires.leaves)
+    b.few b.trace b.at c.calls-calls.ensures b.recorded
+
+pub returns-in-Ok-clause-opens : goal.returns-in-Ok-clause-opens
+returns-in-Ok-clause-opens g c =
+    let b = c.in-Ok.ensures in
+    record {
+      calls = c.calls-calls.result;
+      start = b.start;
+      starts = b.starts;
+      trace = b.trace;
+      counted = c.calls-calls.ensures;
+      pages_are = ap (λ sp. space_pages sp) b.space;
+      capacity_is = ap (λ sp. capacity_in sp) b.space;
+      log_is = b.log;
+      opened = b.opened;
+      copy_is = refl;
+      up = refl;
+      same = refl;
+      asked = refl;
+    }

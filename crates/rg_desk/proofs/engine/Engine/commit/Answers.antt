@@ -1,14 +1,18 @@
-use Rattle.std.proofs.Common.{ℕ, List, Option, None, Some, ◌≡◌, ◌∙◌, refl, sym, ap, set, arith}
+use Rattle.std.proofs.Common.{ℕ, List, [], ◌∷◌, ◌+◌, Option, None, Some, ◌≡◌, ◌∙◌, length, refl, sym, ap, subst, set, arith}
 use Rattle.std.specs.FinMap as fin
 use Rattle.rg_claim.specs.declared.claims.Claims.{Claims}
 use Rattle.rg_model.specs.Committed.{locks_without}
-use Rattle.rg_log.specs.Kept.{Listed}
-use Rattle.rg_desk.specs.Ended.{records_committed}
+use Rattle.rg_log.specs.Kept.{LeavesLog, Listed}
+use Rattle.rg_stmt.specs.declared.stmt.Reply.TheVariants.{Device, Done}
+use Rattle.rg_desk.specs.Ended.{commit_record, records_committed}
+use Rattle.rg_desk.specs.Stored.{IsSettled}
 use Rattle.rg_desk.specs.Units.{owed_to, unit_at}
 use Rattle.rg_desk.specs.declared.engine.Engine.{Engine}
 use Rattle.rg_desk.specs.declared.units.OpenUnit.{OpenUnit}
 use Rattle.rg_desk.proofs.CommitShows.{commit_goes}
+use Rattle.rg_desk.proofs.Forcing.{forced_asks}
 use Rattle.rg_desk.proofs.Locked.{commit_fails, has_unit, no_unit}
+use Rattle.rg_desk.proofs.Settled.{all_settled, grows_same}
 use Rattle.rg_desk.proofs.engine.Engine.commit.Goals as goal
 
 pub returns-then-is_none-clause-steps : goal.returns-then-is_none-clause-steps
@@ -19,12 +23,13 @@ returns-then-is_none-clause-steps g c = λ st allowed shows.
     commit_goes st allowed d _ c.args.session shows (omega (arith, c.requires.session.most)) ended.space ended.indexes ended.top ended.locks ended.claims ended.units
     (ap (λ (l : Listed). l.records) ended.log ∙ ap (records_committed d.log.records) (sym none))
     (omega (arith, ap owed_to none, ap (λ (l : Listed). l.reserved) ended.log))
-    (ap (λ (l : Listed). l.pages) ended.log)
+    ended.opened (subst IsSettled (sym ended.log) shows.settled) (grows_same d.log _ ended.log)
 
 pub returns-in-Ok-clause-steps : goal.returns-in-Ok-clause-steps
 returns-in-Ok-clause-steps g c = λ st allowed shows.
     let d = c.args.self.now in
     let same = c.log_commit.ensures.same in
+    let unit = has_unit (unit_at d.units c.args.session.0) _ (sym c.get.ensures) c.is_none.ensures c.if-is_none.false in
     let ended = c.end-in-Ok.ensures in
     let log : c.end-in-Ok.new.self.log ≡ record c.log_commit.new.self.log { forced = c.force.new.self.forced } = ended.log ∙ c.force.ensures.kept in
     commit_goes st allowed d _ c.args.session shows (omega (arith, c.requires.session.most)) (ended.space ∙ ap (λ x. x.space) same) (ended.indexes ∙ ap (λ x. x.indexes) same) (ended.top ∙ ap (λ x. x.top) same)
@@ -33,11 +38,44 @@ returns-in-Ok-clause-steps g c = λ st allowed shows.
     (ended.units ∙ ap (λ x. set x.units c.args.session.0 None) same)
     (ap (λ (l : Listed). l.records) log ∙ c.log_commit.ensures.records)
     (omega (arith, ap (λ (l : Listed). l.reserved) log, c.log_commit.ensures.reserved))
-    (ap (λ (l : Listed). l.pages) log ∙ c.log_commit.ensures.pages)
+    (ended.opened ∙ c.log_commit.ensures.base.opened)
+    (all_settled _ (ap (λ (l : Listed). l.forced) log ∙ c.in-Ok.ensures.ok ∙ ap (λ (l : Listed). length l.records) (sym log)))
+    (record {
+      more = commit_record (length d.log.records + 1) unit.0 ∷ [];
+      records = ap (λ (l : Listed). l.records) log ∙ c.log_commit.ensures.records ∙ ap (records_committed d.log.records) unit.1;
+      pages = ap (λ (l : Listed). l.pages) log ∙ c.log_commit.ensures.base.pages;
+    })
 
 pub returns-in-Err-clause-steps : goal.returns-in-Err-clause-steps
 returns-in-Err-clause-steps g c = λ st allowed shows.
     let d = c.args.self.now in
     let unit = has_unit (unit_at d.units c.args.session.0) _ (sym c.get.ensures) c.is_none.ensures c.if-is_none.false in
     commit_fails st allowed d c.args.session shows unit.0 unit.1 _ c.log_commit.new.self c.log_commit.ensures refl
-    (ap (λ (l : Listed). l.records) c.force.ensures.kept) (ap (λ (l : Listed). l.reserved) c.force.ensures.kept) (ap (λ (l : Listed). l.pages) c.force.ensures.kept)
+    (ap (λ (l : Listed). l.records) c.force.ensures.kept) (ap (λ (l : Listed). l.reserved) c.force.ensures.kept) (ap (λ (l : Listed). l.pages) c.force.ensures.kept) refl
+
+pub returns-in-Ok-clause-asks : goal.returns-in-Ok-clause-asks
+returns-in-Ok-clause-asks g c =
+    let d = c.args.self.now in
+    let mid = c.log_commit.ensures in
+    let log : c.end-in-Ok.new.self.log ≡ record c.log_commit.new.self.log { forced = c.force.new.self.forced } = c.end-in-Ok.ensures.log ∙ c.force.ensures.kept in
+    let unit = has_unit (unit_at d.units c.args.session.0) _ (sym c.get.ensures) c.is_none.ensures c.if-is_none.false in
+    forced_asks _ _ d.log c.log_commit.new.self.log c.end-in-Ok.new.self.log
+    (record { more = commit_record (length d.log.records + 1) unit.0 ∷ []; records = mid.records ∙ ap (records_committed d.log.records) unit.1; pages = mid.base.pages })
+    mid.base.forced
+    (log ∙ ap (λ (n : ℕ). let l : Listed = record c.log_commit.new.self.log { forced = n } in l) (sym (ap (λ (l : Listed). l.forced) log)))
+    (subst (λ (n : ℕ). LeavesLog (g.V.Volume.told c.args.volume.now) c.log_commit.new.self.log.pages c.log_commit.new.self.log.records c.log_commit.new.self.log.forced → LeavesLog (g.V.Volume.told c.force.new.volume) c.log_commit.new.self.log.pages c.log_commit.new.self.log.records n) (sym (ap (λ (l : Listed). l.forced) log)) c.force.ensures.ahead)
+    d.units c.args.session unit.0 Done unit.1 (record { only = c.force.ensures.only; later = c.force.ensures.cause.later; capacities = c.force.ensures.capacities })
+    (λ e. absurd (cc (e)))
+    (λ e. ap (λ (l : Listed). l.forced) log ∙ c.in-Ok.ensures.ok ∙ ap (λ (l : Listed). length l.records) (sym log))
+
+pub returns-in-Err-clause-asks : goal.returns-in-Err-clause-asks
+returns-in-Err-clause-asks g c =
+    let d = c.args.self.now in
+    let mid = c.log_commit.ensures in
+    let unit = has_unit (unit_at d.units c.args.session.0) _ (sym c.get.ensures) c.is_none.ensures c.if-is_none.false in
+    forced_asks _ _ d.log c.log_commit.new.self.log c.force.new.self
+    (record { more = commit_record (length d.log.records + 1) unit.0 ∷ []; records = mid.records ∙ ap (records_committed d.log.records) unit.1; pages = mid.base.pages })
+    mid.base.forced c.force.ensures.kept c.force.ensures.ahead
+    d.units c.args.session unit.0 Device unit.1 (record { only = c.force.ensures.only; later = c.force.ensures.cause.later; capacities = c.force.ensures.capacities })
+    (λ e. c.in-Err.ensures.cause.failed)
+    (λ e. absurd (cc (e)))

@@ -25,5 +25,9 @@ returns c =
           ∙ ap (λ (n : ℕ). c.args.self.now.log.records ++ commit_record n c.in-Some.unit ∷ []) c.next_position.ensures
           ∙ ap (records_committed c.args.self.now.log.records) c.in-Some.ensures;
       reserved = omega (arith, ap (λ (l : Listed). l.reserved) c.give_back.ensures, c.append.ensures.reserved, commit_bytes, c.undo_bytes-undo.ensures, ap owed_to c.in-Some.ensures, room);
-      pages = ap (λ (l : Listed). l.pages) c.give_back.ensures ∙ c.append.ensures.pages;
+      base = record {
+        opened = refl;
+        forced = ap (λ (l : Listed). l.forced) c.give_back.ensures ∙ c.append.ensures.forced;
+        pages = ap (λ (l : Listed). l.pages) c.give_back.ensures ∙ c.append.ensures.pages;
+      };
     }

@@ -20,5 +20,9 @@ returns c = record {
       ∙ ap (λ (n : ℕ). c.args.self.now.log.records ++ rolled_record n c.args.last.0 c.args.unit ∷ []) c.next_position.ensures;
   reserved = omega (arith, ap (λ (l : Listed). l.reserved) c.give_back.ensures, c.reserved.ensures, c.append.ensures.reserved, rolled_bytes, c.requires);
   taken = omega (arith, ap (λ (l : Listed). l.reserved) c.give_back.ensures, ap (λ (l : Listed). log_bytes l.records) c.give_back.ensures, c.append.ensures.taken);
-  pages = ap (λ (l : Listed). l.pages) c.give_back.ensures ∙ c.append.ensures.pages;
+  base = record {
+    opened = refl;
+    forced = ap (λ (l : Listed). l.forced) c.give_back.ensures ∙ c.append.ensures.forced;
+    pages = ap (λ (l : Listed). l.pages) c.give_back.ensures ∙ c.append.ensures.pages;
+  };
 }

@@ -1,0 +1,161 @@
+-- What is found of a volume, from what each step says.
+use Rattle.std.proofs.Common.{◌≡◌, ◌≤◌, ◌+◌, ◌⊎◌, ℕ, List, Option, length, inl, inr, sym, ◌∙◌, ap, subst, arith}
+use Rattle.rg_base.specs.declared.set.Set.{Set}
+use Rattle.rg_base.specs.declared.set.Set.TheVariants.{Log}
+use Rattle.rg_chain.specs.Kept.{IsKept}
+use Rattle.rg_chain.specs.Running.{Running}
+use Rattle.rg_desk.specs.Volume.{LeavesIfTidy, VolumeSeen, WasTidy}
+use Rattle.rg_desk.specs.declared.desk.OpenCause.{OpenCause}
+use Rattle.rg_desk.specs.declared.desk.OpenCause.TheVariants.{Damaged, Device, NoMemory}
+use Rattle.rg_desk.specs.declared.found.Found.{Found}
+use Rattle.rg_image.specs.Log.{SpellsFrom}
+use Rattle.rg_image.specs.Pack.{log_bytes}
+use Rattle.rg_image.specs.Rules.{BreaksChain, BreaksLogPages, BreaksSpace, HasLogPages, HasSpace, IsChain, copy_capacity, limit_of, owed}
+use Rattle.rg_image.proofs.Grow.{spells_more}
+use Rattle.rg_image.proofs.Sound.{chain_positions}
+use Rattle.rg_log.specs.Kept.{LeavesLog, Listed, log_pages}
+use Rattle.rg_log.specs.Open.{IsLogFault, IsQuiet, ReadsTidy}
+use Rattle.rg_log.specs.declared.fault.LogFault.{LogFault}
+use Rattle.rg_log.specs.declared.fault.LogFault.TheVariants as faults
+use Rattle.rg_log.proofs.Present.{log_left, log_quiet}
+use Rattle.rg_outside.specs.Calls.{Image, Told, read_of}
+use Rattle.rg_outside.specs.Capacities.{Capacities}
+use Rattle.rg_outside.specs.Faults.{Rose}
+use Rattle.rg_outside.specs.Moments.{EachCall, EachImage, IfTold}
+use Rattle.rg_outside.proofs.Every.{told_weaken}
+use Rattle.rg_outside.proofs.Frame.{calls_join}
+use Rattle.rg_rebuilt.specs.Laws.{CoversAll}
+use Rattle.rg_record.specs.declared.record.Record.{Record}
+use Rattle.rg_restart.specs.Closed.{TookBack}
+use Rattle.rg_restart.specs.Found.{Finds, MayFind, Refuses}
+use Rattle.rg_restart.specs.Opening.{BreaksLog, CallsQuiet, GoesOnTidy, IsRefused, Looks, cause_of}
+use Rattle.rg_restart.specs.Pages.{copy_of, count_of, set_of}
+use Rattle.rg_restart.specs.Sound.{AreBlank, HasSoundLog, IsDamage, IsFirstUsed, IsSoundBy}
+use Rattle.rg_restart.specs.Sound.IsDamage.{LogPage, Chain, Space, UsedPage, OnPages}
+use Rattle.rg_restart.proofs.Reading.{both_told, quiet_image}
+use Rattle.rg_restart.proofs.Tidy.{opened_leaves}
+
+-- the log with records that were appended
+pub leaves_more : (seen : VolumeSeen) (ts : List ℕ) (most : ℕ) (log later : Listed) → TookBack ts most log later → LeavesIfTidy seen log → LeavesIfTidy seen later
+leaves_more seen ts most log later took leaves =
+    told_weaken (λ t. WasTidy log.pages t → EachImage (SpellsFrom log.pages log.records log.forced) t) (λ t. WasTidy later.pages t → EachImage (SpellsFrom later.pages later.records later.forced) t) seen.told
+    (λ t holds tidy i is. subst (λ (n : ℕ). SpellsFrom n later.records later.forced i) (sym took.pages)
+    (subst (λ (n : ℕ). SpellsFrom log.pages later.records n i) (sym took.forced)
+    (subst (λ (rs : List Record). SpellsFrom log.pages rs log.forced i) (sym took.records)
+    (spells_more log.pages log.forced log.records took.more i (holds (subst (λ (n : ℕ). WasTidy n t) took.pages tidy) i is))))) leaves
+
+module _ (old mid : VolumeSeen) (log : Listed) (quiet : CallsQuiet old mid) (pages : log.pages ≡ log_pages old.capacities)
+    (has : IfTold mid.told (λ t. HasLogPages log.pages (read_of t.first t.calls) log.records)) where
+  -- the same by the capacities then
+  pages_then : log.pages ≡ log_pages mid.capacities
+  pages_then = pages ∙ ap (λ (c : Capacities). log_pages c) (sym quiet.capacities)
+
+  has_then : (new : Option Told) → EachCall mid.told new IsQuiet → IfTold new (λ t. HasLogPages (log_pages mid.capacities) (read_of t.first t.calls) log.records)
+  has_then new each = subst (λ (n : ℕ). IfTold new (λ t. HasLogPages n (read_of t.first t.calls) log.records)) pages_then (quiet_image (λ i. HasLogPages log.pages i log.records) mid.told new each has)
+
+  -- a rule on the records is broken
+  pub breaks_log : (cause : OpenCause) → BreaksLog mid.capacities log.records cause → IsRefused old mid cause
+  breaks_log (Damaged set page) breaks = record { calls = quiet; because = go breaks.1 }
+    where
+      at_log : IfTold mid.told (λ t. IsDamage mid.capacities (read_of t.first t.calls) Log page) → IfTold mid.told (λ t. IsDamage mid.capacities (read_of t.first t.calls) set page)
+      at_log = subst (λ (s : Set). IfTold mid.told (λ t. IsDamage mid.capacities (read_of t.first t.calls) s page)) (sym breaks.0)
+
+      go : (BreaksChain mid.capacities log.records page) ⊎ (IsChain mid.capacities log.records × BreaksSpace (log_pages mid.capacities) log.records page) → IfTold mid.told (λ t. IsDamage mid.capacities (read_of t.first t.calls) set page)
+      go (inl chain) =
+          at_log (told_weaken (λ t. HasLogPages log.pages (read_of t.first t.calls) log.records) (λ t. IsDamage mid.capacities (read_of t.first t.calls) Log page) mid.told
+          (λ t is. Chain log.records page (subst (λ (n : ℕ). HasLogPages n (read_of t.first t.calls) log.records) pages_then is) chain) has)
+      go (inr (chain, space)) =
+          at_log (told_weaken (λ t. HasLogPages log.pages (read_of t.first t.calls) log.records) (λ t. IsDamage mid.capacities (read_of t.first t.calls) Log page) mid.told
+          (λ t is. Space log.records page (subst (λ (n : ℕ). HasLogPages n (read_of t.first t.calls) log.records) pages_then is) chain space) has)
+  breaks_log Device breaks = absurd breaks
+  breaks_log NoMemory breaks = record { calls = quiet; because = tt }
+
+  module _ (chain : IsChain mid.capacities log.records) (space : HasSpace (log_pages mid.capacities) log.records) (new : VolumeSeen) (only : EachCall mid.told new.told IsQuiet)
+      (same : new.capacities ≡ mid.capacities) (later : mid.faults ≤ new.faults) where
+    pub quiet_new : CallsQuiet old new
+    quiet_new = record {
+      only = calls_join IsQuiet old.told mid.told new.told quiet.only only;
+      later = omega (arith, quiet.later, later);
+      capacities = same ∙ quiet.capacities;
+    }
+
+    sound_log : (i : Image) → HasLogPages (log_pages mid.capacities) i log.records → HasSoundLog new.capacities i log.records
+    sound_log i is = subst (λ (c : Capacities). HasSoundLog c i log.records) (sym same) (record { pages = is; chain = chain; space = space })
+
+    -- a call failed
+    pub device_refused : Rose mid.faults new.faults → IsRefused old new Device
+    device_refused rose = record { calls = quiet_new; because = λ low. omega (arith, quiet.later, rose low) }
+
+    -- a page of the copy is used
+    pub used_refused : (set : Set) (count page : ℕ) → set ≡ set_of (copy_of log.records) → count ≡ count_of log.records → IfTold new.told (λ t. IsFirstUsed (read_of t.first t.calls) set count page) → IsRefused old new (Damaged set page)
+    used_refused set count page set_is count_is used = record {
+      calls = quiet_new;
+      because =
+          told_weaken (λ t. HasLogPages (log_pages mid.capacities) (read_of t.first t.calls) log.records × IsFirstUsed (read_of t.first t.calls) set count page) (λ t. IsDamage new.capacities (read_of t.first t.calls) set page) new.told
+          (λ t both. subst (λ (s : Set). IsDamage new.capacities (read_of t.first t.calls) s page) (sym set_is)
+          (UsedPage log.records page (sound_log (read_of t.first t.calls) both.0)
+          (subst (λ (s : Set). IsFirstUsed (read_of t.first t.calls) s (count_of log.records) page) set_is (subst (λ (n : ℕ). IsFirstUsed (read_of t.first t.calls) set n page) count_is both.1))))
+          (both_told (λ t. HasLogPages (log_pages mid.capacities) (read_of t.first t.calls) log.records) (λ t. IsFirstUsed (read_of t.first t.calls) set count page) new.told (has_then new.told only) used);
+    }
+
+    module _ (set : Set) (count : ℕ) (set_is : set ≡ set_of (copy_of log.records)) (count_is : count ≡ count_of log.records) (blank : IfTold new.told (λ t. AreBlank (read_of t.first t.calls) set count)) where
+      both : IfTold new.told (λ t. HasLogPages (log_pages mid.capacities) (read_of t.first t.calls) log.records × AreBlank (read_of t.first t.calls) (set_of (copy_of log.records)) (count_of log.records))
+      both =
+          both_told (λ t. HasLogPages (log_pages mid.capacities) (read_of t.first t.calls) log.records) (λ t. AreBlank (read_of t.first t.calls) (set_of (copy_of log.records)) (count_of log.records)) new.told (has_then new.told only)
+          (subst (λ (s : Set). IfTold new.told (λ t. AreBlank (read_of t.first t.calls) s (count_of log.records))) set_is (subst (λ (n : ℕ). IfTold new.told (λ t. AreBlank (read_of t.first t.calls) set n)) count_is blank))
+
+      -- a rule on pages is broken
+      pub rule_refused : (cause : OpenCause) → Refuses log.records cause → IsRefused old new cause
+      rule_refused (Damaged s page) rule = record {
+        calls = quiet_new;
+        because =
+            told_weaken (λ t. HasLogPages (log_pages mid.capacities) (read_of t.first t.calls) log.records × AreBlank (read_of t.first t.calls) (set_of (copy_of log.records)) (count_of log.records)) (λ t. IsDamage new.capacities (read_of t.first t.calls) s page) new.told
+            (λ t is. OnPages log.records s page (sound_log (read_of t.first t.calls) is.0) is.1 rule) both;
+      }
+      rule_refused Device rule = absurd rule
+      rule_refused NoMemory rule = record { calls = quiet_new; because = tt }
+
+      -- all rules are kept
+      pub looks : (found : Found) (capacity : ℕ) → capacity ≡ copy_capacity new.capacities (copy_of log.records) → Finds log capacity found → GoesOnTidy old
+          → (ReadsTidy old.told log.pages → LeavesLog mid.told log.pages log.records log.forced) → Looks old new found
+      looks found capacity capacity_is finds tidy leaves = record {
+        log = log;
+        pages = pages;
+        finds = subst (λ (n : ℕ). Finds log n found) (capacity_is ∙ ap (λ (c : Capacities). copy_capacity c (copy_of log.records)) (same ∙ quiet.capacities)) finds;
+        calls = quiet_new;
+        sound =
+            told_weaken (λ t. HasLogPages (log_pages mid.capacities) (read_of t.first t.calls) log.records × AreBlank (read_of t.first t.calls) (set_of (copy_of log.records)) (count_of log.records)) (λ t. IsSoundBy new.capacities (read_of t.first t.calls) log.records) new.told
+            (λ t is. record { log = sound_log (read_of t.first t.calls) is.0; blank = is.1; pages = finds.rules }) both;
+        leaves = leaves_more new _ _ log found.log finds.took
+            (opened_leaves old new log quiet_new.only pages tidy
+            (λ reads. log_left log.pages log.forced log.records mid.told new.told (log_quiet log.pages log.forced log.records mid.told new.told only) (leaves reads)));
+      }
+
+-- the log was not read
+pub log_refused : (old new : VolumeSeen) (fault : LogFault) → CallsQuiet old new → IsLogFault new.told (log_pages old.capacities) old.faults new.faults fault → IsRefused old new (cause_of fault)
+log_refused old new (faults.Damaged page) quiet is = record {
+  calls = quiet;
+  because =
+      told_weaken (λ t. BreaksLogPages (log_pages old.capacities) (read_of t.first t.calls) page) (λ t. IsDamage new.capacities (read_of t.first t.calls) Log page) new.told
+      (λ t breaks. LogPage page (subst (λ (c : Capacities). BreaksLogPages (log_pages c) (read_of t.first t.calls) page) (sym quiet.capacities) breaks)) is;
+}
+log_refused old new faults.Device quiet is = record { calls = quiet; because = is }
+log_refused old new faults.NoMemory quiet is = record { calls = quiet; because = tt }
+
+-- what may be found of a log that keeps its rules
+pub may_find : (capacities : Capacities) (log : Listed) (chain : Running) (capacity : ℕ) → IsChain capacities log.records → HasSpace (log_pages capacities) log.records → IsKept log.records chain → CoversAll capacities log.records
+    → capacity ≡ copy_capacity capacities (copy_of log.records) → log.pages ≡ log_pages capacities → log.forced ≡ length log.records → log.reserved ≡ 0 → MayFind log chain capacity
+may_find capacities log chain capacity is space kept covers capacity_is pages forced idle = record {
+  kept = kept;
+  can = covers.can;
+  positions = chain_positions capacities log.records is;
+  copy = covers.copy;
+  within = omega (arith, covers.within, capacity_is);
+  limit = omega (arith, capacity_is, capacity_low (copy_of log.records));
+  space = subst (λ (n : ℕ). log_bytes log.records + owed log.records ≤ limit_of n) (sym pages) space;
+  idle = idle;
+  forced = forced;
+}
+  where
+    capacity_low : (copy : ℕ) → copy_capacity capacities copy ≤ 65536
+    capacity_low copy = omega arith

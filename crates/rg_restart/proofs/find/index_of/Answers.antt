@@ -1,0 +1,18 @@
+use Rattle.std.proofs.Common.{◌∙◌, sym, subst}
+use Rattle.rg_home.specs.Pages.{slot_of}
+use Rattle.rg_home.specs.Rows.{row_at}
+use Rattle.rg_index.specs.Entries.{IsRising}
+use Rattle.rg_index.specs.Listed.{IsListingOf}
+use Rattle.rg_index.proofs.Kept.{shown_is}
+use Rattle.rg_indexes.specs.Listings.{entries_of}
+use Rattle.rg_tested.proofs.Says.{ok_map}
+use Rattle.rg_desk.specs.Pages.{space_pages}
+use Rattle.rg_restart.proofs.find.index_of.Goals as goal
+
+pub returns-clause-listing : goal.returns-clause-listing
+returns-clause-listing c =
+    ok_map c.build.result _ (λ index. IsListingOf c.args.which (row_at (slot_of (space_pages c.sorted_list.new.space))) (entries_of index))
+    (λ index is. subst (IsListingOf c.args.which (row_at (slot_of (space_pages c.sorted_list.new.space))))
+    (sym (shown_is c.as_slice.result.now index.entries (subst IsRising (sym c.as_slice.ensures) c.in_ok-list.ensures.rising) (sym is) ∙ c.as_slice.ensures))
+    c.in_ok-list.ensures.listing)
+    c.build.ensures

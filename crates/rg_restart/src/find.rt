@@ -1,0 +1,201 @@
+// What the records of a sound log leave of the table.
+//
+// 1. The pages are made of the log alone. Then each rule on pages is tested, in their order, and
+//    the first that is broken names its page.
+// 2. Open units are undone before the rows are compared with the stored ones.
+// 3. No call of a volume is made. After a refusal all that was found is to be dropped.
+ghost use Rattle.std.specs.Prelude.{◌≡◌, ◌≤◌, ◌+◌, ◌==◌, ℕ, length, take, if◌then◌else◌, IfOk, IfErr, OnOk, None};
+ghost use Rattle.rg_base.specs.declared.set.Set.TheVariants.{Log as LogSet};
+ghost use Rattle.rg_home.specs.Able.{Proper};
+ghost use Rattle.rg_home.specs.Pages.{slot_of};
+ghost use Rattle.rg_home.specs.Rows.{row_at};
+ghost use Rattle.rg_chain.specs.Kept.{IsKept};
+ghost use Rattle.rg_image.specs.Pack.{log_bytes};
+ghost use Rattle.rg_image.specs.Rules.{IsChain, limit_of, owed};
+ghost use Rattle.rg_index.specs.Listed.{IsListingOf};
+ghost use Rattle.rg_indexes.specs.Listings.{AreListings, entries_of};
+ghost use Rattle.rg_page.specs.Bare.{numbers_of};
+ghost use Rattle.rg_rebuilt.specs.Rebuilt.{CanRebuild, IsRebuilt};
+ghost use Rattle.rg_space.specs.Space.{capacity_in};
+ghost use Rattle.rg_unended.specs.Unended.{open_in};
+ghost use Rattle.rg_desk.specs.Pages.{space_pages};
+ghost use Rattle.rg_restart.specs.Closed.{IsInStep};
+ghost use Rattle.rg_restart.specs.Found.{Finds, IsClosed, IsMatched, IsUndone, MayFind, Refuses, SamePages, StoresFew};
+ghost use Rattle.rg_restart.specs.Pages.{copy_of, count_of, page_of, set_of};
+
+use crate::close::close_units;
+use crate::stored::stored_rows;
+use rg_base::no_memory::NoMemory;
+use rg_base::position::Position;
+use rg_base::set::Set;
+use rg_base::tran::Tran;
+use rg_base::which::Which;
+use rg_btree::tree::{Tree, build};
+use rg_chain::chain::Chain;
+use rg_desk::desk::OpenCause;
+use rg_desk::found::Found;
+use rg_image::sizes::last_page;
+use rg_indexes::indexes::Indexes;
+use rg_log::log::Log;
+use rg_page::list::ListFrames;
+use rg_rebuilt::rebuilt::{Rebuilt, rebuild};
+use rg_shadow::sort::sorted_list;
+use rg_space::space::Space;
+use rg_tested::stored::{Standing, not_stored};
+use rg_tested::twice::twice;
+use rg_tested::untied::untied;
+use rg_unended::unended::open_trans;
+use std::alloc::Global;
+
+/// The set that a copy has its pages in.
+pub fn set_of(copy: u8) -> Set
+    ensures { result ≡ set_of copy }
+{
+    if copy == 1 { Set::First } else { Set::Second }
+}
+
+// The log page that the first `count` records end on.
+fn page_of(log: &Log, count: usize) -> u32
+    ensures { result ≡ page_of log.now.records count }
+{
+    let records = log.records();
+    let (front, _) = records.split_at(count.min(records.len()));
+    last_page(front)
+}
+
+/// A page that breaks a rule.
+pub fn damaged(set: Set, page: u32) -> OpenCause
+    ensures { result ≡ OpenCause.Damaged set page }
+{
+    OpenCause::Damaged { set, page }
+}
+
+// The pages that a log makes of empty ones.
+fn redo_log(
+    alloc: Global,
+    log: &Log,
+    chain: &Chain,
+    capacity: u32,
+) -> Result<Space<ListFrames>, OpenCause>
+    requires may { MayFind log.now chain.now capacity }
+    ensures ok { IfOk result (λ space. IsRebuilt (copy_of log.now.records)
+        (count_of log.now.records) log.now.records space × (capacity_in space ≡ capacity)) }
+    ensures refused { IfErr result (Refuses log.now.records) }
+{
+    match rebuild(alloc, log, chain.copy(), chain.pages(), capacity) {
+        Err(NoMemory) => Err(OpenCause::NoMemory),
+        Ok(Rebuilt::Pages(space)) => Ok(space),
+        Ok(Rebuilt::Unfit { position }) => {
+            Err(damaged(Set::Log, page_of(log, position.0 as usize)))
+        }
+    }
+}
+
+// Tests what slots name, and undoes the open units.
+fn close_open(
+    alloc: Global,
+    space: &mut Space<ListFrames>,
+    log: &mut Log,
+    chain: &Chain,
+    set: Set,
+) -> Result<(), OpenCause>
+    requires may { MayFind log.old chain.now (capacity_in space.old) }
+    requires rebuilt { IsRebuilt (copy_of log.old.records) (count_of log.old.records)
+        log.old.records space.old }
+    requires set { set ≡ set_of (copy_of log.old.records) }
+    ensures ok { OnOk result (IsClosed log.old (capacity_in space.old) space.new log.new) }
+    ensures refused { IfErr result (Refuses log.old.records) }
+{
+    let Ok(trans) = open_trans(alloc, chain) else {
+        return Err(OpenCause::NoMemory);
+    };
+    match untied(space, trans.as_slice()) {
+        Err(_) => unreachable!(),
+        Ok(Some(place)) => return Err(damaged(set, place.page)),
+        Ok(None) => {}
+    }
+    match close_units(alloc, space, log, chain, trans.as_slice()) {
+        Err(NoMemory) => Err(OpenCause::NoMemory),
+        Ok(Some(place)) => Err(damaged(set, place.page)),
+        Ok(None) => Ok(()),
+    }
+}
+
+// Compares the home rows with the stored ones, which are those of the first `count` records.
+fn match_stored(
+    alloc: Global,
+    space: &mut Space<ListFrames>,
+    log: &Log,
+    count: usize,
+    set: Set,
+) -> Result<(), OpenCause>
+    requires undone { IsUndone (take count log.now.records) log.now.records space.old }
+    requires set { set ≡ set_of (copy_of (take count log.now.records)) }
+    ensures matched { OnOk result (IsMatched (take count log.now.records)) }
+    ensures stores { OnOk result (StoresFew log.now.records) }
+    ensures same { OnOk result (SamePages space.old space.new) }
+    ensures refused { IfErr result (Refuses (take count log.now.records)) }
+{
+    let Ok(rows) = stored_rows(alloc, log.records()) else {
+        return Err(OpenCause::NoMemory);
+    };
+    match twice(alloc, space) {
+        Err(_) => return Err(OpenCause::NoMemory),
+        Ok(Some(place)) => return Err(damaged(set, place.page)),
+        Ok(None) => {}
+    }
+    match not_stored(alloc, space, &rows) {
+        Err(_) => Err(OpenCause::NoMemory),
+        Ok(Standing::Stored) => Ok(()),
+        Ok(Standing::Strange { place }) => Err(damaged(set, place.page)),
+        Ok(Standing::Missing) => Err(damaged(Set::Log, page_of(log, count))),
+    }
+}
+
+// The index of the rows by one of their values.
+fn index_of(alloc: Global, which: Which, space: &mut Space<ListFrames>) -> Result<Tree, NoMemory>
+    requires { IsInStep space.old }
+    ensures same { OnOk result (SamePages space.old space.new) }
+    ensures listing { IfOk result (λ index.
+        IsListingOf which (row_at (slot_of (space_pages space.new))) (entries_of index)) }
+{
+    let list = sorted_list(alloc, which, space)?;
+    build(alloc, list.as_slice())
+}
+
+// The indexes of the rows.
+fn indexes_of(alloc: Global, space: &mut Space<ListFrames>) -> Result<Indexes, NoMemory>
+    requires { IsInStep space.old }
+    ensures same { OnOk result (SamePages space.old space.new) }
+    ensures listings { IfOk result (AreListings (row_at (slot_of (space_pages space.new)))) }
+{
+    Ok(Indexes {
+        keys: index_of(alloc, Which::Key, space)?,
+        cluses: index_of(alloc, Which::Clus, space)?,
+        cats: index_of(alloc, Which::Cat, space)?,
+    })
+}
+
+/// What the records of a log leave, of which `chain` is kept. The copy may have `capacity` pages.
+pub fn find(alloc: Global, log: Log, chain: &Chain, capacity: u32) -> Result<Found, OpenCause>
+    requires may { MayFind log chain.now capacity }
+    ensures found { IfOk result (Finds log capacity) }
+    ensures refused { IfErr result (Refuses log.records) }
+{
+    let mut log = log;
+    let (count, copy) = (log.records().len(), chain.copy());
+    let set = set_of(copy);
+    let mut space = redo_log(alloc, &log, chain, capacity)?;
+    close_open(alloc, &mut space, &mut log, chain, set)?;
+    match_stored(alloc, &mut space, &log, count, set)?;
+    let Ok(indexes) = indexes_of(alloc, &mut space) else {
+        return Err(OpenCause::NoMemory);
+    };
+    Ok(Found {
+        log,
+        space,
+        copy,
+        indexes,
+        top: chain.greatest().0,
+    })
+}

@@ -1,0 +1,103 @@
+-- What holds between the moment when a run began and its end, of a volume that was counted.
+use Rattle.std.proofs.Common.{◌≡◌, ◌≤◌, ◌+◌, ◌-◌, ◌++◌, ℕ, List, [], ◌∷◌, Option, Some, None, length, drop, refl, sym, ◌∙◌, ap, subst, arith, length-append}
+use Rattle.std.specs.List.{AllByRecursion}
+use Rattle.std.proofs.Math.Seq.{drop-append_seam}
+use Rattle.rg_base.specs.declared.set.Set.{Set}
+use Rattle.rg_base.specs.declared.set.Set.TheVariants.{Log}
+use Rattle.rg_desk.specs.Volume.{WasTidy}
+use Rattle.rg_image.specs.Log.{log_of}
+use Rattle.rg_image.specs.Rules.{HasLogPages, IsTidyLog}
+use Rattle.rg_image.proofs.Rules.{log_is_read}
+use Rattle.rg_log.specs.Open.{IsQuiet}
+use Rattle.rg_outside.specs.Calls.{Call, Image, Told, Read, Wrote, Synced, FailedRead, FailedWrite, FailedSync, Refused, read_of}
+use Rattle.rg_outside.specs.Counts.{counted}
+use Rattle.rg_outside.specs.Made.{WritesIn}
+use Rattle.rg_outside.specs.Moments.{EachCall, EachImage, IfTold, read_at}
+use Rattle.rg_record.specs.declared.record.Record.{Record}
+use Rattle.rg_run.specs.Outside.{IfBoth, log_at}
+use Rattle.rg_run.proofs.Uncounted.{counted_so}
+
+-- what was known before, with its calls so far taken as those before the count
+abbrev begun_at : Told → Told
+begun_at before = record before { start = length before.calls - 0 }
+
+first_is : (old : Option Told) (before b : Told) → old ≡ Some before → counted old 0 ≡ Some b → b ≡ begun_at before
+first_is old before b was is = cc (sym is ∙ ap (λ (o : Option Told). counted o 0) was)
+
+-- the calls of a run come after those before it, and the count is theirs
+record Follows (before t : Told) (n : ℕ) : Type 0 where
+  pub fresh : List Call
+  pub first : t.first ≡ before.first
+  pub calls : t.calls ≡ fresh ++ before.calls
+  pub start : length t.calls - n ≡ length before.calls
+
+follows : (Kind : Call → Type 0) (old : Option Told) (before t : Told) (n : ℕ) → old ≡ Some before → EachCall (counted old 0) (Some (record t { start = length t.calls - n })) Kind → Follows before t n
+follows Kind old before t n was made =
+    let is = first_is old before made.0 was made.2 in
+    record {
+      fresh = made.1;
+      first = ap (λ (x : Told). x.first) made.3 ∙ ap (λ (x : Told). x.first) is;
+      calls = ap (λ (x : Told). x.calls) made.3 ∙ ap (λ (x : Told). made.1 ++ x.calls) is;
+      start = ap (λ (x : Told). x.start) made.3 ∙ ap (λ (x : Told). x.start) is ∙ less_none (length before.calls);
+    }
+  where
+    less_none : (k : ℕ) → k - 0 ≡ k
+    less_none k = omega arith
+
+-- what is said of each image where the log read tidy when the count began
+stored_at : (pages n : ℕ) (Q : Image → Type 0) (before t : Told) → Follows before t n → (WasTidy pages (record t { start = length t.calls - n }) → EachImage Q t) → IsTidyLog pages (read_of before.first before.calls) → EachImage Q t
+stored_at pages n Q before t h all tidy =
+    let begun : read_at t (length t.calls - n) ≡ read_of before.first before.calls =
+    ap (λ (k : ℕ). read_at t k) h.start
+    ∙ ap (λ (first : Image). read_of first (drop (length t.calls - length before.calls) t.calls)) h.first
+    ∙ ap (λ (cs : List Call). read_of before.first (drop (length cs - length before.calls) cs)) h.calls
+    ∙ ap (λ (k : ℕ). read_of before.first (drop k (h.fresh ++ before.calls))) (left (length (h.fresh ++ before.calls)) (length h.fresh) (length before.calls) (length-append h.fresh before.calls))
+    ∙ ap (read_of before.first) (drop-append_seam h.fresh before.calls) in
+    all (subst (λ (i : Image). IsTidyLog pages i) (sym begun) tidy)
+  where
+    left : (all a b : ℕ) → all ≡ a + b → all - b ≡ a
+    left all a b e = omega (arith, e)
+
+pub stored_out : (Kind : Call → Type 0) (pages n : ℕ) (Q : Image → Type 0) (old new : Option Told) → IfTold new (λ t. n ≤ length t.calls) → EachCall (counted old 0) (counted new n) Kind
+    → IfTold (counted new n) (λ t. WasTidy pages t → EachImage Q t) → IfBoth old new (λ before t. IsTidyLog pages (read_of before.first before.calls) → EachImage Q t)
+stored_out Kind pages n Q old None le made all = tt
+stored_out Kind pages n Q old (Some t) le made all = λ few before was.
+    let so = counted_so t n le few in
+    stored_at pages n Q before t (follows Kind old before t n was (subst (λ (o : Option Told). EachCall (counted old 0) o Kind) so made)) (subst (λ (o : Option Told). IfTold o (λ t. WasTidy pages t → EachImage Q t)) so all)
+
+-- ---- the log that was read
+
+-- calls that write nothing leave what reads
+pub quiet_reads : (first : Image) (fresh calls : List Call) (s : Set) (p : ℕ) → AllByRecursion IsQuiet fresh → read_of first (fresh ++ calls) s p ≡ read_of first calls s p
+quiet_reads first [] calls s p all = refl
+quiet_reads first (Read ∷ fresh) calls s p all = quiet_reads first fresh calls s p all.1
+quiet_reads first (Synced ∷ fresh) calls s p all = quiet_reads first fresh calls s p all.1
+quiet_reads first (FailedRead ∷ fresh) calls s p all = quiet_reads first fresh calls s p all.1
+quiet_reads first (FailedSync ∷ fresh) calls s p all = quiet_reads first fresh calls s p all.1
+quiet_reads first (Refused ∷ fresh) calls s p all = quiet_reads first fresh calls s p all.1
+quiet_reads first (Wrote set page bytes ∷ fresh) calls s p all = absurd all.0
+quiet_reads first (FailedWrite set page bytes reads ∷ fresh) calls s p all = absurd all.0
+
+same_reads : (before m : Told) (fresh : List Call) → m ≡ record before { calls = fresh ++ before.calls } → AllByRecursion IsQuiet fresh → read_of m.first m.calls ≡ read_of before.first before.calls
+same_reads before m fresh is all = ap (λ (x : Told). read_of x.first x.calls) is ∙ (λ i s p. quiet_reads before.first fresh before.calls s p all i)
+
+read_first : (pages : ℕ) (rs : List Record) (old mid later : Option Told) (before : Told) → old ≡ Some before → (t : Told) → later ≡ Some t → EachCall (counted old 0) mid IsQuiet → EachCall mid later (WritesIn Log)
+    → IfTold mid (λ m. HasLogPages pages (read_of m.first m.calls) rs) → log_at pages before ≡ rs
+read_first pages rs old None later before was t is quiet made has = absurd (cc ((subst (λ (o : Option Told). EachCall None o (WritesIn Log)) is made).2))
+read_first pages rs old (Some m) later before was t is quiet made has =
+    let begun = first_is old before quiet.0 was quiet.2 in
+    let same : read_of m.first m.calls ≡ read_of before.first before.calls =
+    same_reads quiet.0 m quiet.1 quiet.3 quiet.4 ∙ ap (λ (x : Told). read_of x.first x.calls) begun in
+    ap (log_of pages) (sym same) ∙ log_is_read pages (read_of m.first m.calls) rs has
+
+-- the records that were read at the opening are the log before the run
+pub read_out : (pages n : ℕ) (rs : List Record) (old mid new : Option Told) → IfTold new (λ t. n ≤ length t.calls) → EachCall (counted old 0) mid IsQuiet → EachCall mid (counted new n) (WritesIn Log)
+    → IfTold mid (λ m. HasLogPages pages (read_of m.first m.calls) rs) → IfBoth old new (λ before t. log_at pages before ≡ rs)
+read_out pages n rs old mid None le quiet made has = tt
+read_out pages n rs old mid (Some t) le quiet made has = λ few before was.
+    read_first pages rs old mid (counted (Some t) n) before was (record t { start = length t.calls - n }) (counted_so t n le few) quiet made has
+
+-- one fact of both moments from another
+pub both_weaken : (P Q : Told → Told → Type 0) (old new : Option Told) → ((before t : Told) → P before t → Q before t) → IfBoth old new P → IfBoth old new Q
+both_weaken P Q old None f h = tt
+both_weaken P Q old (Some t) f h = λ few before was. f before t (h few before was)
