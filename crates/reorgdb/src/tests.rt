@@ -9,6 +9,7 @@ use rg_outside::volume::Volume;
 use std::alloc::{AllocError, Global};
 use std::test::Fail;
 
+mod crashes;
 mod decks;
 mod layouts;
 mod openings;
