@@ -9,7 +9,5 @@ pub mod names;
 pub mod same;
 /// Testing a whole log.
 pub mod test;
-#[cfg(test)]
-mod tests;
 /// The transactions of the records so far.
 pub mod unit;

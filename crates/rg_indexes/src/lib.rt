@@ -5,5 +5,3 @@
 pub mod indexes;
 /// Laws of the definitions.
 pub mod laws;
-#[cfg(test)]
-mod tests;

@@ -21,8 +21,6 @@ pub mod said;
 pub mod same;
 /// Steps of a utility.
 pub mod step;
-#[cfg(test)]
-mod tests;
 /// What a unit's statements and its end leave.
 pub mod unit;
 /// Walks over locks.

@@ -5,5 +5,3 @@
 pub mod side;
 // The spots of rows on pages.
 mod spots;
-#[cfg(test)]
-mod tests;

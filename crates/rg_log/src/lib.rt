@@ -15,5 +15,3 @@ pub mod entries;
 pub mod open;
 /// Pages of the log.
 pub mod page;
-#[cfg(test)]
-mod tests;

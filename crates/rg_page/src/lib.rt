@@ -17,5 +17,3 @@ pub mod page;
 pub mod slot;
 /// What plans read of a page.
 pub mod summary;
-#[cfg(test)]
-mod tests;

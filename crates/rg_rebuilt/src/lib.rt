@@ -5,5 +5,3 @@
 pub mod laws;
 /// Empty pages, and the log redone on them.
 pub mod rebuilt;
-#[cfg(test)]
-mod tests;

@@ -21,7 +21,5 @@ pub mod record;
 pub mod size;
 /// Which records have a spelling.
 pub mod spelled;
-#[cfg(test)]
-mod tests;
 /// Writing a record.
 pub mod write;

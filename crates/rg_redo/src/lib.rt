@@ -5,5 +5,3 @@
 pub mod fault;
 /// Redoing the records of a log.
 pub mod redo;
-#[cfg(test)]
-mod tests;

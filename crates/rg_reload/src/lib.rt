@@ -15,5 +15,3 @@ mod page;
 pub mod pairs;
 // What empty pages there are, and how many pages.
 mod pad;
-#[cfg(test)]
-mod tests;

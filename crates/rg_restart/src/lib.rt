@@ -14,5 +14,3 @@ pub mod laws;
 pub mod open;
 /// The stored table.
 pub mod stored;
-#[cfg(test)]
-mod tests;

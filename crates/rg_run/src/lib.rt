@@ -5,5 +5,3 @@
 pub mod played;
 /// The run of a deck.
 pub mod run;
-#[cfg(test)]
-mod tests;

@@ -16,5 +16,3 @@ mod mapping;
 pub mod sort;
 /// The new copy.
 pub mod shadow;
-#[cfg(test)]
-mod tests;

@@ -26,5 +26,3 @@ pub mod space;
 
 /// Laws of plans, and of the records that carry them out.
 pub mod laws;
-#[cfg(test)]
-mod tests;

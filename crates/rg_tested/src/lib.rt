@@ -11,8 +11,6 @@ pub mod outline;
 pub mod rows;
 /// Whether the home rows are the stored rows.
 pub mod stored;
-#[cfg(test)]
-mod tests;
 /// Changes undone, each tested at its turn.
 pub mod turns;
 /// Whether a key stands twice.

@@ -9,5 +9,3 @@ pub mod catch_up;
 pub mod laws;
 // Changes made in the new copy, one after another.
 mod make;
-#[cfg(test)]
-mod tests;

@@ -5,8 +5,6 @@
 pub mod laws;
 /// The undo of one Change.
 pub mod one;
-#[cfg(test)]
-mod tests;
 /// The undo of a unit, all at once.
 pub mod unit;
 /// The undo of a unit, one record at a time.

@@ -3,7 +3,5 @@
 
 /// Laws of what is left to undo.
 pub mod laws;
-#[cfg(test)]
-mod tests;
 /// What is left to undo.
 pub mod unended;
