@@ -1,5 +1,5 @@
 -- The contract of a call follows from what it comes to.
-use Rattle.std.proofs.Common.{◌≡◌, ◌≢◌, ◌<◌, ◌≤◌, ◌+◌, ◌*◌, ◌⊎◌, inl, inr, ℕ, zero, suc, ◌-◌, ◌^◌, slice_index_or, List, [], ◌∷◌, ◌++◌, Option, Some, None, length, refl, sym, ◌∙◌, ap, subst, arith, append-nil, length-append}
+use Rattle.std.proofs.Common.{Bool, codes, ◌≡◌, ◌≢◌, ◌<◌, ◌≤◌, ◌+◌, ◌*◌, ◌⊎◌, inl, inr, ℕ, zero, suc, ◌-◌, ◌^◌, slice_index_or, List, [], ◌∷◌, ◌++◌, Option, Some, None, length, refl, sym, ◌∙◌, ap, subst, arith, append-nil, length-append}
 use Rattle.std.specs.List.{Contains}
 use Rattle.std.specs.Io.KnownBytes.{Consumes, Appends, IsAtEnd}
 use Rattle.rg_base.specs.declared.set.Set.{Set}
@@ -23,17 +23,19 @@ use Rattle.rg_outside.specs.Calls.{Image, Told, read_of}
 use Rattle.rg_outside.specs.Made.{WritesIn}
 use Rattle.rg_desk.specs.Volume.{VolumeSeen}
 use Rattle.rg_stmt.specs.declared.event.Entry.{Entry}
-use Rattle.reorgdb.specs.Answer.{Seen, IsPlay, IsDeck, ReadsDeck, Comes, Concludes, Finds, output_of}
-use Rattle.reorgdb.specs.Causes.{IsSoundVolume, Plays, RefusesDeck, RefusesVolume, IsDue, GivesDue}
+use Rattle.rg_stmt.specs.declared.line.Line.{Line}
+use Rattle.reorgdb.specs.Answer.{Seen, IsPlay, IsShow, IsCommand, IsDeck, ReadsDeck, Comes, Concludes, DealsWithBytes, Finds, PlaysTo, ShowsTo, output_of}
+use Rattle.reorgdb.specs.Causes.{IsSoundVolume, Plays, Shows, RefusesDeck, RefusesVolume, IsDue, GivesDue}
 use Rattle.reorgdb.specs.Contract.{Completes}
 use Rattle.reorgdb.specs.Reading.{TakesAtMost, TakesTooMany}
 use Rattle.reorgdb.specs.Refusals.{status_of}
 use Rattle.reorgdb.specs.declared.outcome.Outcome.{Outcome}
-use Rattle.reorgdb.specs.declared.outcome.Outcome.TheVariants.{Played, Down, Words, Deck, Source, Damaged, Device, Long, NoMemory}
+use Rattle.reorgdb.specs.declared.outcome.Outcome.TheVariants.{Played, Down, Shown, Words, Deck, Source, Damaged, Device, Long, NoMemory}
 
 not_four : (a : Outcome) → status_of a ≢ 4
 not_four Played e = omega arith
 not_four Down e = omega arith
+not_four Shown e = omega arith
 not_four Words e = omega arith
 not_four (Deck line) e = omega arith
 not_four Source e = omega arith
@@ -41,6 +43,14 @@ not_four (Damaged set page) e = omega arith
 not_four Device e = omega arith
 not_four Long e = omega arith
 not_four NoMemory e = omega arith
+
+-- no words ask for both commands
+not_both : (words : List (List ℕ)) → IsPlay words → IsShow words → ⊥
+not_both [] play show = absurd show
+not_both (word ∷ options) play show =
+    let (full, spelled) = play in
+    let same : length (codes "play") ≡ length (codes "layout") = ap length (sym spelled.0 ∙ show.0) in
+    omega (arith, same)
 
 -- what was read to the end is all that was told
 whole_read : (before after : Option (List ℕ)) (read bytes : List ℕ) → before ≡ Some bytes → Consumes before after read → IsAtEnd after → read ≡ bytes
@@ -101,6 +111,22 @@ not_early status (i, low, is) other = by_place i low is
     by_place (suc (suc (suc zero))) low is = differs 7 (sym is) (inr (inr (inr refl)))
     by_place (suc (suc (suc (suc i)))) low is = omega (arith, low)
 
+-- an outcome of lines that were read
+abbrev IsOfLines : Outcome → Type 0
+IsOfLines Played = Unit {0}
+IsOfLines Down = Unit {0}
+IsOfLines (Damaged set page) = Unit {0}
+IsOfLines Device = Unit {0}
+IsOfLines outcome = ⊥
+
+-- bytes that come to such an outcome are a deck
+is_deck : (outcome : Outcome) (full : Bool) (before after : VolumeSeen) (bytes : List ℕ) (trace : List Entry) (print : List ℕ) → IsOfLines outcome → DealsWithBytes full before after bytes outcome trace print → (lines : List Line) × IsDeck bytes lines
+is_deck Played full before after bytes trace print of deals = (deals.0, deals.1)
+is_deck Down full before after bytes trace print of deals = (deals.0, deals.1)
+is_deck (Damaged set page) full before after bytes trace print of deals = (deals.0, deals.1)
+is_deck Device full before after bytes trace print of deals = (deals.0, deals.1)
+is_deck outcome full before after bytes trace print of deals = absurd of
+
 module _ (words : List (List ℕ)) (source source_after sink sink_after : Seen) (volume volume_after : VolumeSeen) (status : ℕ) (trace : List Entry) where
   -- a status but 4 and 8 is the outcome's
   record OfStatus (outcome : Outcome) (print : List ℕ) : Type 0 where
@@ -115,9 +141,10 @@ module _ (words : List (List ℕ)) (source source_after sink sink_after : Seen) 
     | inr front ↦ elim front [ inl failed ↦ absurd (four failed.0) | inr wanted ↦ absurd (eight wanted.0) ]
   ]
 
-  played_of : (outcome : Outcome) (print : List ℕ) → status ≡ 0 → OfStatus outcome print → Plays words source source_after sink sink_after volume volume_after trace
-  played_of Played print is of =
-      let (play, bytes, read, deals) = of.comes in
+  -- what a deck comes to that is played, and what a layout comes to
+  plays_of : (print : List ℕ) → OfStatus Played print → PlaysTo Played words source source_after volume volume_after trace print → Plays words source source_after sink sink_after volume volume_after trace
+  plays_of print of comes =
+      let (play, bytes, read, deals) = comes in
       let (lines, spelled, printed) = deals in
       record {
         asked = play;
@@ -130,40 +157,67 @@ module _ (words : List (List ℕ)) (source source_after sink sink_after : Seen) 
         counted = printed.counted;
         shown = subst (Appends sink.bytes sink_after.bytes) printed.printed of.shown;
       }
-  played_of outcome print is of = absurd (omega (arith, of.is, is))
 
-  plays : Concludes words source source_after sink sink_after volume volume_after status trace → status ≡ 0 → Plays words source source_after sink sink_after volume volume_after trace
-  plays a is = played_of a.outcome a.print is (by_status (λ e. omega arith) (λ e. omega arith) a)
+  played_of : (outcome : Outcome) (print : List ℕ) → status ≡ 0 → IsPlay words → OfStatus outcome print → Plays words source source_after sink sink_after volume volume_after trace
+  played_of Played print is play of = elim of.comes [ inl played ↦ plays_of print of played | inr shown ↦ absurd shown ]
+  played_of Shown print is play of = elim of.comes [ inl played ↦ absurd played.3 | inr shown ↦ absurd (not_both words play shown.0) ]
+  played_of outcome print is play of = absurd (omega (arith, of.is, is))
 
-  words_of : (outcome : Outcome) (print : List ℕ) → status ≡ 1 → OfStatus outcome print → IsPlay words → ⊥
+  plays : Concludes words source source_after sink sink_after volume volume_after status trace → status ≡ 0 → IsPlay words → Plays words source source_after sink sink_after volume volume_after trace
+  plays a is play = played_of a.outcome a.print is play (by_status (λ e. omega arith) (λ e. omega arith) a)
+
+  shown_of : (outcome : Outcome) (print : List ℕ) → status ≡ 0 → IsShow words → OfStatus outcome print → Shows source source_after sink sink_after volume volume_after trace
+  shown_of Played print is show of = elim of.comes [ inl played ↦ absurd (not_both words played.0 show) | inr shown ↦ absurd shown ]
+  shown_of Shown print is show of = elim of.comes [
+    | inl played ↦ absurd played.3
+    | inr shown ↦ record { unread = shown.1; text = print; layout = shown.2; shown = of.shown }
+  ]
+  shown_of outcome print is show of = absurd (omega (arith, of.is, is))
+
+  shows : Concludes words source source_after sink sink_after volume volume_after status trace → status ≡ 0 → IsShow words → Shows source source_after sink sink_after volume volume_after trace
+  shows a is show = shown_of a.outcome a.print is show (by_status (λ e. omega arith) (λ e. omega arith) a)
+
+  words_of : (outcome : Outcome) (print : List ℕ) → status ≡ 1 → OfStatus outcome print → IsCommand words → ⊥
   words_of Words print is of = of.comes.0
   words_of outcome print is of = absurd (omega (arith, of.is, is))
 
-  no_words : Concludes words source source_after sink sink_after volume volume_after status trace → status ≡ 1 → IsPlay words → ⊥
+  no_words : Concludes words source source_after sink sink_after volume volume_after status trace → status ≡ 1 → IsCommand words → ⊥
   no_words a is = words_of a.outcome a.print is (by_status (λ e. omega arith) (λ e. omega arith) a)
 
   deck_of : (outcome : Outcome) (print : List ℕ) → status ≡ 2 → OfStatus outcome print → RefusesDeck source source_after sink sink_after
-  deck_of (Deck line) print is of =
-      let (play, bytes, read, deals) = of.comes in
-      let (refused, none, printed) = deals in
-      record { bytes = bytes; line = line; read = read; refused = refused; shown = subst (Appends sink.bytes sink_after.bytes) printed of.shown }
+  deck_of (Deck line) print is of = elim of.comes [
+    | inl played ↦ refuses_line played
+    | inr shown ↦ absurd shown
+  ]
+    where
+      refuses_line : PlaysTo (Deck line) words source source_after volume volume_after trace print → RefusesDeck source source_after sink sink_after
+      refuses_line comes =
+          let (play, bytes, read, deals) = comes in
+          let (refused, none, printed) = deals in
+          record { bytes = bytes; line = line; read = read; refused = refused; shown = subst (Appends sink.bytes sink_after.bytes) printed of.shown }
   deck_of outcome print is of = absurd (omega (arith, of.is, is))
 
   no_deck : Concludes words source source_after sink sink_after volume volume_after status trace → status ≡ 2 → RefusesDeck source source_after sink sink_after
   no_deck a is = deck_of a.outcome a.print is (by_status (λ e. omega arith) (λ e. omega arith) a)
 
   source_of : (outcome : Outcome) (print : List ℕ) → status ≡ 3 → OfStatus outcome print → Rose source.faults source_after.faults
-  source_of Source print is of = of.comes.1
+  source_of Source print is of = elim of.comes [ inl played ↦ played.1 | inr shown ↦ absurd shown ]
   source_of outcome print is of = absurd (omega (arith, of.is, is))
 
   no_source : Concludes words source source_after sink sink_after volume volume_after status trace → status ≡ 3 → Rose source.faults source_after.faults
   no_source a is = source_of a.outcome a.print is (by_status (λ e. omega arith) (λ e. omega arith) a)
 
   damaged_of : (outcome : Outcome) (print : List ℕ) → status ≡ 5 → OfStatus outcome print → RefusesVolume sink sink_after volume volume_after trace
-  damaged_of (Damaged set page) print is of =
-      let (play, bytes, read, deals) = of.comes in
-      let (lines, spelled, none, printed) = deals in
-      record { set = set; page = page; because = of.finds; none = none; shown = subst (Appends sink.bytes sink_after.bytes) printed of.shown }
+  damaged_of (Damaged set page) print is of = elim of.comes [
+    | inl played ↦ refuses_page played
+    | inr shown ↦ record { set = set; page = page; because = of.finds; none = shown.2; shown = subst (Appends sink.bytes sink_after.bytes) shown.3 of.shown }
+  ]
+    where
+      refuses_page : PlaysTo (Damaged set page) words source source_after volume volume_after trace print → RefusesVolume sink sink_after volume volume_after trace
+      refuses_page comes =
+          let (play, bytes, read, deals) = comes in
+          let (lines, spelled, none, printed) = deals in
+          record { set = set; page = page; because = of.finds; none = none; shown = subst (Appends sink.bytes sink_after.bytes) printed of.shown }
   damaged_of outcome print is of = absurd (omega (arith, of.is, is))
 
   no_volume : Concludes words source source_after sink sink_after volume volume_after status trace → status ≡ 5 → RefusesVolume sink sink_after volume volume_after trace
@@ -184,6 +238,7 @@ module _ (words : List (List ℕ)) (source source_after sink sink_after : Seen) 
   uncalled_of Source print is of = of.finds
   uncalled_of Long print is of = of.finds
   uncalled_of Played print is of = absurd (not_early status is (inr (inr (inr (inl of.is)))))
+  uncalled_of Shown print is of = absurd (not_early status is (inr (inr (inr (inl of.is)))))
   uncalled_of Down print is of = absurd (not_early status is (inr (inr (inl of.is))))
   uncalled_of (Damaged set page) print is of = absurd (not_early status is (inr (inl of.is)))
   uncalled_of Device print is of = absurd (not_early status is (inr (inr (inl of.is))))
@@ -196,7 +251,7 @@ module _ (words : List (List ℕ)) (source source_after sink sink_after : Seen) 
   uncalled a is = uncalled_of a.outcome a.print is (by_status (early_so is).0 (early_so is).1 a)
 
   long_of : (outcome : Outcome) (print : List ℕ) → status ≡ 7 → OfStatus outcome print → TakesTooMany source.bytes source_after.bytes
-  long_of Long print is of = of.comes.1
+  long_of Long print is of = elim of.comes [ inl played ↦ played.1 | inr shown ↦ absurd shown ]
   long_of outcome print is of = absurd (omega (arith, of.is, is))
 
   too_long : Concludes words source source_after sink sink_after volume volume_after status trace → status ≡ 7 → TakesTooMany source.bytes source_after.bytes
@@ -208,78 +263,143 @@ module _ (words : List (List ℕ)) (source source_after sink sink_after : Seen) 
     | inr front ↦ elim front [ inl failed ↦ failed.1 | inr wanted ↦ absurd (omega arith) ]
   ]
 
-  other_words : Concludes words source source_after sink sink_after volume volume_after status trace → (IsPlay words → ⊥) → Contains (1 ∷ 4 ∷ 8 ∷ []) status
+  -- the words of each outcome but one
+  played_words : (outcome : Outcome) (print : List ℕ) → PlaysTo outcome words source source_after volume volume_after trace print → IsPlay words
+  played_words Source print comes = comes.0
+  played_words Long print comes = comes.0
+  played_words NoMemory print comes = comes.0
+  played_words outcome print comes = comes.0
+
+  -- a layout's outcomes
+  record IsShown (outcome : Outcome) : Type 0 where
+    asked : IsShow words
+    unread : source_after ≡ source
+    status_is : Contains (0 ∷ 4 ∷ 5 ∷ 6 ∷ 8 ∷ []) (status_of outcome)
+
+  is_shown : (outcome : Outcome) (print : List ℕ) → ShowsTo outcome words source source_after volume volume_after trace print → IsShown outcome
+  is_shown Shown print comes = record { asked = comes.0; unread = comes.1; status_is = (0, omega arith, refl) }
+  is_shown (Damaged set page) print comes = record { asked = comes.0; unread = comes.1; status_is = (2, omega arith, refl) }
+  is_shown Device print comes = record { asked = comes.0; unread = comes.1; status_is = (3, omega arith, refl) }
+  is_shown NoMemory print comes = record { asked = comes.0; unread = comes.1; status_is = (4, omega arith, refl) }
+  is_shown outcome print comes = absurd comes
+
+  -- each outcome but that of words that ask for nothing
+  asked_for : (outcome : Outcome) (print : List ℕ) → Comes outcome words source source_after volume volume_after trace print → (outcome ≡ Words) ⊎ (IsPlay words ⊎ IsShown outcome)
+  asked_for Words print comes = inl refl
+  asked_for outcome print comes = elim comes [
+    | inl played ↦ inr (inl (played_words outcome print played))
+    | inr shown ↦ inr (inr (is_shown outcome print shown))
+  ]
+
+  other_words : Concludes words source source_after sink sink_after volume volume_after status trace → (IsCommand words → ⊥) → Contains (1 ∷ 4 ∷ 8 ∷ []) status
   other_words a other = elim a.delivered [
-    | inl whole ↦ (0, omega arith, sym (whole.0 ∙ ap status_of (refused a.outcome a.print a.comes)))
+    | inl whole ↦ (0, omega arith, sym (whole.0 ∙ ap status_of (refused (asked_for a.outcome a.print a.comes))))
     | inr front ↦ elim front [ inl failed ↦ (1, omega arith, sym failed.0) | inr wanted ↦ (2, omega arith, sym wanted.0) ]
   ]
     where
-      refused : (outcome : Outcome) (print : List ℕ) → Comes outcome words source source_after volume volume_after trace print → outcome ≡ Words
-      refused Words print comes = refl
-      refused Played print comes = absurd (other comes.0)
-      refused Down print comes = absurd (other comes.0)
-      refused (Damaged set page) print comes = absurd (other comes.0)
-      refused Device print comes = absurd (other comes.0)
-      refused (Deck line) print comes = absurd (other comes.0)
-      refused Source print comes = absurd (other comes.0)
-      refused Long print comes = absurd (other comes.0)
-      refused NoMemory print comes = absurd (other comes.0)
+      refused : (a.outcome ≡ Words) ⊎ (IsPlay words ⊎ IsShown a.outcome) → a.outcome ≡ Words
+      refused (inl is) = is
+      refused (inr (inl play)) = absurd (other (inl play))
+      refused (inr (inr shown)) = absurd (other (inr shown.asked))
+
+  -- what words that ask for a layout come to
+  only_shown : IsShow words → (outcome : Outcome) (print : List ℕ) → Comes outcome words source source_after volume volume_after trace print → IsShown outcome
+  only_shown show outcome print comes = by_case outcome print comes (asked_for outcome print comes)
+    where
+      by_case : (outcome : Outcome) (print : List ℕ) → Comes outcome words source source_after volume volume_after trace print → (outcome ≡ Words) ⊎ (IsPlay words ⊎ IsShown outcome) → IsShown outcome
+      by_case Words print comes (inl is) = absurd (comes.0 (inr show))
+      by_case outcome print comes (inl is) = absurd (cc (is))
+      by_case outcome print comes (inr (inl play)) = absurd (not_both words play show)
+      by_case outcome print comes (inr (inr shown)) = shown
+
+  left_unread : Concludes words source source_after sink sink_after volume volume_after status trace → IsShow words → source_after ≡ source
+  left_unread a show = (only_shown show a.outcome a.print a.comes).unread
+
+  shown_status : Concludes words source source_after sink sink_after volume volume_after status trace → IsShow words → Contains (0 ∷ 4 ∷ 5 ∷ 6 ∷ 8 ∷ []) status
+  shown_status a show = elim a.delivered [
+    | inl whole ↦ subst (Contains (0 ∷ 4 ∷ 5 ∷ 6 ∷ 8 ∷ [])) (sym whole.0) (only_shown show a.outcome a.print a.comes).status_is
+    | inr front ↦ elim front [ inl failed ↦ (1, omega arith, sym failed.0) | inr wanted ↦ (4, omega arith, sym wanted.0) ]
+  ]
 
   -- what was read to the end is what the source told
   all_read : (read bytes : List ℕ) → source.bytes ≡ Some bytes → ReadsDeck source read source_after → read ≡ bytes
   all_read read bytes told reads = whole_read source.bytes source_after.bytes read bytes told reads.taken reads.end
 
+  -- bytes that are no deck come to no outcome of lines
+  no_deck_due : (outcome : Outcome) (line : ℕ) (print : List ℕ) → IsOfLines outcome → IsDue (Deck line) words source.bytes volume volume_after
+      → (asked : IsPlay words) × (bytes : List ℕ) × ReadsDeck source bytes source_after × DealsWithBytes asked.0 volume volume_after bytes outcome trace print → ⊥
+  no_deck_due outcome line print of is_due comes =
+      let (asked, read, reads, deals) = comes in
+      let (lines, spelled) = is_deck outcome asked.0 volume volume_after read trace print of deals in
+      is_due.4 lines (subst (λ b. IsDeck b lines) (all_read read is_due.1 is_due.2 reads) spelled)
+
   -- what comes where nothing fails has the status of what is due, or is want of memory
-  due_outcome : (outcome due : Outcome) (bytes print : List ℕ) → source.bytes ≡ Some bytes → IsDue due words bytes volume volume_after → (Rose source.faults source_after.faults → ⊥)
-      → Comes outcome words source source_after volume volume_after trace print → Finds outcome volume volume_after → (status_of outcome ≡ status_of due) ⊎ (outcome ≡ NoMemory)
-  due_outcome NoMemory due bytes print told is_due sure comes finds = inr refl
-  due_outcome Source due bytes print told is_due sure comes finds = absurd (sure comes.1)
-  due_outcome outcome Source bytes print told is_due sure comes finds = absurd is_due
-  due_outcome outcome NoMemory bytes print told is_due sure comes finds = absurd is_due
-  due_outcome outcome Down bytes print told is_due sure comes finds = absurd is_due
-  due_outcome outcome (Damaged set page) bytes print told is_due sure comes finds = absurd is_due
-  due_outcome outcome Device bytes print told is_due sure comes finds = absurd is_due
-  due_outcome Words Words bytes print told is_due sure comes finds = inl refl
-  due_outcome Words Played bytes print told is_due sure comes finds = absurd (comes.0 is_due.0)
-  due_outcome Words (Deck line) bytes print told is_due sure comes finds = absurd (comes.0 is_due.0)
-  due_outcome Words Long bytes print told is_due sure comes finds = absurd (comes.0 is_due.0)
-  due_outcome Long Long bytes print told is_due sure comes finds = inl refl
-  due_outcome Long Words bytes print told is_due sure comes finds = absurd (is_due comes.0)
-  due_outcome Long Played bytes print told is_due sure comes finds = absurd (too_many source.bytes source_after.bytes comes.1.0 bytes told comes.1.2 comes.1.1 is_due.1)
-  due_outcome Long (Deck line) bytes print told is_due sure comes finds = absurd (too_many source.bytes source_after.bytes comes.1.0 bytes told comes.1.2 comes.1.1 is_due.1)
-  due_outcome Played Played bytes print told is_due sure comes finds = inl refl
-  due_outcome (Deck line) (Deck other) bytes print told is_due sure comes finds = inl refl
-  due_outcome (Deck line) Played bytes print told is_due sure comes finds =
-      let (play, read, reads, deals) = comes in
+  played_due : (outcome due : Outcome) (print : List ℕ) → IsDue due words source.bytes volume volume_after → IsPlay words → (Rose source.faults source_after.faults → ⊥)
+      → PlaysTo outcome words source source_after volume volume_after trace print → Finds outcome volume volume_after → (status_of outcome ≡ status_of due) ⊎ (outcome ≡ NoMemory)
+  played_due NoMemory due print is_due play sure comes finds = inr refl
+  played_due Source due print is_due play sure comes finds = absurd (sure comes.1)
+  played_due Words due print is_due play sure comes finds = absurd comes.3
+  played_due Shown due print is_due play sure comes finds = absurd comes.3
+  played_due outcome Source print is_due play sure comes finds = absurd is_due
+  played_due outcome NoMemory print is_due play sure comes finds = absurd is_due
+  played_due outcome Down print is_due play sure comes finds = absurd is_due
+  played_due outcome (Damaged set page) print is_due play sure comes finds = absurd is_due
+  played_due outcome Device print is_due play sure comes finds = absurd is_due
+  played_due outcome Words print is_due play sure comes finds = absurd (is_due (inl play))
+  played_due outcome Shown print is_due play sure comes finds = absurd (not_both words play is_due.0)
+  played_due Played Played print is_due play sure comes finds = inl refl
+  played_due (Deck line) (Deck other) print is_due play sure comes finds = inl refl
+  played_due Long Long print is_due play sure comes finds = inl refl
+  played_due Long Played print is_due play sure comes finds = absurd (too_many source.bytes source_after.bytes comes.1.0 is_due.1 is_due.2 comes.1.2 comes.1.1 is_due.3)
+  played_due Long (Deck line) print is_due play sure comes finds = absurd (too_many source.bytes source_after.bytes comes.1.0 is_due.1 is_due.2 comes.1.2 comes.1.1 is_due.3)
+  played_due outcome Long print is_due play sure comes finds =
+      absurd (short_and_long comes.1 is_due.1 (all_read comes.1 is_due.1 is_due.2 comes.2) comes.2.short is_due.3)
+  played_due (Deck line) Played print is_due play sure comes finds =
+      let (asked, read, reads, deals) = comes in
       let (refused, none, printed) = deals in
-      let (lines, spelled) = is_due.2 in
-      absurd (refused.1 lines (subst (λ b. IsDeck b lines) (sym (all_read read bytes told reads)) spelled))
-  due_outcome Down Played bytes print told is_due sure comes finds = absurd (is_due.3.sure finds)
-  due_outcome Device Played bytes print told is_due sure comes finds = absurd (is_due.3.sure finds)
-  due_outcome (Damaged set page) Played bytes print told is_due sure comes finds = absurd (still_sound volume volume_after set page is_due.3 finds)
-  due_outcome outcome Words bytes print told is_due sure comes finds = absurd (is_due comes.0)
-  due_outcome Played (Deck line) bytes print told is_due sure comes finds =
-      let (play, read, reads, deals) = comes in
-      let (lines, spelled, printed) = deals in
-      absurd (is_due.2 lines (subst (λ b. IsDeck b lines) (all_read read bytes told reads) spelled))
-  due_outcome Down (Deck line) bytes print told is_due sure comes finds =
-      let (play, read, reads, deals) = comes in
-      let (lines, spelled, printed) = deals in
-      absurd (is_due.2 lines (subst (λ b. IsDeck b lines) (all_read read bytes told reads) spelled))
-  due_outcome (Damaged set page) (Deck line) bytes print told is_due sure comes finds =
-      let (play, read, reads, deals) = comes in
-      let (lines, spelled, none, printed) = deals in
-      absurd (is_due.2 lines (subst (λ b. IsDeck b lines) (all_read read bytes told reads) spelled))
-  due_outcome Device (Deck line) bytes print told is_due sure comes finds =
-      let (play, read, reads, deals) = comes in
-      let (lines, spelled, none) = deals in
-      absurd (is_due.2 lines (subst (λ b. IsDeck b lines) (all_read read bytes told reads) spelled))
-  due_outcome outcome Long bytes print told is_due sure comes finds =
-      absurd (short_and_long comes.1 bytes (all_read comes.1 bytes told comes.2) comes.2.short is_due.1)
+      let (lines, spelled) = is_due.4 in
+      absurd (refused.1 lines (subst (λ b. IsDeck b lines) (sym (all_read read is_due.1 is_due.2 reads)) spelled))
+  played_due Down Played print is_due play sure comes finds = absurd (is_due.5.sure finds)
+  played_due Device Played print is_due play sure comes finds = absurd (is_due.5.sure finds)
+  played_due (Damaged set page) Played print is_due play sure comes finds = absurd (still_sound volume volume_after set page is_due.5 finds)
+  played_due Played (Deck line) print is_due play sure comes finds = absurd (no_deck_due Played line print tt is_due comes)
+  played_due Down (Deck line) print is_due play sure comes finds = absurd (no_deck_due Down line print tt is_due comes)
+  played_due (Damaged set page) (Deck line) print is_due play sure comes finds = absurd (no_deck_due (Damaged set page) line print tt is_due comes)
+  played_due Device (Deck line) print is_due play sure comes finds = absurd (no_deck_due Device line print tt is_due comes)
+
+  shown_due : (outcome due : Outcome) (print : List ℕ) → IsDue due words source.bytes volume volume_after → IsShow words
+      → ShowsTo outcome words source source_after volume volume_after trace print → Finds outcome volume volume_after → (status_of outcome ≡ status_of due) ⊎ (outcome ≡ NoMemory)
+  shown_due NoMemory due print is_due show comes finds = inr refl
+  shown_due outcome Source print is_due show comes finds = absurd is_due
+  shown_due outcome NoMemory print is_due show comes finds = absurd is_due
+  shown_due outcome Down print is_due show comes finds = absurd is_due
+  shown_due outcome (Damaged set page) print is_due show comes finds = absurd is_due
+  shown_due outcome Device print is_due show comes finds = absurd is_due
+  shown_due outcome Words print is_due show comes finds = absurd (is_due (inr show))
+  shown_due outcome Played print is_due show comes finds = absurd (not_both words is_due.0 show)
+  shown_due outcome (Deck line) print is_due show comes finds = absurd (not_both words is_due.0 show)
+  shown_due outcome Long print is_due show comes finds = absurd (not_both words is_due.0 show)
+  shown_due Shown Shown print is_due show comes finds = inl refl
+  shown_due (Damaged set page) Shown print is_due show comes finds = absurd (still_sound volume volume_after set page is_due.1 finds)
+  shown_due Device Shown print is_due show comes finds = absurd (is_due.1.sure finds)
+  shown_due outcome Shown print is_due show comes finds = absurd comes
+
+  due_outcome : (outcome due : Outcome) (print : List ℕ) → IsDue due words source.bytes volume volume_after → (Rose source.faults source_after.faults → ⊥)
+      → Comes outcome words source source_after volume volume_after trace print → Finds outcome volume volume_after → (status_of outcome ≡ status_of due) ⊎ (outcome ≡ NoMemory)
+  due_outcome Words Played print is_due sure comes finds = absurd (comes.0 (inl is_due.0))
+  due_outcome Words Shown print is_due sure comes finds = absurd (comes.0 (inr is_due.0))
+  due_outcome Words (Deck line) print is_due sure comes finds = absurd (comes.0 (inl is_due.0))
+  due_outcome Words Long print is_due sure comes finds = absurd (comes.0 (inl is_due.0))
+  due_outcome Words Words print is_due sure comes finds = inl refl
+  due_outcome Words due print is_due sure comes finds = absurd is_due
+  due_outcome outcome due print is_due sure comes finds = elim comes [
+    | inl played ↦ played_due outcome due print is_due (played_words outcome print played) sure played finds
+    | inr shown ↦ shown_due outcome due print is_due (is_shown outcome print shown).asked shown finds
+  ]
 
   gives_due : Concludes words source source_after sink sink_after volume volume_after status trace → GivesDue words source source_after sink sink_after volume volume_after status
-  gives_due a due bytes told is_due sure_source sure_sink = elim a.delivered [
-    | inl whole ↦ elim (due_outcome a.outcome due bytes a.print told is_due sure_source a.comes a.finds) [
+  gives_due a due is_due sure_source sure_sink = elim a.delivered [
+    | inl whole ↦ elim (due_outcome a.outcome due a.print is_due sure_source a.comes a.finds) [
       | inl same ↦ inl (whole.0 ∙ same)
       | inr none ↦ inr (whole.0 ∙ ap status_of none)
     ]
@@ -304,8 +424,11 @@ module _ (words : List (List ℕ)) (source source_after sink sink_after : Seen) 
     device = device;
     only = only;
     played = plays concludes;
+    shown = shows concludes;
     no_command = no_words concludes;
     other_words = other_words concludes;
+    unread = left_unread concludes;
+    layout = shown_status concludes;
     deck = no_deck concludes;
     source_failed = no_source concludes;
     sink_failed = no_sink concludes;

@@ -1,5 +1,5 @@
 -- From lines to the bytes that spell them.
-use Rattle.std.proofs.Common.{◌≡◌, ℕ, Bool, List, [], ◌∷◌, Result, Ok, Err, IfOk, OnErr, sym, ◌∙◌, ap, subst, append-nil, inl, inr, ◌⊎◌}
+use Rattle.std.proofs.Common.{◌≡◌, ℕ, Bool, List, [], ◌∷◌, Result, Ok, Err, IfOk, OnErr, refl, sym, ◌∙◌, ap, subst, append-nil, inl, inr, ◌⊎◌}
 use Rattle.rg_base.specs.declared.bytes.Bytes.{Bytes}
 use Rattle.rg_base.specs.declared.no_memory.NoMemory.{NoMemory as WantsMemory}
 use Rattle.rg_print.specs.Print.{print_text}
@@ -15,9 +15,13 @@ use Rattle.rg_run.specs.Played.{IsPlayed, TraceOf, TraceOfFront}
 use Rattle.rg_run.specs.Table.{Ends}
 use Rattle.rg_run.specs.declared.played.RunEnd.{RunEnd}
 use Rattle.rg_run.specs.declared.played.RunEnd.TheVariants.{Whole, Down as Ended}
-use Rattle.reorgdb.specs.Answer.{Comes, DealsWithBytes, DealsWithLines, IsDeck, IsPlay, ReadsDeck, Seen}
+use Rattle.rg_words.specs.Spelling.{IsAdmitted as Admitted, Spells}
+use Rattle.rg_words.specs.declared.words.Words.{Words as Asked}
+use Rattle.rg_words.specs.declared.words.Words.TheVariants as asks
+use Rattle.rg_words.specs.declared.words.Admits.TheVariants as upto
+use Rattle.reorgdb.specs.Answer.{IsCommand, Comes, DealsWithBytes, DealsWithLines, IsDeck, IsPlay, ReadsDeck, Seen, ShowsTo}
 use Rattle.reorgdb.specs.declared.outcome.Outcome.{Outcome}
-use Rattle.reorgdb.specs.declared.outcome.Outcome.TheVariants.{Played, Down, Words, Deck, Source, Damaged, Device, Long, NoMemory}
+use Rattle.reorgdb.specs.declared.outcome.Outcome.TheVariants.{Played, Down, Shown, Words, Deck, Source, Damaged, Device, Long, NoMemory}
 
 -- the trace of all lines is one of some first lines
 pub TraceOfFront-whole : (lines : List Line) (trace : List Entry) → TraceOf lines trace → TraceOfFront lines trace
@@ -35,6 +39,7 @@ DealsWithBytes-lines full volume volume_after Down bytes lines trace print spell
 DealsWithBytes-lines full volume volume_after (Damaged set page) bytes lines trace print spelled deals = (lines, spelled, deals.0, deals.1)
 DealsWithBytes-lines full volume volume_after Device bytes lines trace print spelled deals = (lines, spelled, deals)
 DealsWithBytes-lines full volume volume_after NoMemory bytes lines trace print spelled deals = front_of bytes lines trace spelled deals
+DealsWithBytes-lines full volume volume_after Shown bytes lines trace print spelled deals = deals
 DealsWithBytes-lines full volume volume_after Words bytes lines trace print spelled deals = deals
 DealsWithBytes-lines full volume volume_after (Deck line) bytes lines trace print spelled deals = absurd deals
 DealsWithBytes-lines full volume volume_after Source bytes lines trace print spelled deals = deals
@@ -65,15 +70,22 @@ prints_down full volume volume_after lines trace read shown end (Err e) outcome 
 -- what a call comes to whose words and bytes were read
 pub comes_read : (outcome : Outcome) (words : List (List ℕ)) (before after : Seen) (volume volume_after : VolumeSeen) (bytes : List ℕ) (trace : List Entry) (print : List ℕ) (asked : IsPlay words) → ReadsDeck before bytes after
     → DealsWithBytes asked.0 volume volume_after bytes outcome trace print → Comes outcome words before after volume volume_after trace print
-comes_read Played words before after volume volume_after bytes trace print asked reads deals = (asked, bytes, reads, deals)
-comes_read Down words before after volume volume_after bytes trace print asked reads deals = (asked, bytes, reads, deals)
-comes_read (Damaged set page) words before after volume volume_after bytes trace print asked reads deals = (asked, bytes, reads, deals)
-comes_read Device words before after volume volume_after bytes trace print asked reads deals = (asked, bytes, reads, deals)
-comes_read (Deck line) words before after volume volume_after bytes trace print asked reads deals = (asked, bytes, reads, deals)
-comes_read NoMemory words before after volume volume_after bytes trace print asked reads deals = (asked, inr (bytes, reads, deals))
 comes_read Words words before after volume volume_after bytes trace print asked reads deals = absurd deals
 comes_read Source words before after volume volume_after bytes trace print asked reads deals = absurd deals
 comes_read Long words before after volume volume_after bytes trace print asked reads deals = absurd deals
+comes_read NoMemory words before after volume volume_after bytes trace print asked reads deals = inl (asked, inr (bytes, reads, deals))
+comes_read outcome words before after volume volume_after bytes trace print asked reads deals = inl (asked, bytes, reads, deals)
+
+-- what a call comes to whose words ask for a layout
+pub comes_shown : (outcome : Outcome) (words : List (List ℕ)) (before after : Seen) (volume volume_after : VolumeSeen) (trace : List Entry) (print : List ℕ)
+    → ShowsTo outcome words before after volume volume_after trace print → Comes outcome words before after volume volume_after trace print
+comes_shown Words words before after volume volume_after trace print shows = absurd shows
+comes_shown outcome words before after volume volume_after trace print shows = inr shows
+
+-- words that are read as neither command ask for neither
+pub no_command : (words : List (List ℕ)) → ((asked : Asked) → Spells asked words → Admitted upto.Layout asked → ⊥) → IsCommand words → ⊥
+no_command words none (inl play) = none (asks.Play play.0) play.1 refl
+no_command words none (inr show) = none asks.Layout show refl
 
 -- statements and layouts are played
 each_played : (line : Line) → IsAdmitted Layouts line → IsPlayed line

@@ -1,3 +1,4 @@
 mod Causes
 mod Deals
 mod Pieces
+mod Shown

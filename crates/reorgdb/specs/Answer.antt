@@ -1,27 +1,34 @@
 -- What a call of the program comes to, and how its output is given.
-use Rattle.std.specs.Prelude.{ℕ, ◌≡◌, ◌≤◌, ◌⊎◌, Bool, List, [], Option, length}
+use Rattle.std.specs.Prelude.{ℕ, ◌≡◌, ◌≤◌, ◌⊎◌, Bool, true, List, [], ◌∷◌, Option, length}
 use Rattle.std.specs.Io.KnownBytes.{Consumes, Appends, IsAtEnd}
 use Rattle.rg_deck.specs.Grammar.{LinesOf, IsFirstOutside}
 use Rattle.rg_deck.specs.declared.read.Admits.TheVariants.{Layouts}
 use Rattle.rg_deck.specs.declared.read.TheConstants.{DECK_LIMIT}
+use Rattle.rg_model.specs.Layout.{is_right_side}
+use Rattle.rg_model.specs.State.{Table}
 use Rattle.rg_outside.specs.Faults.{Rose}
-use Rattle.rg_print.specs.Print.{damaged_text, print_text}
+use Rattle.rg_print.specs.Print.{damaged_text, print_layout_text, print_text}
 use Rattle.rg_print.specs.declared.print.Close.TheVariants as closes
 use Rattle.rg_desk.specs.Volume.{VolumeSeen}
 use Rattle.rg_run.specs.Outside.{IsEnd}
 use Rattle.rg_run.specs.Played.{TraceOf, TraceOfFront}
-use Rattle.rg_run.specs.Table.{EndsAtDown, EndsWhole}
+use Rattle.rg_run.specs.Table.{Begins, EndsAtDown, EndsWhole}
 use Rattle.rg_run.specs.declared.played.RunEnd.TheVariants as ends
+use Rattle.rg_stmt.specs.Entries.{opened_entry}
 use Rattle.rg_stmt.specs.declared.event.Entry.{Entry}
+use Rattle.rg_stmt.specs.declared.event.Event.TheVariants.{Layout}
+use Rattle.rg_stmt.specs.declared.layout.Side.{Side}
 use Rattle.rg_stmt.specs.declared.line.Line.{Line}
+use Rattle.rg_stmt.specs.declared.line.Line.TheVariants.{Show}
 use Rattle.rg_words.specs.Spelling.{Spells}
 use Rattle.rg_words.specs.declared.words.Words.TheVariants as asks
 use Rattle.reorgdb.specs.Giving.{GivesPrefix}
 use Rattle.reorgdb.specs.Reading.{TakesTooMany}
 use Rattle.reorgdb.specs.Refusals.{status_of, fixed_text, deck_refusal}
 use Rattle.reorgdb.specs.declared.outcome.Outcome.{Outcome}
-use Rattle.reorgdb.specs.declared.outcome.Outcome.TheVariants.{Played, Down, Words, Deck, Source}
-use Rattle.reorgdb.specs.declared.outcome.Outcome.TheVariants.{Damaged, Device, Long, NoMemory}
+use Rattle.reorgdb.specs.declared.outcome.Outcome.TheVariants.{Played, Down, Shown, Words, Deck}
+use Rattle.reorgdb.specs.declared.outcome.Outcome.TheVariants.{Source, Damaged, Device, Long}
+use Rattle.reorgdb.specs.declared.outcome.Outcome.TheVariants.{NoMemory}
 
 -- what is known of a source or a sink at one moment: the bytes that it has left or holds, where it
 -- reports them, and its count of faults
@@ -36,6 +43,14 @@ seen bytes faults x = record { bytes = bytes x; faults = faults x }
 -- the words ask for `play`, with full layouts or brief ones
 abbrev pub IsPlay : List (List ℕ) → Type 0
 IsPlay words = (full : Bool) × Spells (asks.Play full) words
+
+-- the words ask for `layout`
+abbrev pub IsShow : List (List ℕ) → Type 0
+IsShow words = Spells asks.Layout words
+
+-- the words ask for one of these
+abbrev pub IsCommand : List (List ℕ) → Type 0
+IsCommand words = IsPlay words ⊎ IsShow words
 
 -- the bytes are statements and layouts, one to a line
 abbrev pub IsDeck : List ℕ → List Line → Type 0
@@ -73,6 +88,37 @@ pub record PrintsDown
   pub down : EndsAtDown volume volume_after trace
   pub printed : print ≡ print_text trace full closes.Down
 
+-- the trace is an opening and a layout, and this is the layout's text in full
+pub record IsLayoutText (trace : List Entry) (text : List ℕ) : Type 0 where
+  pub first : Entry
+  pub entry : Entry
+  pub copy : ℕ
+  pub side : Side
+  pub are : trace ≡ first ∷ entry ∷ []
+  pub event : entry.event ≡ Layout copy side
+  pub printed : text ≡ print_layout_text copy side
+
+-- The trace is an opening and a layout of the copy that was opened. The layout is right for the
+-- table that the log stored, and the text is that layout in full.
+pub record ShowsLayout
+    (volume volume_after : VolumeSeen) (trace : List Entry) (text : List ℕ) : Type 0 where
+  pub copy : ℕ
+  pub rows : ℕ
+  pub pages : ℕ
+  pub used : ℕ
+  pub first : Entry
+  pub entry : Entry
+  pub side : Side
+  pub are : trace ≡ first ∷ entry ∷ []
+  pub opened : first ≡ opened_entry copy rows pages used first.calls
+  pub event : entry.event ≡ Layout copy side
+  pub start : Table
+  pub begun : Begins volume volume_after start
+  pub right : is_right_side start side ≡ true
+  pub count : ℕ
+  pub ends : EndsWhole volume volume_after trace count
+  pub printed : text ≡ print_layout_text copy side
+
 -- what lines that were read come to
 abbrev pub DealsWithLines :
     Bool → (volume volume_after : VolumeSeen) → List Line → Outcome → List Entry → List ℕ
@@ -86,6 +132,7 @@ DealsWithLines full volume volume_after lines (Damaged set page) trace print =
 DealsWithLines full volume volume_after lines Device trace print = trace ≡ []
 DealsWithLines full volume volume_after lines NoMemory trace print =
     (trace ≡ []) ⊎ TraceOfFront lines trace
+DealsWithLines full volume volume_after lines Shown trace print = ⊥
 DealsWithLines full volume volume_after lines Words trace print = ⊥
 DealsWithLines full volume volume_after lines (Deck line) trace print = ⊥
 DealsWithLines full volume volume_after lines Source trace print = ⊥
@@ -108,45 +155,57 @@ DealsWithBytes full volume volume_after bytes (Deck line) trace print =
     IsRefusedAt bytes line × (trace ≡ []) × (print ≡ deck_refusal line)
 DealsWithBytes full volume volume_after bytes NoMemory trace print =
     (trace ≡ []) ⊎ ((lines : List Line) × IsDeck bytes lines × TraceOfFront lines trace)
+DealsWithBytes full volume volume_after bytes Shown trace print = ⊥
 DealsWithBytes full volume volume_after bytes Words trace print = ⊥
 DealsWithBytes full volume volume_after bytes Source trace print = ⊥
 DealsWithBytes full volume volume_after bytes Long trace print = ⊥
+
+-- What a layout comes to that was asked for. The source is left as it was.
+abbrev pub ShowsTo :
+    Outcome → List (List ℕ) → Seen → Seen → (volume volume_after : VolumeSeen) → List Entry
+    → List ℕ → Type 0
+ShowsTo Shown words before after volume volume_after trace print =
+    IsShow words × (after ≡ before) × ShowsLayout volume volume_after trace print
+ShowsTo (Damaged set page) words before after volume volume_after trace print =
+    IsShow words × (after ≡ before) × (trace ≡ []) × (print ≡ damaged_text set page)
+ShowsTo Device words before after volume volume_after trace print =
+    IsShow words × (after ≡ before) × (trace ≡ [])
+ShowsTo NoMemory words before after volume volume_after trace print =
+    IsShow words × (after ≡ before) × ((trace ≡ []) ⊎ TraceOfFront (Show ∷ []) trace)
+ShowsTo outcome words before after volume volume_after trace print = ⊥
+
+-- what a deck comes to that was to be played
+abbrev pub PlaysTo :
+    Outcome → List (List ℕ) → Seen → Seen → (volume volume_after : VolumeSeen) → List Entry
+    → List ℕ → Type 0
+PlaysTo Source words before after volume volume_after trace print =
+    IsPlay words × Rose before.faults after.faults × (trace ≡ [])
+PlaysTo Long words before after volume volume_after trace print =
+    IsPlay words × TakesTooMany before.bytes after.bytes × (trace ≡ [])
+PlaysTo NoMemory words before after volume volume_after trace print =
+    (asked : IsPlay words)
+    × ((trace ≡ [])
+    ⊎ ((bytes : List ℕ) × ReadsDeck before bytes after
+    × DealsWithBytes asked.0 volume volume_after bytes NoMemory trace print))
+PlaysTo outcome words before after volume volume_after trace print =
+    (asked : IsPlay words) × (bytes : List ℕ) × ReadsDeck before bytes after
+    × DealsWithBytes asked.0 volume volume_after bytes outcome trace print
 
 -- what each outcome says of the call before its output is given
 abbrev pub Comes :
     Outcome → List (List ℕ) → Seen → Seen → (volume volume_after : VolumeSeen) → List Entry
     → List ℕ → Type 0
-Comes Played words before after volume volume_after trace print =
-    (asked : IsPlay words) × (bytes : List ℕ) × ReadsDeck before bytes after
-    × DealsWithBytes asked.0 volume volume_after bytes Played trace print
-Comes Down words before after volume volume_after trace print =
-    (asked : IsPlay words) × (bytes : List ℕ) × ReadsDeck before bytes after
-    × DealsWithBytes asked.0 volume volume_after bytes Down trace print
-Comes (Damaged set page) words before after volume volume_after trace print =
-    (asked : IsPlay words) × (bytes : List ℕ) × ReadsDeck before bytes after
-    × DealsWithBytes asked.0 volume volume_after bytes (Damaged set page) trace print
-Comes Device words before after volume volume_after trace print =
-    (asked : IsPlay words) × (bytes : List ℕ) × ReadsDeck before bytes after
-    × DealsWithBytes asked.0 volume volume_after bytes Device trace print
 Comes Words words before after volume volume_after trace print =
-    (IsPlay words → ⊥) × (after ≡ before) × (trace ≡ [])
-Comes (Deck line) words before after volume volume_after trace print =
-    (asked : IsPlay words) × (bytes : List ℕ) × ReadsDeck before bytes after
-    × DealsWithBytes asked.0 volume volume_after bytes (Deck line) trace print
-Comes Source words before after volume volume_after trace print =
-    IsPlay words × Rose before.faults after.faults × (trace ≡ [])
-Comes Long words before after volume volume_after trace print =
-    IsPlay words × TakesTooMany before.bytes after.bytes × (trace ≡ [])
-Comes NoMemory words before after volume volume_after trace print =
-    (asked : IsPlay words)
-    × ((trace ≡ [])
-    ⊎ ((bytes : List ℕ) × ReadsDeck before bytes after
-    × DealsWithBytes asked.0 volume volume_after bytes NoMemory trace print))
+    (IsCommand words → ⊥) × (after ≡ before) × (trace ≡ [])
+Comes outcome words before after volume volume_after trace print =
+    PlaysTo outcome words before after volume volume_after trace print
+    ⊎ ShowsTo outcome words before after volume volume_after trace print
 
 -- What each outcome says of the volume. A refusal before the opening calls it not.
 abbrev pub Finds : Outcome → (before after : VolumeSeen) → Type 0
 Finds Played before after = Unit {0}
 Finds Down before after = IsEnd before after ends.Down
+Finds Shown before after = Unit {0}
 Finds Words before after = after ≡ before
 Finds (Deck line) before after = after ≡ before
 Finds Source before after = after ≡ before
@@ -159,6 +218,7 @@ Finds NoMemory before after = Unit {0}
 abbrev pub output_of : Outcome → List ℕ → List ℕ
 output_of Played print = print
 output_of Down print = print
+output_of Shown print = print
 output_of (Damaged set page) print = print
 output_of (Deck line) print = print
 output_of outcome print = fixed_text outcome

@@ -1,5 +1,6 @@
 -- What each status of a call says, and which status is due.
-use Rattle.std.specs.Prelude.{ℕ, ◌≡◌, ◌<◌, ◌≤◌, ◌-◌, ◌^◌, ◌⊎◌, List, [], Some, length}
+use Rattle.std.specs.Prelude.{ℕ, ◌≡◌, ◌<◌, ◌≤◌, ◌-◌, ◌^◌, ◌⊎◌, List, [], Option, Some}
+use Rattle.std.specs.Prelude.{length}
 use Rattle.std.specs.Io.KnownBytes.{Appends}
 use Rattle.rg_deck.specs.declared.read.TheConstants.{DECK_LIMIT}
 use Rattle.rg_outside.specs.Faults.{Rose}
@@ -15,12 +16,13 @@ use Rattle.rg_run.specs.Played.{TraceOf}
 use Rattle.rg_run.specs.Table.{EndsWhole}
 use Rattle.rg_stmt.specs.declared.event.Entry.{Entry}
 use Rattle.rg_stmt.specs.declared.line.Line.{Line}
-use Rattle.reorgdb.specs.Answer.{Seen, IsPlay, IsDeck, IsNoDeck, IsRefusedAt, ReadsDeck}
+use Rattle.reorgdb.specs.Answer.{Seen, IsPlay, IsShow, IsCommand, IsDeck, IsNoDeck, IsRefusedAt}
+use Rattle.reorgdb.specs.Answer.{ReadsDeck, ShowsLayout}
 use Rattle.reorgdb.specs.Refusals.{status_of, deck_refusal}
 use Rattle.reorgdb.specs.declared.outcome.Outcome.{Outcome}
 use Rattle.reorgdb.specs.declared.outcome.Outcome.TheVariants as outcomes
 
--- Status 0: the source was read to its end, its bytes are statements and layouts, the trace is
+-- Status 0 of `play`: the source was read to its end, its bytes are statements and layouts, the trace is
 -- theirs, and its print was appended to what the sink held, with layouts as the words ask. The
 -- committed rows are as many as the print says, and the volume stores them.
 pub record Plays (words : List (List ℕ)) (source source_after sink sink_after : Seen)
@@ -35,6 +37,15 @@ pub record Plays (words : List (List ℕ)) (source source_after sink sink_after 
   pub counted : EndsWhole volume volume_after trace rows
   pub shown : Appends sink.bytes sink_after.bytes (print_text trace asked.0 (closes.Rows rows))
 
+-- Status 0 of `layout`: the source was left as it was, and the sink got the layout in full of the
+-- copy that was opened. It is right for the table that the log stored.
+pub record Shows (source source_after sink sink_after : Seen) (volume volume_after : VolumeSeen)
+    (trace : List Entry) : Type 0 where
+  pub unread : source_after ≡ source
+  pub text : List ℕ
+  pub layout : ShowsLayout volume volume_after trace text
+  pub shown : Appends sink.bytes sink_after.bytes text
+
 -- Status 2: the source was read to its end, and the sink got the number of the first line that is
 -- outside the grammar, or neither a statement nor a layout.
 pub record RefusesDeck (source source_after sink sink_after : Seen) : Type 0 where
@@ -45,7 +56,7 @@ pub record RefusesDeck (source source_after sink sink_after : Seen) : Type 0 whe
   pub shown : Appends sink.bytes sink_after.bytes (deck_refusal line)
 
 -- Status 5: this page breaks a rule of a sound volume, the first one that is broken. No line was
--- played, and the sink got the page.
+-- played, no layout shown, and the sink got the page.
 pub record RefusesVolume (sink sink_after : Seen) (volume volume_after : VolumeSeen)
     (trace : List Entry) : Type 0 where
   pub set : Set
@@ -65,27 +76,25 @@ pub record IsSoundVolume (before after : VolumeSeen) : Type 0 where
   pub few : length new.calls < 2 ^ 64 - 1
   pub sure : Rose before.faults after.faults → ⊥
 
--- what is due for these words and these bytes of the source, where nothing fails
-abbrev pub IsDue : Outcome → List (List ℕ) → List ℕ → (before after : VolumeSeen) → Type 0
-IsDue outcomes.Played words bytes before after =
-    IsPlay words × (length bytes ≤ DECK_LIMIT)
+-- what is due for these words, and for the bytes that the source tells, where nothing fails
+abbrev pub IsDue :
+    Outcome → List (List ℕ) → Option (List ℕ) → (before after : VolumeSeen) → Type 0
+IsDue outcomes.Played words told before after =
+    IsPlay words × (bytes : List ℕ) × (told ≡ Some bytes) × (length bytes ≤ DECK_LIMIT)
     × ((lines : List Line) × IsDeck bytes lines) × IsSoundVolume before after
-IsDue outcomes.Down words bytes before after = ⊥
-IsDue outcomes.Words words bytes before after = IsPlay words → ⊥
-IsDue (outcomes.Deck line) words bytes before after =
-    IsPlay words × (length bytes ≤ DECK_LIMIT) × IsNoDeck bytes
-IsDue outcomes.Long words bytes before after = IsPlay words × (DECK_LIMIT < length bytes)
-IsDue outcomes.Source words bytes before after = ⊥
-IsDue (outcomes.Damaged set page) words bytes before after = ⊥
-IsDue outcomes.Device words bytes before after = ⊥
-IsDue outcomes.NoMemory words bytes before after = ⊥
+IsDue outcomes.Shown words told before after = IsShow words × IsSoundVolume before after
+IsDue outcomes.Words words told before after = IsCommand words → ⊥
+IsDue (outcomes.Deck line) words told before after =
+    IsPlay words × (bytes : List ℕ) × (told ≡ Some bytes) × (length bytes ≤ DECK_LIMIT)
+    × IsNoDeck bytes
+IsDue outcomes.Long words told before after =
+    IsPlay words × (bytes : List ℕ) × (told ≡ Some bytes) × (DECK_LIMIT < length bytes)
+IsDue outcome words told before after = ⊥
 
--- Where the source reports its bytes and neither it nor the sink fails, the status is the one that
--- is due, or 8.
+-- Where neither source nor sink fails, the status is the one that is due, or 8.
 abbrev pub GivesDue :
     List (List ℕ) → Seen → Seen → Seen → Seen → VolumeSeen → VolumeSeen → ℕ → Type 0
 GivesDue words source source_after sink sink_after volume volume_after status =
-    (due : Outcome) (bytes : List ℕ) → source.bytes ≡ Some bytes
-    → IsDue due words bytes volume volume_after
+    (due : Outcome) → IsDue due words source.bytes volume volume_after
     → (Rose source.faults source_after.faults → ⊥) → (Rose sink.faults sink_after.faults → ⊥)
     → (status ≡ status_of due) ⊎ (status ≡ 8)

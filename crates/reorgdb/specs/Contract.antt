@@ -16,8 +16,8 @@ use Rattle.rg_log.specs.Kept.{log_pages}
 use Rattle.rg_run.specs.Full.{IsFullOnlyFrom, smaller_pages}
 use Rattle.rg_run.specs.LogFull.{IsLogFullOnlyFrom}
 use Rattle.rg_stmt.specs.declared.event.Entry.{Entry}
-use Rattle.reorgdb.specs.Answer.{Seen, IsPlay, Concludes}
-use Rattle.reorgdb.specs.Causes.{Plays, RefusesDeck, RefusesVolume, GivesDue}
+use Rattle.reorgdb.specs.Answer.{Seen, IsPlay, IsShow, IsCommand, Concludes}
+use Rattle.reorgdb.specs.Causes.{Plays, Shows, RefusesDeck, RefusesVolume, GivesDue}
 use Rattle.reorgdb.specs.Reading.{TakesAtMost, TakesTooMany}
 
 pub record Completes (words : List (List ℕ)) (source source_after sink sink_after : Seen)
@@ -42,15 +42,22 @@ pub record Completes (words : List (List ℕ)) (source source_after sink sink_af
   pub device : IsDeviceOnlyIf (Rose volume.faults volume_after.faults) trace
   -- No page of a copy is written.
   pub only : MakesOnly (WritesIn Log) volume.told volume_after.told
-  -- Status 0: the deck was played, and its print given. Whatever a crash leaves of the volume then
-  -- stores the committed rows, if the log read tidy when the call began.
+  -- Status 0 of `play`: the deck was played, and its print given. Whatever a crash leaves of the
+  -- volume then stores the committed rows, if the log read tidy when the call began.
   pub played :
-      status ≡ 0
+      status ≡ 0 → IsPlay words
       → Plays words source source_after sink sink_after volume volume_after trace
-  -- Status 1 is returned only if the words do not ask for `play`; then no other is but 4 and 8. It
-  -- and the statuses 2, 3 and 7 call no volume.
-  pub no_command : status ≡ 1 → IsPlay words → ⊥
-  pub other_words : (IsPlay words → ⊥) → Contains (1 ∷ 4 ∷ 8 ∷ []) status
+  -- Status 0 of `layout`: the volume was opened, and its layout given in full.
+  pub shown :
+      status ≡ 0 → IsShow words
+      → Shows source source_after sink sink_after volume volume_after trace
+  -- Status 1 is returned only if the words ask for neither; then no other is but 4 and 8. It and
+  -- the statuses 2, 3 and 7 call no volume.
+  pub no_command : status ≡ 1 → IsCommand words → ⊥
+  pub other_words : (IsCommand words → ⊥) → Contains (1 ∷ 4 ∷ 8 ∷ []) status
+  -- `layout` takes nothing from the source, and has no other statuses.
+  pub unread : IsShow words → source_after ≡ source
+  pub layout : IsShow words → Contains (0 ∷ 4 ∷ 5 ∷ 6 ∷ 8 ∷ []) status
   -- Status 2: the bytes were read to their end, and the output names the first line that is outside
   -- the grammar, or neither a statement nor a layout.
   pub deck : status ≡ 2 → RefusesDeck source source_after sink sink_after
@@ -64,7 +71,7 @@ pub record Completes (words : List (List ℕ)) (source source_after sink sink_af
   pub volume_failed : status ≡ 6 → Rose volume.faults volume_after.faults
   -- Status 7: one byte more than the limit was read.
   pub long : status ≡ 7 → TakesTooMany source.bytes source_after.bytes
-  -- Where the source reports its bytes and nothing fails, the status is the one that is due, or 8.
-  -- For a deck that is to be played the volume reports, too, and reads sound.
+  -- Where nothing fails, the status is the one that is due, or 8. For a deck the source reports its
+  -- bytes. To be played or opened the volume reports, too, and reads sound.
   pub due : GivesDue words source source_after sink sink_after volume volume_after status
   pub bounded : TakesAtMost (DECK_LIMIT + 1) source.bytes source_after.bytes

@@ -7,6 +7,7 @@ use Rattle.reorgdb.specs.declared.outcome.Outcome.TheVariants as outcomes
 abbrev pub status_of : Outcome → ℕ
 status_of outcomes.Played = 0
 status_of outcomes.Down = 6
+status_of outcomes.Shown = 0
 status_of outcomes.Words = 1
 status_of (outcomes.Deck line) = 2
 status_of outcomes.Source = 3
@@ -19,6 +20,7 @@ status_of outcomes.NoMemory = 8
 abbrev pub fixed_text : Outcome → List ℕ
 fixed_text outcomes.Played = codes ""
 fixed_text outcomes.Down = codes ""
+fixed_text outcomes.Shown = codes ""
 fixed_text outcomes.Words = codes "REFUSED words\n"
 fixed_text (outcomes.Deck line) = codes ""
 fixed_text outcomes.Source = codes "REFUSED source\n"

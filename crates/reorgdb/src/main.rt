@@ -1,5 +1,5 @@
 //! Plays a deck of statements, read from standard input, over the volume `reorgdb.vol`, and prints
-//! every reply.
+//! every reply; or prints the layout of that volume.
 #![tactic(auto)]
 
 use edge::IdleOperator;

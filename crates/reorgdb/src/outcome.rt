@@ -17,6 +17,8 @@ pub enum Outcome {
     Played,
     /// The deck was read to its end and played, and the device refused a COMMIT. Status 6.
     Down,
+    /// The volume was opened and its layout made. Status 0.
+    Shown,
     /// The words are not those of a command. Status 1.
     Words,
     /// Line `line` of the deck, counted from 1, is the first that is outside the grammar or no
@@ -39,7 +41,7 @@ impl Outcome {
         ensures { result ≡ status_of self }
     {
         match self {
-            Outcome::Played => 0,
+            Outcome::Played | Outcome::Shown => 0,
             Outcome::Words => 1,
             Outcome::Deck { .. } => 2,
             Outcome::Source => 3,
@@ -62,6 +64,7 @@ impl Outcome {
             Outcome::Long => b"REFUSED deck long\n",
             Outcome::Played
             | Outcome::Down
+            | Outcome::Shown
             | Outcome::Deck { .. }
             | Outcome::Damaged { .. }
             | Outcome::NoMemory => b"",

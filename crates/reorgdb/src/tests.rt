@@ -323,18 +323,41 @@ fn first_session(rt: HostRuntime) -> Result<(), Fail> {
     Ok(())
 }
 
-// What a call over this volume prints, and its status and the entries of its trace.
+// What a call for these words over this volume prints, and its status and the entries of its trace.
+fn print_for(
+    alloc: Global,
+    words: &[&str],
+    volume: MemVolume,
+    source: &mut BytesSource<'_>,
+) -> Result<(Came, Vec<u8>), AllocError> {
+    let words = owned(alloc, words)?;
+    let operator = Box::new(alloc, IdleOperator)?;
+    let mut sink = whole(alloc, ALL);
+    let finished = reorg_alone(alloc, &words, source, &mut sink, volume, operator);
+    Ok((came(&finished), sink.held().to_vec(alloc)?))
+}
+
+// The same, for a deck that is played.
 fn print_over(
     alloc: Global,
     volume: MemVolume,
     deck: &[u8],
 ) -> Result<(Came, Vec<u8>), AllocError> {
+    print_for(
+        alloc,
+        &PLAY,
+        volume,
+        &mut BytesSource::new(deck, ALL, NEVER),
+    )
+}
+
+// The volume that a call leaves which plays this deck.
+fn played_over(alloc: Global, volume: MemVolume, deck: &[u8]) -> Result<MemVolume, AllocError> {
     let words = owned(alloc, &PLAY)?;
     let operator = Box::new(alloc, IdleOperator)?;
     let mut source = BytesSource::new(deck, ALL, NEVER);
     let mut sink = whole(alloc, ALL);
-    let finished = reorg_alone(alloc, &words, &mut source, &mut sink, volume, operator);
-    Ok((came(&finished), sink.held().to_vec(alloc)?))
+    Ok(reorg_alone(alloc, &words, &mut source, &mut sink, volume, operator).volume)
 }
 
 // The write of the COMMIT fails, or its sync: the print says DOWN. The calls of the opening fail
@@ -375,13 +398,8 @@ fn refuses_a_torn_log(rt: HostRuntime) -> Result<(), Fail> {
 #[test]
 fn goes_on(rt: HostRuntime) -> Result<(), Fail> {
     let alloc = rt.alloc();
-    let words = owned(alloc, &PLAY)?;
-    let operator = Box::new(alloc, IdleOperator)?;
     let deck = b"1 INSERT 5 50 1 abc\n1 COMMIT\n2 DELETE 5\n3 INSERT 6 60 1 d\n4 COMMIT\n";
-    let mut source = BytesSource::new(deck, ALL, NEVER);
-    let mut sink = whole(alloc, ALL);
-    let fresh = volume(alloc, 1)?;
-    let used = reorg_alone(alloc, &words, &mut source, &mut sink, fresh, operator).volume;
+    let used = played_over(alloc, volume(alloc, 1)?, deck)?;
     let (came, printed) = print_over(alloc, used, b"1 SELECT 5\n1 SELECT 6\n")?;
     let print = b"0 - OPENED copy=1 rows=1 pages=1\n1 1 ROW 5 50 1 abc\n2 1 100 NONE\n\
         END entries=3 rows=1\n";

@@ -37,10 +37,10 @@ pub struct Finished<V> {
     pub operator: Box<dyn Operator + Send>,
 }
 
-/// The call of the program: reads the words, then the whole deck from the source, opens the volume,
-/// whose log must not have a record yet, plays the deck over the table that the log stores, and
-/// gives the whole print to the sink. It does all that `reorg_alone` says, in one call of it; no
-/// command uses the runtime yet.
+/// The call of the program. For `play` it reads the whole deck from the source, opens the volume,
+/// plays the deck over the table that the log stores, and gives the whole print to the sink. For
+/// `layout` it reads nothing, opens the volume, and gives its layout in full. It does all that
+/// `reorg_alone` says, in one call of it; no command uses the runtime yet.
 pub fn reorg_main<R: Threads + Wait + Clock + Sync, S: Source, K: Sink, V: Volume + Send>(
     rt: &R,
     alloc: Global,

@@ -1,10 +1,11 @@
 // A call up to its output.
-// (1) The words are looked at first. Where they are no command, the source isn't read.
+// (1) The words are looked at first. Where they do not ask for `play`, the source isn't read.
 // (2) The whole deck is read before any line of it is played.
 // (3) The whole output is made before any of it is given.
 // (4) The volume is opened after the deck was read, and before any line is played. A call that is
 //     refused before calls it not. The operator is not asked.
-ghost use Rattle.std.specs.Prelude.{ℕ, ◌≡◌, ◌≤◌, ◌+◌, ◌*◌, [], Bool, List, length, map, IfOk, IfSome, IfNone, OnErr};
+// (5) A layout that is asked for is the one of a deck of a single line `L`, in full.
+ghost use Rattle.std.specs.Prelude.{ℕ, ◌≡◌, ◌≤◌, ◌+◌, ◌*◌, [], ◌∷◌, Bool, List, length, map, IfOk, OnErr};
 ghost use Rattle.std.specs.Prelude.{string_bytes};
 ghost use Rattle.rg_stmt.specs.declared.line.Line.{Line};
 ghost use Rattle.rg_base.specs.declared.set.Set.TheVariants.{Log};
@@ -17,10 +18,8 @@ ghost use Rattle.rg_run.specs.Full.{IsFullOnlyFrom, smaller_pages};
 ghost use Rattle.rg_run.specs.LogFull.{IsLogFullOnlyFrom};
 ghost use Rattle.rg_run.specs.Outside.{IsDeviceOnlyIf, IsEnd, MakesOnly};
 ghost use Rattle.rg_run.specs.Table.{Ends, IsLegalRun, IsOpening};
-ghost use Rattle.rg_words.specs.Spelling.{Spells};
-ghost use Rattle.rg_words.specs.declared.words.Words.TheVariants as asks;
-ghost use Rattle.reorgdb.specs.Answer.{Seen, seen, IsPlay, IsRefusedAt, DealsWithLines, DealsWithBytes};
-ghost use Rattle.reorgdb.specs.Answer.{Comes, Finds, output_of};
+ghost use Rattle.reorgdb.specs.Answer.{Seen, seen, IsShow, IsRefusedAt, DealsWithLines, DealsWithBytes};
+ghost use Rattle.reorgdb.specs.Answer.{Comes, Finds, IsLayoutText, ShowsTo, output_of};
 ghost use Rattle.reorgdb.specs.Reading.{TakesAtMost};
 
 use crate::outcome::{Outcome, damaged_refusal, deck_refusal};
@@ -31,12 +30,13 @@ use rg_deck::read::{Admits, DECK_LIMIT, DeckFault, read_admitted};
 use rg_outside::operator::Operator;
 use rg_outside::source::Source;
 use rg_outside::volume::Volume;
-use rg_print::print::{Close, print};
+use rg_print::print::{Close, print, print_layout};
 use rg_run::played::{Played, RunEnd};
 use rg_run::run::run;
-use rg_stmt::event::Entry;
+use rg_stmt::event::{Entry, Event};
+use rg_stmt::line::Line;
 use rg_words::words;
-use rg_words::words::Words;
+use rg_words::words::{Words, WordsFault};
 use std::alloc::Global;
 
 /// A call before its output is given: what it comes to, the trace, the print or the refusal of a
@@ -116,15 +116,18 @@ impl<V, O> Work<V, O> {
         ensures { result.now ≡ output_of self.now.outcome self.now.print }
     {
         match self.outcome {
-            Outcome::Played | Outcome::Down | Outcome::Deck { .. } | Outcome::Damaged { .. } => {
-                self.print.as_slice()
-            }
+            Outcome::Played
+            | Outcome::Down
+            | Outcome::Shown
+            | Outcome::Deck { .. }
+            | Outcome::Damaged { .. } => self.print.as_slice(),
             other => other.fixed_text(),
         }
     }
 }
 
-/// Reads the words, then the whole deck, and plays it.
+/// Reads the words. For `play` it reads the whole deck, and plays it; for `layout` it opens the
+/// volume and makes its layout.
 pub fn carry_out<S: Source, V: Volume, O: Operator>(
     alloc: Global,
     words: &[String],
@@ -154,8 +157,11 @@ pub fn carry_out<S: Source, V: Volume, O: Operator>(
     ensures only { MakesOnly (WritesIn Log) (V.told volume) (V.told result.volume) }
     ensures operator { result.operator ≡ operator }
 {
-    let Some(full) = asks_play(words) else {
-        return Work::bare(alloc, Outcome::Words, volume, operator);
+    let full = match words::read_admitted(words, words::Admits::Layout) {
+        Ok(Words::Play { full }) => full,
+        Ok(Words::Layout) => return show_layout(alloc, volume, operator),
+        Ok(Words::Threads { .. } | Words::Gen { .. } | Words::Judge) => unreachable!(),
+        Err(WordsFault::Unknown) => return Work::bare(alloc, Outcome::Words, volume, operator),
     };
     match read_source(alloc, source) {
         Ok(bytes) => play_bytes(alloc, &bytes, full, volume, operator),
@@ -165,17 +171,31 @@ pub fn carry_out<S: Source, V: Volume, O: Operator>(
     }
 }
 
-// Whether layouts are to be full, where the words ask for `play`.
-fn asks_play(words: &[String]) -> Option<bool>
-    ensures asked { IfSome result (λ full. Spells (asks.Play full) (map string_bytes words.now)) }
-    ensures none { IfNone result (IsPlay (map string_bytes words.now) → ⊥) }
+// Opens the volume and makes its layout, which is that of a deck of one line.
+fn show_layout<V: Volume, O: Operator>(alloc: Global, volume: V, operator: O) -> Work<V, O>
+    ensures shows { (words : List (List ℕ)) (source : Seen) → IsShow words
+        → ShowsTo result.outcome words source source
+        (seen_volume V.told V.faults V.capacities volume)
+        (seen_volume V.told V.faults V.capacities result.volume) result.trace.items result.print }
+    ensures legal { IsLegalRun (seen_volume V.told V.faults V.capacities volume)
+        (seen_volume V.told V.faults V.capacities result.volume) result.trace.items }
+    ensures opening { IsOpening (seen_volume V.told V.faults V.capacities volume)
+        (seen_volume V.told V.faults V.capacities result.volume) result.trace.items }
+    ensures full { IsFullOnlyFrom (3221 * smaller_pages (V.capacities volume)) 0
+        result.trace.items }
+    ensures log_full { IsLogFullOnlyFrom (limit_of (log_pages (V.capacities volume))) 0
+        result.trace.items }
+    ensures device { IsDeviceOnlyIf (Rose (V.faults volume) (V.faults result.volume))
+        result.trace.items }
+    ensures finds { Finds result.outcome (seen_volume V.told V.faults V.capacities volume)
+        (seen_volume V.told V.faults V.capacities result.volume) }
+    ensures only { MakesOnly (WritesIn Log) (V.told volume) (V.told result.volume) }
+    ensures operator { result.operator ≡ operator }
 {
-    let Ok(asked) = words::read_admitted(words, words::Admits::Play) else {
-        return None;
-    };
-    match asked {
-        Words::Play { full } => Some(full),
-        Words::Threads { .. } | Words::Gen { .. } | Words::Judge | Words::Layout => unreachable!(),
+    let mut lines = Vec::new(alloc);
+    match lines.push(Line::Show) {
+        Ok(()) => print_shown(alloc, run(alloc, volume, operator, lines)),
+        Err(_) => Work::bare(alloc, Outcome::NoMemory, volume, operator),
     }
 }
 
@@ -274,5 +294,58 @@ fn print_played<V, O>(alloc: Global, full: bool, played: Played<V, O>) -> Work<V
             let text = print(alloc, &trace, full, Close::Rows(rows));
             Work::with_text(alloc, Outcome::Played, text, trace, volume, operator)
         }
+    }
+}
+
+// A run of one line, which asks for the layout. That run does not end down.
+fn print_shown<V, O>(alloc: Global, played: Played<V, O>) -> Work<V, O>
+    ensures shows { (before after : VolumeSeen) (words : List (List ℕ)) (source : Seen)
+        → Ends before after (Line.Show ∷ []) played.trace.items played.end → IsShow words
+        → ShowsTo result.outcome words source source before after result.trace.items
+        result.print }
+    ensures finds { (before after : VolumeSeen) → IsEnd before after played.end →
+        Finds result.outcome before after }
+    ensures trace { result.trace.items ≡ played.trace.items }
+    ensures volume { result.volume ≡ played.volume }
+    ensures operator { result.operator ≡ played.operator }
+{
+    let Played {
+        volume,
+        operator,
+        trace,
+        end,
+    } = played;
+    match end {
+        RunEnd::NoMemory => Work::with_trace(alloc, Outcome::NoMemory, trace, volume, operator),
+        RunEnd::DeviceAtOpening | RunEnd::Down => Work::with_trace(
+            alloc,
+            Outcome::Device,
+            trace,
+            volume,
+            operator,
+        ),
+        RunEnd::Damaged { set, page } => {
+            let text = damaged_refusal(alloc, set, page);
+            let outcome = Outcome::Damaged { set, page };
+            Work::with_text(alloc, outcome, text, trace, volume, operator)
+        }
+        RunEnd::Whole { .. } => {
+            let text = layout_text(alloc, &trace);
+            Work::with_text(alloc, Outcome::Shown, text, trace, volume, operator)
+        }
+    }
+}
+
+// The layout in full that a trace of an opening and a layout has. There is none where there was no
+// memory for it.
+fn layout_text(alloc: Global, trace: &[Entry]) -> Result<Bytes, NoMemory>
+    ensures { IfOk result (λ text. IsLayoutText trace.now text) }
+{
+    match trace {
+        [_, entry] => match &entry.event {
+            Event::Layout { copy, side } => print_layout(alloc, *copy, side),
+            _ => Err(NoMemory),
+        },
+        _ => Err(NoMemory),
     }
 }

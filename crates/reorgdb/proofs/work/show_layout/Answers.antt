@@ -1,0 +1,14 @@
+use Rattle.std.proofs.Common.{◌≡◌, ◌++◌, List, [], ◌∷◌, sym, subst}
+use Rattle.rg_desk.specs.Volume.{seen_volume}
+use Rattle.rg_run.specs.Table.{Ends}
+use Rattle.rg_stmt.specs.declared.line.Line.{Line}
+use Rattle.rg_stmt.specs.declared.line.Line.TheVariants.{Show}
+use Rattle.reorgdb.proofs.work.show_layout.Goals as goal
+
+pub returns-in-Ok-clause-shows : goal.returns-in-Ok-clause-shows
+returns-in-Ok-clause-shows g c = λ words source show.
+    let look = seen_volume g.V.Volume.told g.V.Volume.faults g.V.Volume.capacities in
+    let lines : c.push.new.self.items ≡ Show ∷ [] = subst (λ (ls : List Line). c.push.new.self.items ≡ ls ++ Show ∷ []) c.new-lines.ensures.items c.in-Ok.ensures.items in
+    let ends = subst (λ (ls : List Line). Ends (look c.args.volume) (look c.run.result.volume) ls c.run.result.trace.items c.run.result.end) lines c.run.ensures.ends in
+    c.print_shown.ensures.shows (look c.args.volume) (look c.print_shown.result.volume) words source
+    (subst (λ (v : g.row.V.Denot). Ends (look c.args.volume) (look v) (Show ∷ []) c.run.result.trace.items c.run.result.end) (sym c.print_shown.ensures.volume) ends) show
