@@ -1,5 +1,8 @@
 use super::outside::BytesSource;
-use super::{ALL, NEVER, call_over, played_over, print_for, volume, volume_failing, whole};
+use super::{
+    ALL, NEVER, call_over, played_over, print_for, print_over, volume, volume_failing, whole,
+};
+use rg_mem::volume::MemVolume;
 use std::alloc::{AllocError, Global};
 use std::test::Fail;
 
@@ -68,6 +71,28 @@ fn fills_a_copy_of_one_page(rt: HostRuntime) -> Result<(), Fail> {
         6 1 OK\nEND entries=7 rows=4\n"
         .as_slice();
     assert_eq!(rt; sink.held(), print);
+    Ok(())
+}
+
+// A log of three pages has room for two open writes of the longest rows. The COMMIT gives back what
+// their undo might have taken.
+#[test]
+fn fills_a_log_of_three_pages(rt: HostRuntime) -> Result<(), Fail> {
+    let alloc = rt.alloc();
+    let mut deck = Vec::new(alloc);
+    push_wide(&mut deck, b"1 INSERT 1 1 1 ")?;
+    push_wide(&mut deck, b"1 INSERT 2 1 1 ")?;
+    push_wide(&mut deck, b"1 INSERT 3 1 1 ")?;
+    deck.extend_from_slice(b"1 COMMIT\n")?;
+    push_wide(&mut deck, b"1 INSERT 3 1 1 ")?;
+    deck.extend_from_slice(b"1 ROLLBACK\n")?;
+    let small = MemVolume::new(alloc, 3, 9, 9, 100, 40, &[], None)?;
+    let (came, printed) = print_over(alloc, small, &deck)?;
+    assert_eq!(rt; came, (0, 7));
+    let print = b"0 - OPENED copy=1 rows=0 pages=0\n1 1 OK\n2 1 OK\n3 1 2 LOGFULL\n4 1 OK\n5 1 OK\n\
+        6 1 OK\nEND entries=7 rows=2\n"
+        .as_slice();
+    assert_eq!(rt; printed.as_slice(), print);
     Ok(())
 }
 
