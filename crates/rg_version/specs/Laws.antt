@@ -1,0 +1,72 @@
+-- What holds of the versions of a page.
+--
+-- 1. Redo of records that were redone changes nothing (`AgainIsNothing`).
+-- 2. Redo of a log, from any version of a page that is not past it, gives the version that the
+--    whole log makes. So it does not matter how old the page is that a crash leaves (`GoesOn`).
+-- 3. A version whose position is no higher than k is version k. So a page may be written once the
+--    log is forced up to its position, and no record that it lacks is above (`IsSettled`).
+-- 4. Its position is no higher than k, if that of the first page is not (`StaysLow`).
+-- 5. Records that are appended change no version before them (`MoreIsLater`).
+-- 6. An opening takes a version as it is, if it takes the first page as it is (`IsTaken`).
+-- 7. Where each record fitted the page when it was made, each that is redone on a version fits it
+--    (`StillFits`).
+-- 8. A page as all records leave it may be written once the log is forced up to its position
+--    (`MayBeWritten`); what was written stays a version, whatever is appended and forced later
+--    (`StaysVersion`).
+-- 9. Redo of all pages of a list is redo of each (`OfAllPages`).
+use Rattle.std.specs.Prelude.{◌≡◌, ◌≤◌, ◌++◌, ℕ, List, drop, length, map, take}
+use Rattle.rg_image.specs.Rules.{ArePositions}
+use Rattle.rg_page.specs.Content.{Content}
+use Rattle.rg_record.specs.declared.record.Record.{Record}
+use Rattle.rg_redo.specs.Redo.{redone_all}
+use Rattle.rg_version.specs.Versions.{EachFits, Epoch, IsVersion, redone_by, taken, version}
+
+abbrev pub AgainIsNothing : Type 0
+AgainIsNothing =
+    (rs : List Record) (x : Content) → redone_by rs (redone_by rs x) ≡ redone_by rs x
+
+abbrev pub GoesOn : Type 0
+GoesOn =
+    (e : Epoch) (rs : List Record) (p k n : ℕ) → e.from ≤ k → k ≤ n → n ≤ length rs
+    → redone_by (drop e.from (take n rs)) (version e rs k p) ≡ version e rs n p
+
+abbrev pub IsSettled : Type 0
+IsSettled =
+    (e : Epoch) (rs : List Record) (p k n : ℕ) → ArePositions rs → e.from ≤ k → k ≤ n
+    → n ≤ length rs → (version e rs n p).position ≤ k → version e rs n p ≡ version e rs k p
+
+abbrev pub StaysLow : Type 0
+StaysLow =
+    (e : Epoch) (rs : List Record) (p k : ℕ) → ArePositions rs → e.from ≤ k → k ≤ length rs
+    → (e.base p).position ≤ k → (version e rs k p).position ≤ k
+
+abbrev pub MoreIsLater : Type 0
+MoreIsLater =
+    (e : Epoch) (rs more : List Record) (p k : ℕ) → k ≤ length rs
+    → version e (rs ++ more) k p ≡ version e rs k p
+
+abbrev pub IsTaken : Type 0
+IsTaken =
+    (e : Epoch) (rs : List Record) (p k : ℕ) → ArePositions rs → k ≤ length rs
+    → taken e p (e.base p) ≡ e.base p → taken e p (version e rs k p) ≡ version e rs k p
+
+abbrev pub StillFits : Type 0
+StillFits =
+    (e : Epoch) (rs : List Record) (p k n : ℕ) → e.from ≤ k → k ≤ n → n ≤ length rs
+    → EachFits (drop e.from (take n rs)) (e.base p)
+    → EachFits (drop e.from (take n rs)) (version e rs k p)
+
+abbrev pub MayBeWritten : Type 0
+MayBeWritten =
+    (e : Epoch) (rs : List Record) (p forced : ℕ) → ArePositions rs → e.from ≤ forced
+    → forced ≤ length rs → (version e rs (length rs) p).position ≤ forced
+    → IsVersion e rs forced p (version e rs (length rs) p)
+
+abbrev pub StaysVersion : Type 0
+StaysVersion =
+    (e : Epoch) (rs more : List Record) (p old new : ℕ) (x : Content) → old ≤ length rs
+    → old ≤ new → IsVersion e rs old p x → IsVersion e (rs ++ more) new p x
+
+abbrev pub OfAllPages : Type 0
+OfAllPages =
+    (rs : List Record) (pages : List Content) → redone_all rs pages ≡ map (redone_by rs) pages
