@@ -1,0 +1,4 @@
+pub mod Laws
+pub mod PageBytes
+pub mod Reading
+pub mod Sheet
