@@ -1,2 +1,3 @@
+pub mod OnVolume
 pub mod Parts
 pub mod Redo

@@ -32,6 +32,13 @@ module _ (owner : ℕ) (after : Option Row) (position : ℕ) where
   parts_number [] page = refl
   parts_number (x ∷ parts) page = parts_number parts (with_part owner after position page x) ∙ part_number page x
 
+  part_copy : (page : Content) (x : Part) → (with_part owner after position page x).copy ≡ page.copy
+  part_copy page x = elim (x.page == page.number) as (λ t. (if t then changed page x owner after position else page).copy ≡ page.copy) [ true ↦ refl | false ↦ refl ]
+
+  pub parts_copy : (parts : List Part) (page : Content) → (with_parts owner after position page parts).copy ≡ page.copy
+  parts_copy [] page = refl
+  parts_copy (x ∷ parts) page = parts_copy parts (with_part owner after position page x) ∙ part_copy page x
+
   -- a page that no part is on stays
   pub none_on : (parts : List Part) (page : Content) → list_any (λ (part : Part). part.page == page.number) parts ≡ false → with_parts owner after position page parts ≡ page
   none_on [] page none = refl
@@ -88,6 +95,12 @@ module _ (r : Record) (x : Content) where
   pub number_stays : (redone r x).number ≡ x.number
   number_stays = elim (nat_lt x.position r.position.0) as (λ t. (if t then with_parts r.tran.0 (after_of r.kind) r.position.0 x (parts_of r.kind) else x).number ≡ x.number) [
     | true ↦ parts_number r.tran.0 (after_of r.kind) r.position.0 (parts_of r.kind) x
+    | false ↦ refl
+  ]
+
+  pub copy_stays : (redone r x).copy ≡ x.copy
+  copy_stays = elim (nat_lt x.position r.position.0) as (λ t. (if t then with_parts r.tran.0 (after_of r.kind) r.position.0 x (parts_of r.kind) else x).copy ≡ x.copy) [
+    | true ↦ parts_copy r.tran.0 (after_of r.kind) r.position.0 (parts_of r.kind) x
     | false ↦ refl
   ]
 

@@ -7,8 +7,8 @@ use Rattle.rg_page.specs.Content.{Content}
 use Rattle.rg_record.specs.declared.record.Record.{Record}
 use Rattle.rg_redo.specs.Redo.{redone_all}
 use Rattle.rg_space.specs.Redo.{redone}
-use Rattle.rg_version.specs.Versions.{EachFits, Epoch, IsVersion, names, redone_by, taken, taken_if, version}
-use Rattle.rg_version.proofs.Parts.{number_stays, passed_fits, step}
+use Rattle.rg_version.specs.Versions.{EachFits, Epoch, names, redone_by, taken, taken_if, version}
+use Rattle.rg_version.proofs.Parts.{copy_stays, number_stays, passed_fits, step}
 
 -- the records have the positions after this one
 abbrev pub Follow : ℕ → List Record → Type 0
@@ -33,9 +33,13 @@ pub redone-append : (xs ys : List Record) (x : Content) → redone_by (xs ++ ys)
 redone-append [] ys x = refl
 redone-append (r ∷ xs) ys x = redone-append xs ys (redone r x)
 
-numbers_stay : (xs : List Record) (x : Content) → (redone_by xs x).number ≡ x.number
+pub numbers_stay : (xs : List Record) (x : Content) → (redone_by xs x).number ≡ x.number
 numbers_stay [] x = refl
 numbers_stay (r ∷ xs) x = numbers_stay xs (redone r x) ∙ number_stays r x
+
+pub copies_stay : (xs : List Record) (x : Content) → (redone_by xs x).copy ≡ x.copy
+copies_stay [] x = refl
+copies_stay (r ∷ xs) x = copies_stay xs (redone r x) ∙ copy_stays r x
 
 -- positions rise
 rises : (r : Record) (x : Content) → x.position ≤ (redone r x).position
@@ -162,24 +166,6 @@ module _ (e : Epoch) (rs : List Record) (p : ℕ) where
           let same : version e rs k p ≡ e.base p = version_base follow k high (omega (arith, ltb-true (version e rs k p).position e.from lt)) in
           ap (taken e p) same ∙ base ∙ sym same
       go false ge = ap (λ t. taken_if (nat_lt e.pages p && t) (version e rs k p)) ge ∙ elim (nat_lt e.pages p) as (λ t. taken_if (t && false) (version e rs k p) ≡ version e rs k p) [ true ↦ refl | false ↦ refl ]
-
-  pub may_be_written : Follow 0 rs → (forced : ℕ) → e.from ≤ forced → forced ≤ length rs → (version e rs (length rs) p).position ≤ forced → IsVersion e rs forced p (version e rs (length rs) p)
-  may_be_written follow forced begun high settled = record {
-    count = forced;
-    begun = begun;
-    most = omega arith;
-    is = version_settled follow forced (length rs) begun high (omega arith) settled;
-    position = settled;
-  }
-
-  pub stays_version : (more : List Record) (old new : ℕ) (x : Content) → old ≤ length rs → old ≤ new → IsVersion e rs old p x → IsVersion e (rs ++ more) new p x
-  stays_version more old new x high le v = record {
-    count = v.count;
-    begun = v.begun;
-    most = omega (arith, v.most, le);
-    is = v.is ∙ sym (version_more more v.count (omega (arith, v.most, high)));
-    position = omega (arith, v.position, le);
-  }
 
 -- ---- which records fit
 

@@ -11,15 +11,17 @@
 -- 7. Where each record fitted the page when it was made, each that is redone on a version fits it
 --    (`StillFits`).
 -- 8. A page as all records leave it may be written once the log is forced up to its position
---    (`MayBeWritten`); what was written stays a version, whatever is appended and forced later
---    (`StaysVersion`).
--- 9. Redo of all pages of a list is redo of each (`OfAllPages`).
+--    (`MayBeWritten`). What was written may stay there, whatever is appended and forced later
+--    (`StaysThere`).
+-- 9. A page that is read from what a crash leaves, and on which the log there is redone, is the
+--    page that was in memory after the last record of that log (`ReadsBack`).
+-- 10. Redo of all pages of a list is redo of each (`OfAllPages`).
 use Rattle.std.specs.Prelude.{◌≡◌, ◌≤◌, ◌++◌, ℕ, List, drop, length, map, take}
 use Rattle.rg_image.specs.Rules.{ArePositions}
 use Rattle.rg_page.specs.Content.{Content}
 use Rattle.rg_record.specs.declared.record.Record.{Record}
 use Rattle.rg_redo.specs.Redo.{redone_all}
-use Rattle.rg_version.specs.Versions.{EachFits, Epoch, IsVersion, redone_by, taken, version}
+use Rattle.rg_version.specs.Versions.{EachFits, Epoch, IsBegun, IsOnVolume, Spells, redone_by, taken, version}
 
 abbrev pub AgainIsNothing : Type 0
 AgainIsNothing =
@@ -58,14 +60,21 @@ StillFits =
 
 abbrev pub MayBeWritten : Type 0
 MayBeWritten =
-    (e : Epoch) (rs : List Record) (p forced : ℕ) → ArePositions rs → e.from ≤ forced
-    → forced ≤ length rs → (version e rs (length rs) p).position ≤ forced
-    → IsVersion e rs forced p (version e rs (length rs) p)
+    (e : Epoch) (rs : List Record) (p forced : ℕ) (bytes : List ℕ) → ArePositions rs
+    → e.from ≤ forced → forced ≤ length rs → (version e rs (length rs) p).position ≤ forced
+    → Spells bytes (version e rs (length rs) p) → IsOnVolume e rs forced p bytes
 
-abbrev pub StaysVersion : Type 0
-StaysVersion =
-    (e : Epoch) (rs more : List Record) (p old new : ℕ) (x : Content) → old ≤ length rs
-    → old ≤ new → IsVersion e rs old p x → IsVersion e (rs ++ more) new p x
+abbrev pub StaysThere : Type 0
+StaysThere =
+    (e : Epoch) (rs more : List Record) (p old new : ℕ) (bytes : List ℕ) → old ≤ length rs
+    → old ≤ new → IsOnVolume e rs old p bytes → IsOnVolume e (rs ++ more) new p bytes
+
+abbrev pub ReadsBack : Type 0
+ReadsBack =
+    (e : Epoch) (rs : List Record) (high p : ℕ) (bytes : List ℕ) (y : Content)
+    → ArePositions rs → IsBegun e p → high ≤ length rs → IsOnVolume e rs high p bytes
+    → Spells bytes y → y.copy ≡ e.copy → y.number ≡ p
+    → redone_by (drop e.from (take high rs)) (taken e p y) ≡ version e rs high p
 
 abbrev pub OfAllPages : Type 0
 OfAllPages =

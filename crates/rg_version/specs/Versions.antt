@@ -4,10 +4,13 @@
 -- 2. A copy of the table begins with its pages as they were when it became current. Version k of a
 --    page is what the records of that copy, up to the k-th of the log, make of it.
 -- 3. A page past those that the last Switch counts, and that was last changed before it, is
---    another copy's. An opening takes it as empty.
-use Rattle.std.specs.Prelude.{◌≡◌, ◌≤◌, ◌==◌, ◌&&◌, nat_lt, ℕ, Bool, true, false, List, [], ◌∷◌, take, drop}
+--    left over from earlier. An opening takes it as empty.
+-- 4. What a crash leaves of a page spells a version of it, or such a left-over page.
+use Rattle.std.specs.Prelude.{◌≡◌, ◌≤◌, ◌<◌, ◌==◌, ◌⊎◌, ◌&&◌, nat_lt, ℕ, Bool, true, false, List, [], ◌∷◌, take, drop}
 use Rattle.std.specs.List.{list_any}
 use Rattle.rg_page.specs.Content.{Content, empty}
+use Rattle.rg_page_bytes.specs.PageBytes.{page_bytes}
+use Rattle.rg_page_bytes.specs.Sheet.{FitsSheet, Sheet}
 use Rattle.rg_record.specs.Applied.{parts_of}
 use Rattle.rg_record.specs.declared.record.Record.{Record}
 use Rattle.rg_space.specs.Redo.{RedoFits, redone}
@@ -46,11 +49,38 @@ taken_if false x = x
 abbrev pub taken : Epoch → ℕ → Content → Content
 taken e p x = taken_if (nat_lt e.pages p && nat_lt x.position e.from) x
 
--- The page is a version of page p that some of the first `high` records have made, and no record
--- above these has changed it. Such a page may stand on a volume whose log is forced so far.
-pub record IsVersion (e : Epoch) (rs : List Record) (high p : ℕ) (x : Content) : Type 0 where
+-- the page as it is spelled
+abbrev pub sheet_of : Content → Sheet
+sheet_of x =
+    record { copy = x.copy; number = x.number; position = x.position; slots = x.slots }
+
+-- these bytes spell the page
+pub record Spells (bytes : List ℕ) (x : Content) : Type 0 where
+  pub fits : FitsSheet (sheet_of x)
+  pub is : bytes ≡ page_bytes (sheet_of x)
+
+-- these bytes spell a page that is left over, past those of the copy
+pub record IsLeftOver (e : Epoch) (p : ℕ) (bytes : List ℕ) : Type 0 where
+  pub page : Content
+  pub past : e.pages < p
+  pub spells : Spells bytes page
+  pub copy : page.copy ≡ e.copy
+  pub number : page.number ≡ p
+  pub low : page.position < e.from
+
+-- What may stand on a volume as page p of the copy, where the log is forced to `high`: a version
+-- up to there; or a page that is left over, where the version is empty.
+pub record IsOnVolume (e : Epoch) (rs : List Record) (high p : ℕ) (bytes : List ℕ) : Type 0 where
   pub count : ℕ
   pub begun : e.from ≤ count
   pub most : count ≤ high
-  pub is : x ≡ version e rs count p
-  pub position : x.position ≤ high
+  pub position : (version e rs count p).position ≤ high
+  pub shows :
+      Spells bytes (version e rs count p)
+      ⊎ (IsLeftOver e p bytes × (version e rs count p ≡ empty e.copy p))
+
+-- the pages with which a copy began are numbered, and an opening takes each as it is
+pub record IsBegun (e : Epoch) (p : ℕ) : Type 0 where
+  pub copy : (e.base p).copy ≡ e.copy
+  pub number : (e.base p).number ≡ p
+  pub taken : taken e p (e.base p) ≡ e.base p

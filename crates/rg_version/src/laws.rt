@@ -1,6 +1,6 @@
 //! Each function's contract is a law of the definitions. None of them runs anything.
 ghost use Rattle.rg_version.specs.Laws.{AgainIsNothing, GoesOn, IsSettled, StaysLow, MoreIsLater, IsTaken, StillFits, OfAllPages};
-ghost use Rattle.rg_version.specs.Laws.{MayBeWritten, StaysVersion};
+ghost use Rattle.rg_version.specs.Laws.{MayBeWritten, StaysThere, ReadsBack};
 
 /// Redo of a page goes on from whatever version of it was found.
 pub fn version_law()
@@ -12,6 +12,7 @@ pub fn version_law()
     ensures taken { IsTaken }
     ensures fits { StillFits }
     ensures written { MayBeWritten }
-    ensures stays { StaysVersion }
+    ensures stays { StaysThere }
+    ensures back { ReadsBack }
     ensures all { OfAllPages }
 {}

@@ -1,4 +1,5 @@
-use Rattle.rg_version.proofs.Redo.{all_redone, follow_positions, may_be_written, stays_version, redone_again, version_fits, version_low, version_more, version_redone, version_settled, version_taken}
+use Rattle.rg_version.proofs.Redo.{all_redone, follow_positions, redone_again, version_fits, version_low, version_more, version_redone, version_settled, version_taken}
+use Rattle.rg_version.proofs.OnVolume.{may_be_written, reads_back, stays_there}
 use Rattle.rg_version.proofs.laws.version_law.Goals as goal
 
 pub returns-clause-again : goal.returns-clause-again
@@ -23,10 +24,13 @@ pub returns-clause-fits : goal.returns-clause-fits
 returns-clause-fits c e rs p k n low le high fits = version_fits e rs p k n low le high fits
 
 pub returns-clause-written : goal.returns-clause-written
-returns-clause-written c e rs p forced are begun high settled = may_be_written e rs p (follow_positions rs are) forced begun high settled
+returns-clause-written c e rs p forced bytes are begun high settled spells = may_be_written e rs p forced bytes are begun high settled spells
 
 pub returns-clause-stays : goal.returns-clause-stays
-returns-clause-stays c e rs more p old new x high le v = stays_version e rs p more old new x high le v
+returns-clause-stays c e rs more p old new bytes high le on = stays_there e rs more p old new bytes high le on
+
+pub returns-clause-back : goal.returns-clause-back
+returns-clause-back c e rs high p bytes y are begun most on spells copy number = reads_back e rs high p bytes y are begun most on spells copy number
 
 pub returns-clause-all : goal.returns-clause-all
 returns-clause-all c rs pages = all_redone rs pages
