@@ -1,3 +1,4 @@
+pub mod OnImage
 pub mod OnVolume
 pub mod Parts
 pub mod Redo

@@ -1,2 +1,4 @@
+pub mod ImageLaws
 pub mod Laws
+pub mod OnImage
 pub mod Versions

@@ -1,0 +1,17 @@
+use Rattle.rg_version.proofs.OnImage.{more_keeps, other_keeps, read_keeps, sync_keeps, write_keeps}
+use Rattle.rg_version.proofs.laws.image_law.Goals as goal
+
+pub returns-clause-write : goal.returns-clause-write
+returns-clause-write c set capacity e rs forced old new result page bytes leaves may made = write_keeps set capacity e rs forced old new result page bytes leaves may made
+
+pub returns-clause-other : goal.returns-clause-other
+returns-clause-other c set capacity e rs forced old new result other page bytes differ leaves made = other_keeps set capacity e rs forced old new result other page bytes differ leaves made
+
+pub returns-clause-sync : goal.returns-clause-sync
+returns-clause-sync c set capacity e rs forced old new result leaves made = sync_keeps set capacity e rs forced old new result leaves made
+
+pub returns-clause-read : goal.returns-clause-read
+returns-clause-read c set capacity e rs forced old new result leaves made = read_keeps set capacity e rs forced old new result leaves made
+
+pub returns-clause-more : goal.returns-clause-more
+returns-clause-more c set capacity e rs more old new told high le leaves = more_keeps set capacity e rs more old new told high le leaves
