@@ -22,9 +22,9 @@ use Rattle.reorgdb.specs.Refusals.{status_of, deck_refusal}
 use Rattle.reorgdb.specs.declared.outcome.Outcome.{Outcome}
 use Rattle.reorgdb.specs.declared.outcome.Outcome.TheVariants as outcomes
 
--- Status 0 of `play`: the source was read to its end, its bytes are statements and layouts, the trace is
--- theirs, and its print was appended to what the sink held, with layouts as the words ask. The
--- committed rows are as many as the print says, and the volume stores them.
+-- Status 0 of `play`: the source was read to its end, its bytes are statements and layouts, the
+-- trace is theirs, and its print was appended to what the sink held, with layouts as the words ask.
+-- The committed rows are as many as the print says, and the volume stores them.
 pub record Plays (words : List (List ℕ)) (source source_after sink sink_after : Seen)
     (volume volume_after : VolumeSeen) (trace : List Entry) : Type 0 where
   pub asked : IsPlay words

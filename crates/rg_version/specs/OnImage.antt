@@ -1,8 +1,8 @@
 -- The pages of a copy on a volume, whatever a crash leaves of it.
 --
 -- 1. The copy has its pages in one set, and the log in another.
--- 2. Each page that a crash may leave is one that may stand there (`IsOnVolume`), at each moment and
---    after each call, also after calls that failed.
+-- 2. Each page that a crash may leave is one that may stand there (`IsOnVolume`), after each call,
+--    also after calls that failed.
 use Rattle.std.specs.Prelude.{◌≤◌, ℕ, List}
 use Rattle.rg_base.specs.declared.set.Set.{Set}
 use Rattle.rg_outside.specs.Calls.{Image}
