@@ -14,7 +14,7 @@
 --    (`MayBeWritten`). What was written may stay there, whatever is appended and forced later
 --    (`StaysThere`).
 -- 9. A page that is read from what a crash leaves, and on which the log there is redone, is the
---    page that was in memory after the last record of that log (`ReadsBack`).
+--    version that all records of that log make (`ReadsBack`).
 -- 10. Redo of all pages of a list is redo of each (`OfAllPages`).
 use Rattle.std.specs.Prelude.{◌≡◌, ◌≤◌, ◌++◌, ℕ, List, drop, length, map, take}
 use Rattle.rg_image.specs.Rules.{ArePositions}
