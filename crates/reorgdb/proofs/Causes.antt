@@ -14,7 +14,7 @@ use Rattle.rg_run.specs.LogFull.{IsLogFullOnlyFrom}
 use Rattle.rg_run.specs.Outside.{IfCounted, IsDeviceOnlyIf, IsEnd, MadeSince, MakesOnly}
 use Rattle.rg_run.specs.Table.{IsLegalRun, IsOpening}
 use Rattle.rg_run.specs.declared.played.RunEnd.TheVariants as ends
-use Rattle.rg_run.proofs.Between.{quiet_reads}
+use Rattle.rg_log.proofs.Ready.{quiet_reads}
 use Rattle.rg_run.proofs.Fullness.{full_less}
 use Rattle.rg_restart.specs.Sound.{IsDamage}
 use Rattle.rg_restart.proofs.Exact.{sound_breaks_none}
@@ -91,7 +91,7 @@ still_sound before after set page volume end =
     let quiet : length volume.new.calls < 2 ^ 64 - 1 → MadeSince IsQuiet before.told volume.new = subst (λ (o : Option Told). IfCounted o (MadeSince IsQuiet before.told)) told end.1 in
     let image : read_of volume.new.first volume.new.calls ≡ read_of volume.old.first volume.old.calls =
     same_image volume.old volume.new (subst (λ (o : Option Told). MadeSince IsQuiet o volume.new) volume.was (quiet volume.few)) in
-    sound_breaks_none before.capacities (read_of volume.old.first volume.old.calls) set page volume.sound.0 volume.sound.1
+    sound_breaks_none before.capacities (read_of volume.old.first volume.old.calls) set page volume.sound.0 volume.sound.1 volume.sound.2
     (subst (λ (c : Capacities). IsDamage c (read_of volume.old.first volume.old.calls) set page) end.2
     (subst (λ (i : Image). IsDamage after.capacities i set page) image (damage volume.few)))
 

@@ -29,7 +29,7 @@ use Rattle.rg_stmt.specs.declared.stmt.Stmt.TheVariants as stmts
 use Rattle.rg_image.specs.Pack.{log_bytes}
 use Rattle.rg_desk.specs.Ended.{HasEnded, commit_record, records_committed}
 use Rattle.rg_desk.specs.Engine.{HasPages, slots_in}
-use Rattle.rg_desk.specs.Pages.{list_seen}
+use Rattle.rg_space.specs.Memory.{list_seen}
 use Rattle.rg_desk.specs.Shows.{KeyShown, Shows, ShowsBy, UnitsShown, left_by}
 use Rattle.rg_desk.specs.Steps.{Goes}
 use Rattle.rg_desk.specs.Stored.{Grows, IsSettled}

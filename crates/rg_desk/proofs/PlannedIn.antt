@@ -13,7 +13,7 @@ use Rattle.rg_space.specs.Space.{Agree, frames_of, index_of}
 use Rattle.rg_space.specs.declared.fault.SpaceFault.{SpaceFault}
 use Rattle.rg_space.specs.declared.fault.SpaceFault.TheVariants.{Full, Device, NoMemory}
 use Rattle.rg_space.specs.declared.space.Space.{Space}
-use Rattle.rg_desk.specs.Pages.{list_seen}
+use Rattle.rg_space.specs.Memory.{list_seen}
 use Rattle.rg_desk.specs.Planned.{IsRefusal}
 
 -- pages that were read are as they were

@@ -28,7 +28,7 @@ use Rattle.rg_stmt.specs.declared.stmt.Reply.TheVariants.{Done}
 use Rattle.rg_stmt.specs.declared.stmt.Stmt.TheVariants.{Rollback}
 use Rattle.rg_desk.specs.Ended.{EndsSession, records_committed, rolled_record, LogsRolledBack}
 use Rattle.rg_desk.specs.Engine.{slots_in}
-use Rattle.rg_desk.specs.Pages.{list_seen}
+use Rattle.rg_space.specs.Memory.{list_seen}
 use Rattle.rg_desk.specs.Shows.{KeyShown, Shows, left_by}
 use Rattle.rg_desk.specs.Steps.{Goes}
 use Rattle.rg_desk.specs.Stored.{IsSettled}

@@ -17,7 +17,7 @@ use Rattle.rg_space.specs.Space.{Agree, InStep, capacity_in, frames_of, index_of
 use Rattle.rg_undo.specs.Undoing.{is_change}
 use Rattle.rg_log.specs.Kept.{Listed}
 use Rattle.rg_desk.specs.Bytes.{taken_of}
-use Rattle.rg_desk.specs.Pages.{list_seen}
+use Rattle.rg_space.specs.Memory.{list_seen}
 use Rattle.rg_desk.specs.Shows.{Shows, left_by}
 use Rattle.rg_desk.specs.Undoing.{AreChain, HasWrites}
 use Rattle.rg_desk.specs.Undone.{IsUndoing}

@@ -32,7 +32,7 @@ use Rattle.rg_lawful.specs.Write.{Write, key_of, write_of}
 use Rattle.rg_space.specs.Carries.{Carries, cleared}
 use Rattle.rg_space.specs.Space.{Agree, InStep, capacity_in, frames_of, index_of}
 use Rattle.rg_desk.specs.Engine.{HasPages, slots_in}
-use Rattle.rg_desk.specs.Pages.{list_seen}
+use Rattle.rg_space.specs.Memory.{list_seen}
 use Rattle.rg_desk.specs.Shows.{KeyShown, Shows, ShowsBy, UnitsShown, left_by}
 use Rattle.rg_desk.specs.Stored.{IsQuiet, IsSettled}
 use Rattle.rg_desk.specs.Units.{owed, owed_to, unit_at}

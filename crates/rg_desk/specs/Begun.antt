@@ -4,7 +4,7 @@ use Rattle.rg_image.specs.Pack.{log_bytes}
 use Rattle.rg_model.specs.State.{Table, at_rest, row_count}
 use Rattle.rg_stmt.specs.Entries.{opened_entry}
 use Rattle.rg_desk.specs.Chronicle.{ChronicleState, IsRecorded}
-use Rattle.rg_desk.specs.Pages.{space_pages}
+use Rattle.rg_space.specs.Memory.{space_pages}
 use Rattle.rg_desk.specs.Shows.{Shows}
 use Rattle.rg_desk.specs.Stored.{IsStored}
 use Rattle.rg_desk.specs.declared.found.Found.{Found}

@@ -10,15 +10,13 @@
 -- 6. Where the log read tidy when the count began, a crash leaves all of it that is forced.
 -- 7. Each key with a row, and each locked one, is among some keys that are no more than the entries
 --    and the rows at the opening.
-use Rattle.std.specs.Prelude.{◌≡◌, ◌≤◌, ◌<◌, ◌+◌, ◌*◌, ◌^◌, ◌⊎◌, ◌||◌, ◌++◌, ℕ, suc, Bool, true, false, List, [], ◌∷◌, if◌then◌else◌, nat_le, length, take}
+use Rattle.std.specs.Prelude.{◌≡◌, ◌≤◌, ◌<◌, ◌+◌, ◌*◌, ◌^◌, ◌⊎◌, ◌||◌, ◌++◌, ℕ, suc, Bool, true, false, List, [], ◌∷◌, length, take}
 use Rattle.std.specs.FinMap as map
 use Rattle.rg_base.specs.declared.session.Session.{Session}
-use Rattle.rg_base.specs.declared.set.Set.TheVariants.{First}
 use Rattle.rg_model.specs.Committed.{committed_table}
 use Rattle.rg_model.specs.Legal.{Legal}
 use Rattle.rg_model.specs.Run.{Run}
 use Rattle.rg_model.specs.State.{State, Table, at_rest, is_present, row_count}
-use Rattle.rg_outside.specs.Capacities.{Capacities, capacity_of}
 use Rattle.rg_outside.specs.Moments.{EachImage, IfTold}
 use Rattle.rg_claimed.specs.Claim.{claimed_all, holding}
 use Rattle.rg_home.specs.Slot.{Slot}
@@ -102,11 +100,6 @@ pub record DeskState (V O : Type 0) : Type 0 where
 -- the records that the log had when it was opened
 abbrev pub old_records : {V O : Type 0} → DeskState V O → List Record
 old_records desk = take desk.opened desk.ground.log.records
-
--- a copy has at most 65,536 pages, and no more than its set
-abbrev pub copy_capacity : Capacities → ℕ
-copy_capacity c =
-    if nat_le (capacity_of c First) 65536 then capacity_of c First else 65536
 
 -- Pages and a log that a desk may begin with: all units of the log have ended, the rows that are
 -- there are the stored ones and fewer than 2^32, and the pages claim no more bytes than pages have.

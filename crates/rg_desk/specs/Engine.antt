@@ -4,7 +4,7 @@ use Rattle.rg_home.specs.Slot.{Slot}
 use Rattle.rg_page.specs.Content.{slots_of}
 use Rattle.rg_page.specs.Seen.{Seen}
 use Rattle.rg_space.specs.Space.{Agree, InStep, capacity_in, frames_of, index_of}
-use Rattle.rg_desk.specs.Pages.{list_seen}
+use Rattle.rg_space.specs.Memory.{list_seen}
 use Rattle.rg_desk.specs.Room.{Ground}
 use Rattle.rg_desk.specs.declared.engine.Engine.{Engine}
 

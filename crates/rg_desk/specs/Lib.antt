@@ -1,7 +1,6 @@
 pub mod Units
 pub mod Bytes
 pub mod RecordList
-pub mod Pages
 pub mod Room
 pub mod Engine
 pub mod Walks

@@ -20,7 +20,7 @@ ghost use Rattle.rg_desk.specs.Chronicle.{system_entry};
 ghost use Rattle.rg_desk.specs.Begun.{Begun};
 ghost use Rattle.rg_desk.specs.Desk.{CanBegin, EndsDown, EndsWithRows, IsCopy, IsLayout, LegalFrom, MadeLayout};
 ghost use Rattle.rg_desk.specs.Desk.{MadeSaid, Opens, old_records};
-ghost use Rattle.rg_desk.specs.Pages.{list_seen, space_pages};
+ghost use Rattle.rg_space.specs.Memory.{list_seen, space_pages};
 ghost use Rattle.rg_desk.specs.Engine.{HasPages, ground_of};
 ghost use Rattle.rg_desk.specs.Shows.{IsShown, Shows};
 ghost use Rattle.rg_desk.specs.Volume.{HasCalls, IsCount, LeavesIfTidy, seen_volume};

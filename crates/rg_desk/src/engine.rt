@@ -20,7 +20,7 @@ ghost use Rattle.rg_home.specs.Pages.{slot_of};
 ghost use Rattle.rg_home.specs.Rows.{row_at};
 ghost use Rattle.rg_desk.specs.Desk.{CanBegin};
 ghost use Rattle.rg_desk.specs.Stored.{IsStored};
-ghost use Rattle.rg_desk.specs.Pages.{list_seen, space_pages};
+ghost use Rattle.rg_space.specs.Memory.{list_seen, space_pages};
 ghost use Rattle.rg_desk.specs.Engine.{HasPages, seen_in};
 ghost use Rattle.rg_desk.specs.Shows.{Shows};
 ghost use Rattle.rg_desk.specs.Bytes.{IsPurge, IsSpelled, kind_bytes, most_needed, plan_bytes, purge_bytes};

@@ -8,7 +8,7 @@ ghost use Rattle.rg_home.specs.Rows.{row_at};
 ghost use Rattle.rg_indexes.specs.Listings.{AreListings};
 ghost use Rattle.rg_space.specs.Space.{Agree, InStep, capacity_in, frames_of, index_of};
 ghost use Rattle.rg_desk.specs.Desk.{CanBegin};
-ghost use Rattle.rg_desk.specs.Pages.{list_seen, space_pages};
+ghost use Rattle.rg_space.specs.Memory.{list_seen, space_pages};
 
 use rg_base::no_memory::NoMemory;
 use rg_indexes::indexes::Indexes;

@@ -46,7 +46,7 @@ both_none : (later earlier : Option Change) → later_of later earlier ≡ None 
 both_none None earlier e = (refl, e)
 both_none (Some change) earlier e = absurd (cc (e))
 
-none_kept : (place : Place) (feed : List Item) (cs : List Change) → last_at place cs ≡ None → last_at place (kept feed cs) ≡ None
+pub none_kept : (place : Place) (feed : List Item) (cs : List Change) → last_at place cs ≡ None → last_at place (kept feed cs) ≡ None
 none_kept place feed [] e = refl
 none_kept place feed (c ∷ cs) e = go (passes_over feed c) (both_none (last_at place cs) (if same_place c.home place then Some c else None) e) (none_kept place feed cs)
   where

@@ -40,7 +40,7 @@ opened_leaves told capacities pages rs log is set own has sure =
     (λ h. read_leaves told capacities pages (length rs) rs set refl own h sure) has
 
 -- calls that write nothing leave what reads
-quiet_reads : (first : Image) (fresh calls : List Call) (s : Set) (p : ℕ) → AllByRecursion IsQuiet fresh → read_of first (fresh ++ calls) s p ≡ read_of first calls s p
+pub quiet_reads : (first : Image) (fresh calls : List Call) (s : Set) (p : ℕ) → AllByRecursion IsQuiet fresh → read_of first (fresh ++ calls) s p ≡ read_of first calls s p
 quiet_reads first [] calls s p all = refl
 quiet_reads first (Read ∷ fresh) calls s p all = quiet_reads first fresh calls s p all.1
 quiet_reads first (Synced ∷ fresh) calls s p all = quiet_reads first fresh calls s p all.1

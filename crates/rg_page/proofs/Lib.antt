@@ -1,9 +1,12 @@
 pub mod Buffer
 pub mod BareSlots
 pub mod Monotone
+pub mod More
 pub mod Lays
 pub mod Room
 pub mod Alter
 pub mod Setting
 pub mod Making
 pub mod Contents
+pub mod Filling
+pub mod Refusing

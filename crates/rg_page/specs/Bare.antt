@@ -1,16 +1,12 @@
 -- A slot without its row and its place: what a plan reads of it.
 use Rattle.std.specs.Prelude.{ℕ, List, map, None}
-use Rattle.rg_base.specs.declared.place.Place.{Place}
 use Rattle.rg_base.specs.declared.tran.Tran.{Tran}
 use Rattle.rg_home.specs.Pages.{row_or_empty}
 use Rattle.rg_home.specs.Slot.{Slot}
 use Rattle.rg_home.specs.Slot.{Free, Row, Pointer, Over, DeadRow, DeadPointer, DeadOver}
+pub use Rattle.rg_page_bytes.specs.PageBytes.{nowhere}
 use Rattle.rg_page.specs.declared.header.Kind.{Kind}
 use Rattle.rg_page.specs.declared.header.Kind.TheVariants as Is
-
--- no place
-abbrev pub nowhere : Place
-nowhere = record { page = 0; slot = 0 }
 
 -- the slot of a header: its row is empty, and its place is none
 abbrev pub header_slot : Kind → (capacity owner : ℕ) → Slot

@@ -1,18 +1,7 @@
--- What a page is, as contracts see it.
-use Rattle.std.specs.Prelude.{ℕ, List, [], ◌∷◌, map, slice_index_or}
+-- Pages, as contracts see them.
+use Rattle.std.specs.Prelude.{ℕ, List, ◌∷◌, map, slice_index_or}
 use Rattle.rg_home.specs.Slot.{Slot}
-
--- The copy that it is of, its number from 1, the position of the last record that changed it, and
--- its slots.
-pub record Content : Type 0 where
-  pub copy : ℕ
-  pub number : ℕ
-  pub position : ℕ
-  pub slots : List Slot
-
--- the page without slots, which no record has changed
-abbrev pub empty : ℕ → ℕ → Content
-empty copy number = record { copy = copy; number = number; position = 0; slots = [] }
+pub use Rattle.rg_page_bytes.specs.Content.{Content, empty}
 
 -- the slots of each page
 abbrev pub slots_of : List Content → List (List Slot)

@@ -8,3 +8,4 @@ pub mod Shown
 pub mod Changed
 pub mod Seen
 pub mod Listed
+pub mod Reading

@@ -1,5 +1,5 @@
 -- What a lent slot shows.
-use Rattle.std.specs.Prelude.{◌≡◌, ℕ, List}
+use Rattle.std.specs.Prelude.{◌≡◌, ◌≤◌, ℕ, List, length}
 use Rattle.rg_base.specs.Text.{IsText}
 use Rattle.rg_base.specs.RowBytes.{row_bytes, row_of}
 use Rattle.rg_home.specs.Slot.{Slot}
@@ -29,3 +29,13 @@ IsSpelled (Is.Over capacity bytes other) = SpellsRow bytes.now
 IsSpelled (Is.DeadRow capacity owner) = Unit {0}
 IsSpelled (Is.DeadPointer capacity other owner) = Unit {0}
 IsSpelled (Is.DeadOver capacity other owner) = Unit {0}
+
+-- its area holds the bytes of a row
+abbrev pub IsHeld : Lent → Type 0
+IsHeld Is.Free = Unit {0}
+IsHeld (Is.Row capacity bytes) = length bytes.now ≤ capacity
+IsHeld (Is.Pointer capacity other) = Unit {0}
+IsHeld (Is.Over capacity bytes other) = length bytes.now ≤ capacity
+IsHeld (Is.DeadRow capacity owner) = Unit {0}
+IsHeld (Is.DeadPointer capacity other owner) = Unit {0}
+IsHeld (Is.DeadOver capacity other owner) = Unit {0}

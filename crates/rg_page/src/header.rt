@@ -8,7 +8,7 @@ ghost use Rattle.rg_home.specs.Slot.{Free};
 ghost use Rattle.rg_home.specs.Slots.{capacity_of, is_free};
 ghost use Rattle.rg_page.specs.Bare.{bare, numbers_of};
 ghost use Rattle.rg_page.specs.Laid.{whole_slot, IsArea};
-ghost use Rattle.rg_page.specs.Shown.{shown, IsSpelled};
+ghost use Rattle.rg_page.specs.Shown.{shown, IsHeld, IsSpelled};
 ghost use Rattle.rg_base.specs.declared.row.Row.{Row as TableRow};
 
 use crate::slot::Slot;
@@ -100,6 +100,7 @@ impl Header {
     pub fn slot<'a>(&self, other: Place, bytes: &'a [u8]) -> Slot<'a>
         ensures shown { shown result ≡ whole_slot self.now other bytes.now }
         ensures spelled { IsArea self.now bytes.now → IsSpelled result }
+        ensures held { IsArea self.now bytes.now → IsHeld result }
     {
         let capacity = self.capacity;
         let owner = Tran(self.owner);

@@ -13,7 +13,11 @@ pub mod list;
 pub mod offers;
 /// A page.
 pub mod page;
+/// Reading a page.
+pub mod read;
 /// What lies in a slot.
 pub mod slot;
 /// What plans read of a page.
 pub mod summary;
+/// Writing a page.
+pub mod write;

@@ -17,7 +17,7 @@ ghost use Rattle.rg_page.specs.Changed.{changed, other_of, brought, IsLeft, IsSh
 ghost use Rattle.rg_page.specs.Laid.{whole_slot, IsArea};
 ghost use Rattle.rg_page.specs.Stretches.{filled_by, bytes_of, size_of};
 ghost use Rattle.rg_page.specs.Content.{empty};
-ghost use Rattle.rg_page.specs.Shown.{shown, IsSpelled};
+ghost use Rattle.rg_page.specs.Shown.{shown, IsHeld, IsSpelled};
 
 use crate::areas::{Areas, push_within};
 use crate::header::Header;
@@ -98,6 +98,13 @@ impl Page {
         self.number = number;
     }
 
+    /// Gives it another position.
+    pub(crate) fn set_position(&mut self, at: Position)
+        ensures { self.new ≡ record self.old { position = at.0 } }
+    {
+        self.position = at.0;
+    }
+
     /// Its number, from 1.
     pub fn number(&self) -> u32
         ensures { result ≡ self.now.number }
@@ -132,6 +139,7 @@ impl Page {
         requires { i < length self.now.slots }
         ensures slot { shown result ≡ slot_at self.now.slots i }
         ensures spelled { IsSpelled result }
+        ensures held { IsHeld result }
     {
         let at = i as usize;
         self.summary.slot(i, self.others[at], self.areas.get(at))

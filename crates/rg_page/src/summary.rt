@@ -8,7 +8,7 @@ ghost use Rattle.rg_home.specs.Plan.{room, purged, admits, first_free};
 ghost use Rattle.rg_page.specs.Bare.{bare, numbers_of};
 ghost use Rattle.rg_page.specs.Ceiling.{spared, ceiling};
 ghost use Rattle.rg_page.specs.Laid.{whole_slot, IsArea};
-ghost use Rattle.rg_page.specs.Shown.{shown, IsSpelled};
+ghost use Rattle.rg_page.specs.Shown.{shown, IsHeld, IsSpelled};
 
 use crate::header::Header;
 use crate::slot::Slot;
@@ -143,6 +143,7 @@ impl Summary {
         requires { i < length self.now }
         ensures shown { shown result ≡ whole_slot (slot_at self.now i) other bytes.now }
         ensures spelled { IsArea (slot_at self.now i) bytes.now → IsSpelled result }
+        ensures held { IsArea (slot_at self.now i) bytes.now → IsHeld result }
     {
         self.headers[i as usize].slot(other, bytes)
     }

@@ -5,20 +5,20 @@
 -- 3. So two pages of one copy and one number that have the same bytes are one (`OneSpelling`).
 -- 4. Bytes that are all zeros spell a blank page, and no other (`ZerosAreBlank`).
 use Rattle.std.specs.Prelude.{◌≡◌, true, length, replicate, Some}
-use Rattle.rg_page_bytes.specs.PageBytes.{is_blank, page_bytes, sheet_bytes}
-use Rattle.rg_page_bytes.specs.Reading.{sheet_at}
-use Rattle.rg_page_bytes.specs.Sheet.{FitsSheet, Sheet}
+use Rattle.rg_page_bytes.specs.PageBytes.{is_blank, page_bytes, filled_bytes}
+use Rattle.rg_page_bytes.specs.Reading.{page_shown}
+use Rattle.rg_page_bytes.specs.Content.{FitsPage, Content}
 
 abbrev pub IsWhole : Type 0
-IsWhole = (x : Sheet) → FitsSheet x → length (page_bytes x) ≡ 4096
+IsWhole = (x : Content) → FitsPage x → length (page_bytes x) ≡ 4096
 
 abbrev pub IsReadBack : Type 0
-IsReadBack = (x : Sheet) → FitsSheet x → sheet_at (sheet_bytes x) ≡ Some x
+IsReadBack = (x : Content) → FitsPage x → page_shown (filled_bytes x) ≡ Some x
 
 abbrev pub OneSpelling : Type 0
 OneSpelling =
-    (x y : Sheet) → FitsSheet x → FitsSheet y → x.copy ≡ y.copy → x.number ≡ y.number
+    (x y : Content) → FitsPage x → FitsPage y → x.copy ≡ y.copy → x.number ≡ y.number
     → page_bytes x ≡ page_bytes y → x ≡ y
 
 abbrev pub ZerosAreBlank : Type 0
-ZerosAreBlank = (x : Sheet) → page_bytes x ≡ replicate 4096 0 → is_blank x ≡ true
+ZerosAreBlank = (x : Content) → page_bytes x ≡ replicate 4096 0 → is_blank x ≡ true

@@ -1,4 +1,4 @@
+pub mod Content
 pub mod Laws
 pub mod PageBytes
 pub mod Reading
-pub mod Sheet

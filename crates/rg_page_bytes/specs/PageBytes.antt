@@ -16,7 +16,7 @@ use Rattle.rg_base.specs.RowBytes.{row_bytes}
 use Rattle.rg_home.specs.Slot.{Slot, Free, Row, Pointer, Over, DeadRow, DeadPointer, DeadOver}
 use Rattle.rg_home.specs.Slots.{capacity_of, used}
 use Rattle.rg_record.specs.Spelling.{place_bytes}
-use Rattle.rg_page_bytes.specs.Sheet.{Sheet}
+use Rattle.rg_page_bytes.specs.Content.{Content}
 
 abbrev pub kind_number : Slot → ℕ
 kind_number Free = 0
@@ -51,15 +51,19 @@ named_by (DeadPointer capacity other owner) = other
 named_by (DeadOver capacity home owner) = home
 named_by slot = nowhere
 
-unfoldable pub slot_bytes : Slot → List ℕ
-slot_bytes s =
-    kind_number s
+-- a slot of these fields
+unfoldable pub fields_bytes :
+    (kind capacity owner : ℕ) → (other : Place) → (row : List ℕ) → List ℕ
+fields_bytes kind capacity owner other row =
+    kind
     ∷ 0
-    ∷ (field 2 (capacity_of s)
-    ++ (field 2 (length (row_in s))
-    ++ (field 4 (owner_of s)
-    ++ (place_bytes (named_by s)
-    ++ (row_in s ++ replicate (capacity_of s - length (row_in s)) 0)))))
+    ∷ (field 2 capacity
+    ++ (field 2 (length row)
+    ++ (field 4 owner
+    ++ (place_bytes other ++ (row ++ replicate (capacity - length row) 0)))))
+
+abbrev pub slot_bytes : Slot → List ℕ
+slot_bytes s = fields_bytes (kind_number s) (capacity_of s) (owner_of s) (named_by s) (row_in s)
 
 unfoldable pub slots_bytes : List Slot → List ℕ
 slots_bytes [] = []
@@ -75,30 +79,32 @@ unfoldable pub directory : (at : ℕ) → List Slot → List ℕ
 directory at [] = []
 directory at (s ∷ slots) = directory (at + (16 + capacity_of s)) slots ++ field 2 at
 
--- the bytes of a page with slots, or with a position
-unfoldable pub sheet_bytes : Sheet → List ℕ
-sheet_bytes x =
+-- the head of a page of so many slots, behind which this offset is
+unfoldable pub head_bytes : (copy count number position end : ℕ) → List ℕ
+head_bytes copy count number position end =
     82
     ∷ 71
     ∷ 80
     ∷ 49
-    ∷ x.copy
+    ∷ copy
     ∷ 0
-    ∷ (field 2 (length x.slots)
-    ++ (field 4 x.number
-    ++ (field 8 x.position
-    ++ (field 2 (32 + slots_size x.slots)
-    ++ (replicate 10 0
-    ++ (slots_bytes x.slots
-    ++ (replicate (4064 - used x.slots) 0 ++ directory 32 x.slots)))))))
+    ∷ (field 2 count
+    ++ (field 4 number ++ (field 8 position ++ (field 2 end ++ replicate 10 0))))
 
-abbrev pub is_blank : Sheet → Bool
+-- the bytes of a page with slots, or with a position
+unfoldable pub filled_bytes : Content → List ℕ
+filled_bytes x =
+    head_bytes x.copy (length x.slots) x.number x.position (32 + slots_size x.slots)
+    ++ (slots_bytes x.slots
+    ++ (replicate (4064 - used x.slots) 0 ++ directory 32 x.slots))
+
+abbrev pub is_blank : Content → Bool
 is_blank x = (x.position == 0) && (length x.slots == 0)
 
-abbrev pub bytes_if : (blank : Bool) → Sheet → List ℕ
+abbrev pub bytes_if : (blank : Bool) → Content → List ℕ
 bytes_if true x = replicate 4096 0
-bytes_if false x = sheet_bytes x
+bytes_if false x = filled_bytes x
 
 -- the bytes of a page
-abbrev pub page_bytes : Sheet → List ℕ
+abbrev pub page_bytes : Content → List ℕ
 page_bytes x = bytes_if (is_blank x) x

@@ -1,4 +1,4 @@
-pub mod Blank
+pub mod Based
 pub mod Sounding
 pub mod Covering
 pub mod Redoable

@@ -1,4 +1,4 @@
--- The log of a copy, redone on empty pages in memory.
+-- The log of a copy, redone on pages in memory.
 --
 -- 1. The records of a log are entries, so each position is below 2 ^ 64, as far as pages in memory
 --    are forced.
@@ -8,15 +8,16 @@ use Rattle.std.proofs.lemmas.List.Elements.{Contains-get_or, recursion_from_All}
 use Rattle.rg_image.specs.Kept.{AreEntries}
 use Rattle.rg_page.specs.Content.{Content, slots_of}
 use Rattle.rg_page.specs.declared.list.ListFrames.{ListFrames}
+use Rattle.rg_page_bytes.specs.Content.{FitsPage}
 use Rattle.rg_record.specs.Applied.{parts_of}
 use Rattle.rg_record.specs.declared.record.Record.{Record}
 use Rattle.rg_redo.specs.Redo.{AllRedoFit, CanRedo, is_switch, redone_all, since_last, since_switch}
 use Rattle.rg_space.specs.Carries.{AllThere}
 use Rattle.rg_space.specs.Space.{Agree, InStep, capacity_in, frames_of, index_of}
 use Rattle.rg_space.specs.declared.space.Space.{Space}
-use Rattle.rg_rebuilt.specs.Rebuilt.{AreSoundPages, CanRebuild, IsRebuilt, blank_pages}
-use Rattle.rg_rebuilt.specs.Seen.{list_seen}
-use Rattle.rg_rebuilt.proofs.Blank.{length-blank, redone_blank}
+use Rattle.rg_rebuilt.specs.Rebuilt.{AreSoundPages, CanRebuild, IsRebuilt}
+use Rattle.rg_space.specs.Memory.{list_seen}
+use Rattle.rg_rebuilt.proofs.Based.{redone_sound}
 
 -- each position fits its field
 abbrev AreLow : List Record → Type 0
@@ -40,27 +41,26 @@ all_can : (count : ℕ) (rs : List Record) → AllByRecursion (λ (entry : Recor
 all_can count [] there low = tt
 all_can count (entry ∷ rs) there low = (record { there = there.0; is_forced = omega (arith, low.0) }, all_can count rs there.1 low.1)
 
--- a log can be redone on empty pages that cover what it names
-pub blank_can : (copy count : ℕ) (rs : List Record) (pages : List Content) → pages ≡ blank_pages copy count → CanRebuild count rs → AreEntries rs
+-- a log can be redone on pages that cover what it names
+pub base_can : (base : List Content) (rs : List Record) (pages : List Content) → pages ≡ base → CanRebuild (length base) rs → AreEntries rs
     → AllByRecursion (CanRedo (length pages) 18446744073709551616) (since_switch rs)
-blank_can copy count rs pages are can entries =
-    let so_many : length pages ≡ count = ap length are ∙ length-blank copy count in
+base_can base rs pages are can entries =
     let low : AreLow rs = entries_low rs entries in
-    subst (λ (n : ℕ). AllByRecursion (CanRedo n 18446744073709551616) (since_switch rs)) (sym so_many) (all_can count (since_switch rs) can (since_low rs rs low low))
+    subst (λ (ps : List Content). AllByRecursion (CanRedo (length ps) 18446744073709551616) (since_switch rs)) (sym are) (all_can (length base) (since_switch rs) can (since_low rs rs low low))
 
 -- what is rebuilt then
-pub is_rebuilt : (copy count : ℕ) (rs : List Record) (blank : List Content) (space : Space ListFrames) → blank ≡ blank_pages copy count
-    → (list_seen (frames_of space)).pages ≡ redone_all (since_switch rs) blank → AllRedoFit (since_switch rs) blank
-    → length (list_seen (frames_of space)).pages ≡ length blank → InStep (list_seen (frames_of space)) (index_of space) (capacity_in space)
-    → Agree (list_seen (frames_of space)) (index_of space) → IsRebuilt copy count rs space
-is_rebuilt copy count rs blank space are pages fit same step agree =
-    let fits : AllRedoFit (since_switch rs) (blank_pages copy count) = subst (AllRedoFit (since_switch rs)) are fit in
-    let so : (list_seen (frames_of space)).pages ≡ redone_all (since_switch rs) (blank_pages copy count) = pages ∙ ap (redone_all (since_switch rs)) are in
+pub is_rebuilt : (base : List Content) (rs : List Record) (begun : List Content) (space : Space ListFrames) → begun ≡ base → AllByRecursion FitsPage base
+    → (list_seen (frames_of space)).pages ≡ redone_all (since_switch rs) begun → AllRedoFit (since_switch rs) begun
+    → length (list_seen (frames_of space)).pages ≡ length begun → InStep (list_seen (frames_of space)) (index_of space) (capacity_in space)
+    → Agree (list_seen (frames_of space)) (index_of space) → IsRebuilt base rs space
+is_rebuilt base rs begun space are spelled pages fit same step agree =
+    let fits : AllRedoFit (since_switch rs) base = subst (AllRedoFit (since_switch rs)) are fit in
+    let so : (list_seen (frames_of space)).pages ≡ redone_all (since_switch rs) base = pages ∙ ap (redone_all (since_switch rs)) are in
     record {
       step = step;
       agree = agree;
       pages = so;
-      count_is = same ∙ ap length are ∙ length-blank copy count;
+      count_is = same ∙ ap length are;
       fit = fits;
-      sound = subst (λ (ps : List Content). AreSoundPages (slots_of ps)) (sym so) (redone_blank copy count (since_switch rs) fits);
+      sound = subst (λ (ps : List Content). AreSoundPages (slots_of ps)) (sym so) (redone_sound base (since_switch rs) spelled fits);
     }

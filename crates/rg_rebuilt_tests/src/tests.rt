@@ -1,10 +1,11 @@
-ghost use Rattle.std.specs.Prelude.{IsTrue};
+ghost use Rattle.std.specs.Prelude.{◌≡◌, [], IfOk, IsTrue, length};
 ghost use Rattle.std.specs.List.{AllByRecursion};
+ghost use Rattle.rg_page_bytes.specs.Content.{FitsPage};
 ghost use Rattle.rg_record.specs.Applied.{parts_of};
 ghost use Rattle.rg_record.specs.declared.record.Record.{Record as TheRecord};
 ghost use Rattle.rg_space.specs.Carries.{AllThere};
 ghost use Rattle.rg_space.specs.Space.{InStep, frames_of, index_of, capacity_in};
-ghost use Rattle.rg_rebuilt.specs.Seen.{list_seen};
+ghost use Rattle.rg_space.specs.Memory.{list_seen};
 
 use rg_base::part::{Part, Parts, SlotOp};
 use rg_base::place::Place;
@@ -15,6 +16,8 @@ use rg_base::tran::Tran;
 use rg_image::sizes::size_of;
 use rg_log::log::Log;
 use rg_page::list::ListFrames;
+use rg_page::page::Page;
+use rg_page_bytes::fault::PageFault;
 use rg_rebuilt::rebuilt::{Rebuilt, rebuild};
 use rg_record::record::{Kind, Record};
 use rg_redo::redo::count_switched;
@@ -116,17 +119,52 @@ fn key_at(rt: &impl Abort, space: &mut Space<ListFrames>, page: u32) -> Result<u
     }
 }
 
-// The keys of the rows at slot 0 of pages 1 and 2 that a log makes, or the position of the record
-// that does not fit.
+// Page `number` of copy 2 without slots, which the record with this position changed last.
+fn page_at(alloc: Global, number: u8, position: u8) -> Result<Page, PageFault>
+    ensures fits { IfOk result FitsPage }
+    ensures copy { IfOk result (λ page. page.copy ≡ 2) }
+    ensures number { IfOk result (λ page. page.number ≡ number) }
+{
+    let mut bytes = [0; 4096];
+    if position > 0 {
+        let head = [
+            b'R', b'G', b'P', b'1', 2, 0, 0, 0, 0, 0, 0, number, 0, 0, 0, 0, 0, 0, 0, position, 0,
+            32,
+        ];
+        bytes[..22].copy_from_slice(&head);
+    }
+    Page::read(alloc, 2, u32::from(number), &bytes)
+}
+
+// Two pages.
+fn two_pages(alloc: Global, position: u8) -> Result<ListFrames, PageFault>
+    ensures fits { IfOk result (λ f. AllByRecursion FitsPage f.pages.items) }
+    ensures count { IfOk result (λ f. length f.pages.items ≡ 2) }
+    ensures reserved { IfOk result (λ f. f.reserved.items ≡ []) }
+{
+    let mut frames = ListFrames::new(alloc, 2);
+    frames.push(page_at(alloc, 1, position)?)?;
+    frames.push(page_at(alloc, 2, position)?)?;
+    Ok(frames)
+}
+
+// The keys of the rows at slot 0 of pages 1 and 2 that a log makes of pages with this position, or
+// the position of the record that does not fit.
 type Outcome = Result<[u64; 2], u64>;
 
-fn outcome_of(rt: &impl Abort, alloc: Global, steps: &[Step]) -> Result<Outcome, Fail> {
+fn outcome_of(
+    rt: &impl Abort,
+    alloc: Global,
+    steps: &[Step],
+    position: u8,
+) -> Result<Outcome, Fail> {
     let log = log_of(rt, alloc, steps)?;
     let records = log.records();
     let (_, since) = records.split_at(count_switched(records));
     let there = all_there(2, since);
     assert!(rt; there);
-    match rebuild(alloc, &log, 2, 2, 3)? {
+    let frames = two_pages(alloc, position)?;
+    match rebuild(alloc, &log, frames, 3)? {
         Rebuilt::Unfit { position } => Ok(Err(position.0)),
         Rebuilt::Pages(space) => {
             let mut space = space;
@@ -138,18 +176,27 @@ fn outcome_of(rt: &impl Abort, alloc: Global, steps: &[Step]) -> Result<Outcome,
     }
 }
 
-// Records are redone in order, from the last Switch on, up to one that does not fit.
+// Records are redone in order, from the last Switch on and above the position of each page, up to
+// one that does not fit.
 #[test]
 fn rebuilds_pages(rt: HostRuntime) -> Result<(), Fail> {
-    let cases: [(&'static [Step], Outcome); 5] = [
-        (&[], Ok([0, 0])),
-        (&[(1, 0, 40, 5), (1, 0, 40, 7)], Ok([7, 0])),
-        (&[(1, 0, 40, 5), SWITCH, (2, 0, 40, 6)], Ok([0, 6])),
-        (&[(1, 0, 40, 5), (2, 0, 20, 6), (1, 0, 40, 7)], Err(2)),
-        (&[(1, 0, 20, 5), SWITCH, (2, 0, 40, 6)], Ok([0, 6])),
+    let cases: [(&'static [Step], u8, Outcome); 9] = [
+        (&[], 0, Ok([0, 0])),
+        (&[(1, 0, 40, 5), (1, 0, 40, 7)], 0, Ok([7, 0])),
+        (&[(1, 0, 40, 5), (1, 0, 40, 7)], 1, Ok([7, 0])),
+        (&[(1, 0, 40, 5), (1, 0, 40, 7)], 2, Ok([0, 0])),
+        (&[(1, 0, 40, 5), SWITCH, (2, 0, 40, 6)], 0, Ok([0, 6])),
+        (&[(1, 0, 40, 5), (2, 0, 20, 6), (1, 0, 40, 7)], 1, Err(2)),
+        (
+            &[(1, 0, 40, 5), (2, 0, 20, 6), (1, 0, 40, 7)],
+            2,
+            Ok([7, 0]),
+        ),
+        (&[(1, 0, 20, 5), SWITCH, (2, 0, 40, 6)], 0, Ok([0, 6])),
+        (&[(1, 0, 20, 5), SWITCH, (2, 0, 40, 6)], 3, Ok([0, 0])),
     ];
-    for (steps, want) in cases.iter() {
-        let outcome = outcome_of(&rt, rt.alloc(), steps)?;
+    for (steps, position, want) in cases.iter() {
+        let outcome = outcome_of(&rt, rt.alloc(), steps, *position)?;
         assert_eq!(rt; outcome, *want);
     }
     Ok(())

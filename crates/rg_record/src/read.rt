@@ -21,7 +21,8 @@ use rg_base::row_bytes::{RowFault, read_row};
 use rg_base::tran::Tran;
 use std::alloc::Global;
 
-fn code_at(bytes: &[u8]) -> Result<(u8, &[u8]), RecordFault>
+/// The first byte, and the bytes after it.
+pub fn code_at(bytes: &[u8]) -> Result<(u8, &[u8]), RecordFault>
     ensures { Gives (λ x. (x.0, x.1.now)) result (code_at bytes.now) }
 {
     match bytes {
@@ -30,8 +31,9 @@ fn code_at(bytes: &[u8]) -> Result<(u8, &[u8]), RecordFault>
     }
 }
 
+/// The number in the first 2 bytes, the highest first, and the bytes after it.
 #[tactic(auto, unfolding(crate::specs::Reading::number_at))]
-fn u16_at(bytes: &[u8]) -> Result<(u16, &[u8]), RecordFault>
+pub fn u16_at(bytes: &[u8]) -> Result<(u16, &[u8]), RecordFault>
     ensures { Gives (λ x. (x.0, x.1.now)) result (number_at 2 bytes.now) }
 {
     if bytes.len() < 2 {
@@ -42,8 +44,9 @@ fn u16_at(bytes: &[u8]) -> Result<(u16, &[u8]), RecordFault>
     Ok((number, rest))
 }
 
+/// The same of 4 bytes.
 #[tactic(auto, unfolding(crate::specs::Reading::number_at))]
-fn u32_at(bytes: &[u8]) -> Result<(u32, &[u8]), RecordFault>
+pub fn u32_at(bytes: &[u8]) -> Result<(u32, &[u8]), RecordFault>
     ensures { Gives (λ x. (x.0, x.1.now)) result (number_at 4 bytes.now) }
 {
     if bytes.len() < 4 {
@@ -54,8 +57,9 @@ fn u32_at(bytes: &[u8]) -> Result<(u32, &[u8]), RecordFault>
     Ok((number, rest))
 }
 
+/// The same of 8 bytes.
 #[tactic(auto, unfolding(crate::specs::Reading::number_at))]
-fn u64_at(bytes: &[u8]) -> Result<(u64, &[u8]), RecordFault>
+pub fn u64_at(bytes: &[u8]) -> Result<(u64, &[u8]), RecordFault>
     ensures { Gives (λ x. (x.0, x.1.now)) result (number_at 8 bytes.now) }
 {
     if bytes.len() < 8 {
@@ -66,8 +70,9 @@ fn u64_at(bytes: &[u8]) -> Result<(u64, &[u8]), RecordFault>
     Ok((number, rest))
 }
 
+/// A place in the first 6 bytes, and the bytes after it.
 #[tactic(auto, unfolding(crate::specs::Reading::place_at))]
-fn place_at(bytes: &[u8]) -> Result<(Place, &[u8]), RecordFault>
+pub fn place_at(bytes: &[u8]) -> Result<(Place, &[u8]), RecordFault>
     ensures { Gives (λ x. (x.0, x.1.now)) result (place_at bytes.now) }
 {
     let (page, rest) = u32_at(bytes)?;
@@ -157,9 +162,9 @@ fn refusal(fault: RowFault) -> RecordFault
     }
 }
 
-// The row that these bytes are. No bytes say that there is none.
+/// The row that these bytes are. No bytes say that there is none.
 #[tactic(auto, unfolding(crate::specs::Reading::row_in))]
-fn row_in(alloc: Global, bytes: &[u8]) -> Result<Option<Row>, RecordFault>
+pub fn row_in(alloc: Global, bytes: &[u8]) -> Result<Option<Row>, RecordFault>
     ensures { Gives (λ x. x) result (row_in bytes.now) }
 {
     if bytes.is_empty() {

@@ -13,7 +13,8 @@ use rg_base::place::Place;
 use rg_base::row::Row;
 use std::alloc::Global;
 
-fn add_place(out: &mut Buffer, place: Place)
+/// Adds a place.
+pub fn add_place(out: &mut Buffer, place: Place)
     requires { length out.old + 6 ≤ 4096 }
     ensures bytes { out.new ≡ out.old ++ place_bytes place }
     ensures len { length out.new ≡ length out.old + 6 }

@@ -26,7 +26,7 @@ use Rattle.rg_undo.specs.Undoing.{written_of}
 use Rattle.rg_undo.specs.Unit.{undo_records, writes_of}
 use Rattle.rg_unended.specs.Unended.{left_of, owed_for}
 use Rattle.rg_desk.specs.Bytes.{kind_bytes, taken_of}
-use Rattle.rg_desk.specs.Pages.{list_seen, space_pages}
+use Rattle.rg_space.specs.Memory.{list_seen, space_pages}
 use Rattle.rg_desk.specs.Undoing.{is_undo}
 use Rattle.rg_image.specs.Rules.{last_position, of_tran}
 use Rattle.rg_restart.specs.Closed.{AllAtMost, ClosedAll, ClosedUnit, Closes, ClosesUnit, IsInStep, IsLacking, TookBack, Undid, all_closed, closed_by, end_back, lefts_of, rolled_back, writes_left}

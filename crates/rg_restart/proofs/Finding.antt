@@ -1,14 +1,15 @@
 -- What an opening finds, from what its steps say.
 use Rattle.std.proofs.Common.{◌≡◌, ◌≤◌, ◌++◌, ℕ, zero, suc, List, [], ◌∷◌, Option, None, length, map, refl, sym, ◌∙◌, ap, subst, arith, length-append}
 use Rattle.std.specs.List.{AllByRecursion, Contains}
-use Rattle.std.proofs.lemmas.List.{length-map}
+use Rattle.rg_base.specs.declared.set.Set.{Set}
+use Rattle.rg_desk.specs.declared.desk.OpenCause.{OpenCause}
+use Rattle.rg_desk.specs.declared.desk.OpenCause.TheVariants.{Damaged, Device, NoMemory}
 use Rattle.rg_base.specs.declared.place.Place.{Place}
 use Rattle.rg_chain.specs.Running.{Running}
 use Rattle.rg_home.specs.Able.{Proper}
 use Rattle.rg_home.specs.Pages.{Sound, slot_of}
 use Rattle.rg_home.specs.Rows.{row_at}
 use Rattle.rg_home.specs.Slot.{Slot}
-use Rattle.rg_home.specs.Undo.{undone_all}
 use Rattle.rg_home.specs.Written.{Written}
 use Rattle.rg_image.specs.Meaning.{Current, stored}
 use Rattle.rg_image.specs.Rules.{greatest_tran, owed}
@@ -20,11 +21,10 @@ use Rattle.rg_log.specs.Kept.{Listed}
 use Rattle.rg_page.specs.Bare.{bare}
 use Rattle.rg_page.specs.Content.{Content, slots_of}
 use Rattle.rg_page.specs.declared.list.ListFrames.{ListFrames}
-use Rattle.rg_ready.specs.Needed.{NeededInTurn}
 use Rattle.rg_rebuilt.specs.Rebuilt.{AreSoundPages, IsRebuilt}
 use Rattle.rg_record.specs.declared.record.Record.{Record}
 use Rattle.rg_space.specs.Indexed.{Indexed}
-use Rattle.rg_space.specs.Space.{Agree, capacity_in, frames_of, index_of}
+use Rattle.rg_space.specs.Space.{capacity_in, frames_of}
 use Rattle.rg_space.specs.declared.space.Space.{Space}
 use Rattle.rg_tested.specs.Looked.{LeftAsItWas}
 use Rattle.rg_tested.specs.Places.{IsLeastBreach}
@@ -34,11 +34,11 @@ use Rattle.rg_unended.specs.Unended.{left_of, open_in}
 use Rattle.rg_unended.proofs.Lefts.{below_by_recursion, owners_by_recursion}
 use Rattle.rg_unended.proofs.Opens.{listed_is}
 use Rattle.rg_desk.specs.Desk.{CanBegin, IsCopy}
-use Rattle.rg_desk.specs.Pages.{list_seen, space_pages}
+use Rattle.rg_space.specs.Memory.{list_seen, space_pages}
 use Rattle.rg_desk.specs.declared.found.Found.{Found}
 use Rattle.rg_restart.specs.Closed.{AllAtMost, ClosedAll, IsInStep, TookBack, writes_left}
-use Rattle.rg_restart.specs.Found.{Finds, IsClosed, IsMatched, IsUndone, MayFind, SamePages, StoresFew}
-use Rattle.rg_restart.specs.Pages.{Ties, copy_of, count_of, redone_of, undone_of}
+use Rattle.rg_restart.specs.Found.{Finds, IsClosed, IsUndone, MayFind, Refuses, SamePages, StoresFew}
+use Rattle.rg_restart.specs.Pages.{CanClose, Fit, IsMatched, Ties, count_of, redone_of, undone_from}
 use Rattle.rg_restart.proofs.Beginning.{can_begin}
 
 -- pages that redo leaves, and that tie, are proper
@@ -46,8 +46,8 @@ pub proper_of : (live : List ℕ) (pages : List (List Slot)) → AreSoundPages p
 proper_of live pages sound ties = record { tied = λ p. (ties p).0; sound = sound.sound; holds = sound.holds }
 
 -- the pages that were rebuilt
-pub rebuilt_slots : (rs : List Record) (space : Space ListFrames) → IsRebuilt (copy_of rs) (count_of rs) rs space → space_pages space ≡ redone_of rs
-rebuilt_slots rs space is = ap slots_of is.pages
+pub rebuilt_slots : (base : List Content) (rs : List Record) (space : Space ListFrames) → IsRebuilt base rs space → space_pages space ≡ redone_of base rs
+rebuilt_slots base rs space is = ap slots_of is.pages
 
 -- ---- numbers
 
@@ -80,53 +80,51 @@ owners_below top (t ∷ ts) rs low =
 
 -- ---- the steps
 
-pub undone_is : (rs : List Record) (a b : Space ListFrames) (log later : Listed) → log.records ≡ rs → IsRebuilt (copy_of rs) (count_of rs) rs a → IsLeastBreach (Ties rs) None → ClosedAll (open_in rs) rs a b log later
-    → IsUndone rs later.records b
-undone_is rs a b log later is rebuilt tied closed =
-    let slots = rebuilt_slots rs a rebuilt in
-    record {
-      fit = rebuilt.fit;
-      tied = tied;
-      can = subst (λ (ps : List (List Slot)). NeededInTurn ps (all_of (writes_left (open_in rs) rs))) slots closed.undid.needed;
-      more = closed.took.more;
-      back = closed.took.back;
-      records_are = closed.took.records ∙ ap (λ (xs : List Record). xs ++ closed.took.more) is;
-      first = proper_of (open_in rs) (redone_of rs) (subst AreSoundPages slots rebuilt.sound) tied;
-      first_count = ap (λ (ps : List (List Slot)). length ps) (sym slots) ∙ count;
-      in_step = closed.undid.in_step;
-      proper = closed.undid.proper;
-      slots = closed.undid.slots ∙ ap (λ (ps : List (List Slot)). undone_all ps (all_of (writes_left (open_in rs) rs))) slots;
-      count_is = closed.undid.count ∙ count;
-    }
-  where
-    count : length (space_pages a) ≡ count_of rs
-    count = length-map (list_seen (frames_of a)).pages (λ (c : Content). c.slots) ∙ rebuilt.count_is
+pub undone_is : (rs : List Record) (a b : Space ListFrames) (log later : Listed) → log.records ≡ rs → AreSoundPages (space_pages a) → IsLeastBreach (Ties rs (space_pages a)) None → ClosedAll (open_in rs) rs a b log later
+    → IsUndone (space_pages a) rs later.records b
+undone_is rs a b log later is sound tied closed = record {
+  closes = record { tied = tied; can = closed.undid.needed };
+  grown = record {
+    more = closed.took.more;
+    back = closed.took.back;
+    are = closed.took.records ∙ ap (λ (xs : List Record). xs ++ closed.took.more) is;
+  };
+  first = proper_of (open_in rs) (space_pages a) sound tied;
+  in_step = closed.undid.in_step;
+  proper = closed.undid.proper;
+  slots = closed.undid.slots;
+  count_is = closed.undid.count;
+}
 
 -- rows that match are one table
-matched_table : (rs : List Record) (pages : List (List Slot)) → pages ≡ undone_of rs → IsMatched rs → IsTable (row_at (slot_of pages)) (stored rs)
-matched_table rs pages is matched = subst (λ (ps : List (List Slot)). IsTable (row_at (slot_of ps)) (stored rs)) (sym is) (record {
+matched_table : (rs : List Record) (pages undone : List (List Slot)) → pages ≡ undone → IsMatched rs undone → IsTable (row_at (slot_of pages)) (stored rs)
+matched_table rs pages undone is matched = subst (λ (ps : List (List Slot)). IsTable (row_at (slot_of ps)) (stored rs)) (sym is) (record {
   there = λ p row at. matched.there p row at;
   placed = λ k row at. matched.placed k row at;
   once = λ p q row other at it same. matched.alone p q row other at it same;
 })
 
 -- what is found where all rules are kept
-pub finds : (log now : Listed) (chain : Running) (capacity : ℕ) (closed last : Space ListFrames) (found : Found) → MayFind log chain capacity → IsClosed log capacity closed now → IsMatched log.records → StoresFew now.records
-    → SamePages closed last → AreListings (row_at (slot_of (space_pages last))) found.indexes → found.log ≡ now → found.space ≡ last → found.copy ≡ chain.current.copy → found.top ≡ length chain.units → Finds log capacity found
-finds log now chain capacity closed last found may is matched few same listings log_is space_is copy_is top_is =
+pub finds : (base : List Content) (log now : Listed) (chain : Running) (capacity : ℕ) (redone : List (List Slot)) (closed last : Space ListFrames) (found : Found) → MayFind log chain capacity → Fit base log.records
+    → redone ≡ redone_of base log.records → length redone ≡ count_of log.records → IsClosed redone log capacity closed now → IsMatched log.records (space_pages closed) → StoresFew now.records
+    → SamePages closed last → AreListings (row_at (slot_of (space_pages last))) found.indexes → found.log ≡ now → found.space ≡ last → found.copy ≡ chain.current.copy → found.top ≡ length chain.units → Finds base log capacity found
+finds base log now chain capacity redone closed last found may fit redone_is count is matched few same listings log_is space_is copy_is top_is =
     let rs = log.records in
     let undone = is.undone in
-    let pages : space_pages last ≡ undone_of rs = same.slots ∙ undone.slots in
     let top : found.top ≡ greatest_tran rs = top_is ∙ may.kept.units.greatest in
     record {
-      rules = record { fit = undone.fit; tied = undone.tied; can = undone.can; alone = matched.alone; there = matched.there; placed = matched.placed };
+      rules = record {
+        fit = fit;
+        closes = subst (CanClose rs) redone_is undone.closes;
+        matched = subst (IsMatched rs) (undone.slots ∙ ap (undone_from rs) redone_is) matched;
+      };
       begins =
           subst (λ (s : Space ListFrames). CanBegin capacity (space_pages s) found.log found.top) (sym space_is)
           (subst (λ (l : Listed). CanBegin capacity (space_pages last) l found.top) (sym log_is)
           (subst (CanBegin capacity (space_pages last) now) (sym top)
-          (can_begin capacity rs now is.took.more is.took.records is.took.back (redone_of rs) (writes_left (open_in rs) rs) (greatest_tran rs) (space_pages last) undone.first
-          (omega (arith, may.within, undone.first_count))
-          (owners_below (greatest_tran rs) (open_in rs) rs (open_most rs)) undone.can pages (matched_table rs (space_pages last) pages matched)
+          (can_begin capacity rs now is.took.more is.took.records is.took.back redone (writes_left (open_in rs) rs) (greatest_tran rs) (space_pages last) undone.first
+          (omega (arith, may.within, count))
+          (owners_below (greatest_tran rs) (open_in rs) rs (open_most rs)) undone.closes.can (same.slots ∙ undone.slots) (matched_table rs (space_pages last) (space_pages closed) same.slots matched)
           (trans_below (greatest_tran rs) rs (below_by_recursion rs)) (is.took.below (greatest_tran rs) (open_most rs)) (is.took.forced ∙ may.forced)
           (omega (arith, ap (λ (xs : List Record). length xs) is.took.records, length-append rs is.took.more)) is.idle
           (subst (λ (ps : List (List Slot)). Sound ps) (sym same.slots) undone.proper.sound) few)));
@@ -135,28 +133,11 @@ finds log now chain capacity closed last found may is matched few same listings 
       capacity_is = ap (λ (s : Space ListFrames). capacity_in s) space_is ∙ same.capacity ∙ is.capacity_is;
       copy = subst IsCopy (sym (copy_is ∙ ap (λ (c : Current). c.copy) may.kept.current)) may.copy;
       copy_is = copy_is ∙ ap (λ (c : Current). c.copy) may.kept.current;
-      count_is = ap (λ (s : Space ListFrames). length (space_pages s)) space_is ∙ ap (λ (ps : List (List Slot)). length ps) same.slots ∙ undone.count_is;
+      count_is = ap (λ (s : Space ListFrames). length (space_pages s)) space_is ∙ ap (λ (ps : List (List Slot)). length ps) same.slots ∙ undone.count_is ∙ count;
       took = subst (TookBack (open_in rs) (owed rs) log) (sym log_is) is.took;
     }
 
 -- ---- calls that only look
-
--- the pages that were rebuilt, after a look at them
-pub rebuilt_on : (rs : List Record) (a b : Space ListFrames) → LeftAsItWas a b (list_seen (frames_of a)) (list_seen (frames_of b)) → IsRebuilt (copy_of rs) (count_of rs) rs a → IsRebuilt (copy_of rs) (count_of rs) rs b
-rebuilt_on rs a b left is =
-    let same = left.looked.reads.same refl in
-    record {
-      step = left.step;
-      agree = looked_agree a b left is.agree;
-      pages = same ∙ is.pages;
-      count_is = ap (λ (cs : List Content). length cs) same ∙ is.count_is;
-      fit = is.fit;
-      sound = subst (λ (cs : List Content). AreSoundPages (slots_of cs)) (sym same) is.sound;
-    }
-  where
-    looked_agree : (a b : Space ListFrames) → LeftAsItWas a b (list_seen (frames_of a)) (list_seen (frames_of b)) → Agree (list_seen (frames_of a)) (index_of a) → Agree (list_seen (frames_of b)) (index_of b)
-    looked_agree a b left agree =
-        ap (λ (cs : List Content). map (map bare) (slots_of cs)) (left.looked.reads.same refl) ∙ agree ∙ ap (λ (i : Indexed). i.pages) (sym left.summaries)
 
 pub looked_same : (a b : Space ListFrames) → IsInStep a → LeftAsItWas a b (list_seen (frames_of a)) (list_seen (frames_of b)) → SamePages a b
 looked_same a b has left = record {
@@ -175,8 +156,15 @@ same_join a b c one two = record {
   capacity = two.capacity ∙ one.capacity;
 }
 
--- how the slots of the pages that were rebuilt stand
-pub ties_by : (rs : List Record) (trans : List ℕ) (space : Space ListFrames) (o : Option Place) → trans ≡ open_in rs → IsRebuilt (copy_of rs) (count_of rs) rs space → IsLeastBreach (IsTiedAt trans (slot_of (space_pages space))) o → IsLeastBreach (Ties rs) o
-ties_by rs trans space o is rebuilt breach =
-    subst (λ (ps : List (List Slot)). IsLeastBreach (IsTiedAt (open_in rs) (slot_of ps)) o) (rebuilt_slots rs space rebuilt)
-    (subst (λ (ts : List ℕ). IsLeastBreach (IsTiedAt ts (slot_of (space_pages space))) o) is breach)
+-- how the slots stand, by the transactions that are open
+pub ties_by : (rs : List Record) (trans : List ℕ) (a b : Space ListFrames) (o : Option Place) → trans ≡ open_in rs → space_pages b ≡ space_pages a → IsLeastBreach (IsTiedAt trans (slot_of (space_pages b))) o
+    → IsLeastBreach (Ties rs (space_pages a)) o
+ties_by rs trans a b o is same breach =
+    subst (λ (ps : List (List Slot)). IsLeastBreach (IsTiedAt (open_in rs) (slot_of ps)) o) same
+    (subst (λ (ts : List ℕ). IsLeastBreach (IsTiedAt ts (slot_of (space_pages b))) o) is breach)
+
+-- a refusal by one rule is one by another that says more
+pub refuses_map : (A B : Set → ℕ → Type 0) (cause : OpenCause) → ((set : Set) (page : ℕ) → A set page → B set page) → Refuses A cause → Refuses B cause
+refuses_map A B (Damaged set page) f breaks = f set page breaks
+refuses_map A B Device f breaks = breaks
+refuses_map A B NoMemory f breaks = tt

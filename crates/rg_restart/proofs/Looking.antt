@@ -29,9 +29,12 @@ use Rattle.rg_record.specs.declared.record.Record.{Record}
 use Rattle.rg_restart.specs.Closed.{TookBack}
 use Rattle.rg_restart.specs.Found.{Finds, MayFind, Refuses}
 use Rattle.rg_restart.specs.Opening.{BreaksLog, CallsQuiet, GoesOnTidy, IsRefused, Looks, cause_of}
-use Rattle.rg_restart.specs.Pages.{copy_of, count_of, set_of}
-use Rattle.rg_restart.specs.Sound.{AreBlank, HasSoundLog, IsDamage, IsFirstUsed, IsSoundBy}
-use Rattle.rg_restart.specs.Sound.IsDamage.{LogPage, Chain, Space, UsedPage, OnPages}
+use Rattle.rg_page.specs.Content.{Content}
+use Rattle.rg_restart.specs.Data.{IsDataFault, TakesPages}
+use Rattle.rg_restart.specs.Pages.{BreaksRule, copy_of, count_of, set_of}
+use Rattle.rg_restart.specs.declared.data.LastSwitch.{LastSwitch}
+use Rattle.rg_restart.specs.Sound.{HasSoundLog, IsDamage, IsFirstBad, IsSoundBy, TakesBase}
+use Rattle.rg_restart.specs.Sound.IsDamage.{LogPage, Chain, Space, BadPage, OnPages}
 use Rattle.rg_restart.proofs.Reading.{both_told, quiet_image}
 use Rattle.rg_restart.proofs.Tidy.{opened_leaves}
 
@@ -86,46 +89,54 @@ module _ (old mid : VolumeSeen) (log : Listed) (quiet : CallsQuiet old mid) (pag
     pub device_refused : Rose mid.faults new.faults → IsRefused old new Device
     device_refused rose = record { calls = quiet_new; because = λ low. omega (arith, quiet.later, rose low) }
 
-    -- a page of the copy is used
-    pub used_refused : (set : Set) (count page : ℕ) → set ≡ set_of (copy_of log.records) → count ≡ count_of log.records → IfTold new.told (λ t. IsFirstUsed (read_of t.first t.calls) set count page) → IsRefused old new (Damaged set page)
-    used_refused set count page set_is count_is used = record {
+    -- a page of the copy is no data page
+    pub bad_refused : (page : ℕ) → IfTold new.told (λ t. IsFirstBad log.records (read_of t.first t.calls) page) → IsRefused old new (Damaged (set_of (copy_of log.records)) page)
+    bad_refused page bad = record {
       calls = quiet_new;
       because =
-          told_weaken (λ t. HasLogPages (log_pages mid.capacities) (read_of t.first t.calls) log.records × IsFirstUsed (read_of t.first t.calls) set count page) (λ t. IsDamage new.capacities (read_of t.first t.calls) set page) new.told
-          (λ t both. subst (λ (s : Set). IsDamage new.capacities (read_of t.first t.calls) s page) (sym set_is)
-          (UsedPage log.records page (sound_log (read_of t.first t.calls) both.0)
-          (subst (λ (s : Set). IsFirstUsed (read_of t.first t.calls) s (count_of log.records) page) set_is (subst (λ (n : ℕ). IsFirstUsed (read_of t.first t.calls) set n page) count_is both.1))))
-          (both_told (λ t. HasLogPages (log_pages mid.capacities) (read_of t.first t.calls) log.records) (λ t. IsFirstUsed (read_of t.first t.calls) set count page) new.told (has_then new.told only) used);
+          told_weaken (λ t. HasLogPages (log_pages mid.capacities) (read_of t.first t.calls) log.records × IsFirstBad log.records (read_of t.first t.calls) page) (λ t. IsDamage new.capacities (read_of t.first t.calls) (set_of (copy_of log.records)) page) new.told
+          (λ t both. BadPage log.records page (sound_log (read_of t.first t.calls) both.0) both.1)
+          (both_told (λ t. HasLogPages (log_pages mid.capacities) (read_of t.first t.calls) log.records) (λ t. IsFirstBad log.records (read_of t.first t.calls) page) new.told (has_then new.told only) bad);
     }
 
-    module _ (set : Set) (count : ℕ) (set_is : set ≡ set_of (copy_of log.records)) (count_is : count ≡ count_of log.records) (blank : IfTold new.told (λ t. AreBlank (read_of t.first t.calls) set count)) where
-      both : IfTold new.told (λ t. HasLogPages (log_pages mid.capacities) (read_of t.first t.calls) log.records × AreBlank (read_of t.first t.calls) (set_of (copy_of log.records)) (count_of log.records))
+    -- memory ran out
+    pub memory_refused : IsRefused old new NoMemory
+    memory_refused = record { calls = quiet_new; because = tt }
+
+    -- the pages were not taken
+    pub data_refused : (cause : OpenCause) → IsDataFault (copy_of log.records) (length log.records) (set_of (copy_of log.records)) (count_of log.records) new.told mid.faults new.faults cause → IsRefused old new cause
+    data_refused (Damaged s page) fault = subst (λ (x : Set). IsRefused old new (Damaged x page)) (sym fault.0) (bad_refused page fault.1)
+    data_refused Device fault = device_refused fault
+    data_refused NoMemory fault = memory_refused
+
+    module _ (base : List Content) (takes : IfTold new.told (λ t. TakesBase log.records (read_of t.first t.calls) base)) where
+      both : IfTold new.told (λ t. HasLogPages (log_pages mid.capacities) (read_of t.first t.calls) log.records × TakesBase log.records (read_of t.first t.calls) base)
       both =
-          both_told (λ t. HasLogPages (log_pages mid.capacities) (read_of t.first t.calls) log.records) (λ t. AreBlank (read_of t.first t.calls) (set_of (copy_of log.records)) (count_of log.records)) new.told (has_then new.told only)
-          (subst (λ (s : Set). IfTold new.told (λ t. AreBlank (read_of t.first t.calls) s (count_of log.records))) set_is (subst (λ (n : ℕ). IfTold new.told (λ t. AreBlank (read_of t.first t.calls) set n)) count_is blank))
+          both_told (λ t. HasLogPages (log_pages mid.capacities) (read_of t.first t.calls) log.records) (λ t. TakesBase log.records (read_of t.first t.calls) base) new.told (has_then new.told only) takes
 
       -- a rule on pages is broken
-      pub rule_refused : (cause : OpenCause) → Refuses log.records cause → IsRefused old new cause
+      pub rule_refused : (cause : OpenCause) → Refuses (BreaksRule base log.records) cause → IsRefused old new cause
       rule_refused (Damaged s page) rule = record {
         calls = quiet_new;
         because =
-            told_weaken (λ t. HasLogPages (log_pages mid.capacities) (read_of t.first t.calls) log.records × AreBlank (read_of t.first t.calls) (set_of (copy_of log.records)) (count_of log.records)) (λ t. IsDamage new.capacities (read_of t.first t.calls) s page) new.told
-            (λ t is. OnPages log.records s page (sound_log (read_of t.first t.calls) is.0) is.1 rule) both;
+            told_weaken (λ t. HasLogPages (log_pages mid.capacities) (read_of t.first t.calls) log.records × TakesBase log.records (read_of t.first t.calls) base) (λ t. IsDamage new.capacities (read_of t.first t.calls) s page) new.told
+            (λ t is. OnPages log.records base s page (sound_log (read_of t.first t.calls) is.0) is.1 rule) both;
       }
       rule_refused Device rule = absurd rule
       rule_refused NoMemory rule = record { calls = quiet_new; because = tt }
 
       -- all rules are kept
-      pub looks : (found : Found) (capacity : ℕ) → capacity ≡ copy_capacity new.capacities (copy_of log.records) → Finds log capacity found → GoesOnTidy old
+      pub looks : (found : Found) (capacity : ℕ) → capacity ≡ copy_capacity new.capacities (copy_of log.records) → Finds base log capacity found → GoesOnTidy old
           → (ReadsTidy old.told log.pages → LeavesLog mid.told log.pages log.records log.forced) → Looks old new found
       looks found capacity capacity_is finds tidy leaves = record {
         log = log;
         pages = pages;
-        finds = subst (λ (n : ℕ). Finds log n found) (capacity_is ∙ ap (λ (c : Capacities). copy_capacity c (copy_of log.records)) (same ∙ quiet.capacities)) finds;
+        base = base;
+        finds = subst (λ (n : ℕ). Finds base log n found) (capacity_is ∙ ap (λ (c : Capacities). copy_capacity c (copy_of log.records)) (same ∙ quiet.capacities)) finds;
         calls = quiet_new;
         sound =
-            told_weaken (λ t. HasLogPages (log_pages mid.capacities) (read_of t.first t.calls) log.records × AreBlank (read_of t.first t.calls) (set_of (copy_of log.records)) (count_of log.records)) (λ t. IsSoundBy new.capacities (read_of t.first t.calls) log.records) new.told
-            (λ t is. record { log = sound_log (read_of t.first t.calls) is.0; blank = is.1; pages = finds.rules }) both;
+            told_weaken (λ t. HasLogPages (log_pages mid.capacities) (read_of t.first t.calls) log.records × TakesBase log.records (read_of t.first t.calls) base) (λ t. IsSoundBy new.capacities (read_of t.first t.calls) log.records base) new.told
+            (λ t is. record { log = sound_log (read_of t.first t.calls) is.0; takes = is.1; pages = finds.rules }) both;
         leaves = leaves_more new _ _ log found.log finds.took
             (opened_leaves old new log quiet_new.only pages tidy
             (λ reads. log_left log.pages log.forced log.records mid.told new.told (log_quiet log.pages log.forced log.records mid.told new.told only) (leaves reads)));
@@ -159,3 +170,21 @@ may_find capacities log chain capacity is space kept covers capacity_is pages fo
   where
     capacity_low : (copy : ℕ) → copy_capacity capacities copy ≤ 65536
     capacity_low copy = omega arith
+
+-- the same of numbers that are equal
+pub fault_by : (copy copy' last last' : ℕ) (set set' : Set) (count count' : ℕ) (told : Option Told) (before now : ℕ) (cause : OpenCause) → copy ≡ copy' → last ≡ last' → set ≡ set' → count ≡ count'
+    → IsDataFault copy last set count told before now cause → IsDataFault copy' last' set' count' told before now cause
+fault_by copy copy' last last' set set' count count' told before now cause a b c d is =
+    subst (λ (k : ℕ). IsDataFault k last' set' count' told before now cause) a
+    (subst (λ (k : ℕ). IsDataFault copy k set' count' told before now cause) b
+    (subst (λ (s : Set). IsDataFault copy last s count' told before now cause) c
+    (subst (λ (k : ℕ). IsDataFault copy last set k told before now cause) d is)))
+
+pub takes_by : (copy copy' last last' : ℕ) (switch switch' : LastSwitch) (set set' : Set) (count count' : ℕ) (told : Option Told) (base : List Content) → copy ≡ copy' → last ≡ last' → switch ≡ switch' → set ≡ set' → count ≡ count'
+    → IfTold told (λ t. TakesPages copy last switch set count (read_of t.first t.calls) base) → IfTold told (λ t. TakesPages copy' last' switch' set' count' (read_of t.first t.calls) base)
+takes_by copy copy' last last' switch switch' set set' count count' told base a b e c d is =
+    subst (λ (k : ℕ). IfTold told (λ t. TakesPages k last' switch' set' count' (read_of t.first t.calls) base)) a
+    (subst (λ (k : ℕ). IfTold told (λ t. TakesPages copy k switch' set' count' (read_of t.first t.calls) base)) b
+    (subst (λ (x : LastSwitch). IfTold told (λ t. TakesPages copy last x set' count' (read_of t.first t.calls) base)) e
+    (subst (λ (s : Set). IfTold told (λ t. TakesPages copy last switch s count' (read_of t.first t.calls) base)) c
+    (subst (λ (k : ℕ). IfTold told (λ t. TakesPages copy last switch set k (read_of t.first t.calls) base)) d is))))

@@ -1,26 +1,29 @@
 -- What calls that write nothing leave of what a volume reads.
-use Rattle.std.proofs.Common.{◌≡◌, ◌==◌, ◌≤◌, ◌<◌, ◌+◌, ◌⊎◌, ◌++◌, nat_le, ℕ, Bool, true, false, List, [], ◌∷◌, Option, Some, None, if◌then◌else◌, inl, inr, refl, sym, ◌∙◌, subst, arith}
+use Rattle.std.proofs.Common.{◌≡◌, ◌==◌, ◌≤◌, ◌<◌, ◌+◌, ◌⊎◌, ◌++◌, ◌&&◌, nat_le, nat_lt, ℕ, zero, suc, Bool, true, false, List, [], ◌∷◌, length, get_or, Option, Some, None, if◌then◌else◌, inl, inr, refl, sym, ◌∙◌, ap, subst, arith, length-append}
+use Rattle.std.proofs.Math.Seq.{get_or-append_seam}
+use Rattle.std.proofs.lemmas.List.{get_or_append_left}
 use Rattle.std.specs.List.{AllByRecursion}
 use Rattle.std.proofs.lemmas.Bool.Decides.{leb_tells}
 use Rattle.rg_base.specs.declared.set.Set.{Set}
 use Rattle.rg_base.specs.declared.set.Set.TheVariants.{First, Second}
-use Rattle.rg_image.specs.Rules.{IsZero, copy_capacity, used_pages}
+use Rattle.rg_image.specs.Rules.{copy_capacity, used_pages}
 use Rattle.rg_log.specs.Open.{IsQuiet}
-use Rattle.rg_outside.specs.Calls.{Call, Image, Told, Read, Wrote, Synced, FailedRead, FailedWrite, FailedSync, Refused, read_of}
+use Rattle.rg_log.proofs.Ready.{quiet_reads}
+use Rattle.rg_outside.specs.Calls.{Image, Told, read_of}
 use Rattle.rg_outside.specs.Capacities.{Capacities, capacity_of}
 use Rattle.rg_outside.specs.Moments.{EachCall, IfTold}
 use Rattle.rg_restart.specs.Pages.{set_of}
-use Rattle.rg_restart.specs.Sound.{AreBlank, IsFirstUsed}
-
-pub quiet_reads : (first : Image) (fresh calls : List Call) (s : Set) (p : ℕ) → AllByRecursion IsQuiet fresh → read_of first (fresh ++ calls) s p ≡ read_of first calls s p
-quiet_reads first [] calls s p all = refl
-quiet_reads first (Read ∷ fresh) calls s p all = quiet_reads first fresh calls s p all.1
-quiet_reads first (Synced ∷ fresh) calls s p all = quiet_reads first fresh calls s p all.1
-quiet_reads first (FailedRead ∷ fresh) calls s p all = quiet_reads first fresh calls s p all.1
-quiet_reads first (FailedSync ∷ fresh) calls s p all = quiet_reads first fresh calls s p all.1
-quiet_reads first (Refused ∷ fresh) calls s p all = quiet_reads first fresh calls s p all.1
-quiet_reads first (Wrote set page bytes ∷ fresh) calls s p all = absurd all.0
-quiet_reads first (FailedWrite set page bytes reads ∷ fresh) calls s p all = absurd all.0
+use Rattle.rg_page.specs.Content.{Content, content_at, empty}
+use Rattle.rg_page.specs.Reading.{IsNone, NoPageHas}
+use Rattle.rg_page.specs.declared.list.ListFrames.{ListFrames}
+use Rattle.rg_page_bytes.specs.Content.{FitsPage}
+use Rattle.rg_page_bytes.specs.PageBytes.{page_bytes}
+use Rattle.rg_page_bytes.specs.declared.fault.PageFault.{PageFault}
+use Rattle.rg_page_bytes.specs.declared.fault.PageFault.TheVariants.{NotAPage, NoMemory}
+use Rattle.rg_page_bytes.proofs.ReadBack.{one_spelling}
+use Rattle.rg_version.specs.Versions.{taken_if}
+use Rattle.rg_restart.specs.declared.data.LastSwitch.{LastSwitch}
+use Rattle.rg_restart.specs.Data.{AreBase, BreaksData, IsDataPage, IsFirstBroken, IsTaken, IsUntaken, TakesPages}
 
 -- what holds of what reads still holds
 pub quiet_image : (P : Image → Type 0) (old new : Option Told) → EachCall old new IsQuiet → IfTold old (λ t. P (read_of t.first t.calls)) → IfTold new (λ t. P (read_of t.first t.calls))
@@ -37,26 +40,105 @@ pub both_told : (P Q : Told → Type 0) (told : Option Told) → IfTold told P �
 both_told P Q None p q = tt
 both_told P Q (Some t) p q = (p, q)
 
--- one page more is blank
-pub blank_more : (told : Option Told) (set : Set) (n : ℕ) (bytes : List ℕ) → IfTold told (λ t. AreBlank (read_of t.first t.calls) set n) → IfTold told (λ t. bytes ≡ read_of t.first t.calls set (n + 1)) → IsZero bytes
-    → IfTold told (λ t. AreBlank (read_of t.first t.calls) set (n + 1))
-blank_more None set n bytes blank reads zero = tt
-blank_more (Some t) set n bytes blank reads zero = λ k low high. go k low (leb_tells k n) high
-  where
-    go : (k : ℕ) → 1 ≤ k → ((nat_le k n ≡ true) × (k ≤ n)) ⊎ ((nat_le k n ≡ false) × (n < k)) → k ≤ n + 1 → IsZero (read_of t.first t.calls set k)
-    go k low (inl le) high = blank k low le.1
-    go k low (inr lt) high = subst (λ (m : ℕ). IsZero (read_of t.first t.calls set m)) (omega (arith, lt.1, high)) (sym reads ∙ zero)
+-- the pages before the last one, and the last one
+at_front : (base : List Content) (page : Content) (n : ℕ) → n ≤ length base → content_at (base ++ page ∷ []) n ≡ content_at base n
+at_front base page zero low = refl
+at_front base page (suc n) low = get_or_append_left base (page ∷ []) (empty 0 0) n (omega (arith, low))
 
--- the page after is not
-pub first_used : (told : Option Told) (set : Set) (count n : ℕ) (bytes : List ℕ) → IfTold told (λ t. AreBlank (read_of t.first t.calls) set n) → IfTold told (λ t. bytes ≡ read_of t.first t.calls set (n + 1)) → (IsZero bytes → ⊥)
-    → n < count → IfTold told (λ t. IsFirstUsed (read_of t.first t.calls) set count (n + 1))
-first_used None set count n bytes blank reads used low = tt
-first_used (Some t) set count n bytes blank reads used low = record {
+at_end : (base : List Content) (page : Content) (n : ℕ) → length base ≡ n → content_at (base ++ page ∷ []) (suc n) ≡ page
+at_end base page n is = ap (λ (k : ℕ). get_or (base ++ page ∷ []) k (empty 0 0)) (sym is) ∙ get_or-append_seam base page [] (empty 0 0)
+
+-- one page more is taken
+pub takes_more : (told : Option Told) (copy last : ℕ) (switch : LastSwitch) (set : Set) (n : ℕ) (bytes : List ℕ) (base : List Content) (page : Content)
+    → IfTold told (λ t. TakesPages copy last switch set n (read_of t.first t.calls) base) → IfTold told (λ t. bytes ≡ read_of t.first t.calls set (n + 1))
+    → IsTaken copy last switch (n + 1) bytes page → IfTold told (λ t. TakesPages copy last switch set (n + 1) (read_of t.first t.calls) (base ++ page ∷ []))
+takes_more None copy last switch set n bytes base page takes reads taken = tt
+takes_more (Some t) copy last switch set n bytes base page takes reads taken = record {
+  count_is = omega (arith, length-append base (page ∷ []), takes.count_is);
+  each = λ k low high. go k low (leb_tells k n) high;
+}
+  where
+    go : (k : ℕ) → 1 ≤ k → ((nat_le k n ≡ true) × (k ≤ n)) ⊎ ((nat_le k n ≡ false) × (n < k)) → k ≤ n + 1
+        → IsTaken copy last switch k (read_of t.first t.calls set k) (content_at (base ++ page ∷ []) k)
+    go k low (inl le) high = subst (IsTaken copy last switch k (read_of t.first t.calls set k)) (sym (at_front base page k (omega (arith, le.1, takes.count_is)))) (takes.each k low le.1)
+    go k low (inr lt) high =
+        let e : n + 1 ≡ k = omega (arith, lt.1, high) in
+        let s : suc n ≡ n + 1 = omega arith in
+        let last_one : content_at (base ++ page ∷ []) (n + 1) ≡ page = ap (content_at (base ++ page ∷ [])) (sym s) ∙ at_end base page n takes.count_is in
+        subst (λ (m : ℕ). IsTaken copy last switch m (read_of t.first t.calls set m) (content_at (base ++ page ∷ []) m)) e
+        (subst (IsTaken copy last switch (n + 1) (read_of t.first t.calls set (n + 1))) (sym last_one)
+        (subst (λ (bs : List ℕ). IsTaken copy last switch (n + 1) bs page) reads taken))
+
+-- the page after is no data page
+pub first_broken : (told : Option Told) (copy last : ℕ) (switch : LastSwitch) (set : Set) (count n : ℕ) (bytes : List ℕ) (base : List Content)
+    → IfTold told (λ t. TakesPages copy last switch set n (read_of t.first t.calls) base) → IfTold told (λ t. bytes ≡ read_of t.first t.calls set (n + 1))
+    → BreaksData copy last (n + 1) bytes → n < count → IfTold told (λ t. IsFirstBroken copy last set count (read_of t.first t.calls) (n + 1))
+first_broken None copy last switch set count n bytes base takes reads breaks low = tt
+first_broken (Some t) copy last switch set count n bytes base takes reads breaks low = record {
   low = omega arith;
   high = omega (arith, low);
-  used = λ zero. used (reads ∙ zero);
-  before = λ k from to. blank k from (omega (arith, to));
+  broken = subst (BreaksData copy last (n + 1)) reads breaks;
+  before = λ k from to. (let taken = takes.each k from (omega (arith, to)) in (taken.page, taken.data_page));
 }
+
+all_more : (pages : List Content) (page : Content) → AllByRecursion FitsPage pages → FitsPage page → AllByRecursion FitsPage (pages ++ page ∷ [])
+all_more [] page all fits = (fits, tt)
+all_more (x ∷ pages) page all fits = (all.0, all_more pages page all.1 fits)
+
+-- one page more in memory
+pub base_more : (copy n : ℕ) (old new : ListFrames) (page : Content) → AreBase copy n old → FitsPage page → new.pages.items ≡ old.pages.items ++ page ∷ [] → new.reserved.items ≡ old.reserved.items → new.copy ≡ old.copy
+    → AreBase copy (n + 1) new
+base_more copy n old new page is fits pages reserved same = record {
+  copy_is = same ∙ is.copy_is;
+  reserved = reserved ∙ is.reserved;
+  count_is = omega (arith, ap (λ (xs : List Content). length xs) pages, length-append old.pages.items (page ∷ []), is.count_is);
+  fits = subst (AllByRecursion FitsPage) (sym pages) (all_more old.pages.items page is.fits fits);
+}
+
+-- a page that was read is a data page, if it is not past the log
+pub data_page : (copy last n : ℕ) (bytes : List ℕ) (x : Content) → page_bytes x ≡ bytes → x.copy ≡ copy → x.number ≡ n → FitsPage x → x.position ≤ last → IsDataPage copy last n bytes x
+data_page copy last n bytes x is copy_is number fits low = record { spells = record { fits = fits; is = sym is }; copy_is = copy_is; number = number; position = low }
+
+-- and what is taken of it
+pub taken_as : (copy last : ℕ) (switch : LastSwitch) (n : ℕ) (bytes : List ℕ) (x y : Content) (b : Bool) → (nat_lt switch.pages n && nat_lt x.position switch.at) ≡ b → IsDataPage copy last n bytes x → y ≡ taken_if b x
+    → IsTaken copy last switch n bytes y
+taken_as copy last switch n bytes x y b test is same = record { page = x; data_page = is; is = same ∙ ap (λ (t : Bool). taken_if t x) (sym test) }
+
+-- a page past the log is none
+pub past_log : (copy last n : ℕ) (bytes : List ℕ) (x : Content) → page_bytes x ≡ bytes → x.copy ≡ copy → x.number ≡ n → FitsPage x → last < x.position → BreaksData copy last n bytes
+past_log copy last n bytes x is copy_is number fits high y of_y =
+    let same : x ≡ y = one_spelling x y fits of_y.spells.fits (copy_is ∙ sym of_y.copy_is) (number ∙ sym of_y.number) (is ∙ of_y.spells.is) in
+    omega (arith, ap (λ (z : Content). z.position) same, of_y.position, high)
+
+-- bytes that no page has are none
+pub none_there : (copy last n : ℕ) (bytes : List ℕ) → NoPageHas copy n bytes → BreaksData copy last n bytes
+none_there copy last n bytes none y of_y = none y of_y.spells.fits of_y.copy_is of_y.number (sym of_y.spells.is)
+
+pub untaken : (copy last n : ℕ) (bytes : List ℕ) (fault : PageFault) → IsNone copy n bytes fault → IsUntaken copy last n bytes fault
+untaken copy last n bytes NotAPage none = none_there copy last n bytes none
+untaken copy last n bytes NoMemory none = tt
+
+-- what is taken of a page has a spelling, its copy and its number
+pub taken_fits : (copy last : ℕ) (switch : LastSwitch) (n : ℕ) (bytes : List ℕ) (y : Content) → IsTaken copy last switch n bytes y → FitsPage y × (y.copy ≡ copy) × (y.number ≡ n)
+taken_fits copy last switch n bytes y taken = subst Good (sym taken.is) (go (nat_lt switch.pages n && nat_lt taken.page.position switch.at))
+  where
+    Good : Content → Type 0
+    Good x = FitsPage x × (x.copy ≡ copy) × (x.number ≡ n)
+
+    go : (b : Bool) → Good (taken_if b taken.page)
+    go true = (
+      record {
+        copy = taken.data_page.spells.fits.copy;
+        number = taken.data_page.spells.fits.number;
+        position = omega arith;
+        slots = tt;
+        within = omega arith;
+        trimmed = refl;
+      },
+      taken.data_page.copy_is,
+      taken.data_page.number,
+    )
+    go false = (taken.data_page.spells.fits, taken.data_page.copy_is, taken.data_page.number)
 
 -- a copy's pages are within its set
 pub copy_within : (capacities : Capacities) (copy : ℕ) → copy_capacity capacities copy ≤ capacity_of capacities (set_of copy)

@@ -26,7 +26,7 @@ use Rattle.rg_tested.specs.Breach.{BreaksOf}
 use Rattle.rg_undo.specs.Undoing.{written_of}
 use Rattle.rg_undo.specs.Unit.{undo_records, writes_of}
 use Rattle.rg_unended.specs.Unended.{left_of, owed_for}
-use Rattle.rg_desk.specs.Pages.{list_seen, space_pages}
+use Rattle.rg_space.specs.Memory.{list_seen, space_pages}
 use Rattle.rg_desk.specs.Undoing.{is_undo}
 
 -- summaries and pages are in step, and agree

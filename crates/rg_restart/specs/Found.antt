@@ -2,7 +2,8 @@
 --
 -- 1. It goes on from a log that keeps its rules, over a copy that may have so many pages.
 -- 2. Each step keeps what those before it found. One that is refused names the rule that is broken.
-use Rattle.std.specs.Prelude.{◌≡◌, ◌≤◌, ◌<◌, ◌+◌, ◌^◌, ◌++◌, ℕ, List, length, None}
+use Rattle.std.specs.Prelude.{◌≡◌, ◌≤◌, ◌<◌, ◌+◌, ◌^◌, ◌++◌, ℕ, List, length}
+use Rattle.rg_base.specs.declared.set.Set.{Set}
 use Rattle.rg_chain.specs.Kept.{IsKept}
 use Rattle.rg_chain.specs.Running.{Running}
 use Rattle.rg_home.specs.Able.{Proper}
@@ -14,21 +15,22 @@ use Rattle.rg_indexes.specs.Listings.{AreListings}
 use Rattle.rg_keyed.specs.Keyed.{AllTakeBack}
 use Rattle.rg_log.specs.Kept.{Listed}
 use Rattle.rg_model.specs.State.{Table, row_count}
+use Rattle.rg_home.specs.Slot.{Slot}
+use Rattle.rg_page.specs.Content.{Content}
 use Rattle.rg_page.specs.declared.list.ListFrames.{ListFrames}
 use Rattle.rg_rebuilt.specs.Rebuilt.{CanRebuild}
 use Rattle.rg_record.specs.declared.record.Record.{Record}
 use Rattle.rg_space.specs.Space.{capacity_in}
 use Rattle.rg_space.specs.declared.space.Space.{Space}
-use Rattle.rg_tested.specs.Places.{IsLeastBreach}
 use Rattle.rg_desk.specs.Desk.{CanBegin, IsCopy}
-use Rattle.rg_desk.specs.Pages.{space_pages}
+use Rattle.rg_space.specs.Memory.{space_pages}
 use Rattle.rg_desk.specs.Stored.{IsStored}
 use Rattle.rg_desk.specs.declared.desk.OpenCause.{OpenCause}
 use Rattle.rg_desk.specs.declared.desk.OpenCause.TheVariants.{Damaged, Device, NoMemory}
 use Rattle.rg_desk.specs.declared.found.Found.{Found}
 use Rattle.rg_unended.specs.Unended.{open_in}
 use Rattle.rg_restart.specs.Closed.{IsInStep, TookBack}
-use Rattle.rg_restart.specs.Pages.{Alone, BreaksRule, CanUndo, Fit, HaveHomes, IsStoredThere, KeepsRules, Ties, copy_of, count_of, redone_of, undone_of}
+use Rattle.rg_restart.specs.Pages.{CanClose, KeepsRules, copy_of, count_of, undone_from}
 
 -- a log that keeps its rules, of which this is kept, and the pages that its copy may have
 pub record MayFind (log : Listed) (chain : Running) (capacity : ℕ) : Type 0 where
@@ -42,31 +44,34 @@ pub record MayFind (log : Listed) (chain : Running) (capacity : ℕ) : Type 0 wh
   pub idle : log.reserved ≡ 0
   pub forced : log.forced ≡ length log.records
 
--- why nothing was found: the first rule that is broken names this page, or memory ran out
-abbrev pub Refuses : List Record → OpenCause → Type 0
-Refuses rs (Damaged set page) = BreaksRule rs set page
-Refuses rs Device = ⊥
-Refuses rs NoMemory = Unit {0}
+-- why a step refused: the first rule that is broken names this page, or memory ran out
+abbrev pub Refuses : (breaks : Set → ℕ → Type 0) → OpenCause → Type 0
+Refuses breaks (Damaged set page) = breaks set page
+Refuses breaks Device = ⊥
+Refuses breaks NoMemory = Unit {0}
 
--- of the log that had the records `rs`, and now has these, the open units are undone
-pub record IsUndone (rs records : List Record) (space : Space ListFrames) : Type 0 where
-  pub fit : Fit rs
-  pub tied : IsLeastBreach (Ties rs) None
-  pub can : CanUndo rs
+-- records that undo was appended to
+pub record IsGrown (rs records : List Record) : Type 0 where
   pub more : List Record
   pub back : AllTakeBack more
-  pub records_are : records ≡ rs ++ more
-  pub first : Proper (redone_of rs)
-  pub first_count : length (redone_of rs) ≡ count_of rs
+  pub are : records ≡ rs ++ more
+
+-- Of the log that had the records `rs`, and now has these, the open units are undone. The pages
+-- were these before.
+pub record IsUndone (redone : List (List Slot)) (rs records : List Record)
+    (space : Space ListFrames) : Type 0 where
+  pub closes : CanClose rs redone
+  pub grown : IsGrown rs records
+  pub first : Proper redone
   pub in_step : IsInStep space
   pub proper : Proper (space_pages space)
-  pub slots : space_pages space ≡ undone_of rs
-  pub count_is : length (space_pages space) ≡ count_of rs
+  pub slots : space_pages space ≡ undone_from rs redone
+  pub count_is : length (space_pages space) ≡ length redone
 
 -- so they are, and no more was appended than was reserved
-pub record IsClosed (log : Listed) (capacity : ℕ) (space : Space ListFrames) (now : Listed)
-    : Type 0 where
-  pub undone : IsUndone log.records now.records space
+pub record IsClosed (redone : List (List Slot)) (log : Listed) (capacity : ℕ)
+    (space : Space ListFrames) (now : Listed) : Type 0 where
+  pub undone : IsUndone redone log.records now.records space
   pub capacity_is : capacity_in space ≡ capacity
   pub took : TookBack (open_in log.records) (owed log.records) log now
   pub idle : now.reserved ≡ 0
@@ -83,16 +88,10 @@ pub record SamePages (old new : Space ListFrames) : Type 0 where
   pub slots : space_pages new ≡ space_pages old
   pub capacity : capacity_in new ≡ capacity_in old
 
--- the home rows are the stored ones
-pub record IsMatched (rs : List Record) : Type 0 where
-  pub alone : IsLeastBreach (Alone rs) None
-  pub there : IsLeastBreach (IsStoredThere rs) None
-  pub placed : HaveHomes rs
-
--- what an opening found, from a log over a copy that may have so many pages: what a desk may begin
--- with, and the pages are those that the log leaves
-pub record Finds (log : Listed) (capacity : ℕ) (found : Found) : Type 0 where
-  pub rules : KeepsRules log.records
+-- what an opening found, from a log and the pages that were read, over a copy that may have so many
+-- pages: what a desk may begin with, and the pages are those that the log leaves
+pub record Finds (base : List Content) (log : Listed) (capacity : ℕ) (found : Found) : Type 0 where
+  pub rules : KeepsRules base log.records
   pub begins : CanBegin capacity (space_pages found.space) found.log found.top
   pub in_step : IsInStep found.space
   pub listings : AreListings (row_at (slot_of (space_pages found.space))) found.indexes

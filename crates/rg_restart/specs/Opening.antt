@@ -20,6 +20,7 @@ use Rattle.rg_outside.specs.Calls.{read_of}
 use Rattle.rg_outside.specs.Capacities.{Capacities}
 use Rattle.rg_outside.specs.Faults.{Rose}
 use Rattle.rg_outside.specs.Moments.{EachCall, IfTold}
+use Rattle.rg_page.specs.Content.{Content}
 use Rattle.rg_record.specs.declared.record.Record.{Record}
 use Rattle.rg_unended.specs.Unended.{open_in}
 use Rattle.rg_restart.specs.Closed.{TookBack}
@@ -67,18 +68,19 @@ pub record IsRefused (old new : VolumeSeen) (cause : OpenCause) : Type 0 where
   pub calls : CallsQuiet old new
   pub because : IsCause old new cause
 
--- the volume reads sound, and its log has these records
-abbrev pub ReadsSound : VolumeSeen → List Record → Type 0
-ReadsSound seen rs =
-    IfTold seen.told (λ t. IsSoundBy seen.capacities (read_of t.first t.calls) rs)
+-- the volume reads sound: its log has these records, and these pages are taken
+abbrev pub ReadsSound : VolumeSeen → List Record → (base : List Content) → Type 0
+ReadsSound seen rs base =
+    IfTold seen.told (λ t. IsSoundBy seen.capacities (read_of t.first t.calls) rs base)
 
 -- what is found of a volume
 pub record Looks (old new : VolumeSeen) (found : Found) : Type 0 where
   pub log : Listed
   pub pages : log.pages ≡ log_pages old.capacities
-  pub finds : Finds log (copy_capacity old.capacities (copy_of log.records)) found
+  pub base : List Content
+  pub finds : Finds base log (copy_capacity old.capacities (copy_of log.records)) found
   pub calls : CallsQuiet old new
-  pub sound : ReadsSound new log.records
+  pub sound : ReadsSound new log.records base
   pub leaves : LeavesIfTidy new found.log
 
 -- A desk that was opened over a volume: over its log as it read, to which the undo of open units
@@ -96,4 +98,5 @@ pub record OpensStored {V O : Type 0}
         Opens look desk.volume operator now (copy_of log.records)
         (copy_capacity old.capacities (copy_of log.records)) slots desk
     pub calls : CallsQuiet old (look desk.volume)
-    pub sound : ReadsSound (look desk.volume) log.records
+    pub base : List Content
+    pub sound : ReadsSound (look desk.volume) log.records base

@@ -1,9 +1,8 @@
--- The rules of a sound volume that are on its pages, where no data page has been written yet: the
--- log alone makes them.
+-- The rules of a sound volume that are on the rows and the slots of its pages.
 --
 -- 1. Each rule is tested where those before it hold, in the order in which they stand here.
--- 2. *Parts fit.* In redo each part fits its page. The log page of the first record is named that
---    has a part which does not.
+-- 2. *Parts fit.* In redo, from the pages that were read, each part fits its page. The log page of
+--    the first record is named that has a part which does not.
 -- 3. *Pointers.* After redo slots name each other; in the undo of open units each Change has what
 --    it needs; and after undo no key stands twice. The page of the least place in breach is named,
 --    or in undo that of the first Change.
@@ -21,9 +20,9 @@ use Rattle.rg_home.specs.Undo.{undone_all}
 use Rattle.rg_image.specs.Meaning.{current_of, stored}
 use Rattle.rg_image.specs.Pack.{end_of, start}
 use Rattle.rg_lawful.specs.Tested.{all_of}
-use Rattle.rg_page.specs.Content.{slots_of}
+use Rattle.rg_page.specs.Content.{Content, slots_of}
 use Rattle.rg_ready.specs.Needed.{NeededInTurn}
-use Rattle.rg_rebuilt.specs.Rebuilt.{blank_pages, rebuilt_pages}
+use Rattle.rg_rebuilt.specs.Rebuilt.{rebuilt_pages}
 use Rattle.rg_record.specs.declared.record.Record.{Record}
 use Rattle.rg_redo.specs.Redo.{AllRedoFit, FailsAt, since_switch}
 use Rattle.rg_tested.specs.Keys.{HasHome, IsAlone}
@@ -47,75 +46,100 @@ count_of rs = (current_of rs).pages
 abbrev pub page_of : List Record → (count : ℕ) → ℕ
 page_of rs count = (end_of start (take count rs)).page
 
--- the pages after redo
-abbrev pub redone_of : List Record → List (List Slot)
-redone_of rs = slots_of (rebuilt_pages (copy_of rs) (count_of rs) rs)
+-- the pages after redo, from those that were read
+abbrev pub redone_of : (base : List Content) → List Record → List (List Slot)
+redone_of base rs = slots_of (rebuilt_pages base rs)
 
--- and once the open units are undone, with the rows at their homes
-abbrev pub undone_of : List Record → List (List Slot)
-undone_of rs = undone_all (redone_of rs) (all_of (writes_left (open_in rs) rs))
+-- these pages once the open units are undone
+abbrev pub undone_from : List Record → (pages : List (List Slot)) → List (List Slot)
+undone_from rs pages = undone_all pages (all_of (writes_left (open_in rs) rs))
 
-abbrev pub homes_of : List Record → Place → Option TableRow
-homes_of rs = row_at (slot_of (undone_of rs))
+abbrev pub undone_of : (base : List Content) → List Record → List (List Slot)
+undone_of base rs = undone_from rs (redone_of base rs)
+
+-- the rows at their homes
+abbrev pub homes_of : (pages : List (List Slot)) → Place → Option TableRow
+homes_of pages = row_at (slot_of pages)
 
 -- each part fits its page
-abbrev pub Fit : List Record → Type 0
-Fit rs = AllRedoFit (since_switch rs) (blank_pages (copy_of rs) (count_of rs))
+abbrev pub Fit : (base : List Content) → List Record → Type 0
+Fit base rs = AllRedoFit (since_switch rs) base
 
--- what the slot of a place names names it
-abbrev pub Ties : List Record → Place → Type 0
-Ties rs = IsTiedAt (open_in rs) (slot_of (redone_of rs))
+-- what the slot of a place names names it, after redo
+abbrev pub Ties : List Record → (redone : List (List Slot)) → Place → Type 0
+Ties rs redone = IsTiedAt (open_in rs) (slot_of redone)
 
 -- each Change of an open unit has what its undo needs, at its turn
-abbrev pub CanUndo : List Record → Type 0
-CanUndo rs = NeededInTurn (redone_of rs) (all_of (writes_left (open_in rs) rs))
+abbrev pub CanUndo : List Record → (redone : List (List Slot)) → Type 0
+CanUndo rs redone = NeededInTurn redone (all_of (writes_left (open_in rs) rs))
 
--- no other place has a row of this place's key
-abbrev pub Alone : List Record → Place → Type 0
-Alone rs = IsAlone (homes_of rs)
+-- no other place has a row of this place's key, after undo
+abbrev pub Alone : (undone : List (List Slot)) → Place → Type 0
+Alone undone = IsAlone (homes_of undone)
 
 -- the row of a place is the stored row of its key
-abbrev pub IsStoredThere : List Record → Place → Type 0
-IsStoredThere rs p =
-    (row : TableRow) → homes_of rs p ≡ Some row → stored rs row.key ≡ Some row
+abbrev pub IsStoredThere : List Record → (undone : List (List Slot)) → Place → Type 0
+IsStoredThere rs undone p =
+    (row : TableRow) → homes_of undone p ≡ Some row → stored rs row.key ≡ Some row
 
 -- a row is stored under a key that no home has
-pub record LacksHome (rs : List Record) : Type 0 where
+pub record LacksHome (rs : List Record) (undone : List (List Slot)) : Type 0 where
   pub key : ℕ
   pub row : TableRow
   pub is : stored rs key ≡ Some row
-  pub none : HasHome (homes_of rs) key → ⊥
+  pub none : HasHome (homes_of undone) key → ⊥
 
 -- each stored row is of its key, and has a home
-abbrev pub HaveHomes : List Record → Type 0
-HaveHomes rs =
+abbrev pub HaveHomes : List Record → (undone : List (List Slot)) → Type 0
+HaveHomes rs undone =
     (k : ℕ) (row : TableRow) → stored rs k ≡ Some row
-    → (row.key ≡ k) × (p : Place) × (homes_of rs p ≡ Some row)
+    → (row.key ≡ k) × (p : Place) × (homes_of undone p ≡ Some row)
+
+-- the rules on the slots that redo leaves
+pub record CanClose (rs : List Record) (redone : List (List Slot)) : Type 0 where
+  pub tied : IsLeastBreach (Ties rs redone) None
+  pub can : CanUndo rs redone
+
+-- the rules on the rows that undo leaves
+pub record IsMatched (rs : List Record) (undone : List (List Slot)) : Type 0 where
+  pub alone : IsLeastBreach (Alone undone) None
+  pub there : IsLeastBreach (IsStoredThere rs undone) None
+  pub placed : HaveHomes rs undone
 
 -- all of these rules hold
-pub record KeepsRules (rs : List Record) : Type 0 where
-  pub fit : Fit rs
-  pub tied : IsLeastBreach (Ties rs) None
-  pub can : CanUndo rs
-  pub alone : IsLeastBreach (Alone rs) None
-  pub there : IsLeastBreach (IsStoredThere rs) None
-  pub placed : HaveHomes rs
+pub record KeepsRules (base : List Content) (rs : List Record) : Type 0 where
+  pub fit : Fit base rs
+  pub closes : CanClose rs (redone_of base rs)
+  pub matched : IsMatched rs (undone_of base rs)
+
+-- a record does not fit
+pub data BreaksFit (base : List Content) (rs : List Record) : Set → ℕ → Type 0 where
+  Unfit : (position page : ℕ) → FailsAt position (since_switch rs) base
+      → page ≡ page_of rs position → BreaksFit base rs Log page
+
+-- the first rule on the slots that redo leaves that is broken
+pub data BreaksSlots (rs : List Record) (redone : List (List Slot)) : Set → ℕ → Type 0 where
+  Untied : (p : Place) → IsLeastBreach (Ties rs redone) (Some p)
+      → BreaksSlots rs redone (set_of (copy_of rs)) p.page
+  Lacking : (p : Place) → IsLeastBreach (Ties rs redone) None
+      → IsLacking redone (lefts_of (open_in rs) rs) p
+      → BreaksSlots rs redone (set_of (copy_of rs)) p.page
+
+-- the first rule on the rows that undo leaves that is broken
+pub data BreaksRows (rs : List Record) (undone : List (List Slot)) : Set → ℕ → Type 0 where
+  Twin : (p : Place) → IsLeastBreach (Alone undone) (Some p)
+      → BreaksRows rs undone (set_of (copy_of rs)) p.page
+  Strange : (p : Place) → IsLeastBreach (Alone undone) None
+      → IsLeastBreach (IsStoredThere rs undone) (Some p)
+      → BreaksRows rs undone (set_of (copy_of rs)) p.page
+  Missing : (page : ℕ) → IsLeastBreach (Alone undone) None
+      → IsLeastBreach (IsStoredThere rs undone) None → LacksHome rs undone
+      → page ≡ page_of rs (length rs) → BreaksRows rs undone Log page
 
 -- the first rule that is broken, and the page that it names
-pub data BreaksRule (rs : List Record) : Set → ℕ → Type 0 where
-  Unfit : (position page : ℕ)
-      → FailsAt position (since_switch rs) (blank_pages (copy_of rs) (count_of rs))
-      → page ≡ page_of rs position → BreaksRule rs Log page
-  Untied : (p : Place) → Fit rs → IsLeastBreach (Ties rs) (Some p)
-      → BreaksRule rs (set_of (copy_of rs)) p.page
-  Lacking : (p : Place) → Fit rs → IsLeastBreach (Ties rs) None
-      → IsLacking (redone_of rs) (lefts_of (open_in rs) rs) p
-      → BreaksRule rs (set_of (copy_of rs)) p.page
-  Twin : (p : Place) → Fit rs → IsLeastBreach (Ties rs) None → CanUndo rs
-      → IsLeastBreach (Alone rs) (Some p) → BreaksRule rs (set_of (copy_of rs)) p.page
-  Strange : (p : Place) → Fit rs → IsLeastBreach (Ties rs) None → CanUndo rs
-      → IsLeastBreach (Alone rs) None → IsLeastBreach (IsStoredThere rs) (Some p)
-      → BreaksRule rs (set_of (copy_of rs)) p.page
-  Missing : (page : ℕ) → Fit rs → IsLeastBreach (Ties rs) None → CanUndo rs
-      → IsLeastBreach (Alone rs) None → IsLeastBreach (IsStoredThere rs) None → LacksHome rs
-      → page ≡ page_of rs (length rs) → BreaksRule rs Log page
+pub data BreaksRule (base : List Content) (rs : List Record) : Set → ℕ → Type 0 where
+  OnParts : (set : Set) (page : ℕ) → BreaksFit base rs set page → BreaksRule base rs set page
+  OnSlots : (set : Set) (page : ℕ) → Fit base rs → BreaksSlots rs (redone_of base rs) set page
+      → BreaksRule base rs set page
+  OnRows : (set : Set) (page : ℕ) → Fit base rs → CanClose rs (redone_of base rs)
+      → BreaksRows rs (undone_of base rs) set page → BreaksRule base rs set page

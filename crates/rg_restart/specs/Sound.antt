@@ -2,16 +2,19 @@
 --
 -- 1. Each rule is tested where those before it hold. All rules on the log come first, each over the
 --    whole log.
--- 2. *Data pages.* No data page is written yet: a page of the current copy that is not all zeros is
---    named, the first one.
-use Rattle.std.specs.Prelude.{◌≤◌, ◌<◌, ℕ, List, Option, Some, None}
+-- 2. *Data pages.* Then each page of the current copy spells one of that copy and its number, with
+--    a position of at most the last record's. The first that does not is named.
+-- 3. Then come the rules on what the records make of these pages.
+use Rattle.std.specs.Prelude.{ℕ, List, length}
 use Rattle.rg_base.specs.declared.set.Set.{Set}
 use Rattle.rg_base.specs.declared.set.Set.TheVariants.{Log}
-use Rattle.rg_image.specs.Rules.{BreaksChain, BreaksLogPages, BreaksSpace, HasLogPages, HasSpace, IsChain, IsZero}
+use Rattle.rg_image.specs.Rules.{BreaksChain, BreaksLogPages, BreaksSpace, HasLogPages, HasSpace, IsChain}
 use Rattle.rg_log.specs.Kept.{log_pages}
 use Rattle.rg_outside.specs.Calls.{Image}
 use Rattle.rg_outside.specs.Capacities.{Capacities}
+use Rattle.rg_page.specs.Content.{Content}
 use Rattle.rg_record.specs.declared.record.Record.{Record}
+use Rattle.rg_restart.specs.Data.{IsFirstBroken, TakesPages, switch_of}
 use Rattle.rg_restart.specs.Pages.{BreaksRule, KeepsRules, copy_of, count_of, set_of}
 
 -- the log has these records, and keeps its rules
@@ -20,30 +23,25 @@ pub record HasSoundLog (capacities : Capacities) (i : Image) (rs : List Record) 
   pub chain : IsChain capacities rs
   pub space : HasSpace (log_pages capacities) rs
 
--- the pages 1 to `count` of a set are all zeros
-abbrev pub AreBlank : Image → Set → (count : ℕ) → Type 0
-AreBlank i set count = (n : ℕ) → 1 ≤ n → n ≤ count → IsZero (i set n)
+-- the pages of the current copy are taken as these
+abbrev pub TakesBase : List Record → Image → (base : List Content) → Type 0
+TakesBase rs i base =
+    TakesPages (copy_of rs) (length rs) (switch_of rs) (set_of (copy_of rs)) (count_of rs) i base
 
--- this page is the first of them that is not
-pub record IsFirstUsed (i : Image) (set : Set) (count page : ℕ) : Type 0 where
-  pub low : 1 ≤ page
-  pub high : page ≤ count
-  pub used : IsZero (i set page) → ⊥
-  pub before : (n : ℕ) → 1 ≤ n → n < page → IsZero (i set n)
+-- this page of the current copy is the first that is no data page
+abbrev pub IsFirstBad : List Record → Image → (page : ℕ) → Type 0
+IsFirstBad rs i page =
+    IsFirstBroken (copy_of rs) (length rs) (set_of (copy_of rs)) (count_of rs) i page
 
--- what the reading of these pages finds
-abbrev pub FindsUsed : Image → Set → (count : ℕ) → Option ℕ → Type 0
-FindsUsed i set count None = AreBlank i set count
-FindsUsed i set count (Some page) = IsFirstUsed i set count page
-
--- these are the records of the log, and all rules are kept
-pub record IsSoundBy (capacities : Capacities) (i : Image) (rs : List Record) : Type 0 where
+-- these are the records of the log and the pages that are taken, and all rules are kept
+pub record IsSoundBy (capacities : Capacities) (i : Image) (rs : List Record)
+    (base : List Content) : Type 0 where
   pub log : HasSoundLog capacities i rs
-  pub blank : AreBlank i (set_of (copy_of rs)) (count_of rs)
-  pub pages : KeepsRules rs
+  pub takes : TakesBase rs i base
+  pub pages : KeepsRules base rs
 
 abbrev pub IsSound : Capacities → Image → Type 0
-IsSound capacities i = (rs : List Record) × IsSoundBy capacities i rs
+IsSound capacities i = (rs : List Record) × (base : List Content) × IsSoundBy capacities i rs base
 
 -- the first rule that is broken names this page
 pub data IsDamage (capacities : Capacities) (i : Image) : Set → ℕ → Type 0 where
@@ -54,9 +52,8 @@ pub data IsDamage (capacities : Capacities) (i : Image) : Set → ℕ → Type 0
   Space : (rs : List Record) (page : ℕ) → HasLogPages (log_pages capacities) i rs
       → IsChain capacities rs → BreaksSpace (log_pages capacities) rs page
       → IsDamage capacities i Log page
-  UsedPage : (rs : List Record) (page : ℕ) → HasSoundLog capacities i rs
-      → IsFirstUsed i (set_of (copy_of rs)) (count_of rs) page
-      → IsDamage capacities i (set_of (copy_of rs)) page
-  OnPages : (rs : List Record) (set : Set) (page : ℕ) → HasSoundLog capacities i rs
-      → AreBlank i (set_of (copy_of rs)) (count_of rs) → BreaksRule rs set page
+  BadPage : (rs : List Record) (page : ℕ) → HasSoundLog capacities i rs
+      → IsFirstBad rs i page → IsDamage capacities i (set_of (copy_of rs)) page
+  OnPages : (rs : List Record) (base : List Content) (set : Set) (page : ℕ)
+      → HasSoundLog capacities i rs → TakesBase rs i base → BreaksRule base rs set page
       → IsDamage capacities i set page

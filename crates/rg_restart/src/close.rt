@@ -14,7 +14,7 @@ ghost use Rattle.rg_image.specs.Pack.{log_bytes};
 ghost use Rattle.rg_chain.specs.Kept.{IsKept};
 ghost use Rattle.rg_page.specs.Bare.{numbers_of};
 ghost use Rattle.rg_unended.specs.Unended.{left_of, open_in, owed_for};
-ghost use Rattle.rg_desk.specs.Pages.{space_pages};
+ghost use Rattle.rg_space.specs.Memory.{space_pages};
 ghost use Rattle.rg_restart.specs.Closed.{AreUndosFrom, Closes, ClosesUnit, IsInStep, TookBack, rolled_back};
 
 use rg_base::no_memory::NoMemory;

@@ -1,44 +1,127 @@
 // The pages of a copy, read at an opening.
 //
-// 1. No data page is written yet. So the first page of the current copy that is not all zeros
-//    breaks the rule for data pages.
-// 2. Nothing is written.
-ghost use Rattle.std.specs.Prelude.{◌≡◌, ◌≤◌, ◌↔◌, IfOk, IsTrue};
-ghost use Rattle.rg_image.specs.Rules.{IsZero};
+// 1. Each page is read and tested by the rule for data pages. The first that breaks it is named.
+// 2. A page that is left over from before the last Switch is taken as empty.
+// 3. Nothing is written.
+ghost use Rattle.std.specs.Prelude.{◌≡◌, ◌≤◌, ◌&&◌, nat_lt, IfOk, IfErr};
 ghost use Rattle.rg_log.specs.Open.{IsQuiet};
 ghost use Rattle.rg_outside.specs.Calls.{read_of};
 ghost use Rattle.rg_outside.specs.Capacities.{capacity_of};
-ghost use Rattle.rg_outside.specs.Faults.{HasCause};
 ghost use Rattle.rg_outside.specs.Moments.{EachCall, IfTold};
-ghost use Rattle.rg_restart.specs.Sound.{FindsUsed};
+ghost use Rattle.rg_restart.specs.Data.{AreBase, IsDataFault, IsTaken, IsUntaken, TakesPages, switch_after, switch_of};
 
 use rg_base::set::Set;
-use rg_outside::source::Failed;
+use rg_desk::desk::OpenCause;
 use rg_outside::volume::Volume;
+use rg_page::list::ListFrames;
+use rg_page::page::Page;
+use rg_page_bytes::fault::PageFault;
 use rg_record::buffer::PAGE_SIZE;
+use rg_record::record::{Kind, Record};
+use std::alloc::Global;
 
-// Whether all bytes of a page are zero.
-fn is_blank(bytes: &[u8; PAGE_SIZE]) -> bool
-    ensures { IsTrue result ↔ IsZero bytes.now }
-{
-    *bytes == [0; PAGE_SIZE]
+/// The last Switch of a log: its position and how many pages it counts, or 0 and 0.
+#[derive(Clone, Copy, Debug)]
+pub struct LastSwitch {
+    at: u64,
+    pages: u32,
 }
 
-/// The first of the pages 1 to `count` of a set that is not all zeros, if there is one.
-pub fn used_page<V: Volume>(volume: &mut V, set: Set, count: u32) -> Result<Option<u32>, Failed>
+// The last Switch after a record.
+fn switch_after(last: LastSwitch, entry: &Record) -> LastSwitch
+    ensures { result ≡ switch_after last entry.now.position.0 entry.now.kind }
+{
+    match &entry.kind {
+        Kind::Switch { pages, .. } => LastSwitch {
+            at: entry.position.0,
+            pages: *pages,
+        },
+        Kind::Change { .. }
+        | Kind::Undo { .. }
+        | Kind::Commit
+        | Kind::RolledBack
+        | Kind::Purge { .. } => last,
+    }
+}
+
+/// The last Switch of these records.
+pub fn switch_of(records: &[Record]) -> LastSwitch
+    ensures { result ≡ switch_of records.now }
+{
+    let mut last = LastSwitch { at: 0, pages: 0 };
+    for entry in records {
+        last = switch_after(last, entry);
+    }
+    last
+}
+
+// Whether a page of this number and position is left over from before the last Switch.
+fn is_left_over(switch: LastSwitch, number: u32, position: u64) -> bool
+    ensures { result ≡ (nat_lt switch.pages number && nat_lt position switch.at) }
+{
+    switch.pages < number && position < switch.at
+}
+
+// What is taken of a page of these bytes.
+fn take_page(
+    alloc: Global,
+    copy: u8,
+    number: u32,
+    last: u64,
+    switch: LastSwitch,
+    bytes: &[u8; PAGE_SIZE],
+) -> Result<Page, PageFault>
+    ensures taken { IfOk result (λ page. IsTaken copy last switch number bytes.now page) }
+    ensures untaken { IfErr result (IsUntaken copy last number bytes.now) }
+{
+    let page = Page::read(alloc, copy, number, bytes)?;
+    let position = page.position().0;
+    if last < position {
+        return Err(PageFault::NotAPage);
+    }
+    if is_left_over(switch, number, position) {
+        return Ok(Page::new(alloc, copy, number)?);
+    }
+    Ok(page)
+}
+
+/// The pages 1 to `count` of a copy, which has them in this set, as an opening takes them. The last
+/// record has the position `last`.
+pub fn read_pages<V: Volume>(
+    alloc: Global,
+    volume: &mut V,
+    copy: u8,
+    set: Set,
+    count: u32,
+    last: u64,
+    switch: LastSwitch,
+) -> Result<ListFrames, OpenCause>
     requires { count ≤ capacity_of (V.capacities volume.old) set }
-    ensures used { IfOk result (λ page. IfTold (V.told volume.new)
-        (λ t. FindsUsed (read_of t.first t.calls) set count page)) }
+    ensures base { IfOk result (AreBase copy count) }
+    ensures takes { IfOk result (λ frames. IfTold (V.told volume.new) (λ t.
+        TakesPages copy last switch set count (read_of t.first t.calls) frames.pages.items)) }
+    ensures refused { IfErr result (IsDataFault copy last set count (V.told volume.new)
+        (V.faults volume.old) (V.faults volume.new)) }
     ensures only { EachCall (V.told volume.old) (V.told volume.new) IsQuiet }
     ensures capacities { V.capacities volume.new ≡ V.capacities volume.old }
-    ensures cause { HasCause (V.faults volume.old) (V.faults volume.new) result }
+    ensures later { V.faults volume.old ≤ V.faults volume.new }
 {
+    let mut frames = ListFrames::new(alloc, copy);
     for before in 0..count {
+        let number = before + 1;
         let mut bytes = [0; PAGE_SIZE];
-        volume.read(set, before + 1, &mut bytes)?;
-        if !is_blank(&bytes) {
-            return Ok(Some(before + 1));
+        let Ok(()) = volume.read(set, number, &mut bytes) else {
+            return Err(OpenCause::Device);
+        };
+        match take_page(alloc, copy, number, last, switch, &bytes) {
+            Ok(page) => {
+                let Ok(()) = frames.push(page) else {
+                    return Err(OpenCause::NoMemory);
+                };
+            }
+            Err(PageFault::NotAPage) => return Err(OpenCause::Damaged { set, page: number }),
+            Err(PageFault::NoMemory) => return Err(OpenCause::NoMemory),
         }
     }
-    Ok(None)
+    Ok(frames)
 }

@@ -1,7 +1,7 @@
 // What the records of a sound log leave of the table.
 //
-// 1. The pages are made of the log alone. Then each rule on pages is tested, in their order, and
-//    the first that is broken names its page.
+// 1. The log is redone on the pages that were read. Then each rule on pages is tested, in their
+//    order, and the first that is broken names its page.
 // 2. Open units are undone before the rows are compared with the stored ones.
 // 3. No call of a volume is made. After a refusal all that was found is to be dropped.
 ghost use Rattle.std.specs.Prelude.{◌≡◌, ◌≤◌, ◌+◌, ◌==◌, ℕ, length, take, if◌then◌else◌, IfOk, IfErr, OnOk, None};
@@ -15,13 +15,14 @@ ghost use Rattle.rg_image.specs.Rules.{IsChain, limit_of, owed};
 ghost use Rattle.rg_index.specs.Listed.{IsListingOf};
 ghost use Rattle.rg_indexes.specs.Listings.{AreListings, entries_of};
 ghost use Rattle.rg_page.specs.Bare.{numbers_of};
-ghost use Rattle.rg_rebuilt.specs.Rebuilt.{CanRebuild, IsRebuilt};
+ghost use Rattle.rg_rebuilt.specs.Rebuilt.{AreSoundPages, CanRebuild, IsRebuilt};
 ghost use Rattle.rg_space.specs.Space.{capacity_in};
 ghost use Rattle.rg_unended.specs.Unended.{open_in};
-ghost use Rattle.rg_desk.specs.Pages.{space_pages};
+ghost use Rattle.rg_space.specs.Memory.{space_pages};
 ghost use Rattle.rg_restart.specs.Closed.{IsInStep};
-ghost use Rattle.rg_restart.specs.Found.{Finds, IsClosed, IsMatched, IsUndone, MayFind, Refuses, SamePages, StoresFew};
-ghost use Rattle.rg_restart.specs.Pages.{copy_of, count_of, page_of, set_of};
+ghost use Rattle.rg_restart.specs.Data.{AreBase};
+ghost use Rattle.rg_restart.specs.Found.{Finds, IsClosed, IsGrown, MayFind, Refuses, SamePages, StoresFew};
+ghost use Rattle.rg_restart.specs.Pages.{BreaksFit, BreaksRows, BreaksRule, BreaksSlots, IsMatched, copy_of, count_of, page_of, set_of};
 
 use crate::close::close_units;
 use crate::stored::stored_rows;
@@ -70,19 +71,22 @@ pub fn damaged(set: Set, page: u32) -> OpenCause
     OpenCause::Damaged { set, page }
 }
 
-// The pages that a log makes of empty ones.
+// The pages that a log makes of those that were read.
 fn redo_log(
     alloc: Global,
     log: &Log,
-    chain: &Chain,
+    frames: ListFrames,
     capacity: u32,
 ) -> Result<Space<ListFrames>, OpenCause>
-    requires may { MayFind log.now chain.now capacity }
-    ensures ok { IfOk result (λ space. IsRebuilt (copy_of log.now.records)
-        (count_of log.now.records) log.now.records space × (capacity_in space ≡ capacity)) }
-    ensures refused { IfErr result (Refuses log.now.records) }
+    requires can { CanRebuild (count_of log.now.records) log.now.records }
+    requires base { AreBase (copy_of log.now.records) (count_of log.now.records) frames }
+    requires within { count_of log.now.records ≤ capacity }
+    requires limit { capacity ≤ 65536 }
+    ensures ok { IfOk result (λ space. IsRebuilt frames.pages.items log.now.records space
+        × (capacity_in space ≡ capacity)) }
+    ensures refused { IfErr result (Refuses (BreaksFit frames.pages.items log.now.records)) }
 {
-    match rebuild(alloc, log, chain.copy(), chain.pages(), capacity) {
+    match rebuild(alloc, log, frames, capacity) {
         Err(NoMemory) => Err(OpenCause::NoMemory),
         Ok(Rebuilt::Pages(space)) => Ok(space),
         Ok(Rebuilt::Unfit { position }) => {
@@ -100,11 +104,13 @@ fn close_open(
     set: Set,
 ) -> Result<(), OpenCause>
     requires may { MayFind log.old chain.now (capacity_in space.old) }
-    requires rebuilt { IsRebuilt (copy_of log.old.records) (count_of log.old.records)
-        log.old.records space.old }
+    requires step { IsInStep space.old }
+    requires sound { AreSoundPages (space_pages space.old) }
     requires set { set ≡ set_of (copy_of log.old.records) }
-    ensures ok { OnOk result (IsClosed log.old (capacity_in space.old) space.new log.new) }
-    ensures refused { IfErr result (Refuses log.old.records) }
+    ensures ok { OnOk result (IsClosed (space_pages space.old) log.old (capacity_in space.old)
+        space.new log.new) }
+    ensures refused { IfErr result
+        (Refuses (BreaksSlots log.old.records (space_pages space.old))) }
 {
     let Ok(trans) = open_trans(alloc, chain) else {
         return Err(OpenCause::NoMemory);
@@ -129,12 +135,15 @@ fn match_stored(
     count: usize,
     set: Set,
 ) -> Result<(), OpenCause>
-    requires undone { IsUndone (take count log.now.records) log.now.records space.old }
+    requires step { IsInStep space.old }
+    requires grown { IsGrown (take count log.now.records) log.now.records }
     requires set { set ≡ set_of (copy_of (take count log.now.records)) }
-    ensures matched { OnOk result (IsMatched (take count log.now.records)) }
+    ensures matched { OnOk result
+        (IsMatched (take count log.now.records) (space_pages space.old)) }
     ensures stores { OnOk result (StoresFew log.now.records) }
     ensures same { OnOk result (SamePages space.old space.new) }
-    ensures refused { IfErr result (Refuses (take count log.now.records)) }
+    ensures refused { IfErr result
+        (Refuses (BreaksRows (take count log.now.records) (space_pages space.old))) }
 {
     let Ok(rows) = stored_rows(alloc, log.records()) else {
         return Err(OpenCause::NoMemory);
@@ -176,16 +185,24 @@ fn indexes_of(alloc: Global, space: &mut Space<ListFrames>) -> Result<Indexes, N
     })
 }
 
-/// What the records of a log leave, of which `chain` is kept. The copy may have `capacity` pages.
-pub fn find(alloc: Global, log: Log, chain: &Chain, capacity: u32) -> Result<Found, OpenCause>
+/// What the records of a log leave, of which `chain` is kept, on the pages that were read. The copy
+/// may have `capacity` pages.
+pub fn find(
+    alloc: Global,
+    log: Log,
+    chain: &Chain,
+    frames: ListFrames,
+    capacity: u32,
+) -> Result<Found, OpenCause>
     requires may { MayFind log chain.now capacity }
-    ensures found { IfOk result (Finds log capacity) }
-    ensures refused { IfErr result (Refuses log.records) }
+    requires base { AreBase (copy_of log.records) (count_of log.records) frames }
+    ensures found { IfOk result (Finds frames.pages.items log capacity) }
+    ensures refused { IfErr result (Refuses (BreaksRule frames.pages.items log.records)) }
 {
     let mut log = log;
     let (count, copy) = (log.records().len(), chain.copy());
     let set = set_of(copy);
-    let mut space = redo_log(alloc, &log, chain, capacity)?;
+    let mut space = redo_log(alloc, &log, frames, capacity)?;
     close_open(alloc, &mut space, &mut log, chain, set)?;
     match_stored(alloc, &mut space, &log, count, set)?;
     let Ok(indexes) = indexes_of(alloc, &mut space) else {

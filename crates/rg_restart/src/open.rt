@@ -12,7 +12,7 @@ ghost use Rattle.rg_log.specs.Kept.{log_pages};
 ghost use Rattle.rg_rebuilt.specs.Laws.{CoversAll};
 ghost use Rattle.rg_restart.specs.Opening.{BreaksLog, GoesOnTidy, IsRefused, Looks, OpensStored, cause_of};
 
-use crate::data::used_page;
+use crate::data::{read_pages, switch_of};
 use crate::find::{damaged, find, set_of};
 use rg_base::no_memory::NoMemory;
 use rg_base::set::Set;
@@ -75,14 +75,12 @@ fn look<V: Volume>(alloc: Global, volume: &mut V) -> Result<Found, OpenCause>
         Err(fault) => return Err(cause_of(fault)),
     };
     let chain = sound_log(alloc, volume, &log)?;
-    let set = set_of(chain.copy());
-    match used_page(volume, set, chain.pages()) {
-        Err(_) => return Err(OpenCause::Device),
-        Ok(Some(page)) => return Err(damaged(set, page)),
-        Ok(None) => {}
-    }
-    let capacity = copy_pages(volume, chain.copy());
-    find(alloc, log, &chain, capacity)
+    let (copy, count) = (chain.copy(), chain.pages());
+    let last = log.records().len() as u64;
+    let switch = switch_of(log.records());
+    let frames = read_pages(alloc, volume, copy, set_of(copy), count, last, switch)?;
+    let capacity = copy_pages(volume, copy);
+    find(alloc, log, &chain, frames, capacity)
 }
 
 /// Opens a volume over the table that its log stores. A page that breaks a rule of a sound volume

@@ -1,15 +1,15 @@
 -- What holds between the moment when a run began and its end, of a volume that was counted.
-use Rattle.std.proofs.Common.{◌≡◌, ◌≤◌, ◌+◌, ◌-◌, ◌++◌, ℕ, List, [], ◌∷◌, Option, Some, None, length, drop, refl, sym, ◌∙◌, ap, subst, arith, length-append}
+use Rattle.std.proofs.Common.{◌≡◌, ◌≤◌, ◌+◌, ◌-◌, ◌++◌, ℕ, List, Option, Some, None, length, drop, sym, ◌∙◌, ap, subst, arith, length-append}
 use Rattle.std.specs.List.{AllByRecursion}
 use Rattle.std.proofs.Math.Seq.{drop-append_seam}
-use Rattle.rg_base.specs.declared.set.Set.{Set}
+use Rattle.rg_log.proofs.Ready.{quiet_reads}
 use Rattle.rg_base.specs.declared.set.Set.TheVariants.{Log}
 use Rattle.rg_desk.specs.Volume.{WasTidy}
 use Rattle.rg_image.specs.Log.{log_of}
 use Rattle.rg_image.specs.Rules.{HasLogPages, IsTidyLog}
 use Rattle.rg_image.proofs.Rules.{log_is_read}
 use Rattle.rg_log.specs.Open.{IsQuiet}
-use Rattle.rg_outside.specs.Calls.{Call, Image, Told, Read, Wrote, Synced, FailedRead, FailedWrite, FailedSync, Refused, read_of}
+use Rattle.rg_outside.specs.Calls.{Call, Image, Told, read_of}
 use Rattle.rg_outside.specs.Counts.{counted}
 use Rattle.rg_outside.specs.Made.{WritesIn}
 use Rattle.rg_outside.specs.Moments.{EachCall, EachImage, IfTold, read_at}
@@ -68,16 +68,6 @@ stored_out Kind pages n Q old (Some t) le made all = λ few before was.
 -- ---- the log that was read
 
 -- calls that write nothing leave what reads
-pub quiet_reads : (first : Image) (fresh calls : List Call) (s : Set) (p : ℕ) → AllByRecursion IsQuiet fresh → read_of first (fresh ++ calls) s p ≡ read_of first calls s p
-quiet_reads first [] calls s p all = refl
-quiet_reads first (Read ∷ fresh) calls s p all = quiet_reads first fresh calls s p all.1
-quiet_reads first (Synced ∷ fresh) calls s p all = quiet_reads first fresh calls s p all.1
-quiet_reads first (FailedRead ∷ fresh) calls s p all = quiet_reads first fresh calls s p all.1
-quiet_reads first (FailedSync ∷ fresh) calls s p all = quiet_reads first fresh calls s p all.1
-quiet_reads first (Refused ∷ fresh) calls s p all = quiet_reads first fresh calls s p all.1
-quiet_reads first (Wrote set page bytes ∷ fresh) calls s p all = absurd all.0
-quiet_reads first (FailedWrite set page bytes reads ∷ fresh) calls s p all = absurd all.0
-
 same_reads : (before m : Told) (fresh : List Call) → m ≡ record before { calls = fresh ++ before.calls } → AllByRecursion IsQuiet fresh → read_of m.first m.calls ≡ read_of before.first before.calls
 same_reads before m fresh is all = ap (λ (x : Told). read_of x.first x.calls) is ∙ (λ i s p. quiet_reads before.first fresh before.calls s p all i)
 

@@ -130,5 +130,5 @@ module _ {V O : Type 0} (look : V → VolumeSeen) (old : VolumeSeen) (operator :
 
   pub read_first_log : IfTold (look desk.volume).told (λ t. HasLogPages (log_pages old.capacities) (read_of t.first t.calls) opens.log.records)
   read_first_log =
-      told_weaken (λ t. IsSoundBy (look desk.volume).capacities (read_of t.first t.calls) opens.log.records) (λ t. HasLogPages (log_pages old.capacities) (read_of t.first t.calls) opens.log.records) (look desk.volume).told
+      told_weaken (λ t. IsSoundBy (look desk.volume).capacities (read_of t.first t.calls) opens.log.records opens.base) (λ t. HasLogPages (log_pages old.capacities) (read_of t.first t.calls) opens.log.records) (look desk.volume).told
       (λ t sound. subst (λ (c : Capacities). HasLogPages (log_pages c) (read_of t.first t.calls) opens.log.records) opens.calls.capacities sound.log.pages) opens.sound

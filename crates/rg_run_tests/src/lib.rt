@@ -3,4 +3,6 @@
 #![tactic(auto)]
 
 #[cfg(test)]
+mod data;
+#[cfg(test)]
 mod tests;

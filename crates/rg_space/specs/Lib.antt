@@ -6,6 +6,7 @@ pub mod Took
 pub mod AtHome
 pub mod Applied
 pub mod Space
+pub mod Memory
 pub mod Planned
 pub mod Ready
 pub mod Carries

@@ -3,14 +3,14 @@ use Rattle.std.proofs.Common.{◌≡◌, ℕ, ◌+◌, ◌<◌, ◌≤◌, zero,
 use Rattle.std.proofs.lemmas.List.{take_more}
 use Rattle.std.proofs.lemmas.List.Elements.{All-contains}
 use Rattle.std.specs.List.{All, Contains}
+use Rattle.rg_fold.proofs.Batches.{none_kept}
 use Rattle.rg_base.specs.declared.change.Change.{Change}
 use Rattle.rg_base.specs.declared.place.Place.{Place}
 use Rattle.rg_base.specs.declared.row.Row.{Row}
 use Rattle.rg_fold.specs.Fed.{SetsRow}
 use Rattle.rg_fold.specs.Fold.{changes, fold_to, since_begin}
 use Rattle.rg_fold.specs.Last.{applied_at, changed_at, last_at, later_of}
-use Rattle.rg_fold.specs.Lawful.{Lawful, kept, passes_over}
-use Rattle.rg_fold.specs.declared.item.Item.{Item}
+use Rattle.rg_fold.specs.Lawful.{Lawful}
 use Rattle.rg_fold.proofs.Batches.{batch}
 use Rattle.rg_fold.proofs.Places.{one_place, place_itself}
 use Rattle.rg_model.specs.Layout.{same_place}
@@ -81,15 +81,6 @@ unmoved_fewer old new cs ds none unmoved = record {
   targets = λ source e. unmoved.targets source (none source e);
   lie = λ source target e f. unmoved.lie source target (none source e) f;
 }
-
-pub none_kept : (place : Place) (feed : List Item) (cs : List Change) → last_at place cs ≡ None → last_at place (kept feed cs) ≡ None
-none_kept place feed [] e = refl
-none_kept place feed (c ∷ cs) e = go (passes_over feed c) (both_none (last_at place cs) (if same_place c.home place then Some c else None) e) (none_kept place feed cs)
-  where
-    go : (b : Bool) → (last_at place cs ≡ None) × ((if same_place c.home place then Some c else None) ≡ None) → (last_at place cs ≡ None → last_at place (kept feed cs) ≡ None)
-        → last_at place (if b then kept feed cs else c ∷ kept feed cs) ≡ None
-    go true none rest = rest none.0
-    go false none rest = ap (λ later. later_of later (if same_place c.home place then Some c else None)) (rest none.0) ∙ none.1
 
 -- changes that name no place are none
 pub none_named : (cs : List Change) → ((place : Place) → last_at place cs ≡ None) → cs ≡ []

@@ -1,11 +1,13 @@
 -- The pages of a copy over calls of its volume.
-use Rattle.std.proofs.Common.{◌≡◌, ◌≢◌, ◌≤◌, ◌++◌, ℕ, Bool, true, false, if◌then◌else◌, List, length, Option, Result, refl, sym, subst}
+use Rattle.std.proofs.Common.{◌≡◌, ◌≢◌, ◌≤◌, ◌++◌, ℕ, Bool, true, false, if◌then◌else◌, List, length, Option, Result, refl, sym, ◌∙◌, subst}
 use Rattle.rg_base.specs.declared.set.Set.{Set}
-use Rattle.rg_outside.specs.Calls.{Image, Told, is_same_page}
-use Rattle.rg_outside.specs.Made.{MadeRead, MadeSync, MadeWrite}
-use Rattle.rg_outside.specs.Moments.{EachImage, put}
+use Rattle.rg_outside.specs.Calls.{Call, FailedRead, FailedSync, FailedWrite, Image, Read, Refused, Synced, Told, Wrote, effect_of, is_same_page}
+use Rattle.rg_outside.specs.Made.{MadeRead, MadeSync, MadeWrite, WritesIn}
+use Rattle.rg_outside.specs.Moments.{EachCall, EachImage, put}
 use Rattle.rg_outside.specs.declared.source.Failed.{Failed}
-use Rattle.rg_outside.proofs.Every.{at_same, read_each, sync_each, told_weaken, write_each}
+use Rattle.rg_outside.proofs.Frame.{calls_each}
+use Rattle.rg_outside.proofs.Run.{at_last}
+use Rattle.rg_outside.proofs.Every.{Turns, at_same, read_each, sync_each, told_weaken, write_each}
 use Rattle.rg_record.specs.declared.record.Record.{Record}
 use Rattle.rg_version.specs.ImageLaws.{LeavesPages}
 use Rattle.rg_version.specs.OnImage.{HasPages}
@@ -44,6 +46,19 @@ module _ (set : Set) (capacity : ℕ) (e : Epoch) (rs : List Record) (forced : �
 
   pub read_keeps : (old new : Option Told) (result : Result (Unit {0}) Failed) → LeavesPages set capacity e rs forced old → MadeRead result old new → LeavesPages set capacity e rs forced new
   read_keeps old new result leaves made = read_each (HasPages set capacity e rs forced) (HasPages set capacity e rs forced) old new result leaves made (λ i has. has)
+
+  in_turns : (other : Set) → other ≢ set → (call : Call) → WritesIn other call → Turns (HasPages set capacity e rs forced) (HasPages set capacity e rs forced) (effect_of call)
+  in_turns other differ (Wrote s p b) is = (λ i has. has, λ i has. put_other_set s p b (λ same. differ (sym is ∙ same)) i has)
+  in_turns other differ (FailedWrite s p b reads) is = (λ i has. has, λ i has. put_other_set s p b (λ same. differ (sym is ∙ same)) i has)
+  in_turns other differ Read is = λ i has. has
+  in_turns other differ Synced is = λ i has. has
+  in_turns other differ FailedRead is = λ i has. has
+  in_turns other differ FailedSync is = λ i has. has
+  in_turns other differ Refused is = λ i has. has
+
+  pub calls_keep : (old new : Option Told) (other : Set) → other ≢ set → LeavesPages set capacity e rs forced old → EachCall old new (WritesIn other) → LeavesPages set capacity e rs forced new
+  calls_keep old new other differ leaves made =
+      at_last (EachImage (HasPages set capacity e rs forced)) old new (calls_each (HasPages set capacity e rs forced) (WritesIn other) old new (in_turns other differ) leaves made)
 
 pub more_keeps : (set : Set) (capacity : ℕ) (e : Epoch) (rs more : List Record) (old new : ℕ) (told : Option Told) → old ≤ length rs → old ≤ new → LeavesPages set capacity e rs old told → LeavesPages set capacity e (rs ++ more) new told
 more_keeps set capacity e rs more old new told high le leaves =

@@ -1,21 +1,18 @@
 -- A page that is read from what a crash leaves.
-use Rattle.std.proofs.Common.{◌≡◌, ◌≤◌, ◌&&◌, ◌⊎◌, ◌++◌, inl, inr, nat_lt, ℕ, true, List, length, take, drop, sym, ◌∙◌, ap, subst, arith}
-use Rattle.std.proofs.lemmas.Bool.{lt-ltb}
+use Rattle.std.proofs.Common.{◌≡◌, ◌≤◌, ◌&&◌, ◌⊎◌, ◌++◌, ◌+◌, inl, inr, nat_lt, ℕ, zero, suc, Bool, true, false, List, [], ◌∷◌, length, take, drop, refl, sym, ◌∙◌, ap, subst, arith, length-drop}
+use Rattle.std.proofs.lemmas.Bool.{cases_lt, lt-ltb, ltb-true}
+use Rattle.std.proofs.lemmas.List.{length-take}
 use Rattle.rg_image.specs.Rules.{ArePositions}
 use Rattle.rg_page.specs.Content.{Content, empty}
-use Rattle.rg_page_bytes.specs.Sheet.{Sheet}
 use Rattle.rg_page_bytes.proofs.ReadBack.{one_spelling}
 use Rattle.rg_record.specs.declared.record.Record.{Record}
-use Rattle.rg_version.specs.Versions.{Epoch, IsBegun, IsLeftOver, IsOnVolume, Spells, redone_by, sheet_of, taken, taken_if, version}
-use Rattle.rg_version.proofs.Redo.{Follow, copies_stay, follow_positions, numbers_stay, version_more, version_redone, version_settled, version_taken}
-
-content_of : Sheet → Content
-content_of s = record { copy = s.copy; number = s.number; position = s.position; slots = s.slots }
+use Rattle.rg_version.specs.Versions.{Epoch, IsBegun, IsLeftOver, IsOnVolume, Spells, redone_by, taken, taken_if, version}
+use Rattle.rg_version.specs.Laws.{IsRead}
+use Rattle.rg_version.proofs.Redo.{Follow, follow_drop, follow_take, up_to_it, copies_stay, follow_positions, numbers_stay, version_more, version_redone, version_settled, version_taken}
 
 -- bytes spell one page of a copy and a number
 one_page : (bytes : List ℕ) (x y : Content) → Spells bytes x → Spells bytes y → x.copy ≡ y.copy → x.number ≡ y.number → y ≡ x
-unfolding content_of
-one_page bytes x y of_x of_y copy number = ap content_of (sym (one_spelling (sheet_of x) (sheet_of y) of_x.fits of_y.fits copy number (sym of_x.is ∙ of_y.is)))
+one_page bytes x y of_x of_y copy number = sym (one_spelling x y of_x.fits of_y.fits copy number (sym of_x.is ∙ of_y.is))
 
 module _ (e : Epoch) (rs : List Record) (p : ℕ) (begun : IsBegun e p) where
   version_copy : (k : ℕ) → (version e rs k p).copy ≡ e.copy
@@ -74,3 +71,94 @@ stays_there e rs more p old new bytes high le on =
         | inr left ↦ inr (left.0, same ∙ left.1)
       ];
     }
+
+-- before any record of its own, and up to the position of the page with which it begins, a copy has that page
+module _ (e : Epoch) (rs : List Record) (p : ℕ) where
+  version_first : version e rs e.from p ≡ e.base p
+  version_first = ap (λ (xs : List Record). redone_by xs (e.base p)) (none (take e.from rs) e.from (omega (arith, length-take e.from rs)))
+    where
+      none : (xs : List Record) (n : ℕ) → length xs ≤ n → drop n xs ≡ []
+      none [] zero low = refl
+      none [] (suc n) low = refl
+      none (x ∷ xs) zero low = absurd (omega (arith, low))
+      none (x ∷ xs) (suc n) low = none xs n (omega (arith, low))
+
+  version_still : Follow 0 rs → (k : ℕ) → e.from ≤ k → k ≤ length rs → k ≤ (e.base p).position → version e rs k p ≡ e.base p
+  version_still follow k low high still =
+      up_to_it (drop e.from (take k rs)) (e.base p) (0 + e.from) (follow_drop 0 e.from (take k rs) (follow_take 0 k rs follow))
+      (omega (arith, length-drop e.from (take k rs), length-take k rs, low, high, still))
+
+module _ (e : Epoch) (rs : List Record) (p : ℕ) (bytes : List ℕ) (y : Content) (read : IsRead e rs p bytes y) where
+  -- what is taken of it, by the two tests
+  taken_by : (a b : Bool) → nat_lt e.pages p ≡ a → nat_lt y.position e.from ≡ b → e.base p ≡ taken_if (a && b) y
+  taken_by a b past low = read.base ∙ ap (λ (t : Bool). taken_if (t && nat_lt y.position e.from) y) past ∙ ap (λ (t : Bool). taken_if (a && t) y) low
+
+  left_over : nat_lt e.pages p ≡ true → nat_lt y.position e.from ≡ true → e.base p ≡ empty e.copy p
+  left_over past low = taken_by true true past low ∙ ap (λ (k : ℕ). empty k y.number) read.copy ∙ ap (empty e.copy) read.number
+
+  -- it is taken as it is, and is of its copy and number
+  pub begun_with : IsBegun e p
+  begun_with = go (nat_lt e.pages p) (nat_lt y.position e.from) refl refl
+    where
+      as_read : e.base p ≡ y → (nat_lt e.pages p && nat_lt y.position e.from) ≡ false → IsBegun e p
+      as_read is test = record {
+        copy = ap (λ (x : Content). x.copy) is ∙ read.copy;
+        number = ap (λ (x : Content). x.number) is ∙ read.number;
+        taken = ap (taken e p) is ∙ ap (λ (t : Bool). taken_if t y) test ∙ sym is;
+      }
+
+      go : (a b : Bool) → nat_lt e.pages p ≡ a → nat_lt y.position e.from ≡ b → IsBegun e p
+      go true true past low =
+          let is = left_over past low in
+          let some : nat_lt 0 e.from ≡ true = lt-ltb 0 e.from (omega (arith, ltb-true y.position e.from low)) in
+          let test : (nat_lt e.pages p && nat_lt 0 e.from) ≡ true = rw past some in
+          record {
+            copy = ap (λ (x : Content). x.copy) is;
+            number = ap (λ (x : Content). x.number) is;
+            taken = ap (taken e p) is ∙ ap (λ (t : Bool). taken_if t (empty e.copy p)) test ∙ sym is;
+          }
+      go true false past low = as_read (taken_by true false past low) (rw past low)
+      go false b past low = as_read (taken_by false b past low) (ap (λ (t : Bool). t && nat_lt y.position e.from) past)
+
+  pub begins_there : ArePositions rs → e.from ≤ length rs → IsOnVolume e rs (length rs) p bytes
+  begins_there are high = go (nat_lt e.pages p) (nat_lt y.position e.from) refl refl
+    where
+      on : (k : ℕ) → e.from ≤ k → k ≤ length rs → version e rs k p ≡ y → IsOnVolume e rs (length rs) p bytes
+      on k low most is = record {
+        count = k;
+        begun = low;
+        most = most;
+        position = omega (arith, ap (λ (x : Content). x.position) is, read.position);
+        shows = inl (subst (Spells bytes) (sym is) read.spells);
+      }
+
+      as_read : e.base p ≡ y → IsOnVolume e rs (length rs) p bytes
+      as_read is = elim (cases_lt e.from y.position) [
+        | inl later ↦
+            on y.position (omega (arith, later)) read.position
+            (version_still e rs p (follow_positions rs are) y.position (omega (arith, later)) read.position (omega (arith, ap (λ (x : Content). x.position) is)) ∙ is)
+        | inr early ↦ on e.from (omega arith) high (version_first e rs p ∙ is)
+      ]
+
+      go : (a b : Bool) → nat_lt e.pages p ≡ a → nat_lt y.position e.from ≡ b → IsOnVolume e rs (length rs) p bytes
+      go true true past low =
+          let is : version e rs e.from p ≡ empty e.copy p = version_first e rs p ∙ left_over past low in
+          record {
+            count = e.from;
+            begun = omega arith;
+            most = high;
+            position = omega (arith, ap (λ (x : Content). x.position) is);
+            shows = inr (
+              record {
+                page = y;
+                past = ltb-true e.pages p past;
+                spells = read.spells;
+                copy = read.copy;
+                number = read.number;
+                low = ltb-true y.position e.from low;
+              },
+              is,
+            );
+          }
+      go true false past low = as_read (taken_by true false past low)
+      go false b past low = as_read (taken_by false b past low)

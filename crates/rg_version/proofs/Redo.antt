@@ -106,12 +106,17 @@ untouched (r ∷ xs) x from follow low = elim (step r x) [
   | inr gained ↦ absurd (omega (arith, rises_all xs (redone r x), gained.position, follow.0, low))
 ]
 
-follow_take : (from k : ℕ) (xs : List Record) → Follow from xs → Follow from (take k xs)
+-- records up to the position of a page change nothing of it
+pub up_to_it : (xs : List Record) (y : Content) (from : ℕ) → Follow from xs → from + length xs ≤ y.position → redone_by xs y ≡ y
+up_to_it [] y from follow low = refl
+up_to_it (r ∷ xs) y from follow low = ap (redone_by xs) (passed r y (λ named. omega (arith, follow.0, low))) ∙ up_to_it xs y (suc from) follow.1 (omega (arith, low))
+
+pub follow_take : (from k : ℕ) (xs : List Record) → Follow from xs → Follow from (take k xs)
 follow_take from zero xs follow = tt
 follow_take from (suc k) [] follow = tt
 follow_take from (suc k) (r ∷ xs) follow = (follow.0, follow_take (suc from) k xs follow.1)
 
-follow_drop : (from d : ℕ) (xs : List Record) → Follow from xs → Follow (from + d) (drop d xs)
+pub follow_drop : (from d : ℕ) (xs : List Record) → Follow from xs → Follow (from + d) (drop d xs)
 follow_drop from zero xs follow = let e : from ≡ from + 0 = omega arith in subst (λ f. Follow f xs) e follow
 follow_drop from (suc d) [] follow = tt
 follow_drop from (suc d) (r ∷ xs) follow = let e : suc from + d ≡ from + suc d = omega arith in subst (λ f. Follow f (drop d xs)) e (follow_drop (suc from) d xs follow.1)

@@ -4,11 +4,13 @@
 --    (`WriteKeeps`). A write to another set does, too (`OtherKeeps`).
 -- 2. So do a sync and a read, however they end (`SyncKeeps`, `ReadKeeps`).
 -- 3. So it is after records were appended and the log was forced further (`MoreKeeps`).
+-- 4. Calls of which each writes no other set than one keep the pages of every other set
+--    (`CallsKeep`).
 use Rattle.std.specs.Prelude.{◌≤◌, ◌≢◌, ◌++◌, ℕ, List, length, Option, Result}
 use Rattle.rg_base.specs.declared.set.Set.{Set}
 use Rattle.rg_outside.specs.Calls.{Told}
-use Rattle.rg_outside.specs.Made.{MadeRead, MadeSync, MadeWrite}
-use Rattle.rg_outside.specs.Moments.{EachImage, IfTold}
+use Rattle.rg_outside.specs.Made.{MadeRead, MadeSync, MadeWrite, WritesIn}
+use Rattle.rg_outside.specs.Moments.{EachCall, EachImage, IfTold}
 use Rattle.rg_outside.specs.declared.source.Failed.{Failed}
 use Rattle.rg_record.specs.declared.record.Record.{Record}
 use Rattle.rg_version.specs.OnImage.{HasPages}
@@ -53,3 +55,9 @@ MoreKeeps =
     (set : Set) (capacity : ℕ) (e : Epoch) (rs more : List Record) (old new : ℕ)
     (told : Option Told) → old ≤ length rs → old ≤ new
     → LeavesPages set capacity e rs old told → LeavesPages set capacity e (rs ++ more) new told
+
+abbrev pub CallsKeep : Type 0
+CallsKeep =
+    (set : Set) (capacity : ℕ) (e : Epoch) (rs : List Record) (forced : ℕ)
+    (old new : Option Told) (other : Set) → other ≢ set → LeavesPages set capacity e rs forced old
+    → EachCall old new (WritesIn other) → LeavesPages set capacity e rs forced new

@@ -16,6 +16,8 @@
 -- 9. A page that is read from what a crash leaves, and on which the log there is redone, is the
 --    version that all records of that log make (`ReadsBack`).
 -- 10. Redo of all pages of a list is redo of each (`OfAllPages`).
+-- 11. The pages that an opening takes are those with which a copy may begin anew: each page that
+--    was read may stand there, where all the records that were read are forced (`BeginsThere`).
 use Rattle.std.specs.Prelude.{◌≡◌, ◌≤◌, ◌++◌, ℕ, List, drop, length, map, take}
 use Rattle.rg_image.specs.Rules.{ArePositions}
 use Rattle.rg_page.specs.Content.{Content}
@@ -79,3 +81,18 @@ ReadsBack =
 abbrev pub OfAllPages : Type 0
 OfAllPages =
     (rs : List Record) (pages : List Content) → redone_all rs pages ≡ map (redone_by rs) pages
+
+-- page p was read as y, of a log with these records, and the copy begins with what is taken of it
+pub record IsRead (e : Epoch) (rs : List Record) (p : ℕ) (bytes : List ℕ) (y : Content) : Type 0
+  where
+    pub spells : Spells bytes y
+    pub copy : y.copy ≡ e.copy
+    pub number : y.number ≡ p
+    pub position : y.position ≤ length rs
+    pub base : e.base p ≡ taken e p y
+
+abbrev pub BeginsThere : Type 0
+BeginsThere =
+    (e : Epoch) (rs : List Record) (p : ℕ) (bytes : List ℕ) (y : Content) → ArePositions rs
+    → e.from ≤ length rs → IsRead e rs p bytes y
+    → IsBegun e p × IsOnVolume e rs (length rs) p bytes

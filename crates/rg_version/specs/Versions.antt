@@ -10,7 +10,7 @@ use Rattle.std.specs.Prelude.{◌≡◌, ◌≤◌, ◌<◌, ◌==◌, ◌⊎◌
 use Rattle.std.specs.List.{list_any}
 use Rattle.rg_page.specs.Content.{Content, empty}
 use Rattle.rg_page_bytes.specs.PageBytes.{page_bytes}
-use Rattle.rg_page_bytes.specs.Sheet.{FitsSheet, Sheet}
+use Rattle.rg_page_bytes.specs.Content.{FitsPage}
 use Rattle.rg_record.specs.Applied.{parts_of}
 use Rattle.rg_record.specs.declared.record.Record.{Record}
 use Rattle.rg_space.specs.Redo.{RedoFits, redone}
@@ -46,18 +46,17 @@ abbrev pub taken_if : (is_old : Bool) → Content → Content
 taken_if true x = empty x.copy x.number
 taken_if false x = x
 
-abbrev pub taken : Epoch → ℕ → Content → Content
-taken e p x = taken_if (nat_lt e.pages p && nat_lt x.position e.from) x
+-- the same by the position and the pages of the last Switch
+abbrev pub taken_past : (from pages p : ℕ) → Content → Content
+taken_past from pages p x = taken_if (nat_lt pages p && nat_lt x.position from) x
 
--- the page as it is spelled
-abbrev pub sheet_of : Content → Sheet
-sheet_of x =
-    record { copy = x.copy; number = x.number; position = x.position; slots = x.slots }
+abbrev pub taken : Epoch → ℕ → Content → Content
+taken e p x = taken_past e.from e.pages p x
 
 -- these bytes spell the page
 pub record Spells (bytes : List ℕ) (x : Content) : Type 0 where
-  pub fits : FitsSheet (sheet_of x)
-  pub is : bytes ≡ page_bytes (sheet_of x)
+  pub fits : FitsPage x
+  pub is : bytes ≡ page_bytes x
 
 -- these bytes spell a page that is left over, past those of the copy
 pub record IsLeftOver (e : Epoch) (p : ℕ) (bytes : List ℕ) : Type 0 where

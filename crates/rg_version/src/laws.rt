@@ -1,7 +1,7 @@
 //! Each function's contract is a law of the definitions. None of them runs anything.
 ghost use Rattle.rg_version.specs.Laws.{AgainIsNothing, GoesOn, IsSettled, StaysLow, MoreIsLater, IsTaken, StillFits, OfAllPages};
-ghost use Rattle.rg_version.specs.Laws.{MayBeWritten, StaysThere, ReadsBack};
-ghost use Rattle.rg_version.specs.ImageLaws.{WriteKeeps, OtherKeeps, SyncKeeps, ReadKeeps, MoreKeeps};
+ghost use Rattle.rg_version.specs.Laws.{MayBeWritten, StaysThere, ReadsBack, BeginsThere};
+ghost use Rattle.rg_version.specs.ImageLaws.{WriteKeeps, OtherKeeps, SyncKeeps, ReadKeeps, MoreKeeps, CallsKeep};
 
 /// Redo of a page goes on from whatever version of it was found.
 pub fn version_law()
@@ -16,6 +16,7 @@ pub fn version_law()
     ensures stays { StaysThere }
     ensures back { ReadsBack }
     ensures all { OfAllPages }
+    ensures begins { BeginsThere }
 {}
 
 /// Whatever a crash leaves of the pages of a copy may stand there, over all calls of the volume.
@@ -25,4 +26,5 @@ pub fn image_law()
     ensures sync { SyncKeeps }
     ensures read { ReadKeeps }
     ensures more { MoreKeeps }
+    ensures calls { CallsKeep }
 {}

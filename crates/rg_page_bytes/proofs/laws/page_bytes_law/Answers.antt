@@ -1,4 +1,4 @@
-use Rattle.rg_page_bytes.proofs.ReadBack.{one_spelling, sheet_again, zeros_are_blank}
+use Rattle.rg_page_bytes.proofs.ReadBack.{one_spelling, page_again, zeros_are_blank}
 use Rattle.rg_page_bytes.proofs.Whole.{length-page}
 use Rattle.rg_page_bytes.proofs.laws.page_bytes_law.Goals as goal
 
@@ -6,7 +6,7 @@ pub returns-clause-whole : goal.returns-clause-whole
 returns-clause-whole c x fits = length-page x fits
 
 pub returns-clause-back : goal.returns-clause-back
-returns-clause-back c x fits = sheet_again x fits
+returns-clause-back c x fits = page_again x fits
 
 pub returns-clause-one : goal.returns-clause-one
 returns-clause-one c x y fits_x fits_y copy number same = one_spelling x y fits_x fits_y copy number same

@@ -10,7 +10,7 @@ use Rattle.rg_undo.specs.Undoing.{AreChanges}
 use Rattle.rg_undo.specs.Unit.{undo_records}
 use Rattle.rg_unended.specs.Unended.{left_of}
 use Rattle.rg_unended.proofs.Lefts.{left_are_changes, owners_by_recursion}
-use Rattle.rg_desk.specs.Pages.{list_seen, space_pages}
+use Rattle.rg_space.specs.Memory.{list_seen, space_pages}
 use Rattle.rg_restart.specs.Closed.{AreUndosFrom}
 use Rattle.rg_restart.proofs.Closing.{closed_unit, end_none, end_some, undone_unit, undos_length}
 use Rattle.rg_restart.proofs.Undos.{undos_from}

@@ -6,7 +6,7 @@ use Rattle.rg_index.specs.Listed.{IsListingOf}
 use Rattle.rg_index.proofs.Kept.{shown_is}
 use Rattle.rg_indexes.specs.Listings.{entries_of}
 use Rattle.rg_tested.proofs.Says.{ok_map}
-use Rattle.rg_desk.specs.Pages.{space_pages}
+use Rattle.rg_space.specs.Memory.{space_pages}
 use Rattle.rg_restart.proofs.find.index_of.Goals as goal
 
 pub returns-clause-listing : goal.returns-clause-listing

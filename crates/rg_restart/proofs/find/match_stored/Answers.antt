@@ -14,9 +14,10 @@ use Rattle.rg_record.specs.declared.record.Record.{Record}
 use Rattle.rg_tested.specs.Keys.{IsAlone}
 use Rattle.rg_tested.specs.Places.{IsLeastBreach}
 use Rattle.rg_tested.specs.StoredRows.{Stands}
-use Rattle.rg_desk.specs.Pages.{space_pages}
+use Rattle.rg_space.specs.Memory.{space_pages}
 use Rattle.rg_restart.specs.Found.{Refuses}
-use Rattle.rg_restart.specs.Pages.BreaksRule.{Missing, Strange, Twin}
+use Rattle.rg_restart.specs.Pages.{BreaksRows}
+use Rattle.rg_restart.specs.Pages.BreaksRows.{Missing, Strange, Twin}
 use Rattle.rg_restart.proofs.Beginning.{stored_more}
 use Rattle.rg_restart.proofs.Finding.{looked_same}
 use Rattle.rg_restart.proofs.Matching.{all_placed, all_there, alone_by, missing_row, missing_there, strange_at}
@@ -25,29 +26,31 @@ use Rattle.rg_restart.proofs.find.match_stored.Goals as goal
 pub returns-in-Ok-Some-clause-refused : goal.returns-in-Ok-Some-clause-refused
 returns-in-Ok-Some-clause-refused c =
     let rs = take c.args.count c.args.log.now.records in
-    let undone = c.requires.undone in
+    let undone = space_pages c.args.space.now in
+    let grown = c.requires.grown in
     let place = c.in-Ok-Some.place in
-    let pages = (looked_same c.args.space.now c.twice.new.space undone.in_step c.in-Ok-Some.ensures.left).slots ∙ undone.slots in
-    subst (λ (cause : OpenCause). Refuses rs cause) (sym (c.damaged.ensures ∙ ap (λ (s : Set). Damaged s place.page) c.requires.set))
-    (Twin place undone.fit undone.tied undone.can
-    (alone_by rs (space_pages c.twice.new.space) pages (Some place)
+    let pages = (looked_same c.args.space.now c.twice.new.space c.requires.step c.in-Ok-Some.ensures.left).slots in
+    subst (λ (cause : OpenCause). Refuses (BreaksRows rs undone) cause) (sym (c.damaged.ensures ∙ ap (λ (s : Set). Damaged s place.page) c.requires.set))
+    (Twin place
+    (alone_by rs (space_pages c.twice.new.space) undone pages (Some place)
     (subst (λ (o : Option Place). IsLeastBreach (IsAlone (row_at (slot_of (space_pages c.twice.new.space)))) o) c.in-Ok-Some.field-0-is (c.in-Ok-Some.ensures.least refl))))
 
 pub returns-in-Ok-Stored-clause-matched : goal.returns-in-Ok-Stored-clause-matched
 returns-in-Ok-Stored-clause-matched c =
     let rs = take c.args.count c.args.log.now.records in
-    let undone = c.requires.undone in
-    let one = looked_same c.args.space.now c.twice.new.space undone.in_step c.in-Ok-None.ensures.left in
+    let undone = space_pages c.args.space.now in
+    let grown = c.requires.grown in
+    let one = looked_same c.args.space.now c.twice.new.space c.requires.step c.in-Ok-None.ensures.left in
     let two = looked_same c.twice.new.space c.not_stored.new.space one.in_step c.in-Ok-Stored.ensures.left in
-    let first = one.slots ∙ undone.slots in
+    let first = one.slots in
     let last = two.slots ∙ first in
-    let all : (k : ℕ) → fin.get c.in-Ok.rows k ≡ stored rs k = λ k. c.in-Ok.ensures.rows k ∙ ap (λ (xs : List Record). stored xs k) (c.records.ensures.records ∙ undone.records_are) ∙ stored_more rs undone.more undone.back k in
+    let all : (k : ℕ) → fin.get c.in-Ok.rows k ≡ stored rs k = λ k. c.in-Ok.ensures.rows k ∙ ap (λ (xs : List Record). stored xs k) (c.records.ensures.records ∙ grown.are) ∙ stored_more rs grown.more grown.back k in
     let stands = subst (Stands c.in-Ok.rows (row_at (slot_of (space_pages c.not_stored.new.space)))) c.in-Ok-Stored.field-0-is (c.in-Ok-Stored.ensures.stands refl) in
     record {
-      alone = alone_by rs (space_pages c.twice.new.space) first None
+      alone = alone_by rs (space_pages c.twice.new.space) undone first None
           (subst (λ (o : Option Place). IsLeastBreach (IsAlone (row_at (slot_of (space_pages c.twice.new.space)))) o) c.in-Ok-None.field-0-is (c.in-Ok-None.ensures.least refl));
-      there = all_there rs (space_pages c.not_stored.new.space) last c.in-Ok.rows all stands;
-      placed = all_placed rs (space_pages c.not_stored.new.space) last c.in-Ok.rows all stands;
+      there = all_there rs (space_pages c.not_stored.new.space) undone last c.in-Ok.rows all stands;
+      placed = all_placed rs (space_pages c.not_stored.new.space) undone last c.in-Ok.rows all stands;
     }
 
 pub returns-in-Ok-Stored-clause-stores : goal.returns-in-Ok-Stored-clause-stores
@@ -60,34 +63,36 @@ returns-in-Ok-Stored-clause-stores c = record {
 pub returns-in-Ok-Strange-clause-refused : goal.returns-in-Ok-Strange-clause-refused
 returns-in-Ok-Strange-clause-refused c =
     let rs = take c.args.count c.args.log.now.records in
-    let undone = c.requires.undone in
+    let undone = space_pages c.args.space.now in
+    let grown = c.requires.grown in
     let place = c.in-Ok-Strange.place in
-    let one = looked_same c.args.space.now c.twice.new.space undone.in_step c.in-Ok-None.ensures.left in
+    let one = looked_same c.args.space.now c.twice.new.space c.requires.step c.in-Ok-None.ensures.left in
     let two = looked_same c.twice.new.space c.not_stored.new.space one.in_step c.in-Ok-Strange.ensures.left in
-    let first = one.slots ∙ undone.slots in
+    let first = one.slots in
     let last = two.slots ∙ first in
-    let all : (k : ℕ) → fin.get c.in-Ok.rows k ≡ stored rs k = λ k. c.in-Ok.ensures.rows k ∙ ap (λ (xs : List Record). stored xs k) (c.records.ensures.records ∙ undone.records_are) ∙ stored_more rs undone.more undone.back k in
+    let all : (k : ℕ) → fin.get c.in-Ok.rows k ≡ stored rs k = λ k. c.in-Ok.ensures.rows k ∙ ap (λ (xs : List Record). stored xs k) (c.records.ensures.records ∙ grown.are) ∙ stored_more rs grown.more grown.back k in
     let stands = subst (Stands c.in-Ok.rows (row_at (slot_of (space_pages c.not_stored.new.space)))) c.in-Ok-Strange.field-0-is (c.in-Ok-Strange.ensures.stands refl) in
-    subst (λ (cause : OpenCause). Refuses rs cause) (sym (c.damaged-in-Ok-Strange.ensures ∙ ap (λ (s : Set). Damaged s place.page) c.requires.set))
-    (Strange place undone.fit undone.tied undone.can
-    (alone_by rs (space_pages c.twice.new.space) first None
+    subst (λ (cause : OpenCause). Refuses (BreaksRows rs undone) cause) (sym (c.damaged-in-Ok-Strange.ensures ∙ ap (λ (s : Set). Damaged s place.page) c.requires.set))
+    (Strange place
+    (alone_by rs (space_pages c.twice.new.space) undone first None
     (subst (λ (o : Option Place). IsLeastBreach (IsAlone (row_at (slot_of (space_pages c.twice.new.space)))) o) c.in-Ok-None.field-0-is (c.in-Ok-None.ensures.least refl)))
-    (strange_at rs (space_pages c.not_stored.new.space) last c.in-Ok.rows all place stands))
+    (strange_at rs (space_pages c.not_stored.new.space) undone last c.in-Ok.rows all place stands))
 
 pub returns-clause-refused : goal.returns-clause-refused
 returns-clause-refused c =
     let rs = take c.args.count c.args.log.now.records in
-    let undone = c.requires.undone in
-    let one = looked_same c.args.space.now c.twice.new.space undone.in_step c.in-Ok-None.ensures.left in
+    let undone = space_pages c.args.space.now in
+    let grown = c.requires.grown in
+    let one = looked_same c.args.space.now c.twice.new.space c.requires.step c.in-Ok-None.ensures.left in
     let two = looked_same c.twice.new.space c.not_stored.new.space one.in_step c.in-Ok-Missing.ensures.left in
-    let first = one.slots ∙ undone.slots in
+    let first = one.slots in
     let last = two.slots ∙ first in
-    let all : (k : ℕ) → fin.get c.in-Ok.rows k ≡ stored rs k = λ k. c.in-Ok.ensures.rows k ∙ ap (λ (xs : List Record). stored xs k) (c.records.ensures.records ∙ undone.records_are) ∙ stored_more rs undone.more undone.back k in
+    let all : (k : ℕ) → fin.get c.in-Ok.rows k ≡ stored rs k = λ k. c.in-Ok.ensures.rows k ∙ ap (λ (xs : List Record). stored xs k) (c.records.ensures.records ∙ grown.are) ∙ stored_more rs grown.more grown.back k in
     let stands = subst (Stands c.in-Ok.rows (row_at (slot_of (space_pages c.not_stored.new.space)))) c.in-Ok-Missing.field-0-is (c.in-Ok-Missing.ensures.stands refl) in
-    subst (λ (cause : OpenCause). Refuses rs cause) (sym c.damaged-in-Ok-Missing.ensures)
-    (Missing c.page_of.result undone.fit undone.tied undone.can
-    (alone_by rs (space_pages c.twice.new.space) first None
+    subst (λ (cause : OpenCause). Refuses (BreaksRows rs undone) cause) (sym c.damaged-in-Ok-Missing.ensures)
+    (Missing c.page_of.result
+    (alone_by rs (space_pages c.twice.new.space) undone first None
     (subst (λ (o : Option Place). IsLeastBreach (IsAlone (row_at (slot_of (space_pages c.twice.new.space)))) o) c.in-Ok-None.field-0-is (c.in-Ok-None.ensures.least refl)))
-    (missing_there rs (space_pages c.not_stored.new.space) last c.in-Ok.rows all stands)
-    (missing_row rs (space_pages c.not_stored.new.space) last c.in-Ok.rows all stands)
+    (missing_there rs (space_pages c.not_stored.new.space) undone last c.in-Ok.rows all stands)
+    (missing_row rs (space_pages c.not_stored.new.space) undone last c.in-Ok.rows all stands)
     (c.page_of.ensures ∙ ap (λ (xs : List Record). (end_of start xs).page) (sym (take-length rs))))

@@ -1,4 +1,4 @@
-use Rattle.std.proofs.Common.{◌≡◌, ℕ, Option, sym, ◌∙◌, ap, subst, arith}
+use Rattle.std.proofs.Common.{◌≡◌, ℕ, List, length, sym, ◌∙◌, ap, subst, arith}
 use Rattle.std.specs.Prelude.{IfErr, Result, Ok, Err}
 use Rattle.std.proofs.lemmas.Result.{err_from_is_err_and}
 use Rattle.rg_desk.specs.Volume.{seen_volume}
@@ -8,12 +8,15 @@ use Rattle.rg_log.specs.Kept.{log_pages}
 use Rattle.rg_outside.specs.Calls.{read_of}
 use Rattle.rg_outside.specs.Capacities.{Capacities, capacity_of}
 use Rattle.rg_outside.specs.Moments.{IfTold}
+use Rattle.rg_record.specs.declared.record.Record.{Record}
 use Rattle.rg_tested.proofs.Says.{ok_map}
 use Rattle.rg_restart.specs.Found.{Finds, Refuses}
 use Rattle.rg_restart.specs.Opening.{IsRefused, Looks}
 use Rattle.rg_restart.specs.Pages.{copy_of, count_of, set_of}
-use Rattle.rg_restart.specs.Sound.{FindsUsed}
-use Rattle.rg_restart.proofs.Looking.{breaks_log, device_refused, log_refused, looks, may_find, rule_refused, used_refused}
+use Rattle.rg_restart.specs.Data.{AreBase, switch_of}
+use Rattle.rg_restart.specs.Pages.{BreaksRule}
+use Rattle.rg_restart.specs.Sound.{TakesBase}
+use Rattle.rg_restart.proofs.Looking.{breaks_log, data_refused, fault_by, log_refused, looks, may_find, rule_refused, takes_by}
 use Rattle.rg_restart.proofs.Reading.{copy_within}
 use Rattle.rg_restart.proofs.open.look.Goals as goal
 
@@ -36,79 +39,82 @@ returns-in_err-chain-clause-refused g c =
     rw (p.1, p.2)
     (breaks_log old mid c.in-Ok.log (record { only = c.open_log.ensures.only; later = c.open_log.ensures.later; capacities = c.open_log.ensures.capacities }) c.in-Ok.ensures.state.2 c.in-Ok.ensures.log c.in_err-chain.field-0.0 c.in_err-chain.ensures.refused)
 
-pub used_page-requires : goal.used_page-requires
-used_page-requires g c =
+pub read_pages-requires : goal.read_pages-requires
+read_pages-requires g c =
     let capacities = g.V.Volume.capacities c.open_log.new.volume in
     let rs = c.in-Ok.log.records in
     let kept = c.in_ok-chain.ensures.kept.current in
-    let pages : c.pages.result ≡ count_of rs = c.pages.ensures ∙ ap (λ (now : Current). now.pages) kept in
-    let set : c.set_of-set.result ≡ set_of (copy_of rs) = c.set_of-set.ensures ∙ ap set_of (c.copy.ensures ∙ ap (λ (now : Current). now.copy) kept) in
+    let pages : c.pages-count.result ≡ count_of rs = c.pages-count.ensures ∙ ap (λ (now : Current). now.pages) kept in
+    let set : c.set_of.result ≡ set_of (copy_of rs) = c.set_of.ensures ∙ ap set_of (c.copy-copy.ensures ∙ ap (λ (now : Current). now.copy) kept) in
     omega (arith, pages, c.in_ok-chain.ensures.covers.within, copy_within capacities (copy_of rs), ap (capacity_of capacities) set)
 
-pub returns-in-Err-used_page-clause-refused : goal.returns-in-Err-used_page-clause-refused
-returns-in-Err-used_page-clause-refused g c =
+pub returns-in_err-frames-clause-refused : goal.returns-in_err-frames-clause-refused
+returns-in_err-frames-clause-refused g c =
     let old = seen_volume g.V.Volume.told g.V.Volume.faults g.V.Volume.capacities c.args.volume.now in
     let mid = seen_volume g.V.Volume.told g.V.Volume.faults g.V.Volume.capacities c.open_log.new.volume in
-    let new = seen_volume g.V.Volume.told g.V.Volume.faults g.V.Volume.capacities c.used_page.new.volume in
-    device_refused old mid c.in-Ok.log (record { only = c.open_log.ensures.only; later = c.open_log.ensures.later; capacities = c.open_log.ensures.capacities }) c.in-Ok.ensures.state.2 c.in-Ok.ensures.log
-    c.in_ok-chain.ensures.chain c.in_ok-chain.ensures.space new c.used_page.ensures.only c.used_page.ensures.capacities c.used_page.ensures.cause.later c.in-Err-used_page.ensures.cause.failed
-
-pub returns-in-Ok-Some-clause-refused : goal.returns-in-Ok-Some-clause-refused
-returns-in-Ok-Some-clause-refused g c =
-    let old = seen_volume g.V.Volume.told g.V.Volume.faults g.V.Volume.capacities c.args.volume.now in
-    let mid = seen_volume g.V.Volume.told g.V.Volume.faults g.V.Volume.capacities c.open_log.new.volume in
-    let new = seen_volume g.V.Volume.told g.V.Volume.faults g.V.Volume.capacities c.used_page.new.volume in
+    let new = seen_volume g.V.Volume.told g.V.Volume.faults g.V.Volume.capacities c.read_pages.new.volume in
     let rs = c.in-Ok.log.records in
     let kept = c.in_ok-chain.ensures.kept.current in
-    let set : c.set_of-set.result ≡ set_of (copy_of rs) = c.set_of-set.ensures ∙ ap set_of (c.copy.ensures ∙ ap (λ (now : Current). now.copy) kept) in
-    subst (IsRefused old new) (sym c.damaged.ensures)
-    (used_refused old mid c.in-Ok.log (record { only = c.open_log.ensures.only; later = c.open_log.ensures.later; capacities = c.open_log.ensures.capacities }) c.in-Ok.ensures.state.2 c.in-Ok.ensures.log
-    c.in_ok-chain.ensures.chain c.in_ok-chain.ensures.space new c.used_page.ensures.only c.used_page.ensures.capacities c.used_page.ensures.cause.later c.set_of-set.result c.pages.result c.in-Ok-Some.page set
-    (c.pages.ensures ∙ ap (λ (now : Current). now.pages) kept)
-    (subst (λ (o : Option ℕ). IfTold (g.V.Volume.told c.used_page.new.volume) (λ t. FindsUsed (read_of t.first t.calls) c.set_of-set.result c.pages.result o)) c.in-Ok-Some.field-0-is c.in-Ok-Some.ensures.used))
+    let copy : c.copy-copy.result ≡ copy_of rs = c.copy-copy.ensures ∙ ap (λ (now : Current). now.copy) kept in
+    let p = err_from_is_err_and c.from_residual-in_err-frames.result c.from_residual-in_err-frames.ensures.1 in
+    rw (p.1, p.2)
+    (data_refused old mid c.in-Ok.log (record { only = c.open_log.ensures.only; later = c.open_log.ensures.later; capacities = c.open_log.ensures.capacities }) c.in-Ok.ensures.state.2 c.in-Ok.ensures.log
+    c.in_ok-chain.ensures.chain c.in_ok-chain.ensures.space new c.read_pages.ensures.only c.read_pages.ensures.capacities c.read_pages.ensures.later c.in_err-frames.field-0.0
+    (fault_by _ _ _ _ _ _ _ _ _ _ _ c.in_err-frames.field-0.0 copy (ap (λ (xs : List Record). length xs) c.records.ensures.records) (c.set_of.ensures ∙ ap set_of copy)
+    (c.pages-count.ensures ∙ ap (λ (now : Current). now.pages) kept) c.in_err-frames.ensures.refused))
 
-pub find-requires : goal.find-requires
-find-requires g c =
+pub find-requires-clause-may : goal.find-requires-clause-may
+find-requires-clause-may g c =
     let capacities = g.V.Volume.capacities c.open_log.new.volume in
     let rs = c.in-Ok.log.records in
     let kept = c.in_ok-chain.ensures.kept.current in
-    record {
-      may = may_find capacities c.in-Ok.log c.in_ok-chain.chain c.copy_pages-capacity.result c.in_ok-chain.ensures.chain c.in_ok-chain.ensures.space c.in_ok-chain.ensures.kept c.in_ok-chain.ensures.covers
-          (c.copy_pages-capacity.ensures ∙ ap (λ (x : Capacities). copy_capacity x c.copy-2.result) c.used_page.ensures.capacities ∙ ap (copy_capacity capacities) (c.copy-2.ensures ∙ ap (λ (now : Current). now.copy) kept))
-          (c.in-Ok.ensures.state.2 ∙ ap (λ (x : Capacities). log_pages x) (sym c.open_log.ensures.capacities)) c.in-Ok.ensures.state.0 c.in-Ok.ensures.state.1;
-    }
+    may_find capacities c.in-Ok.log c.in_ok-chain.chain c.copy_pages-capacity.result c.in_ok-chain.ensures.chain c.in_ok-chain.ensures.space c.in_ok-chain.ensures.kept c.in_ok-chain.ensures.covers
+    (c.copy_pages-capacity.ensures ∙ ap (λ (x : Capacities). copy_capacity x c.copy-copy.result) c.read_pages.ensures.capacities ∙ ap (copy_capacity capacities) (c.copy-copy.ensures ∙ ap (λ (now : Current). now.copy) kept))
+    (c.in-Ok.ensures.state.2 ∙ ap (λ (x : Capacities). log_pages x) (sym c.open_log.ensures.capacities)) c.in-Ok.ensures.state.0 c.in-Ok.ensures.state.1
 
+pub find-requires-clause-base : goal.find-requires-clause-base
+find-requires-clause-base g c =
+    let rs = c.in-Ok.log.records in
+    let kept = c.in_ok-chain.ensures.kept.current in
+    subst (λ (k : ℕ). AreBase k (count_of rs) c.in_ok-frames.frames) (c.copy-copy.ensures ∙ ap (λ (now : Current). now.copy) kept)
+    (subst (λ (k : ℕ). AreBase c.copy-copy.result k c.in_ok-frames.frames) (c.pages-count.ensures ∙ ap (λ (now : Current). now.pages) kept) c.in_ok-frames.ensures.base)
+
+-- the pages are taken by the records of the log
 pub returns-clause-looks : goal.returns-clause-looks
 returns-clause-looks g c =
     let old = seen_volume g.V.Volume.told g.V.Volume.faults g.V.Volume.capacities c.args.volume.now in
     let mid = seen_volume g.V.Volume.told g.V.Volume.faults g.V.Volume.capacities c.open_log.new.volume in
-    let new = seen_volume g.V.Volume.told g.V.Volume.faults g.V.Volume.capacities c.used_page.new.volume in
+    let new = seen_volume g.V.Volume.told g.V.Volume.faults g.V.Volume.capacities c.read_pages.new.volume in
     let rs = c.in-Ok.log.records in
+    let base = c.in_ok-frames.frames.pages.items in
     let kept = c.in_ok-chain.ensures.kept.current in
-    let set : c.set_of-set.result ≡ set_of (copy_of rs) = c.set_of-set.ensures ∙ ap set_of (c.copy.ensures ∙ ap (λ (now : Current). now.copy) kept) in
-    ok_map c.find.result (Finds c.in-Ok.log c.copy_pages-capacity.result) (Looks old new)
+    let copy : c.copy-copy.result ≡ copy_of rs = c.copy-copy.ensures ∙ ap (λ (now : Current). now.copy) kept in
+    let takes : IfTold (g.V.Volume.told c.read_pages.new.volume) (λ t. TakesBase rs (read_of t.first t.calls) base) =
+    takes_by _ _ _ _ _ _ _ _ _ _ (g.V.Volume.told c.read_pages.new.volume) base copy (ap (λ (xs : List Record). length xs) c.records.ensures.records) (c.switch_of-switch.ensures ∙ ap switch_of c.records-2.ensures.records) (c.set_of.ensures ∙ ap set_of copy)
+    (c.pages-count.ensures ∙ ap (λ (now : Current). now.pages) kept) c.in_ok-frames.ensures.takes in
+    ok_map c.find.result (Finds base c.in-Ok.log c.copy_pages-capacity.result) (Looks old new)
     (λ found finds.
     looks old mid c.in-Ok.log (record { only = c.open_log.ensures.only; later = c.open_log.ensures.later; capacities = c.open_log.ensures.capacities }) c.in-Ok.ensures.state.2 c.in-Ok.ensures.log
-    c.in_ok-chain.ensures.chain c.in_ok-chain.ensures.space new c.used_page.ensures.only c.used_page.ensures.capacities c.used_page.ensures.cause.later c.set_of-set.result c.pages.result set
-    (c.pages.ensures ∙ ap (λ (now : Current). now.pages) kept)
-    (subst (λ (o : Option ℕ). IfTold (g.V.Volume.told c.used_page.new.volume) (λ t. FindsUsed (read_of t.first t.calls) c.set_of-set.result c.pages.result o)) c.in-Ok-None.field-0-is c.in-Ok-None.ensures.used)
+    c.in_ok-chain.ensures.chain c.in_ok-chain.ensures.space new c.read_pages.ensures.only c.read_pages.ensures.capacities c.read_pages.ensures.later base takes
     found c.copy_pages-capacity.result
-    (c.copy_pages-capacity.ensures ∙ ap (copy_capacity (g.V.Volume.capacities c.used_page.new.volume)) (c.copy-2.ensures ∙ ap (λ (now : Current). now.copy) kept)) finds c.requires c.in-Ok.ensures.leaves)
+    (c.copy_pages-capacity.ensures ∙ ap (copy_capacity (g.V.Volume.capacities c.read_pages.new.volume)) copy) finds c.requires c.in-Ok.ensures.leaves)
     c.find.ensures.found
 
 pub returns-clause-refused : goal.returns-clause-refused
 returns-clause-refused g c =
     let old = seen_volume g.V.Volume.told g.V.Volume.faults g.V.Volume.capacities c.args.volume.now in
     let mid = seen_volume g.V.Volume.told g.V.Volume.faults g.V.Volume.capacities c.open_log.new.volume in
-    let new = seen_volume g.V.Volume.told g.V.Volume.faults g.V.Volume.capacities c.used_page.new.volume in
+    let new = seen_volume g.V.Volume.told g.V.Volume.faults g.V.Volume.capacities c.read_pages.new.volume in
     let rs = c.in-Ok.log.records in
+    let base = c.in_ok-frames.frames.pages.items in
     let kept = c.in_ok-chain.ensures.kept.current in
-    let set : c.set_of-set.result ≡ set_of (copy_of rs) = c.set_of-set.ensures ∙ ap set_of (c.copy.ensures ∙ ap (λ (now : Current). now.copy) kept) in
-    err_map c.find.result (Refuses rs) (IsRefused old new)
+    let copy : c.copy-copy.result ≡ copy_of rs = c.copy-copy.ensures ∙ ap (λ (now : Current). now.copy) kept in
+    let takes : IfTold (g.V.Volume.told c.read_pages.new.volume) (λ t. TakesBase rs (read_of t.first t.calls) base) =
+    takes_by _ _ _ _ _ _ _ _ _ _ (g.V.Volume.told c.read_pages.new.volume) base copy (ap (λ (xs : List Record). length xs) c.records.ensures.records) (c.switch_of-switch.ensures ∙ ap switch_of c.records-2.ensures.records) (c.set_of.ensures ∙ ap set_of copy)
+    (c.pages-count.ensures ∙ ap (λ (now : Current). now.pages) kept) c.in_ok-frames.ensures.takes in
+    err_map c.find.result (Refuses (BreaksRule base rs)) (IsRefused old new)
     (λ cause breaks.
     rule_refused old mid c.in-Ok.log (record { only = c.open_log.ensures.only; later = c.open_log.ensures.later; capacities = c.open_log.ensures.capacities }) c.in-Ok.ensures.state.2 c.in-Ok.ensures.log
-    c.in_ok-chain.ensures.chain c.in_ok-chain.ensures.space new c.used_page.ensures.only c.used_page.ensures.capacities c.used_page.ensures.cause.later c.set_of-set.result c.pages.result set
-    (c.pages.ensures ∙ ap (λ (now : Current). now.pages) kept)
-    (subst (λ (o : Option ℕ). IfTold (g.V.Volume.told c.used_page.new.volume) (λ t. FindsUsed (read_of t.first t.calls) c.set_of-set.result c.pages.result o)) c.in-Ok-None.field-0-is c.in-Ok-None.ensures.used)
+    c.in_ok-chain.ensures.chain c.in_ok-chain.ensures.space new c.read_pages.ensures.only c.read_pages.ensures.capacities c.read_pages.ensures.later base takes
     cause breaks)
     c.find.ensures.refused

@@ -1,4 +1,4 @@
-use Rattle.rg_version.proofs.OnImage.{more_keeps, other_keeps, read_keeps, sync_keeps, write_keeps}
+use Rattle.rg_version.proofs.OnImage.{calls_keep, more_keeps, other_keeps, read_keeps, sync_keeps, write_keeps}
 use Rattle.rg_version.proofs.laws.image_law.Goals as goal
 
 pub returns-clause-write : goal.returns-clause-write
@@ -15,3 +15,6 @@ returns-clause-read c set capacity e rs forced old new result leaves made = read
 
 pub returns-clause-more : goal.returns-clause-more
 returns-clause-more c set capacity e rs more old new told high le leaves = more_keeps set capacity e rs more old new told high le leaves
+
+pub returns-clause-calls : goal.returns-clause-calls
+returns-clause-calls c set capacity e rs forced old new other differ leaves made = calls_keep set capacity e rs forced old new other differ leaves made

@@ -1,5 +1,5 @@
 use Rattle.rg_version.proofs.Redo.{all_redone, follow_positions, redone_again, version_fits, version_low, version_more, version_redone, version_settled, version_taken}
-use Rattle.rg_version.proofs.OnVolume.{may_be_written, reads_back, stays_there}
+use Rattle.rg_version.proofs.OnVolume.{begins_there, begun_with, may_be_written, reads_back, stays_there}
 use Rattle.rg_version.proofs.laws.version_law.Goals as goal
 
 pub returns-clause-again : goal.returns-clause-again
@@ -34,3 +34,6 @@ returns-clause-back c e rs high p bytes y are begun most on spells copy number =
 
 pub returns-clause-all : goal.returns-clause-all
 returns-clause-all c rs pages = all_redone rs pages
+
+pub returns-clause-begins : goal.returns-clause-begins
+returns-clause-begins c e rs p bytes y are high read = (begun_with e rs p bytes y read, begins_there e rs p bytes y read are high)

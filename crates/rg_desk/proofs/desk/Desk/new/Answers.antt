@@ -4,7 +4,7 @@ use Rattle.rg_log.specs.Kept.{Listed}
 use Rattle.rg_record.specs.declared.record.Record.{Record}
 use Rattle.rg_space.specs.Space.{capacity_in}
 use Rattle.rg_desk.specs.Bytes.{taken_of}
-use Rattle.rg_desk.specs.Pages.{space_pages}
+use Rattle.rg_space.specs.Memory.{space_pages}
 use Rattle.rg_desk.specs.Stored.{IsStored}
 use Rattle.rg_desk.specs.Volume.{LeavesIfTidy, seen_volume}
 use Rattle.rg_desk.proofs.DeskGoes.{desk_opened}

@@ -4,7 +4,7 @@ use Rattle.rg_home.specs.Plan.{planned_change}
 use Rattle.rg_space.specs.Space.{capacity_in, frames_of}
 use Rattle.rg_page.specs.Bare.{numbers_of}
 use Rattle.rg_page.specs.Content.{slots_of}
-use Rattle.rg_desk.specs.Pages.{list_seen}
+use Rattle.rg_space.specs.Memory.{list_seen}
 use Rattle.rg_desk.proofs.PlannedIn.{agree_later, ok_so, err_so, refusal}
 use Rattle.rg_desk.proofs.engine.Engine.plan_change.Goals as goal
 

@@ -5,7 +5,7 @@ use Rattle.rg_home.specs.Rows.{Tied}
 use Rattle.rg_home.specs.Slot.{Slot}
 use Rattle.rg_page.specs.Content.{slots_of}
 use Rattle.rg_space.specs.Space.{capacity_in, frames_of}
-use Rattle.rg_desk.specs.Pages.{list_seen}
+use Rattle.rg_space.specs.Memory.{list_seen}
 use Rattle.rg_desk.proofs.DropHand.{drop_hand}
 use Rattle.rg_desk.proofs.PlannedIn.{agree_later}
 use Rattle.rg_desk.proofs.Sessions.{left_consistent}

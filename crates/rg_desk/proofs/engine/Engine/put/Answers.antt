@@ -12,7 +12,7 @@ use Rattle.rg_space.specs.Space.{capacity_in, frames_of}
 use Rattle.rg_space.proofs.Carried.{purge_applies, parts_apply}
 use Rattle.rg_space.proofs.Whole.{slots_count}
 use Rattle.rg_desk.specs.Engine.{seen_in, slots_in}
-use Rattle.rg_desk.specs.Pages.{list_seen}
+use Rattle.rg_space.specs.Memory.{list_seen}
 use Rattle.rg_desk.specs.Wrote.{records_cleared}
 use Rattle.rg_desk.specs.declared.units.OpenUnit.{OpenUnit}
 use Rattle.rg_desk.proofs.engine.Engine.put.Goals as goal

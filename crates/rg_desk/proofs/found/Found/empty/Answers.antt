@@ -3,7 +3,7 @@ use Rattle.rg_log.specs.Kept.{Listed}
 use Rattle.rg_page.specs.Content.{slots_of}
 use Rattle.rg_space.specs.Space.{capacity_in}
 use Rattle.rg_desk.specs.Desk.{CanBegin}
-use Rattle.rg_desk.specs.Pages.{space_pages}
+use Rattle.rg_space.specs.Memory.{space_pages}
 use Rattle.rg_desk.proofs.Begins.{empty_begins, none_listed}
 use Rattle.rg_desk.proofs.found.Found.empty.Goals as goal
 

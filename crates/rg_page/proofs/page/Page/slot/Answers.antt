@@ -40,3 +40,13 @@ returns-clause-spelled c =
     c.slot.ensures.spelled
     (subst (IsArea (slot_at c.self.inside.summary c.args.i)) (sym c.get.ensures)
     (area_at c.self.inside.summary c.self.inside.areas c.args.i is.areas_are below))
+
+pub returns-clause-held : goal.returns-clause-held
+returns-clause-held c =
+    let seen = ap (λ (p : Content). p.slots) c.self.view_is in
+    let is = c.self.invariant in
+    let below : c.args.i < length c.self.inside.summary =
+    omega (arith, c.requires, seen_count _ _ _ _ is seen) in
+    c.slot.ensures.held
+    (subst (IsArea (slot_at c.self.inside.summary c.args.i)) (sym c.get.ensures)
+    (area_at c.self.inside.summary c.self.inside.areas c.args.i is.areas_are below))

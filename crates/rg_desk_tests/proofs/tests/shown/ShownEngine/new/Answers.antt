@@ -4,7 +4,7 @@ use Rattle.std.specs.Ordering.{nat_cmp}
 use Rattle.rg_image.specs.Meaning.{stored}
 use Rattle.rg_log.specs.Kept.{Listed}
 use Rattle.rg_model.specs.State.{at_rest}
-use Rattle.rg_desk.specs.Pages.{space_pages}
+use Rattle.rg_space.specs.Memory.{space_pages}
 use Rattle.rg_desk_tests.proofs.tests.shown.ShownEngine.new.Goals as goal
 
 pub invariant_of-result : goal.invariant_of-result

@@ -1,0 +1,98 @@
+-- The rule for data pages, and what an opening takes of them.
+--
+-- 1. Each page of the current copy spells a page of that copy and of its number, with a position of
+--    at most that of the last record. Zeros spell the page without slots and with position 0.
+-- 2. A page past those that the last Switch counts, whose position is below that of the Switch, is
+--    left over from an earlier time: it is taken as empty.
+use Rattle.std.specs.Prelude.{◌≡◌, ◌≤◌, ◌<◌, ℕ, List, [], ◌∷◌, length, Option}
+use Rattle.std.specs.List.{AllByRecursion}
+use Rattle.rg_base.specs.declared.set.Set.{Set}
+use Rattle.rg_desk.specs.declared.desk.OpenCause.{OpenCause}
+use Rattle.rg_desk.specs.declared.desk.OpenCause.TheVariants.{Damaged, Device, NoMemory}
+use Rattle.rg_outside.specs.Calls.{Image, Told, read_of}
+use Rattle.rg_outside.specs.Faults.{Rose}
+use Rattle.rg_outside.specs.Moments.{IfTold}
+use Rattle.rg_page.specs.Content.{Content, content_at}
+use Rattle.rg_page.specs.declared.list.ListFrames.{ListFrames}
+use Rattle.rg_page_bytes.specs.Content.{FitsPage}
+use Rattle.rg_page_bytes.specs.declared.fault.PageFault.{PageFault}
+use Rattle.rg_page_bytes.specs.declared.fault.PageFault.TheVariants.{NotAPage}
+use Rattle.rg_page_bytes.specs.declared.fault.PageFault.TheVariants as faults
+use Rattle.rg_record.specs.declared.record.Kind.{Kind}
+use Rattle.rg_record.specs.declared.record.Kind.TheVariants.{Change, Undo, Commit, RolledBack, Purge, Switch}
+use Rattle.rg_record.specs.declared.record.Record.{Record}
+use Rattle.rg_version.specs.Versions.{Spells, taken_past}
+use Rattle.rg_restart.specs.declared.data.LastSwitch.{LastSwitch}
+
+-- the last Switch after one record more
+abbrev pub switch_after : LastSwitch → (position : ℕ) → Kind → LastSwitch
+switch_after last position (Change home before after parts) = last
+switch_after last position (Undo next home after parts) = last
+switch_after last position Commit = last
+switch_after last position RolledBack = last
+switch_after last position (Purge parts) = last
+switch_after last position (Switch copy pages) = record { at = position; pages = pages }
+
+abbrev pub switch_from : LastSwitch → List Record → LastSwitch
+switch_from last [] = last
+switch_from last (entry ∷ rs) = switch_from (switch_after last entry.position.0 entry.kind) rs
+
+-- that of a log, or 0 and 0 where there is none
+abbrev pub switch_of : List Record → LastSwitch
+switch_of rs = switch_from (record { at = 0; pages = 0 }) rs
+
+-- page n of a copy, of a log whose last record has this position, spelled by these bytes
+pub record IsDataPage (copy last n : ℕ) (bytes : List ℕ) (x : Content) : Type 0 where
+  pub spells : Spells bytes x
+  pub copy_is : x.copy ≡ copy
+  pub number : x.number ≡ n
+  pub position : x.position ≤ last
+
+-- what an opening takes of it
+pub record IsTaken (copy last : ℕ) (switch : LastSwitch) (n : ℕ) (bytes : List ℕ) (y : Content)
+    : Type 0 where
+  pub page : Content
+  pub data_page : IsDataPage copy last n bytes page
+  pub is : y ≡ taken_past switch.at switch.pages n page
+
+-- it is none
+abbrev pub BreaksData : (copy last n : ℕ) → List ℕ → Type 0
+BreaksData copy last n bytes = (x : Content) → IsDataPage copy last n bytes x → ⊥
+
+-- the pages 1 to `count` of a set, as an opening takes them
+pub record TakesPages (copy last : ℕ) (switch : LastSwitch) (set : Set) (count : ℕ) (i : Image)
+    (base : List Content) : Type 0 where
+  pub count_is : length base ≡ count
+  pub each : (n : ℕ) → 1 ≤ n → n ≤ count
+      → IsTaken copy last switch n (i set n) (content_at base n)
+
+-- this page is the first of them that is no data page
+pub record IsFirstBroken (copy last : ℕ) (set : Set) (count : ℕ) (i : Image) (page : ℕ) : Type 0
+  where
+    pub low : 1 ≤ page
+    pub high : page ≤ count
+    pub broken : BreaksData copy last page (i set page)
+    pub before : (n : ℕ) → 1 ≤ n → n < page
+        → (x : Content) × IsDataPage copy last n (i set n) x
+
+-- why a page was not taken: it is no data page, or memory ran out
+abbrev pub IsUntaken : (copy last n : ℕ) → List ℕ → PageFault → Type 0
+IsUntaken copy last n bytes NotAPage = BreaksData copy last n bytes
+IsUntaken copy last n bytes faults.NoMemory = Unit {0}
+
+-- pages of a copy that all have a spelling
+pub record AreBase (copy count : ℕ) (frames : ListFrames) : Type 0 where
+  pub copy_is : frames.copy ≡ copy
+  pub reserved : frames.reserved.items ≡ []
+  pub count_is : length frames.pages.items ≡ count
+  pub fits : AllByRecursion FitsPage frames.pages.items
+
+-- why the pages were not taken: the first that is no data page is named, a call failed, or memory
+-- ran out
+abbrev pub IsDataFault : (copy last : ℕ) → Set → (count : ℕ) → Option Told → (before now : ℕ)
+    → OpenCause → Type 0
+IsDataFault copy last set count told before now (Damaged s page) =
+    (s ≡ set)
+    × IfTold told (λ t. IsFirstBroken copy last set count (read_of t.first t.calls) page)
+IsDataFault copy last set count told before now Device = Rose before now
+IsDataFault copy last set count told before now NoMemory = Unit {0}
