@@ -70,6 +70,15 @@ fn written(page: &Page) -> Bytes {
     bytes
 }
 
+// The bytes with this one at an offset.
+fn with_byte(bytes: &Bytes, at: usize, byte: u8) -> Bytes {
+    let mut other = *bytes;
+    if at < 4096 {
+        other[at] = byte;
+    }
+    other
+}
+
 #[test]
 fn writes_each_kind(rt: HostRuntime) -> Result<(), Fail> {
     let page = full_page(&rt, rt.alloc())?;
@@ -174,8 +183,7 @@ fn refuses_other_bytes(rt: HostRuntime) -> Result<(), Fail> {
         (4083, 215),
         (4095, 33),
     ] {
-        let mut other = bytes;
-        other[at] = byte;
+        let other = with_byte(&bytes, at, byte);
         let read = Page::read(rt.alloc(), 1, 2, &other);
         assert!(rt;
             matches!(read, Err(PageFault::NotAPage)),
@@ -183,9 +191,7 @@ fn refuses_other_bytes(rt: HostRuntime) -> Result<(), Fail> {
         );
     }
     // The position alone may be another.
-    let mut later = bytes;
-    later[19] = 10;
-    let read = Page::read(rt.alloc(), 1, 2, &later);
+    let read = Page::read(rt.alloc(), 1, 2, &with_byte(&bytes, 19, 10));
     assert!(rt; read.is_ok());
     Ok(())
 }

@@ -103,6 +103,15 @@ fn bytes_of(page: &Page) -> Bytes {
     bytes
 }
 
+// The bytes with this one at an offset.
+fn with_byte(bytes: &Bytes, at: usize, byte: u8) -> Bytes {
+    let mut other = *bytes;
+    if at < 4096 {
+        other[at] = byte;
+    }
+    other
+}
+
 // What the keys are answered where page 1 has these bytes, and how the run ends.
 fn answers(alloc: Global, volume: &MemVolume, bytes: &Bytes) -> Result<(Vec<bool>, RunEnd), Fail> {
     let mut image = volume.crash(0)?;
@@ -157,8 +166,7 @@ fn names_a_page_that_breaks_a_rule(rt: HostRuntime) -> Result<(), Fail> {
     };
     // Another copy or number, a position above the last record, and a letter of a row.
     for (at, byte) in [(0, 0), (4, 2), (11, 2), (19, 10), (18, 1), (80, b'y')] {
-        let mut other = bytes;
-        other[at] = byte;
+        let other = with_byte(&bytes, at, byte);
         let (found, end) = answers(alloc, &volume, &other)?;
         assert_eq!(rt; (found.len(), end), (0, first), "byte {at} is {byte}");
     }
