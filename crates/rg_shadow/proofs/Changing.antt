@@ -47,6 +47,7 @@ module _ (old mid car : Pieces) (plan : Plan) (source : Place) (same : SamePiece
     applies = subst (λ (s : Shade). Applies s source after (shade_of (record car { map = m }))) (same_shade old mid same)
         (applied (shade_of mid) (shade_of (record car { map = m })) source plan.home after moves (changes after ready carried) (record {
           pages = subst (λ (o : Option Plan). IsSomeAnd o (λ p. slots_in car.space ≡ pages_after 0 (row_or_empty after) (slots_in mid.space) p)) (sym is) carried.slots;
+          positions = carried.positions;
           copy = carried.copy;
           capacity = carried.capacity;
           built = still_built mid (record car { map = m }) carried.built;

@@ -15,6 +15,7 @@ use Rattle.rg_map.proofs.Places.{get-put, get-taken, same_place-turned}
 use Rattle.rg_model.specs.Layout.{same_place}
 use Rattle.rg_reload.specs.Moved.{row_through}
 use Rattle.rg_shadow.specs.Pieces.{IsMapped}
+use Rattle.rg_shadow.specs.Planned.{AreUnlogged}
 use Rattle.rg_shadow.specs.Shade.{Applies, Shade, home_rows, plan_at, plan_for, shade_slots, stage_in, target_of}
 use Rattle.rg_shadow.specs.declared.drafts.IndexStage.TheVariants.{Built}
 
@@ -121,6 +122,7 @@ row_set old new t after c = record { here = c.here; others = λ q h. c.others q 
 pub record Else (old new : Shade) (source : Place) (after : Option Row) : Type 0 where
   pub pages : IsSomeAnd (plan_for old source after) (λ plan.
       shade_slots new ≡ pages_after 0 (row_or_empty after) (shade_slots old) plan)
+  pub positions : AreUnlogged old.pages → AreUnlogged new.pages
   pub copy : new.copy ≡ old.copy
   pub capacity : new.capacity ≡ old.capacity
   pub built : (which : Which) → stage_in which old ≡ Built → stage_in which new ≡ Built
@@ -135,6 +137,7 @@ applied old new source t after m changes rest = record {
   stays = λ x e f. m.target.here ∙ moved-is t after f ∙ ap (λ (p : Place). Some p) (sym (m.only x e));
   lie = λ q x h e. changes.lie x (sym (same_place-turned t x) ∙ apart_from old.targets new.targets (home_rows old) (home_rows new) source t after m q x h e);
   pages = rest.pages;
+  positions = rest.positions;
   copy = rest.copy;
   capacity = rest.capacity;
   built = rest.built;
@@ -148,6 +151,7 @@ nothing s source e = record {
   stays = λ x f g. absurd (none_some (target_of s source) x e f);
   lie = λ q x h f. refl;
   pages = subst (λ (o : Option Place). IsSomeAnd (plan_at s o None) (λ plan. shade_slots s ≡ pages_after 0 (row_or_empty None) (shade_slots s) plan)) (sym e) refl;
+  positions = λ unlogged. unlogged;
   copy = refl;
   capacity = refl;
   built = λ which e. e;

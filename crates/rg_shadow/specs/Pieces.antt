@@ -16,7 +16,7 @@ use Rattle.rg_home.specs.Rows.{row_at}
 use Rattle.rg_home.specs.declared.plan.Plan.{Plan}
 use Rattle.rg_map.specs.Mapping.{IsOneToOne, IsTarget, Targets}
 use Rattle.rg_shadow.specs.Drafts.{AreKept, HaveSpare, KeepBuilt, SameDrafts, stage_of}
-use Rattle.rg_shadow.specs.Planned.{HasPages, SameSpace, pages_in, seen_in, slots_in}
+use Rattle.rg_shadow.specs.Planned.{AreUnlogged, HasPages, SameSpace, pages_in, seen_in, slots_in}
 use Rattle.rg_shadow.specs.Shade.{Shade}
 use Rattle.rg_shadow.specs.declared.pieces.Pieces.{Pieces}
 use Rattle.rg_space.specs.Carries.{Carries}
@@ -71,6 +71,7 @@ pub record Carried (old : Pieces) (plan : Plan) (after : Option Row) (new : Piec
   pub copy : (frames_of new.space).copy ≡ (frames_of old.space).copy
   pub capacity : capacity_in new.space ≡ capacity_in old.space
   pub slots : slots_in new.space ≡ pages_after 0 (row_or_empty after) (slots_in old.space) plan
+  pub positions : AreUnlogged (pages_in old.space) → AreUnlogged (pages_in new.space)
   pub map_is : new.map ≡ old.map
   pub kept : AreKept (rows_in new) new.drafts
   pub built : KeepBuilt old.drafts new.drafts

@@ -9,7 +9,7 @@ use Rattle.rg_home.specs.Pages.{slot_of}
 use Rattle.rg_home.specs.Plan.{new_area, planned_put, planned_change, planned_drop}
 use Rattle.rg_home.specs.Slot.{Slot}
 use Rattle.rg_home.specs.declared.plan.Plan.{Plan}
-use Rattle.rg_page.specs.Content.{Content, slots_of}
+use Rattle.rg_page.specs.Content.{Content, content_at, slots_of}
 use Rattle.rg_page.specs.Seen.{Seen}
 use Rattle.rg_page.specs.declared.list.ListFrames.{ListFrames}
 use Rattle.rg_reload.specs.Pages.{frames_seen}
@@ -23,6 +23,10 @@ seen_in space = frames_seen (frames_of space)
 
 abbrev pub pages_in : Space ListFrames → List Content
 pages_in space = (frames_of space).pages.items
+
+-- no record has changed these pages
+abbrev pub AreUnlogged : List Content → Type 0
+AreUnlogged pages = (n : ℕ) → (content_at pages n).position ≡ 0
 
 -- the slots of its pages
 abbrev pub slots_in : Space ListFrames → List (List Slot)

@@ -4,7 +4,8 @@
 --    source's target.
 -- 2. A change of a source changes the row of that source alone. Every other source keeps its row,
 --    its target, and where the row lies. So a row that no change names lies as it was packed.
--- 3. The pages are those that the plans of puts, changes and drops leave, where no unit is live.
+-- 3. The pages are those that the plans of puts, changes and drops leave, where no unit is live. No
+--    record of the log changes one of them: its position stays 0.
 use Rattle.std.specs.Prelude.{◌≡◌, ℕ, Bool, true, false, List, [], Option, Some, None, is_some, IsSomeAnd}
 use Rattle.std.specs.FinMap as map
 use Rattle.rg_base.specs.declared.place.Place.{Place}
@@ -21,7 +22,7 @@ use Rattle.rg_map.specs.Mapping.{Targets}
 use Rattle.rg_model.specs.Layout.{same_place}
 use Rattle.rg_page.specs.Content.{Content, slots_of}
 use Rattle.rg_reload.specs.Moved.{row_through}
-use Rattle.rg_shadow.specs.Planned.{change_plan, drop_plan, put_plan}
+use Rattle.rg_shadow.specs.Planned.{AreUnlogged, change_plan, drop_plan, put_plan}
 use Rattle.rg_shadow.specs.declared.drafts.IndexStage.{IndexStage}
 use Rattle.rg_shadow.specs.declared.drafts.IndexStage.TheVariants.{Unsorted, Sorted, Built}
 use Rattle.rg_shadow.specs.declared.fault.ShadowFault.{ShadowFault}
@@ -101,6 +102,7 @@ pub record Applies (old : Shade) (source : Place) (after : Option Row) (new : Sh
       → target_of old other ≡ Some target → lies_in new target ≡ lies_in old target
   pub pages : IsSomeAnd (plan_for old source after) (λ plan.
       shade_slots new ≡ pages_after 0 (row_or_empty after) (shade_slots old) plan)
+  pub positions : AreUnlogged old.pages → AreUnlogged new.pages
   pub copy : new.copy ≡ old.copy
   pub capacity : new.capacity ≡ old.capacity
   pub built : (which : Which) → stage_in which old ≡ Built → stage_in which new ≡ Built

@@ -12,7 +12,7 @@ ghost use Rattle.rg_home.specs.Plan.{is_home, pages_after};
 ghost use Rattle.rg_space.specs.Carries.{AllThere, Carries};
 ghost use Rattle.rg_space.specs.Ready.{AllReady, CanApply, IsAtHand};
 ghost use Rattle.rg_space.specs.Space.{capacity_in, frames_of};
-ghost use Rattle.rg_shadow.specs.Planned.{HasPages, IsRefusal, SameSpace, change_plan, drop_plan, put_plan, seen_in, slots_in};
+ghost use Rattle.rg_shadow.specs.Planned.{AreUnlogged, HasPages, IsRefusal, SameSpace, change_plan, drop_plan, pages_in, put_plan, seen_in, slots_in};
 
 use crate::fault::ShadowFault;
 use rg_base::no_memory::NoMemory;
@@ -96,6 +96,9 @@ fn apply(space: &mut Space<ListFrames>, parts: &[Part], row: Option<&Row>)
         → AllThere (length (seen_in space.old).pages) parts.now → (others : List Part)
         → AllReady (seen_in space.old) (capacity_in space.old) others
         → AllReady (seen_in space.new) (capacity_in space.old) others }
+    ensures positions { CanApply (seen_in space.old) (capacity_in space.old) 0
+        (option_copied row.entry) parts.now
+        → AreUnlogged (pages_in space.old) → AreUnlogged (pages_in space.new) }
 {
     space.apply_parts(parts, Tran(0), row, Position(0));
 }
@@ -111,6 +114,7 @@ pub fn carry_out(space: &mut Space<ListFrames>, plan: &Plan, row: Option<&Row>)
     ensures capacity { capacity_in space.new ≡ capacity_in space.old }
     ensures slots { slots_in space.new ≡ pages_after 0 (row_or_empty (option_copied row.entry))
         (slots_in space.old) plan.now }
+    ensures positions { AreUnlogged (pages_in space.old) → AreUnlogged (pages_in space.new) }
 {
     apply(space, plan.purge.as_slice(), None);
     apply(space, plan.parts.as_slice(), row);

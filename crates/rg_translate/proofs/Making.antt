@@ -90,12 +90,13 @@ none_named (c ∷ cs) none = absurd (cc (sym (place_itself c.home) ∙ (parts_of
 -- the copy
 
 pub copy_none : (old : Shade) → SameCopy old old
-copy_none old = record { copy = refl; capacity = refl; built = λ which e. e }
+copy_none old = record { copy = refl; capacity = refl; positions = λ unlogged. unlogged; built = λ which e. e }
 
 pub copy_more : (start old new : Shade) (source : Place) (after : Option Row) → SameCopy start old → Applies old source after new → SameCopy start new
 copy_more start old new source after same applies = record {
   copy = applies.copy ∙ same.copy;
   capacity = applies.capacity ∙ same.capacity;
+  positions = λ unlogged. applies.positions (same.positions unlogged);
   built = λ which e. applies.built which (same.built which e);
 }
 

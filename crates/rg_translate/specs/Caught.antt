@@ -5,6 +5,7 @@
 -- 2. A source that no change of a batch names has the row and the target that it had, and its row
 --    lies where it lay. So what was packed stays packed where nothing was written.
 -- 3. Only a change that is made can be refused.
+-- 4. Pages that no record has changed stay so.
 use Rattle.std.specs.Prelude.{◌≡◌, List, Some, None, Contains}
 use Rattle.rg_base.specs.declared.change.Change.{Change}
 use Rattle.rg_base.specs.declared.place.Place.{Place}
@@ -12,6 +13,7 @@ use Rattle.rg_base.specs.declared.which.Which.{Which}
 use Rattle.rg_feed.specs.Ends.{Received}
 use Rattle.rg_fold.specs.Fold.{fold_to}
 use Rattle.rg_fold.specs.Last.{last_at}
+use Rattle.rg_shadow.specs.Planned.{AreUnlogged}
 use Rattle.rg_shadow.specs.Shade.{Refuses, Shade, lies_in, source_rows, stage_in, target_of}
 use Rattle.rg_shadow.specs.declared.drafts.IndexStage.TheVariants.{Built}
 use Rattle.rg_shadow.specs.declared.fault.ShadowFault.{ShadowFault}
@@ -32,10 +34,12 @@ pub record Unmoved (old new : Shade) (cs : List Change) : Type 0 where
   pub lie : (source target : Place) → last_at source cs ≡ None
       → target_of old source ≡ Some target → lies_in new target ≡ lies_in old target
 
--- the number of the copy and its capacity are the same, and what was built stays so
+-- The number of the copy and its capacity are the same, and what was built stays so. No record has
+-- changed a page, if none had.
 pub record SameCopy (old new : Shade) : Type 0 where
   pub copy : new.copy ≡ old.copy
   pub capacity : new.capacity ≡ old.capacity
+  pub positions : AreUnlogged old.pages → AreUnlogged new.pages
   pub built : (which : Which) → stage_in which old ≡ Built → stage_in which new ≡ Built
 
 -- as it is, a new copy has no room for the row of one of these changes; or there is no memory

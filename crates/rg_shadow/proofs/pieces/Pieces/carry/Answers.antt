@@ -19,6 +19,7 @@ returns c =
       copy = c.carry_out.ensures.copy;
       capacity = c.carry_out.ensures.capacity;
       slots = c.carry_out.ensures.slots;
+      positions = c.carry_out.ensures.positions;
       map_is = refl;
       kept = c.follow.ensures.kept _ _ c.requires.whole.kept (sym c.requires.ready.carries.writes.before ∙ sym c.as_ref.ensures.value)
           (listed_row (slot_of (slots_in old.space)) (slot_of (slots_in sp)) plan.home after changes);
