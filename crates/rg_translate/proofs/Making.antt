@@ -1,8 +1,9 @@
 -- Changes made one after another: the rows that they leave, and what none of them names.
-use Rattle.std.proofs.Common.{◌≡◌, ℕ, ◌+◌, ◌<◌, ◌≤◌, zero, suc, Bool, true, false, List, [], ◌∷◌, ◌++◌, Option, Some, None, refl, sym, ◌∙◌, ap, subst, arith, get_or, if◌then◌else◌, length, take, drop}
+use Rattle.std.proofs.Common.{◌≡◌, ℕ, ◌+◌, ◌<◌, ◌≤◌, ◌==◌, ◌||◌, ◌&&◌, nat_le, map, zero, suc, Bool, true, false, List, [], ◌∷◌, ◌++◌, Option, Some, None, refl, sym, ◌∙◌, ap, subst, arith, get_or, if◌then◌else◌, length, take, drop}
 use Rattle.std.proofs.lemmas.List.{take_more}
-use Rattle.std.proofs.lemmas.List.Elements.{All-contains}
-use Rattle.std.specs.List.{All, Contains}
+use Rattle.std.proofs.lemmas.Bool.{and_parts}
+use Rattle.std.proofs.lemmas.Bool.Decides.{nat_tests}
+use Rattle.std.specs.List.{All, Contains, list_all}
 use Rattle.rg_fold.proofs.Batches.{none_kept}
 use Rattle.rg_base.specs.declared.change.Change.{Change}
 use Rattle.rg_base.specs.declared.place.Place.{Place}
@@ -13,13 +14,13 @@ use Rattle.rg_fold.specs.Last.{applied_at, changed_at, last_at, later_of}
 use Rattle.rg_fold.specs.Lawful.{Lawful}
 use Rattle.rg_fold.proofs.Batches.{batch}
 use Rattle.rg_fold.proofs.Places.{one_place, place_itself}
-use Rattle.rg_model.specs.Layout.{same_place}
+use Rattle.rg_model.specs.Layout.{are_rising, is_place_before, same_place}
 use Rattle.rg_feed.specs.Ends.{Received}
 use Rattle.rg_shadow.specs.Shade.{Applies, Shade, source_rows}
 use Rattle.rg_translate.specs.Backlog.{next_changes, to_make}
 use Rattle.rg_shadow.specs.declared.fault.ShadowFault.{ShadowFault}
 use Rattle.rg_shadow.specs.declared.fault.ShadowFault.TheVariants.{NoMemory, NoSpace}
-use Rattle.rg_translate.specs.Caught.{Caught, IsRefusedOf, SameCopy, Unmoved}
+use Rattle.rg_translate.specs.Caught.{Caught, IsRefusedLast, IsRefusedOf, SameCopy, Unmoved}
 
 applied_at-append : (place : Place) (xs ys : List Change) (row : Option Row) → applied_at place (xs ++ ys) row ≡ applied_at place ys (applied_at place xs row)
 applied_at-append place [] ys row = refl
@@ -123,7 +124,31 @@ unmoved_by old new inlet n net last unmoved =
 pub idle_by : (old new : Shade) (batch net : List Change) → ((place : Place) → last_at place net ≡ last_at place batch) → (net ≡ [] → new ≡ old) → batch ≡ [] → new ≡ old
 idle_by old new batch net last idle none = idle (none_named net (λ place. last place ∙ ap (last_at place) none))
 
--- a change that is refused is one of the batch
-pub refused_by : (shadow : Shade) (batch net : List Change) (fault : ShadowFault) → All (Contains batch) net → IsRefusedOf shadow net fault → IsRefusedOf shadow batch fault
-refused_by shadow batch net NoSpace members (change, within, refuses) = (change, All-contains (Contains batch) net change members within, refuses)
-refused_by shadow batch net NoMemory members refused = tt
+-- changes whose homes rise are each the last one of its home
+
+before_other : (p q : Place) → is_place_before p q ≡ true → same_place q p ≡ false
+before_other p q e = grind (arith, nat_tests, e)
+
+none_later : (place : Place) (cs : List Change) → list_all (λ later. is_place_before place later) (map (λ (c : Change). c.home) cs) ≡ true → last_at place cs ≡ None
+none_later place [] e = refl
+none_later place (c ∷ cs) e =
+    let parts = and_parts (is_place_before place c.home) (list_all (λ later. is_place_before place later) (map (λ (x : Change). x.home) cs)) e in
+    ap (λ o. later_of o (if same_place c.home place then Some c else None)) (none_later place cs parts.1)
+    ∙ ap (λ (b : Bool). if b then Some c else None) (before_other place c.home parts.0)
+
+last_of_home : (cs : List Change) (change : Change) → are_rising (map (λ (c : Change). c.home) cs) ≡ true → Contains cs change → last_at change.home cs ≡ Some change
+last_of_home [] change rise (k, within, is) = absurd (omega (arith, within))
+last_of_home (c ∷ cs) change rise (zero, within, is) =
+    let parts = and_parts (list_all (λ later. is_place_before c.home later) (map (λ (x : Change). x.home) cs)) (are_rising (map (λ (x : Change). x.home) cs)) rise in
+    subst (λ (x : Change). last_at x.home (c ∷ cs) ≡ Some x) is
+    (ap (λ o. later_of o (if same_place c.home c.home then Some c else None)) (none_later c.home cs parts.0)
+    ∙ ap (λ (b : Bool). if b then Some c else None) (place_itself c.home))
+last_of_home (c ∷ cs) change rise (suc k, within, is) =
+    let parts = and_parts (list_all (λ later. is_place_before c.home later) (map (λ (x : Change). x.home) cs)) (are_rising (map (λ (x : Change). x.home) cs)) rise in
+    ap (λ o. later_of o (if same_place c.home change.home then Some c else None)) (last_of_home cs change parts.1 (k, omega (arith, within), is))
+
+-- a change that is refused is the last one of its home in the batch
+pub refused_by : (shadow : Shade) (batch net : List Change) (fault : ShadowFault) → are_rising (map (λ (c : Change). c.home) net) ≡ true
+    → ((place : Place) → last_at place net ≡ last_at place batch) → IsRefusedOf shadow net fault → IsRefusedLast shadow batch fault
+refused_by shadow batch net NoSpace rise last (change, within, refuses) = (change, sym (last change.home) ∙ last_of_home net change rise within, refuses)
+refused_by shadow batch net NoMemory rise last refused = tt

@@ -4,9 +4,9 @@
 --    it, without the changes that were not taken yet.
 -- 2. A source that no change of a batch names has the row and the target that it had, and its row
 --    lies where it lay. So what was packed stays packed where nothing was written.
--- 3. Only a change that is made can be refused.
+-- 3. Only a change that is made can be refused: the last one of its home.
 -- 4. Pages that no record has changed stay so.
-use Rattle.std.specs.Prelude.{◌≡◌, List, Some, None, Contains}
+use Rattle.std.specs.Prelude.{◌≡◌, ◌⊎◌, ◌+◌, ℕ, List, Some, None, Contains}
 use Rattle.rg_base.specs.declared.change.Change.{Change}
 use Rattle.rg_base.specs.declared.place.Place.{Place}
 use Rattle.rg_base.specs.declared.which.Which.{Which}
@@ -47,3 +47,15 @@ abbrev pub IsRefusedOf : Shade → List Change → ShadowFault → Type 0
 IsRefusedOf shadow cs NoSpace =
     (change : Change) × Contains cs change × Refuses shadow change.home change.after NoSpace
 IsRefusedOf shadow cs NoMemory = Unit {0}
+
+-- the same of a change that is the last one of its home
+abbrev pub IsRefusedLast : Shade → List Change → ShadowFault → Type 0
+IsRefusedLast shadow cs NoSpace =
+    (change : Change) × (last_at change.home cs ≡ Some change)
+    × Refuses shadow change.home change.after NoSpace
+IsRefusedLast shadow cs NoMemory = Unit {0}
+
+-- n more changes are taken; out of memory it may be none
+abbrev pub StopsAt : ShadowFault → (n before after : ℕ) → Type 0
+StopsAt NoSpace n before after = after ≡ before + n
+StopsAt NoMemory n before after = (after ≡ before) ⊎ (after ≡ before + n)

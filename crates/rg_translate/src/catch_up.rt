@@ -15,7 +15,7 @@ ghost use Rattle.std.specs.Prelude.{◌≡◌, ◌+◌, [], min, OnOk, IfOk, IfE
 ghost use Rattle.rg_fold.specs.Fold.{since_begin};
 ghost use Rattle.rg_fold.specs.Lawful.{Lawful};
 ghost use Rattle.rg_translate.specs.Backlog.{SameItems, left, next_changes, to_make};
-ghost use Rattle.rg_translate.specs.Caught.{Caught, IsRefusedOf, SameCopy, Unmoved};
+ghost use Rattle.rg_translate.specs.Caught.{Caught, IsRefusedLast, SameCopy, StopsAt, Unmoved};
 
 use crate::batch::{next_count, take_batch};
 use crate::make::make_changes;
@@ -27,8 +27,8 @@ use std::alloc::Global;
 
 /// Makes the next changes of the backlog in the new copy, at most `most` of them, and answers how
 /// many were taken. NoSpace is returned only if the new copy, as it is then, has no room for the
-/// row of one of them. NoMemory may come before a change is taken, or later: then some are taken
-/// and not made.
+/// row of one of them: then all of them are taken, and not all made. NoMemory may come before a
+/// change is taken, or later.
 pub fn catch_up(
     alloc: Global,
     shadow: &mut Shadow,
@@ -48,9 +48,12 @@ pub fn catch_up(
     // Where all are passed over nothing is made.
     ensures idle { to_make (min most (left inlet.old)) inlet.old ≡ []
         → shadow.new ≡ shadow.old }
-    // The refused change is one that is not passed over; the copy is as it was before that one.
-    ensures refused { IfErr result (IsRefusedOf shadow.new
+    // The refused change is the last of its home that is not passed over; the copy is as it was
+    // before that one.
+    ensures refused { IfErr result (IsRefusedLast shadow.new
         (to_make (min most (left inlet.old)) inlet.old)) }
+    ensures stops { IfErr result (λ fault. StopsAt fault (min most (left inlet.old))
+        inlet.old.taken inlet.new.taken) }
 {
     let count = next_count(inlet, most);
     let batch = take_batch(alloc, inlet, count)?;

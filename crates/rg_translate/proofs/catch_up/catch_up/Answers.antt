@@ -6,7 +6,7 @@ use Rattle.rg_fold.specs.Fold.{changes, since_begin}
 use Rattle.rg_fold.specs.Last.{applied_at, last_at}
 use Rattle.rg_shadow.specs.Shade.{Shade, source_rows}
 use Rattle.rg_translate.specs.Backlog.{next_changes, to_make}
-use Rattle.rg_translate.specs.Caught.{IsRefusedOf, Unmoved}
+use Rattle.rg_translate.specs.Caught.{IsRefusedLast, IsRefusedOf, Unmoved}
 use Rattle.rg_translate.proofs.Making.{caught_up, idle_by, refused_by, unmoved_by}
 use Rattle.rg_translate.proofs.catch_up.catch_up.Goals as goal
 
@@ -54,7 +54,7 @@ pub returns-in-Err-clause-refused : goal.returns-in-Err-clause-refused
 returns-in-Err-clause-refused c =
     let inlet = c.args.inlet.now in
     let batch : c.as_slice.result.now ≡ to_make c.next_count-count.result inlet = c.as_slice.ensures.value ∙ c.in_ok-batch.ensures.batch in
-    subst (λ (n : ℕ). IsRefusedOf c.make_changes.new.shadow (to_make n inlet) c.in-Err.fault) c.next_count-count.ensures.count
-    (subst (λ (cs : List Change). IsRefusedOf c.make_changes.new.shadow cs c.in-Err.fault) batch
-    (refused_by c.make_changes.new.shadow c.as_slice.result.now c.in_ok-changes.changes.items c.in-Err.fault c.in_ok-changes.ensures.members
+    subst (λ (n : ℕ). IsRefusedLast c.make_changes.new.shadow (to_make n inlet) c.in-Err.fault) c.next_count-count.ensures.count
+    (subst (λ (cs : List Change). IsRefusedLast c.make_changes.new.shadow cs c.in-Err.fault) batch
+    (refused_by c.make_changes.new.shadow c.as_slice.result.now c.in_ok-changes.changes.items c.in-Err.fault c.in_ok-changes.ensures.homes c.in_ok-changes.ensures.last
     (subst (λ (cs : List Change). IsRefusedOf c.make_changes.new.shadow cs c.in-Err.fault) c.as_slice-2.ensures.value c.in-Err.ensures.refused)))
