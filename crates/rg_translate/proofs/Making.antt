@@ -1,5 +1,5 @@
 -- Changes made one after another: the rows that they leave, and what none of them names.
-use Rattle.std.proofs.Common.{◌≡◌, ℕ, ◌+◌, ◌<◌, ◌≤◌, ◌==◌, ◌||◌, ◌&&◌, nat_le, map, zero, suc, Bool, true, false, List, [], ◌∷◌, ◌++◌, Option, Some, None, refl, sym, ◌∙◌, ap, subst, arith, get_or, if◌then◌else◌, length, take, drop}
+use Rattle.std.proofs.Common.{◌≡◌, ℕ, ◌+◌, ◌<◌, ◌≤◌, ◌==◌, ◌||◌, ◌&&◌, nat_le, map, zero, suc, Bool, true, false, List, [], ◌∷◌, ◌++◌, Option, Some, None, is_some, refl, sym, ◌∙◌, ap, subst, arith, get_or, if◌then◌else◌, length, take, drop}
 use Rattle.std.proofs.lemmas.List.{take_more}
 use Rattle.std.proofs.lemmas.Bool.{and_parts}
 use Rattle.std.proofs.lemmas.Bool.Decides.{nat_tests}
@@ -16,11 +16,11 @@ use Rattle.rg_fold.proofs.Batches.{batch}
 use Rattle.rg_fold.proofs.Places.{one_place, place_itself}
 use Rattle.rg_model.specs.Layout.{are_rising, is_place_before, same_place}
 use Rattle.rg_feed.specs.Ends.{Received}
-use Rattle.rg_shadow.specs.Shade.{Applies, Shade, source_rows}
+use Rattle.rg_shadow.specs.Shade.{Applies, Shade, source_rows, target_of}
 use Rattle.rg_translate.specs.Backlog.{next_changes, to_make}
 use Rattle.rg_shadow.specs.declared.fault.ShadowFault.{ShadowFault}
 use Rattle.rg_shadow.specs.declared.fault.ShadowFault.TheVariants.{NoMemory, NoSpace}
-use Rattle.rg_translate.specs.Caught.{Caught, IsRefusedLast, IsRefusedOf, SameCopy, Unmoved}
+use Rattle.rg_translate.specs.Caught.{Caught, IsRefusedLast, IsRefusedOf, KeepTargets, SameCopy, Unmoved}
 
 applied_at-append : (place : Place) (xs ys : List Change) (row : Option Row) → applied_at place (xs ++ ys) row ≡ applied_at place ys (applied_at place xs row)
 applied_at-append place [] ys row = refl
@@ -88,6 +88,69 @@ pub none_named : (cs : List Change) → ((place : Place) → last_at place cs �
 none_named [] none = refl
 none_named (c ∷ cs) none = absurd (cc (sym (place_itself c.home) ∙ (parts_of c.home c cs (none c.home)).1))
 
+-- homes that rise
+
+before_other : (p q : Place) → is_place_before p q ≡ true → same_place q p ≡ false
+before_other p q e = grind (arith, nat_tests, e)
+
+before_another : (p q : Place) → is_place_before p q ≡ true → same_place p q ≡ false
+before_another p q e = grind (arith, nat_tests, e)
+
+abbrev homes_of : List Change → List Place
+homes_of cs = map (λ (c : Change). c.home) cs
+
+before_each : (place : Place) (cs : List Change) (k : ℕ) (d : Change) → k < length cs → list_all (λ later. is_place_before place later) (homes_of cs) ≡ true
+    → is_place_before place (get_or cs k d).home ≡ true
+before_each place [] k d within e = absurd (omega (arith, within))
+before_each place (c ∷ cs) zero d within e = (and_parts (is_place_before place c.home) (list_all (λ later. is_place_before place later) (homes_of cs)) e).0
+before_each place (c ∷ cs) (suc k) d within e =
+    before_each place cs k d (omega (arith, within)) (and_parts (is_place_before place c.home) (list_all (λ later. is_place_before place later) (homes_of cs)) e).1
+
+-- none before a change names its home
+none_before : (cs : List Change) (i : ℕ) (d : Change) → i < length cs → are_rising (homes_of cs) ≡ true → last_at (get_or cs i d).home (take i cs) ≡ None
+none_before [] i d within rise = absurd (omega (arith, within))
+none_before (c ∷ cs) zero d within rise = refl
+none_before (c ∷ cs) (suc k) d within rise =
+    let parts = and_parts (list_all (λ later. is_place_before c.home later) (homes_of cs)) (are_rising (homes_of cs)) rise in
+    ap (λ o. later_of o (if same_place c.home (get_or cs k d).home then Some c else None)) (none_before cs k d (omega (arith, within)) parts.1)
+    ∙ ap (λ (b : Bool). if b then Some c else None) (before_another c.home (get_or cs k d).home (before_each c.home cs k d (omega (arith, within)) parts.0))
+
+-- targets of sources that have a row before and after
+
+none_front : (place : Place) (xs : List Change) (c : Change) → last_at place (xs ++ c ∷ []) ≡ None → (last_at place xs ≡ None) × (same_place c.home place ≡ false)
+none_front place [] c e = (refl, (parts_of place c [] e).1)
+none_front place (x ∷ xs) c e =
+    let first = parts_of place x (xs ++ c ∷ []) e in
+    let rest = none_front place xs c first.0 in (
+      ap (λ o. later_of o (if same_place x.home place then Some x else None)) rest.0 ∙ ap (λ (b : Bool). if b then Some x else None) first.1,
+      rest.1,
+    )
+
+-- a source that no change up to here names has its target
+pub behind_more : (cs : List Change) (i : ℕ) (change : Change) (after : Option Row) (start old new : Shade) → i < length cs → change ≡ get_or cs i change
+    → ((source : Place) → last_at source (take i cs) ≡ None → target_of old source ≡ target_of start source) → Applies old change.home after new
+    → (source : Place) → last_at source (take (i + 1) cs) ≡ None → target_of new source ≡ target_of start source
+behind_more cs i change after start old new within is behind applies source none =
+    let parts = none_front source (take i cs) change
+        (ap (last_at source) (sym (take_more cs i change within ∙ ap (λ c. take i cs ++ c ∷ []) (sym is))) ∙ none) in
+    applies.targets source parts.1 ∙ behind source parts.0
+
+pub stays_more : (cs : List Change) (i : ℕ) (change : Change) (after : Option Row) (start old new : Shade) → i < length cs → change ≡ get_or cs i change
+    → ((source : Place) → last_at source (take i cs) ≡ None → target_of old source ≡ target_of start source)
+    → (are_rising (homes_of cs) ≡ true → KeepTargets start old) → Applies old change.home after new → are_rising (homes_of cs) ≡ true → KeepTargets start new
+stays_more cs i change after start old new within is behind stays applies rise source target e f = go (same_place change.home source) refl
+  where
+    none : last_at change.home (take i cs) ≡ None
+    none = subst (λ (c : Change). last_at c.home (take i cs) ≡ None) (sym is) (none_before cs i change within rise)
+
+    go : (b : Bool) → same_place change.home source ≡ b → target_of new source ≡ Some target
+    go true same =
+        let here : change.home ≡ source = one_place change.home source same in
+        let had : target_of old change.home ≡ Some target = behind change.home none ∙ ap (target_of start) here ∙ e in
+        let has : is_some after ≡ true = ap is_some (sym applies.rows.here) ∙ ap (λ p. is_some (source_rows new p)) here ∙ f in
+        ap (target_of new) (sym here) ∙ applies.stays target had has
+    go false other = applies.targets source other ∙ stays rise source target e (ap is_some (sym (applies.rows.others source other)) ∙ f)
+
 -- the copy
 
 pub copy_none : (old : Shade) → SameCopy old old
@@ -125,9 +188,6 @@ pub idle_by : (old new : Shade) (batch net : List Change) → ((place : Place) �
 idle_by old new batch net last idle none = idle (none_named net (λ place. last place ∙ ap (last_at place) none))
 
 -- changes whose homes rise are each the last one of its home
-
-before_other : (p q : Place) → is_place_before p q ≡ true → same_place q p ≡ false
-before_other p q e = grind (arith, nat_tests, e)
 
 none_later : (place : Place) (cs : List Change) → list_all (λ later. is_place_before place later) (map (λ (c : Change). c.home) cs) ≡ true → last_at place cs ≡ None
 none_later place [] e = refl

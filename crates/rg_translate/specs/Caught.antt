@@ -3,10 +3,11 @@
 -- 1. A new copy is caught up where the row of each source is the one that the items received give
 --    it, without the changes that were not taken yet.
 -- 2. A source that no change of a batch names has the row and the target that it had, and its row
---    lies where it lay. So what was packed stays packed where nothing was written.
+--    lies where it lay. So what was packed stays packed where nothing was written. One that has a
+--    row before and after the batch has the target that it had.
 -- 3. Only a change that is made can be refused: the last one of its home.
 -- 4. Pages that no record has changed stay so.
-use Rattle.std.specs.Prelude.{◌≡◌, ◌⊎◌, ◌+◌, ℕ, List, Some, None, Contains}
+use Rattle.std.specs.Prelude.{◌≡◌, ◌⊎◌, ◌+◌, ℕ, true, List, Some, None, is_some, Contains}
 use Rattle.rg_base.specs.declared.change.Change.{Change}
 use Rattle.rg_base.specs.declared.place.Place.{Place}
 use Rattle.rg_base.specs.declared.which.Which.{Which}
@@ -33,6 +34,12 @@ pub record Unmoved (old new : Shade) (cs : List Change) : Type 0 where
       → target_of new source ≡ target_of old source
   pub lie : (source target : Place) → last_at source cs ≡ None
       → target_of old source ≡ Some target → lies_in new target ≡ lies_in old target
+
+-- a source that has a row before and after has the target that it had
+abbrev pub KeepTargets : Shade → Shade → Type 0
+KeepTargets old new =
+    (source target : Place) → target_of old source ≡ Some target
+    → is_some (source_rows new source) ≡ true → target_of new source ≡ Some target
 
 -- The number of the copy and its capacity are the same, and what was built stays so. No record has
 -- changed a page, if none had.

@@ -7,7 +7,7 @@
 // 3. Of the changes of one home in a batch only the last is made: it says what row the home has in
 //    the end.
 // 4. A source that no change of the batch names keeps its row and its target, and its row lies
-//    where it lay.
+//    where it lay. One that has a row before and after the batch keeps its target.
 // 5. The memory for the batch is taken before a change leaves the backlog, and that for its net
 //    before the first change is made. After a refusal the utility stops, since changes that were
 //    taken and not made are gone.
@@ -15,7 +15,7 @@ ghost use Rattle.std.specs.Prelude.{◌≡◌, ◌+◌, [], min, OnOk, IfOk, IfE
 ghost use Rattle.rg_fold.specs.Fold.{since_begin};
 ghost use Rattle.rg_fold.specs.Lawful.{Lawful};
 ghost use Rattle.rg_translate.specs.Backlog.{SameItems, left, next_changes, to_make};
-ghost use Rattle.rg_translate.specs.Caught.{Caught, IsRefusedLast, SameCopy, StopsAt, Unmoved};
+ghost use Rattle.rg_translate.specs.Caught.{Caught, IsRefusedLast, KeepTargets, SameCopy, StopsAt, Unmoved};
 
 use crate::batch::{next_count, take_batch};
 use crate::make::make_changes;
@@ -45,6 +45,7 @@ pub fn catch_up(
     // A source that none of the next changes names has its row, its target, and its row's place.
     ensures unmoved { Unmoved shadow.old shadow.new
         (next_changes (min most (left inlet.old)) inlet.old) }
+    ensures stays { KeepTargets shadow.old shadow.new }
     // Where all are passed over nothing is made.
     ensures idle { to_make (min most (left inlet.old)) inlet.old ≡ []
         → shadow.new ≡ shadow.old }

@@ -1,9 +1,10 @@
-use Rattle.std.proofs.Common.{◌≡◌, ◌∙◌, ◌≤◌, ℕ, List, [], ap, arith, drop, length, length-drop, subst}
+use Rattle.std.proofs.Common.{◌≡◌, ◌∙◌, ◌≤◌, ℕ, true, List, [], map, ap, arith, drop, length, length-drop, subst}
 use Rattle.rg_base.specs.declared.change.Change.{Change}
 use Rattle.rg_base.specs.declared.place.Place.{Place}
 use Rattle.rg_feed.specs.Ends.{Received}
 use Rattle.rg_fold.specs.Fold.{changes, since_begin}
 use Rattle.rg_fold.specs.Last.{applied_at, last_at}
+use Rattle.rg_model.specs.Layout.{are_rising}
 use Rattle.rg_shadow.specs.Shade.{Shade, source_rows}
 use Rattle.rg_translate.specs.Backlog.{next_changes, to_make}
 use Rattle.rg_translate.specs.Caught.{IsRefusedLast, IsRefusedOf, Unmoved}
@@ -20,6 +21,9 @@ idle : (old new : Shade) (inlet : Received) (n m : ℕ) (batch net made : List C
     → (made ≡ [] → new ≡ old) → to_make m inlet ≡ [] → new ≡ old
 idle old new inlet n m batch net made count batch_is made_is last same none =
     idle_by old new batch net last (λ e. same (made_is ∙ e)) (batch_is ∙ ap (λ k. to_make k inlet) count ∙ none)
+
+rising : (made net : List Change) → made ≡ net → are_rising (map (λ (c : Change). c.home) net) ≡ true → are_rising (map (λ (c : Change). c.home) made) ≡ true
+rising made net is e = ap (λ (cs : List Change). are_rising (map (λ (c : Change). c.home) cs)) is ∙ e
 
 pub returns-clause-caught : goal.returns-clause-caught
 returns-clause-caught c =
@@ -38,6 +42,9 @@ pub returns-clause-unmoved : goal.returns-clause-unmoved
 returns-clause-unmoved c = unmoved c.args.shadow.now c.make_changes.new.shadow c.args.inlet.now c.next_count-count.result _ c.as_slice.result.now c.in_ok-changes.changes.items c.as_slice-2.result.now
     c.next_count-count.ensures.count (c.as_slice.ensures.value ∙ c.in_ok-batch.ensures.batch) c.as_slice-2.ensures.value c.in_ok-changes.ensures.last c.in-Ok.ensures.unmoved
 
+pub returns-clause-stays : goal.returns-clause-stays
+returns-clause-stays c = c.in-Ok.ensures.stays (rising c.as_slice-2.result.now c.in_ok-changes.changes.items c.as_slice-2.ensures.value c.in_ok-changes.ensures.homes)
+
 pub returns-clause-idle : goal.returns-clause-idle
 returns-clause-idle c = idle c.args.shadow.now c.make_changes.new.shadow c.args.inlet.now c.next_count-count.result _ c.as_slice.result.now c.in_ok-changes.changes.items c.as_slice-2.result.now
     c.next_count-count.ensures.count (c.as_slice.ensures.value ∙ c.in_ok-batch.ensures.batch) c.as_slice-2.ensures.value c.in_ok-changes.ensures.last c.in-Ok.ensures.idle
@@ -45,6 +52,9 @@ returns-clause-idle c = idle c.args.shadow.now c.make_changes.new.shadow c.args.
 pub returns-in-Err-clause-unmoved : goal.returns-in-Err-clause-unmoved
 returns-in-Err-clause-unmoved c = unmoved c.args.shadow.now c.make_changes.new.shadow c.args.inlet.now c.next_count-count.result _ c.as_slice.result.now c.in_ok-changes.changes.items c.as_slice-2.result.now
     c.next_count-count.ensures.count (c.as_slice.ensures.value ∙ c.in_ok-batch.ensures.batch) c.as_slice-2.ensures.value c.in_ok-changes.ensures.last c.in-Err.ensures.unmoved
+
+pub returns-in-Err-clause-stays : goal.returns-in-Err-clause-stays
+returns-in-Err-clause-stays c = c.in-Err.ensures.stays (rising c.as_slice-2.result.now c.in_ok-changes.changes.items c.as_slice-2.ensures.value c.in_ok-changes.ensures.homes)
 
 pub returns-in-Err-clause-idle : goal.returns-in-Err-clause-idle
 returns-in-Err-clause-idle c = idle c.args.shadow.now c.make_changes.new.shadow c.args.inlet.now c.next_count-count.result _ c.as_slice.result.now c.in_ok-changes.changes.items c.as_slice-2.result.now

@@ -1,5 +1,5 @@
 use Rattle.std.proofs.Common.{ap, arith, length}
-use Rattle.rg_translate.proofs.Making.{copy_more, made_more, unmoved_more}
+use Rattle.rg_translate.proofs.Making.{behind_more, copy_more, made_more, stays_more, unmoved_more}
 use Rattle.rg_translate.proofs.make.make_changes.Goals as goal
 
 pub loop-change-preserved : goal.loop-change-preserved
@@ -13,6 +13,8 @@ loop-change-preserved c =
     let applies = c.in_ok-apply.ensures.applies in record {
       rows = made_more cs c.loop-change.change-index change _ start old new c.loop-change-test.true c.change-item.is c.as_ref.ensures.value i.rows applies;
       unmoved = unmoved_more cs c.loop-change.change-index change _ start old new c.loop-change-test.true c.change-item.is i.unmoved applies;
+      behind = behind_more cs c.loop-change.change-index change _ start old new c.loop-change-test.true c.change-item.is i.behind applies;
+      stays = stays_more cs c.loop-change.change-index change _ start old new c.loop-change-test.true c.change-item.is i.behind i.stays applies;
       copy = copy_more start old new change.home _ i.copy applies;
       idle = λ none. absurd (omega (arith, c.loop-change-test.true, ap length none));
     }
