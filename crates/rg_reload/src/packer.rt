@@ -21,7 +21,7 @@ ghost use Rattle.rg_reload.specs.Pages.{slot_with};
 ghost use Rattle.rg_space.specs.Space.{frames_of};
 
 use crate::fault::ReloadFault;
-use crate::order::sort_rows;
+use crate::order::{drop_rows, sort_rows};
 use crate::pad::{add_empty, count_pages};
 use crate::page::{add_pairs, count_taken, page_with};
 use crate::pairs::Pairs;
@@ -223,7 +223,13 @@ impl Packer {
         ensures rows { (place : ThePlace) → row_through (row_at (space_slots result.0))
             (target_in result.1 place) ≡ row_in self.rows place }
     {
-        let Packer { pairs, made, .. } = self;
+        let Packer {
+            rows,
+            pairs,
+            made,
+            ..
+        } = self;
+        drop_rows(rows);
         match made {
             NewCopy::Whole(space) => (space, Pairs::new(pairs)),
             _ => unreachable!(),

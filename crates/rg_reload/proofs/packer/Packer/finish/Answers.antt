@@ -24,7 +24,7 @@ all_placed : (options : Options) (rows : List (Place × Row)) (count : ℕ) → 
     → take count (packed_rows options rows) ≡ packed_rows options rows
 all_placed options rows count e = take_all count (packed_rows options rows) (omega (arith, length-moved_from options 0 0 0 rows))
 
-copy_of : (c : goal.After-drop-self-inside) → IsCopy c.args.self.copy c.args.self.capacity
+copy_of : (c : goal.After-new) → IsCopy c.args.self.copy c.args.self.capacity
     (page_count c.args.self.options.freepage c.args.self.filled) (packed_rows c.args.self.options c.args.self.rows) c.in-Whole.space
 copy_of c =
     let inside = c.self.inside in
@@ -35,7 +35,7 @@ copy_of c =
     (subst (λ (m : List Moved). IsCopy inside.copy inside.capacity (page_count inside.options.freepage inside.filled) m c.in-Whole.space)
     (all_placed inside.options inside.rows.items inside.count i.1) i.0)
 
-pairs_is : (c : goal.After-drop-self-inside) → c.new.result ≡ pairs_of (packed_rows c.args.self.options c.args.self.rows)
+pairs_is : (c : goal.After-new) → c.new.result ≡ pairs_of (packed_rows c.args.self.options c.args.self.rows)
 pairs_is c =
     let inside = c.self.inside in
     let i : HasMade (reloading_at inside.copy inside.capacity inside.options inside.rows.items inside.count inside.filled (Whole c.in-Whole.space)) (Whole c.in-Whole.space) =
