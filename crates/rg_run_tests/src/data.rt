@@ -73,9 +73,9 @@ fn look(alloc: Global) -> Result<Vec<Line>, Fail>
     ensures { IfOk result (λ lines. AllByRecursion IsPlayed lines.items) }
 {
     let mut lines = Vec::new(alloc);
-    for key in 1..4 {
-        lines.push(said(Stmt::Select(key)))?;
-    }
+    lines.push(said(Stmt::Select(1)))?;
+    lines.push(said(Stmt::Select(2)))?;
+    lines.push(said(Stmt::Select(3)))?;
     Ok(lines)
 }
 
@@ -115,7 +115,9 @@ fn with_byte(bytes: &Bytes, at: usize, byte: u8) -> Bytes {
 // What the keys are answered where page 1 has these bytes, and how the run ends.
 fn answers(alloc: Global, volume: &MemVolume, bytes: &Bytes) -> Result<(Vec<bool>, RunEnd), Fail> {
     let mut image = volume.crash(0)?;
-    image.write(Set::First, 1, bytes)?;
+    if image.capacity(Set::First) > 0 {
+        image.write(Set::First, 1, bytes)?;
+    }
     let operator = ScriptOperator::new(alloc, &[])?;
     let again = run(alloc, image, operator, look(alloc)?);
     let mut found = Vec::new(alloc);
