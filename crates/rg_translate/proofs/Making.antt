@@ -132,7 +132,7 @@ pub behind_more : (cs : List Change) (i : ℕ) (change : Change) (after : Option
     → (source : Place) → last_at source (take (i + 1) cs) ≡ None → target_of new source ≡ target_of start source
 behind_more cs i change after start old new within is behind applies source none =
     let parts = none_front source (take i cs) change
-        (ap (last_at source) (sym (take_more cs i change within ∙ ap (λ c. take i cs ++ c ∷ []) (sym is))) ∙ none) in
+    (ap (last_at source) (sym (take_more cs i change within ∙ ap (λ c. take i cs ++ c ∷ []) (sym is))) ∙ none) in
     applies.targets source parts.1 ∙ behind source parts.0
 
 pub stays_more : (cs : List Change) (i : ℕ) (change : Change) (after : Option Row) (start old new : Shade) → i < length cs → change ≡ get_or cs i change
