@@ -9,11 +9,16 @@ use Rattle.rg_page.specs.Content.{Content, slots_of}
 use Rattle.rg_page.specs.Seen.{Seen}
 use Rattle.rg_ready.specs.Needed.{Needed, NeededInTurn}
 use Rattle.rg_ready.proofs.Next.{undo_proper}
+use Rattle.rg_record.specs.Applied.{parts_of}
 use Rattle.rg_record.specs.declared.record.Record.{Record}
+use Rattle.rg_space.specs.Carries.{AllThere}
 use Rattle.rg_space.specs.Indexed.{Indexed}
+use Rattle.rg_space.specs.Ready.{record_wrote}
 use Rattle.rg_space.specs.Space.{Agree}
 use Rattle.rg_undo.specs.Undoing.{CanUndoChange, UndidChange, later_of, undo_record, written_of}
 use Rattle.rg_undo.specs.Unit.{undo_records, writes_of}
+use Rattle.rg_undo.specs.Wrote.{wrote_each, AllOnPages}
+use Rattle.rg_undo.proofs.Wrote.{wrote_more, there_more}
 use Rattle.rg_tested.specs.Breach.{BreaksOf}
 use Rattle.rg_tested.specs.Turns.{IsProper, LacksAt, WasUndone, WereUndone, first_of}
 
@@ -31,7 +36,7 @@ module _ (a m : Seen) (ai mi : Indexed) (entry : Record) (same : m.pages ≡ a.p
   needed_here : Needed (slots_of a.pages) (written_of entry)
   needed_here = subst (λ (pages : List Content). Needed (slots_of pages) (written_of entry)) same needed
 
-  module _ (z y : Seen) (zi yi : Indexed) (pages : y.pages ≡ z.pages) (summaries : yi ≡ zi) (undid : UndidChange m z zi entry) (position back : ℕ) (undo : Record) (made : undo ≡ undo_record position back (slots_of m.pages) entry) where
+  module _ (z y : Seen) (zi yi : Indexed) (position back : ℕ) (copy : m.copy ≡ a.copy) (pages : y.pages ≡ z.pages) (summaries : yi ≡ zi) (undid : UndidChange position back m z zi entry) (undo : Record) (made : undo ≡ undo_record position back (slots_of m.pages) entry) where
     slots : slots_of y.pages ≡ undone (slots_of a.pages) (written_of entry)
     slots = ap slots_of pages ∙ undid.slots ∙ ap (λ (ps : List Content). undone (slots_of ps) (written_of entry)) same
 
@@ -40,6 +45,10 @@ module _ (a m : Seen) (ai mi : Indexed) (entry : Record) (same : m.pages ≡ a.p
       needed = needed_here;
       undid = record {
         slots = slots;
+        wrote = pages ∙ undid.wrote
+            ∙ ap (λ (ps : List Content). record_wrote m.copy ps (undo_record position back (slots_of ps) entry)) same
+            ∙ ap (λ (n : ℕ). record_wrote n a.pages (undo_record position back (slots_of a.pages) entry)) copy;
+        there = subst (λ (ps : List Content). AllThere (length ps) (parts_of (undo_record position back (slots_of ps) entry).kind)) same undid.there;
         count = ap (λ (ps : List Content). length ps) pages ∙ undid.count ∙ ap (λ (ps : List Content). length ps) same;
         agree = ap (λ (ps : List Content). map (map bare) (slots_of ps)) pages ∙ undid.agree ∙ sym (ap (λ (i : Indexed). i.pages) summaries);
       };
@@ -55,6 +64,8 @@ pub record SoFar (position back : ℕ) (a b : Seen) (index : Indexed) (entries l
   pub is : entries ≡ done ++ left
   pub needed : NeededInTurn (slots_of a.pages) (writes_of done)
   pub slots : slots_of b.pages ≡ undone_all (slots_of a.pages) (writes_of done)
+  pub wrote : b.pages ≡ wrote_each a.copy a.pages undos
+  pub there : AllOnPages (length a.pages) undos
   pub proper : Proper (slots_of b.pages)
   pub agree : Agree b index
   pub count : length b.pages ≡ length a.pages
@@ -66,6 +77,8 @@ so_far_first position back a index entries p = record {
   is = refl;
   needed = tt;
   slots = refl;
+  wrote = refl;
+  there = tt;
   proper = p.proper;
   agree = p.agree;
   count = refl;
@@ -100,13 +113,15 @@ module _ (position back : ℕ) (a b : Seen) (bi : Indexed) (entries work later u
   pub so_far_proper : IsProper b bi
   so_far_proper = record { agree = s.agree; proper = s.proper }
 
-  module _ (z : Seen) (zi : Indexed) (undo : Record) (after : List Record) (was : WasUndone at now b z zi entry undo) (pushed : after ≡ undos ++ undo ∷ []) where
+  module _ (z : Seen) (zi : Indexed) (undo : Record) (after : List Record) (copy : b.copy ≡ a.copy) (was : WasUndone at now b z zi entry undo) (pushed : after ≡ undos ++ undo ∷ []) where
     pub so_far_more : SoFar position back a z zi entries later after (at + 1) at
     so_far_more = record {
       done = g.done ++ entry ∷ [];
       is = g.is ∙ sym (append_assoc g.done (entry ∷ []) later);
       needed = needed_more g.done entry (slots_of a.pages) g.needed (subst (λ (ps : List (List Slot)). Needed ps (written_of entry)) g.slots was.needed);
       slots = was.undid.slots ∙ ap (λ (ps : List (List Slot)). undone ps (written_of entry)) g.slots ∙ sym (undone_more g.done entry (slots_of a.pages));
+      wrote = wrote_more a b z undos after undo pushed copy g.wrote (was.undid.wrote ∙ sym (ap (record_wrote b.copy b.pages) was.made));
+      there = there_more a b z undos after undo pushed g.count g.there (subst (λ (r : Record). AllThere (length b.pages) (parts_of r.kind)) (sym was.made) was.undid.there);
       proper = was.proper;
       agree = was.undid.agree;
       count = was.undid.count ∙ g.count;
@@ -132,6 +147,8 @@ pub so_far_last : (position back : ℕ) (a b : Seen) (bi : Indexed) (entries wor
 so_far_last position back a b bi entries work undos at now none s = record {
   needed = subst (λ (es : List Record). NeededInTurn (slots_of a.pages) (writes_of es)) (sym all) g.needed;
   slots = g.slots ∙ ap (λ (es : List Record). undone_all (slots_of a.pages) (writes_of es)) (sym all);
+  wrote = g.wrote;
+  there = g.there;
   proper = g.proper;
   count = g.count;
   agree = g.agree;

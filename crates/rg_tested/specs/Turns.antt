@@ -14,6 +14,7 @@ use Rattle.rg_space.specs.Indexed.{Indexed}
 use Rattle.rg_space.specs.Space.{Agree}
 use Rattle.rg_undo.specs.Undoing.{undo_record, written_of, UndidChange}
 use Rattle.rg_undo.specs.Unit.{undo_records, writes_of}
+use Rattle.rg_undo.specs.Wrote.{wrote_each, AllOnPages}
 use Rattle.rg_tested.specs.Breach.{BreaksOf}
 use Rattle.rg_tested.specs.declared.turns.Outcome.{Outcome}
 use Rattle.rg_tested.specs.declared.turns.Outcome.TheVariants.{Undone, Breach}
@@ -29,7 +30,7 @@ pub record IsProper (s : Seen) (index : Indexed) : Type 0 where
 pub record WasUndone
     (position back : ℕ) (a b : Seen) (index : Indexed) (entry undo : Record) : Type 0 where
   pub needed : Needed (slots_of a.pages) (written_of entry)
-  pub undid : UndidChange a b index entry
+  pub undid : UndidChange position back a b index entry
   pub proper : Proper (slots_of b.pages)
   pub made : undo ≡ undo_record position back (slots_of a.pages) entry
 
@@ -39,12 +40,15 @@ TurnIs position back a b index entry (Is.Undone undo) = WasUndone position back 
 TurnIs position back a b index entry (Is.Breach place) =
     BreaksOf (slots_of a.pages) (written_of entry) (Some place)
 
--- each of these Changes had what it needs at its turn, and all were undone, by these records
+-- Each of these Changes had what it needs at its turn, and all were undone, by these records. The
+-- pages are as these write them, with their positions, and as many as before.
 pub record WereUndone
     (position back : ℕ) (a b : Seen) (index : Indexed) (entries undos : List Record)
     : Type 0 where
   pub needed : NeededInTurn (slots_of a.pages) (writes_of entries)
   pub slots : slots_of b.pages ≡ undone_all (slots_of a.pages) (writes_of entries)
+  pub wrote : b.pages ≡ wrote_each a.copy a.pages undos
+  pub there : AllOnPages (length a.pages) undos
   pub proper : Proper (slots_of b.pages)
   pub count : length b.pages ≡ length a.pages
   pub agree : Agree b index

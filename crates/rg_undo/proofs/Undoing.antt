@@ -14,7 +14,7 @@ use Rattle.rg_page.specs.Seen.{Seen}
 use Rattle.rg_ready.proofs.Next.{undo_fits}
 use Rattle.rg_record.specs.declared.record.Kind.TheVariants.{Change}
 use Rattle.rg_record.specs.declared.record.Record.{Record}
-use Rattle.rg_space.specs.Applied.{AllHeld}
+use Rattle.rg_space.specs.Applied.{AllHeld, wrote_all}
 use Rattle.rg_space.specs.Carries.{AllThere}
 use Rattle.rg_space.specs.Indexed.{Indexed}
 use Rattle.rg_space.specs.Ready.{CanApply}
@@ -72,14 +72,27 @@ module _ (a m z : Seen) (ai mi zi : Indexed) (capacity : ℕ) (entry : Record) (
   applies : CanApply m capacity entry.tran.0 before undo
   applies = undo_applies m capacity w undo few proper undoable planned held
 
-  pub undid : (CanApply m capacity entry.tran.0 before undo → slots_of z.pages ≡ applied entry.tran.0 (row_or_empty before) (slots_of m.pages) undo)
+  there : AllThere (length a.pages) (planned_undo (slots_of a.pages) (written_of entry)).parts
+  there =
+      subst (λ (n : ℕ). AllThere n (planned_undo (slots_of a.pages) (written_of entry)).parts) (slots_count a.pages)
+      (undo_there None (written_of entry) (slots_of a.pages) can.proper.tied can.can)
+
+  pub undid : (position back : ℕ) → m.copy ≡ a.copy
+      → (CanApply m capacity entry.tran.0 before undo → slots_of z.pages ≡ applied entry.tran.0 (row_or_empty before) (slots_of m.pages) undo)
+      → (CanApply m capacity entry.tran.0 before undo → z.pages ≡ wrote_all m.copy entry.tran.0 before position m.pages undo)
       → (CanApply m capacity entry.tran.0 before undo → AllThere (length m.pages) undo → length z.pages ≡ length m.pages)
-      → (Agree m mi → Agree z zi) → UndidChange a z zi entry
-  undid slots count agreed = record {
+      → (Agree m mi → Agree z zi) → UndidChange position back a z zi entry
+  undid position back copy slots wrote_parts count agreed = record {
     slots = slots applies
         ∙ ap (applied entry.tran.0 (row_or_empty before) (slots_of m.pages)) planned
         ∙ ap (λ (pages : List Content). undone (slots_of pages) w) same
         ∙ sym (ap (undone (slots_of a.pages)) wrote);
+    wrote = wrote_parts applies
+        ∙ ap (wrote_all m.copy entry.tran.0 before position m.pages) planned
+        ∙ ap (λ (pages : List Content). wrote_all m.copy entry.tran.0 before position pages (planned_undo (slots_of pages) w).parts) same
+        ∙ ap (λ (n : ℕ). wrote_all n entry.tran.0 before position a.pages (planned_undo (slots_of a.pages) w).parts) copy
+        ∙ sym (ap (λ (v : Written). wrote_all a.copy entry.tran.0 v.before position a.pages (planned_undo (slots_of a.pages) v).parts) wrote);
+    there = there;
     count = count applies (parts_there m capacity w undo few proper undoable planned) ∙ ap (λ (pages : List Content). length pages) same;
     agree = agreed agree;
   }

@@ -14,16 +14,20 @@ use Rattle.rg_record.specs.declared.record.Record.{Record}
 use Rattle.rg_space.specs.Indexed.{Indexed}
 use Rattle.rg_undo.specs.Undoing.{written_of, undo_record, CanUndoChange, UndidChange, IfFirst, later_of}
 use Rattle.rg_undo.specs.Unit.{writes_of, undo_records, change_back, changes_back, CanUndoUnit, UndidUnit}
+use Rattle.rg_undo.specs.Wrote.{wrote_each, AllOnPages}
+use Rattle.rg_undo.proofs.Wrote.{wrote_more, there_more}
 
 -- what is left to undo, and what is done, of these Changes: a are the frames before the first, b those now
 pub record Goes (a b : Seen) (bi : Indexed) (entries left done : List Record) (position back at now : ℕ) : Type 0 where
   pub can : CanUndoUnit b bi left
   pub rest : undone_all (slots_of b.pages) (writes_of left) ≡ undone_all (slots_of a.pages) (writes_of entries)
   pub count : length b.pages ≡ length a.pages
+  pub wrote : b.pages ≡ wrote_each a.copy a.pages done
+  pub there : AllOnPages (length a.pages) done
   pub records : done ++ undo_records at now (slots_of b.pages) left ≡ undo_records position back (slots_of a.pages) entries
 
 pub goes_first : (a : Seen) (ai : Indexed) (entries : List Record) (position back : ℕ) → CanUndoUnit a ai entries → Goes a a ai entries entries [] position back position back
-goes_first a ai entries position back can = record { can = can; rest = refl; count = refl; records = refl }
+goes_first a ai entries position back can = record { can = can; rest = refl; count = refl; wrote = refl; there = tt; records = refl }
 
 -- the first of those that are left is undone
 module _ (a b z : Seen) (bi zi : Indexed) (entries : List Record) (entry : Record) (left done after : List Record) (position back at now : ℕ)
@@ -31,7 +35,7 @@ module _ (a b z : Seen) (bi zi : Indexed) (entries : List Record) (entry : Recor
   pub first_can : CanUndoChange b bi entry
   first_can = record { agree = g.can.agree; proper = g.can.proper; can = g.can.can.0 }
 
-  module _ (undid : UndidChange b z zi entry) (is : after ≡ done ++ undo_record at now (slots_of b.pages) entry ∷ []) where
+  module _ (copy : b.copy ≡ a.copy) (undid : UndidChange at now b z zi entry) (is : after ≡ done ++ undo_record at now (slots_of b.pages) entry ∷ []) where
     slots : slots_of z.pages ≡ undone (slots_of b.pages) (written_of entry)
     slots = undid.slots
 
@@ -45,6 +49,8 @@ module _ (a b z : Seen) (bi zi : Indexed) (entries : List Record) (entry : Recor
       };
       rest = ap (λ (ps : List (List Slot)). undone_all ps (writes_of left)) slots ∙ g.rest;
       count = undid.count ∙ g.count;
+      wrote = wrote_more a b z done after (undo_record at now (slots_of b.pages) entry) is copy g.wrote undid.wrote;
+      there = there_more a b z done after (undo_record at now (slots_of b.pages) entry) is g.count g.there undid.there;
       records = ap (λ (rs : List Record). rs ++ undo_records (at + 1) at (slots_of z.pages) left) is
           ∙ append_assoc done (undo_record at now (slots_of b.pages) entry ∷ []) (undo_records (at + 1) at (slots_of z.pages) left)
           ∙ ap (λ (ps : List (List Slot)). done ++ undo_record at now (slots_of b.pages) entry ∷ undo_records (at + 1) at ps left) slots
@@ -52,17 +58,22 @@ module _ (a b z : Seen) (bi zi : Indexed) (entries : List Record) (entry : Recor
     }
 
 -- once none is left
-pub goes_last : (a z : Seen) (ai zi : Indexed) (entries left done : List Record) (position back at now : ℕ) → CanUndoUnit a ai entries → left ≡ [] → Goes a z zi entries left done position back at now → UndidUnit a z zi entries
+pub goes_last : (a z : Seen) (ai zi : Indexed) (entries left done : List Record) (position back at now : ℕ) → CanUndoUnit a ai entries → left ≡ [] → Goes a z zi entries left done position back at now → UndidUnit position back a z zi entries
 goes_last a z ai zi entries left done position back at now can none g = record {
   slots = slots;
   rows = λ p. ap (λ (ps : List (List Slot)). row_at (slot_of ps) p) slots ∙ all.2 p;
   proper = subst Proper (sym slots) all.0;
+  wrote = g.wrote ∙ ap (wrote_each a.copy a.pages) made;
+  there = subst (AllOnPages (length a.pages)) made g.there;
   count = g.count;
   agree = g.can.agree;
 }
   where
     slots : slots_of z.pages ≡ undone_all (slots_of a.pages) (writes_of entries)
     slots = ap (λ (es : List Record). undone_all (slots_of z.pages) (writes_of es)) (sym none) ∙ g.rest
+
+    made : done ≡ undo_records position back (slots_of a.pages) entries
+    made = sym (append-nil done) ∙ ap (λ (es : List Record). done ++ undo_records at now (slots_of z.pages) es) (sym none) ∙ g.records
 
     all : UnitUndone (slots_of a.pages) (writes_of entries) (undone_all (slots_of a.pages) (writes_of entries))
     all = undo_all (writes_of entries) (slots_of a.pages) can.proper can.can
@@ -71,13 +82,14 @@ goes_last a z ai zi entries left done position back at now can none g = record {
 pub goes_step : (a b z : Seen) (bi zi : Indexed) (entries work later done after : List Record) (position back at now : ℕ)
     → 1 ≤ length work → later ≡ later_of work
     → IfFirst work (λ entry. CanUndoChange b bi entry → after ≡ done ++ undo_record at now (slots_of b.pages) entry ∷ [])
-    → IfFirst work (λ entry. CanUndoChange b bi entry → UndidChange b z zi entry)
+    → IfFirst work (λ entry. CanUndoChange b bi entry → UndidChange at now b z zi entry)
+    → b.copy ≡ a.copy
     → Goes a b bi entries work done position back at now → Goes a z zi entries later after position back (at + 1) at
-goes_step a b z bi zi entries [] later done after position back at now some is recorded undone g = absurd (omega arith)
-goes_step a b z bi zi entries (entry ∷ left) later done after position back at now some is recorded undone g =
+goes_step a b z bi zi entries [] later done after position back at now some is recorded undone copy g = absurd (omega arith)
+goes_step a b z bi zi entries (entry ∷ left) later done after position back at now some is recorded undone copy g =
     let can : CanUndoChange b bi entry = first_can a b z bi zi entries entry left done after position back at now g in
     subst (λ (es : List Record). Goes a z zi entries es after position back (at + 1) at) (sym is)
-    (goes_on a b z bi zi entries entry left done after position back at now g (undone can) (recorded can))
+    (goes_on a b z bi zi entries entry left done after position back at now g copy (undone can) (recorded can))
 
 pub fewer : (work later : List Record) → 1 ≤ length work → later ≡ later_of work → length later + 1 ≡ length work
 fewer [] later some is = absurd (omega arith)

@@ -1,3 +1,4 @@
 pub mod Undoing
 pub mod Unit
+pub mod Wrote
 pub mod Laws

@@ -9,10 +9,13 @@ use Rattle.rg_home.specs.Written.{Written}
 use Rattle.rg_page.specs.Bare.{nowhere}
 use Rattle.rg_page.specs.Content.{slots_of}
 use Rattle.rg_page.specs.Seen.{Seen}
+use Rattle.rg_record.specs.Applied.{parts_of}
 use Rattle.rg_record.specs.declared.record.Kind.{Kind}
 use Rattle.rg_record.specs.declared.record.Kind.TheVariants.{Change, Undo, Commit, RolledBack, Purge, Switch}
 use Rattle.rg_record.specs.declared.record.Record.{Record}
+use Rattle.rg_space.specs.Carries.{AllThere}
 use Rattle.rg_space.specs.Indexed.{Indexed}
+use Rattle.rg_space.specs.Ready.{record_wrote}
 use Rattle.rg_space.specs.Space.{Agree}
 
 abbrev pub is_change : Kind → Bool
@@ -61,9 +64,17 @@ pub record CanUndoChange (s : Seen) (index : Indexed) (entry : Record) : Type 0 
   pub proper : Proper (slots_of s.pages)
   pub can : Undoable None (slot_of (slots_of s.pages)) (written_of entry)
 
--- this Change was undone, on the pages that there were
-pub record UndidChange (a b : Seen) (index : Indexed) (entry : Record) : Type 0 where
+-- This Change was undone, by the record at this position, on the pages that there were. These are
+-- now as that record writes them, with their positions.
+pub record UndidChange
+    (position back : ℕ) (a b : Seen) (index : Indexed) (entry : Record) : Type 0 where
   pub slots : slots_of b.pages ≡ undone (slots_of a.pages) (written_of entry)
+  pub wrote :
+      b.pages
+      ≡ record_wrote a.copy a.pages (undo_record position back (slots_of a.pages) entry)
+  pub there :
+      AllThere (length a.pages)
+      (parts_of (undo_record position back (slots_of a.pages) entry).kind)
   pub count : length b.pages ≡ length a.pages
   pub agree : Agree b index
 

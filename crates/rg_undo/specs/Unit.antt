@@ -14,6 +14,7 @@ use Rattle.rg_record.specs.declared.record.Record.{Record}
 use Rattle.rg_space.specs.Indexed.{Indexed}
 use Rattle.rg_space.specs.Space.{Agree}
 use Rattle.rg_undo.specs.Undoing.{written_of, undo_record}
+use Rattle.rg_undo.specs.Wrote.{wrote_each, AllOnPages}
 
 -- the writes of these records
 abbrev pub writes_of : List Record → List Written
@@ -47,10 +48,17 @@ pub record CanUndoUnit (s : Seen) (index : Indexed) (entries : List Record) : Ty
   pub proper : Proper (slots_of s.pages)
   pub can : AllUndoable None (slot_of (slots_of s.pages)) (writes_of entries)
 
--- These Changes were undone, on the pages that there were. At each place is the row from before
--- them.
-pub record UndidUnit (a b : Seen) (index : Indexed) (entries : List Record) : Type 0 where
+-- These Changes were undone, by records from this position on, on the pages that there were. These
+-- are now as those records write them, with their positions. At each place is the row from before
+-- the Changes.
+pub record UndidUnit
+    (position back : ℕ) (a b : Seen) (index : Indexed) (entries : List Record) : Type 0 where
   pub slots : slots_of b.pages ≡ undone_all (slots_of a.pages) (writes_of entries)
+  pub wrote :
+      b.pages
+      ≡ wrote_each a.copy a.pages (undo_records position back (slots_of a.pages) entries)
+  pub there :
+      AllOnPages (length a.pages) (undo_records position back (slots_of a.pages) entries)
   pub rows :
       (p : Place) → row_at (slot_of (slots_of b.pages)) p
       ≡ taken_back (writes_of entries) p (row_at (slot_of (slots_of a.pages)) p)

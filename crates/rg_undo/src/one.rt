@@ -34,8 +34,8 @@ pub fn undo_one<F: Frames>(
         (slots_of (F.seen (frames_of space.old)).pages) entry) }
     ensures undone { OnOk result ((F.seen (frames_of space.new)).sure ≡ true
         → CanUndoChange (F.seen (frames_of space.old)) (index_of space.old) entry
-        → UndidChange (F.seen (frames_of space.old)) (F.seen (frames_of space.new))
-        (index_of space.new) entry) }
+        → UndidChange position.0 back.0 (F.seen (frames_of space.old))
+        (F.seen (frames_of space.new)) (index_of space.new) entry) }
     ensures step { InStep (F.seen (frames_of space.new)) (index_of space.new)
         (capacity_in space.new) }
     ensures capacity { capacity_in space.new ≡ capacity_in space.old }

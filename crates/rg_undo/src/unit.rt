@@ -99,7 +99,7 @@ fn undo_latest<F: Frames>(
     ensures undone { (F.seen (frames_of space.new)).sure ≡ true
         → IfFirst work.old (λ entry.
         CanUndoChange (F.seen (frames_of space.old)) (index_of space.old) entry
-        → OnOk result (UndidChange (F.seen (frames_of space.old))
+        → OnOk result (UndidChange position.0 back.0 (F.seen (frames_of space.old))
         (F.seen (frames_of space.new)) (index_of space.new) entry)) }
     ensures step { InStep (F.seen (frames_of space.new)) (index_of space.new)
         (capacity_in space.new) }
@@ -149,8 +149,8 @@ pub fn undo_unit<F: Frames>(
         undo.changes.items ≡ changes_back position.0 changes.items) }
     ensures undone { OnOk result ((F.seen (frames_of space.new)).sure ≡ true
         → CanUndoUnit (F.seen (frames_of space.old)) (index_of space.old) changes.items
-        → UndidUnit (F.seen (frames_of space.old)) (F.seen (frames_of space.new))
-        (index_of space.new) changes.items) }
+        → UndidUnit position.0 back.0 (F.seen (frames_of space.old))
+        (F.seen (frames_of space.new)) (index_of space.new) changes.items) }
     ensures step { InStep (F.seen (frames_of space.new)) (index_of space.new)
         (capacity_in space.new) }
     ensures capacity { capacity_in space.new ≡ capacity_in space.old }

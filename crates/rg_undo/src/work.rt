@@ -99,7 +99,7 @@ impl UndoWork {
         ensures undone { (F.seen (frames_of space.new)).sure ≡ true
             → IfFirst self.old (λ entry.
             CanUndoChange (F.seen (frames_of space.old)) (index_of space.old) entry
-            → OnOk result (UndidChange (F.seen (frames_of space.old))
+            → OnOk result (UndidChange position.0 back.0 (F.seen (frames_of space.old))
             (F.seen (frames_of space.new)) (index_of space.new) entry)) }
         ensures step { InStep (F.seen (frames_of space.new)) (index_of space.new)
             (capacity_in space.new) }

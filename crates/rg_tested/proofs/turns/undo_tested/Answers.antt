@@ -33,7 +33,7 @@ loop-entry-preserved g c =
       spare = omega (arith, k.spare, i.spare, g.met.F.Frames.spare_idle (frames_of c.loop-entry.space), h.idle ahead);
       goes = λ sure proper.
           let s = i.goes (h.keeps.sure sure) proper in
-          so_far_more c.args.position.0 c.args.back.0 a b bi c.args.changes.items c.loop-entry.waiting c.take.new.self c.loop-entry.undos.items entry at before work_is s z zi undo c.push.new.self.items
+          so_far_more c.args.position.0 c.args.back.0 a b bi c.args.changes.items c.loop-entry.waiting c.take.new.self c.loop-entry.undos.items entry at before work_is s z zi undo c.push.new.self.items i.keeps.copy
           (subst (TurnIs at before b z zi entry) c.in-Undone.is
           (k.turn sure (so_far_proper c.args.position.0 c.args.back.0 a b bi c.args.changes.items c.loop-entry.waiting c.take.new.self c.loop-entry.undos.items entry at before work_is s)))
           c.in-Ok.ensures.items;

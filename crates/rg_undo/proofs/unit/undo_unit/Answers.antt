@@ -26,7 +26,7 @@ loop-back-preserved g c =
       idle = omega (arith, i.idle, h.idle ahead);
       spare = omega (arith, h.spare, i.spare, g.met.F.Frames.spare_idle (frames_of c.loop-back.space), h.idle ahead);
       goes = λ sure can. goes_step a b z (index_of c.loop-back.space) (index_of c.undo_latest.new.space) c.args.changes.items c.loop-back.work c.undo_latest.new.work c.loop-back.records.items c.undo_latest.new.records.items c.args.position.0 c.args.back.0 c.loop-back.at c.loop-back.back.0
-          some h.left (k.undo sure) (k.undone sure) (i.goes (h.keeps.sure sure) can);
+          some h.left (k.undo sure) (k.undone sure) i.keeps.copy (i.goes (h.keeps.sure sure) can);
     }
 
 pub returns-clause-undone : goal.returns-clause-undone
