@@ -3,7 +3,6 @@ use Rattle.std.proofs.Common.{Bool, codes, ◌≡◌, ◌≢◌, ◌<◌, ◌≤
 use Rattle.std.specs.List.{Contains}
 use Rattle.std.specs.Io.KnownBytes.{Consumes, Appends, IsAtEnd}
 use Rattle.rg_base.specs.declared.set.Set.{Set}
-use Rattle.rg_base.specs.declared.set.Set.TheVariants.{Log}
 use Rattle.rg_deck.specs.declared.read.TheConstants.{DECK_LIMIT}
 use Rattle.rg_outside.specs.Faults.{Rose}
 use Rattle.rg_outside.specs.Capacities.{Capacities}
@@ -11,7 +10,7 @@ use Rattle.rg_image.specs.Rules.{limit_of}
 use Rattle.rg_log.specs.Kept.{log_pages}
 use Rattle.rg_run.specs.Full.{IsFullOnlyFrom, smaller_pages}
 use Rattle.rg_run.specs.LogFull.{IsLogFullOnlyFrom}
-use Rattle.rg_run.specs.Outside.{IfCounted, IsDeviceOnlyIf, IsEnd, MadeSince, MakesOnly}
+use Rattle.rg_run.specs.Outside.{IfCounted, IsDeviceOnlyIf, IsEnd, MadeSince, MakesOnly, WritesOwn}
 use Rattle.rg_run.specs.Table.{IsLegalRun, IsOpening}
 use Rattle.rg_run.specs.declared.played.RunEnd.TheVariants as ends
 use Rattle.rg_log.proofs.Ready.{quiet_reads}
@@ -20,7 +19,6 @@ use Rattle.rg_restart.specs.Sound.{IsDamage}
 use Rattle.rg_restart.proofs.Exact.{sound_breaks_none}
 use Rattle.rg_log.specs.Open.{IsQuiet}
 use Rattle.rg_outside.specs.Calls.{Image, Told, read_of}
-use Rattle.rg_outside.specs.Made.{WritesIn}
 use Rattle.rg_desk.specs.Volume.{VolumeSeen}
 use Rattle.rg_stmt.specs.declared.event.Entry.{Entry}
 use Rattle.rg_stmt.specs.declared.line.Line.{Line}
@@ -412,7 +410,7 @@ module _ (words : List (List ℕ)) (source source_after sink sink_after : Seen) 
       → IsFullOnlyFrom (3221 * smaller_pages volume.capacities) 0 trace
       → IsLogFullOnlyFrom (limit_of (log_pages volume.capacities)) 0 trace
       → IsDeviceOnlyIf (Rose volume.faults volume_after.faults) trace
-      → MakesOnly (WritesIn Log) volume.told volume_after.told
+      → MakesOnly (WritesOwn trace) volume.told volume_after.told
       → TakesAtMost (DECK_LIMIT + 1) source.bytes source_after.bytes
       → Completes words source source_after sink sink_after volume volume_after status trace
   completes concludes legal opening full log_full device only bounded = record {

@@ -7,9 +7,9 @@ use Rattle.rg_print.specs.declared.print.Close.TheVariants as closes
 use Rattle.rg_stmt.specs.declared.event.Entry.{Entry}
 use Rattle.std.specs.List.{AllByRecursion}
 use Rattle.rg_stmt.specs.declared.line.Line.{Line}
-use Rattle.rg_stmt.specs.declared.line.Line.TheVariants.{Said, Show}
+use Rattle.rg_stmt.specs.declared.line.Line.TheVariants.{Flush, Said, Show}
 use Rattle.rg_deck.specs.Grammar.{IsAdmitted}
-use Rattle.rg_deck.specs.declared.read.Admits.TheVariants.{Layouts}
+use Rattle.rg_deck.specs.declared.read.Admits.TheVariants.{Played as PlayedLines}
 use Rattle.rg_desk.specs.Volume.{VolumeSeen}
 use Rattle.rg_run.specs.Played.{IsPlayed, TraceOf, TraceOfFront}
 use Rattle.rg_run.specs.Table.{Ends}
@@ -87,12 +87,13 @@ pub no_command : (words : List (List ℕ)) → ((asked : Asked) → Spells asked
 no_command words none (inl play) = none (asks.Play play.0) play.1 refl
 no_command words none (inr show) = none asks.Layout show refl
 
--- statements and layouts are played
-each_played : (line : Line) → IsAdmitted Layouts line → IsPlayed line
+-- statements, layouts and flushes are played
+each_played : (line : Line) → IsAdmitted PlayedLines line → IsPlayed line
 each_played (Said session stmt) is = is.0.0
+each_played Flush is = tt
 each_played Show is = tt
 each_played line is = absurd (cc (is.1))
 
-pub all_played : (lines : List Line) → AllByRecursion (IsAdmitted Layouts) lines → AllByRecursion IsPlayed lines
+pub all_played : (lines : List Line) → AllByRecursion (IsAdmitted PlayedLines) lines → AllByRecursion IsPlayed lines
 all_played [] all = tt
 all_played (line ∷ lines) all = (each_played line all.0, all_played lines all.1)

@@ -2,7 +2,7 @@
 use Rattle.std.specs.Prelude.{ℕ, ◌≡◌, ◌≤◌, ◌⊎◌, Bool, true, List, [], ◌∷◌, Option, length}
 use Rattle.std.specs.Io.KnownBytes.{Consumes, Appends, IsAtEnd}
 use Rattle.rg_deck.specs.Grammar.{LinesOf, IsFirstOutside}
-use Rattle.rg_deck.specs.declared.read.Admits.TheVariants.{Layouts}
+use Rattle.rg_deck.specs.declared.read.Admits.TheVariants.{Played as PlayedLines}
 use Rattle.rg_deck.specs.declared.read.TheConstants.{DECK_LIMIT}
 use Rattle.rg_model.specs.Layout.{is_right_side}
 use Rattle.rg_model.specs.State.{Table}
@@ -52,17 +52,18 @@ IsShow words = Spells asks.Layout words
 abbrev pub IsCommand : List (List ℕ) → Type 0
 IsCommand words = IsPlay words ⊎ IsShow words
 
--- the bytes are statements and layouts, one to a line
+-- the bytes are statements, layouts and flushes, one to a line
 abbrev pub IsDeck : List ℕ → List Line → Type 0
-IsDeck bytes lines = LinesOf Layouts bytes lines
+IsDeck bytes lines = LinesOf PlayedLines bytes lines
 
 -- they are not
 abbrev pub IsNoDeck : List ℕ → Type 0
 IsNoDeck bytes = (lines : List Line) → IsDeck bytes lines → ⊥
 
--- this line is the first that is outside the grammar, or neither a statement nor a layout
+-- this line is the first that is outside the grammar, or neither a statement nor a layout nor a
+-- flush
 abbrev pub IsRefusedAt : List ℕ → ℕ → Type 0
-IsRefusedAt bytes line = IsFirstOutside Layouts bytes line × IsNoDeck bytes
+IsRefusedAt bytes line = IsFirstOutside PlayedLines bytes line × IsNoDeck bytes
 
 -- the source was read to its end, and these bytes are not more than the limit
 pub record ReadsDeck (before : Seen) (bytes : List ℕ) (after : Seen) : Type 0 where

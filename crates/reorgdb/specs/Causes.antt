@@ -22,9 +22,9 @@ use Rattle.reorgdb.specs.Refusals.{status_of, deck_refusal}
 use Rattle.reorgdb.specs.declared.outcome.Outcome.{Outcome}
 use Rattle.reorgdb.specs.declared.outcome.Outcome.TheVariants as outcomes
 
--- Status 0 of `play`: the source was read to its end, its bytes are statements and layouts, the
--- trace is theirs, and its print was appended to what the sink held, with layouts as the words ask.
--- The committed rows are as many as the print says, and the volume stores them.
+-- Status 0 of `play`: the source was read to its end, and its bytes are statements, layouts and
+-- flushes. The trace is theirs, and its print was appended to what the sink held, with layouts as
+-- the words ask. The committed rows are as many as the print says, and the volume stores them.
 pub record Plays (words : List (List ℕ)) (source source_after sink sink_after : Seen)
     (volume volume_after : VolumeSeen) (trace : List Entry) : Type 0 where
   pub asked : IsPlay words
@@ -47,7 +47,7 @@ pub record Shows (source source_after sink sink_after : Seen) (volume volume_aft
   pub shown : Appends sink.bytes sink_after.bytes text
 
 -- Status 2: the source was read to its end, and the sink got the number of the first line that is
--- outside the grammar, or neither a statement nor a layout.
+-- outside the grammar, or neither a statement nor a layout nor a flush.
 pub record RefusesDeck (source source_after sink sink_after : Seen) : Type 0 where
   pub bytes : List ℕ
   pub line : ℕ

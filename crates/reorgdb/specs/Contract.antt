@@ -4,12 +4,10 @@
 -- status 8 may stand in place of any other.
 use Rattle.std.specs.Prelude.{ℕ, ◌≡◌, ◌+◌, ◌*◌, List, [], ◌∷◌}
 use Rattle.std.specs.List.{Contains}
-use Rattle.rg_base.specs.declared.set.Set.TheVariants.{Log}
 use Rattle.rg_deck.specs.declared.read.TheConstants.{DECK_LIMIT}
 use Rattle.rg_outside.specs.Faults.{Rose}
-use Rattle.rg_outside.specs.Made.{WritesIn}
 use Rattle.rg_desk.specs.Volume.{VolumeSeen}
-use Rattle.rg_run.specs.Outside.{IsDeviceOnlyIf, MakesOnly}
+use Rattle.rg_run.specs.Outside.{IsDeviceOnlyIf, MakesOnly, WritesOwn}
 use Rattle.rg_run.specs.Table.{IsLegalRun, IsOpening}
 use Rattle.rg_image.specs.Rules.{limit_of}
 use Rattle.rg_log.specs.Kept.{log_pages}
@@ -40,8 +38,9 @@ pub record Completes (words : List (List ℕ)) (source source_after sink sink_af
   pub log_full : IsLogFullOnlyFrom (limit_of (log_pages volume.capacities)) 0 trace
   -- DEVICE is answered only where a call of the volume failed.
   pub device : IsDeviceOnlyIf (Rose volume.faults volume_after.faults) trace
-  -- No page of a copy is written.
-  pub only : MakesOnly (WritesIn Log) volume.told volume_after.told
+  -- No page is written but those of the log and of the copy that was opened, and none where there
+  -- is no entry.
+  pub only : MakesOnly (WritesOwn trace) volume.told volume_after.told
   -- Status 0 of `play`: the deck was played, and its print given. Whatever a crash leaves of the
   -- volume then stores the committed rows, if the log read tidy when the call began.
   pub played :
@@ -59,7 +58,7 @@ pub record Completes (words : List (List ℕ)) (source source_after sink sink_af
   pub unread : IsShow words → source_after ≡ source
   pub layout : IsShow words → Contains (0 ∷ 4 ∷ 5 ∷ 6 ∷ 8 ∷ []) status
   -- Status 2: the bytes were read to their end, and the output names the first line that is outside
-  -- the grammar, or neither a statement nor a layout.
+  -- the grammar, or neither a statement nor a layout nor a flush.
   pub deck : status ≡ 2 → RefusesDeck source source_after sink sink_after
   -- Statuses 3 and 4 are returned only if the source, or the sink, failed in this call.
   pub source_failed : status ≡ 3 → Rose source.faults source_after.faults

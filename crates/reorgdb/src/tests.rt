@@ -92,6 +92,12 @@ fn plays_decks(rt: HostRuntime) -> Result<(), Fail> {
         ),
         (FIRST_DECK, 4, FIRST_PRINT),
         (b"1 INSERT 5 50 1 abc\n1 SELECT 5\n1 COMMIT", 4, FIRST_PRINT),
+        (
+            b"1 INSERT 5 50 1 abc\n1 COMMIT\nF\nF\n",
+            5,
+            b"0 - OPENED copy=1 rows=0 pages=0\n1 1 OK\n2 1 OK\n3 - FLUSH page=1\n\
+                4 - CLEAN\nEND entries=5 rows=1\n",
+        ),
     ] {
         for (taken, kept) in [(ALL, ALL), (1, ALL), (ALL, 1), (7, 5)] {
             let mut source = BytesSource::new(deck, taken, NEVER);
@@ -194,11 +200,11 @@ fn refuses(rt: HostRuntime) -> Result<(), Fail> {
         ),
         (
             &["play"].as_slice(),
-            b"L\nF\n",
+            b"L\nF\nU\n",
             ALL,
             NEVER,
             2,
-            b"REFUSED deck line 2\n",
+            b"REFUSED deck line 3\n",
             2,
         ),
         (

@@ -1,15 +1,13 @@
 // The program's call. All that it promises is in specs/Contract.antt.
 ghost use Rattle.std.specs.Prelude.{◌≡◌, ◌+◌, ◌*◌, map, string_bytes};
-ghost use Rattle.rg_base.specs.declared.set.Set.TheVariants.{Log};
 ghost use Rattle.rg_outside.specs.Faults.{Rose};
-ghost use Rattle.rg_outside.specs.Made.{WritesIn};
 ghost use Rattle.reorgdb.specs.Answer.{seen, Concludes, Delivers, output_of};
 ghost use Rattle.reorgdb.specs.Contract.{Completes};
 ghost use Rattle.rg_image.specs.Rules.{limit_of};
 ghost use Rattle.rg_log.specs.Kept.{log_pages};
 ghost use Rattle.rg_run.specs.Full.{IsFullOnlyFrom, smaller_pages};
 ghost use Rattle.rg_run.specs.LogFull.{IsLogFullOnlyFrom};
-ghost use Rattle.rg_run.specs.Outside.{IsDeviceOnlyIf, MakesOnly};
+ghost use Rattle.rg_run.specs.Outside.{IsDeviceOnlyIf, MakesOnly, WritesOwn};
 ghost use Rattle.rg_run.specs.Table.{IsLegalRun, IsOpening};
 ghost use Rattle.rg_desk.specs.Volume.{seen_volume};
 ghost use Rattle.reorgdb.specs.Reading.{TakesAtMost};
@@ -124,7 +122,7 @@ fn answer<S: Source, K: Sink, V: Volume, O: Operator>(
         result.1.items }
     ensures bounded { TakesAtMost (DECK_LIMIT + 1) (S.left source.old) (S.left source.new) }
     ensures device { IsDeviceOnlyIf (Rose (V.faults volume) (V.faults result.2)) result.1.items }
-    ensures only { MakesOnly (WritesIn Log) (V.told volume) (V.told result.2) }
+    ensures only { MakesOnly (WritesOwn result.1.items) (V.told volume) (V.told result.2) }
     ensures operator { result.3 ≡ operator }
 {
     let work = carry_out(alloc, words, source, volume, operator);

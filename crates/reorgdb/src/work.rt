@@ -8,15 +8,13 @@
 ghost use Rattle.std.specs.Prelude.{ℕ, ◌≡◌, ◌≤◌, ◌+◌, ◌*◌, [], ◌∷◌, Bool, List, length, map, IfOk, OnErr};
 ghost use Rattle.std.specs.Prelude.{string_bytes};
 ghost use Rattle.rg_stmt.specs.declared.line.Line.{Line};
-ghost use Rattle.rg_base.specs.declared.set.Set.TheVariants.{Log};
 ghost use Rattle.rg_outside.specs.Faults.{Rose};
-ghost use Rattle.rg_outside.specs.Made.{WritesIn};
 ghost use Rattle.rg_desk.specs.Volume.{VolumeSeen, seen_volume};
 ghost use Rattle.rg_image.specs.Rules.{limit_of};
 ghost use Rattle.rg_log.specs.Kept.{log_pages};
 ghost use Rattle.rg_run.specs.Full.{IsFullOnlyFrom, smaller_pages};
 ghost use Rattle.rg_run.specs.LogFull.{IsLogFullOnlyFrom};
-ghost use Rattle.rg_run.specs.Outside.{IsDeviceOnlyIf, IsEnd, MakesOnly};
+ghost use Rattle.rg_run.specs.Outside.{IsDeviceOnlyIf, IsEnd, MakesOnly, WritesOwn};
 ghost use Rattle.rg_run.specs.Table.{Ends, IsLegalRun, IsOpening};
 ghost use Rattle.reorgdb.specs.Answer.{Seen, seen, IsShow, IsRefusedAt, DealsWithLines, DealsWithBytes};
 ghost use Rattle.reorgdb.specs.Answer.{Comes, Finds, IsLayoutText, ShowsTo, output_of};
@@ -154,7 +152,8 @@ pub fn carry_out<S: Source, V: Volume, O: Operator>(
         result.trace.items }
     ensures finds { Finds result.outcome (seen_volume V.told V.faults V.capacities volume)
         (seen_volume V.told V.faults V.capacities result.volume) }
-    ensures only { MakesOnly (WritesIn Log) (V.told volume) (V.told result.volume) }
+    ensures only { MakesOnly (WritesOwn result.trace.items) (V.told volume)
+        (V.told result.volume) }
     ensures operator { result.operator ≡ operator }
 {
     let full = match words::read_admitted(words, words::Admits::Layout) {
@@ -189,7 +188,8 @@ fn show_layout<V: Volume, O: Operator>(alloc: Global, volume: V, operator: O) ->
         result.trace.items }
     ensures finds { Finds result.outcome (seen_volume V.told V.faults V.capacities volume)
         (seen_volume V.told V.faults V.capacities result.volume) }
-    ensures only { MakesOnly (WritesIn Log) (V.told volume) (V.told result.volume) }
+    ensures only { MakesOnly (WritesOwn result.trace.items) (V.told volume)
+        (V.told result.volume) }
     ensures operator { result.operator ≡ operator }
 {
     let mut lines = Vec::new(alloc);
@@ -222,10 +222,11 @@ fn play_bytes<V: Volume, O: Operator>(
         result.trace.items }
     ensures finds { Finds result.outcome (seen_volume V.told V.faults V.capacities volume)
         (seen_volume V.told V.faults V.capacities result.volume) }
-    ensures only { MakesOnly (WritesIn Log) (V.told volume) (V.told result.volume) }
+    ensures only { MakesOnly (WritesOwn result.trace.items) (V.told volume)
+        (V.told result.volume) }
     ensures operator { result.operator ≡ operator }
 {
-    match read_admitted(alloc, bytes, Admits::Layouts) {
+    match read_admitted(alloc, bytes, Admits::Played) {
         Ok(lines) => print_played(alloc, full, run(alloc, volume, operator, lines)),
         Err(DeckFault::Line { number }) => refuse_line(alloc, number, volume, operator),
         Err(DeckFault::NoMemory) => Work::bare(alloc, Outcome::NoMemory, volume, operator),

@@ -8,7 +8,7 @@ use Rattle.rg_base.specs.declared.row.Row.{Row}
 use Rattle.rg_stmt.specs.declared.stmt.Stmt.{Stmt}
 use Rattle.rg_stmt.specs.declared.line.Line.{Line}
 use Rattle.rg_deck.specs.Grammar.{IsLine, admits, stmt_words, deck_text}
-use Rattle.rg_deck.specs.declared.read.Admits.TheVariants.{Layouts, Statements}
+use Rattle.rg_deck.specs.declared.read.Admits.TheVariants.{Statements, Played}
 
 -- the bytes have no such byte
 abbrev pub Lacks : ℕ → List ℕ → Type 0
@@ -37,9 +37,9 @@ IsRange bytes lo hi = (lo < 2 ^ 64) × (hi < 2 ^ 64) × (bytes ≡ decimal lo ++
 abbrev pub IsControl : Line → Type 0
 IsControl line = IsLine line × IsFalse (admits Statements line)
 
--- the line that shows the layout
-abbrev pub IsShow : Line → Type 0
-IsShow line = IsLine line × IsTrue (admits Layouts line) × IsFalse (admits Statements line)
+-- a line that the program plays and that is no statement
+abbrev pub IsPlayedControl : Line → Type 0
+IsPlayedControl line = IsLine line × IsTrue (admits Played line) × IsFalse (admits Statements line)
 
 -- the bytes begin with this number and a space, and then come these
 abbrev pub BeginsWithNumber : List ℕ → ℕ → List ℕ → Type 0

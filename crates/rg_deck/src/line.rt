@@ -7,7 +7,8 @@
 ghost use Rattle.std.specs.Prelude.{◌≡◌, ◌≤◌, IfOk, IfSome, IfNone};
 ghost use Rattle.rg_base.specs.Session.{IsSession};
 ghost use Rattle.rg_deck.specs.Grammar.{IsRow, IsStmt, IsAdmitted, line_text};
-ghost use Rattle.rg_deck.specs.Reading.{Finds, IsControl, IsShow, row_spelling, stmt_spelling};
+ghost use Rattle.rg_deck.specs.Reading.{Finds, IsControl, IsPlayedControl, row_spelling};
+ghost use Rattle.rg_deck.specs.Reading.{stmt_spelling};
 ghost use Rattle.rg_deck.specs.declared.read.Admits.TheVariants.{Statements};
 
 use crate::read::Admits;
@@ -116,11 +117,12 @@ fn read_control(bytes: &[u8]) -> Option<Line>
     }
 }
 
-// The line that shows the layout.
-fn read_show(bytes: &[u8]) -> Option<Line>
-    ensures { Finds IsShow line_text bytes.now result }
+// A line of one letter that the program plays.
+fn read_played_control(bytes: &[u8]) -> Option<Line>
+    ensures { Finds IsPlayedControl line_text bytes.now result }
 {
     match bytes {
+        b"F" => Some(Line::Flush),
         b"L" => Some(Line::Show),
         _ => None,
     }
@@ -132,7 +134,7 @@ pub fn read_line(alloc: Global, bytes: &[u8], admits: Admits) -> Result<Option<L
 {
     match admits {
         Admits::Statements => read_said(alloc, bytes),
-        Admits::Layouts => match read_show(bytes) {
+        Admits::Played => match read_played_control(bytes) {
             Some(line) => Ok(Some(line)),
             None => read_said(alloc, bytes),
         },

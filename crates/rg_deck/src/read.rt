@@ -24,8 +24,8 @@ pub enum Admits {
     Every,
     /// Only statements.
     Statements,
-    /// Statements and the line that shows the layout.
-    Layouts,
+    /// The lines that the program plays: statements, layouts (`L`) and flushes (`F`).
+    Played,
 }
 
 /// Why a deck was not read.

@@ -16,10 +16,10 @@ fn count_statements(rt: &impl Abort, alloc: Global, deck: &[u8]) -> Result<usize
     Ok(read_admitted(alloc, deck, Admits::Statements)?.len())
 }
 
-// How many lines a deck of statements and layouts has.
-fn count_shown(rt: &impl Abort, alloc: Global, deck: &[u8]) -> Result<usize, DeckFault> {
+// The lines of a deck that the program plays.
+fn played_lines(rt: &impl Abort, alloc: Global, deck: &[u8]) -> Result<Vec<Line>, DeckFault> {
     assert!(rt; deck.len() <= 16_777_216);
-    Ok(read_admitted(alloc, deck, Admits::Layouts)?.len())
+    read_admitted(alloc, deck, Admits::Played)
 }
 
 // How long the text is of the row that a deck inserts, where it does nothing else.
@@ -191,6 +191,42 @@ fn counts_lines(rt: HostRuntime) {
             "at {deck:?}"
         );
     }
+}
+
+#[test]
+fn reads_played_lines(rt: HostRuntime) -> Result<(), Fail> {
+    let alloc = rt.alloc();
+    for (deck, want) in [
+        (
+            b"1 COMMIT".as_slice(),
+            "Ok([Said { session: Session(1), stmt: Commit }])",
+        ),
+        (b"L", "Ok([Show])"),
+        (b"F", "Ok([Flush])"),
+        (b"F\n", "Ok([Flush])"),
+        (
+            b"F\n7 DELETE 10\nL\nF\nF",
+            "Ok([Flush, Said { session: Session(7), stmt: Delete(10) }, Show, Flush, Flush])",
+        ),
+        (b"", "Ok([])"),
+        (b"U", "Err(Line { number: 1 })"),
+        (b"X", "Err(Line { number: 1 })"),
+        (b"REORG", "Err(Line { number: 1 })"),
+        (b"REORG SHRLEVEL CHANGE", "Err(Line { number: 1 })"),
+        (b"f", "Err(Line { number: 1 })"),
+        (b"F ", "Err(Line { number: 1 })"),
+        (b"FL", "Err(Line { number: 1 })"),
+        (b"1 F", "Err(Line { number: 1 })"),
+        (b"F\n\n", "Err(Line { number: 2 })"),
+        (b"F\nX", "Err(Line { number: 2 })"),
+        (b"1 COMMIT\nREORG\nF", "Err(Line { number: 2 })"),
+        (b"L\nF\nU\nX", "Err(Line { number: 3 })"),
+    ] {
+        let lines = played_lines(&rt, alloc, deck);
+        let found = format!(in alloc; "{lines:?}")?;
+        assert_eq!(rt; found.as_str(), want, "at {deck:?}");
+    }
+    Ok(())
 }
 
 #[test]

@@ -1,5 +1,5 @@
 -- The answer to a statement, from what it answers and leaves without its claim.
-use Rattle.std.proofs.Common.{◌≡◌, ◌+◌, ℕ, Bool, true, false, List, [], ◌∷◌, Option, Some, None, cond, refl, sym, ◌∙◌, ap, subst, arith}
+use Rattle.std.proofs.Common.{◌≤◌, ◌≡◌, ◌+◌, ℕ, Bool, true, false, List, [], ◌∷◌, Option, Some, None, cond, refl, sym, ◌∙◌, ap, subst, arith}
 use Rattle.std.specs.FinMap as map
 use Rattle.rg_base.specs.declared.options.DrainState.{DrainState}
 use Rattle.rg_base.specs.declared.options.DrainState.TheVariants.{Free}
@@ -18,7 +18,7 @@ use Rattle.rg_stmt.specs.declared.stmt.Stmt.{Stmt}
 use Rattle.rg_stmt.specs.declared.stmt.Stmt.TheVariants.{Insert, Update, Delete, Select, Scan, Find, Commit, Rollback}
 use Rattle.rg_space.specs.Space.{capacity_in}
 use Rattle.rg_desk.specs.Bytes.{taken_of}
-use Rattle.rg_desk.specs.Answers.{Answered, Answers, Asks, IfFull, Replies, forces, is_answer, is_device, state_left}
+use Rattle.rg_desk.specs.Answers.{Answered, Asks, IfFull, Replies, forces, is_answer, is_device, state_left}
 use Rattle.rg_desk.specs.Shows.{IsShown, Shows}
 use Rattle.rg_desk.specs.Steps.{Goes, IfUp, MayFail, Steps, MayReply, is_commit, more_allowed, unclaimed}
 use Rattle.rg_desk.specs.Stored.{Grows}
@@ -29,6 +29,7 @@ use Rattle.rg_outside.proofs.Frame.{no_calls}
 use Rattle.rg_desk.specs.Volume.{CallsLog, Leaves, VolumeSeen}
 use Rattle.rg_desk.specs.declared.units.OpenUnit.{OpenUnit}
 use Rattle.rg_desk.specs.declared.engine.Engine.{Engine}
+use Rattle.rg_desk.proofs.NewestKept.{space_newest}
 use Rattle.rg_desk.proofs.Leaving.{leaves_grown}
 
 -- no drain keeps anybody out
@@ -215,6 +216,7 @@ module _ (st : State) (allowed : ℕ) (d : Engine) (shows : Shows st allowed d) 
     logged = omega (arith, ap (λ (x : Engine). taken_of x.log) e, goes.logged);
     opened = ap (λ (x : Engine). x.opened) e ∙ goes.opened;
     grows = subst (λ (l : LogList). Grows d.log l) (ap (λ (x : Engine). x.log) (sym e)) goes.grows;
+    newest = λ epoch h. space_newest mid.log.records new.log.records mid.space new.space (ap (λ (x : Engine). x.log.records) e) (ap (λ (x : Engine). x.space) e) epoch (goes.newest epoch h);
     shows =
         if_up _ reply
         (subst (λ (after : State). Shows after (allowed + more_allowed stmt reply) new) (sym (left_done st session stmt reply done ∙ after_is true done))
@@ -235,6 +237,7 @@ module _ (st : State) (allowed : ℕ) (d : Engine) (shows : Shows st allowed d) 
     logged = goes.logged;
     opened = goes.opened;
     grows = goes.grows;
+    newest = goes.newest;
     shows = left_refused st session stmt (allowed + more_allowed stmt reply) mid reply (after_is false done) goes.shows;
     capacity = goes.capacity;
   }
@@ -259,13 +262,14 @@ no_force units session stmt other = refl
 pub same_calls : (seen : VolumeSeen) → CallsLog seen seen
 same_calls seen = record { only = no_calls (WritesIn Log) seen.told; later = omega arith; capacities = refl }
 
-pub asks_nothing : (units : List (Option OpenUnit)) (session : Session) (stmt : Stmt) (reply : Reply) (old_log log : LogList) (seen : VolumeSeen) → forces units session stmt ≡ false → (reply ≡ Device → ⊥) → (Leaves seen old_log → Leaves seen log)
+pub asks_nothing : (units : List (Option OpenUnit)) (session : Session) (stmt : Stmt) (reply : Reply) (old_log log : LogList) (seen : VolumeSeen) → forces units session stmt ≡ false → (reply ≡ Device → ⊥) → old_log.forced ≤ log.forced → (Leaves seen old_log → Leaves seen log)
     → Asks (forces units session stmt) reply old_log log seen seen
-asks_nothing units session stmt reply old_log log seen none never leaves = record {
+asks_nothing units session stmt reply old_log log seen none never further leaves = record {
   calls = same_calls seen;
   none = λ e. refl;
   device = λ e. absurd (never e);
   forced = λ force e. absurd (cc (force, none));
+  further = further;
   leaves = leaves;
 }
 
@@ -274,6 +278,7 @@ other_asks old shown session stmt reply new seen other steps =
     let goes = steps shown.state shown.allowed shown.shows in
     asks_nothing old.units session stmt reply old.log new.log seen (no_force old.units session stmt other)
     (not_device shown.state shown.allowed old session stmt reply new other goes)
+    (omega (arith, goes.forced other))
     (leaves_grown seen old.log new.log goes.grows (goes.forced other))
 
 -- an engine that is up shows some state, and after a reply it shows one unless it is down

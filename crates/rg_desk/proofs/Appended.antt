@@ -6,7 +6,6 @@ use Rattle.rg_base.specs.declared.row.Row.{Row}
 use Rattle.rg_base.specs.declared.part.Part.{Part}
 use Rattle.rg_home.specs.declared.plan.Plan.{Plan}
 use Rattle.rg_record.specs.declared.record.Record.{Record}
-use Rattle.rg_lawful.specs.Act.{Act}
 use Rattle.rg_lawful.specs.Act.{Change}
 use Rattle.rg_lawful.specs.DeskLaws.{purge_acts}
 use Rattle.rg_lawful.specs.Records.{act_of, acts_of}

@@ -1,5 +1,5 @@
 -- What an opening found shows the table that the log stores.
-use Rattle.std.proofs.Common.{◌≡◌, ◌≤◌, ◌*◌, ℕ, zero, suc, List, [], ◌∷◌, ◌++◌, Option, None, length, take, drop, refl, sym, ◌∙◌, ap, subst, arith, append-nil}
+use Rattle.std.proofs.Common.{◌≡◌, ◌≤◌, ◌*◌, ℕ, zero, suc, List, [], ◌∷◌, Option, None, length, take, drop, refl, sym, ◌∙◌, ap, subst, arith, append-nil}
 use Rattle.std.proofs.Math.Seq.{drop-length, take-length}
 use Rattle.std.specs.FinMap as fin
 use Rattle.std.specs.FinMap.{get-empty, len-empty, len-entries}
@@ -23,7 +23,6 @@ use Rattle.rg_indexes.specs.declared.indexes.Indexes.{Indexes}
 use Rattle.rg_model.specs.State.{Locks, Table, at_rest, row_of}
 use Rattle.rg_record.specs.declared.record.Record.{Record}
 use Rattle.rg_lawful.specs.Act.{Act, nothing, state}
-use Rattle.rg_lawful.specs.Consistent.{IsConsistent}
 use Rattle.rg_lawful.specs.Lawful.{Runs}
 use Rattle.rg_lawful.specs.Records.{acts_of}
 use Rattle.rg_lawful.specs.Write.{NoneHit, Write, at_key, gone_back}
@@ -34,8 +33,8 @@ use Rattle.rg_space.specs.Space.{capacity_in}
 use Rattle.rg_desk.specs.Count.{locked_present, present_in}
 use Rattle.rg_desk.specs.Desk.{CanBegin}
 use Rattle.rg_desk.specs.Engine.{HasPages, slots_in}
-use Rattle.rg_desk.specs.Shows.{KeyShown, Shows, ShowsBy, left_by, since}
-use Rattle.rg_desk.specs.Stored.{IsSettled, IsStored, StoresCommitted}
+use Rattle.rg_desk.specs.Shows.{KeyShown, Shows, ShowsBy, since}
+use Rattle.rg_desk.specs.Stored.{IsStored, StoresCommitted}
 use Rattle.rg_desk.specs.Units.{owed, unit_at}
 use Rattle.rg_desk.specs.declared.engine.Engine.{Engine}
 use Rattle.rg_desk.proofs.Settled.{all_settled}

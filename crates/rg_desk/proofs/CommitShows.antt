@@ -29,6 +29,7 @@ use Rattle.rg_stmt.specs.declared.stmt.Stmt.TheVariants as stmts
 use Rattle.rg_image.specs.Pack.{log_bytes}
 use Rattle.rg_desk.specs.Ended.{HasEnded, commit_record, records_committed}
 use Rattle.rg_desk.specs.Engine.{HasPages, slots_in}
+use Rattle.rg_desk.specs.Newest.{KeepsNewest}
 use Rattle.rg_space.specs.Memory.{list_seen}
 use Rattle.rg_desk.specs.Shows.{KeyShown, Shows, ShowsBy, UnitsShown, left_by}
 use Rattle.rg_desk.specs.Steps.{Goes}
@@ -144,8 +145,8 @@ module _ (st : State) (allowed : ℕ) (d new : Engine) (session : Session) (show
       (units_ended t s left session unit d.units d.locks place has refl (committed (capacity_in d.space) s t) d.log.records (entry ∷ []) shows.by.units))
       (omega (arith, shows.by.claimed, claimed_all-fewer (holding s.live (suc s.top)) (holding (others t s.live) (suc s.top)) (ends s.live (others t s.live) (suc s.top) (λ u l. live_was t u s.live l)) s.pages)))
 
-  pub commit_goes : Goes st allowed d session stmts.Commit Done new
-  commit_goes = record {
+  pub commit_goes : KeepsNewest d new → Goes st allowed d session stmts.Commit Done new
+  commit_goes newest = record {
     says = refl;
     room = tt;
     log = tt;
@@ -153,6 +154,7 @@ module _ (st : State) (allowed : ℕ) (d new : Engine) (session : Session) (show
     opened = opened;
     grows = grows;
     forced = λ e. absurd (cc (e));
+    newest = newest;
     shows = go (unit_at d.units session.0) refl;
     capacity = ap (λ sp. capacity_in sp) space;
   }

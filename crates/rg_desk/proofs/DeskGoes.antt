@@ -1,5 +1,5 @@
 -- A desk goes on by one entry, and its trace is legal.
-use Rattle.std.proofs.Common.{◌≡◌, ◌≢◌, ◌==◌, ◌&&◌, ◌||◌, not, ◌≤◌, ◌<◌, ◌+◌, ◌-◌, ◌*◌, ◌^◌, ◌⊎◌, inl, inr, ℕ, suc, Bool, true, false, cond, List, [], ◌∷◌, ◌++◌, length, take, Option, Some, None, refl, sym, ◌∙◌, ap, subst, arith, length-append}
+use Rattle.std.proofs.Common.{◌≡◌, ◌≢◌, ◌==◌, ◌&&◌, ◌||◌, not, ◌≤◌, ◌<◌, ◌+◌, ◌-◌, ◌*◌, ◌^◌, inl, inr, ℕ, suc, Bool, true, false, cond, List, [], ◌∷◌, ◌++◌, length, take, Option, Some, None, refl, sym, ◌∙◌, ap, subst, arith, length-append}
 use Rattle.std.proofs.lemmas.List.{take-append-le}
 use Rattle.std.proofs.Math.Seq.{take-length}
 use Rattle.std.specs.FinMap as map
@@ -8,6 +8,7 @@ use Rattle.std.specs.Option.{is_some}
 use Rattle.std.specs.Ordering.{nat_cmp, eq_by_cmp}
 use Rattle.std.specs.List.{AllByRecursion, Contains}
 use Rattle.rg_base.specs.declared.lock.Lock.{Lock}
+use Rattle.rg_base.specs.declared.position.Position.{Position}
 use Rattle.rg_base.specs.declared.row.Row.{Row}
 use Rattle.rg_base.specs.declared.session.Session.{Session}
 use Rattle.rg_model.specs.Claims.{claim_classes, classes_needed}
@@ -20,7 +21,7 @@ use Rattle.rg_model.specs.Run.{Run, Says}
 use Rattle.rg_base.specs.declared.set.Set.TheVariants.{Log}
 use Rattle.rg_outside.specs.Calls.{Told}
 use Rattle.rg_outside.specs.Made.{WritesIn}
-use Rattle.rg_outside.specs.Moments.{EachCall, IfTold}
+use Rattle.rg_outside.specs.Moments.{IfTold}
 use Rattle.rg_model.specs.Said.{if_allowed}
 use Rattle.rg_model.specs.State.{State, Table, at_rest, row_count}
 use Rattle.rg_model.proofs.Members.{only_one}
@@ -33,7 +34,7 @@ use Rattle.rg_lawful.proofs.Tables.{eqb-refl}
 use Rattle.rg_stmt.specs.declared.event.Actor.TheVariants as actors
 use Rattle.rg_stmt.specs.declared.event.Entry.{Entry}
 use Rattle.rg_stmt.specs.declared.event.Event.{Event}
-use Rattle.rg_stmt.specs.declared.event.Event.TheVariants.{Layout, LayoutDown, LayoutNoMemory}
+use Rattle.rg_stmt.specs.declared.event.Event.TheVariants.{Clean, Flush, FlushDevice, FlushDown, FlushNoMemory, Layout, LayoutDown, LayoutNoMemory}
 use Rattle.rg_stmt.specs.declared.layout.Side.{Side}
 use Rattle.rg_stmt.specs.declared.stmt.Reply.{Reply}
 use Rattle.rg_stmt.specs.declared.stmt.Reply.TheVariants.{Done, Found, Listed, Keyed, Absent, Duplicate, Held, Victim, Drained, Full, LogFull, Device, Down, NoMemory}
@@ -48,6 +49,7 @@ use Rattle.rg_desk.specs.Bytes.{taken_of}
 use Rattle.rg_desk.specs.Chronicle.{ChronicleState, IsEntry, IsRecorded, allowed_after, allowed_by, logged_after, logged_by, system_entry}
 use Rattle.rg_desk.specs.Desk.{AreKeys, IsAmong, IsBegun, IsCopy, IsDesk, IsLayout, is_reply}
 use Rattle.rg_desk.specs.Engine.{ground_of}
+use Rattle.rg_desk.specs.OnVolume.{IsOnVolume}
 use Rattle.rg_outside.specs.Faults.{Rose}
 use Rattle.rg_space.specs.Space.{capacity_in}
 use Rattle.rg_desk.specs.Count.{IsShownFew}
@@ -57,7 +59,8 @@ use Rattle.rg_desk.specs.Wrote.{SameEngine}
 use Rattle.rg_desk.specs.declared.engine.Engine.{Engine}
 use Rattle.rg_desk.proofs.Among.{few_committed, few_with, keys_left, keys_with}
 use Rattle.rg_desk.proofs.Answering.{same_calls, up_if}
-use Rattle.rg_desk.proofs.Leaving.{leaves_on}
+use Rattle.rg_desk.proofs.Leaving.{has_more, leaves_on}
+use Rattle.rg_desk.proofs.OnVolume.{on_more, on_same}
 use Rattle.rg_desk.proofs.Same.{same_shows}
 use Rattle.rg_desk.proofs.Settled.{grows_same}
 
@@ -129,6 +132,18 @@ copy_left : (st : State) (session : Session) (stmt : Stmt) (reply : Reply) → (
 copy_left st session stmt Device = refl
 copy_left st session stmt reply = copy_after st session stmt reply
 
+-- an event of the system that changes no state: a layout, or a flush
+abbrev pub IsSystem : Event → Type 0
+IsSystem (Layout shown side) = Unit {0}
+IsSystem LayoutNoMemory = Unit {0}
+IsSystem LayoutDown = Unit {0}
+IsSystem (Flush page) = Unit {0}
+IsSystem Clean = Unit {0}
+IsSystem FlushDevice = Unit {0}
+IsSystem FlushDown = Unit {0}
+IsSystem FlushNoMemory = Unit {0}
+IsSystem event = ⊥
+
 -- ---- the calls of the volume
 
 count_has : (told : Option Told) (n : ℕ) → IfTold told (λ t. length t.calls ≡ t.start + n) → IfTold told (λ t. t.start + n ≤ length t.calls)
@@ -139,20 +154,12 @@ pub count_is : (seen : VolumeSeen) (calls n : ℕ) → IsCount seen calls → n 
 count_is seen calls n e is = subst (HasCalls seen) (sym is) (count_has seen.told calls e)
 
 -- more calls are no fewer
-more_calls : (old new : Option Told) (n : ℕ) → EachCall old new (WritesIn Log) → IfTold old (λ t. t.start + n ≤ length t.calls) → IfTold new (λ t. t.start + n ≤ length t.calls)
-more_calls old None n made e = tt
-more_calls old (Some after) n made e =
-    let before : Told = made.0 in
-    let there : before.start + n ≤ length before.calls = subst (λ (o : Option Told). IfTold o (λ t. t.start + n ≤ length t.calls)) made.2 e in
-    let longer = length-append made.1 before.calls in
-    omega (arith, there, longer, ap (λ (t : Told). t.start) made.3, ap (λ (t : Told). length t.calls) made.3)
-
 pub calls_on : (old new : VolumeSeen) (n : ℕ) → CallsLog old new → HasCalls old n → HasCalls new n
-calls_on old new n calls e = more_calls old.told new.told n calls.only e
+calls_on old new n calls e = has_more (WritesIn Log) old.told new.told n calls.only e
 
-module _ (d : Engine) (c : ChronicleState) (copy : ℕ) (down : Bool) (seen : VolumeSeen) (desk : IsDesk d c copy down seen) where
+module _ (d : Engine) (c : ChronicleState) (copy : ℕ) (down : Bool) (marks : List (Option Position)) (seen : VolumeSeen) (desk : IsDesk d c copy down marks seen) where
   -- room for an entry changes nothing
-  pub desk_room : (mid : ChronicleState) → mid.trace ≡ c.trace → mid.calls ≡ c.calls → IsDesk d mid copy down seen
+  pub desk_room : (mid : ChronicleState) → mid.trace ≡ c.trace → mid.calls ≡ c.calls → IsDesk d mid copy down marks seen
   desk_room mid trace calls = record {
     start = desk.start;
     starts = desk.starts;
@@ -169,6 +176,7 @@ module _ (d : Engine) (c : ChronicleState) (copy : ℕ) (down : Bool) (seen : Vo
     logged = subst (λ (es : List Entry). taken_of d.log ≤ logged_by 0 es) (sym trace) desk.logged;
     pages = desk.pages;
     leaves = desk.leaves;
+    is_on = desk.is_on;
     keys = desk.keys;
     among = desk.among;
     few = subst (λ (es : List Entry). length desk.keys ≤ length es + row_count desk.start) (sym trace) desk.few;
@@ -188,9 +196,9 @@ module _ (d : Engine) (c : ChronicleState) (copy : ℕ) (down : Bool) (seen : Vo
       → AreKeys keys after → length keys ≤ length desk.keys + 1 → Says desk.state session stmt reply after → after.copy ≡ copy → after.down ≡ down_after
       → (down_after ≡ false → Shows after (allowed_by 0 c.trace + more_allowed stmt reply) next)
       → taken_of next.log ≤ taken_of d.log + more_logged stmt reply → next.log.pages ≡ log_pages seen_after.capacities
-      → next.opened ≡ d.opened → Grows d.log next.log → LeavesIfTidy seen_after next.log
-      → new.trace ≡ c.trace ++ said_entry session stmt reply calls ∷ [] → new.calls ≡ calls → IsCount seen_after calls → IsRecorded new.trace new.calls → IsDesk next new copy down_after seen_after
-  desk_on session stmt reply calls after next down_after seen_after new keys among more says copy_is down_is shown logged pages opened grows leaves trace at counted recorded =
+      → next.opened ≡ d.opened → Grows d.log next.log → LeavesIfTidy seen_after next.log → IsOnVolume copy next.log next.space marks seen_after
+      → new.trace ≡ c.trace ++ said_entry session stmt reply calls ∷ [] → new.calls ≡ calls → IsCount seen_after calls → IsRecorded new.trace new.calls → IsDesk next new copy down_after marks seen_after
+  desk_on session stmt reply calls after next down_after seen_after new keys among more says copy_is down_is shown logged pages opened grows leaves is_on trace at counted recorded =
       let entry = said_entry session stmt reply calls in
       let longer = ap (λ (es : List Entry). length es) trace ∙ length-append c.trace (entry ∷ []) in
       let few = desk.few in
@@ -213,60 +221,96 @@ module _ (d : Engine) (c : ChronicleState) (copy : ℕ) (down : Bool) (seen : Vo
         logged = omega (arith, ap (logged_by 0) trace, logged-push 0 c.trace entry, logged, desk.logged);
         pages = pages;
         leaves = leaves;
+        is_on = is_on;
         keys = keys;
         among = among;
         few = omega (arith, longer, few, more);
         few_rows = desk.few_rows;
       }
 
-  -- the entry of an event that changes nothing
-  pub desk_same : (event : Event) (calls : ℕ) (next : Engine) (new : ChronicleState)
-      → (down ≡ false → SameEngine d next) → next.log ≡ d.log → next.opened ≡ d.opened → IsLayout copy event → next_state [] None actors.System event desk.state ≡ Some desk.state
-      → new.trace ≡ c.trace ++ system_entry event calls ∷ [] → new.calls ≡ calls → IsCount seen calls → IsRecorded new.trace new.calls → IsDesk next new copy down seen
-  desk_same event calls next new same log opened is allows trace at counted recorded =
+  -- the entry of an event that changes nothing but how much of the log is forced, and marks
+  pub desk_quiet : (event : Event) (calls : ℕ) (next : Engine) (later : List (Option Position)) (seen_after : VolumeSeen) (new : ChronicleState)
+      → next.log ≡ record d.log { forced = next.log.forced } → next.opened ≡ d.opened → (down ≡ false → Shows desk.state (allowed_by 0 c.trace) next)
+      → IsSystem event → next_state [] None actors.System event desk.state ≡ Some desk.state
+      → next.log.pages ≡ log_pages seen_after.capacities → LeavesIfTidy seen_after next.log → IsOnVolume copy next.log next.space later seen_after
+      → new.trace ≡ c.trace ++ system_entry event calls ∷ [] → new.calls ≡ calls → IsCount seen_after calls → IsRecorded new.trace new.calls → IsDesk next new copy down later seen_after
+  desk_quiet event calls next later seen_after new log opened shown is allows pages leaves is_on trace at counted recorded =
       let entry = system_entry event calls in
       let longer = ap (λ (es : List Entry). length es) trace ∙ length-append c.trace (entry ∷ []) in
       let few = desk.few in
+      let records : next.log.records ≡ d.log.records = ap (λ (l : LogList). l.records) log in
       record {
         start = desk.start;
-        starts = subst (λ (rs : List Record). IsStored rs desk.start) (sym (ap (λ (n : ℕ). take n next.log.records) opened ∙ ap (λ (l : LogList). take d.opened l.records) log)) desk.starts;
-        within = subst (λ (n : ℕ). n ≤ length next.log.records) (sym opened) (subst (λ (l : LogList). d.opened ≤ length l.records) (sym log) desk.within);
+        starts = subst (λ (rs : List Record). IsStored rs desk.start) (sym (ap (λ (n : ℕ). take n next.log.records) opened ∙ ap (take d.opened) records)) desk.starts;
+        within = subst (λ (n : ℕ). n ≤ length next.log.records) (sym opened) (subst (λ (rs : List Record). d.opened ≤ length rs) (sym records) desk.within);
         state = desk.state;
         begun = subst (IsBegun copy (row_count desk.start)) (sym trace) (begun-push copy (row_count desk.start) c.trace entry desk.begun);
         run = subst (λ (es : List Entry). Run [] (at_rest desk.start copy) es desk.state) (sym trace) (pushed event is allows);
         is_copy = desk.is_copy;
         copy_is = desk.copy_is;
         down_is = desk.down_is;
-        counted = count_is seen calls new.calls counted at;
+        counted = count_is seen_after calls new.calls counted at;
         recorded = recorded;
-        shown = λ up. subst (λ (n : ℕ). Shows desk.state n next) (sym (ap (allowed_by 0) trace ∙ allowed-push 0 c.trace entry ∙ none_allowed event is (allowed_by 0 c.trace)))
-            (same_shows desk.state (allowed_by 0 c.trace) d next (same up) (desk.shown up));
+        shown = λ up. subst (λ (n : ℕ). Shows desk.state n next) (sym (ap (allowed_by 0) trace ∙ allowed-push 0 c.trace entry ∙ none_allowed event is (allowed_by 0 c.trace))) (shown up);
         logged = omega (arith, ap (logged_by 0) trace, logged-push 0 c.trace entry, none_logged event is (logged_by 0 c.trace), ap (λ (l : LogList). taken_of l) log, desk.logged);
-        pages = ap (λ (l : LogList). l.pages) log ∙ desk.pages;
-        leaves = subst (LeavesIfTidy seen) (sym log) desk.leaves;
+        pages = pages;
+        leaves = leaves;
+        is_on = is_on;
         keys = desk.keys;
         among = desk.among;
         few = omega (arith, longer, few);
         few_rows = desk.few_rows;
       }
     where
-      none_allowed : (event : Event) → IsLayout copy event → (n : ℕ) → allowed_after n event ≡ n
+      none_allowed : (event : Event) → IsSystem event → (n : ℕ) → allowed_after n event ≡ n
       none_allowed (Layout shown side) is n = refl
       none_allowed LayoutNoMemory is n = refl
       none_allowed LayoutDown is n = refl
+      none_allowed (Flush page) is n = refl
+      none_allowed Clean is n = refl
+      none_allowed FlushDevice is n = refl
+      none_allowed FlushDown is n = refl
+      none_allowed FlushNoMemory is n = refl
       none_allowed event is n = absurd is
 
-      none_logged : (event : Event) → IsLayout copy event → (n : ℕ) → logged_after n event ≡ n
+      none_logged : (event : Event) → IsSystem event → (n : ℕ) → logged_after n event ≡ n
       none_logged (Layout shown side) is n = refl
       none_logged LayoutNoMemory is n = refl
       none_logged LayoutDown is n = refl
+      none_logged (Flush page) is n = refl
+      none_logged Clean is n = refl
+      none_logged FlushDevice is n = refl
+      none_logged FlushDown is n = refl
+      none_logged FlushNoMemory is n = refl
       none_logged event is n = absurd is
 
-      pushed : (event : Event) → IsLayout copy event → next_state [] None actors.System event desk.state ≡ Some desk.state → Run [] (at_rest desk.start copy) (c.trace ++ system_entry event calls ∷ []) desk.state
+      pushed : (event : Event) → IsSystem event → next_state [] None actors.System event desk.state ≡ Some desk.state → Run [] (at_rest desk.start copy) (c.trace ++ system_entry event calls ∷ []) desk.state
       pushed (Layout shown side) is allows = Run-push [] (at_rest desk.start copy) desk.state desk.state c.trace (system_entry (Layout shown side) calls) desk.run allows
       pushed LayoutNoMemory is allows = Run-push [] (at_rest desk.start copy) desk.state desk.state c.trace (system_entry LayoutNoMemory calls) desk.run allows
       pushed LayoutDown is allows = Run-push [] (at_rest desk.start copy) desk.state desk.state c.trace (system_entry LayoutDown calls) desk.run allows
+      pushed (Flush page) is allows = Run-push [] (at_rest desk.start copy) desk.state desk.state c.trace (system_entry (Flush page) calls) desk.run allows
+      pushed Clean is allows = Run-push [] (at_rest desk.start copy) desk.state desk.state c.trace (system_entry Clean calls) desk.run allows
+      pushed FlushDevice is allows = Run-push [] (at_rest desk.start copy) desk.state desk.state c.trace (system_entry FlushDevice calls) desk.run allows
+      pushed FlushDown is allows = Run-push [] (at_rest desk.start copy) desk.state desk.state c.trace (system_entry FlushDown calls) desk.run allows
+      pushed FlushNoMemory is allows = Run-push [] (at_rest desk.start copy) desk.state desk.state c.trace (system_entry FlushNoMemory calls) desk.run allows
       pushed event is allows = absurd is
+
+  -- the entry of a layout
+  pub desk_same : (event : Event) (calls : ℕ) (next : Engine) (new : ChronicleState)
+      → SameEngine d next → next.opened ≡ d.opened → IsLayout copy event → next_state [] None actors.System event desk.state ≡ Some desk.state
+      → new.trace ≡ c.trace ++ system_entry event calls ∷ [] → new.calls ≡ calls → IsCount seen calls → IsRecorded new.trace new.calls → IsDesk next new copy down marks seen
+  desk_same event calls next new same opened is allows trace at counted recorded =
+      let log = same.log in
+      desk_quiet event calls next marks seen new (log ∙ ap (λ (n : ℕ). let l : LogList = record d.log { forced = n } in l) (sym (ap (λ (l : LogList). l.forced) log))) opened
+      (λ up. same_shows desk.state (allowed_by 0 c.trace) d next same (desk.shown up)) (is_system event is) allows
+      (ap (λ (l : LogList). l.pages) log ∙ desk.pages) (subst (LeavesIfTidy seen) (sym log) desk.leaves)
+      (record { epoch = desk.is_on.epoch; is_on = on_same desk.is_on.epoch copy d next marks seen same desk.is_on.is_on }) trace at counted recorded
+    where
+      is_system : (event : Event) → IsLayout copy event → IsSystem event
+      is_system (Layout shown side) is = tt
+      is_system LayoutNoMemory is = tt
+      is_system LayoutDown is = tt
+      is_system event is = absurd is
 
   -- ---- the trace is legal
 
@@ -310,23 +354,24 @@ module _ (d : Engine) (c : ChronicleState) (copy : ℕ) (down : Bool) (seen : Vo
       record { state = desk.state; allowed = allowed_by 0 c.trace; shows = desk.shown up; few = omega (arith, committed, few, bound, few_rows) }
 
 -- the entry of a statement, whether the desk is up or down
-pub desk_replied : (d : Engine) (c : ChronicleState) (copy : ℕ) (down : Bool) (seen : VolumeSeen) (desk : IsDesk d c copy down seen) (session : Session) (stmt : Stmt) (reply : Reply) (calls : ℕ)
+pub desk_replied : (d : Engine) (c : ChronicleState) (copy : ℕ) (down : Bool) (marks : List (Option Position)) (seen : VolumeSeen) (desk : IsDesk d c copy down marks seen) (session : Session) (stmt : Stmt) (reply : Reply) (calls : ℕ)
     (next : Engine) (down_after : Bool) (seen_after : VolumeSeen) (new : ChronicleState)
     → Replies down d session stmt reply next down_after seen seen_after
-    → new.trace ≡ c.trace ++ said_entry session stmt reply calls ∷ [] → new.calls ≡ calls → IsCount seen_after calls → IsRecorded new.trace new.calls → IsDesk next new copy down_after seen_after
-desk_replied d c copy true seen desk session stmt reply calls next down_after seen_after new replies trace at counted recorded =
-    desk_on d c copy true seen desk session stmt reply calls desk.state next down_after seen_after new desk.keys desk.among (omega arith)
+    → new.trace ≡ c.trace ++ said_entry session stmt reply calls ∷ [] → new.calls ≡ calls → IsCount seen_after calls → IsRecorded new.trace new.calls → IsDesk next new copy down_after marks seen_after
+desk_replied d c copy true marks seen desk session stmt reply calls next down_after seen_after new replies trace at counted recorded =
+    desk_on d c copy true marks seen desk session stmt reply calls desk.state next down_after seen_after new desk.keys desk.among (omega arith)
     (subst (λ (r : Reply). Says desk.state session stmt r desk.state) (sym replies.0) (desk.down_is, refl)) desk.copy_is (desk.down_is ∙ sym replies.2)
     (λ up. absurd (cc (up, replies.2)))
     (omega (arith, ap (λ (x : Engine). taken_of x.log) replies.1))
     (ap (λ (x : Engine). x.log.pages) replies.1 ∙ desk.pages ∙ ap (λ (v : VolumeSeen). log_pages v.capacities) (sym replies.3))
     (ap (λ (x : Engine). x.opened) replies.1) (grows_same d.log next.log (ap (λ (x : Engine). x.log) replies.1))
     (subst (λ (v : VolumeSeen). LeavesIfTidy v next.log) (sym replies.3) (subst (LeavesIfTidy seen) (ap (λ (x : Engine). x.log) (sym replies.1)) desk.leaves))
+    (subst (IsOnVolume copy next.log next.space marks) (sym replies.3) (subst (λ (x : Engine). IsOnVolume copy x.log x.space marks seen) (sym replies.1) desk.is_on))
     trace at counted recorded
-desk_replied d c copy false seen desk session stmt reply calls next down_after seen_after new replies trace at counted recorded =
+desk_replied d c copy false marks seen desk session stmt reply calls next down_after seen_after new replies trace at counted recorded =
     let answered = replies.0 desk.state (allowed_by 0 c.trace) (desk.shown refl) in
     let asks = replies.1 in
-    desk_on d c copy false seen desk session stmt reply calls answered.after next down_after seen_after new (keys_with stmt desk.keys)
+    desk_on d c copy false marks seen desk session stmt reply calls answered.after next down_after seen_after new (keys_with stmt desk.keys)
     (subst (AreKeys (keys_with stmt desk.keys)) (sym answered.is_after) (keys_left desk.keys desk.state desk.among session stmt reply)) (few_with stmt desk.keys)
     answered.says (ap (λ (st : State). st.copy) answered.is_after ∙ copy_left desk.state session stmt reply ∙ desk.copy_is)
     (ap (λ (st : State). st.down) answered.is_after ∙ down_left desk.state session stmt reply desk.down_is ∙ sym replies.2)
@@ -335,6 +380,11 @@ desk_replied d c copy false seen desk session stmt reply calls next down_after s
     (answered.grows.pages ∙ desk.pages ∙ ap (λ x. log_pages x) (sym asks.calls.capacities))
     answered.opened answered.grows
     (leaves_on seen seen_after d.log next.log c.calls asks.calls desk.counted answered.grows.pages asks.leaves desk.leaves)
+    (record {
+      epoch = desk.is_on.epoch;
+      is_on = on_more desk.is_on.epoch copy d.log next.log d.space next.space marks seen seen_after desk.is_on.is_on answered.grows.more answered.grows.records
+          (answered.newest desk.is_on.epoch desk.is_on.is_on.newest) answered.capacity (desk.shown refl).settled.within asks.further asks.calls c.calls desk.counted;
+    })
     trace at counted recorded
 
 -- what the entry of a statement says
@@ -362,9 +412,9 @@ reply_so stmt reply e = e
 not_down : (stmt : Stmt) (reply : Reply) → is_answer stmt reply ≡ true → reply ≡ Down → ⊥
 not_down stmt reply e is = absurd (cc (ap (is_answer stmt) (sym is), e))
 
-pub replied : (d : Engine) (c : ChronicleState) (copy : ℕ) (down : Bool) (seen : VolumeSeen) (desk : IsDesk d c copy down seen) (session : Session) (stmt : Stmt) (reply : Reply) (next : Engine) (after : Bool) (seen_after : VolumeSeen)
+pub replied : (d : Engine) (c : ChronicleState) (copy : ℕ) (down : Bool) (marks : List (Option Position)) (seen : VolumeSeen) (desk : IsDesk d c copy down marks seen) (session : Session) (stmt : Stmt) (reply : Reply) (next : Engine) (after : Bool) (seen_after : VolumeSeen)
     → Replies down d session stmt reply next after seen seen_after → Replied d c down seen session stmt reply next after seen_after
-replied d c copy true seen desk session stmt reply next after seen_after replies = record {
+replied d c copy true marks seen desk session stmt reply next after seen_after replies = record {
   is = subst (λ (r : Reply). is_reply stmt r ≡ true) (sym replies.0) refl;
   was_down = λ e. replies.0;
   was_up = λ e. absurd (cc (e));
@@ -381,7 +431,7 @@ replied d c copy true seen desk session stmt reply next after seen_after replies
   grows = grows_same d.log next.log (ap (λ (x : Engine). x.log) replies.1);
   calls = subst (CallsLog seen) (sym replies.3) (same_calls seen);
 }
-replied d c copy false seen desk session stmt reply next after seen_after replies =
+replied d c copy false marks seen desk session stmt reply next after seen_after replies =
     let answered = replies.0 desk.state (allowed_by 0 c.trace) (desk.shown refl) in
     record {
       is = reply_so stmt reply answered.is;
@@ -420,10 +470,10 @@ keys_count : (es : List (ℕ × Row)) → length (keys_in es) ≡ length es
 keys_count [] = refl
 keys_count (e ∷ es) = ap suc (keys_count es)
 
-pub desk_opened : (d : Engine) (c : ChronicleState) (copy pages used calls : ℕ) (seen : VolumeSeen) (start : Table) → IsCopy copy → Shows (at_rest start copy) (4064 * pages) d → IsStored d.log.records start → d.opened ≡ length d.log.records
-    → taken_of d.log ≤ used → d.log.pages ≡ log_pages seen.capacities → LeavesIfTidy seen d.log → row_count start < 2 ^ 32
-    → c.trace ≡ opened_entry copy (row_count start) pages used calls ∷ [] → c.calls ≡ calls → IsCount seen calls → IsRecorded c.trace c.calls → IsDesk d c copy false seen
-desk_opened d c copy pages used calls seen start is_copy shown starts opened taken log_pages_are leaves few trace at counted recorded =
+pub desk_opened : (d : Engine) (c : ChronicleState) (copy pages used calls : ℕ) (marks : List (Option Position)) (seen : VolumeSeen) (start : Table) → IsCopy copy → Shows (at_rest start copy) (4064 * pages) d → IsStored d.log.records start → d.opened ≡ length d.log.records
+    → taken_of d.log ≤ used → d.log.pages ≡ log_pages seen.capacities → LeavesIfTidy seen d.log → IsOnVolume copy d.log d.space marks seen → row_count start < 2 ^ 32
+    → c.trace ≡ opened_entry copy (row_count start) pages used calls ∷ [] → c.calls ≡ calls → IsCount seen calls → IsRecorded c.trace c.calls → IsDesk d c copy false marks seen
+desk_opened d c copy pages used calls marks seen start is_copy shown starts opened taken log_pages_are leaves is_on few trace at counted recorded =
     let none : committed_table (at_rest start copy) ≡ start = committed-at_rest start copy in
     let first : State = at_rest (committed_table (at_rest start copy)) copy in
     let is : first ≡ at_rest start copy = ap (λ t. at_rest t copy) none in
@@ -454,6 +504,7 @@ desk_opened d c copy pages used calls seen start is_copy shown starts opened tak
       logged = subst (λ (es : List Entry). taken_of d.log ≤ logged_by 0 es) (sym trace) taken;
       pages = log_pages_are;
       leaves = leaves;
+      is_on = is_on;
       keys = keys_in (map.entries start);
       among = record {
         present = λ k there. first_among start (map.entries start) k (ap (λ (o : Option Row). is_some o) (sym (get-entries start k)) ∙ there);

@@ -21,13 +21,16 @@ use Rattle.rg_lawful.specs.Consistent.{IsConsistent}
 use Rattle.rg_lawful.specs.Write.{key_of}
 use Rattle.rg_space.specs.Carries.{Carries}
 use Rattle.rg_space.specs.Space.{capacity_in}
+use Rattle.rg_log.specs.Kept.{Listed}
 use Rattle.rg_desk.specs.Engine.{slots_in}
+use Rattle.rg_desk.specs.Newest.{KeepsNewest}
 use Rattle.rg_desk.specs.Planned.{change_plan, drop_plan, put_plan, units_with}
 use Rattle.rg_desk.specs.Shows.{Shows, left_by}
 use Rattle.rg_desk.specs.Wrote.{Wrote}
 use Rattle.rg_desk.specs.declared.engine.Engine.{Engine}
 use Rattle.rg_desk.specs.declared.units.OpenUnit.{OpenUnit}
 use Rattle.rg_desk.proofs.Claimed.{written_claims}
+use Rattle.rg_desk.proofs.NewestKept.{space_newest}
 use Rattle.rg_desk.proofs.PlansWrite.{MayPlan, full_change, full_put, may_change, may_drop, may_put}
 use Rattle.rg_desk.proofs.Sessions.{are_live, begins, left_consistent, mine}
 use Rattle.rg_desk.proofs.UnitsWritten.{IsUnitFor}
@@ -110,3 +113,11 @@ module _ (st : State) (allowed : ℕ) (d : Engine) (shows : Shows st allowed d) 
       written_shows st allowed more d new session unit plan key after shows wrote low own alone plans.lawful of_key
       (subst (λ (ps : List (List Slot)). Carries t 0 limit ps after plan) (sym shows.by.slots) plans.carries)
       (written_claims limit s t allowed more plan after good (begins st allowed d shows session unit own) plans.lawful shows.by.claimed plans.grows)
+
+  -- and the pages stay the newest versions
+  pub plan_newest : (more key : ℕ) (after : Option Row) (plan : Plan) (new : Engine) → Plans more after plan → Wrote d session unit plan key after new → KeepsNewest d new
+  plan_newest more key after plan new plans w = λ e h.
+      let space = w.prepared.space in
+      let carries : Carries t 0 limit (slots_in d) after plan = subst (λ (ps : List (List Slot)). Carries t 0 limit ps after plan) (sym shows.by.slots) plans.carries in
+      w.put.newest (subst (λ sp. Carries t 0 (capacity_in sp) (slots_in (record d { space = sp })) after plan) (sym space) carries) e
+      (space_newest d.log.records w.middle.log.records d.space w.middle.space (ap (λ (l : Listed). l.records) w.prepared.log) space e h)

@@ -2,10 +2,8 @@
 use Rattle.std.proofs.Common.{◌≡◌, ◌≤◌, ℕ, List, length, take, Option, None, Some, sym, ◌∙◌, ap, subst}
 use Rattle.std.specs.FinMap as fin
 use Rattle.rg_base.specs.declared.lock.Lock.{Lock}
-use Rattle.rg_base.specs.declared.row.Row.{Row}
 use Rattle.rg_image.specs.Kept.{AreEntries}
 use Rattle.rg_image.specs.Log.{SpellsFrom, log_of}
-use Rattle.rg_image.specs.Meaning.{stored}
 use Rattle.rg_image.specs.Pack.{end_of, start}
 use Rattle.rg_image.proofs.Decode.{some_log}
 use Rattle.rg_image.proofs.Entries.{all_fit, are_values}

@@ -1,5 +1,5 @@
 -- What the COMMIT of a unit that has written asks of the volume.
-use Rattle.std.proofs.Common.{◌≡◌, ℕ, false, List, Option, Some, length, sym, ◌∙◌, ap, subst}
+use Rattle.std.proofs.Common.{◌≡◌, ℕ, List, Option, Some, length, sym, ap, subst, arith, ◌≤◌}
 use Rattle.std.specs.Option.{is_some}
 use Rattle.rg_base.specs.declared.session.Session.{Session}
 use Rattle.rg_log.specs.Kept.{LeavesLog, Listed}
@@ -23,11 +23,12 @@ module _ (old new : VolumeSeen) (old_log mid log : Listed) (grows : Grows old_lo
       (subst (λ rs. LeavesLog new.told mid.pages rs log.forced) (sym (ap (λ (l : Listed). l.records) is)) (ahead (leaves_grown old old_log mid grows same h)))
 
   pub forced_asks : (units : List (Option OpenUnit)) (session : Session) (unit : OpenUnit) (reply : Reply) → unit_at units session.0 ≡ Some unit → CallsLog old new
-      → (reply ≡ Device → Rose old.faults new.faults) → (reply ≡ Done → log.forced ≡ length log.records) → Asks (forces units session Commit) reply old_log log old new
-  forced_asks units session unit reply has calls device forced = record {
+      → (reply ≡ Device → Rose old.faults new.faults) → (reply ≡ Done → log.forced ≡ length log.records) → mid.forced ≤ log.forced → Asks (forces units session Commit) reply old_log log old new
+  forced_asks units session unit reply has calls device forced further = record {
     calls = calls;
     none = λ e. absurd (cc (e, ap is_some has));
     device = device;
     forced = λ force done. forced done;
+    further = omega (arith, further, same);
     leaves = leaves_forced;
   }

@@ -1,5 +1,5 @@
 -- What a crash leaves of the log, as records are appended and calls are made.
-use Rattle.std.proofs.Common.{◌≡◌, ◌≤◌, ◌+◌, ◌-◌, ℕ, List, ◌++◌, length, drop, Option, None, Some, refl, sym, ◌∙◌, ap, subst, arith, length-append}
+use Rattle.std.proofs.Common.{◌≡◌, ◌≤◌, ◌+◌, ◌-◌, ℕ, List, ◌++◌, length, drop, Option, None, Some, sym, ◌∙◌, ap, subst, arith, length-append}
 use Rattle.std.proofs.Math.Seq.{drop-append-add}
 use Rattle.rg_base.specs.declared.set.Set.TheVariants.{Log}
 use Rattle.rg_image.specs.Log.{SpellsFrom}
@@ -8,7 +8,7 @@ use Rattle.rg_image.proofs.Grow.{spells_more}
 use Rattle.rg_log.specs.Kept.{LeavesLog, Listed}
 use Rattle.rg_outside.specs.Calls.{Call, Image, Told, read_of}
 use Rattle.rg_outside.specs.Made.{WritesIn}
-use Rattle.rg_outside.specs.Moments.{EachCall, EachImage, IfTold, IsImage, read_at}
+use Rattle.rg_outside.specs.Moments.{EachCall, EachImage, IfTold, read_at}
 use Rattle.rg_record.specs.declared.record.Record.{Record}
 use Rattle.rg_desk.specs.Stored.{Grows}
 use Rattle.rg_desk.specs.Volume.{CallsLog, HasCalls, Leaves, LeavesIfTidy, VolumeSeen, WasTidy}
@@ -32,6 +32,16 @@ began before fresh low =
   where
     sum : (all m n s : ℕ) → all ≡ m + n → s ≤ n → all - s ≡ m + (n - s)
     sum all m n s e low = omega (arith, e, low)
+
+-- calls are no fewer than before
+pub has_more : (K : Call → Type 0) (old new : Option Told) (n : ℕ) → EachCall old new K → IfTold old (λ t. t.start + n ≤ length t.calls) → IfTold new (λ t. t.start + n ≤ length t.calls)
+has_more K old None n made e = tt
+has_more K None (Some after) n made e = absurd (cc (made.2))
+has_more K (Some before) (Some after) n made e =
+    let was : before ≡ made.0 = cc (made.2) in
+    let there : made.0.start + n ≤ length made.0.calls = subst (λ (t : Told). t.start + n ≤ length t.calls) was e in
+    let longer = length-append made.1 made.0.calls in
+    omega (arith, there, longer, ap (λ (t : Told). t.start) made.3, ap (λ (t : Told). length t.calls) made.3)
 
 pub on_calls : (P : Call → Type 0) (old new : Option Told) (log later : Listed) (n : ℕ) → EachCall old new P → IfTold old (λ t. t.start + n ≤ length t.calls) → later.pages ≡ log.pages
     → (LeavesLog old log.pages log.records log.forced → LeavesLog new later.pages later.records later.forced)

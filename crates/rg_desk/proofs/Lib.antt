@@ -15,6 +15,11 @@ pub mod Written
 pub mod Members
 pub mod Sessions
 pub mod Claimed
+pub mod NewestKept
+pub mod OnVolume
+pub mod Marks
+pub mod UndoNewest
+pub mod Flushing
 pub mod PlansWrite
 pub mod Same
 pub mod EngineWrites
@@ -43,4 +48,5 @@ pub mod Counting
 pub mod Among
 pub mod Exits
 pub mod DeskGoes
+pub mod DeskFlush
 pub mod Recorded

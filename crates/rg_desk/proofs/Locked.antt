@@ -22,6 +22,7 @@ use Rattle.rg_desk.specs.Steps.{Goes}
 use Rattle.rg_desk.specs.Units.{unit_at}
 use Rattle.rg_desk.specs.declared.engine.Engine.{Engine}
 use Rattle.rg_desk.specs.declared.units.OpenUnit.{OpenUnit}
+use Rattle.rg_desk.proofs.NewestKept.{space_newest}
 use Rattle.rg_desk.proofs.Logged.{bytes_committed}
 
 -- a key that unit t has written
@@ -82,6 +83,7 @@ module _ (st : State) (allowed : ℕ) (d : Engine) (session : Session) (shows : 
     logged = omega (arith, ap log_bytes records, reserved, ap log_bytes logged.records, bytes_committed d.log.records (unit_at d.units session.0) d.log.reserved mid.log.reserved logged.reserved);
     opened = opened ∙ logged.base.opened;
     forced = λ e. absurd (cc (e));
+    newest = λ e h. space_newest mid.log.records new.log.records mid.space new.space records space e (logged.newest e h);
     grows = record {
       more = commit_record (length d.log.records + 1) unit ∷ [];
       records = records ∙ logged.records ∙ ap (records_committed d.log.records) has;

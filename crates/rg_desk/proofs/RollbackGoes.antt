@@ -20,7 +20,6 @@ use Rattle.rg_record.specs.declared.record.Record.{Record}
 use Rattle.rg_lawful.specs.Act.{Act, LogState, state}
 use Rattle.rg_lawful.specs.Act.{RollBack}
 use Rattle.rg_lawful.specs.Lawful.{Runs}
-use Rattle.rg_lawful.specs.Records.{acts_of}
 use Rattle.rg_lawful.specs.Write.{Write, first_write, own_of}
 use Rattle.rg_lawful.proofs.Own.{own_first}
 use Rattle.rg_space.specs.Space.{Agree, InStep, capacity_in, frames_of, index_of}
@@ -40,6 +39,7 @@ use Rattle.rg_desk.specs.declared.engine.Engine.{Engine}
 use Rattle.rg_desk.specs.declared.units.OpenUnit.{OpenUnit}
 use Rattle.rg_desk.proofs.Appended.{acts_snoc}
 use Rattle.rg_desk.proofs.CommitShows.{idle_shows}
+use Rattle.rg_desk.proofs.NewestKept.{space_newest}
 use Rattle.rg_desk.proofs.Rolled.{undos_leave}
 use Rattle.rg_desk.proofs.RollbackShows.{rollback_goes}
 use Rattle.rg_desk.proofs.Settled.{grows_same}
@@ -87,6 +87,7 @@ module _ (st : State) (allowed : ℕ) (d : Engine) (session : Session) (shows : 
       (omega (arith, ap (λ (l : Listed). l.reserved) ended.log, logged.reserved, room))
       (omega (arith, ap (λ (l : Listed). taken_of l) ended.log, logged.taken, so.taken))
       (ap (λ (l : Listed). l.pages) ended.log ∙ logged.base.pages ∙ so.base.pages)
+      (λ e h. space_newest now.log.records new.log.records now.space new.space (ap (λ (l : Listed). l.records) ended.log) ended.space e (logged.newest e (so.newest e h)))
 
   -- without a unit nothing is put back
   pub rollback_idle : (new : Engine) → unit_at d.units session.0 ≡ None → EndsSession d session new → Goes st allowed d session Rollback Done new
@@ -103,6 +104,7 @@ module _ (st : State) (allowed : ℕ) (d : Engine) (session : Session) (shows : 
         opened = ended.opened;
         grows = grows_same d.log new.log ended.log;
         forced = λ e. ap (λ (l : Listed). l.forced) ended.log;
+        newest = space_newest d.log.records new.log.records d.space new.space (ap (λ (l : Listed). l.records) ended.log) ended.space;
         shows = subst (λ (x : State). Shows x (allowed + 0) new) state_is
             (idle_shows st allowed d new session shows low ended.space ended.indexes ended.top ended.locks ended.claims ended.units (ap (λ (l : Listed). l.records) ended.log ∙ ap (records_committed d.log.records) (sym none)) (omega (arith, ap owed_to none, ap (λ (l : Listed). l.reserved) ended.log)) ended.opened (subst IsSettled (sym ended.log) shows.settled) (grows_same d.log new.log ended.log) none);
         capacity = ap (λ sp. capacity_in sp) ended.space;

@@ -34,6 +34,7 @@ use Rattle.rg_stmt.specs.declared.stmt.Reply.TheVariants.{Done}
 use Rattle.rg_stmt.specs.declared.stmt.Stmt.TheVariants as stmts
 use Rattle.rg_desk.specs.Bytes.{taken_of}
 use Rattle.rg_desk.specs.Engine.{HasPages, slots_in}
+use Rattle.rg_desk.specs.Newest.{KeepsNewest}
 use Rattle.rg_desk.specs.Shows.{IsLocked, KeyShown, Shows, ShowsBy, UnitsShown, left_by}
 use Rattle.rg_desk.specs.Steps.{Goes}
 use Rattle.rg_desk.specs.Stored.{IsQuiet}
@@ -112,8 +113,8 @@ module _ (st : State) (allowed : ℕ) (d new : Engine) (session : Session) (show
 
   pub rollback_goes : slots_in new ≡ s_rolled.pages → AreListings (row_at (slot_of s_rolled.pages)) new.indexes → new.locks ≡ locks_without session d.locks
       → new.claims ≡ record d.claims { claims = fin.remove d.claims.claims session.0 } → new.units ≡ set d.units session.0 None → new.top ≡ d.top
-      → new.log.reserved + (23 + 911 * unit.writes) ≡ d.log.reserved → taken_of new.log ≤ taken_of d.log → new.log.pages ≡ d.log.pages → Goes st allowed d session stmts.Rollback Done new
-  rollback_goes slots indexes locks claims units top reserved taken log_pages = record {
+      → new.log.reserved + (23 + 911 * unit.writes) ≡ d.log.reserved → taken_of new.log ≤ taken_of d.log → new.log.pages ≡ d.log.pages → KeepsNewest d new → Goes st allowed d session stmts.Rollback Done new
+  rollback_goes slots indexes locks claims units top reserved taken log_pages newest = record {
     says = refl;
     room = tt;
     log = tt;
@@ -121,6 +122,7 @@ module _ (st : State) (allowed : ℕ) (d new : Engine) (session : Session) (show
     opened = opened;
     grows = record { more = more; records = records; pages = log_pages };
     forced = λ e. forced;
+    newest = newest;
     shows =
         shows_more st allowed d shows (after_rollback st session) (allowed + 0) new more opened records capacity runs
         (settled_more st allowed d shows more runs (subst IsQuiet (sym acts) (quiet_undos t undos are)) new.log records forced)

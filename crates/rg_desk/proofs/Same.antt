@@ -10,7 +10,7 @@ use Rattle.rg_record.specs.declared.record.Record.{Record}
 use Rattle.rg_lawful.specs.Act.{LogState}
 use Rattle.rg_log.specs.Kept.{Listed}
 use Rattle.rg_desk.specs.Engine.{slots_in}
-use Rattle.rg_desk.specs.Shows.{KeyShown, Shows, ShowsBy, UnitsShown, left_by}
+use Rattle.rg_desk.specs.Shows.{KeyShown, Shows, UnitsShown, left_by}
 use Rattle.rg_desk.specs.Stored.{IsSettled}
 use Rattle.rg_desk.specs.Units.{owed}
 use Rattle.rg_desk.specs.Wrote.{SameEngine}

@@ -1,13 +1,12 @@
 -- What is stored as the log grows.
-use Rattle.std.proofs.Common.{◌≡◌, ◌≤◌, ◌<◌, ◌+◌, ◌-◌, ◌⊎◌, inl, inr, ℕ, Bool, true, false, nat_le, List, [], ◌∷◌, ◌++◌, length, take, drop, refl, sym, ◌∙◌, ap, subst, arith, append_assoc, append-nil, length-append, reverse, map}
-use Rattle.std.proofs.lemmas.List.{drop-append-le, length-take-le, map-append, reverse-append, take-append-drop, take-append-le, take_all}
+use Rattle.std.proofs.Common.{◌≡◌, ◌≤◌, ◌+◌, ◌-◌, ◌⊎◌, inl, inr, ℕ, Bool, true, false, nat_le, List, [], ◌∷◌, ◌++◌, length, take, drop, refl, sym, ◌∙◌, ap, subst, arith, append_assoc, append-nil, length-append, reverse, map}
+use Rattle.std.proofs.lemmas.List.{drop-append-le, map-append, reverse-append, take-append-drop, take-append-le, take_all}
 use Rattle.std.proofs.lemmas.Bool.Decides.{nat_tests}
 use Rattle.std.proofs.Math.Seq.{take-append-add}
-use Rattle.rg_home.specs.Slot.{Slot}
 use Rattle.rg_image.specs.Meaning.{stored}
 use Rattle.rg_model.specs.State.{State}
 use Rattle.rg_record.specs.declared.record.Record.{Record}
-use Rattle.rg_lawful.specs.Act.{Act, LogState, state, step}
+use Rattle.rg_lawful.specs.Act.{Act, LogState, state}
 use Rattle.rg_lawful.specs.Act.{Purge, Change, Undo, Commit, RollBack, Switch}
 use Rattle.rg_lawful.specs.Closing.{AreUndos}
 use Rattle.rg_lawful.specs.Consistent.{IsConsistent, stored_of}

@@ -10,7 +10,6 @@ use Rattle.rg_page.specs.Content.{slots_of}
 use Rattle.rg_page.specs.declared.list.ListFrames.{ListFrames}
 use Rattle.rg_record.specs.declared.record.Record.{Record}
 use Rattle.rg_lawful.specs.Act.{LogState, state}
-use Rattle.rg_lawful.specs.Records.{acts_of}
 use Rattle.rg_lawful.specs.Write.{Write, own_of}
 use Rattle.rg_space.specs.Indexed.{Indexed}
 use Rattle.rg_space.specs.Space.{Agree, InStep, capacity_in, frames_of, index_of, undos_in}
@@ -24,6 +23,7 @@ use Rattle.rg_desk.specs.Undone.{IsUndoing}
 use Rattle.rg_desk.specs.Units.{owed_to, unit_at}
 use Rattle.rg_desk.specs.declared.engine.Engine.{Engine}
 use Rattle.rg_desk.specs.declared.units.OpenUnit.{OpenUnit}
+use Rattle.rg_desk.proofs.NewestKept.{frames_newest}
 use Rattle.rg_desk.proofs.UnitSlots.{at_within, owed-set}
 use Rattle.rg_desk.proofs.Written.{same_listings}
 
@@ -70,6 +70,7 @@ undo_begins st allowed d mid shows n unit work more has chain counts spare entri
             (subst (λ (f : ListFrames). Agree (list_seen f) (index_of d.space)) (sym frames) shows.by.pages.agree);
       };
       slots = ap (λ (f : ListFrames). slots_of (list_seen f).pages) frames ∙ shows.by.slots;
+      newest = frames_newest d.log.records mid.log.records d.space mid.space same frames;
       indexes = same_listings (row_at (slot_of (left_by shows.first d).pages)) d.indexes mid.indexes entries shows.by.indexes;
       chain = subst (λ (rs : List Record). AreChain rs unit.tran.0 unit.last.0 (own_of unit.tran.0 (left_by shows.first d).writes) work) (sym same) chain;
       left = omega (arith, one.count);
@@ -104,6 +105,7 @@ undo_ends old s unit now work at i so high = go (own_of unit.tran.0 (state s so.
           capacity = so.capacity;
           pages = so.pages;
           slots = so.slots;
+          newest = so.newest;
           indexes = so.indexes;
           chain = subst (λ (ws : List Write). AreChain now.log.records unit.tran.0 0 ws []) (sym e) (refl, refl);
           left = omega (arith, ap length e);

@@ -29,7 +29,7 @@ use Rattle.rg_space.specs.Space.{capacity_in}
 use Rattle.rg_undo.specs.Undoing.{undo_record, written_of}
 use Rattle.rg_desk.specs.Engine.{slots_in}
 use Rattle.rg_desk.specs.RecordList.{record_at}
-use Rattle.rg_desk.specs.Undoing.{AreChain, CanUndoNext, ChainTo, UndidNext}
+use Rattle.rg_desk.specs.Undoing.{AreChain, CanUndoNext, ChainTo, KeepsUndone, UndidNext}
 use Rattle.rg_desk.specs.Undone.{IsUndoing}
 use Rattle.rg_desk.specs.Walks.{change_record}
 use Rattle.rg_desk.specs.declared.engine.Engine.{Engine}
@@ -137,7 +137,7 @@ module _ (old : Engine) (s : LogState) (good : IsConsistent (capacity_in old.spa
         reserved = omega (arith, so.least, room, low);
       }
 
-  module _ (back then_at : ℕ) (new : Engine) (left : List Record) (did : UndidNext now work at back then_at new left) where
+  module _ (back then_at : ℕ) (new : Engine) (left : List Record) (did : UndidNext now work at back then_at new left) (keeps : KeepsUndone now work at new) where
     -- the act of its record
     act_is : (n : NextUndo now u t at work) → act_of [] (undo_record (length now.log.records + 1) back (slots_in now) (change_record at t n.back n.write)) ≡ Undo t n.write.written.home n.write.written.before (planned_undo u.pages n.write.written).parts
     act_is n =
@@ -175,6 +175,7 @@ module _ (old : Engine) (s : LogState) (good : IsConsistent (capacity_in old.spa
               ∙ ap (undone (slots_in now)) (written n)
               ∙ ap (λ (ps : List (List Slot)). undone ps n.write.written) so.slots
               ∙ sym pages;
+          newest = λ e h. keeps t n.back n.write n.later n.work_is e (so.newest e h);
           indexes = did.listings t n.back n.write (row_at (slot_of u.pages)) (row_at (slot_of later.pages)) n.found so.indexes (here n) (record { set = changes.here; others = changes.others });
           chain =
               subst (λ (rs : List Record). AreChain rs t then_at (own_of t later.writes) left) (sym records)

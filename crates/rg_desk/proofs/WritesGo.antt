@@ -28,6 +28,7 @@ use Rattle.rg_desk.specs.Bytes.{most_needed, taken_of}
 use Rattle.rg_desk.specs.Engine.{ground_of, slots_in}
 use Rattle.rg_desk.specs.Planned.{IsRefusal, change_plan, drop_plan, put_plan, refused}
 use Rattle.rg_desk.specs.Shows.{Shows, left_by}
+use Rattle.rg_desk.specs.Newest.{KeepsNewest}
 use Rattle.rg_desk.specs.Room.{IfNeeds}
 use Rattle.rg_desk.specs.Steps.{Goes, IsUnitOf}
 use Rattle.rg_desk.specs.Stored.{Grows}
@@ -36,8 +37,9 @@ use Rattle.rg_desk.specs.declared.engine.Engine.{Engine}
 use Rattle.rg_desk.specs.declared.units.OpenUnit.{OpenUnit}
 use Rattle.rg_desk.proofs.Appended.{more_wrote, wrote_more}
 use Rattle.rg_desk.proofs.Logged.{bytes_wrote}
+use Rattle.rg_desk.proofs.NewestKept.{same_newest}
 use Rattle.rg_desk.proofs.RoomSaid.{change_needs, change_room, drop_needs, put_needs, put_room}
-use Rattle.rg_desk.proofs.EngineWrites.{Plans, engine_change, engine_drop, engine_full_change, engine_full_put, engine_put, plan_listed, plan_shows}
+use Rattle.rg_desk.proofs.EngineWrites.{Plans, engine_change, engine_drop, engine_full_change, engine_full_put, engine_put, plan_listed, plan_newest, plan_shows}
 use Rattle.rg_desk.proofs.Statements.{go_full, go_log_full, go_wanting, same_unit, unit_for}
 use Rattle.rg_desk.proofs.UnitsWritten.{IsUnitFor}
 
@@ -47,6 +49,8 @@ same_same a b c f g = record {
   capacity = g.capacity ∙ f.capacity;
   pages = λ h. g.pages (f.pages h);
   slots = g.slots ∙ f.slots;
+  contents = g.contents ∙ f.contents;
+  of_copy = g.of_copy ∙ f.of_copy;
   log = g.log ∙ f.log;
   entries = record { keys = g.entries.keys ∙ f.entries.keys; cluses = g.entries.cluses ∙ f.entries.cluses; cats = g.entries.cats ∙ f.entries.cats };
   locks = g.locks ∙ f.locks;
@@ -128,6 +132,9 @@ module _ (st : State) (allowed : ℕ) (d : Engine) (shows : Shows st allowed d) 
         pages = w.put.base.pages ∙ ap (λ (l : Listed). l.pages) w.prepared.log ∙ ap (λ (l : Listed). l.pages) same.log;
       }
 
+  wrote_newest : (more key : ℕ) (after : Option Row) (plan : Plan) (new : Engine) → PlansMid more after plan → Wrote mid session unit plan key after new → KeepsNewest d new
+  wrote_newest more key after plan new plans w = λ e h. plan_newest st allowed mid shows_mid session unit own_mid more key after plan new plans w e (same_newest d mid same e h)
+
   -- a write has room in the log as the engine had it
   within : (n : ℕ) → n ≤ left_of mid.log → n ≤ left_of d.log
   within n h = subst (λ (l : Listed). n ≤ left_of l) same.log h
@@ -148,7 +155,7 @@ module _ (st : State) (allowed : ℕ) (d : Engine) (shows : Shows st allowed d) 
   put_goes row plan Done new low absent alone small is done w =
       let plans = put row plan absent alone small is in
       let shown = plan_shows st allowed mid shows_mid session unit own_mid (18 + row_size row) row.key (Some row) plan new plans refl (alone_mid row.key alone) low w in
-      record { says = sym done; room = put_room st allowed d shows session unit is_unit mid same row (Some plan) true is refl; log = put_needs st allowed d shows session unit is_unit mid same row plan (λ n. n ≤ left_of d.log) is (within _ w.prepared.room); logged = wrote_logged row.key (Some row) plan new w; opened = wrote_opened row.key (Some row) plan new w; grows = wrote_grows row.key (Some row) plan new w; forced = λ e. wrote_forced row.key (Some row) plan new w; shows = shown; capacity = wrote (Insert row) (18 + row_size row) row.key (Some row) plan new done shown w }
+      record { says = sym done; room = put_room st allowed d shows session unit is_unit mid same row (Some plan) true is refl; log = put_needs st allowed d shows session unit is_unit mid same row plan (λ n. n ≤ left_of d.log) is (within _ w.prepared.room); logged = wrote_logged row.key (Some row) plan new w; opened = wrote_opened row.key (Some row) plan new w; grows = wrote_grows row.key (Some row) plan new w; forced = λ e. wrote_forced row.key (Some row) plan new w; newest = wrote_newest (18 + row_size row) row.key (Some row) plan new plans w; shows = shown; capacity = wrote (Insert row) (18 + row_size row) row.key (Some row) plan new done shown w }
   put_goes row plan (LogFull need left) new low absent alone small is done w =
       log_full (Insert row) _ need left new refl done w (put_needs st allowed d shows session unit is_unit mid same row plan (λ n. need ≡ n) is w.0)
   put_goes row plan NoMemory new low absent alone small is done w = go_wanting st allowed d shows session (Insert row) new refl (same_same d mid new same w)
@@ -160,7 +167,7 @@ module _ (st : State) (allowed : ℕ) (d : Engine) (shows : Shows st allowed d) 
   change_goes home old row plan Done new low there is_there alone key small is done w =
       let plans = change home old row plan there is_there alone key small is in
       let shown = plan_shows st allowed mid shows_mid session unit own_mid (18 + row_size row) row.key (Some row) plan new plans refl (alone_mid row.key alone) low w in
-      record { says = sym done; room = change_room st allowed d shows session unit is_unit mid same home old row (Some plan) true there key is refl; log = change_needs st allowed d shows session unit is_unit mid same home old row plan (λ n. n ≤ left_of d.log) there key is (within _ w.prepared.room); logged = wrote_logged row.key (Some row) plan new w; opened = wrote_opened row.key (Some row) plan new w; grows = wrote_grows row.key (Some row) plan new w; forced = λ e. wrote_forced row.key (Some row) plan new w; shows = shown; capacity = wrote (Update row) (18 + row_size row) row.key (Some row) plan new done shown w }
+      record { says = sym done; room = change_room st allowed d shows session unit is_unit mid same home old row (Some plan) true there key is refl; log = change_needs st allowed d shows session unit is_unit mid same home old row plan (λ n. n ≤ left_of d.log) there key is (within _ w.prepared.room); logged = wrote_logged row.key (Some row) plan new w; opened = wrote_opened row.key (Some row) plan new w; grows = wrote_grows row.key (Some row) plan new w; forced = λ e. wrote_forced row.key (Some row) plan new w; newest = wrote_newest (18 + row_size row) row.key (Some row) plan new plans w; shows = shown; capacity = wrote (Update row) (18 + row_size row) row.key (Some row) plan new done shown w }
   change_goes home old row plan (LogFull need left) new low there is_there alone key small is done w =
       log_full (Update row) _ need left new refl done w (change_needs st allowed d shows session unit is_unit mid same home old row plan (λ n. need ≡ n) there key is w.0)
   change_goes home old row plan NoMemory new low there is_there alone key small is done w = go_wanting st allowed d shows session (Update row) new refl (same_same d mid new same w)
@@ -173,7 +180,7 @@ module _ (st : State) (allowed : ℕ) (d : Engine) (shows : Shows st allowed d) 
       let plans = drop home old plan there is_there (subst (λ (k : ℕ). holder d.locks session k ≡ None) (sym of_key) alone) is in
       let same_key : key_of plan.before None ≡ key = ap (λ (x : Option Row). key_of x None) plans.0 ∙ of_key in
       let shown = plan_shows st allowed mid shows_mid session unit own_mid 0 key None plan new plans.1 same_key (alone_mid key alone) low w in
-      record { says = sym done; room = tt; log = drop_needs st allowed d shows session unit is_unit mid same home old key plan (λ n. n ≤ left_of d.log) there of_key is (within _ w.prepared.room); logged = wrote_logged key None plan new w; opened = wrote_opened key None plan new w; grows = wrote_grows key None plan new w; forced = λ e. wrote_forced key None plan new w; shows = shown; capacity = wrote (Delete key) 0 key None plan new done shown w }
+      record { says = sym done; room = tt; log = drop_needs st allowed d shows session unit is_unit mid same home old key plan (λ n. n ≤ left_of d.log) there of_key is (within _ w.prepared.room); logged = wrote_logged key None plan new w; opened = wrote_opened key None plan new w; grows = wrote_grows key None plan new w; forced = λ e. wrote_forced key None plan new w; newest = wrote_newest 0 key None plan new plans.1 w; shows = shown; capacity = wrote (Delete key) 0 key None plan new done shown w }
   drop_goes home old key plan (LogFull need left) new low there is_there alone of_key is done w =
       log_full (Delete key) _ need left new refl done w (drop_needs st allowed d shows session unit is_unit mid same home old key plan (λ n. need ≡ n) there of_key is w.0)
   drop_goes home old key plan NoMemory new low there is_there alone of_key is done w = go_wanting st allowed d shows session (Delete key) new refl (same_same d mid new same w)

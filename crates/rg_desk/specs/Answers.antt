@@ -24,6 +24,7 @@ use Rattle.rg_stmt.specs.declared.stmt.Reply.TheVariants.{Device, Down, NoMemory
 use Rattle.rg_stmt.specs.declared.stmt.Stmt.{Stmt}
 use Rattle.rg_stmt.specs.declared.stmt.Stmt.TheVariants.{Commit}
 use Rattle.rg_desk.specs.Engine.{ground_of}
+use Rattle.rg_desk.specs.Newest.{KeepsNewest}
 use Rattle.rg_desk.specs.Room.{SaysLog, SaysRoom}
 use Rattle.rg_desk.specs.Shows.{Shows}
 use Rattle.rg_desk.specs.Bytes.{most_needed, taken_of}
@@ -87,6 +88,7 @@ pub record Answered
   pub logged : taken_of new.log ≤ taken_of old.log + more_logged stmt reply
   pub opened : new.opened ≡ old.opened
   pub grows : Grows old.log new.log
+  pub newest : KeepsNewest old new
   pub shows : IfUp reply (Shows after (allowed + more_allowed stmt reply) new)
   pub capacity : capacity_in new.space ≡ capacity_in old.space
 
@@ -108,6 +110,7 @@ pub record Asks
   pub none : force ≡ false → new ≡ old
   pub device : reply ≡ Device → Rose old.faults new.faults
   pub forced : force ≡ true → reply ≡ Done → log.forced ≡ length log.records
+  pub further : old_log.forced ≤ log.forced
   pub leaves : Leaves old old_log → Leaves new log
 
 -- A statement is answered DOWN if and only if the engine is down. Then nothing changes.

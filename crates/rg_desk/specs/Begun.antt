@@ -1,5 +1,5 @@
 -- What a desk begins with.
-use Rattle.std.specs.Prelude.{◌≡◌, ◌*◌, ◌<◌, ◌^◌, ℕ, List, [], ◌∷◌, length}
+use Rattle.std.specs.Prelude.{◌≡◌, ◌*◌, ◌<◌, ◌^◌, ℕ, [], ◌∷◌, length}
 use Rattle.rg_image.specs.Pack.{log_bytes}
 use Rattle.rg_model.specs.State.{Table, at_rest, row_count}
 use Rattle.rg_stmt.specs.Entries.{opened_entry}

@@ -10,7 +10,10 @@
 -- 6. Where the log read tidy when the count began, a crash leaves all of it that is forced.
 -- 7. Each key with a row, and each locked one, is among some keys that are no more than the entries
 --    and the rows at the opening.
-use Rattle.std.specs.Prelude.{◌≡◌, ◌≤◌, ◌<◌, ◌+◌, ◌*◌, ◌^◌, ◌⊎◌, ◌||◌, ◌++◌, ℕ, suc, Bool, true, false, List, [], ◌∷◌, length, take}
+-- 8. Each page is the newest version of its page, and each mark says how it reads. Where the volume
+--    read tidy when the count began, a crash leaves versions that the forced records cover.
+use Rattle.std.specs.Prelude.{◌≡◌, ◌≤◌, ◌<◌, ◌+◌, ◌*◌, ◌^◌, ◌⊎◌, ◌||◌, ◌++◌, ℕ, suc, Bool, true, false, List, [], ◌∷◌, Option, length, take}
+use Rattle.rg_base.specs.declared.position.Position.{Position}
 use Rattle.std.specs.FinMap as map
 use Rattle.rg_base.specs.declared.session.Session.{Session}
 use Rattle.rg_model.specs.Committed.{committed_table}
@@ -24,6 +27,7 @@ use Rattle.rg_image.specs.Log.{log_of}
 use Rattle.rg_image.specs.Pack.{log_bytes}
 use Rattle.rg_lawful.specs.Act.{LogState}
 use Rattle.rg_lawful.specs.Consistent.{IsConsistent}
+use Rattle.rg_page.specs.Content.{Content}
 use Rattle.rg_record.specs.declared.record.Record.{Record}
 use Rattle.rg_stmt.specs.Entries.{opened_entry, said_entry}
 use Rattle.rg_stmt.specs.declared.event.Entry.{Entry}
@@ -36,11 +40,13 @@ use Rattle.rg_log.specs.Kept.{Listed, log_pages}
 use Rattle.rg_outside.specs.Faults.{Rose}
 use Rattle.rg_desk.specs.Answers.{IfFull, IfLogFull, forces, is_answer, is_device}
 use Rattle.rg_desk.specs.Bytes.{taken_of}
+use Rattle.rg_desk.specs.Flushed.{CallsOwn, FlushIs}
+use Rattle.rg_desk.specs.OnVolume.{IsOnVolume}
 use Rattle.rg_desk.specs.Chronicle.{ChronicleState, IsRecorded, allowed_by, logged_by, system_entry}
 use Rattle.rg_desk.specs.Room.{Ground, SaysLog, SaysRoom}
 use Rattle.rg_desk.specs.Shows.{Shows}
 use Rattle.rg_desk.specs.Stored.{IsSettled, IsStored, StoresCommitted}
-use Rattle.rg_desk.specs.Volume.{CallsLog, HasCalls, IsCount, LeavesIfTidy, VolumeSeen, WasTidy}
+use Rattle.rg_desk.specs.Volume.{HasCalls, IsCount, LeavesIfTidy, VolumeSeen, WasTidy}
 use Rattle.rg_desk.specs.declared.engine.Engine.{Engine}
 
 -- a number that a copy has
@@ -64,8 +70,8 @@ pub record AreKeys (keys : List ℕ) (st : State) : Type 0 where
   pub locked : (k : ℕ) → map.contains_key st.locks k ≡ true → IsAmong keys k
 
 -- what a desk keeps of its engine and its entries, over a volume of which so much is seen
-pub record IsDesk (d : Engine) (c : ChronicleState) (copy : ℕ) (down : Bool) (seen : VolumeSeen)
-    : Type 0 where
+pub record IsDesk (d : Engine) (c : ChronicleState) (copy : ℕ) (down : Bool)
+    (marks : List (Option Position)) (seen : VolumeSeen) : Type 0 where
   pub start : Table
   pub starts : IsStored (take d.opened d.log.records) start
   pub within : d.opened ≤ length d.log.records
@@ -81,16 +87,20 @@ pub record IsDesk (d : Engine) (c : ChronicleState) (copy : ℕ) (down : Bool) (
   pub logged : taken_of d.log ≤ logged_by 0 c.trace
   pub pages : d.log.pages ≡ log_pages seen.capacities
   pub leaves : LeavesIfTidy seen d.log
+  pub is_on : IsOnVolume copy d.log d.space marks seen
   pub keys : List ℕ
   pub among : AreKeys keys state
   pub few : length keys ≤ length c.trace + row_count start
   pub few_rows : row_count start < 2 ^ 32
 
--- what callers see of a desk: its entries, what its writes are planned over, how many records the
--- log had when it was opened, the number of the copy, whether it is down, and what it was handed
+-- what callers see of a desk: its entries, what its writes are planned over, its pages and their
+-- marks, how many records the log had when it was opened, the number of the copy, whether it is
+-- down, and what it was handed
 pub record DeskState (V O : Type 0) : Type 0 where
   pub trace : List Entry
   pub ground : Ground
+  pub contents : List Content
+  pub marks : List (Option Position)
   pub opened : ℕ
   pub copy : ℕ
   pub down : Bool
@@ -140,14 +150,14 @@ pub record Opens {V O : Type 0}
   pub asked : desk.operator ≡ operator
 
 -- the copy may have as many pages as before, and the log, the operator is as it was, and of the
--- volume no page but the log's was written
+-- volume no page but the log's and the copy's was written
 pub record Stays {V O : Type 0} (look : V → VolumeSeen) (old new : DeskState V O) : Type 0 where
   pub capacity : new.ground.capacity ≡ old.ground.capacity
   pub log_pages : new.ground.log.pages ≡ old.ground.log.pages
   pub opened : new.opened ≡ old.opened
   pub old_same : old_records new ≡ old_records old
   pub copy : new.copy ≡ old.copy
-  pub calls : CallsLog (look old.volume) (look new.volume)
+  pub calls : CallsOwn old.copy (look old.volume) (look new.volume)
   pub operator : new.operator ≡ old.operator
 
 -- a statement may be answered so, or DOWN
@@ -202,6 +212,23 @@ pub record MadeLayout {V O : Type 0} (look : V → VolumeSeen) (old new : DeskSt
     pub ground : new.ground ≡ old.ground
     pub down : new.down ≡ old.down
     pub volume : new.volume ≡ old.volume
+    pub stays : Stays look old new
+
+-- A flush has one entry more, with the number of calls up to it. It is answered DOWN if and only if
+-- the desk is down. It changes nothing but how much of the log is forced, and marks.
+pub record MadeFlush {V O : Type 0} (look : V → VolumeSeen) (old new : DeskState V O) : Type 0
+  where
+    pub event : Event
+    pub calls : ℕ
+    pub made : new.trace ≡ old.trace ++ system_entry event calls ∷ []
+    pub counted : IsCount (look new.volume) calls
+    pub is :
+        FlushIs old.down old.copy old.contents old.marks new.marks (look old.volume)
+        (look new.volume) event
+    pub log : new.ground.log ≡ record old.ground.log { forced = new.ground.log.forced }
+    pub further : old.ground.log.forced ≤ new.ground.log.forced
+    pub contents : new.contents ≡ old.contents
+    pub down : new.down ≡ old.down
     pub stays : Stays look old new
 
 -- the trace is legal from the table that these records store

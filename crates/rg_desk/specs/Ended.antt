@@ -12,6 +12,7 @@ use Rattle.rg_lawful.specs.Act.{LogState, is_in, not_of, others}
 use Rattle.rg_lawful.specs.Consistent.{stored_of}
 use Rattle.rg_lawful.specs.Write.{NoneHit, at_key, kept_of, own_of}
 use Rattle.rg_desk.specs.Bytes.{taken_of}
+use Rattle.rg_desk.specs.Newest.{KeepsNewest}
 use Rattle.rg_desk.specs.Stored.{SameBase}
 use Rattle.rg_desk.specs.Units.{owed_to, unit_at}
 use Rattle.rg_desk.specs.declared.engine.Engine.{Engine}
@@ -47,6 +48,7 @@ pub record LogsCommit (old : Engine) (session : Session) (new : Engine) : Type 0
       new.log.records ≡ records_committed old.log.records (unit_at old.units session.0)
   pub reserved :
       new.log.reserved + owed_to (unit_at old.units session.0) ≡ old.log.reserved
+  pub newest : KeepsNewest old new
   pub base : SameBase old new
 
 -- a session has no unit, no locks and no claim any more
@@ -76,6 +78,7 @@ pub record LogsRolledBack
   pub records :
       new.log.records
       ≡ old.log.records ++ rolled_record (length old.log.records + 1) last unit ∷ []
+  pub newest : KeepsNewest old new
   pub reserved : new.log.reserved ≡ others
   pub taken : taken_of new.log ≤ taken_of old.log
   pub base : SameBase old new

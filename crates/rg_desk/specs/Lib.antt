@@ -3,6 +3,7 @@ pub mod Bytes
 pub mod RecordList
 pub mod Room
 pub mod Engine
+pub mod Newest
 pub mod Walks
 pub mod Stored
 pub mod Wrote
@@ -14,6 +15,8 @@ pub mod Reads
 pub mod Undoing
 pub mod Undone
 pub mod Volume
+pub mod OnVolume
+pub mod Flushed
 pub mod Answers
 pub mod Chronicle
 pub mod Desk

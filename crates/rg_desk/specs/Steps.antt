@@ -20,6 +20,7 @@ use Rattle.rg_model.specs.State.{State}
 use Rattle.rg_space.specs.Space.{capacity_in}
 use Rattle.rg_desk.specs.Bytes.{most_needed, taken_of}
 use Rattle.rg_desk.specs.Engine.{ground_of}
+use Rattle.rg_desk.specs.Newest.{KeepsNewest}
 use Rattle.rg_desk.specs.Room.{SaysLog, SaysRoom}
 use Rattle.rg_desk.specs.Shows.{Shows}
 use Rattle.rg_desk.specs.Stored.{Grows}
@@ -97,6 +98,7 @@ pub record Goes
   pub opened : new.opened ≡ old.opened
   pub grows : Grows old.log new.log
   pub forced : is_commit stmt ≡ false → new.log.forced ≡ old.log.forced
+  pub newest : KeepsNewest old new
   pub shows :
       IfUp reply (Shows (unclaimed st session stmt reply) (allowed + more_allowed stmt reply) new)
   pub capacity : capacity_in new.space ≡ capacity_in old.space

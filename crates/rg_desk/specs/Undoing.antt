@@ -16,6 +16,7 @@ use Rattle.rg_space.specs.Space.{capacity_in, index_of, undos_in}
 use Rattle.rg_undo.specs.Undoing.{CanUndoChange, is_change, undo_record, written_of}
 use Rattle.rg_desk.specs.Bytes.{taken_of}
 use Rattle.rg_desk.specs.Engine.{HasPages, seen_in, slots_in}
+use Rattle.rg_desk.specs.Newest.{KeepsNewest}
 use Rattle.rg_desk.specs.RecordList.{record_at}
 use Rattle.rg_desk.specs.Stored.{SameBase}
 use Rattle.rg_desk.specs.Walks.{Walks, change_record}
@@ -139,3 +140,9 @@ pub record UndidNext
   pub claims : new.claims ≡ old.claims
   pub units : new.units ≡ old.units
   pub top : new.top ≡ old.top
+
+-- where the latest Change that is left is undone, the pages stay the newest versions
+abbrev pub KeepsUndone : Engine → List Record → (at : ℕ) → Engine → Type 0
+KeepsUndone old work at new =
+    (t before : ℕ) (w : Write) (later : List Record)
+    → work ≡ change_record at t before w ∷ later → KeepsNewest old new

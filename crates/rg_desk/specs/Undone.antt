@@ -13,6 +13,7 @@ use Rattle.rg_record.specs.declared.record.Record.{Record}
 use Rattle.rg_space.specs.Space.{capacity_in, undos_in}
 use Rattle.rg_desk.specs.Bytes.{taken_of}
 use Rattle.rg_desk.specs.Engine.{HasPages, slots_in}
+use Rattle.rg_desk.specs.Newest.{KeepsNewest}
 use Rattle.rg_desk.specs.Shows.{Shows, left_by}
 use Rattle.rg_desk.specs.Stored.{SameBase}
 use Rattle.rg_desk.specs.Undoing.{AreChain}
@@ -32,6 +33,7 @@ pub record IsUndoing
   pub capacity : capacity_in now.space ≡ capacity_in old.space
   pub pages : HasPages now
   pub slots : slots_in now ≡ (state s undos).pages
+  pub newest : KeepsNewest old now
   pub indexes : AreListings (row_at (slot_of (state s undos).pages)) now.indexes
   pub chain :
       AreChain now.log.records unit.tran.0 at (own_of unit.tran.0 (state s undos).writes) work

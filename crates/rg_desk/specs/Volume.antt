@@ -4,6 +4,10 @@
 -- 2. The calls are counted from some moment on. An entry has their number up to it.
 -- 3. Where the log read tidy at that moment, whatever a crash leaves spells a part of the log's
 --    records that has all that are forced.
+-- 4. Where the pages past those of the copy did too, whatever a crash leaves of each page of the
+--    copy's set is a version that the forced records cover, or a page that is left over.
+-- 5. A mark says which version a page reads as: the one that it was read as or written as last. A
+--    page without a mark was neither.
 use Rattle.std.specs.Prelude.{◌≡◌, ◌≤◌, ◌+◌, ℕ, Option, length}
 use Rattle.rg_base.specs.declared.set.Set.TheVariants.{Log}
 use Rattle.rg_outside.specs.Calls.{Told}

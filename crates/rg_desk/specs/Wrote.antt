@@ -22,7 +22,8 @@ use Rattle.rg_stmt.specs.declared.stmt.Reply.TheVariants.{Done, LogFull, NoMemor
 use Rattle.rg_space.specs.Carries.{Carries, cleared}
 use Rattle.rg_space.specs.Space.{capacity_in}
 use Rattle.rg_desk.specs.Bytes.{most_needed, needed, plan_bytes}
-use Rattle.rg_desk.specs.Engine.{HasPages, slots_in}
+use Rattle.rg_desk.specs.Engine.{HasPages, seen_in, slots_in}
+use Rattle.rg_desk.specs.Newest.{KeepsNewest}
 use Rattle.rg_desk.specs.Stored.{SameBase}
 use Rattle.rg_desk.specs.Units.{unit_at}
 use Rattle.rg_desk.specs.Walks.{change_record}
@@ -70,6 +71,8 @@ pub record Puts
       Carries unit.tran.0 0 (capacity_in old.space) (slots_in old) after plan
       → slots_in new
       ≡ applied unit.tran.0 (row_or_empty after) (cleared 0 (slots_in old) plan) plan.parts
+  pub newest :
+      Carries unit.tran.0 0 (capacity_in old.space) (slots_in old) after plan → KeepsNewest old new
   pub records : new.log.records ≡ records_wrote old.log.records unit plan after
   pub reserved : new.log.reserved + plan_bytes plan after ≡ old.log.reserved
   pub base : SameBase old new
@@ -115,6 +118,8 @@ pub record SameEngine (old new : Engine) : Type 0 where
   pub capacity : capacity_in new.space ≡ capacity_in old.space
   pub pages : HasPages old → HasPages new
   pub slots : slots_in new ≡ slots_in old
+  pub contents : (seen_in new).pages ≡ (seen_in old).pages
+  pub of_copy : (seen_in new).copy ≡ (seen_in old).copy
   pub log : new.log ≡ old.log
   pub entries : SameEntries old.indexes new.indexes
   pub locks : new.locks ≡ old.locks

@@ -19,7 +19,9 @@ ghost use Rattle.rg_log.specs.Kept.{log_pages};
 ghost use Rattle.rg_desk.specs.Chronicle.{system_entry};
 ghost use Rattle.rg_desk.specs.Begun.{Begun};
 ghost use Rattle.rg_desk.specs.Desk.{CanBegin, EndsDown, EndsWithRows, IsCopy, IsLayout, LegalFrom, MadeLayout};
-ghost use Rattle.rg_desk.specs.Desk.{MadeSaid, Opens, old_records};
+ghost use Rattle.rg_desk.specs.Desk.{MadeFlush, MadeSaid, Opens, old_records};
+ghost use Rattle.rg_desk.specs.Flushed.{TellsFlush};
+ghost use Rattle.rg_desk.specs.OnVolume.{IsOnVolume};
 ghost use Rattle.rg_space.specs.Memory.{list_seen, space_pages};
 ghost use Rattle.rg_desk.specs.Engine.{HasPages, ground_of};
 ghost use Rattle.rg_desk.specs.Shows.{IsShown, Shows};
@@ -30,6 +32,7 @@ use crate::chronicle::Chronicle;
 use crate::engine::Engine;
 use crate::found::Found;
 use rg_base::no_memory::NoMemory;
+use rg_base::position::Position;
 use rg_base::session::Session;
 use rg_base::set::Set;
 use rg_outside::counted::Counts;
@@ -64,6 +67,7 @@ pub enum OpenCause {
 pub struct Desk<V: Counts, O> {
     engine: Engine,
     chronicle: Chronicle,
+    marks: Vec<Option<Position>>,
     copy: u8,
     down: bool,
     volume: V,
@@ -72,7 +76,7 @@ pub struct Desk<V: Counts, O> {
 
 impl<V: Counts, O> Model for Desk<V, O> {
     ghost use Rattle.rg_desk.specs.Desk.{DeskState, IsDesk};
-    ghost use Rattle.rg_desk.specs.Engine.{ground_of};
+    ghost use Rattle.rg_desk.specs.Engine.{ground_of, seen_in};
     ghost use Rattle.rg_desk.specs.Volume.{seen_volume};
 
     ghost Value = { DeskState V O };
@@ -80,6 +84,8 @@ impl<V: Counts, O> Model for Desk<V, O> {
     ghost view = { λ d. record {
       trace = d.chronicle.trace;
       ground = ground_of d.engine;
+      contents = (seen_in d.engine).pages;
+      marks = d.marks.items;
       opened = d.engine.opened;
       copy = d.copy;
       down = d.down;
@@ -87,7 +93,7 @@ impl<V: Counts, O> Model for Desk<V, O> {
       operator = d.operator;
     } };
 
-    ghost invariant = { λ d. IsDesk d.engine d.chronicle d.copy d.down
+    ghost invariant = { λ d. IsDesk d.engine d.chronicle d.copy d.down d.marks.items
         (seen_volume V.told V.faults V.capacities d.volume) };
 }
 
@@ -103,15 +109,20 @@ fn system(event: Event, calls: u64) -> Entry
     }
 }
 
-// The engine over what was found, and the entry of the opening, after so many calls.
-fn begin(alloc: Global, found: Found, calls: u64) -> Result<(Engine, Chronicle), NoMemory>
+// The engine over what was found, the entry of the opening, after so many calls, and the marks.
+fn begin(
+    alloc: Global,
+    found: Found,
+    calls: u64,
+) -> Result<(Engine, Chronicle, Vec<Option<Position>>), NoMemory>
     requires begins { CanBegin (capacity_in found.space) (space_pages found.space) found.log
         found.top }
     requires step { InStep (list_seen (frames_of found.space)) (index_of found.space)
         (capacity_in found.space) }
     requires agree { Agree (list_seen (frames_of found.space)) (index_of found.space) }
     requires listings { AreListings (row_at (slot_of (space_pages found.space))) found.indexes }
-    ensures { IfOk result (λ made. Begun found calls made.0 made.1) }
+    ensures begun { IfOk result (λ made. Begun found calls made.0 made.1) }
+    ensures marks { IfOk result (λ made. made.2 ≡ found.marks) }
 {
     let Found {
         log,
@@ -119,6 +130,7 @@ fn begin(alloc: Global, found: Found, calls: u64) -> Result<(Engine, Chronicle),
         copy,
         indexes,
         top,
+        marks,
     } = found;
     let (pages, used) = (space.count(), log.used());
     let engine = Engine::new(alloc, log, space, indexes, top)?;
@@ -126,7 +138,7 @@ fn begin(alloc: Global, found: Found, calls: u64) -> Result<(Engine, Chronicle),
     let mut chronicle = Chronicle::new(alloc);
     chronicle.make_room()?;
     chronicle.push(Entry::opened(copy, rows, pages, used, calls));
-    Ok((engine, chronicle))
+    Ok((engine, chronicle, marks))
 }
 
 // The number of calls up to now. It never falls, also where the volume does not report.
@@ -186,7 +198,7 @@ impl Engine {
 // The event of a layout, where the desk is up or down.
 fn tell_layout(engine: &mut Engine, copy: u8, down: bool) -> Event
     requires pages { down ≡ false → HasPages engine.old }
-    ensures same { down ≡ false → SameEngine engine.old engine.new }
+    ensures same { SameEngine engine.old engine.new }
     ensures ground { ground_of engine.new ≡ ground_of engine.old }
     ensures opened { engine.new.opened ≡ engine.old.opened }
     ensures is { IsLayout copy result }
@@ -198,6 +210,30 @@ fn tell_layout(engine: &mut Engine, copy: u8, down: bool) -> Event
     }
     engine.make_spare();
     engine.layout(copy)
+}
+
+// The event of a flush, where the desk is up or down.
+fn tell_flush<V: Volume>(
+    engine: &mut Engine,
+    marks: &mut Vec<Option<Position>>,
+    volume: &mut V,
+    copy: u8,
+    down: bool,
+) -> Event
+    requires pages { down ≡ false → HasPages engine.old }
+    requires set { engine.old.log.pages ≡ log_pages (V.capacities volume.old) }
+    requires counted { HasCalls (seen_volume V.told V.faults V.capacities volume.old) 0 }
+    requires is_on { IsOnVolume copy engine.old.log engine.old.space marks.old.items
+        (seen_volume V.told V.faults V.capacities volume.old) }
+    ensures { TellsFlush down copy marks.old.items marks.new.items
+        (seen_volume V.told V.faults V.capacities volume.old)
+        (seen_volume V.told V.faults V.capacities volume.new) engine.old result engine.new }
+{
+    if down {
+        return Event::FlushDown;
+    }
+    engine.make_spare();
+    engine.flush(marks, volume, copy)
 }
 
 impl<V: Counts, O: Operator> Desk<V, O> {
@@ -221,6 +257,8 @@ impl<V: Counts, O: Operator> Desk<V, O> {
         requires pages { found.log.pages ≡ log_pages (V.capacities volume) }
         requires leaves { LeavesIfTidy (seen_volume V.told V.faults V.capacities volume)
             found.log }
+        requires is_on { IsOnVolume found.copy found.log found.space found.marks.items
+            (seen_volume V.told V.faults V.capacities volume) }
         ensures opens { IfOk result (Opens (seen_volume V.told V.faults V.capacities) volume
             operator found.log found.copy (capacity_in found.space) (space_pages found.space)) }
         ensures err { IfErr result (λ fault. fault ≡ record {
@@ -232,9 +270,10 @@ impl<V: Counts, O: Operator> Desk<V, O> {
         let copy = found.copy;
         let calls = volume.calls();
         match begin(alloc, found, calls) {
-            Ok((engine, chronicle)) => Ok(Desk {
+            Ok((engine, chronicle, marks)) => Ok(Desk {
                 engine,
                 chronicle,
+                marks,
                 copy,
                 down: false,
                 volume,
@@ -287,6 +326,28 @@ impl<V: Counts, O: Operator> Desk<V, O> {
         Ok(())
     }
 
+    /// Writes the least page that is not on the volume as it is, which makes one entry: CLEAN where
+    /// there is none. The log is forced first, up to the page's position. If a call fails, the page
+    /// is written by a later flush; the desk stays up. If there is no memory for the entry, the
+    /// call is refused and nothing was done.
+    pub fn flush_one(&mut self) -> Result<(), NoMemory>
+        ensures made { OnOk result
+            (MadeFlush (seen_volume V.told V.faults V.capacities) self.old self.new) }
+        ensures err { OnErr result (self.new ≡ self.old) }
+    {
+        self.chronicle.make_room()?;
+        let event = tell_flush(
+            &mut self.engine,
+            &mut self.marks,
+            &mut self.volume,
+            self.copy,
+            self.down,
+        );
+        let calls = calls_now(&self.volume, &self.chronicle);
+        self.chronicle.push(system(event, calls));
+        Ok(())
+    }
+
     /// The entries so far. The reply to the last statement is in the last entry.
     pub fn trace(&self) -> &[Entry]
         ensures { result.now ≡ self.now.trace }
@@ -325,6 +386,7 @@ impl<V: Counts, O: Operator> Desk<V, O> {
         let Desk {
             engine: _,
             chronicle,
+            marks: _,
             copy: _,
             down: _,
             volume,

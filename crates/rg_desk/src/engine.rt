@@ -22,6 +22,7 @@ ghost use Rattle.rg_desk.specs.Desk.{CanBegin};
 ghost use Rattle.rg_desk.specs.Stored.{IsStored};
 ghost use Rattle.rg_space.specs.Memory.{list_seen, space_pages};
 ghost use Rattle.rg_desk.specs.Engine.{HasPages, seen_in};
+ghost use Rattle.rg_desk.specs.Newest.{StayNewest};
 ghost use Rattle.rg_desk.specs.Shows.{Shows};
 ghost use Rattle.rg_desk.specs.Bytes.{IsPurge, IsSpelled, kind_bytes, most_needed, plan_bytes, purge_bytes};
 ghost use Rattle.rg_desk.specs.Wrote.{Prepares, Puts, Refuses, Writes, records_cleared};
@@ -77,6 +78,8 @@ fn make(space: &mut Space<ListFrames>, log: &mut Log, entry: Record)
     ensures slots { CanApplyRecord (list_seen (frames_of space.old)) (capacity_in space.old) entry
         → slots_of (list_seen (frames_of space.new)).pages
         ≡ record_applied (slots_of (list_seen (frames_of space.old)).pages) entry }
+    ensures newest { CanApplyRecord (list_seen (frames_of space.old)) (capacity_in space.old) entry
+        → StayNewest log.old.records space.old log.new.records space.new }
     ensures stay { CanApplyRecord (list_seen (frames_of space.old)) (capacity_in space.old) entry
         → AllThere (length (list_seen (frames_of space.old)).pages) (parts_of entry.kind)
         → (parts : List Part)
@@ -105,6 +108,8 @@ fn clear(space: &mut Space<ListFrames>, log: &mut Log, purge: Parts)
     ensures slots { CanApply (list_seen (frames_of space.old)) (capacity_in space.old) 0 None purge
         → slots_of (list_seen (frames_of space.new)).pages
         ≡ applied 0 (row_or_empty None) (slots_of (list_seen (frames_of space.old)).pages) purge }
+    ensures newest { CanApply (list_seen (frames_of space.old)) (capacity_in space.old) 0 None purge
+        → StayNewest log.old.records space.old log.new.records space.new }
     ensures stay { CanApply (list_seen (frames_of space.old)) (capacity_in space.old) 0 None purge
         → AllThere (length (list_seen (frames_of space.old)).pages) purge
         → (parts : List Part)

@@ -11,6 +11,7 @@ ghost use Rattle.rg_desk.specs.Desk.{CanBegin};
 ghost use Rattle.rg_space.specs.Memory.{list_seen, space_pages};
 
 use rg_base::no_memory::NoMemory;
+use rg_base::position::Position;
 use rg_indexes::indexes::Indexes;
 use rg_log::log::Log;
 use rg_page::list::ListFrames;
@@ -18,7 +19,8 @@ use rg_space::space::Space;
 use std::alloc::Global;
 
 /// What an opening found: the log, whose units have all ended; the pages that its records leave, of
-/// this copy; the indexes of their rows; and the greatest number of a transaction.
+/// this copy; the indexes of their rows; the greatest number of a transaction; and the mark of each
+/// page that was read and taken as it is: the position that it was read with.
 #[derive(Drop)]
 pub struct Found {
     pub log: Log,
@@ -26,6 +28,7 @@ pub struct Found {
     pub copy: u8,
     pub indexes: Indexes,
     pub top: u32,
+    pub marks: Vec<Option<Position>>,
 }
 
 impl Found {
@@ -47,6 +50,7 @@ impl Found {
         ensures pages { IfOk result (λ f. space_pages f.space ≡ []) }
         ensures copy { IfOk result (λ f. f.copy ≡ 1) }
         ensures log { IfOk result (λ f. f.log ≡ log) }
+        ensures marks { IfOk result (λ f. f.marks.items ≡ []) }
     {
         let Ok(space) = Space::new(alloc, ListFrames::new(alloc, 1), capacity) else {
             return Err(NoMemory);
@@ -57,6 +61,7 @@ impl Found {
             copy: 1,
             indexes: Indexes::new(alloc)?,
             top: 0,
+            marks: Vec::new(alloc),
         })
     }
 }

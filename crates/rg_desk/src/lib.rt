@@ -13,6 +13,8 @@ pub mod desk;
 pub mod ends;
 /// The table, and what its sessions hold of it.
 pub mod engine;
+/// The write of a page.
+pub mod flush;
 /// What an opening found.
 pub mod found;
 /// The layout of the copy.

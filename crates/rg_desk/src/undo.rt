@@ -7,7 +7,7 @@ ghost use Rattle.std.specs.Prelude.{◌≡◌, ◌≤◌, ◌+◌, ◌++◌, ◌
 ghost use Rattle.rg_record.specs.Spelled.{IsRecord};
 ghost use Rattle.rg_lawful.specs.Write.{Write};
 ghost use Rattle.rg_desk.specs.Bytes.{taken_of};
-ghost use Rattle.rg_desk.specs.Undoing.{AreChain, CanUndoNext, CanUnlist, HasWrites, UndidNext, Unlists, change_in, is_undo};
+ghost use Rattle.rg_desk.specs.Undoing.{AreChain, CanUndoNext, CanUnlist, HasWrites, KeepsUndone, UndidNext, Unlists, change_in, is_undo};
 ghost use Rattle.rg_desk.specs.Shows.{IsShown};
 ghost use Rattle.rg_desk.specs.Undone.{IsUndone};
 ghost use Rattle.rg_desk.specs.Units.{unit_at};
@@ -105,7 +105,8 @@ impl Engine {
     fn undo_next(&mut self, work: &mut UndoWork, at: Position, back: Position) -> Position
         requires low { 1 ≤ at.0 }
         requires can { CanUndoNext self.old work.old at.0 }
-        ensures { UndidNext self.old work.old at.0 back.0 result.0 self.new work.new }
+        ensures did { UndidNext self.old work.old at.0 back.0 result.0 self.new work.new }
+        ensures newest { KeepsUndone self.old work.old at.0 self.new }
     {
         let next = self.unlist(at);
         let position = next_position(&self.log);

@@ -51,3 +51,8 @@ abbrev pub RebuiltIs : (base : List Content) → (capacity : ℕ) → List Recor
 RebuiltIs base capacity rs (Pages space) =
     IsRebuilt base rs space × (capacity_in space ≡ capacity)
 RebuiltIs base capacity rs (Unfit position) = FailsAt position.0 (since_switch rs) base
+
+-- the pages are of this copy
+abbrev pub IsOfCopy : (copy : ℕ) → Rebuilt → Type 0
+IsOfCopy copy (Pages space) = (frames_of space).copy ≡ copy
+IsOfCopy copy (Unfit position) = Unit {0}

@@ -7,7 +7,7 @@ ghost use Rattle.std.specs.Prelude.{◌≡◌, ◌≤◌, [], IfOk, length};
 ghost use Rattle.std.specs.List.{AllByRecursion};
 ghost use Rattle.rg_page_bytes.specs.Content.{FitsPage};
 ghost use Rattle.rg_space.specs.Space.{Agree, InStep, capacity_in, frames_of, index_of};
-ghost use Rattle.rg_rebuilt.specs.Rebuilt.{CanRebuild, RebuiltIs};
+ghost use Rattle.rg_rebuilt.specs.Rebuilt.{CanRebuild, IsOfCopy, RebuiltIs};
 ghost use Rattle.rg_space.specs.Memory.{list_seen};
 
 use rg_base::no_memory::NoMemory;
@@ -42,6 +42,7 @@ pub fn space_over(
     ensures agree { IfOk result (λ s. Agree (list_seen (frames_of s)) (index_of s)) }
     ensures capacity { IfOk result (λ s. capacity_in s ≡ capacity) }
     ensures pages { IfOk result (λ s. (list_seen (frames_of s)).pages ≡ frames.pages.items) }
+    ensures copy { IfOk result (λ s. (frames_of s).copy ≡ frames.copy) }
 {
     match Space::new(alloc, frames, capacity) {
         Ok(space) => Ok(space),
@@ -64,6 +65,7 @@ pub fn rebuild(
     requires few { length frames.pages.items ≤ capacity }
     requires limit { capacity ≤ 65536 }
     ensures rebuilt { IfOk result (RebuiltIs frames.pages.items capacity log.now.records) }
+    ensures copy { IfOk result (IsOfCopy frames.copy) }
 {
     let mut space = space_over(alloc, frames, capacity)?;
     // The records of a log are entries, so each position fits its field.

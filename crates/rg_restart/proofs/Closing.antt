@@ -27,11 +27,13 @@ use Rattle.rg_undo.specs.Unit.{undo_records, writes_of}
 use Rattle.rg_unended.specs.Unended.{left_of, owed_for}
 use Rattle.rg_desk.specs.Bytes.{kind_bytes, taken_of}
 use Rattle.rg_space.specs.Memory.{list_seen, space_pages}
+use Rattle.rg_desk.specs.Newest.{StayNewest}
 use Rattle.rg_desk.specs.Undoing.{is_undo}
 use Rattle.rg_image.specs.Rules.{last_position, of_tran}
 use Rattle.rg_restart.specs.Closed.{AllAtMost, ClosedAll, ClosedUnit, Closes, ClosesUnit, IsInStep, IsLacking, TookBack, Undid, all_closed, closed_by, end_back, lefts_of, rolled_back, writes_left}
 use Rattle.rg_restart.proofs.Beginning.{below_join}
 use Rattle.rg_restart.proofs.Exact.{writes_joined}
+use Rattle.rg_restart.proofs.Staying.{stay_by, stay_ended, stay_join}
 use Rattle.rg_restart.proofs.Undos.{takes_undo}
 
 -- ---- the log
@@ -168,6 +170,7 @@ closes_more t ts rs a b c log mid later so closed = record {
       ∙ ap (λ (ps : List (List Slot)). closed_by t rs ps mid.records) so.undid.slots
       ∙ ap (closed_by t rs (undone_all (space_pages a) (all_of (writes_left ts rs)))) so.records
       ∙ sym (closed_join ts t rs (space_pages a) log.records);
+  newest = stay_join log.records mid.records later.records a b c so.newest closed.newest;
 }
 
 -- a unit lacks something
@@ -188,8 +191,8 @@ pub closed_unit : (tran : ℕ) (rs : List Record) (old new : Space ListFrames) (
     → Undid old new (writes_of (left_of tran rs)) → undos ≡ undo_records (length log.records + 1) last (space_pages old) (left_of tran rs)
     → TookBack (tran ∷ []) (911 * length undos) log mid → mid.records ≡ log.records ++ undos
     → back ≡ end_back last (length log.records) (left_of tran rs) → TookBack (tran ∷ []) 23 mid later → later.records ≡ mid.records ++ rolled_back (length mid.records + 1) back tran ∷ []
-    → ClosedUnit tran rs old new log later
-closed_unit tran rs old new log mid later undos last back last_is undid made one mid_is back_is two later_is =
+    → StayNewest log.records old (log.records ++ undos) new → ClosedUnit tran rs old new log later
+closed_unit tran rs old new log mid later undos last back last_is undid made one mid_is back_is two later_is stay =
     let entries = left_of tran rs in
     let count : length undos ≡ length entries = ap (λ (us : List Record). length us) made ∙ undos_length (length log.records + 1) last (space_pages old) entries in
     let middle : length mid.records ≡ length log.records + length entries = omega (arith, ap (λ (us : List Record). length us) mid_is, length-append log.records undos, count) in
@@ -203,6 +206,9 @@ closed_unit tran rs old new log mid later undos last back last_is undid made one
           ∙ ap (λ (r : Record). log.records ++ (undo_records (length log.records + 1) (last_position 0 (of_tran tran rs)) (space_pages old) entries ++ r ∷ []))
           (ap (λ (n : ℕ). rolled_back (n + 1) back tran) middle
           ∙ ap (λ (n : ℕ). rolled_back (length log.records + length entries + 1) n tran) (back_is ∙ ap (λ (n : ℕ). end_back n (length log.records) entries) last_is));
+      newest =
+          stay_join log.records mid.records later.records old new new (stay_by log.records (log.records ++ undos) log.records mid.records old new refl mid_is stay)
+          (stay_by mid.records (mid.records ++ rolled_back (length mid.records + 1) back tran ∷ []) mid.records later.records new new refl later_is (stay_ended tran back mid.records new));
     }
 
 -- one Undo was appended
@@ -299,6 +305,7 @@ closes_out ts rs a b log reserved mid later None none rec forced pages rec' forc
     most_bytes = omega (arith, closes.took.most_bytes, ap log_bytes rec', ap log_bytes rec);
   };
   records = rec' ∙ closes.records ∙ ap (all_closed ts rs (space_pages a)) rec;
+  newest = stay_by reserved.records mid.records log.records later.records a b (sym rec) rec' closes.newest;
 }
 
 -- the numbers of open transactions count from 1

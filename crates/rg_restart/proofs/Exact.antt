@@ -79,7 +79,7 @@ chain_or_breaks : (capacities : Capacities) (rs : List Record) (page : ℕ) → 
 chain_or_breaks capacities rs page chain breaks = breaks.broken (chain breaks.before breaks.after breaks.entry breaks.whole)
 
 -- bytes spell one data page
-page_one : (copy last n : ℕ) (bytes : List ℕ) (x y : Content) → IsDataPage copy last n bytes x → IsDataPage copy last n bytes y → x ≡ y
+pub page_one : (copy last n : ℕ) (bytes : List ℕ) (x y : Content) → IsDataPage copy last n bytes x → IsDataPage copy last n bytes y → x ≡ y
 page_one copy last n bytes x y of_x of_y =
     one_spelling x y of_x.spells.fits of_y.spells.fits (of_x.copy_is ∙ sym of_y.copy_is) (of_x.number ∙ sym of_y.number) (sym of_x.spells.is ∙ of_y.spells.is)
 

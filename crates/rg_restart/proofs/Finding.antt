@@ -5,6 +5,7 @@ use Rattle.rg_base.specs.declared.set.Set.{Set}
 use Rattle.rg_desk.specs.declared.desk.OpenCause.{OpenCause}
 use Rattle.rg_desk.specs.declared.desk.OpenCause.TheVariants.{Damaged, Device, NoMemory}
 use Rattle.rg_base.specs.declared.place.Place.{Place}
+use Rattle.rg_base.specs.declared.position.Position.{Position}
 use Rattle.rg_chain.specs.Running.{Running}
 use Rattle.rg_home.specs.Able.{Proper}
 use Rattle.rg_home.specs.Pages.{Sound, slot_of}
@@ -33,13 +34,16 @@ use Rattle.rg_undo.specs.Unit.{writes_of}
 use Rattle.rg_unended.specs.Unended.{left_of, open_in}
 use Rattle.rg_unended.proofs.Lefts.{below_by_recursion, owners_by_recursion}
 use Rattle.rg_unended.proofs.Opens.{listed_is}
+use Rattle.rg_newest.specs.Tidy.{opened_epoch}
 use Rattle.rg_desk.specs.Desk.{CanBegin, IsCopy}
+use Rattle.rg_desk.specs.Newest.{HasNewest}
 use Rattle.rg_space.specs.Memory.{list_seen, space_pages}
 use Rattle.rg_desk.specs.declared.found.Found.{Found}
 use Rattle.rg_restart.specs.Closed.{AllAtMost, ClosedAll, IsInStep, TookBack, writes_left}
 use Rattle.rg_restart.specs.Found.{Finds, IsClosed, IsUndone, MayFind, Refuses, SamePages, StoresFew}
 use Rattle.rg_restart.specs.Pages.{CanClose, Fit, IsMatched, Ties, count_of, redone_of, undone_from}
 use Rattle.rg_restart.proofs.Beginning.{can_begin}
+use Rattle.rg_restart.proofs.Staying.{stay_looked}
 
 -- pages that redo leaves, and that tie, are proper
 pub proper_of : (live : List ℕ) (pages : List (List Slot)) → AreSoundPages pages → IsLeastBreach (IsTiedAt live (slot_of pages)) None → Proper pages
@@ -105,10 +109,11 @@ matched_table rs pages undone is matched = subst (λ (ps : List (List Slot)). Is
 })
 
 -- what is found where all rules are kept
-pub finds : (base : List Content) (log now : Listed) (chain : Running) (capacity : ℕ) (redone : List (List Slot)) (closed last : Space ListFrames) (found : Found) → MayFind log chain capacity → Fit base log.records
+pub finds : (base : List Content) (marks : List (Option Position)) (log now : Listed) (chain : Running) (capacity : ℕ) (redone : List (List Slot)) (closed last : Space ListFrames) (found : Found) → MayFind log chain capacity → Fit base log.records
     → redone ≡ redone_of base log.records → length redone ≡ count_of log.records → IsClosed redone log capacity closed now → IsMatched log.records (space_pages closed) → StoresFew now.records
-    → SamePages closed last → AreListings (row_at (slot_of (space_pages last))) found.indexes → found.log ≡ now → found.space ≡ last → found.copy ≡ chain.current.copy → found.top ≡ length chain.units → Finds base log capacity found
-finds base log now chain capacity redone closed last found may fit redone_is count is matched few same listings log_is space_is copy_is top_is =
+    → SamePages closed last → AreListings (row_at (slot_of (space_pages last))) found.indexes → HasNewest (opened_epoch log.records base) now.records closed
+    → found.log ≡ now → found.space ≡ last → found.copy ≡ chain.current.copy → found.top ≡ length chain.units → found.marks.items ≡ marks → Finds base marks log capacity found
+finds base marks log now chain capacity redone closed last found may fit redone_is count is matched few same listings newest log_is space_is copy_is top_is marks_are =
     let rs = log.records in
     let undone = is.undone in
     let top : found.top ≡ greatest_tran rs = top_is ∙ may.kept.units.greatest in
@@ -135,6 +140,11 @@ finds base log now chain capacity redone closed last found may fit redone_is cou
       copy_is = copy_is ∙ ap (λ (c : Current). c.copy) may.kept.current;
       count_is = ap (λ (s : Space ListFrames). length (space_pages s)) space_is ∙ ap (λ (ps : List (List Slot)). length ps) same.slots ∙ undone.count_is ∙ count;
       took = subst (TookBack (open_in rs) (owed rs) log) (sym log_is) is.took;
+      newest =
+          subst (λ (s : Space ListFrames). HasNewest (opened_epoch rs base) found.log.records s) (sym space_is)
+          (subst (λ (l : Listed). HasNewest (opened_epoch rs base) l.records last) (sym log_is)
+          (stay_looked now.records closed last same (opened_epoch rs base) newest));
+      marks_are = marks_are;
     }
 
 -- ---- calls that only look
@@ -146,6 +156,8 @@ looked_same a b has left = record {
     agree = ap (λ (cs : List Content). map (map bare) (slots_of cs)) (left.looked.reads.same refl) ∙ has.agree ∙ ap (λ (i : Indexed). i.pages) (sym left.summaries);
   };
   slots = ap slots_of (left.looked.reads.same refl);
+  contents = left.looked.reads.same refl;
+  copy = left.looked.reads.keeps.copy;
   capacity = left.capacity;
 }
 
@@ -153,6 +165,8 @@ pub same_join : (a b c : Space ListFrames) → SamePages a b → SamePages b c �
 same_join a b c one two = record {
   in_step = two.in_step;
   slots = two.slots ∙ one.slots;
+  contents = two.contents ∙ one.contents;
+  copy = two.copy ∙ one.copy;
   capacity = two.capacity ∙ one.capacity;
 }
 

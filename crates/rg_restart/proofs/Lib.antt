@@ -4,7 +4,10 @@ pub mod Beginning
 pub mod Exact
 pub mod Undos
 pub mod Closing
+pub mod Staying
+pub mod Switches
 pub mod Reading
+pub mod Standing
 pub mod Looking
 pub mod Finding
 pub mod Matching

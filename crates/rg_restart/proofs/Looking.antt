@@ -1,20 +1,22 @@
 -- What is found of a volume, from what each step says.
 use Rattle.std.proofs.Common.{◌≡◌, ◌≤◌, ◌+◌, ◌⊎◌, ℕ, List, Option, length, inl, inr, sym, ◌∙◌, ap, subst, arith}
+use Rattle.rg_base.specs.declared.position.Position.{Position}
 use Rattle.rg_base.specs.declared.set.Set.{Set}
 use Rattle.rg_base.specs.declared.set.Set.TheVariants.{Log}
 use Rattle.rg_chain.specs.Kept.{IsKept}
 use Rattle.rg_chain.specs.Running.{Running}
+use Rattle.rg_desk.specs.OnVolume.{IsOn}
 use Rattle.rg_desk.specs.Volume.{LeavesIfTidy, VolumeSeen, WasTidy}
 use Rattle.rg_desk.specs.declared.desk.OpenCause.{OpenCause}
 use Rattle.rg_desk.specs.declared.desk.OpenCause.TheVariants.{Damaged, Device, NoMemory}
 use Rattle.rg_desk.specs.declared.found.Found.{Found}
 use Rattle.rg_image.specs.Log.{SpellsFrom}
 use Rattle.rg_image.specs.Pack.{log_bytes}
-use Rattle.rg_image.specs.Rules.{BreaksChain, BreaksLogPages, BreaksSpace, HasLogPages, HasSpace, IsChain, copy_capacity, limit_of, owed}
+use Rattle.rg_image.specs.Rules.{ArePositions, BreaksChain, BreaksLogPages, BreaksSpace, HasLogPages, HasSpace, IsChain, copy_capacity, limit_of, owed}
 use Rattle.rg_image.proofs.Grow.{spells_more}
 use Rattle.rg_image.proofs.Sound.{chain_positions}
 use Rattle.rg_log.specs.Kept.{LeavesLog, Listed, log_pages}
-use Rattle.rg_log.specs.Open.{IsLogFault, IsQuiet, ReadsTidy}
+use Rattle.rg_log.specs.Open.{IsCertain, IsLogFault, IsQuiet, ReadsTidy}
 use Rattle.rg_log.specs.declared.fault.LogFault.{LogFault}
 use Rattle.rg_log.specs.declared.fault.LogFault.TheVariants as faults
 use Rattle.rg_log.proofs.Present.{log_left, log_quiet}
@@ -24,19 +26,22 @@ use Rattle.rg_outside.specs.Faults.{Rose}
 use Rattle.rg_outside.specs.Moments.{EachCall, EachImage, IfTold}
 use Rattle.rg_outside.proofs.Every.{told_weaken}
 use Rattle.rg_outside.proofs.Frame.{calls_join}
+use Rattle.rg_newest.specs.Tidy.{opened_epoch}
 use Rattle.rg_rebuilt.specs.Laws.{CoversAll}
+use Rattle.rg_rebuilt.specs.Rebuilt.{CanRebuild}
 use Rattle.rg_record.specs.declared.record.Record.{Record}
 use Rattle.rg_restart.specs.Closed.{TookBack}
 use Rattle.rg_restart.specs.Found.{Finds, MayFind, Refuses}
 use Rattle.rg_restart.specs.Opening.{BreaksLog, CallsQuiet, GoesOnTidy, IsRefused, Looks, cause_of}
 use Rattle.rg_page.specs.Content.{Content}
-use Rattle.rg_restart.specs.Data.{IsDataFault, TakesPages}
+use Rattle.rg_restart.specs.Data.{IsDataFault, MarksPages, TakesPages}
 use Rattle.rg_restart.specs.Pages.{BreaksRule, copy_of, count_of, set_of}
 use Rattle.rg_restart.specs.declared.data.LastSwitch.{LastSwitch}
-use Rattle.rg_restart.specs.Sound.{HasSoundLog, IsDamage, IsFirstBad, IsSoundBy, TakesBase}
+use Rattle.rg_restart.specs.Sound.{HasSoundLog, IsDamage, IsFirstBad, IsSoundBy, MarksBase, TakesBase}
 use Rattle.rg_restart.specs.Sound.IsDamage.{LogPage, Chain, Space, BadPage, OnPages}
 use Rattle.rg_restart.proofs.Reading.{both_told, quiet_image}
-use Rattle.rg_restart.proofs.Tidy.{opened_leaves}
+use Rattle.rg_restart.proofs.Standing.{certain_on, is_on, known}
+use Rattle.rg_restart.proofs.Tidy.{opened_leaves, opened_tidy}
 
 -- the log with records that were appended
 pub leaves_more : (seen : VolumeSeen) (ts : List ℕ) (most : ℕ) (log later : Listed) → TookBack ts most log later → LeavesIfTidy seen log → LeavesIfTidy seen later
@@ -126,13 +131,14 @@ module _ (old mid : VolumeSeen) (log : Listed) (quiet : CallsQuiet old mid) (pag
       rule_refused NoMemory rule = record { calls = quiet_new; because = tt }
 
       -- all rules are kept
-      pub looks : (found : Found) (capacity : ℕ) → capacity ≡ copy_capacity new.capacities (copy_of log.records) → Finds base log capacity found → GoesOnTidy old
-          → (ReadsTidy old.told log.pages → LeavesLog mid.told log.pages log.records log.forced) → Looks old new found
-      looks found capacity capacity_is finds tidy leaves = record {
+      pub looks : (found : Found) (marks : List (Option Position)) (capacity : ℕ) → capacity ≡ copy_capacity new.capacities (copy_of log.records) → Finds base marks log capacity found → GoesOnTidy old
+          → (ReadsTidy old.told log.pages → LeavesLog mid.told log.pages log.records log.forced) → log.forced ≡ length log.records → CanRebuild (count_of log.records) log.records → IfTold mid.told IsCertain
+          → IfTold new.told (λ t. t.capacities ≡ new.capacities) → IfTold new.told (λ t. MarksBase log.records (read_of t.first t.calls) marks) → Looks old new found
+      looks found marks capacity capacity_is finds tidy leaves forced can sure own marked = record {
         log = log;
         pages = pages;
         base = base;
-        finds = subst (λ (n : ℕ). Finds base log n found) (capacity_is ∙ ap (λ (c : Capacities). copy_capacity c (copy_of log.records)) (same ∙ quiet.capacities)) finds;
+        finds = subst (λ (n : ℕ). Finds base found.marks.items log n found) capacity_then (subst (λ (ms : List (Option Position)). Finds base ms log capacity found) (sym finds.marks_are) finds);
         calls = quiet_new;
         sound =
             told_weaken (λ t. HasLogPages (log_pages mid.capacities) (read_of t.first t.calls) log.records × TakesBase log.records (read_of t.first t.calls) base) (λ t. IsSoundBy new.capacities (read_of t.first t.calls) log.records base) new.told
@@ -140,7 +146,26 @@ module _ (old mid : VolumeSeen) (log : Listed) (quiet : CallsQuiet old mid) (pag
         leaves = leaves_more new _ _ log found.log finds.took
             (opened_leaves old new log quiet_new.only pages tidy
             (λ reads. log_left log.pages log.forced log.records mid.told new.told (log_quiet log.pages log.forced log.records mid.told new.told only) (leaves reads)));
+        is_on = record {
+          epoch = opened_epoch log.records base;
+          is_on =
+              subst (λ (ms : List (Option Position)). IsOn (opened_epoch log.records base) found.copy found.log found.space ms new) (sym finds.marks_are)
+              (is_on log.records base marks old.capacities positions can new found.log finds.took.more found.copy found.space quiet_new.capacities finds.took.records (finds.took.forced ∙ forced) finds.copy_is (finds.capacity_is ∙ capacity_then) finds.newest
+              (known log.records base marks old.capacities positions can new.told has_old takes marked (certain_on mid.told new.told only sure) own_old (opened_tidy old new quiet_new.only tidy)));
+        };
       }
+        where
+          capacity_then : capacity ≡ copy_capacity old.capacities (copy_of log.records)
+          capacity_then = capacity_is ∙ ap (λ (c : Capacities). copy_capacity c (copy_of log.records)) (same ∙ quiet.capacities)
+
+          positions : ArePositions log.records
+          positions = chain_positions mid.capacities log.records chain
+
+          has_old : IfTold new.told (λ t. HasLogPages (log_pages old.capacities) (read_of t.first t.calls) log.records)
+          has_old = subst (λ (c : Capacities). IfTold new.told (λ t. HasLogPages (log_pages c) (read_of t.first t.calls) log.records)) quiet.capacities (has_then new.told only)
+
+          own_old : IfTold new.told (λ t. t.capacities ≡ old.capacities)
+          own_old = told_weaken (λ t. t.capacities ≡ new.capacities) (λ t. t.capacities ≡ old.capacities) new.told (λ t is. is ∙ quiet_new.capacities) own
 
 -- the log was not read
 pub log_refused : (old new : VolumeSeen) (fault : LogFault) → CallsQuiet old new → IsLogFault new.told (log_pages old.capacities) old.faults new.faults fault → IsRefused old new (cause_of fault)
@@ -188,3 +213,12 @@ takes_by copy copy' last last' switch switch' set set' count count' told base a 
     (subst (λ (x : LastSwitch). IfTold told (λ t. TakesPages copy last x set' count' (read_of t.first t.calls) base)) e
     (subst (λ (s : Set). IfTold told (λ t. TakesPages copy last switch s count' (read_of t.first t.calls) base)) c
     (subst (λ (k : ℕ). IfTold told (λ t. TakesPages copy last switch set k (read_of t.first t.calls) base)) d is))))
+
+pub marks_by : (copy copy' last last' : ℕ) (switch switch' : LastSwitch) (set set' : Set) (count count' : ℕ) (told : Option Told) (marks : List (Option Position)) → copy ≡ copy' → last ≡ last' → switch ≡ switch' → set ≡ set' → count ≡ count'
+    → IfTold told (λ t. MarksPages copy last switch set count (read_of t.first t.calls) marks) → IfTold told (λ t. MarksPages copy' last' switch' set' count' (read_of t.first t.calls) marks)
+marks_by copy copy' last last' switch switch' set set' count count' told marks a b e c d is =
+    subst (λ (k : ℕ). IfTold told (λ t. MarksPages k last' switch' set' count' (read_of t.first t.calls) marks)) a
+    (subst (λ (k : ℕ). IfTold told (λ t. MarksPages copy k switch' set' count' (read_of t.first t.calls) marks)) b
+    (subst (λ (x : LastSwitch). IfTold told (λ t. MarksPages copy last x set' count' (read_of t.first t.calls) marks)) e
+    (subst (λ (s : Set). IfTold told (λ t. MarksPages copy last switch s count' (read_of t.first t.calls) marks)) c
+    (subst (λ (k : ℕ). IfTold told (λ t. MarksPages copy last switch set k (read_of t.first t.calls) marks)) d is))))

@@ -4,6 +4,7 @@ use Rattle.std.proofs.Math.Seq.{get_or-append_seam}
 use Rattle.std.proofs.lemmas.List.{get_or_append_left}
 use Rattle.std.specs.List.{AllByRecursion}
 use Rattle.std.proofs.lemmas.Bool.Decides.{leb_tells}
+use Rattle.rg_base.specs.declared.position.Position.{Position}
 use Rattle.rg_base.specs.declared.set.Set.{Set}
 use Rattle.rg_base.specs.declared.set.Set.TheVariants.{First, Second}
 use Rattle.rg_image.specs.Rules.{copy_capacity, used_pages}
@@ -22,8 +23,9 @@ use Rattle.rg_page_bytes.specs.declared.fault.PageFault.{PageFault}
 use Rattle.rg_page_bytes.specs.declared.fault.PageFault.TheVariants.{NotAPage, NoMemory}
 use Rattle.rg_page_bytes.proofs.ReadBack.{one_spelling}
 use Rattle.rg_version.specs.Versions.{taken_if}
+use Rattle.rg_desk.specs.OnVolume.{mark_at}
 use Rattle.rg_restart.specs.declared.data.LastSwitch.{LastSwitch}
-use Rattle.rg_restart.specs.Data.{AreBase, BreaksData, IsDataPage, IsFirstBroken, IsTaken, IsUntaken, TakesPages}
+use Rattle.rg_restart.specs.Data.{AreBase, BreaksData, IsDataPage, IsFirstBroken, IsMarked, IsTaken, IsUntaken, MarksPages, TakesPages}
 
 -- what holds of what reads still holds
 pub quiet_image : (P : Image → Type 0) (old new : Option Told) → EachCall old new IsQuiet → IfTold old (λ t. P (read_of t.first t.calls)) → IfTold new (λ t. P (read_of t.first t.calls))
@@ -69,6 +71,35 @@ takes_more (Some t) copy last switch set n bytes base page takes reads taken = r
         (subst (IsTaken copy last switch (n + 1) (read_of t.first t.calls set (n + 1))) (sym last_one)
         (subst (λ (bs : List ℕ). IsTaken copy last switch (n + 1) bs page) reads taken))
 
+-- its mark, behind those before it
+mark_front : (marks : List (Option Position)) (mark : Option Position) (n : ℕ) → n ≤ length marks → mark_at (marks ++ mark ∷ []) n ≡ mark_at marks n
+mark_front marks mark zero low = refl
+mark_front marks mark (suc n) low = get_or_append_left marks (mark ∷ []) None n (omega (arith, low))
+
+mark_end : (marks : List (Option Position)) (mark : Option Position) (n : ℕ) → length marks ≡ n → mark_at (marks ++ mark ∷ []) (suc n) ≡ mark
+mark_end marks mark n is = ap (λ (k : ℕ). get_or (marks ++ mark ∷ []) k None) (sym is) ∙ get_or-append_seam marks mark [] None
+
+-- one page more is marked
+pub marks_more : (told : Option Told) (copy last : ℕ) (switch : LastSwitch) (set : Set) (n : ℕ) (bytes : List ℕ) (marks : List (Option Position)) (mark : Option Position)
+    → IfTold told (λ t. MarksPages copy last switch set n (read_of t.first t.calls) marks) → IfTold told (λ t. bytes ≡ read_of t.first t.calls set (n + 1))
+    → IsMarked copy last switch (n + 1) bytes mark → IfTold told (λ t. MarksPages copy last switch set (n + 1) (read_of t.first t.calls) (marks ++ mark ∷ []))
+marks_more None copy last switch set n bytes marks mark marked reads is = tt
+marks_more (Some t) copy last switch set n bytes marks mark marked reads is = record {
+  count_is = omega (arith, length-append marks (mark ∷ []), marked.count_is);
+  each = λ k low high. go k low (leb_tells k n) high;
+}
+  where
+    go : (k : ℕ) → 1 ≤ k → ((nat_le k n ≡ true) × (k ≤ n)) ⊎ ((nat_le k n ≡ false) × (n < k)) → k ≤ n + 1
+        → IsMarked copy last switch k (read_of t.first t.calls set k) (mark_at (marks ++ mark ∷ []) k)
+    go k low (inl le) high = subst (IsMarked copy last switch k (read_of t.first t.calls set k)) (sym (mark_front marks mark k (omega (arith, le.1, marked.count_is)))) (marked.each k low le.1)
+    go k low (inr lt) high =
+        let e : n + 1 ≡ k = omega (arith, lt.1, high) in
+        let s : suc n ≡ n + 1 = omega arith in
+        let last_one : mark_at (marks ++ mark ∷ []) (n + 1) ≡ mark = ap (mark_at (marks ++ mark ∷ [])) (sym s) ∙ mark_end marks mark n marked.count_is in
+        subst (λ (m : ℕ). IsMarked copy last switch m (read_of t.first t.calls set m) (mark_at (marks ++ mark ∷ []) m)) e
+        (subst (IsMarked copy last switch (n + 1) (read_of t.first t.calls set (n + 1))) (sym last_one)
+        (subst (λ (bs : List ℕ). IsMarked copy last switch (n + 1) bs mark) reads is))
+
 -- the page after is no data page
 pub first_broken : (told : Option Told) (copy last : ℕ) (switch : LastSwitch) (set : Set) (count n : ℕ) (bytes : List ℕ) (base : List Content)
     → IfTold told (λ t. TakesPages copy last switch set n (read_of t.first t.calls) base) → IfTold told (λ t. bytes ≡ read_of t.first t.calls set (n + 1))
@@ -85,14 +116,19 @@ all_more : (pages : List Content) (page : Content) → AllByRecursion FitsPage p
 all_more [] page all fits = (fits, tt)
 all_more (x ∷ pages) page all fits = (all.0, all_more pages page all.1 fits)
 
+all_low : (last : ℕ) (pages : List Content) (page : Content) → AllByRecursion (λ (x : Content). x.position ≤ last) pages → page.position ≤ last → AllByRecursion (λ (x : Content). x.position ≤ last) (pages ++ page ∷ [])
+all_low last [] page all low = (low, tt)
+all_low last (x ∷ pages) page all low = (all.0, all_low last pages page all.1 low)
+
 -- one page more in memory
-pub base_more : (copy n : ℕ) (old new : ListFrames) (page : Content) → AreBase copy n old → FitsPage page → new.pages.items ≡ old.pages.items ++ page ∷ [] → new.reserved.items ≡ old.reserved.items → new.copy ≡ old.copy
-    → AreBase copy (n + 1) new
-base_more copy n old new page is fits pages reserved same = record {
+pub base_more : (copy last n : ℕ) (old new : ListFrames) (page : Content) → AreBase copy last n old → FitsPage page → page.position ≤ last → new.pages.items ≡ old.pages.items ++ page ∷ [] → new.reserved.items ≡ old.reserved.items → new.copy ≡ old.copy
+    → AreBase copy last (n + 1) new
+base_more copy last n old new page is fits low pages reserved same = record {
   copy_is = same ∙ is.copy_is;
   reserved = reserved ∙ is.reserved;
   count_is = omega (arith, ap (λ (xs : List Content). length xs) pages, length-append old.pages.items (page ∷ []), is.count_is);
   fits = subst (AllByRecursion FitsPage) (sym pages) (all_more old.pages.items page is.fits fits);
+  low = subst (AllByRecursion (λ (x : Content). x.position ≤ last)) (sym pages) (all_low last old.pages.items page is.low low);
 }
 
 -- a page that was read is a data page, if it is not past the log
@@ -118,12 +154,12 @@ pub untaken : (copy last n : ℕ) (bytes : List ℕ) (fault : PageFault) → IsN
 untaken copy last n bytes NotAPage none = none_there copy last n bytes none
 untaken copy last n bytes NoMemory none = tt
 
--- what is taken of a page has a spelling, its copy and its number
-pub taken_fits : (copy last : ℕ) (switch : LastSwitch) (n : ℕ) (bytes : List ℕ) (y : Content) → IsTaken copy last switch n bytes y → FitsPage y × (y.copy ≡ copy) × (y.number ≡ n)
+-- what is taken of a page has a spelling, its copy and its number, and no higher position
+pub taken_fits : (copy last : ℕ) (switch : LastSwitch) (n : ℕ) (bytes : List ℕ) (y : Content) → IsTaken copy last switch n bytes y → FitsPage y × (y.copy ≡ copy) × (y.number ≡ n) × (y.position ≤ last)
 taken_fits copy last switch n bytes y taken = subst Good (sym taken.is) (go (nat_lt switch.pages n && nat_lt taken.page.position switch.at))
   where
     Good : Content → Type 0
-    Good x = FitsPage x × (x.copy ≡ copy) × (x.number ≡ n)
+    Good x = FitsPage x × (x.copy ≡ copy) × (x.number ≡ n) × (x.position ≤ last)
 
     go : (b : Bool) → Good (taken_if b taken.page)
     go true = (
@@ -137,8 +173,9 @@ taken_fits copy last switch n bytes y taken = subst Good (sym taken.is) (go (nat
       },
       taken.data_page.copy_is,
       taken.data_page.number,
+      omega arith,
     )
-    go false = (taken.data_page.spells.fits, taken.data_page.copy_is, taken.data_page.number)
+    go false = (taken.data_page.spells.fits, taken.data_page.copy_is, taken.data_page.number, taken.data_page.position)
 
 -- a copy's pages are within its set
 pub copy_within : (capacities : Capacities) (copy : ℕ) → copy_capacity capacities copy ≤ capacity_of capacities (set_of copy)

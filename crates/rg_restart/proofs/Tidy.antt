@@ -1,5 +1,5 @@
--- What a crash leaves of a log that was read.
-use Rattle.std.proofs.Common.{◌≡◌, ◌≤◌, ◌++◌, ℕ, length, Option, None, Some, sym, ◌∙◌, ap, subst}
+-- What was tidy when the count began, at an opening.
+use Rattle.std.proofs.Common.{◌≡◌, ◌≤◌, ◌+◌, ◌++◌, ℕ, arith, length, Option, None, Some, sym, ◌∙◌, ap, subst}
 use Rattle.rg_image.specs.Rules.{IsTidyLog}
 use Rattle.rg_log.specs.Kept.{LeavesLog, Listed, log_pages}
 use Rattle.rg_log.specs.Open.{IsQuiet, ReadsTidy}
@@ -7,9 +7,14 @@ use Rattle.rg_outside.specs.Calls.{Image, Told, read_of}
 use Rattle.rg_outside.specs.Capacities.{Capacities}
 use Rattle.rg_outside.specs.Moments.{EachCall, EachImage, IfTold, read_at}
 use Rattle.rg_image.specs.Log.{SpellsFrom}
+use Rattle.rg_newest.specs.Tidy.{AreTidyPages}
+use Rattle.rg_outside.proofs.Every.{told_weaken}
+use Rattle.rg_desk.specs.OnVolume.{WasAllTidy}
 use Rattle.rg_desk.specs.Volume.{Leaves, LeavesIfTidy, VolumeSeen, WasTidy}
 use Rattle.rg_desk.proofs.Leaving.{began}
+use Rattle.rg_desk.proofs.OnVolume.{tidy_on}
 use Rattle.rg_restart.specs.Opening.{GoesOnTidy}
+use Rattle.rg_restart.proofs.Reading.{quiet_image}
 
 on_quiet : (old new : Option Told) (capacities : Capacities) (log : Listed) → EachCall old new IsQuiet → log.pages ≡ log_pages capacities
     → IfTold old (λ t. (t.start ≤ length t.calls) × (WasTidy (log_pages capacities) t → IsTidyLog (log_pages capacities) (read_of t.first t.calls)))
@@ -25,4 +30,14 @@ on_quiet (Some before) (Some after) capacities log made pages goes leaves = λ t
 
 -- a log that read tidy when the count began is left by a crash as it was read
 pub opened_leaves : (old new : VolumeSeen) (log : Listed) → EachCall old.told new.told IsQuiet → log.pages ≡ log_pages old.capacities → GoesOnTidy old → (ReadsTidy old.told log.pages → Leaves new log) → LeavesIfTidy new log
-opened_leaves old new log made pages goes leaves = on_quiet old.told new.told old.capacities log made pages goes leaves
+opened_leaves old new log made pages goes leaves =
+    on_quiet old.told new.told old.capacities log made pages
+    (told_weaken _ (λ t. (t.start ≤ length t.calls) × (WasTidy (log_pages old.capacities) t → IsTidyLog (log_pages old.capacities) (read_of t.first t.calls))) old.told (λ t is. (is.0, is.1)) goes) leaves
+
+-- pages that did, too, are tidy as they were read
+pub opened_tidy : (old new : VolumeSeen) → EachCall old.told new.told IsQuiet → GoesOnTidy old → IfTold new.told (λ t. WasAllTidy old.capacities t → AreTidyPages old.capacities (read_of t.first t.calls))
+opened_tidy old new made goes =
+    tidy_on IsQuiet old.told new.told old.capacities (λ t. AreTidyPages old.capacities (read_of t.first t.calls)) (λ t. AreTidyPages old.capacities (read_of t.first t.calls)) 0 made
+    (told_weaken _ (λ t. t.start + 0 ≤ length t.calls) old.told (λ t is. omega (arith, is.0)) goes)
+    (quiet_image (λ i. AreTidyPages old.capacities i) old.told new.told made)
+    (told_weaken _ (λ t. WasAllTidy old.capacities t → AreTidyPages old.capacities (read_of t.first t.calls)) old.told (λ t is. is.2) goes)

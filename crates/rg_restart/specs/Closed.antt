@@ -3,7 +3,8 @@
 -- 1. Each unit's Changes that are not undone are undone, the latest first, each tested at its turn.
 -- 2. The records of the undo are appended to the log, and nothing is forced. They take no more of
 --    it than was reserved: 911 bytes for an Undo, and 23 for the RolledBack.
--- 3. The first Change that lacks what its undo needs is known by its place.
+-- 3. The pages stay the newest versions that the records of the log make of them.
+-- 4. The first Change that lacks what its undo needs is known by its place.
 use Rattle.std.specs.Prelude.{◌≡◌, ◌≤◌, ◌+◌, ◌*◌, ◌++◌, ◌∷◌, ℕ, true, List, [], length, map, Option, Some, None}
 use Rattle.rg_base.specs.declared.place.Place.{Place}
 use Rattle.rg_home.specs.Able.{Proper}
@@ -27,6 +28,7 @@ use Rattle.rg_undo.specs.Undoing.{written_of}
 use Rattle.rg_undo.specs.Unit.{undo_records, writes_of}
 use Rattle.rg_unended.specs.Unended.{left_of, owed_for}
 use Rattle.rg_space.specs.Memory.{list_seen, space_pages}
+use Rattle.rg_desk.specs.Newest.{StayNewest}
 use Rattle.rg_desk.specs.Undoing.{is_undo}
 
 -- summaries and pages are in step, and agree
@@ -128,6 +130,7 @@ pub record ClosedUnit
   pub undid : Undid old new (writes_of (left_of tran rs))
   pub took : TookBack (tran ∷ []) (911 * length (left_of tran rs) + 23) log later
   pub records : later.records ≡ closed_by tran rs (space_pages old) log.records
+  pub newest : StayNewest log.records old later.records new
 
 -- what the undo of a unit came to: it is closed, or a Change lacks something
 abbrev pub ClosesUnit :
@@ -144,6 +147,7 @@ pub record ClosedAll
     pub undid : Undid old new (all_of (writes_left ts rs))
     pub took : TookBack ts (owed_for ts rs) log later
     pub records : later.records ≡ all_closed ts rs (space_pages old) log.records
+    pub newest : StayNewest log.records old later.records new
 
 -- what that came to
 abbrev pub Closes :

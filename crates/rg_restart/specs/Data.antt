@@ -4,9 +4,13 @@
 --    at most that of the last record. Zeros spell the page without slots and with position 0.
 -- 2. A page past those that the last Switch counts, whose position is below that of the Switch, is
 --    left over from an earlier time: it is taken as empty.
-use Rattle.std.specs.Prelude.{◌≡◌, ◌≤◌, ◌<◌, ℕ, List, [], ◌∷◌, length, Option}
+-- 3. A page that is taken as it was read is marked with its position. One that is left over has no
+--    mark.
+use Rattle.std.specs.Prelude.{◌≡◌, ◌≤◌, ◌<◌, ◌&&◌, nat_lt, ℕ, Bool, true, false, List, [], ◌∷◌, length, Option, Some, None}
 use Rattle.std.specs.List.{AllByRecursion}
+use Rattle.rg_base.specs.declared.position.Position.{Position}
 use Rattle.rg_base.specs.declared.set.Set.{Set}
+use Rattle.rg_desk.specs.OnVolume.{mark_at}
 use Rattle.rg_desk.specs.declared.desk.OpenCause.{OpenCause}
 use Rattle.rg_desk.specs.declared.desk.OpenCause.TheVariants.{Damaged, Device, NoMemory}
 use Rattle.rg_outside.specs.Calls.{Image, Told, read_of}
@@ -55,6 +59,22 @@ pub record IsTaken (copy last : ℕ) (switch : LastSwitch) (n : ℕ) (bytes : Li
   pub data_page : IsDataPage copy last n bytes page
   pub is : y ≡ taken_past switch.at switch.pages n page
 
+-- the mark of a page: its position, if it is not left over
+abbrev pub mark_if : (is_old : Bool) → Content → Option Position
+mark_if true x = None
+mark_if false x = Some (record { 0 = x.position })
+
+-- the same by the position and the pages of the last Switch
+abbrev pub mark_past : (from pages n : ℕ) → Content → Option Position
+mark_past from pages n x = mark_if (nat_lt pages n && nat_lt x.position from) x
+
+-- how an opening marks it
+pub record IsMarked (copy last : ℕ) (switch : LastSwitch) (n : ℕ) (bytes : List ℕ)
+    (mark : Option Position) : Type 0 where
+  pub page : Content
+  pub data_page : IsDataPage copy last n bytes page
+  pub is : mark ≡ mark_past switch.at switch.pages n page
+
 -- it is none
 abbrev pub BreaksData : (copy last n : ℕ) → List ℕ → Type 0
 BreaksData copy last n bytes = (x : Content) → IsDataPage copy last n bytes x → ⊥
@@ -65,6 +85,13 @@ pub record TakesPages (copy last : ℕ) (switch : LastSwitch) (set : Set) (count
   pub count_is : length base ≡ count
   pub each : (n : ℕ) → 1 ≤ n → n ≤ count
       → IsTaken copy last switch n (i set n) (content_at base n)
+
+-- the same pages, as an opening marks them
+pub record MarksPages (copy last : ℕ) (switch : LastSwitch) (set : Set) (count : ℕ) (i : Image)
+    (marks : List (Option Position)) : Type 0 where
+  pub count_is : length marks ≡ count
+  pub each : (n : ℕ) → 1 ≤ n → n ≤ count
+      → IsMarked copy last switch n (i set n) (mark_at marks n)
 
 -- this page is the first of them that is no data page
 pub record IsFirstBroken (copy last : ℕ) (set : Set) (count : ℕ) (i : Image) (page : ℕ) : Type 0
@@ -80,12 +107,13 @@ abbrev pub IsUntaken : (copy last n : ℕ) → List ℕ → PageFault → Type 0
 IsUntaken copy last n bytes NotAPage = BreaksData copy last n bytes
 IsUntaken copy last n bytes faults.NoMemory = Unit {0}
 
--- pages of a copy that all have a spelling
-pub record AreBase (copy count : ℕ) (frames : ListFrames) : Type 0 where
+-- pages of a copy that all have a spelling, and a position of at most the last record's
+pub record AreBase (copy last count : ℕ) (frames : ListFrames) : Type 0 where
   pub copy_is : frames.copy ≡ copy
   pub reserved : frames.reserved.items ≡ []
   pub count_is : length frames.pages.items ≡ count
   pub fits : AllByRecursion FitsPage frames.pages.items
+  pub low : AllByRecursion (λ (x : Content). x.position ≤ last) frames.pages.items
 
 -- why the pages were not taken: the first that is no data page is named, a call failed, or memory
 -- ran out

@@ -2,7 +2,9 @@
 --
 -- 1. It goes on from a log that keeps its rules, over a copy that may have so many pages.
 -- 2. Each step keeps what those before it found. One that is refused names the rule that is broken.
-use Rattle.std.specs.Prelude.{◌≡◌, ◌≤◌, ◌<◌, ◌+◌, ◌^◌, ◌++◌, ℕ, List, length}
+-- 3. The pages are the newest versions that the records of the log make of those that were read.
+use Rattle.std.specs.Prelude.{◌≡◌, ◌≤◌, ◌<◌, ◌+◌, ◌^◌, ◌++◌, ℕ, List, Option, length}
+use Rattle.rg_base.specs.declared.position.Position.{Position}
 use Rattle.rg_base.specs.declared.set.Set.{Set}
 use Rattle.rg_chain.specs.Kept.{IsKept}
 use Rattle.rg_chain.specs.Running.{Running}
@@ -20,10 +22,12 @@ use Rattle.rg_page.specs.Content.{Content}
 use Rattle.rg_page.specs.declared.list.ListFrames.{ListFrames}
 use Rattle.rg_rebuilt.specs.Rebuilt.{CanRebuild}
 use Rattle.rg_record.specs.declared.record.Record.{Record}
-use Rattle.rg_space.specs.Space.{capacity_in}
+use Rattle.rg_space.specs.Space.{capacity_in, frames_of}
 use Rattle.rg_space.specs.declared.space.Space.{Space}
 use Rattle.rg_desk.specs.Desk.{CanBegin, IsCopy}
-use Rattle.rg_space.specs.Memory.{space_pages}
+use Rattle.rg_space.specs.Memory.{list_seen, space_pages}
+use Rattle.rg_newest.specs.Tidy.{opened_epoch}
+use Rattle.rg_desk.specs.Newest.{HasNewest}
 use Rattle.rg_desk.specs.Stored.{IsStored}
 use Rattle.rg_desk.specs.declared.desk.OpenCause.{OpenCause}
 use Rattle.rg_desk.specs.declared.desk.OpenCause.TheVariants.{Damaged, Device, NoMemory}
@@ -86,11 +90,15 @@ pub record StoresFew (records : List Record) : Type 0 where
 pub record SamePages (old new : Space ListFrames) : Type 0 where
   pub in_step : IsInStep new
   pub slots : space_pages new ≡ space_pages old
+  pub contents : (list_seen (frames_of new)).pages ≡ (list_seen (frames_of old)).pages
+  pub copy : (list_seen (frames_of new)).copy ≡ (list_seen (frames_of old)).copy
   pub capacity : capacity_in new ≡ capacity_in old
 
--- what an opening found, from a log and the pages that were read, over a copy that may have so many
--- pages: what a desk may begin with, and the pages are those that the log leaves
-pub record Finds (base : List Content) (log : Listed) (capacity : ℕ) (found : Found) : Type 0 where
+-- What an opening found, from a log and the pages that were read, with these marks, over a copy
+-- that may have so many pages: what a desk may begin with, and the pages are those that the log
+-- leaves.
+pub record Finds (base : List Content) (marks : List (Option Position)) (log : Listed)
+    (capacity : ℕ) (found : Found) : Type 0 where
   pub rules : KeepsRules base log.records
   pub begins : CanBegin capacity (space_pages found.space) found.log found.top
   pub in_step : IsInStep found.space
@@ -100,3 +108,5 @@ pub record Finds (base : List Content) (log : Listed) (capacity : ℕ) (found : 
   pub copy_is : found.copy ≡ copy_of log.records
   pub count_is : length (space_pages found.space) ≡ count_of log.records
   pub took : TookBack (open_in log.records) (owed log.records) log found.log
+  pub newest : HasNewest (opened_epoch log.records base) found.log.records found.space
+  pub marks_are : found.marks.items ≡ marks

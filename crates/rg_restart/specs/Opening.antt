@@ -1,11 +1,14 @@
 -- What an opening finds, and when it is refused.
 --
 -- 1. An opening writes nothing. What its undo appends stays in memory until a COMMIT forces it.
--- 2. It is refused only where a page breaks a rule of a sound volume, a call of the volume failed,
+-- 2. Where the volume read tidy, a crash leaves of each page of the current copy what was read: a
+--    version of it that the records cover, or a page that is left over.
+-- 3. It is refused only where a page breaks a rule of a sound volume, a call of the volume failed,
 --    or memory ran out. The page is that of the first rule that is broken.
 use Rattle.std.specs.Prelude.{◌≡◌, ◌≤◌, ◌⊎◌, List, length}
 use Rattle.rg_base.specs.declared.set.Set.TheVariants.{Log}
 use Rattle.rg_desk.specs.Desk.{DeskState, Opens}
+use Rattle.rg_desk.specs.OnVolume.{IsOnVolume, WasAllTidy}
 use Rattle.rg_desk.specs.Volume.{LeavesIfTidy, VolumeSeen, WasTidy}
 use Rattle.rg_desk.specs.declared.desk.OpenCause.{OpenCause}
 use Rattle.rg_desk.specs.declared.desk.OpenCause.TheVariants.{Damaged, Device, NoMemory}
@@ -16,6 +19,7 @@ use Rattle.rg_log.specs.Kept.{Listed, log_pages}
 use Rattle.rg_log.specs.Open.{IsQuiet}
 use Rattle.rg_log.specs.declared.fault.LogFault.{LogFault}
 use Rattle.rg_log.specs.declared.fault.LogFault.TheVariants as log_faults
+use Rattle.rg_newest.specs.Tidy.{AreTidyPages}
 use Rattle.rg_outside.specs.Calls.{read_of}
 use Rattle.rg_outside.specs.Capacities.{Capacities}
 use Rattle.rg_outside.specs.Faults.{Rose}
@@ -28,12 +32,15 @@ use Rattle.rg_restart.specs.Found.{Finds}
 use Rattle.rg_restart.specs.Pages.{copy_of, count_of}
 use Rattle.rg_restart.specs.Sound.{IsDamage, IsSoundBy}
 
--- If the log read tidy when the count began, it does so now.
+-- If the log read tidy when the count began, it does so now. So it is with the pages past those of
+-- the current copy, if they did, too.
 abbrev pub GoesOnTidy : VolumeSeen → Type 0
 GoesOnTidy seen =
     IfTold seen.told (λ t. (t.start ≤ length t.calls)
     × (WasTidy (log_pages seen.capacities) t
-    → IsTidyLog (log_pages seen.capacities) (read_of t.first t.calls)))
+    → IsTidyLog (log_pages seen.capacities) (read_of t.first t.calls))
+    × (WasAllTidy seen.capacities t
+    → AreTidyPages seen.capacities (read_of t.first t.calls)))
 
 -- calls that write nothing
 pub record CallsQuiet (old new : VolumeSeen) : Type 0 where
@@ -78,10 +85,12 @@ pub record Looks (old new : VolumeSeen) (found : Found) : Type 0 where
   pub log : Listed
   pub pages : log.pages ≡ log_pages old.capacities
   pub base : List Content
-  pub finds : Finds base log (copy_capacity old.capacities (copy_of log.records)) found
+  pub finds :
+      Finds base found.marks.items log (copy_capacity old.capacities (copy_of log.records)) found
   pub calls : CallsQuiet old new
   pub sound : ReadsSound new log.records base
   pub leaves : LeavesIfTidy new found.log
+  pub is_on : IsOnVolume found.copy found.log found.space found.marks.items new
 
 -- A desk that was opened over a volume: over its log as it read, to which the undo of open units
 -- was appended, and over the pages that this log leaves.

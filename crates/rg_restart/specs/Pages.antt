@@ -8,11 +8,11 @@
 --    or in undo that of the first Change.
 -- 4. *Stored rows.* After undo the home rows are the stored rows. The page of the least place is
 --    named whose row is not stored; where there is none, the last log page.
-use Rattle.std.specs.Prelude.{◌≡◌, ◌==◌, ℕ, if◌then◌else◌, List, length, take, Option, Some, None}
+use Rattle.std.specs.Prelude.{◌≡◌, ℕ, List, length, take, Option, Some, None}
 use Rattle.rg_base.specs.declared.place.Place.{Place}
 use Rattle.rg_base.specs.declared.row.Row.{Row as TableRow}
 use Rattle.rg_base.specs.declared.set.Set.{Set}
-use Rattle.rg_base.specs.declared.set.Set.TheVariants.{Log, First, Second}
+use Rattle.rg_base.specs.declared.set.Set.TheVariants.{Log}
 use Rattle.rg_home.specs.Pages.{slot_of}
 use Rattle.rg_home.specs.Rows.{row_at}
 use Rattle.rg_home.specs.Slot.{Slot}
@@ -21,6 +21,7 @@ use Rattle.rg_image.specs.Meaning.{current_of, stored}
 use Rattle.rg_image.specs.Pack.{end_of, start}
 use Rattle.rg_lawful.specs.Tested.{all_of}
 use Rattle.rg_page.specs.Content.{Content, slots_of}
+pub use Rattle.rg_newest.specs.Tidy.{set_of}
 use Rattle.rg_ready.specs.Needed.{NeededInTurn}
 use Rattle.rg_rebuilt.specs.Rebuilt.{rebuilt_pages}
 use Rattle.rg_record.specs.declared.record.Record.{Record}
@@ -30,10 +31,6 @@ use Rattle.rg_tested.specs.Places.{IsLeastBreach}
 use Rattle.rg_tested.specs.Ties.{IsTiedAt}
 use Rattle.rg_unended.specs.Unended.{open_in}
 use Rattle.rg_restart.specs.Closed.{IsLacking, lefts_of, writes_left}
-
--- the set that a copy has its pages in
-abbrev pub set_of : (copy : ℕ) → Set
-set_of copy = if copy == 1 then First else Second
 
 -- the current copy, and how many pages it has
 abbrev pub copy_of : List Record → ℕ

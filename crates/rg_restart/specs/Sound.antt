@@ -5,7 +5,8 @@
 -- 2. *Data pages.* Then each page of the current copy spells one of that copy and its number, with
 --    a position of at most the last record's. The first that does not is named.
 -- 3. Then come the rules on what the records make of these pages.
-use Rattle.std.specs.Prelude.{ℕ, List, length}
+use Rattle.std.specs.Prelude.{ℕ, List, Option, length}
+use Rattle.rg_base.specs.declared.position.Position.{Position}
 use Rattle.rg_base.specs.declared.set.Set.{Set}
 use Rattle.rg_base.specs.declared.set.Set.TheVariants.{Log}
 use Rattle.rg_image.specs.Rules.{BreaksChain, BreaksLogPages, BreaksSpace, HasLogPages, HasSpace, IsChain}
@@ -14,7 +15,7 @@ use Rattle.rg_outside.specs.Calls.{Image}
 use Rattle.rg_outside.specs.Capacities.{Capacities}
 use Rattle.rg_page.specs.Content.{Content}
 use Rattle.rg_record.specs.declared.record.Record.{Record}
-use Rattle.rg_restart.specs.Data.{IsFirstBroken, TakesPages, switch_of}
+use Rattle.rg_restart.specs.Data.{IsFirstBroken, MarksPages, TakesPages, switch_of}
 use Rattle.rg_restart.specs.Pages.{BreaksRule, KeepsRules, copy_of, count_of, set_of}
 
 -- the log has these records, and keeps its rules
@@ -27,6 +28,11 @@ pub record HasSoundLog (capacities : Capacities) (i : Image) (rs : List Record) 
 abbrev pub TakesBase : List Record → Image → (base : List Content) → Type 0
 TakesBase rs i base =
     TakesPages (copy_of rs) (length rs) (switch_of rs) (set_of (copy_of rs)) (count_of rs) i base
+
+-- and have these marks
+abbrev pub MarksBase : List Record → Image → (marks : List (Option Position)) → Type 0
+MarksBase rs i marks =
+    MarksPages (copy_of rs) (length rs) (switch_of rs) (set_of (copy_of rs)) (count_of rs) i marks
 
 -- this page of the current copy is the first that is no data page
 abbrev pub IsFirstBad : List Record → Image → (page : ℕ) → Type 0

@@ -1,15 +1,17 @@
 // The pages of a copy, read at an opening.
 //
 // 1. Each page is read and tested by the rule for data pages. The first that breaks it is named.
-// 2. A page that is left over from before the last Switch is taken as empty.
+// 2. A page that is left over from before the last Switch is taken as empty, and has no mark. Each
+//    other page is taken as it was read, and is marked with its position.
 // 3. Nothing is written.
 ghost use Rattle.std.specs.Prelude.{◌≡◌, ◌≤◌, ◌&&◌, nat_lt, IfOk, IfErr};
 ghost use Rattle.rg_log.specs.Open.{IsQuiet};
 ghost use Rattle.rg_outside.specs.Calls.{read_of};
 ghost use Rattle.rg_outside.specs.Capacities.{capacity_of};
 ghost use Rattle.rg_outside.specs.Moments.{EachCall, IfTold};
-ghost use Rattle.rg_restart.specs.Data.{AreBase, IsDataFault, IsTaken, IsUntaken, TakesPages, switch_after, switch_of};
+ghost use Rattle.rg_restart.specs.Data.{AreBase, IsDataFault, IsMarked, IsTaken, IsUntaken, MarksPages, TakesPages, switch_after, switch_of};
 
+use rg_base::position::Position;
 use rg_base::set::Set;
 use rg_desk::desk::OpenCause;
 use rg_outside::volume::Volume;
@@ -19,6 +21,20 @@ use rg_page_bytes::fault::PageFault;
 use rg_record::buffer::PAGE_SIZE;
 use rg_record::record::{Kind, Record};
 use std::alloc::Global;
+
+/// The pages of a copy, as an opening takes them, and their marks.
+#[derive(Drop)]
+pub struct ReadPages {
+    pub frames: ListFrames,
+    pub marks: Vec<Option<Position>>,
+}
+
+// A page, as an opening takes it, and its mark.
+#[derive(Drop)]
+struct TakenPage {
+    page: Page,
+    mark: Option<Position>,
+}
 
 /// The last Switch of a log: its position and how many pages it counts, or 0 and 0.
 #[derive(Clone, Copy, Debug)]
@@ -70,8 +86,9 @@ fn take_page(
     last: u64,
     switch: LastSwitch,
     bytes: &[u8; PAGE_SIZE],
-) -> Result<Page, PageFault>
-    ensures taken { IfOk result (λ page. IsTaken copy last switch number bytes.now page) }
+) -> Result<TakenPage, PageFault>
+    ensures taken { IfOk result (λ taken. IsTaken copy last switch number bytes.now taken.page) }
+    ensures marked { IfOk result (λ taken. IsMarked copy last switch number bytes.now taken.mark) }
     ensures untaken { IfErr result (IsUntaken copy last number bytes.now) }
 {
     let page = Page::read(alloc, copy, number, bytes)?;
@@ -80,13 +97,17 @@ fn take_page(
         return Err(PageFault::NotAPage);
     }
     if is_left_over(switch, number, position) {
-        return Ok(Page::new(alloc, copy, number)?);
+        return Ok(TakenPage {
+            page: Page::new(alloc, copy, number)?,
+            mark: None,
+        });
     }
-    Ok(page)
+    let mark = Some(page.position());
+    Ok(TakenPage { page, mark })
 }
 
-/// The pages 1 to `count` of a copy, which has them in this set, as an opening takes them. The last
-/// record has the position `last`.
+/// The pages 1 to `count` of a copy, which has them in this set, as an opening takes and marks
+/// them. The last record has the position `last`.
 pub fn read_pages<V: Volume>(
     alloc: Global,
     volume: &mut V,
@@ -95,11 +116,14 @@ pub fn read_pages<V: Volume>(
     count: u32,
     last: u64,
     switch: LastSwitch,
-) -> Result<ListFrames, OpenCause>
+) -> Result<ReadPages, OpenCause>
     requires { count ≤ capacity_of (V.capacities volume.old) set }
-    ensures base { IfOk result (AreBase copy count) }
-    ensures takes { IfOk result (λ frames. IfTold (V.told volume.new) (λ t.
-        TakesPages copy last switch set count (read_of t.first t.calls) frames.pages.items)) }
+    ensures base { IfOk result (λ read. AreBase copy last count read.frames) }
+    ensures takes { IfOk result (λ read. IfTold (V.told volume.new) (λ t.
+        TakesPages copy last switch set count (read_of t.first t.calls)
+        read.frames.pages.items)) }
+    ensures marks { IfOk result (λ read. IfTold (V.told volume.new) (λ t.
+        MarksPages copy last switch set count (read_of t.first t.calls) read.marks.items)) }
     ensures refused { IfErr result (IsDataFault copy last set count (V.told volume.new)
         (V.faults volume.old) (V.faults volume.new)) }
     ensures only { EachCall (V.told volume.old) (V.told volume.new) IsQuiet }
@@ -107,6 +131,7 @@ pub fn read_pages<V: Volume>(
     ensures later { V.faults volume.old ≤ V.faults volume.new }
 {
     let mut frames = ListFrames::new(alloc, copy);
+    let mut marks = Vec::new(alloc);
     for before in 0..count {
         let number = before + 1;
         let mut bytes = [0; PAGE_SIZE];
@@ -114,8 +139,11 @@ pub fn read_pages<V: Volume>(
             return Err(OpenCause::Device);
         };
         match take_page(alloc, copy, number, last, switch, &bytes) {
-            Ok(page) => {
+            Ok(TakenPage { page, mark }) => {
                 let Ok(()) = frames.push(page) else {
+                    return Err(OpenCause::NoMemory);
+                };
+                let Ok(()) = marks.push(mark) else {
                     return Err(OpenCause::NoMemory);
                 };
             }
@@ -123,5 +151,5 @@ pub fn read_pages<V: Volume>(
             Err(PageFault::NoMemory) => return Err(OpenCause::NoMemory),
         }
     }
-    Ok(frames)
+    Ok(ReadPages { frames, marks })
 }

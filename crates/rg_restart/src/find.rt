@@ -3,9 +3,12 @@
 // 1. The log is redone on the pages that were read. Then each rule on pages is tested, in their
 //    order, and the first that is broken names its page.
 // 2. Open units are undone before the rows are compared with the stored ones.
-// 3. No call of a volume is made. After a refusal all that was found is to be dropped.
+// 3. The pages are the newest versions: what the records of the log, those of the undo too, make of
+//    the pages that were read.
+// 4. No call of a volume is made. After a refusal all that was found is to be dropped.
 ghost use Rattle.std.specs.Prelude.{◌≡◌, ◌≤◌, ◌+◌, ◌==◌, ℕ, length, take, if◌then◌else◌, IfOk, IfErr, OnOk, None};
 ghost use Rattle.rg_base.specs.declared.set.Set.TheVariants.{Log as LogSet};
+ghost use Rattle.rg_desk.specs.Newest.{StayNewest};
 ghost use Rattle.rg_home.specs.Able.{Proper};
 ghost use Rattle.rg_home.specs.Pages.{slot_of};
 ghost use Rattle.rg_home.specs.Rows.{row_at};
@@ -16,7 +19,7 @@ ghost use Rattle.rg_index.specs.Listed.{IsListingOf};
 ghost use Rattle.rg_indexes.specs.Listings.{AreListings, entries_of};
 ghost use Rattle.rg_page.specs.Bare.{numbers_of};
 ghost use Rattle.rg_rebuilt.specs.Rebuilt.{AreSoundPages, CanRebuild, IsRebuilt};
-ghost use Rattle.rg_space.specs.Space.{capacity_in};
+ghost use Rattle.rg_space.specs.Space.{capacity_in, frames_of};
 ghost use Rattle.rg_unended.specs.Unended.{open_in};
 ghost use Rattle.rg_space.specs.Memory.{space_pages};
 ghost use Rattle.rg_restart.specs.Closed.{IsInStep};
@@ -25,6 +28,7 @@ ghost use Rattle.rg_restart.specs.Found.{Finds, IsClosed, IsGrown, MayFind, Refu
 ghost use Rattle.rg_restart.specs.Pages.{BreaksFit, BreaksRows, BreaksRule, BreaksSlots, IsMatched, copy_of, count_of, page_of, set_of};
 
 use crate::close::close_units;
+use crate::data::ReadPages;
 use crate::stored::stored_rows;
 use rg_base::no_memory::NoMemory;
 use rg_base::position::Position;
@@ -34,6 +38,7 @@ use rg_base::which::Which;
 use rg_btree::tree::{Tree, build};
 use rg_chain::chain::Chain;
 use rg_desk::desk::OpenCause;
+use rg_desk::flush::set_of;
 use rg_desk::found::Found;
 use rg_image::sizes::last_page;
 use rg_indexes::indexes::Indexes;
@@ -47,13 +52,6 @@ use rg_tested::twice::twice;
 use rg_tested::untied::untied;
 use rg_unended::unended::open_trans;
 use std::alloc::Global;
-
-/// The set that a copy has its pages in.
-pub fn set_of(copy: u8) -> Set
-    ensures { result ≡ set_of copy }
-{
-    if copy == 1 { Set::First } else { Set::Second }
-}
 
 // The log page that the first `count` records end on.
 fn page_of(log: &Log, count: usize) -> u32
@@ -79,11 +77,13 @@ fn redo_log(
     capacity: u32,
 ) -> Result<Space<ListFrames>, OpenCause>
     requires can { CanRebuild (count_of log.now.records) log.now.records }
-    requires base { AreBase (copy_of log.now.records) (count_of log.now.records) frames }
+    requires base { AreBase (copy_of log.now.records) (length log.now.records)
+        (count_of log.now.records) frames }
     requires within { count_of log.now.records ≤ capacity }
     requires limit { capacity ≤ 65536 }
     ensures ok { IfOk result (λ space. IsRebuilt frames.pages.items log.now.records space
         × (capacity_in space ≡ capacity)) }
+    ensures copy { IfOk result (λ space. (frames_of space).copy ≡ frames.copy) }
     ensures refused { IfErr result (Refuses (BreaksFit frames.pages.items log.now.records)) }
 {
     match rebuild(alloc, log, frames, capacity) {
@@ -109,6 +109,8 @@ fn close_open(
     requires set { set ≡ set_of (copy_of log.old.records) }
     ensures ok { OnOk result (IsClosed (space_pages space.old) log.old (capacity_in space.old)
         space.new log.new) }
+    ensures newest { OnOk result
+        (StayNewest log.old.records space.old log.new.records space.new) }
     ensures refused { IfErr result
         (Refuses (BreaksSlots log.old.records (space_pages space.old))) }
 {
@@ -185,20 +187,22 @@ fn indexes_of(alloc: Global, space: &mut Space<ListFrames>) -> Result<Indexes, N
     })
 }
 
-/// What the records of a log leave, of which `chain` is kept, on the pages that were read. The copy
-/// may have `capacity` pages.
+/// What the records of a log leave, of which `chain` is kept, on the pages that were read. Their
+/// marks stay. The copy may have `capacity` pages.
 pub fn find(
     alloc: Global,
     log: Log,
     chain: &Chain,
-    frames: ListFrames,
+    read: ReadPages,
     capacity: u32,
 ) -> Result<Found, OpenCause>
     requires may { MayFind log chain.now capacity }
-    requires base { AreBase (copy_of log.records) (count_of log.records) frames }
-    ensures found { IfOk result (Finds frames.pages.items log capacity) }
-    ensures refused { IfErr result (Refuses (BreaksRule frames.pages.items log.records)) }
+    requires base { AreBase (copy_of log.records) (length log.records) (count_of log.records)
+        read.frames }
+    ensures found { IfOk result (Finds read.frames.pages.items read.marks.items log capacity) }
+    ensures refused { IfErr result (Refuses (BreaksRule read.frames.pages.items log.records)) }
 {
+    let ReadPages { frames, marks } = read;
     let mut log = log;
     let (count, copy) = (log.records().len(), chain.copy());
     let set = set_of(copy);
@@ -214,5 +218,6 @@ pub fn find(
         copy,
         indexes,
         top: chain.greatest().0,
+        marks,
     })
 }

@@ -13,13 +13,14 @@ ghost use Rattle.rg_rebuilt.specs.Laws.{CoversAll};
 ghost use Rattle.rg_restart.specs.Opening.{BreaksLog, GoesOnTidy, IsRefused, Looks, OpensStored, cause_of};
 
 use crate::data::{read_pages, switch_of};
-use crate::find::{damaged, find, set_of};
+use crate::find::{damaged, find};
 use rg_base::no_memory::NoMemory;
 use rg_base::set::Set;
 use rg_chain::chain::Chain;
 use rg_chain::names::copy_pages;
 use rg_chain::test::{LogTest, test_log};
 use rg_desk::desk::{Desk, OpenCause, OpenFault};
+use rg_desk::flush::set_of;
 use rg_desk::found::Found;
 use rg_log::fault::LogFault;
 use rg_log::log::Log;
@@ -78,9 +79,9 @@ fn look<V: Volume>(alloc: Global, volume: &mut V) -> Result<Found, OpenCause>
     let (copy, count) = (chain.copy(), chain.pages());
     let last = log.records().len() as u64;
     let switch = switch_of(log.records());
-    let frames = read_pages(alloc, volume, copy, set_of(copy), count, last, switch)?;
+    let read = read_pages(alloc, volume, copy, set_of(copy), count, last, switch)?;
     let capacity = copy_pages(volume, copy);
-    find(alloc, log, &chain, frames, capacity)
+    find(alloc, log, &chain, read, capacity)
 }
 
 /// Opens a volume over the table that its log stores. A page that breaks a rule of a sound volume

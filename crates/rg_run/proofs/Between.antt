@@ -3,7 +3,6 @@ use Rattle.std.proofs.Common.{◌≡◌, ◌≤◌, ◌+◌, ◌-◌, ◌++◌, 
 use Rattle.std.specs.List.{AllByRecursion}
 use Rattle.std.proofs.Math.Seq.{drop-append_seam}
 use Rattle.rg_log.proofs.Ready.{quiet_reads}
-use Rattle.rg_base.specs.declared.set.Set.TheVariants.{Log}
 use Rattle.rg_desk.specs.Volume.{WasTidy}
 use Rattle.rg_image.specs.Log.{log_of}
 use Rattle.rg_image.specs.Rules.{HasLogPages, IsTidyLog}
@@ -11,7 +10,6 @@ use Rattle.rg_image.proofs.Rules.{log_is_read}
 use Rattle.rg_log.specs.Open.{IsQuiet}
 use Rattle.rg_outside.specs.Calls.{Call, Image, Told, read_of}
 use Rattle.rg_outside.specs.Counts.{counted}
-use Rattle.rg_outside.specs.Made.{WritesIn}
 use Rattle.rg_outside.specs.Moments.{EachCall, EachImage, IfTold, read_at}
 use Rattle.rg_record.specs.declared.record.Record.{Record}
 use Rattle.rg_run.specs.Outside.{IfBoth, log_at}
@@ -71,21 +69,21 @@ stored_out Kind pages n Q old (Some t) le made all = λ few before was.
 same_reads : (before m : Told) (fresh : List Call) → m ≡ record before { calls = fresh ++ before.calls } → AllByRecursion IsQuiet fresh → read_of m.first m.calls ≡ read_of before.first before.calls
 same_reads before m fresh is all = ap (λ (x : Told). read_of x.first x.calls) is ∙ (λ i s p. quiet_reads before.first fresh before.calls s p all i)
 
-read_first : (pages : ℕ) (rs : List Record) (old mid later : Option Told) (before : Told) → old ≡ Some before → (t : Told) → later ≡ Some t → EachCall (counted old 0) mid IsQuiet → EachCall mid later (WritesIn Log)
+read_first : (Kind : Call → Type 0) (pages : ℕ) (rs : List Record) (old mid later : Option Told) (before : Told) → old ≡ Some before → (t : Told) → later ≡ Some t → EachCall (counted old 0) mid IsQuiet → EachCall mid later Kind
     → IfTold mid (λ m. HasLogPages pages (read_of m.first m.calls) rs) → log_at pages before ≡ rs
-read_first pages rs old None later before was t is quiet made has = absurd (cc ((subst (λ (o : Option Told). EachCall None o (WritesIn Log)) is made).2))
-read_first pages rs old (Some m) later before was t is quiet made has =
+read_first Kind pages rs old None later before was t is quiet made has = absurd (cc ((subst (λ (o : Option Told). EachCall None o Kind) is made).2))
+read_first Kind pages rs old (Some m) later before was t is quiet made has =
     let begun = first_is old before quiet.0 was quiet.2 in
     let same : read_of m.first m.calls ≡ read_of before.first before.calls =
     same_reads quiet.0 m quiet.1 quiet.3 quiet.4 ∙ ap (λ (x : Told). read_of x.first x.calls) begun in
     ap (log_of pages) (sym same) ∙ log_is_read pages (read_of m.first m.calls) rs has
 
 -- the records that were read at the opening are the log before the run
-pub read_out : (pages n : ℕ) (rs : List Record) (old mid new : Option Told) → IfTold new (λ t. n ≤ length t.calls) → EachCall (counted old 0) mid IsQuiet → EachCall mid (counted new n) (WritesIn Log)
+pub read_out : (Kind : Call → Type 0) (pages n : ℕ) (rs : List Record) (old mid new : Option Told) → IfTold new (λ t. n ≤ length t.calls) → EachCall (counted old 0) mid IsQuiet → EachCall mid (counted new n) Kind
     → IfTold mid (λ m. HasLogPages pages (read_of m.first m.calls) rs) → IfBoth old new (λ before t. log_at pages before ≡ rs)
-read_out pages n rs old mid None le quiet made has = tt
-read_out pages n rs old mid (Some t) le quiet made has = λ few before was.
-    read_first pages rs old mid (counted (Some t) n) before was (record t { start = length t.calls - n }) (counted_so t n le few) quiet made has
+read_out Kind pages n rs old mid None le quiet made has = tt
+read_out Kind pages n rs old mid (Some t) le quiet made has = λ few before was.
+    read_first Kind pages rs old mid (counted (Some t) n) before was (record t { start = length t.calls - n }) (counted_so t n le few) quiet made has
 
 -- one fact of both moments from another
 pub both_weaken : (P Q : Told → Told → Type 0) (old new : Option Told) → ((before t : Told) → P before t → Q before t) → IfBoth old new P → IfBoth old new Q

@@ -1,6 +1,5 @@
 -- What a run over a counted volume says of the volume below.
 use Rattle.std.proofs.Common.{◌≡◌, ◌≤◌, ℕ, List, [], ◌∷◌, Some, length, take, refl, sym, ◌∙◌, ap, subst}
-use Rattle.rg_base.specs.declared.set.Set.TheVariants.{Log}
 use Rattle.rg_desk.specs.Desk.{DeskState, LegalFrom, old_records}
 use Rattle.rg_desk.specs.Stored.{IsStored}
 use Rattle.rg_desk.specs.Volume.{VolumeSeen}
@@ -18,9 +17,8 @@ use Rattle.rg_restart.specs.Pages.{copy_of}
 use Rattle.rg_restart.specs.Sound.{IsSoundBy}
 use Rattle.rg_restart.proofs.Beginning.{stored_more}
 use Rattle.std.proofs.Math.Seq.{take-length}
-use Rattle.rg_outside.specs.Calls.{read_of}
+use Rattle.rg_outside.specs.Calls.{Call, read_of}
 use Rattle.rg_outside.specs.Counts.{counted}
-use Rattle.rg_outside.specs.Made.{WritesIn}
 use Rattle.rg_outside.specs.Moments.{EachCall, EachImage, IfTold}
 use Rattle.rg_record.specs.declared.record.Record.{Record}
 use Rattle.rg_stmt.specs.Entries.{opened_entry}
@@ -33,8 +31,8 @@ use Rattle.rg_run.specs.declared.played.RunEnd.{RunEnd}
 use Rattle.rg_run.specs.declared.played.RunEnd.TheVariants.{Whole, Down, Damaged, DeviceAtOpening, NoMemory}
 use Rattle.rg_run.proofs.Between.{both_weaken, stored_out}
 
-module _ (old new : VolumeSeen) (n : ℕ) (rs : List Record) (pages : ℕ) (pages_are : pages ≡ log_pages old.capacities) (le : IfTold new.told (λ t. n ≤ length t.calls))
-    (made : EachCall (counted old.told 0) (counted new.told n) (WritesIn Log)) (read : IfBoth old.told new.told (λ before t. log_at (log_pages old.capacities) before ≡ rs))
+module _ (Kind : Call → Type 0) (old new : VolumeSeen) (n : ℕ) (rs : List Record) (pages : ℕ) (pages_are : pages ≡ log_pages old.capacities) (le : IfTold new.told (λ t. n ≤ length t.calls))
+    (made : EachCall (counted old.told 0) (counted new.told n) Kind) (read : IfBoth old.told new.told (λ before t. log_at (log_pages old.capacities) before ≡ rs))
     (now : List Record) (same : (k : ℕ) → stored now k ≡ stored rs k) where
   -- what is seen of the volume as it was counted
   abbrev counted_seen : VolumeSeen
@@ -62,7 +60,7 @@ module _ (old new : VolumeSeen) (n : ℕ) (rs : List Record) (pages : ℕ) (page
       rows_are = ends.1.rows_are;
       stored =
           subst (λ (k : ℕ). IfBoth old.told new.told (λ before t. IsTidyLog k (read_of before.first before.calls) → EachImage (λ i. IsStored (log_of k i) (committed_table ends.1.last)) t)) pages_are
-          (stored_out (WritesIn Log) pages n (λ i. IsStored (log_of pages i) (committed_table ends.1.last)) old.told new.told le made ends.1.stored);
+          (stored_out Kind pages n (λ i. IsStored (log_of pages i) (committed_table ends.1.last)) old.told new.told le made ends.1.stored);
     },
   )
   ends_out copy lines trace Down ends = (

@@ -1,32 +1,34 @@
 -- A run goes on by one line.
-use Rattle.std.proofs.Common.{◌≡◌, ◌≤◌, ◌||◌, ◌*◌, ℕ, Bool, true, false, List, [], ◌∷◌, ◌++◌, refl, sym, ◌∙◌, ap, subst, arith}
+use Rattle.std.proofs.Common.{◌≡◌, ◌≤◌, ◌||◌, ◌*◌, ℕ, Bool, true, false, List, [], ◌∷◌, ◌++◌, Option, refl, sym, ◌∙◌, ap, subst, arith}
 use Rattle.std.specs.Prelude.{Result, Ok, Err, OnOk}
 use Rattle.std.specs.List.{AllZip}
 use Rattle.rg_base.specs.declared.no_memory.NoMemory.{NoMemory as WantsMemory}
 use Rattle.rg_base.specs.declared.session.Session.{Session}
+use Rattle.rg_base.specs.declared.position.Position.{Position}
+use Rattle.rg_page.specs.Content.{Content}
 use Rattle.rg_stmt.specs.declared.event.Entry.{Entry}
 use Rattle.rg_stmt.specs.declared.event.Event.{Event}
-use Rattle.rg_stmt.specs.declared.event.Event.TheVariants.{Layout, LayoutDown, LayoutNoMemory, Said as EventSaid}
+use Rattle.rg_stmt.specs.declared.event.Event.TheVariants.{Clean, Flush as EventFlush, FlushDevice, FlushDown, FlushNoMemory, Layout, LayoutDown, LayoutNoMemory, Said as EventSaid}
 use Rattle.rg_stmt.specs.declared.line.Line.{Line}
-use Rattle.rg_stmt.specs.declared.line.Line.TheVariants.{Said, Show}
+use Rattle.rg_stmt.specs.declared.line.Line.TheVariants.{Flush, Said, Show}
 use Rattle.rg_stmt.specs.declared.stmt.Reply.{Reply}
 use Rattle.rg_stmt.specs.declared.stmt.Reply.TheVariants.{Done, Found, Listed, Keyed, Absent, Duplicate, Held, Victim, Drained, Full, LogFull, Device, Down, NoMemory}
 use Rattle.rg_stmt.specs.declared.stmt.Stmt.{Stmt}
 use Rattle.rg_stmt.specs.Entries.{said_entry}
 use Rattle.rg_image.specs.Rules.{limit_of}
-use Rattle.rg_base.specs.declared.set.Set.TheVariants.{Log}
 use Rattle.rg_desk.specs.Answers.{IfFull, IfLogFull, is_device}
 use Rattle.rg_desk.specs.Chronicle.{allowed_after, allowed_by, logged_after, logged_by, system_entry}
-use Rattle.rg_desk.specs.Desk.{DeskState, IsLayout, LegalFrom, MadeLayout, MadeSaid, Stays, old_records}
-use Rattle.rg_desk.specs.Volume.{CallsLog, VolumeSeen}
+use Rattle.rg_desk.specs.Desk.{DeskState, IsLayout, LegalFrom, MadeFlush, MadeLayout, MadeSaid, Stays, old_records}
+use Rattle.rg_desk.specs.Flushed.{CallsOwn, FlushIs, WritesEither}
+use Rattle.rg_desk.specs.Volume.{VolumeSeen}
+use Rattle.rg_newest.specs.Tidy.{set_of}
 use Rattle.rg_record.specs.declared.record.Record.{Record}
 use Rattle.rg_outside.specs.Faults.{Rose}
-use Rattle.rg_outside.specs.Made.{WritesIn}
 use Rattle.rg_outside.proofs.Frame.{calls_join, no_calls}
 use Rattle.rg_run.specs.Full.{IsFullFrom, IsFullOnlyFrom}
 use Rattle.rg_run.specs.LogFull.{IsLogFullFrom, IsLogFullOnlyFrom}
 use Rattle.rg_run.specs.Outside.{IsDeviceIf, IsDeviceOnlyIf, IsEnd}
-use Rattle.rg_run.specs.Played.{DeskEnds, EntryOf, Goes, IsLate, IsOpened, IsOpenedEntry, IsRun, TraceOf, first_of}
+use Rattle.rg_run.specs.Played.{DeskEnds, EntryOf, Goes, IsFlushed, IsLate, IsOpened, IsOpenedEntry, IsRun, TraceOf, first_of}
 use Rattle.rg_run.specs.declared.played.RunEnd.{RunEnd}
 use Rattle.rg_run.specs.declared.played.RunEnd.TheVariants.{Whole, Down as Ended, Damaged, DeviceAtOpening, NoMemory as Wanting}
 
@@ -102,6 +104,39 @@ device_layout P copy LayoutNoMemory is = tt
 device_layout P copy LayoutDown is = tt
 device_layout P copy event is = absurd is
 
+log_flush : (event : Event) (limit logged : ℕ) → IsFlushed event → IsLogFullFrom limit logged event
+log_flush (EventFlush page) limit logged is = tt
+log_flush Clean limit logged is = tt
+log_flush FlushDevice limit logged is = tt
+log_flush FlushDown limit logged is = tt
+log_flush FlushNoMemory limit logged is = tt
+log_flush event limit logged is = absurd is
+
+full_flush : (event : Event) (least allowed : ℕ) → IsFlushed event → IsFullFrom least allowed event
+full_flush (EventFlush page) least allowed is = tt
+full_flush Clean least allowed is = tt
+full_flush FlushDevice least allowed is = tt
+full_flush FlushDown least allowed is = tt
+full_flush FlushNoMemory least allowed is = tt
+full_flush event least allowed is = absurd is
+
+-- what a flush answers that is up, or down
+flushed_so : (down : Bool) (copy : ℕ) (contents : List Content) (marks later : List (Option Position)) (old new : VolumeSeen) (event : Event) → FlushIs down copy contents marks later old new event → IsFlushed event
+flushed_so true copy contents marks later old new event is = subst IsFlushed (sym is.0) tt
+flushed_so false copy contents marks later old new (EventFlush page) is = tt
+flushed_so false copy contents marks later old new Clean is = tt
+flushed_so false copy contents marks later old new FlushDevice is = tt
+flushed_so false copy contents marks later old new FlushNoMemory is = tt
+flushed_so false copy contents marks later old new event is = absurd is
+
+device_flush : (P : Type 0) (down : Bool) (copy : ℕ) (contents : List Content) (marks later : List (Option Position)) (old new : VolumeSeen) (event : Event) → (Rose old.faults new.faults → P) → FlushIs down copy contents marks later old new event → IsDeviceIf P event
+device_flush P true copy contents marks later old new event f is = subst (IsDeviceIf P) (sym is.0) tt
+device_flush P false copy contents marks later old new (EventFlush page) f is = tt
+device_flush P false copy contents marks later old new Clean f is = tt
+device_flush P false copy contents marks later old new FlushDevice f is = f is
+device_flush P false copy contents marks later old new FlushNoMemory f is = tt
+device_flush P false copy contents marks later old new event f is = absurd is
+
 device_said : (P : Type 0) (session : Session) (stmt : Stmt) (reply : Reply) → (reply ≡ Device → P) → IsDeviceIf P (said_entry session stmt reply 0).event
 device_said P session stmt Device is = is refl
 device_said P session stmt reply is = tt
@@ -110,6 +145,7 @@ device_said P session stmt reply is = tt
 one_more : (P Q : Type 0) (event : Event) → (P → Q) → IsDeviceIf P event → IsDeviceIf Q event
 one_more P Q (EventSaid stmt Device) f is = f is
 one_more P Q (EventSaid stmt reply) f is = tt
+one_more P Q FlushDevice f is = f is
 one_more P Q event f is = tt
 
 pub device_more : (P Q : Type 0) (entries : List Entry) → (P → Q) → IsDeviceOnlyIf P entries → IsDeviceOnlyIf Q entries
@@ -136,9 +172,9 @@ rose_later a b c le rose = λ low. let lt = rose (omega (arith, low, le)) in ome
 pub rose_earlier : (a b c : ℕ) → a ≤ b → Rose b c → Rose a c
 rose_earlier a b c le rose = λ low. let lt = rose low in omega (arith, lt, le)
 
-pub log_calls_join : (a b c : VolumeSeen) → CallsLog a b → CallsLog b c → CallsLog a c
-log_calls_join a b c x y = record {
-  only = calls_join (WritesIn Log) a.told b.told c.told x.only y.only;
+own_calls_join : (copy : ℕ) (a b c : VolumeSeen) → CallsOwn copy a b → CallsOwn copy b c → CallsOwn copy a c
+own_calls_join copy a b c x y = record {
+  only = calls_join (WritesEither (set_of copy)) a.told b.told c.told x.only y.only;
   later = omega (arith, x.later, y.later);
   capacities = y.capacities ∙ x.capacities;
 }
@@ -151,7 +187,7 @@ module _ {V O : Type 0} (look : V → VolumeSeen) (first old new : DeskState V O
     opened = stays.opened ∙ goes.stays.opened;
     old_same = stays.old_same ∙ goes.stays.old_same;
     copy = stays.copy ∙ goes.stays.copy;
-    calls = log_calls_join (look first.volume) (look old.volume) (look new.volume) goes.stays.calls stays.calls;
+    calls = own_calls_join first.copy (look first.volume) (look old.volume) (look new.volume) goes.stays.calls (subst (λ (n : ℕ). CallsOwn n (look old.volume) (look new.volume)) goes.stays.copy stays.calls);
     operator = stays.operator ∙ goes.stays.operator;
   }
 
@@ -196,6 +232,13 @@ module _ {V O : Type 0} (look : V → VolumeSeen) (first old new : DeskState V O
       on Show (system_entry shown.event shown.calls) shown.made (old.copy, shown.event, refl, shown.is) (full_layout old.copy shown.event (3221 * old.ground.capacity) (allowed_by 0 old.trace) shown.is) (log_layout old.copy shown.event (limit_of old.ground.log.pages) (logged_by 0 old.trace) shown.is)
       (device_layout (Rose (look first.volume).faults (look new.volume).faults) old.copy shown.event shown.is) (λ down. risen shown.stays (goes.down (sym shown.down ∙ down))) shown.stays
 
+  pub goes_flushed : MadeFlush look old new → Goes look first (lines ++ Flush ∷ []) new
+  goes_flushed made =
+      let is = flushed_so old.down old.copy old.contents old.marks new.marks (look old.volume) (look new.volume) made.event made.is in
+      on Flush (system_entry made.event made.calls) made.made (made.event, refl, is) (full_flush made.event (3221 * old.ground.capacity) (allowed_by 0 old.trace) is) (log_flush made.event (limit_of old.ground.log.pages) (logged_by 0 old.trace) is)
+      (device_flush (Rose (look first.volume).faults (look new.volume).faults) old.down old.copy old.contents old.marks new.marks (look old.volume) (look new.volume) made.event rises made.is)
+      (λ down. risen made.stays (goes.down (sym made.down ∙ down))) made.stays
+
 -- the entry of an opening answers no statement
 full_opened : (entry : Entry) → IsOpenedEntry entry → (least allowed : ℕ) → IsFullFrom least allowed entry.event
 full_opened entry is least allowed = subst (λ (e : Entry). IsFullFrom least allowed e.event) (sym is.is) tt
@@ -221,7 +264,7 @@ goes_opened look desk opened = record {
     opened = refl;
     old_same = refl;
     copy = refl;
-    calls = record { only = no_calls (WritesIn Log) (look desk.volume).told; later = omega arith; capacities = refl };
+    calls = record { only = no_calls (WritesEither (set_of desk.copy)) (look desk.volume).told; later = omega arith; capacities = refl };
     operator = refl;
   };
 }
@@ -250,7 +293,7 @@ run_left look first desk front lines seen operator trace end goes seen_is operat
       subst (λ (v : VolumeSeen). IsDeviceOnlyIf (Rose (look first.volume).faults v.faults) trace) (sym seen_is)
       (subst (IsDeviceOnlyIf (Rose (look first.volume).faults (look desk.volume).faults)) (sym trace_is) goes.device);
   down = λ is. subst (λ (v : VolumeSeen). Rose (look first.volume).faults v.faults) (sym seen_is) (goes.down (down is));
-  calls = subst (CallsLog (look first.volume)) (sym seen_is) goes.stays.calls;
+  calls = subst (CallsOwn first.copy (look first.volume)) (sym seen_is) goes.stays.calls;
   asked = operator_is ∙ goes.stays.operator;
 }
 

@@ -3,9 +3,9 @@ use Rattle.std.proofs.Common.{◌≡◌, ◌≤◌, ◌<◌, ◌-◌, ◌^◌, �
 use Rattle.std.proofs.lemmas.Bool.Decides.{nat_tests}
 use Rattle.rg_outside.specs.Calls.{Call, Told, Wrote, FailedWrite}
 use Rattle.rg_outside.specs.Counts.{CountedCalls, counted, counted_if}
-use Rattle.rg_outside.specs.Made.{WritesIn}
 use Rattle.rg_log.specs.Open.{IsQuiet}
-use Rattle.rg_base.specs.declared.set.Set.TheVariants.{Log}
+use Rattle.rg_base.specs.declared.set.Set.{Set}
+use Rattle.rg_desk.specs.Flushed.{WritesEither}
 use Rattle.rg_outside.specs.Moments.{EachCall, IfTold}
 use Rattle.rg_run.specs.Outside.{IfCounted, MadeSince, MakesOnly}
 
@@ -46,11 +46,11 @@ pub uncounted_told : (P Q : Told → Type 0) (new : Option Told) (n : ℕ) → I
 uncounted_told P Q None n le f is = tt
 uncounted_told P Q (Some t) n le f is = λ few. f t (subst (λ (o : Option Told). IfTold o P) (counted_so t n le few) is)
 
--- calls that write nothing write no page of a copy
-pub quiet_in : (call : Call) → IsQuiet call → WritesIn Log call
-quiet_in (Wrote set page bytes) is = absurd is
-quiet_in (FailedWrite set page bytes reads) is = absurd is
-quiet_in call is = tt
+-- calls that write nothing write no page of another copy
+pub quiet_in : (set : Set) (call : Call) → IsQuiet call → WritesEither set call
+quiet_in set (Wrote s page bytes) is = absurd is
+quiet_in set (FailedWrite s page bytes reads) is = absurd is
+quiet_in set call is = tt
 
 -- the same of all calls that a volume has counted
 module _ {V : Type 0} (told : V → Option Told) (Kind : Call → Type 0) (volume below : V) (begun ended : CountedCalls V) where

@@ -2,15 +2,18 @@
 --
 -- 1. DEVICE is answered only where a call of the volume failed, and so is a run's end that the
 --    device brought about.
--- 2. The opening writes nothing. No page of a copy is written.
+-- 2. The opening writes nothing. Afterwards no page is written but those of the log and of the copy
+--    that was opened.
 -- 3. What is said of a known volume's contents holds while its calls are fewer than 2 ^ 64 - 1, for
 --    so many can be counted.
 use Rattle.std.specs.Prelude.{◌≡◌, ◌<◌, ◌-◌, ◌^◌, ◌++◌, ℕ, List, [], ◌∷◌, Option, Some, length}
 use Rattle.std.specs.List.{AllByRecursion}
+use Rattle.rg_desk.specs.Flushed.{WritesEither}
 use Rattle.rg_desk.specs.Volume.{VolumeSeen}
 use Rattle.rg_desk.specs.declared.desk.OpenCause.{OpenCause}
 use Rattle.rg_desk.specs.declared.desk.OpenCause.TheVariants as causes
 use Rattle.rg_log.specs.Open.{IsQuiet}
+use Rattle.rg_newest.specs.Tidy.{set_of}
 use Rattle.rg_image.specs.Log.{log_of}
 use Rattle.rg_outside.specs.Calls.{Call, Told, read_of}
 use Rattle.rg_record.specs.declared.record.Record.{Record}
@@ -21,12 +24,13 @@ use Rattle.rg_run.specs.declared.played.RunEnd.{RunEnd}
 use Rattle.rg_run.specs.declared.played.RunEnd.TheVariants.{Whole, Down, Damaged, DeviceAtOpening, NoMemory}
 use Rattle.rg_stmt.specs.declared.event.Entry.{Entry}
 use Rattle.rg_stmt.specs.declared.event.Event.{Event}
-use Rattle.rg_stmt.specs.declared.event.Event.TheVariants.{Said}
+use Rattle.rg_stmt.specs.declared.event.Event.TheVariants.{FlushDevice, Opened, Said}
 use Rattle.rg_stmt.specs.declared.stmt.Reply.TheVariants.{Device}
 
 -- the event is no DEVICE, or this holds
 abbrev pub IsDeviceIf : Type 0 → Event → Type 0
 IsDeviceIf P (Said stmt Device) = P
+IsDeviceIf P FlushDevice = P
 IsDeviceIf P event = Unit {0}
 
 -- DEVICE is answered only if this holds
@@ -58,6 +62,17 @@ pub record MadeSince (Kind : Call → Type 0) (old : Option Told) (now : Told) :
 -- only calls of a kind were made
 abbrev pub MakesOnly : (Call → Type 0) → (old new : Option Told) → Type 0
 MakesOnly Kind old new = IfCounted new (MadeSince Kind old)
+
+-- what the calls of a run may write that began with this event: the log, and the copy that was
+-- opened
+abbrev pub WritesOf : Event → Call → Type 0
+WritesOf (Opened copy rows pages used) call = WritesEither (set_of copy) call
+WritesOf event call = IsQuiet call
+
+-- the same by its trace: nothing, where it has no entry
+abbrev pub WritesOwn : List Entry → Call → Type 0
+WritesOwn [] call = IsQuiet call
+WritesOwn (entry ∷ entries) call = WritesOf entry.event call
 
 -- the end of a run whose opening was refused
 abbrev pub end_of : OpenCause → RunEnd

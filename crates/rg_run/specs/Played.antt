@@ -4,6 +4,7 @@ use Rattle.std.specs.List.{AllZip}
 use Rattle.rg_base.specs.Session.{IsSession}
 use Rattle.rg_stmt.specs.declared.event.Entry.{Entry}
 use Rattle.rg_stmt.specs.declared.event.Event.{Event}
+use Rattle.rg_stmt.specs.declared.event.Event.TheVariants as events
 use Rattle.rg_stmt.specs.declared.line.Line.{Line}
 use Rattle.rg_stmt.specs.declared.line.Line.TheVariants.{Said, Reorg, Step, Flush, Show, Death}
 use Rattle.rg_stmt.specs.declared.stmt.Reply.{Reply}
@@ -12,7 +13,8 @@ use Rattle.rg_record.specs.declared.record.Record.{Record}
 use Rattle.rg_desk.specs.Chronicle.{system_entry}
 use Rattle.rg_desk.specs.Desk.{DeskState, EndsDown, EndsWithRows, IsLayout, LegalFrom, Stays}
 use Rattle.rg_desk.specs.Desk.{is_reply, old_records}
-use Rattle.rg_desk.specs.Volume.{CallsLog, VolumeSeen}
+use Rattle.rg_desk.specs.Flushed.{CallsOwn}
+use Rattle.rg_desk.specs.Volume.{VolumeSeen}
 use Rattle.rg_outside.specs.Faults.{Rose}
 use Rattle.rg_image.specs.Rules.{limit_of}
 use Rattle.rg_run.specs.Full.{IsFullOnlyFrom}
@@ -21,12 +23,12 @@ use Rattle.rg_run.specs.declared.played.RunEnd.{RunEnd}
 use Rattle.rg_run.specs.Outside.{IsDeviceOnlyIf}
 use Rattle.rg_run.specs.declared.played.RunEnd.TheVariants.{Whole, Down, Damaged, DeviceAtOpening, NoMemory}
 
--- statements and layouts are played, and no other line is yet
+-- statements, layouts and flushes are played, and no other line is yet
 abbrev pub IsPlayed : Line → Type 0
 IsPlayed (Said session stmt) = IsSession session
 IsPlayed (Reorg options) = ⊥
 IsPlayed Step = ⊥
-IsPlayed Flush = ⊥
+IsPlayed Flush = Unit {0}
 IsPlayed Show = Unit {0}
 IsPlayed Death = ⊥
 
@@ -38,8 +40,17 @@ pub record IsOpenedEntry (entry : Entry) : Type 0 where
   pub used : ℕ
   pub is : entry ≡ opened_entry copy rows pages used entry.calls
 
--- The entry of a line has its session and its statement, and a reply; or it is a layout, or says
--- that there is none. The operator was not asked.
+-- a page was written, or none was to be written or could be
+abbrev pub IsFlushed : Event → Type 0
+IsFlushed (events.Flush page) = Unit {0}
+IsFlushed events.Clean = Unit {0}
+IsFlushed events.FlushDevice = Unit {0}
+IsFlushed events.FlushDown = Unit {0}
+IsFlushed events.FlushNoMemory = Unit {0}
+IsFlushed event = ⊥
+
+-- The entry of a line has its session and its statement, and a reply; or it is a layout or a flush,
+-- or says that there is none. The operator was not asked.
 abbrev pub EntryOf : Line → Entry → Type 0
 EntryOf (Said session stmt) entry =
     (reply : Reply) × (entry ≡ said_entry session stmt reply entry.calls)
@@ -49,7 +60,8 @@ EntryOf Show entry =
     × IsLayout copy event
 EntryOf (Reorg options) entry = ⊥
 EntryOf Step entry = ⊥
-EntryOf Flush entry = ⊥
+EntryOf Flush entry =
+    (event : Event) × (entry ≡ system_entry event entry.calls) × IsFlushed event
 EntryOf Death entry = ⊥
 
 -- entry 0 is that of an opening, and then there is one entry for each line
@@ -120,5 +132,5 @@ pub record IsRun {V O : Type 0}
   pub log_full : IsLogFullOnlyFrom (limit_of first.ground.log.pages) 0 trace
   pub device : IsDeviceOnlyIf (Rose (look first.volume).faults seen.faults) trace
   pub down : end ≡ Down → Rose (look first.volume).faults seen.faults
-  pub calls : CallsLog (look first.volume) seen
+  pub calls : CallsOwn first.copy (look first.volume) seen
   pub asked : operator ≡ first.operator

@@ -7,17 +7,15 @@
 ghost use Rattle.std.specs.Prelude.{◌≡◌, ◌≤◌, ◌*◌, List, [], ◌∷◌, ◌++◌, OnOk, OnErr, length};
 ghost use Rattle.std.specs.List.{AllByRecursion};
 ghost use Rattle.rg_stmt.specs.declared.line.Line.{Line};
-ghost use Rattle.rg_base.specs.declared.set.Set.TheVariants.{Log as LogSet};
 ghost use Rattle.rg_desk.specs.Desk.{DeskState, LegalFrom, old_records};
 ghost use Rattle.rg_desk.specs.Volume.{seen_volume};
 ghost use Rattle.rg_outside.specs.Faults.{Rose};
-ghost use Rattle.rg_outside.specs.Made.{WritesIn};
 ghost use Rattle.rg_outside.specs.Moments.{IfTold};
 ghost use Rattle.rg_image.specs.Rules.{limit_of};
 ghost use Rattle.rg_log.specs.Kept.{log_pages};
 ghost use Rattle.rg_run.specs.Full.{IsFullOnlyFrom, smaller_pages};
 ghost use Rattle.rg_run.specs.LogFull.{IsLogFullOnlyFrom};
-ghost use Rattle.rg_run.specs.Outside.{IsDeviceOnlyIf, IsEnd, MakesOnly, end_of};
+ghost use Rattle.rg_run.specs.Outside.{IsDeviceOnlyIf, IsEnd, MakesOnly, WritesOwn, end_of};
 ghost use Rattle.rg_run.specs.Played.{IsPlayed, Goes, IsOpened, IsRun};
 ghost use Rattle.rg_run.specs.Table.{Ends, IsLegalRun, IsOpening};
 
@@ -33,7 +31,8 @@ use std::alloc::Global;
 
 /// Opens the volume, and plays the lines in order over the table that its log stores. The table
 /// lies in memory, in as many pages as the set of the current copy has, and no more than 65,536.
-/// The records of committed units are on the volume. The operator is not asked.
+/// The records of committed units are on the volume, and of the pages those that a flush wrote. The
+/// operator is not asked.
 pub fn run<V: Volume, O: Operator>(
     alloc: Global,
     volume: V,
@@ -56,8 +55,9 @@ pub fn run<V: Volume, O: Operator>(
         result.trace.items }
     ensures end { IsEnd (seen_volume V.told V.faults V.capacities volume)
         (seen_volume V.told V.faults V.capacities result.volume) result.end }
-    // No page of a copy is written.
-    ensures only { MakesOnly (WritesIn LogSet) (V.told volume) (V.told result.volume) }
+    // No page is written but those of the log and of the copy that was opened.
+    ensures only { MakesOnly (WritesOwn result.trace.items) (V.told volume)
+        (V.told result.volume) }
     ensures later { V.faults volume ≤ V.faults result.volume }
     ensures operator { result.operator ≡ operator }
 {
@@ -152,8 +152,8 @@ fn play<V: Counts, O: Operator>(mut desk: Desk<V, O>, lines: Vec<Line>) -> Playe
     close(desk, RunEnd::Whole { rows })
 }
 
-// Makes the entry of a line, which is a statement or a layout. If there is no memory for the entry,
-// nothing is done.
+// Makes the entry of a line, which is a statement, a layout or a flush. If there is no memory for
+// the entry, nothing is done.
 fn play_line<V: Counts, O: Operator>(desk: &mut Desk<V, O>, line: Line) -> Result<(), NoMemory>
     requires line { IsPlayed line }
     ensures goes { OnOk result ((first : DeskState V O) (lines : List Line)
@@ -163,7 +163,8 @@ fn play_line<V: Counts, O: Operator>(desk: &mut Desk<V, O>, line: Line) -> Resul
 {
     match line {
         Line::Said { session, stmt } => desk.exec(session, stmt),
+        Line::Flush => desk.flush_one(),
         Line::Show => desk.show(),
-        Line::Reorg(_) | Line::Step | Line::Flush | Line::Death => unreachable!(),
+        Line::Reorg(_) | Line::Step | Line::Death => unreachable!(),
     }
 }

@@ -5,4 +5,6 @@
 #[cfg(test)]
 mod data;
 #[cfg(test)]
+mod flush;
+#[cfg(test)]
 mod tests;

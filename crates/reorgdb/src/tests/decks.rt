@@ -94,8 +94,9 @@ fn names_refused_lines(rt: HostRuntime) -> Result<(), Fail> {
         (b"1 COMMIT\n\n1 COMMIT\n", b"REFUSED deck line 2\n"),
         (b"1 COMMIT\nU\nrubbish\n", b"REFUSED deck line 2\n"),
         (b"1 COMMIT\nrubbish\nU\n", b"REFUSED deck line 2\n"),
-        (b"F\n", b"REFUSED deck line 1\n"),
-        (b"1 COMMIT\nL\nF\n", b"REFUSED deck line 3\n"),
+        (b"X\n", b"REFUSED deck line 1\n"),
+        (b"1 COMMIT\nL\nF\nU\n", b"REFUSED deck line 4\n"),
+        (b"1 F\n", b"REFUSED deck line 1\n"),
         (b"1 COMMIT\n1 COMMIT\n1 COMMIT\nX", b"REFUSED deck line 4\n"),
         (
             b"1 COMMIT\nREORG TABLESPACE SHRLEVEL CHANGE\n",

@@ -1,4 +1,4 @@
-use Rattle.std.proofs.Common.{◌≡◌, ℕ, ◌≤◌, ◌<◌, ◌*◌, List, [], ◌∷◌, ◌++◌, length, refl, sym, ◌∙◌, ap, subst, arith}
+use Rattle.std.proofs.Common.{◌≡◌, ℕ, ◌*◌, List, [], ◌∷◌, ◌++◌, length, sym, ◌∙◌, ap, arith}
 use Rattle.rg_model.specs.State.{at_rest, row_count}
 use Rattle.rg_stmt.specs.Entries.{opened_entry}
 use Rattle.rg_stmt.specs.declared.event.Entry.{Entry}
@@ -18,8 +18,8 @@ unlocked_rows-rows-requires c =
       shows = c.in_ok-engine.ensures.shows b.start c.args.found.copy b.starts;
     }
 
-pub returns : goal.returns
-returns c =
+pub returns-clause-begun : goal.returns-clause-begun
+returns-clause-begun c =
     let b = c.requires.begins in
     let copy = c.args.found.copy in
     let pages = length (space_pages c.args.found.space) in

@@ -14,4 +14,5 @@ returns-in-Ok c = record {
         (c.in-Ok.ensures.pages refl) (c.in-Ok.ensures.fits refl) c.redo_all.ensures.count c.redo_all.ensures.step (c.redo_all.ensures.agree refl c.in_ok-space.ensures.agree),
     c.redo_all.ensures.capacity ∙ c.in_ok-space.ensures.capacity,
   );
+  copy = c.redo_all.ensures.keeps.copy ∙ c.in_ok-space.ensures.copy;
 }

@@ -13,7 +13,7 @@ no_tran = record { 0 = 0 }
 pub loop-at-init : goal.loop-at-init
 loop-at-init c = record {
   low = omega arith;
-  closed = record { undid = undid_none c.args.space.now c.requires.step c.requires.proper; took = took_none c.args.log.now; records = refl };
+  closed = record { undid = undid_none c.args.space.now c.requires.step c.requires.proper; took = took_none c.args.log.now; records = refl; newest = λ e h. h };
 }
 
 pub close_unit-requires-clause-room : goal.close_unit-requires-clause-room

@@ -13,6 +13,7 @@ use Rattle.rg_unended.proofs.Lefts.{left_are_changes, owners_by_recursion}
 use Rattle.rg_space.specs.Memory.{list_seen, space_pages}
 use Rattle.rg_restart.specs.Closed.{AreUndosFrom}
 use Rattle.rg_restart.proofs.Closing.{closed_unit, end_none, end_some, undone_unit, undos_length}
+use Rattle.rg_restart.proofs.Staying.{stay_undone}
 use Rattle.rg_restart.proofs.Undos.{undos_from}
 use Rattle.rg_restart.proofs.close.close_unit.Goals as goal
 use Rattle.rg_restart.proofs.close.close_unit.Goals.{then-none, else-none}
@@ -97,3 +98,8 @@ returns-after-none c =
       | else-none w ↦ ap (λ (p : Position). p.0) w.back-is ∙ w.last-back.ensures ∙ mid ∙ sym (end_some c.args.unit.last (length c.args.log.now.records) (left_of tran rs) (λ none. some_left (vec_len c.in_ok-changes.changes) (sym w.if-none.ensures) (omega (arith, as_many, none))))
     ])
     c.append_end.ensures.took c.append_end.ensures.records
+    (stay_undone tran c.args.log.now.records undos old new
+    (subst (λ (n : ℕ). AreUndosFrom n tran undos) c.next_position-position.ensures
+    (subst (AreUndosFrom c.next_position-position.result.0 tran) (sym both.1)
+    (undos_from c.next_position-position.result.0 c.args.unit.last tran (space_pages old) (left_of tran rs) c.requires.proper both.0.needed (owners_by_recursion tran rs))))
+    were.there c.undo_tested.ensures.keeps.copy were.wrote)

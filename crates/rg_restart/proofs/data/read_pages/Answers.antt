@@ -1,11 +1,12 @@
-use Rattle.std.proofs.Common.{◌≡◌, ◌+◌, ◌∷◌, ◌++◌, [], List, refl, ◌∙◌, arith, sym, subst}
+use Rattle.std.proofs.Common.{◌≡◌, ◌+◌, ◌∷◌, ◌++◌, [], List, Option, refl, ◌∙◌, arith, sym, subst}
+use Rattle.rg_base.specs.declared.position.Position.{Position}
 use Rattle.rg_outside.proofs.Failing.{read_reads}
 use Rattle.rg_outside.specs.Calls.{read_of}
 use Rattle.rg_outside.specs.Moments.{IfTold}
 use Rattle.rg_log.proofs.Opening.{only_read}
 use Rattle.rg_page.specs.Content.{Content}
-use Rattle.rg_restart.specs.Data.{IsUntaken, TakesPages}
-use Rattle.rg_restart.proofs.Reading.{base_more, first_broken, takes_more, taken_fits}
+use Rattle.rg_restart.specs.Data.{IsUntaken, MarksPages, TakesPages}
+use Rattle.rg_restart.proofs.Reading.{base_more, first_broken, marks_more, takes_more, taken_fits}
 use Rattle.rg_restart.proofs.data.read_pages.Goals as goal
 
 pub returns-in_default-clause-only : goal.returns-in_default-clause-only
@@ -13,6 +14,9 @@ returns-in_default-clause-only g c = only_read _ _ _ _ c.loop-before.invariant.o
 
 pub returns-in_default-push-clause-only : goal.returns-in_default-push-clause-only
 returns-in_default-push-clause-only g c = only_read _ _ _ _ c.loop-before.invariant.only c.read.ensures.made
+
+pub returns-in_default-push-2-clause-only : goal.returns-in_default-push-2-clause-only
+returns-in_default-push-2-clause-only g c = only_read _ _ _ _ c.loop-before.invariant.only c.read.ensures.made
 
 pub returns-in-Err-NotAPage-clause-only : goal.returns-in-Err-NotAPage-clause-only
 returns-in-Err-NotAPage-clause-only g c = only_read _ _ _ _ c.loop-before.invariant.only c.read.ensures.made
@@ -33,17 +37,26 @@ pub loop-before-preserved : goal.loop-before-preserved
 loop-before-preserved g c =
     let old = c.loop-before.frames in
     let new = c.push.new.self in
-    let page : Content = c.in-Ok-take_page.page in
+    let page : Content = c.in-Ok-take_page.field-0.page in
     let taken = c.in-Ok-take_page.ensures.taken in
     let pages : new.pages.items ≡ old.pages.items ++ page ∷ [] = c.in-Ok-push.ensures.ok in
+    let mark : Option Position = c.in-Ok-take_page.field-0.mark in
+    let old_marks : List (Option Position) = c.loop-before.marks.items in
+    let new_marks : List (Option Position) = c.push-in-Ok-take_page.new.self.items in
+    let marks : new_marks ≡ old_marks ++ mark ∷ [] = c.in-Ok-push-2.ensures.items in
     record {
       capacities = c.read.ensures.capacities ∙ c.loop-before.invariant.capacities;
       later = omega (arith, c.loop-before.invariant.later, c.read.ensures.cause.later);
       only = only_read _ _ _ _ c.loop-before.invariant.only c.read.ensures.made;
-      base = base_more c.args.copy c.loop-before.before old new page c.loop-before.invariant.base (taken_fits _ _ _ _ _ _ taken).0 pages c.push.ensures.reserved c.push.ensures.copy_same;
+      base = base_more c.args.copy c.args.last c.loop-before.before old new page c.loop-before.invariant.base (taken_fits _ _ _ _ _ _ taken).0 (taken_fits _ _ _ _ _ _ taken).3 pages c.push.ensures.reserved c.push.ensures.copy_same;
       takes =
           subst (λ (xs : List Content). IfTold (g.V.Volume.told c.read.new.self) (λ t. TakesPages c.args.copy c.args.last c.args.switch c.args.set (c.loop-before.before + 1) (read_of t.first t.calls) xs)) (sym pages)
           (takes_more (g.V.Volume.told c.read.new.self) c.args.copy c.args.last c.args.switch c.args.set c.loop-before.before c.read.new.into old.pages.items page
           (read_reads (λ i. TakesPages c.args.copy c.args.last c.args.switch c.args.set c.loop-before.before i old.pages.items) _ _ _ c.loop-before.invariant.takes c.read.ensures.made)
           c.in-Ok.ensures.content taken);
+      marked =
+          subst (λ (xs : List (Option Position)). IfTold (g.V.Volume.told c.read.new.self) (λ t. MarksPages c.args.copy c.args.last c.args.switch c.args.set (c.loop-before.before + 1) (read_of t.first t.calls) xs)) (sym marks)
+          (marks_more (g.V.Volume.told c.read.new.self) c.args.copy c.args.last c.args.switch c.args.set c.loop-before.before c.read.new.into old_marks mark
+          (read_reads (λ i. MarksPages c.args.copy c.args.last c.args.switch c.args.set c.loop-before.before i old_marks) _ _ _ c.loop-before.invariant.marked c.read.ensures.made)
+          c.in-Ok.ensures.content c.in-Ok-take_page.ensures.marked);
     }

@@ -19,6 +19,7 @@ use Rattle.rg_restart.specs.Found.{IsUndone, Refuses}
 use Rattle.rg_restart.specs.Pages.{BreaksSlots, Ties}
 use Rattle.rg_restart.specs.Pages.BreaksSlots.{Lacking, Untied}
 use Rattle.rg_restart.proofs.Finding.{looked_same, proper_of, ties_by, undone_is}
+use Rattle.rg_restart.proofs.Staying.{stay_join, stay_looked}
 use Rattle.rg_restart.proofs.find.close_open.Goals as goal
 
 pub close_units-requires-clause-proper : goal.close_units-requires-clause-proper
@@ -57,6 +58,14 @@ returns-in-Ok-Some-close_units-clause-refused c =
     (ties_by rs (numbers_of c.as_slice.result.now) c.args.space.now c.untied.new.space None trans same.slots
     (subst (λ (o : Option Place). IsLeastBreach (IsTiedAt (numbers_of c.as_slice.result.now) (slot_of (space_pages c.untied.new.space))) o) c.in-Ok-None.field-0-is (c.in-Ok-None.ensures.least refl)))
     (subst (λ (ps : List (List Slot)). IsLacking ps (lefts_of (open_in rs) rs) place) same.slots closes))
+
+pub returns-clause-newest : goal.returns-clause-newest
+returns-clause-newest c =
+    let rs = c.args.log.now.records in
+    let same = looked_same c.args.space.now c.untied.new.space c.requires.step c.in-Ok-None.ensures.left in
+    let closed : ClosedAll (open_in rs) rs c.untied.new.space c.close_units.new.space c.args.log.now c.close_units.new.log =
+    subst (Closes (open_in rs) rs c.untied.new.space c.close_units.new.space c.args.log.now c.close_units.new.log) c.in-Ok-None-close_units.field-0-is c.in-Ok-None-close_units.ensures.closes in
+    stay_join rs rs c.close_units.new.log.records c.args.space.now c.untied.new.space c.close_units.new.space (stay_looked rs c.args.space.now c.untied.new.space same) closed.newest
 
 pub returns-clause-ok : goal.returns-clause-ok
 returns-clause-ok c =

@@ -3,6 +3,7 @@ use Rattle.std.proofs.lemmas.List.{length-map, take-append-le}
 use Rattle.std.proofs.lemmas.Result.{err_from_is_err_and}
 use Rattle.std.proofs.Math.Seq.{take-length}
 use Rattle.rg_home.specs.Slot.{Slot}
+use Rattle.rg_newest.specs.Tidy.{opened_epoch}
 use Rattle.rg_page.specs.Content.{Content}
 use Rattle.rg_record.specs.declared.record.Record.{Record}
 use Rattle.rg_space.specs.Memory.{list_seen, space_pages}
@@ -11,6 +12,7 @@ use Rattle.rg_restart.specs.Found.{IsClosed, IsGrown, Refuses}
 use Rattle.rg_restart.specs.Pages.{BreaksFit, BreaksRows, BreaksRule, BreaksSlots, CanClose, IsMatched, undone_from, undone_of}
 use Rattle.rg_restart.specs.Pages.BreaksRule.{OnParts, OnSlots, OnRows}
 use Rattle.rg_restart.proofs.Finding.{finds, rebuilt_slots, refuses_map, same_join}
+use Rattle.rg_restart.proofs.Staying.{redo_newest}
 use Rattle.rg_restart.proofs.find.find.Goals as goal
 
 -- the records that were there
@@ -21,7 +23,7 @@ front read rs now is grown =
 pub returns-in_err-space-clause-refused : goal.returns-in_err-space-clause-refused
 returns-in_err-space-clause-refused c =
     let rs = c.args.log.records in
-    let base = c.args.frames.pages.items in
+    let base = c.args.read.frames.pages.items in
     let p = err_from_is_err_and c.from_residual.result c.from_residual.ensures.1 in
     rw (p.1, p.2) (refuses_map (BreaksFit base rs) (BreaksRule base rs) c.in_err-space.field-0.0 (λ s n breaks. OnParts s n breaks) c.in_err-space.ensures.refused)
 
@@ -31,7 +33,7 @@ close_open-requires-clause-step c = record { step = c.in_ok-space.ensures.ok.0.s
 pub returns-in_err-close_open-clause-refused : goal.returns-in_err-close_open-clause-refused
 returns-in_err-close_open-clause-refused c =
     let rs = c.args.log.records in
-    let base = c.args.frames.pages.items in
+    let base = c.args.read.frames.pages.items in
     let rebuilt = c.in_ok-space.ensures.ok.0 in
     let p = err_from_is_err_and c.from_residual-in_err-close_open.result c.from_residual-in_err-close_open.ensures.1 in
     rw (p.1, p.2) (refuses_map (BreaksSlots rs (space_pages c.in_ok-space.space)) (BreaksRule base rs) c.in_err-close_open.field-0.0
@@ -45,7 +47,7 @@ match_stored-requires-clause-grown c =
 pub returns-in_err-match_stored-clause-refused : goal.returns-in_err-match_stored-clause-refused
 returns-in_err-match_stored-clause-refused c =
     let rs = c.args.log.records in
-    let base = c.args.frames.pages.items in
+    let base = c.args.read.frames.pages.items in
     let rebuilt = c.in_ok-space.ensures.ok.0 in
     let undone = c.in_ok-close_open.ensures.ok.undone in
     let redone = rebuilt_slots base rs c.in_ok-space.space rebuilt in
@@ -59,16 +61,18 @@ returns-in_err-match_stored-clause-refused c =
 pub returns-clause-found : goal.returns-clause-found
 returns-clause-found c =
     let rs = c.args.log.records in
-    let base = c.args.frames.pages.items in
+    let base = c.args.read.frames.pages.items in
     let rebuilt = c.in_ok-space.ensures.ok.0 in
     let undone = c.in_ok-close_open.ensures.ok.undone in
     let now = c.close_open.new.log in
     let read = front c.records.result.now rs now.records c.records.ensures.records undone.grown in
-    finds base c.args.log now c.args.chain.now c.args.capacity (space_pages c.in_ok-space.space) c.close_open.new.space c.indexes_of.new.space
-    (record { log = now; space = c.indexes_of.new.space; copy = c.copy-copy.result; indexes = c.in-Ok.indexes; top = c.greatest.result.0 }) c.requires.may rebuilt.fit
+    finds base c.args.read.marks.items c.args.log now c.args.chain.now c.args.capacity (space_pages c.in_ok-space.space) c.close_open.new.space c.indexes_of.new.space
+    (record { log = now; space = c.indexes_of.new.space; copy = c.copy-copy.result; indexes = c.in-Ok.indexes; top = c.greatest.result.0; marks = c.args.read.marks }) c.requires.may rebuilt.fit
     (rebuilt_slots base rs c.in_ok-space.space rebuilt)
     (length-map (list_seen (frames_of c.in_ok-space.space)).pages (λ (x : Content). x.slots) ∙ rebuilt.count_is ∙ c.requires.base.count_is)
     (subst (λ (n : ℕ). IsClosed (space_pages c.in_ok-space.space) c.args.log n c.close_open.new.space now) c.in_ok-space.ensures.ok.1 c.in_ok-close_open.ensures.ok)
     (subst (λ (xs : List Record). IsMatched xs (space_pages c.close_open.new.space)) read c.in_ok-match_stored.ensures.matched) c.in_ok-match_stored.ensures.stores
     (same_join c.close_open.new.space c.match_stored.new.space c.indexes_of.new.space c.in_ok-match_stored.ensures.same c.in-Ok.ensures.same)
-    c.in-Ok.ensures.listings refl refl c.copy-copy.ensures c.greatest.ensures
+    c.in-Ok.ensures.listings
+    (c.in_ok-close_open.ensures.newest (opened_epoch rs base) (redo_newest rs c.args.read.frames c.requires.base c.requires.may.positions c.requires.may.can c.in_ok-space.space rebuilt c.in_ok-space.ensures.copy))
+    refl refl c.copy-copy.ensures c.greatest.ensures refl

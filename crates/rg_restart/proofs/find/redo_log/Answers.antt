@@ -1,5 +1,5 @@
 use Rattle.std.proofs.Common.{ℕ, sym, subst}
-use Rattle.rg_rebuilt.specs.Rebuilt.{CanRebuild, RebuiltIs}
+use Rattle.rg_rebuilt.specs.Rebuilt.{CanRebuild, IsOfCopy, RebuiltIs}
 use Rattle.rg_desk.specs.declared.desk.OpenCause.{OpenCause}
 use Rattle.rg_restart.specs.Found.{Refuses}
 use Rattle.rg_restart.specs.Pages.{BreaksFit}
@@ -19,3 +19,6 @@ returns-in-Ok-Unfit-clause-refused c =
     (Unfit position.0 c.page_of.result
     (subst (RebuiltIs base c.args.capacity rs) c.in-Ok-Unfit.field-0-is c.in-Ok-Unfit.ensures.rebuilt)
     c.page_of.ensures)
+
+pub returns-in-Ok-Pages-clause-copy : goal.returns-in-Ok-Pages-clause-copy
+returns-in-Ok-Pages-clause-copy c = subst (IsOfCopy c.args.frames.copy) c.in-Ok-Pages.field-0-is c.in-Ok-Pages.ensures.copy

@@ -1,21 +1,22 @@
-use Rattle.std.proofs.Common.{◌≡◌, ◌*◌, sym, ◌∙◌, ap, subst, arith}
+use Rattle.std.proofs.Common.{◌≡◌, ◌*◌, List, refl, sym, ◌∙◌, ap, subst, arith}
 use Rattle.std.specs.declared.vec.Vec.{Vec}
 use Rattle.std.specs.declared.alloc.Global.{Global}
-use Rattle.rg_base.specs.declared.set.Set.TheVariants.{Log}
+use Rattle.rg_desk.specs.Flushed.{WritesEither}
 use Rattle.rg_desk.specs.Volume.{seen_volume}
 use Rattle.rg_log.specs.Open.{IsQuiet}
 use Rattle.rg_outside.specs.Counts.{CountedCalls, counted}
 use Rattle.rg_outside.specs.Faults.{Rose}
-use Rattle.rg_outside.specs.Made.{WritesIn}
 use Rattle.rg_outside.proofs.Frame.{calls_join, calls_weaken}
 use Rattle.rg_stmt.specs.declared.event.Entry.{Entry}
-use Rattle.rg_run.specs.Outside.{IsDeviceOnlyIf}
+use Rattle.rg_newest.specs.Tidy.{set_of}
+use Rattle.rg_run.specs.Outside.{IsDeviceOnlyIf, MakesOnly, WritesOwn}
 use Rattle.rg_run.specs.Table.{Ends, IsLegalRun, IsOpening}
 use Rattle.rg_image.specs.Rules.{copy_capacity}
 use Rattle.rg_restart.specs.Pages.{copy_of}
 use Rattle.rg_run.specs.Full.{IsFullOnlyFrom, smaller_pages}
 use Rattle.rg_run.proofs.Fullness.{full_less, smaller_least}
-use Rattle.rg_run.proofs.Ending.{opened_first}
+use Rattle.rg_run.proofs.Ending.{entry_first, entry_zero, opened_first}
+use Rattle.rg_run.proofs.Owning.{own_writes}
 use Rattle.rg_run.proofs.Wholly.{begun_tidy, whole_ends}
 use Rattle.rg_run.proofs.Plays.{device_more, end_so, rose_wider}
 use Rattle.rg_run.proofs.Uncounted.{counted_only, quiet_in}
@@ -75,12 +76,20 @@ returns-in-Ok-clause-end g c =
 pub returns-in-Ok-clause-only : goal.returns-in-Ok-clause-only
 returns-in-Ok-clause-only g c =
     let look = λ (x : CountedCalls g.row.V.Denot). counted (g.V.Volume.told x.volume) x.calls in
-    counted_only g.V.Volume.told (WritesIn Log) c.args.volume c.uncounted.result.volume c.new.result c.play.result.volume c.new.ensures c.uncounted.ensures.volume c.uncounted.ensures.counted
-    (calls_join (WritesIn Log) (look c.new.result) (look c.in-Ok.desk.volume) (look c.play.result.volume)
-    (calls_weaken IsQuiet (WritesIn Log) (look c.new.result) (look c.in-Ok.desk.volume) quiet_in c.in-Ok.ensures.opens.calls.only) c.play.ensures.calls.only)
+    let opens = c.in-Ok.ensures.opens in
+    let seen = seen_volume (λ (x : CountedCalls g.row.V.Denot). look x) (λ x. g.V.Volume.faults x.volume) (λ x. g.V.Volume.capacities x.volume) in
+    let own = WritesEither (set_of c.in-Ok.desk.copy) in
+    let trace = c.play.result.trace.items in
+    subst (λ (es : Vec Entry Global). MakesOnly (WritesOwn es.items) (g.V.Volume.told c.args.volume) (g.V.Volume.told c.uncounted.result.volume)) (sym c.uncounted.ensures.trace)
+    (counted_only g.V.Volume.told (WritesOwn trace) c.args.volume c.uncounted.result.volume c.new.result c.play.result.volume c.new.ensures c.uncounted.ensures.volume c.uncounted.ensures.counted
+    (calls_weaken own (WritesOwn trace) (look c.new.result) (look c.play.result.volume)
+    (own_writes trace (entry_zero seen (seen c.new.result) c.args.operator c.in-Ok.desk opens) c.in-Ok.desk.copy (copy_of opens.log.records) _ _ _ opens.opens.copy_is
+    (c.play.ensures.begins ∙ entry_first seen (seen c.new.result) c.args.operator c.in-Ok.desk opens) refl)
+    (calls_join own (look c.new.result) (look c.in-Ok.desk.volume) (look c.play.result.volume)
+    (calls_weaken IsQuiet own (look c.new.result) (look c.in-Ok.desk.volume) (quiet_in (set_of c.in-Ok.desk.copy)) opens.calls.only) c.play.ensures.calls.only)))
 
 pub returns-in-Err-clause-only : goal.returns-in-Err-clause-only
 returns-in-Err-clause-only g c =
-    let look = λ (x : CountedCalls g.row.V.Denot). counted (g.V.Volume.told x.volume) x.calls in
-    counted_only g.V.Volume.told (WritesIn Log) c.args.volume c.into_volume.result c.new.result c.in-Err.fault.volume c.new.ensures c.into_volume.ensures.volume c.into_volume.ensures.counted
-    (calls_weaken IsQuiet (WritesIn Log) (look c.new.result) (look c.in-Err.fault.volume) quiet_in c.in-Err.ensures.refused.calls.only)
+    subst (λ (items : List Entry). MakesOnly (WritesOwn items) (g.V.Volume.told c.args.volume) (g.V.Volume.told c.into_volume.result)) (sym c.new-in-Err.ensures.items)
+    (counted_only g.V.Volume.told IsQuiet c.args.volume c.into_volume.result c.new.result c.in-Err.fault.volume c.new.ensures c.into_volume.ensures.volume c.into_volume.ensures.counted
+    c.in-Err.ensures.refused.calls.only)

@@ -7,7 +7,7 @@ use Rattle.rg_desk.proofs.Exits.{ends_stored}
 use Rattle.rg_desk.proofs.desk.Desk.committed_rows.Goals as goal
 
 pub committed_rows-requires : goal.committed_rows-requires
-committed_rows-requires g c = desk_few c.self.inside.engine c.self.inside.chronicle c.self.inside.copy c.self.inside.down _ c.self.invariant (ap (λ d. d.down) c.self.view_is ∙ c.requires)
+committed_rows-requires g c = desk_few c.self.inside.engine c.self.inside.chronicle c.self.inside.copy c.self.inside.down _ _ c.self.invariant (ap (λ d. d.down) c.self.view_is ∙ c.requires)
 
 pub returns : goal.returns
 returns g c =

@@ -6,19 +6,21 @@ use Rattle.rg_stmt.specs.declared.stmt.Reply.TheVariants.{Device, Done}
 use Rattle.rg_desk.specs.Answers.{IfFull, IfLogFull, forces, is_device}
 use Rattle.rg_desk.specs.Chronicle.{allowed_by, logged_by}
 use Rattle.rg_desk.specs.Room.{SaysLog, SaysRoom}
-use Rattle.rg_desk.specs.Volume.{CallsLog, seen_volume}
+use Rattle.rg_desk.specs.Flushed.{CallsOwn}
+use Rattle.rg_desk.specs.Volume.{seen_volume}
 use Rattle.rg_desk.specs.Desk.{old_records}
 use Rattle.rg_desk.proofs.DeskGoes.{desk_replied, desk_room, desk_shown, old_same, replied}
+use Rattle.rg_desk.proofs.Flushing.{own_calls}
 use Rattle.rg_desk.proofs.desk.Desk.exec.Goals as goal
 
 pub reply_to-reply-requires-clause-shown : goal.reply_to-reply-requires-clause-shown
-reply_to-reply-requires-clause-shown g c = desk_shown c.self.inside.engine c.self.inside.chronicle c.self.inside.copy c.self.inside.down _ c.self.invariant
+reply_to-reply-requires-clause-shown g c = desk_shown c.self.inside.engine c.self.inside.chronicle c.self.inside.copy c.self.inside.down _ _ c.self.invariant
 
 pub invariant_of-self-2 : goal.invariant_of-self-2
 invariant_of-self-2 g c =
     let inside = c.self.inside in
-    let room = desk_room inside.engine inside.chronicle inside.copy inside.down _ c.self.invariant c.make_room.new.self c.make_room.ensures.trace c.make_room.ensures.calls in
-    desk_replied inside.engine c.make_room.new.self inside.copy inside.down _ room c.args.session c.args.stmt c.reply_to-reply.result c.calls_now-calls.result c.reply_to-reply.new.engine c.reply_to-reply.new.down _ c.push.new.self c.reply_to-reply.ensures
+    let room = desk_room inside.engine inside.chronicle inside.copy inside.down _ _ c.self.invariant c.make_room.new.self c.make_room.ensures.trace c.make_room.ensures.calls in
+    desk_replied inside.engine c.make_room.new.self inside.copy inside.down _ _ room c.args.session c.args.stmt c.reply_to-reply.result c.calls_now-calls.result c.reply_to-reply.new.engine c.reply_to-reply.new.down _ c.push.new.self c.reply_to-reply.ensures
     (c.push.ensures.trace ∙ ap (λ (e : Entry). c.make_room.new.self.trace ++ e ∷ []) c.said.ensures)
     (c.push.ensures.calls ∙ ap (λ (e : Entry). e.calls) c.said.ensures)
     c.calls_now-calls.ensures.counted c.push.ensures.recorded
@@ -31,7 +33,7 @@ returns-clause-made g c =
     let stmt = c.args.stmt in
     let volume = c.reply_to-reply.new.volume in
     let calls = c.calls_now-calls.result in
-    let said = replied inside.engine inside.chronicle inside.copy inside.down _ c.self.invariant session stmt reply c.reply_to-reply.new.engine c.reply_to-reply.new.down _ c.reply_to-reply.ensures in
+    let said = replied inside.engine inside.chronicle inside.copy inside.down _ _ c.self.invariant session stmt reply c.reply_to-reply.new.engine c.reply_to-reply.new.down _ c.reply_to-reply.ensures in
     let trace = c.make_room.ensures.trace ∙ ap (λ d. d.trace) c.self.view_is in
     record {
       reply = reply;
@@ -56,9 +58,9 @@ returns-clause-made g c =
         capacity = said.capacity ∙ ap (λ d. d.ground.capacity) c.self.view_is;
         log_pages = said.grows.pages ∙ ap (λ d. d.ground.log.pages) c.self.view_is;
         opened = said.opened ∙ ap (λ d. d.opened) c.self.view_is;
-        old_same = old_same inside.engine inside.chronicle inside.copy inside.down _ c.self.invariant c.reply_to-reply.new.engine said.opened said.grows ∙ ap (λ d. old_records d) c.self.view_is;
+        old_same = old_same inside.engine inside.chronicle inside.copy inside.down _ _ c.self.invariant c.reply_to-reply.new.engine said.opened said.grows ∙ ap (λ d. old_records d) c.self.view_is;
         copy = ap (λ d. d.copy) c.self.view_is;
-        calls = subst (λ d. CallsLog (seen_volume g.V.Volume.told g.V.Volume.faults g.V.Volume.capacities d.volume) (seen_volume g.V.Volume.told g.V.Volume.faults g.V.Volume.capacities volume)) c.self.view_is said.calls;
+        calls = subst (λ d. CallsOwn d.copy (seen_volume g.V.Volume.told g.V.Volume.faults g.V.Volume.capacities d.volume) (seen_volume g.V.Volume.told g.V.Volume.faults g.V.Volume.capacities volume)) c.self.view_is (own_calls inside.copy _ _ said.calls);
         operator = ap (λ d. d.operator) c.self.view_is;
       };
     }

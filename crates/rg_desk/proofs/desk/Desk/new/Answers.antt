@@ -1,10 +1,12 @@
-use Rattle.std.proofs.Common.{List, length, refl, sym, ◌∙◌, ap, subst, arith}
+use Rattle.std.proofs.Common.{List, Option, length, refl, sym, ◌∙◌, ap, subst, arith}
+use Rattle.rg_base.specs.declared.position.Position.{Position}
 use Rattle.rg_image.specs.Pack.{log_bytes}
 use Rattle.rg_log.specs.Kept.{Listed}
 use Rattle.rg_record.specs.declared.record.Record.{Record}
 use Rattle.rg_space.specs.Space.{capacity_in}
 use Rattle.rg_desk.specs.Bytes.{taken_of}
 use Rattle.rg_space.specs.Memory.{space_pages}
+use Rattle.rg_desk.specs.OnVolume.{IsOnVolume}
 use Rattle.rg_desk.specs.Stored.{IsStored}
 use Rattle.rg_desk.specs.Volume.{LeavesIfTidy, seen_volume}
 use Rattle.rg_desk.proofs.DeskGoes.{desk_opened}
@@ -12,20 +14,23 @@ use Rattle.rg_desk.proofs.desk.Desk.new.Goals as goal
 
 pub invariant_of-result : goal.invariant_of-result
 invariant_of-result g c =
-    let b = c.in-Ok.ensures in
+    let b = c.in-Ok.ensures.begun in
     let found = c.args.found in
     let seen = seen_volume g.V.Volume.told g.V.Volume.faults g.V.Volume.capacities c.args.volume in
-    desk_opened c.in-Ok.engine c.in-Ok.chronicle found.copy (length (space_pages found.space)) (log_bytes found.log.records) c.calls-calls.result seen b.start c.requires.copy b.shows
+    desk_opened c.in-Ok.engine c.in-Ok.chronicle found.copy (length (space_pages found.space)) (log_bytes found.log.records) c.calls-calls.result c.in-Ok.marks.items seen b.start c.requires.copy b.shows
     (subst (λ (rs : List Record). IsStored rs b.start) (ap (λ (l : Listed). l.records) (sym b.log)) b.starts)
     (b.opened ∙ ap (λ (l : Listed). length l.records) (sym b.log))
     (omega (arith, ap (λ (l : Listed). taken_of l) b.log, c.requires.begins.idle))
     (ap (λ (l : Listed). l.pages) b.log ∙ c.requires.pages)
     (subst (LeavesIfTidy seen) (sym b.log) c.requires.leaves)
+    (subst (λ (ms : List (Option Position)). IsOnVolume found.copy c.in-Ok.engine.log c.in-Ok.engine.space ms seen) (ap (λ v. v.items) (sym c.in-Ok.ensures.marks))
+    (subst (λ sp. IsOnVolume found.copy c.in-Ok.engine.log sp found.marks.items seen) (sym b.space)
+    (subst (λ (l : Listed). IsOnVolume found.copy l found.space found.marks.items seen) (sym b.log) c.requires.is_on)))
     b.few b.trace b.at c.calls-calls.ensures b.recorded
 
 pub returns-in-Ok-clause-opens : goal.returns-in-Ok-clause-opens
 returns-in-Ok-clause-opens g c =
-    let b = c.in-Ok.ensures in
+    let b = c.in-Ok.ensures.begun in
     record {
       calls = c.calls-calls.result;
       start = b.start;

@@ -1,4 +1,4 @@
-use Rattle.std.proofs.Common.{ℕ, List, [], ◌∷◌, ◌+◌, Option, None, Some, ◌≡◌, ◌∙◌, length, refl, sym, ap, subst, set, arith}
+use Rattle.std.proofs.Common.{ℕ, [], ◌∷◌, ◌+◌, None, ◌≡◌, ◌∙◌, length, refl, sym, ap, subst, set, arith}
 use Rattle.std.specs.FinMap as fin
 use Rattle.rg_claim.specs.declared.claims.Claims.{Claims}
 use Rattle.rg_model.specs.Committed.{locks_without}
@@ -8,10 +8,10 @@ use Rattle.rg_desk.specs.Ended.{commit_record, records_committed}
 use Rattle.rg_desk.specs.Stored.{IsSettled}
 use Rattle.rg_desk.specs.Units.{owed_to, unit_at}
 use Rattle.rg_desk.specs.declared.engine.Engine.{Engine}
-use Rattle.rg_desk.specs.declared.units.OpenUnit.{OpenUnit}
 use Rattle.rg_desk.proofs.CommitShows.{commit_goes}
 use Rattle.rg_desk.proofs.Forcing.{forced_asks}
 use Rattle.rg_desk.proofs.Locked.{commit_fails, has_unit, no_unit}
+use Rattle.rg_desk.proofs.NewestKept.{space_newest}
 use Rattle.rg_desk.proofs.Settled.{all_settled, grows_same}
 use Rattle.rg_desk.proofs.engine.Engine.commit.Goals as goal
 
@@ -24,6 +24,7 @@ returns-then-is_none-clause-steps g c = λ st allowed shows.
     (ap (λ (l : Listed). l.records) ended.log ∙ ap (records_committed d.log.records) (sym none))
     (omega (arith, ap owed_to none, ap (λ (l : Listed). l.reserved) ended.log))
     ended.opened (subst IsSettled (sym ended.log) shows.settled) (grows_same d.log _ ended.log)
+    (space_newest d.log.records _ d.space _ (ap (λ (l : Listed). l.records) ended.log) ended.space)
 
 pub returns-in-Ok-clause-steps : goal.returns-in-Ok-clause-steps
 returns-in-Ok-clause-steps g c = λ st allowed shows.
@@ -45,6 +46,7 @@ returns-in-Ok-clause-steps g c = λ st allowed shows.
       records = ap (λ (l : Listed). l.records) log ∙ c.log_commit.ensures.records ∙ ap (records_committed d.log.records) unit.1;
       pages = ap (λ (l : Listed). l.pages) log ∙ c.log_commit.ensures.base.pages;
     })
+    (λ e h. space_newest c.log_commit.new.self.log.records _ c.log_commit.new.self.space _ (ap (λ (l : Listed). l.records) log) ended.space e (c.log_commit.ensures.newest e h))
 
 pub returns-in-Err-clause-steps : goal.returns-in-Err-clause-steps
 returns-in-Err-clause-steps g c = λ st allowed shows.
@@ -67,6 +69,7 @@ returns-in-Ok-clause-asks g c =
     d.units c.args.session unit.0 Done unit.1 (record { only = c.force.ensures.only; later = c.force.ensures.cause.later; capacities = c.force.ensures.capacities })
     (λ e. absurd (cc (e)))
     (λ e. ap (λ (l : Listed). l.forced) log ∙ c.in-Ok.ensures.ok ∙ ap (λ (l : Listed). length l.records) (sym log))
+    (omega (arith, c.force.ensures.further, ap (λ (l : Listed). l.forced) log))
 
 pub returns-in-Err-clause-asks : goal.returns-in-Err-clause-asks
 returns-in-Err-clause-asks g c =
@@ -79,3 +82,4 @@ returns-in-Err-clause-asks g c =
     d.units c.args.session unit.0 Device unit.1 (record { only = c.force.ensures.only; later = c.force.ensures.cause.later; capacities = c.force.ensures.capacities })
     (λ e. c.in-Err.ensures.cause.failed)
     (λ e. absurd (cc (e)))
+    (omega (arith, c.force.ensures.further))

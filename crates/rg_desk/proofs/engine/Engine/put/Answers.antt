@@ -37,6 +37,14 @@ returns c =
           let can = parts_apply (seen_in old) (list_seen (frames_of c.clear.new.space)) unit.tran.0 0 k c.args.after plan ready carries is in
           c.make.ensures.slots (subst (λ (n : ℕ). CanApply (list_seen (frames_of c.clear.new.space)) n unit.tran.0 c.args.after plan.parts) (sym c.clear.ensures.capacity) can)
           ∙ ap (λ (ps : List (List Slot)). applied unit.tran.0 (row_or_empty c.args.after) ps plan.parts) is;
+      newest = λ carries e h.
+          let purge = purge_applies (seen_in old) unit.tran.0 0 k c.args.after plan c.requires.hand.purge carries in
+          let is : slots_of (list_seen (frames_of c.clear.new.space)).pages ≡ cleared 0 (slots_in old) plan = c.clear.ensures.slots purge in
+          let there = subst (λ (n : ℕ). AllThere n plan.purge) (slots_count (seen_in old).pages) carries.next.purge in
+          let ready = c.clear.ensures.stay purge there plan.parts c.requires.hand.parts in
+          let can = parts_apply (seen_in old) (list_seen (frames_of c.clear.new.space)) unit.tran.0 0 k c.args.after plan ready carries is in
+          c.make.ensures.newest (subst (λ (n : ℕ). CanApply (list_seen (frames_of c.clear.new.space)) n unit.tran.0 c.args.after plan.parts) (sym c.clear.ensures.capacity) can) e
+          (c.clear.ensures.newest purge e h);
       records =
           c.make.ensures.records
           ∙ ap (λ (rs : List Record). rs ++ change c.next_position-position.result ∷ []) c.clear.ensures.records

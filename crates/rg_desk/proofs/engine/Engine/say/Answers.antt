@@ -1,5 +1,4 @@
-use Rattle.std.proofs.Common.{sym, ◌∙◌, ap}
-use Rattle.rg_desk.specs.declared.engine.Engine.{Engine}
+use Rattle.std.proofs.Common.{sym, ◌∙◌}
 use Rattle.rg_desk.proofs.Answering.{done_answers, refused_answers, still_admitted}
 use Rattle.rg_desk.proofs.engine.Engine.say.Goals as goal
 

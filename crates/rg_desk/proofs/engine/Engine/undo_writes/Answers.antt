@@ -45,7 +45,7 @@ pub loop-preserved : goal.loop-preserved
 loop-preserved c = λ st allowed shows.
     let d = c.args.self.now in
     undo_goes d (left_by shows.first d) (left_consistent st allowed d shows) c.args.unit c.loop.self c.loop.work c.loop.at.0 c.loop.counter (c.loop.invariant st allowed shows) c.loop-test.true (has_room st allowed d shows c.args.session.0 c.args.unit c.requires.unit)
-    c.loop.back.0 c.undo_next-at.result.0 c.undo_next-at.new.self c.undo_next-at.new.work c.undo_next-at.ensures
+    c.loop.back.0 c.undo_next-at.result.0 c.undo_next-at.new.self c.undo_next-at.new.work c.undo_next-at.ensures.did c.undo_next-at.ensures.newest
 
 pub returns-clause-ok : goal.returns-clause-ok
 returns-clause-ok c = λ st allowed shows. undo_ends c.args.self.now (left_by shows.first c.args.self.now) c.args.unit c.loop.self c.loop.work c.loop.at.0 c.loop.counter (c.loop.invariant st allowed shows) (omega (arith, c.loop-test.false))

@@ -1,0 +1,93 @@
+-- The entry of a flush.
+use Rattle.std.proofs.Common.{◌≡◌, ◌≤◌, ◌++◌, ℕ, Bool, true, false, not, List, [], ◌∷◌, Option, Some, None, refl, sym, ◌∙◌, ap, subst, arith}
+use Rattle.rg_base.specs.declared.position.Position.{Position}
+use Rattle.rg_model.specs.Possible.{next_state}
+use Rattle.rg_model.specs.Said.{if_allowed}
+use Rattle.rg_model.specs.State.{State}
+use Rattle.rg_page.specs.Content.{Content}
+use Rattle.rg_space.specs.Space.{capacity_in}
+use Rattle.rg_stmt.specs.declared.event.Actor.TheVariants as actors
+use Rattle.rg_stmt.specs.declared.event.Event.{Event}
+use Rattle.rg_stmt.specs.declared.event.Event.TheVariants.{Clean, Flush, FlushDevice, FlushNoMemory}
+use Rattle.rg_log.specs.Kept.{Listed, log_pages}
+use Rattle.rg_newest.specs.Tidy.{set_of}
+use Rattle.rg_desk.specs.Chronicle.{ChronicleState, IsRecorded, allowed_by, system_entry}
+use Rattle.rg_desk.specs.Desk.{IsDesk}
+use Rattle.rg_desk.specs.Engine.{seen_in}
+use Rattle.rg_desk.specs.Flushed.{CallsOwn, FlushIs, IsFlush, TellsFlush, WritesEither}
+use Rattle.rg_desk.specs.OnVolume.{IsOnVolume}
+use Rattle.rg_desk.specs.Volume.{IsCount, LeavesIfTidy, VolumeSeen}
+use Rattle.rg_desk.specs.declared.engine.Engine.{Engine}
+use Rattle.rg_desk.proofs.DeskGoes.{IsSystem, desk_quiet}
+use Rattle.rg_desk.proofs.Flushing.{own_same}
+use Rattle.rg_desk.proofs.Leaving.{on_calls}
+
+-- a flush of a desk that is up is allowed
+is_system : (copy : ℕ) (contents : List Content) (marks later : List (Option Position)) (old new : VolumeSeen) (event : Event) → IsFlush copy contents marks later old new event → IsSystem event
+is_system copy contents marks later old new (Flush page) is = tt
+is_system copy contents marks later old new Clean is = tt
+is_system copy contents marks later old new FlushDevice is = tt
+is_system copy contents marks later old new FlushNoMemory is = tt
+is_system copy contents marks later old new event is = absurd is
+
+allowed : (st : State) → st.down ≡ false → (copy : ℕ) (contents : List Content) (marks later : List (Option Position)) (old new : VolumeSeen) (event : Event) → IsFlush copy contents marks later old new event → next_state [] None actors.System event st ≡ Some st
+allowed st up copy contents marks later old new (Flush page) is = ap (λ (b : Bool). if_allowed (not b) st) up
+allowed st up copy contents marks later old new Clean is = ap (λ (b : Bool). if_allowed (not b) st) up
+allowed st up copy contents marks later old new FlushDevice is = ap (λ (b : Bool). if_allowed (not b) st) up
+allowed st up copy contents marks later old new FlushNoMemory is = ap (λ (b : Bool). if_allowed (not b) st) up
+allowed st up copy contents marks later old new event is = absurd is
+
+pub desk_flushed : (d : Engine) (c : ChronicleState) (copy : ℕ) (down : Bool) (marks : List (Option Position)) (seen : VolumeSeen) (desk : IsDesk d c copy down marks seen) (event : Event) (calls : ℕ) (next : Engine) (later : List (Option Position)) (seen_after : VolumeSeen) (new : ChronicleState)
+    → TellsFlush down copy marks later seen seen_after d event next
+    → new.trace ≡ c.trace ++ system_entry event calls ∷ [] → new.calls ≡ calls → IsCount seen_after calls → IsRecorded new.trace new.calls → IsDesk next new copy down later seen_after
+desk_flushed d c copy true marks seen desk event calls next later seen_after new tells trace at counted recorded =
+    let same = tells.1 in
+    desk_quiet d c copy true marks seen desk event calls next later seen_after new
+    (ap (λ (x : Engine). x.log) same ∙ ap (λ (n : ℕ). let l : Listed = record d.log { forced = n } in l) (sym (ap (λ (x : Engine). x.log.forced) same)))
+    (ap (λ (x : Engine). x.opened) same) (λ up. absurd (cc (up)))
+    (subst IsSystem (sym tells.0) tt)
+    (subst (λ (e : Event). next_state [] None actors.System e desk.state ≡ Some desk.state) (sym tells.0) (ap (λ (b : Bool). if_allowed b desk.state) desk.down_is))
+    (ap (λ (x : Engine). x.log.pages) same ∙ desk.pages ∙ ap (λ (v : VolumeSeen). log_pages v.capacities) (sym tells.3))
+    (subst (λ (v : VolumeSeen). LeavesIfTidy v next.log) (sym tells.3) (subst (λ (x : Engine). LeavesIfTidy seen x.log) (sym same) desk.leaves))
+    (subst (IsOnVolume copy next.log next.space later) (sym tells.3) (subst (λ (ms : List (Option Position)). IsOnVolume copy next.log next.space ms seen) (sym tells.2) (subst (λ (x : Engine). IsOnVolume copy x.log x.space marks seen) (sym same) desk.is_on)))
+    trace at counted recorded
+desk_flushed d c copy false marks seen desk event calls next later seen_after new f trace at counted recorded =
+    let pages : next.log.pages ≡ d.log.pages = ap (λ (l : Listed). l.pages) f.forces.log in
+    desk_quiet d c copy false marks seen desk event calls next later seen_after new f.forces.log f.forces.opened
+    (λ up. f.forces.shows desk.state (allowed_by 0 c.trace) (desk.shown refl))
+    (is_system copy (seen_in d).pages marks later seen seen_after event f.is) (allowed desk.state desk.down_is copy (seen_in d).pages marks later seen seen_after event f.is)
+    (pages ∙ desk.pages ∙ ap (λ x. log_pages x) (sym f.calls.capacities))
+    (on_calls (WritesEither (set_of copy)) seen.told seen_after.told d.log next.log c.calls f.calls.only desk.counted pages f.leaves desk.leaves)
+    f.is_on trace at counted recorded
+
+-- what a flush says, and leaves
+pub record Told (copy : ℕ) (down : Bool) (marks later : List (Option Position)) (seen seen_after : VolumeSeen) (d : Engine) (event : Event) (next : Engine) : Type 0 where
+  pub is : FlushIs down copy (seen_in d).pages marks later seen seen_after event
+  pub log : next.log ≡ record d.log { forced = next.log.forced }
+  pub further : d.log.forced ≤ next.log.forced
+  pub contents : (seen_in next).pages ≡ (seen_in d).pages
+  pub capacity : capacity_in next.space ≡ capacity_in d.space
+  pub opened : next.opened ≡ d.opened
+  pub calls : CallsOwn copy seen seen_after
+
+pub flush_told : (copy : ℕ) (down : Bool) (marks later : List (Option Position)) (seen seen_after : VolumeSeen) (d : Engine) (event : Event) (next : Engine) → TellsFlush down copy marks later seen seen_after d event next → Told copy down marks later seen seen_after d event next
+flush_told copy true marks later seen seen_after d event next tells =
+    let same = tells.1 in
+    record {
+      is = (tells.0, tells.3);
+      log = ap (λ (x : Engine). x.log) same ∙ ap (λ (n : ℕ). let l : Listed = record d.log { forced = n } in l) (sym (ap (λ (x : Engine). x.log.forced) same));
+      further = omega (arith, ap (λ (x : Engine). x.log.forced) same);
+      contents = ap (λ (x : Engine). (seen_in x).pages) same;
+      capacity = ap (λ (x : Engine). capacity_in x.space) same;
+      opened = ap (λ (x : Engine). x.opened) same;
+      calls = subst (CallsOwn copy seen) (sym tells.3) (own_same copy seen);
+    }
+flush_told copy false marks later seen seen_after d event next f = record {
+  is = f.is;
+  log = f.forces.log;
+  further = f.forces.further;
+  contents = f.forces.contents;
+  capacity = f.forces.capacity;
+  opened = f.forces.opened;
+  calls = f.calls;
+}

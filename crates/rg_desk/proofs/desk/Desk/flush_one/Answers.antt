@@ -1,0 +1,55 @@
+use Rattle.std.proofs.Common.{◌≡◌, ◌≤◌, ℕ, List, [], ◌∷◌, ◌++◌, take, ◌∙◌, ap, subst}
+use Rattle.rg_log.specs.Kept.{Listed}
+use Rattle.rg_stmt.specs.declared.event.Entry.{Entry}
+use Rattle.rg_desk.specs.Chronicle.{system_entry}
+use Rattle.rg_desk.specs.Desk.{old_records}
+use Rattle.rg_desk.specs.Flushed.{CallsOwn, FlushIs}
+use Rattle.rg_desk.specs.Volume.{seen_volume}
+use Rattle.rg_desk.proofs.DeskFlush.{desk_flushed, flush_told}
+use Rattle.rg_desk.proofs.DeskGoes.{desk_room}
+use Rattle.rg_desk.proofs.desk.Desk.flush_one.Goals as goal
+
+pub invariant_of-self-2 : goal.invariant_of-self-2
+invariant_of-self-2 g c =
+    let inside = c.self.inside in
+    let room = desk_room inside.engine inside.chronicle inside.copy inside.down _ _ c.self.invariant c.make_room.new.self c.make_room.ensures.trace c.make_room.ensures.calls in
+    desk_flushed inside.engine c.make_room.new.self inside.copy inside.down inside.marks.items _ room c.tell_flush-event.result c.calls_now-calls.result c.tell_flush-event.new.engine c.tell_flush-event.new.marks.items _ c.push.new.self c.tell_flush-event.ensures
+    (c.push.ensures.trace ∙ ap (λ (e : Entry). c.make_room.new.self.trace ++ e ∷ []) c.system.ensures)
+    (c.push.ensures.calls ∙ ap (λ (e : Entry). e.calls) c.system.ensures)
+    c.calls_now-calls.ensures.counted c.push.ensures.recorded
+
+pub returns-clause-made : goal.returns-clause-made
+returns-clause-made g c =
+    let inside = c.self.inside in
+    let look = seen_volume g.V.Volume.told g.V.Volume.faults g.V.Volume.capacities in
+    let event = c.tell_flush-event.result in
+    let calls = c.calls_now-calls.result in
+    let next = c.tell_flush-event.new.engine in
+    let marks = c.tell_flush-event.new.marks.items in
+    let after = look c.tell_flush-event.new.volume in
+    let told = flush_told inside.copy inside.down inside.marks.items marks (look inside.volume) after inside.engine event next c.tell_flush-event.ensures in
+    let trace = c.make_room.ensures.trace ∙ ap (λ d. d.trace) c.self.view_is in
+    let records : next.log.records ≡ inside.engine.log.records = ap (λ (l : Listed). l.records) told.log in
+    record {
+      event = event;
+      calls = calls;
+      made =
+          c.push.ensures.trace
+          ∙ ap (λ (e : Entry). c.make_room.new.self.trace ++ e ∷ []) c.system.ensures
+          ∙ ap (λ (es : List Entry). es ++ system_entry event calls ∷ []) trace;
+      counted = c.calls_now-calls.ensures.counted;
+      is = subst (λ d. FlushIs d.down d.copy d.contents d.marks marks (look d.volume) after event) c.self.view_is told.is;
+      log = told.log ∙ ap (λ d. let l : Listed = record d.ground.log { forced = next.log.forced } in l) c.self.view_is;
+      further = subst (λ d. d.ground.log.forced ≤ next.log.forced) c.self.view_is told.further;
+      contents = told.contents ∙ ap (λ d. d.contents) c.self.view_is;
+      down = ap (λ d. d.down) c.self.view_is;
+      stays = record {
+        capacity = told.capacity ∙ ap (λ d. d.ground.capacity) c.self.view_is;
+        log_pages = ap (λ (l : Listed). l.pages) told.log ∙ ap (λ d. d.ground.log.pages) c.self.view_is;
+        opened = told.opened ∙ ap (λ d. d.opened) c.self.view_is;
+        old_same = ap (λ (n : ℕ). take n next.log.records) told.opened ∙ ap (take inside.engine.opened) records ∙ ap (λ d. old_records d) c.self.view_is;
+        copy = ap (λ d. d.copy) c.self.view_is;
+        calls = subst (λ d. CallsOwn d.copy (look d.volume) after) c.self.view_is told.calls;
+        operator = ap (λ d. d.operator) c.self.view_is;
+      };
+    }

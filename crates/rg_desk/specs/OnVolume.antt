@@ -1,0 +1,101 @@
+-- What of an engine's pages is on the volume.
+--
+-- 1. The copy began with some pages, and each page of the engine is the newest version of its page.
+-- 2. Where the volume read tidy when the count began, whatever a crash leaves of each page of the
+--    copy's set is a version that the forced records cover, or a page that is left over.
+-- 3. A mark is a position: the volume reads the page as it was up to there, since it was read so or
+--    written so by a call that succeeded. A page without a mark was neither read nor written.
+-- 4. A page is clean where its mark is its own position.
+use Rattle.std.specs.Prelude.{◌≡◌, ◌≤◌, ◌<◌, ◌==◌, ℕ, Bool, true, false, List, ◌∷◌, Option, Some, None, length, slice_index_or}
+use Rattle.rg_base.specs.declared.position.Position.{Position}
+use Rattle.rg_base.specs.declared.set.Set.{Set}
+use Rattle.rg_outside.specs.Calls.{Told, read_of}
+use Rattle.rg_outside.specs.Capacities.{Capacities, capacity_of}
+use Rattle.rg_outside.specs.Moments.{EachImage, IfTold, read_at}
+use Rattle.rg_log.specs.Kept.{Listed, log_pages}
+use Rattle.rg_page.specs.Content.{Content, content_at}
+use Rattle.rg_page.specs.declared.list.ListFrames.{ListFrames}
+use Rattle.rg_record.specs.declared.record.Record.{Record}
+use Rattle.rg_space.specs.Space.{capacity_in}
+use Rattle.rg_space.specs.declared.space.Space.{Space}
+use Rattle.rg_version.specs.OnImage.{HasPages}
+use Rattle.rg_version.specs.Versions.{Epoch, Spells, version}
+use Rattle.rg_newest.specs.Tidy.{AreTidyPages, set_of}
+use Rattle.rg_desk.specs.Newest.{HasNewest}
+use Rattle.rg_desk.specs.Volume.{VolumeSeen, WasTidy}
+
+-- the volume read tidy when the count began: its log, and the pages past those of its copy
+pub record WasAllTidy (capacities : Capacities) (t : Told) : Type 0 where
+  pub log : WasTidy (log_pages capacities) t
+  pub pages : AreTidyPages capacities (read_at t t.start)
+
+-- where it did, a crash leaves the pages of the copy
+abbrev pub LeavesPagesIfTidy :
+    VolumeSeen → (copy capacity : ℕ) → Epoch → List Record → (forced : ℕ) → Type 0
+LeavesPagesIfTidy seen copy capacity e rs forced =
+    IfTold seen.told (λ t. WasAllTidy seen.capacities t
+    → EachImage (HasPages (set_of copy) capacity e rs forced) t)
+
+-- the mark of page p, if it has one
+abbrev pub mark_at : List (Option Position) → (p : ℕ) → Option Position
+mark_at marks p = slice_index_or (None ∷ marks) p None
+
+-- what a mark says of a page that reads so
+abbrev pub IsMark : Epoch → List Record → (p : ℕ) → List ℕ → Option Position → Type 0
+IsMark e rs p bytes None = Unit {0}
+IsMark e rs p bytes (Some q) = (q.0 ≤ length rs) × Spells bytes (version e rs q.0 p)
+
+-- so is each mark
+abbrev pub AreMarks :
+    VolumeSeen → Set → Epoch → List Record → List (Option Position) → Type 0
+AreMarks seen set e rs marks =
+    IfTold seen.told (λ t. (p : ℕ) → 1 ≤ p
+    → IsMark e rs p (read_of t.first t.calls set p) (mark_at marks p))
+
+-- what of the pages of a space is on the volume, for a copy that began so
+pub record IsOn (e : Epoch) (copy : ℕ) (log : Listed) (space : Space ListFrames)
+    (marks : List (Option Position)) (seen : VolumeSeen) : Type 0 where
+  pub copy_is : e.copy ≡ copy
+  pub within : capacity_in space ≤ capacity_of seen.capacities (set_of copy)
+  pub begun : e.from ≤ log.forced
+  pub newest : HasNewest e log.records space
+  pub leaves : LeavesPagesIfTidy seen copy (capacity_in space) e log.records log.forced
+  pub marked : AreMarks seen (set_of copy) e log.records marks
+
+-- for some copy
+pub record IsOnVolume (copy : ℕ) (log : Listed) (space : Space ListFrames)
+    (marks : List (Option Position)) (seen : VolumeSeen) : Type 0 where
+  pub epoch : Epoch
+  pub is_on : IsOn epoch copy log space marks seen
+
+-- whether a page with this mark is clean
+abbrev pub is_clean : Option Position → Content → Bool
+is_clean None x = false
+is_clean (Some q) x = q.0 == x.position
+
+-- page p of these pages is clean, or not
+abbrev pub is_clean_at : List Content → List (Option Position) → (p : ℕ) → Bool
+is_clean_at contents marks p = is_clean (mark_at marks p) (content_at contents p)
+
+-- so are all before this one
+abbrev pub AllCleanBefore : List Content → List (Option Position) → (end : ℕ) → Type 0
+AllCleanBefore contents marks end =
+    (q : ℕ) → 1 ≤ q → q < end → is_clean_at contents marks q ≡ true
+
+-- it is the least that is not
+pub record IsLeastDirty (contents : List Content) (marks : List (Option Position)) (p : ℕ)
+    : Type 0 where
+  pub low : 1 ≤ p
+  pub high : p ≤ length contents
+  pub dirty : is_clean_at contents marks p ≡ false
+  pub before : AllCleanBefore contents marks p
+
+-- all are clean
+abbrev pub AreClean : List Content → List (Option Position) → Type 0
+AreClean contents marks =
+    (p : ℕ) → 1 ≤ p → p ≤ length contents → is_clean_at contents marks p ≡ true
+
+-- the first of these pages that is not clean, if there is one
+abbrev pub IsNextDirty : List Content → List (Option Position) → Option ℕ → Type 0
+IsNextDirty contents marks None = AreClean contents marks
+IsNextDirty contents marks (Some p) = IsLeastDirty contents marks p
