@@ -47,6 +47,7 @@ pub mod Answering
 pub mod Counting
 pub mod Among
 pub mod Exits
+pub mod Reopening
 pub mod DeskGoes
 pub mod DeskFlush
 pub mod Recorded

@@ -1,12 +1,14 @@
 -- What of an engine's pages stays on the volume, over calls and records.
-use Rattle.std.proofs.Common.{◌≡◌, ◌≢◌, ◌≤◌, ◌+◌, ◌++◌, ◌==◌, ◌⊎◌, inl, inr, ℕ, Bool, true, false, if◌then◌else◌, List, [], ◌∷◌, length, Option, Some, None, Result, Ok, Err, refl, sym, ◌∙◌, ap, subst, arith, append-nil, length-append}
+use Rattle.std.proofs.Common.{◌≡◌, ◌≢◌, ◌≤◌, ◌<◌, ◌+◌, ◌++◌, ◌==◌, ◌⊎◌, inl, inr, ℕ, Bool, true, false, if◌then◌else◌, List, [], ◌∷◌, length, Option, Some, None, Result, Ok, Err, refl, sym, ◌∙◌, ap, subst, arith, take, append-nil, length-append}
 use Rattle.std.proofs.lemmas.Bool.{eqb-false, eqb-true}
+use Rattle.std.proofs.lemmas.List.{take-append-le}
 use Rattle.std.specs.List.{AllByRecursion}
 use Rattle.rg_base.specs.declared.position.Position.{Position}
 use Rattle.rg_base.specs.declared.set.Set.{Set}
 use Rattle.rg_base.specs.declared.set.Set.TheVariants.{Log, First, Second}
 use Rattle.rg_image.specs.Log.{SpellsFrom}
-use Rattle.rg_image.specs.Rules.{IsTidyLog}
+use Rattle.rg_image.specs.Meaning.{current_of}
+use Rattle.rg_image.specs.Rules.{IsTidyLog, copy_capacity}
 use Rattle.rg_log.specs.Kept.{LeavesLog, Listed, log_pages}
 use Rattle.rg_outside.specs.Calls.{Call, FailedRead, FailedSync, FailedWrite, Image, Read, Refused, Synced, Told, Wrote, is_same_page, read_of}
 use Rattle.rg_outside.specs.Capacities.{Capacities, capacity_of}
@@ -30,7 +32,7 @@ use Rattle.rg_newest.specs.Tidy.{AreTidyPages, set_of}
 use Rattle.rg_newest.proofs.Flush.{clean_newest, newest_written, written_version}
 use Rattle.rg_newest.proofs.InMemory.{there_in}
 use Rattle.rg_desk.specs.Newest.{HasNewest}
-use Rattle.rg_desk.specs.OnVolume.{AreMarks, IsMark, IsOn, WasAllTidy, is_clean, is_clean_at, mark_at}
+use Rattle.rg_desk.specs.OnVolume.{AreMarks, BeganAt, IsMark, IsOn, WasAllTidy, is_clean, is_clean_at, mark_at}
 use Rattle.rg_desk.specs.Volume.{CallsLog, HasCalls, VolumeSeen}
 use Rattle.rg_desk.specs.Wrote.{SameEngine}
 use Rattle.rg_desk.specs.declared.engine.Engine.{Engine}
@@ -103,6 +105,17 @@ mark_more e rs more p bytes (Some q) is =
     let longer = length-append rs more in
     (omega (arith, is.0, longer), subst (Spells bytes) (sym (version_more e rs p more q.0 is.0)) is.1)
 
+-- by the first records, which are forced, a copy has the same pages
+began_more : (e : Epoch) (log later : Listed) (more : List Record) → BeganAt e log → later.records ≡ log.records ++ more → log.forced ≤ length log.records → log.forced ≤ later.forced → BeganAt e later
+began_more e log later more began records within further =
+    let front : take began.at later.records ≡ take began.at log.records = ap (take began.at) records ∙ take-append-le began.at log.records more (omega (arith, began.forced, within)) in
+    record {
+      at = began.at;
+      low = began.low;
+      forced = omega (arith, began.forced, further);
+      empties = λ p past. began.empties p (subst (λ (rs : List Record). (current_of rs).pages < p) front past);
+    }
+
 -- records were appended, and the log was forced further
 module _ (e : Epoch) (copy : ℕ) (log later : Listed) (space next : Space ListFrames) (marks : List (Option Position)) (old new : VolumeSeen) (on : IsOn e copy log space marks old)
     (more : List Record) (records : later.records ≡ log.records ++ more) (newest : HasNewest e later.records next) (capacity : capacity_in next ≡ capacity_in space)
@@ -124,7 +137,9 @@ module _ (e : Epoch) (copy : ℕ) (log later : Listed) (space next : Space ListF
   on_more = record {
     copy_is = on.copy_is;
     within = subst (λ (k : ℕ). k ≤ capacity_of new.capacities (set_of copy)) (sym capacity) (subst (λ (c : Capacities). capacity_in space ≤ capacity_of c (set_of copy)) (sym calls.capacities) on.within);
+    capacity = capacity ∙ on.capacity ∙ ap (λ (c : Capacities). copy_capacity c copy) (sym calls.capacities);
     begun = omega (arith, on.begun, further);
+    began = began_more e log later more on.began records within further;
     newest = newest;
     leaves =
         subst (λ (c : Capacities). IfTold new.told (λ t. WasAllTidy c t → EachImage (HasPages (set_of copy) (capacity_in next) e later.records later.forced) t)) (sym calls.capacities)
@@ -140,7 +155,9 @@ on_same e copy d next marks seen same on =
     (record {
       copy_is = on.copy_is;
       within = subst (λ (k : ℕ). k ≤ capacity_of seen.capacities (set_of copy)) (sym same.capacity) on.within;
+      capacity = same.capacity ∙ on.capacity;
       begun = on.begun;
+      began = on.began;
       newest = newest;
       leaves = subst (λ (k : ℕ). IfTold seen.told (λ t. WasAllTidy seen.capacities t → EachImage (HasPages (set_of copy) k e d.log.records d.log.forced) t)) (sym same.capacity) on.leaves;
       marked = on.marked;
@@ -196,7 +213,9 @@ module _ (e : Epoch) (copy : ℕ) (log : Listed) (space : Space ListFrames) (pag
       record {
         copy_is = on.copy_is;
         within = subst (λ (c : Capacities). capacity_in space ≤ capacity_of c (set_of copy)) (sym caps) on.within;
+        capacity = on.capacity ∙ ap (λ (c : Capacities). copy_capacity c copy) (sym caps);
         begun = on.begun;
+        began = on.began;
         newest = on.newest;
         leaves =
             subst (λ (c : Capacities). IfTold new.told (λ t. WasAllTidy c t → EachImage (HasPages (set_of copy) (capacity_in space) e log.records log.forced) t)) (sym caps)
@@ -211,7 +230,9 @@ module _ (e : Epoch) (copy : ℕ) (log : Listed) (space : Space ListFrames) (pag
   on_marked marks later seen on reads marked others = record {
     copy_is = on.copy_is;
     within = on.within;
+    capacity = on.capacity;
     begun = on.begun;
+    began = on.began;
     newest = on.newest;
     leaves = on.leaves;
     marked = both seen.told on.marked reads;
@@ -241,7 +262,9 @@ pub on_fewer : (e : Epoch) (copy : ℕ) (log : Listed) (space : Space ListFrames
 on_fewer e copy log space marks later seen on fewer = record {
   copy_is = on.copy_is;
   within = on.within;
+  capacity = on.capacity;
   begun = on.begun;
+  began = on.began;
   newest = on.newest;
   leaves = on.leaves;
   marked = told_weaken _ _ seen.told (λ t h p one. go t p (fewer p one) (h p one)) on.marked;

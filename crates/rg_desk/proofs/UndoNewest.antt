@@ -4,6 +4,7 @@ use Rattle.rg_page.specs.Content.{slots_of}
 use Rattle.rg_page.specs.declared.list.ListFrames.{ListFrames}
 use Rattle.rg_record.specs.Applied.{parts_of}
 use Rattle.rg_record.specs.declared.record.Record.{Record}
+use Rattle.rg_redo.specs.Redo.{is_switch}
 use Rattle.rg_space.specs.Carries.{AllThere}
 use Rattle.rg_space.specs.Indexed.{Indexed}
 use Rattle.rg_space.specs.Memory.{list_seen}
@@ -20,7 +21,7 @@ pub undo_stays : (rs : List Record) (a b : Space ListFrames) (index : Indexed) (
 undo_stays rs a b index position back entry undo did is next copy =
     record_stays rs undo a b
     (there_near (length (list_seen (frames_of a)).pages) (parts_of undo.kind) (subst (λ (r : Record). AllThere (length (list_seen (frames_of a)).pages) (parts_of r.kind)) (sym is) did.there))
-    (ap (λ (r : Record). r.position.0) is ∙ next) copy
+    (ap (λ (r : Record). r.position.0) is ∙ next) (ap (λ (r : Record). is_switch r.kind) is) copy
     (did.wrote ∙ ap (record_wrote (list_seen (frames_of a)).copy (list_seen (frames_of a)).pages) (sym is))
 
 pub first_is : (r s : Record) (rs ss : List Record) → r ∷ rs ≡ s ∷ ss → r ≡ s

@@ -6,14 +6,20 @@
 -- 3. A mark is a position: the volume reads the page as it was up to there, since it was read so or
 --    written so by a call that succeeded. A page without a mark was neither read nor written.
 -- 4. A page is clean where its mark is its own position.
-use Rattle.std.specs.Prelude.{◌≡◌, ◌≤◌, ◌<◌, ◌==◌, ℕ, Bool, true, false, List, ◌∷◌, Option, Some, None, length, slice_index_or}
+-- 5. The copy began with empty pages past those that it had by some of the forced records. So where
+--    the volume read tidy when the count began, it does so now, and the copy is the current one by
+--    whatever a crash leaves of the log.
+use Rattle.std.specs.Prelude.{◌≡◌, ◌≤◌, ◌<◌, ◌==◌, ℕ, Bool, true, false, List, ◌∷◌, Option, Some, None, length, slice_index_or, take}
 use Rattle.rg_base.specs.declared.position.Position.{Position}
 use Rattle.rg_base.specs.declared.set.Set.{Set}
 use Rattle.rg_outside.specs.Calls.{Told, read_of}
 use Rattle.rg_outside.specs.Capacities.{Capacities, capacity_of}
 use Rattle.rg_outside.specs.Moments.{EachImage, IfTold, read_at}
+use Rattle.rg_image.specs.Log.{log_of}
+use Rattle.rg_image.specs.Meaning.{current_of}
+use Rattle.rg_image.specs.Rules.{IsTidyLog, copy_capacity}
 use Rattle.rg_log.specs.Kept.{Listed, log_pages}
-use Rattle.rg_page.specs.Content.{Content, content_at}
+use Rattle.rg_page.specs.Content.{Content, content_at, empty}
 use Rattle.rg_page.specs.declared.list.ListFrames.{ListFrames}
 use Rattle.rg_record.specs.declared.record.Record.{Record}
 use Rattle.rg_space.specs.Space.{capacity_in}
@@ -36,6 +42,22 @@ LeavesPagesIfTidy seen copy capacity e rs forced =
     IfTold seen.told (λ t. WasAllTidy seen.capacities t
     → EachImage (HasPages (set_of copy) capacity e rs forced) t)
 
+-- If the log read tidy when the count began, it does so now. So it is with the pages past those of
+-- the current copy, if they did, too.
+abbrev pub GoesOnTidy : VolumeSeen → Type 0
+GoesOnTidy seen =
+    IfTold seen.told (λ t. (t.start ≤ length t.calls)
+    × (WasTidy (log_pages seen.capacities) t
+    → IsTidyLog (log_pages seen.capacities) (read_of t.first t.calls))
+    × (WasAllTidy seen.capacities t
+    → AreTidyPages seen.capacities (read_of t.first t.calls)))
+
+-- if the log read tidy then, this copy is the current one by whatever a crash leaves of it
+abbrev pub LeavesCopyIfTidy : VolumeSeen → (copy : ℕ) → Type 0
+LeavesCopyIfTidy seen copy =
+    IfTold seen.told (λ t. WasTidy (log_pages seen.capacities) t
+    → EachImage (λ i. (current_of (log_of (log_pages seen.capacities) i)).copy ≡ copy) t)
+
 -- the mark of page p, if it has one
 abbrev pub mark_at : List (Option Position) → (p : ℕ) → Option Position
 mark_at marks p = slice_index_or (None ∷ marks) p None
@@ -52,12 +74,21 @@ AreMarks seen set e rs marks =
     IfTold seen.told (λ t. (p : ℕ) → 1 ≤ p
     → IsMark e rs p (read_of t.first t.calls set p) (mark_at marks p))
 
+-- a copy that began with empty pages past those that it had by the first `at` of the forced records
+pub record BeganAt (e : Epoch) (log : Listed) : Type 0 where
+  pub at : ℕ
+  pub low : e.from ≤ at
+  pub forced : at ≤ log.forced
+  pub empties : (p : ℕ) → (current_of (take at log.records)).pages < p → e.base p ≡ empty e.copy p
+
 -- what of the pages of a space is on the volume, for a copy that began so
 pub record IsOn (e : Epoch) (copy : ℕ) (log : Listed) (space : Space ListFrames)
     (marks : List (Option Position)) (seen : VolumeSeen) : Type 0 where
   pub copy_is : e.copy ≡ copy
   pub within : capacity_in space ≤ capacity_of seen.capacities (set_of copy)
+  pub capacity : capacity_in space ≡ copy_capacity seen.capacities copy
   pub begun : e.from ≤ log.forced
+  pub began : BeganAt e log
   pub newest : HasNewest e log.records space
   pub leaves : LeavesPagesIfTidy seen copy (capacity_in space) e log.records log.forced
   pub marked : AreMarks seen (set_of copy) e log.records marks

@@ -21,7 +21,7 @@ ghost use Rattle.rg_desk.specs.Begun.{Begun};
 ghost use Rattle.rg_desk.specs.Desk.{CanBegin, EndsDown, EndsWithRows, IsCopy, IsLayout, LegalFrom, MadeLayout};
 ghost use Rattle.rg_desk.specs.Desk.{MadeFlush, MadeSaid, Opens, old_records};
 ghost use Rattle.rg_desk.specs.Flushed.{TellsFlush};
-ghost use Rattle.rg_desk.specs.OnVolume.{IsOnVolume};
+ghost use Rattle.rg_desk.specs.OnVolume.{GoesOnTidy, IsOnVolume, LeavesCopyIfTidy};
 ghost use Rattle.rg_space.specs.Memory.{list_seen, space_pages};
 ghost use Rattle.rg_desk.specs.Engine.{HasPages, ground_of};
 ghost use Rattle.rg_desk.specs.Shows.{IsShown, Shows};
@@ -376,13 +376,19 @@ impl<V: Counts, O: Operator> Desk<V, O> {
         self.engine.committed_rows()
     }
 
-    /// The volume and the operator that it was handed, and its trace.
+    /// The volume and the operator that it was handed, and its trace. The volume may be opened
+    /// again.
     pub fn into_parts(self) -> (V, O, Vec<Entry>)
         ensures volume { result.0 ≡ self.volume }
         ensures operator { result.1 ≡ self.operator }
         ensures trace { result.2.items ≡ self.trace }
         ensures legal { LegalFrom (old_records self) self.trace }
+        ensures tidy { GoesOnTidy (seen_volume V.told V.faults V.capacities self.volume) }
+        ensures copy { LeavesCopyIfTidy (seen_volume V.told V.faults V.capacities self.volume)
+            self.copy }
     {
+        // That the records fit their set: the clauses on what is left of the volume need it.
+        let _ = self.engine.log.records();
         let Desk {
             engine: _,
             chronicle,

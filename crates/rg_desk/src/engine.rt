@@ -4,13 +4,14 @@
 //    indexes, bytes of the log, and last the lock. After that nothing fails.
 // 2. A record is applied to the pages and then appended. So the pages are always those that the
 //    records leave.
-ghost use Rattle.std.specs.Prelude.{◌≡◌, ◌≤◌, ◌<◌, ◌+◌, ◌*◌, ◌^◌, ℕ, ◌∷◌, ◌++◌, [], List, None, nat_le, if◌then◌else◌, length, IfOk, IfErr, OnOk};
+ghost use Rattle.std.specs.Prelude.{◌≡◌, ◌≤◌, ◌<◌, ◌+◌, ◌*◌, ◌^◌, ℕ, false, ◌∷◌, ◌++◌, [], List, None, nat_le, if◌then◌else◌, length, IfOk, IfErr, OnOk};
 ghost use Rattle.rg_base.specs.declared.part.Part.{Part};
 ghost use Rattle.rg_home.specs.Pages.{applied, row_or_empty};
 ghost use Rattle.rg_space.specs.Carries.{AllThere};
 ghost use Rattle.rg_indexes.specs.Listings.{AreListedAt, AreListings, HasSpare};
 ghost use Rattle.rg_record.specs.Applied.{parts_of};
 ghost use Rattle.rg_record.specs.Spelled.{IsRecord};
+ghost use Rattle.rg_redo.specs.Redo.{is_switch};
 ghost use Rattle.rg_space.specs.Ready.{CanApply, CanApplyRecord, IsAtHand, AllReady, record_applied};
 ghost use Rattle.rg_space.specs.Space.{Agree, InStep, capacity_in, frames_of, index_of};
 ghost use Rattle.rg_page.specs.Content.{slots_of};
@@ -79,6 +80,7 @@ fn make(space: &mut Space<ListFrames>, log: &mut Log, entry: Record)
         → slots_of (list_seen (frames_of space.new)).pages
         ≡ record_applied (slots_of (list_seen (frames_of space.old)).pages) entry }
     ensures newest { CanApplyRecord (list_seen (frames_of space.old)) (capacity_in space.old) entry
+        → is_switch entry.kind ≡ false
         → StayNewest log.old.records space.old log.new.records space.new }
     ensures stay { CanApplyRecord (list_seen (frames_of space.old)) (capacity_in space.old) entry
         → AllThere (length (list_seen (frames_of space.old)).pages) (parts_of entry.kind)

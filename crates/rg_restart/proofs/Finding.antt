@@ -109,11 +109,11 @@ matched_table rs pages undone is matched = subst (λ (ps : List (List Slot)). Is
 })
 
 -- what is found where all rules are kept
-pub finds : (base : List Content) (marks : List (Option Position)) (log now : Listed) (chain : Running) (capacity : ℕ) (redone : List (List Slot)) (closed last : Space ListFrames) (found : Found) → MayFind log chain capacity → Fit base log.records
+pub finds : (base : List Content) (marks : List (Option Position)) (log now : Listed) (chain : Running) (capacity : ℕ) (redone : List (List Slot)) (closed last : Space ListFrames) (found : Found) → MayFind log chain capacity → Fit base log.records → length base ≡ count_of log.records
     → redone ≡ redone_of base log.records → length redone ≡ count_of log.records → IsClosed redone log capacity closed now → IsMatched log.records (space_pages closed) → StoresFew now.records
     → SamePages closed last → AreListings (row_at (slot_of (space_pages last))) found.indexes → HasNewest (opened_epoch log.records base) now.records closed
     → found.log ≡ now → found.space ≡ last → found.copy ≡ chain.current.copy → found.top ≡ length chain.units → found.marks.items ≡ marks → Finds base marks log capacity found
-finds base marks log now chain capacity redone closed last found may fit redone_is count is matched few same listings newest log_is space_is copy_is top_is marks_are =
+finds base marks log now chain capacity redone closed last found may fit taken redone_is count is matched few same listings newest log_is space_is copy_is top_is marks_are =
     let rs = log.records in
     let undone = is.undone in
     let top : found.top ≡ greatest_tran rs = top_is ∙ may.kept.units.greatest in
@@ -123,6 +123,7 @@ finds base marks log now chain capacity redone closed last found may fit redone_
         closes = subst (CanClose rs) redone_is undone.closes;
         matched = subst (IsMatched rs) (undone.slots ∙ ap (undone_from rs) redone_is) matched;
       };
+      taken = taken;
       begins =
           subst (λ (s : Space ListFrames). CanBegin capacity (space_pages s) found.log found.top) (sym space_is)
           (subst (λ (l : Listed). CanBegin capacity (space_pages last) l found.top) (sym log_is)

@@ -150,7 +150,7 @@ module _ (old mid : VolumeSeen) (log : Listed) (quiet : CallsQuiet old mid) (pag
           epoch = opened_epoch log.records base;
           is_on =
               subst (λ (ms : List (Option Position)). IsOn (opened_epoch log.records base) found.copy found.log found.space ms new) (sym finds.marks_are)
-              (is_on log.records base marks old.capacities positions can new found.log finds.took.more found.copy found.space quiet_new.capacities finds.took.records (finds.took.forced ∙ forced) finds.copy_is (finds.capacity_is ∙ capacity_then) finds.newest
+              (is_on log.records base marks old.capacities positions can new found.log finds.took.more found.copy found.space quiet_new.capacities finds.took.records (finds.took.forced ∙ forced) finds.copy_is (finds.capacity_is ∙ capacity_then) finds.taken finds.newest
               (known log.records base marks old.capacities positions can new.told has_old takes marked (certain_on mid.told new.told only sure) own_old (opened_tidy old new quiet_new.only tidy)));
         };
       }

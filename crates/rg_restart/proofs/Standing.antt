@@ -2,9 +2,11 @@
 --
 -- 1. The volume was synced first and no call wrote, so a crash leaves what reads.
 -- 2. A mark shows the version that it numbers.
-use Rattle.std.proofs.Common.{◌≡◌, ◌≤◌, ◌<◌, ◌&&◌, ◌⊎◌, ◌++◌, nat_le, nat_lt, ℕ, zero, suc, Bool, true, false, List, [], ◌∷◌, length, slice_index_or, Option, None, Some, inl, inr, refl, sym, ◌∙◌, ap, subst, arith, length-append}
+use Rattle.std.proofs.Common.{◌≡◌, ◌≤◌, ◌<◌, ◌&&◌, ◌⊎◌, ◌++◌, nat_le, nat_lt, ℕ, zero, suc, Bool, true, false, List, [], ◌∷◌, length, slice_index_or, Option, None, Some, inl, inr, refl, sym, ◌∙◌, ap, subst, arith, take, length-append}
 use Rattle.std.specs.List.{AllByRecursion, Contains}
 use Rattle.std.proofs.lemmas.Bool.Decides.{leb_tells}
+use Rattle.std.proofs.lemmas.List.{take-append-le}
+use Rattle.std.proofs.Math.Seq.{take-length}
 use Rattle.rg_base.specs.declared.position.Position.{Position}
 use Rattle.rg_base.specs.declared.set.Set.{Set}
 use Rattle.rg_image.specs.Meaning.{current_of}
@@ -30,6 +32,7 @@ use Rattle.rg_version.proofs.Redo.{version_more}
 use Rattle.rg_newest.specs.OpenLaws.{IsOpened, IsTakenPage}
 use Rattle.rg_newest.specs.Tidy.{AreSpare, AreTidyPages, opened_epoch, set_of, switched_at}
 use Rattle.rg_newest.proofs.Opening.{opening_marks, opening_stands}
+use Rattle.rg_newest.proofs.Steady.{opened_past}
 use Rattle.rg_newest.proofs.Switching.{has_switched}
 use Rattle.rg_desk.specs.Newest.{HasNewest}
 use Rattle.rg_desk.specs.OnVolume.{IsMark, IsOn, WasAllTidy, mark_at}
@@ -173,11 +176,18 @@ module _ (rs : List Record) (base : List Content) (marks : List (Option Position
 
   -- of a log to which records were appended
   pub is_on : (seen : VolumeSeen) (log : Listed) (more : List Record) (copy : ℕ) (space : Space ListFrames) → seen.capacities ≡ capacities → log.records ≡ rs ++ more → log.forced ≡ length rs → copy ≡ copy_of rs
-      → capacity_in space ≡ copy_capacity capacities (copy_of rs) → HasNewest (opened_epoch rs base) log.records space → IfTold seen.told (IsKnown rs base marks capacities) → IsOn (opened_epoch rs base) copy log space marks seen
-  is_on seen log more copy space own records forced copy_is capacity newest known = record {
+      → capacity_in space ≡ copy_capacity capacities (copy_of rs) → length base ≡ count_of rs → HasNewest (opened_epoch rs base) log.records space → IfTold seen.told (IsKnown rs base marks capacities) → IsOn (opened_epoch rs base) copy log space marks seen
+  is_on seen log more copy space own records forced copy_is capacity count newest known = record {
     copy_is = sym copy_is;
     within = subst (λ (c : Capacities). capacity_in space ≤ capacity_of c (set_of copy)) (sym own) (subst (λ (k : ℕ). capacity_in space ≤ capacity_of capacities (set_of k)) (sym copy_is) (omega (arith, capacity, copy_within capacities (copy_of rs))));
+    capacity = capacity ∙ ap (copy_capacity capacities) (sym copy_is) ∙ ap (λ (c : Capacities). copy_capacity c copy) (sym own);
     begun = omega (arith, forced, (has_switched rs positions).high);
+    began = record {
+      at = length rs;
+      low = (has_switched rs positions).high;
+      forced = omega (arith, forced);
+      empties = λ p past. opened_past rs base count p (subst (λ (xs : List Record). (current_of xs).pages < p) front past);
+    };
     newest = newest;
     leaves =
         subst (λ (c : Capacities). IfTold seen.told (λ t. WasAllTidy c t → EachImage (HasPages (set_of copy) (capacity_in space) e log.records log.forced) t)) (sym own)
@@ -186,6 +196,9 @@ module _ (rs : List Record) (base : List Content) (marks : List (Option Position
         told_weaken (IsKnown rs base marks capacities) (λ t. (p : ℕ) → 1 ≤ p → IsMark e log.records p (read_of t.first t.calls (set_of copy) p) (mark_at marks p)) seen.told marks_at known;
   }
     where
+      front : take (length rs) log.records ≡ rs
+      front = ap (take (length rs)) records ∙ take-append-le (length rs) rs more (omega arith) ∙ take-length rs
+
       leaves_at : (t : Told) → IsKnown rs base marks capacities t → WasAllTidy capacities t → EachImage (HasPages (set_of copy) (capacity_in space) e log.records log.forced) t
       leaves_at t k was =
           subst (λ (c : ℕ). EachImage (HasPages (set_of c) (capacity_in space) e log.records log.forced) t) (sym copy_is)

@@ -1,5 +1,5 @@
 -- Pages that stay the newest versions.
-use Rattle.std.proofs.Common.{◌≡◌, ◌≤◌, ◌+◌, ◌++◌, ℕ, zero, suc, inl, inr, List, [], ◌∷◌, length, refl, sym, ◌∙◌, ap, subst, arith, append_assoc, append-nil, length-append}
+use Rattle.std.proofs.Common.{◌≡◌, ◌≤◌, ◌+◌, ◌++◌, ℕ, zero, suc, true, false, inl, inr, List, [], ◌∷◌, length, refl, sym, ◌∙◌, ap, subst, arith, append_assoc, append-nil, length-append}
 use Rattle.std.specs.List.{AllByRecursion}
 use Rattle.std.proofs.lemmas.Bool.{cases_lt}
 use Rattle.rg_image.specs.Rules.{ArePositions}
@@ -9,8 +9,10 @@ use Rattle.rg_page.specs.Listed.{list_numbered}
 use Rattle.rg_page.specs.declared.list.ListFrames.{ListFrames}
 use Rattle.rg_rebuilt.specs.Rebuilt.{CanRebuild, IsRebuilt}
 use Rattle.rg_record.specs.Applied.{parts_of}
+use Rattle.rg_record.specs.declared.record.Kind.{Kind}
+use Rattle.rg_record.specs.declared.record.Kind.TheVariants.{Change, Undo, Commit, RolledBack, Purge, Switch}
 use Rattle.rg_record.specs.declared.record.Record.{Record}
-use Rattle.rg_redo.specs.Redo.{since_switch}
+use Rattle.rg_redo.specs.Redo.{is_switch, since_switch}
 use Rattle.rg_space.specs.Carries.{AllThere}
 use Rattle.rg_space.specs.Memory.{list_seen}
 use Rattle.rg_space.specs.Space.{frames_of}
@@ -20,11 +22,14 @@ use Rattle.rg_version.specs.Versions.{Epoch}
 use Rattle.rg_newest.specs.Laws.{CanRedoFrom}
 use Rattle.rg_newest.specs.Newest.{CountUp, page_in}
 use Rattle.rg_newest.specs.OpenLaws.{IsCutAtSwitch}
+use Rattle.rg_newest.specs.Steady.{IsSteady}
 use Rattle.rg_newest.specs.Tidy.{opened_epoch}
 use Rattle.rg_newest.proofs.InMemory.{past_in, there_in}
 use Rattle.rg_newest.proofs.Records.{each_newest, rebuilt_newest}
+use Rattle.rg_newest.proofs.Steady.{steady_more, steady_opened}
 use Rattle.rg_newest.proofs.Switching.{has_switched}
 use Rattle.rg_desk.specs.Newest.{HasNewest, StayNewest}
+use Rattle.rg_desk.specs.Undoing.{is_undo}
 use Rattle.rg_desk.proofs.NewestKept.{end_stays, newest_same}
 use Rattle.rg_restart.specs.Closed.{AreUndosFrom, rolled_back}
 use Rattle.rg_restart.specs.Data.{AreBase}
@@ -45,6 +50,7 @@ pub stay_looked : (rs : List Record) (a b : Space ListFrames) → SamePages a b 
 stay_looked rs a b same = λ e h. record {
   pages = newest_same e rs rs (list_seen (frames_of a)) (list_seen (frames_of b)) refl same.copy same.contents h.pages;
   positions = h.positions;
+  steady = h.steady;
 }
 
 -- ---- the records of an undo
@@ -60,16 +66,31 @@ each_positions rs (entry ∷ more) are up =
     subst ArePositions (append_assoc rs (entry ∷ []) more)
     (each_positions (rs ++ entry ∷ []) more (more_positions rs entry are up.0) (subst (λ (n : ℕ). CountUp n more) count up.1))
 
+not_switch : (kind : Kind) → is_undo kind ≡ true → is_switch kind ≡ false
+not_switch (Change home before after parts) undo = refl
+not_switch (Undo next home after parts) undo = refl
+not_switch Commit undo = refl
+not_switch RolledBack undo = refl
+not_switch (Purge parts) undo = refl
+not_switch (Switch copy pages) undo = absurd (cc (undo))
+
+each_steady : (e : Epoch) (position tran : ℕ) (rs more : List Record) → e.from ≤ length rs → IsSteady e rs → AreUndosFrom position tran more → IsSteady e (rs ++ more)
+each_steady e position tran rs [] begun steady are = subst (IsSteady e) (sym (append-nil rs)) steady
+each_steady e position tran rs (undo ∷ undos) begun steady are =
+    subst (IsSteady e) (append_assoc rs (undo ∷ []) undos)
+    (each_steady e (position + 1) tran (rs ++ undo ∷ []) undos (omega (arith, begun, length-append rs (undo ∷ []))) (steady_more e rs undo begun steady (not_switch undo.kind are.1)) are.4)
+
 -- they wrote what was appended
 pub stay_undone : (tran : ℕ) (rs undos : List Record) (a b : Space ListFrames) → AreUndosFrom (length rs + 1) tran undos → AllOnPages (length (list_seen (frames_of a)).pages) undos
     → (list_seen (frames_of b)).copy ≡ (list_seen (frames_of a)).copy → (list_seen (frames_of b)).pages ≡ wrote_each (list_seen (frames_of a)).copy (list_seen (frames_of a)).pages undos → StayNewest rs a (rs ++ undos) b
 stay_undone tran rs undos a b from there copy wrote = λ e h. record {
   pages = each_newest e rs undos (list_seen (frames_of a)) (list_seen (frames_of b)) h.pages (count_up (length rs + 1) tran undos from) there copy wrote;
   positions = each_positions rs undos h.positions (count_up (length rs + 1) tran undos from);
+  steady = each_steady e (length rs + 1) tran rs undos h.pages.begun h.steady from;
 }
 
 pub stay_ended : (tran back : ℕ) (rs : List Record) (space : Space ListFrames) → StayNewest rs space (rs ++ rolled_back (length rs + 1) back tran ∷ []) space
-stay_ended tran back rs space = end_stays rs (rolled_back (length rs + 1) back tran) space refl refl
+stay_ended tran back rs space = end_stays rs (rolled_back (length rs + 1) back tran) space refl refl refl
 
 -- ---- the redo
 
@@ -118,4 +139,5 @@ module _ (rs : List Record) (frames : ListFrames) (base : AreBase (copy_of rs) (
   redo_newest space is copy = record {
     pages = rebuilt_newest e rs (since_switch rs) items (list_seen (frames_of space)) can_redo (copy ∙ base.copy_is) is.pages;
     positions = positions;
+    steady = steady_opened rs items positions;
   }

@@ -2,7 +2,8 @@
 --
 -- 1. It goes on from a log that keeps its rules, over a copy that may have so many pages.
 -- 2. Each step keeps what those before it found. One that is refused names the rule that is broken.
--- 3. The pages are the newest versions that the records of the log make of those that were read.
+-- 3. The pages are the newest versions that the records of the log make of those that were read. So
+--    many were read as the log counts.
 use Rattle.std.specs.Prelude.{◌≡◌, ◌≤◌, ◌<◌, ◌+◌, ◌^◌, ◌++◌, ℕ, List, Option, length}
 use Rattle.rg_base.specs.declared.position.Position.{Position}
 use Rattle.rg_base.specs.declared.set.Set.{Set}
@@ -100,6 +101,7 @@ pub record SamePages (old new : Space ListFrames) : Type 0 where
 pub record Finds (base : List Content) (marks : List (Option Position)) (log : Listed)
     (capacity : ℕ) (found : Found) : Type 0 where
   pub rules : KeepsRules base log.records
+  pub taken : length base ≡ count_of log.records
   pub begins : CanBegin capacity (space_pages found.space) found.log found.top
   pub in_step : IsInStep found.space
   pub listings : AreListings (row_at (slot_of (space_pages found.space))) found.indexes

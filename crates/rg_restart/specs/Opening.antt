@@ -8,18 +8,18 @@
 use Rattle.std.specs.Prelude.{◌≡◌, ◌≤◌, ◌⊎◌, List, length}
 use Rattle.rg_base.specs.declared.set.Set.TheVariants.{Log}
 use Rattle.rg_desk.specs.Desk.{DeskState, Opens}
-use Rattle.rg_desk.specs.OnVolume.{IsOnVolume, WasAllTidy}
-use Rattle.rg_desk.specs.Volume.{LeavesIfTidy, VolumeSeen, WasTidy}
+use Rattle.rg_desk.specs.OnVolume.{IsOnVolume}
+pub use Rattle.rg_desk.specs.OnVolume.{GoesOnTidy}
+use Rattle.rg_desk.specs.Volume.{LeavesIfTidy, VolumeSeen}
 use Rattle.rg_desk.specs.declared.desk.OpenCause.{OpenCause}
 use Rattle.rg_desk.specs.declared.desk.OpenCause.TheVariants.{Damaged, Device, NoMemory}
 use Rattle.rg_desk.specs.declared.found.Found.{Found}
 use Rattle.rg_home.specs.Slot.{Slot}
-use Rattle.rg_image.specs.Rules.{BreaksChain, BreaksSpace, IsChain, IsTidyLog, copy_capacity, owed}
+use Rattle.rg_image.specs.Rules.{BreaksChain, BreaksSpace, IsChain, copy_capacity, owed}
 use Rattle.rg_log.specs.Kept.{Listed, log_pages}
 use Rattle.rg_log.specs.Open.{IsQuiet}
 use Rattle.rg_log.specs.declared.fault.LogFault.{LogFault}
 use Rattle.rg_log.specs.declared.fault.LogFault.TheVariants as log_faults
-use Rattle.rg_newest.specs.Tidy.{AreTidyPages}
 use Rattle.rg_outside.specs.Calls.{read_of}
 use Rattle.rg_outside.specs.Capacities.{Capacities}
 use Rattle.rg_outside.specs.Faults.{Rose}
@@ -31,16 +31,6 @@ use Rattle.rg_restart.specs.Closed.{TookBack}
 use Rattle.rg_restart.specs.Found.{Finds}
 use Rattle.rg_restart.specs.Pages.{copy_of, count_of}
 use Rattle.rg_restart.specs.Sound.{IsDamage, IsSoundBy}
-
--- If the log read tidy when the count began, it does so now. So it is with the pages past those of
--- the current copy, if they did, too.
-abbrev pub GoesOnTidy : VolumeSeen → Type 0
-GoesOnTidy seen =
-    IfTold seen.told (λ t. (t.start ≤ length t.calls)
-    × (WasTidy (log_pages seen.capacities) t
-    → IsTidyLog (log_pages seen.capacities) (read_of t.first t.calls))
-    × (WasAllTidy seen.capacities t
-    → AreTidyPages seen.capacities (read_of t.first t.calls)))
 
 -- calls that write nothing
 pub record CallsQuiet (old new : VolumeSeen) : Type 0 where

@@ -67,7 +67,7 @@ returns-clause-found c =
     let now = c.close_open.new.log in
     let read = front c.records.result.now rs now.records c.records.ensures.records undone.grown in
     finds base c.args.read.marks.items c.args.log now c.args.chain.now c.args.capacity (space_pages c.in_ok-space.space) c.close_open.new.space c.indexes_of.new.space
-    (record { log = now; space = c.indexes_of.new.space; copy = c.copy-copy.result; indexes = c.in-Ok.indexes; top = c.greatest.result.0; marks = c.args.read.marks }) c.requires.may rebuilt.fit
+    (record { log = now; space = c.indexes_of.new.space; copy = c.copy-copy.result; indexes = c.in-Ok.indexes; top = c.greatest.result.0; marks = c.args.read.marks }) c.requires.may rebuilt.fit c.requires.base.count_is
     (rebuilt_slots base rs c.in_ok-space.space rebuilt)
     (length-map (list_seen (frames_of c.in_ok-space.space)).pages (λ (x : Content). x.slots) ∙ rebuilt.count_is ∙ c.requires.base.count_is)
     (subst (λ (n : ℕ). IsClosed (space_pages c.in_ok-space.space) c.args.log n c.close_open.new.space now) c.in_ok-space.ensures.ok.1 c.in_ok-close_open.ensures.ok)

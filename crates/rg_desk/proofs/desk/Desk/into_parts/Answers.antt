@@ -1,6 +1,9 @@
 use Rattle.std.proofs.Common.{subst}
 use Rattle.rg_desk.specs.Desk.{LegalFrom, old_records}
+use Rattle.rg_desk.specs.OnVolume.{GoesOnTidy, LeavesCopyIfTidy}
+use Rattle.rg_desk.specs.Volume.{seen_volume}
 use Rattle.rg_desk.proofs.DeskGoes.{desk_legal}
+use Rattle.rg_desk.proofs.Reopening.{copy_leaves, reopens}
 use Rattle.rg_desk.proofs.desk.Desk.into_parts.Goals as goal
 
 pub returns-clause-legal : goal.returns-clause-legal
@@ -8,3 +11,15 @@ returns-clause-legal g c =
     let desk = c.self.invariant in
     subst (λ d. LegalFrom (old_records d) d.trace) c.self.view_is
     (desk.start, desk.starts, desk_legal c.self.inside.engine c.self.inside.chronicle c.self.inside.copy c.self.inside.down _ _ desk)
+
+pub returns-clause-tidy : goal.returns-clause-tidy
+returns-clause-tidy g c =
+    let desk = c.self.invariant in
+    subst (λ d. GoesOnTidy (seen_volume g.V.Volume.told g.V.Volume.faults g.V.Volume.capacities d.volume)) c.self.view_is
+    (reopens desk.is_on.epoch c.self.inside.copy c.self.inside.engine.log c.self.inside.engine.space _ _ desk.is_on.is_on desk.pages c.records.ensures.entries c.records.ensures.set desk.leaves c.self.inside.chronicle.calls desk.counted)
+
+pub returns-clause-copy : goal.returns-clause-copy
+returns-clause-copy g c =
+    let desk = c.self.invariant in
+    subst (λ d. LeavesCopyIfTidy (seen_volume g.V.Volume.told g.V.Volume.faults g.V.Volume.capacities d.volume) d.copy) c.self.view_is
+    (copy_leaves desk.is_on.epoch c.self.inside.copy c.self.inside.engine.log c.self.inside.engine.space _ _ desk.is_on.is_on desk.pages c.records.ensures.entries c.records.ensures.set desk.leaves)

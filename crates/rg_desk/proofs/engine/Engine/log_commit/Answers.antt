@@ -31,7 +31,7 @@ returns c =
       newest = λ e h.
           space_newest (c.args.self.now.log.records ++ entry ∷ []) c.give_back.new.self.records c.args.self.now.space c.args.self.now.space
           (ap (λ (l : Listed). l.records) c.give_back.ensures ∙ c.append.ensures.records) refl e
-          (end_stays c.args.self.now.log.records entry c.args.self.now.space c.next_position.ensures refl e h);
+          (end_stays c.args.self.now.log.records entry c.args.self.now.space c.next_position.ensures refl refl e h);
       reserved = omega (arith, ap (λ (l : Listed). l.reserved) c.give_back.ensures, c.append.ensures.reserved, commit_bytes, c.undo_bytes-undo.ensures, ap owed_to c.in-Some.ensures, room);
       base = record {
         opened = refl;

@@ -25,7 +25,7 @@ returns c = record {
       let entry : Record = record { position = c.next_position.result; tran = c.args.unit.tran; back = c.args.last; kind = RolledBack } in
       space_newest (c.args.self.now.log.records ++ entry ∷ []) c.give_back.new.self.records c.args.self.now.space c.args.self.now.space
       (ap (λ (l : Listed). l.records) c.give_back.ensures ∙ c.append.ensures.records) refl e
-      (end_stays c.args.self.now.log.records entry c.args.self.now.space c.next_position.ensures refl e h);
+      (end_stays c.args.self.now.log.records entry c.args.self.now.space c.next_position.ensures refl refl e h);
   reserved = omega (arith, ap (λ (l : Listed). l.reserved) c.give_back.ensures, c.reserved.ensures, c.append.ensures.reserved, rolled_bytes, c.requires);
   taken = omega (arith, ap (λ (l : Listed). l.reserved) c.give_back.ensures, ap (λ (l : Listed). log_bytes l.records) c.give_back.ensures, c.append.ensures.taken);
   base = record {

@@ -43,7 +43,7 @@ returns c =
           let there = subst (λ (n : ℕ). AllThere n plan.purge) (slots_count (seen_in old).pages) carries.next.purge in
           let ready = c.clear.ensures.stay purge there plan.parts c.requires.hand.parts in
           let can = parts_apply (seen_in old) (list_seen (frames_of c.clear.new.space)) unit.tran.0 0 k c.args.after plan ready carries is in
-          c.make.ensures.newest (subst (λ (n : ℕ). CanApply (list_seen (frames_of c.clear.new.space)) n unit.tran.0 c.args.after plan.parts) (sym c.clear.ensures.capacity) can) e
+          c.make.ensures.newest (subst (λ (n : ℕ). CanApply (list_seen (frames_of c.clear.new.space)) n unit.tran.0 c.args.after plan.parts) (sym c.clear.ensures.capacity) can) refl e
           (c.clear.ensures.newest purge e h);
       records =
           c.make.ensures.records

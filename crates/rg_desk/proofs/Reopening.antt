@@ -1,0 +1,73 @@
+-- A volume that a desk hands back may be opened again.
+use Rattle.std.proofs.Common.{◌≡◌, ◌≤◌, ◌+◌, ℕ, List, length, take, Option, None, Some, sym, ◌∙◌, ap, subst, arith}
+use Rattle.rg_base.specs.declared.position.Position.{Position}
+use Rattle.rg_image.specs.Kept.{AreEntries}
+use Rattle.rg_image.specs.Log.{SpellsFrom, log_of}
+use Rattle.rg_image.specs.Meaning.{current_of}
+use Rattle.rg_image.specs.Pack.{end_of, start}
+use Rattle.rg_image.specs.Rules.{IsTidyLog, copy_capacity}
+use Rattle.rg_log.specs.Kept.{Listed, log_pages}
+use Rattle.rg_log.specs.Present.{HasPart}
+use Rattle.rg_log.proofs.Present.{log_part, log_tidy}
+use Rattle.rg_outside.specs.Calls.{Image, Told, read_of}
+use Rattle.rg_outside.specs.Moments.{EachImage, IfTold}
+use Rattle.rg_outside.proofs.Every.{read_image}
+use Rattle.rg_page.specs.declared.list.ListFrames.{ListFrames}
+use Rattle.rg_record.specs.declared.record.Record.{Record}
+use Rattle.rg_space.specs.Space.{capacity_in}
+use Rattle.rg_space.specs.declared.space.Space.{Space}
+use Rattle.rg_version.specs.OnImage.{HasPages}
+use Rattle.rg_version.specs.Versions.{Epoch}
+use Rattle.rg_newest.specs.Steady.{IsSteady}
+use Rattle.rg_newest.specs.Tidy.{AreSpare, AreTidyPages, set_of}
+use Rattle.rg_newest.proofs.Steady.{steady_front, tidy_goes_on}
+use Rattle.rg_desk.specs.OnVolume.{GoesOnTidy, IsOn, LeavesCopyIfTidy, WasAllTidy}
+use Rattle.rg_desk.specs.Volume.{HasCalls, LeavesIfTidy, VolumeSeen, WasTidy}
+
+module _ (e : Epoch) (copy : ℕ) (log : Listed) (space : Space ListFrames) (marks : List (Option Position)) (seen : VolumeSeen) (on : IsOn e copy log space marks seen) (pages : log.pages ≡ log_pages seen.capacities)
+    (entries : AreEntries log.records) (set : 1 ≤ length log.records → (end_of start log.records).page ≤ log.pages) (leaves : LeavesIfTidy seen log) where
+  -- what is left of the log has all that was forced
+  part : (t : Told) → EachImage (SpellsFrom log.pages log.records log.forced) t → EachImage (HasPart log.pages log.records log.forced) t
+  part t left = log_part log.pages log.forced log.records (Some t) entries set left
+
+  -- so the copy is the current one by it
+  copy_left : (i : Image) → HasPart log.pages log.records log.forced i → (current_of (log_of log.pages i)).copy ≡ copy
+  copy_left i has =
+      let (n, low, high, is) = has in
+      let front : IsSteady e (take n log.records) = steady_front e log.records n (omega (arith, on.begun, low)) high on.newest.steady in
+      ap (λ (rs : List Record). (current_of rs).copy) is ∙ front.copy ∙ on.copy_is
+
+  -- and pages past those of the copy are empty or left over
+  tidy_left : (i : Image) → HasPart log.pages log.records log.forced i → HasPages (set_of copy) (capacity_in space) e log.records log.forced i → AreTidyPages seen.capacities i
+  tidy_left i has stand =
+      let (n, low, high, is) = has in
+      let within : HasPages (set_of e.copy) (copy_capacity seen.capacities e.copy) e log.records log.forced i =
+      subst (λ (k : ℕ). HasPages (set_of k) (copy_capacity seen.capacities k) e log.records log.forced i) (sym on.copy_is) (subst (λ (k : ℕ). HasPages (set_of copy) k e log.records log.forced i) on.capacity stand) in
+      subst (λ (k : ℕ). AreSpare seen.capacities (log_of k i) i) pages
+      (subst (λ (rs : List Record). AreSpare seen.capacities rs i) (sym is)
+      (tidy_goes_on seen.capacities e log.records on.began.at log.forced n i on.newest.positions on.newest.steady on.began.low on.began.forced low high on.began.empties within))
+
+  pub reopens : (calls : ℕ) → HasCalls seen calls → GoesOnTidy seen
+  reopens calls has = go seen.told has leaves on.leaves
+    where
+      then : (t : Told) → WasTidy (log_pages seen.capacities) t → WasTidy log.pages t
+      then t was = subst (λ (k : ℕ). WasTidy k t) (sym pages) was
+
+      go : (told : Option Told) → IfTold told (λ t. t.start + calls ≤ length t.calls) → IfTold told (λ t. WasTidy log.pages t → EachImage (SpellsFrom log.pages log.records log.forced) t)
+          → IfTold told (λ t. WasAllTidy seen.capacities t → EachImage (HasPages (set_of copy) (capacity_in space) e log.records log.forced) t)
+          → IfTold told (λ t. (t.start ≤ length t.calls) × (WasTidy (log_pages seen.capacities) t → IsTidyLog (log_pages seen.capacities) (read_of t.first t.calls)) × (WasAllTidy seen.capacities t → AreTidyPages seen.capacities (read_of t.first t.calls)))
+      go None has left stand = tt
+      go (Some t) has left stand = (
+        omega (arith, has),
+        λ was. subst (λ (k : ℕ). IsTidyLog k (read_of t.first t.calls)) pages (log_tidy log.pages log.forced log.records (Some t) entries on.newest.positions set (left (then t was))),
+        λ was. tidy_left (read_of t.first t.calls) (part t (left (then t was.log)) (read_of t.first t.calls) (read_image t)) (stand was (read_of t.first t.calls) (read_image t)),
+      )
+
+  pub copy_leaves : LeavesCopyIfTidy seen copy
+  copy_leaves = go seen.told leaves
+    where
+      go : (told : Option Told) → IfTold told (λ t. WasTidy log.pages t → EachImage (SpellsFrom log.pages log.records log.forced) t)
+          → IfTold told (λ t. WasTidy (log_pages seen.capacities) t → EachImage (λ i. (current_of (log_of (log_pages seen.capacities) i)).copy ≡ copy) t)
+      go None left = tt
+      go (Some t) left = λ was i is.
+          subst (λ (k : ℕ). (current_of (log_of k i)).copy ≡ copy) pages (copy_left i (part t (left (subst (λ (k : ℕ). WasTidy k t) (sym pages) was)) i is))
