@@ -19,8 +19,9 @@ use Rattle.rg_stmt.specs.declared.stmt.Stmt.TheVariants.{Insert, Update, Delete,
 use Rattle.rg_space.specs.Space.{capacity_in}
 use Rattle.rg_desk.specs.Bytes.{taken_of}
 use Rattle.rg_desk.specs.Answers.{Answered, Asks, IfFull, Replies, forces, is_answer, is_device, state_left}
+use Rattle.rg_desk.specs.Left.{LeavesState, in_doubt}
 use Rattle.rg_desk.specs.Shows.{IsShown, Shows}
-use Rattle.rg_desk.specs.Steps.{Goes, IfUp, MayFail, Steps, MayReply, is_commit, more_allowed, unclaimed}
+use Rattle.rg_desk.specs.Steps.{Goes, IfDevice, IfUp, MayFail, Steps, MayReply, is_commit, more_allowed, unclaimed}
 use Rattle.rg_desk.specs.Stored.{Grows}
 use Rattle.rg_base.specs.declared.set.Set.TheVariants.{Log}
 use Rattle.rg_log.specs.Kept.{Listed as LogList, log_pages}
@@ -96,6 +97,20 @@ left_refused : (st : State) (session : Session) (stmt : Stmt) (n : ℕ) (mid : E
     → IfUp reply (Shows (unclaimed st session stmt reply) n mid) → IfUp reply (Shows (state_left st session stmt reply) n mid)
 left_refused st session stmt n mid Device is p = tt
 left_refused st session stmt n mid reply is p = subst (λ (after : State). Shows after n mid) (sym is) p
+
+-- what holds after the reply of the device
+
+pub down_if : (P : Type 0) (reply : Reply) → is_device reply ≡ true → IfDevice reply P → P
+down_if P Device e p = p
+down_if P reply e p = absurd (cc (e))
+
+done_up : (P : Type 0) (reply : Reply) → is_done reply ≡ true → IfDevice reply P
+done_up P Device e = absurd (cc (e))
+done_up P reply e = tt
+
+left_device : (st : State) (session : Session) (stmt : Stmt) (log : LogList) (reply : Reply) → IfDevice reply (LeavesState (in_doubt st session) log) → IfDevice reply (LeavesState (state_left st session stmt reply) log)
+left_device st session stmt log Device p = p
+left_device st session stmt log reply p = tt
 
 -- what a reply is that stands for the plain table's
 record IsSaid (st : State) (allowed capacity : ℕ) (session : Session) (stmt : Stmt) (reply : Reply) : Type 0 where
@@ -222,6 +237,7 @@ module _ (st : State) (allowed : ℕ) (d : Engine) (shows : Shows st allowed d) 
         (subst (λ (after : State). Shows after (allowed + more_allowed stmt reply) new) (sym (left_done st session stmt reply done ∙ after_is true done))
         (subst (λ (cs : List Class). Shows (claim_classes (unclaimed st session stmt reply) session cs) (allowed + more_allowed stmt reply) new) is
         (registered_shows (unclaimed st session stmt reply) (allowed + more_allowed stmt reply) mid (up_of _ reply done goes.shows) session classes new e)));
+    left = done_up _ reply done;
     capacity = ap (λ (x : Engine). capacity_in x.space) e ∙ goes.capacity;
   }
 
@@ -239,6 +255,7 @@ module _ (st : State) (allowed : ℕ) (d : Engine) (shows : Shows st allowed d) 
     grows = goes.grows;
     newest = goes.newest;
     shows = left_refused st session stmt (allowed + more_allowed stmt reply) mid reply (after_is false done) goes.shows;
+    left = left_device st session stmt mid.log reply goes.left;
     capacity = goes.capacity;
   }
 

@@ -130,7 +130,7 @@ module _ (st : State) (allowed : ℕ) (d new : Engine) (session : Session) (show
           go true e = absurd (cc (h.has, ap (unit_at d.units) (eqb-true lock.owner.0 session.0 e), none))
 
   -- a unit that has written
-  ended : (unit : OpenUnit) → unit_at d.units session.0 ≡ Some unit → Shows (after_commit st session) (allowed + 0) new
+  pub ended : (unit : OpenUnit) → unit_at d.units session.0 ≡ Some unit → Shows (after_commit st session) (allowed + 0) new
   ended unit has =
       let t : ℕ = unit.tran.0 in
       let entry : Record = commit_record (length d.log.records + 1) unit in
@@ -156,6 +156,7 @@ module _ (st : State) (allowed : ℕ) (d new : Engine) (session : Session) (show
     forced = λ e. absurd (cc (e));
     newest = newest;
     shows = go (unit_at d.units session.0) refl;
+    left = tt;
     capacity = ap (λ sp. capacity_in sp) space;
   }
     where

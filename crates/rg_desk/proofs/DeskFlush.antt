@@ -15,6 +15,7 @@ use Rattle.rg_desk.specs.Chronicle.{ChronicleState, IsRecorded, allowed_by, syst
 use Rattle.rg_desk.specs.Desk.{IsDesk}
 use Rattle.rg_desk.specs.Engine.{seen_in}
 use Rattle.rg_desk.specs.Flushed.{CallsOwn, FlushIs, IsFlush, TellsFlush, WritesEither}
+use Rattle.rg_desk.specs.Left.{LeavesState}
 use Rattle.rg_desk.specs.OnVolume.{IsOnVolume}
 use Rattle.rg_desk.specs.Volume.{IsCount, LeavesIfTidy, VolumeSeen}
 use Rattle.rg_desk.specs.declared.engine.Engine.{Engine}
@@ -44,7 +45,7 @@ desk_flushed d c copy true marks seen desk event calls next later seen_after new
     let same = tells.1 in
     desk_quiet d c copy true marks seen desk event calls next later seen_after new
     (ap (λ (x : Engine). x.log) same ∙ ap (λ (n : ℕ). let l : Listed = record d.log { forced = n } in l) (sym (ap (λ (x : Engine). x.log.forced) same)))
-    (ap (λ (x : Engine). x.opened) same) (λ up. absurd (cc (up)))
+    (ap (λ (x : Engine). x.opened) same) (λ up. absurd (cc (up))) (λ down. subst (λ (x : Engine). LeavesState desk.state x.log) (sym same) (desk.left down))
     (subst IsSystem (sym tells.0) tt)
     (subst (λ (e : Event). next_state [] None actors.System e desk.state ≡ Some desk.state) (sym tells.0) (ap (λ (b : Bool). if_allowed b desk.state) desk.down_is))
     (ap (λ (x : Engine). x.log.pages) same ∙ desk.pages ∙ ap (λ (v : VolumeSeen). log_pages v.capacities) (sym tells.3))
@@ -54,7 +55,7 @@ desk_flushed d c copy true marks seen desk event calls next later seen_after new
 desk_flushed d c copy false marks seen desk event calls next later seen_after new f trace at counted recorded =
     let pages : next.log.pages ≡ d.log.pages = ap (λ (l : Listed). l.pages) f.forces.log in
     desk_quiet d c copy false marks seen desk event calls next later seen_after new f.forces.log f.forces.opened
-    (λ up. f.forces.shows desk.state (allowed_by 0 c.trace) (desk.shown refl))
+    (λ up. f.forces.shows desk.state (allowed_by 0 c.trace) (desk.shown refl)) (λ down. absurd (cc (down)))
     (is_system copy (seen_in d).pages marks later seen seen_after event f.is) (allowed desk.state desk.down_is copy (seen_in d).pages marks later seen seen_after event f.is)
     (pages ∙ desk.pages ∙ ap (λ x. log_pages x) (sym f.calls.capacities))
     (on_calls (WritesEither (set_of copy)) seen.told seen_after.told d.log next.log c.calls f.calls.only desk.counted pages f.leaves desk.leaves)

@@ -49,6 +49,7 @@ use Rattle.rg_desk.specs.Bytes.{taken_of}
 use Rattle.rg_desk.specs.Chronicle.{ChronicleState, IsEntry, IsRecorded, allowed_after, allowed_by, logged_after, logged_by, system_entry}
 use Rattle.rg_desk.specs.Desk.{AreKeys, IsAmong, IsBegun, IsCopy, IsDesk, IsLayout, is_reply}
 use Rattle.rg_desk.specs.Engine.{ground_of}
+use Rattle.rg_desk.specs.Left.{LeavesState}
 use Rattle.rg_desk.specs.OnVolume.{IsOnVolume}
 use Rattle.rg_outside.specs.Faults.{Rose}
 use Rattle.rg_space.specs.Space.{capacity_in}
@@ -58,7 +59,7 @@ use Rattle.rg_desk.specs.Shows.{IsShown, Shows}
 use Rattle.rg_desk.specs.Wrote.{SameEngine}
 use Rattle.rg_desk.specs.declared.engine.Engine.{Engine}
 use Rattle.rg_desk.proofs.Among.{few_committed, few_with, keys_left, keys_with}
-use Rattle.rg_desk.proofs.Answering.{same_calls, up_if}
+use Rattle.rg_desk.proofs.Answering.{down_if, same_calls, up_if}
 use Rattle.rg_desk.proofs.Leaving.{has_more, leaves_on}
 use Rattle.rg_desk.proofs.OnVolume.{on_more, on_same}
 use Rattle.rg_desk.proofs.Same.{same_shows}
@@ -173,6 +174,7 @@ module _ (d : Engine) (c : ChronicleState) (copy : ℕ) (down : Bool) (marks : L
     counted = subst (HasCalls seen) (sym calls) desk.counted;
     recorded = subst (IsRecorded mid.trace) (sym calls) (subst (λ (es : List Entry). IsRecorded es c.calls) (sym trace) desk.recorded);
     shown = λ up. subst (λ (es : List Entry). Shows desk.state (allowed_by 0 es) d) (sym trace) (desk.shown up);
+    left = desk.left;
     logged = subst (λ (es : List Entry). taken_of d.log ≤ logged_by 0 es) (sym trace) desk.logged;
     pages = desk.pages;
     leaves = desk.leaves;
@@ -194,11 +196,11 @@ module _ (d : Engine) (c : ChronicleState) (copy : ℕ) (down : Bool) (marks : L
   -- the entry of a statement
   desk_on : (session : Session) (stmt : Stmt) (reply : Reply) (calls : ℕ) (after : State) (next : Engine) (down_after : Bool) (seen_after : VolumeSeen) (new : ChronicleState) (keys : List ℕ)
       → AreKeys keys after → length keys ≤ length desk.keys + 1 → Says desk.state session stmt reply after → after.copy ≡ copy → after.down ≡ down_after
-      → (down_after ≡ false → Shows after (allowed_by 0 c.trace + more_allowed stmt reply) next)
+      → (down_after ≡ false → Shows after (allowed_by 0 c.trace + more_allowed stmt reply) next) → (down_after ≡ true → LeavesState after next.log)
       → taken_of next.log ≤ taken_of d.log + more_logged stmt reply → next.log.pages ≡ log_pages seen_after.capacities
       → next.opened ≡ d.opened → Grows d.log next.log → LeavesIfTidy seen_after next.log → IsOnVolume copy next.log next.space marks seen_after
       → new.trace ≡ c.trace ++ said_entry session stmt reply calls ∷ [] → new.calls ≡ calls → IsCount seen_after calls → IsRecorded new.trace new.calls → IsDesk next new copy down_after marks seen_after
-  desk_on session stmt reply calls after next down_after seen_after new keys among more says copy_is down_is shown logged pages opened grows leaves is_on trace at counted recorded =
+  desk_on session stmt reply calls after next down_after seen_after new keys among more says copy_is down_is shown left logged pages opened grows leaves is_on trace at counted recorded =
       let entry = said_entry session stmt reply calls in
       let longer = ap (λ (es : List Entry). length es) trace ∙ length-append c.trace (entry ∷ []) in
       let few = desk.few in
@@ -218,6 +220,7 @@ module _ (d : Engine) (c : ChronicleState) (copy : ℕ) (down : Bool) (marks : L
         counted = count_is seen_after calls new.calls counted at;
         recorded = recorded;
         shown = λ up. subst (λ (n : ℕ). Shows after n next) (sym (ap (allowed_by 0) trace ∙ allowed-push 0 c.trace entry)) (shown up);
+        left = left;
         logged = omega (arith, ap (logged_by 0) trace, logged-push 0 c.trace entry, logged, desk.logged);
         pages = pages;
         leaves = leaves;
@@ -230,11 +233,11 @@ module _ (d : Engine) (c : ChronicleState) (copy : ℕ) (down : Bool) (marks : L
 
   -- the entry of an event that changes nothing but how much of the log is forced, and marks
   pub desk_quiet : (event : Event) (calls : ℕ) (next : Engine) (later : List (Option Position)) (seen_after : VolumeSeen) (new : ChronicleState)
-      → next.log ≡ record d.log { forced = next.log.forced } → next.opened ≡ d.opened → (down ≡ false → Shows desk.state (allowed_by 0 c.trace) next)
+      → next.log ≡ record d.log { forced = next.log.forced } → next.opened ≡ d.opened → (down ≡ false → Shows desk.state (allowed_by 0 c.trace) next) → (down ≡ true → LeavesState desk.state next.log)
       → IsSystem event → next_state [] None actors.System event desk.state ≡ Some desk.state
       → next.log.pages ≡ log_pages seen_after.capacities → LeavesIfTidy seen_after next.log → IsOnVolume copy next.log next.space later seen_after
       → new.trace ≡ c.trace ++ system_entry event calls ∷ [] → new.calls ≡ calls → IsCount seen_after calls → IsRecorded new.trace new.calls → IsDesk next new copy down later seen_after
-  desk_quiet event calls next later seen_after new log opened shown is allows pages leaves is_on trace at counted recorded =
+  desk_quiet event calls next later seen_after new log opened shown left is allows pages leaves is_on trace at counted recorded =
       let entry = system_entry event calls in
       let longer = ap (λ (es : List Entry). length es) trace ∙ length-append c.trace (entry ∷ []) in
       let few = desk.few in
@@ -252,6 +255,7 @@ module _ (d : Engine) (c : ChronicleState) (copy : ℕ) (down : Bool) (marks : L
         counted = count_is seen_after calls new.calls counted at;
         recorded = recorded;
         shown = λ up. subst (λ (n : ℕ). Shows desk.state n next) (sym (ap (allowed_by 0) trace ∙ allowed-push 0 c.trace entry ∙ none_allowed event is (allowed_by 0 c.trace))) (shown up);
+        left = left;
         logged = omega (arith, ap (logged_by 0) trace, logged-push 0 c.trace entry, none_logged event is (logged_by 0 c.trace), ap (λ (l : LogList). taken_of l) log, desk.logged);
         pages = pages;
         leaves = leaves;
@@ -302,7 +306,7 @@ module _ (d : Engine) (c : ChronicleState) (copy : ℕ) (down : Bool) (marks : L
   desk_same event calls next new same opened is allows trace at counted recorded =
       let log = same.log in
       desk_quiet event calls next marks seen new (log ∙ ap (λ (n : ℕ). let l : LogList = record d.log { forced = n } in l) (sym (ap (λ (l : LogList). l.forced) log))) opened
-      (λ up. same_shows desk.state (allowed_by 0 c.trace) d next same (desk.shown up)) (is_system event is) allows
+      (λ up. same_shows desk.state (allowed_by 0 c.trace) d next same (desk.shown up)) (λ down. subst (LeavesState desk.state) (sym log) (desk.left down)) (is_system event is) allows
       (ap (λ (l : LogList). l.pages) log ∙ desk.pages) (subst (LeavesIfTidy seen) (sym log) desk.leaves)
       (record { epoch = desk.is_on.epoch; is_on = on_same desk.is_on.epoch copy d next marks seen same desk.is_on.is_on }) trace at counted recorded
     where
@@ -361,7 +365,7 @@ pub desk_replied : (d : Engine) (c : ChronicleState) (copy : ℕ) (down : Bool) 
 desk_replied d c copy true marks seen desk session stmt reply calls next down_after seen_after new replies trace at counted recorded =
     desk_on d c copy true marks seen desk session stmt reply calls desk.state next down_after seen_after new desk.keys desk.among (omega arith)
     (subst (λ (r : Reply). Says desk.state session stmt r desk.state) (sym replies.0) (desk.down_is, refl)) desk.copy_is (desk.down_is ∙ sym replies.2)
-    (λ up. absurd (cc (up, replies.2)))
+    (λ up. absurd (cc (up, replies.2))) (λ down. subst (λ (x : Engine). LeavesState desk.state x.log) (sym replies.1) (desk.left refl))
     (omega (arith, ap (λ (x : Engine). taken_of x.log) replies.1))
     (ap (λ (x : Engine). x.log.pages) replies.1 ∙ desk.pages ∙ ap (λ (v : VolumeSeen). log_pages v.capacities) (sym replies.3))
     (ap (λ (x : Engine). x.opened) replies.1) (grows_same d.log next.log (ap (λ (x : Engine). x.log) replies.1))
@@ -375,7 +379,7 @@ desk_replied d c copy false marks seen desk session stmt reply calls next down_a
     (subst (AreKeys (keys_with stmt desk.keys)) (sym answered.is_after) (keys_left desk.keys desk.state desk.among session stmt reply)) (few_with stmt desk.keys)
     answered.says (ap (λ (st : State). st.copy) answered.is_after ∙ copy_left desk.state session stmt reply ∙ desk.copy_is)
     (ap (λ (st : State). st.down) answered.is_after ∙ down_left desk.state session stmt reply desk.down_is ∙ sym replies.2)
-    (λ up. up_if _ reply (sym replies.2 ∙ up) answered.shows)
+    (λ up. up_if _ reply (sym replies.2 ∙ up) answered.shows) (λ down. down_if _ reply (sym replies.2 ∙ down) answered.left)
     answered.logged
     (answered.grows.pages ∙ desk.pages ∙ ap (λ x. log_pages x) (sym asks.calls.capacities))
     answered.opened answered.grows
@@ -501,6 +505,7 @@ desk_opened d c copy pages used calls marks seen start is_copy shown starts open
       counted = count_is seen calls c.calls counted at;
       recorded = recorded;
       shown = λ up. subst (λ (es : List Entry). Shows (at_rest start copy) (allowed_by 0 es) d) (sym trace) shown;
+      left = λ down. absurd (cc (down));
       logged = subst (λ (es : List Entry). taken_of d.log ≤ logged_by 0 es) (sym trace) taken;
       pages = log_pages_are;
       leaves = leaves;

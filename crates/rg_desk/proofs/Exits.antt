@@ -11,6 +11,7 @@ use Rattle.rg_lawful.specs.Act.{LogState}
 use Rattle.rg_lawful.specs.Consistent.{stored_of}
 use Rattle.rg_lawful.specs.Write.{at_key}
 use Rattle.rg_lawful.proofs.Free.{free_back}
+use Rattle.rg_log.specs.Kept.{Listed}
 use Rattle.rg_model.specs.Committed.{committed_table}
 use Rattle.rg_model.specs.State.{Locks, State, row_of}
 use Rattle.rg_model.proofs.Overlay.{get-committed, kept_or}
@@ -23,7 +24,7 @@ use Rattle.rg_desk.specs.Volume.{LeavesIfTidy, VolumeSeen, WasTidy}
 use Rattle.rg_desk.specs.declared.engine.Engine.{Engine}
 use Rattle.rg_desk.proofs.Settled.{now_stored}
 
-module _ (st : State) (allowed : ℕ) (d : Engine) (seen : VolumeSeen) (shows : Shows st allowed d) where
+module _ (st : State) (allowed : ℕ) (d : Engine) (shows : Shows st allowed d) where
   abbrev s : LogState
   s = left_by shows.first d
 
@@ -38,19 +39,24 @@ module _ (st : State) (allowed : ℕ) (d : Engine) (seen : VolumeSeen) (shows : 
       go None none = shows.by.table k ∙ sym (free_back (at_key k) s.writes (s.now k) none)
       go (Some lock) h = h.kept
 
-  part_stored : (n : ℕ) → d.log.forced ≤ n → n ≤ length d.log.records → IsStored (take n d.log.records) (committed_table st)
+  pub part_stored : (n : ℕ) → d.log.forced ≤ n → n ≤ length d.log.records → IsStored (take n d.log.records) (committed_table st)
   part_stored n low high k = committed_is k ∙ sym (now_stored st allowed d shows k) ∙ sym (shows.settled.same n low high k)
 
-  pub ends_stored : AreEntries d.log.records → (1 ≤ length d.log.records → (end_of start d.log.records).page ≤ d.log.pages) → LeavesIfTidy seen d.log
-      → IfTold seen.told (λ t. WasTidy d.log.pages t → EachImage (λ i. IsStored (log_of d.log.pages i) (committed_table st)) t)
-  ends_stored entries set leaves = go seen.told leaves
-    where
-      part : (i : Image) → SpellsFrom d.log.pages d.log.records d.log.forced i → IsStored (log_of d.log.pages i) (committed_table st)
-      part i spells =
-          let (n, low, high, is) = some_log d.log.pages d.log.forced d.log.records i (all_fit d.log.records entries) (are_values d.log.records entries) set spells in
-          subst (λ (rs : List Record). IsStored rs (committed_table st)) (sym is) (part_stored n low high)
+-- what holds of each part of a log that has all that is forced holds of what a crash leaves
+pub on_images : (P : List Record → Type 0) (log : Listed) (seen : VolumeSeen) → AreEntries log.records → (1 ≤ length log.records → (end_of start log.records).page ≤ log.pages) → LeavesIfTidy seen log
+    → ((n : ℕ) → log.forced ≤ n → n ≤ length log.records → P (take n log.records)) → IfTold seen.told (λ t. WasTidy log.pages t → EachImage (λ i. P (log_of log.pages i)) t)
+on_images P log seen entries set leaves parts = go seen.told leaves
+  where
+    part : (i : Image) → SpellsFrom log.pages log.records log.forced i → P (log_of log.pages i)
+    part i spells =
+        let (n, low, high, is) = some_log log.pages log.forced log.records i (all_fit log.records entries) (are_values log.records entries) set spells in
+        subst P (sym is) (parts n low high)
 
-      go : (told : Option Told) → IfTold told (λ t. WasTidy d.log.pages t → EachImage (SpellsFrom d.log.pages d.log.records d.log.forced) t)
-          → IfTold told (λ t. WasTidy d.log.pages t → EachImage (λ i. IsStored (log_of d.log.pages i) (committed_table st)) t)
-      go None h = tt
-      go (Some t) h = λ tidy i is. part i (h tidy i is)
+    go : (told : Option Told) → IfTold told (λ t. WasTidy log.pages t → EachImage (SpellsFrom log.pages log.records log.forced) t)
+        → IfTold told (λ t. WasTidy log.pages t → EachImage (λ i. P (log_of log.pages i)) t)
+    go None h = tt
+    go (Some t) h = λ tidy i is. part i (h tidy i is)
+
+pub ends_stored : (st : State) (allowed : ℕ) (d : Engine) (seen : VolumeSeen) → Shows st allowed d → AreEntries d.log.records → (1 ≤ length d.log.records → (end_of start d.log.records).page ≤ d.log.pages) → LeavesIfTidy seen d.log
+    → IfTold seen.told (λ t. WasTidy d.log.pages t → EachImage (λ i. IsStored (log_of d.log.pages i) (committed_table st)) t)
+ends_stored st allowed d seen shows entries set leaves = on_images (λ rs. IsStored rs (committed_table st)) d.log seen entries set leaves (part_stored st allowed d shows)

@@ -8,6 +8,7 @@ pub mod Keys
 pub mod KeysWritten
 pub mod UnitsWritten
 pub mod Settled
+pub mod Exits
 pub mod Leaving
 pub mod Appended
 pub mod Purged
@@ -41,12 +42,12 @@ pub mod Collecting
 pub mod UndoSteps
 pub mod UndoBegins
 pub mod RollbackGoes
+pub mod Death
 pub mod Locked
 pub mod Forcing
 pub mod Answering
 pub mod Counting
 pub mod Among
-pub mod Exits
 pub mod Reopening
 pub mod DeskGoes
 pub mod DeskFlush

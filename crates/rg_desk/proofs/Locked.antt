@@ -1,5 +1,5 @@
 -- A session whose unit has written has a lock. So the device may refuse its COMMIT.
-use Rattle.std.proofs.Common.{◌≡◌, ◌==◌, ◌||◌, ◌≤◌, ◌+◌, ℕ, Bool, true, false, not, cond, List, [], ◌∷◌, Option, Some, None, length, refl, sym, ◌∙◌, ap, arith}
+use Rattle.std.proofs.Common.{◌≡◌, ◌==◌, ◌||◌, ◌≤◌, ◌<◌, ◌+◌, ℕ, Bool, true, false, not, cond, List, [], ◌∷◌, Option, Some, None, length, refl, sym, ◌∙◌, ap, arith}
 use Rattle.std.specs.FinMap as fin
 use Rattle.std.specs.FinMap.{find, get-entries}
 use Rattle.std.specs.List.{list_any}
@@ -22,6 +22,7 @@ use Rattle.rg_desk.specs.Steps.{Goes}
 use Rattle.rg_desk.specs.Units.{unit_at}
 use Rattle.rg_desk.specs.declared.engine.Engine.{Engine}
 use Rattle.rg_desk.specs.declared.units.OpenUnit.{OpenUnit}
+use Rattle.rg_desk.proofs.Death.{refused_left}
 use Rattle.rg_desk.proofs.NewestKept.{space_newest}
 use Rattle.rg_desk.proofs.Logged.{bytes_committed}
 
@@ -75,8 +76,8 @@ module _ (st : State) (allowed : ℕ) (d : Engine) (session : Session) (shows : 
           (shows.by.units.apart lock.owner.0 session.0 h.unit unit h.has has (key.by h.unit.tran.0 h.own))
 
   -- the device refused its COMMIT
-  pub commit_fails : (new mid : Engine) → LogsCommit d session mid → new.space ≡ mid.space → new.log.records ≡ mid.log.records → new.log.reserved ≡ mid.log.reserved → new.log.pages ≡ mid.log.pages → new.opened ≡ mid.opened → Goes st allowed d session Commit Device new
-  commit_fails new mid logged space records reserved pages opened = record {
+  pub commit_fails : (new mid : Engine) → session.0 < 256 → LogsCommit d session mid → mid.log.forced ≤ new.log.forced → new.space ≡ mid.space → new.log.records ≡ mid.log.records → new.log.reserved ≡ mid.log.reserved → new.log.pages ≡ mid.log.pages → new.opened ≡ mid.opened → Goes st allowed d session Commit Device new
+  commit_fails new mid low logged further space records reserved pages opened = record {
     says = ap (λ (ls : Locks). has_locks ls session) shows.by.locks ∙ locked;
     room = tt;
     log = tt;
@@ -90,6 +91,7 @@ module _ (st : State) (allowed : ℕ) (d : Engine) (session : Session) (shows : 
       pages = pages ∙ logged.base.pages;
     };
     shows = tt;
+    left = refused_left st allowed d session shows low unit has new.log (records ∙ logged.records) (omega (arith, reserved, logged.reserved)) (pages ∙ logged.base.pages) (omega (arith, further, logged.base.forced));
     capacity = ap (λ sp. capacity_in sp) space ∙ ap (λ (x : Engine). capacity_in x.space) logged.same;
   }
 

@@ -107,6 +107,7 @@ module _ (st : State) (allowed : ℕ) (d : Engine) (session : Session) (shows : 
         newest = space_newest d.log.records new.log.records d.space new.space (ap (λ (l : Listed). l.records) ended.log) ended.space;
         shows = subst (λ (x : State). Shows x (allowed + 0) new) state_is
             (idle_shows st allowed d new session shows low ended.space ended.indexes ended.top ended.locks ended.claims ended.units (ap (λ (l : Listed). l.records) ended.log ∙ ap (records_committed d.log.records) (sym none)) (omega (arith, ap owed_to none, ap (λ (l : Listed). l.reserved) ended.log)) ended.opened (subst IsSettled (sym ended.log) shows.settled) (grows_same d.log new.log ended.log) none);
+        left = tt;
         capacity = ap (λ sp. capacity_in sp) ended.space;
       }
     where

@@ -123,6 +123,7 @@ module _ (st : State) (allowed : ℕ) (d new : Engine) (session : Session) (show
     grows = record { more = more; records = records; pages = log_pages };
     forced = λ e. forced;
     newest = newest;
+    left = tt;
     shows =
         shows_more st allowed d shows (after_rollback st session) (allowed + 0) new more opened records capacity runs
         (settled_more st allowed d shows more runs (subst IsQuiet (sym acts) (quiet_undos t undos are)) new.log records forced)

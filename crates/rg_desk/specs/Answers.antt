@@ -5,7 +5,7 @@
 -- 2. A statement that is answered with number 0 registers its classes, and no other does.
 -- 3. Only the COMMIT of a unit that has written calls the volume. At OK all records are forced, and
 --    DEVICE comes only where a call of the volume failed. From then on the engine is down, and it
---    is open whether the commit is in.
+--    is open whether the commit is in: its log stores the committed rows with it, or without.
 use Rattle.std.specs.Prelude.{◌≡◌, ◌≤◌, ◌<◌, ◌+◌, ◌*◌, ℕ, Bool, true, false, List, [], Option, Some, None, is_some, length}
 use Rattle.rg_base.specs.declared.session.Class.{Class}
 use Rattle.rg_base.specs.declared.session.Session.{Session}
@@ -24,11 +24,12 @@ use Rattle.rg_stmt.specs.declared.stmt.Reply.TheVariants.{Device, Down, NoMemory
 use Rattle.rg_stmt.specs.declared.stmt.Stmt.{Stmt}
 use Rattle.rg_stmt.specs.declared.stmt.Stmt.TheVariants.{Commit}
 use Rattle.rg_desk.specs.Engine.{ground_of}
+use Rattle.rg_desk.specs.Left.{LeavesState, in_doubt}
 use Rattle.rg_desk.specs.Newest.{KeepsNewest}
 use Rattle.rg_desk.specs.Room.{SaysLog, SaysRoom}
 use Rattle.rg_desk.specs.Shows.{Shows}
 use Rattle.rg_desk.specs.Bytes.{most_needed, taken_of}
-use Rattle.rg_desk.specs.Steps.{IfUp, is_commit, more_allowed, more_logged}
+use Rattle.rg_desk.specs.Steps.{IfDevice, IfUp, is_commit, more_allowed, more_logged}
 use Rattle.rg_desk.specs.Stored.{Grows}
 use Rattle.rg_desk.specs.Units.{unit_at}
 use Rattle.rg_desk.specs.Volume.{CallsLog, Leaves, VolumeSeen}
@@ -71,7 +72,7 @@ is_device reply = false
 
 -- the state after a reply: where the device refused a COMMIT it is open whether it is in
 abbrev pub state_left : State → Session → Stmt → Reply → State
-state_left st session stmt Device = record st { down = true; doubt = Some session }
+state_left st session stmt Device = in_doubt st session
 state_left st session stmt reply = after_answer st session stmt reply
 
 -- the statement is answered so from this state, and leaves a next one
@@ -90,6 +91,7 @@ pub record Answered
   pub grows : Grows old.log new.log
   pub newest : KeepsNewest old new
   pub shows : IfUp reply (Shows after (allowed + more_allowed stmt reply) new)
+  pub left : IfDevice reply (LeavesState after new.log)
   pub capacity : capacity_in new.space ≡ capacity_in old.space
 
 -- from each state that the engine shows

@@ -6,13 +6,14 @@
 -- 3. An entry has the number of the volume's calls up to it.
 -- 4. The log has no more bytes taken or reserved than the entries say.
 -- 5. It is down if and only if its state is, and then nothing is known of its engine but the log's
---    size.
+--    size, and that whatever part of the log has all that is forced stores a table that process
+--    death leaves of the state.
 -- 6. Where the log read tidy when the count began, a crash leaves all of it that is forced.
 -- 7. Each key with a row, and each locked one, is among some keys that are no more than the entries
 --    and the rows at the opening.
 -- 8. Each page is the newest version of its page, and each mark says how it reads. Where the volume
 --    read tidy when the count began, a crash leaves versions that the forced records cover.
-use Rattle.std.specs.Prelude.{◌≡◌, ◌≤◌, ◌<◌, ◌+◌, ◌*◌, ◌^◌, ◌⊎◌, ◌||◌, ◌++◌, ℕ, suc, Bool, true, false, List, [], ◌∷◌, Option, length, take}
+use Rattle.std.specs.Prelude.{◌≡◌, ◌≤◌, ◌<◌, ◌+◌, ◌*◌, ◌^◌, ◌⊎◌, ◌||◌, ◌++◌, ℕ, suc, Bool, true, false, List, [], ◌∷◌, Option, None, length, take}
 use Rattle.rg_base.specs.declared.position.Position.{Position}
 use Rattle.std.specs.FinMap as map
 use Rattle.rg_base.specs.declared.session.Session.{Session}
@@ -41,6 +42,7 @@ use Rattle.rg_outside.specs.Faults.{Rose}
 use Rattle.rg_desk.specs.Answers.{IfFull, IfLogFull, forces, is_answer, is_device}
 use Rattle.rg_desk.specs.Bytes.{taken_of}
 use Rattle.rg_desk.specs.Flushed.{CallsOwn, FlushIs}
+use Rattle.rg_desk.specs.Left.{LeavesState, StoresLeft}
 use Rattle.rg_desk.specs.OnVolume.{IsOnVolume}
 use Rattle.rg_desk.specs.Chronicle.{ChronicleState, IsRecorded, allowed_by, logged_by, system_entry}
 use Rattle.rg_desk.specs.Room.{Ground, SaysLog, SaysRoom}
@@ -84,6 +86,7 @@ pub record IsDesk (d : Engine) (c : ChronicleState) (copy : ℕ) (down : Bool)
   pub counted : HasCalls seen c.calls
   pub recorded : IsRecorded c.trace c.calls
   pub shown : down ≡ false → Shows state (allowed_by 0 c.trace) d
+  pub left : down ≡ true → LeavesState state d.log
   pub logged : taken_of d.log ≤ logged_by 0 c.trace
   pub pages : d.log.pages ≡ log_pages seen.capacities
   pub leaves : LeavesIfTidy seen d.log
@@ -260,3 +263,19 @@ pub record EndsWithRows
   pub stored :
       IfTold seen.told (λ t. WasTidy pages t
       → EachImage (λ i. IsStored (log_of pages i) (committed_table last)) t)
+
+-- It leads from that table, in this copy, to a last state, up or down, in which no utility runs and
+-- it is known which copy is current. Where the log read tidy, whatever a crash leaves of the volume
+-- stores a table that process death leaves of that state.
+pub record LeavesTable
+    (old : List Record) (copy pages : ℕ) (seen : VolumeSeen) (trace : List Entry) : Type 0 where
+  pub start : Table
+  pub starts : IsStored old start
+  pub last : State
+  pub run : Run [] (at_rest start copy) trace last
+  pub copy_is : last.copy ≡ copy
+  pub idle : last.utility ≡ None
+  pub sure : last.copydoubt ≡ false
+  pub left :
+      IfTold seen.told (λ t. WasTidy pages t
+      → EachImage (λ i. StoresLeft last (log_of pages i)) t)

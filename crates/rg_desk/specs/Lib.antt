@@ -6,6 +6,7 @@ pub mod Engine
 pub mod Newest
 pub mod Walks
 pub mod Stored
+pub mod Left
 pub mod Wrote
 pub mod Shows
 pub mod Planned

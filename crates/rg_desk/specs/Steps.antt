@@ -4,8 +4,9 @@
 --    and only if there is no plan of the write, and then the writes so far have allowed 3,221 bytes
 --    for each page of the copy. LOGFULL is returned if and only if the log has less left than the
 --    write needs.
--- 2. DEVICE is returned only for the COMMIT of a session that has locks. Then nothing is said of
---    the engine, which is down from then on.
+-- 2. DEVICE is returned only for the COMMIT of a session that has locks. The engine is down from
+--    then on, and nothing is said of it but what its log stores: the committed rows, with those of
+--    the COMMIT or without.
 -- 3. A put or a change allows 18 bytes more than its row has.
 use Rattle.std.specs.Prelude.{◌≡◌, ◌≤◌, ◌+◌, ◌*◌, ℕ, Bool, true, false, Some, None, ◌⊎◌, if◌then◌else◌}
 use Rattle.rg_base.specs.RowBytes.{row_size}
@@ -20,6 +21,7 @@ use Rattle.rg_model.specs.State.{State}
 use Rattle.rg_space.specs.Space.{capacity_in}
 use Rattle.rg_desk.specs.Bytes.{most_needed, taken_of}
 use Rattle.rg_desk.specs.Engine.{ground_of}
+use Rattle.rg_desk.specs.Left.{LeavesState, in_doubt}
 use Rattle.rg_desk.specs.Newest.{KeepsNewest}
 use Rattle.rg_desk.specs.Room.{SaysLog, SaysRoom}
 use Rattle.rg_desk.specs.Shows.{Shows}
@@ -87,6 +89,11 @@ abbrev pub IfUp : Reply → Type 0 → Type 0
 IfUp Device P = Unit {0}
 IfUp reply P = P
 
+-- this holds after the reply of the device, which leaves the engine down
+abbrev pub IfDevice : Reply → Type 0 → Type 0
+IfDevice Device P = P
+IfDevice reply P = Unit {0}
+
 -- the statement is answered so from this state, and leaves the next one
 pub record Goes
     (st : State) (allowed : ℕ) (old : Engine) (session : Session) (stmt : Stmt) (reply : Reply)
@@ -101,6 +108,7 @@ pub record Goes
   pub newest : KeepsNewest old new
   pub shows :
       IfUp reply (Shows (unclaimed st session stmt reply) (allowed + more_allowed stmt reply) new)
+  pub left : IfDevice reply (LeavesState (in_doubt st session) new.log)
   pub capacity : capacity_in new.space ≡ capacity_in old.space
 
 -- from each state that the engine shows

@@ -18,8 +18,9 @@ ghost use Rattle.rg_desk.specs.Answers.{Replies};
 ghost use Rattle.rg_log.specs.Kept.{log_pages};
 ghost use Rattle.rg_desk.specs.Chronicle.{system_entry};
 ghost use Rattle.rg_desk.specs.Begun.{Begun};
-ghost use Rattle.rg_desk.specs.Desk.{CanBegin, EndsDown, EndsWithRows, IsCopy, IsLayout, LegalFrom, MadeLayout};
-ghost use Rattle.rg_desk.specs.Desk.{MadeFlush, MadeSaid, Opens, old_records};
+ghost use Rattle.rg_desk.specs.Desk.{CanBegin, EndsDown, EndsWithRows, IsCopy, IsLayout};
+ghost use Rattle.rg_desk.specs.Desk.{LeavesTable, LegalFrom, MadeFlush, MadeLayout, MadeSaid};
+ghost use Rattle.rg_desk.specs.Desk.{Opens, old_records};
 ghost use Rattle.rg_desk.specs.Flushed.{TellsFlush};
 ghost use Rattle.rg_desk.specs.OnVolume.{GoesOnTidy, IsOnVolume, LeavesCopyIfTidy};
 ghost use Rattle.rg_space.specs.Memory.{list_seen, space_pages};
@@ -376,13 +377,16 @@ impl<V: Counts, O: Operator> Desk<V, O> {
         self.engine.committed_rows()
     }
 
-    /// The volume and the operator that it was handed, and its trace. The volume may be opened
-    /// again.
+    /// The volume and the operator that it was handed, and its trace. Where the log read tidy,
+    /// whatever a crash leaves of the volume stores a table that process death leaves of the trace:
+    /// a COMMIT that the device refused is in, or it is not. The volume may be opened again.
     pub fn into_parts(self) -> (V, O, Vec<Entry>)
         ensures volume { result.0 ≡ self.volume }
         ensures operator { result.1 ≡ self.operator }
         ensures trace { result.2.items ≡ self.trace }
         ensures legal { LegalFrom (old_records self) self.trace }
+        ensures left { LeavesTable (old_records self) self.copy self.ground.log.pages
+            (seen_volume V.told V.faults V.capacities self.volume) self.trace }
         ensures tidy { GoesOnTidy (seen_volume V.told V.faults V.capacities self.volume) }
         ensures copy { LeavesCopyIfTidy (seen_volume V.told V.faults V.capacities self.volume)
             self.copy }

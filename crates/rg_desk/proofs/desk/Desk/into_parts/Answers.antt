@@ -1,8 +1,11 @@
 use Rattle.std.proofs.Common.{subst}
-use Rattle.rg_desk.specs.Desk.{LegalFrom, old_records}
+use Rattle.rg_desk.specs.Desk.{LeavesTable, LegalFrom, old_records}
+use Rattle.rg_desk.specs.Left.{StoresLeft}
 use Rattle.rg_desk.specs.OnVolume.{GoesOnTidy, LeavesCopyIfTidy}
 use Rattle.rg_desk.specs.Volume.{seen_volume}
+use Rattle.rg_desk.proofs.Death.{desk_left}
 use Rattle.rg_desk.proofs.DeskGoes.{desk_legal}
+use Rattle.rg_desk.proofs.Exits.{on_images}
 use Rattle.rg_desk.proofs.Reopening.{copy_leaves, reopens}
 use Rattle.rg_desk.proofs.desk.Desk.into_parts.Goals as goal
 
@@ -23,3 +26,21 @@ returns-clause-copy g c =
     let desk = c.self.invariant in
     subst (λ d. LeavesCopyIfTidy (seen_volume g.V.Volume.told g.V.Volume.faults g.V.Volume.capacities d.volume) d.copy) c.self.view_is
     (copy_leaves desk.is_on.epoch c.self.inside.copy c.self.inside.engine.log c.self.inside.engine.space _ _ desk.is_on.is_on desk.pages c.records.ensures.entries c.records.ensures.set desk.leaves)
+
+pub returns-clause-left : goal.returns-clause-left
+returns-clause-left g c =
+    let desk = c.self.invariant in
+    let inside = c.self.inside in
+    let look = seen_volume g.V.Volume.told g.V.Volume.faults g.V.Volume.capacities in
+    let left = desk_left inside.engine inside.chronicle inside.copy inside.down _ _ desk in
+    subst (λ d. LeavesTable (old_records d) d.copy d.ground.log.pages (look d.volume) d.trace) c.self.view_is
+    (record {
+      start = desk.start;
+      starts = desk.starts;
+      last = desk.state;
+      run = desk.run;
+      copy_is = desk.copy_is;
+      idle = left.idle;
+      sure = left.sure;
+      left = on_images (StoresLeft desk.state) inside.engine.log (look inside.volume) c.records.ensures.entries c.records.ensures.set desk.leaves left.stored;
+    })

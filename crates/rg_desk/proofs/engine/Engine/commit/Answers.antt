@@ -52,7 +52,7 @@ pub returns-in-Err-clause-steps : goal.returns-in-Err-clause-steps
 returns-in-Err-clause-steps g c = λ st allowed shows.
     let d = c.args.self.now in
     let unit = has_unit (unit_at d.units c.args.session.0) _ (sym c.get.ensures) c.is_none.ensures c.if-is_none.false in
-    commit_fails st allowed d c.args.session shows unit.0 unit.1 _ c.log_commit.new.self c.log_commit.ensures refl
+    commit_fails st allowed d c.args.session shows unit.0 unit.1 _ c.log_commit.new.self (omega (arith, c.requires.session.most)) c.log_commit.ensures c.force.ensures.further refl
     (ap (λ (l : Listed). l.records) c.force.ensures.kept) (ap (λ (l : Listed). l.reserved) c.force.ensures.kept) (ap (λ (l : Listed). l.pages) c.force.ensures.kept) refl
 
 pub returns-in-Ok-clause-asks : goal.returns-in-Ok-clause-asks
