@@ -1,5 +1,5 @@
 -- The entries of a desk, and one more.
-use Rattle.std.proofs.Common.{◌≡◌, ◌≤◌, ◌<◌, ◌+◌, ◌^◌, ◌⊎◌, inl, inr, ℕ, zero, suc, List, [], ◌∷◌, ◌++◌, length, get_or, refl, sym, ap, arith}
+use Rattle.std.proofs.Common.{◌≡◌, ◌≤◌, ◌<◌, ◌+◌, ◌^◌, ◌⊎◌, inl, inr, ℕ, zero, suc, List, [], ◌∷◌, ◌++◌, drop, length, get_or, refl, sym, ap, arith}
 use Rattle.std.specs.List.{AllByRecursion}
 use Rattle.std.proofs.lemmas.List.Elements.{All-from_recursion}
 use Rattle.rg_base.proofs.Walk.{place}
@@ -57,3 +57,22 @@ recorded_push trace calls e was le is few = record {
         omega (arith, a, b, c)
     by_place i j d below lt (inr (inl same)) = by_last i j d below (sym same) (place i (length trace))
     by_place i j d below lt (inr (inr past)) = let n = push_length trace e in absurd (omega (arith, lt, past, n))
+
+-- what holds of all entries holds of the later ones
+
+recorded_tail : (x : Entry) (xs : List Entry) (calls : ℕ) → IsRecorded (x ∷ xs) calls → IsRecorded xs calls
+recorded_tail x xs calls was = record {
+  rising = λ i j d below lt. was.rising (suc i) (suc j) d (omega (arith, below)) (omega (arith, lt));
+  below = was.below.1;
+  each = was.each.1;
+  few = let few = was.few in omega (arith, few);
+}
+
+pub recorded_drop : (n : ℕ) (xs : List Entry) (calls : ℕ) → IsRecorded xs calls → IsRecorded (drop n xs) calls
+recorded_drop zero xs calls was = was
+recorded_drop (suc n) [] calls was = was
+recorded_drop (suc n) (x ∷ xs) calls was = recorded_drop n xs calls (recorded_tail x xs calls was)
+
+-- there may be none
+pub recorded_none : (calls : ℕ) → IsRecorded [] calls
+recorded_none calls = record { rising = λ i j d below lt. absurd (omega (arith, lt)); below = tt; each = tt; few = omega arith }

@@ -4,6 +4,8 @@
 --    next.
 -- 2. An answer stands exactly where the operator was asked, and each entry is of an actor that can
 --    be.
+-- 3. The entries of earlier openings are kept before those from the opening on, and the two rules
+--    above hold of all of them.
 use Rattle.std.specs.Prelude.{◌≡◌, ◌≤◌, ◌<◌, ◌+◌, ◌*◌, ◌^◌, ℕ, List, [], ◌∷◌, None, is_some, length}
 use Rattle.std.specs.List.{AllByRecursion}
 use Rattle.std.specs.List.Sorted.{IsNonDecreasingBy}
@@ -14,8 +16,10 @@ use Rattle.rg_stmt.specs.declared.event.Event.{Event}
 use Rattle.rg_stmt.specs.declared.event.Event.TheVariants.{Opened, Said}
 use Rattle.rg_desk.specs.Steps.{more_allowed, more_logged}
 
--- the entries, for how many more there is room, and the calls at the last one
+-- the entries of earlier openings, those from the opening on, for how many more there is room, and
+-- the calls at the last one
 pub record ChronicleState : Type 0 where
+  pub older : List Entry
   pub trace : List Entry
   pub spare : ℕ
   pub calls : ℕ

@@ -1,7 +1,8 @@
 -- What a desk keeps.
 --
 -- 1. Its trace begins with the opening of the table that the log stored then. It leads to a state,
---    and that is the one that the engine shows.
+--    and that is the one that the engine shows. The entries of earlier openings are no part
+--    of it: they are kept as they were.
 -- 2. The writes of the trace have allowed the bytes that the engine's pages claim.
 -- 3. An entry has the number of the volume's calls up to it.
 -- 4. The log has no more bytes taken or reserved than the entries say.
@@ -96,10 +97,11 @@ pub record IsDesk (d : Engine) (c : ChronicleState) (copy : ℕ) (down : Bool)
   pub few : length keys ≤ length c.trace + row_count start
   pub few_rows : row_count start < 2 ^ 32
 
--- what callers see of a desk: its entries, what its writes are planned over, its pages and their
--- marks, how many records the log had when it was opened, the number of the copy, whether it is
--- down, and what it was handed
+-- what callers see of a desk: the entries of earlier openings, those from its own on, what its
+-- writes are planned over, its pages and their marks, how many records the log had when it was
+-- opened, the number of the copy, whether it is down, and what it was handed
 pub record DeskState (V O : Type 0) : Type 0 where
+  pub older : List Entry
   pub trace : List Entry
   pub ground : Ground
   pub contents : List Content
@@ -152,9 +154,10 @@ pub record Opens {V O : Type 0}
   pub same : desk.volume ≡ volume
   pub asked : desk.operator ≡ operator
 
--- the copy may have as many pages as before, and the log, the operator is as it was, and of the
--- volume no page but the log's and the copy's was written
+-- the copy may have as many pages as before, and the log, the entries of earlier openings and the
+-- operator are as they were, and of the volume no page but the log's and the copy's was written
 pub record Stays {V O : Type 0} (look : V → VolumeSeen) (old new : DeskState V O) : Type 0 where
+  pub older : new.older ≡ old.older
   pub capacity : new.ground.capacity ≡ old.ground.capacity
   pub log_pages : new.ground.log.pages ≡ old.ground.log.pages
   pub opened : new.opened ≡ old.opened

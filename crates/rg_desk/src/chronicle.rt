@@ -2,49 +2,60 @@
 //
 // 1. The room of an entry is taken before anything is done for it. So what was done always has its
 //    entry.
+// 2. The entries of earlier openings come before those from the opening on, in the one vector.
+//    Joining them later would take memory.
 ghost use Rattle.std.specs.Prelude.{◌≡◌, ◌≤◌, ◌+◌, ◌++◌, ◌∷◌, [], OnOk, OnErr};
 ghost use Rattle.rg_desk.specs.Chronicle.{IsEntry, IsRecorded};
 
 use rg_base::no_memory::NoMemory;
 use rg_stmt::event::Entry;
-use std::alloc::Global;
 use std::marker::Model;
 
-/// The entries so far, and room for more.
+/// The entries so far, of which some are older than the opening, and room for more.
 #[derive(Drop)]
 pub struct Chronicle {
     trace: Vec<Entry>,
+    older: usize,
     spare: usize,
     calls: u64,
 }
 
 impl Model for Chronicle {
-    ghost use Rattle.std.specs.Prelude.{◌≤◌, ◌+◌, vec_len, vec_capacity};
+    ghost use Rattle.std.specs.Prelude.{◌≤◌, ◌+◌, drop, length, take, vec_len, vec_capacity};
     ghost use Rattle.rg_desk.specs.Chronicle.{ChronicleState, IsRecorded};
 
     ghost Value = { ChronicleState };
 
-    ghost view = { λ c. record { trace = c.trace.items; spare = c.spare; calls = c.calls } };
+    ghost view = { λ c. record {
+      older = take c.older c.trace.items;
+      trace = drop c.older c.trace.items;
+      spare = c.spare;
+      calls = c.calls;
+    } };
 
     ghost invariant = { λ c. (vec_len c.trace + c.spare ≤ vec_capacity c.trace)
-        × IsRecorded c.trace.items c.calls };
+        × (c.older ≤ length c.trace.items) × IsRecorded c.trace.items c.calls };
 }
 
 impl Chronicle {
-    /// No entries.
-    pub fn new(alloc: Global) -> Chronicle
-        ensures { result ≡ record { trace = []; spare = 0; calls = 0 } }
+    /// No entries but these older ones, up to which there were so many calls.
+    pub fn over(trace: Vec<Entry>, calls: u64) -> Chronicle
+        requires { IsRecorded trace.items calls }
+        ensures { result ≡ record { older = trace.items; trace = []; spare = 0; calls = calls } }
     {
+        let older = trace.len();
         Chronicle {
-            trace: Vec::new(alloc),
+            trace,
+            older,
             spare: 0,
-            calls: 0,
+            calls,
         }
     }
 
     /// Afterwards there is room for an entry.
     pub fn make_room(&mut self) -> Result<(), NoMemory>
         ensures ok { OnOk result (1 ≤ self.new.spare) }
+        ensures older { self.new.older ≡ self.old.older }
         ensures trace { self.new.trace ≡ self.old.trace }
         ensures calls { self.new.calls ≡ self.old.calls }
         ensures err { OnErr result (self.new ≡ self.old) }
@@ -62,6 +73,7 @@ impl Chronicle {
         requires spare { 1 ≤ self.old.spare }
         requires calls { self.old.calls ≤ entry.calls }
         requires entry { IsEntry entry }
+        ensures older { self.new.older ≡ self.old.older }
         ensures trace { self.new.trace ≡ self.old.trace ++ entry ∷ [] }
         ensures spare { self.new.spare + 1 ≡ self.old.spare }
         ensures calls { self.new.calls ≡ entry.calls }
@@ -79,16 +91,17 @@ impl Chronicle {
         self.calls
     }
 
-    /// The entries.
+    /// The entries from the opening on.
     pub fn trace(&self) -> &[Entry]
         ensures { result.now ≡ self.now.trace }
     {
-        self.trace.as_slice()
+        &self.trace[self.older..]
     }
 
-    /// The entries themselves.
+    /// All entries themselves.
     pub fn into_trace(self) -> Vec<Entry>
-        ensures { result.items ≡ self.trace }
+        ensures trace { result.items ≡ self.older ++ self.trace }
+        ensures recorded { IsRecorded result.items self.calls }
     {
         let Chronicle { trace, .. } = self;
         trace

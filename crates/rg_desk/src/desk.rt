@@ -5,7 +5,10 @@
 //    the locks and the claims show.
 // 3. Once the device has refused a COMMIT the desk is down: nothing more is done, and every
 //    statement is answered DOWN.
-ghost use Rattle.std.specs.Prelude.{◌≡◌, ◌≤◌, ◌∷◌, [], ℕ, true, false, OnOk, OnErr, IfOk, IfErr, Some, None};
+// 4. A process may die and the table be opened again, with one trace going on. So a desk may begin
+//    over the entries of earlier openings. They come before its own, and none is lost where the
+//    opening is refused.
+ghost use Rattle.std.specs.Prelude.{◌≡◌, ◌≤◌, ◌++◌, ◌∷◌, [], ℕ, true, false, OnOk, OnErr, IfOk, IfErr, Some, None};
 ghost use Rattle.rg_home.specs.Pages.{slot_of};
 ghost use Rattle.rg_home.specs.Rows.{row_at};
 ghost use Rattle.rg_indexes.specs.Listings.{AreListings};
@@ -16,7 +19,7 @@ ghost use Rattle.rg_model.specs.State.{State};
 ghost use Rattle.rg_stmt.specs.declared.event.Actor.TheVariants as actors;
 ghost use Rattle.rg_desk.specs.Answers.{Replies};
 ghost use Rattle.rg_log.specs.Kept.{log_pages};
-ghost use Rattle.rg_desk.specs.Chronicle.{system_entry};
+ghost use Rattle.rg_desk.specs.Chronicle.{IsRecorded, system_entry};
 ghost use Rattle.rg_desk.specs.Begun.{Begun};
 ghost use Rattle.rg_desk.specs.Desk.{CanBegin, EndsDown, EndsWithRows, IsCopy, IsLayout};
 ghost use Rattle.rg_desk.specs.Desk.{LeavesTable, LegalFrom, MadeFlush, MadeLayout, MadeSaid};
@@ -44,11 +47,13 @@ use rg_stmt::stmt::{Reply, Stmt};
 use std::alloc::Global;
 use std::marker::Model;
 
-/// What an opening that was refused was handed, and why.
+/// What an opening that was refused was handed, and why. The trace has the entries of earlier
+/// openings.
 #[derive(Drop)]
 pub struct OpenFault<V, O> {
     pub volume: V,
     pub operator: O,
+    pub trace: Vec<Entry>,
     pub cause: OpenCause,
 }
 
@@ -63,7 +68,8 @@ pub enum OpenCause {
     NoMemory,
 }
 
-/// A table over pages with its sessions, and the trace of all that was done.
+/// A table over pages with its sessions, and the trace of all that was done since it was opened,
+/// after the entries of earlier openings.
 #[derive(Drop)]
 pub struct Desk<V: Counts, O> {
     engine: Engine,
@@ -83,6 +89,7 @@ impl<V: Counts, O> Model for Desk<V, O> {
     ghost Value = { DeskState V O };
 
     ghost view = { λ d. record {
+      older = d.chronicle.older;
       trace = d.chronicle.trace;
       ground = ground_of d.engine;
       contents = (seen_in d.engine).pages;
@@ -110,20 +117,26 @@ fn system(event: Event, calls: u64) -> Entry
     }
 }
 
-// The engine over what was found, the entry of the opening, after so many calls, and the marks.
+// The engine over what was found, and the marks. The opening makes the first entry, after so many
+// calls.
 fn begin(
     alloc: Global,
     found: Found,
     calls: u64,
-) -> Result<(Engine, Chronicle, Vec<Option<Position>>), NoMemory>
+    chronicle: &mut Chronicle,
+) -> Result<(Engine, Vec<Option<Position>>), NoMemory>
     requires begins { CanBegin (capacity_in found.space) (space_pages found.space) found.log
         found.top }
     requires step { InStep (list_seen (frames_of found.space)) (index_of found.space)
         (capacity_in found.space) }
     requires agree { Agree (list_seen (frames_of found.space)) (index_of found.space) }
     requires listings { AreListings (row_at (slot_of (space_pages found.space))) found.indexes }
-    ensures begun { IfOk result (λ made. Begun found calls made.0 made.1) }
-    ensures marks { IfOk result (λ made. made.2 ≡ found.marks) }
+    requires first { chronicle.old.trace ≡ [] }
+    requires calls { chronicle.old.calls ≤ calls }
+    ensures begun { IfOk result (λ made. Begun found calls made.0 chronicle.new) }
+    ensures marks { IfOk result (λ made. made.1 ≡ found.marks) }
+    ensures older { chronicle.new.older ≡ chronicle.old.older }
+    ensures err { OnErr result (chronicle.new ≡ chronicle.old) }
 {
     let Found {
         log,
@@ -136,10 +149,9 @@ fn begin(
     let (pages, used) = (space.count(), log.used());
     let engine = Engine::new(alloc, log, space, indexes, top)?;
     let rows = engine.unlocked_rows();
-    let mut chronicle = Chronicle::new(alloc);
     chronicle.make_room()?;
     chronicle.push(Entry::opened(copy, rows, pages, used, calls));
-    Ok((engine, chronicle, marks))
+    Ok((engine, marks))
 }
 
 // The number of calls up to now. It never falls, also where the volume does not report.
@@ -239,12 +251,15 @@ fn tell_flush<V: Volume>(
 
 impl<V: Counts, O: Operator> Desk<V, O> {
     /// A desk over the table that a log stores. Its first entry is that of the opening, with the
-    /// rows, the pages and the bytes of the log that were found. Neither the volume nor the
-    /// operator is called.
+    /// rows, the pages and the bytes of the log that were found. It comes after the entries of
+    /// earlier openings, up to which there were so many calls, and has no fewer calls than they
+    /// have, also where the volume does not report. Neither the volume nor the operator is called.
     pub fn new(
         alloc: Global,
         volume: V,
         operator: O,
+        trace: Vec<Entry>,
+        calls: u64,
         found: Found,
     ) -> Result<Desk<V, O>, OpenFault<V, O>>
         requires begins { CanBegin (capacity_in found.space) (space_pages found.space) found.log
@@ -260,18 +275,24 @@ impl<V: Counts, O: Operator> Desk<V, O> {
             found.log }
         requires is_on { IsOnVolume found.copy found.log found.space found.marks.items
             (seen_volume V.told V.faults V.capacities volume) }
+        requires recorded { IsRecorded trace.items calls }
+        requires counted { HasCalls (seen_volume V.told V.faults V.capacities volume) calls }
         ensures opens { IfOk result (Opens (seen_volume V.told V.faults V.capacities) volume
             operator found.log found.copy (capacity_in found.space) (space_pages found.space)) }
+        ensures older { IfOk result (λ desk. desk.older ≡ trace.items) }
         ensures err { IfErr result (λ fault. fault ≡ record {
           volume = volume;
           operator = operator;
+          trace = fault.trace;
           cause = OpenCause.NoMemory;
         }) }
+        ensures trace { IfErr result (λ fault. fault.trace.items ≡ trace.items) }
     {
         let copy = found.copy;
-        let calls = volume.calls();
-        match begin(alloc, found, calls) {
-            Ok((engine, chronicle, marks)) => Ok(Desk {
+        let mut chronicle = Chronicle::over(trace, calls);
+        let now = calls_now(&volume, &chronicle);
+        match begin(alloc, found, now, &mut chronicle) {
+            Ok((engine, marks)) => Ok(Desk {
                 engine,
                 chronicle,
                 marks,
@@ -283,6 +304,7 @@ impl<V: Counts, O: Operator> Desk<V, O> {
             Err(_) => Err(OpenFault {
                 volume,
                 operator,
+                trace: chronicle.into_trace(),
                 cause: OpenCause::NoMemory,
             }),
         }
@@ -349,7 +371,7 @@ impl<V: Counts, O: Operator> Desk<V, O> {
         Ok(())
     }
 
-    /// The entries so far. The reply to the last statement is in the last entry.
+    /// The entries from the opening on. The reply to the last statement is in the last entry.
     pub fn trace(&self) -> &[Entry]
         ensures { result.now ≡ self.now.trace }
     {
@@ -377,13 +399,17 @@ impl<V: Counts, O: Operator> Desk<V, O> {
         self.engine.committed_rows()
     }
 
-    /// The volume and the operator that it was handed, and its trace. Where the log read tidy,
-    /// whatever a crash leaves of the volume stores a table that process death leaves of the trace:
-    /// a COMMIT that the device refused is in, or it is not. The volume may be opened again.
-    pub fn into_parts(self) -> (V, O, Vec<Entry>)
+    /// The volume and the operator that it was handed, the entries of earlier openings and its own,
+    /// and how many calls there were up to the last one. Where the log read tidy, whatever a crash
+    /// leaves of the volume stores a table that process death leaves of the trace: a COMMIT that
+    /// the device refused is in, or it is not. The volume may be opened again, over these entries.
+    pub fn into_parts(self) -> (V, O, Vec<Entry>, u64)
         ensures volume { result.0 ≡ self.volume }
         ensures operator { result.1 ≡ self.operator }
-        ensures trace { result.2.items ≡ self.trace }
+        ensures trace { result.2.items ≡ self.older ++ self.trace }
+        ensures recorded { IsRecorded result.2.items result.3 }
+        ensures counted { HasCalls (seen_volume V.told V.faults V.capacities self.volume)
+            result.3 }
         ensures legal { LegalFrom (old_records self) self.trace }
         ensures left { LeavesTable (old_records self) self.copy self.ground.log.pages
             (seen_volume V.told V.faults V.capacities self.volume) self.trace }
@@ -402,6 +428,7 @@ impl<V: Counts, O: Operator> Desk<V, O> {
             volume,
             operator,
         } = self;
-        (volume, operator, chronicle.into_trace())
+        let calls = chronicle.calls();
+        (volume, operator, chronicle.into_trace(), calls)
     }
 }

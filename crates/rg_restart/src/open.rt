@@ -4,9 +4,12 @@
 //    copy are read, and last the rules on pages are tested.
 // 2. The first rule that is broken names its page. Nothing is written, and the operator is not
 //    asked.
+// 3. The entries of earlier openings are kept, before those of the desk that is opened. A refusal
+//    hands them back.
 ghost use Rattle.std.specs.Prelude.{◌≡◌, IfOk, IfErr};
 ghost use Rattle.rg_chain.specs.Kept.{IsKept};
-ghost use Rattle.rg_desk.specs.Volume.{seen_volume};
+ghost use Rattle.rg_desk.specs.Chronicle.{IsRecorded};
+ghost use Rattle.rg_desk.specs.Volume.{HasCalls, seen_volume};
 ghost use Rattle.rg_image.specs.Rules.{HasSpace, IsChain};
 ghost use Rattle.rg_log.specs.Kept.{log_pages};
 ghost use Rattle.rg_rebuilt.specs.Laws.{CoversAll};
@@ -28,6 +31,7 @@ use rg_log::open::open_log;
 use rg_outside::counted::Counts;
 use rg_outside::operator::Operator;
 use rg_outside::volume::Volume;
+use rg_stmt::event::Entry;
 use std::alloc::Global;
 
 // The cause of a log that was not read.
@@ -86,26 +90,34 @@ fn look<V: Volume>(alloc: Global, volume: &mut V) -> Result<Found, OpenCause>
 
 /// Opens a volume over the table that its log stores. A page that breaks a rule of a sound volume
 /// is named. The undo of open units is appended to the log in memory, and written by the next
-/// COMMIT.
+/// COMMIT. The table may have been opened before: the trace has the entries of earlier openings, up
+/// to which there were so many calls.
 pub fn open_desk<V: Counts, O: Operator>(
     alloc: Global,
     volume: V,
     operator: O,
+    trace: Vec<Entry>,
+    calls: u64,
 ) -> Result<Desk<V, O>, OpenFault<V, O>>
     requires tidy { GoesOnTidy (seen_volume V.told V.faults V.capacities volume) }
+    requires recorded { IsRecorded trace.items calls }
+    requires counted { HasCalls (seen_volume V.told V.faults V.capacities volume) calls }
     ensures opens { IfOk result (OpensStored (seen_volume V.told V.faults V.capacities)
         (seen_volume V.told V.faults V.capacities volume) operator) }
+    ensures older { IfOk result (λ desk. desk.older ≡ trace.items) }
     ensures refused { IfErr result (λ fault. IsRefused
         (seen_volume V.told V.faults V.capacities volume)
         (seen_volume V.told V.faults V.capacities fault.volume) fault.cause) }
     ensures operator { IfErr result (λ fault. fault.operator ≡ operator) }
+    ensures trace { IfErr result (λ fault. fault.trace.items ≡ trace.items) }
 {
     let mut volume = volume;
     match look(alloc, &mut volume) {
-        Ok(found) => Desk::new(alloc, volume, operator, found),
+        Ok(found) => Desk::new(alloc, volume, operator, trace, calls, found),
         Err(cause) => Err(OpenFault {
             volume,
             operator,
+            trace,
             cause,
         }),
     }

@@ -94,8 +94,9 @@ module _ {V O : Type 0} (look : V → VolumeSeen) (old : VolumeSeen) (operator :
   abbrev pub entry_zero : Entry
   entry_zero = opened_entry (copy_of opens.log.records) (row_count opens.opens.start) (length opens.slots) (log_bytes opens.now.records) opens.opens.calls
 
-  pub opened_first : IsOpened desk
-  opened_first = record {
+  pub opened_first : desk.older ≡ [] → IsOpened desk
+  opened_first older = record {
+    older = older;
     entry = entry_zero;
     is = record { copy = copy_of opens.log.records; rows = row_count opens.opens.start; pages = length opens.slots; used = log_bytes opens.now.records; is = refl };
     trace = opens.opens.trace;

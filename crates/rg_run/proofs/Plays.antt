@@ -182,6 +182,7 @@ own_calls_join copy a b c x y = record {
 module _ {V O : Type 0} (look : V → VolumeSeen) (first old new : DeskState V O) (lines : List Line) (goes : Goes look first lines old) where
   stays_on : Stays look old new → Stays look first new
   stays_on stays = record {
+    older = stays.older ∙ goes.stays.older;
     capacity = stays.capacity ∙ goes.stays.capacity;
     log_pages = stays.log_pages ∙ goes.stays.log_pages;
     opened = stays.opened ∙ goes.stays.opened;
@@ -201,6 +202,7 @@ module _ {V O : Type 0} (look : V → VolumeSeen) (first old new : DeskState V O
   on : (line : Line) (entry : Entry) → new.trace ≡ old.trace ++ entry ∷ [] → EntryOf line entry → IsFullFrom (3221 * old.ground.capacity) (allowed_by 0 old.trace) entry.event → IsLogFullFrom (limit_of old.ground.log.pages) (logged_by 0 old.trace) entry.event
       → IsDeviceIf (Rose (look first.volume).faults (look new.volume).faults) entry.event → (new.down ≡ true → Rose (look first.volume).faults (look new.volume).faults) → Stays look old new → Goes look first (lines ++ line ∷ []) new
   on line entry made of full log device down stays = record {
+    older = stays.older ∙ goes.older;
     entries = subst (TraceOf (lines ++ line ∷ [])) (sym made) (trace_push lines old.trace line entry goes.entries of);
     begins = ap first_of made ∙ first_push lines old.trace entry goes.entries ∙ goes.begins;
     full =
@@ -252,6 +254,7 @@ device_opened entry is P = subst (λ (e : Entry). IsDeviceIf P e.event) (sym is.
 -- the run begins with the entry of the opening
 pub goes_opened : {V O : Type 0} (look : V → VolumeSeen) (desk : DeskState V O) → IsOpened desk → Goes look desk [] desk
 goes_opened look desk opened = record {
+  older = opened.older;
   entries = subst (TraceOf []) (sym opened.trace) (opened.is, tt);
   begins = refl;
   full = subst (IsFullOnlyFrom (3221 * desk.ground.capacity) 0) (sym opened.trace) (full_opened opened.entry opened.is (3221 * desk.ground.capacity) 0, tt);
@@ -259,6 +262,7 @@ goes_opened look desk opened = record {
   device = subst (IsDeviceOnlyIf (Rose (look desk.volume).faults (look desk.volume).faults)) (sym opened.trace) (device_opened opened.entry opened.is (Rose (look desk.volume).faults (look desk.volume).faults), tt);
   down = λ down. absurd (cc (down, opened.up));
   stays = record {
+    older = refl;
     capacity = refl;
     log_pages = refl;
     opened = refl;

@@ -1,10 +1,10 @@
 -- A run over a counted volume, and the same of the volume below.
-use Rattle.std.proofs.Common.{◌≡◌, ◌≤◌, ◌-◌, ℕ, List, Option, None, Some, length, drop, sym, ◌∙◌, ap, subst, arith}
+use Rattle.std.proofs.Common.{◌≡◌, ◌≤◌, ◌+◌, ◌-◌, ℕ, List, Option, None, Some, length, drop, sym, ◌∙◌, ap, subst, arith}
 use Rattle.rg_desk.specs.Desk.{DeskState, LegalFrom}
 use Rattle.rg_desk.specs.Flushed.{CallsOwn, WritesEither}
 use Rattle.rg_desk.specs.OnVolume.{WasAllTidy}
 use Rattle.rg_newest.specs.Tidy.{AreTidyPages, set_of}
-use Rattle.rg_desk.specs.Volume.{VolumeSeen, WasTidy, seen_volume}
+use Rattle.rg_desk.specs.Volume.{HasCalls, VolumeSeen, WasTidy, seen_volume}
 use Rattle.rg_image.specs.Rules.{HasLogPages, IsTidyLog}
 use Rattle.rg_log.specs.Kept.{log_pages}
 use Rattle.rg_log.specs.Open.{IsQuiet}
@@ -12,6 +12,7 @@ use Rattle.rg_outside.specs.Calls.{Call, Told, read_of}
 use Rattle.rg_outside.specs.Capacities.{Capacities}
 use Rattle.rg_outside.specs.Counts.{CountedCalls, counted}
 use Rattle.rg_outside.specs.Moments.{EachCall, IfTold}
+use Rattle.rg_outside.proofs.Every.{told_weaken}
 use Rattle.rg_outside.proofs.Frame.{calls_join, calls_weaken}
 use Rattle.rg_record.specs.declared.record.Record.{Record}
 use Rattle.rg_restart.specs.Opening.{GoesOnTidy, OpensStored}
@@ -50,6 +51,9 @@ module _ {V : Type 0} (told : V → Option Told) (faults : V → ℕ) (capacitie
         where
           none_left : (k : ℕ) → k - (k - 0) ≡ 0
           none_left k = omega arith
+
+  pub begun_counts : (begun : CountedCalls V) → begun ≡ record { volume = volume; calls = 0 } → HasCalls (look begun) 0
+  begun_counts begun is = told_weaken _ (λ t. t.start + 0 ≤ length t.calls) (look begun).told (λ t tidy. omega (arith, tidy.0)) (begun_tidy begun is)
 
   module _ (below : V) (begun ended : CountedCalls V) (begins : begun ≡ record { volume = volume; calls = 0 }) (ends : below ≡ ended.volume) (le : IfTold (told below) (λ t. ended.calls ≤ length t.calls))
       {O : Type 0} (operator : O) (desk : DeskState (CountedCalls V) O) (opens : OpensStored look (look begun) operator desk) where

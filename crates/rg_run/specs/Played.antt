@@ -95,6 +95,7 @@ first_of (entry ∷ entries) = Some entry
 pub record Goes {V O : Type 0}
     (look : V → VolumeSeen) (first : DeskState V O) (lines : List Line) (desk : DeskState V O)
     : Type 0 where
+  pub older : desk.older ≡ []
   pub entries : TraceOf lines desk.trace
   pub begins : first_of desk.trace ≡ first_of first.trace
   pub full : IsFullOnlyFrom (3221 * desk.ground.capacity) 0 desk.trace
@@ -104,8 +105,9 @@ pub record Goes {V O : Type 0}
   pub down : desk.down ≡ true → Rose (look first.volume).faults (look desk.volume).faults
   pub stays : Stays look first desk
 
--- a desk whose trace is that of its opening, and which is up
+-- a desk whose trace is that of its opening, the first one, and which is up
 pub record IsOpened {V O : Type 0} (desk : DeskState V O) : Type 0 where
+  pub older : desk.older ≡ []
   pub entry : Entry
   pub is : IsOpenedEntry entry
   pub trace : desk.trace ≡ entry ∷ []

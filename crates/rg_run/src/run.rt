@@ -61,18 +61,19 @@ pub fn run<V: Volume, O: Operator>(
     ensures later { V.faults volume ≤ V.faults result.volume }
     ensures operator { result.operator ≡ operator }
 {
-    match open_desk(alloc, Counted::new(volume), operator) {
+    match open_desk(alloc, Counted::new(volume), operator, Vec::new(alloc), 0) {
         Ok(desk) => play(desk, lines).uncounted(),
         Err(fault) => {
             let OpenFault {
                 volume,
                 operator,
+                trace,
                 cause,
             } = fault;
             Played {
                 volume: volume.into_volume(),
                 operator,
-                trace: Vec::new(alloc),
+                trace,
                 end: end_of(cause),
             }
         }
@@ -114,15 +115,16 @@ impl<V: Volume, O> Played<Counted<V>, O> {
     }
 }
 
-// What a run leaves.
+// What a run leaves. There was no earlier opening.
 fn close<V: Counts, O: Operator>(desk: Desk<V, O>, end: RunEnd) -> Played<V, O>
+    requires { desk.older ≡ [] }
     ensures trace { result.trace.items ≡ desk.trace }
     ensures end { result.end ≡ end }
     ensures legal { LegalFrom (old_records desk) desk.trace }
     ensures volume { result.volume ≡ desk.volume }
     ensures operator { result.operator ≡ desk.operator }
 {
-    let (volume, operator, trace) = desk.into_parts();
+    let (volume, operator, trace, _) = desk.into_parts();
     Played {
         volume,
         operator,

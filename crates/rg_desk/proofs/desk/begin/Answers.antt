@@ -4,7 +4,6 @@ use Rattle.rg_stmt.specs.Entries.{opened_entry}
 use Rattle.rg_stmt.specs.declared.event.Entry.{Entry}
 use Rattle.rg_space.specs.Space.{frames_of}
 use Rattle.rg_space.proofs.Whole.{slots_count}
-use Rattle.rg_desk.specs.Chronicle.{ChronicleState}
 use Rattle.rg_space.specs.Memory.{space_pages}
 use Rattle.rg_desk.proofs.Begins.{none_locked}
 use Rattle.rg_desk.proofs.desk.begin.Goals as goal
@@ -26,7 +25,7 @@ returns-clause-begun c =
     let shows = c.in_ok-engine.ensures.shows b.start copy b.starts in
     let counted = c.unlocked_rows-rows.ensures (at_rest b.start copy) (4064 * pages) shows in
     let rows : c.unlocked_rows-rows.result ≡ row_count b.start = omega (arith, counted, none_locked b.start copy) in
-    let trace = c.make_room.ensures.trace ∙ ap (λ (x : ChronicleState). x.trace) c.new-chronicle.ensures in
+    let trace = c.make_room.ensures.trace ∙ c.requires.first in
     record {
       start = b.start;
       starts = b.starts;

@@ -1,7 +1,9 @@
 use Rattle.std.proofs.Common.{◌≡◌, ◌*◌, List, refl, sym, ◌∙◌, ap, subst, arith}
 use Rattle.std.specs.declared.vec.Vec.{Vec}
 use Rattle.std.specs.declared.alloc.Global.{Global}
+use Rattle.rg_desk.specs.Chronicle.{IsRecorded}
 use Rattle.rg_desk.specs.Flushed.{WritesEither}
+use Rattle.rg_desk.proofs.Recorded.{recorded_none}
 use Rattle.rg_desk.specs.Volume.{seen_volume}
 use Rattle.rg_log.specs.Open.{IsQuiet}
 use Rattle.rg_outside.specs.Counts.{CountedCalls, counted}
@@ -17,17 +19,17 @@ use Rattle.rg_run.specs.Full.{IsFullOnlyFrom, smaller_pages}
 use Rattle.rg_run.proofs.Fullness.{full_less, smaller_least}
 use Rattle.rg_run.proofs.Ending.{entry_first, entry_zero, opened_first}
 use Rattle.rg_run.proofs.Owning.{own_writes}
-use Rattle.rg_run.proofs.Wholly.{begun_tidy, whole_ends}
+use Rattle.rg_run.proofs.Wholly.{begun_counts, begun_tidy, whole_ends}
 use Rattle.rg_run.proofs.Plays.{device_more, end_so, rose_wider}
 use Rattle.rg_run.proofs.Uncounted.{counted_only, quiet_in}
 use Rattle.rg_run.proofs.run.run.Goals as goal
 
 -- the count has just begun
 pub open_desk-requires : goal.open_desk-requires
-open_desk-requires g c = record { tidy = begun_tidy g.V.Volume.told g.V.Volume.faults g.V.Volume.capacities c.args.volume c.new.result c.new.ensures }
+open_desk-requires g c = record { counted = begun_counts g.V.Volume.told g.V.Volume.faults g.V.Volume.capacities c.args.volume c.new.result c.new.ensures; recorded = subst (λ (es : List Entry). IsRecorded es 0) (sym c.new-2.ensures.items) (recorded_none 0); tidy = begun_tidy g.V.Volume.told g.V.Volume.faults g.V.Volume.capacities c.args.volume c.new.result c.new.ensures }
 
 pub play-requires-clause-opened : goal.play-requires-clause-opened
-play-requires-clause-opened g c = opened_first _ _ _ c.in-Ok.desk c.in-Ok.ensures.opens
+play-requires-clause-opened g c = opened_first _ _ _ c.in-Ok.desk c.in-Ok.ensures.opens (c.in-Ok.ensures.older ∙ c.new-2.ensures.items)
 
 -- the run that was counted is one of the volume below
 pub returns-in-Ok-clause-ends : goal.returns-in-Ok-clause-ends
@@ -90,6 +92,6 @@ returns-in-Ok-clause-only g c =
 
 pub returns-in-Err-clause-only : goal.returns-in-Err-clause-only
 returns-in-Err-clause-only g c =
-    subst (λ (items : List Entry). MakesOnly (WritesOwn items) (g.V.Volume.told c.args.volume) (g.V.Volume.told c.into_volume.result)) (sym c.new-in-Err.ensures.items)
+    subst (λ (items : List Entry). MakesOnly (WritesOwn items) (g.V.Volume.told c.args.volume) (g.V.Volume.told c.into_volume.result)) (sym (c.in-Err.ensures.trace ∙ c.new-2.ensures.items))
     (counted_only g.V.Volume.told IsQuiet c.args.volume c.into_volume.result c.new.result c.in-Err.fault.volume c.new.ensures c.into_volume.ensures.volume c.into_volume.ensures.counted
     c.in-Err.ensures.refused.calls.only)

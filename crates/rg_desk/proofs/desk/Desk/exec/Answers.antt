@@ -55,6 +55,7 @@ returns-clause-made g c =
       log = subst (λ d. SaysLog d.ground session.0 stmt reply) c.self.view_is said.log;
       log_full = subst (λ d. IfLogFull reply (logged_by 0 d.trace) d.ground.log.pages) c.self.view_is said.log_full;
       stays = record {
+        older = c.push.ensures.older ∙ c.make_room.ensures.older ∙ ap (λ d. d.older) c.self.view_is;
         capacity = said.capacity ∙ ap (λ d. d.ground.capacity) c.self.view_is;
         log_pages = said.grows.pages ∙ ap (λ d. d.ground.log.pages) c.self.view_is;
         opened = said.opened ∙ ap (λ d. d.opened) c.self.view_is;

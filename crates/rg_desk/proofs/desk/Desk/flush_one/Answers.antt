@@ -44,6 +44,7 @@ returns-clause-made g c =
       contents = told.contents ∙ ap (λ d. d.contents) c.self.view_is;
       down = ap (λ d. d.down) c.self.view_is;
       stays = record {
+        older = c.push.ensures.older ∙ c.make_room.ensures.older ∙ ap (λ d. d.older) c.self.view_is;
         capacity = told.capacity ∙ ap (λ d. d.ground.capacity) c.self.view_is;
         log_pages = ap (λ (l : Listed). l.pages) told.log ∙ ap (λ d. d.ground.log.pages) c.self.view_is;
         opened = told.opened ∙ ap (λ d. d.opened) c.self.view_is;

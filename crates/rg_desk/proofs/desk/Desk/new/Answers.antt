@@ -17,7 +17,7 @@ invariant_of-result g c =
     let b = c.in-Ok.ensures.begun in
     let found = c.args.found in
     let seen = seen_volume g.V.Volume.told g.V.Volume.faults g.V.Volume.capacities c.args.volume in
-    desk_opened c.in-Ok.engine c.in-Ok.chronicle found.copy (length (space_pages found.space)) (log_bytes found.log.records) c.calls-calls.result c.in-Ok.marks.items seen b.start c.requires.copy b.shows
+    desk_opened c.in-Ok.engine c.begin.new.chronicle found.copy (length (space_pages found.space)) (log_bytes found.log.records) c.calls_now-now.result c.in-Ok.marks.items seen b.start c.requires.copy b.shows
     (subst (λ (rs : List Record). IsStored rs b.start) (ap (λ (l : Listed). l.records) (sym b.log)) b.starts)
     (b.opened ∙ ap (λ (l : Listed). length l.records) (sym b.log))
     (omega (arith, ap (λ (l : Listed). taken_of l) b.log, c.requires.begins.idle))
@@ -26,17 +26,17 @@ invariant_of-result g c =
     (subst (λ (ms : List (Option Position)). IsOnVolume found.copy c.in-Ok.engine.log c.in-Ok.engine.space ms seen) (ap (λ v. v.items) (sym c.in-Ok.ensures.marks))
     (subst (λ sp. IsOnVolume found.copy c.in-Ok.engine.log sp found.marks.items seen) (sym b.space)
     (subst (λ (l : Listed). IsOnVolume found.copy l found.space found.marks.items seen) (sym b.log) c.requires.is_on)))
-    b.few b.trace b.at c.calls-calls.ensures b.recorded
+    b.few b.trace b.at c.calls_now-now.ensures.counted b.recorded
 
 pub returns-in-Ok-clause-opens : goal.returns-in-Ok-clause-opens
 returns-in-Ok-clause-opens g c =
     let b = c.in-Ok.ensures.begun in
     record {
-      calls = c.calls-calls.result;
+      calls = c.calls_now-now.result;
       start = b.start;
       starts = b.starts;
       trace = b.trace;
-      counted = c.calls-calls.ensures;
+      counted = c.calls_now-now.ensures.counted;
       pages_are = ap (λ sp. space_pages sp) b.space;
       capacity_is = ap (λ sp. capacity_in sp) b.space;
       log_is = b.log;
