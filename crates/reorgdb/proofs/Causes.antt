@@ -1,5 +1,5 @@
 -- The contract of a call follows from what it comes to.
-use Rattle.std.proofs.Common.{Bool, codes, ◌≡◌, ◌≢◌, ◌<◌, ◌≤◌, ◌+◌, ◌*◌, ◌⊎◌, inl, inr, ℕ, zero, suc, ◌-◌, ◌^◌, slice_index_or, List, [], ◌∷◌, ◌++◌, Option, Some, None, length, refl, sym, ◌∙◌, ap, subst, arith, append-nil, length-append}
+use Rattle.std.proofs.Common.{Bool, false, codes, ◌≡◌, ◌≢◌, ◌<◌, ◌≤◌, ◌+◌, ◌*◌, ◌⊎◌, inl, inr, ℕ, zero, suc, ◌-◌, ◌^◌, slice_index_or, List, [], ◌∷◌, ◌++◌, Option, Some, None, length, refl, sym, ◌∙◌, ap, subst, arith, append-nil, length-append}
 use Rattle.std.specs.List.{Contains}
 use Rattle.std.specs.Io.KnownBytes.{Consumes, Appends, IsAtEnd}
 use Rattle.rg_base.specs.declared.set.Set.{Set}
@@ -11,7 +11,12 @@ use Rattle.rg_log.specs.Kept.{log_pages}
 use Rattle.rg_run.specs.Full.{IsFullOnlyFrom, smaller_pages}
 use Rattle.rg_run.specs.LogFull.{IsLogFullOnlyFrom}
 use Rattle.rg_run.specs.Outside.{IfCounted, IsDeviceOnlyIf, IsEnd, MadeSince, MakesOnly, WritesOwn}
-use Rattle.rg_run.specs.Table.{IsLegalRun, IsOpening}
+use Rattle.rg_deck.specs.declared.read.Admits.TheVariants.{Played as PlayedLines}
+use Rattle.rg_deck.proofs.Readings.{one_reading}
+use Rattle.rg_print.specs.Print.{print_text}
+use Rattle.rg_print.specs.declared.print.Close.TheVariants as closes
+use Rattle.rg_run.specs.Parts.{DiesIn}
+use Rattle.rg_run.specs.Table.{EndsAtOpening, IsLegalRun, IsOpening}
 use Rattle.rg_run.specs.declared.played.RunEnd.TheVariants as ends
 use Rattle.rg_log.proofs.Ready.{quiet_reads}
 use Rattle.rg_run.proofs.Fullness.{full_less}
@@ -81,7 +86,7 @@ same_image old new since =
     ap (λ (i : Image). read_of i new.calls) first ∙ ap (read_of old.first) calls ∙ (λ i s p. quiet_reads old.first since.fresh old.calls s p since.each i)
 
 -- an opening that is refused finds the volume as it was
-still_sound : (before after : VolumeSeen) (set : Set) (page : ℕ) → IsSoundVolume before after → IsEnd before after (ends.Damaged set page) → ⊥
+still_sound : (before after : VolumeSeen) (set : Set) (page : ℕ) → IsSoundVolume before after → IsEnd before after [] (ends.Damaged set page) → ⊥
 still_sound before after set page volume end =
     let told = volume.is in
     let damage : length volume.new.calls < 2 ^ 64 - 1 → IsDamage after.capacities (read_of volume.new.first volume.new.calls) set page =
@@ -130,7 +135,7 @@ module _ (words : List (List ℕ)) (source source_after sink sink_after : Seen) 
   record OfStatus (outcome : Outcome) (print : List ℕ) : Type 0 where
     is : status ≡ status_of outcome
     comes : Comes outcome words source source_after volume volume_after trace print
-    finds : Finds outcome volume volume_after
+    finds : Finds outcome volume volume_after trace
     shown : Appends sink.bytes sink_after.bytes (output_of outcome print)
 
   by_status : status ≢ 4 → status ≢ 8 → (a : Concludes words source source_after sink sink_after volume volume_after status trace) → OfStatus a.outcome a.print
@@ -208,14 +213,22 @@ module _ (words : List (List ℕ)) (source source_after sink sink_after : Seen) 
   damaged_of : (outcome : Outcome) (print : List ℕ) → status ≡ 5 → OfStatus outcome print → RefusesVolume sink sink_after volume volume_after trace
   damaged_of (Damaged set page) print is of = elim of.comes [
     | inl played ↦ refuses_page played
-    | inr shown ↦ record { set = set; page = page; because = of.finds; none = shown.2; shown = subst (Appends sink.bytes sink_after.bytes) shown.3 of.shown }
+    | inr shown ↦ record {
+      set = set;
+      page = page;
+      because = of.finds;
+      lines = [];
+      entries = inl shown.2;
+      full = false;
+      shown = subst (Appends sink.bytes sink_after.bytes) (shown.3 ∙ ap (λ (es : List Entry). print_text es false (closes.Damaged set page)) (sym shown.2)) of.shown;
+    }
   ]
     where
       refuses_page : PlaysTo (Damaged set page) words source source_after volume volume_after trace print → RefusesVolume sink sink_after volume volume_after trace
       refuses_page comes =
           let (play, bytes, read, deals) = comes in
-          let (lines, spelled, none, printed) = deals in
-          record { set = set; page = page; because = of.finds; none = none; shown = subst (Appends sink.bytes sink_after.bytes) printed of.shown }
+          let (lines, spelled, at, printed) = deals in
+          record { set = set; page = page; because = of.finds; lines = lines; entries = at; full = play.0; shown = subst (Appends sink.bytes sink_after.bytes) printed of.shown }
   damaged_of outcome print is of = absurd (omega (arith, of.is, is))
 
   no_volume : Concludes words source source_after sink sink_after volume volume_after status trace → status ≡ 5 → RefusesVolume sink sink_after volume volume_after trace
@@ -333,7 +346,7 @@ module _ (words : List (List ℕ)) (source source_after sink sink_after : Seen) 
 
   -- what comes where nothing fails has the status of what is due, or is want of memory
   played_due : (outcome due : Outcome) (print : List ℕ) → IsDue due words source.bytes volume volume_after → IsPlay words → (Rose source.faults source_after.faults → ⊥)
-      → PlaysTo outcome words source source_after volume volume_after trace print → Finds outcome volume volume_after → (status_of outcome ≡ status_of due) ⊎ (outcome ≡ NoMemory)
+      → PlaysTo outcome words source source_after volume volume_after trace print → Finds outcome volume volume_after trace → (status_of outcome ≡ status_of due) ⊎ (outcome ≡ NoMemory)
   played_due NoMemory due print is_due play sure comes finds = inr refl
   played_due Source due print is_due play sure comes finds = absurd (sure comes.1)
   played_due Words due print is_due play sure comes finds = absurd comes.3
@@ -355,18 +368,27 @@ module _ (words : List (List ℕ)) (source source_after sink sink_after : Seen) 
   played_due (Deck line) Played print is_due play sure comes finds =
       let (asked, read, reads, deals) = comes in
       let (refused, none, printed) = deals in
-      let (lines, spelled) = is_due.4 in
+      let (lines, spelled, alive) = is_due.4 in
       absurd (refused.1 lines (subst (λ b. IsDeck b lines) (sym (all_read read is_due.1 is_due.2 reads)) spelled))
   played_due Down Played print is_due play sure comes finds = absurd (is_due.5.sure finds)
   played_due Device Played print is_due play sure comes finds = absurd (is_due.5.sure finds)
-  played_due (Damaged set page) Played print is_due play sure comes finds = absurd (still_sound volume volume_after set page is_due.5 finds)
+  played_due (Damaged set page) Played print is_due play sure comes finds =
+      let (asked, read, reads, deals) = comes in
+      let (lines, spelled, at, printed) = deals in
+      let (due_lines, due_spelled, alive) = is_due.4 in
+      let same : lines ≡ due_lines = one_reading PlayedLines is_due.1 lines due_lines (subst (λ b. IsDeck b lines) (all_read read is_due.1 is_due.2 reads) spelled) due_spelled in
+      absurd (by_place at same alive)
+    where
+      by_place : {lines due_lines : List Line} → EndsAtOpening lines trace → lines ≡ due_lines → (DiesIn due_lines → ⊥) → ⊥
+      by_place (inl none) same alive = still_sound volume volume_after set page is_due.5 (subst (λ (es : List Entry). IsEnd volume volume_after es (ends.Damaged set page)) none finds)
+      by_place (inr dies) same alive = alive (dies.0, dies.1, sym same ∙ dies.2)
   played_due Played (Deck line) print is_due play sure comes finds = absurd (no_deck_due Played line print tt is_due comes)
   played_due Down (Deck line) print is_due play sure comes finds = absurd (no_deck_due Down line print tt is_due comes)
   played_due (Damaged set page) (Deck line) print is_due play sure comes finds = absurd (no_deck_due (Damaged set page) line print tt is_due comes)
   played_due Device (Deck line) print is_due play sure comes finds = absurd (no_deck_due Device line print tt is_due comes)
 
   shown_due : (outcome due : Outcome) (print : List ℕ) → IsDue due words source.bytes volume volume_after → IsShow words
-      → ShowsTo outcome words source source_after volume volume_after trace print → Finds outcome volume volume_after → (status_of outcome ≡ status_of due) ⊎ (outcome ≡ NoMemory)
+      → ShowsTo outcome words source source_after volume volume_after trace print → Finds outcome volume volume_after trace → (status_of outcome ≡ status_of due) ⊎ (outcome ≡ NoMemory)
   shown_due NoMemory due print is_due show comes finds = inr refl
   shown_due outcome Source print is_due show comes finds = absurd is_due
   shown_due outcome NoMemory print is_due show comes finds = absurd is_due
@@ -378,12 +400,12 @@ module _ (words : List (List ℕ)) (source source_after sink sink_after : Seen) 
   shown_due outcome (Deck line) print is_due show comes finds = absurd (not_both words is_due.0 show)
   shown_due outcome Long print is_due show comes finds = absurd (not_both words is_due.0 show)
   shown_due Shown Shown print is_due show comes finds = inl refl
-  shown_due (Damaged set page) Shown print is_due show comes finds = absurd (still_sound volume volume_after set page is_due.1 finds)
+  shown_due (Damaged set page) Shown print is_due show comes finds = absurd (still_sound volume volume_after set page is_due.1 (subst (λ (es : List Entry). IsEnd volume volume_after es (ends.Damaged set page)) comes.2 finds))
   shown_due Device Shown print is_due show comes finds = absurd (is_due.1.sure finds)
   shown_due outcome Shown print is_due show comes finds = absurd comes
 
   due_outcome : (outcome due : Outcome) (print : List ℕ) → IsDue due words source.bytes volume volume_after → (Rose source.faults source_after.faults → ⊥)
-      → Comes outcome words source source_after volume volume_after trace print → Finds outcome volume volume_after → (status_of outcome ≡ status_of due) ⊎ (outcome ≡ NoMemory)
+      → Comes outcome words source source_after volume volume_after trace print → Finds outcome volume volume_after trace → (status_of outcome ≡ status_of due) ⊎ (outcome ≡ NoMemory)
   due_outcome Words Played print is_due sure comes finds = absurd (comes.0 (inl is_due.0))
   due_outcome Words Shown print is_due sure comes finds = absurd (comes.0 (inr is_due.0))
   due_outcome Words (Deck line) print is_due sure comes finds = absurd (comes.0 (inl is_due.0))

@@ -7,13 +7,15 @@ use Rattle.rg_print.specs.declared.print.Close.TheVariants as closes
 use Rattle.rg_stmt.specs.declared.event.Entry.{Entry}
 use Rattle.std.specs.List.{AllByRecursion}
 use Rattle.rg_stmt.specs.declared.line.Line.{Line}
-use Rattle.rg_stmt.specs.declared.line.Line.TheVariants.{Flush, Said, Show}
+use Rattle.rg_stmt.specs.declared.line.Line.TheVariants.{Death, Flush, Said, Show}
 use Rattle.rg_deck.specs.Grammar.{IsAdmitted}
 use Rattle.rg_deck.specs.declared.read.Admits.TheVariants.{Played as PlayedLines}
 use Rattle.rg_desk.specs.Volume.{VolumeSeen}
 use Rattle.rg_run.specs.Played.{IsPlayed, TraceOf, TraceOfFront}
-use Rattle.rg_run.specs.Table.{Ends}
+use Rattle.rg_base.specs.declared.set.Set.{Set}
+use Rattle.rg_run.specs.Table.{Ends, EndsAtOpening}
 use Rattle.rg_run.specs.declared.played.RunEnd.{RunEnd}
+use Rattle.rg_run.specs.declared.played.RunEnd.TheVariants as run_ends
 use Rattle.rg_run.specs.declared.played.RunEnd.TheVariants.{Whole, Down as Ended}
 use Rattle.rg_words.specs.Spelling.{IsAdmitted as Admitted, Spells}
 use Rattle.rg_words.specs.declared.words.Words.{Words as Asked}
@@ -62,10 +64,25 @@ pub prints_down : (full : Bool) (volume volume_after : VolumeSeen) (lines : List
     → Ends volume volume_after lines trace end → DealsWithLines full volume volume_after lines outcome shown print
 prints_down full volume volume_after lines trace read shown end (Ok text) outcome print is read_is same printed made none ends =
     let down : Ends volume volume_after lines trace Ended = subst (Ends volume volume_after lines trace) is ends in
-    rw (made.0, same) (record { entries = down.0; down = down.1; printed = made.1 ∙ printed ∙ ap (λ (es : List Entry). print_text es full closes.Down) read_is })
+    rw (made.0, same) (inl (record { entries = down.0; down = down.1; printed = made.1 ∙ printed ∙ ap (λ (es : List Entry). print_text es full closes.Down) read_is }))
 prints_down full volume volume_after lines trace read shown end (Err e) outcome print is read_is same printed made none ends =
     let down : Ends volume volume_after lines trace Ended = subst (Ends volume volume_after lines trace) is ends in
     rw (none, same) (inr (TraceOfFront-whole lines trace down.0))
+
+-- an opening was refused, so the trace is that of some first lines, or none
+front_at : (lines : List Line) (trace : List Entry) → EndsAtOpening lines trace → (trace ≡ []) ⊎ TraceOfFront lines trace
+front_at lines trace (inl none) = inl none
+front_at lines trace (inr dies) = inr (dies.0, Death ∷ dies.1, dies.2, dies.3)
+
+pub prints_damaged : (full : Bool) (volume volume_after : VolumeSeen) (lines : List Line) (trace read shown : List Entry) (set : Set) (page : ℕ) (end : RunEnd) (text : Result Bytes WantsMemory) (outcome : Outcome) (print : List ℕ)
+    → end ≡ run_ends.Damaged set page → read ≡ trace → shown ≡ trace → IfOk text (λ p. p ≡ print_text read full (closes.Damaged set page)) → IfOk text (λ p. (outcome ≡ Damaged set page) × (print ≡ p)) → OnErr text (outcome ≡ NoMemory)
+    → Ends volume volume_after lines trace end → DealsWithLines full volume volume_after lines outcome shown print
+prints_damaged full volume volume_after lines trace read shown set page end (Ok text) outcome print is read_is same printed made none ends =
+    let at : Ends volume volume_after lines trace (run_ends.Damaged set page) = subst (Ends volume volume_after lines trace) is ends in
+    rw (made.0, same) (at, made.1 ∙ printed ∙ ap (λ (es : List Entry). print_text es full (closes.Damaged set page)) read_is)
+prints_damaged full volume volume_after lines trace read shown set page end (Err e) outcome print is read_is same printed made none ends =
+    let at : Ends volume volume_after lines trace (run_ends.Damaged set page) = subst (Ends volume volume_after lines trace) is ends in
+    rw (none, same) (front_at lines trace at)
 
 -- what a call comes to whose words and bytes were read
 pub comes_read : (outcome : Outcome) (words : List (List ℕ)) (before after : Seen) (volume volume_after : VolumeSeen) (bytes : List ℕ) (trace : List Entry) (print : List ℕ) (asked : IsPlay words) → ReadsDeck before bytes after
@@ -87,11 +104,12 @@ pub no_command : (words : List (List ℕ)) → ((asked : Asked) → Spells asked
 no_command words none (inl play) = none (asks.Play play.0) play.1 refl
 no_command words none (inr show) = none asks.Layout show refl
 
--- statements, layouts and flushes are played
+-- statements, layouts, flushes and deaths are played
 each_played : (line : Line) → IsAdmitted PlayedLines line → IsPlayed line
 each_played (Said session stmt) is = is.0.0
 each_played Flush is = tt
 each_played Show is = tt
+each_played Death is = tt
 each_played line is = absurd (cc (is.1))
 
 pub all_played : (lines : List Line) → AllByRecursion (IsAdmitted PlayedLines) lines → AllByRecursion IsPlayed lines

@@ -1,5 +1,5 @@
 -- The layout of a run of one line, which asks for it: it is that of the copy which was opened, and right for the table that the log stored. Such a run does not end down.
-use Rattle.std.proofs.Common.{◌≡◌, ◌==◌, ◌&&◌, ℕ, zero, suc, Bool, true, false, not, List, [], ◌∷◌, Some, None, Result, Ok, Err, IfOk, OnErr, refl, sym, ◌∙◌, ap, subst, arith, inr}
+use Rattle.std.proofs.Common.{◌≡◌, ◌==◌, ◌&&◌, ℕ, zero, suc, Bool, true, false, not, List, [], ◌∷◌, Some, None, Result, Ok, Err, IfOk, OnErr, refl, sym, ◌∙◌, ap, subst, arith, ◌⊎◌, ◌++◌, inl, inr}
 use Rattle.std.proofs.lemmas.Bool.{eqb-true}
 use Rattle.std.specs.List.{Contains}
 use Rattle.rg_base.specs.declared.bytes.Bytes.{Bytes}
@@ -14,20 +14,24 @@ use Rattle.rg_model.specs.Run.{Allows, Reopens, Run}
 use Rattle.rg_model.specs.Said.{if_allowed}
 use Rattle.rg_model.specs.State.{State, Table, at_rest}
 use Rattle.rg_model.proofs.Overlay.{committed-at_rest}
-use Rattle.rg_print.specs.Print.{print_layout_text}
+use Rattle.rg_base.specs.declared.set.Set.{Set}
+use Rattle.rg_print.specs.Print.{damaged_text, print_layout_text}
 use Rattle.rg_run.specs.Played.{IsOpenedEntry, TraceOf}
-use Rattle.rg_run.specs.Table.{Ends, EndsWhole}
+use Rattle.rg_run.specs.Parts.{DiesIn}
+use Rattle.rg_run.specs.Table.{Ends, EndsAt, EndsAtOpening, EndsWhole}
 use Rattle.rg_run.specs.declared.played.RunEnd.{RunEnd}
+use Rattle.rg_run.specs.declared.played.RunEnd.TheVariants as run_ends
 use Rattle.rg_run.specs.declared.played.RunEnd.TheVariants.{Whole, Down as Ended}
 use Rattle.rg_stmt.specs.declared.event.Actor.TheVariants.{System}
 use Rattle.rg_stmt.specs.declared.event.Entry.{Entry}
 use Rattle.rg_stmt.specs.declared.event.Event.{Event}
 use Rattle.rg_stmt.specs.declared.event.Event.TheVariants.{Layout, LayoutDown, LayoutNoMemory}
 use Rattle.rg_stmt.specs.declared.layout.Side.{Side}
-use Rattle.rg_stmt.specs.declared.line.Line.TheVariants.{Show}
+use Rattle.rg_stmt.specs.declared.line.Line.{Line}
+use Rattle.rg_stmt.specs.declared.line.Line.TheVariants.{Death, Show}
 use Rattle.reorgdb.specs.Answer.{IsLayoutText, IsShow, Seen, ShowsLayout, ShowsTo}
 use Rattle.reorgdb.specs.declared.outcome.Outcome.{Outcome}
-use Rattle.reorgdb.specs.declared.outcome.Outcome.TheVariants.{Shown, NoMemory}
+use Rattle.reorgdb.specs.declared.outcome.Outcome.TheVariants.{Damaged, Device, Shown, NoMemory}
 use Rattle.reorgdb.proofs.Deals.{TraceOfFront-whole}
 
 allowed : (b : Bool) (st new : State) → if_allowed b st ≡ Some new → (b ≡ true) × (new ≡ st)
@@ -98,15 +102,50 @@ module _ (start : Table) (found : ℕ) (first entry : Entry) (last : State) (ope
       step_up LayoutDown copy after layout step = absurd (clash (sym up ∙ (allowed mid.down mid after step).0))
       step_up event copy after layout step = absurd layout
 
-layout_of : (before after : VolumeSeen) (trace : List Entry) (rows : ℕ) (text : List ℕ) → TraceOf (Show ∷ []) trace → EndsWhole before after trace rows → IsLayoutText trace text → ShowsLayout before after trace text
+-- the process does not die in the one line
+pub not_dead : DiesIn (Show ∷ []) → ⊥
+not_dead dies = go dies.0 dies.1 dies.2
+  where
+    no_more : (front rest : List Line) → [] ≡ front ++ Death ∷ rest → ⊥
+    no_more [] rest e = absurd (cc (e))
+    no_more (l ∷ ls) rest e = absurd (cc (e))
+
+    tail_is : (a b : Line) (as_a as_b : List Line) → a ∷ as_a ≡ b ∷ as_b → as_a ≡ as_b
+    tail_is a b as_a as_b e = cc (e)
+
+    go : (front rest : List Line) → Show ∷ [] ≡ front ++ Death ∷ rest → ⊥
+    go [] rest e = absurd (cc (e))
+    go (l ∷ ls) rest e = no_more ls rest (tail_is Show l [] (ls ++ Death ∷ rest) e)
+
+-- so no opening is refused but the first
+pub at_first : (trace : List Entry) → EndsAtOpening (Show ∷ []) trace → trace ≡ []
+at_first trace (inl none) = none
+at_first trace (inr dies) = absurd (not_dead (dies.0, dies.1, dies.2))
+
+module _ (before after : VolumeSeen) (trace : List Entry) (down : Bool) (last : State) (ends : EndsAt before after (Show ∷ []) trace down last) where
+  pub only_part : ends.before ≡ []
+  only_part = by_alone ends.alone
+    where
+      by_alone : (ends.before ≡ []) ⊎ DiesIn (Show ∷ []) → ends.before ≡ []
+      by_alone (inl none) = none
+      by_alone (inr dies) = absurd (not_dead dies)
+
+  pub whole_run : Run [] (at_rest ends.start ends.copy) trace last
+  whole_run =
+      subst (λ (es : List Entry). Run [] (at_rest ends.start ends.copy) es last)
+      (sym (ends.joined ∙ ap (λ (es : List Entry). es ++ ends.part) only_part)) ends.run
+
+layout_of : (before after : VolumeSeen) (trace : List Entry) (rows : ℕ) (text : List ℕ) → TraceOf (Show ∷ []) trace → EndsWhole before after (Show ∷ []) trace rows → IsLayoutText trace text → ShowsLayout before after trace text
 layout_of before after trace rows text entries whole layout =
     let of : TraceOf (Show ∷ []) (layout.first ∷ layout.entry ∷ []) = subst (TraceOf (Show ∷ [])) layout.are entries in
-    let run : Run [] (at_rest whole.start whole.copy) (layout.first ∷ layout.entry ∷ []) whole.last = subst (λ (t : List Entry). Run [] (at_rest whole.start whole.copy) t whole.last) layout.are whole.run in
+    let start = whole.ends.start in
+    let found = whole.ends.copy in
+    let run : Run [] (at_rest start found) (layout.first ∷ layout.entry ∷ []) whole.last = subst (λ (t : List Entry). Run [] (at_rest start found) t whole.last) layout.are (whole_run before after trace false whole.last whole.ends) in
     let (opened, shows) = of in
     let (copy, event, is, is_layout) = shows.0 in
     let event_is : event ≡ Layout layout.copy layout.side = sym (ap (λ (e : Entry). e.event) is) ∙ layout.event in
     let entry_is : layout.entry ≡ system_entry (Layout layout.copy layout.side) layout.entry.calls = subst (λ (e : Event). layout.entry ≡ system_entry e layout.entry.calls) event_is is in
-    let right = shown_right whole.start whole.copy layout.first layout.entry whole.last opened run layout.copy layout.side entry_is in
+    let right = shown_right start found layout.first layout.entry whole.last opened run layout.copy layout.side entry_is in
     record {
       copy = opened.copy;
       rows = opened.rows;
@@ -118,8 +157,8 @@ layout_of before after trace rows text entries whole layout =
       are = layout.are;
       opened = opened.is;
       event = layout.event ∙ ap (λ c. Layout c layout.side) right.0;
-      start = whole.start;
-      begun = whole.begun;
+      start = start;
+      begun = whole.ends.whole (only_part before after trace false whole.last whole.ends);
       right = right.1;
       count = rows;
       ends = whole;
@@ -144,9 +183,26 @@ never_down before after trace end is ends = by_trace trace (subst (Ends before a
     by_trace [] down = down.0
     by_trace (first ∷ []) down = down.0.1
     by_trace (first ∷ entry ∷ []) down =
-        let (entries, ends) = down in
+        let (entries, found) = down in
+        let (last, ends) = found in
         let (opened, shows) = entries in
         let (copy, event, is, layout) = shows.0 in
-        let up : ends.last.down ≡ false = still_up ends.start ends.copy first entry ends.last opened ends.run event copy is layout in
-        clash (sym up ∙ ends.is_down)
+        let up : last.down ≡ false = still_up ends.start ends.copy first entry last opened (whole_run before after (first ∷ entry ∷ []) true last ends) event copy is layout in
+        clash (sym up ∙ ends.is)
     by_trace (first ∷ entry ∷ other ∷ more) down = down.0.1.1
+
+pub shows_device : (before after : VolumeSeen) (words : List (List ℕ)) (source : Seen) (trace shown : List Entry) (end : RunEnd) (outcome : Outcome) (print : List ℕ)
+    → end ≡ run_ends.DeviceAtOpening → shown ≡ trace → outcome ≡ Device → Ends before after (Show ∷ []) trace end → IsShow words → ShowsTo outcome words source source before after shown print
+shows_device before after words source trace shown end outcome print is same made ends show =
+    let at : Ends before after (Show ∷ []) trace run_ends.DeviceAtOpening = subst (Ends before after (Show ∷ []) trace) is ends in
+    rw (made, same) (show, refl, at_first trace at)
+
+pub shows_damaged : (before after : VolumeSeen) (words : List (List ℕ)) (source : Seen) (trace shown : List Entry) (set : Set) (page : ℕ) (end : RunEnd) (text : Result Bytes WantsMemory) (outcome : Outcome) (print : List ℕ)
+    → end ≡ run_ends.Damaged set page → shown ≡ trace → IfOk text (λ p. p ≡ damaged_text set page) → IfOk text (λ p. (outcome ≡ Damaged set page) × (print ≡ p)) → OnErr text (outcome ≡ NoMemory)
+    → Ends before after (Show ∷ []) trace end → IsShow words → ShowsTo outcome words source source before after shown print
+shows_damaged before after words source trace shown set page end (Ok text) outcome print is same printed made none ends show =
+    let at : Ends before after (Show ∷ []) trace (run_ends.Damaged set page) = subst (Ends before after (Show ∷ []) trace) is ends in
+    rw (made.0, same) (show, refl, at_first trace at, made.1 ∙ printed)
+shows_damaged before after words source trace shown set page end (Err e) outcome print is same printed made none ends show =
+    let at : Ends before after (Show ∷ []) trace (run_ends.Damaged set page) = subst (Ends before after (Show ∷ []) trace) is ends in
+    rw (none, same) (show, refl, inl (at_first trace at))

@@ -1,5 +1,5 @@
 -- What a call of the program comes to, and how its output is given.
-use Rattle.std.specs.Prelude.{ℕ, ◌≡◌, ◌≤◌, ◌⊎◌, Bool, true, List, [], ◌∷◌, Option, length}
+use Rattle.std.specs.Prelude.{ℕ, ◌≡◌, ◌≤◌, ◌⊎◌, ◌++◌, Bool, true, List, [], ◌∷◌, Option, length}
 use Rattle.std.specs.Io.KnownBytes.{Consumes, Appends, IsAtEnd}
 use Rattle.rg_deck.specs.Grammar.{LinesOf, IsFirstOutside}
 use Rattle.rg_deck.specs.declared.read.Admits.TheVariants.{Played as PlayedLines}
@@ -12,14 +12,14 @@ use Rattle.rg_print.specs.declared.print.Close.TheVariants as closes
 use Rattle.rg_desk.specs.Volume.{VolumeSeen}
 use Rattle.rg_run.specs.Outside.{IsEnd}
 use Rattle.rg_run.specs.Played.{TraceOf, TraceOfFront}
-use Rattle.rg_run.specs.Table.{Begins, EndsAtDown, EndsWhole}
+use Rattle.rg_run.specs.Table.{Begins, EndsAtDown, EndsAtOpening, EndsWhole}
 use Rattle.rg_run.specs.declared.played.RunEnd.TheVariants as ends
 use Rattle.rg_stmt.specs.Entries.{opened_entry}
 use Rattle.rg_stmt.specs.declared.event.Entry.{Entry}
 use Rattle.rg_stmt.specs.declared.event.Event.TheVariants.{Layout}
 use Rattle.rg_stmt.specs.declared.layout.Side.{Side}
 use Rattle.rg_stmt.specs.declared.line.Line.{Line}
-use Rattle.rg_stmt.specs.declared.line.Line.TheVariants.{Show}
+use Rattle.rg_stmt.specs.declared.line.Line.TheVariants.{Death, Show}
 use Rattle.rg_words.specs.Spelling.{Spells}
 use Rattle.rg_words.specs.declared.words.Words.TheVariants as asks
 use Rattle.reorgdb.specs.Giving.{GivesPrefix}
@@ -52,7 +52,7 @@ IsShow words = Spells asks.Layout words
 abbrev pub IsCommand : List (List ℕ) → Type 0
 IsCommand words = IsPlay words ⊎ IsShow words
 
--- the bytes are statements, layouts and flushes, one to a line
+-- the bytes are statements, layouts, flushes and deaths of the process, one to a line
 abbrev pub IsDeck : List ℕ → List Line → Type 0
 IsDeck bytes lines = LinesOf PlayedLines bytes lines
 
@@ -60,8 +60,7 @@ IsDeck bytes lines = LinesOf PlayedLines bytes lines
 abbrev pub IsNoDeck : List ℕ → Type 0
 IsNoDeck bytes = (lines : List Line) → IsDeck bytes lines → ⊥
 
--- this line is the first that is outside the grammar, or neither a statement nor a layout nor a
--- flush
+-- this line is the first that is outside the grammar, or is not played
 abbrev pub IsRefusedAt : List ℕ → ℕ → Type 0
 IsRefusedAt bytes line = IsFirstOutside PlayedLines bytes line × IsNoDeck bytes
 
@@ -78,7 +77,7 @@ pub record PrintsPlayed
     (print : List ℕ) : Type 0 where
   pub entries : TraceOf lines trace
   pub rows : ℕ
-  pub counted : EndsWhole volume volume_after trace rows
+  pub counted : EndsWhole volume volume_after lines trace rows
   pub printed : print ≡ print_text trace full (closes.Rows rows)
 
 -- the same, where the device refused a COMMIT: the print says DOWN at its end
@@ -86,7 +85,17 @@ pub record PrintsDown
     (full : Bool) (volume volume_after : VolumeSeen) (lines : List Line) (trace : List Entry)
     (print : List ℕ) : Type 0 where
   pub entries : TraceOf lines trace
-  pub down : EndsAtDown volume volume_after trace
+  pub down : EndsAtDown volume volume_after lines trace
+  pub printed : print ≡ print_text trace full closes.Down
+
+-- The process died, and the device failed in the opening after that: the trace is that of the lines
+-- before, and the print says DOWN at its end.
+pub record PrintsStopped (full : Bool) (lines : List Line) (trace : List Entry) (print : List ℕ)
+    : Type 0 where
+  pub front : List Line
+  pub rest : List Line
+  pub joined : lines ≡ front ++ Death ∷ rest
+  pub entries : TraceOf front trace
   pub printed : print ≡ print_text trace full closes.Down
 
 -- the trace is an opening and a layout, and this is the layout's text in full
@@ -117,7 +126,7 @@ pub record ShowsLayout
   pub begun : Begins volume volume_after start
   pub right : is_right_side start side ≡ true
   pub count : ℕ
-  pub ends : EndsWhole volume volume_after trace count
+  pub ends : EndsWhole volume volume_after (Show ∷ []) trace count
   pub printed : text ≡ print_layout_text copy side
 
 -- what lines that were read come to
@@ -127,9 +136,9 @@ abbrev pub DealsWithLines :
 DealsWithLines full volume volume_after lines Played trace print =
     PrintsPlayed full volume volume_after lines trace print
 DealsWithLines full volume volume_after lines Down trace print =
-    PrintsDown full volume volume_after lines trace print
+    PrintsDown full volume volume_after lines trace print ⊎ PrintsStopped full lines trace print
 DealsWithLines full volume volume_after lines (Damaged set page) trace print =
-    (trace ≡ []) × (print ≡ damaged_text set page)
+    EndsAtOpening lines trace × (print ≡ print_text trace full (closes.Damaged set page))
 DealsWithLines full volume volume_after lines Device trace print = trace ≡ []
 DealsWithLines full volume volume_after lines NoMemory trace print =
     (trace ≡ []) ⊎ TraceOfFront lines trace
@@ -147,9 +156,10 @@ DealsWithBytes full volume volume_after bytes Played trace print =
     × PrintsPlayed full volume volume_after lines trace print
 DealsWithBytes full volume volume_after bytes Down trace print =
     (lines : List Line) × IsDeck bytes lines
-    × PrintsDown full volume volume_after lines trace print
+    × (PrintsDown full volume volume_after lines trace print ⊎ PrintsStopped full lines trace print)
 DealsWithBytes full volume volume_after bytes (Damaged set page) trace print =
-    (lines : List Line) × IsDeck bytes lines × (trace ≡ []) × (print ≡ damaged_text set page)
+    (lines : List Line) × IsDeck bytes lines × EndsAtOpening lines trace
+    × (print ≡ print_text trace full (closes.Damaged set page))
 DealsWithBytes full volume volume_after bytes Device trace print =
     (lines : List Line) × IsDeck bytes lines × (trace ≡ [])
 DealsWithBytes full volume volume_after bytes (Deck line) trace print =
@@ -203,17 +213,17 @@ Comes outcome words before after volume volume_after trace print =
     ⊎ ShowsTo outcome words before after volume volume_after trace print
 
 -- What each outcome says of the volume. A refusal before the opening calls it not.
-abbrev pub Finds : Outcome → (before after : VolumeSeen) → Type 0
-Finds Played before after = Unit {0}
-Finds Down before after = IsEnd before after ends.Down
-Finds Shown before after = Unit {0}
-Finds Words before after = after ≡ before
-Finds (Deck line) before after = after ≡ before
-Finds Source before after = after ≡ before
-Finds (Damaged set page) before after = IsEnd before after (ends.Damaged set page)
-Finds Device before after = IsEnd before after ends.DeviceAtOpening
-Finds Long before after = after ≡ before
-Finds NoMemory before after = Unit {0}
+abbrev pub Finds : Outcome → (before after : VolumeSeen) → List Entry → Type 0
+Finds Played before after trace = Unit {0}
+Finds Down before after trace = IsEnd before after trace ends.Down
+Finds Shown before after trace = Unit {0}
+Finds Words before after trace = after ≡ before
+Finds (Deck line) before after trace = after ≡ before
+Finds Source before after trace = after ≡ before
+Finds (Damaged set page) before after trace = IsEnd before after trace (ends.Damaged set page)
+Finds Device before after trace = IsEnd before after trace ends.DeviceAtOpening
+Finds Long before after trace = after ≡ before
+Finds NoMemory before after trace = Unit {0}
 
 -- the whole output
 abbrev pub output_of : Outcome → List ℕ → List ℕ
@@ -239,5 +249,5 @@ pub record Concludes (words : List (List ℕ)) (source source_after sink sink_af
   pub outcome : Outcome
   pub print : List ℕ
   pub comes : Comes outcome words source source_after volume volume_after trace print
-  pub finds : Finds outcome volume volume_after
+  pub finds : Finds outcome volume volume_after trace
   pub delivered : Delivers outcome (output_of outcome print) sink sink_after status

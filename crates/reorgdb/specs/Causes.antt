@@ -1,10 +1,10 @@
 -- What each status of a call says, and which status is due.
-use Rattle.std.specs.Prelude.{ℕ, ◌≡◌, ◌<◌, ◌≤◌, ◌-◌, ◌^◌, ◌⊎◌, List, [], Option, Some}
+use Rattle.std.specs.Prelude.{ℕ, ◌≡◌, ◌<◌, ◌≤◌, ◌-◌, ◌^◌, ◌⊎◌, Bool, List, Option, Some}
 use Rattle.std.specs.Prelude.{length}
 use Rattle.std.specs.Io.KnownBytes.{Appends}
 use Rattle.rg_deck.specs.declared.read.TheConstants.{DECK_LIMIT}
 use Rattle.rg_outside.specs.Faults.{Rose}
-use Rattle.rg_print.specs.Print.{damaged_text, print_text}
+use Rattle.rg_print.specs.Print.{print_text}
 use Rattle.rg_print.specs.declared.print.Close.TheVariants as closes
 use Rattle.rg_desk.specs.Volume.{VolumeSeen}
 use Rattle.rg_base.specs.declared.set.Set.{Set}
@@ -13,7 +13,8 @@ use Rattle.rg_restart.specs.Sound.{IsSound}
 use Rattle.rg_run.specs.Outside.{IsEnd}
 use Rattle.rg_run.specs.declared.played.RunEnd.TheVariants as ends
 use Rattle.rg_run.specs.Played.{TraceOf}
-use Rattle.rg_run.specs.Table.{EndsWhole}
+use Rattle.rg_run.specs.Parts.{DiesIn}
+use Rattle.rg_run.specs.Table.{EndsAtOpening, EndsWhole}
 use Rattle.rg_stmt.specs.declared.event.Entry.{Entry}
 use Rattle.rg_stmt.specs.declared.line.Line.{Line}
 use Rattle.reorgdb.specs.Answer.{Seen, IsPlay, IsShow, IsCommand, IsDeck, IsNoDeck, IsRefusedAt}
@@ -22,9 +23,10 @@ use Rattle.reorgdb.specs.Refusals.{status_of, deck_refusal}
 use Rattle.reorgdb.specs.declared.outcome.Outcome.{Outcome}
 use Rattle.reorgdb.specs.declared.outcome.Outcome.TheVariants as outcomes
 
--- Status 0 of `play`: the source was read to its end, and its bytes are statements, layouts and
--- flushes. The trace is theirs, and its print was appended to what the sink held, with layouts as
--- the words ask. The committed rows are as many as the print says, and the volume stores them.
+-- Status 0 of `play`: the source was read to its end, and its bytes are statements, layouts,
+-- flushes and deaths of the process. The trace is theirs, and its print was appended to what the
+-- sink held, with layouts as the words ask. The committed rows are as many as the print says, and
+-- the volume stores them.
 pub record Plays (words : List (List ℕ)) (source source_after sink sink_after : Seen)
     (volume volume_after : VolumeSeen) (trace : List Entry) : Type 0 where
   pub asked : IsPlay words
@@ -34,7 +36,7 @@ pub record Plays (words : List (List ℕ)) (source source_after sink sink_after 
   pub read : ReadsDeck source bytes source_after
   pub spelled : IsDeck bytes lines
   pub entries : TraceOf lines trace
-  pub counted : EndsWhole volume volume_after trace rows
+  pub counted : EndsWhole volume volume_after lines trace rows
   pub shown : Appends sink.bytes sink_after.bytes (print_text trace asked.0 (closes.Rows rows))
 
 -- Status 0 of `layout`: the source was left as it was, and the sink got the layout in full of the
@@ -47,7 +49,7 @@ pub record Shows (source source_after sink sink_after : Seen) (volume volume_aft
   pub shown : Appends sink.bytes sink_after.bytes text
 
 -- Status 2: the source was read to its end, and the sink got the number of the first line that is
--- outside the grammar, or neither a statement nor a layout nor a flush.
+-- outside the grammar, or is not played.
 pub record RefusesDeck (source source_after sink sink_after : Seen) : Type 0 where
   pub bytes : List ℕ
   pub line : ℕ
@@ -55,15 +57,19 @@ pub record RefusesDeck (source source_after sink sink_after : Seen) : Type 0 whe
   pub refused : IsRefusedAt bytes line
   pub shown : Appends sink.bytes sink_after.bytes (deck_refusal line)
 
--- Status 5: this page breaks a rule of a sound volume, the first one that is broken. No line was
--- played, no layout shown, and the sink got the page.
+-- Status 5: this page breaks a rule of a sound volume, the first one that is broken. It was found
+-- by the first opening, and then no line was played and no layout shown; or by the opening after a
+-- death of the process, and the trace is that of the lines before. The sink got its print, and the
+-- page at its end.
 pub record RefusesVolume (sink sink_after : Seen) (volume volume_after : VolumeSeen)
     (trace : List Entry) : Type 0 where
   pub set : Set
   pub page : ℕ
-  pub because : IsEnd volume volume_after (ends.Damaged set page)
-  pub none : trace ≡ []
-  pub shown : Appends sink.bytes sink_after.bytes (damaged_text set page)
+  pub because : IsEnd volume volume_after trace (ends.Damaged set page)
+  pub lines : List Line
+  pub entries : EndsAtOpening lines trace
+  pub full : Bool
+  pub shown : Appends sink.bytes sink_after.bytes (print_text trace full (closes.Damaged set page))
 
 -- A volume that reports its calls, as many as can be counted, that read sound, and of which no call
 -- failed.
@@ -76,12 +82,13 @@ pub record IsSoundVolume (before after : VolumeSeen) : Type 0 where
   pub few : length new.calls < 2 ^ 64 - 1
   pub sure : Rose before.faults after.faults → ⊥
 
--- what is due for these words, and for the bytes that the source tells, where nothing fails
+-- What is due for these words, and for the bytes that the source tells, where nothing fails. To be
+-- played a deck has no death of the process.
 abbrev pub IsDue :
     Outcome → List (List ℕ) → Option (List ℕ) → (before after : VolumeSeen) → Type 0
 IsDue outcomes.Played words told before after =
     IsPlay words × (bytes : List ℕ) × (told ≡ Some bytes) × (length bytes ≤ DECK_LIMIT)
-    × ((lines : List Line) × IsDeck bytes lines) × IsSoundVolume before after
+    × ((lines : List Line) × IsDeck bytes lines × (DiesIn lines → ⊥)) × IsSoundVolume before after
 IsDue outcomes.Shown words told before after = IsShow words × IsSoundVolume before after
 IsDue outcomes.Words words told before after = IsCommand words → ⊥
 IsDue (outcomes.Deck line) words told before after =

@@ -26,7 +26,8 @@ pub record Completes (words : List (List ℕ)) (source source_after sink sink_af
       Concludes words source source_after sink sink_after volume volume_after status trace
   -- Each reply is that of a table never reorganised, or says that memory, room or bytes of the log
   -- were wanting, or that the device refused; each layout is right for the table. The table at the
-  -- beginning is the one that the log stored.
+  -- beginning is the one that the log stored; after a death of the process it is the one that the
+  -- death leaves, if the volume read tidy when the call began.
   pub legal : IsLegalRun volume volume_after trace
   -- Entry 0 has the copy, the rows and the pages of the log as it read when the call began.
   pub opening : IsOpening volume volume_after trace
@@ -38,8 +39,8 @@ pub record Completes (words : List (List ℕ)) (source source_after sink sink_af
   pub log_full : IsLogFullOnlyFrom (limit_of (log_pages volume.capacities)) 0 trace
   -- DEVICE is answered only where a call of the volume failed.
   pub device : IsDeviceOnlyIf (Rose volume.faults volume_after.faults) trace
-  -- No page is written but those of the log and of the copy that was opened, and none where there
-  -- is no entry.
+  -- No page is written but those of the log and of the copies that were opened, and none where
+  -- there is no entry.
   pub only : MakesOnly (WritesOwn trace) volume.told volume_after.told
   -- Status 0 of `play`: the deck was played, and its print given. Whatever a crash leaves of the
   -- volume then stores the committed rows, if the log read tidy when the call began.
@@ -58,7 +59,7 @@ pub record Completes (words : List (List ℕ)) (source source_after sink sink_af
   pub unread : IsShow words → source_after ≡ source
   pub layout : IsShow words → Contains (0 ∷ 4 ∷ 5 ∷ 6 ∷ 8 ∷ []) status
   -- Status 2: the bytes were read to their end, and the output names the first line that is outside
-  -- the grammar, or neither a statement nor a layout nor a flush.
+  -- the grammar, or is not played.
   pub deck : status ≡ 2 → RefusesDeck source source_after sink sink_after
   -- Statuses 3 and 4 are returned only if the source, or the sink, failed in this call.
   pub source_failed : status ≡ 3 → Rose source.faults source_after.faults
@@ -66,7 +67,7 @@ pub record Completes (words : List (List ℕ)) (source source_after sink sink_af
   pub no_call : Contains (1 ∷ 2 ∷ 3 ∷ 7 ∷ []) status → volume_after ≡ volume
   -- Status 5: a page of the volume breaks a rule.
   pub damaged : status ≡ 5 → RefusesVolume sink sink_after volume volume_after trace
-  -- Status 6 is returned only if a call of the volume failed: in the opening, or in a COMMIT.
+  -- Status 6 is returned only if a call of the volume failed: in an opening, or in a COMMIT.
   pub volume_failed : status ≡ 6 → Rose volume.faults volume_after.faults
   -- Status 7: one byte more than the limit was read.
   pub long : status ≡ 7 → TakesTooMany source.bytes source_after.bytes

@@ -98,6 +98,13 @@ fn plays_decks(rt: HostRuntime) -> Result<(), Fail> {
             b"0 - OPENED copy=1 rows=0 pages=0\n1 1 OK\n2 1 OK\n3 - FLUSH page=1\n\
                 4 - CLEAN\nEND entries=5 rows=1\n",
         ),
+        (
+            b"1 INSERT 1 1 1 a\n1 COMMIT\n1 UPDATE 1 1 1 b\nF\nX\n2 SELECT 1\nX\n",
+            8,
+            b"0 - OPENED copy=1 rows=0 pages=0\n1 1 OK\n2 1 OK\n3 1 OK\n4 - FLUSH page=1\n\
+                5 - OPENED copy=1 rows=1 pages=1\n6 2 ROW 1 1 1 a\n\
+                7 - OPENED copy=1 rows=1 pages=1\nEND entries=8 rows=1\n",
+        ),
     ] {
         for (taken, kept) in [(ALL, ALL), (1, ALL), (ALL, 1), (7, 5)] {
             let mut source = BytesSource::new(deck, taken, NEVER);

@@ -151,7 +151,7 @@ pub fn carry_out<S: Source, V: Volume, O: Operator>(
     ensures device { IsDeviceOnlyIf (Rose (V.faults volume) (V.faults result.volume))
         result.trace.items }
     ensures finds { Finds result.outcome (seen_volume V.told V.faults V.capacities volume)
-        (seen_volume V.told V.faults V.capacities result.volume) }
+        (seen_volume V.told V.faults V.capacities result.volume) result.trace.items }
     ensures only { MakesOnly (WritesOwn result.trace.items) (V.told volume)
         (V.told result.volume) }
     ensures operator { result.operator ≡ operator }
@@ -187,7 +187,7 @@ fn show_layout<V: Volume, O: Operator>(alloc: Global, volume: V, operator: O) ->
     ensures device { IsDeviceOnlyIf (Rose (V.faults volume) (V.faults result.volume))
         result.trace.items }
     ensures finds { Finds result.outcome (seen_volume V.told V.faults V.capacities volume)
-        (seen_volume V.told V.faults V.capacities result.volume) }
+        (seen_volume V.told V.faults V.capacities result.volume) result.trace.items }
     ensures only { MakesOnly (WritesOwn result.trace.items) (V.told volume)
         (V.told result.volume) }
     ensures operator { result.operator ≡ operator }
@@ -221,7 +221,7 @@ fn play_bytes<V: Volume, O: Operator>(
     ensures device { IsDeviceOnlyIf (Rose (V.faults volume) (V.faults result.volume))
         result.trace.items }
     ensures finds { Finds result.outcome (seen_volume V.told V.faults V.capacities volume)
-        (seen_volume V.told V.faults V.capacities result.volume) }
+        (seen_volume V.told V.faults V.capacities result.volume) result.trace.items }
     ensures only { MakesOnly (WritesOwn result.trace.items) (V.told volume)
         (V.told result.volume) }
     ensures operator { result.operator ≡ operator }
@@ -239,7 +239,8 @@ fn refuse_line<V, O>(alloc: Global, line: u32, volume: V, operator: O) -> Work<V
         → IsRefusedAt bytes line
         → DealsWithBytes full before after bytes result.outcome result.trace.items
         result.print }
-    ensures outcome { (before : VolumeSeen) → Finds result.outcome before before }
+    ensures outcome { (before : VolumeSeen) (trace : List Entry)
+        → Finds result.outcome before before trace }
     ensures trace { result.trace.items ≡ [] }
     ensures volume { result.volume ≡ volume }
     ensures operator { result.operator ≡ operator }
@@ -261,8 +262,8 @@ fn print_played<V, O>(alloc: Global, full: bool, played: Played<V, O>) -> Work<V
         → Ends before after lines played.trace.items played.end
         → DealsWithLines full before after lines result.outcome result.trace.items
         result.print }
-    ensures finds { (before after : VolumeSeen) → IsEnd before after played.end →
-        Finds result.outcome before after }
+    ensures finds { (before after : VolumeSeen) → IsEnd before after played.trace.items played.end
+        → Finds result.outcome before after result.trace.items }
     ensures trace { result.trace.items ≡ played.trace.items }
     ensures volume { result.volume ≡ played.volume }
     ensures operator { result.operator ≡ played.operator }
@@ -275,15 +276,16 @@ fn print_played<V, O>(alloc: Global, full: bool, played: Played<V, O>) -> Work<V
     } = played;
     match end {
         RunEnd::NoMemory => Work::with_trace(alloc, Outcome::NoMemory, trace, volume, operator),
-        RunEnd::DeviceAtOpening => Work::with_trace(
-            alloc,
-            Outcome::Device,
-            trace,
-            volume,
-            operator,
-        ),
+        RunEnd::DeviceAtOpening => {
+            // In the first opening nothing was played. After a death the trace is shown.
+            if trace.is_empty() {
+                return Work::with_trace(alloc, Outcome::Device, trace, volume, operator);
+            }
+            let text = print(alloc, &trace, full, Close::Down);
+            Work::with_text(alloc, Outcome::Down, text, trace, volume, operator)
+        }
         RunEnd::Damaged { set, page } => {
-            let text = damaged_refusal(alloc, set, page);
+            let text = print(alloc, &trace, full, Close::Damaged { set, page });
             let outcome = Outcome::Damaged { set, page };
             Work::with_text(alloc, outcome, text, trace, volume, operator)
         }
@@ -304,8 +306,8 @@ fn print_shown<V, O>(alloc: Global, played: Played<V, O>) -> Work<V, O>
         → Ends before after (Line.Show ∷ []) played.trace.items played.end → IsShow words
         → ShowsTo result.outcome words source source before after result.trace.items
         result.print }
-    ensures finds { (before after : VolumeSeen) → IsEnd before after played.end →
-        Finds result.outcome before after }
+    ensures finds { (before after : VolumeSeen) → IsEnd before after played.trace.items played.end
+        → Finds result.outcome before after result.trace.items }
     ensures trace { result.trace.items ≡ played.trace.items }
     ensures volume { result.volume ≡ played.volume }
     ensures operator { result.operator ≡ played.operator }

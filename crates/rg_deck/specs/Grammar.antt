@@ -88,7 +88,7 @@ admits Played (Reorg options) = false
 admits Played Step = false
 admits Played Flush = true
 admits Played Show = true
-admits Played Death = false
+admits Played Death = true
 
 -- a line of the grammar that is taken
 abbrev pub IsAdmitted : Admits → Line → Type 0

@@ -2,8 +2,8 @@
 //
 // 1. A line is read from left to right, and each number and each text has one spelling. What has
 //    another is no line.
-// 2. Which lines are taken is the caller's to say. A line that is not taken is read like one outside
-//    the grammar.
+// 2. Which lines are taken is the caller's to say. A line that is not taken is read like one
+//    outside the grammar.
 ghost use Rattle.std.specs.Prelude.{◌≡◌, ◌≤◌, IfOk, IfSome, IfNone};
 ghost use Rattle.rg_base.specs.Session.{IsSession};
 ghost use Rattle.rg_deck.specs.Grammar.{IsRow, IsStmt, IsAdmitted, line_text};
@@ -124,6 +124,7 @@ fn read_played_control(bytes: &[u8]) -> Option<Line>
     match bytes {
         b"F" => Some(Line::Flush),
         b"L" => Some(Line::Show),
+        b"X" => Some(Line::Death),
         _ => None,
     }
 }

@@ -24,7 +24,8 @@ pub enum Admits {
     Every,
     /// Only statements.
     Statements,
-    /// The lines that the program plays: statements, layouts (`L`) and flushes (`F`).
+    /// The lines that the program plays: statements, layouts (`L`), flushes (`F`) and deaths of the
+    /// process (`X`).
     Played,
 }
 

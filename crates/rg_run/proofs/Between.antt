@@ -3,16 +3,21 @@ use Rattle.std.proofs.Common.{◌≡◌, ◌≤◌, ◌+◌, ◌-◌, ◌++◌, 
 use Rattle.std.specs.List.{AllByRecursion}
 use Rattle.std.proofs.Math.Seq.{drop-append_seam}
 use Rattle.rg_log.proofs.Ready.{quiet_reads}
+use Rattle.rg_desk.specs.OnVolume.{WasAllTidy}
 use Rattle.rg_desk.specs.Volume.{WasTidy}
 use Rattle.rg_image.specs.Log.{log_of}
 use Rattle.rg_image.specs.Rules.{HasLogPages, IsTidyLog}
 use Rattle.rg_image.proofs.Rules.{log_is_read}
+use Rattle.rg_log.specs.Kept.{log_pages}
 use Rattle.rg_log.specs.Open.{IsQuiet}
+use Rattle.rg_newest.specs.Tidy.{AreTidyPages}
+use Rattle.rg_outside.specs.Capacities.{Capacities}
 use Rattle.rg_outside.specs.Calls.{Call, Image, Told, read_of}
 use Rattle.rg_outside.specs.Counts.{counted}
 use Rattle.rg_outside.specs.Moments.{EachCall, EachImage, IfTold, read_at}
 use Rattle.rg_record.specs.declared.record.Record.{Record}
 use Rattle.rg_run.specs.Outside.{IfBoth, log_at}
+use Rattle.rg_run.specs.Table.{IsTidyVolume}
 use Rattle.rg_run.proofs.Uncounted.{counted_so}
 
 -- what was known before, with its calls so far taken as those before the count
@@ -42,19 +47,21 @@ follows Kind old before t n was made =
     less_none : (k : ℕ) → k - 0 ≡ k
     less_none k = omega arith
 
--- what is said of each image where the log read tidy when the count began
-stored_at : (pages n : ℕ) (Q : Image → Type 0) (before t : Told) → Follows before t n → (WasTidy pages (record t { start = length t.calls - n }) → EachImage Q t) → IsTidyLog pages (read_of before.first before.calls) → EachImage Q t
-stored_at pages n Q before t h all tidy =
-    let begun : read_at t (length t.calls - n) ≡ read_of before.first before.calls =
+-- what read when the count began
+begun_reads : (n : ℕ) (before t : Told) → Follows before t n → read_at t (length t.calls - n) ≡ read_of before.first before.calls
+begun_reads n before t h =
     ap (λ (k : ℕ). read_at t k) h.start
     ∙ ap (λ (first : Image). read_of first (drop (length t.calls - length before.calls) t.calls)) h.first
     ∙ ap (λ (cs : List Call). read_of before.first (drop (length cs - length before.calls) cs)) h.calls
     ∙ ap (λ (k : ℕ). read_of before.first (drop k (h.fresh ++ before.calls))) (left (length (h.fresh ++ before.calls)) (length h.fresh) (length before.calls) (length-append h.fresh before.calls))
-    ∙ ap (read_of before.first) (drop-append_seam h.fresh before.calls) in
-    all (subst (λ (i : Image). IsTidyLog pages i) (sym begun) tidy)
+    ∙ ap (read_of before.first) (drop-append_seam h.fresh before.calls)
   where
     left : (all a b : ℕ) → all ≡ a + b → all - b ≡ a
     left all a b e = omega (arith, e)
+
+-- what is said of each image where the log read tidy when the count began
+stored_at : (pages n : ℕ) (Q : Image → Type 0) (before t : Told) → Follows before t n → (WasTidy pages (record t { start = length t.calls - n }) → EachImage Q t) → IsTidyLog pages (read_of before.first before.calls) → EachImage Q t
+stored_at pages n Q before t h all tidy = all (subst (λ (i : Image). IsTidyLog pages i) (sym (begun_reads n before t h)) tidy)
 
 pub stored_out : (Kind : Call → Type 0) (pages n : ℕ) (Q : Image → Type 0) (old new : Option Told) → IfTold new (λ t. n ≤ length t.calls) → EachCall (counted old 0) (counted new n) Kind
     → IfTold (counted new n) (λ t. WasTidy pages t → EachImage Q t) → IfBoth old new (λ before t. IsTidyLog pages (read_of before.first before.calls) → EachImage Q t)
@@ -62,6 +69,18 @@ stored_out Kind pages n Q old None le made all = tt
 stored_out Kind pages n Q old (Some t) le made all = λ few before was.
     let so = counted_so t n le few in
     stored_at pages n Q before t (follows Kind old before t n was (subst (λ (o : Option Told). EachCall (counted old 0) o Kind) so made)) (subst (λ (o : Option Told). IfTold o (λ t. WasTidy pages t → EachImage Q t)) so all)
+
+-- what is said where all of the volume read tidy then
+pub tidy_out : (Kind : Call → Type 0) (capacities : Capacities) (n : ℕ) (Q : Type 0) (old new : Option Told) → IfTold new (λ t. n ≤ length t.calls) → EachCall (counted old 0) (counted new n) Kind
+    → IfTold (counted new n) (λ t. WasAllTidy capacities t → Q) → IfBoth old new (λ before t. IsTidyVolume capacities (read_of before.first before.calls) → Q)
+tidy_out Kind capacities n Q old None le made all = tt
+tidy_out Kind capacities n Q old (Some t) le made all = λ few before was tidy.
+    let so = counted_so t n le few in
+    let begun = begun_reads n before t (follows Kind old before t n was (subst (λ (o : Option Told). EachCall (counted old 0) o Kind) so made)) in
+    subst (λ (o : Option Told). IfTold o (λ t. WasAllTidy capacities t → Q)) so all (record {
+      log = subst (λ (i : Image). IsTidyLog (log_pages capacities) i) (sym begun) tidy.log;
+      pages = subst (λ (i : Image). AreTidyPages capacities i) (sym begun) tidy.pages;
+    })
 
 -- ---- the log that was read
 
@@ -89,3 +108,7 @@ read_out Kind pages n rs old mid (Some t) le quiet made has = λ few before was.
 pub both_weaken : (P Q : Told → Told → Type 0) (old new : Option Told) → ((before t : Told) → P before t → Q before t) → IfBoth old new P → IfBoth old new Q
 both_weaken P Q old None f h = tt
 both_weaken P Q old (Some t) f h = λ few before was. f before t (h few before was)
+
+pub both_and : (P Q R : Told → Told → Type 0) (old new : Option Told) → ((before t : Told) → P before t → Q before t → R before t) → IfBoth old new P → IfBoth old new Q → IfBoth old new R
+both_and P Q R old None f h k = tt
+both_and P Q R old (Some t) f h k = λ few before was. f before t (h few before was) (k few before was)

@@ -1,82 +1,53 @@
 -- What a run over a counted volume says of the volume below.
-use Rattle.std.proofs.Common.{◌≡◌, ◌≤◌, ℕ, List, [], ◌∷◌, Some, length, take, refl, sym, ◌∙◌, ap, subst}
+use Rattle.std.proofs.Common.{◌≡◌, ◌≤◌, inr, ℕ, Bool, true, false, List, [], ◌∷◌, ◌++◌, Some, length, sym, ◌∙◌, ap, subst, append-nil}
 use Rattle.rg_desk.specs.Desk.{DeskState, LegalFrom, old_records}
+use Rattle.rg_desk.specs.OnVolume.{WasAllTidy}
 use Rattle.rg_desk.specs.Stored.{IsStored}
-use Rattle.rg_desk.specs.Volume.{VolumeSeen}
+use Rattle.rg_desk.specs.Volume.{VolumeSeen, WasTidy}
 use Rattle.rg_image.specs.Log.{log_of}
 use Rattle.rg_image.specs.Meaning.{stored}
-use Rattle.rg_image.specs.Pack.{log_bytes}
-use Rattle.rg_image.specs.Rules.{HasLogPages, IsTidyLog}
-use Rattle.rg_log.specs.Kept.{Listed, log_pages}
+use Rattle.rg_log.specs.Kept.{log_pages}
 use Rattle.rg_model.specs.Committed.{committed_table}
-use Rattle.rg_model.specs.State.{Table, row_count}
+use Rattle.rg_model.specs.State.{State, Table}
+use Rattle.rg_outside.specs.Calls.{read_of}
 use Rattle.rg_outside.specs.Capacities.{Capacities}
-use Rattle.rg_outside.proofs.Every.{told_weaken}
-use Rattle.rg_restart.specs.Opening.{OpensStored}
-use Rattle.rg_restart.specs.Pages.{copy_of}
-use Rattle.rg_restart.specs.Sound.{IsSoundBy}
-use Rattle.rg_restart.proofs.Beginning.{stored_more}
-use Rattle.std.proofs.Math.Seq.{take-length}
-use Rattle.rg_outside.specs.Calls.{Call, read_of}
 use Rattle.rg_outside.specs.Counts.{counted}
+use Rattle.rg_outside.specs.Faults.{Rose}
 use Rattle.rg_outside.specs.Moments.{EachCall, EachImage, IfTold}
 use Rattle.rg_record.specs.declared.record.Record.{Record}
-use Rattle.rg_stmt.specs.Entries.{opened_entry}
+use Rattle.rg_restart.specs.Sound.{IsDamage}
 use Rattle.rg_stmt.specs.declared.event.Entry.{Entry}
 use Rattle.rg_stmt.specs.declared.line.Line.{Line}
-use Rattle.rg_run.specs.Outside.{IfBoth, log_at}
-use Rattle.rg_run.specs.Played.{DeskEnds, IsOpened, first_of}
-use Rattle.rg_run.specs.Table.{Begins, Ends, IsLegalRun, IsOpening, OpensLog, IsOpeningOf}
+use Rattle.rg_run.specs.Outside.{IfBoth, IsEnd, WritesOwn, log_at}
+use Rattle.rg_run.specs.Parts.{AreParts, IfTidy, IsAtDeath, IsFailed, IsRun, LastPart, Made, RunEnds, RunsFrom}
+use Rattle.rg_run.specs.Parts.AreParts.{Next, One}
+use Rattle.rg_run.specs.Played.{TraceOf, first_of}
+use Rattle.rg_run.specs.Table.{Begins, Ends, EndsAt, EndsAtDown, EndsAtOpening, EndsWhole, IfBegunTidy, IsLegalRun, IsOpening, IsOpeningOf, IsTidyVolume, OpensLog}
 use Rattle.rg_run.specs.declared.played.RunEnd.{RunEnd}
 use Rattle.rg_run.specs.declared.played.RunEnd.TheVariants.{Whole, Down, Damaged, DeviceAtOpening, NoMemory}
-use Rattle.rg_run.proofs.Between.{both_weaken, stored_out}
+use Rattle.rg_run.proofs.Between.{both_and, both_weaken, stored_out, tidy_out}
+use Rattle.rg_run.proofs.Going.{legal_whole, tidy_weaken}
+use Rattle.rg_run.proofs.Uncounted.{uncounted_only, uncounted_told}
 
-module _ (Kind : Call → Type 0) (old new : VolumeSeen) (n : ℕ) (rs : List Record) (pages : ℕ) (pages_are : pages ≡ log_pages old.capacities) (le : IfTold new.told (λ t. n ≤ length t.calls))
-    (made : EachCall (counted old.told 0) (counted new.told n) Kind) (read : IfBoth old.told new.told (λ before t. log_at (log_pages old.capacities) before ≡ rs))
+-- the same parts, by another fact of the first table
+parts_more : (P Q : Table → Type 0) (trace : List Entry) → ((start : Table) → P start → Q start) → AreParts P trace → AreParts Q trace
+parts_more P Q trace f (One part start first legal) = One part start (f start first) legal
+parts_more P Q trace f (Next before part start parts legal) = Next before part start (parts_more P Q before f parts) legal
+
+module _ (old new : VolumeSeen) (n : ℕ) (rs : List Record) (le : IfTold new.told (λ t. n ≤ length t.calls)) (read : IfBoth old.told new.told (λ before t. log_at (log_pages old.capacities) before ≡ rs))
     (now : List Record) (same : (k : ℕ) → stored now k ≡ stored rs k) where
   -- what is seen of the volume as it was counted
   abbrev counted_seen : VolumeSeen
   counted_seen = record { told = counted new.told n; faults = new.faults; capacities = new.capacities }
 
+  -- a table that the desk began with, by the log as it read
+  starts_out : (records : List Record) → records ≡ rs → (start : Table) → IsStored now start → IsStored records start
+  starts_out records is start starts k = starts k ∙ same k ∙ ap (λ (xs : List Record). stored xs k) (sym is)
+
   begins : (start : Table) → IsStored now start → Begins old new start
   begins start starts =
       both_weaken (λ before t. log_at (log_pages old.capacities) before ≡ rs) (λ before t. IsStored (log_at (log_pages old.capacities) before) start) old.told new.told
-      (λ before t is k. starts k ∙ same k ∙ ap (λ (xs : List Record). stored xs k) (sym is)) read
-
-  pub legal_out : (trace : List Entry) → LegalFrom now trace → IsLegalRun old new trace
-  legal_out [] legal = tt
-  legal_out (entry ∷ entries) legal = (legal.0, begins legal.0 legal.1, legal.2)
-
-  pub ends_out : (copy : ℕ) (lines : List Line) (trace : List Entry) (end : RunEnd) → DeskEnds now copy pages counted_seen lines trace end → Ends old new lines trace end
-  ends_out copy lines trace (Whole rows) ends = (
-    ends.0,
-    record {
-      start = ends.1.ends.start;
-      copy = copy;
-      last = ends.1.last;
-      begun = begins ends.1.ends.start ends.1.ends.starts;
-      run = ends.1.ends.run;
-      up = ends.1.ends.down_is;
-      rows_are = ends.1.rows_are;
-      stored =
-          subst (λ (k : ℕ). IfBoth old.told new.told (λ before t. IsTidyLog k (read_of before.first before.calls) → EachImage (λ i. IsStored (log_of k i) (committed_table ends.1.last)) t)) pages_are
-          (stored_out Kind pages n (λ i. IsStored (log_of pages i) (committed_table ends.1.last)) old.told new.told le made ends.1.stored);
-    },
-  )
-  ends_out copy lines trace Down ends = (
-    ends.0,
-    record {
-      start = ends.1.1.start;
-      copy = copy;
-      last = ends.1.0;
-      begun = begins ends.1.1.start ends.1.1.starts;
-      run = ends.1.1.run;
-      is_down = ends.1.1.down_is;
-    },
-  )
-  ends_out copy lines trace (Damaged set page) ends = ends
-  ends_out copy lines trace DeviceAtOpening ends = ends
-  ends_out copy lines trace NoMemory ends = ends
+      (λ before t is. starts_out (log_at (log_pages old.capacities) before) is start starts) read
 
   opens_first : (trace : List Entry) (entry : Entry) → first_of trace ≡ Some entry → IsOpeningOf rs entry → OpensLog rs trace
   opens_first [] entry is opens = tt
@@ -87,47 +58,99 @@ module _ (Kind : Call → Type 0) (old new : VolumeSeen) (n : ℕ) (rs : List Re
       both_weaken (λ before t. log_at (log_pages old.capacities) before ≡ rs) (λ before t. OpensLog (log_at (log_pages old.capacities) before) trace) old.told new.told
       (λ before t same. subst (λ (xs : List Record). OpensLog xs trace) (sym same) (opens_first trace entry is opens)) read
 
--- ---- the opening
+  module _ {V O : Type 0} (look : V → VolumeSeen) (first : DeskState V O) (lines : List Line) (operator : O) (trace : List Entry) (end : RunEnd) (first_is : old_records first ≡ now) (kept : new.capacities ≡ old.capacities)
+      (calls : EachCall (counted old.told 0) (counted new.told n) (WritesOwn trace)) (run : IsRun look first lines counted_seen operator trace end) where
+    -- where the volume read tidy when the run began
+    begun_tidy : (P : List Record → Type 0) → ((records : List Record) → records ≡ rs → P now → P records) → IfTidy counted_seen (P (old_records first)) → IfBegunTidy old new P
+    begun_tidy P f h =
+        both_and (λ before t. IsTidyVolume old.capacities (read_of before.first before.calls) → P now) (λ before t. log_at (log_pages old.capacities) before ≡ rs)
+        (λ before t. IsTidyVolume old.capacities (read_of before.first before.calls) → P (log_at (log_pages old.capacities) before)) old.told new.told
+        (λ before t holds is tidy. f (log_at (log_pages old.capacities) before) is (holds tidy))
+        (tidy_out (WritesOwn trace) old.capacities n (P now) old.told new.told le calls
+        (subst (λ (c : Capacities). IfTold (counted new.told n) (λ t. WasAllTidy c t → P now)) kept
+        (subst (λ (xs : List Record). IfTold (counted new.told n) (λ t. WasAllTidy new.capacities t → P xs)) first_is h)))
+        read
 
-module _ {V O : Type 0} (look : V → VolumeSeen) (old : VolumeSeen) (operator : O) (desk : DeskState V O) (opens : OpensStored look old operator desk) where
-  -- entry 0
-  abbrev pub entry_zero : Entry
-  entry_zero = opened_entry (copy_of opens.log.records) (row_count opens.opens.start) (length opens.slots) (log_bytes opens.now.records) opens.opens.calls
+    legal_from : (records : List Record) → records ≡ rs → LegalFrom now trace → LegalFrom records trace
+    legal_from records is legal = (legal.0, starts_out records is legal.0 legal.1, legal.2)
 
-  pub opened_first : desk.older ≡ [] → IsOpened desk
-  opened_first older = record {
-    older = older;
-    entry = entry_zero;
-    is = record { copy = copy_of opens.log.records; rows = row_count opens.opens.start; pages = length opens.slots; used = log_bytes opens.now.records; is = refl };
-    trace = opens.opens.trace;
-    up = opens.opens.up;
-  }
+    runs_from : (last : State) (records : List Record) → records ≡ rs → RunsFrom now trace last → RunsFrom records trace last
+    runs_from last records is runs = record { start = runs.start; starts = starts_out records is runs.start runs.starts; copy = runs.copy; run = runs.run }
 
-  -- the records that the desk began with
-  pub old_first : old_records desk ≡ opens.now.records
-  old_first = ap (λ (n : ℕ). take n desk.ground.log.records) opens.opens.opened ∙ ap (λ (l : Listed). take (length opens.now.records) l.records) opens.opens.log_is ∙ take-length opens.now.records
+    pub legal_out : IsLegalRun old new trace
+    legal_out = by_trace trace parts whole
+      where
+        made : Made look first run.front trace counted_seen
+        made = run.made
 
-  -- they store what the log stored
-  pub stores_first : (k : ℕ) → stored opens.now.records k ≡ stored opens.log.records k
-  stores_first k = ap (λ (rs : List Record). stored rs k) opens.took.records ∙ stored_more opens.log.records opens.took.more opens.took.back k
+        parts : AreParts (Begins old new) trace
+        parts = parts_more (IsStored (old_records first)) (Begins old new) trace (λ start starts. begins start (subst (λ (xs : List Record). IsStored xs start) first_is starts)) made.parts
 
-  pub opening_first : IsOpeningOf opens.log.records entry_zero
-  opening_first = record {
-    start = opens.opens.start;
-    starts = λ k. opens.opens.starts k ∙ stores_first k;
-    used = log_bytes opens.now.records;
-    is = ap (λ (n : ℕ). opened_entry (copy_of opens.log.records) (row_count opens.opens.start) n (log_bytes opens.now.records) opens.opens.calls) opens.count_is;
-    least = opens.took.least;
-    most = opens.took.most_bytes;
-  }
+        whole : IfBegunTidy old new (λ records. LegalFrom records trace)
+        whole =
+            begun_tidy (λ records. LegalFrom records trace) legal_from
+            (tidy_weaken counted_seen ((last : State) × RunsFrom (old_records first) trace last) (LegalFrom (old_records first) trace)
+            (λ runs. legal_whole (old_records first) trace run.front made.count runs.0 made.entries made.known made.recorded runs.1) made.tidy)
 
-  pub entry_first : first_of desk.trace ≡ Some entry_zero
-  entry_first = ap first_of opens.opens.trace
+        by_trace : (es : List Entry) → AreParts (Begins old new) es → IfBegunTidy old new (λ records. LegalFrom records es) → IsLegalRun old new es
+        by_trace [] parts whole = tt
+        by_trace (e ∷ es) parts whole = (parts, whole)
 
-  pub pages_first : desk.ground.log.pages ≡ log_pages old.capacities
-  pages_first = ap (λ (l : Listed). l.pages) opens.opens.log_is ∙ opens.took.pages ∙ opens.pages
+    ends_at : (down : Bool) (last : State) → LastPart (old_records first) counted_seen run.front trace down last → EndsAt old new run.front trace down last
+    ends_at down last part = record {
+      before = part.before;
+      part = part.part;
+      joined = part.joined;
+      start = part.start;
+      copy = part.copy;
+      run = part.run;
+      is = part.is;
+      alone = part.alone;
+      whole = λ none. begins part.start (subst (λ (xs : List Record). IsStored xs part.start) first_is (part.whole none));
+      tidy = begun_tidy (λ records. RunsFrom records trace last) (runs_from last) part.tidy;
+    }
 
-  pub read_first_log : IfTold (look desk.volume).told (λ t. HasLogPages (log_pages old.capacities) (read_of t.first t.calls) opens.log.records)
-  read_first_log =
-      told_weaken (λ t. IsSoundBy (look desk.volume).capacities (read_of t.first t.calls) opens.log.records opens.base) (λ t. HasLogPages (log_pages old.capacities) (read_of t.first t.calls) opens.log.records) (look desk.volume).told
-      (λ t sound. subst (λ (c : Capacities). HasLogPages (log_pages c) (read_of t.first t.calls) opens.log.records) opens.calls.capacities sound.log.pages) opens.sound
+    all_lines : run.rest ≡ [] → run.front ≡ lines
+    all_lines none = sym (run.joined ∙ ap (λ (ls : List Line). run.front ++ ls) none ∙ append-nil run.front)
+
+    of_front : run.rest ≡ [] → TraceOf lines trace
+    of_front none = subst (λ (ls : List Line). TraceOf ls trace) (all_lines none) run.made.entries
+
+    -- an opening was refused
+    at_opening : IsAtDeath run.rest → EndsAtOpening lines trace
+    at_opening death = inr (run.front, death.0, run.joined ∙ ap (λ (ls : List Line). run.front ++ ls) death.1, run.made.entries)
+
+    pub ends_out : Ends old new lines trace end
+    ends_out = by_end end run.ends
+      where
+        by_end : (e : RunEnd) → RunEnds (old_records first) (log_pages counted_seen.capacities) counted_seen run.front run.rest trace e → Ends old new lines trace e
+        by_end (Whole rows) ends = (
+          of_front ends.0,
+          subst (λ (ls : List Line). EndsWhole old new ls trace rows) (all_lines ends.0)
+              (record {
+                last = ends.1.last;
+                ends = ends_at false ends.1.last ends.1.ends;
+                rows_are = ends.1.rows_are;
+                stored =
+                    stored_out (WritesOwn trace) (log_pages old.capacities) n (λ i. IsStored (log_of (log_pages old.capacities) i) (committed_table ends.1.last)) old.told new.told le calls
+                    (subst (λ (c : Capacities). IfTold (counted new.told n) (λ t. WasTidy (log_pages c) t → EachImage (λ i. IsStored (log_of (log_pages c) i) (committed_table ends.1.last)) t)) kept ends.1.stored);
+              }),
+        )
+        by_end Down ends = (of_front ends.0, subst (λ (ls : List Line). EndsAtDown old new ls trace) (all_lines ends.0) (ends.1, ends_at true ends.1 ends.2))
+        by_end (Damaged set page) ends = at_opening ends.0
+        by_end DeviceAtOpening ends = at_opening ends
+        by_end NoMemory ends = inr (run.front, run.rest, run.joined, run.made.entries)
+
+    pub end_out : ((IsFailed end) → Rose old.faults new.faults) → IsEnd old new trace end
+    end_out rose = by_end end run.ends rose
+      where
+        by_end : (e : RunEnd) → RunEnds (old_records first) (log_pages counted_seen.capacities) counted_seen run.front run.rest trace e → (IsFailed e → Rose old.faults new.faults) → IsEnd old new trace e
+        by_end (Whole rows) ends rose = tt
+        by_end Down ends rose = rose tt
+        by_end (Damaged set page) ends rose = (
+          uncounted_told (λ t. IsDamage new.capacities (read_of t.first t.calls) set page) (λ t. IsDamage new.capacities (read_of t.first t.calls) set page) new.told n le (λ t is. is) ends.1,
+          uncounted_only (WritesOwn trace) old.told new.told n le calls,
+          kept,
+        )
+        by_end DeviceAtOpening ends rose = rose tt
+        by_end NoMemory ends rose = tt

@@ -1,7 +1,10 @@
 pub mod Fullness
+pub mod Joins
 pub mod Plays
+pub mod Going
+pub mod Opening
+pub mod Again
 pub mod Uncounted
 pub mod Between
 pub mod Ending
 pub mod Wholly
-pub mod Owning

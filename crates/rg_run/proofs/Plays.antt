@@ -1,8 +1,7 @@
 -- A run goes on by one line.
 use Rattle.std.proofs.Common.{◌≡◌, ◌≤◌, ◌||◌, ◌*◌, ℕ, Bool, true, false, List, [], ◌∷◌, ◌++◌, Option, refl, sym, ◌∙◌, ap, subst, arith}
-use Rattle.std.specs.Prelude.{Result, Ok, Err, OnOk}
+use Rattle.std.specs.Prelude.{Result, Ok, Err, IfOk}
 use Rattle.std.specs.List.{AllZip}
-use Rattle.rg_base.specs.declared.no_memory.NoMemory.{NoMemory as WantsMemory}
 use Rattle.rg_base.specs.declared.session.Session.{Session}
 use Rattle.rg_base.specs.declared.position.Position.{Position}
 use Rattle.rg_page.specs.Content.{Content}
@@ -18,19 +17,16 @@ use Rattle.rg_stmt.specs.Entries.{said_entry}
 use Rattle.rg_image.specs.Rules.{limit_of}
 use Rattle.rg_desk.specs.Answers.{IfFull, IfLogFull, is_device}
 use Rattle.rg_desk.specs.Chronicle.{allowed_after, allowed_by, logged_after, logged_by, system_entry}
-use Rattle.rg_desk.specs.Desk.{DeskState, IsLayout, LegalFrom, MadeFlush, MadeLayout, MadeSaid, Stays, old_records}
+use Rattle.rg_desk.specs.Desk.{DeskState, IsLayout, MadeFlush, MadeLayout, MadeSaid, Stays}
 use Rattle.rg_desk.specs.Flushed.{CallsOwn, FlushIs, WritesEither}
 use Rattle.rg_desk.specs.Volume.{VolumeSeen}
 use Rattle.rg_newest.specs.Tidy.{set_of}
-use Rattle.rg_record.specs.declared.record.Record.{Record}
 use Rattle.rg_outside.specs.Faults.{Rose}
 use Rattle.rg_outside.proofs.Frame.{calls_join, no_calls}
 use Rattle.rg_run.specs.Full.{IsFullFrom, IsFullOnlyFrom}
 use Rattle.rg_run.specs.LogFull.{IsLogFullFrom, IsLogFullOnlyFrom}
-use Rattle.rg_run.specs.Outside.{IsDeviceIf, IsDeviceOnlyIf, IsEnd}
-use Rattle.rg_run.specs.Played.{DeskEnds, EntryOf, Goes, IsFlushed, IsLate, IsOpened, IsOpenedEntry, IsRun, TraceOf, first_of}
-use Rattle.rg_run.specs.declared.played.RunEnd.{RunEnd}
-use Rattle.rg_run.specs.declared.played.RunEnd.TheVariants.{Whole, Down as Ended, Damaged, DeviceAtOpening, NoMemory as Wanting}
+use Rattle.rg_run.specs.Outside.{IsDeviceIf, IsDeviceOnlyIf}
+use Rattle.rg_run.specs.Played.{EntryOf, Goes, IsFlushed, IsOpened, IsOpenedEntry, TraceOf, first_of}
 
 entries_push : (lines : List Line) (entries : List Entry) (line : Line) (entry : Entry) → AllZip EntryOf lines entries → EntryOf line entry → AllZip EntryOf (lines ++ line ∷ []) (entries ++ entry ∷ [])
 entries_push [] [] line entry all of = (of, tt)
@@ -182,7 +178,6 @@ own_calls_join copy a b c x y = record {
 module _ {V O : Type 0} (look : V → VolumeSeen) (first old new : DeskState V O) (lines : List Line) (goes : Goes look first lines old) where
   stays_on : Stays look old new → Stays look first new
   stays_on stays = record {
-    older = stays.older ∙ goes.stays.older;
     capacity = stays.capacity ∙ goes.stays.capacity;
     log_pages = stays.log_pages ∙ goes.stays.log_pages;
     opened = stays.opened ∙ goes.stays.opened;
@@ -190,6 +185,7 @@ module _ {V O : Type 0} (look : V → VolumeSeen) (first old new : DeskState V O
     copy = stays.copy ∙ goes.stays.copy;
     calls = own_calls_join first.copy (look first.volume) (look old.volume) (look new.volume) goes.stays.calls (subst (λ (n : ℕ). CallsOwn n (look old.volume) (look new.volume)) goes.stays.copy stays.calls);
     operator = stays.operator ∙ goes.stays.operator;
+    older = stays.older ∙ goes.stays.older;
   }
 
   -- faults that rose before have risen, and so have those that rose now
@@ -202,7 +198,6 @@ module _ {V O : Type 0} (look : V → VolumeSeen) (first old new : DeskState V O
   on : (line : Line) (entry : Entry) → new.trace ≡ old.trace ++ entry ∷ [] → EntryOf line entry → IsFullFrom (3221 * old.ground.capacity) (allowed_by 0 old.trace) entry.event → IsLogFullFrom (limit_of old.ground.log.pages) (logged_by 0 old.trace) entry.event
       → IsDeviceIf (Rose (look first.volume).faults (look new.volume).faults) entry.event → (new.down ≡ true → Rose (look first.volume).faults (look new.volume).faults) → Stays look old new → Goes look first (lines ++ line ∷ []) new
   on line entry made of full log device down stays = record {
-    older = stays.older ∙ goes.older;
     entries = subst (TraceOf (lines ++ line ∷ [])) (sym made) (trace_push lines old.trace line entry goes.entries of);
     begins = ap first_of made ∙ first_push lines old.trace entry goes.entries ∙ goes.begins;
     full =
@@ -254,7 +249,6 @@ device_opened entry is P = subst (λ (e : Entry). IsDeviceIf P e.event) (sym is.
 -- the run begins with the entry of the opening
 pub goes_opened : {V O : Type 0} (look : V → VolumeSeen) (desk : DeskState V O) → IsOpened desk → Goes look desk [] desk
 goes_opened look desk opened = record {
-  older = opened.older;
   entries = subst (TraceOf []) (sym opened.trace) (opened.is, tt);
   begins = refl;
   full = subst (IsFullOnlyFrom (3221 * desk.ground.capacity) 0) (sym opened.trace) (full_opened opened.entry opened.is (3221 * desk.ground.capacity) 0, tt);
@@ -262,7 +256,6 @@ goes_opened look desk opened = record {
   device = subst (IsDeviceOnlyIf (Rose (look desk.volume).faults (look desk.volume).faults)) (sym opened.trace) (device_opened opened.entry opened.is (Rose (look desk.volume).faults (look desk.volume).faults), tt);
   down = λ down. absurd (cc (down, opened.up));
   stays = record {
-    older = refl;
     capacity = refl;
     log_pages = refl;
     opened = refl;
@@ -270,46 +263,11 @@ goes_opened look desk opened = record {
     copy = refl;
     calls = record { only = no_calls (WritesEither (set_of desk.copy)) (look desk.volume).told; later = omega arith; capacities = refl };
     operator = refl;
+    older = refl;
   };
 }
 
--- what the run of some first lines leaves
-pub run_left : {V O : Type 0} (look : V → VolumeSeen) (first desk : DeskState V O) (front lines : List Line) (seen : VolumeSeen) (operator : O) (trace : List Entry) (end : RunEnd)
-    → Goes look first front desk → seen ≡ (look desk.volume) → operator ≡ desk.operator → trace ≡ desk.trace → LegalFrom (old_records desk) desk.trace → DeskEnds (old_records desk) desk.copy desk.ground.log.pages (look desk.volume) lines desk.trace end → IsLate end → (end ≡ Ended → desk.down ≡ true)
-    → IsRun look first lines seen operator trace end
-run_left look first desk front lines seen operator trace end goes seen_is operator_is trace_is legal ends late down = record {
-  late = late;
-  ends =
-      subst (λ (rs : List Record). DeskEnds rs first.copy first.ground.log.pages seen lines trace end) goes.stays.old_same
-      (subst (λ (n : ℕ). DeskEnds (old_records desk) n first.ground.log.pages seen lines trace end) goes.stays.copy
-      (subst (λ (n : ℕ). DeskEnds (old_records desk) desk.copy n seen lines trace end) goes.stays.log_pages
-      (subst (λ (v : VolumeSeen). DeskEnds (old_records desk) desk.copy desk.ground.log.pages v lines trace end) (sym seen_is)
-      (subst (λ (es : List Entry). DeskEnds (old_records desk) desk.copy desk.ground.log.pages (look desk.volume) lines es end) (sym trace_is) ends))));
-  begins = ap first_of trace_is ∙ goes.begins;
-  legal = subst (λ (rs : List Record). LegalFrom rs trace) goes.stays.old_same (subst (LegalFrom (old_records desk)) (sym trace_is) legal);
-  full =
-      subst (λ (n : ℕ). IsFullOnlyFrom (3221 * n) 0 trace) goes.stays.capacity
-      (subst (IsFullOnlyFrom (3221 * desk.ground.capacity) 0) (sym trace_is) goes.full);
-  log_full =
-      subst (λ (n : ℕ). IsLogFullOnlyFrom (limit_of n) 0 trace) goes.stays.log_pages
-      (subst (IsLogFullOnlyFrom (limit_of desk.ground.log.pages) 0) (sym trace_is) goes.log_full);
-  device =
-      subst (λ (v : VolumeSeen). IsDeviceOnlyIf (Rose (look first.volume).faults v.faults) trace) (sym seen_is)
-      (subst (IsDeviceOnlyIf (Rose (look first.volume).faults (look desk.volume).faults)) (sym trace_is) goes.device);
-  down = λ is. subst (λ (v : VolumeSeen). Rose (look first.volume).faults v.faults) (sym seen_is) (goes.down (down is));
-  calls = subst (CallsOwn first.copy (look first.volume)) (sym seen_is) goes.stays.calls;
-  asked = operator_is ∙ goes.stays.operator;
-}
-
--- why it ended so
-pub end_so : (old new : VolumeSeen) (end : RunEnd) → IsLate end → (end ≡ Ended → Rose old.faults new.faults) → IsEnd old new end
-end_so old new (Whole rows) late down = tt
-end_so old new Ended late down = down refl
-end_so old new (Damaged set page) late down = absurd late
-end_so old new DeviceAtOpening late down = absurd late
-end_so old new Wanting late down = tt
-
 -- what a result that is no refusal says
-pub ok_so : {P Q : Type 0} (result : Result (Unit {0}) WantsMemory) → (P → Q) → OnOk result P → OnOk result Q
-ok_so (Ok x) f p = f p
-ok_so (Err e) f p = p
+pub ok_weaken : {A B : Type 0} (P Q : A → Type 0) (result : Result A B) → ((x : A) → P x → Q x) → IfOk result P → IfOk result Q
+ok_weaken P Q (Ok x) f p = f x p
+ok_weaken P Q (Err e) f p = p

@@ -1,36 +1,57 @@
 -- A run over a counted volume, and the same of the volume below.
-use Rattle.std.proofs.Common.{◌≡◌, ◌≤◌, ◌+◌, ◌-◌, ℕ, List, Option, None, Some, length, drop, sym, ◌∙◌, ap, subst, arith}
-use Rattle.rg_desk.specs.Desk.{DeskState, LegalFrom}
-use Rattle.rg_desk.specs.Flushed.{CallsOwn, WritesEither}
-use Rattle.rg_desk.specs.OnVolume.{WasAllTidy}
-use Rattle.rg_newest.specs.Tidy.{AreTidyPages, set_of}
+use Rattle.std.proofs.Common.{◌≡◌, ◌≤◌, ◌+◌, ◌-◌, ◌*◌, inl, ℕ, List, [], Option, None, Some, length, drop, refl, sym, ◌∙◌, ap, subst, arith}
+use Rattle.rg_desk.specs.Desk.{DeskState, old_records}
+use Rattle.rg_desk.specs.OnVolume.{GoesOnTidy, WasAllTidy}
+use Rattle.rg_desk.specs.Chronicle.{IsRecorded}
 use Rattle.rg_desk.specs.Volume.{HasCalls, VolumeSeen, WasTidy, seen_volume}
-use Rattle.rg_image.specs.Rules.{HasLogPages, IsTidyLog}
+use Rattle.rg_desk.specs.declared.desk.OpenCause.{OpenCause}
+use Rattle.rg_desk.specs.declared.desk.OpenCause.TheVariants as causes
+use Rattle.rg_image.specs.Meaning.{stored}
+use Rattle.rg_image.specs.Rules.{HasLogPages, IsTidyLog, limit_of}
 use Rattle.rg_log.specs.Kept.{log_pages}
 use Rattle.rg_log.specs.Open.{IsQuiet}
-use Rattle.rg_outside.specs.Calls.{Call, Told, read_of}
+use Rattle.rg_newest.specs.Tidy.{AreTidyPages}
+use Rattle.rg_outside.specs.Calls.{Told, read_of}
 use Rattle.rg_outside.specs.Capacities.{Capacities}
 use Rattle.rg_outside.specs.Counts.{CountedCalls, counted}
+use Rattle.rg_outside.specs.Faults.{Rose}
 use Rattle.rg_outside.specs.Moments.{EachCall, IfTold}
-use Rattle.rg_outside.proofs.Every.{told_weaken}
 use Rattle.rg_outside.proofs.Frame.{calls_join, calls_weaken}
-use Rattle.rg_record.specs.declared.record.Record.{Record}
-use Rattle.rg_restart.specs.Opening.{GoesOnTidy, OpensStored}
+use Rattle.rg_restart.specs.Opening.{IsCause, IsRefused, OpensStored}
+use Rattle.rg_restart.specs.Pages.{copy_of}
+use Rattle.rg_restart.specs.Sound.{IsDamage}
 use Rattle.rg_stmt.specs.declared.event.Entry.{Entry}
 use Rattle.rg_stmt.specs.declared.line.Line.{Line}
-use Rattle.rg_run.specs.Outside.{IfBoth, log_at}
-use Rattle.rg_run.specs.Played.{DeskEnds, IsRun}
+use Rattle.rg_run.specs.Full.{IsFullOnlyFrom, smaller_pages}
+use Rattle.rg_run.specs.LogFull.{IsLogFullOnlyFrom}
+use Rattle.rg_run.specs.Outside.{IfBoth, IsDeviceOnlyIf, IsEnd, MakesOnly, WritesOwn, end_of, log_at}
+use Rattle.rg_run.specs.Parts.{Going, IsRun}
 use Rattle.rg_run.specs.Table.{Ends, IsLegalRun, IsOpening}
 use Rattle.rg_run.specs.declared.played.RunEnd.{RunEnd}
+use Rattle.rg_run.proofs.Again.{count_has}
 use Rattle.rg_run.proofs.Between.{read_out}
-use Rattle.rg_run.proofs.Ending.{ends_out, entry_first, entry_zero, legal_out, old_first, opening_out, pages_first, read_first_log, opening_first, stores_first}
-use Rattle.rg_run.proofs.Uncounted.{counted_calls, quiet_in}
+use Rattle.rg_run.proofs.Ending.{end_out, ends_out, legal_out, opening_out}
+use Rattle.rg_run.proofs.Fullness.{smaller_least}
+use Rattle.rg_run.proofs.Joins.{own_quiet}
+use Rattle.rg_run.proofs.Opening.{copy_first, entry_first, entry_zero, old_first, opened_first, opening_first, pages_first, read_first_log, stores_first}
+use Rattle.rg_run.proofs.Plays.{device_more, goes_opened, rose_wider}
+use Rattle.rg_run.proofs.Uncounted.{counted_calls, uncounted_only, uncounted_told}
 
 -- what is said of a run
 pub record Whole (old new : VolumeSeen) (lines : List Line) (trace : List Entry) (end : RunEnd) : Type 0 where
   pub ends : Ends old new lines trace end
   pub legal : IsLegalRun old new trace
   pub opening : IsOpening old new trace
+  pub full : IsFullOnlyFrom (3221 * smaller_pages old.capacities) 0 trace
+  pub log_full : IsLogFullOnlyFrom (limit_of (log_pages old.capacities)) 0 trace
+  pub device : IsDeviceOnlyIf (Rose old.faults new.faults) trace
+  pub is_end : IsEnd old new trace end
+  pub only : MakesOnly (WritesOwn trace) old.told new.told
+  pub later : old.faults ≤ new.faults
+
+-- no entries
+pub none_recorded : (trace : List Entry) → trace ≡ [] → IsRecorded trace 0
+none_recorded trace none = subst (λ (es : List Entry). IsRecorded es 0) (sym none) (record { rising = λ i j d le lt. absurd (omega (arith, lt)); below = tt; each = tt; few = omega arith })
 
 module _ {V : Type 0} (told : V → Option Told) (faults : V → ℕ) (capacities : V → Capacities) (volume : V) where
   -- what is seen of the volume as it was counted
@@ -52,51 +73,135 @@ module _ {V : Type 0} (told : V → Option Told) (faults : V → ℕ) (capacitie
           none_left : (k : ℕ) → k - (k - 0) ≡ 0
           none_left k = omega arith
 
-  pub begun_counts : (begun : CountedCalls V) → begun ≡ record { volume = volume; calls = 0 } → HasCalls (look begun) 0
-  begun_counts begun is = told_weaken _ (λ t. t.start + 0 ≤ length t.calls) (look begun).told (λ t tidy. omega (arith, tidy.0)) (begun_tidy begun is)
+  pub begun_counted : (begun : CountedCalls V) → begun ≡ record { volume = volume; calls = 0 } → HasCalls (look begun) 0
+  begun_counted begun is = subst (λ (x : CountedCalls V). HasCalls (look x) 0) (sym is) (go (told volume))
+    where
+      go : (o : Option Told) → IfTold (counted o 0) (λ t. t.start + 0 ≤ length t.calls)
+      go None = tt
+      go (Some t) = omega arith
 
-  module _ (below : V) (begun ended : CountedCalls V) (begins : begun ≡ record { volume = volume; calls = 0 }) (ends : below ≡ ended.volume) (le : IfTold (told below) (λ t. ended.calls ≤ length t.calls))
-      {O : Type 0} (operator : O) (desk : DeskState (CountedCalls V) O) (opens : OpensStored look (look begun) operator desk) where
+  module _ (below : V) (begun : CountedCalls V) (begins : begun ≡ record { volume = volume; calls = 0 }) where
     abbrev old : VolumeSeen
     old = seen_volume told faults capacities volume
 
     abbrev new : VolumeSeen
     new = seen_volume told faults capacities below
 
-    pages_old : log_pages (look begun).capacities ≡ log_pages old.capacities
-    pages_old = ap (λ (x : CountedCalls V). log_pages (capacities x.volume)) begins
+    begun_faults : (look begun).faults ≡ old.faults
+    begun_faults = ap (λ (x : CountedCalls V). faults x.volume) begins
 
-    pages : desk.ground.log.pages ≡ log_pages old.capacities
-    pages = pages_first look (look begun) operator desk opens ∙ pages_old
+    begun_capacities : (look begun).capacities ≡ old.capacities
+    begun_capacities = ap (λ (x : CountedCalls V). capacities x.volume) begins
 
-    -- calls that the run may make
-    abbrev Own : Call → Type 0
-    Own = WritesEither (set_of desk.copy)
+    -- a run whose opening was refused
+    pub whole_refused : (n : ℕ) → IfTold new.told (λ t. n ≤ length t.calls) → (lines : List Line) (trace : List Entry) (cause : OpenCause) → trace ≡ [] → IsRefused (look begun) (record { told = counted new.told n; faults = new.faults; capacities = new.capacities }) cause
+        → Whole old new lines trace (end_of cause)
+    whole_refused n le lines trace cause none refused = subst (λ (es : List Entry). Whole old new lines es (end_of cause)) (sym none) (record {
+      ends = by_end cause;
+      legal = tt;
+      opening = opens old.told new.told;
+      full = tt;
+      log_full = tt;
+      device = tt;
+      is_end = end_is cause refused.because;
+      only = only;
+      later = omega (arith, begun_faults, refused.calls.later);
+    })
+      where
+        by_end : (cause : OpenCause) → Ends old new lines [] (end_of cause)
+        by_end (causes.Damaged set page) = inl refl
+        by_end causes.Device = inl refl
+        by_end causes.NoMemory = inl refl
 
-    module _ (calls : CallsOwn desk.copy (look desk.volume) (look ended)) where
-      made : EachCall (counted old.told 0) (counted new.told ended.calls) Own
-      made =
-          counted_calls told Own volume below begun ended begins ends
-          (calls_join Own (look begun).told (look desk.volume).told (look ended).told (calls_weaken IsQuiet Own (look begun).told (look desk.volume).told (quiet_in (set_of desk.copy)) opens.calls.only) calls.only)
+        opens : (old new : Option Told) → IfBoth old new (λ before t. Unit {0})
+        opens old None = tt
+        opens old (Some t) = λ few before was. tt
 
-      read : IfBoth old.told new.told (λ before t. log_at (log_pages old.capacities) before ≡ opens.log.records)
-      read =
-          read_out Own (log_pages old.capacities) ended.calls opens.log.records old.told (look desk.volume).told new.told le
-          (subst (λ (x : CountedCalls V). EachCall (look x).told (look desk.volume).told IsQuiet) begins opens.calls.only)
-          (subst (λ (v : V). EachCall (look desk.volume).told (counted (told v) ended.calls) Own) (sym ends) calls.only)
-          (subst (λ (k : ℕ). IfTold (look desk.volume).told (λ t. HasLogPages k (read_of t.first t.calls) opens.log.records)) pages_old (read_first_log look (look begun) operator desk opens))
+        only : MakesOnly (WritesOwn []) old.told new.told
+        only = uncounted_only (WritesOwn []) old.told new.told n le (subst (λ (x : CountedCalls V). EachCall (look x).told (counted new.told n) IsQuiet) begins refused.calls.only)
 
-    pub whole_ends : (lines : List Line) (operator_left : O) (trace : List Entry) (end : RunEnd) → IsRun look desk lines (look ended) operator_left trace end → Whole old new lines trace end
-    whole_ends lines operator_left trace end run =
-        let had = old_first look (look begun) operator desk opens in
-        let now = opens.now.records in
-        let same = stores_first look (look begun) operator desk opens in
-        record {
-          ends = ends_out Own old new ended.calls opens.log.records desk.ground.log.pages pages le (made run.calls) (read run.calls) now same desk.copy lines trace end
-              (subst (λ (v : V). DeskEnds now desk.copy desk.ground.log.pages (record { told = counted (told v) ended.calls; faults = faults v; capacities = capacities v }) lines trace end) (sym ends)
-              (subst (λ (rs : List Record). DeskEnds rs desk.copy desk.ground.log.pages (look ended) lines trace end) had run.ends));
-          legal = legal_out Own old new ended.calls opens.log.records desk.ground.log.pages pages le (made run.calls) (read run.calls) now same trace (subst (λ (rs : List Record). LegalFrom rs trace) had run.legal);
+        kept : new.capacities ≡ old.capacities
+        kept = refused.calls.capacities ∙ begun_capacities
+
+        end_is : (cause : OpenCause) → IsCause (look begun) (record { told = counted new.told n; faults = new.faults; capacities = new.capacities }) cause → IsEnd old new [] (end_of cause)
+        end_is (causes.Damaged set page) because = (
+          uncounted_told (λ t. IsDamage new.capacities (read_of t.first t.calls) set page) (λ t. IsDamage new.capacities (read_of t.first t.calls) set page) new.told n le (λ t is. is) because,
+          only,
+          kept,
+        )
+        end_is causes.Device because = subst (λ (k : ℕ). Rose k new.faults) begun_faults because
+        end_is causes.NoMemory because = tt
+
+    module _ (ended : CountedCalls V) (ends : below ≡ ended.volume) (le : IfTold (told below) (λ t. ended.calls ≤ length t.calls)) {O : Type 0} (operator : O) (desk : DeskState (CountedCalls V) O) (opens : OpensStored look (look begun) operator desk) where
+      abbrev counted_seen : VolumeSeen
+      counted_seen = record { told = counted new.told ended.calls; faults = new.faults; capacities = new.capacities }
+
+      pages : desk.ground.log.pages ≡ log_pages old.capacities
+      pages = pages_first look (look begun) operator desk opens ∙ ap log_pages begun_capacities
+
+      seen_is : look ended ≡ counted_seen
+      seen_is = ap (λ (v : V). let s : VolumeSeen = record { told = counted (told v) ended.calls; faults = faults v; capacities = capacities v } in s) (sym ends)
+
+      module _ (lines : List Line) (operator_left : O) (trace : List Entry) (end : RunEnd) (run : IsRun look desk lines (look ended) operator_left trace end) where
+        made : EachCall (counted old.told 0) (counted new.told ended.calls) (WritesOwn trace)
+        made =
+            counted_calls told (WritesOwn trace) volume below begun ended begins ends
+            (calls_join (WritesOwn trace) (look begun).told (look desk.volume).told (look ended).told
+            (calls_weaken IsQuiet (WritesOwn trace) (look begun).told (look desk.volume).told (own_quiet trace) opens.calls.only) run.made.calls)
+
+        read : IfBoth old.told new.told (λ before t. log_at (log_pages old.capacities) before ≡ opens.log.records)
+        read =
+            read_out (WritesOwn trace) (log_pages old.capacities) ended.calls opens.log.records old.told (look desk.volume).told new.told le
+            (subst (λ (x : CountedCalls V). EachCall (look x).told (look desk.volume).told IsQuiet) begins opens.calls.only)
+            (subst (λ (v : V). EachCall (look desk.volume).told (counted (told v) ended.calls) (WritesOwn trace)) (sym ends) run.made.calls)
+            (subst (λ (c : Capacities). IfTold (look desk.volume).told (λ t. HasLogPages (log_pages c) (read_of t.first t.calls) opens.log.records)) begun_capacities (read_first_log look (look begun) operator desk opens))
+
+        kept : new.capacities ≡ old.capacities
+        kept = ap capacities ends ∙ run.made.capacities ∙ opens.calls.capacities ∙ begun_capacities
+
+        run_seen : IsRun look desk lines counted_seen operator_left trace end
+        run_seen = subst (λ (v : VolumeSeen). IsRun look desk lines v operator_left trace end) seen_is run
+
+        now_same : (k : ℕ) → stored opens.now.records k ≡ stored opens.log.records k
+        now_same = stores_first look (look begun) operator desk opens
+
+        had : old_records desk ≡ opens.now.records
+        had = old_first look (look begun) operator desk opens
+
+        wider : Rose (look desk.volume).faults new.faults → Rose old.faults new.faults
+        wider rose = rose_wider (look desk.volume).faults new.faults old.faults new.faults (omega (arith, begun_faults, opens.calls.later)) (omega arith) rose
+
+        pub whole_run : Whole old new lines trace end
+        whole_run = record {
+          ends = ends_out old new ended.calls opens.log.records le read opens.now.records now_same look desk lines operator_left trace end had kept made run_seen;
+          legal = legal_out old new ended.calls opens.log.records le read opens.now.records now_same look desk lines operator_left trace end had kept made run_seen;
           opening =
-              opening_out Own old new ended.calls opens.log.records desk.ground.log.pages pages le (made run.calls) (read run.calls) now same trace (entry_zero look (look begun) operator desk opens)
-              (run.begins ∙ entry_first look (look begun) operator desk opens) (opening_first look (look begun) operator desk opens);
+              opening_out old new ended.calls opens.log.records le read opens.now.records now_same trace (entry_zero look (look begun) operator desk opens)
+              (run.made.begins ∙ entry_first look (look begun) operator desk opens) (opening_first look (look begun) operator desk opens);
+          full = subst (λ (c : Capacities). IsFullOnlyFrom (3221 * smaller_pages c) 0 trace) kept run_seen.made.full;
+          log_full = subst (λ (c : Capacities). IsLogFullOnlyFrom (limit_of (log_pages c)) 0 trace) kept run_seen.made.log_full;
+          device = device_more (Rose (look desk.volume).faults new.faults) (Rose old.faults new.faults) trace wider run_seen.made.device;
+          is_end = end_out old new ended.calls opens.log.records le read opens.now.records now_same look desk lines operator_left trace end had kept made run_seen (λ failed. wider (run_seen.failed failed));
+          only = uncounted_only (WritesOwn trace) old.told new.told ended.calls le made;
+          later = omega (arith, begun_faults, opens.calls.later, run_seen.made.later);
         }
+
+  -- the desk of the first opening
+  pub going_first : (begun : CountedCalls V) {O : Type 0} (operator : O) (desk : DeskState (CountedCalls V) O) → OpensStored look (look begun) operator desk → desk.older ≡ [] → Going look desk [] desk
+  going_first begun operator desk opens none =
+      let opened = opened_first look (look begun) operator desk opens in
+      let same = opens.calls.capacities in
+      let capacity = opens.opens.capacity_is in
+      let least = smaller_least (look begun).capacities (copy_of opens.log.records) in
+      record {
+        base = desk;
+        back = [];
+        goes = goes_opened look desk opened;
+        opened = opened;
+        copy_is = copy_first look (look begun) operator desk opens;
+        counted = count_has (look desk.volume).told opens.opens.calls opens.opens.counted;
+        room = omega (arith, capacity, least, ap smaller_pages same);
+        log_room = pages_first look (look begun) operator desk opens ∙ ap log_pages (sym same);
+        came = inl (refl, none, refl);
+        asked = refl;
+      }

@@ -2,4 +2,5 @@ pub mod Full
 pub mod LogFull
 pub mod Outside
 pub mod Played
+pub mod Parts
 pub mod Table

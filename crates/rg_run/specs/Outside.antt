@@ -2,11 +2,11 @@
 --
 -- 1. DEVICE is answered only where a call of the volume failed, and so is a run's end that the
 --    device brought about.
--- 2. The opening writes nothing. Afterwards no page is written but those of the log and of the copy
+-- 2. An opening writes nothing. After it no page is written but those of the log and of the copy
 --    that was opened.
 -- 3. What is said of a known volume's contents holds while its calls are fewer than 2 ^ 64 - 1, for
 --    so many can be counted.
-use Rattle.std.specs.Prelude.{◌≡◌, ◌<◌, ◌-◌, ◌^◌, ◌++◌, ℕ, List, [], ◌∷◌, Option, Some, length}
+use Rattle.std.specs.Prelude.{◌≡◌, ◌⊎◌, ◌<◌, ◌-◌, ◌^◌, ◌++◌, ℕ, List, [], ◌∷◌, Option, Some, length}
 use Rattle.std.specs.List.{AllByRecursion}
 use Rattle.rg_desk.specs.Flushed.{WritesEither}
 use Rattle.rg_desk.specs.Volume.{VolumeSeen}
@@ -63,16 +63,16 @@ pub record MadeSince (Kind : Call → Type 0) (old : Option Told) (now : Told) :
 abbrev pub MakesOnly : (Call → Type 0) → (old new : Option Told) → Type 0
 MakesOnly Kind old new = IfCounted new (MadeSince Kind old)
 
--- what the calls of a run may write that began with this event: the log, and the copy that was
--- opened
+-- what may be written after this event: the log and the copy that was opened, where it is the event
+-- of an opening
 abbrev pub WritesOf : Event → Call → Type 0
 WritesOf (Opened copy rows pages used) call = WritesEither (set_of copy) call
 WritesOf event call = IsQuiet call
 
--- the same by its trace: nothing, where it has no entry
+-- what the calls of a run may write, by its trace: the log, and each copy that was opened
 abbrev pub WritesOwn : List Entry → Call → Type 0
 WritesOwn [] call = IsQuiet call
-WritesOwn (entry ∷ entries) call = WritesOf entry.event call
+WritesOwn (entry ∷ entries) call = WritesOf entry.event call ⊎ WritesOwn entries call
 
 -- the end of a run whose opening was refused
 abbrev pub end_of : OpenCause → RunEnd
@@ -80,12 +80,13 @@ end_of (causes.Damaged set page) = Damaged set page
 end_of causes.Device = DeviceAtOpening
 end_of causes.NoMemory = NoMemory
 
--- Why a run ended so: a page breaks a rule of a sound volume, or a call of the volume failed.
-abbrev pub IsEnd : (old new : VolumeSeen) → RunEnd → Type 0
-IsEnd old new (Whole rows) = Unit {0}
-IsEnd old new Down = Rose old.faults new.faults
-IsEnd old new (Damaged set page) =
+-- Why a run with this trace ended so: a page breaks a rule of a sound volume, or a call of the
+-- volume failed.
+abbrev pub IsEnd : (old new : VolumeSeen) → List Entry → RunEnd → Type 0
+IsEnd old new trace (Whole rows) = Unit {0}
+IsEnd old new trace Down = Rose old.faults new.faults
+IsEnd old new trace (Damaged set page) =
     IfCounted new.told (λ t. IsDamage new.capacities (read_of t.first t.calls) set page)
-    × MakesOnly IsQuiet old.told new.told × (new.capacities ≡ old.capacities)
-IsEnd old new DeviceAtOpening = Rose old.faults new.faults
-IsEnd old new NoMemory = Unit {0}
+    × MakesOnly (WritesOwn trace) old.told new.told × (new.capacities ≡ old.capacities)
+IsEnd old new trace DeviceAtOpening = Rose old.faults new.faults
+IsEnd old new trace NoMemory = Unit {0}

@@ -2,10 +2,14 @@
 --
 -- 1. The table at the opening is the one that the log stored as it read when the run began, and
 --    entry 0 has its copy, its pages, its rows, and the bytes of the log that are used.
--- 2. A run that ends up leaves a volume that stores the committed rows of its last state, whatever
+-- 2. If the volume read tidy when the run began, the whole trace is legal from that table, over the
+--    deaths of its process. Else this holds of the part before the first death, and each later part
+--    is legal from the table that its opening found.
+-- 3. A run that ends up leaves a volume that stores the committed rows of its last state, whatever
 --    a crash leaves then, if the log read tidy when the run began.
--- 3. Both are said of a known volume while its calls can be counted.
-use Rattle.std.specs.Prelude.{◌≡◌, ◌≤◌, ◌+◌, ◌⊎◌, ℕ, true, false, List, [], ◌∷◌}
+-- 4. All of this is said of a known volume while its calls can be counted.
+use Rattle.std.specs.Prelude.{◌≡◌, ◌≤◌, ◌+◌, ◌⊎◌, ◌++◌, ℕ, Bool, true, false, List, [], ◌∷◌}
+use Rattle.rg_desk.specs.Desk.{LegalFrom}
 use Rattle.rg_desk.specs.Stored.{IsStored}
 use Rattle.rg_desk.specs.Volume.{VolumeSeen}
 use Rattle.rg_image.specs.Log.{log_of}
@@ -14,16 +18,19 @@ use Rattle.rg_image.specs.Pack.{log_bytes}
 use Rattle.rg_image.specs.Rules.{IsTidyLog, owed}
 use Rattle.rg_log.specs.Kept.{log_pages}
 use Rattle.rg_model.specs.Committed.{committed_table}
-use Rattle.rg_model.specs.Legal.{Legal}
 use Rattle.rg_model.specs.Run.{Run}
 use Rattle.rg_model.specs.State.{State, Table, at_rest, row_count}
-use Rattle.rg_outside.specs.Calls.{read_of}
+use Rattle.rg_newest.specs.Tidy.{AreTidyPages}
+use Rattle.rg_outside.specs.Calls.{Image, read_of}
+use Rattle.rg_outside.specs.Capacities.{Capacities}
 use Rattle.rg_outside.specs.Moments.{EachImage}
 use Rattle.rg_record.specs.declared.record.Record.{Record}
 use Rattle.rg_stmt.specs.Entries.{opened_entry}
 use Rattle.rg_stmt.specs.declared.event.Entry.{Entry}
 use Rattle.rg_stmt.specs.declared.line.Line.{Line}
 use Rattle.rg_run.specs.Outside.{IfBoth, log_at}
+use Rattle.rg_stmt.specs.declared.line.Line.TheVariants.{Death}
+use Rattle.rg_run.specs.Parts.{AreParts, DiesIn, RunsFrom}
 use Rattle.rg_run.specs.Played.{TraceOf, TraceOfFront}
 use Rattle.rg_run.specs.declared.played.RunEnd.{RunEnd}
 use Rattle.rg_run.specs.declared.played.RunEnd.TheVariants.{Whole, Down, Damaged, DeviceAtOpening, NoMemory}
@@ -33,11 +40,25 @@ abbrev pub Begins : (old new : VolumeSeen) → Table → Type 0
 Begins old new start =
     IfBoth old.told new.told (λ before t. IsStored (log_at (log_pages old.capacities) before) start)
 
--- a legal trace from that table, if it has an entry
+-- the volume reads tidy: its log, and the pages past those of its copy
+pub record IsTidyVolume (capacities : Capacities) (i : Image) : Type 0 where
+  pub log : IsTidyLog (log_pages capacities) i
+  pub pages : AreTidyPages capacities i
+
+-- the log as it read then, of a volume that read tidy
+abbrev pub IfBegunTidy : (old new : VolumeSeen) → (List Record → Type 0) → Type 0
+IfBegunTidy old new P =
+    IfBoth old.told new.told (λ before t.
+    IsTidyVolume old.capacities (read_of before.first before.calls)
+    → P (log_at (log_pages old.capacities) before))
+
+-- Each part is legal from some table, and the first from that one. If the volume read tidy, the
+-- whole trace is legal from it.
 abbrev pub IsLegalRun : (old new : VolumeSeen) → List Entry → Type 0
 IsLegalRun old new [] = Unit {0}
 IsLegalRun old new (entry ∷ entries) =
-    (start : Table) × Begins old new start × Legal start (entry ∷ entries)
+    AreParts (Begins old new) (entry ∷ entries)
+    × IfBegunTidy old new (λ records. LegalFrom records (entry ∷ entries))
 
 -- The entry of the opening of a log with these records. The bytes that are used are those of the
 -- records, and at most what ending all open units may take.
@@ -63,15 +84,27 @@ IsOpening old new trace =
     IfBoth old.told new.told
     (λ before t. OpensLog (log_at (log_pages old.capacities) before) trace)
 
--- It leads from that table to a last state that is up, with so many committed rows. They are stored
--- whatever a crash leaves.
-pub record EndsWhole (old new : VolumeSeen) (trace : List Entry) (rows : ℕ) : Type 0 where
+-- The last part leads to this state, which is up or down. If the process does not die in these
+-- lines, the trace has no other part, and it does so from that table. If the volume read tidy, the
+-- whole trace leads to that state from it.
+pub record EndsAt (old new : VolumeSeen) (lines : List Line) (trace : List Entry) (down : Bool)
+    (last : State) : Type 0 where
+  pub before : List Entry
+  pub part : List Entry
+  pub joined : trace ≡ before ++ part
   pub start : Table
   pub copy : ℕ
+  pub run : Run [] (at_rest start copy) part last
+  pub is : last.down ≡ down
+  pub alone : (before ≡ []) ⊎ DiesIn lines
+  pub whole : before ≡ [] → Begins old new start
+  pub tidy : IfBegunTidy old new (λ records. RunsFrom records trace last)
+
+-- a state that is up, with so many committed rows, which whatever a crash leaves stores
+pub record EndsWhole (old new : VolumeSeen) (lines : List Line) (trace : List Entry) (rows : ℕ)
+    : Type 0 where
   pub last : State
-  pub begun : Begins old new start
-  pub run : Run [] (at_rest start copy) trace last
-  pub up : last.down ≡ false
+  pub ends : EndsAt old new lines trace false last
   pub rows_are : rows ≡ row_count (committed_table last)
   pub stored :
       IfBoth old.told new.told (λ before t.
@@ -79,19 +112,22 @@ pub record EndsWhole (old new : VolumeSeen) (trace : List Entry) (rows : ℕ) : 
       → EachImage (λ i. IsStored (log_of (log_pages old.capacities) i) (committed_table last)) t)
 
 -- it leads to a state that is down
-pub record EndsAtDown (old new : VolumeSeen) (trace : List Entry) : Type 0 where
-  pub start : Table
-  pub copy : ℕ
-  pub last : State
-  pub begun : Begins old new start
-  pub run : Run [] (at_rest start copy) trace last
-  pub is_down : last.down ≡ true
+abbrev pub EndsAtDown : (old new : VolumeSeen) → List Line → List Entry → Type 0
+EndsAtDown old new lines trace = (last : State) × EndsAt old new lines trace true last
 
--- A whole run has an entry for each line, and ends up or down. One that was refused at its opening
--- has none. One that ran out of memory has those of some first lines, or none at all.
+-- the trace of the lines before a death, or none: an opening was refused
+abbrev pub EndsAtOpening : List Line → List Entry → Type 0
+EndsAtOpening lines trace =
+    (trace ≡ [])
+    ⊎ ((front : List Line) × (rest : List Line) × (lines ≡ front ++ Death ∷ rest)
+    × TraceOf front trace)
+
+-- A whole run has an entry for each line, and ends up or down. One that was refused at an opening
+-- has those of the lines before it. One that ran out of memory has those of some first lines, or
+-- none at all.
 abbrev pub Ends : (old new : VolumeSeen) → List Line → List Entry → RunEnd → Type 0
-Ends old new lines trace (Whole rows) = TraceOf lines trace × EndsWhole old new trace rows
-Ends old new lines trace Down = TraceOf lines trace × EndsAtDown old new trace
-Ends old new lines trace (Damaged set page) = trace ≡ []
-Ends old new lines trace DeviceAtOpening = trace ≡ []
+Ends old new lines trace (Whole rows) = TraceOf lines trace × EndsWhole old new lines trace rows
+Ends old new lines trace Down = TraceOf lines trace × EndsAtDown old new lines trace
+Ends old new lines trace (Damaged set page) = EndsAtOpening lines trace
+Ends old new lines trace DeviceAtOpening = EndsAtOpening lines trace
 Ends old new lines trace NoMemory = (trace ≡ []) ⊎ TraceOfFront lines trace

@@ -9,11 +9,12 @@ pub enum RunEnd {
     Whole { rows: u64 },
     /// Each line has its entry, and the device has refused a COMMIT.
     Down,
-    /// The opening was refused: this page breaks a rule of a sound volume.
+    /// An opening was refused, the first one or that after a death: this page breaks a rule of a
+    /// sound volume.
     Damaged { set: Set, page: u32 },
-    /// The opening was refused: a call of the volume failed.
+    /// An opening was refused, the first one or that after a death: a call of the volume failed.
     DeviceAtOpening,
-    /// Out of memory in the opening, or for an entry; nothing of its line was done.
+    /// Out of memory in an opening, or for an entry; nothing of its line was done.
     NoMemory,
 }
 

@@ -1,13 +1,14 @@
 // The run of a deck.
 //
 // 1. The volume is opened first. Where it is refused no line is played.
-// 2. Each line makes one entry, in the order of the lines.
+// 2. Each line makes one entry, in the order of the lines. Where the process dies the volume is
+//    opened again, and the trace goes on.
 // 3. Where there is no memory for an entry, nothing of its line is done, and the run ends.
 // 4. The calls of the volume are counted from the opening on.
-ghost use Rattle.std.specs.Prelude.{◌≡◌, ◌≤◌, ◌*◌, List, [], ◌∷◌, ◌++◌, OnOk, OnErr, length};
+ghost use Rattle.std.specs.Prelude.{◌≡◌, ◌≤◌, ◌*◌, List, [], ◌∷◌, ◌++◌, IfOk, IfErr, length};
 ghost use Rattle.std.specs.List.{AllByRecursion};
 ghost use Rattle.rg_stmt.specs.declared.line.Line.{Line};
-ghost use Rattle.rg_desk.specs.Desk.{DeskState, LegalFrom, old_records};
+ghost use Rattle.rg_desk.specs.Desk.{DeskState};
 ghost use Rattle.rg_desk.specs.Volume.{seen_volume};
 ghost use Rattle.rg_outside.specs.Faults.{Rose};
 ghost use Rattle.rg_outside.specs.Moments.{IfTold};
@@ -16,7 +17,8 @@ ghost use Rattle.rg_log.specs.Kept.{log_pages};
 ghost use Rattle.rg_run.specs.Full.{IsFullOnlyFrom, smaller_pages};
 ghost use Rattle.rg_run.specs.LogFull.{IsLogFullOnlyFrom};
 ghost use Rattle.rg_run.specs.Outside.{IsDeviceOnlyIf, IsEnd, MakesOnly, WritesOwn, end_of};
-ghost use Rattle.rg_run.specs.Played.{IsPlayed, Goes, IsOpened, IsRun};
+ghost use Rattle.rg_run.specs.Parts.{Going, IsRun, LeavesRun};
+ghost use Rattle.rg_run.specs.Played.{IsPlayed};
 ghost use Rattle.rg_run.specs.Table.{Ends, IsLegalRun, IsOpening};
 
 use crate::played::{Played, RunEnd};
@@ -31,8 +33,9 @@ use std::alloc::Global;
 
 /// Opens the volume, and plays the lines in order over the table that its log stores. The table
 /// lies in memory, in as many pages as the set of the current copy has, and no more than 65,536.
-/// The records of committed units are on the volume, and of the pages those that a flush wrote. The
-/// operator is not asked.
+/// The records of committed units are on the volume, and of the pages those that a flush wrote. A
+/// death of the process drops all that lies in memory, and the volume is opened again. The operator
+/// is not asked.
 pub fn run<V: Volume, O: Operator>(
     alloc: Global,
     volume: V,
@@ -54,29 +57,16 @@ pub fn run<V: Volume, O: Operator>(
     ensures device { IsDeviceOnlyIf (Rose (V.faults volume) (V.faults result.volume))
         result.trace.items }
     ensures end { IsEnd (seen_volume V.told V.faults V.capacities volume)
-        (seen_volume V.told V.faults V.capacities result.volume) result.end }
-    // No page is written but those of the log and of the copy that was opened.
+        (seen_volume V.told V.faults V.capacities result.volume) result.trace.items result.end }
+    // No page is written but those of the log and of the copies that were opened.
     ensures only { MakesOnly (WritesOwn result.trace.items) (V.told volume)
         (V.told result.volume) }
     ensures later { V.faults volume ≤ V.faults result.volume }
     ensures operator { result.operator ≡ operator }
 {
     match open_desk(alloc, Counted::new(volume), operator, Vec::new(alloc), 0) {
-        Ok(desk) => play(desk, lines).uncounted(),
-        Err(fault) => {
-            let OpenFault {
-                volume,
-                operator,
-                trace,
-                cause,
-            } = fault;
-            Played {
-                volume: volume.into_volume(),
-                operator,
-                trace,
-                end: end_of(cause),
-            }
-        }
+        Ok(desk) => play(alloc, desk, lines).uncounted(),
+        Err(fault) => refused(fault).uncounted(),
     }
 }
 
@@ -88,6 +78,27 @@ fn end_of(cause: OpenCause) -> RunEnd
         OpenCause::Damaged { set, page } => RunEnd::Damaged { set, page },
         OpenCause::Device => RunEnd::DeviceAtOpening,
         OpenCause::NoMemory => RunEnd::NoMemory,
+    }
+}
+
+// What a run leaves whose opening was refused.
+fn refused<V, O>(fault: OpenFault<V, O>) -> Played<V, O>
+    ensures volume { result.volume ≡ fault.volume }
+    ensures operator { result.operator ≡ fault.operator }
+    ensures trace { result.trace.items ≡ fault.trace.items }
+    ensures end { result.end ≡ end_of fault.cause }
+{
+    let OpenFault {
+        volume,
+        operator,
+        trace,
+        cause,
+    } = fault;
+    Played {
+        volume,
+        operator,
+        trace,
+        end: end_of(cause),
     }
 }
 
@@ -115,12 +126,11 @@ impl<V: Volume, O> Played<Counted<V>, O> {
     }
 }
 
-// What a run leaves. There was no earlier opening.
+// What a run leaves.
 fn close<V: Counts, O: Operator>(desk: Desk<V, O>, end: RunEnd) -> Played<V, O>
-    requires { desk.older ≡ [] }
-    ensures trace { result.trace.items ≡ desk.trace }
+    ensures trace { result.trace.items ≡ desk.older ++ desk.trace }
     ensures end { result.end ≡ end }
-    ensures legal { LegalFrom (old_records desk) desk.trace }
+    ensures left { LeavesRun desk result.trace.items }
     ensures volume { result.volume ≡ desk.volume }
     ensures operator { result.operator ≡ desk.operator }
 {
@@ -133,19 +143,41 @@ fn close<V: Counts, O: Operator>(desk: Desk<V, O>, end: RunEnd) -> Played<V, O>
     }
 }
 
+// The table is opened again, after the process died. Its entries go before those of the opening.
+fn reopen<V: Counts, O: Operator>(
+    alloc: Global,
+    desk: Desk<V, O>,
+) -> Result<Desk<V, O>, Played<V, O>>
+    ensures goes { IfOk result (λ next. (first : DeskState V O) (lines : List Line)
+        → Going (seen_volume V.told V.faults V.capacities) first lines desk
+        → Going (seen_volume V.told V.faults V.capacities) first (lines ++ Line.Death ∷ []) next) }
+    ensures ends { IfErr result (λ played. (first : DeskState V O) (lines rest : List Line)
+        → Going (seen_volume V.told V.faults V.capacities) first lines desk
+        → IsRun (seen_volume V.told V.faults V.capacities) first (lines ++ Line.Death ∷ rest)
+        (seen_volume V.told V.faults V.capacities played.volume)
+        played.operator played.trace.items played.end) }
+{
+    let (volume, operator, trace, calls) = desk.into_parts();
+    match open_desk(alloc, volume, operator, trace, calls) {
+        Ok(desk) => Ok(desk),
+        Err(fault) => Err(refused(fault)),
+    }
+}
+
 // Plays the lines over a table that was opened.
-fn play<V: Counts, O: Operator>(mut desk: Desk<V, O>, lines: Vec<Line>) -> Played<V, O>
+fn play<V: Counts, O: Operator>(alloc: Global, desk: Desk<V, O>, lines: Vec<Line>) -> Played<V, O>
     requires lines { AllByRecursion IsPlayed lines.items }
-    requires opened { IsOpened desk }
+    requires going { Going (seen_volume V.told V.faults V.capacities) desk [] desk }
     ensures { IsRun (seen_volume V.told V.faults V.capacities) desk lines.items
         (seen_volume V.told V.faults V.capacities result.volume)
         result.operator result.trace.items result.end }
 {
+    let mut desk = desk;
     for line in lines {
-        match play_line(&mut desk, line) {
-            Ok(()) => {}
-            Err(_) => return close(desk, RunEnd::NoMemory),
-        }
+        desk = match play_line(alloc, desk, line) {
+            Ok(next) => next,
+            Err(played) => return played,
+        };
     }
     if desk.down() {
         return close(desk, RunEnd::Down);
@@ -154,19 +186,38 @@ fn play<V: Counts, O: Operator>(mut desk: Desk<V, O>, lines: Vec<Line>) -> Playe
     close(desk, RunEnd::Whole { rows })
 }
 
-// Makes the entry of a line, which is a statement, a layout or a flush. If there is no memory for
-// the entry, nothing is done.
-fn play_line<V: Counts, O: Operator>(desk: &mut Desk<V, O>, line: Line) -> Result<(), NoMemory>
+// Makes the entry of a line, which is a statement, a layout, a flush or the death of the process.
+// If there is no memory for the entry, nothing is done, and the run ends.
+fn play_line<V: Counts, O: Operator>(
+    alloc: Global,
+    desk: Desk<V, O>,
+    line: Line,
+) -> Result<Desk<V, O>, Played<V, O>>
     requires line { IsPlayed line }
-    ensures goes { OnOk result ((first : DeskState V O) (lines : List Line)
-        → Goes (seen_volume V.told V.faults V.capacities) first lines desk.old
-        → Goes (seen_volume V.told V.faults V.capacities) first (lines ++ line ∷ []) desk.new) }
-    ensures err { OnErr result (desk.new ≡ desk.old) }
+    ensures goes { IfOk result (λ next. (first : DeskState V O) (lines : List Line)
+        → Going (seen_volume V.told V.faults V.capacities) first lines desk
+        → Going (seen_volume V.told V.faults V.capacities) first (lines ++ line ∷ []) next) }
+    ensures ends { IfErr result (λ played. (first : DeskState V O) (lines rest : List Line)
+        → Going (seen_volume V.told V.faults V.capacities) first lines desk
+        → IsRun (seen_volume V.told V.faults V.capacities) first (lines ++ line ∷ rest)
+        (seen_volume V.told V.faults V.capacities played.volume)
+        played.operator played.trace.items played.end) }
 {
+    let mut desk = desk;
     match line {
-        Line::Said { session, stmt } => desk.exec(session, stmt),
-        Line::Flush => desk.flush_one(),
-        Line::Show => desk.show(),
-        Line::Reorg(_) | Line::Step | Line::Death => unreachable!(),
+        Line::Said { session, stmt } => match desk.exec(session, stmt) {
+            Ok(()) => Ok(desk),
+            Err(_) => Err(close(desk, RunEnd::NoMemory)),
+        },
+        Line::Flush => match desk.flush_one() {
+            Ok(()) => Ok(desk),
+            Err(_) => Err(close(desk, RunEnd::NoMemory)),
+        },
+        Line::Show => match desk.show() {
+            Ok(()) => Ok(desk),
+            Err(_) => Err(close(desk, RunEnd::NoMemory)),
+        },
+        Line::Death => reopen(alloc, desk),
+        Line::Reorg(_) | Line::Step => unreachable!(),
     }
 }

@@ -1,4 +1,5 @@
-// Flushes: which pages they write, and what a crash leaves of a volume with pages.
+// Flushes: which pages they write, and what a crash leaves of a volume with pages. Deaths of the
+// process: what the opening after one finds.
 ghost use Rattle.std.specs.Prelude.{IfOk};
 ghost use Rattle.std.specs.List.{AllByRecursion};
 ghost use Rattle.rg_base.specs.Session.{IsSession};
@@ -45,6 +46,7 @@ enum Ask {
     Rollback,
     Flush,
     Show,
+    Death,
 }
 
 // What an entry says. Of a row it tells the first byte of the text, and how long this is.
@@ -61,6 +63,8 @@ enum Seen {
     FlushDown,
     // The pages, and how many rows have moved.
     Shown { pages: u32, moved: usize },
+    Opened { rows: u64, pages: u32 },
+    Absent,
     Other,
 }
 
@@ -112,7 +116,7 @@ fn stmt_of(alloc: Global, ask: Ask) -> Result<Option<Stmt>, Fail> {
         },
         Ask::Commit => Stmt::Commit,
         Ask::Rollback => Stmt::Rollback,
-        Ask::Flush | Ask::Show => return Ok(None),
+        Ask::Flush | Ask::Show | Ask::Death => return Ok(None),
     };
     Ok(Some(stmt))
 }
@@ -137,6 +141,7 @@ fn line_of(alloc: Global, number: u8, ask: Ask) -> Result<Line, Fail>
             stmt,
         }),
         None if matches!(ask, Ask::Flush) => Ok(Line::Flush),
+        None if matches!(ask, Ask::Death) => Ok(Line::Death),
         None => Ok(Line::Show),
     }
 }
@@ -168,12 +173,17 @@ fn seen_of(entry: &Entry) -> Seen {
             Reply::Listed(_) => Seen::Listed,
             Reply::Device => Seen::Device,
             Reply::Down => Seen::Down,
+            Reply::Absent => Seen::Absent,
             _ => Seen::Other,
         },
         Event::Flush { page } => Seen::Flush(*page),
         Event::Clean => Seen::Clean,
         Event::FlushDevice => Seen::FlushDevice,
         Event::FlushDown => Seen::FlushDown,
+        Event::Opened { rows, pages, .. } => Seen::Opened {
+            rows: *rows,
+            pages: *pages,
+        },
         Event::Layout { side, .. } => {
             let spots = side.spots.as_slice().iter();
             Seen::Shown {
@@ -685,5 +695,92 @@ fn keeps_committed_units_where_a_call_fails(rt: HostRuntime) -> Result<(), Fail>
             expect_kept(&rt, alloc, &played)?;
         }
     }
+    Ok(())
+}
+
+fn opened(rows: u64, pages: u32) -> Seen {
+    Seen::Opened { rows, pages }
+}
+
+// A death drops locks and claims, and leaves what is committed: the page that a flush wrote with
+// the rows of an open unit is taken back.
+#[test]
+fn opens_again_after_a_death(rt: HostRuntime) -> Result<(), Fail> {
+    let alloc = rt.alloc();
+    let decks: [&[Step]; 3] = [
+        &[
+            (1, insert(1, b"a", 1), Seen::Done),
+            (1, Ask::Commit, Seen::Done),
+            (1, update(1, b"b", 1), Seen::Done),
+            (0, Ask::Flush, Seen::Flush(1)),
+            (0, Ask::Flush, Seen::Clean),
+            (0, Ask::Death, opened(1, 1)),
+            (2, update(1, b"c", 1), Seen::Done),
+            (2, Ask::Commit, Seen::Done),
+            (0, Ask::Death, opened(1, 1)),
+            (1, Ask::Select(1), found(b'c', 1)),
+        ],
+        &[
+            (1, insert(1, b"a", 1), Seen::Done),
+            (0, Ask::Death, opened(0, 0)),
+            (2, insert(1, b"b", 2), Seen::Done),
+            (2, Ask::Commit, Seen::Done),
+            (0, Ask::Show, Seen::Shown { pages: 1, moved: 0 }),
+        ],
+        &[
+            (0, Ask::Death, opened(0, 0)),
+            (0, Ask::Death, opened(0, 0)),
+            (1, Ask::ScanAll, Seen::Listed),
+        ],
+    ];
+    for (deck, rows) in decks.iter().copied().zip([1, 1, 0]) {
+        let played = played_over(alloc, volume(alloc, 9, &[], None)?, deck)?;
+        expect_steps(&rt, &played, deck)?;
+        assert_eq!(rt; played.end, RunEnd::Whole { rows });
+    }
+    Ok(())
+}
+
+// Where the device refused a COMMIT its unit may be in after a death, or not.
+#[test]
+fn finds_a_commit_in_doubt_or_not(rt: HostRuntime) -> Result<(), Fail> {
+    let alloc = rt.alloc();
+    for (call, written, rows, seen) in [
+        (3, false, 0, Seen::Absent),
+        (3, true, 1, found(b'a', 1)),
+        (4, false, 1, found(b'a', 1)),
+    ] {
+        let pages = if rows == 0 { 0 } else { 1 };
+        let deck = [
+            (1, insert(1, b"a", 1), Seen::Done),
+            (1, Ask::Commit, Seen::Device),
+            (1, Ask::Select(1), Seen::Down),
+            (0, Ask::Death, opened(rows, pages)),
+            (1, Ask::Select(1), seen),
+        ];
+        let failing = [Failing { call, written }];
+        let played = played_over(alloc, volume(alloc, 9, &failing, None)?, &deck)?;
+        expect_steps(&rt, &played, &deck)?;
+        assert_eq!(rt; played.end, RunEnd::Whole { rows }, "call {call}");
+    }
+    Ok(())
+}
+
+// Where the opening after a death is refused, the entries before it are kept.
+#[test]
+fn keeps_the_entries_before_a_death(rt: HostRuntime) -> Result<(), Fail> {
+    let alloc = rt.alloc();
+    let deck = [
+        (1, insert(1, b"a", 1), Seen::Done),
+        (0, Ask::Death, Seen::Other),
+        (1, Ask::Select(1), Seen::Other),
+    ];
+    let failing = [Failing {
+        call: 3,
+        written: false,
+    }];
+    let played = played_over(alloc, volume(alloc, 9, &failing, None)?, &deck)?;
+    expect_steps(&rt, &played, deck.split_at(1).0)?;
+    assert_eq!(rt; played.end, RunEnd::DeviceAtOpening);
     Ok(())
 }

@@ -2,13 +2,14 @@ use Rattle.std.proofs.Common.{◌≡◌, ◌++◌, length}
 use Rattle.std.specs.List.{AllByRecursion}
 use Rattle.std.specs.Vec.Iter.{into_iter_items, into_iter_len}
 use Rattle.rg_desk.specs.Volume.{seen_volume}
-use Rattle.rg_run.specs.Played.{IsPlayed, Goes}
+use Rattle.rg_run.specs.Parts.{Going}
+use Rattle.rg_run.specs.Played.{IsPlayed}
 use Rattle.rg_run.proofs.run.play.Given as goal
 
 abbrev pub invariant-loop-line : goal.invariant-loop-line
 invariant-loop-line g l =
     record {
-      going : Goes (seen_volume g.V.Volume.told g.V.Volume.faults g.V.Volume.capacities) l.initial.desk l.yielded l.desk;
+      going : Going (seen_volume g.V.Volume.told g.V.Volume.faults g.V.Volume.capacities) l.fn.desk l.yielded l.desk;
       rest : l.yielded ++ into_iter_items l.line-iterator ≡ l.fn.lines.items;
       left : into_iter_len l.line-iterator ≡ length (into_iter_items l.line-iterator);
       lines : AllByRecursion IsPlayed (into_iter_items l.line-iterator);

@@ -1,0 +1,295 @@
+-- The table is opened again, and a run ends.
+use Rattle.std.proofs.Common.{◌≡◌, ◌==◌, ◌||◌, ◌&&◌, ◌-◌, ◌≤◌, ◌+◌, ◌⊎◌, inl, inr, ℕ, Bool, true, false, List, [], ◌∷◌, ◌++◌, Option, Some, None, length, refl, sym, ◌∙◌, ap, subst, arith, append_assoc, append-nil}
+use Rattle.std.specs.List.{Contains}
+use Rattle.rg_desk.specs.Chronicle.{IsRecorded}
+use Rattle.rg_desk.specs.Desk.{DeskState, EndsDown, EndsIn, EndsWithRows, LeavesTable, LegalFrom, old_records}
+use Rattle.rg_desk.specs.Left.{StoresLeft}
+use Rattle.rg_desk.specs.OnVolume.{LeavesCopyIfTidy, WasAllTidy}
+use Rattle.rg_desk.specs.Stored.{IsStored}
+use Rattle.rg_desk.specs.Volume.{HasCalls, VolumeSeen, WasTidy}
+use Rattle.rg_desk.specs.declared.desk.OpenCause.{OpenCause}
+use Rattle.rg_desk.specs.declared.desk.OpenCause.TheVariants as causes
+use Rattle.rg_image.specs.Log.{log_of}
+use Rattle.rg_image.specs.Meaning.{current_of}
+use Rattle.rg_image.specs.Rules.{HasLogPages}
+use Rattle.rg_image.proofs.Rules.{log_is_read}
+use Rattle.rg_log.specs.Kept.{log_pages}
+use Rattle.rg_log.specs.Open.{IsQuiet}
+use Rattle.rg_log.proofs.Ready.{quiet_reads}
+use Rattle.rg_model.specs.Committed.{committed_table}
+use Rattle.rg_model.specs.Possible.{tables_left}
+use Rattle.rg_model.specs.State.{State}
+use Rattle.rg_model.proofs.RunPossible.{same_number-refl}
+use Rattle.rg_outside.specs.Calls.{Image, Told, read_of}
+use Rattle.rg_outside.specs.Faults.{Rose}
+use Rattle.rg_outside.specs.Moments.{EachCall, EachImage, IfTold}
+use Rattle.rg_outside.proofs.Every.{read_image}
+use Rattle.rg_outside.proofs.Frame.{calls_weaken}
+use Rattle.rg_record.specs.declared.record.Record.{Record}
+use Rattle.rg_restart.specs.Opening.{IsCause, IsRefused, OpensStored}
+use Rattle.rg_restart.specs.Pages.{copy_of}
+use Rattle.rg_stmt.specs.declared.event.Entry.{Entry}
+use Rattle.rg_stmt.specs.declared.line.Line.{Line}
+use Rattle.rg_stmt.specs.declared.line.Line.TheVariants.{Death}
+use Rattle.rg_run.specs.Full.{smaller_pages}
+use Rattle.rg_run.specs.Outside.{WritesOwn, end_of}
+use Rattle.rg_run.specs.Parts.{Came, DiesIn, EndsUp, Follows, Going, IfTidy, IsFailed, IsRun, LastPart, LeavesRun, Made, PartRun, RunEnds, RunsFrom}
+use Rattle.rg_run.specs.Played.{Goes, TraceOf}
+use Rattle.rg_run.specs.declared.played.RunEnd.TheVariants as ends
+use Rattle.rg_run.proofs.Fullness.{smaller_least}
+use Rattle.rg_run.proofs.Going.{made_now, made_on, same_table, was_tidy, whole_run}
+use Rattle.rg_run.proofs.Joins.{own_quiet}
+use Rattle.rg_run.proofs.Opening.{copy_first, old_first, opened_first, pages_first, read_first_log, stores_first}
+use Rattle.rg_run.proofs.Plays.{goes_opened, rose_earlier}
+
+-- one line more is played since the last opening
+pub going_on : {V O : Type 0} (look : V → VolumeSeen) (first old new : DeskState V O) (lines : List Line) (line : Line) → ((base : DeskState V O) (back : List Line) → Goes look base back old → Goes look base (back ++ line ∷ []) new) → Going look first lines old → Going look first (lines ++ line ∷ []) new
+going_on look first old new lines line step going = record {
+  base = going.base;
+  back = going.back ++ line ∷ [];
+  goes = step going.base going.back going.goes;
+  opened = going.opened;
+  copy_is = going.copy_is;
+  counted = going.counted;
+  room = going.room;
+  log_room = going.log_room;
+  came = by_came going.came;
+  asked = going.asked;
+}
+  where
+    by_came : Came look first going.base lines going.back → Came look first going.base (lines ++ line ∷ []) (going.back ++ line ∷ [])
+    by_came (inl came) = inl (came.0, came.1, ap (λ (ls : List Line). ls ++ line ∷ []) came.2)
+    by_came (inr again) = inr (record {
+      front = again.front;
+      joined = ap (λ (ls : List Line). ls ++ line ∷ []) again.joined ∙ append_assoc again.front (Death ∷ going.back) (line ∷ []);
+      made = again.made;
+      follows = again.follows;
+    })
+
+pub count_has : (told : Option Told) (n : ℕ) → IfTold told (λ t. length t.calls ≡ t.start + n) → IfTold told (λ t. t.start + 0 ≤ length t.calls)
+count_has None n h = tt
+count_has (Some t) n h = omega (arith, h)
+
+module _ {V O : Type 0} (look : V → VolumeSeen) (first desk : DeskState V O) (lines : List Line) (going : Going look first lines desk) where
+  abbrev now : VolumeSeen
+  now = look desk.volume
+
+  abbrev all : List Entry
+  all = desk.older ++ desk.trace
+
+  older_same : desk.older ≡ going.base.older
+  older_same = going.goes.stays.older
+
+  pages_now : desk.ground.log.pages ≡ log_pages now.capacities
+  pages_now = going.goes.stays.log_pages ∙ going.log_room ∙ ap log_pages (sym going.goes.stays.calls.capacities)
+
+  pub made_left : (trace : List Entry) → trace ≡ all → LeavesRun desk trace → Made look first lines trace now
+  made_left trace is left =
+      let same : trace ≡ going.base.older ++ desk.trace = is ∙ ap (λ (older : List Entry). older ++ desk.trace) older_same in
+      subst (λ (es : List Entry). Made look first lines es now) (sym same)
+      (made_now look first desk lines going left.legal left.count (subst (λ (es : List Entry). IsRecorded es left.count) same left.recorded) left.last left.part)
+
+  -- the last part
+  last_part : (down : Bool) (last : State) → EndsIn (old_records desk) desk.copy desk.trace down last → LastPart (old_records first) now lines all down last
+  last_part down last ends = record {
+    before = going.base.older;
+    part = desk.trace;
+    joined = ap (λ (older : List Entry). older ++ desk.trace) older_same;
+    start = ends.start;
+    copy = desk.copy;
+    run = ends.run;
+    is = ends.down_is;
+    alone = alone going.came;
+    whole = λ none. by_came none going.came;
+    tidy =
+        subst (λ (older : List Entry). IfTidy now (RunsFrom (old_records first) (older ++ desk.trace) last)) (sym older_same)
+        (whole_run look first desk lines going last (record { start = ends.start; starts = ends.starts; run = ends.run }));
+  }
+    where
+      starts : IsStored (old_records going.base) ends.start
+      starts = subst (λ (rs : List Record). IsStored rs ends.start) going.goes.stays.old_same ends.starts
+
+      alone : Came look first going.base lines going.back → (going.base.older ≡ []) ⊎ DiesIn lines
+      alone (inl came) = inl (ap (λ (b : DeskState V O). b.older) came.0 ∙ came.1)
+      alone (inr again) = inr (again.front, going.back, again.joined)
+
+      some : (ls : List Line) (es : List Entry) → TraceOf ls es → es ≡ [] → ⊥
+      some ls [] of e = of
+      some ls (x ∷ xs) of e = absurd (cc (e))
+
+      by_came : going.base.older ≡ [] → Came look first going.base lines going.back → IsStored (old_records first) ends.start
+      by_came none (inl came) = subst (λ (b : DeskState V O). IsStored (old_records b) ends.start) came.0 starts
+      by_came none (inr again) = absurd (some again.front going.base.older again.made.entries none)
+
+  -- a run that goes on no further
+  module _ (trace : List Entry) (is : trace ≡ all) (left : LeavesRun desk trace) (seen : VolumeSeen) (seen_is : seen ≡ now) (operator : O) (operator_is : operator ≡ desk.operator) where
+    asked : operator ≡ first.operator
+    asked = operator_is ∙ going.goes.stays.operator ∙ going.asked
+
+    made_seen : Made look first lines trace seen
+    made_seen = subst (Made look first lines trace) (sym seen_is) (made_left trace is left)
+
+    pub ends_wanting : (rest : List Line) → IsRun look first (lines ++ rest) seen operator trace ends.NoMemory
+    ends_wanting rest = record { front = lines; rest = rest; joined = refl; made = made_seen; ends = tt; failed = λ none. absurd none; asked = asked }
+
+    pub ends_down : desk.down ≡ true → EndsDown (old_records desk) desk.copy desk.trace → IsRun look first lines seen operator trace ends.Down
+    ends_down down end = record {
+      front = lines;
+      rest = [];
+      joined = sym (append-nil lines);
+      made = made_seen;
+      ends = (
+        refl,
+        end.0,
+        subst (λ (v : VolumeSeen). LastPart (old_records first) v lines trace true end.0) (sym seen_is)
+            (subst (λ (es : List Entry). LastPart (old_records first) now lines es true end.0) (sym is) (last_part true end.0 end.1)),
+      );
+      failed = λ so. subst (λ (v : VolumeSeen). Rose (look first.volume).faults v.faults) (sym seen_is) (by_came going.came);
+      asked = asked;
+    }
+      where
+        rose : Rose (look going.base.volume).faults now.faults
+        rose = going.goes.down down
+
+        by_came : Came look first going.base lines going.back → Rose (look first.volume).faults now.faults
+        by_came (inl came) = subst (λ (b : DeskState V O). Rose (look b.volume).faults now.faults) came.0 rose
+        by_came (inr again) = rose_earlier (look first.volume).faults (look going.base.volume).faults now.faults again.made.later rose
+
+    pub ends_up : (rows : ℕ) → EndsWithRows (old_records desk) desk.copy desk.ground.log.pages now desk.trace rows → IsRun look first lines seen operator trace (ends.Whole rows)
+    ends_up rows end = record {
+      front = lines;
+      rest = [];
+      joined = sym (append-nil lines);
+      made = made_seen;
+      ends = (
+        refl,
+        subst (λ (v : VolumeSeen). EndsUp (old_records first) (log_pages v.capacities) v lines trace rows) (sym seen_is)
+            (subst (λ (es : List Entry). EndsUp (old_records first) (log_pages now.capacities) now lines es rows) (sym is)
+            (record {
+              last = end.last;
+              ends = last_part false end.last end.ends;
+              rows_are = end.rows_are;
+              stored =
+                  subst (λ (n : ℕ). IfTold now.told (λ t. WasTidy n t → EachImage (λ i. IsStored (log_of n i) (committed_table end.last)) t)) pages_now end.stored;
+            })),
+      );
+      failed = λ none. absurd none;
+      asked = asked;
+    }
+
+  -- ---- after a death
+
+  module _ (left : LeavesTable (old_records desk) desk.copy desk.ground.log.pages now desk.trace) (copies : LeavesCopyIfTidy now desk.copy) (legal : LegalFrom (old_records desk) desk.trace)
+      (count : ℕ) (recorded : IsRecorded all count) (has : HasCalls now count) where
+    part : PartRun desk left.last
+    part = record { start = left.start; starts = left.starts; run = left.run }
+
+    leaves : LeavesRun desk all
+    leaves = record { legal = legal; count = count; recorded = recorded; last = left.last; part = part }
+
+    made_all : Made look first lines all now
+    made_all = made_left all refl leaves
+
+    made_quiet : (later : VolumeSeen) → EachCall now.told later.told IsQuiet → now.faults ≤ later.faults → later.capacities ≡ now.capacities → Made look first lines all later
+    made_quiet later quiet le same =
+        made_on look first lines all now later made_all count has (calls_weaken IsQuiet (WritesOwn all) now.told later.told (own_quiet all) quiet) le same
+
+    pub refused_again : (later : VolumeSeen) (cause : OpenCause) (operator : O) (trace : List Entry) (rest : List Line) → operator ≡ desk.operator → trace ≡ all → IsRefused now later cause → IsRun look first (lines ++ Death ∷ rest) later operator trace (end_of cause)
+    refused_again later cause operator trace rest operator_is is refused = record {
+      front = lines;
+      rest = Death ∷ rest;
+      joined = refl;
+      made = made;
+      ends = by_cause cause refused.because;
+      failed = failed cause refused.because;
+      asked = operator_is ∙ going.goes.stays.operator ∙ going.asked;
+    }
+      where
+        made : Made look first lines trace later
+        made = subst (λ (es : List Entry). Made look first lines es later) (sym is) (made_quiet later refused.calls.only refused.calls.later refused.calls.capacities)
+
+        by_cause : (cause : OpenCause) → IsCause now later cause → RunEnds (old_records first) (log_pages later.capacities) later lines (Death ∷ rest) trace (end_of cause)
+        by_cause (causes.Damaged set page) because = ((rest, refl), because)
+        by_cause causes.Device because = (rest, refl)
+        by_cause causes.NoMemory because = tt
+
+        failed : (cause : OpenCause) → IsCause now later cause → IsFailed (end_of cause) → Rose (look first.volume).faults later.faults
+        failed (causes.Damaged set page) because none = absurd none
+        failed causes.Device because so = rose_earlier (look first.volume).faults now.faults later.faults made_all.later because
+        failed causes.NoMemory because none = absurd none
+
+    module _ (operator : O) (operator_is : operator ≡ desk.operator) (next : DeskState V O) (opens : OpensStored look now operator next) (older_is : next.older ≡ all) where
+      abbrev rs : List Record
+      rs = opens.log.records
+
+      abbrev later : VolumeSeen
+      later = look next.volume
+
+      starts : IsStored rs opens.opens.start
+      starts k = opens.opens.starts k ∙ stores_first look now operator next opens k
+
+      follows : IfTidy later (Follows (old_records first) all next)
+      follows =
+          subst (λ c. IfTold later.told (λ t. WasAllTidy c t → Follows (old_records first) all next)) (sym opens.calls.capacities)
+          (go now.told later.told opens.calls.only has
+          (subst (λ (n : ℕ). IfTold now.told (λ t. WasTidy n t → EachImage (λ i. StoresLeft left.last (log_of n i)) t)) pages_now left.left) copies
+          (subst (λ (older : List Entry). IfTidy now (RunsFrom (old_records first) (older ++ desk.trace) left.last)) (sym older_same) (whole_run look first desk lines going left.last part))
+          (read_first_log look now operator next opens))
+        where
+          pages : ℕ
+          pages = log_pages now.capacities
+
+          go : (old new : Option Told) → EachCall old new IsQuiet → IfTold old (λ t. t.start + count ≤ length t.calls) → IfTold old (λ t. WasTidy (log_pages now.capacities) t → EachImage (λ i. StoresLeft left.last (log_of (log_pages now.capacities) i)) t)
+              → IfTold old (λ t. WasTidy (log_pages now.capacities) t → EachImage (λ i. (current_of (log_of (log_pages now.capacities) i)).copy ≡ desk.copy) t)
+              → IfTold old (λ t. WasAllTidy now.capacities t → RunsFrom (old_records first) all left.last)
+              → IfTold new (λ t. HasLogPages (log_pages now.capacities) (read_of t.first t.calls) rs) → IfTold new (λ t. WasAllTidy now.capacities t → Follows (old_records first) all next)
+          go old None made has stored copied runs reads = tt
+          go None (Some after) made has stored copied runs reads = absurd (cc (made.2))
+          go (Some before) (Some after) made has stored copied runs reads = λ tidy.
+              let was : before ≡ made.0 = cc (made.2) in
+              let is : after ≡ record before { calls = made.1 ++ before.calls } = made.3 ∙ ap (λ (t : Told). let u : Told = record t { calls = made.1 ++ t.calls } in u) (sym was) in
+              let then : WasAllTidy now.capacities before = was_tidy IsQuiet now.capacities before after count made has tidy in
+              let i : Image = read_of before.first before.calls in
+              let same : read_of after.first after.calls ≡ i = ap (λ (t : Told). read_of t.first t.calls) is ∙ (λ j s p. quiet_reads before.first made.1 before.calls s p made.4 j) in
+              let log : log_of (log_pages now.capacities) i ≡ rs = ap (log_of (log_pages now.capacities)) (sym same) ∙ log_is_read (log_pages now.capacities) (read_of after.first after.calls) rs reads in
+              let left_there : StoresLeft left.last rs = subst (StoresLeft left.last) log (stored then.log i (read_image before)) in
+              let copy : (current_of rs).copy ≡ desk.copy = subst (λ (xs : List Record). (current_of xs).copy ≡ desk.copy) log (copied then.log i (read_image before)) in
+              let there : next.copy ≡ left.last.copy = opens.opens.copy_is ∙ copy ∙ sym left.copy_is in
+              record {
+                last = left.last;
+                runs = runs then;
+                table = opens.opens.start;
+                stored = subst (λ (xs : List Record). IsStored xs opens.opens.start) (sym (old_first look now operator next opens)) opens.opens.starts;
+                reopens = record {
+                  table = opens.opens.start;
+                  left = subst (Contains (tables_left left.last left.last.doubt)) (same_table rs left_there.table opens.opens.start left_there.stored starts) left_there.among;
+                  copy_left =
+                      ap (λ (b : Bool). b || (left.last.copydoubt && (next.copy == 3 - left.last.copy))) (ap (λ (n : ℕ). n == left.last.copy) there ∙ same_number-refl left.last.copy);
+                  counted = refl;
+                  at_rest = refl;
+                };
+              }
+
+      pub going_again : Going look first (lines ++ Death ∷ []) next
+      going_again =
+          let opened = opened_first look now operator next opens in
+          let same = opens.calls.capacities in
+          let capacity = opens.opens.capacity_is in
+          let least = smaller_least now.capacities (copy_of rs) in
+          record {
+            base = next;
+            back = [];
+            goes = goes_opened look next opened;
+            opened = opened;
+            copy_is = copy_first look now operator next opens;
+            counted = count_has later.told opens.opens.calls opens.opens.counted;
+            room = omega (arith, capacity, least, ap smaller_pages same);
+            log_room = pages_first look now operator next opens ∙ ap log_pages (sym same);
+            came = inr (record {
+              front = lines;
+              joined = refl;
+              made = subst (λ (es : List Entry). Made look first lines es later) (sym older_is) (made_quiet later opens.calls.only opens.calls.later same);
+              follows = subst (λ (es : List Entry). IfTidy later (Follows (old_records first) es next)) (sym older_is) follows;
+            });
+            asked = opens.opens.asked ∙ operator_is ∙ going.goes.stays.operator ∙ going.asked;
+          }

@@ -1,0 +1,194 @@
+-- A run over the deaths of its process.
+--
+-- 1. A trace is in parts: each begins with an opening, and the process died before the next one.
+-- 2. Each part is legal from some table, and the first part from the one that the log stored when
+--    the run began.
+-- 3. Where the volume is known and read tidy then, an opening finds what process death leaves of
+--    the part before. So the whole trace is legal from that table.
+use Rattle.std.specs.Prelude.{◌≡◌, ◌≤◌, ◌*◌, ◌⊎◌, ◌++◌, ℕ, Bool, true, false, List, [], ◌∷◌}
+use Rattle.rg_desk.specs.Chronicle.{IsRecorded}
+use Rattle.rg_desk.specs.Desk.{DeskState, IsCopy, LegalFrom, old_records}
+use Rattle.rg_desk.specs.OnVolume.{WasAllTidy}
+use Rattle.rg_desk.specs.Stored.{IsStored}
+use Rattle.rg_desk.specs.Volume.{HasCalls, VolumeSeen, WasTidy}
+use Rattle.rg_image.specs.Log.{log_of}
+use Rattle.rg_image.specs.Rules.{limit_of}
+use Rattle.rg_log.specs.Kept.{log_pages}
+use Rattle.rg_model.specs.Committed.{committed_table}
+use Rattle.rg_model.specs.Legal.{Legal}
+use Rattle.rg_model.specs.Run.{Reopens, Run}
+use Rattle.rg_model.specs.State.{State, Table, at_rest, row_count}
+use Rattle.rg_outside.specs.Calls.{read_of}
+use Rattle.rg_outside.specs.Faults.{Rose}
+use Rattle.rg_outside.specs.Moments.{EachCall, EachImage, IfTold}
+use Rattle.rg_record.specs.declared.record.Record.{Record}
+use Rattle.rg_restart.specs.Sound.{IsDamage}
+use Rattle.rg_stmt.specs.declared.event.Entry.{Entry}
+use Rattle.rg_stmt.specs.declared.line.Line.{Line}
+use Rattle.rg_stmt.specs.declared.line.Line.TheVariants.{Death}
+use Rattle.rg_run.specs.Full.{IsFullOnlyFrom, smaller_pages}
+use Rattle.rg_run.specs.LogFull.{IsLogFullOnlyFrom}
+use Rattle.rg_run.specs.Outside.{IsDeviceOnlyIf, WritesOwn}
+use Rattle.rg_run.specs.Played.{Goes, IsOpened, IsOpenedEntry, TraceOf, first_of}
+use Rattle.rg_run.specs.declared.played.RunEnd.{RunEnd}
+use Rattle.rg_run.specs.declared.played.RunEnd.TheVariants.{Whole, Down, Damaged, DeviceAtOpening, NoMemory}
+
+-- parts of a trace, each legal from some table, and the first from one of these
+pub data AreParts (First : Table → Type 0) : List Entry → Type 0 where
+  One : (part : List Entry) (start : Table) → First start → Legal start part → AreParts First part
+  Next : (before part : List Entry) (start : Table) → AreParts First before → Legal start part
+      → AreParts First (before ++ part)
+
+-- it leads to this state from the table that these records store
+pub record RunsFrom (old : List Record) (trace : List Entry) (last : State) : Type 0 where
+  pub start : Table
+  pub starts : IsStored old start
+  pub copy : ℕ
+  pub run : Run [] (at_rest start copy) trace last
+
+-- the volume read tidy when the count began, and then this holds
+abbrev pub IfTidy : VolumeSeen → Type 0 → Type 0
+IfTidy seen P = IfTold seen.told (λ t. WasAllTidy seen.capacities t → P)
+
+-- The entries before the opening of a desk lead to a state that process death leaves so: its table
+-- is the one that the desk began with.
+pub record Follows {V O : Type 0} (old : List Record) (older : List Entry) (base : DeskState V O)
+    : Type 0 where
+  pub last : State
+  pub runs : RunsFrom old older last
+  pub table : Table
+  pub stored : IsStored (old_records base) table
+  pub reopens : Reopens last base.copy (row_count table) (at_rest table base.copy)
+
+-- the first entry opens copy 1 or 2
+abbrev pub IsKnown : List Entry → Type 0
+IsKnown [] = ⊥
+IsKnown (entry ∷ entries) = (opened : IsOpenedEntry entry) × IsCopy opened.copy
+
+-- the entries of a desk lead to this state from the table that it began with
+pub record PartRun {V O : Type 0} (desk : DeskState V O) (last : State) : Type 0 where
+  pub start : Table
+  pub starts : IsStored (old_records desk) start
+  pub run : Run [] (at_rest start desk.copy) desk.trace last
+
+-- what a run has made so far of some first lines, since its first opening
+pub record Made {V O : Type 0} (look : V → VolumeSeen) (first : DeskState V O) (lines : List Line)
+    (trace : List Entry) (now : VolumeSeen) : Type 0 where
+  pub entries : TraceOf lines trace
+  pub begins : first_of trace ≡ first_of first.trace
+  pub known : IsKnown trace
+  pub parts : AreParts (IsStored (old_records first)) trace
+  pub tidy : IfTidy now ((last : State) × RunsFrom (old_records first) trace last)
+  pub count : ℕ
+  pub recorded : IsRecorded trace count
+  pub full : IsFullOnlyFrom (3221 * smaller_pages now.capacities) 0 trace
+  pub log_full : IsLogFullOnlyFrom (limit_of (log_pages now.capacities)) 0 trace
+  pub device : IsDeviceOnlyIf (Rose (look first.volume).faults now.faults) trace
+  pub calls : EachCall (look first.volume).told now.told (WritesOwn trace)
+  pub later : (look first.volume).faults ≤ now.faults
+  pub capacities : now.capacities ≡ (look first.volume).capacities
+
+-- the entries of a desk are legal and lead to a last state, and all of them can be those of a trace
+pub record LeavesRun {V O : Type 0} (desk : DeskState V O) (trace : List Entry) : Type 0 where
+  pub legal : LegalFrom (old_records desk) desk.trace
+  pub count : ℕ
+  pub recorded : IsRecorded trace count
+  pub last : State
+  pub part : PartRun desk last
+
+-- a desk was opened after the process died, over the entries of some first lines
+pub record Again {V O : Type 0} (look : V → VolumeSeen) (first base : DeskState V O)
+    (lines back : List Line) : Type 0 where
+  pub front : List Line
+  pub joined : lines ≡ front ++ Death ∷ back
+  pub made : Made look first front base.older (look base.volume)
+  pub follows : IfTidy (look base.volume) (Follows (old_records first) base.older base)
+
+-- the desk of the first opening, or one that was opened again
+abbrev pub Came :
+    {V O : Type 0} → (look : V → VolumeSeen) → (first base : DeskState V O)
+    → (lines back : List Line) → Type 0
+Came look first base lines back =
+    ((base ≡ first) × (first.older ≡ []) × (lines ≡ back)) ⊎ Again look first base lines back
+
+-- a run of some first lines, which led to this desk
+pub record Going {V O : Type 0} (look : V → VolumeSeen) (first : DeskState V O)
+    (lines : List Line) (desk : DeskState V O) : Type 0 where
+  pub base : DeskState V O
+  pub back : List Line
+  pub goes : Goes look base back desk
+  pub opened : IsOpened base
+  pub copy_is : opened.is.copy ≡ base.copy
+  pub counted : HasCalls (look base.volume) 0
+  pub room : smaller_pages (look base.volume).capacities ≤ base.ground.capacity
+  pub log_room : base.ground.log.pages ≡ log_pages (look base.volume).capacities
+  pub came : Came look first base lines back
+  pub asked : base.operator ≡ first.operator
+
+-- the process dies in one of these lines
+abbrev pub DiesIn : List Line → Type 0
+DiesIn lines = (front : List Line) × (rest : List Line) × (lines ≡ front ++ Death ∷ rest)
+
+-- The last part of the trace of these lines leads to this state, which is up or down. So does the
+-- whole trace, where the volume read tidy. There is no other part where the process does not die.
+pub record LastPart (old : List Record) (seen : VolumeSeen) (lines : List Line)
+    (trace : List Entry) (down : Bool) (last : State) : Type 0 where
+  pub before : List Entry
+  pub part : List Entry
+  pub joined : trace ≡ before ++ part
+  pub start : Table
+  pub copy : ℕ
+  pub run : Run [] (at_rest start copy) part last
+  pub is : last.down ≡ down
+  pub alone : (before ≡ []) ⊎ DiesIn lines
+  pub whole : before ≡ [] → IsStored old start
+  pub tidy : IfTidy seen (RunsFrom old trace last)
+
+-- The last state is up, with so many committed rows, which whatever a crash leaves of the volume
+-- stores.
+pub record EndsUp (old : List Record) (pages : ℕ) (seen : VolumeSeen) (lines : List Line)
+    (trace : List Entry) (rows : ℕ) : Type 0 where
+  pub last : State
+  pub ends : LastPart old seen lines trace false last
+  pub rows_are : rows ≡ row_count (committed_table last)
+  pub stored :
+      IfTold seen.told (λ t. WasTidy pages t
+      → EachImage (λ i. IsStored (log_of pages i) (committed_table last)) t)
+
+-- the next of these lines is the death of the process
+abbrev pub IsAtDeath : List Line → Type 0
+IsAtDeath rest = (lines : List Line) × (rest ≡ Death ∷ lines)
+
+-- how a run ends that has made the entries of some lines, and has others left
+abbrev pub RunEnds :
+    (old : List Record) → (pages : ℕ) → VolumeSeen → (front rest : List Line) → List Entry
+    → RunEnd → Type 0
+RunEnds old pages seen front rest trace (Whole rows) =
+    (rest ≡ []) × EndsUp old pages seen front trace rows
+RunEnds old pages seen front rest trace Down =
+    (rest ≡ []) × (last : State) × LastPart old seen front trace true last
+RunEnds old pages seen front rest trace (Damaged set page) =
+    IsAtDeath rest
+    × IfTold seen.told (λ t. IsDamage seen.capacities (read_of t.first t.calls) set page)
+RunEnds old pages seen front rest trace DeviceAtOpening = IsAtDeath rest
+RunEnds old pages seen front rest trace NoMemory = Unit {0}
+
+-- the device ended it
+abbrev pub IsFailed : RunEnd → Type 0
+IsFailed (Whole rows) = ⊥
+IsFailed Down = Unit {0}
+IsFailed (Damaged set page) = ⊥
+IsFailed DeviceAtOpening = Unit {0}
+IsFailed NoMemory = ⊥
+
+-- what a run leaves whose first desk was this one
+pub record IsRun {V O : Type 0}
+    (look : V → VolumeSeen) (first : DeskState V O) (lines : List Line) (seen : VolumeSeen)
+    (operator : O) (trace : List Entry) (end : RunEnd) : Type 0 where
+  pub front : List Line
+  pub rest : List Line
+  pub joined : lines ≡ front ++ rest
+  pub made : Made look first front trace seen
+  pub ends : RunEnds (old_records first) (log_pages seen.capacities) seen front rest trace end
+  pub failed : IsFailed end → Rose (look first.volume).faults seen.faults
+  pub asked : operator ≡ first.operator
