@@ -1,0 +1,4 @@
+pub mod Appended
+pub mod Following
+pub mod Owing
+pub mod Telling
