@@ -10,13 +10,13 @@ use Rattle.rg_image.specs.Rules.{limit_of}
 use Rattle.rg_log.specs.Kept.{log_pages}
 use Rattle.rg_run.specs.Full.{IsFullOnlyFrom, smaller_pages}
 use Rattle.rg_run.specs.LogFull.{IsLogFullOnlyFrom}
-use Rattle.rg_run.specs.Outside.{IfCounted, IsDeviceOnlyIf, IsEnd, MadeSince, MakesOnly, WritesOwn}
+use Rattle.rg_run.specs.Outside.{IfBoth, IfCounted, IsDeviceOnlyIf, IsEnd, MadeSince, MakesOnly, WasUntidy, WritesOwn}
 use Rattle.rg_deck.specs.declared.read.Admits.TheVariants.{Played as PlayedLines}
 use Rattle.rg_deck.proofs.Readings.{one_reading}
 use Rattle.rg_print.specs.Print.{print_text}
 use Rattle.rg_print.specs.declared.print.Close.TheVariants as closes
-use Rattle.rg_run.specs.Parts.{DiesIn}
-use Rattle.rg_run.specs.Table.{EndsAtOpening, IsLegalRun, IsOpening}
+use Rattle.rg_run.specs.Played.{TraceOf}
+use Rattle.rg_run.specs.Table.{AreOpenings, EndsAtOpening, IsLegalRun, IsOpening, KeepsSound}
 use Rattle.rg_run.specs.declared.played.RunEnd.TheVariants as ends
 use Rattle.rg_log.proofs.Ready.{quiet_reads}
 use Rattle.rg_run.proofs.Fullness.{full_less}
@@ -24,6 +24,7 @@ use Rattle.rg_restart.specs.Sound.{IsDamage}
 use Rattle.rg_restart.proofs.Exact.{sound_breaks_none}
 use Rattle.rg_log.specs.Open.{IsQuiet}
 use Rattle.rg_outside.specs.Calls.{Image, Told, read_of}
+use Rattle.rg_desk.specs.OnVolume.{IsTidyVolume}
 use Rattle.rg_desk.specs.Volume.{VolumeSeen}
 use Rattle.rg_stmt.specs.declared.event.Entry.{Entry}
 use Rattle.rg_stmt.specs.declared.line.Line.{Line}
@@ -97,6 +98,12 @@ still_sound before after set page volume end =
     sound_breaks_none before.capacities (read_of volume.old.first volume.old.calls) set page volume.sound.0 volume.sound.1 volume.sound.2
     (subst (λ (c : Capacities). IsDamage c (read_of volume.old.first volume.old.calls) set page) end.2
     (subst (λ (i : Image). IsDamage after.capacities i set page) image (damage volume.few)))
+
+-- one that is refused after a death finds a volume that did not read tidy
+was_untidy : (before after : VolumeSeen) (front : List Line) (trace : List Entry) → TraceOf front trace → (volume : IsSoundVolume before after) → WasUntidy before after trace → IsTidyVolume before.capacities (read_of volume.old.first volume.old.calls) → ⊥
+was_untidy before after front [] entries volume untidy tidy = absurd entries
+was_untidy before after front (e ∷ es) entries volume untidy tidy =
+    subst (λ (o : Option Told). IfBoth before.told o (λ old t. IsTidyVolume before.capacities (read_of old.first old.calls) → ⊥)) volume.is untidy volume.few volume.old volume.was tidy
 
 -- ---- statuses
 
@@ -368,20 +375,18 @@ module _ (words : List (List ℕ)) (source source_after sink sink_after : Seen) 
   played_due (Deck line) Played print is_due play sure comes finds =
       let (asked, read, reads, deals) = comes in
       let (refused, none, printed) = deals in
-      let (lines, spelled, alive) = is_due.4 in
-      absurd (refused.1 lines (subst (λ b. IsDeck b lines) (sym (all_read read is_due.1 is_due.2 reads)) spelled))
-  played_due Down Played print is_due play sure comes finds = absurd (is_due.5.sure finds)
-  played_due Device Played print is_due play sure comes finds = absurd (is_due.5.sure finds)
+      absurd (refused.1 is_due.5 (subst (λ b. IsDeck b is_due.5) (sym (all_read read is_due.1 is_due.2 reads)) is_due.6))
+  played_due Down Played print is_due play sure comes finds = absurd (is_due.4.sure finds)
+  played_due Device Played print is_due play sure comes finds = absurd (is_due.4.sure finds)
   played_due (Damaged set page) Played print is_due play sure comes finds =
       let (asked, read, reads, deals) = comes in
       let (lines, spelled, at, printed) = deals in
-      let (due_lines, due_spelled, alive) = is_due.4 in
-      let same : lines ≡ due_lines = one_reading PlayedLines is_due.1 lines due_lines (subst (λ b. IsDeck b lines) (all_read read is_due.1 is_due.2 reads) spelled) due_spelled in
-      absurd (by_place at same alive)
+      let same : lines ≡ is_due.5 = one_reading PlayedLines is_due.1 lines is_due.5 (subst (λ b. IsDeck b lines) (all_read read is_due.1 is_due.2 reads) spelled) is_due.6 in
+      absurd (by_place at same)
     where
-      by_place : {lines due_lines : List Line} → EndsAtOpening lines trace → lines ≡ due_lines → (DiesIn due_lines → ⊥) → ⊥
-      by_place (inl none) same alive = still_sound volume volume_after set page is_due.5 (subst (λ (es : List Entry). IsEnd volume volume_after es (ends.Damaged set page)) none finds)
-      by_place (inr dies) same alive = alive (dies.0, dies.1, sym same ∙ dies.2)
+      by_place : {lines : List Line} → EndsAtOpening lines trace → lines ≡ is_due.5 → ⊥
+      by_place (inl none) same = still_sound volume volume_after set page is_due.4 (subst (λ (es : List Entry). IsEnd volume volume_after es (ends.Damaged set page)) none finds)
+      by_place (inr dies) same = was_untidy volume volume_after dies.0 trace dies.3 is_due.4 finds.3 (is_due.7 (dies.0, dies.1, sym same ∙ dies.2))
   played_due Played (Deck line) print is_due play sure comes finds = absurd (no_deck_due Played line print tt is_due comes)
   played_due Down (Deck line) print is_due play sure comes finds = absurd (no_deck_due Down line print tt is_due comes)
   played_due (Damaged set page) (Deck line) print is_due play sure comes finds = absurd (no_deck_due (Damaged set page) line print tt is_due comes)
@@ -428,17 +433,19 @@ module _ (words : List (List ℕ)) (source source_after sink sink_after : Seen) 
 
   -- the whole contract, by what the call comes to
   pub completes :
-      Concludes words source source_after sink sink_after volume volume_after status trace → IsLegalRun volume volume_after trace → IsOpening volume volume_after trace
+      Concludes words source source_after sink sink_after volume volume_after status trace → IsLegalRun volume volume_after trace → IsOpening volume volume_after trace → AreOpenings volume volume_after trace → KeepsSound volume volume_after trace
       → IsFullOnlyFrom (3221 * smaller_pages volume.capacities) 0 trace
       → IsLogFullOnlyFrom (limit_of (log_pages volume.capacities)) 0 trace
       → IsDeviceOnlyIf (Rose volume.faults volume_after.faults) trace
       → MakesOnly (WritesOwn trace) volume.told volume_after.told
       → TakesAtMost (DECK_LIMIT + 1) source.bytes source_after.bytes
       → Completes words source source_after sink sink_after volume volume_after status trace
-  completes concludes legal opening full log_full device only bounded = record {
+  completes concludes legal opening openings sound full log_full device only bounded = record {
     concludes = concludes;
     legal = legal;
     opening = opening;
+    openings = openings;
+    sound = sound;
     full = full_less (3200 * smaller_pages volume.capacities) (3221 * smaller_pages volume.capacities) 0 trace (omega arith) full;
     log_full = log_full;
     device = device;

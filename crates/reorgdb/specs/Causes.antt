@@ -6,10 +6,11 @@ use Rattle.rg_deck.specs.declared.read.TheConstants.{DECK_LIMIT}
 use Rattle.rg_outside.specs.Faults.{Rose}
 use Rattle.rg_print.specs.Print.{print_text}
 use Rattle.rg_print.specs.declared.print.Close.TheVariants as closes
+use Rattle.rg_desk.specs.OnVolume.{IsTidyVolume}
 use Rattle.rg_desk.specs.Volume.{VolumeSeen}
 use Rattle.rg_base.specs.declared.set.Set.{Set}
 use Rattle.rg_outside.specs.Calls.{Told, read_of}
-use Rattle.rg_restart.specs.Sound.{IsSound}
+use Rattle.rg_sound.specs.Sound.{IsSound}
 use Rattle.rg_run.specs.Outside.{IsEnd}
 use Rattle.rg_run.specs.declared.played.RunEnd.TheVariants as ends
 use Rattle.rg_run.specs.Played.{TraceOf}
@@ -59,8 +60,8 @@ pub record RefusesDeck (source source_after sink sink_after : Seen) : Type 0 whe
 
 -- Status 5: this page breaks a rule of a sound volume, the first one that is broken. It was found
 -- by the first opening, and then no line was played and no layout shown; or by the opening after a
--- death of the process, and the trace is that of the lines before. The sink got its print, and the
--- page at its end.
+-- death of the process, and the trace is that of the lines before: then the volume did not read
+-- tidy when the call began. The sink got its print, and the page at its end.
 pub record RefusesVolume (sink sink_after : Seen) (volume volume_after : VolumeSeen)
     (trace : List Entry) : Type 0 where
   pub set : Set
@@ -82,13 +83,15 @@ pub record IsSoundVolume (before after : VolumeSeen) : Type 0 where
   pub few : length new.calls < 2 ^ 64 - 1
   pub sure : Rose before.faults after.faults → ⊥
 
--- What is due for these words, and for the bytes that the source tells, where nothing fails. To be
--- played a deck has no death of the process.
+-- What is due for these words, and for the bytes that the source tells, where nothing fails. Where
+-- the process dies in the deck the volume read tidy, too.
 abbrev pub IsDue :
     Outcome → List (List ℕ) → Option (List ℕ) → (before after : VolumeSeen) → Type 0
 IsDue outcomes.Played words told before after =
     IsPlay words × (bytes : List ℕ) × (told ≡ Some bytes) × (length bytes ≤ DECK_LIMIT)
-    × ((lines : List Line) × IsDeck bytes lines × (DiesIn lines → ⊥)) × IsSoundVolume before after
+    × (sound : IsSoundVolume before after) × (lines : List Line) × IsDeck bytes lines
+    × (DiesIn lines
+    → IsTidyVolume before.capacities (read_of sound.old.first sound.old.calls))
 IsDue outcomes.Shown words told before after = IsShow words × IsSoundVolume before after
 IsDue outcomes.Words words told before after = IsCommand words → ⊥
 IsDue (outcomes.Deck line) words told before after =

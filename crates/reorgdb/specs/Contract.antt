@@ -8,7 +8,7 @@ use Rattle.rg_deck.specs.declared.read.TheConstants.{DECK_LIMIT}
 use Rattle.rg_outside.specs.Faults.{Rose}
 use Rattle.rg_desk.specs.Volume.{VolumeSeen}
 use Rattle.rg_run.specs.Outside.{IsDeviceOnlyIf, MakesOnly, WritesOwn}
-use Rattle.rg_run.specs.Table.{IsLegalRun, IsOpening}
+use Rattle.rg_run.specs.Table.{AreOpenings, IsLegalRun, IsOpening, KeepsSound}
 use Rattle.rg_image.specs.Rules.{limit_of}
 use Rattle.rg_log.specs.Kept.{log_pages}
 use Rattle.rg_run.specs.Full.{IsFullOnlyFrom, smaller_pages}
@@ -31,17 +31,22 @@ pub record Completes (words : List (List ℕ)) (source source_after sink sink_af
   pub legal : IsLegalRun volume volume_after trace
   -- Entry 0 has the copy, the rows and the pages of the log as it read when the call began.
   pub opening : IsOpening volume volume_after trace
-  -- FULL is answered only where what was written reaches 3,200 bytes for each page of the smaller
-  -- copy.
+  -- So has the entry of each later opening, of the log as the volume read then.
+  pub openings : AreOpenings volume volume_after trace
+  -- FULL is answered only where what the last opening found and what was written since reach 3,200
+  -- bytes for each page of the smaller copy.
   pub full : IsFullOnlyFrom (3200 * smaller_pages volume.capacities) 0 trace
-  -- LOGFULL is answered only where 4,264 bytes for each write so far, and for one more, are more
-  -- than the log may have: 2,270 bytes for each of its pages but one.
+  -- LOGFULL is answered only where the bytes that the last opening found, with 4,264 for each write
+  -- since and for one more, are more than the log may have: 2,270 for each of its pages but one.
   pub log_full : IsLogFullOnlyFrom (limit_of (log_pages volume.capacities)) 0 trace
   -- DEVICE is answered only where a call of the volume failed.
   pub device : IsDeviceOnlyIf (Rose volume.faults volume_after.faults) trace
   -- No page is written but those of the log and of the copies that were opened, and none where
   -- there is no entry.
   pub only : MakesOnly (WritesOwn trace) volume.told volume_after.told
+  -- Once it was opened, whatever a crash leaves of the volume at the end is sound and tidy, if it
+  -- read tidy when the call began.
+  pub sound : KeepsSound volume volume_after trace
   -- Status 0 of `play`: the deck was played, and its print given. Whatever a crash leaves of the
   -- volume then stores the committed rows, if the log read tidy when the call began.
   pub played :
@@ -65,7 +70,8 @@ pub record Completes (words : List (List ℕ)) (source source_after sink sink_af
   pub source_failed : status ≡ 3 → Rose source.faults source_after.faults
   pub sink_failed : status ≡ 4 → Rose sink.faults sink_after.faults
   pub no_call : Contains (1 ∷ 2 ∷ 3 ∷ 7 ∷ []) status → volume_after ≡ volume
-  -- Status 5: a page of the volume breaks a rule.
+  -- Status 5: a page of the volume breaks a rule. A volume that read tidy has none after a death of
+  -- the process.
   pub damaged : status ≡ 5 → RefusesVolume sink sink_after volume volume_after trace
   -- Status 6 is returned only if a call of the volume failed: in an opening, or in a COMMIT.
   pub volume_failed : status ≡ 6 → Rose volume.faults volume_after.faults

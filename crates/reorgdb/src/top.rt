@@ -8,7 +8,7 @@ ghost use Rattle.rg_log.specs.Kept.{log_pages};
 ghost use Rattle.rg_run.specs.Full.{IsFullOnlyFrom, smaller_pages};
 ghost use Rattle.rg_run.specs.LogFull.{IsLogFullOnlyFrom};
 ghost use Rattle.rg_run.specs.Outside.{IsDeviceOnlyIf, MakesOnly, WritesOwn};
-ghost use Rattle.rg_run.specs.Table.{IsLegalRun, IsOpening};
+ghost use Rattle.rg_run.specs.Table.{AreOpenings, IsLegalRun, IsOpening, KeepsSound};
 ghost use Rattle.rg_desk.specs.Volume.{seen_volume};
 ghost use Rattle.reorgdb.specs.Reading.{TakesAtMost};
 
@@ -116,6 +116,10 @@ fn answer<S: Source, K: Sink, V: Volume, O: Operator>(
     ensures legal { IsLegalRun (seen_volume V.told V.faults V.capacities volume)
         (seen_volume V.told V.faults V.capacities result.2) result.1.items }
     ensures opening { IsOpening (seen_volume V.told V.faults V.capacities volume)
+        (seen_volume V.told V.faults V.capacities result.2) result.1.items }
+    ensures openings { AreOpenings (seen_volume V.told V.faults V.capacities volume)
+        (seen_volume V.told V.faults V.capacities result.2) result.1.items }
+    ensures sound { KeepsSound (seen_volume V.told V.faults V.capacities volume)
         (seen_volume V.told V.faults V.capacities result.2) result.1.items }
     ensures full { IsFullOnlyFrom (3221 * smaller_pages (V.capacities volume)) 0 result.1.items }
     ensures log_full { IsLogFullOnlyFrom (limit_of (log_pages (V.capacities volume))) 0

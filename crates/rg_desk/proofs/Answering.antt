@@ -20,18 +20,22 @@ use Rattle.rg_space.specs.Space.{capacity_in}
 use Rattle.rg_desk.specs.Bytes.{taken_of}
 use Rattle.rg_desk.specs.Answers.{Answered, Asks, IfFull, Replies, forces, is_answer, is_device, state_left}
 use Rattle.rg_desk.specs.Left.{LeavesState, in_doubt}
+use Rattle.rg_desk.specs.Reopens.{IsCleanIn, PartsReopen}
 use Rattle.rg_desk.specs.Shows.{IsShown, Shows}
 use Rattle.rg_desk.specs.Steps.{Goes, IfDevice, IfUp, MayFail, Steps, MayReply, is_commit, more_allowed, unclaimed}
 use Rattle.rg_desk.specs.Stored.{Grows}
 use Rattle.rg_base.specs.declared.set.Set.TheVariants.{Log}
 use Rattle.rg_log.specs.Kept.{Listed as LogList, log_pages}
 use Rattle.rg_outside.specs.Made.{WritesIn}
+use Rattle.rg_outside.specs.Moments.{EachImage}
 use Rattle.rg_outside.proofs.Frame.{no_calls}
+use Rattle.rg_outside.proofs.Run.{begins}
+use Rattle.rg_image.specs.Log.{SpellsFrom}
 use Rattle.rg_desk.specs.Volume.{CallsLog, Leaves, VolumeSeen}
 use Rattle.rg_desk.specs.declared.units.OpenUnit.{OpenUnit}
 use Rattle.rg_desk.specs.declared.engine.Engine.{Engine}
 use Rattle.rg_desk.proofs.NewestKept.{space_newest}
-use Rattle.rg_desk.proofs.Leaving.{leaves_grown}
+use Rattle.rg_desk.proofs.Leaving.{leaves_grown, left_lower}
 
 -- no drain keeps anybody out
 pub none_kept_out : (claim : Option Class) (classes : List Class) → is_kept_out Free claim classes ≡ false
@@ -191,7 +195,12 @@ module _ (st : State) (allowed : ℕ) (d : Engine) (shows : Shows st allowed d) 
       owed = shows.by.owed;
       claimed = shows.by.claimed;
     };
+    trails = shows.trails;
   })
+
+-- its pages and units stay as they were
+registered_clean : (d : Engine) (session : Session) (classes : List Class) (new : Engine) → new ≡ record d { claims = record d.claims { claims = claims_with d.claims.claims session classes } } → IsCleanIn d → IsCleanIn new
+registered_clean d session classes new is clean = subst IsCleanIn (sym is) (record { names = clean.names; below = clean.below })
 
 module _ (st : State) (allowed : ℕ) (d : Engine) (shows : Shows st allowed d) (session : Session) (stmt : Stmt) (reply : Reply) (mid : Engine) (goes : Goes st allowed d session stmt reply mid) where
   not_drained : is_drained st session stmt ≡ false
@@ -232,6 +241,8 @@ module _ (st : State) (allowed : ℕ) (d : Engine) (shows : Shows st allowed d) 
     opened = ap (λ (x : Engine). x.opened) e ∙ goes.opened;
     grows = subst (λ (l : LogList). Grows d.log l) (ap (λ (x : Engine). x.log) (sym e)) goes.grows;
     newest = λ epoch h. space_newest mid.log.records new.log.records mid.space new.space (ap (λ (x : Engine). x.log.records) e) (ap (λ (x : Engine). x.space) e) epoch (goes.newest epoch h);
+    parts = λ capacities epoch h. subst (λ (l : LogList). PartsReopen capacities epoch (record l { forced = d.log.forced })) (ap (λ (x : Engine). x.log) (sym e)) (goes.parts capacities epoch h);
+    clean = λ clean. if_up _ reply (registered_clean mid session classes new e (up_of _ reply done (goes.clean clean)));
     shows =
         if_up _ reply
         (subst (λ (after : State). Shows after (allowed + more_allowed stmt reply) new) (sym (left_done st session stmt reply done ∙ after_is true done))
@@ -254,8 +265,10 @@ module _ (st : State) (allowed : ℕ) (d : Engine) (shows : Shows st allowed d) 
     opened = goes.opened;
     grows = goes.grows;
     newest = goes.newest;
+    parts = goes.parts;
+    clean = goes.clean;
     shows = left_refused st session stmt (allowed + more_allowed stmt reply) mid reply (after_is false done) goes.shows;
-    left = left_device st session stmt mid.log reply goes.left;
+    left = left_device st session stmt (record mid.log { forced = d.log.forced }) reply goes.left;
     capacity = goes.capacity;
   }
 
@@ -287,7 +300,9 @@ asks_nothing units session stmt reply old_log log seen none never further leaves
   device = λ e. absurd (never e);
   forced = λ force e. absurd (cc (force, none));
   further = further;
+  one = λ force. absurd (cc (force, none));
   leaves = leaves;
+  through = λ h. begins (EachImage (SpellsFrom log.pages log.records old_log.forced)) seen.told (left_lower seen.told log.pages log.records log.forced old_log.forced further (leaves h));
 }
 
 pub other_asks : (old : Engine) (shown : IsShown old) (session : Session) (stmt : Stmt) (reply : Reply) (new : Engine) (seen : VolumeSeen) → is_commit stmt ≡ false → Steps old session stmt reply new → Asks (forces old.units session stmt) reply old.log new.log seen seen

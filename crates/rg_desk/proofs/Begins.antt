@@ -34,6 +34,9 @@ use Rattle.rg_desk.specs.Count.{locked_present, present_in}
 use Rattle.rg_desk.specs.Desk.{CanBegin}
 use Rattle.rg_desk.specs.Engine.{HasPages, slots_in}
 use Rattle.rg_desk.specs.Shows.{KeyShown, Shows, ShowsBy, since}
+use Rattle.rg_desk.specs.Trails.{Trails}
+use Rattle.rg_follow.specs.Tells.{Tells}
+use Rattle.rg_image.specs.Rules.{HasSpace, owed as log_owed}
 use Rattle.rg_desk.specs.Stored.{IsStored, StoresCommitted}
 use Rattle.rg_desk.specs.Units.{owed, unit_at}
 use Rattle.rg_desk.specs.declared.engine.Engine.{Engine}
@@ -96,6 +99,12 @@ module _ (d : Engine) (top : ℕ) (can : CanBegin (capacity_in d.space) (slots_i
         ap (λ (ps : List (List Slot)). claimed_all (holding [] (suc top)) ps) can.pages_are,
       );
     });
+    trails = subst (λ (acts : List Act). Trails d.log d.units (state can.first acts)) (sym since_none) (record {
+      tells = can.tells;
+      each = λ n unit has. absurd (cc (units n, has));
+      paid = can.owes ∙ sym can.idle;
+      space = can.space;
+    });
   }
     where
       none_live : (t : ℕ) → IsLive [] t → ⊥
@@ -123,6 +132,17 @@ none_listed pages x none keys cluses cats = record {
   cats = lists_none Cat pages (entries_of x.cats) none cats;
 }
 
+-- no record tells of nothing
+nothing_told : Tells [] nothing
+nothing_told = record {
+  top = refl;
+  live = λ t l. absurd (cc (l));
+  opens = λ t is. absurd (omega (arith, is.1));
+  rolling = λ t l. absurd (cc (l));
+  own = λ t l. absurd (cc (l));
+  count = refl;
+}
+
 pub empty_begins : (capacity : ℕ) (pages : List (List Slot)) (log : Listed) → pages ≡ [] → log.records ≡ [] → log.forced ≤ length log.records → log.reserved ≡ 0 → CanBegin capacity pages log 0
 empty_begins capacity pages log none empty within idle = record {
   first = nothing;
@@ -138,6 +158,9 @@ empty_begins capacity pages log none empty within idle = record {
   start = fin.empty;
   starts = subst (λ (rs : List Record). IsStored rs fin.empty) (sym empty) (λ k. get-empty nat_cmp k);
   few = omega (arith, len-empty);
+  tells = subst (λ (rs : List Record). Tells rs nothing) (sym empty) nothing_told;
+  owes = ap log_owed empty;
+  space = subst (HasSpace log.pages) (sym empty) (omega arith);
 }
 
 -- ---- no lock is held

@@ -1,5 +1,5 @@
 -- A COMMIT leaves the state of the trace after it.
-use Rattle.std.proofs.Common.{◌≡◌, ◌==◌, ◌≤◌, ◌<◌, ◌+◌, ℕ, suc, Bool, true, false, not, List, [], ◌∷◌, ◌++◌, Option, Some, None, length, set, refl, sym, ◌∙◌, ap, subst, arith, append-nil}
+use Rattle.std.proofs.Common.{◌≡◌, ◌==◌, ◌≤◌, ◌<◌, ◌+◌, ℕ, suc, Bool, true, false, not, List, [], ◌∷◌, ◌++◌, Option, Some, None, length, set, refl, sym, ◌∙◌, ap, subst, ◌⊎◌, inl, inr, arith, append-nil}
 use Rattle.std.specs.FinMap as fin
 use Rattle.std.proofs.lemmas.Bool.{eqb-true}
 use Rattle.std.proofs.lemmas.List.{length-set, set-get_or}
@@ -26,7 +26,17 @@ use Rattle.rg_lawful.proofs.Units.{stored_other}
 use Rattle.rg_space.specs.Space.{Agree, InStep, capacity_in, frames_of, index_of}
 use Rattle.rg_stmt.specs.declared.stmt.Reply.TheVariants.{Done}
 use Rattle.rg_stmt.specs.declared.stmt.Stmt.TheVariants as stmts
+use Rattle.rg_follow.specs.Next.{AreNext}
+use Rattle.rg_follow.specs.Tells.{Tells}
+use Rattle.rg_follow.proofs.Owing.{owes}
+use Rattle.rg_follow.proofs.Telling.{records_tell}
 use Rattle.rg_image.specs.Pack.{log_bytes}
+use Rattle.rg_image.specs.Rules.{HasSpace, IsOfTran, IsOpen, owed as owed_by}
+use Rattle.rg_lawful.specs.Lawful.{Runs}
+use Rattle.rg_lawful.specs.Records.{acts_of}
+use Rattle.rg_lawful.specs.Write.{own_of}
+use Rattle.rg_lawful.proofs.Own.{own_ended_other}
+use Rattle.rg_unended.specs.Unended.{left_of}
 use Rattle.rg_desk.specs.Ended.{HasEnded, commit_record, records_committed}
 use Rattle.rg_desk.specs.Engine.{HasPages, slots_in}
 use Rattle.rg_desk.specs.Newest.{KeepsNewest}
@@ -34,13 +44,20 @@ use Rattle.rg_space.specs.Memory.{list_seen}
 use Rattle.rg_desk.specs.Shows.{KeyShown, Shows, ShowsBy, UnitsShown, left_by}
 use Rattle.rg_desk.specs.Steps.{Goes}
 use Rattle.rg_desk.specs.Stored.{Grows, IsSettled}
+use Rattle.rg_desk.specs.Reopens.{IsCleanIn, KeepsParts}
+use Rattle.rg_desk.specs.Trails.{IsTrail, Trails}
 use Rattle.rg_desk.specs.Units.{owed, owed_to, unit_at}
 use Rattle.rg_desk.specs.declared.engine.Engine.{Engine}
 use Rattle.rg_desk.specs.declared.units.OpenUnit.{OpenUnit}
 use Rattle.rg_desk.proofs.Ended.{keys_ended, units_ended}
 use Rattle.rg_desk.proofs.Logged.{bytes_committed}
 use Rattle.rg_desk.proofs.Settled.{shows_more}
-use Rattle.rg_desk.proofs.UnitSlots.{owed-set}
+use Rattle.rg_desk.proofs.Keys.{same_or_not}
+use Rattle.rg_desk.proofs.Reopens.{appended_clean, appended_parts, clean_in, clean_of}
+use Rattle.rg_desk.proofs.Sessions.{left_consistent}
+use Rattle.rg_desk.proofs.Trails.{trail_other}
+use Rattle.rg_desk.proofs.UnitSlots.{owed-set, set_here, set_there}
+use Rattle.rg_desk.proofs.WalkLists.{chain_length}
 
 -- the state after the Commit of unit t
 pub committed : (limit : ℕ) (s : LogState) (t : ℕ) → HasEnded t s (step s (Commit t))
@@ -107,19 +124,105 @@ module _ (st : State) (allowed : ℕ) (d new : Engine) (session : Session) (show
     claimed = omega (arith, claimed);
   }
 
+  -- without a unit the trails are the same ones
+  idle_trails : unit_at d.units session.0 ≡ None → new.log.records ≡ d.log.records → set d.units session.0 None ≡ d.units → Trails new.log new.units s
+  idle_trails none same same_units = record {
+    tells = subst (λ (rs : List Record). Tells rs s) (sym same) shows.trails.tells;
+    each = λ n unit has. subst (λ (rs : List Record). IsTrail rs s unit) (sym same) (shows.trails.each n unit (ap (λ (us : List (Option OpenUnit)). unit_at us n) (sym same_units ∙ sym units) ∙ has));
+    paid = omega (arith, ap owed_by same, shows.trails.paid, reserved, ap owed_to none);
+    space = subst (λ (k : ℕ). HasSpace k new.log.records) (sym grows.pages) (subst (HasSpace d.log.pages) (sym same) shows.trails.space);
+  }
+
+  module _ (unit : OpenUnit) (has : unit_at d.units session.0 ≡ Some unit) where
+    abbrev rs : List Record
+    rs = d.log.records
+
+    abbrev t : ℕ
+    t = unit.tran.0
+
+    abbrev entry : Record
+    entry = commit_record (length d.log.records + 1) unit
+
+    is_open : IsOpen t rs
+    is_open = shows.trails.tells.live t (shows.by.units.each session.0 unit has).live
+
+    is_of : IsOfTran rs entry
+    is_of = record {
+      some = is_open.0;
+      drawn = λ none. absurd (omega (arith, ap length none, is_open.1));
+      back = (shows.trails.each session.0 unit has).last;
+      going = is_open.2;
+    }
+
+    paid : owed_by (rs ++ entry ∷ []) ≡ new.log.reserved
+    paid =
+        let chain = chain_length rs t 0 [] unit.last.0 (own_of t s.writes) (left_of t rs) (shows.trails.each session.0 unit has).lefts in
+        omega (arith, owes.end rs entry is_of refl is_open.1, chain, (shows.by.units.each session.0 unit has).count, shows.trails.paid, reserved, ap owed_to has)
+
+    same : new.log.records ≡ rs ++ entry ∷ []
+    same = records ∙ ap (records_committed rs) has
+
+    has_space : HasSpace d.log.pages (rs ++ entry ∷ [])
+    has_space = omega (
+      arith,
+      paid,
+      shows.trails.paid,
+      shows.trails.space,
+      ap log_bytes same,
+      ap log_bytes records,
+      bytes_committed rs (unit_at d.units session.0) d.log.reserved new.log.reserved reserved,
+    )
+
+    -- the Commit may be appended
+    pub commit_next : AreNext (capacity_in d.space) d.log.pages d.log.records (commit_record (length d.log.records + 1) unit ∷ [])
+    commit_next = (
+      record {
+        position = refl;
+        links = record { some = is_open.0; back = (shows.trails.each session.0 unit has).last };
+        names = tt;
+        near = tt;
+        space = has_space;
+      },
+      tt,
+    )
+
+    -- and then the trails of the other units go on
+    committed_trails : Trails new.log new.units (step s (Commit t))
+    committed_trails =
+        let one = shows.by.units.each session.0 unit has in
+        record {
+          tells =
+              subst (λ (xs : List Record). Tells xs (step s (Commit t))) (sym same)
+              (records_tell (capacity_in d.space) d.log.pages rs (entry ∷ []) s shows.trails.tells (left_consistent st allowed d shows) ((one.live, one.steady), tt) commit_next);
+          each = λ n u h. subst (λ (xs : List Record). IsTrail xs (step s (Commit t)) u) (sym same) (go n u (ap (λ (us : List (Option OpenUnit)). unit_at us n) (sym units) ∙ h) (same_or_not n session.0));
+          paid = ap owed_by same ∙ paid;
+          space = subst (λ (k : ℕ). HasSpace k new.log.records) (sym grows.pages) (subst (HasSpace d.log.pages) (sym same) has_space);
+        }
+      where
+        go : (n : ℕ) (u : OpenUnit) → unit_at (set d.units session.0 None) n ≡ Some u → (n ≡ session.0) ⊎ (n ≡ session.0 → ⊥) → IsTrail (rs ++ entry ∷ []) (step s (Commit t)) u
+        go n u h (inl f) = absurd (cc (h, ap (unit_at (set d.units session.0 None)) f, set_here d.units session.0 None place))
+        go n u h (inr f) =
+            let there : unit_at d.units n ≡ Some u = sym (set_there d.units session.0 n None f) ∙ h in
+            let apart : u.tran.0 ≡ t → ⊥ = λ g. f (shows.by.units.apart n session.0 u unit there has g) in
+            trail_other rs s (step s (Commit t)) entry u (λ g. apart (sym g)) (own_ended_other u.tran.0 t s.writes apart) (shows.trails.each n u there)
+
   -- no unit, and so no locks
-  pub idle_shows : unit_at d.units session.0 ≡ None → Shows (after_commit st session) (allowed + 0) new
-  idle_shows none =
-      let same : new.log.records ≡ d.log.records = records ∙ ap (records_committed d.log.records) none in
-      let same_units : set d.units session.0 None ≡ d.units = ap (set d.units session.0) (sym none) ∙ set-get_or d.units session.0 None in
+
+  no_change : unit_at d.units session.0 ≡ None → set d.units session.0 None ≡ d.units
+  no_change none = ap (set d.units session.0) (sym none) ∙ set-get_or d.units session.0 None
+
+  no_record : unit_at d.units session.0 ≡ None → new.log.records ≡ d.log.records
+  no_record none = records ∙ ap (records_committed d.log.records) none
+
+  idle_by : unit_at d.units session.0 ≡ None → ShowsBy (after_commit st session) (allowed + 0) new s
+  idle_by none =
       let same_locks : locks_without session d.locks ≡ d.locks = without-none session d.locks (λ k. unlocked (fin.get d.locks k) k (shows.by.keys k)) in
-      shows_more st allowed d shows (after_commit st session) (allowed + 0) new [] opened (same ∙ sym (append-nil d.log.records)) (ap (λ sp. capacity_in sp) space) tt settled
-      (by s refl (λ k. refl) refl
+      by s refl (λ k. refl) refl
       (λ k.
-      subst (λ (us : List (Option OpenUnit)). KeyShown us s (fin.get (locks_without session d.locks) k) k) (sym same_units)
+      subst (λ (us : List (Option OpenUnit)). KeyShown us s (fin.get (locks_without session d.locks) k) k) (sym (no_change none))
       (subst (λ (ls : Locks). KeyShown d.units s (fin.get ls k) k) (sym same_locks) (shows.by.keys k)))
-      (subst (UnitsShown new.log.records s) (sym same_units) (subst (λ (rs : List Record). UnitsShown rs s d.units) (sym same) shows.by.units))
-      shows.by.claimed)
+      (subst (UnitsShown new.log.records s) (sym (no_change none)) (subst (λ (rs : List Record). UnitsShown rs s d.units) (sym (no_record none)) shows.by.units))
+      shows.by.claimed
     where
       unlocked : (o : Option Lock) (k : ℕ) → KeyShown d.units s o k → is_others session o ≡ true
       unlocked None k h = refl
@@ -129,21 +232,51 @@ module _ (st : State) (allowed : ℕ) (d new : Engine) (session : Session) (show
           go false e = refl
           go true e = absurd (cc (h.has, ap (unit_at d.units) (eqb-true lock.owner.0 session.0 e), none))
 
+  pub idle_shows : unit_at d.units session.0 ≡ None → Shows (after_commit st session) (allowed + 0) new
+  idle_shows none =
+      shows_more st allowed d shows (after_commit st session) (allowed + 0) new [] opened (no_record none ∙ sym (append-nil d.log.records)) (ap (λ sp. capacity_in sp) space) tt settled
+      (idle_by none) (idle_trails none (no_record none) (no_change none))
+
+  pub idle_parts : unit_at d.units session.0 ≡ None → KeepsParts d new
+  idle_parts none = appended_parts st allowed d shows [] tt tt new (no_record none ∙ sym (append-nil d.log.records))
+
+  pub idle_clean : unit_at d.units session.0 ≡ None → IsCleanIn d → IsCleanIn new
+  idle_clean none clean = clean_in (after_commit st session) (allowed + 0) new s (idle_by none) (clean_of st allowed d s shows.by clean)
+
   -- a unit that has written
-  pub ended : (unit : OpenUnit) → unit_at d.units session.0 ≡ Some unit → Shows (after_commit st session) (allowed + 0) new
-  ended unit has =
+
+  one_record : (unit : OpenUnit) → unit_at d.units session.0 ≡ Some unit → new.log.records ≡ d.log.records ++ commit_record (length d.log.records + 1) unit ∷ []
+  one_record unit has = records ∙ ap (records_committed d.log.records) has
+
+  pub one_runs : (unit : OpenUnit) → unit_at d.units session.0 ≡ Some unit → Runs (capacity_in d.space) s (acts_of [] (commit_record (length d.log.records + 1) unit ∷ []))
+  one_runs unit has = let one = shows.by.units.each session.0 unit has in ((one.live, one.steady), tt)
+
+  ended_by : (unit : OpenUnit) → unit_at d.units session.0 ≡ Some unit → ShowsBy (after_commit st session) (allowed + 0) new (step s (Commit unit.tran.0))
+  ended_by unit has =
       let t : ℕ = unit.tran.0 in
       let entry : Record = commit_record (length d.log.records + 1) unit in
-      let same : new.log.records ≡ d.log.records ++ entry ∷ [] = records ∙ ap (records_committed d.log.records) has in
-      let one = shows.by.units.each session.0 unit has in
       let left : LogState = step s (Commit t) in
-      shows_more st allowed d shows (after_commit st session) (allowed + 0) new (entry ∷ []) opened same (ap (λ sp. capacity_in sp) space) ((one.live, one.steady), tt) settled
-      (by left refl (λ k. refl) refl
+      by left refl (λ k. refl) refl
       (keys_ended t s left session unit d.units d.locks place has refl (committed (capacity_in d.space) s t)
       (λ n other e f. shows.by.units.apart n session.0 other unit e has f) shows.by.keys)
-      (subst (λ (rs : List Record). UnitsShown rs left (set d.units session.0 None)) (sym same)
+      (subst (λ (rs : List Record). UnitsShown rs left (set d.units session.0 None)) (sym (one_record unit has))
       (units_ended t s left session unit d.units d.locks place has refl (committed (capacity_in d.space) s t) d.log.records (entry ∷ []) shows.by.units))
-      (omega (arith, shows.by.claimed, claimed_all-fewer (holding s.live (suc s.top)) (holding (others t s.live) (suc s.top)) (ends s.live (others t s.live) (suc s.top) (λ u l. live_was t u s.live l)) s.pages)))
+      (omega (arith, shows.by.claimed, claimed_all-fewer (holding s.live (suc s.top)) (holding (others t s.live) (suc s.top)) (ends s.live (others t s.live) (suc s.top) (λ u l. live_was t u s.live l)) s.pages))
+
+  pub ended : (unit : OpenUnit) → unit_at d.units session.0 ≡ Some unit → Shows (after_commit st session) (allowed + 0) new
+  ended unit has =
+      shows_more st allowed d shows (after_commit st session) (allowed + 0) new (commit_record (length d.log.records + 1) unit ∷ []) opened (one_record unit has) (ap (λ sp. capacity_in sp) space) (one_runs unit has) settled
+      (ended_by unit has) (committed_trails unit has)
+
+  -- the parts of the log can be opened
+
+  pub ended_parts : (unit : OpenUnit) → unit_at d.units session.0 ≡ Some unit → KeepsParts d new
+  ended_parts unit has =
+      appended_parts st allowed d shows (commit_record (length d.log.records + 1) unit ∷ []) (one_runs unit has) (commit_next unit has) new (one_record unit has)
+
+  pub ended_clean : (unit : OpenUnit) → unit_at d.units session.0 ≡ Some unit → IsCleanIn d → IsCleanIn new
+  ended_clean unit has clean =
+      appended_clean st allowed d shows (commit_record (length d.log.records + 1) unit ∷ []) (one_runs unit has) (commit_next unit has) (after_commit st session) (allowed + 0) new (ended_by unit has) clean
 
   pub commit_goes : KeepsNewest d new → Goes st allowed d session stmts.Commit Done new
   commit_goes newest = record {
@@ -155,6 +288,8 @@ module _ (st : State) (allowed : ℕ) (d new : Engine) (session : Session) (show
     grows = grows;
     forced = λ e. absurd (cc (e));
     newest = newest;
+    parts = go_parts (unit_at d.units session.0) refl;
+    clean = go_clean (unit_at d.units session.0) refl;
     shows = go (unit_at d.units session.0) refl;
     left = tt;
     capacity = ap (λ sp. capacity_in sp) space;
@@ -163,3 +298,11 @@ module _ (st : State) (allowed : ℕ) (d new : Engine) (session : Session) (show
       go : (o : Option OpenUnit) → unit_at d.units session.0 ≡ o → Shows (after_commit st session) (allowed + 0) new
       go None e = idle_shows e
       go (Some unit) e = ended unit e
+
+      go_parts : (o : Option OpenUnit) → unit_at d.units session.0 ≡ o → KeepsParts d new
+      go_parts None e = idle_parts e
+      go_parts (Some unit) e = ended_parts unit e
+
+      go_clean : (o : Option OpenUnit) → unit_at d.units session.0 ≡ o → IsCleanIn d → IsCleanIn new
+      go_clean None e = idle_clean e
+      go_clean (Some unit) e = ended_clean unit e

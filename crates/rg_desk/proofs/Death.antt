@@ -19,12 +19,14 @@ use Rattle.rg_desk.specs.Desk.{IsDesk}
 use Rattle.rg_desk.specs.Ended.{commit_record, records_committed}
 use Rattle.rg_desk.specs.Left.{LeavesState, StoresLeft, in_doubt}
 use Rattle.rg_desk.specs.Shows.{Shows}
-use Rattle.rg_desk.specs.Stored.{IsStored}
+use Rattle.rg_desk.specs.Stored.{Grows, IsStored}
 use Rattle.rg_desk.specs.Units.{owed_to, unit_at}
 use Rattle.rg_desk.specs.Volume.{VolumeSeen}
 use Rattle.rg_desk.specs.declared.engine.Engine.{Engine}
 use Rattle.rg_desk.specs.declared.units.OpenUnit.{OpenUnit}
-use Rattle.rg_desk.proofs.CommitShows.{ended}
+use Rattle.rg_desk.specs.Reopens.{KeepsParts}
+use Rattle.rg_desk.proofs.CommitShows.{commit_next, ended, one_runs}
+use Rattle.rg_desk.proofs.Reopens.{appended_parts}
 use Rattle.rg_desk.proofs.Exits.{part_stored}
 use Rattle.rg_desk.proofs.Settled.{all_settled}
 
@@ -65,6 +67,15 @@ module _ (st : State) (allowed : ℕ) (d : Engine) (session : Session) (shows : 
   kept_shows =
       ended st allowed d kept session shows low refl refl refl refl refl refl records reserved refl (all_settled all_forced refl)
       (record { more = entry ∷ []; records = with_commit; pages = pages }) unit has
+
+  -- the parts of the log can be opened, with the Commit and without
+  pub refused_parts : (new : Engine) → new.log ≡ log → KeepsParts d new
+  refused_parts new same =
+      let whole : Grows d.log all_forced = record { more = entry ∷ []; records = with_commit; pages = pages } in
+      appended_parts st allowed d shows (entry ∷ [])
+      (one_runs st allowed d kept session shows low refl refl refl refl refl refl records reserved refl (all_settled all_forced refl) whole unit has)
+      (commit_next st allowed d kept session shows low refl refl refl refl refl refl records reserved refl (all_settled all_forced refl) whole unit has)
+      new (ap (λ (l : Listed). l.records) same ∙ with_commit)
 
   pub refused_left : LeavesState (in_doubt st session) log
   refused_left = record {

@@ -20,7 +20,9 @@ use Rattle.rg_desk.specs.OnVolume.{IsOnVolume}
 use Rattle.rg_desk.specs.Volume.{IsCount, LeavesIfTidy, VolumeSeen}
 use Rattle.rg_desk.specs.declared.engine.Engine.{Engine}
 use Rattle.rg_desk.proofs.DeskGoes.{IsSystem, desk_quiet}
-use Rattle.rg_desk.proofs.Flushing.{own_same}
+use Rattle.rg_desk.proofs.Flushing.{forces_clean, own_same}
+use Rattle.rg_desk.proofs.OnVolume.{tidy_then}
+use Rattle.rg_desk.specs.Reopens.{IsCleanIn}
 use Rattle.rg_desk.proofs.Leaving.{on_calls}
 
 -- a flush of a desk that is up is allowed
@@ -51,6 +53,7 @@ desk_flushed d c copy true marks seen desk event calls next later seen_after new
     (ap (λ (x : Engine). x.log.pages) same ∙ desk.pages ∙ ap (λ (v : VolumeSeen). log_pages v.capacities) (sym tells.3))
     (subst (λ (v : VolumeSeen). LeavesIfTidy v next.log) (sym tells.3) (subst (λ (x : Engine). LeavesIfTidy seen x.log) (sym same) desk.leaves))
     (subst (IsOnVolume copy next.log next.space later) (sym tells.3) (subst (λ (ms : List (Option Position)). IsOnVolume copy next.log next.space ms seen) (sym tells.2) (subst (λ (x : Engine). IsOnVolume copy x.log x.space marks seen) (sym same) desk.is_on)))
+    (λ up. absurd (cc (up)))
     trace at counted recorded
 desk_flushed d c copy false marks seen desk event calls next later seen_after new f trace at counted recorded =
     let pages : next.log.pages ≡ d.log.pages = ap (λ (l : Listed). l.pages) f.forces.log in
@@ -59,7 +62,11 @@ desk_flushed d c copy false marks seen desk event calls next later seen_after ne
     (is_system copy (seen_in d).pages marks later seen seen_after event f.is) (allowed desk.state desk.down_is copy (seen_in d).pages marks later seen seen_after event f.is)
     (pages ∙ desk.pages ∙ ap (λ x. log_pages x) (sym f.calls.capacities))
     (on_calls (WritesEither (set_of copy)) seen.told seen_after.told d.log next.log c.calls f.calls.only desk.counted pages f.leaves desk.leaves)
-    f.is_on trace at counted recorded
+    f.is_on
+    (λ up.
+    tidy_then (WritesEither (set_of copy)) seen.told seen_after.told seen.capacities seen_after.capacities (IsCleanIn d) (IsCleanIn next) c.calls f.calls.only desk.counted f.calls.capacities
+    (forces_clean d next f.forces) (desk.clean up))
+    trace at counted recorded
 
 -- what a flush says, and leaves
 pub record Told (copy : ℕ) (down : Bool) (marks later : List (Option Position)) (seen seen_after : VolumeSeen) (d : Engine) (event : Event) (next : Engine) : Type 0 where

@@ -50,7 +50,11 @@ use Rattle.rg_desk.specs.Chronicle.{ChronicleState, IsEntry, IsRecorded, allowed
 use Rattle.rg_desk.specs.Desk.{AreKeys, IsAmong, IsBegun, IsCopy, IsDesk, IsLayout, is_reply}
 use Rattle.rg_desk.specs.Engine.{ground_of}
 use Rattle.rg_desk.specs.Left.{LeavesState}
-use Rattle.rg_desk.specs.OnVolume.{IsOnVolume}
+use Rattle.rg_desk.specs.OnVolume.{CleanIfTidy, IsOnVolume, WasAllTidy}
+use Rattle.rg_image.specs.Rules.{copy_capacity}
+use Rattle.rg_outside.proofs.Every.{told_weaken}
+use Rattle.rg_outside.specs.Capacities.{Capacities}
+use Rattle.rg_desk.specs.Reopens.{IsCleanIn, PartsReopen, Reopens}
 use Rattle.rg_outside.specs.Faults.{Rose}
 use Rattle.rg_space.specs.Space.{capacity_in}
 use Rattle.rg_desk.specs.Count.{IsShownFew}
@@ -61,7 +65,8 @@ use Rattle.rg_desk.specs.declared.engine.Engine.{Engine}
 use Rattle.rg_desk.proofs.Among.{few_committed, few_with, keys_left, keys_with}
 use Rattle.rg_desk.proofs.Answering.{down_if, same_calls, up_if}
 use Rattle.rg_desk.proofs.Leaving.{has_more, leaves_on}
-use Rattle.rg_desk.proofs.OnVolume.{on_more, on_same}
+use Rattle.rg_desk.proofs.OnVolume.{both_tidy, on_more, on_same, tidy_then}
+use Rattle.rg_desk.proofs.Reopens.{parts_further, same_clean}
 use Rattle.rg_desk.proofs.Same.{same_shows}
 use Rattle.rg_desk.proofs.Settled.{grows_same}
 
@@ -179,6 +184,7 @@ module _ (d : Engine) (c : ChronicleState) (copy : ℕ) (down : Bool) (marks : L
     pages = desk.pages;
     leaves = desk.leaves;
     is_on = desk.is_on;
+    clean = desk.clean;
     keys = desk.keys;
     among = desk.among;
     few = subst (λ (es : List Entry). length desk.keys ≤ length es + row_count desk.start) (sym trace) desk.few;
@@ -198,9 +204,9 @@ module _ (d : Engine) (c : ChronicleState) (copy : ℕ) (down : Bool) (marks : L
       → AreKeys keys after → length keys ≤ length desk.keys + 1 → Says desk.state session stmt reply after → after.copy ≡ copy → after.down ≡ down_after
       → (down_after ≡ false → Shows after (allowed_by 0 c.trace + more_allowed stmt reply) next) → (down_after ≡ true → LeavesState after next.log)
       → taken_of next.log ≤ taken_of d.log + more_logged stmt reply → next.log.pages ≡ log_pages seen_after.capacities
-      → next.opened ≡ d.opened → Grows d.log next.log → LeavesIfTidy seen_after next.log → IsOnVolume copy next.log next.space marks seen_after
+      → next.opened ≡ d.opened → Grows d.log next.log → LeavesIfTidy seen_after next.log → IsOnVolume copy next.log next.space marks seen_after → (down_after ≡ false → CleanIfTidy seen_after next)
       → new.trace ≡ c.trace ++ said_entry session stmt reply calls ∷ [] → new.calls ≡ calls → IsCount seen_after calls → IsRecorded new.trace new.calls → IsDesk next new copy down_after marks seen_after
-  desk_on session stmt reply calls after next down_after seen_after new keys among more says copy_is down_is shown left logged pages opened grows leaves is_on trace at counted recorded =
+  desk_on session stmt reply calls after next down_after seen_after new keys among more says copy_is down_is shown left logged pages opened grows leaves is_on clean trace at counted recorded =
       let entry = said_entry session stmt reply calls in
       let longer = ap (λ (es : List Entry). length es) trace ∙ length-append c.trace (entry ∷ []) in
       let few = desk.few in
@@ -225,6 +231,7 @@ module _ (d : Engine) (c : ChronicleState) (copy : ℕ) (down : Bool) (marks : L
         pages = pages;
         leaves = leaves;
         is_on = is_on;
+        clean = clean;
         keys = keys;
         among = among;
         few = omega (arith, longer, few, more);
@@ -235,9 +242,9 @@ module _ (d : Engine) (c : ChronicleState) (copy : ℕ) (down : Bool) (marks : L
   pub desk_quiet : (event : Event) (calls : ℕ) (next : Engine) (later : List (Option Position)) (seen_after : VolumeSeen) (new : ChronicleState)
       → next.log ≡ record d.log { forced = next.log.forced } → next.opened ≡ d.opened → (down ≡ false → Shows desk.state (allowed_by 0 c.trace) next) → (down ≡ true → LeavesState desk.state next.log)
       → IsSystem event → next_state [] None actors.System event desk.state ≡ Some desk.state
-      → next.log.pages ≡ log_pages seen_after.capacities → LeavesIfTidy seen_after next.log → IsOnVolume copy next.log next.space later seen_after
+      → next.log.pages ≡ log_pages seen_after.capacities → LeavesIfTidy seen_after next.log → IsOnVolume copy next.log next.space later seen_after → (down ≡ false → CleanIfTidy seen_after next)
       → new.trace ≡ c.trace ++ system_entry event calls ∷ [] → new.calls ≡ calls → IsCount seen_after calls → IsRecorded new.trace new.calls → IsDesk next new copy down later seen_after
-  desk_quiet event calls next later seen_after new log opened shown left is allows pages leaves is_on trace at counted recorded =
+  desk_quiet event calls next later seen_after new log opened shown left is allows pages leaves is_on clean trace at counted recorded =
       let entry = system_entry event calls in
       let longer = ap (λ (es : List Entry). length es) trace ∙ length-append c.trace (entry ∷ []) in
       let few = desk.few in
@@ -260,6 +267,7 @@ module _ (d : Engine) (c : ChronicleState) (copy : ℕ) (down : Bool) (marks : L
         pages = pages;
         leaves = leaves;
         is_on = is_on;
+        clean = clean;
         keys = desk.keys;
         among = desk.among;
         few = omega (arith, longer, few);
@@ -308,7 +316,8 @@ module _ (d : Engine) (c : ChronicleState) (copy : ℕ) (down : Bool) (marks : L
       desk_quiet event calls next marks seen new (log ∙ ap (λ (n : ℕ). let l : LogList = record d.log { forced = n } in l) (sym (ap (λ (l : LogList). l.forced) log))) opened
       (λ up. same_shows desk.state (allowed_by 0 c.trace) d next same (desk.shown up)) (λ down. subst (LeavesState desk.state) (sym log) (desk.left down)) (is_system event is) allows
       (ap (λ (l : LogList). l.pages) log ∙ desk.pages) (subst (LeavesIfTidy seen) (sym log) desk.leaves)
-      (record { epoch = desk.is_on.epoch; is_on = on_same desk.is_on.epoch copy d next marks seen same desk.is_on.is_on }) trace at counted recorded
+      (record { epoch = desk.is_on.epoch; is_on = on_same desk.is_on.epoch copy d next marks seen same desk.is_on.is_on })
+      (λ up. told_weaken (λ t. WasAllTidy seen.capacities t → IsCleanIn d) (λ t. WasAllTidy seen.capacities t → IsCleanIn next) seen.told (λ t h tidy. same_clean d next same (h tidy)) (desk.clean up)) trace at counted recorded
     where
       is_system : (event : Event) → IsLayout copy event → IsSystem event
       is_system (Layout shown side) is = tt
@@ -357,6 +366,24 @@ module _ (d : Engine) (c : ChronicleState) (copy : ℕ) (down : Bool) (marks : L
       let few_rows = desk.few_rows in
       record { state = desk.state; allowed = allowed_by 0 c.trace; shows = desk.shown up; few = omega (arith, committed, few, bound, few_rows) }
 
+-- what a desk that is up leaves can be opened again, if the volume read tidy
+pub desk_reopens : (d : Engine) (c : ChronicleState) (copy : ℕ) (marks : List (Option Position)) (seen : VolumeSeen) (desk : IsDesk d c copy false marks seen) → PartsReopen seen.capacities desk.is_on.epoch d.log → IsCleanIn d → Reopens seen.capacities desk.is_on.epoch d
+desk_reopens d c copy marks seen desk parts clean = record {
+  copy = ap (copy_capacity seen.capacities) desk.is_on.is_on.copy_is ∙ sym desk.is_on.is_on.capacity;
+  pages = sym desk.pages;
+  newest = desk.is_on.is_on.newest;
+  parts = parts;
+  clean = clean;
+}
+
+-- where more is forced fewer parts are left
+left_further : (st : State) (log : LogList) (low : ℕ) → low ≤ log.forced → LeavesState st (record log { forced = low }) → LeavesState st log
+left_further st log low further left = record {
+  idle = left.idle;
+  sure = left.sure;
+  stored = λ n from to. left.stored n (omega (arith, further, from)) to;
+}
+
 -- the entry of a statement, whether the desk is up or down
 pub desk_replied : (d : Engine) (c : ChronicleState) (copy : ℕ) (down : Bool) (marks : List (Option Position)) (seen : VolumeSeen) (desk : IsDesk d c copy down marks seen) (session : Session) (stmt : Stmt) (reply : Reply) (calls : ℕ)
     (next : Engine) (down_after : Bool) (seen_after : VolumeSeen) (new : ChronicleState)
@@ -371,6 +398,7 @@ desk_replied d c copy true marks seen desk session stmt reply calls next down_af
     (ap (λ (x : Engine). x.opened) replies.1) (grows_same d.log next.log (ap (λ (x : Engine). x.log) replies.1))
     (subst (λ (v : VolumeSeen). LeavesIfTidy v next.log) (sym replies.3) (subst (LeavesIfTidy seen) (ap (λ (x : Engine). x.log) (sym replies.1)) desk.leaves))
     (subst (IsOnVolume copy next.log next.space marks) (sym replies.3) (subst (λ (x : Engine). IsOnVolume copy x.log x.space marks seen) (sym replies.1) desk.is_on))
+    (λ up. absurd (cc (up, replies.2)))
     trace at counted recorded
 desk_replied d c copy false marks seen desk session stmt reply calls next down_after seen_after new replies trace at counted recorded =
     let answered = replies.0 desk.state (allowed_by 0 c.trace) (desk.shown refl) in
@@ -379,7 +407,7 @@ desk_replied d c copy false marks seen desk session stmt reply calls next down_a
     (subst (AreKeys (keys_with stmt desk.keys)) (sym answered.is_after) (keys_left desk.keys desk.state desk.among session stmt reply)) (few_with stmt desk.keys)
     answered.says (ap (λ (st : State). st.copy) answered.is_after ∙ copy_left desk.state session stmt reply ∙ desk.copy_is)
     (ap (λ (st : State). st.down) answered.is_after ∙ down_left desk.state session stmt reply desk.down_is ∙ sym replies.2)
-    (λ up. up_if _ reply (sym replies.2 ∙ up) answered.shows) (λ down. down_if _ reply (sym replies.2 ∙ down) answered.left)
+    (λ up. up_if _ reply (sym replies.2 ∙ up) answered.shows) (λ down. left_further answered.after next.log d.log.forced asks.further (down_if _ reply (sym replies.2 ∙ down) answered.left))
     answered.logged
     (answered.grows.pages ∙ desk.pages ∙ ap (λ x. log_pages x) (sym asks.calls.capacities))
     answered.opened answered.grows
@@ -387,8 +415,15 @@ desk_replied d c copy false marks seen desk session stmt reply calls next down_a
     (record {
       epoch = desk.is_on.epoch;
       is_on = on_more desk.is_on.epoch copy d.log next.log d.space next.space marks seen seen_after desk.is_on.is_on answered.grows.more answered.grows.records
-          (answered.newest desk.is_on.epoch desk.is_on.is_on.newest) answered.capacity (desk.shown refl).settled.within asks.further asks.calls c.calls desk.counted;
+          (answered.newest desk.is_on.epoch desk.is_on.is_on.newest) answered.capacity (desk.shown refl).settled.within asks.further asks.calls c.calls desk.counted
+          (subst (λ (caps : Capacities). IfTold seen_after.told (λ t. WasAllTidy caps t → PartsReopen caps desk.is_on.epoch next.log)) (sym asks.calls.capacities)
+          (tidy_then (WritesIn Log) seen.told seen_after.told seen.capacities seen.capacities (PartsReopen seen.capacities desk.is_on.epoch d.log × IsCleanIn d) (PartsReopen seen.capacities desk.is_on.epoch next.log) c.calls asks.calls.only desk.counted refl
+          (λ h. parts_further seen.capacities desk.is_on.epoch next.log d.log.forced asks.further (answered.parts seen.capacities desk.is_on.epoch (desk_reopens d c copy marks seen desk h.0 h.1)))
+          (both_tidy seen.told seen.capacities (λ t. PartsReopen seen.capacities desk.is_on.epoch d.log) (λ t. IsCleanIn d) desk.is_on.is_on.parts (desk.clean refl))));
     })
+    (λ up.
+    tidy_then (WritesIn Log) seen.told seen_after.told seen.capacities seen_after.capacities (IsCleanIn d) (IsCleanIn next) c.calls asks.calls.only desk.counted asks.calls.capacities
+    (λ h. up_if _ reply (sym replies.2 ∙ up) (answered.clean h)) (desk.clean refl))
     trace at counted recorded
 
 -- what the entry of a statement says
@@ -475,9 +510,9 @@ keys_count [] = refl
 keys_count (e ∷ es) = ap suc (keys_count es)
 
 pub desk_opened : (d : Engine) (c : ChronicleState) (copy pages used calls : ℕ) (marks : List (Option Position)) (seen : VolumeSeen) (start : Table) → IsCopy copy → Shows (at_rest start copy) (4064 * pages) d → IsStored d.log.records start → d.opened ≡ length d.log.records
-    → taken_of d.log ≤ used → d.log.pages ≡ log_pages seen.capacities → LeavesIfTidy seen d.log → IsOnVolume copy d.log d.space marks seen → row_count start < 2 ^ 32
+    → taken_of d.log ≤ used → d.log.pages ≡ log_pages seen.capacities → LeavesIfTidy seen d.log → IsOnVolume copy d.log d.space marks seen → CleanIfTidy seen d → row_count start < 2 ^ 32
     → c.trace ≡ opened_entry copy (row_count start) pages used calls ∷ [] → c.calls ≡ calls → IsCount seen calls → IsRecorded c.trace c.calls → IsDesk d c copy false marks seen
-desk_opened d c copy pages used calls marks seen start is_copy shown starts opened taken log_pages_are leaves is_on few trace at counted recorded =
+desk_opened d c copy pages used calls marks seen start is_copy shown starts opened taken log_pages_are leaves is_on clean few trace at counted recorded =
     let none : committed_table (at_rest start copy) ≡ start = committed-at_rest start copy in
     let first : State = at_rest (committed_table (at_rest start copy)) copy in
     let is : first ≡ at_rest start copy = ap (λ t. at_rest t copy) none in
@@ -510,6 +545,7 @@ desk_opened d c copy pages used calls marks seen start is_copy shown starts open
       pages = log_pages_are;
       leaves = leaves;
       is_on = is_on;
+      clean = λ up. clean;
       keys = keys_in (map.entries start);
       among = record {
         present = λ k there. first_among start (map.entries start) k (ap (λ (o : Option Row). is_some o) (sym (get-entries start k)) ∙ there);

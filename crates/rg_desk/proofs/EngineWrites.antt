@@ -25,6 +25,7 @@ use Rattle.rg_log.specs.Kept.{Listed}
 use Rattle.rg_desk.specs.Engine.{slots_in}
 use Rattle.rg_desk.specs.Newest.{KeepsNewest}
 use Rattle.rg_desk.specs.Planned.{change_plan, drop_plan, put_plan, units_with}
+use Rattle.rg_desk.specs.Reopens.{IsCleanIn, KeepsParts}
 use Rattle.rg_desk.specs.Shows.{Shows, left_by}
 use Rattle.rg_desk.specs.Wrote.{Wrote}
 use Rattle.rg_desk.specs.declared.engine.Engine.{Engine}
@@ -34,7 +35,7 @@ use Rattle.rg_desk.proofs.NewestKept.{space_newest}
 use Rattle.rg_desk.proofs.PlansWrite.{MayPlan, full_change, full_put, may_change, may_drop, may_put}
 use Rattle.rg_desk.proofs.Sessions.{are_live, begins, left_consistent, mine}
 use Rattle.rg_desk.proofs.UnitsWritten.{IsUnitFor}
-use Rattle.rg_desk.proofs.Written.{written_shows}
+use Rattle.rg_desk.proofs.Written.{written_clean, written_parts, written_shows}
 
 module _ (st : State) (allowed : ℕ) (d : Engine) (shows : Shows st allowed d) (session : Session) (unit : OpenUnit)
     (own : IsUnitFor d.units (left_by shows.first d) session.0 unit) where
@@ -111,7 +112,21 @@ module _ (st : State) (allowed : ℕ) (d : Engine) (shows : Shows st allowed d) 
       → Wrote d session unit plan key after new → Shows (write_key st session key after) (allowed + more) new
   plan_shows more key after plan new plans of_key alone low wrote =
       written_shows st allowed more d new session unit plan key after shows wrote low own alone plans.lawful of_key
-      (subst (λ (ps : List (List Slot)). Carries t 0 limit ps after plan) (sym shows.by.slots) plans.carries)
+      (subst (λ (ps : List (List Slot)). Carries t 0 limit ps after plan) (sym shows.by.slots) plans.carries) plans.within
+      (written_claims limit s t allowed more plan after good (begins st allowed d shows session unit own) plans.lawful shows.by.claimed plans.grows)
+
+  -- and the parts of the log can be opened
+  pub plan_parts : (more key : ℕ) (after : Option Row) (plan : Plan) (new : Engine) → Plans more after plan → key_of plan.before after ≡ key → holder d.locks session key ≡ None → session.0 < 256
+      → Wrote d session unit plan key after new → KeepsParts d new
+  plan_parts more key after plan new plans of_key alone low wrote =
+      written_parts st allowed more d new session unit plan key after shows wrote low own alone plans.lawful of_key
+      (subst (λ (ps : List (List Slot)). Carries t 0 limit ps after plan) (sym shows.by.slots) plans.carries) plans.within
+
+  pub plan_clean : (more key : ℕ) (after : Option Row) (plan : Plan) (new : Engine) → Plans more after plan → key_of plan.before after ≡ key → holder d.locks session key ≡ None → session.0 < 256
+      → Wrote d session unit plan key after new → IsCleanIn d → IsCleanIn new
+  plan_clean more key after plan new plans of_key alone low wrote =
+      written_clean st allowed more d new session unit plan key after shows wrote low own alone plans.lawful of_key
+      (subst (λ (ps : List (List Slot)). Carries t 0 limit ps after plan) (sym shows.by.slots) plans.carries) plans.within
       (written_claims limit s t allowed more plan after good (begins st allowed d shows session unit own) plans.lawful shows.by.claimed plans.grows)
 
   -- and the pages stay the newest versions

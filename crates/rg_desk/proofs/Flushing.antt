@@ -1,38 +1,55 @@
 -- A flush, step by step.
-use Rattle.std.proofs.Common.{◌≡◌, ◌≤◌, ◌<◌, ◌⊎◌, inl, inr, ℕ, List, [], ◌∷◌, length, Option, Some, None, Result, Ok, refl, sym, ◌∙◌, ap, subst, arith, append-nil}
+use Rattle.std.proofs.Common.{◌≡◌, ◌≤◌, ◌<◌, ◌⊎◌, inl, inr, ℕ, List, [], ◌∷◌, length, Option, Some, None, Result, Ok, take, refl, sym, ◌∙◌, ap, subst, arith, append-nil}
 use Rattle.rg_base.proofs.Walk.{place}
 use Rattle.rg_base.specs.declared.position.Position.{Position}
 use Rattle.rg_base.specs.declared.set.Set.{Set}
 use Rattle.rg_base.specs.declared.set.Set.TheVariants.{Log}
-use Rattle.rg_log.specs.Kept.{Listed}
+use Rattle.rg_image.specs.Kept.{AreEntries}
+use Rattle.rg_image.specs.Log.{SpellsFrom}
+use Rattle.rg_image.specs.Pack.{end_of, start}
+use Rattle.rg_log.specs.Kept.{Listed, log_pages}
 use Rattle.rg_model.specs.State.{State}
 use Rattle.rg_outside.specs.Calls.{Call, FailedRead, FailedSync, FailedWrite, Read, Refused, Synced, Told, Wrote, read_of}
 use Rattle.rg_outside.specs.Faults.{HasCause, Rose}
 use Rattle.rg_outside.specs.Made.{IsWriteCall, MadeWrite, WritesIn, WritesOnly, then_call}
-use Rattle.rg_outside.specs.Moments.{EachCall, IfTold}
+use Rattle.rg_outside.specs.Moments.{EachCall, EachImage, HoldsThroughout, IfTold}
 use Rattle.rg_outside.specs.declared.source.Failed.{Failed}
+use Rattle.rg_image.proofs.Other.{other_write}
 use Rattle.rg_outside.proofs.Brings.{write_only}
+use Rattle.rg_outside.proofs.Every.{write_goes_on}
 use Rattle.rg_outside.proofs.Frame.{calls_weaken, no_calls, one_call}
+use Rattle.rg_outside.proofs.Run.{begins}
 use Rattle.rg_outside.proofs.Single.{wrote_here}
-use Rattle.rg_page.specs.Content.{Content, content_at}
+use Rattle.rg_page.specs.Content.{Content, content_at, slots_of}
 use Rattle.rg_page_bytes.specs.PageBytes.{page_bytes}
 use Rattle.rg_record.specs.declared.record.Record.{Record}
 use Rattle.rg_space.specs.Memory.{list_seen}
 use Rattle.rg_space.specs.Space.{capacity_in, frames_of}
-use Rattle.rg_stmt.specs.declared.event.Event.TheVariants.{Clean, Flush, FlushDevice}
+use Rattle.rg_stmt.specs.declared.event.Event.TheVariants.{Clean, Flush, FlushDevice, FlushNoMemory}
 use Rattle.rg_version.specs.Versions.{Epoch, Spells}
 use Rattle.rg_newest.specs.Tidy.{set_of}
 use Rattle.rg_desk.specs.Engine.{seen_in}
-use Rattle.rg_desk.specs.Flushed.{CallsOwn, Flushes, ForcesLog, OnlyForces, ReadsAll, WritesEither, WrotePage}
+use Rattle.rg_desk.specs.Flushed.{CallsOwn, FitsSet, Flushes, ForcesLog, OnlyForces, ReadsAll, WritesEither, WrotePage}
 use Rattle.rg_desk.specs.Newest.{HasNewest}
-use Rattle.rg_desk.specs.OnVolume.{AreClean, IsLeastDirty, IsOn, mark_at}
+use Rattle.rg_desk.specs.OnVolume.{AreClean, IsLeastDirty, IsOn, PartsIfTidy, SoundThroughout, WasAllTidy, mark_at}
+use Rattle.rg_desk.specs.Engine.{slots_in}
+use Rattle.rg_desk.specs.Reopens.{IsCleanIn, PartsReopen}
+use Rattle.rg_desk.specs.Units.{trans_of}
+use Rattle.rg_home.specs.Pages.{slot_of}
+use Rattle.rg_home.specs.Slot.{Slot}
+use Rattle.rg_lawful.specs.Lawful.{AllBelow}
+use Rattle.rg_ready.specs.Dead.{DeadNames}
+use Rattle.rg_outside.specs.Capacities.{Capacities}
+use Rattle.rg_sound.specs.Reopens.{CanReopen, HasLowOwners}
 use Rattle.rg_desk.specs.Shows.{Shows}
-use Rattle.rg_desk.specs.Volume.{CallsLog, HasCalls, Leaves, VolumeSeen}
+use Rattle.rg_desk.specs.Volume.{CallsLog, HasCalls, Leaves, LeavesIfTidy, VolumeSeen}
 use Rattle.rg_desk.specs.Wrote.{SameEngine}
 use Rattle.rg_desk.specs.declared.engine.Engine.{Engine}
-use Rattle.rg_desk.proofs.Leaving.{has_more}
-use Rattle.rg_desk.proofs.OnVolume.{clean_reads, copy_apart, log_wrote, on_fewer, on_marked, on_more, on_same, on_wrote}
+use Rattle.rg_desk.proofs.Leaving.{has_more, on_calls}
+use Rattle.rg_desk.proofs.OnVolume.{clean_reads, copy_apart, log_wrote, on_fewer, on_marked, on_more, on_same, on_wrote, tidy_then}
+use Rattle.rg_desk.proofs.Reopening.{sound_leaves}
 use Rattle.rg_desk.proofs.Same.{same_shows}
+use Rattle.rg_desk.proofs.Throughout.{log_sound, sound_begins, sound_more}
 
 -- ---- calls
 
@@ -97,6 +114,18 @@ forced_shows st allowed d n low high shows = record {
     owed = shows.by.owed;
     claimed = shows.by.claimed;
   };
+  trails = record { tells = shows.trails.tells; each = shows.trails.each; paid = shows.trails.paid; space = shows.trails.space };
+}
+
+-- no call was needed for it
+pub forces_none : (d : Engine) (seen : VolumeSeen) → d.log.forced ≤ length d.log.records → ForcesLog seen seen d d
+forces_none d seen within = record {
+  same = refl;
+  further = omega arith;
+  within = within;
+  calls = record { only = no_calls (WritesIn Log) seen.told; later = omega arith; capacities = refl };
+  leaves = λ h. h;
+  through = begins (EachImage (SpellsFrom d.log.pages d.log.records d.log.forced)) seen.told;
 }
 
 -- all is as it was
@@ -111,6 +140,17 @@ forces_same d next same = record {
   further = omega (arith, ap (λ (l : Listed). l.forced) same.log);
   shows = λ st allowed shows. same_shows st allowed d next same shows;
 }
+
+-- a log that is forced further changes no page
+pub forces_clean : (d next : Engine) → OnlyForces d next → IsCleanIn d → IsCleanIn next
+forces_clean d next forces clean =
+    let slots : slots_in next ≡ slots_in d = ap (λ (ps : List Content). slots_of ps) forces.contents in
+    record {
+      names =
+          subst (λ (us : List ℕ). DeadNames us (slot_of (slots_in next))) (ap trans_of (sym forces.units))
+          (subst (λ (ps : List (List Slot)). DeadNames (trans_of d.units) (slot_of ps)) (sym slots) clean.names);
+      below = subst (λ (top : ℕ). AllBelow top (slot_of (slots_in next))) (sym forces.top) (subst (λ (ps : List (List Slot)). AllBelow d.top (slot_of ps)) (sym slots) clean.below);
+    }
 
 -- a page was spelled, and the log was forced or was not
 module _ (copy : ℕ) (d mid now : Engine) (before v : VolumeSeen) (same : SameEngine d mid) (f : ForcesLog before v mid now) (has : HasCalls before 0) where
@@ -145,12 +185,42 @@ module _ (copy : ℕ) (d mid now : Engine) (before v : VolumeSeen) (same : SameE
   pub leaves_now : Leaves before d.log → Leaves v now.log
   leaves_now h = f.leaves (subst (Leaves before) (sym same.log) h)
 
+  through_now : Leaves before d.log → HoldsThroughout before.told v.told (EachImage (SpellsFrom d.log.pages d.log.records d.log.forced))
+  through_now h = subst (λ (l : Listed). HoldsThroughout before.told v.told (EachImage (SpellsFrom l.pages l.records l.forced))) same.log (f.through (subst (Leaves before) (sym same.log) h))
+
+  old_within : d.log.forced ≤ length d.log.records
+  old_within = omega (arith, only_forces.further, f.within, ap (λ (l : Listed). length l.records) only_forces.log)
+
+  -- while it was forced all was as before
+  still_on : (e : Epoch) (marks : List (Option Position)) → IsOn e copy d.log d.space marks before → IsOn e copy d.log d.space marks v
+  still_on e marks on =
+      on_more e copy d.log d.log d.space d.space marks before v on [] (sym (append-nil d.log.records)) on.newest refl old_within (omega arith) f.calls 0 has
+      (subst (λ (c : Capacities). IfTold v.told (λ t. WasAllTidy c t → PartsReopen c e d.log)) (sym f.calls.capacities)
+      (tidy_then (WritesIn Log) before.told v.told before.capacities before.capacities (PartsReopen before.capacities e d.log) (PartsReopen before.capacities e d.log) 0 f.calls.only has refl (λ h. h) on.parts))
+
+  force_sound : (e : Epoch) (marks : List (Option Position)) → IsOn e copy d.log d.space marks before → FitsSet before d.log → LeavesIfTidy before d.log → SoundThroughout before v
+  force_sound e marks on fits leaves =
+      log_sound e copy d.log d.log d.space d.space marks marks before v on (still_on e marks on) [] (sym (append-nil d.log.records)) refl old_within f.calls 0 has fits.pages refl fits.entries fits.set leaves through_now
+
   pub on_now : (e : Epoch) (marks : List (Option Position)) → IsOn e copy d.log d.space marks before → IsOn e copy now.log now.space marks v
   on_now e marks on =
       let on_mid = on_same e copy d mid marks before same on in
       on_more e copy mid.log now.log mid.space now.space marks before v on_mid [] (records_are ∙ sym (append-nil mid.log.records))
       (subst (λ (rs : List Record). HasNewest e rs now.space) (sym records_are) (subst (HasNewest e mid.log.records) (sym space_is) on_mid.newest))
-      (ap (λ s. capacity_in s) space_is) (omega (arith, f.further, f.within, ap (λ (rs : List Record). length rs) records_are)) f.further f.calls 0 has
+      (ap (λ s. capacity_in s) space_is) (omega (arith, f.further, f.within, ap (λ (rs : List Record). length rs) records_are)) f.further f.calls 0 has parts_now
+    where
+      further_parts : (capacities : Capacities) → PartsReopen capacities e d.log → PartsReopen capacities e now.log
+      further_parts capacities h =
+          let records : now.log.records ≡ d.log.records = records_are ∙ ap (λ (l : Listed). l.records) same.log in
+          record {
+            can = λ n from to. subst (λ (rs : List Record). CanReopen capacities e (take n rs)) (sym records) (h.can n (omega (arith, ap (λ (l : Listed). l.forced) same.log, f.further, from)) (omega (arith, to, ap (λ (rs : List Record). length rs) records)));
+            low = λ n from to. subst (λ (rs : List Record). HasLowOwners e (take n rs)) (sym records) (h.low n (omega (arith, ap (λ (l : Listed). l.forced) same.log, f.further, from)) (omega (arith, to, ap (λ (rs : List Record). length rs) records)));
+          }
+
+      parts_now : PartsIfTidy v e now.log
+      parts_now =
+          subst (λ (c : Capacities). IfTold v.told (λ t. WasAllTidy c t → PartsReopen c e now.log)) (sym f.calls.capacities)
+          (tidy_then (WritesIn Log) before.told v.told before.capacities before.capacities (PartsReopen before.capacities e d.log) (PartsReopen before.capacities e now.log) 0 f.calls.only has refl (further_parts before.capacities) on.parts)
 
   -- the force failed
   pub force_failed : (e : Epoch) (marks : List (Option Position)) → IsOn e copy d.log d.space marks before → Rose before.faults v.faults → Flushes copy marks marks before v d FlushDevice now
@@ -158,7 +228,9 @@ module _ (copy : ℕ) (d mid now : Engine) (before v : VolumeSeen) (same : SameE
     forces = only_forces;
     calls = own_calls copy before v f.calls;
     leaves = leaves_now;
+    through = through_now;
     is_on = record { epoch = e; is_on = on_now e marks on };
+    sound = force_sound e marks on;
     is = rose;
   }
 
@@ -208,13 +280,32 @@ module _ (copy : ℕ) (d mid now : Engine) (before v : VolumeSeen) (same : SameE
     leaves_written : Leaves before d.log → Leaves w now.log
     leaves_written h = log_wrote now.log.pages now.log.records now.log.forced v.told w.told result (set_of copy) page bytes (copy_apart copy) (leaves_now h) made
 
+    through_written : Leaves before d.log → HoldsThroughout before.told w.told (EachImage (SpellsFrom d.log.pages d.log.records d.log.forced))
+    through_written h =
+        write_goes_on (SpellsFrom d.log.pages d.log.records d.log.forced) before.told v.told w.told result (set_of copy) page bytes (through_now h) made
+        (λ i is. other_write (set_of copy) d.log.pages d.log.forced page d.log.records bytes i (λ log. copy_apart copy (sym log)) is)
+
+    sound_written : FitsSet before d.log → LeavesIfTidy before d.log → SoundThroughout before w
+    sound_written fits leaves =
+        let pages : now.log.pages ≡ d.log.pages = ap (λ (l : Listed). l.pages) only_forces.log in
+        let left : LeavesIfTidy w now.log = on_calls (WritesEither (set_of copy)) before.told w.told d.log now.log 0 own.only has pages leaves_written leaves in
+        sound_more before v w made.0 0 (force_sound e marks on fits leaves)
+        (sound_leaves e copy now.log now.space later w on_written
+        (pages ∙ fits.pages ∙ ap (λ (c : Capacities). log_pages c) (sym own.capacities))
+        (subst (λ (l : Listed). AreEntries l.records) (sym only_forces.log) fits.entries)
+        (subst (λ (l : Listed). 1 ≤ length l.records → (end_of start l.records).page ≤ l.pages) (sym only_forces.log) fits.set)
+        left)
+        made.2 one_more (has_more (WritesIn Log) before.told v.told 0 f.calls.only has) caps
+
     -- the write failed
     pub write_failed : Rose v.faults w.faults → Flushes copy marks later before w d FlushDevice now
     write_failed rose = record {
       forces = only_forces;
       calls = own;
       leaves = leaves_written;
+      through = through_written;
       is_on = record { epoch = e; is_on = on_written };
+      sound = sound_written;
       is = rose_more before.faults v.faults w.faults f.calls.later rose;
     }
 
@@ -227,11 +318,13 @@ module _ (copy : ℕ) (d mid now : Engine) (before v : VolumeSeen) (same : SameE
           forces = only_forces;
           calls = own;
           leaves = leaves_written;
+          through = through_written;
           is_on = record {
             epoch = e;
             is_on = on_marked e copy now.log now.space page bytes least.low high f.within settled_now spells_now later last w on_written reads
                 (marked ∙ ap (λ (x : Content). Some (record { 0 = x.position })) here_is) rest;
           };
+          sound = sound_written;
           is = (
             least,
             record { here = marked; others = λ p one differ. rest p one differ ∙ others p one differ },
@@ -253,13 +346,31 @@ module _ (copy : ℕ) (d mid now : Engine) (before v : VolumeSeen) (same : SameE
                 }
             one _ is t0 after = absurd is
 
+-- nothing is called
+sound_same : (e : Epoch) (copy : ℕ) (d : Engine) (marks : List (Option Position)) (seen : VolumeSeen) → IsOn e copy d.log d.space marks seen → FitsSet seen d.log → LeavesIfTidy seen d.log → SoundThroughout seen seen
+sound_same e copy d marks seen on fits leaves = sound_begins seen (sound_leaves e copy d.log d.space marks seen on fits.pages fits.entries fits.set leaves)
+
+-- there was no memory for the mark of a page
+pub flush_refused : (e : Epoch) (copy : ℕ) (d next : Engine) (marks later : List (Option Position)) (seen : VolumeSeen) → SameEngine d next → IsOn e copy d.log d.space marks seen → ((p : ℕ) → 1 ≤ p → mark_at later p ≡ mark_at marks p) → Flushes copy marks later seen seen d FlushNoMemory next
+flush_refused e copy d next marks later seen same on marked = record {
+  forces = forces_same d next same;
+  calls = own_same copy seen;
+  leaves = subst (Leaves seen) (sym same.log);
+  through = begins (EachImage (SpellsFrom d.log.pages d.log.records d.log.forced)) seen.told;
+  is_on = record { epoch = e; is_on = on_fewer e copy next.log next.space marks later seen (on_same e copy d next marks seen same on) (λ p one. inl (marked p one)) };
+  sound = sound_same e copy d marks seen on;
+  is = refl;
+}
+
 -- no page is dirty
 pub flush_clean : (e : Epoch) (copy : ℕ) (d next : Engine) (marks : List (Option Position)) (seen : VolumeSeen) → SameEngine d next → d.log.forced ≤ length d.log.records → IsOn e copy d.log d.space marks seen → AreClean (seen_in d).pages marks → Flushes copy marks marks seen seen d Clean next
 flush_clean e copy d next marks seen same within on clean = record {
   forces = forces_same d next same;
   calls = own_same copy seen;
   leaves = subst (Leaves seen) (sym same.log);
+  through = begins (EachImage (SpellsFrom d.log.pages d.log.records d.log.forced)) seen.told;
   is_on = record { epoch = e; is_on = on_same e copy d next marks seen same on };
+  sound = sound_same e copy d marks seen on;
   is = (clean, refl, reads seen.told (λ p one high. clean_reads e copy d.log d.space marks seen within on p one high (clean p one high)));
 }
   where

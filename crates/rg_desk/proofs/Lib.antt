@@ -39,6 +39,7 @@ pub mod Rolled
 pub mod RollbackShows
 pub mod Unlisting
 pub mod Collecting
+pub mod UndoTrails
 pub mod UndoSteps
 pub mod UndoBegins
 pub mod RollbackGoes
@@ -49,6 +50,13 @@ pub mod Answering
 pub mod Counting
 pub mod Among
 pub mod Reopening
+pub mod Throughout
 pub mod DeskGoes
 pub mod DeskFlush
+pub mod Sounding
+pub mod Rows
 pub mod Recorded
+pub mod Parts
+pub mod Trails
+pub mod TrailsWritten
+pub mod Reopens

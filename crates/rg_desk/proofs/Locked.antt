@@ -22,7 +22,7 @@ use Rattle.rg_desk.specs.Steps.{Goes}
 use Rattle.rg_desk.specs.Units.{unit_at}
 use Rattle.rg_desk.specs.declared.engine.Engine.{Engine}
 use Rattle.rg_desk.specs.declared.units.OpenUnit.{OpenUnit}
-use Rattle.rg_desk.proofs.Death.{refused_left}
+use Rattle.rg_desk.proofs.Death.{refused_left, refused_parts}
 use Rattle.rg_desk.proofs.NewestKept.{space_newest}
 use Rattle.rg_desk.proofs.Logged.{bytes_committed}
 
@@ -85,13 +85,15 @@ module _ (st : State) (allowed : ℕ) (d : Engine) (session : Session) (shows : 
     opened = opened ∙ logged.base.opened;
     forced = λ e. absurd (cc (e));
     newest = λ e h. space_newest mid.log.records new.log.records mid.space new.space records space e (logged.newest e h);
+    parts = refused_parts st allowed d session shows low unit has new.log (records ∙ logged.records) (omega (arith, reserved, logged.reserved)) (pages ∙ logged.base.pages) (omega (arith, further, logged.base.forced)) new refl;
+    clean = λ clean. tt;
     grows = record {
       more = commit_record (length d.log.records + 1) unit ∷ [];
       records = records ∙ logged.records ∙ ap (records_committed d.log.records) has;
       pages = pages ∙ logged.base.pages;
     };
     shows = tt;
-    left = refused_left st allowed d session shows low unit has new.log (records ∙ logged.records) (omega (arith, reserved, logged.reserved)) (pages ∙ logged.base.pages) (omega (arith, further, logged.base.forced));
+    left = refused_left st allowed d session shows low unit has (record new.log { forced = d.log.forced }) (records ∙ logged.records) (omega (arith, reserved, logged.reserved)) (pages ∙ logged.base.pages) (omega arith);
     capacity = ap (λ sp. capacity_in sp) space ∙ ap (λ (x : Engine). capacity_in x.space) logged.same;
   }
 

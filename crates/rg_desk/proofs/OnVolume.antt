@@ -8,8 +8,8 @@ use Rattle.rg_base.specs.declared.set.Set.{Set}
 use Rattle.rg_base.specs.declared.set.Set.TheVariants.{Log, First, Second}
 use Rattle.rg_image.specs.Log.{SpellsFrom}
 use Rattle.rg_image.specs.Meaning.{current_of}
-use Rattle.rg_image.specs.Rules.{IsTidyLog, copy_capacity}
-use Rattle.rg_log.specs.Kept.{LeavesLog, Listed, log_pages}
+use Rattle.rg_image.specs.Rules.{copy_capacity}
+use Rattle.rg_log.specs.Kept.{LeavesLog, Listed}
 use Rattle.rg_outside.specs.Calls.{Call, FailedRead, FailedSync, FailedWrite, Image, Read, Refused, Synced, Told, Wrote, is_same_page, read_of}
 use Rattle.rg_outside.specs.Capacities.{Capacities, capacity_of}
 use Rattle.rg_outside.specs.Made.{IsWriteCall, MadeWrite, WritesIn}
@@ -28,11 +28,12 @@ use Rattle.rg_version.specs.Versions.{Epoch, IsOnVolume as IsOnPage, Spells, ver
 use Rattle.rg_version.proofs.OnImage.{calls_keep, more_keeps, write_keeps}
 use Rattle.rg_version.proofs.Redo.{version_more}
 use Rattle.rg_newest.specs.Newest.{IsNewest}
-use Rattle.rg_newest.specs.Tidy.{AreTidyPages, set_of}
+use Rattle.rg_newest.specs.Tidy.{set_of, switched_pages}
 use Rattle.rg_newest.proofs.Flush.{clean_newest, newest_written, written_version}
 use Rattle.rg_newest.proofs.InMemory.{there_in}
 use Rattle.rg_desk.specs.Newest.{HasNewest}
-use Rattle.rg_desk.specs.OnVolume.{AreMarks, BeganAt, IsMark, IsOn, WasAllTidy, is_clean, is_clean_at, mark_at}
+use Rattle.rg_desk.specs.OnVolume.{AreMarks, BeganAt, IsMark, IsOn, IsTidyVolume, PartsIfTidy, WasAllTidy, is_clean, is_clean_at, mark_at}
+use Rattle.rg_desk.specs.Reopens.{PartsReopen}
 use Rattle.rg_desk.specs.Volume.{CallsLog, HasCalls, VolumeSeen}
 use Rattle.rg_desk.specs.Wrote.{SameEngine}
 use Rattle.rg_desk.specs.declared.engine.Engine.{Engine}
@@ -89,13 +90,25 @@ tidy_on K (Some before) (Some after) caps P Q n made has goes h = λ tidy.
     let was : before ≡ made.0 = cc (made.2) in
     let is : after ≡ record before { calls = made.1 ++ before.calls } = made.3 ∙ ap (λ (t : Told). let u : Told = record t { calls = made.1 ++ t.calls } in u) (sym was) in
     let same : read_at after after.start ≡ read_at before before.start = ap (λ (t : Told). read_at t t.start) is ∙ began before made.1 (omega (arith, has)) in
-    goes (h (tidy_same before after caps same tidy))
-  where
-    tidy_same : (before after : Told) (caps : Capacities) → read_at after after.start ≡ read_at before before.start → WasAllTidy caps after → WasAllTidy caps before
-    tidy_same before after caps same tidy = record {
-      log = subst (λ (i : Image). IsTidyLog (log_pages caps) i) same tidy.log;
-      pages = subst (λ (i : Image). AreTidyPages caps i) same tidy.pages;
-    }
+    goes (h (subst (λ (i : Image). IsTidyVolume caps i) same tidy))
+
+-- what is no matter of the volume
+pub told_same : (K : Call → Type 0) (old new : Option Told) (P : Type 0) → EachCall old new K → IfTold old (λ t. P) → IfTold new (λ t. P)
+told_same K old None P made h = tt
+told_same K None (Some after) P made h = absurd (cc (made.2))
+told_same K (Some before) (Some after) P made h = h
+
+-- two facts of a volume that was tidy
+pub both_tidy : (told : Option Told) (caps : Capacities) (P Q : Told → Type 0) → IfTold told (λ t. WasAllTidy caps t → P t) → IfTold told (λ t. WasAllTidy caps t → Q t) → IfTold told (λ t. WasAllTidy caps t → P t × Q t)
+both_tidy None caps P Q p q = tt
+both_tidy (Some t) caps P Q p q = λ tidy. (p tidy, q tidy)
+
+-- what follows from a fact that is no matter of the volume
+pub tidy_then : (K : Call → Type 0) (old new : Option Told) (before after : Capacities) (P Q : Type 0) (n : ℕ) → EachCall old new K → IfTold old (λ t. t.start + n ≤ length t.calls) → after ≡ before
+    → (P → Q) → IfTold old (λ t. WasAllTidy before t → P) → IfTold new (λ t. WasAllTidy after t → Q)
+tidy_then K old new before after P Q n made has caps goes h =
+    subst (λ (c : Capacities). IfTold new (λ t. WasAllTidy c t → Q)) (sym caps)
+    (tidy_on K old new before (λ t. P) (λ t. Q) n made has (λ p. told_weaken (λ t. P) (λ t. Q) new (λ t x. goes x) (told_same K old new P made p)) h)
 
 -- ---- records and calls of the log
 
@@ -119,7 +132,7 @@ began_more e log later more began records within further =
 -- records were appended, and the log was forced further
 module _ (e : Epoch) (copy : ℕ) (log later : Listed) (space next : Space ListFrames) (marks : List (Option Position)) (old new : VolumeSeen) (on : IsOn e copy log space marks old)
     (more : List Record) (records : later.records ≡ log.records ++ more) (newest : HasNewest e later.records next) (capacity : capacity_in next ≡ capacity_in space)
-    (within : log.forced ≤ length log.records) (further : log.forced ≤ later.forced) (calls : CallsLog old new) (n : ℕ) (has : HasCalls old n) where
+    (within : log.forced ≤ length log.records) (further : log.forced ≤ later.forced) (calls : CallsLog old new) (n : ℕ) (has : HasCalls old n) (parts : PartsIfTidy new e later) where
   pages_on : IfTold old.told (EachImage (HasPages (set_of copy) (capacity_in space) e log.records log.forced)) → IfTold new.told (EachImage (HasPages (set_of copy) (capacity_in next) e later.records later.forced))
   pages_on h =
       subst (λ (k : ℕ). IfTold new.told (EachImage (HasPages (set_of copy) k e later.records later.forced))) (sym capacity)
@@ -145,6 +158,9 @@ module _ (e : Epoch) (copy : ℕ) (log later : Listed) (space next : Space ListF
         subst (λ (c : Capacities). IfTold new.told (λ t. WasAllTidy c t → EachImage (HasPages (set_of copy) (capacity_in next) e later.records later.forced) t)) (sym calls.capacities)
         (tidy_on _ old.told new.told old.capacities (EachImage (HasPages (set_of copy) (capacity_in space) e log.records log.forced)) (EachImage (HasPages (set_of copy) (capacity_in next) e later.records later.forced)) n calls.only has pages_on on.leaves);
     marked = marks_on;
+    bases = on.bases;
+    counts = on.counts ∙ ap (λ (rs : List Record). switched_pages rs) (sym (ap (take e.from) records ∙ take-append-le e.from log.records more (omega (arith, on.begun, within))));
+    parts = parts;
   }
 
 -- all is as it was
@@ -161,6 +177,9 @@ on_same e copy d next marks seen same on =
       newest = newest;
       leaves = subst (λ (k : ℕ). IfTold seen.told (λ t. WasAllTidy seen.capacities t → EachImage (HasPages (set_of copy) k e d.log.records d.log.forced) t)) (sym same.capacity) on.leaves;
       marked = on.marked;
+      bases = on.bases;
+      counts = on.counts;
+      parts = on.parts;
     })
 
 -- ---- the write of a page
@@ -222,6 +241,12 @@ module _ (e : Epoch) (copy : ℕ) (log : Listed) (space : Space ListFrames) (pag
             (tidy_on _ old.told new.told old.capacities (EachImage (HasPages (set_of copy) (capacity_in space) e log.records log.forced)) (EachImage (HasPages (set_of copy) (capacity_in space) e log.records log.forced)) n calls has
             (λ leaves. write_keeps (set_of copy) (capacity_in space) e log.records log.forced old.told new.told result page bytes leaves may made) on.leaves);
         marked = reads_wrote (λ p b. IsMark e log.records p b (mark_at marks p)) (set_of copy) page bytes (λ b. subst (IsMark e log.records page b) (sym none) tt) old.told new.told result on.marked made;
+        bases = on.bases;
+        counts = on.counts;
+        parts =
+            subst (λ (c : Capacities). IfTold new.told (λ t. WasAllTidy c t → PartsReopen c e log)) (sym caps)
+            (tidy_on _ old.told new.told old.capacities (λ t. PartsReopen old.capacities e log) (λ t. PartsReopen old.capacities e log) n calls has
+            (told_same _ old.told new.told (PartsReopen old.capacities e log) calls) on.parts);
       }
 
   -- and is marked then, where it was written
@@ -236,6 +261,9 @@ module _ (e : Epoch) (copy : ℕ) (log : Listed) (space : Space ListFrames) (pag
     newest = on.newest;
     leaves = on.leaves;
     marked = both seen.told on.marked reads;
+    bases = on.bases;
+    counts = on.counts;
+    parts = on.parts;
   }
     where
       is_version : Spells bytes (version e log.records here.position page)
@@ -268,6 +296,9 @@ on_fewer e copy log space marks later seen on fewer = record {
   newest = on.newest;
   leaves = on.leaves;
   marked = told_weaken _ _ seen.told (λ t h p one. go t p (fewer p one) (h p one)) on.marked;
+  bases = on.bases;
+  counts = on.counts;
+  parts = on.parts;
 }
   where
     go : (t : Told) (p : ℕ) → (mark_at later p ≡ mark_at marks p) ⊎ (mark_at later p ≡ None) → IsMark e log.records p (read_of t.first t.calls (set_of copy) p) (mark_at marks p) → IsMark e log.records p (read_of t.first t.calls (set_of copy) p) (mark_at later p)

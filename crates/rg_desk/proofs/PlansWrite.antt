@@ -21,17 +21,22 @@ use Rattle.rg_lawful.specs.DeskLaws.{AreLiveWith, DeskWrites}
 use Rattle.rg_lawful.specs.Lawful.{MayBegin}
 use Rattle.rg_lawful.specs.Write.{HitBy, at_key}
 use Rattle.rg_lawful.proofs.Desk.{desk_put, desk_change, desk_drop}
+use Rattle.rg_within.specs.Within.{IsWithin}
+use Rattle.rg_within.proofs.Within.{change_within, drop_within, put_within}
+use Rattle.rg_home.proofs.ChangeFits.{drop_itself}
 use Rattle.rg_space.specs.Carries.{Carries}
 use Rattle.rg_space.proofs.Carried.{put_carries, change_carries, drop_carries}
 use Rattle.rg_desk.proofs.Claimed.{full_claims}
 
--- a plan that is lawful, that pages can carry, and that claims no more than this
+-- a plan that is lawful, that pages can carry, that claims no more than this, and that names pages
+-- within the copy
 pub record MayPlan (limit : ℕ) (s : LogState) (pages : List (List Slot)) (t more : ℕ) (after : Option Row) (plan : Plan) : Type 0 where
   pub lawful : DeskWrites limit s t plan.before after plan
   pub carries : Carries t 0 limit pages after plan
   pub grows :
       claimed_all (holding s.live (suc s.top)) (pages_after t (row_or_empty after) pages plan)
       ≤ claimed_all (holding s.live (suc s.top)) pages + more
+  pub within : IsWithin limit plan.home plan.parts
 
 pub of_some : {A : Type 0} (P : A → Type 0) (o : Option A) (x : A) → IfSome o P → Some x ≡ o → P x
 of_some {A} P None x h e = absurd (cc (e))
@@ -59,6 +64,7 @@ module _ (limit : ℕ) (s : LogState) (good : IsConsistent limit s) (t : ℕ) (b
           carries = carries.1;
           grows = of_some (λ p. claimed_all holds (pages_after t row s.pages p) ≤ claimed_all holds s.pages + (18 + row_size row)) planned plan
               (put_claims holds t row units s.pages good.ready.proper.sound good.ready.proper.tied (row_size row) limit) is;
+          within = put_within units (row_size row) limit s.pages plan (sym is);
         },
       )
 
@@ -76,6 +82,7 @@ module _ (limit : ℕ) (s : LogState) (good : IsConsistent limit s) (t : ℕ) (b
           carries = carries.1;
           grows = of_some (λ p. claimed_all holds (pages_after t row s.pages p) ≤ claimed_all holds s.pages + (18 + row_size row)) planned plan
               (change_claims holds t row units s.pages good.ready.proper.sound good.ready.proper.tied home (row_size row) limit is_there) is;
+          within = change_within units (row_size row) limit s.pages home plan good.ready.proper good.few is_there (sym is);
         },
       )
 
@@ -91,6 +98,9 @@ module _ (limit : ℕ) (s : LogState) (good : IsConsistent limit s) (t : ℕ) (b
           lawful = same_before limit s t (Some old) None dropped lawful;
           carries = drop_carries t 0 limit s.pages good.few good.ready.proper home is_there;
           grows = drop_claims holds t (row_or_empty None) units s.pages good.ready.proper.sound good.ready.proper.tied home (slot_of s.pages home) refl is_there;
+          within =
+              subst (λ (p : Place). IsWithin limit p dropped.parts) (sym (drop_itself s.pages home (slot_of s.pages home)).0)
+              (drop_within limit s.pages home good.ready.proper good.few is_there);
         },
       )
 

@@ -1,8 +1,11 @@
 -- A volume that a desk hands back may be opened again.
-use Rattle.std.proofs.Common.{◌≡◌, ◌≤◌, ◌+◌, ℕ, List, length, take, Option, None, Some, sym, ◌∙◌, ap, subst, arith}
+use Rattle.std.proofs.Common.{◌≡◌, ◌≤◌, ◌+◌, ℕ, List, length, take, Option, None, Some, sym, ◌∙◌, ap, subst, arith, length-take}
 use Rattle.rg_base.specs.declared.position.Position.{Position}
 use Rattle.rg_image.specs.Kept.{AreEntries}
-use Rattle.rg_image.specs.Log.{SpellsFrom, log_of}
+use Rattle.rg_image.proofs.Pack.{front_page}
+use Rattle.rg_image.proofs.Rules.{log_is_read}
+use Rattle.rg_image.proofs.Sound.{spelled_tidy}
+use Rattle.rg_image.specs.Log.{Spells, SpellsFrom, log_of}
 use Rattle.rg_image.specs.Meaning.{current_of}
 use Rattle.rg_image.specs.Pack.{end_of, start}
 use Rattle.rg_image.specs.Rules.{IsTidyLog, copy_capacity}
@@ -21,11 +24,18 @@ use Rattle.rg_version.specs.Versions.{Epoch}
 use Rattle.rg_newest.specs.Steady.{IsSteady}
 use Rattle.rg_newest.specs.Tidy.{AreSpare, AreTidyPages, set_of}
 use Rattle.rg_newest.proofs.Steady.{steady_front, tidy_goes_on}
-use Rattle.rg_desk.specs.OnVolume.{GoesOnTidy, IsOn, LeavesCopyIfTidy, WasAllTidy}
+use Rattle.rg_sound.specs.Laws.{IsLeft}
+use Rattle.rg_sound.specs.Reopens.{AreTidyOwners}
+use Rattle.rg_sound.proofs.Imaged.{image_sound}
+use Rattle.rg_sound.proofs.LogPages.{left_entries, left_pages, left_positions}
+use Rattle.rg_sound.proofs.Owners.{image_owners}
+use Rattle.rg_sound.proofs.Switched.{pages_front}
+use Rattle.rg_desk.specs.OnVolume.{GoesOnTidy, HasTidyOwners, IsOn, IsSoundTidy, IsTidyVolume, LeavesCopyIfTidy, LeavesSoundIfTidy, WasAllTidy}
+use Rattle.rg_desk.specs.Reopens.{PartsReopen}
 use Rattle.rg_desk.specs.Volume.{HasCalls, LeavesIfTidy, VolumeSeen, WasTidy}
 
 module _ (e : Epoch) (copy : ℕ) (log : Listed) (space : Space ListFrames) (marks : List (Option Position)) (seen : VolumeSeen) (on : IsOn e copy log space marks seen) (pages : log.pages ≡ log_pages seen.capacities)
-    (entries : AreEntries log.records) (set : 1 ≤ length log.records → (end_of start log.records).page ≤ log.pages) (leaves : LeavesIfTidy seen log) where
+    (entries : AreEntries log.records) (set : 1 ≤ length log.records → (end_of start log.records).page ≤ log.pages) where
   -- what is left of the log has all that was forced
   part : (t : Told) → EachImage (SpellsFrom log.pages log.records log.forced) t → EachImage (HasPart log.pages log.records log.forced) t
   part t left = log_part log.pages log.forced log.records (Some t) entries set left
@@ -47,24 +57,83 @@ module _ (e : Epoch) (copy : ℕ) (log : Listed) (space : Space ListFrames) (mar
       (subst (λ (rs : List Record). AreSpare seen.capacities rs i) (sym is)
       (tidy_goes_on seen.capacities e log.records on.began.at log.forced n i on.newest.positions on.newest.steady on.began.low on.began.forced low high on.began.empties within))
 
-  pub reopens : (calls : ℕ) → HasCalls seen calls → GoesOnTidy seen
-  reopens calls has = go seen.told has leaves on.leaves
+  -- the image has this many of the records
+  is_left : (i : Image) (is : SpellsFrom log.pages log.records log.forced i) → HasPages (set_of copy) (capacity_in space) e log.records log.forced i → IsLeft seen.capacities e log.records log.forced is.count i
+  is_left i is stand = record {
+    begun = on.begun;
+    low = is.least;
+    high = is.most;
+    positions = on.newest.positions;
+    steady = on.newest.steady;
+    counts = on.counts ∙ sym (pages_front e log.records is.count (omega (arith, on.begun, is.least)) is.most on.newest.steady);
+    base = on.bases;
+    entries = entries;
+    room = subst (λ (k : ℕ). 1 ≤ length log.records → (end_of start log.records).page ≤ k) pages set;
+    log = subst (λ (k : ℕ). Spells k (take is.count log.records) i) pages is.spells;
+    pages =
+        subst (λ (k : ℕ). HasPages (set_of k) (copy_capacity seen.capacities k) e log.records log.forced i) (sym on.copy_is)
+        (subst (λ (k : ℕ). HasPages (set_of copy) k e log.records log.forced i) on.capacity stand);
+  }
+
+  owners_left : (i : Image) → SpellsFrom log.pages log.records log.forced i → HasPages (set_of copy) (capacity_in space) e log.records log.forced i → PartsReopen seen.capacities e log → HasTidyOwners seen.capacities i
+  owners_left i is stand parts =
+      let left : IsLeft seen.capacities e log.records log.forced is.count i = is_left i is stand in
+      subst (λ (rs : List Record). AreTidyOwners rs i) (sym (log_is_read (log_pages seen.capacities) i (take is.count log.records) (left_pages seen.capacities e log.records log.forced is.count i left)))
+      (image_owners seen.capacities e log.records log.forced is.count i left (parts.can is.count is.least is.most) (parts.low is.count is.least is.most))
+
+  -- its log is tidy
+  log_left : (i : Image) → SpellsFrom log.pages log.records log.forced i → HasPages (set_of copy) (capacity_in space) e log.records log.forced i → IsTidyLog (log_pages seen.capacities) i
+  log_left i is stand =
+      let left : IsLeft seen.capacities e log.records log.forced is.count i = is_left i is stand in
+      spelled_tidy (log_pages seen.capacities) (take is.count log.records) i (left_entries seen.capacities e log.records log.forced is.count i left) (left_positions seen.capacities e log.records log.forced is.count i left)
+      (λ some. omega (arith, front_page is.count log.records, left.room (omega (arith, some, length-take is.count log.records, left.high)))) left.log
+
+  -- it is sound, and tidy
+  pub sound_left : (i : Image) → SpellsFrom log.pages log.records log.forced i → HasPages (set_of copy) (capacity_in space) e log.records log.forced i → PartsReopen seen.capacities e log → IsSoundTidy seen.capacities i
+  sound_left i is stand parts =
+      let left : IsLeft seen.capacities e log.records log.forced is.count i = is_left i is stand in
+      record {
+        sound = image_sound seen.capacities e log.records log.forced is.count i left (parts.can is.count is.least is.most);
+        tidy = record {
+          log = log_left i is stand;
+          pages =
+              tidy_left i
+              (subst (λ (k : ℕ). HasPart k log.records log.forced i) (sym pages)
+              (is.count, is.least, is.most, log_is_read (log_pages seen.capacities) i (take is.count log.records) (left_pages seen.capacities e log.records log.forced is.count i left)))
+              stand;
+          owners = owners_left i is stand parts;
+        };
+      }
+
+  pub sound_leaves : LeavesIfTidy seen log → LeavesSoundIfTidy seen
+  sound_leaves leaves = go seen.told leaves on.leaves on.parts
+    where
+      go : (told : Option Told) → IfTold told (λ t. WasTidy log.pages t → EachImage (SpellsFrom log.pages log.records log.forced) t)
+          → IfTold told (λ t. WasAllTidy seen.capacities t → EachImage (HasPages (set_of copy) (capacity_in space) e log.records log.forced) t)
+          → IfTold told (λ t. WasAllTidy seen.capacities t → PartsReopen seen.capacities e log)
+          → IfTold told (λ t. WasAllTidy seen.capacities t → EachImage (IsSoundTidy seen.capacities) t)
+      go None left stand parts = tt
+      go (Some t) left stand parts = λ was i is. sound_left i (left (subst (λ (k : ℕ). WasTidy k t) (sym pages) was.log) i is) (stand was i is) (parts was)
+
+  pub reopens : LeavesIfTidy seen log → (calls : ℕ) → HasCalls seen calls → GoesOnTidy seen
+  reopens leaves calls has = go seen.told has leaves on.leaves on.parts
     where
       then : (t : Told) → WasTidy (log_pages seen.capacities) t → WasTidy log.pages t
       then t was = subst (λ (k : ℕ). WasTidy k t) (sym pages) was
 
       go : (told : Option Told) → IfTold told (λ t. t.start + calls ≤ length t.calls) → IfTold told (λ t. WasTidy log.pages t → EachImage (SpellsFrom log.pages log.records log.forced) t)
           → IfTold told (λ t. WasAllTidy seen.capacities t → EachImage (HasPages (set_of copy) (capacity_in space) e log.records log.forced) t)
-          → IfTold told (λ t. (t.start ≤ length t.calls) × (WasTidy (log_pages seen.capacities) t → IsTidyLog (log_pages seen.capacities) (read_of t.first t.calls)) × (WasAllTidy seen.capacities t → AreTidyPages seen.capacities (read_of t.first t.calls)))
-      go None has left stand = tt
-      go (Some t) has left stand = (
+          → IfTold told (λ t. WasAllTidy seen.capacities t → PartsReopen seen.capacities e log)
+          → IfTold told (λ t. (t.start ≤ length t.calls) × (WasTidy (log_pages seen.capacities) t → IsTidyLog (log_pages seen.capacities) (read_of t.first t.calls)) × (WasAllTidy seen.capacities t → IsTidyVolume seen.capacities (read_of t.first t.calls)))
+      go None has left stand parts = tt
+      go (Some t) has left stand parts = (
         omega (arith, has),
         λ was. subst (λ (k : ℕ). IsTidyLog k (read_of t.first t.calls)) pages (log_tidy log.pages log.forced log.records (Some t) entries on.newest.positions set (left (then t was))),
-        λ was. tidy_left (read_of t.first t.calls) (part t (left (then t was.log)) (read_of t.first t.calls) (read_image t)) (stand was (read_of t.first t.calls) (read_image t)),
+        λ was. (sound_left (read_of t.first t.calls) (left (then t was.log) (read_of t.first t.calls) (read_image t)) (stand was (read_of t.first t.calls) (read_image t)) (parts was)).tidy,
       )
 
-  pub copy_leaves : LeavesCopyIfTidy seen copy
-  copy_leaves = go seen.told leaves
+  pub copy_leaves : LeavesIfTidy seen log → LeavesCopyIfTidy seen copy
+  copy_leaves leaves = go seen.told leaves
     where
       go : (told : Option Told) → IfTold told (λ t. WasTidy log.pages t → EachImage (SpellsFrom log.pages log.records log.forced) t)
           → IfTold told (λ t. WasTidy (log_pages seen.capacities) t → EachImage (λ i. (current_of (log_of (log_pages seen.capacities) i)).copy ≡ copy) t)

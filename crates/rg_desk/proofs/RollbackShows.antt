@@ -9,6 +9,7 @@ use Rattle.rg_claim.specs.declared.claims.Claims.{Claims}
 use Rattle.rg_claimed.specs.Claim.{claimed_all, holding}
 use Rattle.rg_claimed.proofs.Owners.{covers, ends}
 use Rattle.rg_claimed.proofs.Pages.{claimed_all-fewer}
+use Rattle.rg_follow.specs.Next.{AreNext}
 use Rattle.rg_home.specs.Pages.{slot_of}
 use Rattle.rg_home.specs.Rows.{row_at}
 use Rattle.rg_indexes.specs.Listings.{AreListings}
@@ -38,11 +39,13 @@ use Rattle.rg_desk.specs.Newest.{KeepsNewest}
 use Rattle.rg_desk.specs.Shows.{IsLocked, KeyShown, Shows, ShowsBy, UnitsShown, left_by}
 use Rattle.rg_desk.specs.Steps.{Goes}
 use Rattle.rg_desk.specs.Stored.{IsQuiet}
+use Rattle.rg_desk.specs.Trails.{Trails}
 use Rattle.rg_desk.specs.Units.{owed, owed_to, unit_at}
 use Rattle.rg_desk.specs.declared.engine.Engine.{Engine}
 use Rattle.rg_desk.specs.declared.units.OpenUnit.{OpenUnit}
 use Rattle.rg_desk.proofs.Ended.{keys_ended, units_ended}
 use Rattle.rg_desk.proofs.Rolled.{rolled_back, undos_claim, undos_leave}
+use Rattle.rg_desk.proofs.Reopens.{appended_clean, appended_parts}
 use Rattle.rg_desk.proofs.Sessions.{left_consistent}
 use Rattle.rg_desk.proofs.Settled.{quiet_undos, settled_more, shows_more}
 use Rattle.rg_desk.proofs.UnitSlots.{owed-set}
@@ -113,8 +116,9 @@ module _ (st : State) (allowed : ℕ) (d new : Engine) (session : Session) (show
 
   pub rollback_goes : slots_in new ≡ s_rolled.pages → AreListings (row_at (slot_of s_rolled.pages)) new.indexes → new.locks ≡ locks_without session d.locks
       → new.claims ≡ record d.claims { claims = fin.remove d.claims.claims session.0 } → new.units ≡ set d.units session.0 None → new.top ≡ d.top
-      → new.log.reserved + (23 + 911 * unit.writes) ≡ d.log.reserved → taken_of new.log ≤ taken_of d.log → new.log.pages ≡ d.log.pages → KeepsNewest d new → Goes st allowed d session stmts.Rollback Done new
-  rollback_goes slots indexes locks claims units top reserved taken log_pages newest = record {
+      → new.log.reserved + (23 + 911 * unit.writes) ≡ d.log.reserved → taken_of new.log ≤ taken_of d.log → new.log.pages ≡ d.log.pages → KeepsNewest d new
+      → Trails new.log new.units (state (left_by shows.first d) (RollBack unit.tran.0 ∷ undos)) → AreNext (capacity_in d.space) d.log.pages d.log.records more → Goes st allowed d session stmts.Rollback Done new
+  rollback_goes slots indexes locks claims units top reserved taken log_pages newest trails next = record {
     says = refl;
     room = tt;
     log = tt;
@@ -123,39 +127,45 @@ module _ (st : State) (allowed : ℕ) (d new : Engine) (session : Session) (show
     grows = record { more = more; records = records; pages = log_pages };
     forced = λ e. forced;
     newest = newest;
+    parts = appended_parts st allowed d shows more runs next new records;
+    clean = appended_clean st allowed d shows more runs next (after_rollback st session) (allowed + 0) new shown;
     left = tt;
     shows =
         shows_more st allowed d shows (after_rollback st session) (allowed + 0) new more opened records capacity runs
         (settled_more st allowed d shows more runs (subst IsQuiet (sym acts) (quiet_undos t undos are)) new.log records forced)
-        (subst (ShowsBy (after_rollback st session) (allowed + 0) new) (sym (ap (state s) acts)) (record {
-          up = shows.by.up;
-          idle = shows.by.idle;
-          sure = shows.by.sure;
-          copy = shows.by.copy;
-          table = table;
-          locks = ap (locks_without session) shows.by.locks ∙ sym locks;
-          claims = ap (λ c. fin.remove c session.0) shows.by.claims ∙ ap (λ (c : Claims). c.claims) (sym claims);
-          drain = shows.by.drain ∙ ap (λ (c : Claims). c.drain) (sym claims);
-          free = ap (λ (c : Claims). c.drain) claims ∙ shows.by.free;
-          pages = pages;
-          slots = slots;
-          indexes = indexes;
-          keys = λ k.
-              subst (λ (us : List (Option OpenUnit)). KeyShown us s_rolled (fin.get new.locks k) k) (sym units)
-              (subst (λ (ls : Locks). KeyShown (set d.units session.0 None) s_rolled (fin.get ls k) k) (sym locks)
-              (keys_ended t s s_rolled session unit d.units d.locks place has refl (rolled_back limit s good t undos are lawful)
-              (λ n other e f. shows.by.units.apart n session.0 other unit e has f) shows.by.keys k));
-          places = ap length units ∙ length-set d.units session.0 None ∙ shows.by.places;
-          units =
-              subst (UnitsShown new.log.records s_rolled) (sym units)
-              (subst (λ (rs : List Record). UnitsShown rs s_rolled (set d.units session.0 None)) (sym records)
-              (units_ended t s s_rolled session unit d.units d.locks place has refl (rolled_back limit s good t undos are lawful) d.log.records more shows.by.units));
-          top = top ∙ shows.by.top ∙ sym (undos_leave t s undos are).top;
-          owed = omega (arith, ap owed units, owed-set d.units session.0 None place, ap owed_to has, reserved, shows.by.owed);
-          claimed = omega (arith, claimed);
-        }));
+        shown
+        (subst (Trails new.log new.units) (sym (ap (state s) acts)) trails);
     capacity = capacity;
   }
     where
       runs : Runs limit s (acts_of [] more)
       runs = subst (Runs limit s) (sym acts) lawful
+
+      shown : ShowsBy (after_rollback st session) (allowed + 0) new (state s (acts_of [] more))
+      shown = subst (ShowsBy (after_rollback st session) (allowed + 0) new) (sym (ap (state s) acts)) (record {
+        up = shows.by.up;
+        idle = shows.by.idle;
+        sure = shows.by.sure;
+        copy = shows.by.copy;
+        table = table;
+        locks = ap (locks_without session) shows.by.locks ∙ sym locks;
+        claims = ap (λ c. fin.remove c session.0) shows.by.claims ∙ ap (λ (c : Claims). c.claims) (sym claims);
+        drain = shows.by.drain ∙ ap (λ (c : Claims). c.drain) (sym claims);
+        free = ap (λ (c : Claims). c.drain) claims ∙ shows.by.free;
+        pages = pages;
+        slots = slots;
+        indexes = indexes;
+        keys = λ k.
+            subst (λ (us : List (Option OpenUnit)). KeyShown us s_rolled (fin.get new.locks k) k) (sym units)
+            (subst (λ (ls : Locks). KeyShown (set d.units session.0 None) s_rolled (fin.get ls k) k) (sym locks)
+            (keys_ended t s s_rolled session unit d.units d.locks place has refl (rolled_back limit s good t undos are lawful)
+            (λ n other e f. shows.by.units.apart n session.0 other unit e has f) shows.by.keys k));
+        places = ap length units ∙ length-set d.units session.0 None ∙ shows.by.places;
+        units =
+            subst (UnitsShown new.log.records s_rolled) (sym units)
+            (subst (λ (rs : List Record). UnitsShown rs s_rolled (set d.units session.0 None)) (sym records)
+            (units_ended t s s_rolled session unit d.units d.locks place has refl (rolled_back limit s good t undos are lawful) d.log.records more shows.by.units));
+        top = top ∙ shows.by.top ∙ sym (undos_leave t s undos are).top;
+        owed = omega (arith, ap owed units, owed-set d.units session.0 None place, ap owed_to has, reserved, shows.by.owed);
+        claimed = omega (arith, claimed);
+      })

@@ -12,6 +12,7 @@ use Rattle.rg_log.specs.Kept.{Listed}
 use Rattle.rg_desk.specs.Engine.{slots_in}
 use Rattle.rg_desk.specs.Shows.{KeyShown, Shows, UnitsShown, left_by}
 use Rattle.rg_desk.specs.Stored.{IsSettled}
+use Rattle.rg_desk.specs.Trails.{Trails}
 use Rattle.rg_desk.specs.Units.{owed}
 use Rattle.rg_desk.specs.Wrote.{SameEngine}
 use Rattle.rg_desk.specs.declared.engine.Engine.{Engine}
@@ -49,6 +50,7 @@ same_shows st allowed old new same shows =
       owed = ap owed same.units ∙ shows.by.owed ∙ ap (λ (l : Listed). l.reserved) (sym same.log);
       claimed = shows.by.claimed;
     })
+    (subst (λ (l : Listed). Trails l new.units s) (sym same.log) (subst (λ (us : List (Option OpenUnit)). Trails old.log us s) (sym same.units) shows.trails))
 
 -- the pages are sound
 pub same_sound : (st : State) (allowed : ℕ) (old new : Engine) → SameEngine old new → Shows st allowed old → Sound (slots_in new)

@@ -17,6 +17,7 @@ use Rattle.rg_lawful.proofs.Units.{stored_change, stored_rolled, stored_undo}
 use Rattle.rg_log.specs.Kept.{Listed}
 use Rattle.rg_space.specs.Space.{capacity_in}
 use Rattle.rg_desk.specs.Shows.{Shows, ShowsBy, left_by, since}
+use Rattle.rg_desk.specs.Trails.{Trails}
 use Rattle.rg_desk.specs.Stored.{Grows, IsQuiet, IsSettled, StoresCommitted}
 use Rattle.rg_desk.specs.declared.engine.Engine.{Engine}
 
@@ -84,7 +85,7 @@ module _ (st : State) (allowed : ℕ) (d : Engine) (shows : Shows st allowed d) 
   old_and_new = sym (take-append-drop d.opened d.log.records)
 
   -- what the log stores with these records more
-  more_stored : (more : List Record) → Runs limit s (acts_of [] more) → (k : ℕ) → stored (d.log.records ++ more) k ≡ stored_of (state s (acts_of [] more)) k
+  pub more_stored : (more : List Record) → Runs limit s (acts_of [] more) → (k : ℕ) → stored (d.log.records ++ more) k ≡ stored_of (state s (acts_of [] more)) k
   more_stored more lawful k =
       let first = shows.first in
       let tail = drop d.opened d.log.records in
@@ -143,8 +144,8 @@ module _ (st : State) (allowed : ℕ) (d : Engine) (shows : Shows st allowed d) 
 
   -- the engine after records that are lawful shows what they leave
   pub shows_more : (later : State) (bytes : ℕ) (new : Engine) (more : List Record) → new.opened ≡ d.opened → new.log.records ≡ d.log.records ++ more → capacity_in new.space ≡ capacity_in d.space
-      → Runs limit s (acts_of [] more) → IsSettled new.log → ShowsBy later bytes new (state s (acts_of [] more)) → Shows later bytes new
-  shows_more later bytes new more opened records capacity lawful settled by =
+      → Runs limit s (acts_of [] more) → IsSettled new.log → ShowsBy later bytes new (state s (acts_of [] more)) → Trails new.log new.units (state s (acts_of [] more)) → Shows later bytes new
+  shows_more later bytes new more opened records capacity lawful settled by trails =
       let first = shows.first in
       let rs = d.log.records in
       let longer = ap (λ (xs : List Record). length xs) records ∙ length-append rs more in
@@ -166,4 +167,5 @@ module _ (st : State) (allowed : ℕ) (d : Engine) (shows : Shows st allowed d) 
             subst (λ (n : ℕ). Runs n first (since new)) (sym capacity)
             (subst (Runs limit first) (sym fresh) (runs_joined limit first (acts_of [] more) (since d) shows.runs lawful));
         by = subst (ShowsBy later bytes new) (sym left) by;
+        trails = subst (Trails new.log new.units) (sym left) trails;
       }

@@ -2,6 +2,8 @@
 use Rattle.std.proofs.Common.{◌≡◌, ◌≤◌, ◌<◌, ◌+◌, ◌*◌, ℕ, zero, suc, true, List, [], ◌∷◌, Some, None, length, refl, sym, ◌∙◌, ap, subst, arith}
 use Rattle.std.specs.Prelude.{slice_index_or}
 use Rattle.std.proofs.lemmas.List.{append-nil}
+use Rattle.rg_image.specs.Rules.{last_position, of_tran, owed}
+use Rattle.rg_unended.specs.Unended.{left_of}
 use Rattle.rg_home.specs.Pages.{slot_of}
 use Rattle.rg_home.specs.Rows.{row_at}
 use Rattle.rg_indexes.specs.Listings.{HasSpare, SameEntries}
@@ -24,6 +26,7 @@ use Rattle.rg_desk.specs.Units.{owed_to, unit_at}
 use Rattle.rg_desk.specs.declared.engine.Engine.{Engine}
 use Rattle.rg_desk.specs.declared.units.OpenUnit.{OpenUnit}
 use Rattle.rg_desk.proofs.NewestKept.{frames_newest}
+use Rattle.rg_desk.proofs.UndoTrails.{chain_one}
 use Rattle.rg_desk.proofs.UnitSlots.{at_within, owed-set}
 use Rattle.rg_desk.proofs.Written.{same_listings}
 
@@ -48,9 +51,11 @@ pub undo_begins : (st : State) (allowed : ℕ) (d mid : Engine) (shows : Shows s
     → AreChain d.log.records unit.tran.0 unit.last.0 (own_of unit.tran.0 (left_by shows.first d).writes) work → more ≡ length work → HasSpare more mid.indexes → SameEntries d.indexes mid.indexes
     → frames_of mid.space ≡ frames_of d.space → index_of mid.space ≡ index_of d.space → capacity_in mid.space ≡ capacity_in d.space → length work ≤ undos_in mid.space
     → mid.log ≡ d.log → mid.locks ≡ d.locks → mid.claims ≡ d.claims → mid.units ≡ d.units → mid.top ≡ d.top → mid.opened ≡ d.opened
-    → IsUndoing d (left_by shows.first d) unit mid work unit.last.0 0
+    → IsUndoing d (left_by shows.first d) unit mid work unit.last.0 unit.last.0 0
 undo_begins st allowed d mid shows n unit work more has chain counts spare entries frames index capacity rooms log locks claims units top opened =
     let one = shows.by.units.each n unit has in
+    let trail = shows.trails.each n unit has in
+    let t : ℕ = unit.tran.0 in
     let same : mid.log.records ≡ d.log.records = ap (λ (l : Listed). l.records) log in
     record {
       undos = [];
@@ -59,6 +64,12 @@ undo_begins st allowed d mid shows n unit work more has chain counts spare entri
       more = [];
       records = same ∙ sym (append-nil d.log.records);
       acts = refl;
+      follows = tt;
+      left_is =
+          chain_one d.log.records t unit.last.0 (own_of t (left_by shows.first d).writes) work (left_of t d.log.records) chain trail.lefts
+          ∙ sym (ap (left_of t) same);
+      last = trail.last ∙ sym (ap (λ (rs : List Record). last_position 0 (of_tran t rs)) same);
+      owes = omega (arith, ap (λ (rs : List Record). owed rs) same);
       capacity = capacity;
       pages = record {
         step =
@@ -87,10 +98,10 @@ undo_begins st allowed d mid shows n unit work more has chain counts spare entri
     }
 
 -- all is undone
-pub undo_ends : (old : Engine) (s : LogState) (unit : OpenUnit) (now : Engine) (work : List Record) (at i : ℕ) → IsUndoing old s unit now work at i → unit.writes ≤ i → IsUndoing old s unit now [] 0 unit.writes
-undo_ends old s unit now work at i so high = go (own_of unit.tran.0 (state s so.undos).writes) refl work so.chain so
+pub undo_ends : (old : Engine) (s : LogState) (unit : OpenUnit) (now : Engine) (work : List Record) (at back i : ℕ) → IsUndoing old s unit now work at back i → unit.writes ≤ i → IsUndoing old s unit now [] 0 back unit.writes
+undo_ends old s unit now work at back i so high = go (own_of unit.tran.0 (state s so.undos).writes) refl work so.chain so
   where
-    go : (ws : List Write) → own_of unit.tran.0 (state s so.undos).writes ≡ ws → (rs : List Record) → AreChain now.log.records unit.tran.0 at ws rs → IsUndoing old s unit now work at i → IsUndoing old s unit now [] 0 unit.writes
+    go : (ws : List Write) → own_of unit.tran.0 (state s so.undos).writes ≡ ws → (rs : List Record) → AreChain now.log.records unit.tran.0 at ws rs → IsUndoing old s unit now rs at back i → IsUndoing old s unit now [] 0 back unit.writes
     go (w ∷ ws) e rs chain so2 = absurd (omega (arith, ap length e, so.left, high))
     go [] e (r ∷ rs) chain so2 = absurd chain
     go [] e [] chain so2 =
@@ -102,6 +113,10 @@ undo_ends old s unit now work at i so high = go (own_of unit.tran.0 (state s so.
           more = so.more;
           records = so.records;
           acts = so.acts;
+          follows = so.follows;
+          left_is = so2.left_is;
+          last = so.last;
+          owes = omega (arith, so.owes, done);
           capacity = so.capacity;
           pages = so.pages;
           slots = so.slots;

@@ -1,6 +1,8 @@
 -- The undo of a unit, step by step.
-use Rattle.std.proofs.Common.{◌≡◌, ◌≤◌, ◌<◌, ◌+◌, ◌*◌, ◌-◌, ℕ, List, [], ◌∷◌, ◌++◌, Some, None, length, refl, sym, ◌∙◌, ap, subst, arith}
+use Rattle.std.proofs.Common.{◌≡◌, ◌≤◌, ◌<◌, ◌+◌, ◌*◌, ℕ, List, [], ◌∷◌, ◌++◌, Some, None, length, refl, sym, ◌∙◌, ap, subst, arith}
+use Rattle.std.specs.List.{AllByRecursion}
 use Rattle.std.proofs.lemmas.List.{append_assoc}
+use Rattle.rg_base.specs.declared.part.Part.{Part}
 use Rattle.rg_base.specs.declared.which.Which.{Which}
 use Rattle.rg_base.specs.declared.which.Which.TheVariants.{Key, Clus, Cat}
 use Rattle.rg_home.specs.Able.{Proper, Undoable}
@@ -10,6 +12,17 @@ use Rattle.rg_home.specs.Slot.{Slot}
 use Rattle.rg_home.specs.Undo.{planned_undo, undone}
 use Rattle.rg_home.specs.Written.{Written}
 use Rattle.rg_home.proofs.Place.{same_place-refl}
+use Rattle.rg_follow.specs.Next.{IsFirstBack, IsNext}
+use Rattle.rg_follow.specs.Tells.{Tells}
+use Rattle.rg_follow.proofs.Appended.{last_own, left_own}
+use Rattle.rg_follow.proofs.Owing.{owes}
+use Rattle.rg_follow.proofs.Telling.{undo_live}
+use Rattle.rg_image.specs.Meaning.{current_of}
+use Rattle.rg_image.specs.Rules.{IsOpen, PartIn, HasSpace, last_position, of_tran, owed}
+use Rattle.rg_newest.specs.Newest.{AllNear}
+use Rattle.rg_unended.specs.Unended.{left_of}
+use Rattle.rg_within.specs.Within.{IsWithin}
+use Rattle.rg_within.proofs.Within.{undo_within}
 use Rattle.rg_ready.proofs.Next.{undo_does}
 use Rattle.rg_index.specs.Listed.{has_value}
 use Rattle.rg_indexes.specs.Listings.{HasSpare}
@@ -26,22 +39,19 @@ use Rattle.rg_lawful.proofs.Own.{own_first, own_less}
 use Rattle.rg_lawful.proofs.Rolls.{undo_leaves}
 use Rattle.rg_lawful.proofs.Runs.{runs_consistent}
 use Rattle.rg_space.specs.Space.{capacity_in}
-use Rattle.rg_undo.specs.Undoing.{undo_record, written_of}
+use Rattle.rg_undo.specs.Undoing.{later_of, undo_record, written_of}
 use Rattle.rg_desk.specs.Engine.{slots_in}
 use Rattle.rg_desk.specs.RecordList.{record_at}
-use Rattle.rg_desk.specs.Undoing.{AreChain, CanUndoNext, ChainTo, KeepsUndone, UndidNext}
+use Rattle.rg_desk.specs.Trails.{Trails}
+use Rattle.rg_desk.specs.Undoing.{AreChain, CanUndoNext, KeepsUndone, UndidNext}
 use Rattle.rg_desk.specs.Undone.{IsUndoing}
 use Rattle.rg_desk.specs.Walks.{change_record}
 use Rattle.rg_desk.specs.declared.engine.Engine.{Engine}
 use Rattle.rg_desk.specs.declared.units.OpenUnit.{OpenUnit}
 use Rattle.rg_desk.proofs.Appended.{acts_snoc}
-use Rattle.rg_desk.proofs.WalkLists.{got_longer}
-
--- a chain stays one in a list that grows
-pub chain_longer : (records more : List Record) (t at : ℕ) (rest : List Write) (last : ℕ) (ws : List Write) (cs : List Record) → ChainTo records t at rest last ws cs → ChainTo (records ++ more) t at rest last ws cs
-chain_longer records more t at rest last ws [] h = h
-chain_longer records more t at rest last [] (r ∷ cs) h = absurd h
-chain_longer records more t at rest last (w ∷ ws) (r ∷ cs) h = (h.0, h.1, h.2, got_longer records more (last - 1) (change_record last t h.0 w) h.3, chain_longer records more t at rest h.0 ws cs h.4)
+use Rattle.rg_desk.proofs.Parts.{within_near}
+use Rattle.rg_desk.proofs.UndoTrails.{next_more, undo_of_tran, undo_tells}
+use Rattle.rg_desk.proofs.WalkLists.{chain_longer}
 
 -- what the Change record of a write keeps of it
 written_is : (at t back : ℕ) (w : Write) → w.written.owner ≡ t → written_of (change_record at t back w) ≡ w.written
@@ -77,8 +87,8 @@ next_undo now u t at (w ∷ ws) (r ∷ rs) own some chain = record {
 tail_is : (v w : Write) (xs ws : List Write) → v ∷ xs ≡ w ∷ ws → xs ≡ ws
 tail_is v w xs ws e = cc (e)
 
-module _ (old : Engine) (s : LogState) (good : IsConsistent (capacity_in old.space) s) (unit : OpenUnit) (now : Engine) (work : List Record) (at i : ℕ)
-    (so : IsUndoing old s unit now work at i) (low : i < unit.writes) (room : 23 + 911 * unit.writes ≤ old.log.reserved) where
+module _ (old : Engine) (s : LogState) (good : IsConsistent (capacity_in old.space) s) (trails : Trails old.log old.units s) (unit : OpenUnit) (now : Engine) (work : List Record)
+    (at back i : ℕ) (so : IsUndoing old s unit now work at back i) (low : i < unit.writes) (room : 23 + 911 * unit.writes ≤ old.log.reserved) where
   abbrev t : ℕ
   t = unit.tran.0
 
@@ -137,18 +147,71 @@ module _ (old : Engine) (s : LogState) (good : IsConsistent (capacity_in old.spa
         reserved = omega (arith, so.least, room, low);
       }
 
-  module _ (back then_at : ℕ) (new : Engine) (left : List Record) (did : UndidNext now work at back then_at new left) (keeps : KeepsUndone now work at new) where
+  tells : Tells now.log.records u
+  tells = undo_tells old s good trails unit now work at back i so
+
+  opened : (n : NextUndo now u t at work) → IsOpen t now.log.records
+  opened n = tells.live t (undo_live (capacity_in old.space) u t n.write consistent (latest n))
+
+  -- the record of the next Undo, and its parts
+  abbrev undo_of : NextUndo now u t at work → Record
+  undo_of n = undo_record (length now.log.records + 1) back (slots_in now) (change_record at t n.back n.write)
+
+  abbrev parts : NextUndo now u t at work → List Part
+  parts n = (planned_undo u.pages n.write.written).parts
+
+  parts_is : (n : NextUndo now u t at work) → (planned_undo (slots_in now) (written_of (change_record at t n.back n.write))).parts ≡ parts n
+  parts_is n =
+      ap (λ (ps : List (List Slot)). (planned_undo ps (written_of (change_record at t n.back n.write))).parts) so.slots
+      ∙ ap (λ (c : Written). (planned_undo u.pages c).parts) (written n)
+
+  within : (limit : ℕ) (n : NextUndo now u t at work) → length u.pages ≤ limit → IsWithin limit n.write.written.home (parts n)
+  within limit n high = undo_within limit u.pages n.write.written consistent.ready.proper high (undoable n)
+
+  -- the Changes that are left once it is undone
+  left_then : (n : NextUndo now u t at work) → left_of t (now.log.records ++ undo_of n ∷ []) ≡ n.later
+  left_then n = left_own now.log.records (undo_of n) t refl ∙ ap later_of (sym so.left_is ∙ n.work_is)
+
+  owes_then : (n : NextUndo now u t at work) → owed (now.log.records ++ undo_of n ∷ []) + 911 ≡ owed now.log.records
+  owes_then n =
+      owes.undo now.log.records (undo_of n) (undo_of_tran old s good trails unit now work at back i so (undo_of n) (opened n) refl refl) refl
+      (omega (arith, ap (λ (rs : List Record). length rs) (sym so.left_is ∙ n.work_is)))
+
+  -- it may be appended, where there is room
+  undo_is_next : (n : NextUndo now u t at work) → HasSpace old.log.pages (now.log.records ++ undo_of n ∷ []) → IsNext (capacity_in old.space) old.log.pages now.log.records (undo_of n)
+  undo_is_next n space =
+      let same = sym (parts_is n) in
+      let limit : ℕ = capacity_in old.space in
+      let at_all = within limit n consistent.few in
+      record {
+        position = refl;
+        links = (record { some = (opened n).0; back = so.last }, subst (λ (rs : List Record). IsFirstBack rs n.back) (sym n.work_is ∙ so.left_is) refl);
+        names = (at_all.home_is, subst (λ (ps : List Part). AllByRecursion (PartIn limit) ps) same at_all.parts_are);
+        near =
+            subst (λ (ps : List Part). AllNear (current_of now.log.records).pages ps) same
+            (within_near (length u.pages) (current_of now.log.records).pages (parts n) (omega (arith, tells.count)) (within (length u.pages) n (omega arith)).parts_are);
+        space = space;
+      }
+
+  module _ (then_at : ℕ) (new : Engine) (left : List Record) (did : UndidNext now work at back then_at new left) (keeps : KeepsUndone now work at new) where
     -- the act of its record
     act_is : (n : NextUndo now u t at work) → act_of [] (undo_record (length now.log.records + 1) back (slots_in now) (change_record at t n.back n.write)) ≡ Undo t n.write.written.home n.write.written.before (planned_undo u.pages n.write.written).parts
     act_is n =
         ap (λ (ps : List (List Slot)). Undo t n.write.written.home n.write.written.before (planned_undo ps (written_of (change_record at t n.back n.write))).parts) so.slots
         ∙ ap (λ (c : Written). Undo t n.write.written.home n.write.written.before (planned_undo u.pages c).parts) (written n)
 
-    pub undo_goes : IsUndoing old s unit new left then_at (i + 1)
+    -- the log has room for it
+    space_then : (n : NextUndo now u t at work) → new.log.records ≡ now.log.records ++ undo_of n ∷ [] → HasSpace old.log.pages (now.log.records ++ undo_of n ∷ [])
+    space_then n records =
+        let owing : owed new.log.records + 911 ≡ owed now.log.records = ap (λ (rs : List Record). owed rs + 911) records ∙ owes_then n in
+        let here_so : HasSpace old.log.pages new.log.records = omega (arith, owing, so.owes, did.taken, so.taken, did.least, so.least, trails.space) in
+        subst (HasSpace old.log.pages) records here_so
+
+    pub undo_goes : IsUndoing old s unit new left then_at (length now.log.records + 1) (i + 1)
     undo_goes =
         let n = next in
         let a : Act = Undo t n.write.written.home n.write.written.before (planned_undo u.pages n.write.written).parts in
-        let r : Record = undo_record (length now.log.records + 1) back (slots_in now) (change_record at t n.back n.write) in
+        let r : Record = undo_of n in
         let later : LogState = step u a in
         let may : MayUndo u t n.write.written.home n.write.written.before (planned_undo u.pages n.write.written).parts =
         record { write = n.write; latest = latest n; at = refl; row = refl; is = refl } in
@@ -167,6 +230,12 @@ module _ (old : Engine) (s : LogState) (good : IsConsistent (capacity_in old.spa
           runs = (may, so.runs);
           more = so.more ++ r ∷ [];
           records = records ∙ ap (λ (rs : List Record). rs ++ r ∷ []) so.records ∙ append_assoc old.log.records so.more (r ∷ []);
+          follows =
+              next_more (capacity_in old.space) old.log.pages old.log.records so.more r so.follows
+              (subst (λ (rs : List Record). IsNext (capacity_in old.space) old.log.pages rs r) so.records (undo_is_next n (space_then n records)));
+          left_is = left_is ∙ sym (ap (left_of t) records ∙ left_then n);
+          last = sym (ap (λ (rs : List Record). last_position 0 (of_tran t rs)) records ∙ last_own now.log.records r t refl);
+          owes = omega (arith, ap (λ (rs : List Record). owed rs) records, owes_then n, so.owes);
           acts = acts_snoc so.more r ∙ ap (λ (x : Act). x ∷ acts_of [] so.more) (act_is n) ∙ ap (λ (acts : List Act). a ∷ acts) so.acts;
           capacity = did.capacity ∙ so.capacity;
           pages = did.pages;

@@ -8,6 +8,7 @@ use Rattle.std.proofs.Math.Seq.{get_or-append_seam}
 use Rattle.rg_record.specs.declared.record.Record.{Record}
 use Rattle.rg_lawful.specs.Write.{Write}
 use Rattle.rg_desk.specs.RecordList.{record_at}
+use Rattle.rg_desk.specs.Undoing.{ChainTo}
 use Rattle.rg_desk.specs.Walks.{Walks, change_record}
 
 -- what is there stays there
@@ -39,3 +40,15 @@ pub walks_more : (rs : List Record) (t last : ℕ) (w : Write) (ws : List Write)
 walks_more rs t last w ws h =
     let r : Record = change_record (length rs + 1) t last w in
     (last, omega (arith, walks_within rs t last ws h), got_last rs r, walks_longer rs (r ∷ []) t last ws h)
+
+-- so does a chain
+pub chain_longer : (records more : List Record) (t at : ℕ) (rest : List Write) (last : ℕ) (ws : List Write) (cs : List Record) → ChainTo records t at rest last ws cs → ChainTo (records ++ more) t at rest last ws cs
+chain_longer records more t at rest last ws [] h = h
+chain_longer records more t at rest last [] (r ∷ cs) h = absurd h
+chain_longer records more t at rest last (w ∷ ws) (r ∷ cs) h = (h.0, h.1, h.2, got_longer records more (last - 1) (change_record last t h.0 w) h.3, chain_longer records more t at rest h.0 ws cs h.4)
+
+-- a chain has a record for each write, but for those that are left
+pub chain_length : (records : List Record) (t at : ℕ) (rest : List Write) (last : ℕ) (ws : List Write) (cs : List Record) → ChainTo records t at rest last ws cs → length ws ≡ length cs + length rest
+chain_length records t at rest last ws [] h = omega (arith, ap length h.1)
+chain_length records t at rest last [] (r ∷ cs) h = absurd h
+chain_length records t at rest last (w ∷ ws) (r ∷ cs) h = omega (arith, chain_length records t at rest h.0 ws cs h.4)

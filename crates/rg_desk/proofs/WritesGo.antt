@@ -37,9 +37,11 @@ use Rattle.rg_desk.specs.declared.engine.Engine.{Engine}
 use Rattle.rg_desk.specs.declared.units.OpenUnit.{OpenUnit}
 use Rattle.rg_desk.proofs.Appended.{more_wrote, wrote_more}
 use Rattle.rg_desk.proofs.Logged.{bytes_wrote}
+use Rattle.rg_desk.specs.Reopens.{IsCleanIn, KeepsParts, PartsReopen}
 use Rattle.rg_desk.proofs.NewestKept.{same_newest}
+use Rattle.rg_desk.proofs.Reopens.{same_clean, same_reopens}
 use Rattle.rg_desk.proofs.RoomSaid.{change_needs, change_room, drop_needs, put_needs, put_room}
-use Rattle.rg_desk.proofs.EngineWrites.{Plans, engine_change, engine_drop, engine_full_change, engine_full_put, engine_put, plan_listed, plan_newest, plan_shows}
+use Rattle.rg_desk.proofs.EngineWrites.{Plans, engine_change, engine_drop, engine_full_change, engine_full_put, engine_put, plan_clean, plan_listed, plan_newest, plan_parts, plan_shows}
 use Rattle.rg_desk.proofs.Statements.{go_full, go_log_full, go_wanting, same_unit, unit_for}
 use Rattle.rg_desk.proofs.UnitsWritten.{IsUnitFor}
 
@@ -150,12 +152,19 @@ module _ (st : State) (allowed : ℕ) (d : Engine) (shows : Shows st allowed d) 
       → Shows (write_key st session key after) (allowed + more) new → Wrote mid session unit plan key after new → capacity_in new.space ≡ capacity_in d.space
   wrote stmt more key after plan new done shown w = w.put.capacity ∙ ap (λ sp. capacity_in sp) w.prepared.space ∙ same.capacity
 
+  wrote_parts : (more key : ℕ) (after : Option Row) (plan : Plan) (new : Engine) → PlansMid more after plan → key_of plan.before after ≡ key → holder mid.locks session key ≡ None → session.0 < 256 → Wrote mid session unit plan key after new → KeepsParts d new
+  wrote_parts more key after plan new plans of_key alone low w = λ capacities e h.
+      subst (λ (n : ℕ). PartsReopen capacities e (record new.log { forced = n })) (ap (λ (l : Listed). l.forced) same.log) (plan_parts st allowed mid shows_mid session unit own_mid more key after plan new plans of_key alone low w capacities e (same_reopens capacities e d mid same h))
+
+  wrote_clean : (more key : ℕ) (after : Option Row) (plan : Plan) (new : Engine) → PlansMid more after plan → key_of plan.before after ≡ key → holder mid.locks session key ≡ None → session.0 < 256 → Wrote mid session unit plan key after new → IsCleanIn d → IsCleanIn new
+  wrote_clean more key after plan new plans of_key alone low w = λ clean. plan_clean st allowed mid shows_mid session unit own_mid more key after plan new plans of_key alone low w (same_clean d mid same clean)
+
   pub put_goes : (row : Row) (plan : Plan) (reply : Reply) (new : Engine) → session.0 < 256 → row_of st.table row.key ≡ None → holder d.locks session row.key ≡ None → row_size row ≤ 826 → Some plan ≡ put_plan unit.tran.0 (row_size row) mid
       → plain_reply st session (Insert row) ≡ Done → Writes mid session unit plan row.key (Some row) reply new → Goes st allowed d session (Insert row) reply new
   put_goes row plan Done new low absent alone small is done w =
       let plans = put row plan absent alone small is in
       let shown = plan_shows st allowed mid shows_mid session unit own_mid (18 + row_size row) row.key (Some row) plan new plans refl (alone_mid row.key alone) low w in
-      record { says = sym done; room = put_room st allowed d shows session unit is_unit mid same row (Some plan) true is refl; log = put_needs st allowed d shows session unit is_unit mid same row plan (λ n. n ≤ left_of d.log) is (within _ w.prepared.room); logged = wrote_logged row.key (Some row) plan new w; opened = wrote_opened row.key (Some row) plan new w; grows = wrote_grows row.key (Some row) plan new w; forced = λ e. wrote_forced row.key (Some row) plan new w; newest = wrote_newest (18 + row_size row) row.key (Some row) plan new plans w; left = tt; shows = shown; capacity = wrote (Insert row) (18 + row_size row) row.key (Some row) plan new done shown w }
+      record { says = sym done; room = put_room st allowed d shows session unit is_unit mid same row (Some plan) true is refl; log = put_needs st allowed d shows session unit is_unit mid same row plan (λ n. n ≤ left_of d.log) is (within _ w.prepared.room); logged = wrote_logged row.key (Some row) plan new w; opened = wrote_opened row.key (Some row) plan new w; grows = wrote_grows row.key (Some row) plan new w; forced = λ e. wrote_forced row.key (Some row) plan new w; newest = wrote_newest (18 + row_size row) row.key (Some row) plan new plans w; parts = wrote_parts (18 + row_size row) row.key (Some row) plan new plans refl (alone_mid row.key alone) low w; clean = wrote_clean (18 + row_size row) row.key (Some row) plan new plans refl (alone_mid row.key alone) low w; left = tt; shows = shown; capacity = wrote (Insert row) (18 + row_size row) row.key (Some row) plan new done shown w }
   put_goes row plan (LogFull need left) new low absent alone small is done w =
       log_full (Insert row) _ need left new refl done w (put_needs st allowed d shows session unit is_unit mid same row plan (λ n. need ≡ n) is w.0)
   put_goes row plan NoMemory new low absent alone small is done w = go_wanting st allowed d shows session (Insert row) new refl (same_same d mid new same w)
@@ -167,7 +176,7 @@ module _ (st : State) (allowed : ℕ) (d : Engine) (shows : Shows st allowed d) 
   change_goes home old row plan Done new low there is_there alone key small is done w =
       let plans = change home old row plan there is_there alone key small is in
       let shown = plan_shows st allowed mid shows_mid session unit own_mid (18 + row_size row) row.key (Some row) plan new plans refl (alone_mid row.key alone) low w in
-      record { says = sym done; room = change_room st allowed d shows session unit is_unit mid same home old row (Some plan) true there key is refl; log = change_needs st allowed d shows session unit is_unit mid same home old row plan (λ n. n ≤ left_of d.log) there key is (within _ w.prepared.room); logged = wrote_logged row.key (Some row) plan new w; opened = wrote_opened row.key (Some row) plan new w; grows = wrote_grows row.key (Some row) plan new w; forced = λ e. wrote_forced row.key (Some row) plan new w; newest = wrote_newest (18 + row_size row) row.key (Some row) plan new plans w; left = tt; shows = shown; capacity = wrote (Update row) (18 + row_size row) row.key (Some row) plan new done shown w }
+      record { says = sym done; room = change_room st allowed d shows session unit is_unit mid same home old row (Some plan) true there key is refl; log = change_needs st allowed d shows session unit is_unit mid same home old row plan (λ n. n ≤ left_of d.log) there key is (within _ w.prepared.room); logged = wrote_logged row.key (Some row) plan new w; opened = wrote_opened row.key (Some row) plan new w; grows = wrote_grows row.key (Some row) plan new w; forced = λ e. wrote_forced row.key (Some row) plan new w; newest = wrote_newest (18 + row_size row) row.key (Some row) plan new plans w; parts = wrote_parts (18 + row_size row) row.key (Some row) plan new plans refl (alone_mid row.key alone) low w; clean = wrote_clean (18 + row_size row) row.key (Some row) plan new plans refl (alone_mid row.key alone) low w; left = tt; shows = shown; capacity = wrote (Update row) (18 + row_size row) row.key (Some row) plan new done shown w }
   change_goes home old row plan (LogFull need left) new low there is_there alone key small is done w =
       log_full (Update row) _ need left new refl done w (change_needs st allowed d shows session unit is_unit mid same home old row plan (λ n. need ≡ n) there key is w.0)
   change_goes home old row plan NoMemory new low there is_there alone key small is done w = go_wanting st allowed d shows session (Update row) new refl (same_same d mid new same w)
@@ -180,7 +189,7 @@ module _ (st : State) (allowed : ℕ) (d : Engine) (shows : Shows st allowed d) 
       let plans = drop home old plan there is_there (subst (λ (k : ℕ). holder d.locks session k ≡ None) (sym of_key) alone) is in
       let same_key : key_of plan.before None ≡ key = ap (λ (x : Option Row). key_of x None) plans.0 ∙ of_key in
       let shown = plan_shows st allowed mid shows_mid session unit own_mid 0 key None plan new plans.1 same_key (alone_mid key alone) low w in
-      record { says = sym done; room = tt; log = drop_needs st allowed d shows session unit is_unit mid same home old key plan (λ n. n ≤ left_of d.log) there of_key is (within _ w.prepared.room); logged = wrote_logged key None plan new w; opened = wrote_opened key None plan new w; grows = wrote_grows key None plan new w; forced = λ e. wrote_forced key None plan new w; newest = wrote_newest 0 key None plan new plans.1 w; left = tt; shows = shown; capacity = wrote (Delete key) 0 key None plan new done shown w }
+      record { says = sym done; room = tt; log = drop_needs st allowed d shows session unit is_unit mid same home old key plan (λ n. n ≤ left_of d.log) there of_key is (within _ w.prepared.room); logged = wrote_logged key None plan new w; opened = wrote_opened key None plan new w; grows = wrote_grows key None plan new w; forced = λ e. wrote_forced key None plan new w; newest = wrote_newest 0 key None plan new plans.1 w; parts = wrote_parts 0 key None plan new plans.1 same_key (alone_mid key alone) low w; clean = wrote_clean 0 key None plan new plans.1 same_key (alone_mid key alone) low w; left = tt; shows = shown; capacity = wrote (Delete key) 0 key None plan new done shown w }
   drop_goes home old key plan (LogFull need left) new low there is_there alone of_key is done w =
       log_full (Delete key) _ need left new refl done w (drop_needs st allowed d shows session unit is_unit mid same home old key plan (λ n. need ≡ n) there of_key is w.0)
   drop_goes home old key plan NoMemory new low there is_there alone of_key is done w = go_wanting st allowed d shows session (Delete key) new refl (same_same d mid new same w)

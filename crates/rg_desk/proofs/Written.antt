@@ -29,12 +29,18 @@ use Rattle.rg_lawful.specs.DeskLaws.{DeskWrites, purge_acts}
 use Rattle.rg_lawful.specs.Lawful.{Runs}
 use Rattle.rg_lawful.specs.Records.{acts_of}
 use Rattle.rg_lawful.specs.Write.{Write, key_of, write_of}
-use Rattle.rg_space.specs.Carries.{Carries, cleared}
+use Rattle.rg_follow.specs.Next.{AreNext}
+use Rattle.rg_image.specs.Pack.{log_bytes}
+use Rattle.rg_image.specs.Rules.{limit_of}
+use Rattle.rg_within.specs.Within.{IsWithin}
+use Rattle.rg_space.specs.Carries.{Carries, PlanNext, cleared}
 use Rattle.rg_space.specs.Space.{Agree, InStep, capacity_in, frames_of, index_of}
 use Rattle.rg_desk.specs.Engine.{HasPages, slots_in}
 use Rattle.rg_space.specs.Memory.{list_seen}
 use Rattle.rg_desk.specs.Shows.{KeyShown, Shows, ShowsBy, UnitsShown, left_by}
 use Rattle.rg_desk.specs.Stored.{IsQuiet, IsSettled}
+use Rattle.rg_desk.specs.Reopens.{IsCleanIn, KeepsParts}
+use Rattle.rg_desk.specs.Trails.{Trails}
 use Rattle.rg_desk.specs.Units.{owed, owed_to, unit_at}
 use Rattle.rg_desk.specs.Bytes.{end_bytes}
 use Rattle.rg_log.specs.Kept.{Listed}
@@ -45,8 +51,11 @@ use Rattle.rg_desk.proofs.Appended.{acts_wrote, more_wrote, quiet_wrote, wrote_m
 use Rattle.rg_desk.proofs.Keys.{set_table}
 use Rattle.rg_desk.proofs.KeysWritten.{IsOwnUnit, keys_written}
 use Rattle.rg_desk.proofs.Purged.{key_purged, units_purged, walks_cleared}
+use Rattle.rg_desk.proofs.Reopens.{appended_clean, appended_parts}
 use Rattle.rg_desk.proofs.Sessions.{left_consistent}
 use Rattle.rg_desk.proofs.Settled.{settled_more, shows_more}
+use Rattle.rg_desk.proofs.TrailsWritten.{wrote_next, wrote_trails}
+use Rattle.rg_desk.proofs.Logged.{bytes_wrote}
 use Rattle.rg_desk.proofs.UnitSlots.{owed-set}
 use Rattle.rg_desk.proofs.UnitsWritten.{IsUnitFor, units_written}
 
@@ -69,7 +78,8 @@ module _ (st : State) (allowed more : ℕ) (old new : Engine) (session : Session
     (own : IsUnitFor old.units (left_by shows.first old) session.0 unit) (alone : holder old.locks session key ≡ None)
     (lawful : DeskWrites (capacity_in old.space) (left_by shows.first old) unit.tran.0 plan.before after plan)
     (of_key : key_of plan.before after ≡ key)
-    (carries : Carries unit.tran.0 0 (capacity_in old.space) (slots_in old) after plan) where
+    (carries : Carries unit.tran.0 0 (capacity_in old.space) (slots_in old) after plan)
+    (within : IsWithin (capacity_in old.space) plan.home plan.parts) where
   abbrev s : LogState
   s = left_by shows.first old
 
@@ -212,6 +222,29 @@ module _ (st : State) (allowed more : ℕ) (old new : Engine) (session : Session
       (subst (UnitsShown (records_wrote old.log.records unit plan after) s_written) (sym units)
       (units_written old.log.records (records_cleared old.log.records plan.purge) old.units purged session.0 unit (unit_wrote old.log.records unit plan) w place refl refl refl refl (walks_cleared old.log.records plan.purge) own_purged consistent.fresh (units_purged old.log.records old.units s plan.purge shows.by.units)))
 
+  -- the trails of open units, and that its records may be appended
+  room : log_bytes new.log.records + new.log.reserved ≤ limit_of old.log.pages
+  room =
+      let asked = wrote.prepared.room in
+      omega (arith, ap (λ (l : Listed). log_bytes l.records) wrote.prepared.log, ap (λ (l : Listed). l.reserved) wrote.prepared.log, ap log_bytes wrote.put.records, bytes_wrote wrote.middle.log.records unit plan after, wrote.put.reserved, asked)
+
+  reserved : new.log.reserved ≡ old.log.reserved + 911 + end_bytes (unit_at old.units session.0)
+  reserved = omega (arith, ap (λ (l : Listed). l.reserved) wrote.prepared.log, wrote.put.reserved)
+
+  same_log : new.log.pages ≡ old.log.pages
+  same_log = wrote.put.base.pages ∙ ap (λ (l : Listed). l.pages) wrote.prepared.log
+
+  next_there : PlanNext (length s.pages) plan
+  next_there = subst (λ (ps : List (List Slot)). PlanNext (length ps) plan) shows.by.slots carries.next
+
+  pub write_next : AreNext (capacity_in old.space) old.log.pages old.log.records (more_wrote old.log.records unit plan.purge (write_of unit.tran.0 plan.home plan.before after plan.parts))
+  write_next = wrote_next limit old.log new.log old.units s session.0 unit (unit_wrote old.log.records unit plan) plan after consistent shows.by.units shows.trails own place lawful within next_there refl refl records same_log room reserved
+
+  trails : Trails new.log new.units s_written
+  trails =
+      subst (λ (us : List (Option OpenUnit)). Trails new.log us s_written) (sym units)
+      (wrote_trails limit old.log new.log old.units s session.0 unit (unit_wrote old.log.records unit plan) plan after consistent shows.by.units shows.trails own place lawful within next_there refl refl records same_log room reserved)
+
   by : claimed_all (holding s_written.live (suc s_written.top)) s_written.pages ≤ allowed + more → ShowsBy (write_key st session key after) (allowed + more) new s_written
   by bound = record {
     up = shows.by.up;
@@ -238,3 +271,11 @@ module _ (st : State) (allowed more : ℕ) (old new : Engine) (session : Session
   written_shows bound =
       shows_more st allowed old shows (write_key st session key after) (allowed + more) new entries (wrote.put.base.opened ∙ wrote.prepared.opened) appended capacity runs settled
       (subst (ShowsBy (write_key st session key after) (allowed + more) new) (sym left) (by bound))
+      (subst (Trails new.log new.units) (sym left) trails)
+
+  -- and each part of its log can be opened
+  pub written_parts : KeepsParts old new
+  written_parts = appended_parts st allowed old shows entries runs write_next new appended
+
+  pub written_clean : claimed_all (holding s_written.live (suc s_written.top)) s_written.pages ≤ allowed + more → IsCleanIn old → IsCleanIn new
+  written_clean bound = appended_clean st allowed old shows entries runs write_next (write_key st session key after) (allowed + more) new (subst (ShowsBy (write_key st session key after) (allowed + more) new) (sym left) (by bound))

@@ -5,16 +5,19 @@
 -- 2. A statement that is answered with number 0 registers its classes, and no other does.
 -- 3. Only the COMMIT of a unit that has written calls the volume. At OK all records are forced, and
 --    DEVICE comes only where a call of the volume failed. From then on the engine is down, and it
---    is open whether the commit is in: its log stores the committed rows with it, or without.
+--    is open whether the commit is in: its log stores the committed rows with it, or without, and
+--    so does a part of it that has only what was forced before.
 use Rattle.std.specs.Prelude.{◌≡◌, ◌≤◌, ◌<◌, ◌+◌, ◌*◌, ℕ, Bool, true, false, List, [], Option, Some, None, is_some, length}
 use Rattle.rg_base.specs.declared.session.Class.{Class}
 use Rattle.rg_base.specs.declared.session.Session.{Session}
 use Rattle.rg_claim.specs.Classes.{classes_of}
 use Rattle.rg_log.specs.Kept.{Listed}
+use Rattle.rg_image.specs.Log.{SpellsFrom}
 use Rattle.rg_image.specs.Rules.{limit_of}
 use Rattle.rg_model.specs.Plain.{after_answer}
 use Rattle.rg_model.specs.Run.{Says}
 use Rattle.rg_outside.specs.Faults.{Rose}
+use Rattle.rg_outside.specs.Moments.{EachImage, HoldsThroughout}
 use Rattle.rg_model.specs.Said.{may_want_log, may_want_memory, may_want_room}
 use Rattle.rg_model.specs.State.{State}
 use Rattle.rg_space.specs.Space.{capacity_in}
@@ -26,6 +29,7 @@ use Rattle.rg_stmt.specs.declared.stmt.Stmt.TheVariants.{Commit}
 use Rattle.rg_desk.specs.Engine.{ground_of}
 use Rattle.rg_desk.specs.Left.{LeavesState, in_doubt}
 use Rattle.rg_desk.specs.Newest.{KeepsNewest}
+use Rattle.rg_desk.specs.Reopens.{IsCleanIn, KeepsParts}
 use Rattle.rg_desk.specs.Room.{SaysLog, SaysRoom}
 use Rattle.rg_desk.specs.Shows.{Shows}
 use Rattle.rg_desk.specs.Bytes.{most_needed, taken_of}
@@ -90,8 +94,10 @@ pub record Answered
   pub opened : new.opened ≡ old.opened
   pub grows : Grows old.log new.log
   pub newest : KeepsNewest old new
+  pub parts : KeepsParts old new
+  pub clean : IsCleanIn old → IfUp reply (IsCleanIn new)
   pub shows : IfUp reply (Shows after (allowed + more_allowed stmt reply) new)
-  pub left : IfDevice reply (LeavesState after new.log)
+  pub left : IfDevice reply (LeavesState after (record new.log { forced = old.log.forced }))
   pub capacity : capacity_in new.space ≡ capacity_in old.space
 
 -- from each state that the engine shows
@@ -105,7 +111,9 @@ abbrev pub forces : List (Option OpenUnit) → Session → Stmt → Bool
 forces units session Commit = is_some (unit_at units session.0)
 forces units session stmt = false
 
--- what a statement asks of the volume, and what it leaves of the log then
+-- What a statement asks of the volume, and what it leaves of the log then. Where it puts records
+-- there it has appended one. At each moment of its calls a crash leaves a part of the log's records
+-- that has all that was forced before.
 pub record Asks
     (force : Bool) (reply : Reply) (old_log log : Listed) (old new : VolumeSeen) : Type 0 where
   pub calls : CallsLog old new
@@ -113,7 +121,12 @@ pub record Asks
   pub device : reply ≡ Device → Rose old.faults new.faults
   pub forced : force ≡ true → reply ≡ Done → log.forced ≡ length log.records
   pub further : old_log.forced ≤ log.forced
+  pub one : force ≡ true → length log.records ≡ length old_log.records + 1
   pub leaves : Leaves old old_log → Leaves new log
+  pub through :
+      Leaves old old_log
+      → HoldsThroughout old.told new.told
+      (EachImage (SpellsFrom log.pages log.records old_log.forced))
 
 -- A statement is answered DOWN if and only if the engine is down. Then nothing changes.
 abbrev pub Replies :

@@ -1,5 +1,5 @@
 -- What a desk begins with.
-use Rattle.std.specs.Prelude.{◌≡◌, ◌*◌, ◌<◌, ◌^◌, ℕ, [], ◌∷◌, length}
+use Rattle.std.specs.Prelude.{◌≡◌, ◌*◌, ◌<◌, ◌^◌, ℕ, [], ◌∷◌, None, length}
 use Rattle.rg_image.specs.Pack.{log_bytes}
 use Rattle.rg_model.specs.State.{Table, at_rest, row_count}
 use Rattle.rg_stmt.specs.Entries.{opened_entry}
@@ -7,6 +7,7 @@ use Rattle.rg_desk.specs.Chronicle.{ChronicleState, IsRecorded}
 use Rattle.rg_space.specs.Memory.{space_pages}
 use Rattle.rg_desk.specs.Shows.{Shows}
 use Rattle.rg_desk.specs.Stored.{IsStored}
+use Rattle.rg_desk.specs.Units.{unit_at}
 use Rattle.rg_desk.specs.declared.found.Found.{Found}
 use Rattle.rg_desk.specs.declared.engine.Engine.{Engine}
 
@@ -17,6 +18,8 @@ pub record Begun (found : Found) (calls : ℕ) (d : Engine) (c : ChronicleState)
   pub few : row_count start < 2 ^ 32
   pub shows : Shows (at_rest start found.copy) (4064 * length (space_pages found.space)) d
   pub space : d.space ≡ found.space
+  pub top : d.top ≡ found.top
+  pub idle : (n : ℕ) → unit_at d.units n ≡ None
   pub log : d.log ≡ found.log
   pub opened : d.opened ≡ length found.log.records
   pub trace :

@@ -13,8 +13,9 @@
 -- 7. Each key with a row, and each locked one, is among some keys that are no more than the entries
 --    and the rows at the opening.
 -- 8. Each page is the newest version of its page, and each mark says how it reads. Where the volume
---    read tidy when the count began, a crash leaves versions that the forced records cover.
-use Rattle.std.specs.Prelude.{◌≡◌, ◌≤◌, ◌<◌, ◌+◌, ◌*◌, ◌^◌, ◌⊎◌, ◌||◌, ◌++◌, ℕ, suc, Bool, true, false, List, [], ◌∷◌, Option, None, length, take}
+--    read tidy when the count began, a crash leaves versions that the forced records cover. Then
+--    whatever it leaves can be opened, and dead areas have numbers that were drawn.
+use Rattle.std.specs.Prelude.{◌≡◌, ◌≤◌, ◌<◌, ◌+◌, ◌*◌, ◌^◌, ◌⊎◌, ◌||◌, ◌++◌, ℕ, suc, Bool, true, false, List, [], ◌∷◌, Option, Some, None, length, take}
 use Rattle.rg_base.specs.declared.position.Position.{Position}
 use Rattle.std.specs.FinMap as map
 use Rattle.rg_base.specs.declared.session.Session.{Session}
@@ -22,11 +23,13 @@ use Rattle.rg_model.specs.Committed.{committed_table}
 use Rattle.rg_model.specs.Legal.{Legal}
 use Rattle.rg_model.specs.Run.{Run}
 use Rattle.rg_model.specs.State.{State, Table, at_rest, is_present, row_count}
-use Rattle.rg_outside.specs.Moments.{EachImage, IfTold}
+use Rattle.rg_outside.specs.Moments.{EachImage, HoldsThroughout, IfTold}
 use Rattle.rg_claimed.specs.Claim.{claimed_all, holding}
+use Rattle.rg_follow.specs.Tells.{Tells}
 use Rattle.rg_home.specs.Slot.{Slot}
 use Rattle.rg_image.specs.Log.{log_of}
 use Rattle.rg_image.specs.Pack.{log_bytes}
+use Rattle.rg_image.specs.Rules.{HasSpace, owed}
 use Rattle.rg_lawful.specs.Act.{LogState}
 use Rattle.rg_lawful.specs.Consistent.{IsConsistent}
 use Rattle.rg_page.specs.Content.{Content}
@@ -43,8 +46,8 @@ use Rattle.rg_outside.specs.Faults.{Rose}
 use Rattle.rg_desk.specs.Answers.{IfFull, IfLogFull, forces, is_answer, is_device}
 use Rattle.rg_desk.specs.Bytes.{taken_of}
 use Rattle.rg_desk.specs.Flushed.{CallsOwn, FlushIs}
-use Rattle.rg_desk.specs.Left.{LeavesState, StoresLeft}
-use Rattle.rg_desk.specs.OnVolume.{IsOnVolume}
+use Rattle.rg_desk.specs.Left.{LeavesState, StoresDuring, StoresLeft}
+use Rattle.rg_desk.specs.OnVolume.{CleanIfTidy, IsOnVolume, SoundThroughout}
 use Rattle.rg_desk.specs.Chronicle.{ChronicleState, IsRecorded, allowed_by, logged_by, system_entry}
 use Rattle.rg_desk.specs.Room.{Ground, SaysLog, SaysRoom}
 use Rattle.rg_desk.specs.Shows.{Shows}
@@ -92,6 +95,7 @@ pub record IsDesk (d : Engine) (c : ChronicleState) (copy : ℕ) (down : Bool)
   pub pages : d.log.pages ≡ log_pages seen.capacities
   pub leaves : LeavesIfTidy seen d.log
   pub is_on : IsOnVolume copy d.log d.space marks seen
+  pub clean : down ≡ false → CleanIfTidy seen d
   pub keys : List ℕ
   pub among : AreKeys keys state
   pub few : length keys ≤ length c.trace + row_count start
@@ -117,7 +121,8 @@ abbrev pub old_records : {V O : Type 0} → DeskState V O → List Record
 old_records desk = take desk.opened desk.ground.log.records
 
 -- Pages and a log that a desk may begin with: all units of the log have ended, the rows that are
--- there are the stored ones and fewer than 2^32, and the pages claim no more bytes than pages have.
+-- there are the stored ones and fewer than 2^32, the pages claim no more bytes than pages have, and
+-- the records tell the state and are within the limit.
 pub record CanBegin (capacity : ℕ) (pages : List (List Slot)) (log : Listed) (top : ℕ) : Type 0
   where
     pub first : LogState
@@ -133,6 +138,9 @@ pub record CanBegin (capacity : ℕ) (pages : List (List Slot)) (log : Listed) (
     pub start : Table
     pub starts : IsStored log.records start
     pub few : row_count start < 2 ^ 32
+    pub tells : Tells log.records first
+    pub owes : owed log.records ≡ 0
+    pub space : HasSpace log.pages log.records
 
 -- a desk that was opened over a volume, with this log and these pages
 pub record Opens {V O : Type 0}
@@ -166,6 +174,19 @@ pub record Stays {V O : Type 0} (look : V → VolumeSeen) (old new : DeskState V
   pub calls : CallsOwn old.copy (look old.volume) (look new.volume)
   pub operator : new.operator ≡ old.operator
 
+-- The entries of a desk lead to a state. Where the log read tidy, whatever a crash leaves of the
+-- volume at each moment of the calls that followed stores what it should of that state.
+pub record KeepsRows {V O : Type 0} (look : V → VolumeSeen) (old : DeskState V O)
+    (Stores : State → List Record → Type 0) (new : VolumeSeen) : Type 0 where
+  pub start : Table
+  pub starts : IsStored (old_records old) start
+  pub last : State
+  pub run : Run [] (at_rest start old.copy) old.trace last
+  pub stored :
+      IfTold new.told (λ t. WasTidy old.ground.log.pages t
+      → HoldsThroughout (look old.volume).told (Some t)
+      (EachImage (λ i. Stores last (log_of old.ground.log.pages i))))
+
 -- a statement may be answered so, or DOWN
 abbrev pub is_reply : Stmt → Reply → Bool
 is_reply stmt Down = true
@@ -176,7 +197,9 @@ is_reply stmt reply = is_answer stmt reply
 -- OK all records are forced, and DEVICE, which brings the desk down, comes only where a call
 -- failed. FULL stands in it exactly where there is no plan of the write, and then the writes before
 -- have allowed so many bytes. LOGFULL stands in it exactly where the log has less left than the
--- write needs, and then the writes before have taken nearly all of it.
+-- write needs, and then the writes before have taken nearly all of it. What a crash leaves at each
+-- moment of it is sound, and stores a table that process death leaves of the state before it. A
+-- COMMIT that calls the volume may be in then, or not.
 pub record MadeSaid {V O : Type 0}
     (look : V → VolumeSeen) (old : DeskState V O) (session : Session) (stmt : Stmt)
     (new : DeskState V O) : Type 0 where
@@ -198,6 +221,10 @@ pub record MadeSaid {V O : Type 0}
   pub full : IfFull reply (allowed_by 0 old.trace) old.ground.capacity
   pub log : SaysLog old.ground session.0 stmt reply
   pub log_full : IfLogFull reply (logged_by 0 old.trace) old.ground.log.pages
+  pub sound : SoundThroughout (look old.volume) (look new.volume)
+  pub rows :
+      KeepsRows look old (λ st. StoresDuring (forces old.ground.units session stmt) st session)
+      (look new.volume)
   pub stays : Stays look old new
 
 -- a layout of this copy, or the desk was down, or there was no memory for one
@@ -221,7 +248,8 @@ pub record MadeLayout {V O : Type 0} (look : V → VolumeSeen) (old new : DeskSt
     pub stays : Stays look old new
 
 -- A flush has one entry more, with the number of calls up to it. It is answered DOWN if and only if
--- the desk is down. It changes nothing but how much of the log is forced, and marks.
+-- the desk is down. It changes nothing but how much of the log is forced, and marks. What a crash
+-- leaves at each moment of it is sound, and stores a table that process death leaves of the state.
 pub record MadeFlush {V O : Type 0} (look : V → VolumeSeen) (old new : DeskState V O) : Type 0
   where
     pub event : Event
@@ -235,6 +263,8 @@ pub record MadeFlush {V O : Type 0} (look : V → VolumeSeen) (old new : DeskSta
     pub further : old.ground.log.forced ≤ new.ground.log.forced
     pub contents : new.contents ≡ old.contents
     pub down : new.down ≡ old.down
+    pub sound : SoundThroughout (look old.volume) (look new.volume)
+    pub rows : KeepsRows look old StoresLeft (look new.volume)
     pub stays : Stays look old new
 
 -- the trace is legal from the table that these records store

@@ -5,13 +5,19 @@
 -- 2. CLEAN is answered if and only if there is none. Then no call is made.
 -- 3. Where a call fails the page is not clean, and the engine stays up.
 -- 4. The engine is as before, but for how much of its log is forced.
+-- 5. What a crash leaves at each moment of it is sound. Of the log it leaves a part that has all
+--    that was forced before.
 use Rattle.std.specs.Prelude.{◌≡◌, ◌≤◌, ◌⊎◌, ℕ, Bool, true, false, List, ◌∷◌, Option, Some, length}
 use Rattle.rg_base.specs.declared.position.Position.{Position}
 use Rattle.rg_base.specs.declared.set.Set.{Set}
 use Rattle.rg_base.specs.declared.set.Set.TheVariants.{Log}
 use Rattle.rg_outside.specs.Calls.{Call, Told, Wrote, FailedWrite, Read, Synced, FailedRead, FailedSync, Refused, read_of}
 use Rattle.rg_outside.specs.Faults.{Rose}
-use Rattle.rg_outside.specs.Moments.{EachCall, IfTold}
+use Rattle.rg_outside.specs.Moments.{EachCall, EachImage, HoldsThroughout, IfTold}
+use Rattle.rg_image.specs.Kept.{AreEntries}
+use Rattle.rg_image.specs.Log.{SpellsFrom}
+use Rattle.rg_image.specs.Pack.{end_of, start}
+use Rattle.rg_log.specs.Kept.{Listed, log_pages}
 use Rattle.rg_model.specs.State.{State}
 use Rattle.rg_page.specs.Content.{Content, content_at}
 use Rattle.rg_page_bytes.specs.PageBytes.{page_bytes}
@@ -21,9 +27,9 @@ use Rattle.rg_stmt.specs.declared.event.Event.TheVariants.{Clean, Flush, FlushDe
 use Rattle.rg_version.specs.Versions.{Spells}
 use Rattle.rg_newest.specs.Tidy.{set_of}
 use Rattle.rg_desk.specs.Engine.{seen_in}
-use Rattle.rg_desk.specs.OnVolume.{AreClean, IsLeastDirty, IsOnVolume, mark_at}
+use Rattle.rg_desk.specs.OnVolume.{AreClean, IsLeastDirty, IsOnVolume, SoundThroughout, mark_at}
 use Rattle.rg_desk.specs.Shows.{Shows}
-use Rattle.rg_desk.specs.Volume.{CallsLog, Leaves, VolumeSeen}
+use Rattle.rg_desk.specs.Volume.{CallsLog, Leaves, LeavesIfTidy, VolumeSeen}
 use Rattle.rg_desk.specs.declared.engine.Engine.{Engine}
 
 -- a call that writes no page but of the log's set or of this one
@@ -92,6 +98,12 @@ pub record OnlyForces (old new : Engine) : Type 0 where
   pub further : old.log.forced ≤ new.log.forced
   pub shows : (st : State) (allowed : ℕ) → Shows st allowed old → Shows st allowed new
 
+-- the records of a log are entries that fit its set, which has so many pages
+pub record FitsSet (seen : VolumeSeen) (log : Listed) : Type 0 where
+  pub entries : AreEntries log.records
+  pub set : 1 ≤ length log.records → (end_of start log.records).page ≤ log.pages
+  pub pages : log.pages ≡ log_pages seen.capacities
+
 -- the log was forced further, and nothing else has changed
 pub record ForcesLog (before now : VolumeSeen) (old new : Engine) : Type 0 where
   pub same : new ≡ record old { log = record old.log { forced = new.log.forced } }
@@ -99,6 +111,10 @@ pub record ForcesLog (before now : VolumeSeen) (old new : Engine) : Type 0 where
   pub within : new.log.forced ≤ length new.log.records
   pub calls : CallsLog before now
   pub leaves : Leaves before old.log → Leaves now new.log
+  pub through :
+      Leaves before old.log
+      → HoldsThroughout before.told now.told
+      (EachImage (SpellsFrom old.log.pages old.log.records old.log.forced))
 
 -- what a flush does to an engine and to marks, over a volume
 pub record Flushes (copy : ℕ) (marks later : List (Option Position)) (before now : VolumeSeen)
@@ -106,7 +122,12 @@ pub record Flushes (copy : ℕ) (marks later : List (Option Position)) (before n
   pub forces : OnlyForces old new
   pub calls : CallsOwn copy before now
   pub leaves : Leaves before old.log → Leaves now new.log
+  pub through :
+      Leaves before old.log
+      → HoldsThroughout before.told now.told
+      (EachImage (SpellsFrom old.log.pages old.log.records old.log.forced))
   pub is_on : IsOnVolume copy new.log new.space later now
+  pub sound : FitsSet before old.log → LeavesIfTidy before old.log → SoundThroughout before now
   pub is : IsFlush copy (seen_in old).pages marks later before now event
 
 -- A flush is answered DOWN if and only if the engine is down. Then nothing changes.

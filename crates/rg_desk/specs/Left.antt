@@ -5,7 +5,9 @@
 -- 2. Each part of the log that has all that is forced stores one of these tables. So does what a
 --    crash leaves, which is such a part.
 -- 3. No utility runs, and it is known which copy is current.
-use Rattle.std.specs.Prelude.{◌≡◌, ◌≤◌, ℕ, true, false, List, Some, None, length, take}
+-- 4. While a statement is answered that forces the log, a crash leaves what it would leave before,
+--    or what it leaves where the device refuses the COMMIT.
+use Rattle.std.specs.Prelude.{◌≡◌, ◌≤◌, ◌⊎◌, ℕ, Bool, true, false, List, Some, None, length, take}
 use Rattle.std.specs.List.{Contains}
 use Rattle.rg_base.specs.declared.session.Session.{Session}
 use Rattle.rg_log.specs.Kept.{Listed}
@@ -30,3 +32,10 @@ pub record LeavesState (st : State) (log : Listed) : Type 0 where
   pub sure : st.copydoubt ≡ false
   pub stored :
       (n : ℕ) → log.forced ≤ n → n ≤ length log.records → StoresLeft st (take n log.records)
+
+-- These records store a table that process death leaves of the state while a statement of a session
+-- is answered. One that forces the log is the COMMIT of its unit, which may be in or not.
+abbrev pub StoresDuring : (force : Bool) → State → Session → List Record → Type 0
+StoresDuring false st session records = StoresLeft st records
+StoresDuring true st session records =
+    StoresLeft st records ⊎ StoresLeft (in_doubt st session) records

@@ -8,12 +8,14 @@ pub mod Walks
 pub mod Stored
 pub mod Left
 pub mod Wrote
+pub mod Undoing
+pub mod Trails
 pub mod Shows
+pub mod Reopens
 pub mod Planned
 pub mod Steps
 pub mod Ended
 pub mod Reads
-pub mod Undoing
 pub mod Undone
 pub mod Volume
 pub mod OnVolume

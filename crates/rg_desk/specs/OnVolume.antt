@@ -9,12 +9,14 @@
 -- 5. The copy began with empty pages past those that it had by some of the forced records. So where
 --    the volume read tidy when the count began, it does so now, and the copy is the current one by
 --    whatever a crash leaves of the log.
+-- 6. Where the volume read tidy then, each part of the log that has all that is forced can be
+--    opened. So whatever a crash leaves is sound, and tidy.
 use Rattle.std.specs.Prelude.{◌≡◌, ◌≤◌, ◌<◌, ◌==◌, ℕ, Bool, true, false, List, ◌∷◌, Option, Some, None, length, slice_index_or, take}
 use Rattle.rg_base.specs.declared.position.Position.{Position}
 use Rattle.rg_base.specs.declared.set.Set.{Set}
-use Rattle.rg_outside.specs.Calls.{Told, read_of}
+use Rattle.rg_outside.specs.Calls.{Image, Told, read_of}
 use Rattle.rg_outside.specs.Capacities.{Capacities, capacity_of}
-use Rattle.rg_outside.specs.Moments.{EachImage, IfTold, read_at}
+use Rattle.rg_outside.specs.Moments.{EachImage, HoldsThroughout, IfTold, read_at}
 use Rattle.rg_image.specs.Log.{log_of}
 use Rattle.rg_image.specs.Meaning.{current_of}
 use Rattle.rg_image.specs.Rules.{IsTidyLog, copy_capacity}
@@ -25,15 +27,33 @@ use Rattle.rg_record.specs.declared.record.Record.{Record}
 use Rattle.rg_space.specs.Space.{capacity_in}
 use Rattle.rg_space.specs.declared.space.Space.{Space}
 use Rattle.rg_version.specs.OnImage.{HasPages}
-use Rattle.rg_version.specs.Versions.{Epoch, Spells, version}
-use Rattle.rg_newest.specs.Tidy.{AreTidyPages, set_of}
+use Rattle.rg_sound.specs.Reopens.{AreTidyOwners}
+use Rattle.rg_sound.specs.Sound.{IsSound}
+use Rattle.rg_version.specs.Versions.{Epoch, IsBegun, Spells, version}
+use Rattle.rg_newest.specs.Tidy.{AreTidyPages, set_of, switched_pages}
 use Rattle.rg_desk.specs.Newest.{HasNewest}
+use Rattle.rg_desk.specs.Reopens.{IsCleanIn, PartsReopen}
 use Rattle.rg_desk.specs.Volume.{VolumeSeen, WasTidy}
+use Rattle.rg_desk.specs.declared.engine.Engine.{Engine}
 
--- the volume read tidy when the count began: its log, and the pages past those of its copy
-pub record WasAllTidy (capacities : Capacities) (t : Told) : Type 0 where
-  pub log : WasTidy (log_pages capacities) t
-  pub pages : AreTidyPages capacities (read_at t t.start)
+-- no dead area of the pages of an image has a number that its log has not
+abbrev pub HasTidyOwners : Capacities → Image → Type 0
+HasTidyOwners capacities i = AreTidyOwners (log_of (log_pages capacities) i) i
+
+-- an image is tidy: its log, the pages past those of its copy, and the owners of its dead areas
+pub record IsTidyVolume (capacities : Capacities) (i : Image) : Type 0 where
+  pub log : IsTidyLog (log_pages capacities) i
+  pub pages : AreTidyPages capacities i
+  pub owners : HasTidyOwners capacities i
+
+-- it is sound, and tidy
+pub record IsSoundTidy (capacities : Capacities) (i : Image) : Type 0 where
+  pub sound : IsSound capacities i
+  pub tidy : IsTidyVolume capacities i
+
+-- the volume read tidy when the count began
+abbrev pub WasAllTidy : Capacities → Told → Type 0
+WasAllTidy capacities t = IsTidyVolume capacities (read_at t t.start)
 
 -- where it did, a crash leaves the pages of the copy
 abbrev pub LeavesPagesIfTidy :
@@ -42,15 +62,33 @@ LeavesPagesIfTidy seen copy capacity e rs forced =
     IfTold seen.told (λ t. WasAllTidy seen.capacities t
     → EachImage (HasPages (set_of copy) capacity e rs forced) t)
 
--- If the log read tidy when the count began, it does so now. So it is with the pages past those of
--- the current copy, if they did, too.
+-- If the log read tidy when the count began, it does so now. So it is with all of the volume.
 abbrev pub GoesOnTidy : VolumeSeen → Type 0
 GoesOnTidy seen =
     IfTold seen.told (λ t. (t.start ≤ length t.calls)
     × (WasTidy (log_pages seen.capacities) t
     → IsTidyLog (log_pages seen.capacities) (read_of t.first t.calls))
-    × (WasAllTidy seen.capacities t
-    → AreTidyPages seen.capacities (read_of t.first t.calls)))
+    × (WasAllTidy seen.capacities t → IsTidyVolume seen.capacities (read_of t.first t.calls)))
+
+-- if the volume read tidy then, the parts of this log can be opened
+abbrev pub PartsIfTidy : VolumeSeen → Epoch → Listed → Type 0
+PartsIfTidy seen e log =
+    IfTold seen.told (λ t. WasAllTidy seen.capacities t → PartsReopen seen.capacities e log)
+
+-- and dead areas of the engine have numbers that were drawn
+abbrev pub CleanIfTidy : VolumeSeen → Engine → Type 0
+CleanIfTidy seen d = IfTold seen.told (λ t. WasAllTidy seen.capacities t → IsCleanIn d)
+
+-- if the volume read tidy then, whatever a crash leaves of it is sound and tidy
+abbrev pub LeavesSoundIfTidy : VolumeSeen → Type 0
+LeavesSoundIfTidy seen =
+    IfTold seen.told (λ t. WasAllTidy seen.capacities t → EachImage (IsSoundTidy seen.capacities) t)
+
+-- if the volume read tidy then, whatever a crash leaves of it at each moment of the calls is so
+abbrev pub SoundThroughout : (old new : VolumeSeen) → Type 0
+SoundThroughout old new =
+    IfTold new.told (λ t. WasAllTidy new.capacities t
+    → HoldsThroughout old.told (Some t) (EachImage (IsSoundTidy new.capacities)))
 
 -- if the log read tidy then, this copy is the current one by whatever a crash leaves of it
 abbrev pub LeavesCopyIfTidy : VolumeSeen → (copy : ℕ) → Type 0
@@ -92,6 +130,9 @@ pub record IsOn (e : Epoch) (copy : ℕ) (log : Listed) (space : Space ListFrame
   pub newest : HasNewest e log.records space
   pub leaves : LeavesPagesIfTidy seen copy (capacity_in space) e log.records log.forced
   pub marked : AreMarks seen (set_of copy) e log.records marks
+  pub bases : (p : ℕ) → 1 ≤ p → IsBegun e p
+  pub counts : e.pages ≡ switched_pages (take e.from log.records)
+  pub parts : PartsIfTidy seen e log
 
 -- for some copy
 pub record IsOnVolume (copy : ℕ) (log : Listed) (space : Space ListFrames)

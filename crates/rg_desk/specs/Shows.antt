@@ -9,6 +9,7 @@
 -- 4. The log has reserved what the open units are owed, and nothing else.
 -- 5. The pages claim no more bytes than the writes so far have allowed.
 -- 6. The log stores the committed rows, and what is forced of it stores no others.
+-- 7. Its records tell of the open units, and it has room for the end of each.
 use Rattle.std.specs.Prelude.{◌≡◌, ◌≤◌, ℕ, suc, false, List, [], Option, Some, None, length, take, drop}
 use Rattle.rg_base.specs.declared.lock.Lock.{Lock}
 use Rattle.rg_base.specs.declared.options.DrainState.TheVariants.{Free}
@@ -28,6 +29,7 @@ use Rattle.std.specs.FinMap as fin
 use Rattle.rg_space.specs.Space.{capacity_in}
 use Rattle.rg_desk.specs.Engine.{HasPages, slots_in}
 use Rattle.rg_desk.specs.Stored.{IsSettled, StoresCommitted}
+use Rattle.rg_desk.specs.Trails.{Trails}
 use Rattle.rg_desk.specs.Units.{owed, unit_at}
 use Rattle.rg_desk.specs.Walks.{Walks}
 use Rattle.rg_desk.specs.declared.engine.Engine.{Engine}
@@ -109,6 +111,7 @@ pub record Shows (st : State) (allowed : ℕ) (d : Engine) : Type 0 where
   pub settled : IsSettled d.log
   pub runs : Runs (capacity_in d.space) first (since d)
   pub by : ShowsBy st allowed d (left_by first d)
+  pub trails : Trails d.log d.units (left_by first d)
 
 -- it shows some state
 pub record IsShown (d : Engine) : Type 0 where

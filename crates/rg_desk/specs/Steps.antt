@@ -23,6 +23,7 @@ use Rattle.rg_desk.specs.Bytes.{most_needed, taken_of}
 use Rattle.rg_desk.specs.Engine.{ground_of}
 use Rattle.rg_desk.specs.Left.{LeavesState, in_doubt}
 use Rattle.rg_desk.specs.Newest.{KeepsNewest}
+use Rattle.rg_desk.specs.Reopens.{IsCleanIn, KeepsParts}
 use Rattle.rg_desk.specs.Room.{SaysLog, SaysRoom}
 use Rattle.rg_desk.specs.Shows.{Shows}
 use Rattle.rg_desk.specs.Stored.{Grows}
@@ -106,9 +107,13 @@ pub record Goes
   pub grows : Grows old.log new.log
   pub forced : is_commit stmt ≡ false → new.log.forced ≡ old.log.forced
   pub newest : KeepsNewest old new
+  pub parts : KeepsParts old new
+  pub clean : IsCleanIn old → IfUp reply (IsCleanIn new)
   pub shows :
       IfUp reply (Shows (unclaimed st session stmt reply) (allowed + more_allowed stmt reply) new)
-  pub left : IfDevice reply (LeavesState (in_doubt st session) new.log)
+  pub left :
+      IfDevice reply
+      (LeavesState (in_doubt st session) (record new.log { forced = old.log.forced }))
   pub capacity : capacity_in new.space ≡ capacity_in old.space
 
 -- from each state that the engine shows

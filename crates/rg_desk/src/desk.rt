@@ -26,6 +26,9 @@ ghost use Rattle.rg_desk.specs.Desk.{LeavesTable, LegalFrom, MadeFlush, MadeLayo
 ghost use Rattle.rg_desk.specs.Desk.{Opens, old_records};
 ghost use Rattle.rg_desk.specs.Flushed.{TellsFlush};
 ghost use Rattle.rg_desk.specs.OnVolume.{GoesOnTidy, IsOnVolume, LeavesCopyIfTidy};
+ghost use Rattle.rg_desk.specs.OnVolume.{LeavesSoundIfTidy, WasAllTidy};
+ghost use Rattle.rg_lawful.specs.Lawful.{AllBelow};
+ghost use Rattle.rg_outside.specs.Moments.{IfTold};
 ghost use Rattle.rg_space.specs.Memory.{list_seen, space_pages};
 ghost use Rattle.rg_desk.specs.Engine.{HasPages, ground_of};
 ghost use Rattle.rg_desk.specs.Shows.{IsShown, Shows};
@@ -275,6 +278,8 @@ impl<V: Counts, O: Operator> Desk<V, O> {
             found.log }
         requires is_on { IsOnVolume found.copy found.log found.space found.marks.items
             (seen_volume V.told V.faults V.capacities volume) }
+        requires below { IfTold (V.told volume) (λ t. WasAllTidy (V.capacities volume) t
+            → AllBelow found.top (slot_of (space_pages found.space))) }
         requires recorded { IsRecorded trace.items calls }
         requires counted { HasCalls (seen_volume V.told V.faults V.capacities volume) calls }
         ensures opens { IfOk result (Opens (seen_volume V.told V.faults V.capacities) volume
@@ -328,6 +333,8 @@ impl<V: Counts, O: Operator> Desk<V, O> {
             session,
             &stmt,
         );
+        // That the records fit their set: what a crash leaves of the volume is sound by it.
+        let _ = self.engine.log.records();
         let calls = calls_now(&self.volume, &self.chronicle);
         self.chronicle
             .push(Entry::said(session, stmt, reply, calls));
@@ -359,6 +366,8 @@ impl<V: Counts, O: Operator> Desk<V, O> {
         ensures err { OnErr result (self.new ≡ self.old) }
     {
         self.chronicle.make_room()?;
+        // That the records fit their set: what a crash leaves of the volume is sound by it.
+        let _ = self.engine.log.records();
         let event = tell_flush(
             &mut self.engine,
             &mut self.marks,
@@ -416,6 +425,7 @@ impl<V: Counts, O: Operator> Desk<V, O> {
         ensures tidy { GoesOnTidy (seen_volume V.told V.faults V.capacities self.volume) }
         ensures copy { LeavesCopyIfTidy (seen_volume V.told V.faults V.capacities self.volume)
             self.copy }
+        ensures sound { LeavesSoundIfTidy (seen_volume V.told V.faults V.capacities self.volume) }
     {
         // That the records fit their set: the clauses on what is left of the volume need it.
         let _ = self.engine.log.records();

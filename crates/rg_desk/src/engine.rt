@@ -25,6 +25,7 @@ ghost use Rattle.rg_space.specs.Memory.{list_seen, space_pages};
 ghost use Rattle.rg_desk.specs.Engine.{HasPages, seen_in};
 ghost use Rattle.rg_desk.specs.Newest.{StayNewest};
 ghost use Rattle.rg_desk.specs.Shows.{Shows};
+ghost use Rattle.rg_desk.specs.Units.{unit_at};
 ghost use Rattle.rg_desk.specs.Bytes.{IsPurge, IsSpelled, kind_bytes, most_needed, plan_bytes, purge_bytes};
 ghost use Rattle.rg_desk.specs.Wrote.{Prepares, Puts, Refuses, Writes, records_cleared};
 
@@ -160,6 +161,8 @@ impl Engine {
         ensures space { IfOk result (λ d. d.space ≡ space) }
         ensures log { IfOk result (λ d. d.log ≡ log) }
         ensures opened { IfOk result (λ d. d.opened ≡ length log.records) }
+        ensures top { IfOk result (λ d. d.top ≡ top) }
+        ensures idle { IfOk result (λ d. (n : ℕ) → unit_at d.units n ≡ None) }
     {
         let opened = log.records().len();
         let locks = Locks::new(alloc)?;

@@ -124,7 +124,7 @@ impl Engine {
     pub fn undo_writes(&mut self, session: Session, unit: OpenUnit) -> Result<Position, NoMemory>
         requires shown { IsShown self.old }
         requires unit { unit_at self.old.units session.0 ≡ Some unit }
-        ensures ok { OnOk result (IsUndone self.old unit self.new) }
+        ensures ok { IfOk result (λ back. IsUndone self.old unit back.0 self.new) }
         ensures err { OnErr result (SameEngine self.old self.new) }
     {
         let changes = self.collect(unit)?;

@@ -11,6 +11,7 @@ use Rattle.rg_home.specs.Slot.{Slot}
 use Rattle.rg_home.specs.Undo.{undone_all}
 use Rattle.rg_home.specs.Written.{Written}
 use Rattle.rg_image.specs.Meaning.{stored}
+use Rattle.rg_image.specs.Rules.{HasSpace, greatest_tran}
 use Rattle.rg_keyed.specs.Keyed.{AllTakeBack, TransBelow, keyed_acts}
 use Rattle.rg_keyed.proofs.Stores.{opening_stores, stored_by_key, undos_add_none}
 use Rattle.rg_lawful.specs.Act.{LogState}
@@ -22,6 +23,8 @@ use Rattle.rg_log.specs.Kept.{Listed}
 use Rattle.rg_ready.specs.Needed.{NeededInTurn}
 use Rattle.rg_record.specs.declared.record.Record.{Record}
 use Rattle.rg_desk.specs.Desk.{CanBegin}
+use Rattle.rg_sound.specs.ClosingLaws.{IsClosedLog}
+use Rattle.rg_sound.specs.Pages.{count_of}
 use Rattle.rg_desk.specs.Stored.{IsSettled}
 use Rattle.rg_restart.specs.Found.{StoresFew}
 
@@ -38,7 +41,7 @@ take_back (suc n) [] all = tt
 take_back (suc n) (entry ∷ more) all = (all.0, take_back n more all.1)
 
 -- a part of the records that has all of the first ones
-take_some : (n : ℕ) (rs more : List Record) → length rs ≤ n → take n (rs ++ more) ≡ rs ++ take (n - length rs) more
+pub take_some : (n : ℕ) (rs more : List Record) → length rs ≤ n → take n (rs ++ more) ≡ rs ++ take (n - length rs) more
 take_some n [] more low = ap (λ (m : ℕ). take m more) (omega arith)
 take_some zero (entry ∷ rs) more low = absurd (omega (arith, low))
 take_some (suc n) (entry ∷ rs) more low = ap (λ (xs : List Record). entry ∷ xs) (take_some n rs more (omega (arith, low)) ∙ ap (λ (m : ℕ). rs ++ take m more) (omega arith))
@@ -88,8 +91,8 @@ module _ (capacity : ℕ) (rs : List Record) (log : Listed) (more : List Record)
           (table_by (row_at (slot_of pages)) (stored rs) (stored_at (keyed_acts log.records)) stored_is rows);
     }
 
-    pub can_begin : TransBelow top rs → TransBelow top more → log.forced ≡ length rs → length rs ≤ length log.records → log.reserved ≡ 0 → Sound pages → StoresFew log.records → CanBegin capacity pages log top
-    can_begin below later forced within idle sound few = record {
+    pub can_begin : greatest_tran rs ≡ top → length pages ≡ count_of rs → IsClosedLog rs log.records → HasSpace log.pages log.records → TransBelow top rs → TransBelow top more → log.forced ≡ length rs → length rs ≤ length log.records → log.reserved ≡ 0 → Sound pages → StoresFew log.records → CanBegin capacity pages log top
+    can_begin top_greatest count ended room below later forced within idle sound few = record {
       first = first;
       good = tested_consistent capacity redone units (stored_at (keyed_acts log.records)) top tested;
       stores = λ then runs k. opening_stores capacity redone units top log.records tested (subst (TransBelow top) (sym records) (below_join top rs more below later)) then runs k;
@@ -103,4 +106,14 @@ module _ (capacity : ℕ) (rs : List Record) (log : Listed) (more : List Record)
       start = few.start;
       starts = few.starts;
       few = few.few;
+      tells = record {
+        top = ended.top ∙ top_greatest;
+        live = λ t live. absurd (cc (live));
+        opens = λ t has. absurd (ended.none t has);
+        rolling = λ t live. absurd (cc (live));
+        own = λ t live. absurd (cc (live));
+        count = ended.count ∙ sym count ∙ ap (λ (ps : List (List Slot)). length ps) slots;
+      };
+      owes = ended.owes;
+      space = room;
     }

@@ -30,7 +30,9 @@ use Rattle.rg_space.specs.Memory.{list_seen, space_pages}
 use Rattle.rg_desk.specs.Newest.{StayNewest}
 use Rattle.rg_desk.specs.Undoing.{is_undo}
 use Rattle.rg_image.specs.Rules.{last_position, of_tran}
-use Rattle.rg_restart.specs.Closed.{AllAtMost, ClosedAll, ClosedUnit, Closes, ClosesUnit, IsInStep, IsLacking, TookBack, Undid, all_closed, closed_by, end_back, lefts_of, rolled_back, writes_left}
+use Rattle.rg_sound.specs.Closing.{all_closed, closed_by, end_back, rolled_back}
+use Rattle.rg_sound.specs.Left.{IsLacking, lefts_of, writes_left}
+use Rattle.rg_restart.specs.Closed.{AllAtMost, ClosedAll, ClosedUnit, Closes, ClosesUnit, IsInStep, TookBack, Undid}
 use Rattle.rg_restart.proofs.Beginning.{below_join}
 use Rattle.rg_restart.proofs.Exact.{writes_joined}
 use Rattle.rg_restart.proofs.Staying.{stay_by, stay_ended, stay_join}

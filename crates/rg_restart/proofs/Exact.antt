@@ -25,14 +25,16 @@ use Rattle.rg_space.specs.Redo.{redone}
 use Rattle.rg_undo.specs.Undoing.{written_of}
 use Rattle.rg_undo.specs.Unit.{writes_of}
 use Rattle.rg_unended.specs.Unended.{left_of, open_in}
-use Rattle.rg_restart.specs.Closed.{IsLacking, lefts_of, writes_left}
-use Rattle.rg_restart.specs.Pages.{BreaksFit, BreaksRows, BreaksRule, BreaksSlots, CanClose, Fit, IsMatched, KeepsRules, copy_of, count_of, redone_of, set_of, undone_of}
-use Rattle.rg_restart.specs.Pages.BreaksFit.{Unfit}
-use Rattle.rg_restart.specs.Pages.BreaksSlots.{Untied, Lacking}
-use Rattle.rg_restart.specs.Pages.BreaksRows.{Twin, Strange, Missing}
-use Rattle.rg_restart.specs.Pages.BreaksRule.{OnParts, OnSlots, OnRows}
-use Rattle.rg_restart.specs.Sound.{IsDamage, IsFirstBad, IsSoundBy, TakesBase}
+use Rattle.rg_sound.specs.Left.{IsLacking, lefts_of, writes_left}
+use Rattle.rg_sound.specs.Pages.{BreaksFit, BreaksRows, BreaksRule, BreaksSlots, CanClose, Fit, IsMatched, KeepsRules, copy_of, count_of, redone_of, set_of, undone_of}
+use Rattle.rg_sound.specs.Pages.BreaksFit.{Unfit}
+use Rattle.rg_sound.specs.Pages.BreaksSlots.{Untied, Lacking}
+use Rattle.rg_sound.specs.Pages.BreaksRows.{Twin, Strange, Missing}
+use Rattle.rg_sound.specs.Pages.BreaksRule.{OnParts, OnSlots, OnRows}
+use Rattle.rg_sound.specs.Sound.{IsSoundBy, TakesBase}
+use Rattle.rg_restart.specs.Sound.{IsDamage, IsFirstBad}
 use Rattle.rg_restart.specs.Sound.IsDamage.{LogPage, Chain, Space, BadPage, OnPages}
+use Rattle.rg_restart.proofs.Switches.{base_takes, data_page}
 
 -- where a record fails, not all fit
 fails_or_fit : (position : ℕ) (rs : List Record) (pages : List Content) → FailsAt position rs pages → AllRedoFit rs pages → ⊥
@@ -125,10 +127,10 @@ sound_breaks_none capacities i set page rs base sound (BadPage others p log bad)
     none_bad (subst (λ (xs : List Record). IsFirstBad xs i p) same bad)
   where
     none_bad : IsFirstBad rs i p → ⊥
-    none_bad bad = (let taken = sound.takes.each p bad.low bad.high in bad.broken taken.page taken.data_page)
+    none_bad bad = (let taken = sound.takes.each p bad.low bad.high in bad.broken taken.page (data_page rs p _ _ taken))
 sound_breaks_none capacities i set page rs base sound (OnPages others pages s p log takes rule) =
     let same : others ≡ rs = same_records (log_pages capacities) i others rs log.pages sound.log.pages in
     let there : TakesBase rs i pages = subst (λ (xs : List Record). TakesBase xs i pages) same takes in
     let broken : BreaksRule pages rs s p = subst (λ (xs : List Record). BreaksRule pages xs s p) same rule in
     breaks_or_keeps base rs s p sound.pages
-    (subst (λ (ps : List Content). BreaksRule ps rs s p) (takes_one (copy_of rs) (length rs) (switch_of rs) (set_of (copy_of rs)) (count_of rs) i pages base there sound.takes) broken)
+    (subst (λ (ps : List Content). BreaksRule ps rs s p) (takes_one (copy_of rs) (length rs) (switch_of rs) (set_of (copy_of rs)) (count_of rs) i pages base (base_takes rs i pages there) (base_takes rs i base sound.takes)) broken)

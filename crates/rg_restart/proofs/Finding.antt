@@ -1,5 +1,5 @@
 -- What an opening finds, from what its steps say.
-use Rattle.std.proofs.Common.{◌≡◌, ◌≤◌, ◌++◌, ℕ, zero, suc, List, [], ◌∷◌, Option, None, length, map, refl, sym, ◌∙◌, ap, subst, arith, length-append}
+use Rattle.std.proofs.Common.{◌≡◌, ◌≤◌, ◌++◌, ℕ, zero, suc, List, [], ◌∷◌, Option, None, length, map, take, refl, sym, ◌∙◌, ap, subst, arith, length-append}
 use Rattle.std.specs.List.{AllByRecursion, Contains}
 use Rattle.rg_base.specs.declared.set.Set.{Set}
 use Rattle.rg_desk.specs.declared.desk.OpenCause.{OpenCause}
@@ -12,6 +12,7 @@ use Rattle.rg_home.specs.Pages.{Sound, slot_of}
 use Rattle.rg_home.specs.Rows.{row_at}
 use Rattle.rg_home.specs.Slot.{Slot}
 use Rattle.rg_home.specs.Written.{Written}
+use Rattle.rg_image.specs.Kept.{AreEntries}
 use Rattle.rg_image.specs.Meaning.{Current, stored}
 use Rattle.rg_image.specs.Rules.{greatest_tran, owed}
 use Rattle.rg_indexes.specs.Listings.{AreListings}
@@ -21,6 +22,7 @@ use Rattle.rg_lawful.specs.Tested.{OwnersBelow, all_of}
 use Rattle.rg_log.specs.Kept.{Listed}
 use Rattle.rg_page.specs.Bare.{bare}
 use Rattle.rg_page.specs.Content.{Content, slots_of}
+use Rattle.rg_page.specs.Seen.{Seen}
 use Rattle.rg_page.specs.declared.list.ListFrames.{ListFrames}
 use Rattle.rg_rebuilt.specs.Rebuilt.{AreSoundPages, IsRebuilt}
 use Rattle.rg_record.specs.declared.record.Record.{Record}
@@ -34,15 +36,19 @@ use Rattle.rg_undo.specs.Unit.{writes_of}
 use Rattle.rg_unended.specs.Unended.{left_of, open_in}
 use Rattle.rg_unended.proofs.Lefts.{below_by_recursion, owners_by_recursion}
 use Rattle.rg_unended.proofs.Opens.{listed_is}
+use Rattle.rg_newest.specs.Newest.{AreNewest}
 use Rattle.rg_newest.specs.Tidy.{opened_epoch}
 use Rattle.rg_desk.specs.Desk.{CanBegin, IsCopy}
 use Rattle.rg_desk.specs.Newest.{HasNewest}
 use Rattle.rg_space.specs.Memory.{list_seen, space_pages}
 use Rattle.rg_desk.specs.declared.found.Found.{Found}
-use Rattle.rg_restart.specs.Closed.{AllAtMost, ClosedAll, IsInStep, TookBack, writes_left}
+use Rattle.rg_sound.specs.Left.{writes_left}
+use Rattle.rg_sound.specs.Reopens.{CanReopen}
+use Rattle.rg_restart.specs.Closed.{AllAtMost, ClosedAll, IsInStep, TookBack}
 use Rattle.rg_restart.specs.Found.{Finds, IsClosed, IsUndone, MayFind, Refuses, SamePages, StoresFew}
-use Rattle.rg_restart.specs.Pages.{CanClose, Fit, IsMatched, Ties, count_of, redone_of, undone_from}
+use Rattle.rg_sound.specs.Pages.{CanClose, Fit, IsMatched, Ties, count_of, redone_of, undone_from}
 use Rattle.rg_restart.proofs.Beginning.{can_begin}
+use Rattle.rg_restart.proofs.Reopening.{opened_closed, opened_reopens, opened_space, redone_opened}
 use Rattle.rg_restart.proofs.Staying.{stay_looked}
 
 -- pages that redo leaves, and that tie, are proper
@@ -109,14 +115,16 @@ matched_table rs pages undone is matched = subst (λ (ps : List (List Slot)). Is
 })
 
 -- what is found where all rules are kept
-pub finds : (base : List Content) (marks : List (Option Position)) (log now : Listed) (chain : Running) (capacity : ℕ) (redone : List (List Slot)) (closed last : Space ListFrames) (found : Found) → MayFind log chain capacity → Fit base log.records → length base ≡ count_of log.records
+pub finds : (base : List Content) (marks : List (Option Position)) (log now : Listed) (chain : Running) (capacity : ℕ) (redone : List (List Slot)) (seen : Seen) (closed last : Space ListFrames) (found : Found) → MayFind log chain capacity → redone ≡ slots_of seen.pages → length seen.pages ≡ length base → AreNewest (opened_epoch log.records base) log.records seen → AreEntries now.records → Fit base log.records → length base ≡ count_of log.records
     → redone ≡ redone_of base log.records → length redone ≡ count_of log.records → IsClosed redone log capacity closed now → IsMatched log.records (space_pages closed) → StoresFew now.records
     → SamePages closed last → AreListings (row_at (slot_of (space_pages last))) found.indexes → HasNewest (opened_epoch log.records base) now.records closed
     → found.log ≡ now → found.space ≡ last → found.copy ≡ chain.current.copy → found.top ≡ length chain.units → found.marks.items ≡ marks → Finds base marks log capacity found
-finds base marks log now chain capacity redone closed last found may fit taken redone_is count is matched few same listings newest log_is space_is copy_is top_is marks_are =
+finds base marks log now chain capacity redone seen closed last found may seen_is seen_count seen_newest entries fit taken redone_is count is matched few same listings newest log_is space_is copy_is top_is marks_are =
     let rs = log.records in
     let undone = is.undone in
     let top : found.top ≡ greatest_tran rs = top_is ∙ may.kept.units.greatest in
+    let redoes = redone_opened rs base seen may.positions may.can taken fit seen_newest seen_count in
+    let is_seen : IsClosed (slots_of seen.pages) log capacity closed now = subst (λ (ps : List (List Slot)). IsClosed ps log capacity closed now) seen_is is in
     record {
       rules = record {
         fit = fit;
@@ -131,6 +139,8 @@ finds base marks log now chain capacity redone closed last found may fit taken r
           (can_begin capacity rs now is.took.more is.took.records is.took.back redone (writes_left (open_in rs) rs) (greatest_tran rs) (space_pages last) undone.first
           (omega (arith, may.within, count))
           (owners_below (greatest_tran rs) (open_in rs) rs (open_most rs)) undone.closes.can (same.slots ∙ undone.slots) (matched_table rs (space_pages last) (space_pages closed) same.slots matched)
+          refl (ap (λ (ps : List (List Slot)). length ps) same.slots ∙ undone.count_is ∙ count)
+          (opened_closed log now chain base seen capacity closed may redoes is_seen matched entries) (opened_space log now chain base seen capacity closed may redoes is_seen matched entries)
           (trans_below (greatest_tran rs) rs (below_by_recursion rs)) (is.took.below (greatest_tran rs) (open_most rs)) (is.took.forced ∙ may.forced)
           (omega (arith, ap (λ (xs : List Record). length xs) is.took.records, length-append rs is.took.more)) is.idle
           (subst (λ (ps : List (List Slot)). Sound ps) (sym same.slots) undone.proper.sound) few)));
@@ -146,6 +156,9 @@ finds base marks log now chain capacity redone closed last found may fit taken r
           (subst (λ (l : Listed). HasNewest (opened_epoch rs base) l.records last) (sym log_is)
           (stay_looked now.records closed last same (opened_epoch rs base) newest));
       marks_are = marks_are;
+      reopens = λ capacities volume.
+          subst (λ (l : Listed). (n : ℕ) → length rs ≤ n → n ≤ length l.records → CanReopen capacities (opened_epoch rs base) (take n l.records)) (sym log_is)
+          (opened_reopens log now chain base seen capacity closed may redoes is_seen matched entries capacities volume);
     }
 
 -- ---- calls that only look

@@ -1,6 +1,8 @@
 pub mod Stores
 pub mod Tidy
 pub mod Beginning
+pub mod LowOwners
+pub mod Reopening
 pub mod Exact
 pub mod Undos
 pub mod Closing

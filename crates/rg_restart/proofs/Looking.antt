@@ -5,16 +5,18 @@ use Rattle.rg_base.specs.declared.set.Set.{Set}
 use Rattle.rg_base.specs.declared.set.Set.TheVariants.{Log}
 use Rattle.rg_chain.specs.Kept.{IsKept}
 use Rattle.rg_chain.specs.Running.{Running}
-use Rattle.rg_desk.specs.OnVolume.{IsOn}
+use Rattle.rg_desk.specs.OnVolume.{IsOn, WasAllTidy}
 use Rattle.rg_desk.specs.Volume.{LeavesIfTidy, VolumeSeen, WasTidy}
 use Rattle.rg_desk.specs.declared.desk.OpenCause.{OpenCause}
 use Rattle.rg_desk.specs.declared.desk.OpenCause.TheVariants.{Damaged, Device, NoMemory}
 use Rattle.rg_desk.specs.declared.found.Found.{Found}
+use Rattle.rg_home.specs.Pages.{slot_of}
 use Rattle.rg_image.specs.Log.{SpellsFrom}
 use Rattle.rg_image.specs.Pack.{log_bytes}
 use Rattle.rg_image.specs.Rules.{ArePositions, BreaksChain, BreaksLogPages, BreaksSpace, HasLogPages, HasSpace, IsChain, copy_capacity, limit_of, owed}
 use Rattle.rg_image.proofs.Grow.{spells_more}
 use Rattle.rg_image.proofs.Sound.{chain_positions}
+use Rattle.rg_lawful.specs.Lawful.{AllBelow}
 use Rattle.rg_log.specs.Kept.{LeavesLog, Listed, log_pages}
 use Rattle.rg_log.specs.Open.{IsCertain, IsLogFault, IsQuiet, ReadsTidy}
 use Rattle.rg_log.specs.declared.fault.LogFault.{LogFault}
@@ -30,17 +32,21 @@ use Rattle.rg_newest.specs.Tidy.{opened_epoch}
 use Rattle.rg_rebuilt.specs.Laws.{CoversAll}
 use Rattle.rg_rebuilt.specs.Rebuilt.{CanRebuild}
 use Rattle.rg_record.specs.declared.record.Record.{Record}
+use Rattle.rg_space.specs.Memory.{space_pages}
 use Rattle.rg_restart.specs.Closed.{TookBack}
-use Rattle.rg_restart.specs.Found.{Finds, MayFind, Refuses}
+use Rattle.rg_restart.specs.Found.{Finds, MayFind, Refuses, ReopensFrom}
 use Rattle.rg_restart.specs.Opening.{BreaksLog, CallsQuiet, GoesOnTidy, IsRefused, Looks, cause_of}
 use Rattle.rg_page.specs.Content.{Content}
-use Rattle.rg_restart.specs.Data.{IsDataFault, MarksPages, TakesPages}
-use Rattle.rg_restart.specs.Pages.{BreaksRule, copy_of, count_of, set_of}
+use Rattle.rg_restart.specs.Data.{AreTakenAsIs, IsDataFault, MarksPages, TakesPages, switch_of}
+use Rattle.rg_sound.specs.Pages.{BreaksRule, copy_of, count_of, set_of}
 use Rattle.rg_restart.specs.declared.data.LastSwitch.{LastSwitch}
-use Rattle.rg_restart.specs.Sound.{HasSoundLog, IsDamage, IsFirstBad, IsSoundBy, MarksBase, TakesBase}
+use Rattle.rg_sound.specs.Sound.{HasSoundLog, IsSoundBy, TakesBase}
+use Rattle.rg_restart.specs.Sound.{IsDamage, IsFirstBad, MarksBase}
 use Rattle.rg_restart.specs.Sound.IsDamage.{LogPage, Chain, Space, BadPage, OnPages}
 use Rattle.rg_restart.proofs.Reading.{both_told, quiet_image}
-use Rattle.rg_restart.proofs.Standing.{certain_on, is_on, known}
+use Rattle.rg_restart.proofs.Reopening.{found_below, found_low, reopens_from}
+use Rattle.rg_restart.proofs.Standing.{IsKnown, certain_on, is_on, known, low}
+use Rattle.rg_restart.proofs.Switches.{takes_base}
 use Rattle.rg_restart.proofs.Tidy.{opened_leaves, opened_tidy}
 
 -- the log with records that were appended
@@ -132,9 +138,9 @@ module _ (old mid : VolumeSeen) (log : Listed) (quiet : CallsQuiet old mid) (pag
 
       -- all rules are kept
       pub looks : (found : Found) (marks : List (Option Position)) (capacity : ℕ) → capacity ≡ copy_capacity new.capacities (copy_of log.records) → Finds base marks log capacity found → GoesOnTidy old
-          → (ReadsTidy old.told log.pages → LeavesLog mid.told log.pages log.records log.forced) → log.forced ≡ length log.records → CanRebuild (count_of log.records) log.records → IfTold mid.told IsCertain
+          → (ReadsTidy old.told log.pages → LeavesLog mid.told log.pages log.records log.forced) → log.forced ≡ length log.records → CanRebuild (count_of log.records) log.records → AreTakenAsIs (copy_of log.records) (switch_of log.records) base → IfTold mid.told IsCertain
           → IfTold new.told (λ t. t.capacities ≡ new.capacities) → IfTold new.told (λ t. MarksBase log.records (read_of t.first t.calls) marks) → Looks old new found
-      looks found marks capacity capacity_is finds tidy leaves forced can sure own marked = record {
+      looks found marks capacity capacity_is finds tidy leaves forced can as_is sure own marked = record {
         log = log;
         pages = pages;
         base = base;
@@ -150,9 +156,13 @@ module _ (old mid : VolumeSeen) (log : Listed) (quiet : CallsQuiet old mid) (pag
           epoch = opened_epoch log.records base;
           is_on =
               subst (λ (ms : List (Option Position)). IsOn (opened_epoch log.records base) found.copy found.log found.space ms new) (sym finds.marks_are)
-              (is_on log.records base marks old.capacities positions can new found.log finds.took.more found.copy found.space quiet_new.capacities finds.took.records (finds.took.forced ∙ forced) finds.copy_is (finds.capacity_is ∙ capacity_then) finds.taken finds.newest
-              (known log.records base marks old.capacities positions can new.told has_old takes marked (certain_on mid.told new.told only sure) own_old (opened_tidy old new quiet_new.only tidy)));
+              (is_on log.records base marks old.capacities positions can new found.log finds.took.more found.copy found.space quiet_new.capacities finds.took.records (finds.took.forced ∙ forced) finds.copy_is (finds.capacity_is ∙ capacity_then) finds.taken finds.newest reopens
+              (found_low base marks log capacity found finds) known_now);
         };
+        below =
+            subst (λ (c : Capacities). IfTold new.told (λ t. WasAllTidy c t → AllBelow found.top (slot_of (space_pages found.space)))) (sym quiet_new.capacities)
+            (told_weaken (IsKnown log.records base marks old.capacities) (λ t. WasAllTidy old.capacities t → AllBelow found.top (slot_of (space_pages found.space))) new.told
+            (λ t k was. found_below base marks log capacity found finds (low log.records base marks old.capacities positions can t k was)) known_now);
       }
         where
           capacity_then : capacity ≡ copy_capacity old.capacities (copy_of log.records)
@@ -161,11 +171,19 @@ module _ (old mid : VolumeSeen) (log : Listed) (quiet : CallsQuiet old mid) (pag
           positions : ArePositions log.records
           positions = chain_positions mid.capacities log.records chain
 
+          reopens : ReopensFrom old.capacities base log.records found.log.records
+          reopens =
+              reopens_from old.capacities base marks log capacity found
+              (record { chain = subst (λ (c : Capacities). IsChain c log.records) quiet.capacities chain; pages = pages; capacity_is = capacity_then }) positions as_is finds
+
           has_old : IfTold new.told (λ t. HasLogPages (log_pages old.capacities) (read_of t.first t.calls) log.records)
           has_old = subst (λ (c : Capacities). IfTold new.told (λ t. HasLogPages (log_pages c) (read_of t.first t.calls) log.records)) quiet.capacities (has_then new.told only)
 
           own_old : IfTold new.told (λ t. t.capacities ≡ old.capacities)
           own_old = told_weaken (λ t. t.capacities ≡ new.capacities) (λ t. t.capacities ≡ old.capacities) new.told (λ t is. is ∙ quiet_new.capacities) own
+
+          known_now : IfTold new.told (IsKnown log.records base marks old.capacities)
+          known_now = known log.records base marks old.capacities positions can new.told has_old takes marked (certain_on mid.told new.told only sure) own_old (opened_tidy old new quiet_new.only tidy)
 
 -- the log was not read
 pub log_refused : (old new : VolumeSeen) (fault : LogFault) → CallsQuiet old new → IsLogFault new.told (log_pages old.capacities) old.faults new.faults fault → IsRefused old new (cause_of fault)
@@ -191,6 +209,8 @@ may_find capacities log chain capacity is space kept covers capacity_is pages fo
   space = subst (λ (n : ℕ). log_bytes log.records + owed log.records ≤ limit_of n) (sym pages) space;
   idle = idle;
   forced = forced;
+  capacities = capacities;
+  volume = record { chain = is; pages = pages; capacity_is = capacity_is };
 }
   where
     capacity_low : (copy : ℕ) → copy_capacity capacities copy ≤ 65536
@@ -213,6 +233,13 @@ takes_by copy copy' last last' switch switch' set set' count count' told base a 
     (subst (λ (x : LastSwitch). IfTold told (λ t. TakesPages copy last x set' count' (read_of t.first t.calls) base)) e
     (subst (λ (s : Set). IfTold told (λ t. TakesPages copy last switch s count' (read_of t.first t.calls) base)) c
     (subst (λ (k : ℕ). IfTold told (λ t. TakesPages copy last switch set k (read_of t.first t.calls) base)) d is))))
+
+-- that is what is taken of a sound volume
+pub takes_told : (rs : List Record) (told : Option Told) (base : List Content) → IfTold told (λ t. TakesPages (copy_of rs) (length rs) (switch_of rs) (set_of (copy_of rs)) (count_of rs) (read_of t.first t.calls) base)
+    → IfTold told (λ t. TakesBase rs (read_of t.first t.calls) base)
+takes_told rs told base takes =
+    told_weaken (λ t. TakesPages (copy_of rs) (length rs) (switch_of rs) (set_of (copy_of rs)) (count_of rs) (read_of t.first t.calls) base) (λ t. TakesBase rs (read_of t.first t.calls) base) told
+    (λ t. takes_base rs (read_of t.first t.calls) base) takes
 
 pub marks_by : (copy copy' last last' : ℕ) (switch switch' : LastSwitch) (set set' : Set) (count count' : ℕ) (told : Option Told) (marks : List (Option Position)) → copy ≡ copy' → last ≡ last' → switch ≡ switch' → set ≡ set' → count ≡ count'
     → IfTold told (λ t. MarksPages copy last switch set count (read_of t.first t.calls) marks) → IfTold told (λ t. MarksPages copy' last' switch' set' count' (read_of t.first t.calls) marks)

@@ -13,7 +13,7 @@ use Rattle.rg_log.proofs.Ready.{quiet_reads}
 use Rattle.rg_outside.specs.Calls.{Image, Told, read_of}
 use Rattle.rg_outside.specs.Capacities.{Capacities, capacity_of}
 use Rattle.rg_outside.specs.Moments.{EachCall, IfTold}
-use Rattle.rg_restart.specs.Pages.{set_of}
+use Rattle.rg_sound.specs.Pages.{set_of}
 use Rattle.rg_page.specs.Content.{Content, content_at, empty}
 use Rattle.rg_page.specs.Reading.{IsNone, NoPageHas}
 use Rattle.rg_page.specs.declared.list.ListFrames.{ListFrames}
@@ -22,10 +22,10 @@ use Rattle.rg_page_bytes.specs.PageBytes.{page_bytes}
 use Rattle.rg_page_bytes.specs.declared.fault.PageFault.{PageFault}
 use Rattle.rg_page_bytes.specs.declared.fault.PageFault.TheVariants.{NotAPage, NoMemory}
 use Rattle.rg_page_bytes.proofs.ReadBack.{one_spelling}
-use Rattle.rg_version.specs.Versions.{taken_if}
+use Rattle.rg_version.specs.Versions.{taken_if, taken_past}
 use Rattle.rg_desk.specs.OnVolume.{mark_at}
 use Rattle.rg_restart.specs.declared.data.LastSwitch.{LastSwitch}
-use Rattle.rg_restart.specs.Data.{AreBase, BreaksData, IsDataPage, IsFirstBroken, IsMarked, IsTaken, IsUntaken, MarksPages, TakesPages}
+use Rattle.rg_restart.specs.Data.{AreBase, AreTakenAsIs, BreaksData, IsDataPage, IsFirstBroken, IsMarked, IsTaken, IsTakenAsIs, IsUntaken, MarksPages, TakesPages}
 
 -- what holds of what reads still holds
 pub quiet_image : (P : Image → Type 0) (old new : Option Told) → EachCall old new IsQuiet → IfTold old (λ t. P (read_of t.first t.calls)) → IfTold new (λ t. P (read_of t.first t.calls))
@@ -184,3 +184,30 @@ copy_within capacities copy = by_test (copy == 1)
     by_test : (b : Bool) → used_pages (if b then capacities.first else capacities.second) ≤ capacity_of capacities (if b then First else Second)
     by_test true = omega arith
     by_test false = omega arith
+
+-- what was taken would be taken as it is
+taken_again : (copy last : ℕ) (switch : LastSwitch) (n : ℕ) (bytes : List ℕ) (y : Content) → IsTaken copy last switch n bytes y → IsTakenAsIs copy switch n y
+taken_again copy last switch n bytes y taken =
+    let fits = taken_fits copy last switch n bytes y taken in
+    record { copy_is = fits.1; number = fits.2; same = subst (λ (x : Content). taken_past switch.at switch.pages n x ≡ x) (sym taken.is) (go taken.page (nat_lt switch.pages n && nat_lt taken.page.position switch.at) refl) }
+  where
+    twice_empty : (copy number : ℕ) (t : Bool) → taken_if t (empty copy number) ≡ empty copy number
+    twice_empty copy number true = refl
+    twice_empty copy number false = refl
+
+    go : (x : Content) (t : Bool) → (nat_lt switch.pages n && nat_lt x.position switch.at) ≡ t → taken_past switch.at switch.pages n (taken_if t x) ≡ taken_if t x
+    go x true test = twice_empty x.copy x.number (nat_lt switch.pages n && nat_lt 0 switch.at)
+    go x false test = ap (λ (t : Bool). taken_if t x) test
+
+pub as_is_more : (copy last : ℕ) (switch : LastSwitch) (n : ℕ) (bytes : List ℕ) (base : List Content) (page : Content) → length base ≡ n → AreTakenAsIs copy switch base → IsTaken copy last switch (n + 1) bytes page
+    → AreTakenAsIs copy switch (base ++ page ∷ [])
+as_is_more copy last switch n bytes base page count is taken = λ k low high. go k low (leb_tells k n) (omega (arith, high, length-append base (page ∷ []), count))
+  where
+    go : (k : ℕ) → 1 ≤ k → ((nat_le k n ≡ true) × (k ≤ n)) ⊎ ((nat_le k n ≡ false) × (n < k)) → k ≤ n + 1 → IsTakenAsIs copy switch k (content_at (base ++ page ∷ []) k)
+    go k low (inl le) high = subst (IsTakenAsIs copy switch k) (sym (at_front base page k (omega (arith, le.1, count)))) (is k low (omega (arith, le.1, count)))
+    go k low (inr lt) high =
+        let e : n + 1 ≡ k = omega (arith, lt.1, high) in
+        let s : suc n ≡ n + 1 = omega arith in
+        let last_one : content_at (base ++ page ∷ []) (n + 1) ≡ page = ap (content_at (base ++ page ∷ [])) (sym s) ∙ at_end base page n count in
+        subst (λ (m : ℕ). IsTakenAsIs copy switch m (content_at (base ++ page ∷ []) m)) e
+        (subst (IsTakenAsIs copy switch (n + 1)) (sym last_one) (taken_again copy last switch (n + 1) bytes page taken))

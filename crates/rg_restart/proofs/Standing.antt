@@ -10,7 +10,7 @@ use Rattle.std.proofs.Math.Seq.{take-length}
 use Rattle.rg_base.specs.declared.position.Position.{Position}
 use Rattle.rg_base.specs.declared.set.Set.{Set}
 use Rattle.rg_image.specs.Meaning.{current_of}
-use Rattle.rg_image.specs.Rules.{ArePositions, HasLogPages, copy_capacity, used_pages}
+use Rattle.rg_image.specs.Rules.{ArePositions, HasLogPages, copy_capacity, greatest_tran, used_pages}
 use Rattle.rg_image.proofs.Rules.{log_is_read}
 use Rattle.rg_log.specs.Kept.{Listed, log_pages}
 use Rattle.rg_log.specs.Open.{IsCertain, IsQuiet}
@@ -29,21 +29,24 @@ use Rattle.rg_version.specs.OnImage.{HasPages}
 use Rattle.rg_version.specs.Versions.{Epoch, IsOnVolume as IsOnPage, Spells, taken_if, taken_past, version}
 use Rattle.rg_version.proofs.OnImage.{more_keeps}
 use Rattle.rg_version.proofs.Redo.{version_more}
-use Rattle.rg_newest.specs.OpenLaws.{IsOpened, IsTakenPage}
-use Rattle.rg_newest.specs.Tidy.{AreSpare, AreTidyPages, opened_epoch, set_of, switched_at}
+use Rattle.rg_newest.specs.OpenLaws.{IsOpened}
+use Rattle.rg_newest.specs.Tidy.{AreSpare, opened_epoch, set_of}
 use Rattle.rg_newest.proofs.Opening.{opening_marks, opening_stands}
 use Rattle.rg_newest.proofs.Steady.{opened_past}
 use Rattle.rg_newest.proofs.Switching.{has_switched}
 use Rattle.rg_desk.specs.Newest.{HasNewest}
-use Rattle.rg_desk.specs.OnVolume.{IsMark, IsOn, WasAllTidy, mark_at}
+use Rattle.rg_desk.specs.OnVolume.{IsMark, IsOn, IsTidyVolume, WasAllTidy, mark_at}
+use Rattle.rg_desk.specs.Reopens.{PartsReopen}
 use Rattle.rg_desk.specs.Volume.{VolumeSeen}
 use Rattle.rg_restart.specs.declared.data.LastSwitch.{LastSwitch}
 use Rattle.rg_restart.specs.Data.{IsMarked, IsTaken, MarksPages, mark_if, switch_of}
-use Rattle.rg_restart.specs.Pages.{copy_of, count_of}
-use Rattle.rg_restart.specs.Sound.{TakesBase}
+use Rattle.rg_restart.specs.Found.{ReopensFrom}
+use Rattle.rg_sound.specs.Pages.{copy_of, count_of}
+use Rattle.rg_sound.specs.Reopens.{AreTidyOwners, HasLowOwners, IsBelow}
+use Rattle.rg_sound.specs.Sound.{TakesBase}
 use Rattle.rg_restart.proofs.Exact.{page_one}
 use Rattle.rg_restart.proofs.Reading.{copy_within}
-use Rattle.rg_restart.proofs.Switches.{at_is, pages_are}
+use Rattle.rg_restart.proofs.Switches.{page_taken}
 
 -- ---- what a crash leaves
 
@@ -110,7 +113,7 @@ pub record IsKnown (rs : List Record) (base : List Content) (marks : List (Optio
   pub marked : MarksPages (copy_of rs) (length rs) (switch_of rs) (set_of (copy_of rs)) (count_of rs) (read_of t.first t.calls) marks
   pub sure : IsCertain t
   pub own : t.capacities ≡ capacities
-  pub tidy : WasAllTidy capacities t → AreTidyPages capacities (read_of t.first t.calls)
+  pub tidy : WasAllTidy capacities t → IsTidyVolume capacities (read_of t.first t.calls)
 
 module _ (rs : List Record) (base : List Content) (marks : List (Option Position)) (capacities : Capacities) (positions : ArePositions rs) (can : CanRebuild (count_of rs) rs) where
   abbrev e : Epoch
@@ -121,7 +124,7 @@ module _ (rs : List Record) (base : List Content) (marks : List (Option Position
 
   pub known : (told : Option Told) → IfTold told (λ t. HasLogPages (log_pages capacities) (read_of t.first t.calls) rs) → IfTold told (λ t. TakesBase rs (read_of t.first t.calls) base)
       → IfTold told (λ t. MarksPages (copy_of rs) (length rs) (switch_of rs) (set_of (copy_of rs)) (count_of rs) (read_of t.first t.calls) marks) → IfTold told IsCertain → IfTold told (λ t. t.capacities ≡ capacities)
-      → IfTold told (λ t. WasAllTidy capacities t → AreTidyPages capacities (read_of t.first t.calls)) → IfTold told (IsKnown rs base marks capacities)
+      → IfTold told (λ t. WasAllTidy capacities t → IsTidyVolume capacities (read_of t.first t.calls)) → IfTold told (IsKnown rs base marks capacities)
   known None has takes marked sure own tidy = tt
   known (Some t) has takes marked sure own tidy = record { has = has; takes = takes; marked = marked; sure = sure; own = own; tidy = tidy }
 
@@ -129,23 +132,15 @@ module _ (rs : List Record) (base : List Content) (marks : List (Option Position
     abbrev i : Image
     i = read_of t.first t.calls
 
-    taken_page : (n : ℕ) → 1 ≤ n → n ≤ (current_of rs).pages → IsTakenPage rs n (i set n) (content_at base n)
-    taken_page n one high =
-        let was = k.takes.each n one high in
-        record {
-          page = was.page;
-          spells = was.data_page.spells;
-          copy_is = was.data_page.copy_is;
-          number = was.data_page.number;
-          position = was.data_page.position;
-          is = was.is ∙ ap (λ (from : ℕ). taken_past from (switch_of rs).pages n was.page) (at_is rs) ∙ ap (λ (pages : ℕ). taken_past (switched_at rs) pages n was.page) (pages_are rs);
-        }
-
     opened : IsOpened rs base i
-    opened = record { positions = positions; count_is = k.takes.count_is; there = can; each = taken_page }
+    opened = record { positions = positions; count_is = k.takes.count_is; there = can; each = k.takes.each }
 
     spare : WasAllTidy capacities t → AreSpare capacities rs i
-    spare was = subst (λ (xs : List Record). AreSpare capacities xs i) (log_is_read (used_pages capacities.log) i rs k.has) (k.tidy was)
+    spare was = subst (λ (xs : List Record). AreSpare capacities xs i) (log_is_read (used_pages capacities.log) i rs k.has) (k.tidy was).pages
+
+    -- no dead area of what was taken has a number above those of the log
+    pub low : WasAllTidy capacities t → (p : ℕ) → 1 ≤ p → p ≤ count_of rs → IsBelow (greatest_tran rs) (content_at base p)
+    low was = subst (λ (xs : List Record). AreTidyOwners xs i) (log_is_read (used_pages capacities.log) i rs k.has) (k.tidy was).owners base k.takes
 
     -- a crash leaves what was read
     stands : WasAllTidy capacities t → EachImage (HasPages set (copy_capacity capacities (copy_of rs)) e rs (length rs)) t
@@ -161,7 +156,7 @@ module _ (rs : List Record) (base : List Content) (marks : List (Option Position
         go : ((nat_le n (count_of rs) ≡ true) × (n ≤ count_of rs)) ⊎ ((nat_le n (count_of rs) ≡ false) × (count_of rs < n)) → IsMark e rs n (i set n) (Some q)
         go (inl low) =
             let shown : IsShown (i set n) (content_at base n) q.0 =
-            taken_marked (copy_of rs) (length rs) (switch_of rs) n (i set n) (content_at base n) q (k.takes.each n one low.1)
+            taken_marked (copy_of rs) (length rs) (switch_of rs) n (i set n) (content_at base n) q (page_taken rs n _ _ (k.takes.each n one low.1))
             (subst (IsMarked (copy_of rs) (length rs) (switch_of rs) n (i set n)) is (k.marked.each n one low.1)) in
             let mark = opening_marks rs base i n (content_at base n) opened one low.1 shown.spells refl in (
               omega (arith, mark.position, shown.position),
@@ -176,8 +171,9 @@ module _ (rs : List Record) (base : List Content) (marks : List (Option Position
 
   -- of a log to which records were appended
   pub is_on : (seen : VolumeSeen) (log : Listed) (more : List Record) (copy : ℕ) (space : Space ListFrames) → seen.capacities ≡ capacities → log.records ≡ rs ++ more → log.forced ≡ length rs → copy ≡ copy_of rs
-      → capacity_in space ≡ copy_capacity capacities (copy_of rs) → length base ≡ count_of rs → HasNewest (opened_epoch rs base) log.records space → IfTold seen.told (IsKnown rs base marks capacities) → IsOn (opened_epoch rs base) copy log space marks seen
-  is_on seen log more copy space own records forced copy_is capacity count newest known = record {
+      → capacity_in space ≡ copy_capacity capacities (copy_of rs) → length base ≡ count_of rs → HasNewest (opened_epoch rs base) log.records space → ReopensFrom capacities base rs log.records
+      → (((p : ℕ) → 1 ≤ p → p ≤ count_of rs → IsBelow (greatest_tran rs) (content_at base p)) → (n : ℕ) → length rs ≤ n → HasLowOwners e (take n log.records)) → IfTold seen.told (IsKnown rs base marks capacities) → IsOn (opened_epoch rs base) copy log space marks seen
+  is_on seen log more copy space own records forced copy_is capacity count newest reopens lows known = record {
     copy_is = sym copy_is;
     within = subst (λ (c : Capacities). capacity_in space ≤ capacity_of c (set_of copy)) (sym own) (subst (λ (k : ℕ). capacity_in space ≤ capacity_of capacities (set_of k)) (sym copy_is) (omega (arith, capacity, copy_within capacities (copy_of rs))));
     capacity = capacity ∙ ap (copy_capacity capacities) (sym copy_is) ∙ ap (λ (c : Capacities). copy_capacity c copy) (sym own);
@@ -194,6 +190,11 @@ module _ (rs : List Record) (base : List Content) (marks : List (Option Position
         (told_weaken (IsKnown rs base marks capacities) (λ t. WasAllTidy capacities t → EachImage (HasPages (set_of copy) (capacity_in space) e log.records log.forced) t) seen.told leaves_at known);
     marked =
         told_weaken (IsKnown rs base marks capacities) (λ t. (p : ℕ) → 1 ≤ p → IsMark e log.records p (read_of t.first t.calls (set_of copy) p) (mark_at marks p)) seen.told marks_at known;
+    bases = reopens.begun;
+    counts = reopens.counts;
+    parts =
+        subst (λ (c : Capacities). IfTold seen.told (λ t. WasAllTidy c t → PartsReopen c e log)) (sym own)
+        (told_weaken (IsKnown rs base marks capacities) (λ t. WasAllTidy capacities t → PartsReopen capacities e log) seen.told parts_at known);
   }
     where
       front : take (length rs) log.records ≡ rs
@@ -205,6 +206,12 @@ module _ (rs : List Record) (base : List Content) (marks : List (Option Position
           (subst (λ (n : ℕ). EachImage (HasPages set n e log.records log.forced) t) (sym capacity)
           (subst (λ (xs : List Record). EachImage (HasPages set (copy_capacity capacities (copy_of rs)) e xs log.forced) t) (sym records)
           (more_keeps set (copy_capacity capacities (copy_of rs)) e rs more (length rs) log.forced (Some t) (omega arith) (omega (arith, forced)) (stands t k was))))
+
+      parts_at : (t : Told) → IsKnown rs base marks capacities t → WasAllTidy capacities t → PartsReopen capacities e log
+      parts_at t k was = record {
+        can = λ n from to. reopens.can n (omega (arith, from, forced)) to;
+        low = λ n from to. lows (low t k was) n (omega (arith, from, forced));
+      }
 
       marks_at : (t : Told) → IsKnown rs base marks capacities t → (p : ℕ) → 1 ≤ p → IsMark e log.records p (read_of t.first t.calls (set_of copy) p) (mark_at marks p)
       marks_at t k p one =

@@ -31,10 +31,11 @@ use Rattle.rg_newest.proofs.Switching.{has_switched}
 use Rattle.rg_desk.specs.Newest.{HasNewest, StayNewest}
 use Rattle.rg_desk.specs.Undoing.{is_undo}
 use Rattle.rg_desk.proofs.NewestKept.{end_stays, newest_same}
-use Rattle.rg_restart.specs.Closed.{AreUndosFrom, rolled_back}
+use Rattle.rg_sound.specs.Closing.{rolled_back}
+use Rattle.rg_restart.specs.Closed.{AreUndosFrom}
 use Rattle.rg_restart.specs.Data.{AreBase}
 use Rattle.rg_restart.specs.Found.{SamePages}
-use Rattle.rg_restart.specs.Pages.{copy_of, count_of}
+use Rattle.rg_sound.specs.Pages.{copy_of, count_of}
 
 -- over several steps
 pub stay_join : (xs ys zs : List Record) (a b c : Space ListFrames) → StayNewest xs a ys b → StayNewest ys b zs c → StayNewest xs a zs c

@@ -7,9 +7,8 @@ use Rattle.rg_outside.specs.Calls.{Image, Told, read_of}
 use Rattle.rg_outside.specs.Capacities.{Capacities}
 use Rattle.rg_outside.specs.Moments.{EachCall, EachImage, IfTold, read_at}
 use Rattle.rg_image.specs.Log.{SpellsFrom}
-use Rattle.rg_newest.specs.Tidy.{AreTidyPages}
 use Rattle.rg_outside.proofs.Every.{told_weaken}
-use Rattle.rg_desk.specs.OnVolume.{WasAllTidy}
+use Rattle.rg_desk.specs.OnVolume.{IsTidyVolume, WasAllTidy}
 use Rattle.rg_desk.specs.Volume.{Leaves, LeavesIfTidy, VolumeSeen, WasTidy}
 use Rattle.rg_desk.proofs.Leaving.{began}
 use Rattle.rg_desk.proofs.OnVolume.{tidy_on}
@@ -34,10 +33,10 @@ opened_leaves old new log made pages goes leaves =
     on_quiet old.told new.told old.capacities log made pages
     (told_weaken _ (λ t. (t.start ≤ length t.calls) × (WasTidy (log_pages old.capacities) t → IsTidyLog (log_pages old.capacities) (read_of t.first t.calls))) old.told (λ t is. (is.0, is.1)) goes) leaves
 
--- pages that did, too, are tidy as they were read
-pub opened_tidy : (old new : VolumeSeen) → EachCall old.told new.told IsQuiet → GoesOnTidy old → IfTold new.told (λ t. WasAllTidy old.capacities t → AreTidyPages old.capacities (read_of t.first t.calls))
+-- what did, too, beside the log is tidy as it was read
+pub opened_tidy : (old new : VolumeSeen) → EachCall old.told new.told IsQuiet → GoesOnTidy old → IfTold new.told (λ t. WasAllTidy old.capacities t → IsTidyVolume old.capacities (read_of t.first t.calls))
 opened_tidy old new made goes =
-    tidy_on IsQuiet old.told new.told old.capacities (λ t. AreTidyPages old.capacities (read_of t.first t.calls)) (λ t. AreTidyPages old.capacities (read_of t.first t.calls)) 0 made
+    tidy_on IsQuiet old.told new.told old.capacities (λ t. IsTidyVolume old.capacities (read_of t.first t.calls)) (λ t. IsTidyVolume old.capacities (read_of t.first t.calls)) 0 made
     (told_weaken _ (λ t. t.start + 0 ≤ length t.calls) old.told (λ t is. omega (arith, is.0)) goes)
-    (quiet_image (λ i. AreTidyPages old.capacities i) old.told new.told made)
-    (told_weaken _ (λ t. WasAllTidy old.capacities t → AreTidyPages old.capacities (read_of t.first t.calls)) old.told (λ t is. is.2) goes)
+    (quiet_image (λ i. IsTidyVolume old.capacities i) old.told new.told made)
+    (told_weaken _ (λ t. WasAllTidy old.capacities t → IsTidyVolume old.capacities (read_of t.first t.calls)) old.told (λ t is. is.2) goes)

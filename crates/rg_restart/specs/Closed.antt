@@ -1,35 +1,31 @@
 -- What the undo of open units leaves.
 --
--- 1. Each unit's Changes that are not undone are undone, the latest first, each tested at its turn.
+-- 1. The Changes that are left are undone, each tested at its turn.
 -- 2. The records of the undo are appended to the log, and nothing is forced. They take no more of
 --    it than was reserved: 911 bytes for an Undo, and 23 for the RolledBack.
 -- 3. The pages stay the newest versions that the records of the log make of them.
--- 4. The first Change that lacks what its undo needs is known by its place.
-use Rattle.std.specs.Prelude.{◌≡◌, ◌≤◌, ◌+◌, ◌*◌, ◌++◌, ◌∷◌, ℕ, true, List, [], length, map, Option, Some, None}
+use Rattle.std.specs.Prelude.{◌≡◌, ◌≤◌, ◌+◌, ◌*◌, ◌++◌, ◌∷◌, ℕ, true, List, [], length, Option, Some, None}
 use Rattle.rg_base.specs.declared.place.Place.{Place}
 use Rattle.rg_home.specs.Able.{Proper}
-use Rattle.rg_home.specs.Slot.{Slot}
 use Rattle.rg_home.specs.Undo.{undone_all}
 use Rattle.rg_home.specs.Written.{Written}
 use Rattle.rg_image.specs.Pack.{log_bytes}
-use Rattle.rg_image.specs.Rules.{last_position, of_tran}
 use Rattle.rg_keyed.specs.Keyed.{AllTakeBack, TransBelow}
 use Rattle.rg_lawful.specs.Tested.{all_of}
 use Rattle.rg_log.specs.Kept.{Listed}
 use Rattle.rg_page.specs.declared.list.ListFrames.{ListFrames}
 use Rattle.rg_ready.specs.Needed.{NeededInTurn}
-use Rattle.rg_record.specs.declared.record.Kind.TheVariants.{RolledBack}
 use Rattle.rg_record.specs.declared.record.Record.{Record}
 use Rattle.rg_record.specs.Spelled.{IsRecord}
 use Rattle.rg_space.specs.Space.{Agree, InStep, capacity_in, frames_of, index_of}
 use Rattle.rg_space.specs.declared.space.Space.{Space}
-use Rattle.rg_tested.specs.Breach.{BreaksOf}
-use Rattle.rg_undo.specs.Undoing.{written_of}
-use Rattle.rg_undo.specs.Unit.{undo_records, writes_of}
+use Rattle.rg_undo.specs.Unit.{writes_of}
 use Rattle.rg_unended.specs.Unended.{left_of, owed_for}
 use Rattle.rg_space.specs.Memory.{list_seen, space_pages}
 use Rattle.rg_desk.specs.Newest.{StayNewest}
 use Rattle.rg_desk.specs.Undoing.{is_undo}
+use Rattle.rg_sound.specs.Closing.{all_closed, closed_by}
+use Rattle.rg_sound.specs.Left.{IsLacking, lefts_of, writes_left}
 
 -- summaries and pages are in step, and agree
 pub record IsInStep (space : Space ListFrames) : Type 0 where
@@ -63,66 +59,12 @@ pub record TookBack (trans : List ℕ) (most : ℕ) (old new : Listed) : Type 0 
   pub least : log_bytes old.records ≤ log_bytes new.records
   pub most_bytes : log_bytes new.records ≤ log_bytes old.records + most
 
--- the first ones of these Changes had what they need; the next one lacks it, and this is the place
-pub record IsLacking (pages : List (List Slot)) (entries : List Record) (place : Place) : Type 0
-  where
-    pub done : List Record
-    pub entry : Record
-    pub rest : List Record
-    pub is : entries ≡ done ++ entry ∷ rest
-    pub needed : NeededInTurn pages (writes_of done)
-    pub breach : BreaksOf (undone_all pages (writes_of done)) (written_of entry) (Some place)
-
 -- the records of a unit's undo, whose positions count up from this one
 abbrev pub AreUndosFrom : ℕ → (tran : ℕ) → List Record → Type 0
 AreUndosFrom position tran [] = Unit {0}
 AreUndosFrom position tran (undo ∷ undos) =
     IsRecord undo × (is_undo undo.kind ≡ true) × (undo.position.0 ≡ position)
     × (undo.tran.0 ≡ tran) × AreUndosFrom (position + 1) tran undos
-
--- the Changes of these units that are left, in the order of their undo
-abbrev pub lefts_of : List ℕ → List Record → List Record
-lefts_of [] rs = []
-lefts_of (t ∷ ts) rs = left_of t rs ++ lefts_of ts rs
-
--- the same as writes, unit by unit
-abbrev pub writes_left : List ℕ → List Record → List (List Written)
-writes_left ts rs = map (λ t. writes_of (left_of t rs)) ts
-
--- the back of a unit's RolledBack: its last Undo, or its last record before where it has none
-abbrev pub end_back : (last count : ℕ) → List Record → ℕ
-end_back last count [] = last
-end_back last count (entry ∷ entries) = count + length (entry ∷ entries)
-
--- the RolledBack of a unit whose last record is at `back`
-abbrev pub rolled_back : (position back tran : ℕ) → Record
-rolled_back position back tran = record {
-  position = record { 0 = position };
-  tran = record { 0 = tran };
-  back = record { 0 = back };
-  kind = RolledBack;
-}
-
--- the records that close a unit of the log `rs` on these pages, after so many records
-abbrev pub closing : (tran : ℕ) → List Record → List (List Slot) → (count : ℕ) → List Record
-closing tran rs pages count =
-    let last = last_position 0 (of_tran tran rs) in
-    undo_records (count + 1) last pages (left_of tran rs)
-    ++ rolled_back (count + length (left_of tran rs) + 1) (end_back last count (left_of tran rs))
-    tran
-    ∷ []
-
--- the records with those that close a unit
-abbrev pub closed_by :
-    (tran : ℕ) → List Record → List (List Slot) → List Record → List Record
-closed_by tran rs pages records = records ++ closing tran rs pages (length records)
-
--- the same of several units, one after the other
-abbrev pub all_closed :
-    List ℕ → List Record → List (List Slot) → List Record → List Record
-all_closed [] rs pages records = records
-all_closed (t ∷ ts) rs pages records =
-    all_closed ts rs (undone_all pages (writes_of (left_of t rs))) (closed_by t rs pages records)
 
 -- a unit is undone, and has its RolledBack
 pub record ClosedUnit

@@ -1,11 +1,10 @@
--- The rule for data pages, and what an opening takes of them.
+-- The rule for data pages, one page at a time, and how an opening marks them.
 --
--- 1. Each page of the current copy spells a page of that copy and of its number, with a position of
---    at most that of the last record. Zeros spell the page without slots and with position 0.
--- 2. A page past those that the last Switch counts, whose position is below that of the Switch, is
---    left over from an earlier time: it is taken as empty.
--- 3. A page that is taken as it was read is marked with its position. One that is left over has no
+-- 1. A page is tested by its copy, its number and the position of the last record, and taken by the
+--    last Switch. Zeros spell the page without slots and with position 0.
+-- 2. A page that is taken as it was read is marked with its position. One that is left over has no
 --    mark.
+-- 3. What was taken of a page would be taken as it is.
 use Rattle.std.specs.Prelude.{◌≡◌, ◌≤◌, ◌<◌, ◌&&◌, nat_lt, ℕ, Bool, true, false, List, [], ◌∷◌, length, Option, Some, None}
 use Rattle.std.specs.List.{AllByRecursion}
 use Rattle.rg_base.specs.declared.position.Position.{Position}
@@ -58,6 +57,17 @@ pub record IsTaken (copy last : ℕ) (switch : LastSwitch) (n : ℕ) (bytes : Li
   pub page : Content
   pub data_page : IsDataPage copy last n bytes page
   pub is : y ≡ taken_past switch.at switch.pages n page
+
+-- a page of this copy and number, of which an opening takes all as it is
+pub record IsTakenAsIs (copy : ℕ) (switch : LastSwitch) (n : ℕ) (y : Content) : Type 0 where
+  pub copy_is : y.copy ≡ copy
+  pub number : y.number ≡ n
+  pub same : taken_past switch.at switch.pages n y ≡ y
+
+-- so are these pages, from page 1 on
+abbrev pub AreTakenAsIs : (copy : ℕ) → LastSwitch → (base : List Content) → Type 0
+AreTakenAsIs copy switch base =
+    (n : ℕ) → 1 ≤ n → n ≤ length base → IsTakenAsIs copy switch n (content_at base n)
 
 -- the mark of a page: its position, if it is not left over
 abbrev pub mark_if : (is_old : Bool) → Content → Option Position

@@ -6,7 +6,8 @@ use Rattle.std.specs.Prelude.{ℕ}
 use Rattle.rg_base.specs.declared.set.Set.{Set}
 use Rattle.rg_outside.specs.Calls.{Image}
 use Rattle.rg_outside.specs.Capacities.{Capacities}
-use Rattle.rg_restart.specs.Sound.{IsDamage, IsSound}
+use Rattle.rg_sound.specs.Sound.{IsSound}
+use Rattle.rg_restart.specs.Sound.{IsDamage}
 
 abbrev pub SoundBreaksNone : Type 0
 SoundBreaksNone =

@@ -1,6 +1,5 @@
 pub mod Stored
 pub mod Closed
-pub mod Pages
 pub mod Data
 pub mod Sound
 pub mod Found

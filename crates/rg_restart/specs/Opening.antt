@@ -8,14 +8,16 @@
 use Rattle.std.specs.Prelude.{◌≡◌, ◌≤◌, ◌⊎◌, List, length}
 use Rattle.rg_base.specs.declared.set.Set.TheVariants.{Log}
 use Rattle.rg_desk.specs.Desk.{DeskState, Opens}
-use Rattle.rg_desk.specs.OnVolume.{IsOnVolume}
+use Rattle.rg_desk.specs.OnVolume.{IsOnVolume, WasAllTidy}
 pub use Rattle.rg_desk.specs.OnVolume.{GoesOnTidy}
 use Rattle.rg_desk.specs.Volume.{LeavesIfTidy, VolumeSeen}
 use Rattle.rg_desk.specs.declared.desk.OpenCause.{OpenCause}
 use Rattle.rg_desk.specs.declared.desk.OpenCause.TheVariants.{Damaged, Device, NoMemory}
 use Rattle.rg_desk.specs.declared.found.Found.{Found}
+use Rattle.rg_home.specs.Pages.{slot_of}
 use Rattle.rg_home.specs.Slot.{Slot}
 use Rattle.rg_image.specs.Rules.{BreaksChain, BreaksSpace, IsChain, copy_capacity, owed}
+use Rattle.rg_lawful.specs.Lawful.{AllBelow}
 use Rattle.rg_log.specs.Kept.{Listed, log_pages}
 use Rattle.rg_log.specs.Open.{IsQuiet}
 use Rattle.rg_log.specs.declared.fault.LogFault.{LogFault}
@@ -26,11 +28,13 @@ use Rattle.rg_outside.specs.Faults.{Rose}
 use Rattle.rg_outside.specs.Moments.{EachCall, IfTold}
 use Rattle.rg_page.specs.Content.{Content}
 use Rattle.rg_record.specs.declared.record.Record.{Record}
+use Rattle.rg_space.specs.Memory.{space_pages}
 use Rattle.rg_unended.specs.Unended.{open_in}
 use Rattle.rg_restart.specs.Closed.{TookBack}
 use Rattle.rg_restart.specs.Found.{Finds}
-use Rattle.rg_restart.specs.Pages.{copy_of, count_of}
-use Rattle.rg_restart.specs.Sound.{IsDamage, IsSoundBy}
+use Rattle.rg_sound.specs.Pages.{copy_of, count_of}
+use Rattle.rg_sound.specs.Sound.{IsSoundBy}
+use Rattle.rg_restart.specs.Sound.{IsDamage}
 
 -- calls that write nothing
 pub record CallsQuiet (old new : VolumeSeen) : Type 0 where
@@ -81,6 +85,8 @@ pub record Looks (old new : VolumeSeen) (found : Found) : Type 0 where
   pub sound : ReadsSound new log.records base
   pub leaves : LeavesIfTidy new found.log
   pub is_on : IsOnVolume found.copy found.log found.space found.marks.items new
+  pub below : IfTold new.told (λ t. WasAllTidy new.capacities t
+      → AllBelow found.top (slot_of (space_pages found.space)))
 
 -- A desk that was opened over a volume: over its log as it read, to which the undo of open units
 -- was appended, and over the pages that this log leaves.

@@ -15,7 +15,8 @@ ghost use Rattle.rg_chain.specs.Kept.{IsKept};
 ghost use Rattle.rg_page.specs.Bare.{numbers_of};
 ghost use Rattle.rg_unended.specs.Unended.{left_of, open_in, owed_for};
 ghost use Rattle.rg_space.specs.Memory.{space_pages};
-ghost use Rattle.rg_restart.specs.Closed.{AreUndosFrom, Closes, ClosesUnit, IsInStep, TookBack, rolled_back};
+ghost use Rattle.rg_sound.specs.Closing.{rolled_back};
+ghost use Rattle.rg_restart.specs.Closed.{AreUndosFrom, Closes, ClosesUnit, IsInStep, TookBack};
 
 use rg_base::no_memory::NoMemory;
 use rg_base::place::Place;

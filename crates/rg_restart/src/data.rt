@@ -9,7 +9,7 @@ ghost use Rattle.rg_log.specs.Open.{IsQuiet};
 ghost use Rattle.rg_outside.specs.Calls.{read_of};
 ghost use Rattle.rg_outside.specs.Capacities.{capacity_of};
 ghost use Rattle.rg_outside.specs.Moments.{EachCall, IfTold};
-ghost use Rattle.rg_restart.specs.Data.{AreBase, IsDataFault, IsMarked, IsTaken, IsUntaken, MarksPages, TakesPages, switch_after, switch_of};
+ghost use Rattle.rg_restart.specs.Data.{AreBase, AreTakenAsIs, IsDataFault, IsMarked, IsTaken, IsUntaken, MarksPages, TakesPages, switch_after, switch_of};
 
 use rg_base::position::Position;
 use rg_base::set::Set;
@@ -119,6 +119,7 @@ pub fn read_pages<V: Volume>(
 ) -> Result<ReadPages, OpenCause>
     requires { count ≤ capacity_of (V.capacities volume.old) set }
     ensures base { IfOk result (λ read. AreBase copy last count read.frames) }
+    ensures as_is { IfOk result (λ read. AreTakenAsIs copy switch read.frames.pages.items) }
     ensures takes { IfOk result (λ read. IfTold (V.told volume.new) (λ t.
         TakesPages copy last switch set count (read_of t.first t.calls)
         read.frames.pages.items)) }

@@ -25,7 +25,7 @@ ghost use Rattle.rg_space.specs.Memory.{space_pages};
 ghost use Rattle.rg_restart.specs.Closed.{IsInStep};
 ghost use Rattle.rg_restart.specs.Data.{AreBase};
 ghost use Rattle.rg_restart.specs.Found.{Finds, IsClosed, IsGrown, MayFind, Refuses, SamePages, StoresFew};
-ghost use Rattle.rg_restart.specs.Pages.{BreaksFit, BreaksRows, BreaksRule, BreaksSlots, IsMatched, copy_of, count_of, page_of, set_of};
+ghost use Rattle.rg_sound.specs.Pages.{BreaksFit, BreaksRows, BreaksRule, BreaksSlots, IsMatched, copy_of, count_of, page_of, set_of};
 
 use crate::close::close_units;
 use crate::data::ReadPages;
@@ -212,6 +212,7 @@ pub fn find(
     let Ok(indexes) = indexes_of(alloc, &mut space) else {
         return Err(OpenCause::NoMemory);
     };
+    let _ = log.records();
     Ok(Found {
         log,
         space,

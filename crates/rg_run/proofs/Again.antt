@@ -4,7 +4,7 @@ use Rattle.std.specs.List.{Contains}
 use Rattle.rg_desk.specs.Chronicle.{IsRecorded}
 use Rattle.rg_desk.specs.Desk.{DeskState, EndsDown, EndsIn, EndsWithRows, LeavesTable, LegalFrom, old_records}
 use Rattle.rg_desk.specs.Left.{StoresLeft}
-use Rattle.rg_desk.specs.OnVolume.{LeavesCopyIfTidy, WasAllTidy}
+use Rattle.rg_desk.specs.OnVolume.{IsSoundTidy, LeavesCopyIfTidy, LeavesSoundIfTidy, WasAllTidy}
 use Rattle.rg_desk.specs.Stored.{IsStored}
 use Rattle.rg_desk.specs.Volume.{HasCalls, VolumeSeen, WasTidy}
 use Rattle.rg_desk.specs.declared.desk.OpenCause.{OpenCause}
@@ -20,36 +20,46 @@ use Rattle.rg_model.specs.Committed.{committed_table}
 use Rattle.rg_model.specs.Possible.{tables_left}
 use Rattle.rg_model.specs.State.{State}
 use Rattle.rg_model.proofs.RunPossible.{same_number-refl}
-use Rattle.rg_outside.specs.Calls.{Image, Told, read_of}
+use Rattle.rg_outside.specs.Calls.{Call, FailedRead, FailedSync, FailedWrite, Image, Read, Refused, Synced, Told, Wrote, effect_of, read_of}
+use Rattle.rg_outside.specs.Capacities.{Capacities}
 use Rattle.rg_outside.specs.Faults.{Rose}
 use Rattle.rg_outside.specs.Moments.{EachCall, EachImage, IfTold}
-use Rattle.rg_outside.proofs.Every.{read_image}
-use Rattle.rg_outside.proofs.Frame.{calls_weaken}
+use Rattle.rg_outside.proofs.Every.{Turns, read_image, told_weaken}
+use Rattle.rg_outside.proofs.Frame.{calls_each, calls_weaken}
+use Rattle.rg_outside.proofs.Run.{at_last}
 use Rattle.rg_record.specs.declared.record.Record.{Record}
 use Rattle.rg_restart.specs.Opening.{IsCause, IsRefused, OpensStored}
-use Rattle.rg_restart.specs.Pages.{copy_of}
+use Rattle.rg_restart.specs.Sound.{IsDamage}
+use Rattle.rg_restart.proofs.Exact.{sound_breaks_none}
+use Rattle.rg_sound.specs.Pages.{copy_of}
+use Rattle.rg_sound.specs.Sound.{IsSound}
 use Rattle.rg_stmt.specs.declared.event.Entry.{Entry}
 use Rattle.rg_stmt.specs.declared.line.Line.{Line}
 use Rattle.rg_stmt.specs.declared.line.Line.TheVariants.{Death}
 use Rattle.rg_run.specs.Full.{smaller_pages}
 use Rattle.rg_run.specs.Outside.{WritesOwn, end_of}
-use Rattle.rg_run.specs.Parts.{Came, DiesIn, EndsUp, Follows, Going, IfTidy, IsFailed, IsRun, LastPart, LeavesRun, Made, PartRun, RunEnds, RunsFrom}
+use Rattle.rg_run.specs.Parts.{Came, DiesIn, EndsUp, Follows, Going, IfTidy, IsAlive, IsFailed, IsRun, IsUndamaged, LastPart, LeavesRun, Made, PartRun, RunEnds, RunsFrom, StaysSound}
 use Rattle.rg_run.specs.Played.{Goes, TraceOf}
+use Rattle.rg_run.specs.declared.played.RunEnd.{RunEnd}
 use Rattle.rg_run.specs.declared.played.RunEnd.TheVariants as ends
 use Rattle.rg_run.proofs.Fullness.{smaller_least}
 use Rattle.rg_run.proofs.Going.{made_now, made_on, same_table, was_tidy, whole_run}
 use Rattle.rg_run.proofs.Joins.{own_quiet}
-use Rattle.rg_run.proofs.Opening.{copy_first, old_first, opened_first, pages_first, read_first_log, stores_first}
+use Rattle.rg_run.proofs.Opening.{copy_first, found_first, old_first, opened_first, opening_then, pages_first, read_first_log, stores_first}
+use Rattle.rg_run.proofs.Openings.{all_join}
 use Rattle.rg_run.proofs.Plays.{goes_opened, rose_earlier}
 
 -- one line more is played since the last opening
-pub going_on : {V O : Type 0} (look : V → VolumeSeen) (first old new : DeskState V O) (lines : List Line) (line : Line) → ((base : DeskState V O) (back : List Line) → Goes look base back old → Goes look base (back ++ line ∷ []) new) → Going look first lines old → Going look first (lines ++ line ∷ []) new
-going_on look first old new lines line step going = record {
+pub going_on : {V O : Type 0} (look : V → VolumeSeen) (first old new : DeskState V O) (lines : List Line) (line : Line) → IsAlive line → ((base : DeskState V O) (back : List Line) → Goes look base back old → Goes look base (back ++ line ∷ []) new) → Going look first lines old → Going look first (lines ++ line ∷ []) new
+going_on look first old new lines line alive step going = record {
   base = going.base;
   back = going.back ++ line ∷ [];
   goes = step going.base going.back going.goes;
   opened = going.opened;
   copy_is = going.copy_is;
+  opening = going.opening;
+  found = going.found;
+  alive = all_join IsAlive going.back (line ∷ []) going.alive (alive, tt);
   counted = going.counted;
   room = going.room;
   log_room = going.log_room;
@@ -69,6 +79,27 @@ going_on look first old new lines line step going = record {
 pub count_has : (told : Option Told) (n : ℕ) → IfTold told (λ t. length t.calls ≡ t.start + n) → IfTold told (λ t. t.start + 0 ≤ length t.calls)
 count_has None n h = tt
 count_has (Some t) n h = omega (arith, h)
+
+-- calls that write nothing leave what a crash left
+quiet_turns : (P : Image → Type 0) (call : Call) → IsQuiet call → Turns P P (effect_of call)
+quiet_turns P (Wrote s p b) is = absurd is
+quiet_turns P (FailedWrite s p b reads) is = absurd is
+quiet_turns P Read is = λ i h. h
+quiet_turns P Synced is = λ i h. h
+quiet_turns P FailedRead is = λ i h. h
+quiet_turns P FailedSync is = λ i h. h
+quiet_turns P Refused is = λ i h. h
+
+-- what it leaves stays sound over an opening that was refused for another cause than damage
+quiet_sound : (capacities : Capacities) (old new : Option Told) (n : ℕ) (end : RunEnd) → EachCall old new IsQuiet → IfTold old (λ t. t.start + n ≤ length t.calls) → IfTold old (λ t. WasAllTidy capacities t → EachImage (IsSoundTidy capacities) t)
+    → IfTold new (λ t. IsSound capacities (read_of t.first t.calls) → IsUndamaged end) → IfTold new (λ t. WasAllTidy capacities t → StaysSound capacities t end)
+quiet_sound capacities old None n end made has sound undamaged = tt
+quiet_sound capacities None (Some after) n end made has sound undamaged = absurd (cc (made.2))
+quiet_sound capacities (Some before) (Some after) n end made has sound undamaged = λ tidy.
+    let images : EachImage (IsSoundTidy capacities) after =
+    at_last (EachImage (IsSoundTidy capacities)) (Some before) (Some after)
+    (calls_each (IsSoundTidy capacities) IsQuiet (Some before) (Some after) (quiet_turns (IsSoundTidy capacities)) (sound (was_tidy IsQuiet capacities before after n made has tidy)) made) in
+    record { images = images; undamaged = undamaged (images (read_of after.first after.calls) (read_image after)).sound }
 
 module _ {V O : Type 0} (look : V → VolumeSeen) (first desk : DeskState V O) (lines : List Line) (going : Going look first lines desk) where
   abbrev now : VolumeSeen
@@ -122,15 +153,20 @@ module _ {V O : Type 0} (look : V → VolumeSeen) (first desk : DeskState V O) (
       by_came none (inr again) = absurd (some again.front going.base.older again.made.entries none)
 
   -- a run that goes on no further
-  module _ (trace : List Entry) (is : trace ≡ all) (left : LeavesRun desk trace) (seen : VolumeSeen) (seen_is : seen ≡ now) (operator : O) (operator_is : operator ≡ desk.operator) where
+  module _ (trace : List Entry) (is : trace ≡ all) (left : LeavesRun desk trace) (sound : LeavesSoundIfTidy now) (seen : VolumeSeen) (seen_is : seen ≡ now) (operator : O) (operator_is : operator ≡ desk.operator) where
     asked : operator ≡ first.operator
     asked = operator_is ∙ going.goes.stays.operator ∙ going.asked
 
     made_seen : Made look first lines trace seen
     made_seen = subst (Made look first lines trace) (sym seen_is) (made_left trace is left)
 
+    stays : (end : RunEnd) → IsUndamaged end → IfTold seen.told (λ t. WasAllTidy seen.capacities t → StaysSound seen.capacities t end)
+    stays end none =
+        told_weaken (λ t. WasAllTidy seen.capacities t → EachImage (IsSoundTidy seen.capacities) t) (λ t. WasAllTidy seen.capacities t → StaysSound seen.capacities t end) seen.told (λ t is tidy. record { images = is tidy; undamaged = none })
+        (subst LeavesSoundIfTidy (sym seen_is) sound)
+
     pub ends_wanting : (rest : List Line) → IsRun look first (lines ++ rest) seen operator trace ends.NoMemory
-    ends_wanting rest = record { front = lines; rest = rest; joined = refl; made = made_seen; ends = tt; failed = λ none. absurd none; asked = asked }
+    ends_wanting rest = record { front = lines; rest = rest; joined = refl; made = made_seen; ends = tt; failed = λ none. absurd none; sound = stays ends.NoMemory tt; asked = asked }
 
     pub ends_down : desk.down ≡ true → EndsDown (old_records desk) desk.copy desk.trace → IsRun look first lines seen operator trace ends.Down
     ends_down down end = record {
@@ -145,6 +181,7 @@ module _ {V O : Type 0} (look : V → VolumeSeen) (first desk : DeskState V O) (
             (subst (λ (es : List Entry). LastPart (old_records first) now lines es true end.0) (sym is) (last_part true end.0 end.1)),
       );
       failed = λ so. subst (λ (v : VolumeSeen). Rose (look first.volume).faults v.faults) (sym seen_is) (by_came going.came);
+      sound = stays ends.Down tt;
       asked = asked;
     }
       where
@@ -174,6 +211,7 @@ module _ {V O : Type 0} (look : V → VolumeSeen) (first desk : DeskState V O) (
             })),
       );
       failed = λ none. absurd none;
+      sound = stays (ends.Whole rows) tt;
       asked = asked;
     }
 
@@ -194,14 +232,18 @@ module _ {V O : Type 0} (look : V → VolumeSeen) (first desk : DeskState V O) (
     made_quiet later quiet le same =
         made_on look first lines all now later made_all count has (calls_weaken IsQuiet (WritesOwn all) now.told later.told (own_quiet all) quiet) le same
 
-    pub refused_again : (later : VolumeSeen) (cause : OpenCause) (operator : O) (trace : List Entry) (rest : List Line) → operator ≡ desk.operator → trace ≡ all → IsRefused now later cause → IsRun look first (lines ++ Death ∷ rest) later operator trace (end_of cause)
-    refused_again later cause operator trace rest operator_is is refused = record {
+    pub refused_again : (later : VolumeSeen) (cause : OpenCause) (operator : O) (trace : List Entry) (rest : List Line) → operator ≡ desk.operator → trace ≡ all → LeavesSoundIfTidy now → IsRefused now later cause → IsRun look first (lines ++ Death ∷ rest) later operator trace (end_of cause)
+    refused_again later cause operator trace rest operator_is is sound refused = record {
       front = lines;
       rest = Death ∷ rest;
       joined = refl;
       made = made;
       ends = by_cause cause refused.because;
       failed = failed cause refused.because;
+      sound =
+          subst (λ (c : Capacities). IfTold later.told (λ t. WasAllTidy c t → StaysSound c t (end_of cause))) (sym refused.calls.capacities)
+          (quiet_sound now.capacities now.told later.told count (end_of cause) refused.calls.only has sound
+          (subst (λ (c : Capacities). IfTold later.told (λ t. IsSound c (read_of t.first t.calls) → IsUndamaged (end_of cause))) refused.calls.capacities (undamaged cause refused.because)));
       asked = operator_is ∙ going.goes.stays.operator ∙ going.asked;
     }
       where
@@ -212,6 +254,17 @@ module _ {V O : Type 0} (look : V → VolumeSeen) (first desk : DeskState V O) (
         by_cause (causes.Damaged set page) because = ((rest, refl), because)
         by_cause causes.Device because = (rest, refl)
         by_cause causes.NoMemory because = tt
+
+        anyhow : (told : Option Told) → IfTold told (λ t. IsSound later.capacities (read_of t.first t.calls) → Unit {0})
+        anyhow None = tt
+        anyhow (Some t) = λ sound. tt
+
+        undamaged : (cause : OpenCause) → IsCause now later cause → IfTold later.told (λ t. IsSound later.capacities (read_of t.first t.calls) → IsUndamaged (end_of cause))
+        undamaged (causes.Damaged set page) because =
+            told_weaken (λ t. IsDamage later.capacities (read_of t.first t.calls) set page) (λ t. IsSound later.capacities (read_of t.first t.calls) → ⊥) later.told
+            (λ t damage sound. sound_breaks_none later.capacities (read_of t.first t.calls) set page sound.0 sound.1 sound.2 damage) because
+        undamaged causes.Device because = anyhow later.told
+        undamaged causes.NoMemory because = anyhow later.told
 
         failed : (cause : OpenCause) → IsCause now later cause → IsFailed (end_of cause) → Rose (look first.volume).faults later.faults
         failed (causes.Damaged set page) because none = absurd none
@@ -282,6 +335,9 @@ module _ {V O : Type 0} (look : V → VolumeSeen) (first desk : DeskState V O) (
             goes = goes_opened look next opened;
             opened = opened;
             copy_is = copy_first look now operator next opens;
+            opening = opening_then look now operator next opens;
+            found = found_first look now operator next opens;
+            alive = tt;
             counted = count_has later.told opens.opens.calls opens.opens.counted;
             room = omega (arith, capacity, least, ap smaller_pages same);
             log_room = pages_first look now operator next opens ∙ ap log_pages (sym same);

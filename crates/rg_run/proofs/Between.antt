@@ -3,21 +3,20 @@ use Rattle.std.proofs.Common.{◌≡◌, ◌≤◌, ◌+◌, ◌-◌, ◌++◌, 
 use Rattle.std.specs.List.{AllByRecursion}
 use Rattle.std.proofs.Math.Seq.{drop-append_seam}
 use Rattle.rg_log.proofs.Ready.{quiet_reads}
-use Rattle.rg_desk.specs.OnVolume.{WasAllTidy}
+use Rattle.rg_desk.specs.OnVolume.{IsTidyVolume, WasAllTidy}
 use Rattle.rg_desk.specs.Volume.{WasTidy}
 use Rattle.rg_image.specs.Log.{log_of}
 use Rattle.rg_image.specs.Rules.{HasLogPages, IsTidyLog}
 use Rattle.rg_image.proofs.Rules.{log_is_read}
-use Rattle.rg_log.specs.Kept.{log_pages}
 use Rattle.rg_log.specs.Open.{IsQuiet}
-use Rattle.rg_newest.specs.Tidy.{AreTidyPages}
 use Rattle.rg_outside.specs.Capacities.{Capacities}
 use Rattle.rg_outside.specs.Calls.{Call, Image, Told, read_of}
 use Rattle.rg_outside.specs.Counts.{counted}
 use Rattle.rg_outside.specs.Moments.{EachCall, EachImage, IfTold, read_at}
 use Rattle.rg_record.specs.declared.record.Record.{Record}
 use Rattle.rg_run.specs.Outside.{IfBoth, log_at}
-use Rattle.rg_run.specs.Table.{IsTidyVolume}
+use Rattle.rg_run.specs.Parts.{StaysSound}
+use Rattle.rg_run.specs.declared.played.RunEnd.{RunEnd}
 use Rattle.rg_run.proofs.Uncounted.{counted_so}
 
 -- what was known before, with its calls so far taken as those before the count
@@ -70,17 +69,40 @@ stored_out Kind pages n Q old (Some t) le made all = λ few before was.
     let so = counted_so t n le few in
     stored_at pages n Q before t (follows Kind old before t n was (subst (λ (o : Option Told). EachCall (counted old 0) o Kind) so made)) (subst (λ (o : Option Told). IfTold o (λ t. WasTidy pages t → EachImage Q t)) so all)
 
+-- all of the volume read tidy when the count began, if it did when the run began
+all_tidy : (capacities : Capacities) (n : ℕ) (before t : Told) → Follows before t n → IsTidyVolume capacities (read_of before.first before.calls) → WasAllTidy capacities (record t { start = length t.calls - n })
+all_tidy capacities n before t h tidy =
+    subst (λ (i : Image). IsTidyVolume capacities i) (sym (begun_reads n before t h)) tidy
+
 -- what is said where all of the volume read tidy then
 pub tidy_out : (Kind : Call → Type 0) (capacities : Capacities) (n : ℕ) (Q : Type 0) (old new : Option Told) → IfTold new (λ t. n ≤ length t.calls) → EachCall (counted old 0) (counted new n) Kind
     → IfTold (counted new n) (λ t. WasAllTidy capacities t → Q) → IfBoth old new (λ before t. IsTidyVolume capacities (read_of before.first before.calls) → Q)
 tidy_out Kind capacities n Q old None le made all = tt
 tidy_out Kind capacities n Q old (Some t) le made all = λ few before was tidy.
     let so = counted_so t n le few in
-    let begun = begun_reads n before t (follows Kind old before t n was (subst (λ (o : Option Told). EachCall (counted old 0) o Kind) so made)) in
-    subst (λ (o : Option Told). IfTold o (λ t. WasAllTidy capacities t → Q)) so all (record {
-      log = subst (λ (i : Image). IsTidyLog (log_pages capacities) i) (sym begun) tidy.log;
-      pages = subst (λ (i : Image). AreTidyPages capacities i) (sym begun) tidy.pages;
-    })
+    subst (λ (o : Option Told). IfTold o (λ t. WasAllTidy capacities t → Q)) so all
+    (all_tidy capacities n before t (follows Kind old before t n was (subst (λ (o : Option Told). EachCall (counted old 0) o Kind) so made)) tidy)
+
+-- and of what a crash leaves then
+pub sound_out : (Kind : Call → Type 0) (capacities now : Capacities) (n : ℕ) (end : RunEnd) (old new : Option Told) → now ≡ capacities → IfTold new (λ t. n ≤ length t.calls) → EachCall (counted old 0) (counted new n) Kind
+    → IfTold (counted new n) (λ t. WasAllTidy now t → StaysSound now t end) → IfBoth old new (λ before t. IsTidyVolume capacities (read_of before.first before.calls) → StaysSound now t end)
+sound_out Kind capacities now n end old None same le made all = tt
+sound_out Kind capacities now n end old (Some t) same le made all = λ few before was tidy.
+    let so = counted_so t n le few in
+    let stays : StaysSound now (record t { start = length t.calls - n }) end =
+    subst (λ (o : Option Told). IfTold o (λ t. WasAllTidy now t → StaysSound now t end)) so all
+    (subst (λ (c : Capacities). WasAllTidy c (record t { start = length t.calls - n })) (sym same)
+    (all_tidy capacities n before t (follows Kind old before t n was (subst (λ (o : Option Told). EachCall (counted old 0) o Kind) so made)) tidy)) in
+    record { images = stays.images; undamaged = stays.undamaged }
+
+-- what holds since the count began holds since the run began
+pub since_out : (Kind : Call → Type 0) (P : ℕ → Told → Type 0) (n : ℕ) (old new : Option Told) → ((start counted : ℕ) (t : Told) → P start (record t { start = counted }) → P start t) → IfTold new (λ t. n ≤ length t.calls) → EachCall (counted old 0) (counted new n) Kind
+    → IfTold (counted new n) (λ t. P t.start t) → IfBoth old new (λ before t. P (length before.calls) t)
+since_out Kind P n old None f le made all = tt
+since_out Kind P n old (Some t) f le made all = λ few before was.
+    let so = counted_so t n le few in
+    let h = follows Kind old before t n was (subst (λ (o : Option Told). EachCall (counted old 0) o Kind) so made) in
+    subst (λ (start : ℕ). P start t) h.start (f (length t.calls - n) (length t.calls - n) t (subst (λ (o : Option Told). IfTold o (λ t. P t.start t)) so all))
 
 -- ---- the log that was read
 

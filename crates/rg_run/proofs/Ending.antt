@@ -1,7 +1,7 @@
 -- What a run over a counted volume says of the volume below.
 use Rattle.std.proofs.Common.{◌≡◌, ◌≤◌, inr, ℕ, Bool, true, false, List, [], ◌∷◌, ◌++◌, Some, length, sym, ◌∙◌, ap, subst, append-nil}
 use Rattle.rg_desk.specs.Desk.{DeskState, LegalFrom, old_records}
-use Rattle.rg_desk.specs.OnVolume.{WasAllTidy}
+use Rattle.rg_desk.specs.OnVolume.{IsTidyVolume, WasAllTidy}
 use Rattle.rg_desk.specs.Stored.{IsStored}
 use Rattle.rg_desk.specs.Volume.{VolumeSeen, WasTidy}
 use Rattle.rg_image.specs.Log.{log_of}
@@ -18,21 +18,17 @@ use Rattle.rg_record.specs.declared.record.Record.{Record}
 use Rattle.rg_restart.specs.Sound.{IsDamage}
 use Rattle.rg_stmt.specs.declared.event.Entry.{Entry}
 use Rattle.rg_stmt.specs.declared.line.Line.{Line}
-use Rattle.rg_run.specs.Outside.{IfBoth, IsEnd, WritesOwn, log_at}
-use Rattle.rg_run.specs.Parts.{AreParts, IfTidy, IsAtDeath, IsFailed, IsRun, LastPart, Made, RunEnds, RunsFrom}
-use Rattle.rg_run.specs.Parts.AreParts.{Next, One}
+use Rattle.rg_run.specs.Opening.{IsFoundThen, IsOpeningOf}
+use Rattle.rg_run.specs.Outside.{IfBoth, IsEnd, WasUntidy, WritesOwn, log_at}
+use Rattle.rg_run.specs.Parts.{AreParts, IfTidy, IsAtDeath, IsFailed, IsFound, IsRun, IsUndamaged, LastPart, Made, RunEnds, RunsFrom, StaysSound}
 use Rattle.rg_run.specs.Played.{TraceOf, first_of}
-use Rattle.rg_run.specs.Table.{Begins, Ends, EndsAt, EndsAtDown, EndsAtOpening, EndsWhole, IfBegunTidy, IsLegalRun, IsOpening, IsOpeningOf, IsTidyVolume, OpensLog}
+use Rattle.rg_run.specs.Table.{Begins, Ends, EndsAt, EndsAtDown, EndsAtOpening, EndsWhole, Finds, IfBegunTidy, IsLegalRun, IsOpening, OpensLog}
 use Rattle.rg_run.specs.declared.played.RunEnd.{RunEnd}
 use Rattle.rg_run.specs.declared.played.RunEnd.TheVariants.{Whole, Down, Damaged, DeviceAtOpening, NoMemory}
-use Rattle.rg_run.proofs.Between.{both_and, both_weaken, stored_out, tidy_out}
+use Rattle.rg_run.proofs.Between.{both_and, both_weaken, since_out, stored_out, tidy_out}
 use Rattle.rg_run.proofs.Going.{legal_whole, tidy_weaken}
+use Rattle.rg_run.proofs.Openings.{parts_more}
 use Rattle.rg_run.proofs.Uncounted.{uncounted_only, uncounted_told}
-
--- the same parts, by another fact of the first table
-parts_more : (P Q : Table → Type 0) (trace : List Entry) → ((start : Table) → P start → Q start) → AreParts P trace → AreParts Q trace
-parts_more P Q trace f (One part start first legal) = One part start (f start first) legal
-parts_more P Q trace f (Next before part start parts legal) = Next before part start (parts_more P Q before f parts) legal
 
 module _ (old new : VolumeSeen) (n : ℕ) (rs : List Record) (le : IfTold new.told (λ t. n ≤ length t.calls)) (read : IfBoth old.told new.told (λ before t. log_at (log_pages old.capacities) before ≡ rs))
     (now : List Record) (same : (k : ℕ) → stored now k ≡ stored rs k) where
@@ -83,8 +79,13 @@ module _ (old new : VolumeSeen) (n : ℕ) (rs : List Record) (le : IfTold new.to
         made : Made look first run.front trace counted_seen
         made = run.made
 
-        parts : AreParts (Begins old new) trace
-        parts = parts_more (IsStored (old_records first)) (Begins old new) trace (λ start starts. begins start (subst (λ (xs : List Record). IsStored xs start) first_is starts)) made.parts
+        found : (entry : Entry) (start : Table) → IsFound counted_seen entry start → Finds old new entry start
+        found entry start is =
+            since_out (WritesOwn trace) (λ begun t. IsFoundThen (log_pages old.capacities) begun t entry start) n old.told new.told (λ begun count t so. so) le calls
+            (subst (λ (c : Capacities). IfTold (counted new.told n) (λ t. IsFoundThen (log_pages c) t.start t entry start)) kept is)
+
+        parts : AreParts (Begins old new) (Finds old new) trace
+        parts = parts_more (IsStored (old_records first)) (Begins old new) (IsFound counted_seen) (Finds old new) trace (λ start starts. begins start (subst (λ (xs : List Record). IsStored xs start) first_is starts)) found made.parts
 
         whole : IfBegunTidy old new (λ records. LegalFrom records trace)
         whole =
@@ -92,7 +93,7 @@ module _ (old new : VolumeSeen) (n : ℕ) (rs : List Record) (le : IfTold new.to
             (tidy_weaken counted_seen ((last : State) × RunsFrom (old_records first) trace last) (LegalFrom (old_records first) trace)
             (λ runs. legal_whole (old_records first) trace run.front made.count runs.0 made.entries made.known made.recorded runs.1) made.tidy)
 
-        by_trace : (es : List Entry) → AreParts (Begins old new) es → IfBegunTidy old new (λ records. LegalFrom records es) → IsLegalRun old new es
+        by_trace : (es : List Entry) → AreParts (Begins old new) (Finds old new) es → IfBegunTidy old new (λ records. LegalFrom records es) → IsLegalRun old new es
         by_trace [] parts whole = tt
         by_trace (e ∷ es) parts whole = (parts, whole)
 
@@ -141,16 +142,25 @@ module _ (old new : VolumeSeen) (n : ℕ) (rs : List Record) (le : IfTold new.to
         by_end DeviceAtOpening ends = at_opening ends
         by_end NoMemory ends = inr (run.front, run.rest, run.joined, run.made.entries)
 
-    pub end_out : ((IsFailed end) → Rose old.faults new.faults) → IsEnd old new trace end
-    end_out rose = by_end end run.ends rose
+    pub end_out : ((IsFailed end) → Rose old.faults new.faults) → IfBoth old.told new.told (λ before t. IsTidyVolume old.capacities (read_of before.first before.calls) → StaysSound new.capacities t end) → IsEnd old new trace end
+    end_out rose stays =
+        by_end end run.ends rose
+        (both_weaken (λ before t. IsTidyVolume old.capacities (read_of before.first before.calls) → StaysSound new.capacities t end) (λ before t. IsTidyVolume old.capacities (read_of before.first before.calls) → IsUndamaged end) old.told new.told
+        (λ before t keeps tidy. (keeps tidy).undamaged) stays)
       where
-        by_end : (e : RunEnd) → RunEnds (old_records first) (log_pages counted_seen.capacities) counted_seen run.front run.rest trace e → (IsFailed e → Rose old.faults new.faults) → IsEnd old new trace e
-        by_end (Whole rows) ends rose = tt
-        by_end Down ends rose = rose tt
-        by_end (Damaged set page) ends rose = (
+        untidy : (es : List Entry) → IfBoth old.told new.told (λ before t. IsTidyVolume old.capacities (read_of before.first before.calls) → ⊥) → WasUntidy old new es
+        untidy [] not = tt
+        untidy (e ∷ es) not = not
+
+        by_end : (e : RunEnd) → RunEnds (old_records first) (log_pages counted_seen.capacities) counted_seen run.front run.rest trace e → (IsFailed e → Rose old.faults new.faults)
+            → IfBoth old.told new.told (λ before t. IsTidyVolume old.capacities (read_of before.first before.calls) → IsUndamaged e) → IsEnd old new trace e
+        by_end (Whole rows) ends rose not = tt
+        by_end Down ends rose not = rose tt
+        by_end (Damaged set page) ends rose not = (
           uncounted_told (λ t. IsDamage new.capacities (read_of t.first t.calls) set page) (λ t. IsDamage new.capacities (read_of t.first t.calls) set page) new.told n le (λ t is. is) ends.1,
           uncounted_only (WritesOwn trace) old.told new.told n le calls,
           kept,
+          untidy trace not,
         )
-        by_end DeviceAtOpening ends rose = rose tt
-        by_end NoMemory ends rose = tt
+        by_end DeviceAtOpening ends rose not = rose tt
+        by_end NoMemory ends rose not = tt

@@ -8,34 +8,37 @@ use Rattle.std.specs.Option.{is_some}
 use Rattle.rg_desk.specs.Chronicle.{IsEntry, IsRecorded}
 use Rattle.rg_desk.specs.Desk.{DeskState, IsCopy, LegalFrom, old_records}
 use Rattle.rg_desk.specs.Flushed.{WritesEither}
-use Rattle.rg_desk.specs.OnVolume.{WasAllTidy}
+use Rattle.rg_desk.specs.OnVolume.{IsTidyVolume, WasAllTidy}
 use Rattle.rg_desk.specs.Stored.{IsStored}
 use Rattle.rg_desk.specs.Volume.{HasCalls, VolumeSeen}
 use Rattle.rg_desk.proofs.Leaving.{began}
-use Rattle.rg_image.specs.Rules.{IsTidyLog, limit_of}
+use Rattle.rg_image.specs.Rules.{limit_of}
 use Rattle.rg_log.specs.Kept.{log_pages}
 use Rattle.rg_model.specs.Legal.{IsActor, Legal, asks}
 use Rattle.rg_model.specs.Possible.{possible, states_before, states_from}
 use Rattle.rg_model.specs.Run.{Allows, Reopens, Run}
 use Rattle.rg_model.specs.State.{State, Table, at_rest}
 use Rattle.rg_model.proofs.RunPossible.{run_possible_start}
-use Rattle.rg_newest.specs.Tidy.{AreTidyPages, set_of}
+use Rattle.rg_newest.specs.Tidy.{set_of}
 use Rattle.rg_outside.specs.Calls.{Call, Image, Told}
 use Rattle.rg_outside.specs.Capacities.{Capacities}
 use Rattle.rg_outside.specs.Faults.{Rose}
 use Rattle.rg_outside.specs.Moments.{EachCall, IfTold, read_at}
+use Rattle.rg_outside.proofs.Every.{told_both, told_weaken}
 use Rattle.rg_outside.proofs.Frame.{calls_join, calls_weaken}
 use Rattle.rg_record.specs.declared.record.Record.{Record}
 use Rattle.rg_stmt.specs.declared.event.Entry.{Entry}
 use Rattle.rg_stmt.specs.declared.line.Line.{Line}
 use Rattle.rg_run.specs.Full.{IsFullOnlyFrom, smaller_pages}
 use Rattle.rg_run.specs.LogFull.{IsLogFullOnlyFrom}
+use Rattle.rg_run.specs.Opening.{AreOpeningsSince, IfOpened, IsOpeningThen}
 use Rattle.rg_run.specs.Outside.{IsDeviceOnlyIf, WritesOwn}
-use Rattle.rg_run.specs.Parts.{Again, AreParts, Came, Follows, Going, IfTidy, IsKnown, Made, PartRun, RunsFrom}
+use Rattle.rg_run.specs.Parts.{Again, AreParts, Came, Follows, Going, IfTidy, IsFound, IsKnown, Made, PartRun, RunsFrom}
 use Rattle.rg_run.specs.Parts.AreParts.{Next, One}
 use Rattle.rg_run.specs.Played.{Goes, TraceOf, first_of}
 use Rattle.rg_run.proofs.Fullness.{full_less}
 use Rattle.rg_run.proofs.Joins.{device_join, first_join, full_join, log_join, own_left, own_part, own_right, run_again, trace_join}
+use Rattle.rg_run.proofs.Openings.{all_join, found_by, found_on, openings_on, part_opened, parts_more}
 use Rattle.rg_run.proofs.Plays.{device_more, rose_earlier, rose_later}
 
 -- ---- tables
@@ -143,10 +146,7 @@ was_tidy K capacities before after n made has tidy =
     let was : before ≡ made.0 = cc (made.2) in
     let is : after ≡ record before { calls = made.1 ++ before.calls } = made.3 ∙ ap (λ (t : Told). let u : Told = record t { calls = made.1 ++ t.calls } in u) (sym was) in
     let same : read_at after after.start ≡ read_at before before.start = ap (λ (t : Told). read_at t t.start) is ∙ began before made.1 (omega (arith, has)) in
-    record {
-      log = subst (λ (i : Image). IsTidyLog (log_pages capacities) i) same tidy.log;
-      pages = subst (λ (i : Image). AreTidyPages capacities i) same tidy.pages;
-    }
+    subst (λ (i : Image). IsTidyVolume capacities i) same tidy
 
 tidy_calls : (K : Call → Type 0) (P : Type 0) (capacities : Capacities) (old new : Option Told) (n : ℕ) → EachCall old new K → IfTold old (λ t. t.start + n ≤ length t.calls) → IfTold old (λ t. WasAllTidy capacities t → P) → IfTold new (λ t. WasAllTidy capacities t → P)
 tidy_calls K P capacities old None n made has h = tt
@@ -166,7 +166,7 @@ made_on look first lines trace now later made n has calls le same = record {
   entries = made.entries;
   begins = made.begins;
   known = made.known;
-  parts = made.parts;
+  parts = parts_more (IsStored (old_records first)) (IsStored (old_records first)) (IsFound now) (IsFound later) trace (λ start starts. starts) (λ entry start found. found_on (WritesOwn trace) now later entry start calls same found) made.parts;
   tidy = tidy_on (WritesOwn trace) ((last : State) × RunsFrom (old_records first) trace last) now later n calls has same made.tidy;
   count = made.count;
   recorded = made.recorded;
@@ -176,6 +176,9 @@ made_on look first lines trace now later made n has calls le same = record {
   calls = calls_join (WritesOwn trace) (look first.volume).told now.told later.told made.calls calls;
   later = omega (arith, made.later, le);
   capacities = same ∙ made.capacities;
+  openings =
+      subst (λ (c : Capacities). IfTold later.told (λ t. AreOpeningsSince (log_pages c) t.start t trace)) (sym same)
+      (openings_on (WritesOwn trace) (log_pages now.capacities) now.told later.told trace calls made.openings);
 }
 
 module _ {V O : Type 0} (look : V → VolumeSeen) (first desk : DeskState V O) (lines : List Line) (going : Going look first lines desk) where
@@ -197,6 +200,23 @@ module _ {V O : Type 0} (look : V → VolumeSeen) (first desk : DeskState V O) (
 
   same_capacities : now.capacities ≡ (look base.volume).capacities
   same_capacities = goes.stays.calls.capacities
+
+  begun : first_of desk.trace ≡ Some going.opened.entry
+  begun = goes.begins ∙ ap first_of going.opened.trace
+
+  -- the one opening of the part, as it was then
+  base_opening : IfTold (look base.volume).told (λ t. AreOpeningsSince (log_pages (look base.volume).capacities) t.start t desk.trace)
+  base_opening =
+      told_weaken (λ t. IsOpeningThen (log_pages (look base.volume).capacities) t.start t going.opened.entry) (λ t. AreOpeningsSince (log_pages (look base.volume).capacities) t.start t desk.trace) (look base.volume).told
+      (λ t opening.
+      part_opened (IsOpeningThen (log_pages (look base.volume).capacities) t.start t) going.back desk.trace going.opened.entry goes.entries begun going.alive opening)
+      going.opening
+
+  -- openings up to then stay so
+  openings_now : (trace : List Entry) → IfTold (look base.volume).told (λ t. AreOpeningsSince (log_pages (look base.volume).capacities) t.start t trace) → IfTold now.told (λ t. AreOpeningsSince (log_pages now.capacities) t.start t trace)
+  openings_now trace all =
+      subst (λ (c : Capacities). IfTold now.told (λ t. AreOpeningsSince (log_pages c) t.start t trace)) (sym same_capacities)
+      (openings_on (WritesOwn desk.trace) (log_pages (look base.volume).capacities) (look base.volume).told now.told trace part_calls all)
 
   part_full : IsFullOnlyFrom (3221 * smaller_pages now.capacities) 0 desk.trace
   part_full =
@@ -240,8 +260,11 @@ module _ {V O : Type 0} (look : V → VolumeSeen) (first desk : DeskState V O) (
     abbrev trace : List Entry
     trace = base.older ++ desk.trace
 
+    starts_base : IsStored (old_records base) legal.0
+    starts_base = subst (λ (rs : List Record). IsStored rs legal.0) goes.stays.old_same legal.1
+
     starts_first : base ≡ first → IsStored (old_records first) legal.0
-    starts_first is = subst (λ (b : DeskState V O). IsStored (old_records b) legal.0) is (subst (λ (rs : List Record). IsStored rs legal.0) goes.stays.old_same legal.1)
+    starts_first is = subst (λ (b : DeskState V O). IsStored (old_records b) legal.0) is starts_base
 
     tidy_now : IfTidy now ((last : State) × RunsFrom (old_records first) trace last)
     tidy_now = tidy_weaken now (RunsFrom (old_records first) trace last) ((last : State) × RunsFrom (old_records first) trace last) (λ runs. (last, runs)) (whole_run last part)
@@ -255,7 +278,7 @@ module _ {V O : Type 0} (look : V → VolumeSeen) (first desk : DeskState V O) (
           entries = subst (TraceOf lines) only (subst (λ (ls : List Line). TraceOf ls desk.trace) (sym same) goes.entries);
           begins = ap first_of (sym only) ∙ goes.begins ∙ ap (λ (b : DeskState V O). first_of b.trace) is;
           known = subst IsKnown only (known_of legal.0 desk.trace going.back goes.entries legal.2);
-          parts = subst (AreParts (IsStored (old_records first))) only (One desk.trace legal.0 (starts_first is) legal.2);
+          parts = subst (AreParts (IsStored (old_records first)) (IsFound now)) only (One desk.trace legal.0 (starts_first is) legal.2);
           tidy = tidy_now;
           count = count;
           recorded = recorded;
@@ -265,6 +288,7 @@ module _ {V O : Type 0} (look : V → VolumeSeen) (first desk : DeskState V O) (
           calls = subst (λ (v : VolumeSeen). EachCall v.told now.told (WritesOwn trace)) volume (subst (λ (es : List Entry). EachCall (look base.volume).told now.told (WritesOwn es)) only part_calls);
           later = subst (λ (v : VolumeSeen). v.faults ≤ now.faults) volume goes.stays.calls.later;
           capacities = same_capacities ∙ ap (λ (v : VolumeSeen). v.capacities) volume;
+          openings = openings_now trace (subst (λ (es : List Entry). IfTold (look base.volume).told (λ t. AreOpeningsSince (log_pages (look base.volume).capacities) t.start t es)) only base_opening);
         }
 
     made_again : Again look first base lines going.back → Made look first lines trace now
@@ -277,7 +301,7 @@ module _ {V O : Type 0} (look : V → VolumeSeen) (first desk : DeskState V O) (
           entries = subst (λ (ls : List Line). TraceOf ls trace) (sym again.joined) (trace_join again.front going.back base.older desk.trace past.entries goes.entries);
           begins = first_join again.front base.older desk.trace past.entries ∙ past.begins;
           known = known_join base.older past.known;
-          parts = Next base.older desk.trace legal.0 past.parts legal.2;
+          parts = Next base.older desk.trace legal.0 parts_before (found_by (IsFound now) desk.trace going.opened.entry legal.0 begun (found_now going.opened.entry legal.0 (going.found legal.0 starts_base))) legal.2;
           tidy = tidy_now;
           count = count;
           recorded = recorded;
@@ -297,8 +321,22 @@ module _ {V O : Type 0} (look : V → VolumeSeen) (first desk : DeskState V O) (
               (calls_weaken (WritesOwn desk.trace) (WritesOwn trace) (look base.volume).told now.told (own_right base.older desk.trace) part_calls);
           later = omega (arith, past.later, goes.stays.calls.later);
           capacities = same_capacities ∙ past.capacities;
+          openings = openings_now trace openings_joined;
         }
       where
+        found_now : (entry : Entry) (start : Table) → IsFound (look base.volume) entry start → IsFound now entry start
+        found_now entry start found = found_on (WritesOwn desk.trace) (look base.volume) now entry start part_calls same_capacities found
+
+        parts_before : AreParts (IsStored (old_records first)) (IsFound now) base.older
+        parts_before = parts_more (IsStored (old_records first)) (IsStored (old_records first)) (IsFound (look base.volume)) (IsFound now) base.older (λ start starts. starts) found_now again.made.parts
+
+        openings_joined : IfTold (look base.volume).told (λ t. AreOpeningsSince (log_pages (look base.volume).capacities) t.start t trace)
+        openings_joined =
+            let pages = log_pages (look base.volume).capacities in
+            told_weaken (λ t. AreOpeningsSince pages t.start t base.older × AreOpeningsSince pages t.start t desk.trace) (λ t. AreOpeningsSince pages t.start t trace) (look base.volume).told
+            (λ t both. all_join (λ entry. IfOpened (IsOpeningThen pages t.start t entry) entry.event) base.older desk.trace both.0 both.1)
+            (told_both (λ t. AreOpeningsSince pages t.start t base.older) (λ t. AreOpeningsSince pages t.start t desk.trace) (look base.volume).told again.made.openings base_opening)
+
         known_join : (older : List Entry) → IsKnown older → IsKnown (older ++ desk.trace)
         known_join [] known = absurd known
         known_join (e ∷ es) known = known

@@ -3,6 +3,7 @@ pub mod Joins
 pub mod Plays
 pub mod Going
 pub mod Opening
+pub mod Openings
 pub mod Again
 pub mod Uncounted
 pub mod Between

@@ -1,26 +1,31 @@
 -- The desk of an opening.
-use Rattle.std.proofs.Common.{◌≡◌, ℕ, List, Some, length, take, refl, sym, ◌∙◌, ap, subst}
+use Rattle.std.proofs.Common.{◌≡◌, ◌+◌, ℕ, List, Some, length, take, refl, sym, ◌∙◌, ap, subst, arith}
 use Rattle.std.proofs.Math.Seq.{take-length}
 use Rattle.rg_desk.specs.Desk.{DeskState, old_records}
+use Rattle.rg_desk.specs.Stored.{IsStored}
 use Rattle.rg_desk.specs.Volume.{VolumeSeen}
+use Rattle.rg_image.specs.Log.{log_of}
 use Rattle.rg_image.specs.Meaning.{stored}
 use Rattle.rg_image.specs.Pack.{log_bytes}
 use Rattle.rg_image.specs.Rules.{HasLogPages}
+use Rattle.rg_image.proofs.Rules.{log_is_read}
 use Rattle.rg_log.specs.Kept.{Listed, log_pages}
-use Rattle.rg_model.specs.State.{row_count}
-use Rattle.rg_outside.specs.Calls.{read_of}
+use Rattle.rg_model.specs.State.{Table, row_count}
+use Rattle.rg_outside.specs.Calls.{Told, read_of}
 use Rattle.rg_outside.specs.Capacities.{Capacities}
-use Rattle.rg_outside.specs.Moments.{IfTold}
-use Rattle.rg_outside.proofs.Every.{told_weaken}
+use Rattle.rg_outside.specs.Moments.{IfTold, read_at}
+use Rattle.rg_outside.proofs.Every.{told_both, told_weaken}
+use Rattle.rg_outside.proofs.Run.{moment_now}
 use Rattle.rg_record.specs.declared.record.Record.{Record}
 use Rattle.rg_restart.specs.Opening.{OpensStored}
-use Rattle.rg_restart.specs.Pages.{copy_of}
-use Rattle.rg_restart.specs.Sound.{IsSoundBy}
+use Rattle.rg_sound.specs.Pages.{copy_of}
+use Rattle.rg_sound.specs.Sound.{IsSoundBy}
 use Rattle.rg_restart.proofs.Beginning.{stored_more}
 use Rattle.rg_stmt.specs.Entries.{opened_entry}
 use Rattle.rg_stmt.specs.declared.event.Entry.{Entry}
 use Rattle.rg_run.specs.Played.{IsOpened, first_of}
-use Rattle.rg_run.specs.Table.{IsOpeningOf}
+use Rattle.rg_run.specs.Opening.{IsOpeningOf, IsOpeningThen, ReadSo}
+use Rattle.rg_run.specs.Parts.{IsFound}
 
 module _ {V O : Type 0} (look : V → VolumeSeen) (old : VolumeSeen) (operator : O) (desk : DeskState V O) (opens : OpensStored look old operator desk) where
   -- entry 0
@@ -67,3 +72,29 @@ module _ {V O : Type 0} (look : V → VolumeSeen) (old : VolumeSeen) (operator :
   read_first_log =
       told_weaken (λ t. IsSoundBy (look desk.volume).capacities (read_of t.first t.calls) opens.log.records opens.base) (λ t. HasLogPages (log_pages old.capacities) (read_of t.first t.calls) opens.log.records) (look desk.volume).told
       (λ t sound. subst (λ (c : Capacities). HasLogPages (log_pages c) (read_of t.first t.calls) opens.log.records) opens.calls.capacities sound.log.pages) opens.sound
+
+  -- what holds of the log that was read holds of it as it reads after the calls of the entry
+  reads_then : (P : List Record → Type 0) → P opens.log.records → IfTold (look desk.volume).told (λ t. ReadSo (λ i. P (log_of (log_pages (look desk.volume).capacities) i)) t.start opens.opens.calls t)
+  reads_then P p =
+      subst (λ (c : Capacities). IfTold (look desk.volume).told (λ t. ReadSo (λ i. P (log_of (log_pages c) i)) t.start opens.opens.calls t)) (sym opens.calls.capacities)
+      (told_weaken (λ t. (length t.calls ≡ t.start + opens.opens.calls) × HasLogPages (log_pages old.capacities) (read_of t.first t.calls) opens.log.records)
+      (λ t. ReadSo (λ i. P (log_of (log_pages old.capacities) i)) t.start opens.opens.calls t) (look desk.volume).told
+      (λ t reads. by_moment (log_pages old.capacities) t reads.0 reads.1)
+      (told_both (λ t. length t.calls ≡ t.start + opens.opens.calls) (λ t. HasLogPages (log_pages old.capacities) (read_of t.first t.calls) opens.log.records) (look desk.volume).told opens.opens.counted read_first_log))
+    where
+      by_moment : (pages : ℕ) (t : Told) → length t.calls ≡ t.start + opens.opens.calls → HasLogPages pages (read_of t.first t.calls) opens.log.records → ReadSo (λ i. P (log_of pages i)) t.start opens.opens.calls t
+      by_moment pages t is has =
+          let now : read_at t (t.start + opens.opens.calls) ≡ read_of t.first t.calls = ap (read_at t) (sym is) ∙ ap (λ (u : Told). read_of u.first u.calls) (moment_now t) in
+          let log : log_of pages (read_at t (t.start + opens.opens.calls)) ≡ opens.log.records = ap (log_of pages) now ∙ log_is_read pages (read_of t.first t.calls) opens.log.records has in
+          (omega (arith, is), subst P (sym log) p)
+
+  -- the entry is that of the log as it reads now
+  pub opening_then : IfTold (look desk.volume).told (λ t. IsOpeningThen (log_pages (look desk.volume).capacities) t.start t opened_first.entry)
+  unfolding opened_first
+  opening_then = reads_then (λ rs. IsOpeningOf rs entry_zero) opening_first
+
+  -- the table is the one that this log stores
+  pub found_first : (start : Table) → IsStored (old_records desk) start → IsFound (look desk.volume) opened_first.entry start
+  unfolding opened_first
+  found_first start starts =
+      reads_then (λ rs. IsStored rs start) (λ k. subst (λ (rs : List Record). IsStored rs start) old_first starts k ∙ stores_first k)

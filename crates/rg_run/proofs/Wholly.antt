@@ -1,7 +1,7 @@
 -- A run over a counted volume, and the same of the volume below.
-use Rattle.std.proofs.Common.{◌≡◌, ◌≤◌, ◌+◌, ◌-◌, ◌*◌, inl, ℕ, List, [], Option, None, Some, length, drop, refl, sym, ◌∙◌, ap, subst, arith}
+use Rattle.std.proofs.Common.{◌≡◌, ◌≤◌, ◌+◌, ◌-◌, ◌*◌, inl, ℕ, List, [], ◌∷◌, Option, None, Some, length, drop, refl, sym, ◌∙◌, ap, subst, arith}
 use Rattle.rg_desk.specs.Desk.{DeskState, old_records}
-use Rattle.rg_desk.specs.OnVolume.{GoesOnTidy, WasAllTidy}
+use Rattle.rg_desk.specs.OnVolume.{GoesOnTidy, IsSoundTidy, IsTidyVolume, WasAllTidy}
 use Rattle.rg_desk.specs.Chronicle.{IsRecorded}
 use Rattle.rg_desk.specs.Volume.{HasCalls, VolumeSeen, WasTidy, seen_volume}
 use Rattle.rg_desk.specs.declared.desk.OpenCause.{OpenCause}
@@ -10,30 +10,30 @@ use Rattle.rg_image.specs.Meaning.{stored}
 use Rattle.rg_image.specs.Rules.{HasLogPages, IsTidyLog, limit_of}
 use Rattle.rg_log.specs.Kept.{log_pages}
 use Rattle.rg_log.specs.Open.{IsQuiet}
-use Rattle.rg_newest.specs.Tidy.{AreTidyPages}
 use Rattle.rg_outside.specs.Calls.{Told, read_of}
 use Rattle.rg_outside.specs.Capacities.{Capacities}
 use Rattle.rg_outside.specs.Counts.{CountedCalls, counted}
 use Rattle.rg_outside.specs.Faults.{Rose}
-use Rattle.rg_outside.specs.Moments.{EachCall, IfTold}
+use Rattle.rg_outside.specs.Moments.{EachCall, EachImage, IfTold}
 use Rattle.rg_outside.proofs.Frame.{calls_join, calls_weaken}
 use Rattle.rg_restart.specs.Opening.{IsCause, IsRefused, OpensStored}
-use Rattle.rg_restart.specs.Pages.{copy_of}
+use Rattle.rg_sound.specs.Pages.{copy_of}
 use Rattle.rg_restart.specs.Sound.{IsDamage}
 use Rattle.rg_stmt.specs.declared.event.Entry.{Entry}
 use Rattle.rg_stmt.specs.declared.line.Line.{Line}
 use Rattle.rg_run.specs.Full.{IsFullOnlyFrom, smaller_pages}
 use Rattle.rg_run.specs.LogFull.{IsLogFullOnlyFrom}
 use Rattle.rg_run.specs.Outside.{IfBoth, IsDeviceOnlyIf, IsEnd, MakesOnly, WritesOwn, end_of, log_at}
-use Rattle.rg_run.specs.Parts.{Going, IsRun}
-use Rattle.rg_run.specs.Table.{Ends, IsLegalRun, IsOpening}
+use Rattle.rg_run.specs.Opening.{AreOpeningsSince}
+use Rattle.rg_run.specs.Parts.{Going, IsRun, StaysSound}
+use Rattle.rg_run.specs.Table.{AreOpenings, Ends, IsLegalRun, IsOpening, KeepsSound}
 use Rattle.rg_run.specs.declared.played.RunEnd.{RunEnd}
 use Rattle.rg_run.proofs.Again.{count_has}
-use Rattle.rg_run.proofs.Between.{read_out}
+use Rattle.rg_run.proofs.Between.{both_weaken, read_out, since_out, sound_out}
 use Rattle.rg_run.proofs.Ending.{end_out, ends_out, legal_out, opening_out}
 use Rattle.rg_run.proofs.Fullness.{smaller_least}
 use Rattle.rg_run.proofs.Joins.{own_quiet}
-use Rattle.rg_run.proofs.Opening.{copy_first, entry_first, entry_zero, old_first, opened_first, opening_first, pages_first, read_first_log, stores_first}
+use Rattle.rg_run.proofs.Opening.{copy_first, entry_first, entry_zero, found_first, old_first, opened_first, opening_first, opening_then, pages_first, read_first_log, stores_first}
 use Rattle.rg_run.proofs.Plays.{device_more, goes_opened, rose_wider}
 use Rattle.rg_run.proofs.Uncounted.{counted_calls, uncounted_only, uncounted_told}
 
@@ -42,10 +42,12 @@ pub record Whole (old new : VolumeSeen) (lines : List Line) (trace : List Entry)
   pub ends : Ends old new lines trace end
   pub legal : IsLegalRun old new trace
   pub opening : IsOpening old new trace
+  pub openings : AreOpenings old new trace
   pub full : IsFullOnlyFrom (3221 * smaller_pages old.capacities) 0 trace
   pub log_full : IsLogFullOnlyFrom (limit_of (log_pages old.capacities)) 0 trace
   pub device : IsDeviceOnlyIf (Rose old.faults new.faults) trace
   pub is_end : IsEnd old new trace end
+  pub sound : KeepsSound old new trace
   pub only : MakesOnly (WritesOwn trace) old.told new.told
   pub later : old.faults ≤ new.faults
 
@@ -62,12 +64,12 @@ module _ {V : Type 0} (told : V → Option Told) (faults : V → ℕ) (capacitie
   pub begun_tidy : (begun : CountedCalls V) → begun ≡ record { volume = volume; calls = 0 } → GoesOnTidy (look begun)
   begun_tidy begun is = subst (λ (x : CountedCalls V). GoesOnTidy (look x)) (sym is) (go (told volume))
     where
-      go : (o : Option Told) → IfTold (counted o 0) (λ t. (t.start ≤ length t.calls) × (WasTidy (log_pages (capacities volume)) t → IsTidyLog (log_pages (capacities volume)) (read_of t.first t.calls)) × (WasAllTidy (capacities volume) t → AreTidyPages (capacities volume) (read_of t.first t.calls)))
+      go : (o : Option Told) → IfTold (counted o 0) (λ t. (t.start ≤ length t.calls) × (WasTidy (log_pages (capacities volume)) t → IsTidyLog (log_pages (capacities volume)) (read_of t.first t.calls)) × (WasAllTidy (capacities volume) t → IsTidyVolume (capacities volume) (read_of t.first t.calls)))
       go None = tt
       go (Some t) = (
         omega arith,
         λ tidy. subst (λ (k : ℕ). IsTidyLog (log_pages (capacities volume)) (read_of t.first (drop k t.calls))) (none_left (length t.calls)) tidy,
-        λ tidy. subst (λ (k : ℕ). AreTidyPages (capacities volume) (read_of t.first (drop k t.calls))) (none_left (length t.calls)) tidy.pages,
+        λ tidy. subst (λ (k : ℕ). IsTidyVolume (capacities volume) (read_of t.first (drop k t.calls))) (none_left (length t.calls)) tidy,
       )
         where
           none_left : (k : ℕ) → k - (k - 0) ≡ 0
@@ -100,10 +102,12 @@ module _ {V : Type 0} (told : V → Option Told) (faults : V → ℕ) (capacitie
       ends = by_end cause;
       legal = tt;
       opening = opens old.told new.told;
+      openings = opens old.told new.told;
       full = tt;
       log_full = tt;
       device = tt;
       is_end = end_is cause refused.because;
+      sound = tt;
       only = only;
       later = omega (arith, begun_faults, refused.calls.later);
     })
@@ -128,6 +132,7 @@ module _ {V : Type 0} (told : V → Option Told) (faults : V → ℕ) (capacitie
           uncounted_told (λ t. IsDamage new.capacities (read_of t.first t.calls) set page) (λ t. IsDamage new.capacities (read_of t.first t.calls) set page) new.told n le (λ t is. is) because,
           only,
           kept,
+          tt,
         )
         end_is causes.Device because = subst (λ (k : ℕ). Rose k new.faults) begun_faults because
         end_is causes.NoMemory because = tt
@@ -171,6 +176,15 @@ module _ {V : Type 0} (told : V → Option Told) (faults : V → ℕ) (capacitie
         wider : Rose (look desk.volume).faults new.faults → Rose old.faults new.faults
         wider rose = rose_wider (look desk.volume).faults new.faults old.faults new.faults (omega (arith, begun_faults, opens.calls.later)) (omega arith) rose
 
+        stays : IfBoth old.told new.told (λ before t. IsTidyVolume old.capacities (read_of before.first before.calls) → StaysSound new.capacities t end)
+        stays = sound_out (WritesOwn trace) old.capacities new.capacities ended.calls end old.told new.told kept le made run_seen.sound
+
+        by_trace : (es : List Entry) → KeepsSound old new es
+        by_trace [] = tt
+        by_trace (e ∷ es) =
+            both_weaken (λ before t. IsTidyVolume old.capacities (read_of before.first before.calls) → StaysSound new.capacities t end)
+            (λ before t. IsTidyVolume old.capacities (read_of before.first before.calls) → EachImage (IsSoundTidy new.capacities) t) old.told new.told (λ before t keeps tidy. (keeps tidy).images) stays
+
         pub whole_run : Whole old new lines trace end
         whole_run = record {
           ends = ends_out old new ended.calls opens.log.records le read opens.now.records now_same look desk lines operator_left trace end had kept made run_seen;
@@ -178,10 +192,14 @@ module _ {V : Type 0} (told : V → Option Told) (faults : V → ℕ) (capacitie
           opening =
               opening_out old new ended.calls opens.log.records le read opens.now.records now_same trace (entry_zero look (look begun) operator desk opens)
               (run.made.begins ∙ entry_first look (look begun) operator desk opens) (opening_first look (look begun) operator desk opens);
+          openings =
+              since_out (WritesOwn trace) (λ start t. AreOpeningsSince (log_pages old.capacities) start t trace) ended.calls old.told new.told (λ start count t all. all) le made
+              (subst (λ (c : Capacities). IfTold (counted new.told ended.calls) (λ t. AreOpeningsSince (log_pages c) t.start t trace)) kept run_seen.made.openings);
           full = subst (λ (c : Capacities). IsFullOnlyFrom (3221 * smaller_pages c) 0 trace) kept run_seen.made.full;
           log_full = subst (λ (c : Capacities). IsLogFullOnlyFrom (limit_of (log_pages c)) 0 trace) kept run_seen.made.log_full;
           device = device_more (Rose (look desk.volume).faults new.faults) (Rose old.faults new.faults) trace wider run_seen.made.device;
-          is_end = end_out old new ended.calls opens.log.records le read opens.now.records now_same look desk lines operator_left trace end had kept made run_seen (λ failed. wider (run_seen.failed failed));
+          is_end = end_out old new ended.calls opens.log.records le read opens.now.records now_same look desk lines operator_left trace end had kept made run_seen (λ failed. wider (run_seen.failed failed)) stays;
+          sound = by_trace trace;
           only = uncounted_only (WritesOwn trace) old.told new.told ended.calls le made;
           later = omega (arith, begun_faults, opens.calls.later, run_seen.made.later);
         }
@@ -199,6 +217,9 @@ module _ {V : Type 0} (told : V → Option Told) (faults : V → ℕ) (capacitie
         goes = goes_opened look desk opened;
         opened = opened;
         copy_is = copy_first look (look begun) operator desk opens;
+        opening = opening_then look (look begun) operator desk opens;
+        found = found_first look (look begun) operator desk opens;
+        alive = tt;
         counted = count_has (look desk.volume).told opens.opens.calls opens.opens.counted;
         room = omega (arith, capacity, least, ap smaller_pages same);
         log_room = pages_first look (look begun) operator desk opens ∙ ap log_pages (sym same);

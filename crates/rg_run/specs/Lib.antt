@@ -1,5 +1,6 @@
 pub mod Full
 pub mod LogFull
+pub mod Opening
 pub mod Outside
 pub mod Played
 pub mod Parts

@@ -4,11 +4,13 @@
 --    device brought about.
 -- 2. An opening writes nothing. After it no page is written but those of the log and of the copy
 --    that was opened.
--- 3. What is said of a known volume's contents holds while its calls are fewer than 2 ^ 64 - 1, for
+-- 3. If the volume read tidy when a run began, no opening finds damage but the first one.
+-- 4. What is said of a known volume's contents holds while its calls are fewer than 2 ^ 64 - 1, for
 --    so many can be counted.
 use Rattle.std.specs.Prelude.{◌≡◌, ◌⊎◌, ◌<◌, ◌-◌, ◌^◌, ◌++◌, ℕ, List, [], ◌∷◌, Option, Some, length}
 use Rattle.std.specs.List.{AllByRecursion}
 use Rattle.rg_desk.specs.Flushed.{WritesEither}
+use Rattle.rg_desk.specs.OnVolume.{IsTidyVolume}
 use Rattle.rg_desk.specs.Volume.{VolumeSeen}
 use Rattle.rg_desk.specs.declared.desk.OpenCause.{OpenCause}
 use Rattle.rg_desk.specs.declared.desk.OpenCause.TheVariants as causes
@@ -80,6 +82,13 @@ end_of (causes.Damaged set page) = Damaged set page
 end_of causes.Device = DeviceAtOpening
 end_of causes.NoMemory = NoMemory
 
+-- where there is an entry, the volume did not read tidy when the run began
+abbrev pub WasUntidy : (old new : VolumeSeen) → List Entry → Type 0
+WasUntidy old new [] = Unit {0}
+WasUntidy old new (entry ∷ entries) =
+    IfBoth old.told new.told (λ before t.
+    IsTidyVolume old.capacities (read_of before.first before.calls) → ⊥)
+
 -- Why a run with this trace ended so: a page breaks a rule of a sound volume, or a call of the
 -- volume failed.
 abbrev pub IsEnd : (old new : VolumeSeen) → List Entry → RunEnd → Type 0
@@ -88,5 +97,6 @@ IsEnd old new trace Down = Rose old.faults new.faults
 IsEnd old new trace (Damaged set page) =
     IfCounted new.told (λ t. IsDamage new.capacities (read_of t.first t.calls) set page)
     × MakesOnly (WritesOwn trace) old.told new.told × (new.capacities ≡ old.capacities)
+    × WasUntidy old new trace
 IsEnd old new trace DeviceAtOpening = Rose old.faults new.faults
 IsEnd old new trace NoMemory = Unit {0}

@@ -1,14 +1,15 @@
 -- A run over the deaths of its process.
 --
 -- 1. A trace is in parts: each begins with an opening, and the process died before the next one.
--- 2. Each part is legal from some table, and the first part from the one that the log stored when
---    the run began.
+-- 2. The first part is legal from the table that the log stored when the run began, and each later
+--    one from the table that it stored as the volume read at the opening of the part.
 -- 3. Where the volume is known and read tidy then, an opening finds what process death leaves of
 --    the part before. So the whole trace is legal from that table.
 use Rattle.std.specs.Prelude.{◌≡◌, ◌≤◌, ◌*◌, ◌⊎◌, ◌++◌, ℕ, Bool, true, false, List, [], ◌∷◌}
+use Rattle.std.specs.List.{AllByRecursion}
 use Rattle.rg_desk.specs.Chronicle.{IsRecorded}
 use Rattle.rg_desk.specs.Desk.{DeskState, IsCopy, LegalFrom, old_records}
-use Rattle.rg_desk.specs.OnVolume.{WasAllTidy}
+use Rattle.rg_desk.specs.OnVolume.{IsSoundTidy, WasAllTidy}
 use Rattle.rg_desk.specs.Stored.{IsStored}
 use Rattle.rg_desk.specs.Volume.{HasCalls, VolumeSeen, WasTidy}
 use Rattle.rg_image.specs.Log.{log_of}
@@ -18,7 +19,8 @@ use Rattle.rg_model.specs.Committed.{committed_table}
 use Rattle.rg_model.specs.Legal.{Legal}
 use Rattle.rg_model.specs.Run.{Reopens, Run}
 use Rattle.rg_model.specs.State.{State, Table, at_rest, row_count}
-use Rattle.rg_outside.specs.Calls.{read_of}
+use Rattle.rg_outside.specs.Calls.{Told, read_of}
+use Rattle.rg_outside.specs.Capacities.{Capacities}
 use Rattle.rg_outside.specs.Faults.{Rose}
 use Rattle.rg_outside.specs.Moments.{EachCall, EachImage, IfTold}
 use Rattle.rg_record.specs.declared.record.Record.{Record}
@@ -28,16 +30,30 @@ use Rattle.rg_stmt.specs.declared.line.Line.{Line}
 use Rattle.rg_stmt.specs.declared.line.Line.TheVariants.{Death}
 use Rattle.rg_run.specs.Full.{IsFullOnlyFrom, smaller_pages}
 use Rattle.rg_run.specs.LogFull.{IsLogFullOnlyFrom}
+use Rattle.rg_run.specs.Opening.{AreOpeningsSince, IsFoundThen, IsOpeningThen}
 use Rattle.rg_run.specs.Outside.{IsDeviceOnlyIf, WritesOwn}
 use Rattle.rg_run.specs.Played.{Goes, IsOpened, IsOpenedEntry, TraceOf, first_of}
 use Rattle.rg_run.specs.declared.played.RunEnd.{RunEnd}
 use Rattle.rg_run.specs.declared.played.RunEnd.TheVariants.{Whole, Down, Damaged, DeviceAtOpening, NoMemory}
 
--- parts of a trace, each legal from some table, and the first from one of these
-pub data AreParts (First : Table → Type 0) : List Entry → Type 0 where
-  One : (part : List Entry) (start : Table) → First start → Legal start part → AreParts First part
-  Next : (before part : List Entry) (start : Table) → AreParts First before → Legal start part
-      → AreParts First (before ++ part)
+-- the table is the one that the first of these entries found
+abbrev pub IsFoundBy : (Found : Entry → Table → Type 0) → List Entry → Table → Type 0
+IsFoundBy Found [] start = ⊥
+IsFoundBy Found (entry ∷ entries) start = Found entry start
+
+-- parts of a trace: the first is legal from one of these tables, each later one from the table that
+-- its first entry found
+pub data AreParts (First : Table → Type 0) (Found : Entry → Table → Type 0)
+    : List Entry → Type 0 where
+  One : (part : List Entry) (start : Table) → First start → Legal start part
+      → AreParts First Found part
+  Next : (before part : List Entry) (start : Table) → AreParts First Found before
+      → IsFoundBy Found part start → Legal start part → AreParts First Found (before ++ part)
+
+-- the table is the one that the log stored as the volume read at the entry of an opening
+abbrev pub IsFound : VolumeSeen → Entry → Table → Type 0
+IsFound seen entry table =
+    IfTold seen.told (λ t. IsFoundThen (log_pages seen.capacities) t.start t entry table)
 
 -- it leads to this state from the table that these records store
 pub record RunsFrom (old : List Record) (trace : List Entry) (last : State) : Type 0 where
@@ -71,13 +87,26 @@ pub record PartRun {V O : Type 0} (desk : DeskState V O) (last : State) : Type 0
   pub starts : IsStored (old_records desk) start
   pub run : Run [] (at_rest start desk.copy) desk.trace last
 
+-- no opening of the run found damage
+abbrev pub IsUndamaged : RunEnd → Type 0
+IsUndamaged (Damaged set page) = ⊥
+IsUndamaged (Whole rows) = Unit {0}
+IsUndamaged Down = Unit {0}
+IsUndamaged DeviceAtOpening = Unit {0}
+IsUndamaged NoMemory = Unit {0}
+
+-- whatever a crash leaves of the volume is sound and tidy, and no opening found damage
+pub record StaysSound (capacities : Capacities) (t : Told) (end : RunEnd) : Type 0 where
+  pub images : EachImage (IsSoundTidy capacities) t
+  pub undamaged : IsUndamaged end
+
 -- what a run has made so far of some first lines, since its first opening
 pub record Made {V O : Type 0} (look : V → VolumeSeen) (first : DeskState V O) (lines : List Line)
     (trace : List Entry) (now : VolumeSeen) : Type 0 where
   pub entries : TraceOf lines trace
   pub begins : first_of trace ≡ first_of first.trace
   pub known : IsKnown trace
-  pub parts : AreParts (IsStored (old_records first)) trace
+  pub parts : AreParts (IsStored (old_records first)) (IsFound now) trace
   pub tidy : IfTidy now ((last : State) × RunsFrom (old_records first) trace last)
   pub count : ℕ
   pub recorded : IsRecorded trace count
@@ -87,6 +116,8 @@ pub record Made {V O : Type 0} (look : V → VolumeSeen) (first : DeskState V O)
   pub calls : EachCall (look first.volume).told now.told (WritesOwn trace)
   pub later : (look first.volume).faults ≤ now.faults
   pub capacities : now.capacities ≡ (look first.volume).capacities
+  pub openings :
+      IfTold now.told (λ t. AreOpeningsSince (log_pages now.capacities) t.start t trace)
 
 -- the entries of a desk are legal and lead to a last state, and all of them can be those of a trace
 pub record LeavesRun {V O : Type 0} (desk : DeskState V O) (trace : List Entry) : Type 0 where
@@ -111,6 +142,11 @@ abbrev pub Came :
 Came look first base lines back =
     ((base ≡ first) × (first.older ≡ []) × (lines ≡ back)) ⊎ Again look first base lines back
 
+-- the process does not die in this line
+abbrev pub IsAlive : Line → Type 0
+IsAlive Death = ⊥
+IsAlive line = Unit {0}
+
 -- a run of some first lines, which led to this desk
 pub record Going {V O : Type 0} (look : V → VolumeSeen) (first : DeskState V O)
     (lines : List Line) (desk : DeskState V O) : Type 0 where
@@ -119,6 +155,13 @@ pub record Going {V O : Type 0} (look : V → VolumeSeen) (first : DeskState V O
   pub goes : Goes look base back desk
   pub opened : IsOpened base
   pub copy_is : opened.is.copy ≡ base.copy
+  pub opening :
+      IfTold (look base.volume).told
+      (λ t. IsOpeningThen (log_pages (look base.volume).capacities) t.start t opened.entry)
+  pub found :
+      (start : Table) → IsStored (old_records base) start
+      → IsFound (look base.volume) opened.entry start
+  pub alive : AllByRecursion IsAlive back
   pub counted : HasCalls (look base.volume) 0
   pub room : smaller_pages (look base.volume).capacities ≤ base.ground.capacity
   pub log_room : base.ground.log.pages ≡ log_pages (look base.volume).capacities
@@ -191,4 +234,6 @@ pub record IsRun {V O : Type 0}
   pub made : Made look first front trace seen
   pub ends : RunEnds (old_records first) (log_pages seen.capacities) seen front rest trace end
   pub failed : IsFailed end → Rose (look first.volume).faults seen.faults
+  pub sound :
+      IfTold seen.told (λ t. WasAllTidy seen.capacities t → StaysSound seen.capacities t end)
   pub asked : operator ≡ first.operator

@@ -2,32 +2,32 @@
 --
 -- 1. The table at the opening is the one that the log stored as it read when the run began, and
 --    entry 0 has its copy, its pages, its rows, and the bytes of the log that are used.
--- 2. If the volume read tidy when the run began, the whole trace is legal from that table, over the
+-- 2. So has each later opening, of the log as the volume read at its entry's number of calls.
+-- 3. If the volume read tidy when the run began, the whole trace is legal from that table, over the
 --    deaths of its process. Else this holds of the part before the first death, and each later part
---    is legal from the table that its opening found.
--- 3. A run that ends up leaves a volume that stores the committed rows of its last state, whatever
+--    is legal from the table that the log stored as the volume read at its opening.
+-- 4. A run that ends up leaves a volume that stores the committed rows of its last state, whatever
 --    a crash leaves then, if the log read tidy when the run began.
--- 4. All of this is said of a known volume while its calls can be counted.
-use Rattle.std.specs.Prelude.{◌≡◌, ◌≤◌, ◌+◌, ◌⊎◌, ◌++◌, ℕ, Bool, true, false, List, [], ◌∷◌}
+-- 5. If the volume read tidy when the run began, whatever a crash leaves of it at the end is sound
+--    and tidy, once an opening has succeeded.
+-- 6. All of this is said of a known volume while its calls can be counted.
+use Rattle.std.specs.Prelude.{◌≡◌, ◌⊎◌, ◌++◌, ℕ, Bool, true, false, List, [], ◌∷◌, length}
 use Rattle.rg_desk.specs.Desk.{LegalFrom}
+use Rattle.rg_desk.specs.OnVolume.{IsSoundTidy, IsTidyVolume}
 use Rattle.rg_desk.specs.Stored.{IsStored}
 use Rattle.rg_desk.specs.Volume.{VolumeSeen}
 use Rattle.rg_image.specs.Log.{log_of}
-use Rattle.rg_image.specs.Meaning.{current_of}
-use Rattle.rg_image.specs.Pack.{log_bytes}
-use Rattle.rg_image.specs.Rules.{IsTidyLog, owed}
+use Rattle.rg_image.specs.Rules.{IsTidyLog}
 use Rattle.rg_log.specs.Kept.{log_pages}
 use Rattle.rg_model.specs.Committed.{committed_table}
 use Rattle.rg_model.specs.Run.{Run}
 use Rattle.rg_model.specs.State.{State, Table, at_rest, row_count}
-use Rattle.rg_newest.specs.Tidy.{AreTidyPages}
-use Rattle.rg_outside.specs.Calls.{Image, read_of}
-use Rattle.rg_outside.specs.Capacities.{Capacities}
+use Rattle.rg_outside.specs.Calls.{read_of}
 use Rattle.rg_outside.specs.Moments.{EachImage}
 use Rattle.rg_record.specs.declared.record.Record.{Record}
-use Rattle.rg_stmt.specs.Entries.{opened_entry}
 use Rattle.rg_stmt.specs.declared.event.Entry.{Entry}
 use Rattle.rg_stmt.specs.declared.line.Line.{Line}
+use Rattle.rg_run.specs.Opening.{AreOpeningsSince, IsFoundThen, IsOpeningOf}
 use Rattle.rg_run.specs.Outside.{IfBoth, log_at}
 use Rattle.rg_stmt.specs.declared.line.Line.TheVariants.{Death}
 use Rattle.rg_run.specs.Parts.{AreParts, DiesIn, RunsFrom}
@@ -40,11 +40,6 @@ abbrev pub Begins : (old new : VolumeSeen) → Table → Type 0
 Begins old new start =
     IfBoth old.told new.told (λ before t. IsStored (log_at (log_pages old.capacities) before) start)
 
--- the volume reads tidy: its log, and the pages past those of its copy
-pub record IsTidyVolume (capacities : Capacities) (i : Image) : Type 0 where
-  pub log : IsTidyLog (log_pages capacities) i
-  pub pages : AreTidyPages capacities i
-
 -- the log as it read then, of a volume that read tidy
 abbrev pub IfBegunTidy : (old new : VolumeSeen) → (List Record → Type 0) → Type 0
 IfBegunTidy old new P =
@@ -52,26 +47,19 @@ IfBegunTidy old new P =
     IsTidyVolume old.capacities (read_of before.first before.calls)
     → P (log_at (log_pages old.capacities) before))
 
--- Each part is legal from some table, and the first from that one. If the volume read tidy, the
--- whole trace is legal from it.
+-- the table is the one that the log stored as the volume read at the entry of an opening
+abbrev pub Finds : (old new : VolumeSeen) → Entry → Table → Type 0
+Finds old new entry table =
+    IfBoth old.told new.told (λ before t.
+    IsFoundThen (log_pages old.capacities) (length before.calls) t entry table)
+
+-- The first part is legal from that table, and each later part from the one that its opening found.
+-- If the volume read tidy, the whole trace is legal from the first table.
 abbrev pub IsLegalRun : (old new : VolumeSeen) → List Entry → Type 0
 IsLegalRun old new [] = Unit {0}
 IsLegalRun old new (entry ∷ entries) =
-    AreParts (Begins old new) (entry ∷ entries)
+    AreParts (Begins old new) (Finds old new) (entry ∷ entries)
     × IfBegunTidy old new (λ records. LegalFrom records (entry ∷ entries))
-
--- The entry of the opening of a log with these records. The bytes that are used are those of the
--- records, and at most what ending all open units may take.
-pub record IsOpeningOf (records : List Record) (entry : Entry) : Type 0 where
-  pub start : Table
-  pub starts : IsStored records start
-  pub used : ℕ
-  pub is :
-      entry
-      ≡ opened_entry (current_of records).copy (row_count start) (current_of records).pages used
-      entry.calls
-  pub least : log_bytes records ≤ used
-  pub most : used ≤ log_bytes records + owed records
 
 -- entry 0 is that of the opening of this log, if there is an entry
 abbrev pub OpensLog : List Record → List Entry → Type 0
@@ -83,6 +71,12 @@ abbrev pub IsOpening : (old new : VolumeSeen) → List Entry → Type 0
 IsOpening old new trace =
     IfBoth old.told new.told
     (λ before t. OpensLog (log_at (log_pages old.capacities) before) trace)
+
+-- each opening is that of the log as the volume read then: entry 0, and each entry after a death
+abbrev pub AreOpenings : (old new : VolumeSeen) → List Entry → Type 0
+AreOpenings old new trace =
+    IfBoth old.told new.told (λ before t.
+    AreOpeningsSince (log_pages old.capacities) (length before.calls) t trace)
 
 -- The last part leads to this state, which is up or down. If the process does not die in these
 -- lines, the trace has no other part, and it does so from that table. If the volume read tidy, the
@@ -99,6 +93,15 @@ pub record EndsAt (old new : VolumeSeen) (lines : List Line) (trace : List Entry
   pub alone : (before ≡ []) ⊎ DiesIn lines
   pub whole : before ≡ [] → Begins old new start
   pub tidy : IfBegunTidy old new (λ records. RunsFrom records trace last)
+
+-- Where there is an entry the first opening succeeded. If the volume read tidy when the run began,
+-- whatever a crash leaves of it at the end is sound and tidy.
+abbrev pub KeepsSound : (old new : VolumeSeen) → List Entry → Type 0
+KeepsSound old new [] = Unit {0}
+KeepsSound old new (entry ∷ entries) =
+    IfBoth old.told new.told (λ before t.
+    IsTidyVolume old.capacities (read_of before.first before.calls)
+    → EachImage (IsSoundTidy new.capacities) t)
 
 -- a state that is up, with so many committed rows, which whatever a crash leaves stores
 pub record EndsWhole (old new : VolumeSeen) (lines : List Line) (trace : List Entry) (rows : ℕ)

@@ -9,6 +9,7 @@ ghost use Rattle.std.specs.Prelude.{◌≡◌, ◌≤◌, ◌*◌, List, [], ◌
 ghost use Rattle.std.specs.List.{AllByRecursion};
 ghost use Rattle.rg_stmt.specs.declared.line.Line.{Line};
 ghost use Rattle.rg_desk.specs.Desk.{DeskState};
+ghost use Rattle.rg_desk.specs.OnVolume.{LeavesSoundIfTidy};
 ghost use Rattle.rg_desk.specs.Volume.{seen_volume};
 ghost use Rattle.rg_outside.specs.Faults.{Rose};
 ghost use Rattle.rg_outside.specs.Moments.{IfTold};
@@ -19,7 +20,7 @@ ghost use Rattle.rg_run.specs.LogFull.{IsLogFullOnlyFrom};
 ghost use Rattle.rg_run.specs.Outside.{IsDeviceOnlyIf, IsEnd, MakesOnly, WritesOwn, end_of};
 ghost use Rattle.rg_run.specs.Parts.{Going, IsRun, LeavesRun};
 ghost use Rattle.rg_run.specs.Played.{IsPlayed};
-ghost use Rattle.rg_run.specs.Table.{Ends, IsLegalRun, IsOpening};
+ghost use Rattle.rg_run.specs.Table.{AreOpenings, Ends, IsLegalRun, IsOpening, KeepsSound};
 
 use crate::played::{Played, RunEnd};
 use rg_base::no_memory::NoMemory;
@@ -50,6 +51,8 @@ pub fn run<V: Volume, O: Operator>(
         (seen_volume V.told V.faults V.capacities result.volume) result.trace.items }
     ensures opening { IsOpening (seen_volume V.told V.faults V.capacities volume)
         (seen_volume V.told V.faults V.capacities result.volume) result.trace.items }
+    ensures openings { AreOpenings (seen_volume V.told V.faults V.capacities volume)
+        (seen_volume V.told V.faults V.capacities result.volume) result.trace.items }
     ensures full { IsFullOnlyFrom (3221 * smaller_pages (V.capacities volume)) 0
         result.trace.items }
     ensures log_full { IsLogFullOnlyFrom (limit_of (log_pages (V.capacities volume))) 0
@@ -58,6 +61,8 @@ pub fn run<V: Volume, O: Operator>(
         result.trace.items }
     ensures end { IsEnd (seen_volume V.told V.faults V.capacities volume)
         (seen_volume V.told V.faults V.capacities result.volume) result.trace.items result.end }
+    ensures sound { KeepsSound (seen_volume V.told V.faults V.capacities volume)
+        (seen_volume V.told V.faults V.capacities result.volume) result.trace.items }
     // No page is written but those of the log and of the copies that were opened.
     ensures only { MakesOnly (WritesOwn result.trace.items) (V.told volume)
         (V.told result.volume) }
@@ -131,6 +136,7 @@ fn close<V: Counts, O: Operator>(desk: Desk<V, O>, end: RunEnd) -> Played<V, O>
     ensures trace { result.trace.items ≡ desk.older ++ desk.trace }
     ensures end { result.end ≡ end }
     ensures left { LeavesRun desk result.trace.items }
+    ensures sound { LeavesSoundIfTidy (seen_volume V.told V.faults V.capacities desk.volume) }
     ensures volume { result.volume ≡ desk.volume }
     ensures operator { result.operator ≡ desk.operator }
 {

@@ -5,8 +5,8 @@ use Rattle.rg_outside.specs.Calls.{read_of}
 use Rattle.rg_outside.specs.Moments.{IfTold}
 use Rattle.rg_log.proofs.Opening.{only_read}
 use Rattle.rg_page.specs.Content.{Content}
-use Rattle.rg_restart.specs.Data.{IsUntaken, MarksPages, TakesPages}
-use Rattle.rg_restart.proofs.Reading.{base_more, first_broken, marks_more, takes_more, taken_fits}
+use Rattle.rg_restart.specs.Data.{AreTakenAsIs, IsUntaken, MarksPages, TakesPages}
+use Rattle.rg_restart.proofs.Reading.{as_is_more, base_more, first_broken, marks_more, takes_more, taken_fits}
 use Rattle.rg_restart.proofs.data.read_pages.Goals as goal
 
 pub returns-in_default-clause-only : goal.returns-in_default-clause-only
@@ -49,6 +49,9 @@ loop-before-preserved g c =
       later = omega (arith, c.loop-before.invariant.later, c.read.ensures.cause.later);
       only = only_read _ _ _ _ c.loop-before.invariant.only c.read.ensures.made;
       base = base_more c.args.copy c.args.last c.loop-before.before old new page c.loop-before.invariant.base (taken_fits _ _ _ _ _ _ taken).0 (taken_fits _ _ _ _ _ _ taken).3 pages c.push.ensures.reserved c.push.ensures.copy_same;
+      as_is =
+          subst (AreTakenAsIs c.args.copy c.args.switch) (sym pages)
+          (as_is_more c.args.copy c.args.last c.args.switch c.loop-before.before _ old.pages.items page c.loop-before.invariant.base.count_is c.loop-before.invariant.as_is taken);
       takes =
           subst (λ (xs : List Content). IfTold (g.V.Volume.told c.read.new.self) (λ t. TakesPages c.args.copy c.args.last c.args.switch c.args.set (c.loop-before.before + 1) (read_of t.first t.calls) xs)) (sym pages)
           (takes_more (g.V.Volume.told c.read.new.self) c.args.copy c.args.last c.args.switch c.args.set c.loop-before.before c.read.new.into old.pages.items page

@@ -2,7 +2,7 @@ use Rattle.std.proofs.Common.{◌≡◌, ◌≤◌}
 use Rattle.rg_log.specs.Open.{IsQuiet}
 use Rattle.rg_outside.specs.Calls.{read_of}
 use Rattle.rg_outside.specs.Moments.{EachCall, IfTold}
-use Rattle.rg_restart.specs.Data.{AreBase, MarksPages, TakesPages}
+use Rattle.rg_restart.specs.Data.{AreBase, AreTakenAsIs, MarksPages, TakesPages}
 use Rattle.rg_restart.proofs.data.read_pages.Given as goal
 
 abbrev pub invariant-loop-before : goal.invariant-loop-before
@@ -11,6 +11,7 @@ invariant-loop-before g l = record {
   later : g.V.Volume.faults l.fn.volume ≤ g.V.Volume.faults l.volume;
   only : EachCall (g.V.Volume.told l.fn.volume) (g.V.Volume.told l.volume) IsQuiet;
   base : AreBase l.fn.copy l.fn.last l.before l.frames;
+  as_is : AreTakenAsIs l.fn.copy l.fn.switch l.frames.pages.items;
   takes : IfTold (g.V.Volume.told l.volume) (λ t. TakesPages l.fn.copy l.fn.last l.fn.switch l.fn.set l.before (read_of t.first t.calls) l.frames.pages.items);
   marked : IfTold (g.V.Volume.told l.volume) (λ t. MarksPages l.fn.copy l.fn.last l.fn.switch l.fn.set l.before (read_of t.first t.calls) l.marks.items);
 }

@@ -13,11 +13,13 @@ use Rattle.rg_tested.specs.Ties.{IsTiedAt}
 use Rattle.rg_unended.specs.Unended.{open_in}
 use Rattle.rg_unended.proofs.Opens.{owed_listed}
 use Rattle.rg_space.specs.Memory.{space_pages}
-use Rattle.rg_restart.specs.Closed.{ClosedAll, Closes, IsLacking, TookBack, lefts_of}
+use Rattle.rg_sound.specs.Closing.{closed_log}
+use Rattle.rg_sound.specs.Left.{IsLacking, lefts_of}
+use Rattle.rg_restart.specs.Closed.{ClosedAll, Closes, TookBack}
 use Rattle.rg_rebuilt.specs.Rebuilt.{AreSoundPages}
 use Rattle.rg_restart.specs.Found.{IsUndone, Refuses}
-use Rattle.rg_restart.specs.Pages.{BreaksSlots, Ties}
-use Rattle.rg_restart.specs.Pages.BreaksSlots.{Lacking, Untied}
+use Rattle.rg_sound.specs.Pages.{BreaksSlots, Ties}
+use Rattle.rg_sound.specs.Pages.BreaksSlots.{Lacking, Untied}
 use Rattle.rg_restart.proofs.Finding.{looked_same, proper_of, ties_by, undone_is}
 use Rattle.rg_restart.proofs.Staying.{stay_join, stay_looked}
 use Rattle.rg_restart.proofs.find.close_open.Goals as goal
@@ -87,4 +89,5 @@ returns-clause-ok c =
       capacity_is = closed.undid.capacity ∙ c.in-Ok-None.ensures.left.capacity;
       took = subst (λ (n : ℕ). TookBack (open_in rs) n c.args.log.now c.close_units.new.log) (owed_listed (greatest_tran rs) rs) closed.took;
       idle = c.in-Ok-None-close_units.ensures.idle;
+      records = closed.records ∙ ap (λ (ps : List (List Slot)). closed_log rs ps) same.slots;
     }

@@ -2,6 +2,7 @@ use Rattle.std.proofs.Common.{◌≡◌, ℕ, List, length, take, refl, sym, ◌
 use Rattle.std.proofs.lemmas.List.{length-map, take-append-le}
 use Rattle.std.proofs.lemmas.Result.{err_from_is_err_and}
 use Rattle.std.proofs.Math.Seq.{take-length}
+use Rattle.rg_desk.specs.Newest.{HasNewest}
 use Rattle.rg_home.specs.Slot.{Slot}
 use Rattle.rg_newest.specs.Tidy.{opened_epoch}
 use Rattle.rg_page.specs.Content.{Content}
@@ -9,8 +10,8 @@ use Rattle.rg_record.specs.declared.record.Record.{Record}
 use Rattle.rg_space.specs.Memory.{list_seen, space_pages}
 use Rattle.rg_space.specs.Space.{frames_of}
 use Rattle.rg_restart.specs.Found.{IsClosed, IsGrown, Refuses}
-use Rattle.rg_restart.specs.Pages.{BreaksFit, BreaksRows, BreaksRule, BreaksSlots, CanClose, IsMatched, undone_from, undone_of}
-use Rattle.rg_restart.specs.Pages.BreaksRule.{OnParts, OnSlots, OnRows}
+use Rattle.rg_sound.specs.Pages.{BreaksFit, BreaksRows, BreaksRule, BreaksSlots, CanClose, IsMatched, undone_from, undone_of}
+use Rattle.rg_sound.specs.Pages.BreaksRule.{OnParts, OnSlots, OnRows}
 use Rattle.rg_restart.proofs.Finding.{finds, rebuilt_slots, refuses_map, same_join}
 use Rattle.rg_restart.proofs.Staying.{redo_newest}
 use Rattle.rg_restart.proofs.find.find.Goals as goal
@@ -66,13 +67,14 @@ returns-clause-found c =
     let undone = c.in_ok-close_open.ensures.ok.undone in
     let now = c.close_open.new.log in
     let read = front c.records.result.now rs now.records c.records.ensures.records undone.grown in
-    finds base c.args.read.marks.items c.args.log now c.args.chain.now c.args.capacity (space_pages c.in_ok-space.space) c.close_open.new.space c.indexes_of.new.space
-    (record { log = now; space = c.indexes_of.new.space; copy = c.copy-copy.result; indexes = c.in-Ok.indexes; top = c.greatest.result.0; marks = c.args.read.marks }) c.requires.may rebuilt.fit c.requires.base.count_is
+    let newest : HasNewest (opened_epoch rs base) rs c.in_ok-space.space = redo_newest rs c.args.read.frames c.requires.base c.requires.may.positions c.requires.may.can c.in_ok-space.space rebuilt c.in_ok-space.ensures.copy in
+    finds base c.args.read.marks.items c.args.log now c.args.chain.now c.args.capacity (space_pages c.in_ok-space.space) (list_seen (frames_of c.in_ok-space.space)) c.close_open.new.space c.indexes_of.new.space
+    (record { log = now; space = c.indexes_of.new.space; copy = c.copy-copy.result; indexes = c.in-Ok.indexes; top = c.greatest.result.0; marks = c.args.read.marks }) c.requires.may refl rebuilt.count_is newest.pages c.records-2.ensures.entries rebuilt.fit c.requires.base.count_is
     (rebuilt_slots base rs c.in_ok-space.space rebuilt)
     (length-map (list_seen (frames_of c.in_ok-space.space)).pages (λ (x : Content). x.slots) ∙ rebuilt.count_is ∙ c.requires.base.count_is)
     (subst (λ (n : ℕ). IsClosed (space_pages c.in_ok-space.space) c.args.log n c.close_open.new.space now) c.in_ok-space.ensures.ok.1 c.in_ok-close_open.ensures.ok)
     (subst (λ (xs : List Record). IsMatched xs (space_pages c.close_open.new.space)) read c.in_ok-match_stored.ensures.matched) c.in_ok-match_stored.ensures.stores
     (same_join c.close_open.new.space c.match_stored.new.space c.indexes_of.new.space c.in_ok-match_stored.ensures.same c.in-Ok.ensures.same)
     c.in-Ok.ensures.listings
-    (c.in_ok-close_open.ensures.newest (opened_epoch rs base) (redo_newest rs c.args.read.frames c.requires.base c.requires.may.positions c.requires.may.can c.in_ok-space.space rebuilt c.in_ok-space.ensures.copy))
+    (c.in_ok-close_open.ensures.newest (opened_epoch rs base) newest)
     refl refl c.copy-copy.ensures c.greatest.ensures refl

@@ -16,8 +16,8 @@ use Rattle.rg_tested.specs.Places.{IsLeastBreach}
 use Rattle.rg_tested.specs.StoredRows.{Stands}
 use Rattle.rg_space.specs.Memory.{space_pages}
 use Rattle.rg_restart.specs.Found.{Refuses}
-use Rattle.rg_restart.specs.Pages.{BreaksRows}
-use Rattle.rg_restart.specs.Pages.BreaksRows.{Missing, Strange, Twin}
+use Rattle.rg_sound.specs.Pages.{BreaksRows}
+use Rattle.rg_sound.specs.Pages.BreaksRows.{Missing, Strange, Twin}
 use Rattle.rg_restart.proofs.Beginning.{stored_more}
 use Rattle.rg_restart.proofs.Finding.{looked_same}
 use Rattle.rg_restart.proofs.Matching.{all_placed, all_there, alone_by, missing_row, missing_there, strange_at}

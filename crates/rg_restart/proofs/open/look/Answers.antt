@@ -12,11 +12,13 @@ use Rattle.rg_record.specs.declared.record.Record.{Record}
 use Rattle.rg_tested.proofs.Says.{ok_map}
 use Rattle.rg_restart.specs.Found.{Finds, Refuses}
 use Rattle.rg_restart.specs.Opening.{IsRefused, Looks}
-use Rattle.rg_restart.specs.Pages.{copy_of, count_of, set_of}
-use Rattle.rg_restart.specs.Data.{AreBase, switch_of}
-use Rattle.rg_restart.specs.Pages.{BreaksRule}
-use Rattle.rg_restart.specs.Sound.{MarksBase, TakesBase}
-use Rattle.rg_restart.proofs.Looking.{breaks_log, data_refused, fault_by, log_refused, looks, marks_by, may_find, rule_refused, takes_by}
+use Rattle.rg_sound.specs.Pages.{copy_of, count_of, set_of}
+use Rattle.rg_restart.specs.declared.data.LastSwitch.{LastSwitch}
+use Rattle.rg_restart.specs.Data.{AreBase, AreTakenAsIs, switch_of}
+use Rattle.rg_sound.specs.Pages.{BreaksRule}
+use Rattle.rg_sound.specs.Sound.{TakesBase}
+use Rattle.rg_restart.specs.Sound.{MarksBase}
+use Rattle.rg_restart.proofs.Looking.{breaks_log, data_refused, fault_by, log_refused, looks, marks_by, may_find, rule_refused, takes_by, takes_told}
 use Rattle.rg_restart.proofs.Reading.{copy_within}
 use Rattle.rg_restart.proofs.open.look.Goals as goal
 
@@ -91,8 +93,12 @@ returns-clause-looks g c =
     let kept = c.in_ok-chain.ensures.kept.current in
     let copy : c.copy-copy.result ≡ copy_of rs = c.copy-copy.ensures ∙ ap (λ (now : Current). now.copy) kept in
     let takes : IfTold (g.V.Volume.told c.read_pages.new.volume) (λ t. TakesBase rs (read_of t.first t.calls) base) =
-    takes_by _ _ _ _ _ _ _ _ _ _ (g.V.Volume.told c.read_pages.new.volume) base copy (ap (λ (xs : List Record). length xs) c.records.ensures.records) (c.switch_of-switch.ensures ∙ ap switch_of c.records-2.ensures.records) (c.set_of.ensures ∙ ap set_of copy)
-    (c.pages-count.ensures ∙ ap (λ (now : Current). now.pages) kept) c.in_ok-read.ensures.takes in
+    takes_told rs (g.V.Volume.told c.read_pages.new.volume) base
+    (takes_by _ _ _ _ _ _ _ _ _ _ (g.V.Volume.told c.read_pages.new.volume) base copy (ap (λ (xs : List Record). length xs) c.records.ensures.records) (c.switch_of-switch.ensures ∙ ap switch_of c.records-2.ensures.records) (c.set_of.ensures ∙ ap set_of copy)
+    (c.pages-count.ensures ∙ ap (λ (now : Current). now.pages) kept) c.in_ok-read.ensures.takes) in
+    let as_is : AreTakenAsIs (copy_of rs) (switch_of rs) base =
+    subst (λ (k : ℕ). AreTakenAsIs k (switch_of rs) base) copy
+    (subst (λ (s : LastSwitch). AreTakenAsIs c.copy-copy.result s base) (c.switch_of-switch.ensures ∙ ap switch_of c.records-2.ensures.records) c.in_ok-read.ensures.as_is) in
     let marks = c.in_ok-read.read.marks.items in
     let marked : IfTold (g.V.Volume.told c.read_pages.new.volume) (λ t. MarksBase rs (read_of t.first t.calls) marks) =
     marks_by _ _ _ _ _ _ _ _ _ _ (g.V.Volume.told c.read_pages.new.volume) marks copy (ap (λ (xs : List Record). length xs) c.records.ensures.records) (c.switch_of-switch.ensures ∙ ap switch_of c.records-2.ensures.records) (c.set_of.ensures ∙ ap set_of copy)
@@ -103,7 +109,7 @@ returns-clause-looks g c =
     c.in_ok-chain.ensures.chain c.in_ok-chain.ensures.space new c.read_pages.ensures.only c.read_pages.ensures.capacities c.read_pages.ensures.later base takes
     found marks c.copy_pages-capacity.result
     (c.copy_pages-capacity.ensures ∙ ap (copy_capacity (g.V.Volume.capacities c.read_pages.new.volume)) copy) finds c.requires c.in-Ok.ensures.leaves
-    c.in-Ok.ensures.state.0 c.in_ok-chain.ensures.covers.can c.in-Ok.ensures.sure (g.met.V.Volume.told_capacities c.read_pages.new.volume) marked)
+    c.in-Ok.ensures.state.0 c.in_ok-chain.ensures.covers.can as_is c.in-Ok.ensures.sure (g.met.V.Volume.told_capacities c.read_pages.new.volume) marked)
     c.find.ensures.found
 
 pub returns-clause-refused : goal.returns-clause-refused
@@ -116,8 +122,9 @@ returns-clause-refused g c =
     let kept = c.in_ok-chain.ensures.kept.current in
     let copy : c.copy-copy.result ≡ copy_of rs = c.copy-copy.ensures ∙ ap (λ (now : Current). now.copy) kept in
     let takes : IfTold (g.V.Volume.told c.read_pages.new.volume) (λ t. TakesBase rs (read_of t.first t.calls) base) =
-    takes_by _ _ _ _ _ _ _ _ _ _ (g.V.Volume.told c.read_pages.new.volume) base copy (ap (λ (xs : List Record). length xs) c.records.ensures.records) (c.switch_of-switch.ensures ∙ ap switch_of c.records-2.ensures.records) (c.set_of.ensures ∙ ap set_of copy)
-    (c.pages-count.ensures ∙ ap (λ (now : Current). now.pages) kept) c.in_ok-read.ensures.takes in
+    takes_told rs (g.V.Volume.told c.read_pages.new.volume) base
+    (takes_by _ _ _ _ _ _ _ _ _ _ (g.V.Volume.told c.read_pages.new.volume) base copy (ap (λ (xs : List Record). length xs) c.records.ensures.records) (c.switch_of-switch.ensures ∙ ap switch_of c.records-2.ensures.records) (c.set_of.ensures ∙ ap set_of copy)
+    (c.pages-count.ensures ∙ ap (λ (now : Current). now.pages) kept) c.in_ok-read.ensures.takes) in
     err_map c.find.result (Refuses (BreaksRule base rs)) (IsRefused old new)
     (λ cause breaks.
     rule_refused old mid c.in-Ok.log (record { only = c.open_log.ensures.only; later = c.open_log.ensures.later; capacities = c.open_log.ensures.capacities }) c.in-Ok.ensures.state.2 c.in-Ok.ensures.log

@@ -45,7 +45,7 @@ returns-then-down g c =
     let played = c.close.result in
     subst (λ (end : RunEnd). IsRun look c.args.desk lines (look played.volume) played.operator played.trace.items end) (sym left.end)
     (subst (λ (ls : List Line). IsRun look c.args.desk ls (look played.volume) played.operator played.trace.items Down) all
-    (ends_down look c.args.desk desk c.loop-line.yielded c.loop-line.invariant.going played.trace.items left.trace left.left (look played.volume) (ap look left.volume) played.operator left.operator down (c.down.ensures.ends down)))
+    (ends_down look c.args.desk desk c.loop-line.yielded c.loop-line.invariant.going played.trace.items left.trace left.left left.sound (look played.volume) (ap look left.volume) played.operator left.operator down (c.down.ensures.ends down)))
 
 pub returns : goal.returns
 returns g c =
@@ -58,4 +58,4 @@ returns g c =
     let rows = c.committed_rows-rows.result in
     subst (λ (end : RunEnd). IsRun look c.args.desk lines (look played.volume) played.operator played.trace.items end) (sym left.end)
     (subst (λ (ls : List Line). IsRun look c.args.desk ls (look played.volume) played.operator played.trace.items (Whole rows)) all
-    (ends_up look c.args.desk desk c.loop-line.yielded c.loop-line.invariant.going played.trace.items left.trace left.left (look played.volume) (ap look left.volume) played.operator left.operator rows c.committed_rows-rows.ensures))
+    (ends_up look c.args.desk desk c.loop-line.yielded c.loop-line.invariant.going played.trace.items left.trace left.left left.sound (look played.volume) (ap look left.volume) played.operator left.operator rows c.committed_rows-rows.ensures))

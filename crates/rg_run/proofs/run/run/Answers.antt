@@ -56,6 +56,9 @@ returns-in-Ok-clause-legal g c = (played g c).legal
 pub returns-in-Ok-clause-opening : goal.returns-in-Ok-clause-opening
 returns-in-Ok-clause-opening g c = (played g c).opening
 
+pub returns-in-Ok-clause-openings : goal.returns-in-Ok-clause-openings
+returns-in-Ok-clause-openings g c = (played g c).openings
+
 pub returns-in-Ok-clause-full : goal.returns-in-Ok-clause-full
 returns-in-Ok-clause-full g c = (played g c).full
 
@@ -67,6 +70,9 @@ returns-in-Ok-clause-device g c = (played g c).device
 
 pub returns-in-Ok-clause-end : goal.returns-in-Ok-clause-end
 returns-in-Ok-clause-end g c = (played g c).is_end
+
+pub returns-in-Ok-clause-sound : goal.returns-in-Ok-clause-sound
+returns-in-Ok-clause-sound g c = (played g c).sound
 
 pub returns-in-Ok-clause-only : goal.returns-in-Ok-clause-only
 returns-in-Ok-clause-only g c = (played g c).only
@@ -83,6 +89,9 @@ returns-in-Err-clause-legal g c = (not_opened g c).legal
 pub returns-in-Err-clause-opening : goal.returns-in-Err-clause-opening
 returns-in-Err-clause-opening g c = (not_opened g c).opening
 
+pub returns-in-Err-clause-openings : goal.returns-in-Err-clause-openings
+returns-in-Err-clause-openings g c = (not_opened g c).openings
+
 pub returns-in-Err-clause-full : goal.returns-in-Err-clause-full
 returns-in-Err-clause-full g c = (not_opened g c).full
 
@@ -94,6 +103,9 @@ returns-in-Err-clause-device g c = (not_opened g c).device
 
 pub returns-in-Err-clause-end : goal.returns-in-Err-clause-end
 returns-in-Err-clause-end g c = (not_opened g c).is_end
+
+pub returns-in-Err-clause-sound : goal.returns-in-Err-clause-sound
+returns-in-Err-clause-sound g c = (not_opened g c).sound
 
 pub returns-in-Err-clause-only : goal.returns-in-Err-clause-only
 returns-in-Err-clause-only g c = (not_opened g c).only

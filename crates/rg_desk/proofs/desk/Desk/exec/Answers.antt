@@ -7,10 +7,14 @@ use Rattle.rg_desk.specs.Answers.{IfFull, IfLogFull, forces, is_device}
 use Rattle.rg_desk.specs.Chronicle.{allowed_by, logged_by}
 use Rattle.rg_desk.specs.Room.{SaysLog, SaysRoom}
 use Rattle.rg_desk.specs.Flushed.{CallsOwn}
+use Rattle.rg_desk.specs.OnVolume.{SoundThroughout}
 use Rattle.rg_desk.specs.Volume.{seen_volume}
-use Rattle.rg_desk.specs.Desk.{old_records}
+use Rattle.rg_desk.specs.Desk.{KeepsRows, old_records}
+use Rattle.rg_desk.specs.Left.{StoresDuring}
 use Rattle.rg_desk.proofs.DeskGoes.{desk_replied, desk_room, desk_shown, old_same, replied}
 use Rattle.rg_desk.proofs.Flushing.{own_calls}
+use Rattle.rg_desk.proofs.Rows.{replied_rows}
+use Rattle.rg_desk.proofs.Sounding.{replied_sound}
 use Rattle.rg_desk.proofs.desk.Desk.exec.Goals as goal
 
 pub reply_to-reply-requires-clause-shown : goal.reply_to-reply-requires-clause-shown
@@ -33,6 +37,7 @@ returns-clause-made g c =
     let stmt = c.args.stmt in
     let volume = c.reply_to-reply.new.volume in
     let calls = c.calls_now-calls.result in
+    let look = seen_volume g.V.Volume.told g.V.Volume.faults g.V.Volume.capacities in
     let said = replied inside.engine inside.chronicle inside.copy inside.down _ _ c.self.invariant session stmt reply c.reply_to-reply.new.engine c.reply_to-reply.new.down _ c.reply_to-reply.ensures in
     let trace = c.make_room.ensures.trace ∙ ap (λ d. d.trace) c.self.view_is in
     record {
@@ -54,6 +59,16 @@ returns-clause-made g c =
       full = subst (λ d. IfFull reply (allowed_by 0 d.trace) d.ground.capacity) c.self.view_is said.full;
       log = subst (λ d. SaysLog d.ground session.0 stmt reply) c.self.view_is said.log;
       log_full = subst (λ d. IfLogFull reply (logged_by 0 d.trace) d.ground.log.pages) c.self.view_is said.log_full;
+      sound = subst (λ d. SoundThroughout (seen_volume g.V.Volume.told g.V.Volume.faults g.V.Volume.capacities d.volume) (seen_volume g.V.Volume.told g.V.Volume.faults g.V.Volume.capacities volume)) c.self.view_is
+          (replied_sound inside.engine inside.chronicle inside.copy inside.down _ _ c.self.invariant session stmt reply c.reply_to-reply.new.engine c.reply_to-reply.new.down _ c.reply_to-reply.ensures c.records.ensures.entries c.records.ensures.set);
+      rows = subst (λ d. KeepsRows look d (λ st. StoresDuring (forces d.ground.units session stmt) st session) (look volume)) c.self.view_is
+          (record {
+            start = c.self.invariant.start;
+            starts = c.self.invariant.starts;
+            last = c.self.invariant.state;
+            run = c.self.invariant.run;
+            stored = replied_rows inside.engine inside.chronicle inside.copy inside.down _ _ c.self.invariant session stmt reply c.reply_to-reply.new.engine c.reply_to-reply.new.down _ c.reply_to-reply.ensures c.records.ensures.entries c.records.ensures.set;
+          });
       stays = record {
         older = c.push.ensures.older ∙ c.make_room.ensures.older ∙ ap (λ d. d.older) c.self.view_is;
         capacity = said.capacity ∙ ap (λ d. d.ground.capacity) c.self.view_is;

@@ -2,11 +2,15 @@ use Rattle.std.proofs.Common.{◌≡◌, ◌≤◌, ℕ, List, [], ◌∷◌, �
 use Rattle.rg_log.specs.Kept.{Listed}
 use Rattle.rg_stmt.specs.declared.event.Entry.{Entry}
 use Rattle.rg_desk.specs.Chronicle.{system_entry}
-use Rattle.rg_desk.specs.Desk.{old_records}
+use Rattle.rg_desk.specs.Desk.{KeepsRows, old_records}
 use Rattle.rg_desk.specs.Flushed.{CallsOwn, FlushIs}
+use Rattle.rg_desk.specs.Left.{StoresLeft}
+use Rattle.rg_desk.specs.OnVolume.{SoundThroughout}
 use Rattle.rg_desk.specs.Volume.{seen_volume}
 use Rattle.rg_desk.proofs.DeskFlush.{desk_flushed, flush_told}
 use Rattle.rg_desk.proofs.DeskGoes.{desk_room}
+use Rattle.rg_desk.proofs.Rows.{flushed_rows}
+use Rattle.rg_desk.proofs.Sounding.{flushed_sound}
 use Rattle.rg_desk.proofs.desk.Desk.flush_one.Goals as goal
 
 pub invariant_of-self-2 : goal.invariant_of-self-2
@@ -43,6 +47,16 @@ returns-clause-made g c =
       further = subst (λ d. d.ground.log.forced ≤ next.log.forced) c.self.view_is told.further;
       contents = told.contents ∙ ap (λ d. d.contents) c.self.view_is;
       down = ap (λ d. d.down) c.self.view_is;
+      sound = subst (λ d. SoundThroughout (look d.volume) after) c.self.view_is
+          (flushed_sound inside.engine inside.chronicle inside.copy inside.down inside.marks.items marks (look inside.volume) after c.self.invariant event next c.tell_flush-event.ensures c.records.ensures.entries c.records.ensures.set);
+      rows = subst (λ d. KeepsRows look d StoresLeft after) c.self.view_is
+          (record {
+            start = c.self.invariant.start;
+            starts = c.self.invariant.starts;
+            last = c.self.invariant.state;
+            run = c.self.invariant.run;
+            stored = flushed_rows inside.engine inside.chronicle inside.copy inside.down inside.marks.items marks (look inside.volume) after c.self.invariant event next c.tell_flush-event.ensures c.records.ensures.entries c.records.ensures.set;
+          });
       stays = record {
         older = c.push.ensures.older ∙ c.make_room.ensures.older ∙ ap (λ d. d.older) c.self.view_is;
         capacity = told.capacity ∙ ap (λ d. d.ground.capacity) c.self.view_is;

@@ -1,12 +1,12 @@
 use Rattle.std.proofs.Common.{subst}
 use Rattle.rg_desk.specs.Desk.{LeavesTable, LegalFrom, old_records}
 use Rattle.rg_desk.specs.Left.{StoresLeft}
-use Rattle.rg_desk.specs.OnVolume.{GoesOnTidy, LeavesCopyIfTidy}
+use Rattle.rg_desk.specs.OnVolume.{GoesOnTidy, LeavesCopyIfTidy, LeavesSoundIfTidy}
 use Rattle.rg_desk.specs.Volume.{seen_volume}
 use Rattle.rg_desk.proofs.Death.{desk_left}
 use Rattle.rg_desk.proofs.DeskGoes.{desk_legal}
 use Rattle.rg_desk.proofs.Exits.{on_images}
-use Rattle.rg_desk.proofs.Reopening.{copy_leaves, reopens}
+use Rattle.rg_desk.proofs.Reopening.{copy_leaves, reopens, sound_leaves}
 use Rattle.rg_desk.proofs.desk.Desk.into_parts.Goals as goal
 
 pub returns-clause-legal : goal.returns-clause-legal
@@ -26,6 +26,12 @@ returns-clause-copy g c =
     let desk = c.self.invariant in
     subst (λ d. LeavesCopyIfTidy (seen_volume g.V.Volume.told g.V.Volume.faults g.V.Volume.capacities d.volume) d.copy) c.self.view_is
     (copy_leaves desk.is_on.epoch c.self.inside.copy c.self.inside.engine.log c.self.inside.engine.space _ _ desk.is_on.is_on desk.pages c.records.ensures.entries c.records.ensures.set desk.leaves)
+
+pub returns-clause-sound : goal.returns-clause-sound
+returns-clause-sound g c =
+    let desk = c.self.invariant in
+    subst (λ d. LeavesSoundIfTidy (seen_volume g.V.Volume.told g.V.Volume.faults g.V.Volume.capacities d.volume)) c.self.view_is
+    (sound_leaves desk.is_on.epoch c.self.inside.copy c.self.inside.engine.log c.self.inside.engine.space _ _ desk.is_on.is_on desk.pages c.records.ensures.entries c.records.ensures.set desk.leaves)
 
 pub returns-clause-left : goal.returns-clause-left
 returns-clause-left g c =

@@ -1,15 +1,23 @@
-use Rattle.std.proofs.Common.{List, Option, length, refl, sym, ◌∙◌, ap, subst, arith}
+use Rattle.std.proofs.Common.{ℕ, List, Option, length, refl, sym, ◌∙◌, ap, subst, arith}
 use Rattle.rg_base.specs.declared.position.Position.{Position}
 use Rattle.rg_image.specs.Pack.{log_bytes}
+use Rattle.rg_home.specs.Pages.{slot_of}
+use Rattle.rg_lawful.specs.Lawful.{AllBelow}
 use Rattle.rg_log.specs.Kept.{Listed}
+use Rattle.rg_outside.proofs.Every.{told_weaken}
 use Rattle.rg_record.specs.declared.record.Record.{Record}
 use Rattle.rg_space.specs.Space.{capacity_in}
 use Rattle.rg_desk.specs.Bytes.{taken_of}
 use Rattle.rg_space.specs.Memory.{space_pages}
-use Rattle.rg_desk.specs.OnVolume.{IsOnVolume}
+use Rattle.rg_desk.specs.Engine.{slots_in}
+use Rattle.rg_desk.specs.OnVolume.{IsOnVolume, WasAllTidy}
+use Rattle.rg_desk.specs.Reopens.{IsCleanIn}
+use Rattle.rg_desk.specs.Units.{trans_of}
 use Rattle.rg_desk.specs.Stored.{IsStored}
 use Rattle.rg_desk.specs.Volume.{LeavesIfTidy, seen_volume}
 use Rattle.rg_desk.proofs.DeskGoes.{desk_opened}
+use Rattle.rg_desk.proofs.Members.{trans_only}
+use Rattle.rg_desk.proofs.Reopens.{idle_names}
 use Rattle.rg_desk.proofs.desk.Desk.new.Goals as goal
 
 pub invariant_of-result : goal.invariant_of-result
@@ -26,6 +34,11 @@ invariant_of-result g c =
     (subst (λ (ms : List (Option Position)). IsOnVolume found.copy c.in-Ok.engine.log c.in-Ok.engine.space ms seen) (ap (λ v. v.items) (sym c.in-Ok.ensures.marks))
     (subst (λ sp. IsOnVolume found.copy c.in-Ok.engine.log sp found.marks.items seen) (sym b.space)
     (subst (λ (l : Listed). IsOnVolume found.copy l found.space found.marks.items seen) (sym b.log) c.requires.is_on)))
+    (told_weaken (λ t. WasAllTidy seen.capacities t → AllBelow found.top (slot_of (space_pages found.space))) (λ t. WasAllTidy seen.capacities t → IsCleanIn c.in-Ok.engine) seen.told
+    (λ t h tidy. record {
+      names = idle_names (trans_of c.in-Ok.engine.units) (slot_of (slots_in c.in-Ok.engine)) (λ u l. let has = trans_only c.in-Ok.engine.units u l in absurd (cc (has.has, b.idle has.session)));
+      below = subst (λ (top : ℕ). AllBelow top (slot_of (slots_in c.in-Ok.engine))) (sym b.top) (subst (λ sp. AllBelow found.top (slot_of (space_pages sp))) (sym b.space) (h tidy));
+    }) c.requires.below)
     b.few b.trace b.at c.calls_now-now.ensures.counted b.recorded
 
 pub returns-in-Ok-clause-opens : goal.returns-in-Ok-clause-opens

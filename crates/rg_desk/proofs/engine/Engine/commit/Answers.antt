@@ -3,11 +3,15 @@ use Rattle.std.specs.FinMap as fin
 use Rattle.rg_claim.specs.declared.claims.Claims.{Claims}
 use Rattle.rg_model.specs.Committed.{locks_without}
 use Rattle.rg_log.specs.Kept.{LeavesLog, Listed}
+use Rattle.std.specs.Option.{is_some}
 use Rattle.rg_stmt.specs.declared.stmt.Reply.TheVariants.{Device, Done}
+use Rattle.rg_stmt.specs.declared.stmt.Stmt.TheVariants.{Commit}
 use Rattle.rg_desk.specs.Ended.{commit_record, records_committed}
 use Rattle.rg_desk.specs.Stored.{IsSettled}
 use Rattle.rg_desk.specs.Units.{owed_to, unit_at}
+use Rattle.rg_desk.specs.Volume.{Leaves, seen_volume}
 use Rattle.rg_desk.specs.declared.engine.Engine.{Engine}
+use Rattle.rg_desk.proofs.Answering.{asks_nothing}
 use Rattle.rg_desk.proofs.CommitShows.{commit_goes}
 use Rattle.rg_desk.proofs.Forcing.{forced_asks}
 use Rattle.rg_desk.proofs.Locked.{commit_fails, has_unit, no_unit}
@@ -55,6 +59,14 @@ returns-in-Err-clause-steps g c = λ st allowed shows.
     commit_fails st allowed d c.args.session shows unit.0 unit.1 _ c.log_commit.new.self (omega (arith, c.requires.session.most)) c.log_commit.ensures c.force.ensures.further refl
     (ap (λ (l : Listed). l.records) c.force.ensures.kept) (ap (λ (l : Listed). l.reserved) c.force.ensures.kept) (ap (λ (l : Listed). l.pages) c.force.ensures.kept) refl
 
+pub returns-then-is_none-clause-asks : goal.returns-then-is_none-clause-asks
+returns-then-is_none-clause-asks g c =
+    let d = c.args.self.now in
+    let seen = seen_volume g.V.Volume.told g.V.Volume.faults g.V.Volume.capacities c.args.volume.now in
+    let log = c.end.ensures.log in
+    asks_nothing d.units c.args.session Commit Done d.log c.end.new.self.log seen (ap is_some (no_unit (unit_at d.units c.args.session.0) _ (sym c.get.ensures) c.is_none.ensures c.if-is_none.true)) (λ e. cc (e))
+    (omega (arith, ap (λ (l : Listed). l.forced) log)) (subst (Leaves seen) (sym log))
+
 pub returns-in-Ok-clause-asks : goal.returns-in-Ok-clause-asks
 returns-in-Ok-clause-asks g c =
     let d = c.args.self.now in
@@ -66,7 +78,8 @@ returns-in-Ok-clause-asks g c =
     mid.base.forced
     (log ∙ ap (λ (n : ℕ). let l : Listed = record c.log_commit.new.self.log { forced = n } in l) (sym (ap (λ (l : Listed). l.forced) log)))
     (subst (λ (n : ℕ). LeavesLog (g.V.Volume.told c.args.volume.now) c.log_commit.new.self.log.pages c.log_commit.new.self.log.records c.log_commit.new.self.log.forced → LeavesLog (g.V.Volume.told c.force.new.volume) c.log_commit.new.self.log.pages c.log_commit.new.self.log.records n) (sym (ap (λ (l : Listed). l.forced) log)) c.force.ensures.ahead)
-    d.units c.args.session unit.0 Done unit.1 (record { only = c.force.ensures.only; later = c.force.ensures.cause.later; capacities = c.force.ensures.capacities })
+    c.force.ensures.moments
+    d.units c.args.session unit.0 Done (commit_record (length d.log.records + 1) unit.0) unit.1 (mid.records ∙ ap (records_committed d.log.records) unit.1) (record { only = c.force.ensures.only; later = c.force.ensures.cause.later; capacities = c.force.ensures.capacities })
     (λ e. absurd (cc (e)))
     (λ e. ap (λ (l : Listed). l.forced) log ∙ c.in-Ok.ensures.ok ∙ ap (λ (l : Listed). length l.records) (sym log))
     (omega (arith, c.force.ensures.further, ap (λ (l : Listed). l.forced) log))
@@ -78,8 +91,8 @@ returns-in-Err-clause-asks g c =
     let unit = has_unit (unit_at d.units c.args.session.0) _ (sym c.get.ensures) c.is_none.ensures c.if-is_none.false in
     forced_asks _ _ d.log c.log_commit.new.self.log c.force.new.self
     (record { more = commit_record (length d.log.records + 1) unit.0 ∷ []; records = mid.records ∙ ap (records_committed d.log.records) unit.1; pages = mid.base.pages })
-    mid.base.forced c.force.ensures.kept c.force.ensures.ahead
-    d.units c.args.session unit.0 Device unit.1 (record { only = c.force.ensures.only; later = c.force.ensures.cause.later; capacities = c.force.ensures.capacities })
+    mid.base.forced c.force.ensures.kept c.force.ensures.ahead c.force.ensures.moments
+    d.units c.args.session unit.0 Device (commit_record (length d.log.records + 1) unit.0) unit.1 (mid.records ∙ ap (records_committed d.log.records) unit.1) (record { only = c.force.ensures.only; later = c.force.ensures.cause.later; capacities = c.force.ensures.capacities })
     (λ e. c.in-Err.ensures.cause.failed)
     (λ e. absurd (cc (e)))
     (omega (arith, c.force.ensures.further))

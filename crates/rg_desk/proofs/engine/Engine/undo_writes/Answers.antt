@@ -1,7 +1,8 @@
-use Rattle.std.proofs.Common.{length, refl, sym, ap, subst, arith}
+use Rattle.std.proofs.Common.{◌+◌, ℕ, length, refl, sym, ap, subst, arith}
 use Rattle.rg_lawful.specs.Write.{own_of}
 use Rattle.rg_desk.specs.Shows.{left_by}
 use Rattle.rg_desk.specs.Undoing.{AreChain}
+use Rattle.rg_desk.specs.Undone.{IsUndoing}
 use Rattle.rg_desk.proofs.Sessions.{left_consistent}
 use Rattle.rg_desk.proofs.UndoBegins.{chain_changes, has_room, has_writes, undo_begins, undo_ends}
 use Rattle.rg_desk.proofs.UndoSteps.{can_undo, low_at, undo_goes}
@@ -31,7 +32,7 @@ undo_next-at-requires-clause-low c =
     let st = c.requires.shown.state in
     let allowed = c.requires.shown.allowed in
     let shows = c.requires.shown.shows in
-    low_at d (left_by shows.first d) (left_consistent st allowed d shows) c.args.unit c.loop.self c.loop.work c.loop.at.0 c.loop.counter (c.loop.invariant st allowed shows) c.loop-test.true (has_room st allowed d shows c.args.session.0 c.args.unit c.requires.unit)
+    low_at d (left_by shows.first d) (left_consistent st allowed d shows) shows.trails c.args.unit c.loop.self c.loop.work c.loop.at.0 c.loop.back.0 c.loop.counter (c.loop.invariant st allowed shows) c.loop-test.true (has_room st allowed d shows c.args.session.0 c.args.unit c.requires.unit)
 
 pub undo_next-at-requires-clause-can : goal.undo_next-at-requires-clause-can
 undo_next-at-requires-clause-can c =
@@ -39,13 +40,14 @@ undo_next-at-requires-clause-can c =
     let st = c.requires.shown.state in
     let allowed = c.requires.shown.allowed in
     let shows = c.requires.shown.shows in
-    can_undo d (left_by shows.first d) (left_consistent st allowed d shows) c.args.unit c.loop.self c.loop.work c.loop.at.0 c.loop.counter (c.loop.invariant st allowed shows) c.loop-test.true (has_room st allowed d shows c.args.session.0 c.args.unit c.requires.unit)
+    can_undo d (left_by shows.first d) (left_consistent st allowed d shows) shows.trails c.args.unit c.loop.self c.loop.work c.loop.at.0 c.loop.back.0 c.loop.counter (c.loop.invariant st allowed shows) c.loop-test.true (has_room st allowed d shows c.args.session.0 c.args.unit c.requires.unit)
 
 pub loop-preserved : goal.loop-preserved
 loop-preserved c = λ st allowed shows.
     let d = c.args.self.now in
-    undo_goes d (left_by shows.first d) (left_consistent st allowed d shows) c.args.unit c.loop.self c.loop.work c.loop.at.0 c.loop.counter (c.loop.invariant st allowed shows) c.loop-test.true (has_room st allowed d shows c.args.session.0 c.args.unit c.requires.unit)
-    c.loop.back.0 c.undo_next-at.result.0 c.undo_next-at.new.self c.undo_next-at.new.work c.undo_next-at.ensures.did c.undo_next-at.ensures.newest
+    subst (λ (position : ℕ). IsUndoing d (left_by shows.first d) c.args.unit c.undo_next-at.new.self c.undo_next-at.new.work c.undo_next-at.result.0 position (c.loop.counter + 1)) (sym c.next_position-position.ensures)
+    (undo_goes d (left_by shows.first d) (left_consistent st allowed d shows) shows.trails c.args.unit c.loop.self c.loop.work c.loop.at.0 c.loop.back.0 c.loop.counter (c.loop.invariant st allowed shows) c.loop-test.true (has_room st allowed d shows c.args.session.0 c.args.unit c.requires.unit)
+    c.undo_next-at.result.0 c.undo_next-at.new.self c.undo_next-at.new.work c.undo_next-at.ensures.did c.undo_next-at.ensures.newest)
 
 pub returns-clause-ok : goal.returns-clause-ok
-returns-clause-ok c = λ st allowed shows. undo_ends c.args.self.now (left_by shows.first c.args.self.now) c.args.unit c.loop.self c.loop.work c.loop.at.0 c.loop.counter (c.loop.invariant st allowed shows) (omega (arith, c.loop-test.false))
+returns-clause-ok c = λ st allowed shows. undo_ends c.args.self.now (left_by shows.first c.args.self.now) c.args.unit c.loop.self c.loop.work c.loop.at.0 c.loop.back.0 c.loop.counter (c.loop.invariant st allowed shows) (omega (arith, c.loop-test.false))

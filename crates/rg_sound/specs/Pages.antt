@@ -30,7 +30,7 @@ use Rattle.rg_tested.specs.Keys.{HasHome, IsAlone}
 use Rattle.rg_tested.specs.Places.{IsLeastBreach}
 use Rattle.rg_tested.specs.Ties.{IsTiedAt}
 use Rattle.rg_unended.specs.Unended.{open_in}
-use Rattle.rg_restart.specs.Closed.{IsLacking, lefts_of, writes_left}
+use Rattle.rg_sound.specs.Left.{IsLacking, lefts_of, writes_left}
 
 -- the current copy, and how many pages it has
 abbrev pub copy_of : List Record → ℕ

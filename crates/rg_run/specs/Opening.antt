@@ -1,0 +1,53 @@
+-- The entries of openings, and the log that each of them tells of.
+use Rattle.std.specs.Prelude.{◌≡◌, ◌≤◌, ◌+◌, ℕ, List, length}
+use Rattle.std.specs.List.{AllByRecursion}
+use Rattle.rg_desk.specs.Stored.{IsStored}
+use Rattle.rg_image.specs.Log.{log_of}
+use Rattle.rg_image.specs.Meaning.{current_of}
+use Rattle.rg_image.specs.Pack.{log_bytes}
+use Rattle.rg_image.specs.Rules.{owed}
+use Rattle.rg_model.specs.State.{Table, row_count}
+use Rattle.rg_outside.specs.Calls.{Image, Told}
+use Rattle.rg_outside.specs.Moments.{read_at}
+use Rattle.rg_record.specs.declared.record.Record.{Record}
+use Rattle.rg_stmt.specs.Entries.{opened_entry}
+use Rattle.rg_stmt.specs.declared.event.Entry.{Entry}
+use Rattle.rg_stmt.specs.declared.event.Event.{Event}
+use Rattle.rg_stmt.specs.declared.event.Event.TheVariants.{Opened}
+
+-- The entry of the opening of a log with these records. The bytes that are used are those of the
+-- records, and at most what ending all open units may take.
+pub record IsOpeningOf (records : List Record) (entry : Entry) : Type 0 where
+  pub start : Table
+  pub starts : IsStored records start
+  pub used : ℕ
+  pub is :
+      entry
+      ≡ opened_entry (current_of records).copy (row_count start) (current_of records).pages used
+      entry.calls
+  pub least : log_bytes records ≤ used
+  pub most : used ≤ log_bytes records + owed records
+
+-- the event is not that of an opening, or this holds
+abbrev pub IfOpened : Type 0 → Event → Type 0
+IfOpened P (Opened copy rows pages used) = P
+IfOpened P event = Unit {0}
+
+-- so many calls were made from the start on, and after them the image as it read has P
+abbrev pub ReadSo : (P : Image → Type 0) → (start calls : ℕ) → Told → Type 0
+ReadSo P start calls t = (start + calls ≤ length t.calls) × P (read_at t (start + calls))
+
+-- the entry is that of the opening of the log as the volume read after the calls of the entry
+abbrev pub IsOpeningThen : (pages start : ℕ) → Told → Entry → Type 0
+IsOpeningThen pages start t entry =
+    ReadSo (λ i. IsOpeningOf (log_of pages i) entry) start entry.calls t
+
+-- the table is the one that the log stored as the volume read then
+abbrev pub IsFoundThen : (pages start : ℕ) → Told → Entry → Table → Type 0
+IsFoundThen pages start t entry table =
+    ReadSo (λ i. IsStored (log_of pages i) table) start entry.calls t
+
+-- each opening among the entries is that of the log as the volume read then
+abbrev pub AreOpeningsSince : (pages start : ℕ) → Told → List Entry → Type 0
+AreOpeningsSince pages start t trace =
+    AllByRecursion (λ entry. IfOpened (IsOpeningThen pages start t entry) entry.event) trace

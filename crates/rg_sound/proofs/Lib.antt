@@ -1,0 +1,11 @@
+pub mod Appending
+pub mod ClosingSteps
+pub mod Closings
+pub mod DeadAreas
+pub mod Imaged
+pub mod LogPages
+pub mod OpenUnits
+pub mod Owners
+pub mod Reopening
+pub mod Standing
+pub mod Switched
