@@ -10,6 +10,7 @@ use std::alloc::{AllocError, Global};
 use std::test::Fail;
 
 mod crashes;
+mod deaths;
 mod decks;
 mod layouts;
 mod openings;
