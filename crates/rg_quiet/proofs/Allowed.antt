@@ -1,0 +1,277 @@
+-- What an entry that is allowed leaves of the locks.
+use Rattle.std.proofs.Common.{◌≡◌, ◌==◌, ℕ, Bool, true, false, not, List, Option, Some, None, refl, sym, ◌∙◌, ap, if◌then◌else◌, inl, inr, ◌⊎◌}
+use Rattle.std.specs.FinMap as map
+use Rattle.std.specs.Option.{unwrap_or}
+use Rattle.std.proofs.lemmas.Bool.{eqb-true}
+use Rattle.rg_base.specs.declared.control.Answer.{Answer}
+use Rattle.rg_base.specs.declared.lock.Lock.{Lock}
+use Rattle.rg_base.specs.declared.options.DrainFor.{DrainFor}
+use Rattle.rg_base.specs.declared.options.DrainState.{DrainState}
+use Rattle.rg_base.specs.declared.session.Session.{Session}
+use Rattle.rg_base.specs.declared.step.Step.{Step}
+use Rattle.rg_base.specs.declared.step.Step.TheVariants as steps
+use Rattle.rg_base.specs.declared.verdict.DrainVerdict.{DrainVerdict}
+use Rattle.rg_base.specs.declared.verdict.DrainVerdict.TheVariants as waits
+use Rattle.rg_stmt.specs.declared.event.Actor.TheVariants as actors
+use Rattle.rg_stmt.specs.declared.event.Entry.{Entry}
+use Rattle.rg_stmt.specs.declared.event.Event.{Event}
+use Rattle.rg_stmt.specs.declared.event.Event.TheVariants as events
+use Rattle.rg_stmt.specs.declared.stmt.Reply.{Reply}
+use Rattle.rg_stmt.specs.declared.stmt.Reply.TheVariants.{Done, Found, Listed, Keyed, Absent, Duplicate, Held, Victim, Drained, Full, LogFull, Device, Down, NoMemory}
+use Rattle.rg_stmt.specs.declared.stmt.Stmt.{Stmt}
+use Rattle.rg_stmt.specs.declared.stmt.Stmt.TheVariants.{Insert, Update, Delete, Select, Scan, Find, Commit, Rollback}
+use Rattle.rg_model.specs.Changes.{changes, is_write, is_unit_end}
+use Rattle.rg_model.specs.Claims.{least_holder}
+use Rattle.rg_model.specs.Committed.{locks_without}
+use Rattle.rg_model.specs.Held.{holder, other_owner}
+use Rattle.rg_model.specs.Plain.{after, after_answer, change_reply, insert_reply, is_done, lock_key, plain_reply, unless_held}
+use Rattle.rg_model.specs.Possible.{next_state, state_after_step}
+use Rattle.rg_model.specs.Quiet.{names_key}
+use Rattle.rg_model.specs.Run.{Says}
+use Rattle.rg_model.specs.Said.{has_locks, if_allowed, state_failed, state_refused}
+use Rattle.rg_model.specs.State.{State, Utility}
+use Rattle.rg_model.specs.Turn.{Turn, Falls, Runs, Stops, Switches, alter, is_term, step_of, turn_at, turn_of, wait_turn}
+use Rattle.rg_model.specs.Utility.{state_by_turn, state_stepped}
+
+some_is : (st new : State) → Some st ≡ Some new → new ≡ st
+some_is st new e = sym (ap (λ o. unwrap_or o st) e)
+
+allowed_is : (b : Bool) (st new : State) → if_allowed b st ≡ Some new → new ≡ st
+allowed_is true st new e = some_is st new e
+allowed_is false st new e = absurd (cc (e))
+
+-- the utility and the system
+
+module _ (past : List Entry) (st new : State) where
+  turned_locks : (u : Utility) (turn : Option Turn) → state_by_turn past st u turn ≡ Some new → new.locks ≡ st.locks
+  turned_locks u None e = absurd (cc (e))
+  turned_locks u (Some (Runs v drain)) e = ap (λ (s : State). s.locks) (some_is _ new e)
+  turned_locks u (Some (Switches copy sides v)) e = ap (λ (s : State). s.locks) (allowed_is _ _ new e)
+  turned_locks u (Some Stops) e = ap (λ (s : State). s.locks) (some_is _ new e)
+  turned_locks u (Some Falls) e = ap (λ (s : State). s.locks) (some_is _ new e)
+
+  stepped_locks : (answer : Option Answer) (event : Event) (u : Utility) → state_stepped past answer event st u ≡ Some new → new.locks ≡ st.locks
+  stepped_locks None event u e = absurd (cc (e))
+  stepped_locks (Some answer) event u e = turned_locks u (turn_of (changes past) (least_holder st.drain st.claims) answer u st.drain event) e
+
+  after_step_locks : (answer : Option Answer) (event : Event) (o : Option Utility) → state_after_step past answer event st o ≡ Some new → new.locks ≡ st.locks
+  after_step_locks answer event None e = absurd (cc (e))
+  after_step_locks answer event (Some u) e = go st.down e
+    where
+      go : (b : Bool) → (if b then None else state_stepped past answer event st u) ≡ Some new → new.locks ≡ st.locks
+      go true e = absurd (cc (e))
+      go false e = stepped_locks answer event u e
+
+  -- an event of the utility leaves the locks
+  pub utility_locks : (answer : Option Answer) (event : Event) → next_state past answer actors.Utility event st ≡ Some new → new.locks ≡ st.locks
+  utility_locks answer (events.Started options copy pages) e = ap (λ (s : State). s.locks) (allowed_is _ _ new e)
+  utility_locks answer events.Active e = ap (λ (s : State). s.locks) (allowed_is _ _ new e)
+  utility_locks answer (events.StartLogFull need left) e = ap (λ (s : State). s.locks) (allowed_is _ _ new e)
+  utility_locks answer events.StartDown e = ap (λ (s : State). s.locks) (allowed_is _ _ new e)
+  utility_locks answer events.StartNoMemory e = ap (λ (s : State). s.locks) (allowed_is _ _ new e)
+  utility_locks answer events.Idle e = ap (λ (s : State). s.locks) (allowed_is _ _ new e)
+  utility_locks answer events.StepDown e = ap (λ (s : State). s.locks) (allowed_is _ _ new e)
+  utility_locks answer event e = after_step_locks answer event st.utility e
+
+  -- and so does one of the system, but for an opening
+  pub system_locks : (answer : Option Answer) (event : Event) → next_state past answer actors.System event st ≡ Some new → new.locks ≡ st.locks
+  system_locks answer (events.Flush page) e = ap (λ (s : State). s.locks) (allowed_is _ _ new e)
+  system_locks answer events.Clean e = ap (λ (s : State). s.locks) (allowed_is _ _ new e)
+  system_locks answer events.FlushDevice e = ap (λ (s : State). s.locks) (allowed_is _ _ new e)
+  system_locks answer events.FlushDown e = ap (λ (s : State). s.locks) (allowed_is _ _ new e)
+  system_locks answer events.FlushNoMemory e = ap (λ (s : State). s.locks) (allowed_is _ _ new e)
+  system_locks answer (events.Layout copy side) e = ap (λ (s : State). s.locks) (allowed_is _ _ new e)
+  system_locks answer events.LayoutDevice e = ap (λ (s : State). s.locks) (allowed_is _ _ new e)
+  system_locks answer events.LayoutDown e = ap (λ (s : State). s.locks) (allowed_is _ _ new e)
+  system_locks answer events.LayoutNoMemory e = ap (λ (s : State). s.locks) (allowed_is _ _ new e)
+  system_locks answer event e = absurd (cc (e))
+
+-- no step of a utility is an opening
+
+module _ (copy rows pages used : ℕ) where
+  abbrev opened : Event
+  opened = events.Opened copy rows pages used
+
+  no_wait : (all : ℕ) (answer : Answer) (u : Utility) (drain : DrainState) (asked : DrainFor) (verdict : DrainVerdict) → wait_turn all answer u drain asked verdict opened ≡ None
+  no_wait all answer u drain asked (waits.Wait session) = refl
+  no_wait all answer u drain asked waits.Granted = refl
+  no_wait all answer u drain asked waits.GiveUp = refl
+  no_wait all answer u drain asked (waits.Stop reason) = refl
+
+  no_turn_at : (step : Step) (all : ℕ) (blocker : Option Session) (answer : Answer) (u : Utility) (drain : DrainState) → turn_at step all blocker answer u drain opened ≡ None
+  no_turn_at steps.Unload all blocker answer u drain = refl
+  no_turn_at steps.Reload all blocker answer u drain = refl
+  no_turn_at steps.Sort all blocker answer u drain = refl
+  no_turn_at steps.Build all blocker answer u drain = refl
+  no_turn_at steps.Log all blocker answer u drain = refl
+  no_turn_at (steps.Wait asked) all blocker answer u drain = no_wait all answer u drain asked _
+  no_turn_at steps.Last all blocker answer u drain = refl
+  no_turn_at (steps.Write granted) all blocker answer u drain = refl
+  no_turn_at steps.Switch all blocker answer u drain = refl
+  no_turn_at steps.End all blocker answer u drain = refl
+
+  no_turn : (all : ℕ) (blocker : Option Session) (answer : Answer) (u : Utility) (drain : DrainState) → turn_of all blocker answer u drain opened ≡ None
+  no_turn all blocker answer u drain = go u.switched (is_term answer.command) _ (no_turn_at (step_of (alter u answer.command) drain) all blocker answer (alter u answer.command) drain)
+    where
+      go : (a b : Bool) (turn : Option Turn) → turn ≡ None → (if a then None else (if b then None else turn)) ≡ None
+      go true b turn e = refl
+      go false true turn e = refl
+      go false false turn e = e
+
+  module _ (past : List Entry) (st new : State) where
+    no_step : (answer : Option Answer) (u : Utility) → state_stepped past answer opened st u ≡ None
+    no_step None u = refl
+    no_step (Some answer) u = ap (λ turn. state_by_turn past st u turn) (no_turn (changes past) (least_holder st.drain st.claims) answer u st.drain)
+
+    no_after_step : (answer : Option Answer) (o : Option Utility) → state_after_step past answer opened st o ≡ None
+    no_after_step answer None = refl
+    no_after_step answer (Some u) = go st.down
+      where
+        go : (b : Bool) → (if b then None else state_stepped past answer opened st u) ≡ None
+        go true = refl
+        go false = no_step answer u
+
+    pub utility_opens_not : (answer : Option Answer) → next_state past answer actors.Utility opened st ≡ Some new → ⊥
+    utility_opens_not answer e = none (sym (no_after_step answer st.utility) ∙ e)
+      where
+        none : None ≡ Some new → ⊥
+        none e = absurd (cc (e))
+
+-- statements
+
+-- the unit is over, and its locks are gone
+pub record Ended (st new : State) (session : Session) (stmt : Stmt) (reply : Reply) : Type 0 where
+  pub end : is_unit_end stmt reply ≡ true
+  pub locks : new.locks ≡ locks_without session st.locks
+
+-- nothing was written, and the locks are the same
+pub record Stayed (st new : State) (stmt : Stmt) (reply : Reply) : Type 0 where
+  pub end : is_unit_end stmt reply ≡ false
+  pub write : is_write stmt reply ≡ false
+  pub locks : new.locks ≡ st.locks
+
+-- a key was written, which no other session had locked
+pub record Wrote (st new : State) (session : Session) (stmt : Stmt) (reply : Reply) : Type 0 where
+  pub key : ℕ
+  pub end : is_unit_end stmt reply ≡ false
+  pub write : is_write stmt reply ≡ true
+  pub names : (k : ℕ) → names_key k stmt ≡ (key == k)
+  pub locks : new.locks ≡ lock_key st session key
+  pub own : (kept : Lock) → map.get st.locks key ≡ Some kept → kept.owner.0 ≡ session.0
+
+abbrev pub Moved : State → State → Session → Stmt → Reply → Type 0
+Moved st new session stmt reply = Ended st new session stmt reply ⊎ (Stayed st new stmt reply ⊎ Wrote st new session stmt reply)
+
+-- a reply that ends no unit and writes nothing, whatever the statement
+abbrev is_idle : Reply → Bool
+is_idle Done = false
+is_idle (Victim owner) = false
+is_idle reply = true
+
+idle_ends : (stmt : Stmt) (reply : Reply) → is_idle reply ≡ true → is_unit_end stmt reply ≡ false
+idle_ends stmt Done e = absurd (cc (e))
+idle_ends stmt (Victim owner) e = absurd (cc (e))
+idle_ends Commit reply e = refl
+idle_ends Rollback reply e = refl
+idle_ends stmt reply e = refl
+
+idle_writes : (stmt : Stmt) (reply : Reply) → is_idle reply ≡ true → is_write stmt reply ≡ false
+idle_writes stmt Done e = absurd (cc (e))
+idle_writes stmt reply e = refl
+
+victim_ends : (stmt : Stmt) (owner : Session) → is_unit_end stmt (Victim owner) ≡ true
+victim_ends Commit owner = refl
+victim_ends Rollback owner = refl
+victim_ends stmt owner = refl
+
+module _ (st new : State) (session : Session) (stmt : Stmt) where
+  idle : (reply : Reply) → is_idle reply ≡ true → new.locks ≡ st.locks → Moved st new session stmt reply
+  idle reply e locks = inr (inl (record { end = idle_ends stmt reply e; write = idle_writes stmt reply e; locks = locks }))
+
+  same : new ≡ st → new.locks ≡ st.locks
+  same e = ap (λ (s : State). s.locks) e
+
+module _ (st new : State) (session : Session) where
+  failed_locks : (stmt : Stmt) → state_failed st session stmt ≡ Some new → new.locks ≡ st.locks
+  failed_locks Commit e = ap (λ (s : State). s.locks) (allowed_is (has_locks st.locks session) _ new e)
+  failed_locks Rollback e = ap (λ (s : State). s.locks) (some_is _ new e)
+  failed_locks stmt e = ap (λ (s : State). s.locks) (some_is _ new e)
+
+  refused_locks : (stmt : Stmt) (plain : Reply) → state_refused st session stmt plain ≡ Some new → new.locks ≡ st.locks
+  refused_locks stmt (Held owner) e = ap (λ (s : State). s.locks) (some_is _ new e)
+  refused_locks stmt plain e = go (is_done plain) e
+    where
+      go : (b : Bool) → (if b then state_failed st session stmt else None) ≡ Some new → new.locks ≡ st.locks
+      go true e = failed_locks stmt e
+      go false e = absurd (cc (e))
+
+abbrev is_lookup : Reply → Bool
+is_lookup (Found row) = true
+is_lookup (Listed rows) = true
+is_lookup (Keyed keys) = true
+is_lookup reply = false
+
+no_lookup : (held : Option Session) (reply : Reply) → is_lookup reply ≡ false → is_lookup (unless_held held reply) ≡ false
+no_lookup None reply e = e
+no_lookup (Some owner) reply e = refl
+
+no_insert : (b : Bool) → is_lookup (insert_reply b) ≡ false
+no_insert true = refl
+no_insert false = refl
+
+no_change : (b : Bool) → is_lookup (change_reply b) ≡ false
+no_change true = refl
+no_change false = refl
+
+apart : (b : Bool) → b ≡ true → b ≡ false → ⊥
+apart true e f = absurd (cc (f))
+apart false e f = absurd (cc (e))
+
+module _ (st : State) (session : Session) where
+  -- a statement that looks up leaves the locks
+  looked : (stmt : Stmt) → is_lookup (plain_reply st session stmt) ≡ true → (after st session stmt).locks ≡ st.locks
+  looked (Insert row) e = absurd (apart _ e (no_lookup (holder st.locks session row.key) _ (no_insert (map.contains_key st.table row.key))))
+  looked (Update row) e = absurd (apart _ e (no_lookup (holder st.locks session row.key) _ (no_change (map.contains_key st.table row.key))))
+  looked (Delete key) e = absurd (apart _ e (no_lookup (holder st.locks session key) _ (no_change (map.contains_key st.table key))))
+  looked (Select key) e = refl
+  looked (Scan lo hi) e = refl
+  looked (Find cat) e = refl
+  looked Commit e = absurd (cc (e))
+  looked Rollback e = absurd (cc (e))
+
+  -- a key that is not held is locked by the session alone
+  own_of : (key : ℕ) (reply : Reply) → Done ≡ unless_held (holder st.locks session key) reply → (kept : Lock) → map.get st.locks key ≡ Some kept → kept.owner.0 ≡ session.0
+  own_of key reply e kept found = eqb-true kept.owner.0 session.0 (go (kept.owner.0 == session.0) (e ∙ ap (λ o. unless_held (other_owner session o) reply) found))
+    where
+      go : (b : Bool) → Done ≡ unless_held (if not b then Some kept.owner else None) reply → b ≡ true
+      go true e = refl
+      go false e = absurd (cc (e))
+
+  module _ (new : State) where
+    -- a statement that is answered OK
+    done : (stmt : Stmt) → Done ≡ plain_reply st session stmt → new ≡ after_answer st session stmt Done → Moved st new session stmt Done
+    done (Insert row) e is = inr (inr (record { key = row.key; end = refl; write = refl; names = λ k. refl; locks = ap (λ (s : State). s.locks) is; own = own_of row.key _ e }))
+    done (Update row) e is = inr (inr (record { key = row.key; end = refl; write = refl; names = λ k. refl; locks = ap (λ (s : State). s.locks) is; own = own_of row.key _ e }))
+    done (Delete key) e is = inr (inr (record { key = key; end = refl; write = refl; names = λ k. refl; locks = ap (λ (s : State). s.locks) is; own = own_of key _ e }))
+    done (Select key) e is = inr (inl (record { end = refl; write = refl; locks = ap (λ (s : State). s.locks) is }))
+    done (Scan lo hi) e is = inr (inl (record { end = refl; write = refl; locks = ap (λ (s : State). s.locks) is }))
+    done (Find cat) e is = inr (inl (record { end = refl; write = refl; locks = ap (λ (s : State). s.locks) is }))
+    done Commit e is = inl (record { end = refl; locks = ap (λ (s : State). s.locks) is })
+    done Rollback e is = inl (record { end = refl; locks = ap (λ (s : State). s.locks) is })
+
+    -- what a statement leaves of the locks, by its reply
+    pub moved : (stmt : Stmt) (reply : Reply) → Says st session stmt reply new → Moved st new session stmt reply
+    moved stmt Down s = idle st new session stmt Down refl (same st new session stmt s.1)
+    moved stmt Drained s = idle st new session stmt Drained refl (same st new session stmt s.2)
+    moved stmt NoMemory s = idle st new session stmt NoMemory refl (same st new session stmt s.2.1)
+    moved stmt (Victim owner) s = inl (record { end = victim_ends stmt owner; locks = ap (λ (s : State). s.locks) s.2.1 })
+    moved stmt (Full need) s = idle st new session stmt (Full need) refl (same st new session stmt s.2.2)
+    moved stmt (LogFull need left) s = idle st new session stmt (LogFull need left) refl (same st new session stmt s.2.2)
+    moved stmt Device s = idle st new session stmt Device refl (refused_locks st new session stmt (plain_reply st session stmt) s.2)
+    moved stmt Done s = done stmt s.2.0 s.2.1
+    moved stmt (Found row) s = idle st new session stmt (Found row) refl (ap (λ (s : State). s.locks) s.2.1 ∙ looked stmt (sym (ap is_lookup s.2.0)))
+    moved stmt (Listed rows) s = idle st new session stmt (Listed rows) refl (ap (λ (s : State). s.locks) s.2.1 ∙ looked stmt (sym (ap is_lookup s.2.0)))
+    moved stmt (Keyed keys) s = idle st new session stmt (Keyed keys) refl (ap (λ (s : State). s.locks) s.2.1 ∙ looked stmt (sym (ap is_lookup s.2.0)))
+    moved stmt Absent s = idle st new session stmt Absent refl (same st new session stmt s.2.1)
+    moved stmt Duplicate s = idle st new session stmt Duplicate refl (same st new session stmt s.2.1)
+    moved stmt (Held owner) s = idle st new session stmt (Held owner) refl (same st new session stmt s.2.1)

@@ -1,0 +1,4 @@
+pub mod Allowed
+pub mod Sorting
+pub mod Switching
+pub mod Telling

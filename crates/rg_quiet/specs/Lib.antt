@@ -1,0 +1,4 @@
+pub mod Laws
+pub mod Rising
+pub mod Switched
+pub mod Told
