@@ -25,6 +25,9 @@ value_so_far value i digits h e =
     let step = at_drop_more (digits_value_after 10 value) digits i 0 h in
     omega (arith, digits_value_after-le (value * 10 + digit_value (get_or digits i 0)) (drop (i + 1) digits))
 
+pub decimal_digits : (n : ℕ) → n < 2 ^ 64 → AllDigits 10 (decimal n)
+decimal_digits n h = digits_decimal own n h
+
 Lacks-digits : (mark : ℕ) → mark < 48 → (digits : List ℕ) → AllDigits 10 digits → Lacks mark digits
 Lacks-digits mark low [] h = tt
 Lacks-digits mark low (d ∷ ds) h = let r = digit_from_value d h.0 in ((λ e. omega arith), Lacks-digits mark low ds h.1)

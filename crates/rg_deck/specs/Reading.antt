@@ -1,14 +1,16 @@
 -- What the parts of the reader find.
 use Rattle.std.specs.Prelude.{ℕ, ◌≡◌, ◌≢◌, ◌<◌, ◌^◌, ◌⊎◌, List, [], ◌∷◌, ◌++◌, length, slice_index}
-use Rattle.std.specs.Prelude.{Option, None, Some, IsFalse, IsTrue}
+use Rattle.std.specs.Prelude.{Option, None, Some, IsTrue}
 use Rattle.std.specs.Fmt.{decimal}
 use Rattle.std.specs.List.{AllByRecursion, join_with_byte}
 use Rattle.rg_base.specs.Words.{row_words}
+use Rattle.rg_base.specs.declared.options.Options.{Options}
 use Rattle.rg_base.specs.declared.row.Row.{Row}
-use Rattle.rg_stmt.specs.declared.stmt.Stmt.{Stmt}
 use Rattle.rg_stmt.specs.declared.line.Line.{Line}
-use Rattle.rg_deck.specs.Grammar.{IsLine, admits, stmt_words, deck_text}
-use Rattle.rg_deck.specs.declared.read.Admits.TheVariants.{Statements, Played}
+use Rattle.rg_stmt.specs.declared.line.Line.TheVariants.{Said, Reorg, Step, Flush, Show, Death}
+use Rattle.rg_stmt.specs.declared.stmt.Stmt.{Stmt}
+use Rattle.rg_deck.specs.Grammar.{IsTextOf, admits, stmt_words, deck_text}
+use Rattle.rg_deck.specs.declared.read.Admits.TheVariants.{Played}
 
 -- the bytes have no such byte
 abbrev pub Lacks : ℕ → List ℕ → Type 0
@@ -23,6 +25,17 @@ abbrev pub Finds : {T : Type 0} → (T → Type 0) → (T → List ℕ) → List
 Finds IsValue spelling bytes None = (x : _) → IsValue x → bytes ≢ spelling x
 Finds IsValue spelling bytes (Some x) = IsValue x × (bytes ≡ spelling x)
 
+-- a value that has this text, or that none has it
+abbrev pub FindsBy :
+    {T : Type 0} → (T → Type 0) → (T → List ℕ → Type 0) → List ℕ → Option T → Type 0
+FindsBy IsValue HasText bytes None = (x : _) → IsValue x → HasText x bytes → ⊥
+FindsBy IsValue HasText bytes (Some x) = IsValue x × HasText x bytes
+
+-- the options of the control statement that the bytes are, or that they are none
+abbrev pub FindsOptions : List ℕ → Option Options → Type 0
+FindsOptions bytes None = (options : Options) → IsTextOf (Reorg options) bytes → ⊥
+FindsOptions bytes (Some options) = IsTextOf (Reorg options) bytes
+
 abbrev pub row_spelling : Row → List ℕ
 row_spelling row = join_with_byte 32 (row_words row)
 
@@ -33,13 +46,18 @@ stmt_spelling stmt = join_with_byte 32 (stmt_words stmt)
 abbrev pub IsRange : List ℕ → ℕ → ℕ → Type 0
 IsRange bytes lo hi = (lo < 2 ^ 64) × (hi < 2 ^ 64) × (bytes ≡ decimal lo ++ 32 ∷ decimal hi)
 
--- a line of the grammar that is no statement
-abbrev pub IsControl : Line → Type 0
-IsControl line = IsLine line × IsFalse (admits Statements line)
+-- a line of one letter
+abbrev pub IsLetter : Line → Type 0
+IsLetter (Said session stmt) = ⊥
+IsLetter (Reorg options) = ⊥
+IsLetter Step = Unit {0}
+IsLetter Flush = Unit {0}
+IsLetter Show = Unit {0}
+IsLetter Death = Unit {0}
 
--- a line that the program plays and that is no statement
-abbrev pub IsPlayedControl : Line → Type 0
-IsPlayedControl line = IsLine line × IsTrue (admits Played line) × IsFalse (admits Statements line)
+-- a line of one letter that the program plays
+abbrev pub IsPlayedLetter : Line → Type 0
+IsPlayedLetter line = IsLetter line × IsTrue (admits Played line)
 
 -- the bytes begin with this number and a space, and then come these
 abbrev pub BeginsWithNumber : List ℕ → ℕ → List ℕ → Type 0
@@ -50,8 +68,8 @@ abbrev pub CutsLine : List ℕ → List ℕ → List ℕ → Type 0
 CutsLine bytes line rest =
     Lacks 10 line × ((bytes ≡ line ++ 10 ∷ rest) ⊎ ((bytes ≡ line) × (rest ≡ [])))
 
--- The bytes are these lines and a rest. Where no rest is left, the last line may lack its line
--- feed.
-abbrev pub Reads : List ℕ → List Line → List ℕ → Type 0
-Reads bytes lines rest =
-    (bytes ≡ deck_text lines ++ rest) ⊎ ((rest ≡ []) × (bytes ++ 10 ∷ [] ≡ deck_text lines))
+-- The bytes are lines with these texts and a rest. Where no rest is left, the last line may lack
+-- its line feed.
+abbrev pub Reads : List ℕ → List (List ℕ) → List ℕ → Type 0
+Reads bytes texts rest =
+    (bytes ≡ deck_text texts ++ rest) ⊎ ((rest ≡ []) × (bytes ++ 10 ∷ [] ≡ deck_text texts))

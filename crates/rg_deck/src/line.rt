@@ -1,24 +1,29 @@
 // How one line of a deck is read.
 //
 // 1. A line is read from left to right, and each number and each text has one spelling. What has
-//    another is no line.
+//    another is no line. The utility's control statement alone has many: it is cut at its spaces,
+//    and its words are read by `rg_opts`.
 // 2. Which lines are taken is the caller's to say. A line that is not taken is read like one
 //    outside the grammar.
 ghost use Rattle.std.specs.Prelude.{◌≡◌, ◌≤◌, IfOk, IfSome, IfNone};
 ghost use Rattle.rg_base.specs.Session.{IsSession};
-ghost use Rattle.rg_deck.specs.Grammar.{IsRow, IsStmt, IsAdmitted, line_text};
-ghost use Rattle.rg_deck.specs.Reading.{Finds, IsControl, IsPlayedControl, row_spelling};
-ghost use Rattle.rg_deck.specs.Reading.{stmt_spelling};
+ghost use Rattle.rg_deck.specs.Grammar.{IsRow, IsStmt, IsAdmitted, IsTextOf};
+ghost use Rattle.rg_deck.specs.Reading.{Finds, FindsBy, FindsOptions, IsLetter, IsPlayedLetter};
+ghost use Rattle.rg_deck.specs.Reading.{row_spelling, stmt_spelling};
 ghost use Rattle.rg_deck.specs.declared.read.Admits.TheVariants.{Statements};
 
 use crate::read::Admits;
 use crate::word::{read_number, read_range, read_text, split_number};
 use rg_base::no_memory::NoMemory;
+use rg_base::options::Options;
 use rg_base::row::Row;
 use rg_base::session::Session;
+use rg_opts::statement::read_control;
+use rg_opts::words::split_words;
 use rg_stmt::line::Line;
 use rg_stmt::stmt::Stmt;
 use std::alloc::Global;
+use std::str;
 
 fn read_row(alloc: Global, bytes: &[u8]) -> Result<Option<Row>, NoMemory>
     ensures { IfOk result (Finds IsRow row_spelling bytes.now) }
@@ -88,9 +93,8 @@ fn session_of(number: u64) -> Option<Session>
 }
 
 // One statement of a session, without its line feed.
-#[tactic(auto, using(crate::proofs::Parts::no_said_number, crate::proofs::Parts::line_said))]
 fn read_said(alloc: Global, bytes: &[u8]) -> Result<Option<Line>, NoMemory>
-    ensures { IfOk result (Finds (IsAdmitted Statements) line_text bytes.now) }
+    ensures { IfOk result (FindsBy (IsAdmitted Statements) IsTextOf bytes.now) }
 {
     let Some((number, rest)) = split_number(bytes) else {
         return Ok(None);
@@ -105,8 +109,8 @@ fn read_said(alloc: Global, bytes: &[u8]) -> Result<Option<Line>, NoMemory>
 }
 
 // A line of one letter.
-fn read_control(bytes: &[u8]) -> Option<Line>
-    ensures { Finds IsControl line_text bytes.now result }
+fn read_letter(bytes: &[u8]) -> Option<Line>
+    ensures { FindsBy IsLetter IsTextOf bytes.now result }
 {
     match bytes {
         b"U" => Some(Line::Step),
@@ -118,8 +122,8 @@ fn read_control(bytes: &[u8]) -> Option<Line>
 }
 
 // A line of one letter that the program plays.
-fn read_played_control(bytes: &[u8]) -> Option<Line>
-    ensures { Finds IsPlayedControl line_text bytes.now result }
+fn read_played_letter(bytes: &[u8]) -> Option<Line>
+    ensures { FindsBy IsPlayedLetter IsTextOf bytes.now result }
 {
     match bytes {
         b"F" => Some(Line::Flush),
@@ -129,19 +133,36 @@ fn read_played_control(bytes: &[u8]) -> Option<Line>
     }
 }
 
+// The options of the utility's control statement, without its line feed.
+fn read_options(alloc: Global, bytes: &[u8]) -> Result<Option<Options>, NoMemory>
+    ensures { IfOk result (FindsOptions bytes.now) }
+{
+    if bytes.strip_prefix(b"REORG ").is_none() {
+        return Ok(None);
+    }
+    let Ok(text) = str::from_utf8(bytes) else {
+        return Ok(None);
+    };
+    let words = split_words(alloc, text)?;
+    Ok(read_control(&words).ok())
+}
+
 // One line, without its line feed.
 pub fn read_line(alloc: Global, bytes: &[u8], admits: Admits) -> Result<Option<Line>, NoMemory>
-    ensures { IfOk result (Finds (IsAdmitted admits) line_text bytes.now) }
+    ensures { IfOk result (FindsBy (IsAdmitted admits) IsTextOf bytes.now) }
 {
     match admits {
         Admits::Statements => read_said(alloc, bytes),
-        Admits::Played => match read_played_control(bytes) {
+        Admits::Played => match read_played_letter(bytes) {
             Some(line) => Ok(Some(line)),
             None => read_said(alloc, bytes),
         },
-        Admits::Every => match read_control(bytes) {
+        Admits::Every => match read_letter(bytes) {
             Some(line) => Ok(Some(line)),
-            None => read_said(alloc, bytes),
+            None => match read_options(alloc, bytes)? {
+                Some(options) => Ok(Some(Line::Reorg(options))),
+                None => read_said(alloc, bytes),
+            },
         },
     }
 }

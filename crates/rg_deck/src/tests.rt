@@ -1,4 +1,7 @@
 use crate::read::{Admits, DeckFault, read_admitted, read_deck};
+use rg_base::control::{Longlog, Maxro};
+use rg_base::options::{DrainFor, Options};
+use rg_opts::statement::default_options;
 use rg_stmt::line::Line;
 use rg_stmt::stmt::Stmt;
 use std::alloc::{AllocError, Global};
@@ -32,6 +35,15 @@ fn text_length(rt: &impl Abort, alloc: Global, deck: &[u8]) -> Result<usize, Dec
                 ..
             },
         ] => Ok(row.text.as_slice().len()),
+        _ => Err(DeckFault::Line { number: 0 }),
+    }
+}
+
+// The options of a deck that is one control statement.
+fn options_of(rt: &impl Abort, alloc: Global, deck: &[u8]) -> Result<Options, DeckFault> {
+    let lines = lines_of(rt, alloc, deck)?;
+    match lines.as_slice() {
+        [Line::Reorg(options)] => Ok(*options),
         _ => Err(DeckFault::Line { number: 0 }),
     }
 }
@@ -150,14 +162,77 @@ fn refuses_lines(rt: HostRuntime) {
         b"1 U",
         b"UF",
         b"REORG",
+        b"REORG ",
         b"REORG SHRLEVEL CHANGE",
+        b"REORG TABLESPACE SHRLEVEL",
+        b"reorg tablespace shrlevel change",
+        b"Reorg TABLESPACE SHRLEVEL CHANGE",
+        b"REORG TABLESPACE SHRLEVEL CHANGE ",
+        b" REORG TABLESPACE SHRLEVEL CHANGE",
+        b"REORG  TABLESPACE SHRLEVEL CHANGE",
+        b"REORG TABLESPACE SHRLEVEL CHANGE  DELAY 1",
+        b"REORG\tTABLESPACE SHRLEVEL CHANGE",
+        b"REORG TABLESPACE SHRLEVEL CHANGE\r\n",
+        b"REORG TABLESPACE SHRLEVEL CHANGES",
+        b"REORG TABLESPACE SHRLEVEL CHANGE DELAY",
+        b"REORG TABLESPACE SHRLEVEL CHANGE DELAY 01",
+        b"REORG TABLESPACE SHRLEVEL CHANGE delay 1",
+        b"REORG TABLESPACE SHRLEVEL CHANGE DELAY 1 DELAY 1",
+        b"REORG TABLESPACE SHRLEVEL CHANGE DELAY 1 DRAIN ALL DELAY 2",
+        b"REORG TABLESPACE SHRLEVEL CHANGE PCTFREE 100",
+        b"REORG TABLESPACE SHRLEVEL CHANGE \xff",
+        b"REORG TABLESPACE SHRLEVEL CHANGE U",
         b"1 REORG",
+        b"1 REORG TABLESPACE SHRLEVEL CHANGE",
         b"\n",
         b" ",
         b" \n",
     ] {
         let found = lines_of(&rt, rt.alloc(), deck).map(|lines| lines.len());
         assert_eq!(rt; found, Err(DeckFault::Line { number: 1 }), "at {deck:?}");
+    }
+}
+
+#[test]
+fn reads_control_statements(rt: HostRuntime) {
+    let defaults = default_options();
+    let two = Options {
+        maxro: Maxro::Within(10),
+        longlog: Longlog::Drain,
+        ..defaults
+    };
+    let three = Options {
+        drain: DrainFor::All,
+        pctfree: 0,
+        freepage: 255,
+        ..defaults
+    };
+    for (deck, want) in [
+        (b"REORG TABLESPACE SHRLEVEL CHANGE".as_slice(), defaults),
+        (b"REORG TABLESPACE SHRLEVEL CHANGE\n", defaults),
+        (b"REORG TABLESPACE SHRLEVEL CHANGE MAXRO 300", defaults),
+        (
+            b"REORG TABLESPACE SHRLEVEL CHANGE MAXRO 10 LONGLOG DRAIN",
+            two,
+        ),
+        (
+            b"REORG TABLESPACE SHRLEVEL CHANGE LONGLOG DRAIN MAXRO 10\n",
+            two,
+        ),
+        (
+            b"REORG TABLESPACE SHRLEVEL CHANGE LONGLOG DRAIN DELAY 1200 MAXRO 10",
+            two,
+        ),
+        (
+            b"REORG TABLESPACE SHRLEVEL CHANGE DRAIN ALL PCTFREE 0 FREEPAGE 255",
+            three,
+        ),
+        (
+            b"REORG TABLESPACE SHRLEVEL CHANGE FREEPAGE 255 DRAIN ALL PCTFREE 0",
+            three,
+        ),
+    ] {
+        assert_eq!(rt; options_of(&rt, rt.alloc(), deck), Ok(want), "at {deck:?}");
     }
 }
 
@@ -177,6 +252,17 @@ fn counts_lines(rt: HostRuntime) {
         (b"1 COMMIT\n1 COMMIT\nL", Ok(3), Err(3)),
         (b"1 COMMIT\nX\n1", Err(3), Err(2)),
         (b"1 COMMIT\n1\nX", Err(2), Err(2)),
+        (
+            b"1 COMMIT\nREORG TABLESPACE SHRLEVEL CHANGE DELAY 1\nU\nL\n",
+            Ok(4),
+            Err(2),
+        ),
+        (b"U\nREORG TABLESPACE SHRLEVEL CHANGE\n\n", Err(3), Err(1)),
+        (
+            b"REORG TABLESPACE SHRLEVEL CHANGE\nREORG TABLESPACE SHRLEVEL CHANGE",
+            Ok(2),
+            Err(1),
+        ),
     ] {
         let found = lines_of(&rt, rt.alloc(), deck).map(|lines| lines.len());
         assert_eq!(rt;
@@ -211,8 +297,6 @@ fn reads_played_lines(rt: HostRuntime) -> Result<(), Fail> {
         (b"", "Ok([])"),
         (b"U", "Err(Line { number: 1 })"),
         (b"X", "Ok([Death])"),
-        (b"REORG", "Err(Line { number: 1 })"),
-        (b"REORG SHRLEVEL CHANGE", "Err(Line { number: 1 })"),
         (b"f", "Err(Line { number: 1 })"),
         (b"F ", "Err(Line { number: 1 })"),
         (b"FL", "Err(Line { number: 1 })"),
@@ -222,7 +306,14 @@ fn reads_played_lines(rt: HostRuntime) -> Result<(), Fail> {
         (b"X\nX\n", "Ok([Death, Death])"),
         (b"1 X", "Err(Line { number: 1 })"),
         (b"F\nU", "Err(Line { number: 2 })"),
-        (b"1 COMMIT\nREORG\nF", "Err(Line { number: 2 })"),
+        (
+            b"REORG TABLESPACE SHRLEVEL CHANGE",
+            "Err(Line { number: 1 })",
+        ),
+        (
+            b"1 COMMIT\nREORG TABLESPACE SHRLEVEL CHANGE MAXRO 10\nF",
+            "Err(Line { number: 2 })",
+        ),
         (b"L\nF\nU\nX", "Err(Line { number: 3 })"),
     ] {
         let lines = played_lines(&rt, alloc, deck);

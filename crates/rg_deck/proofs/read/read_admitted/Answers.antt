@@ -1,12 +1,18 @@
-use Rattle.std.proofs.Common.{◌≡◌, ◌+◌, ◌<◌, length, arith}
+use Rattle.std.proofs.Common.{◌≡◌, ◌<◌, [], ◌∷◌, ◌++◌, length, arith}
 use Rattle.std.proofs.lemmas.Bool.Decides.{nat_tests}
-use Rattle.rg_deck.proofs.Deck.{refuses}
+use Rattle.std.proofs.lemmas.Grind.{common_steps}
+use Rattle.rg_deck.proofs.Deck.{read_more, refuses}
 use Rattle.rg_deck.proofs.read.read_admitted.Goals as goal
 
 pub returns-in-Ok-None-clause-fault : goal.returns-in-Ok-None-clause-fault
 returns-in-Ok-None-clause-fault c =
-    let i = c.loop-rest.invariant in
     let outside = rw c.in-Ok-None.field-0-is at c.in-Ok-None.ensures in
     let some : 0 < length c.loop-rest.rest.now = grind (arith, nat_tests) in
-    let counted : c.loop-rest.number + 1 ≡ length c.loop-rest.lines.items + 1 = omega arith in
-    refuses _ _ _ _ _ _ _ i.reads some c.split_line.ensures i.each counted outside
+    refuses _ _ _ _ _ _ _ c.loop-rest.invariant some c.split_line.ensures outside
+
+pub loop-rest-preserved : goal.loop-rest-preserved
+loop-rest-preserved c =
+    let is = rw c.in-Ok-Some.field-0-is at c.in-Ok-Some.ensures in
+    let some : 0 < length c.loop-rest.rest.now = grind (arith, nat_tests) in
+    let pushed : c.push.new.self.items ≡ c.loop-rest.lines.items ++ c.in-Ok-Some.line ∷ [] = grind (arith, common_steps) in
+    rw pushed (read_more _ _ _ _ _ _ _ _ c.loop-rest.invariant some c.split_line.ensures is.0 is.1)
