@@ -284,6 +284,8 @@ impl<V: Counts, O: Operator> Desk<V, O> {
         requires counted { HasCalls (seen_volume V.told V.faults V.capacities volume) calls }
         ensures opens { IfOk result (Opens (seen_volume V.told V.faults V.capacities) volume
             operator found.log found.copy (capacity_in found.space) (space_pages found.space)) }
+        ensures contents { IfOk result
+            (λ desk. desk.contents ≡ (list_seen (frames_of found.space)).pages) }
         ensures older { IfOk result (λ desk. desk.older ≡ trace.items) }
         ensures err { IfErr result (λ fault. fault ≡ record {
           volume = volume;

@@ -11,5 +11,6 @@ pub mod Switches
 pub mod Reading
 pub mod Standing
 pub mod Looking
+pub mod Opened
 pub mod Finding
 pub mod Matching

@@ -37,6 +37,7 @@ use Rattle.rg_sound.specs.ClosingLaws.{IsClosedLog, MayClose}
 use Rattle.rg_sound.specs.Pages.{Fit, IsMatched, copy_of, count_of}
 use Rattle.rg_sound.specs.Reopens.{CanReopen, HasLowOwners, IsBelow, IsRedone}
 use Rattle.rg_sound.proofs.Closings.{closings_reopen, closings_tell}
+use Rattle.rg_sound.proofs.Switched.{pages_since}
 use Rattle.rg_space.specs.Carries.{AllThere}
 use Rattle.rg_space.specs.Memory.{list_seen, space_pages}
 use Rattle.rg_space.specs.Redo.{RedoFits, redone}
@@ -60,7 +61,7 @@ all_to_each (entry ∷ rs) pages k low fit = (
 )
 
 -- a record with no part on a page fits it, and changes nothing of it
-unnamed_same : (entry : Record) (x : Content) → names x.number entry ≡ false → redone entry x ≡ x
+pub unnamed_same : (entry : Record) (x : Content) → names x.number entry ≡ false → redone entry x ≡ x
 unnamed_same entry x unnamed = elim (step entry x) [ inl passed ↦ passed.same | inr gained ↦ absurd (cc (gained.named, unnamed)) ]
 
 unnamed_fits : (entry : Record) (x : Content) → names x.number entry ≡ false → RedoFits entry x
@@ -125,29 +126,11 @@ module _ (log now : Listed) (chain : Running) (base : List Content) (seen : Seen
 
 -- ---- the copy that the opening begins
 
-pages_keep : (kept : ℕ) (kind : Kind) → is_switch kind ≡ false → switch_pages kept kind ≡ kept
-pages_keep kept (Change home before after parts) other = refl
-pages_keep kept (Undo next home after parts) other = refl
-pages_keep kept Commit other = refl
-pages_keep kept RolledBack other = refl
-pages_keep kept (Purge parts) other = refl
-pages_keep kept (Switch copy pages) other = absurd (cc (other))
-
-no_more : (kept : ℕ) (rs : List Record) → AllByRecursion (λ (entry : Record). is_switch entry.kind ≡ false) rs → switched_pages_from kept rs ≡ kept
-no_more kept [] none = refl
-no_more kept (entry ∷ rs) none = no_more (switch_pages kept entry.kind) rs none.1 ∙ pages_keep kept entry.kind none.0
-
-pages_front : (kept : ℕ) (xs ys : List Record) → AllByRecursion (λ (entry : Record). is_switch entry.kind ≡ false) ys → switched_pages_from kept (xs ++ ys) ≡ switched_pages_from kept xs
-pages_front kept [] ys none = no_more kept ys none
-pages_front kept (entry ∷ xs) ys none = pages_front (switch_pages kept entry.kind) xs ys none
-
 -- it has as many pages as the last Switch of the log counts, up to its position
 pub pages_counted : (rs more : List Record) (base : List Content) → ArePositions rs → (opened_epoch rs base).pages ≡ switched_pages (take (opened_epoch rs base).from (rs ++ more))
 pages_counted rs more base positions =
-    let from : ℕ = switched_at rs in
-    ap switched_pages (sym (take-append-drop from rs))
-    ∙ pages_front 0 (take from rs) (drop from rs) (steady_opened rs base positions).none
-    ∙ ap switched_pages (sym (take-append-le from rs more (has_switched rs positions).high))
+    pages_since (opened_epoch rs base) rs (steady_opened rs base positions)
+    ∙ ap switched_pages (sym (take-append-le (switched_at rs) rs more (has_switched rs positions).high))
 
 -- an empty page is taken as empty
 taken_empty : (from pages p copy : ℕ) → taken_past from pages p (empty copy p) ≡ empty copy p

@@ -3,9 +3,13 @@
 -- 1. An opening writes nothing. What its undo appends stays in memory until a COMMIT forces it.
 -- 2. Where the volume read tidy, a crash leaves of each page of the current copy what was read: a
 --    version of it that the records cover, or a page that is left over.
--- 3. It is refused only where a page breaks a rule of a sound volume, a call of the volume failed,
+-- 3. The pages of the desk are what the records make of those that were taken. One that no record
+--    names since the last Switch is as it was taken; up to those that this Switch counts it stands
+--    as it was read.
+-- 4. It is refused only where a page breaks a rule of a sound volume, a call of the volume failed,
 --    or memory ran out. The page is that of the first rule that is broken.
-use Rattle.std.specs.Prelude.{◌≡◌, ◌≤◌, ◌⊎◌, List, length}
+use Rattle.std.specs.Prelude.{◌≡◌, ◌≤◌, ◌⊎◌, ℕ, false, List, length, drop}
+use Rattle.std.specs.List.{AllByRecursion}
 use Rattle.rg_base.specs.declared.set.Set.TheVariants.{Log}
 use Rattle.rg_desk.specs.Desk.{DeskState, Opens}
 use Rattle.rg_desk.specs.OnVolume.{IsOnVolume, WasAllTidy}
@@ -22,7 +26,9 @@ use Rattle.rg_log.specs.Kept.{Listed, log_pages}
 use Rattle.rg_log.specs.Open.{IsQuiet}
 use Rattle.rg_log.specs.declared.fault.LogFault.{LogFault}
 use Rattle.rg_log.specs.declared.fault.LogFault.TheVariants as log_faults
-use Rattle.rg_outside.specs.Calls.{read_of}
+use Rattle.rg_newest.specs.Newest.{page_in}
+use Rattle.rg_newest.specs.Tidy.{opened_epoch, set_of, switched_at, switched_pages}
+use Rattle.rg_outside.specs.Calls.{Image, read_of}
 use Rattle.rg_outside.specs.Capacities.{Capacities}
 use Rattle.rg_outside.specs.Faults.{Rose}
 use Rattle.rg_outside.specs.Moments.{EachCall, IfTold}
@@ -30,6 +36,7 @@ use Rattle.rg_page.specs.Content.{Content}
 use Rattle.rg_record.specs.declared.record.Record.{Record}
 use Rattle.rg_space.specs.Memory.{space_pages}
 use Rattle.rg_unended.specs.Unended.{open_in}
+use Rattle.rg_version.specs.Versions.{Spells, names, version}
 use Rattle.rg_restart.specs.Closed.{TookBack}
 use Rattle.rg_restart.specs.Found.{Finds}
 use Rattle.rg_sound.specs.Pages.{copy_of, count_of}
@@ -88,6 +95,27 @@ pub record Looks (old new : VolumeSeen) (found : Found) : Type 0 where
   pub below : IfTold new.told (λ t. WasAllTidy new.capacities t
       → AllBelow found.top (slot_of (space_pages found.space)))
 
+-- no record of these has a part on the page
+abbrev pub NoneNames : (page : ℕ) → List Record → Type 0
+NoneNames page rs = AllByRecursion (λ entry. names page entry ≡ false) rs
+
+-- Pages that these records make of the ones that were taken, of a log that had the records `read`.
+-- One that none names since the last Switch is as it was taken.
+pub record AreMadeOf (read : List Record) (base : List Content) (rs : List Record)
+    (pages : List Content) : Type 0 where
+  pub each :
+      (p : ℕ) → 1 ≤ p
+      → page_in (copy_of read) pages p ≡ version (opened_epoch read base) rs (length rs) p
+  pub unnamed :
+      (p : ℕ) → 1 ≤ p → NoneNames p (drop (switched_at read) rs)
+      → page_in (copy_of read) pages p ≡ page_in (copy_of read) base p
+
+-- up to those that the Switch counts, such a page stands as this image has it
+abbrev pub StandAsRead : (read rs : List Record) → (pages : List Content) → Image → Type 0
+StandAsRead read rs pages i =
+    (p : ℕ) → 1 ≤ p → p ≤ switched_pages read → NoneNames p (drop (switched_at read) rs)
+    → Spells (i (set_of (copy_of read)) p) (page_in (copy_of read) pages p)
+
 -- A desk that was opened over a volume: over its log as it read, to which the undo of open units
 -- was appended, and over the pages that this log leaves.
 pub record OpensStored {V O : Type 0}
@@ -105,3 +133,7 @@ pub record OpensStored {V O : Type 0}
     pub calls : CallsQuiet old (look desk.volume)
     pub base : List Content
     pub sound : ReadsSound (look desk.volume) log.records base
+    pub made_of : AreMadeOf log.records base now.records desk.contents
+    pub as_read :
+        IfTold (look desk.volume).told
+        (λ t. StandAsRead log.records now.records desk.contents (read_of t.first t.calls))

@@ -212,6 +212,7 @@ pub fn find(
     let Ok(indexes) = indexes_of(alloc, &mut space) else {
         return Err(OpenCause::NoMemory);
     };
+    // That the records fit their set: that the log can be opened again needs it.
     let _ = log.records();
     Ok(Found {
         log,

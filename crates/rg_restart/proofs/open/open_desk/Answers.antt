@@ -1,5 +1,12 @@
+use Rattle.std.proofs.Common.{◌≡◌}
 use Rattle.rg_log.specs.Open.{IsQuiet}
+use Rattle.rg_space.specs.Memory.{list_seen, space_pages}
+use Rattle.rg_space.specs.Space.{capacity_in, frames_of}
+use Rattle.rg_desk.specs.Desk.{Opens}
+use Rattle.rg_desk.specs.Volume.{seen_volume}
+use Rattle.rg_restart.specs.Opening.{OpensStored}
 use Rattle.rg_desk.proofs.Leaving.{has_more}
+use Rattle.rg_restart.proofs.Opened.{ok_both, opens_stored}
 use Rattle.rg_restart.proofs.open.open_desk.Goals as goal
 
 pub new-requires-clause-copy : goal.new-requires-clause-copy
@@ -8,3 +15,16 @@ new-requires-clause-copy g c = c.in-Ok.ensures.looks.finds.copy
 -- looking makes more calls, and takes none back
 pub new-requires-clause-counted : goal.new-requires-clause-counted
 new-requires-clause-counted g c = has_more IsQuiet (g.V.Volume.told c.args.volume) (g.V.Volume.told c.look.new.volume) c.args.calls c.in-Ok.ensures.looks.calls.only c.requires.counted
+
+pub returns-in-Ok-clause-opens : goal.returns-in-Ok-clause-opens
+returns-in-Ok-clause-opens g c =
+    let look = seen_volume g.V.Volume.told g.V.Volume.faults g.V.Volume.capacities in
+    let found = c.in-Ok.found in
+    let volume = c.look.new.volume in
+    let operator = c.args.operator in
+    ok_both c.new.result
+    (Opens look volume operator found.log found.copy (capacity_in found.space) (space_pages found.space))
+    (λ desk. desk.contents ≡ (list_seen (frames_of found.space)).pages)
+    (OpensStored look (look c.args.volume) operator)
+    (λ desk opens contents. opens_stored look (look c.args.volume) volume operator found desk c.in-Ok.ensures.looks opens contents)
+    c.new.ensures.opens c.new.ensures.contents

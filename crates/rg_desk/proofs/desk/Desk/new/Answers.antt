@@ -6,9 +6,9 @@ use Rattle.rg_lawful.specs.Lawful.{AllBelow}
 use Rattle.rg_log.specs.Kept.{Listed}
 use Rattle.rg_outside.proofs.Every.{told_weaken}
 use Rattle.rg_record.specs.declared.record.Record.{Record}
-use Rattle.rg_space.specs.Space.{capacity_in}
+use Rattle.rg_space.specs.Space.{capacity_in, frames_of}
 use Rattle.rg_desk.specs.Bytes.{taken_of}
-use Rattle.rg_space.specs.Memory.{space_pages}
+use Rattle.rg_space.specs.Memory.{list_seen, space_pages}
 use Rattle.rg_desk.specs.Engine.{slots_in}
 use Rattle.rg_desk.specs.OnVolume.{IsOnVolume, WasAllTidy}
 use Rattle.rg_desk.specs.Reopens.{IsCleanIn}
@@ -59,3 +59,6 @@ returns-in-Ok-clause-opens g c =
       same = refl;
       asked = refl;
     }
+
+pub returns-in-Ok-clause-contents : goal.returns-in-Ok-clause-contents
+returns-in-Ok-clause-contents g c = ap (λ sp. (list_seen (frames_of sp)).pages) c.in-Ok.ensures.begun.space
