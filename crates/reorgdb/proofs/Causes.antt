@@ -16,7 +16,7 @@ use Rattle.rg_deck.proofs.Readings.{one_reading}
 use Rattle.rg_print.specs.Print.{print_text}
 use Rattle.rg_print.specs.declared.print.Close.TheVariants as closes
 use Rattle.rg_run.specs.Played.{TraceOf}
-use Rattle.rg_run.specs.Table.{AreOpenings, EndsAtOpening, IsLegalRun, IsOpening, KeepsSound}
+use Rattle.rg_run.specs.Table.{AreFlushes, AreOpenings, EndsAtOpening, IsLegalRun, IsOpening, KeepsSound}
 use Rattle.rg_run.specs.declared.played.RunEnd.TheVariants as ends
 use Rattle.rg_log.proofs.Ready.{quiet_reads}
 use Rattle.rg_run.proofs.Fullness.{full_less}
@@ -433,18 +433,19 @@ module _ (words : List (List ℕ)) (source source_after sink sink_after : Seen) 
 
   -- the whole contract, by what the call comes to
   pub completes :
-      Concludes words source source_after sink sink_after volume volume_after status trace → IsLegalRun volume volume_after trace → IsOpening volume volume_after trace → AreOpenings volume volume_after trace → KeepsSound volume volume_after trace
+      Concludes words source source_after sink sink_after volume volume_after status trace → IsLegalRun volume volume_after trace → IsOpening volume volume_after trace → AreOpenings volume volume_after trace → AreFlushes volume volume_after trace → KeepsSound volume volume_after trace
       → IsFullOnlyFrom (3221 * smaller_pages volume.capacities) 0 trace
       → IsLogFullOnlyFrom (limit_of (log_pages volume.capacities)) 0 trace
       → IsDeviceOnlyIf (Rose volume.faults volume_after.faults) trace
       → MakesOnly (WritesOwn trace) volume.told volume_after.told
       → TakesAtMost (DECK_LIMIT + 1) source.bytes source_after.bytes
       → Completes words source source_after sink sink_after volume volume_after status trace
-  completes concludes legal opening openings sound full log_full device only bounded = record {
+  completes concludes legal opening openings flushes sound full log_full device only bounded = record {
     concludes = concludes;
     legal = legal;
     opening = opening;
     openings = openings;
+    flushes = flushes;
     sound = sound;
     full = full_less (3200 * smaller_pages volume.capacities) (3221 * smaller_pages volume.capacities) 0 trace (omega arith) full;
     log_full = log_full;

@@ -8,7 +8,7 @@ use Rattle.rg_deck.specs.declared.read.TheConstants.{DECK_LIMIT}
 use Rattle.rg_outside.specs.Faults.{Rose}
 use Rattle.rg_desk.specs.Volume.{VolumeSeen}
 use Rattle.rg_run.specs.Outside.{IsDeviceOnlyIf, MakesOnly, WritesOwn}
-use Rattle.rg_run.specs.Table.{AreOpenings, IsLegalRun, IsOpening, KeepsSound}
+use Rattle.rg_run.specs.Table.{AreFlushes, AreOpenings, IsLegalRun, IsOpening, KeepsSound}
 use Rattle.rg_image.specs.Rules.{limit_of}
 use Rattle.rg_log.specs.Kept.{log_pages}
 use Rattle.rg_run.specs.Full.{IsFullOnlyFrom, smaller_pages}
@@ -33,6 +33,9 @@ pub record Completes (words : List (List ℕ)) (source source_after sink sink_af
   pub opening : IsOpening volume volume_after trace
   -- So has the entry of each later opening, of the log as the volume read then.
   pub openings : AreOpenings volume volume_after trace
+  -- A flush that says that a page was written has written that page to the set of the current copy,
+  -- by its last call. One that says CLEAN has made no call.
+  pub flushes : AreFlushes volume volume_after trace
   -- FULL is answered only where what the last opening found and what was written since reach 3,200
   -- bytes for each page of the smaller copy.
   pub full : IsFullOnlyFrom (3200 * smaller_pages volume.capacities) 0 trace

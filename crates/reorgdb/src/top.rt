@@ -8,7 +8,7 @@ ghost use Rattle.rg_log.specs.Kept.{log_pages};
 ghost use Rattle.rg_run.specs.Full.{IsFullOnlyFrom, smaller_pages};
 ghost use Rattle.rg_run.specs.LogFull.{IsLogFullOnlyFrom};
 ghost use Rattle.rg_run.specs.Outside.{IsDeviceOnlyIf, MakesOnly, WritesOwn};
-ghost use Rattle.rg_run.specs.Table.{AreOpenings, IsLegalRun, IsOpening, KeepsSound};
+ghost use Rattle.rg_run.specs.Table.{AreFlushes, AreOpenings, IsLegalRun, IsOpening, KeepsSound};
 ghost use Rattle.rg_desk.specs.Volume.{seen_volume};
 ghost use Rattle.reorgdb.specs.Reading.{TakesAtMost};
 
@@ -118,6 +118,8 @@ fn answer<S: Source, K: Sink, V: Volume, O: Operator>(
     ensures opening { IsOpening (seen_volume V.told V.faults V.capacities volume)
         (seen_volume V.told V.faults V.capacities result.2) result.1.items }
     ensures openings { AreOpenings (seen_volume V.told V.faults V.capacities volume)
+        (seen_volume V.told V.faults V.capacities result.2) result.1.items }
+    ensures flushes { AreFlushes (seen_volume V.told V.faults V.capacities volume)
         (seen_volume V.told V.faults V.capacities result.2) result.1.items }
     ensures sound { KeepsSound (seen_volume V.told V.faults V.capacities volume)
         (seen_volume V.told V.faults V.capacities result.2) result.1.items }

@@ -15,7 +15,8 @@ ghost use Rattle.rg_log.specs.Kept.{log_pages};
 ghost use Rattle.rg_run.specs.Full.{IsFullOnlyFrom, smaller_pages};
 ghost use Rattle.rg_run.specs.LogFull.{IsLogFullOnlyFrom};
 ghost use Rattle.rg_run.specs.Outside.{IsDeviceOnlyIf, IsEnd, MakesOnly, WritesOwn};
-ghost use Rattle.rg_run.specs.Table.{AreOpenings, Ends, IsLegalRun, IsOpening, KeepsSound};
+ghost use Rattle.rg_run.specs.Table.{AreFlushes, AreOpenings, Ends, IsLegalRun, IsOpening};
+ghost use Rattle.rg_run.specs.Table.{KeepsSound};
 ghost use Rattle.reorgdb.specs.Answer.{Seen, seen, IsShow, IsRefusedAt, DealsWithLines, DealsWithBytes};
 ghost use Rattle.reorgdb.specs.Answer.{Comes, Finds, IsLayoutText, ShowsTo, output_of};
 ghost use Rattle.reorgdb.specs.Reading.{TakesAtMost};
@@ -144,6 +145,8 @@ pub fn carry_out<S: Source, V: Volume, O: Operator>(
         (seen_volume V.told V.faults V.capacities result.volume) result.trace.items }
     ensures openings { AreOpenings (seen_volume V.told V.faults V.capacities volume)
         (seen_volume V.told V.faults V.capacities result.volume) result.trace.items }
+    ensures flushes { AreFlushes (seen_volume V.told V.faults V.capacities volume)
+        (seen_volume V.told V.faults V.capacities result.volume) result.trace.items }
     ensures sound { KeepsSound (seen_volume V.told V.faults V.capacities volume)
         (seen_volume V.told V.faults V.capacities result.volume) result.trace.items }
     ensures full { IsFullOnlyFrom (3221 * smaller_pages (V.capacities volume)) 0
@@ -186,6 +189,8 @@ fn show_layout<V: Volume, O: Operator>(alloc: Global, volume: V, operator: O) ->
         (seen_volume V.told V.faults V.capacities result.volume) result.trace.items }
     ensures openings { AreOpenings (seen_volume V.told V.faults V.capacities volume)
         (seen_volume V.told V.faults V.capacities result.volume) result.trace.items }
+    ensures flushes { AreFlushes (seen_volume V.told V.faults V.capacities volume)
+        (seen_volume V.told V.faults V.capacities result.volume) result.trace.items }
     ensures sound { KeepsSound (seen_volume V.told V.faults V.capacities volume)
         (seen_volume V.told V.faults V.capacities result.volume) result.trace.items }
     ensures full { IsFullOnlyFrom (3221 * smaller_pages (V.capacities volume)) 0
@@ -223,6 +228,8 @@ fn play_bytes<V: Volume, O: Operator>(
     ensures opening { IsOpening (seen_volume V.told V.faults V.capacities volume)
         (seen_volume V.told V.faults V.capacities result.volume) result.trace.items }
     ensures openings { AreOpenings (seen_volume V.told V.faults V.capacities volume)
+        (seen_volume V.told V.faults V.capacities result.volume) result.trace.items }
+    ensures flushes { AreFlushes (seen_volume V.told V.faults V.capacities volume)
         (seen_volume V.told V.faults V.capacities result.volume) result.trace.items }
     ensures sound { KeepsSound (seen_volume V.told V.faults V.capacities volume)
         (seen_volume V.told V.faults V.capacities result.volume) result.trace.items }

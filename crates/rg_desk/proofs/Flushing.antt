@@ -1,5 +1,5 @@
 -- A flush, step by step.
-use Rattle.std.proofs.Common.{◌≡◌, ◌≤◌, ◌<◌, ◌⊎◌, inl, inr, ℕ, List, [], ◌∷◌, length, Option, Some, None, Result, Ok, take, refl, sym, ◌∙◌, ap, subst, arith, append-nil}
+use Rattle.std.proofs.Common.{◌≡◌, ◌≤◌, ◌<◌, ◌⊎◌, inl, inr, ℕ, List, [], ◌∷◌, length, Option, Some, None, Result, Ok, take, refl, sym, ◌∙◌, ap, subst, arith, append-nil, length-append}
 use Rattle.rg_base.proofs.Walk.{place}
 use Rattle.rg_base.specs.declared.position.Position.{Position}
 use Rattle.rg_base.specs.declared.set.Set.{Set}
@@ -70,6 +70,15 @@ in_set set page bytes Synced is = tt
 in_set set page bytes FailedRead is = tt
 in_set set page bytes FailedSync is = tt
 in_set set page bytes Refused is = tt
+
+-- the calls before these
+earlier_calls : (Kind : Call → Type 0) (old : Option Told) (t : Told) → EachCall old (Some t) Kind → IfTold old (λ o. length o.calls ≤ length t.calls)
+earlier_calls Kind None t made = tt
+earlier_calls Kind (Some o) t made =
+    let was : o ≡ made.0 = cc (made.2) in
+    let same = ap (λ (u : Told). length u.calls) was in
+    let longer = ap (λ (u : Told). length u.calls) made.3 ∙ length-append made.1 (made.0).calls in
+    omega (arith, same, longer)
 
 pub own_calls : (copy : ℕ) (a b : VolumeSeen) → CallsLog a b → CallsOwn copy a b
 own_calls copy a b calls = record {
@@ -328,23 +337,24 @@ module _ (copy : ℕ) (d mid now : Engine) (before v : VolumeSeen) (same : SameE
           is = (
             least,
             record { here = marked; others = λ p one differ. rest p one differ ∙ others p one differ },
-            last_write v.told w.told made_ok,
+            last_write v.told w.told f.calls.only made_ok,
           );
         }
       where
-        last_write : (a b : Option Told) → MadeWrite (Ok tt) a (set_of copy) page bytes b → IfTold b (WrotePage (set_of copy) page (content_at (seen_in d).pages page))
-        last_write a None made = tt
-        last_write a (Some t) (call, is, (t0, was, after)) = one call is t0 after
+        last_write : (a b : Option Told) → EachCall before.told a (WritesIn Log) → MadeWrite (Ok tt) a (set_of copy) page bytes b → IfTold b (WrotePage before.told (set_of copy) page (content_at (seen_in d).pages page))
+        last_write a None forced made = tt
+        last_write a (Some t) forced (call, is, (t0, was, after)) = one call is t0 (earlier_calls (WritesIn Log) before.told t0 (subst (λ (o : Option Told). EachCall before.told o (WritesIn Log)) was forced)) after
           where
-            one : (call : Call) → IsWriteCall (Ok tt) (set_of copy) page bytes call → (t0 : Told) → t ≡ then_call t0 call → WrotePage (set_of copy) page (content_at (seen_in d).pages page) t
-            one (Wrote s p b) is t0 after =
+            one : (call : Call) → IsWriteCall (Ok tt) (set_of copy) page bytes call → (t0 : Told) → IfTold before.told (λ o. length o.calls ≤ length t0.calls) → t ≡ then_call t0 call → WrotePage before.told (set_of copy) page (content_at (seen_in d).pages page) t
+            one (Wrote s p b) is t0 since after =
                 let bytes_are : b ≡ page_bytes (content_at (seen_in d).pages page) = is.2 ∙ spells.is in
                 record {
                   before = t0.calls;
                   last = ap (λ (u : Told). u.calls) after ∙ ap (λ (s : Set). Wrote s p b ∷ t0.calls) is.0 ∙ ap (λ (p : ℕ). Wrote (set_of copy) p b ∷ t0.calls) is.1 ∙ ap (λ (b : List ℕ). Wrote (set_of copy) page b ∷ t0.calls) bytes_are;
+                  since = since;
                   reads = subst (λ (xs : List ℕ). Spells xs (content_at (seen_in d).pages page)) (sym (wrote_here (Some t0) (Some t) (set_of copy) page bytes (Wrote s p b, is, (t0, refl, after)))) spells;
                 }
-            one _ is t0 after = absurd is
+            one _ is t0 since after = absurd is
 
 -- nothing is called
 sound_same : (e : Epoch) (copy : ℕ) (d : Engine) (marks : List (Option Position)) (seen : VolumeSeen) → IsOn e copy d.log d.space marks seen → FitsSet seen d.log → LeavesIfTidy seen d.log → SoundThroughout seen seen

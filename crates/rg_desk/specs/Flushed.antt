@@ -48,11 +48,14 @@ pub record CallsOwn (copy : ℕ) (old new : VolumeSeen) : Type 0 where
   pub later : old.faults ≤ new.faults
   pub capacities : new.capacities ≡ old.capacities
 
--- the page was written by the last call, which succeeded, and reads as it is in memory
-pub record WrotePage (set : Set) (page : ℕ) (x : Content) (t : Told) : Type 0 where
-  pub before : List Call
-  pub last : t.calls ≡ Wrote set page (page_bytes x) ∷ before
-  pub reads : Spells (read_of t.first t.calls set page) x
+-- the page was written by the last of the calls made since, which succeeded, and reads as it is in
+-- memory
+pub record WrotePage (old : Option Told) (set : Set) (page : ℕ) (x : Content) (t : Told) : Type 0
+  where
+    pub before : List Call
+    pub last : t.calls ≡ Wrote set page (page_bytes x) ∷ before
+    pub since : IfTold old (λ o. length o.calls ≤ length before)
+    pub reads : Spells (read_of t.first t.calls set page) x
 
 -- each page reads as it is in memory
 abbrev pub ReadsAll : Set → List Content → Told → Type 0
@@ -72,7 +75,7 @@ abbrev pub IsFlush :
 IsFlush copy contents marks later old new (Flush page) =
     IsLeastDirty contents marks page
     × MarksPage page (content_at contents page).position marks later
-    × IfTold new.told (WrotePage (set_of copy) page (content_at contents page))
+    × IfTold new.told (WrotePage old.told (set_of copy) page (content_at contents page))
 IsFlush copy contents marks later old new Clean =
     AreClean contents marks × (new ≡ old) × IfTold new.told (ReadsAll (set_of copy) contents)
 IsFlush copy contents marks later old new FlushDevice = Rose old.faults new.faults

@@ -45,7 +45,7 @@ use Rattle.rg_run.specs.declared.played.RunEnd.TheVariants as ends
 use Rattle.rg_run.proofs.Fullness.{smaller_least}
 use Rattle.rg_run.proofs.Going.{made_now, made_on, same_table, was_tidy, whole_run}
 use Rattle.rg_run.proofs.Joins.{own_quiet}
-use Rattle.rg_run.proofs.Opening.{copy_first, found_first, old_first, opened_first, opening_then, pages_first, read_first_log, stores_first}
+use Rattle.rg_run.proofs.Opening.{copy_first, counted_first, found_first, old_first, opened_first, opening_then, pages_first, read_first_log, stores_first}
 use Rattle.rg_run.proofs.Openings.{all_join}
 use Rattle.rg_run.proofs.Plays.{goes_opened, rose_earlier}
 
@@ -332,7 +332,7 @@ module _ {V O : Type 0} (look : V → VolumeSeen) (first desk : DeskState V O) (
           record {
             base = next;
             back = [];
-            goes = goes_opened look next opened;
+            goes = goes_opened look next opened (copy_first look now operator next opens) (counted_first look now operator next opens);
             opened = opened;
             copy_is = copy_first look now operator next opens;
             opening = opening_then look now operator next opens;

@@ -1,5 +1,6 @@
 pub mod Fullness
 pub mod Joins
+pub mod Flushes
 pub mod Plays
 pub mod Going
 pub mod Opening

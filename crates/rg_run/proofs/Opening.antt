@@ -3,7 +3,7 @@ use Rattle.std.proofs.Common.{◌≡◌, ◌+◌, ℕ, List, Some, length, take,
 use Rattle.std.proofs.Math.Seq.{take-length}
 use Rattle.rg_desk.specs.Desk.{DeskState, old_records}
 use Rattle.rg_desk.specs.Stored.{IsStored}
-use Rattle.rg_desk.specs.Volume.{VolumeSeen}
+use Rattle.rg_desk.specs.Volume.{IsCount, VolumeSeen}
 use Rattle.rg_image.specs.Log.{log_of}
 use Rattle.rg_image.specs.Meaning.{stored}
 use Rattle.rg_image.specs.Pack.{log_bytes}
@@ -43,6 +43,11 @@ module _ {V O : Type 0} (look : V → VolumeSeen) (old : VolumeSeen) (operator :
   pub copy_first : opened_first.is.copy ≡ desk.copy
   unfolding opened_first
   copy_first = sym opens.opens.copy_is
+
+  -- so many calls were made up to it
+  pub counted_first : IsCount (look desk.volume) opened_first.entry.calls
+  unfolding opened_first
+  counted_first = opens.opens.counted
 
   -- the records that the desk began with
   pub old_first : old_records desk ≡ opens.now.records

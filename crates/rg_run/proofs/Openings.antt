@@ -1,7 +1,6 @@
 -- What read at an opening stays as it was, and no other entry is one.
 use Rattle.std.proofs.Common.{◌≡◌, ◌≤◌, ◌+◌, ◌-◌, ℕ, List, [], ◌∷◌, ◌++◌, Option, Some, None, length, drop, sym, ◌∙◌, ap, subst, arith, length-append}
 use Rattle.std.specs.List.{AllByRecursion, AllZip}
-use Rattle.std.proofs.Math.Seq.{drop-append-add}
 use Rattle.rg_desk.specs.Desk.{IsLayout}
 use Rattle.rg_desk.specs.Stored.{IsStored}
 use Rattle.rg_desk.specs.Volume.{VolumeSeen}
@@ -17,6 +16,7 @@ use Rattle.rg_stmt.specs.declared.event.Event.TheVariants as events
 use Rattle.rg_stmt.specs.declared.line.Line.{Line}
 use Rattle.rg_stmt.specs.declared.line.Line.TheVariants.{Death, Flush, Reorg, Said, Show, Step}
 use Rattle.rg_run.specs.Opening.{AreOpeningsSince, IfOpened, IsFoundThen, IsOpeningOf, IsOpeningThen, ReadSo}
+use Rattle.rg_run.proofs.Flushes.{calls_then}
 use Rattle.rg_run.specs.Parts.{AreParts, IsAlive, IsFound, IsFoundBy}
 use Rattle.rg_run.specs.Parts.AreParts.{Next, One}
 use Rattle.rg_run.specs.Played.{EntryOf, IsFlushed, TraceOf, first_of}
@@ -72,12 +72,7 @@ part_opened P lines (e ∷ es) entry of first alive p = (opened_so (P e) e.event
 
 -- what read at an earlier moment stays as it was
 earlier_reads : (before : Told) (fresh : List Call) (c : ℕ) → c ≤ length before.calls → read_at (record before { calls = fresh ++ before.calls }) c ≡ read_at before c
-earlier_reads before fresh c low =
-    ap (λ (n : ℕ). read_of before.first (drop n (fresh ++ before.calls))) (sum (length (fresh ++ before.calls)) (length fresh) (length before.calls) c (length-append fresh before.calls) low)
-    ∙ ap (read_of before.first) (drop-append-add fresh before.calls (length before.calls - c))
-  where
-    sum : (all m n s : ℕ) → all ≡ m + n → s ≤ n → all - s ≡ m + (n - s)
-    sum all m n s e low = omega (arith, e, low)
+earlier_reads before fresh c low = ap (read_of before.first) (calls_then before fresh c low)
 
 read_on : (P : Image → Type 0) (start calls : ℕ) (before : Told) (fresh : List Call) → ReadSo P start calls before → ReadSo P start calls (record before { calls = fresh ++ before.calls })
 read_on P start calls before fresh so =

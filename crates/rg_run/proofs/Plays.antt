@@ -19,14 +19,18 @@ use Rattle.rg_desk.specs.Answers.{IfFull, IfLogFull, is_device}
 use Rattle.rg_desk.specs.Chronicle.{allowed_after, allowed_by, logged_after, logged_by, system_entry}
 use Rattle.rg_desk.specs.Desk.{DeskState, IsLayout, MadeFlush, MadeLayout, MadeSaid, Stays}
 use Rattle.rg_desk.specs.Flushed.{CallsOwn, FlushIs, WritesEither}
-use Rattle.rg_desk.specs.Volume.{VolumeSeen}
+use Rattle.rg_desk.specs.Volume.{IsCount, VolumeSeen}
 use Rattle.rg_newest.specs.Tidy.{set_of}
 use Rattle.rg_outside.specs.Faults.{Rose}
+use Rattle.rg_outside.specs.Moments.{IfTold}
+use Rattle.rg_outside.proofs.Every.{told_both, told_weaken}
 use Rattle.rg_outside.proofs.Frame.{calls_join, no_calls}
+use Rattle.rg_run.specs.Flush.{AreFlushesSince, IsFlushThen, calls_of_last, copy_after, copy_of_last}
 use Rattle.rg_run.specs.Full.{IsFullFrom, IsFullOnlyFrom}
 use Rattle.rg_run.specs.LogFull.{IsLogFullFrom, IsLogFullOnlyFrom}
 use Rattle.rg_run.specs.Outside.{IsDeviceIf, IsDeviceOnlyIf}
 use Rattle.rg_run.specs.Played.{EntryOf, Goes, IsFlushed, IsOpened, IsOpenedEntry, TraceOf, first_of}
+use Rattle.rg_run.proofs.Flushes.{calls_push, copy_push, flush_then, flushed_keeps, flushes_on, flushes_push, layout_keeps, layout_tells, opened_alone, told_all}
 
 entries_push : (lines : List Line) (entries : List Entry) (line : Line) (entry : Entry) → AllZip EntryOf lines entries → EntryOf line entry → AllZip EntryOf (lines ++ line ∷ []) (entries ++ entry ∷ [])
 entries_push [] [] line entry all of = (of, tt)
@@ -196,8 +200,9 @@ module _ {V O : Type 0} (look : V → VolumeSeen) (first old new : DeskState V O
   rises rose = rose_earlier (look first.volume).faults (look old.volume).faults (look new.volume).faults goes.stays.calls.later rose
 
   on : (line : Line) (entry : Entry) → new.trace ≡ old.trace ++ entry ∷ [] → EntryOf line entry → IsFullFrom (3221 * old.ground.capacity) (allowed_by 0 old.trace) entry.event → IsLogFullFrom (limit_of old.ground.log.pages) (logged_by 0 old.trace) entry.event
-      → IsDeviceIf (Rose (look first.volume).faults (look new.volume).faults) entry.event → (new.down ≡ true → Rose (look first.volume).faults (look new.volume).faults) → Stays look old new → Goes look first (lines ++ line ∷ []) new
-  on line entry made of full log device down stays = record {
+      → IsDeviceIf (Rose (look first.volume).faults (look new.volume).faults) entry.event → (new.down ≡ true → Rose (look first.volume).faults (look new.volume).faults)
+      → IfTold (look new.volume).told (λ t. IsFlushThen (copy_of_last 0 old.trace) t.start (calls_of_last 0 old.trace) entry.calls t entry.event) → ((k : ℕ) → copy_after k entry.event ≡ k) → IsCount (look new.volume) entry.calls → Stays look old new → Goes look first (lines ++ line ∷ []) new
+  on line entry made of full log device down flush keeps counted stays = record {
     entries = subst (TraceOf (lines ++ line ∷ [])) (sym made) (trace_push lines old.trace line entry goes.entries of);
     begins = ap first_of made ∙ first_push lines old.trace entry goes.entries ∙ goes.begins;
     full =
@@ -211,6 +216,14 @@ module _ {V O : Type 0} (look : V → VolumeSeen) (first old new : DeskState V O
         (device_push (Rose (look first.volume).faults (look new.volume).faults) old.trace entry
         (device_more (Rose (look first.volume).faults (look old.volume).faults) (Rose (look first.volume).faults (look new.volume).faults) old.trace (risen stays) goes.device) device);
     down = down;
+    flushes =
+        subst (λ (es : List Entry). IfTold (look new.volume).told (λ t. AreFlushesSince t.start t es)) (sym made)
+        (told_weaken (λ t. AreFlushesSince t.start t old.trace × IsFlushThen (copy_of_last 0 old.trace) t.start (calls_of_last 0 old.trace) entry.calls t entry.event) (λ t. AreFlushesSince t.start t (old.trace ++ entry ∷ [])) (look new.volume).told
+        (λ t both. flushes_push 0 t.start 0 t old.trace entry both.0 both.1)
+        (told_both (λ t. AreFlushesSince t.start t old.trace) (λ t. IsFlushThen (copy_of_last 0 old.trace) t.start (calls_of_last 0 old.trace) entry.calls t entry.event) (look new.volume).told
+        (flushes_on (WritesEither (set_of old.copy)) (look old.volume).told (look new.volume).told 0 0 old.trace stays.calls.only goes.flushes) flush));
+    copy_is = ap (copy_of_last 0) made ∙ copy_push 0 old.trace entry ∙ keeps (copy_of_last 0 old.trace) ∙ goes.copy_is ∙ sym stays.copy;
+    counted = subst (IsCount (look new.volume)) (sym (ap (calls_of_last 0) made ∙ calls_push 0 old.trace entry)) counted;
     stays = stays_on stays;
   }
 
@@ -218,7 +231,7 @@ module _ {V O : Type 0} (look : V → VolumeSeen) (first old new : DeskState V O
   goes_said session stmt said =
       on (Said session stmt) (said_entry session stmt said.reply said.calls) said.made (said.reply, refl, said.is) (full_said session stmt said.reply (allowed_by 0 old.trace) old.ground.capacity said.full) (log_said session stmt said.reply (logged_by 0 old.trace) old.ground.log.pages said.log_full)
       (device_said (Rose (look first.volume).faults (look new.volume).faults) session stmt said.reply (λ is. rises (said.device is)))
-      (λ down. by_old old.down refl (sym said.down ∙ down)) said.stays
+      (λ down. by_old old.down refl (sym said.down ∙ down)) (told_all (look new.volume).told (λ t. Unit {0}) (λ t. tt)) (λ k. refl) said.counted said.stays
     where
       by_old : (b : Bool) → old.down ≡ b → (b || is_device said.reply) ≡ true → Rose (look first.volume).faults (look new.volume).faults
       by_old true e down = risen said.stays (goes.down e)
@@ -227,14 +240,19 @@ module _ {V O : Type 0} (look : V → VolumeSeen) (first old new : DeskState V O
   pub goes_shown : MadeLayout look old new → Goes look first (lines ++ Show ∷ []) new
   goes_shown shown =
       on Show (system_entry shown.event shown.calls) shown.made (old.copy, shown.event, refl, shown.is) (full_layout old.copy shown.event (3221 * old.ground.capacity) (allowed_by 0 old.trace) shown.is) (log_layout old.copy shown.event (limit_of old.ground.log.pages) (logged_by 0 old.trace) shown.is)
-      (device_layout (Rose (look first.volume).faults (look new.volume).faults) old.copy shown.event shown.is) (λ down. risen shown.stays (goes.down (sym shown.down ∙ down))) shown.stays
+      (device_layout (Rose (look first.volume).faults (look new.volume).faults) old.copy shown.event shown.is) (λ down. risen shown.stays (goes.down (sym shown.down ∙ down)))
+      (told_all (look new.volume).told (λ t. IsFlushThen (copy_of_last 0 old.trace) t.start (calls_of_last 0 old.trace) shown.calls t shown.event) (λ t. layout_tells old.copy shown.event shown.is (copy_of_last 0 old.trace) t.start (calls_of_last 0 old.trace) shown.calls t))
+      (layout_keeps old.copy shown.event shown.is) shown.counted shown.stays
 
   pub goes_flushed : MadeFlush look old new → Goes look first (lines ++ Flush ∷ []) new
   goes_flushed made =
       let is = flushed_so old.down old.copy old.contents old.marks new.marks (look old.volume) (look new.volume) made.event made.is in
       on Flush (system_entry made.event made.calls) made.made (made.event, refl, is) (full_flush made.event (3221 * old.ground.capacity) (allowed_by 0 old.trace) is) (log_flush made.event (limit_of old.ground.log.pages) (logged_by 0 old.trace) is)
       (device_flush (Rose (look first.volume).faults (look new.volume).faults) old.down old.copy old.contents old.marks new.marks (look old.volume) (look new.volume) made.event rises made.is)
-      (λ down. risen made.stays (goes.down (sym made.down ∙ down))) made.stays
+      (λ down. risen made.stays (goes.down (sym made.down ∙ down)))
+      (subst (λ (k : ℕ). IfTold (look new.volume).told (λ t. IsFlushThen k t.start (calls_of_last 0 old.trace) made.calls t made.event)) (sym goes.copy_is)
+      (flush_then (WritesEither (set_of old.copy)) old.down old.copy old.contents old.marks new.marks (look old.volume) (look new.volume) (calls_of_last 0 old.trace) made.calls made.event made.stays.calls.only goes.counted made.counted made.is))
+      (flushed_keeps made.event is) made.counted made.stays
 
 -- the entry of an opening answers no statement
 full_opened : (entry : Entry) → IsOpenedEntry entry → (least allowed : ℕ) → IsFullFrom least allowed entry.event
@@ -247,14 +265,19 @@ device_opened : (entry : Entry) → IsOpenedEntry entry → (P : Type 0) → IsD
 device_opened entry is P = subst (λ (e : Entry). IsDeviceIf P e.event) (sym is.is) tt
 
 -- the run begins with the entry of the opening
-pub goes_opened : {V O : Type 0} (look : V → VolumeSeen) (desk : DeskState V O) → IsOpened desk → Goes look desk [] desk
-goes_opened look desk opened = record {
+pub goes_opened : {V O : Type 0} (look : V → VolumeSeen) (desk : DeskState V O) → (opened : IsOpened desk) → opened.is.copy ≡ desk.copy → IsCount (look desk.volume) opened.entry.calls → Goes look desk [] desk
+goes_opened look desk opened copy counted = record {
   entries = subst (TraceOf []) (sym opened.trace) (opened.is, tt);
   begins = refl;
   full = subst (IsFullOnlyFrom (3221 * desk.ground.capacity) 0) (sym opened.trace) (full_opened opened.entry opened.is (3221 * desk.ground.capacity) 0, tt);
   log_full = subst (IsLogFullOnlyFrom (limit_of desk.ground.log.pages) 0) (sym opened.trace) (log_opened opened.entry opened.is (limit_of desk.ground.log.pages) 0, tt);
   device = subst (IsDeviceOnlyIf (Rose (look desk.volume).faults (look desk.volume).faults)) (sym opened.trace) (device_opened opened.entry opened.is (Rose (look desk.volume).faults (look desk.volume).faults), tt);
   down = λ down. absurd (cc (down, opened.up));
+  flushes =
+      subst (λ (es : List Entry). IfTold (look desk.volume).told (λ t. AreFlushesSince t.start t es)) (sym opened.trace)
+      (told_all (look desk.volume).told (λ t. AreFlushesSince t.start t (opened.entry ∷ [])) (λ t. opened_alone 0 t.start 0 t opened.entry opened.is));
+  copy_is = ap (copy_of_last 0) opened.trace ∙ ap (λ (e : Entry). copy_after 0 e.event) opened.is.is ∙ copy;
+  counted = subst (IsCount (look desk.volume)) (sym (ap (calls_of_last 0) opened.trace)) counted;
   stays = record {
     capacity = refl;
     log_pages = refl;

@@ -24,16 +24,18 @@ use Rattle.rg_stmt.specs.declared.line.Line.{Line}
 use Rattle.rg_run.specs.Full.{IsFullOnlyFrom, smaller_pages}
 use Rattle.rg_run.specs.LogFull.{IsLogFullOnlyFrom}
 use Rattle.rg_run.specs.Outside.{IfBoth, IsDeviceOnlyIf, IsEnd, MakesOnly, WritesOwn, end_of, log_at}
+use Rattle.rg_run.specs.Flush.{AreFlushesSince}
 use Rattle.rg_run.specs.Opening.{AreOpeningsSince}
 use Rattle.rg_run.specs.Parts.{Going, IsRun, StaysSound}
-use Rattle.rg_run.specs.Table.{AreOpenings, Ends, IsLegalRun, IsOpening, KeepsSound}
+use Rattle.rg_run.specs.Table.{AreFlushes, AreOpenings, Ends, IsLegalRun, IsOpening, KeepsSound}
 use Rattle.rg_run.specs.declared.played.RunEnd.{RunEnd}
 use Rattle.rg_run.proofs.Again.{count_has}
 use Rattle.rg_run.proofs.Between.{both_weaken, read_out, since_out, sound_out}
+use Rattle.rg_run.proofs.Flushes.{recounted}
 use Rattle.rg_run.proofs.Ending.{end_out, ends_out, legal_out, opening_out}
 use Rattle.rg_run.proofs.Fullness.{smaller_least}
 use Rattle.rg_run.proofs.Joins.{own_quiet}
-use Rattle.rg_run.proofs.Opening.{copy_first, entry_first, entry_zero, found_first, old_first, opened_first, opening_first, opening_then, pages_first, read_first_log, stores_first}
+use Rattle.rg_run.proofs.Opening.{copy_first, counted_first, entry_first, entry_zero, found_first, old_first, opened_first, opening_first, opening_then, pages_first, read_first_log, stores_first}
 use Rattle.rg_run.proofs.Plays.{device_more, goes_opened, rose_wider}
 use Rattle.rg_run.proofs.Uncounted.{counted_calls, uncounted_only, uncounted_told}
 
@@ -43,6 +45,7 @@ pub record Whole (old new : VolumeSeen) (lines : List Line) (trace : List Entry)
   pub legal : IsLegalRun old new trace
   pub opening : IsOpening old new trace
   pub openings : AreOpenings old new trace
+  pub flushes : AreFlushes old new trace
   pub full : IsFullOnlyFrom (3221 * smaller_pages old.capacities) 0 trace
   pub log_full : IsLogFullOnlyFrom (limit_of (log_pages old.capacities)) 0 trace
   pub device : IsDeviceOnlyIf (Rose old.faults new.faults) trace
@@ -103,6 +106,7 @@ module _ {V : Type 0} (told : V → Option Told) (faults : V → ℕ) (capacitie
       legal = tt;
       opening = opens old.told new.told;
       openings = opens old.told new.told;
+      flushes = opens old.told new.told;
       full = tt;
       log_full = tt;
       device = tt;
@@ -195,6 +199,9 @@ module _ {V : Type 0} (told : V → Option Told) (faults : V → ℕ) (capacitie
           openings =
               since_out (WritesOwn trace) (λ start t. AreOpeningsSince (log_pages old.capacities) start t trace) ended.calls old.told new.told (λ start count t all. all) le made
               (subst (λ (c : Capacities). IfTold (counted new.told ended.calls) (λ t. AreOpeningsSince (log_pages c) t.start t trace)) kept run_seen.made.openings);
+          flushes =
+              since_out (WritesOwn trace) (λ start t. AreFlushesSince start t trace) ended.calls old.told new.told (λ start count t all. recounted 0 start 0 count t trace all) le made
+              run_seen.made.flushes;
           full = subst (λ (c : Capacities). IsFullOnlyFrom (3221 * smaller_pages c) 0 trace) kept run_seen.made.full;
           log_full = subst (λ (c : Capacities). IsLogFullOnlyFrom (limit_of (log_pages c)) 0 trace) kept run_seen.made.log_full;
           device = device_more (Rose (look desk.volume).faults new.faults) (Rose old.faults new.faults) trace wider run_seen.made.device;
@@ -214,7 +221,7 @@ module _ {V : Type 0} (told : V → Option Told) (faults : V → ℕ) (capacitie
       record {
         base = desk;
         back = [];
-        goes = goes_opened look desk opened;
+        goes = goes_opened look desk opened (copy_first look (look begun) operator desk opens) (counted_first look (look begun) operator desk opens);
         opened = opened;
         copy_is = copy_first look (look begun) operator desk opens;
         opening = opening_then look (look begun) operator desk opens;

@@ -1,3 +1,4 @@
+pub mod Flush
 pub mod Full
 pub mod LogFull
 pub mod Opening

@@ -12,9 +12,11 @@ use Rattle.rg_stmt.specs.Entries.{opened_entry, said_entry}
 use Rattle.rg_desk.specs.Chronicle.{system_entry}
 use Rattle.rg_desk.specs.Desk.{DeskState, IsLayout, Stays}
 use Rattle.rg_desk.specs.Desk.{is_reply}
-use Rattle.rg_desk.specs.Volume.{VolumeSeen}
+use Rattle.rg_desk.specs.Volume.{IsCount, VolumeSeen}
 use Rattle.rg_outside.specs.Faults.{Rose}
+use Rattle.rg_outside.specs.Moments.{IfTold}
 use Rattle.rg_image.specs.Rules.{limit_of}
+use Rattle.rg_run.specs.Flush.{AreFlushesSince, calls_of_last, copy_of_last}
 use Rattle.rg_run.specs.Full.{IsFullOnlyFrom}
 use Rattle.rg_run.specs.LogFull.{IsLogFullOnlyFrom}
 use Rattle.rg_run.specs.Outside.{IsDeviceOnlyIf}
@@ -87,6 +89,10 @@ pub record Goes {V O : Type 0}
   pub device :
       IsDeviceOnlyIf (Rose (look first.volume).faults (look desk.volume).faults) desk.trace
   pub down : desk.down ≡ true → Rose (look first.volume).faults (look desk.volume).faults
+  pub flushes :
+      IfTold (look desk.volume).told (λ t. AreFlushesSince t.start t desk.trace)
+  pub copy_is : copy_of_last 0 desk.trace ≡ desk.copy
+  pub counted : IsCount (look desk.volume) (calls_of_last 0 desk.trace)
   pub stays : Stays look first desk
 
 -- a desk whose trace is that of its opening, and which is up

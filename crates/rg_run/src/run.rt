@@ -20,7 +20,7 @@ ghost use Rattle.rg_run.specs.LogFull.{IsLogFullOnlyFrom};
 ghost use Rattle.rg_run.specs.Outside.{IsDeviceOnlyIf, IsEnd, MakesOnly, WritesOwn, end_of};
 ghost use Rattle.rg_run.specs.Parts.{Going, IsRun, LeavesRun};
 ghost use Rattle.rg_run.specs.Played.{IsPlayed};
-ghost use Rattle.rg_run.specs.Table.{AreOpenings, Ends, IsLegalRun, IsOpening, KeepsSound};
+ghost use Rattle.rg_run.specs.Table.{AreFlushes, AreOpenings, Ends, IsLegalRun, IsOpening, KeepsSound};
 
 use crate::played::{Played, RunEnd};
 use rg_base::no_memory::NoMemory;
@@ -52,6 +52,8 @@ pub fn run<V: Volume, O: Operator>(
     ensures opening { IsOpening (seen_volume V.told V.faults V.capacities volume)
         (seen_volume V.told V.faults V.capacities result.volume) result.trace.items }
     ensures openings { AreOpenings (seen_volume V.told V.faults V.capacities volume)
+        (seen_volume V.told V.faults V.capacities result.volume) result.trace.items }
+    ensures flushes { AreFlushes (seen_volume V.told V.faults V.capacities volume)
         (seen_volume V.told V.faults V.capacities result.volume) result.trace.items }
     ensures full { IsFullOnlyFrom (3221 * smaller_pages (V.capacities volume)) 0
         result.trace.items }

@@ -1,0 +1,142 @@
+-- What flushes tell of the calls stays so over more calls, and goes on by one entry.
+use Rattle.std.proofs.Common.{◌≡◌, ◌≤◌, ◌+◌, ◌-◌, ℕ, Bool, true, false, List, [], ◌∷◌, ◌++◌, Option, Some, None, length, drop, refl, sym, ◌∙◌, ap, subst, arith, length-append}
+use Rattle.std.proofs.Math.Seq.{drop-append-add}
+use Rattle.rg_base.specs.declared.position.Position.{Position}
+use Rattle.rg_desk.specs.Desk.{IsLayout}
+use Rattle.rg_desk.specs.Flushed.{FlushIs, WrotePage}
+use Rattle.rg_desk.specs.Volume.{IsCount, VolumeSeen}
+use Rattle.rg_newest.specs.Tidy.{set_of}
+use Rattle.rg_outside.specs.Calls.{Call, Told}
+use Rattle.rg_outside.specs.Moments.{EachCall, IfTold, moment}
+use Rattle.rg_outside.proofs.Every.{told_both, told_weaken}
+use Rattle.rg_page.specs.Content.{Content, content_at}
+use Rattle.rg_page_bytes.specs.PageBytes.{page_bytes}
+use Rattle.rg_stmt.specs.declared.event.Entry.{Entry}
+use Rattle.rg_stmt.specs.declared.event.Event.{Event}
+use Rattle.rg_stmt.specs.declared.event.Event.TheVariants as events
+use Rattle.rg_stmt.specs.declared.line.Line.{Line}
+use Rattle.rg_run.specs.Flush.{AreFlushesFrom, AreFlushesSince, IsFlushThen, WroteThen, calls_of_last, copy_after, copy_of_last}
+use Rattle.rg_run.specs.Played.{IsFlushed, IsOpenedEntry, TraceOf}
+
+-- what holds of every known volume
+pub told_all : (told : Option Told) (P : Told → Type 0) → ((t : Told) → P t) → IfTold told P
+told_all None P f = tt
+told_all (Some t) P f = f t
+
+-- ---- other entries
+
+pub layout_keeps : (copy : ℕ) (event : Event) → IsLayout copy event → (k : ℕ) → copy_after k event ≡ k
+layout_keeps copy (events.Opened opened rows pages used) is k = absurd is
+layout_keeps copy event is k = refl
+
+pub layout_tells : (copy : ℕ) (event : Event) → IsLayout copy event → (k start before calls : ℕ) (t : Told) → IsFlushThen k start before calls t event
+layout_tells copy (events.Flush page) is k start before calls t = absurd is
+layout_tells copy events.Clean is k start before calls t = absurd is
+layout_tells copy event is k start before calls t = tt
+
+pub flushed_keeps : (event : Event) → IsFlushed event → (k : ℕ) → copy_after k event ≡ k
+flushed_keeps (events.Opened opened rows pages used) is k = absurd is
+flushed_keeps event is k = refl
+
+-- ---- parts
+
+-- the entry of an opening tells nothing, whatever came before it
+pub opened_alone : (copy start before : ℕ) (t : Told) (entry : Entry) → IsOpenedEntry entry → AreFlushesFrom copy start before t (entry ∷ [])
+opened_alone copy start before t entry opened = subst (λ (e : Entry). AreFlushesFrom copy start before t (e ∷ [])) (sym opened.is) (tt, tt)
+
+opened_from : (copy other start before then : ℕ) (t : Told) (entry : Entry) (entries : List Entry) → IsOpenedEntry entry → AreFlushesFrom copy start before t (entry ∷ entries) → AreFlushesFrom other start then t (entry ∷ entries)
+opened_from copy other start before then t entry entries opened =
+    subst (λ (e : Entry). AreFlushesFrom copy start before t (e ∷ entries) → AreFlushesFrom other start then t (e ∷ entries)) (sym opened.is) (λ all. all)
+
+pub flushes_join : (start : ℕ) (t : Told) (copy before : ℕ) (lines : List Line) (older part : List Entry) → TraceOf lines part → AreFlushesFrom copy start before t older → AreFlushesSince start t part → AreFlushesFrom copy start before t (older ++ part)
+flushes_join start t copy before lines [] [] of all more = tt
+flushes_join start t copy before lines [] (e ∷ es) of all more = opened_from 0 copy start 0 before t e es of.0 more
+flushes_join start t copy before lines (e ∷ older) part of all more = (all.0, flushes_join start t (copy_after copy e.event) e.calls lines older part of all.1 more)
+
+-- ---- one entry more
+
+pub flushes_push : (copy start before : ℕ) (t : Told) (trace : List Entry) (entry : Entry) → AreFlushesFrom copy start before t trace → IsFlushThen (copy_of_last copy trace) start (calls_of_last before trace) entry.calls t entry.event
+    → AreFlushesFrom copy start before t (trace ++ entry ∷ [])
+flushes_push copy start before t [] entry all one = (one, tt)
+flushes_push copy start before t (e ∷ es) entry all one = (all.0, flushes_push (copy_after copy e.event) start e.calls t es entry all.1 one)
+
+pub copy_push : (copy : ℕ) (trace : List Entry) (entry : Entry) → copy_of_last copy (trace ++ entry ∷ []) ≡ copy_after (copy_of_last copy trace) entry.event
+copy_push copy [] entry = refl
+copy_push copy (e ∷ es) entry = copy_push (copy_after copy e.event) es entry
+
+pub calls_push : (calls : ℕ) (trace : List Entry) (entry : Entry) → calls_of_last calls (trace ++ entry ∷ []) ≡ entry.calls
+calls_push calls [] entry = refl
+calls_push calls (e ∷ es) entry = calls_push e.calls es entry
+
+-- ---- more calls
+
+-- the calls up to an earlier moment stay as they were
+pub calls_then : (before : Told) (fresh : List Call) (c : ℕ) → c ≤ length before.calls → (moment (record before { calls = fresh ++ before.calls }) c).calls ≡ (moment before c).calls
+calls_then before fresh c low =
+    ap (λ (n : ℕ). drop n (fresh ++ before.calls)) (sum (length (fresh ++ before.calls)) (length fresh) (length before.calls) c (length-append fresh before.calls) low)
+    ∙ drop-append-add fresh before.calls (length before.calls - c)
+  where
+    sum : (all m n s : ℕ) → all ≡ m + n → s ≤ n → all - s ≡ m + (n - s)
+    sum all m n s e low = omega (arith, e, low)
+
+event_on : (copy start since calls : ℕ) (before : Told) (fresh : List Call) (event : Event) → IsFlushThen copy start since calls before event → IsFlushThen copy start since calls (record before { calls = fresh ++ before.calls }) event
+event_on copy start since calls before fresh (events.Flush page) is =
+    let high = is.high in
+    let longer = length-append fresh before.calls in
+    record { high = omega (arith, high, longer); since = is.since; bytes = is.bytes; rest = is.rest; last = calls_then before fresh (start + calls) is.high ∙ is.last }
+event_on copy start since calls before fresh events.Clean is = is
+event_on copy start since calls before fresh event is = tt
+
+each_on : (copy start since : ℕ) (before : Told) (fresh : List Call) (trace : List Entry) → AreFlushesFrom copy start since before trace → AreFlushesFrom copy start since (record before { calls = fresh ++ before.calls }) trace
+each_on copy start since before fresh [] all = tt
+each_on copy start since before fresh (e ∷ es) all = (event_on copy start since e.calls before fresh e.event all.0, each_on (copy_after copy e.event) start e.calls before fresh es all.1)
+
+pub flushes_on : (Kind : Call → Type 0) (old new : Option Told) (copy since : ℕ) (trace : List Entry) → EachCall old new Kind → IfTold old (λ t. AreFlushesFrom copy t.start since t trace) → IfTold new (λ t. AreFlushesFrom copy t.start since t trace)
+flushes_on Kind old None copy since trace made all = tt
+flushes_on Kind None (Some after) copy since trace made all = absurd (cc (made.2))
+flushes_on Kind (Some before) (Some after) copy since trace made all =
+    let was : before ≡ made.0 = cc (made.2) in
+    let is : after ≡ record before { calls = made.1 ++ before.calls } = made.3 ∙ ap (λ (t : Told). let u : Told = record t { calls = made.1 ++ t.calls } in u) (sym was) in
+    subst (λ (t : Told). AreFlushesFrom copy t.start since t trace) (sym is) (each_on copy before.start since before made.1 trace all)
+
+-- the same calls, as another count has them
+recounted_event : (copy start since calls count : ℕ) (t : Told) (event : Event) → IsFlushThen copy start since calls (record t { start = count }) event → IsFlushThen copy start since calls t event
+recounted_event copy start since calls count t (events.Flush page) is = record { high = is.high; since = is.since; bytes = is.bytes; rest = is.rest; last = is.last }
+recounted_event copy start since calls count t events.Clean is = is
+recounted_event copy start since calls count t event is = tt
+
+pub recounted : (copy start since count : ℕ) (t : Told) (trace : List Entry) → AreFlushesFrom copy start since (record t { start = count }) trace → AreFlushesFrom copy start since t trace
+recounted copy start since count t [] all = tt
+recounted copy start since count t (e ∷ es) all = (recounted_event copy start since e.calls count t e.event all.0, recounted (copy_after copy e.event) start e.calls count t es all.1)
+
+-- ---- a flush
+
+wrote_then : (Kind : Call → Type 0) (copy page since calls : ℕ) (x : Content) (a b : Option Told) → EachCall a b Kind → IfTold a (λ t. length t.calls ≡ t.start + since) → IfTold b (λ t. length t.calls ≡ t.start + calls) → IfTold b (WrotePage a (set_of copy) page x)
+    → IfTold b (λ t. WroteThen copy t.start since calls page t)
+wrote_then Kind copy page since calls x a None made was now wrote = tt
+wrote_then Kind copy page since calls x None (Some t) made was now wrote = absurd (cc (made.2))
+wrote_then Kind copy page since calls x (Some o) (Some t) made was now wrote =
+    let is : o ≡ made.0 = cc (made.2) in
+    let start : t.start ≡ o.start = ap (λ (u : Told). u.start) made.3 ∙ ap (λ (u : Told). u.start) (sym is) in
+    let longer = ap (λ (cs : List Call). length cs) wrote.last in
+    let low = wrote.since in
+    let all : length t.calls - (t.start + calls) ≡ 0 = omega (arith, now) in
+    record {
+      high = omega (arith, now);
+      since = omega (arith, start, was, now, longer, low);
+      bytes = page_bytes x;
+      rest = wrote.before;
+      last = ap (λ (n : ℕ). drop n t.calls) all ∙ wrote.last;
+    }
+
+-- what its event tells, by what it did
+pub flush_then : (Kind : Call → Type 0) (down : Bool) (copy : ℕ) (contents : List Content) (marks later : List (Option Position)) (old new : VolumeSeen) (since calls : ℕ) (event : Event) → EachCall old.told new.told Kind → IsCount old since → IsCount new calls
+    → FlushIs down copy contents marks later old new event → IfTold new.told (λ t. IsFlushThen copy t.start since calls t event)
+flush_then Kind true copy contents marks later old new since calls event made was now is = told_all new.told (λ t. IsFlushThen copy t.start since calls t event) (λ t. subst (IsFlushThen copy t.start since calls t) (sym is.0) tt)
+flush_then Kind false copy contents marks later old new since calls (events.Flush page) made was now is = wrote_then Kind copy page since calls (content_at contents page) old.told new.told made was now is.2
+flush_then Kind false copy contents marks later old new since calls events.Clean made was now is =
+    told_weaken (λ t. (length t.calls ≡ t.start + since) × (length t.calls ≡ t.start + calls)) (λ t. calls ≡ since) new.told (λ t both. omega (arith, both.0, both.1))
+    (told_both (λ t. length t.calls ≡ t.start + since) (λ t. length t.calls ≡ t.start + calls) new.told (subst (λ (v : VolumeSeen). IfTold v.told (λ t. length t.calls ≡ t.start + since)) (sym is.1) was) now)
+flush_then Kind false copy contents marks later old new since calls events.FlushDevice made was now is = told_all new.told (λ t. Unit {0}) (λ t. tt)
+flush_then Kind false copy contents marks later old new since calls events.FlushNoMemory made was now is = told_all new.told (λ t. Unit {0}) (λ t. tt)
+flush_then Kind false copy contents marks later old new since calls event made was now is = absurd is
