@@ -93,6 +93,24 @@ pub fn read_through<R: Read>(
     }
 }
 
+/// Reads until `into` is full or the reader at its end, and returns how many bytes that were.
+pub fn fill<R: Read>(reader: &mut R, into: &mut [u8], faults: &mut u64) -> Result<usize, Failed>
+    ensures count { IfOk result (λ n. n ≤ length into.old) }
+    ensures taken { IfOk result
+        (λ n. Consumes (R.remaining reader.old) (R.remaining reader.new) (take n into.new)) }
+    ensures end { IfOk result (λ n. n < length into.old → IsAtEnd (R.remaining reader.new)) }
+    ensures cause { HasCause faults.old faults.new result }
+{
+    let mut at = 0;
+    while at < into.len() {
+        match read_through(reader, &mut into[at..], faults)? {
+            0 => return Ok(at),
+            n => at += n,
+        }
+    }
+    Ok(at)
+}
+
 fn write_once<W: Write>(writer: &mut W, from: &[u8], faults: &mut u64) -> Result<usize, Fault>
     ensures count { IfOk result (λ n. n ≤ length from.now) }
     ensures kept { IfOk result

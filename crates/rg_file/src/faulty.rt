@@ -1,8 +1,9 @@
-// A file for tests, in memory. It fails where a test says so, moves few bytes at a time, and counts
-// its calls. The program never uses it.
+// A file for tests, in memory, and names for real ones. The one in memory fails where a test says
+// so, moves few bytes at a time, and counts its calls. The program never uses it.
 use std::alloc::Global;
 use std::fs::{Metadata, OpenFile};
 use std::io::{self, Cursor, ErrorKind, Read, Seek, SeekFrom, Write};
+use std::test::Fail;
 
 /// A file in memory. A call moves at most `most` bytes. The first calls end with the errors that
 /// are listed. A sync that is not among them succeeds.
@@ -95,4 +96,11 @@ impl OpenFile for Faulty<'_> {
     fn sync_data(&self) -> io::Result<()> {
         Err(ErrorKind::Unsupported.into())
     }
+}
+
+/// A name of this process in the folder for files that do not stay.
+pub fn name_of(rt: &HostRuntime, last: &str) -> Result<String, Fail> {
+    let folder = std::env::temp_dir(rt)?;
+    let process = std::process::id(rt.process());
+    Ok(format!(in rt.alloc(); "{}/rg_file-{process}-{last}", folder.as_path().as_str())?)
 }

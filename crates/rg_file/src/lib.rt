@@ -1,5 +1,5 @@
 //! The edge of the program: a source over a reader, a sink over a writer, a volume over one file,
-//! and an operator over the clock.
+//! an operator over the clock, and a small file that is read whole.
 #![tactic(auto)]
 
 // Single calls of the system, and calls that are tried again.
@@ -9,6 +9,8 @@ mod calls;
 mod faulty;
 /// An operator over the clock.
 pub mod operator;
+/// Reading a small file whole.
+pub mod reading;
 /// A sink over a writer.
 pub mod sink;
 /// A source over a reader.

@@ -5,15 +5,15 @@
 // (3) After a short read or write the rest is read or written, until the page is whole.
 // (4) A page that could not be read leaves the caller's bytes as they were.
 // (5) A sync reaches the device.
-ghost use Rattle.std.specs.Prelude.{◌≡◌, ◌<◌, ◌≤◌, length, take, None, IsNone, IsErr, IfOk, OnOk};
-ghost use Rattle.std.specs.Prelude.{OnErr, IfSome, IsSomeAnd};
-ghost use Rattle.std.specs.Io.KnownBytes.{Appends, Consumes, IsAtEnd, Keeps};
+ghost use Rattle.std.specs.Prelude.{◌≡◌, length, None, IsNone, IsErr, OnOk, OnErr, IfSome};
+ghost use Rattle.std.specs.Prelude.{IsSomeAnd};
+ghost use Rattle.std.specs.Io.KnownBytes.{Appends, Keeps};
 ghost use Rattle.std.specs.Io.Seek.{MovesTo};
 ghost use Rattle.rg_outside.specs.Capacities.{IsPage};
 ghost use Rattle.rg_outside.specs.Faults.{HasCause};
 ghost use Rattle.rg_file.specs.Pages.{file_capacities, offset_of, padded};
 
-use crate::calls::{raise, read_through, seek_through, sync_through, write_through};
+use crate::calls::{fill, raise, seek_through, sync_through, write_through};
 use rg_base::set::Set;
 use rg_outside::source::Failed;
 use rg_outside::volume::Volume;
@@ -144,24 +144,6 @@ fn seek_page<F: Seek>(file: &mut F, set: Set, page: u32, faults: &mut u64) -> Re
     ensures cause { HasCause faults.old faults.new result }
 {
     seek_through(file, offset(set, page), faults)
-}
-
-// Reads until `into` is full or the reader at its end, and returns how many bytes that were.
-fn fill<R: Read>(reader: &mut R, into: &mut [u8], faults: &mut u64) -> Result<usize, Failed>
-    ensures count { IfOk result (λ n. n ≤ length into.old) }
-    ensures taken { IfOk result
-        (λ n. Consumes (R.remaining reader.old) (R.remaining reader.new) (take n into.new)) }
-    ensures end { IfOk result (λ n. n < length into.old → IsAtEnd (R.remaining reader.new)) }
-    ensures cause { HasCause faults.old faults.new result }
-{
-    let mut at = 0;
-    while at < into.len() {
-        match read_through(reader, &mut into[at..], faults)? {
-            0 => return Ok(at),
-            n => at += n,
-        }
-    }
-    Ok(at)
 }
 
 // Reads until `into` is full, with zeros for what stands past the end.

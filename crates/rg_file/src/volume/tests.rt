@@ -1,5 +1,5 @@
 use super::{FileVolume, offset};
-use crate::faulty::Faulty;
+use crate::faulty::{Faulty, name_of};
 use rg_base::set::Set;
 use rg_outside::source::Failed;
 use rg_outside::volume::Volume;
@@ -140,11 +140,4 @@ fn fails_without_a_file(rt: HostRuntime) -> Result<(), Fail> {
         assert_eq!(rt; volume.faults, 3);
     }
     Ok(())
-}
-
-// A name of this process in the folder for such files.
-fn name_of(rt: &HostRuntime, last: &str) -> Result<String, Fail> {
-    let folder = std::env::temp_dir(rt)?;
-    let process = std::process::id(rt.process());
-    Ok(format!(in rt.alloc(); "{}/rg_file-{process}-{last}", folder.as_path().as_str())?)
 }
