@@ -1,6 +1,6 @@
 -- What a call of the program comes to, and how its output is given.
 use Rattle.std.specs.Prelude.{ℕ, ◌≡◌, ◌≤◌, ◌⊎◌, ◌++◌, Bool, true, List, [], ◌∷◌, Option, length}
-use Rattle.std.specs.Io.KnownBytes.{Consumes, Appends, IsAtEnd}
+use Rattle.std.specs.Io.KnownBytes.{Consumes, IsAtEnd}
 use Rattle.rg_deck.specs.Grammar.{LinesOf, IsFirstOutside}
 use Rattle.rg_deck.specs.declared.read.Admits.TheVariants.{Played as PlayedLines}
 use Rattle.rg_deck.specs.declared.read.TheConstants.{DECK_LIMIT}
@@ -22,7 +22,7 @@ use Rattle.rg_stmt.specs.declared.line.Line.{Line}
 use Rattle.rg_stmt.specs.declared.line.Line.TheVariants.{Death, Show}
 use Rattle.rg_words.specs.Spelling.{Spells}
 use Rattle.rg_words.specs.declared.words.Words.TheVariants as asks
-use Rattle.reorgdb.specs.Giving.{GivesPrefix}
+use Rattle.reorgdb.specs.Giving.{GivesOutput}
 use Rattle.reorgdb.specs.Reading.{TakesTooMany}
 use Rattle.reorgdb.specs.Refusals.{status_of, fixed_text, deck_refusal}
 use Rattle.reorgdb.specs.declared.outcome.Outcome.{Outcome}
@@ -234,13 +234,10 @@ output_of (Damaged set page) print = print
 output_of (Deck line) print = print
 output_of outcome print = fixed_text outcome
 
--- The sink gets the whole text, and the status is the outcome's. Or it gets a prefix of the text:
--- its count of faults rose and the status is 4, or it ran out of memory and the status is 8.
+-- the text is given as the output of a call with the outcome's status
 abbrev pub Delivers : Outcome → List ℕ → Seen → Seen → ℕ → Type 0
 Delivers outcome text before after status =
-    ((status ≡ status_of outcome) × Appends before.bytes after.bytes text)
-    ⊎ (((status ≡ 4) × Rose before.faults after.faults × GivesPrefix text before.bytes after.bytes)
-    ⊎ ((status ≡ 8) × GivesPrefix text before.bytes after.bytes))
+    GivesOutput (status_of outcome) text before.bytes after.bytes before.faults after.faults status
 
 -- What a call comes to and how its output is given, by the words and by what is known of the
 -- source, the sink and the volume before and after it.

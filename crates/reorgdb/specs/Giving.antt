@@ -1,5 +1,5 @@
 -- How a text is given to a sink.
-use Rattle.std.specs.Prelude.{ℕ, ◌≡◌, List, ◌++◌, Option}
+use Rattle.std.specs.Prelude.{ℕ, ◌≡◌, ◌⊎◌, List, ◌++◌, Option}
 use Rattle.std.specs.Io.KnownBytes.{Appends}
 use Rattle.rg_outside.specs.Faults.{Rose}
 use Rattle.reorgdb.specs.declared.giving.Given.{Given}
@@ -16,3 +16,12 @@ Gives text before after faults_before faults_after given.Whole = Appends before 
 Gives text before after faults_before faults_after given.Failed =
     Rose faults_before faults_after × GivesPrefix text before after
 Gives text before after faults_before faults_after given.NoMemory = GivesPrefix text before after
+
+-- The sink gets the whole output, and the status is the one that is due. Or it gets a prefix of the
+-- output: its count of faults rose and the status is 4, or it ran out of memory and the status is 8.
+abbrev pub GivesOutput :
+    ℕ → List ℕ → (before after : Option (List ℕ)) → (faults_before faults_after : ℕ) → ℕ → Type 0
+GivesOutput due output before after faults_before faults_after status =
+    ((status ≡ due) × Appends before after output)
+    ⊎ (((status ≡ 4) × Rose faults_before faults_after × GivesPrefix output before after)
+    ⊎ ((status ≡ 8) × GivesPrefix output before after))

@@ -1,6 +1,8 @@
 -- The statuses and the texts of refusals.
 use Rattle.std.specs.Prelude.{ℕ, List, ◌++◌, codes}
 use Rattle.std.specs.Fmt.{decimal}
+use Rattle.reorgdb.specs.declared.edge.OperatorRefusal.{OperatorRefusal}
+use Rattle.reorgdb.specs.declared.edge.OperatorRefusal.TheVariants as operators
 use Rattle.reorgdb.specs.declared.outcome.Outcome.{Outcome}
 use Rattle.reorgdb.specs.declared.outcome.Outcome.TheVariants as outcomes
 
@@ -32,3 +34,16 @@ fixed_text outcomes.NoMemory = codes ""
 -- a deck is refused by the number of its first line that is refused
 abbrev pub deck_refusal : ℕ → List ℕ
 deck_refusal line = codes "REFUSED deck line " ++ decimal line ++ codes "\n"
+
+-- the status where there is no operator
+abbrev pub operator_status : OperatorRefusal → ℕ
+operator_status (operators.Line line) = 11
+operator_status operators.File = 12
+operator_status operators.NoMemory = 8
+
+-- and the whole output
+abbrev pub operator_refusal : OperatorRefusal → List ℕ
+operator_refusal (operators.Line line) =
+    codes "REFUSED operator line " ++ decimal line ++ codes "\n"
+operator_refusal operators.File = codes "REFUSED operator\n"
+operator_refusal operators.NoMemory = codes ""

@@ -1,8 +1,10 @@
 // How the output is given to the sink.
 // (1) What a call didn't take is given again by the next one.
 // (2) A call that fails, or that takes nothing of what is left, is the last.
+// (3) The status is the one that is due where the whole output was given. It is 4 where the sink
+//     failed, and 8 where it ran out of memory.
 ghost use Rattle.std.specs.Prelude.{◌≤◌};
-ghost use Rattle.reorgdb.specs.Giving.{Gives};
+ghost use Rattle.reorgdb.specs.Giving.{Gives, GivesOutput};
 
 use rg_outside::sink::{GiveFault, Sink};
 
@@ -32,4 +34,16 @@ pub fn give_all<K: Sink>(sink: &mut K, text: &[u8]) -> Given
         }
     }
     Given::Whole
+}
+
+/// Gives the whole output, and returns the status, which is `due` where the sink got all of it.
+pub fn give_output<K: Sink>(sink: &mut K, output: &[u8], due: u8) -> u8
+    ensures { GivesOutput due output.now (K.contents sink.old) (K.contents sink.new)
+        (K.faults sink.old) (K.faults sink.new) result }
+{
+    match give_all(sink, output) {
+        Given::Whole => due,
+        Given::Failed => 4,
+        Given::NoMemory => 8,
+    }
 }

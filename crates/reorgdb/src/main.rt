@@ -2,16 +2,20 @@
 //! every reply; or prints the layout of that volume.
 #![tactic(auto)]
 
-use edge::IdleOperator;
+use edge::{refuse, script};
+use rg_file::operator::ClockOperator;
+use rg_file::reading::read_file;
 use rg_file::sink::OutputSink;
 use rg_file::source::InputSource;
 use rg_file::volume::FileVolume;
+use rg_opts::operator::OPERATOR_LIMIT;
+use rg_outside::operator::Operator;
 use std::process::ExitCode;
 use std::rt::Env;
 use std::{env, io};
 use top::reorg_main;
 
-/// The operator, which no line asks yet.
+/// The operator, and the refusals where there is none.
 mod edge;
 /// Giving the output to the sink.
 mod giving;
@@ -36,13 +40,24 @@ fn words<R: Env + AllocGlobal>(rt: &R) -> io::Result<Vec<String>> {
     }
 }
 
-// Out of memory before the call ends with status 8, as it does within.
+// The operator comes first, and then the words. Out of memory before the call ends with status 8, as
+// it does within.
 fn main(rt: HostRuntime) -> ExitCode {
     let alloc = rt.alloc();
-    let Ok(words) = words(&rt) else {
-        return ExitCode::from(8);
+    let mut sink = OutputSink::new(rt.stdout());
+    let found = read_file(&rt, alloc, "operator.txt", OPERATOR_LIMIT + 1);
+    let operator: Box<dyn Operator + Send> = match script(alloc, found) {
+        Ok(Some(operator)) => match Box::new(alloc, operator) {
+            Ok(operator) => operator,
+            Err(_) => return ExitCode::from(8),
+        },
+        Ok(None) => match Box::new(alloc, ClockOperator::new(rt)) {
+            Ok(operator) => operator,
+            Err(_) => return ExitCode::from(8),
+        },
+        Err(refusal) => return ExitCode::from(refuse(alloc, &mut sink, refusal)),
     };
-    let Ok(operator) = Box::new(alloc, IdleOperator) else {
+    let Ok(words) = words(&rt) else {
         return ExitCode::from(8);
     };
     let finished = reorg_main(
@@ -50,7 +65,7 @@ fn main(rt: HostRuntime) -> ExitCode {
         alloc,
         &words,
         &mut InputSource::new(rt.stdin()),
-        &mut OutputSink::new(rt.stdout()),
+        &mut sink,
         FileVolume::new(&rt, "reorgdb.vol"),
         operator,
     );

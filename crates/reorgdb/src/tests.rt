@@ -1,7 +1,7 @@
-use crate::edge::IdleOperator;
 use crate::top::{Finished, reorg_alone, reorg_main};
 use outside::{BytesSink, BytesSource, RubbishSource};
 use rg_base::set::Set;
+use rg_mem::script::ScriptOperator;
 use rg_mem::volume::{Failing, MemVolume};
 use rg_outside::sink::{GiveFault, Sink};
 use rg_outside::source::Source;
@@ -14,6 +14,7 @@ mod deaths;
 mod decks;
 mod layouts;
 mod openings;
+mod operators;
 mod outside;
 
 const ALL: usize = usize::MAX;
@@ -56,6 +57,14 @@ fn owned(alloc: Global, words: &[&str]) -> Result<Vec<String>, AllocError> {
     Ok(owned)
 }
 
+// An operator without an answer, which commands nothing.
+fn silent(alloc: Global) -> Result<Box<ScriptOperator>, AllocError> {
+    match ScriptOperator::new(alloc, &[]) {
+        Ok(operator) => Ok(Box::new(alloc, operator)?),
+        Err(_) => Err(AllocError),
+    }
+}
+
 fn call<S: Source, K: Sink>(
     alloc: Global,
     words: &[&str],
@@ -74,7 +83,7 @@ fn call_over<S: Source, K: Sink>(
     sink: &mut K,
 ) -> Result<Came, AllocError> {
     let words = owned(alloc, words)?;
-    let operator = Box::new(alloc, IdleOperator)?;
+    let operator = silent(alloc)?;
     let volume = volume(alloc, pages)?;
     Ok(came(&reorg_alone(alloc, &words, source, sink, volume, operator)))
 }
@@ -320,7 +329,7 @@ fn stops_at_sink(rt: HostRuntime) -> Result<(), Fail> {
 #[test]
 fn first_session(rt: HostRuntime) -> Result<(), Fail> {
     let words = owned(rt.alloc(), &PLAY)?;
-    let operator = Box::new(rt.alloc(), IdleOperator)?;
+    let operator = silent(rt.alloc())?;
     let mut source = BytesSource::new(FIRST_DECK, ALL, NEVER);
     let mut sink = whole(rt.alloc(), ALL);
     let finished = reorg_main(
@@ -345,7 +354,7 @@ fn print_for(
     source: &mut BytesSource<'_>,
 ) -> Result<(Came, Vec<u8>), AllocError> {
     let words = owned(alloc, words)?;
-    let operator = Box::new(alloc, IdleOperator)?;
+    let operator = silent(alloc)?;
     let mut sink = whole(alloc, ALL);
     let finished = reorg_alone(alloc, &words, source, &mut sink, volume, operator);
     Ok((came(&finished), sink.held().to_vec(alloc)?))
@@ -368,7 +377,7 @@ fn print_over(
 // The volume that a call leaves which plays this deck.
 fn played_over(alloc: Global, volume: MemVolume, deck: &[u8]) -> Result<MemVolume, AllocError> {
     let words = owned(alloc, &PLAY)?;
-    let operator = Box::new(alloc, IdleOperator)?;
+    let operator = silent(alloc)?;
     let mut source = BytesSource::new(deck, ALL, NEVER);
     let mut sink = whole(alloc, ALL);
     Ok(reorg_alone(alloc, &words, &mut source, &mut sink, volume, operator).volume)

@@ -12,7 +12,7 @@ ghost use Rattle.rg_run.specs.Table.{AreFlushes, AreOpenings, IsLegalRun, IsOpen
 ghost use Rattle.rg_desk.specs.Volume.{seen_volume};
 ghost use Rattle.reorgdb.specs.Reading.{TakesAtMost};
 
-use crate::giving::{Given, give_all};
+use crate::giving::give_output;
 use crate::work::{Work, carry_out};
 use rg_deck::read::DECK_LIMIT;
 use rg_outside::operator::Operator;
@@ -90,11 +90,7 @@ fn deliver<K: Sink, V, O>(sink: &mut K, work: &Work<V, O>) -> u8
     ensures delivered { Delivers work.now.outcome (output_of work.now.outcome work.now.print)
         (seen K.contents K.faults sink.old) (seen K.contents K.faults sink.new) result }
 {
-    match give_all(sink, work.output()) {
-        Given::Whole => work.outcome.status(),
-        Given::Failed => 4,
-        Given::NoMemory => 8,
-    }
+    give_output(sink, work.output(), work.outcome.status())
 }
 
 // Reads, plays and gives. The operator is of any type, since no fact about a boxed one can be

@@ -4,8 +4,7 @@
 //    leave is opened. It has exactly the rows of the units whose COMMIT was answered OK, or of one
 //    unit more, where a COMMIT was under way.
 use super::outside::BytesSource;
-use super::{ALL, NEVER, PLAY, owned, print_over, whole};
-use crate::edge::IdleOperator;
+use super::{ALL, NEVER, PLAY, owned, print_over, silent, whole};
 use crate::top::reorg_alone;
 use rg_mem::volume::MemVolume;
 use std::alloc::{AllocError, Global};
@@ -51,7 +50,7 @@ fn print_of(units: usize) -> &'static [u8] {
 fn stopped(alloc: Global, stop: u64) -> Result<(MemVolume, u8), Fail> {
     let volume = MemVolume::new(alloc, 9, 9, 9, 100, 40, &[], Some(stop))?;
     let words = owned(alloc, &PLAY)?;
-    let operator = Box::new(alloc, IdleOperator)?;
+    let operator = silent(alloc)?;
     let deck = deck(alloc)?;
     let mut source = BytesSource::new(&deck, ALL, NEVER);
     let mut sink = whole(alloc, ALL);

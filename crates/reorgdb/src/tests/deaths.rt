@@ -1,8 +1,7 @@
 ghost use Rattle.std.specs.Prelude.{◌≤◌};
 
 use super::outside::BytesSource;
-use super::{ALL, Came, NEVER, PLAY, came, owned, whole};
-use crate::edge::IdleOperator;
+use super::{ALL, Came, NEVER, PLAY, came, owned, silent, whole};
 use crate::top::reorg_alone;
 use rg_mem::volume::MemVolume;
 use std::alloc::{AllocError, Global};
@@ -97,7 +96,7 @@ fn played(alloc: Global, dies: bool) -> Result<(Came, Vec<u8>), Fail> {
     let mut source = BytesSource::new(&deck, ALL, NEVER);
     let mut sink = whole(alloc, ALL);
     let words = owned(alloc, &PLAY)?;
-    let operator = Box::new(alloc, IdleOperator)?;
+    let operator = silent(alloc)?;
     let volume = MemVolume::new(alloc, 1000, 64, 64, 60_000, 6_000, &[], None)?;
     let finished = reorg_alone(alloc, &words, &mut source, &mut sink, volume, operator);
     Ok((came(&finished), replies(alloc, sink.held())?))
