@@ -17,8 +17,9 @@ Gives text before after faults_before faults_after given.Failed =
     Rose faults_before faults_after × GivesPrefix text before after
 Gives text before after faults_before faults_after given.NoMemory = GivesPrefix text before after
 
--- The sink gets the whole output, and the status is the one that is due. Or it gets a prefix of the
--- output: its count of faults rose and the status is 4, or it ran out of memory and the status is 8.
+-- The sink gets the whole output, and the status is the one that is due. Or it gets a prefix of
+-- the output: its count of faults rose and the status is 4, or it ran out of memory and the status
+-- is 8.
 abbrev pub GivesOutput :
     ℕ → List ℕ → (before after : Option (List ℕ)) → (faults_before faults_after : ℕ) → ℕ → Type 0
 GivesOutput due output before after faults_before faults_after status =

@@ -40,8 +40,8 @@ fn words<R: Env + AllocGlobal>(rt: &R) -> io::Result<Vec<String>> {
     }
 }
 
-// The operator comes first, and then the words. Out of memory before the call ends with status 8, as
-// it does within.
+// The operator comes first, and then the words. Out of memory before the call ends with status 8,
+// as it does within.
 fn main(rt: HostRuntime) -> ExitCode {
     let alloc = rt.alloc();
     let mut sink = OutputSink::new(rt.stdout());

@@ -1,7 +1,8 @@
 // How a small file is read whole.
 // (1) A file that is not there is no fault. Any other error of opening it is one.
 // (2) Memory for all bytes that may be read is taken before the first is read.
-// (3) Reading starts at the file's first byte, and ends at its end or where so many bytes were read.
+// (3) Reading starts at the file's first byte. It ends at the end of the file, or where so many
+//     bytes were read.
 // (4) After a short read the rest is read.
 // The rules for calls that fail or are interrupted are those of `calls.rt`.
 ghost use Rattle.std.specs.Prelude.{◌≡◌, ◌<◌, ◌≤◌, ◌↔◌, IsNone, IsOk, IfOk, IfErr, IfSome, length};
