@@ -59,15 +59,15 @@ pub fn may_want_log(stmt: &Stmt) -> bool
     matches!(stmt, Stmt::Insert(_) | Stmt::Update(_) | Stmt::Delete(_))
 }
 
-// The statement wrote.
-fn is_write(stmt: &Stmt, reply: &Reply) -> bool
+/// The statement wrote.
+pub fn is_write(stmt: &Stmt, reply: &Reply) -> bool
     ensures { result ≡ is_write stmt.now reply.now }
 {
     matches!(reply, Reply::Done) && may_want_log(stmt)
 }
 
-// The unit was rolled back.
-fn is_rollback(stmt: &Stmt, reply: &Reply) -> bool
+/// The unit was rolled back.
+pub fn is_rollback(stmt: &Stmt, reply: &Reply) -> bool
     ensures { result ≡ is_rollback stmt.now reply.now }
 {
     matches!(
@@ -76,8 +76,8 @@ fn is_rollback(stmt: &Stmt, reply: &Reply) -> bool
     )
 }
 
-// The unit is over.
-fn is_unit_end(stmt: &Stmt, reply: &Reply) -> bool
+/// The unit is over.
+pub fn is_unit_end(stmt: &Stmt, reply: &Reply) -> bool
     ensures { result ≡ is_unit_end stmt.now reply.now }
 {
     matches!((stmt, reply), (Stmt::Commit, Reply::Done)) || is_rollback(stmt, reply)

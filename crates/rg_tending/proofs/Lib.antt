@@ -1,0 +1,4 @@
+pub mod Keeping
+pub mod Tended
+pub mod Early
+pub mod Granting

@@ -1,0 +1,91 @@
+-- What a desk that books the utility's entries keeps by them alone.
+--
+-- 1. It keeps it over the entry of a statement (`SaidTends`), of a layout or a flush
+--    (`SystemTends`), of a start or a step that was refused (`RefusedTends`), of a start
+--    (`StartTends`) and of a step (`StepTends`). It begins so with an opening (`OpenedTends`).
+-- 2. Before the new copy is written no event switches to it or brings the engine down
+--    (`NoneFalls`).
+-- 3. The drain of the stage that follows is granted only where it was asked, and no session was in
+--    its way (`DrainIsGranted`).
+use Rattle.std.specs.Prelude.{◌≡◌, ◌≤◌, ◌+◌, ℕ, true, false, List, [], ◌∷◌, ◌++◌, Option, Some, None, length}
+use Rattle.rg_base.specs.declared.control.Answer.{Answer}
+use Rattle.rg_base.specs.declared.options.DrainState.{DrainState}
+use Rattle.rg_base.specs.declared.options.DrainState.TheVariants.{Free}
+use Rattle.rg_base.specs.declared.options.Options.{Options}
+use Rattle.rg_base.specs.declared.session.Session.{Session}
+use Rattle.rg_fold.specs.declared.item.Stage.{Stage}
+use Rattle.rg_model.specs.State.{Utility}
+use Rattle.rg_model.specs.Turn.{Turn, turn_of}
+use Rattle.rg_model.specs.Utility.{new_utility}
+use Rattle.rg_stage.specs.Booked.{drain_kept, is_fall, is_switch_turn}
+use Rattle.rg_stage.specs.Followed.{Followed}
+use Rattle.rg_stage.specs.NumbersOf.{numbers_of}
+use Rattle.rg_stmt.specs.Entries.{opened_entry, said_entry}
+use Rattle.rg_stmt.specs.declared.event.Entry.{Entry}
+use Rattle.rg_stmt.specs.declared.event.Event.{Event}
+use Rattle.rg_stmt.specs.declared.event.Event.TheVariants.{Started}
+use Rattle.rg_stmt.specs.declared.stmt.Reply.{Reply}
+use Rattle.rg_stmt.specs.declared.stmt.Stmt.{Stmt}
+use Rattle.rg_tally.specs.Changed.{ChangeCount, IsCounted, no_changes}
+use Rattle.rg_tending.specs.Tending.{IsRefused, IsSystem, IsWithin, MayDrain, Tends, behind}
+use Rattle.rg_tending.specs.Tending.{held_for, is_booked, system_entry, utility_entry}
+
+abbrev pub SaidTends : Type 0
+SaidTends =
+    (trace : List Entry) (stage : Option Stage) (count later : ChangeCount) (held : ℕ)
+    (session : Session) (stmt : Stmt) (reply : Reply) (calls : ℕ)
+    → Tends trace stage count held
+    → IsCounted (said_entry session stmt reply calls ∷ behind [] trace) later
+    → count.since ≤ later.since
+    → Tends (trace ++ said_entry session stmt reply calls ∷ []) stage later held
+
+abbrev pub SystemTends : Type 0
+SystemTends =
+    (trace : List Entry) (stage : Option Stage) (count : ChangeCount) (held : ℕ) (event : Event)
+    (calls : ℕ) → IsSystem event → Tends trace stage count held
+    → Tends (trace ++ system_entry event calls ∷ []) stage count held
+
+abbrev pub RefusedTends : Type 0
+RefusedTends =
+    (trace : List Entry) (stage : Option Stage) (count : ChangeCount) (held : ℕ) (event : Event)
+    (calls : ℕ) → IsRefused event → Tends trace stage count held
+    → Tends (trace ++ utility_entry event None calls ∷ []) stage count held
+
+abbrev pub OpenedTends : Type 0
+OpenedTends =
+    (copy rows pages used calls : ℕ)
+    → Tends (opened_entry copy rows pages used calls ∷ []) None no_changes 0
+
+abbrev pub StartTends : Type 0
+StartTends =
+    (trace : List Entry) (count : ChangeCount) (held : ℕ) (options : Options)
+    (copy pages calls : ℕ) (s : Stage)
+    → Tends trace None count held → numbers_of s ≡ new_utility options pages → s.drain ≡ Free
+    → Tends (trace ++ utility_entry (Started options copy pages) None calls ∷ []) (Some s)
+    (record count { since = 0 }) 28
+
+abbrev pub StepTends : Type 0
+StepTends =
+    (trace : List Entry) (s : Stage) (count : ChangeCount) (held : ℕ) (answer : Answer)
+    (event : Event) (calls : ℕ) (next : Option Stage)
+    → Tends trace (Some s) count held → is_booked event ≡ true
+    → ((covered : Option Session) (turn : Turn)
+    → turn_of count.since covered answer (numbers_of s) s.drain event ≡ Some turn
+    → Followed turn next)
+    → IsWithin count.since (length trace + 1) next
+    → Tends (trace ++ utility_entry event (Some answer) calls ∷ []) next count (held_for next)
+
+abbrev pub NoneFalls : Type 0
+NoneFalls =
+    (u : Utility) (all : ℕ) (blocker : Option Session) (answer : Answer) (drain : DrainState)
+    (event : Event) (turn : Turn)
+    → u.written ≡ false → u.switched ≡ false → is_booked event ≡ true
+    → turn_of all blocker answer u drain event ≡ Some turn
+    → (is_switch_turn turn ≡ false) × (is_fall turn ≡ false)
+
+abbrev pub DrainIsGranted : Type 0
+DrainIsGranted =
+    (u : Utility) (all : ℕ) (blocker : Option Session) (answer : Answer) (drain : DrainState)
+    (event : Event) (turn : Turn) (next : Option Stage)
+    → turn_of all blocker answer u drain event ≡ Some turn → Followed turn next
+    → MayDrain drain blocker (drain_kept next)

@@ -1,0 +1,133 @@
+-- What a desk keeps of the utility that runs.
+--
+-- 1. Whatever state its entries lead to shows the numbers of the utility's stage, and the drain.
+-- 2. The changes since the utility started, and the writes of open units, are counted by the
+--    entries alone.
+-- 3. The numbers are bounded. No entry of a desk says yet that a new copy was written.
+-- 4. While a utility runs, 28 bytes of the log are held for the record of its Switch.
+use Rattle.std.specs.Prelude.{◌≡◌, ◌⊎◌, ◌-◌, ℕ, Bool, true, false, List, [], ◌∷◌, Option, Some, None, is_some, length}
+use Rattle.rg_base.specs.declared.control.Answer.{Answer}
+use Rattle.rg_base.specs.declared.options.DrainState.{DrainState}
+use Rattle.rg_base.specs.declared.options.DrainState.TheVariants as drains
+use Rattle.rg_base.specs.declared.session.Session.{Session}
+use Rattle.rg_fold.specs.declared.item.Stage.{Stage}
+use Rattle.rg_model.specs.Run.{Run}
+use Rattle.rg_model.specs.State.{State, Table, at_rest}
+use Rattle.rg_model.specs.Turn.{Turn, turn_of}
+use Rattle.rg_stage.specs.Booked.{drain_kept, utility_kept}
+use Rattle.rg_stage.specs.Bounded.{Bounded}
+use Rattle.rg_stage.specs.Followed.{Followed}
+use Rattle.rg_stage.specs.NumbersOf.{numbers_of}
+use Rattle.rg_stmt.specs.declared.event.Actor.TheVariants as actors
+use Rattle.rg_stmt.specs.declared.event.Entry.{Entry}
+use Rattle.rg_stmt.specs.declared.event.Event.{Event}
+use Rattle.rg_stmt.specs.declared.event.Event.TheVariants as events
+use Rattle.rg_tally.specs.Changed.{ChangeCount, IsCounted}
+
+-- these entries behind others, the newest first
+abbrev pub behind : List Entry → List Entry → List Entry
+behind past [] = past
+behind past (entry ∷ entries) = behind (entry ∷ past) entries
+
+-- the bytes of the log that are held for a utility
+abbrev pub held_for : Option Stage → ℕ
+held_for None = 0
+held_for (Some s) = 28
+
+-- whatever state the entries lead to shows this stage
+abbrev pub ShowsStage : List Entry → Option Stage → Type 0
+ShowsStage trace stage =
+    (start : Table) (copy : ℕ) (st : State) → Run [] (at_rest start copy) trace st
+    → (st.utility ≡ utility_kept stage) × (st.drain ≡ drain_kept stage)
+
+-- the numbers are bounded, and the new copy is not written
+abbrev pub IsWithin : (all entries : ℕ) → Option Stage → Type 0
+IsWithin all entries None = Unit {0}
+IsWithin all entries (Some s) =
+    Bounded all entries s × (s.written ≡ false) × (s.switched ≡ false)
+
+-- a desk with these entries keeps this stage and these counts, and holds so many bytes of the log
+pub record Tends (trace : List Entry) (stage : Option Stage) (changes : ChangeCount) (held : ℕ)
+    : Type 0 where
+  pub shows : ShowsStage trace stage
+  pub counted : IsCounted (behind [] trace) changes
+  pub within : IsWithin changes.since (length trace) stage
+  pub held_is : held ≡ held_for stage
+
+-- the entry of an event of the system
+abbrev pub system_entry : Event → (calls : ℕ) → Entry
+system_entry event calls =
+    record { actor = actors.System; event = event; answer = None; calls = calls }
+
+-- the entry of an event of the utility
+abbrev pub utility_entry : Event → Option Answer → (calls : ℕ) → Entry
+utility_entry event answer calls =
+    record { actor = actors.Utility; event = event; answer = answer; calls = calls }
+
+-- an event of a running utility that the desk books: none yet that copies a page, writes the new
+-- copy or switches to it
+abbrev pub is_booked : Event → Bool
+is_booked (events.Reload page rows) = true
+is_booked (events.Sort which) = true
+is_booked (events.Build which) = true
+is_booked (events.Log iteration took left verdict) = true
+is_booked (events.Wait session) = true
+is_booked (events.Granted drain) = true
+is_booked (events.GiveUp count) = true
+is_booked (events.Last took left) = true
+is_booked (events.Stop reason) = true
+is_booked event = false
+
+-- The event is the utility's next: of a desk that is up or down, with this stage and so many
+-- changes, where this session is the least that is in the drain's way.
+abbrev pub NextBy :
+    (down : Bool) → Option Stage → (changes : ℕ) → (covered : Option Session) → Option Answer
+    → Event → Type 0
+NextBy true stage changes covered None events.StepDown = Unit {0}
+NextBy false None changes covered None events.Idle = Unit {0}
+NextBy false (Some s) changes covered (Some answer) event =
+    (is_booked event ≡ true)
+    × (is_some (turn_of changes covered answer (numbers_of s) s.drain event) ≡ true)
+NextBy down stage changes covered answer event = ⊥
+
+-- the stage that such an event leaves
+abbrev pub FollowsBy :
+    (down : Bool) → Option Stage → (changes : ℕ) → (covered : Option Session) → Option Answer
+    → Event → Option Stage → Type 0
+FollowsBy false (Some s) changes covered (Some answer) event new =
+    (turn : Turn) → turn_of changes covered answer (numbers_of s) s.drain event ≡ Some turn
+    → Followed turn new
+FollowsBy down stage changes covered answer event new = new ≡ stage
+
+-- the changes that a stage has not taken
+abbrev pub left_of : (changes : ℕ) → Stage → ℕ
+left_of changes s = changes - s.done
+
+-- A drain may be in force next: one that is granted was granted before, or was asked and no session
+-- is in its way.
+abbrev pub MayDrain : (old : DrainState) → (blocker : Option Session) → (new : DrainState) → Type 0
+MayDrain old blocker (drains.Granted what) =
+    (old ≡ drains.Granted what) ⊎ ((old ≡ drains.Asked what) × (blocker ≡ None))
+MayDrain old blocker new = Unit {0}
+
+-- a layout or a flush
+abbrev pub IsSystem : Event → Type 0
+IsSystem (events.Layout shown side) = Unit {0}
+IsSystem events.LayoutNoMemory = Unit {0}
+IsSystem events.LayoutDown = Unit {0}
+IsSystem (events.Flush page) = Unit {0}
+IsSystem events.Clean = Unit {0}
+IsSystem events.FlushDevice = Unit {0}
+IsSystem events.FlushDown = Unit {0}
+IsSystem events.FlushNoMemory = Unit {0}
+IsSystem event = ⊥
+
+-- a control statement or a step that was refused
+abbrev pub IsRefused : Event → Type 0
+IsRefused events.Active = Unit {0}
+IsRefused (events.StartLogFull need left) = Unit {0}
+IsRefused events.StartDown = Unit {0}
+IsRefused events.StartNoMemory = Unit {0}
+IsRefused events.Idle = Unit {0}
+IsRefused events.StepDown = Unit {0}
+IsRefused event = ⊥
