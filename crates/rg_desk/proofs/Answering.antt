@@ -1,8 +1,7 @@
 -- The answer to a statement, from what it answers and leaves without its claim.
-use Rattle.std.proofs.Common.{◌≤◌, ◌≡◌, ◌+◌, ℕ, Bool, true, false, List, [], ◌∷◌, Option, Some, None, cond, refl, sym, ◌∙◌, ap, subst, arith}
+use Rattle.std.proofs.Common.{◌≤◌, ◌≡◌, ◌+◌, ℕ, Bool, true, false, List, Option, Some, None, cond, refl, sym, ◌∙◌, ap, subst, arith}
 use Rattle.std.specs.FinMap as map
 use Rattle.rg_base.specs.declared.options.DrainState.{DrainState}
-use Rattle.rg_base.specs.declared.options.DrainState.TheVariants.{Free}
 use Rattle.rg_base.specs.declared.session.Class.{Class}
 use Rattle.rg_base.specs.declared.session.Session.{Session}
 use Rattle.rg_model.specs.Claims.{claim_classes, claims_with, classes_needed, is_drained, is_kept_out}
@@ -18,7 +17,7 @@ use Rattle.rg_stmt.specs.declared.stmt.Stmt.{Stmt}
 use Rattle.rg_stmt.specs.declared.stmt.Stmt.TheVariants.{Insert, Update, Delete, Select, Scan, Find, Commit, Rollback}
 use Rattle.rg_space.specs.Space.{capacity_in}
 use Rattle.rg_desk.specs.Bytes.{taken_of}
-use Rattle.rg_desk.specs.Answers.{Answered, Asks, IfFull, Replies, forces, is_answer, is_device, state_left}
+use Rattle.rg_desk.specs.Answers.{Answered, Asks, IfFull, Replies, forces, is_answer, is_device, is_served, needs_claim, state_left}
 use Rattle.rg_desk.specs.Left.{LeavesState, in_doubt}
 use Rattle.rg_desk.specs.Reopens.{IsCleanIn, PartsReopen}
 use Rattle.rg_desk.specs.Shows.{IsShown, Shows}
@@ -36,39 +35,45 @@ use Rattle.rg_desk.specs.declared.units.OpenUnit.{OpenUnit}
 use Rattle.rg_desk.specs.declared.engine.Engine.{Engine}
 use Rattle.rg_desk.proofs.NewestKept.{space_newest}
 use Rattle.rg_desk.proofs.Leaving.{leaves_grown, left_lower}
-
--- no drain keeps anybody out
-pub none_kept_out : (claim : Option Class) (classes : List Class) → is_kept_out Free claim classes ≡ false
-none_kept_out claim [] = refl
-none_kept_out claim (class ∷ classes) = none_kept_out claim classes
+use Rattle.rg_desk.proofs.Settled.{grows_same}
 
 -- the plain table's replies are answers
 
-held_or : (stmt : Stmt) (held : Option Session) (reply : Reply) → is_answer stmt reply ≡ true → is_answer stmt (unless_held held reply) ≡ true
+held_or : (stmt : Stmt) (held : Option Session) (reply : Reply) → is_served stmt reply ≡ true → is_served stmt (unless_held held reply) ≡ true
 held_or stmt None reply e = e
 held_or stmt (Some owner) reply e = refl
 
-inserts : (stmt : Stmt) (there : Bool) → is_answer stmt (insert_reply there) ≡ true
+inserts : (stmt : Stmt) (there : Bool) → is_served stmt (insert_reply there) ≡ true
 inserts stmt true = refl
 inserts stmt false = refl
 
-changes : (stmt : Stmt) (there : Bool) → is_answer stmt (change_reply there) ≡ true
+changes : (stmt : Stmt) (there : Bool) → is_served stmt (change_reply there) ≡ true
 changes stmt true = refl
 changes stmt false = refl
 
-finds : (stmt : Stmt) (row : Option Row) → is_answer stmt (row_reply row) ≡ true
+finds : (stmt : Stmt) (row : Option Row) → is_served stmt (row_reply row) ≡ true
 finds stmt None = refl
 finds stmt (Some row) = refl
 
-plain_is : (st : State) (session : Session) (stmt : Stmt) → is_answer stmt (plain_reply st session stmt) ≡ true
-plain_is st session (Insert row) = held_or (Insert row) (holder st.locks session row.key) _ (inserts (Insert row) (is_present st.table row.key))
-plain_is st session (Update row) = held_or (Update row) (holder st.locks session row.key) _ (changes (Update row) (is_present st.table row.key))
-plain_is st session (Delete key) = held_or (Delete key) (holder st.locks session key) _ (changes (Delete key) (is_present st.table key))
-plain_is st session (Select key) = held_or (Select key) (holder st.locks session key) _ (finds (Select key) (row_of st.table key))
-plain_is st session (Scan lo hi) = held_or (Scan lo hi) (scan_holder st.locks session lo hi) _ refl
-plain_is st session (Find cat) = held_or (Find cat) (find_holder st.table st.locks session cat) _ refl
-plain_is st session Commit = refl
-plain_is st session Rollback = refl
+plain_served : (st : State) (session : Session) (stmt : Stmt) → is_served stmt (plain_reply st session stmt) ≡ true
+plain_served st session (Insert row) = held_or (Insert row) (holder st.locks session row.key) _ (inserts (Insert row) (is_present st.table row.key))
+plain_served st session (Update row) = held_or (Update row) (holder st.locks session row.key) _ (changes (Update row) (is_present st.table row.key))
+plain_served st session (Delete key) = held_or (Delete key) (holder st.locks session key) _ (changes (Delete key) (is_present st.table key))
+plain_served st session (Select key) = held_or (Select key) (holder st.locks session key) _ (finds (Select key) (row_of st.table key))
+plain_served st session (Scan lo hi) = held_or (Scan lo hi) (scan_holder st.locks session lo hi) _ refl
+plain_served st session (Find cat) = held_or (Find cat) (find_holder st.table st.locks session cat) _ refl
+plain_served st session Commit = refl
+plain_served st session Rollback = refl
+
+served_is : (stmt : Stmt) (reply : Reply) → is_served stmt reply ≡ true → is_answer stmt reply ≡ true
+served_is stmt Drained e = absurd (cc (e))
+served_is stmt reply e = e
+
+-- only what needs a claim is kept out
+out_needs : (drain : DrainState) (claim : Option Class) (stmt : Stmt) → is_kept_out drain claim (classes_needed stmt) ≡ true → needs_claim stmt ≡ true
+out_needs drain claim Commit out = absurd (cc (out))
+out_needs drain claim Rollback out = absurd (cc (out))
+out_needs drain claim stmt out = refl
 
 -- the device refuses a COMMIT, and leaves it open whether it is in
 fails : (st : State) (session : Session) (stmt : Stmt) → MayFail st session stmt → state_refused st session stmt (plain_reply st session stmt) ≡ Some (record st { down = true; doubt = Some session })
@@ -119,12 +124,12 @@ left_device st session stmt log reply p = tt
 -- what a reply is that stands for the plain table's
 record IsSaid (st : State) (allowed capacity : ℕ) (session : Session) (stmt : Stmt) (reply : Reply) : Type 0 where
   says : Says st session stmt reply (state_left st session stmt reply)
-  is : is_answer stmt reply ≡ true
+  is : is_served stmt reply ≡ true
   full : IfFull reply allowed capacity
 
 module _ (st : State) (allowed capacity : ℕ) (session : Session) (stmt : Stmt) (up : st.down ≡ false) (free : is_drained st session stmt ≡ false) where
-  never : (reply : Reply) → is_answer stmt reply ≡ false → reply ≡ plain_reply st session stmt → ⊥
-  never reply none e = absurd (cc (none, ap (is_answer stmt) e, plain_is st session stmt))
+  never : (reply : Reply) → is_served stmt reply ≡ false → reply ≡ plain_reply st session stmt → ⊥
+  never reply none e = absurd (cc (none, ap (is_served stmt) e, plain_served st session stmt))
 
   said : (reply : Reply) → MayReply st allowed capacity session stmt reply → IsSaid st allowed capacity session stmt reply
   said Done e = record { says = (up, free, (e, refl)); is = refl; full = tt }
@@ -163,9 +168,6 @@ module _ (st : State) (allowed : ℕ) (d : Engine) (shows : Shows st allowed d) 
       ap (λ (drain : DrainState). is_kept_out drain (map.get d.claims.claims session.0) classes) (sym shows.by.drain)
       ∙ ap (λ (claims : Claims). is_kept_out st.drain (map.get claims session.0) classes) (sym shows.by.claims)
 
-  pub nobody_out : (classes : List Class) → is_kept_out d.claims.drain (map.get d.claims.claims session.0) classes ≡ false
-  nobody_out classes = ap (λ (drain : DrainState). is_kept_out drain (map.get d.claims.claims session.0) classes) shows.by.free ∙ none_kept_out (map.get d.claims.claims session.0) classes
-
   -- what is shown once the session has these classes
   pub registered_shows : (classes : List Class) (new : Engine) → new ≡ record d { claims = record d.claims { claims = claims_with d.claims.claims session classes } } → Shows (claim_classes st session classes) allowed new
   registered_shows classes new is = subst (Shows (claim_classes st session classes) allowed) (sym is) (record {
@@ -177,14 +179,12 @@ module _ (st : State) (allowed : ℕ) (d : Engine) (shows : Shows st allowed d) 
     runs = shows.runs;
     by = record {
       up = shows.by.up;
-      idle = shows.by.idle;
       sure = shows.by.sure;
       copy = shows.by.copy;
       table = shows.by.table;
       locks = shows.by.locks;
       claims = ap (λ (claims : Claims). claims_with claims session classes) shows.by.claims;
       drain = shows.by.drain;
-      free = shows.by.free;
       pages = record { step = shows.by.pages.step; agree = shows.by.pages.agree };
       slots = shows.by.slots;
       indexes = shows.by.indexes;
@@ -202,9 +202,35 @@ module _ (st : State) (allowed : ℕ) (d : Engine) (shows : Shows st allowed d) 
 registered_clean : (d : Engine) (session : Session) (classes : List Class) (new : Engine) → new ≡ record d { claims = record d.claims { claims = claims_with d.claims.claims session classes } } → IsCleanIn d → IsCleanIn new
 registered_clean d session classes new is clean = subst IsCleanIn (sym is) (record { names = clean.names; below = clean.below })
 
-module _ (st : State) (allowed : ℕ) (d : Engine) (shows : Shows st allowed d) (session : Session) (stmt : Stmt) (reply : Reply) (mid : Engine) (goes : Goes st allowed d session stmt reply mid) where
+-- a drain covers a class that the statement needs
+pub drained_answers : (st : State) (allowed : ℕ) (d : Engine) (shows : Shows st allowed d) (session : Session) (stmt : Stmt) (classes : List Class) → classes ≡ classes_needed stmt → is_kept_out d.claims.drain (map.get d.claims.claims session.0) classes ≡ true
+    → Answered st allowed d session stmt Drained d
+drained_answers st allowed d shows session stmt classes is out =
+    let kept = ap (is_kept_out d.claims.drain (map.get d.claims.claims session.0)) (sym is) ∙ out in
+    record {
+      after = st;
+      is_after = refl;
+      says = (shows.by.up, sym (out_is st allowed d shows session (classes_needed stmt)) ∙ kept, refl);
+      is = out_needs d.claims.drain (map.get d.claims.claims session.0) stmt kept;
+      full = tt;
+      room = tt;
+      log = tt;
+      logged = omega arith;
+      opened = refl;
+      held = refl;
+      grows = grows_same d.log d.log refl;
+      newest = λ epoch h. h;
+      parts = λ capacities epoch h. record { can = h.parts.can; low = h.parts.low };
+      clean = λ clean. clean;
+      shows = subst (λ (n : ℕ). Shows st n d) (omega arith) shows;
+      left = tt;
+      capacity = refl;
+    }
+
+module _ (st : State) (allowed : ℕ) (d : Engine) (shows : Shows st allowed d) (session : Session) (stmt : Stmt) (reply : Reply) (mid : Engine) (goes : Goes st allowed d session stmt reply mid)
+    (admitted : is_kept_out d.claims.drain (map.get d.claims.claims session.0) (classes_needed stmt) ≡ false) where
   not_drained : is_drained st session stmt ≡ false
-  not_drained = sym (out_is st allowed d shows session (classes_needed stmt)) ∙ nobody_out st allowed d shows session (classes_needed stmt)
+  not_drained = sym (out_is st allowed d shows session (classes_needed stmt)) ∙ admitted
 
   pub still_admitted : (classes : List Class) → classes ≡ classes_needed stmt → is_done reply ≡ true → is_kept_out mid.claims.drain (map.get mid.claims.claims session.0) classes ≡ false
   still_admitted classes is done =
@@ -233,12 +259,13 @@ module _ (st : State) (allowed : ℕ) (d : Engine) (shows : Shows st allowed d) 
     after = state_left st session stmt reply;
     is_after = refl;
     says = is_said.says;
-    is = is_said.is;
+    is = served_is stmt reply is_said.is;
     full = is_said.full;
     room = goes.room;
     log = goes.log;
     logged = omega (arith, ap (λ (x : Engine). taken_of x.log) e, goes.logged);
     opened = ap (λ (x : Engine). x.opened) e ∙ goes.opened;
+    held = ap (λ (x : Engine). x.held) e ∙ goes.held;
     grows = subst (λ (l : LogList). Grows d.log l) (ap (λ (x : Engine). x.log) (sym e)) goes.grows;
     newest = λ epoch h. space_newest mid.log.records new.log.records mid.space new.space (ap (λ (x : Engine). x.log.records) e) (ap (λ (x : Engine). x.space) e) epoch (goes.newest epoch h);
     parts = λ capacities epoch h. subst (λ (l : LogList). PartsReopen capacities epoch (record l { forced = d.log.forced })) (ap (λ (x : Engine). x.log) (sym e)) (goes.parts capacities epoch h);
@@ -257,12 +284,13 @@ module _ (st : State) (allowed : ℕ) (d : Engine) (shows : Shows st allowed d) 
     after = state_left st session stmt reply;
     is_after = refl;
     says = is_said.says;
-    is = is_said.is;
+    is = served_is stmt reply is_said.is;
     full = is_said.full;
     room = goes.room;
     log = goes.log;
     logged = goes.logged;
     opened = goes.opened;
+    held = goes.held;
     grows = goes.grows;
     newest = goes.newest;
     parts = goes.parts;
@@ -304,6 +332,17 @@ asks_nothing units session stmt reply old_log log seen none never further leaves
   leaves = leaves;
   through = λ h. begins (EachImage (SpellsFrom log.pages log.records old_log.forced)) seen.told (left_lower seen.told log.pages log.records log.forced old_log.forced further (leaves h));
 }
+
+-- it forces nothing
+pub drained_asks : (d : Engine) (session : Session) (stmt : Stmt) (seen : VolumeSeen) → needs_claim stmt ≡ true → Asks (forces d.units session stmt) Drained d.log d.log seen seen
+drained_asks d session stmt seen needs = asks_nothing d.units session stmt Drained d.log d.log seen (no_force d.units session stmt (other stmt needs)) (λ e. absurd (cc (e))) (omega arith) (λ h. h)
+  where
+    other : (stmt : Stmt) → needs_claim stmt ≡ true → is_commit stmt ≡ false
+    other Commit e = absurd (cc (e))
+    other stmt e = refl
+
+pub drained_needs : (d : Engine) (session : Session) (stmt : Stmt) (classes : List Class) → classes ≡ classes_needed stmt → is_kept_out d.claims.drain (map.get d.claims.claims session.0) classes ≡ true → needs_claim stmt ≡ true
+drained_needs d session stmt classes is out = out_needs d.claims.drain (map.get d.claims.claims session.0) stmt (ap (is_kept_out d.claims.drain (map.get d.claims.claims session.0)) (sym is) ∙ out)
 
 pub other_asks : (old : Engine) (shown : IsShown old) (session : Session) (stmt : Stmt) (reply : Reply) (new : Engine) (seen : VolumeSeen) → is_commit stmt ≡ false → Steps old session stmt reply new → Asks (forces old.units session stmt) reply old.log new.log seen seen
 other_asks old shown session stmt reply new seen other steps =

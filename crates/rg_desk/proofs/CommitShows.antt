@@ -75,7 +75,7 @@ module _ (st : State) (allowed : ℕ) (d new : Engine) (session : Session) (show
     (units : new.units ≡ set d.units session.0 None)
     (records : new.log.records ≡ records_committed d.log.records (unit_at d.units session.0))
     (reserved : new.log.reserved + owed_to (unit_at d.units session.0) ≡ d.log.reserved)
-    (opened : new.opened ≡ d.opened) (settled : IsSettled new.log) (grows : Grows d.log new.log) where
+    (opened : new.opened ≡ d.opened) (held : new.held ≡ d.held) (settled : IsSettled new.log) (grows : Grows d.log new.log) where
   abbrev s : LogState
   s = left_by shows.first d
 
@@ -91,8 +91,8 @@ module _ (st : State) (allowed : ℕ) (d new : Engine) (session : Session) (show
   slots : slots_in new ≡ s.pages
   slots = ap (λ sp. slots_in (record d { space = sp })) space ∙ shows.by.slots
 
-  owed_after : owed new.units ≡ new.log.reserved
-  owed_after = omega (arith, ap owed units, owed-set d.units session.0 None place, reserved, shows.by.owed)
+  owed_after : owed new.units + new.held ≡ new.log.reserved
+  owed_after = omega (arith, ap owed units, owed-set d.units session.0 None place, reserved, held, shows.by.owed)
 
   -- what is left stands to the state of the trace as it did
   by : (left : LogState) → left.pages ≡ s.pages → ((k : ℕ) → left.now k ≡ s.now k) → left.top ≡ s.top
@@ -102,14 +102,12 @@ module _ (st : State) (allowed : ℕ) (d new : Engine) (session : Session) (show
       → ShowsBy (after_commit st session) (allowed + 0) new left
   by left same_pages same_now same_top keys each claimed = record {
     up = shows.by.up;
-    idle = shows.by.idle;
     sure = shows.by.sure;
     copy = shows.by.copy;
     table = λ k. shows.by.table k ∙ sym (same_now k);
     locks = ap (locks_without session) shows.by.locks ∙ sym locks;
     claims = ap (λ c. fin.remove c session.0) shows.by.claims ∙ ap (λ (c : Claims). c.claims) (sym claims);
     drain = shows.by.drain ∙ ap (λ (c : Claims). c.drain) (sym claims);
-    free = ap (λ (c : Claims). c.drain) claims ∙ shows.by.free;
     pages = pages;
     slots = slots ∙ sym same_pages;
     indexes = subst (λ (x : Indexes). AreListings (row_at (slot_of left.pages)) x) (sym indexes)
@@ -125,12 +123,12 @@ module _ (st : State) (allowed : ℕ) (d new : Engine) (session : Session) (show
   }
 
   -- without a unit the trails are the same ones
-  idle_trails : unit_at d.units session.0 ≡ None → new.log.records ≡ d.log.records → set d.units session.0 None ≡ d.units → Trails new.log new.units s
+  idle_trails : unit_at d.units session.0 ≡ None → new.log.records ≡ d.log.records → set d.units session.0 None ≡ d.units → Trails new.log new.held new.units s
   idle_trails none same same_units = record {
     tells = subst (λ (rs : List Record). Tells rs s) (sym same) shows.trails.tells;
     each = λ n unit has. subst (λ (rs : List Record). IsTrail rs s unit) (sym same) (shows.trails.each n unit (ap (λ (us : List (Option OpenUnit)). unit_at us n) (sym same_units ∙ sym units) ∙ has));
-    paid = omega (arith, ap owed_by same, shows.trails.paid, reserved, ap owed_to none);
-    space = subst (λ (k : ℕ). HasSpace k new.log.records) (sym grows.pages) (subst (HasSpace d.log.pages) (sym same) shows.trails.space);
+    paid = omega (arith, ap owed_by same, shows.trails.paid, reserved, held, ap owed_to none);
+    space = omega (arith, ap log_bytes same, reserved, ap owed_to none, grows.pages, shows.trails.space);
   }
 
   module _ (unit : OpenUnit) (has : unit_at d.units session.0 ≡ Some unit) where
@@ -154,10 +152,10 @@ module _ (st : State) (allowed : ℕ) (d new : Engine) (session : Session) (show
       going = is_open.2;
     }
 
-    paid : owed_by (rs ++ entry ∷ []) ≡ new.log.reserved
+    paid : owed_by (rs ++ entry ∷ []) + new.held ≡ new.log.reserved
     paid =
         let chain = chain_length rs t 0 [] unit.last.0 (own_of t s.writes) (left_of t rs) (shows.trails.each session.0 unit has).lefts in
-        omega (arith, owes.end rs entry is_of refl is_open.1, chain, (shows.by.units.each session.0 unit has).count, shows.trails.paid, reserved, ap owed_to has)
+        omega (arith, owes.end rs entry is_of refl is_open.1, chain, (shows.by.units.each session.0 unit has).count, shows.trails.paid, reserved, held, ap owed_to has)
 
     same : new.log.records ≡ rs ++ entry ∷ []
     same = records ∙ ap (records_committed rs) has
@@ -166,7 +164,6 @@ module _ (st : State) (allowed : ℕ) (d new : Engine) (session : Session) (show
     has_space = omega (
       arith,
       paid,
-      shows.trails.paid,
       shows.trails.space,
       ap log_bytes same,
       ap log_bytes records,
@@ -187,7 +184,7 @@ module _ (st : State) (allowed : ℕ) (d new : Engine) (session : Session) (show
     )
 
     -- and then the trails of the other units go on
-    committed_trails : Trails new.log new.units (step s (Commit t))
+    committed_trails : Trails new.log new.held new.units (step s (Commit t))
     committed_trails =
         let one = shows.by.units.each session.0 unit has in
         record {
@@ -195,8 +192,14 @@ module _ (st : State) (allowed : ℕ) (d new : Engine) (session : Session) (show
               subst (λ (xs : List Record). Tells xs (step s (Commit t))) (sym same)
               (records_tell (capacity_in d.space) d.log.pages rs (entry ∷ []) s shows.trails.tells (left_consistent st allowed d shows) ((one.live, one.steady), tt) commit_next);
           each = λ n u h. subst (λ (xs : List Record). IsTrail xs (step s (Commit t)) u) (sym same) (go n u (ap (λ (us : List (Option OpenUnit)). unit_at us n) (sym units) ∙ h) (same_or_not n session.0));
-          paid = ap owed_by same ∙ paid;
-          space = subst (λ (k : ℕ). HasSpace k new.log.records) (sym grows.pages) (subst (HasSpace d.log.pages) (sym same) has_space);
+          paid = ap (λ (xs : List Record). owed_by xs + new.held) same ∙ paid;
+          space = omega (
+            arith,
+            ap log_bytes records,
+            bytes_committed rs (unit_at d.units session.0) d.log.reserved new.log.reserved reserved,
+            grows.pages,
+            shows.trails.space,
+          );
         }
       where
         go : (n : ℕ) (u : OpenUnit) → unit_at (set d.units session.0 None) n ≡ Some u → (n ≡ session.0) ⊎ (n ≡ session.0 → ⊥) → IsTrail (rs ++ entry ∷ []) (step s (Commit t)) u
@@ -285,6 +288,7 @@ module _ (st : State) (allowed : ℕ) (d new : Engine) (session : Session) (show
     log = tt;
     logged = omega (arith, ap log_bytes records, bytes_committed d.log.records (unit_at d.units session.0) d.log.reserved new.log.reserved reserved);
     opened = opened;
+    held = held;
     grows = grows;
     forced = λ e. absurd (cc (e));
     newest = newest;

@@ -33,7 +33,6 @@ use Rattle.rg_desk.proofs.Settled.{all_settled}
 -- an engine that is up stores the committed rows
 pub shown_left : (st : State) (allowed : ℕ) (d : Engine) → Shows st allowed d → LeavesState st d.log
 shown_left st allowed d shows = record {
-  idle = shows.by.idle;
   sure = shows.by.copy;
   stored = λ n low high. record {
     table = committed_table st;
@@ -65,7 +64,7 @@ module _ (st : State) (allowed : ℕ) (d : Engine) (session : Session) (shows : 
 
   kept_shows : Shows (after_commit st session) (allowed + 0) kept
   kept_shows =
-      ended st allowed d kept session shows low refl refl refl refl refl refl records reserved refl (all_settled all_forced refl)
+      ended st allowed d kept session shows low refl refl refl refl refl refl records reserved refl refl (all_settled all_forced refl)
       (record { more = entry ∷ []; records = with_commit; pages = pages }) unit has
 
   -- the parts of the log can be opened, with the Commit and without
@@ -73,13 +72,12 @@ module _ (st : State) (allowed : ℕ) (d : Engine) (session : Session) (shows : 
   refused_parts new same =
       let whole : Grows d.log all_forced = record { more = entry ∷ []; records = with_commit; pages = pages } in
       appended_parts st allowed d shows (entry ∷ [])
-      (one_runs st allowed d kept session shows low refl refl refl refl refl refl records reserved refl (all_settled all_forced refl) whole unit has)
-      (commit_next st allowed d kept session shows low refl refl refl refl refl refl records reserved refl (all_settled all_forced refl) whole unit has)
+      (one_runs st allowed d kept session shows low refl refl refl refl refl refl records reserved refl refl (all_settled all_forced refl) whole unit has)
+      (commit_next st allowed d kept session shows low refl refl refl refl refl refl records reserved refl refl (all_settled all_forced refl) whole unit has)
       new (ap (λ (l : Listed). l.records) same ∙ with_commit)
 
   pub refused_left : LeavesState (in_doubt st session) log
   refused_left = record {
-    idle = shows.by.idle;
     sure = shows.by.copy;
     stored = λ n from to. by_place n from to (nat_le n (length d.log.records)) refl;
   }

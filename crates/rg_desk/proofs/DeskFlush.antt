@@ -19,7 +19,8 @@ use Rattle.rg_desk.specs.Left.{LeavesState}
 use Rattle.rg_desk.specs.OnVolume.{IsOnVolume}
 use Rattle.rg_desk.specs.Volume.{IsCount, LeavesIfTidy, VolumeSeen}
 use Rattle.rg_desk.specs.declared.engine.Engine.{Engine}
-use Rattle.rg_desk.proofs.DeskGoes.{IsSystem, desk_quiet}
+use Rattle.rg_tending.specs.Tending.{IsSystem}
+use Rattle.rg_desk.proofs.DeskGoes.{desk_quiet}
 use Rattle.rg_desk.proofs.Flushing.{forces_clean, own_same}
 use Rattle.rg_desk.proofs.OnVolume.{tidy_then}
 use Rattle.rg_desk.specs.Reopens.{IsCleanIn}
@@ -76,6 +77,7 @@ pub record Told (copy : ℕ) (down : Bool) (marks later : List (Option Position)
   pub contents : (seen_in next).pages ≡ (seen_in d).pages
   pub capacity : capacity_in next.space ≡ capacity_in d.space
   pub opened : next.opened ≡ d.opened
+  pub held : next.held ≡ d.held
   pub calls : CallsOwn copy seen seen_after
 
 pub flush_told : (copy : ℕ) (down : Bool) (marks later : List (Option Position)) (seen seen_after : VolumeSeen) (d : Engine) (event : Event) (next : Engine) → TellsFlush down copy marks later seen seen_after d event next → Told copy down marks later seen seen_after d event next
@@ -88,6 +90,7 @@ flush_told copy true marks later seen seen_after d event next tells =
       contents = ap (λ (x : Engine). (seen_in x).pages) same;
       capacity = ap (λ (x : Engine). capacity_in x.space) same;
       opened = ap (λ (x : Engine). x.opened) same;
+      held = ap (λ (x : Engine). x.held) same;
       calls = subst (CallsOwn copy seen) (sym tells.3) (own_same copy seen);
     }
 flush_told copy false marks later seen seen_after d event next f = record {
@@ -97,5 +100,6 @@ flush_told copy false marks later seen seen_after d event next f = record {
   contents = f.forces.contents;
   capacity = f.forces.capacity;
   opened = f.forces.opened;
+  held = f.forces.held;
   calls = f.calls;
 }

@@ -29,6 +29,7 @@ use Rattle.rg_model.proofs.Overlay.{committed-at_rest, key_of}
 use Rattle.rg_model.proofs.RunPossible.{run_possible_start}
 use Rattle.rg_model.proofs.RunPush.{Run-push}
 use Rattle.rg_stmt.specs.Entries.{opened_entry, said_entry}
+use Rattle.rg_tending.specs.Tending.{IsSystem}
 use Rattle.rg_record.specs.declared.record.Record.{Record}
 use Rattle.rg_lawful.proofs.Tables.{eqb-refl}
 use Rattle.rg_stmt.specs.declared.event.Actor.TheVariants as actors
@@ -95,7 +96,7 @@ log_full_so g session stmt Device logged says most = tt
 log_full_so g session stmt Down logged says most = tt
 log_full_so g session stmt NoMemory logged says most = tt
 
-begun-push : (copy rows : ℕ) (entries : List Entry) (entry : Entry) → IsBegun copy rows entries → IsBegun copy rows (entries ++ entry ∷ [])
+pub begun-push : (copy rows : ℕ) (entries : List Entry) (entry : Entry) → IsBegun copy rows entries → IsBegun copy rows (entries ++ entry ∷ [])
 begun-push copy rows [] entry begun = absurd begun
 begun-push copy rows (e ∷ entries) entry begun = begun
 
@@ -137,18 +138,6 @@ down_left st session stmt reply up = by_done stmt (is_done reply) ∙ up
 copy_left : (st : State) (session : Session) (stmt : Stmt) (reply : Reply) → (state_left st session stmt reply).copy ≡ st.copy
 copy_left st session stmt Device = refl
 copy_left st session stmt reply = copy_after st session stmt reply
-
--- an event of the system that changes no state: a layout, or a flush
-abbrev pub IsSystem : Event → Type 0
-IsSystem (Layout shown side) = Unit {0}
-IsSystem LayoutNoMemory = Unit {0}
-IsSystem LayoutDown = Unit {0}
-IsSystem (Flush page) = Unit {0}
-IsSystem Clean = Unit {0}
-IsSystem FlushDevice = Unit {0}
-IsSystem FlushDown = Unit {0}
-IsSystem FlushNoMemory = Unit {0}
-IsSystem event = ⊥
 
 -- ---- the calls of the volume
 
@@ -379,7 +368,6 @@ desk_reopens d c copy marks seen desk parts clean = record {
 -- where more is forced fewer parts are left
 left_further : (st : State) (log : LogList) (low : ℕ) → low ≤ log.forced → LeavesState st (record log { forced = low }) → LeavesState st log
 left_further st log low further left = record {
-  idle = left.idle;
   sure = left.sure;
   stored = λ n from to. left.stored n (omega (arith, further, from)) to;
 }
@@ -441,6 +429,7 @@ pub record Replied (d : Engine) (c : ChronicleState) (down : Bool) (seen : Volum
   pub log_full : IfLogFull reply (logged_by 0 c.trace) d.log.pages
   pub capacity : capacity_in next.space ≡ capacity_in d.space
   pub opened : next.opened ≡ d.opened
+  pub held : next.held ≡ d.held
   pub grows : Grows d.log next.log
   pub calls : CallsLog seen seen_after
 
@@ -467,6 +456,7 @@ replied d c copy true marks seen desk session stmt reply next after seen_after r
   log_full = subst (λ (r : Reply). IfLogFull r (logged_by 0 c.trace) d.log.pages) (sym replies.0) tt;
   capacity = ap (λ (x : Engine). capacity_in x.space) replies.1;
   opened = ap (λ (x : Engine). x.opened) replies.1;
+  held = ap (λ (x : Engine). x.held) replies.1;
   grows = grows_same d.log next.log (ap (λ (x : Engine). x.log) replies.1);
   calls = subst (CallsLog seen) (sym replies.3) (same_calls seen);
 }
@@ -486,6 +476,7 @@ replied d c copy false marks seen desk session stmt reply next after seen_after 
       log_full = log_full_so (ground_of d) session.0 stmt reply (logged_by 0 c.trace) answered.log desk.logged;
       capacity = answered.capacity;
       opened = answered.opened;
+      held = answered.held;
       grows = answered.grows;
       calls = replies.1.calls;
     }

@@ -105,14 +105,12 @@ forced_shows st allowed d n low high shows = record {
   runs = shows.runs;
   by = record {
     up = shows.by.up;
-    idle = shows.by.idle;
     sure = shows.by.sure;
     copy = shows.by.copy;
     table = shows.by.table;
     locks = shows.by.locks;
     claims = shows.by.claims;
     drain = shows.by.drain;
-    free = shows.by.free;
     pages = record { step = shows.by.pages.step; agree = shows.by.pages.agree };
     slots = shows.by.slots;
     indexes = shows.by.indexes;
@@ -146,6 +144,7 @@ forces_same d next same = record {
   units = same.units;
   top = same.top;
   opened = same.opened;
+  held = same.held;
   further = omega (arith, ap (λ (l : Listed). l.forced) same.log);
   shows = λ st allowed shows. same_shows st allowed d next same shows;
 }
@@ -186,6 +185,7 @@ module _ (copy : ℕ) (d mid now : Engine) (before v : VolumeSeen) (same : SameE
     units = ap (λ (x : Engine). x.units) f.same ∙ same.units;
     top = ap (λ (x : Engine). x.top) f.same ∙ same.top;
     opened = ap (λ (x : Engine). x.opened) f.same ∙ same.opened;
+    held = ap (λ (x : Engine). x.held) f.same ∙ same.held;
     further = omega (arith, ap (λ (l : Listed). l.forced) same.log, f.further);
     shows = λ st allowed shows.
         subst (Shows st allowed) (sym f.same) (forced_shows st allowed mid now.log.forced f.further (omega (arith, f.within, ap (λ (rs : List Record). length rs) records_are)) (same_shows st allowed d mid same shows));

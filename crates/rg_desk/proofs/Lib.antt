@@ -47,11 +47,14 @@ pub mod Death
 pub mod Locked
 pub mod Forcing
 pub mod Answering
+pub mod Holding
 pub mod Counting
 pub mod Among
 pub mod Reopening
 pub mod Throughout
 pub mod DeskGoes
+pub mod UtilityShows
+pub mod DeskUtility
 pub mod DeskFlush
 pub mod Sounding
 pub mod Rows

@@ -1,5 +1,5 @@
 -- What is as it was, but for room, shows what it showed.
-use Rattle.std.proofs.Common.{◌≡◌, ℕ, List, [], length, Option, sym, ◌∙◌, ap, subst, append-nil}
+use Rattle.std.proofs.Common.{◌≡◌, ℕ, List, [], length, Option, sym, ◌∙◌, ap, subst, append-nil, arith}
 use Rattle.std.specs.FinMap as fin
 use Rattle.rg_claim.specs.declared.claims.Claims.{Claims}
 use Rattle.rg_home.specs.Pages.{Sound, slot_of}
@@ -28,14 +28,12 @@ same_shows st allowed old new same shows =
     shows_more st allowed old shows st allowed new [] same.opened (sym records ∙ sym (append-nil old.log.records)) same.capacity tt (subst IsSettled (sym same.log) shows.settled)
     (record {
       up = shows.by.up;
-      idle = shows.by.idle;
       sure = shows.by.sure;
       copy = shows.by.copy;
       table = shows.by.table;
       locks = shows.by.locks ∙ sym same.locks;
       claims = shows.by.claims ∙ ap (λ (c : Claims). c.claims) (sym same.claims);
       drain = shows.by.drain ∙ ap (λ (c : Claims). c.drain) (sym same.claims);
-      free = ap (λ (c : Claims). c.drain) same.claims ∙ shows.by.free;
       pages = same.pages shows.by.pages;
       slots = same.slots ∙ shows.by.slots;
       indexes = same_listings (row_at (slot_of s.pages)) old.indexes new.indexes same.entries shows.by.indexes;
@@ -47,10 +45,12 @@ same_shows st allowed old new same shows =
           subst (λ (us : List (Option OpenUnit)). UnitsShown new.log.records s us) (sym same.units)
           (subst (λ (rs : List Record). UnitsShown rs s old.units) records shows.by.units);
       top = same.top ∙ shows.by.top;
-      owed = ap owed same.units ∙ shows.by.owed ∙ ap (λ (l : Listed). l.reserved) (sym same.log);
+      owed = omega (arith, ap owed same.units, same.held, shows.by.owed, ap (λ (l : Listed). l.reserved) same.log);
       claimed = shows.by.claimed;
     })
-    (subst (λ (l : Listed). Trails l new.units s) (sym same.log) (subst (λ (us : List (Option OpenUnit)). Trails old.log us s) (sym same.units) shows.trails))
+    (subst (λ (l : Listed). Trails l new.held new.units s) (sym same.log)
+    (subst (λ (n : ℕ). Trails old.log n new.units s) (sym same.held)
+    (subst (λ (us : List (Option OpenUnit)). Trails old.log old.held us s) (sym same.units) shows.trails)))
 
 -- the pages are sound
 pub same_sound : (st : State) (allowed : ℕ) (old new : Engine) → SameEngine old new → Shows st allowed old → Sound (slots_in new)

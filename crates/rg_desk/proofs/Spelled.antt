@@ -45,6 +45,10 @@ pub rolled_bytes : kind_bytes RolledBack ≡ 23
 unfolding kind_size
 rolled_bytes = refl
 
+pub switch_bytes : (copy pages : ℕ) → kind_bytes (Switch copy pages) ≡ 28
+unfolding kind_size
+switch_bytes copy pages = refl
+
 -- ---- parts that purge a page
 
 all_free : (live : List ℕ) (n i : ℕ) (slots : List Slot) → list_all (frees_on n) (purge_from live n i slots) ≡ true

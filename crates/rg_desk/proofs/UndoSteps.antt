@@ -87,7 +87,7 @@ next_undo now u t at (w ∷ ws) (r ∷ rs) own some chain = record {
 tail_is : (v w : Write) (xs ws : List Write) → v ∷ xs ≡ w ∷ ws → xs ≡ ws
 tail_is v w xs ws e = cc (e)
 
-module _ (old : Engine) (s : LogState) (good : IsConsistent (capacity_in old.space) s) (trails : Trails old.log old.units s) (unit : OpenUnit) (now : Engine) (work : List Record)
+module _ (old : Engine) (s : LogState) (good : IsConsistent (capacity_in old.space) s) (trails : Trails old.log old.held old.units s) (unit : OpenUnit) (now : Engine) (work : List Record)
     (at back i : ℕ) (so : IsUndoing old s unit now work at back i) (low : i < unit.writes) (room : 23 + 911 * unit.writes ≤ old.log.reserved) where
   abbrev t : ℕ
   t = unit.tran.0
@@ -204,7 +204,7 @@ module _ (old : Engine) (s : LogState) (good : IsConsistent (capacity_in old.spa
     space_then : (n : NextUndo now u t at work) → new.log.records ≡ now.log.records ++ undo_of n ∷ [] → HasSpace old.log.pages (now.log.records ++ undo_of n ∷ [])
     space_then n records =
         let owing : owed new.log.records + 911 ≡ owed now.log.records = ap (λ (rs : List Record). owed rs + 911) records ∙ owes_then n in
-        let here_so : HasSpace old.log.pages new.log.records = omega (arith, owing, so.owes, did.taken, so.taken, did.least, so.least, trails.space) in
+        let here_so : HasSpace old.log.pages new.log.records = omega (arith, owing, so.owes, did.taken, so.taken, did.least, so.least, trails.paid, trails.space) in
         subst (HasSpace old.log.pages) records here_so
 
     pub undo_goes : IsUndoing old s unit new left then_at (length now.log.records + 1) (i + 1)
@@ -258,7 +258,7 @@ module _ (old : Engine) (s : LogState) (good : IsConsistent (capacity_in old.spa
           reserved = omega (arith, did.reserved, so.reserved);
           least = omega (arith, did.least, so.least);
           taken = did.taken ∙ so.taken;
-          base = record { opened = did.base.opened ∙ so.base.opened; forced = did.base.forced ∙ so.base.forced; pages = did.base.pages ∙ so.base.pages };
+          base = record { opened = did.base.opened ∙ so.base.opened; held = did.base.held ∙ so.base.held; forced = did.base.forced ∙ so.base.forced; pages = did.base.pages ∙ so.base.pages };
           locks = did.locks ∙ so.locks;
           claims = did.claims ∙ so.claims;
           units = did.units ∙ so.units;

@@ -25,7 +25,7 @@ use Rattle.rg_stmt.specs.declared.stmt.Reply.{Reply}
 use Rattle.rg_stmt.specs.declared.stmt.Reply.TheVariants.{Done, Victim, Drained, Full, LogFull}
 use Rattle.rg_stmt.specs.declared.stmt.Reply.TheVariants.{Device, Down, NoMemory}
 use Rattle.rg_stmt.specs.declared.stmt.Stmt.{Stmt}
-use Rattle.rg_stmt.specs.declared.stmt.Stmt.TheVariants.{Commit}
+use Rattle.rg_stmt.specs.declared.stmt.Stmt.TheVariants.{Commit, Rollback}
 use Rattle.rg_desk.specs.Engine.{ground_of}
 use Rattle.rg_desk.specs.Left.{LeavesState, in_doubt}
 use Rattle.rg_desk.specs.Newest.{KeepsNewest}
@@ -45,18 +45,29 @@ abbrev pub classes_in : Option Class → List Class
 classes_in None = []
 classes_in (Some class) = classes_of class
 
--- There are no victims, and no drain refuses. The device refuses only what forces the log. The end
--- of a unit that commits takes no memory. A row needs room only where it is written, and only a
--- write needs the log.
+-- How a statement may be answered that no drain keeps out. There are no victims. The device refuses
+-- only what forces the log. The end of a unit that commits takes no memory. A row needs room only
+-- where it is written, and only a write needs the log.
+abbrev pub is_served : Stmt → Reply → Bool
+is_served stmt (Victim owner) = false
+is_served stmt Drained = false
+is_served stmt (LogFull need left) = may_want_log stmt
+is_served stmt Device = is_commit stmt
+is_served stmt Down = false
+is_served stmt NoMemory = may_want_memory stmt
+is_served stmt (Full need) = may_want_room stmt
+is_served stmt reply = true
+
+-- the ends of a unit need no claim
+abbrev pub needs_claim : Stmt → Bool
+needs_claim Commit = false
+needs_claim Rollback = false
+needs_claim stmt = true
+
+-- a drain refuses only what needs a claim
 abbrev pub is_answer : Stmt → Reply → Bool
-is_answer stmt (Victim owner) = false
-is_answer stmt Drained = false
-is_answer stmt (LogFull need left) = may_want_log stmt
-is_answer stmt Device = is_commit stmt
-is_answer stmt Down = false
-is_answer stmt NoMemory = may_want_memory stmt
-is_answer stmt (Full need) = may_want_room stmt
-is_answer stmt reply = true
+is_answer stmt Drained = needs_claim stmt
+is_answer stmt reply = is_served stmt reply
 
 -- FULL comes only where the writes so far have allowed 3,221 bytes for each page of the copy
 abbrev pub IfFull : Reply → (allowed capacity : ℕ) → Type 0
@@ -92,6 +103,7 @@ pub record Answered
   pub log : SaysLog (ground_of old) session.0 stmt reply
   pub logged : taken_of new.log ≤ taken_of old.log + more_logged stmt reply
   pub opened : new.opened ≡ old.opened
+  pub held : new.held ≡ old.held
   pub grows : Grows old.log new.log
   pub newest : KeepsNewest old new
   pub parts : KeepsParts old new

@@ -13,7 +13,8 @@ use Rattle.rg_model.specs.Legal.{IsActor, asks}
 use Rattle.rg_stmt.specs.declared.event.Actor.TheVariants as actors
 use Rattle.rg_stmt.specs.declared.event.Entry.{Entry}
 use Rattle.rg_stmt.specs.declared.event.Event.{Event}
-use Rattle.rg_stmt.specs.declared.event.Event.TheVariants.{Opened, Said}
+use Rattle.rg_stmt.specs.declared.event.Event.TheVariants.{Opened, Said, Started}
+pub use Rattle.rg_tending.specs.Tending.{system_entry}
 use Rattle.rg_desk.specs.Steps.{more_allowed, more_logged}
 
 -- the entries of earlier openings, those from the opening on, for how many more there is room, and
@@ -36,21 +37,18 @@ pub record IsRecorded (trace : List Entry) (calls : ℕ) : Type 0 where
   pub each : AllByRecursion IsEntry trace
   pub few : length trace < 2 ^ 63
 
--- the entry of an event that the system makes
-abbrev pub system_entry : Event → (calls : ℕ) → Entry
-system_entry event calls =
-    record { actor = actors.System; event = event; answer = None; calls = calls }
-
 -- An opening allows 4,064 bytes for each page that it finds, and a statement what it writes.
 abbrev pub allowed_after : (allowed : ℕ) → Event → ℕ
 allowed_after allowed (Opened copy rows pages used) = 4064 * pages
 allowed_after allowed (Said stmt reply) = allowed + more_allowed stmt reply
 allowed_after allowed event = allowed
 
--- An opening finds so many bytes of the log taken, and a statement takes or reserves more.
+-- An opening finds so many bytes of the log taken, and a statement takes or reserves more. A
+-- utility that starts holds 28.
 abbrev pub logged_after : (logged : ℕ) → Event → ℕ
 logged_after logged (Opened copy rows pages used) = used
 logged_after logged (Said stmt reply) = logged + more_logged stmt reply
+logged_after logged (Started options copy pages) = logged + 28
 logged_after logged event = logged
 
 -- how many bytes of the log the entries have taken or reserved at most, from so many on

@@ -15,7 +15,9 @@
 -- 8. Each page is the newest version of its page, and each mark says how it reads. Where the volume
 --    read tidy when the count began, a crash leaves versions that the forced records cover. Then
 --    whatever it leaves can be opened, and dead areas have numbers that were drawn.
-use Rattle.std.specs.Prelude.{◌≡◌, ◌≤◌, ◌<◌, ◌+◌, ◌*◌, ◌^◌, ◌⊎◌, ◌||◌, ◌++◌, ℕ, suc, Bool, true, false, List, [], ◌∷◌, Option, Some, None, length, take}
+use Rattle.std.specs.Prelude.{◌≡◌, ◌≤◌, ◌<◌, ◌+◌, ◌-◌, ◌*◌, ◌^◌, ◌⊎◌, ◌||◌, ◌++◌, if◌then◌else◌, ℕ, suc, Bool, true, false, List, [], ◌∷◌, Option, Some, None, length, take}
+use Rattle.rg_base.specs.declared.control.Answer.{Answer}
+use Rattle.rg_base.specs.declared.options.Options.{Options}
 use Rattle.rg_base.specs.declared.position.Position.{Position}
 use Rattle.std.specs.FinMap as map
 use Rattle.rg_base.specs.declared.session.Session.{Session}
@@ -25,11 +27,12 @@ use Rattle.rg_model.specs.Run.{Run}
 use Rattle.rg_model.specs.State.{State, Table, at_rest, is_present, row_count}
 use Rattle.rg_outside.specs.Moments.{EachImage, HoldsThroughout, IfTold}
 use Rattle.rg_claimed.specs.Claim.{claimed_all, holding}
+use Rattle.rg_fold.specs.declared.item.Stage.{Stage}
 use Rattle.rg_follow.specs.Tells.{Tells}
 use Rattle.rg_home.specs.Slot.{Slot}
 use Rattle.rg_image.specs.Log.{log_of}
 use Rattle.rg_image.specs.Pack.{log_bytes}
-use Rattle.rg_image.specs.Rules.{HasSpace, owed}
+use Rattle.rg_image.specs.Rules.{HasSpace, limit_of, owed}
 use Rattle.rg_lawful.specs.Act.{LogState}
 use Rattle.rg_lawful.specs.Consistent.{IsConsistent}
 use Rattle.rg_page.specs.Content.{Content}
@@ -37,11 +40,12 @@ use Rattle.rg_record.specs.declared.record.Record.{Record}
 use Rattle.rg_stmt.specs.Entries.{opened_entry, said_entry}
 use Rattle.rg_stmt.specs.declared.event.Entry.{Entry}
 use Rattle.rg_stmt.specs.declared.event.Event.{Event}
+use Rattle.rg_stmt.specs.declared.event.Event.TheVariants as events
 use Rattle.rg_stmt.specs.declared.event.Event.TheVariants.{Layout, LayoutDown, LayoutNoMemory}
 use Rattle.rg_stmt.specs.declared.stmt.Reply.{Reply}
 use Rattle.rg_stmt.specs.declared.stmt.Reply.TheVariants.{Device, Done, Down}
 use Rattle.rg_stmt.specs.declared.stmt.Stmt.{Stmt}
-use Rattle.rg_log.specs.Kept.{Listed, log_pages}
+use Rattle.rg_log.specs.Kept.{Listed, left_of, log_pages}
 use Rattle.rg_outside.specs.Faults.{Rose}
 use Rattle.rg_desk.specs.Answers.{IfFull, IfLogFull, forces, is_answer, is_device}
 use Rattle.rg_desk.specs.Bytes.{taken_of}
@@ -52,8 +56,11 @@ use Rattle.rg_desk.specs.Chronicle.{ChronicleState, IsRecorded, allowed_by, logg
 use Rattle.rg_desk.specs.Room.{Ground, SaysLog, SaysRoom}
 use Rattle.rg_desk.specs.Shows.{Shows}
 use Rattle.rg_desk.specs.Stored.{IsSettled, IsStored, StoresCommitted}
+use Rattle.rg_desk.specs.Utility.{IsNew}
 use Rattle.rg_desk.specs.Volume.{HasCalls, IsCount, LeavesIfTidy, VolumeSeen, WasTidy}
 use Rattle.rg_desk.specs.declared.engine.Engine.{Engine}
+use Rattle.rg_tally.specs.Changed.{ChangeCount}
+use Rattle.rg_tending.specs.Tending.{FollowsBy, NextBy, utility_entry}
 
 -- a number that a copy has
 abbrev pub IsCopy : (copy : ℕ) → Type 0
@@ -101,9 +108,11 @@ pub record IsDesk (d : Engine) (c : ChronicleState) (copy : ℕ) (down : Bool)
   pub few : length keys ≤ length c.trace + row_count start
   pub few_rows : row_count start < 2 ^ 32
 
--- what callers see of a desk: the entries of earlier openings, those from its own on, what its
+-- What callers see of a desk: the entries of earlier openings, those from its own on, what its
 -- writes are planned over, its pages and their marks, how many records the log had when it was
--- opened, the number of the copy, whether it is down, and what it was handed
+-- opened, the number of the copy, and whether it is down. Then the stage of the utility that runs,
+-- the changes since one started, the operator's answer that no entry has yet, for how many entries
+-- there is room, and the least session that is in the drain's way. Last what it was handed.
 pub record DeskState (V O : Type 0) : Type 0 where
   pub older : List Entry
   pub trace : List Entry
@@ -113,6 +122,11 @@ pub record DeskState (V O : Type 0) : Type 0 where
   pub opened : ℕ
   pub copy : ℕ
   pub down : Bool
+  pub stage : Option Stage
+  pub changes : ℕ
+  pub kept : Option Answer
+  pub spare : ℕ
+  pub covered : Option Session
   pub volume : V
   pub operator : O
 
@@ -267,6 +281,88 @@ pub record MadeFlush {V O : Type 0} (look : V → VolumeSeen) (old new : DeskSta
     pub rows : KeepsRows look old StoresLeft (look new.volume)
     pub stays : Stays look old new
 
+-- what a control statement is answered, over a copy of so many pages, and the stage then
+abbrev pub IsStart :
+    (down : Bool) → Option Stage → Options → (copy pages : ℕ) → Listed → Event → Option Stage
+    → Type 0
+IsStart true stage options copy pages log event next = (event ≡ events.StartDown) × (next ≡ stage)
+IsStart false (Some s) options copy pages log event next =
+    (event ≡ events.Active) × (next ≡ Some s)
+IsStart false None options copy pages log (events.Started given of_copy of_pages) next =
+    (given ≡ options) × (of_copy ≡ copy) × (of_pages ≡ pages) × IsNew options pages next
+IsStart false None options copy pages log (events.StartLogFull need left) next =
+    (need ≡ 28) × (left ≡ left_of log) × (left < 28) × (next ≡ None)
+IsStart false None options copy pages log events.StartNoMemory next = next ≡ None
+IsStart false None options copy pages log event next = ⊥
+
+abbrev pub is_started : Event → Bool
+is_started (events.Started options copy pages) = true
+is_started event = false
+
+-- changes are counted from a start on
+abbrev pub started_count : Bool → ChangeCount → ChangeCount
+started_count true count = record count { since = 0 }
+started_count false count = count
+
+-- LOGFULL comes only where what the log has taken so far, and 28 bytes more, are more than the
+-- limit of a log of so many pages
+abbrev pub IfStartLogFull : Event → (logged pages : ℕ) → Type 0
+IfStartLogFull (events.StartLogFull need left) logged pages = limit_of pages < logged + 28
+IfStartLogFull event logged pages = Unit {0}
+
+-- A control statement has one entry more, with the number of calls up to it. It calls no volume.
+pub record MadeStart {V O : Type 0} (look : V → VolumeSeen) (old : DeskState V O)
+    (options : Options) (started : Bool) (new : DeskState V O) : Type 0 where
+  pub event : Event
+  pub calls : ℕ
+  pub made : new.trace ≡ old.trace ++ utility_entry event None calls ∷ []
+  pub counted : IsCount (look new.volume) calls
+  pub is :
+      IsStart old.down old.stage options old.copy (length old.contents) old.ground.log event
+      new.stage
+  pub started_is : started ≡ is_started event
+  pub log_full : IfStartLogFull event (logged_by 0 old.trace) old.ground.log.pages
+  pub changes : new.changes ≡ (if started then 0 else old.changes)
+  pub kept : new.kept ≡ old.kept
+  pub contents : new.contents ≡ old.contents
+  pub down : new.down ≡ old.down
+  pub volume : new.volume ≡ old.volume
+  pub stays : Stays look old new
+
+-- the changes that the utility has not taken
+abbrev pub left_by_stage : (changes : ℕ) → Option Stage → ℕ
+left_by_stage changes None = 0
+left_by_stage changes (Some s) = changes - s.done
+
+abbrev pub left_to_take : {V O : Type 0} → DeskState V O → ℕ
+left_to_take desk = left_by_stage desk.changes desk.stage
+
+-- it has taken no more changes than there are, up to the end of its iteration, and not switched
+pub record HasTaken (changes : ℕ) (s : Stage) : Type 0 where
+  pub done : s.done ≤ s.target
+  pub target : s.target ≤ changes
+  pub unswitched : s.switched ≡ false
+
+-- the event is that of the next step
+abbrev pub IsNext : {V O : Type 0} → DeskState V O → Option Answer → Event → Type 0
+IsNext desk answer event =
+    NextBy desk.down desk.stage desk.changes desk.covered answer event
+
+-- A step has one entry more, with the operator's answer and the number of calls up to it. It calls
+-- no volume. The stage follows the event.
+pub record MadeStep {V O : Type 0} (look : V → VolumeSeen) (old : DeskState V O)
+    (answer : Option Answer) (event : Event) (new : DeskState V O) : Type 0 where
+  pub calls : ℕ
+  pub made : new.trace ≡ old.trace ++ utility_entry event answer calls ∷ []
+  pub counted : IsCount (look new.volume) calls
+  pub follows : FollowsBy old.down old.stage old.changes old.covered answer event new.stage
+  pub changes : new.changes ≡ old.changes
+  pub kept : new.kept ≡ None
+  pub contents : new.contents ≡ old.contents
+  pub down : new.down ≡ old.down
+  pub volume : new.volume ≡ old.volume
+  pub stays : Stays look old new
+
 -- the trace is legal from the table that these records store
 abbrev pub LegalFrom : List Record → List Entry → Type 0
 LegalFrom old trace = (start : Table) × IsStored old start × Legal start trace
@@ -297,8 +393,8 @@ pub record EndsWithRows
       IfTold seen.told (λ t. WasTidy pages t
       → EachImage (λ i. IsStored (log_of pages i) (committed_table last)) t)
 
--- It leads from that table, in this copy, to a last state, up or down, in which no utility runs and
--- it is known which copy is current. Where the log read tidy, whatever a crash leaves of the volume
+-- It leads from that table, in this copy, to a last state, up or down, in which it is known which
+-- copy is current. Where the log read tidy, whatever a crash leaves of the volume
 -- stores a table that process death leaves of that state.
 pub record LeavesTable
     (old : List Record) (copy pages : ℕ) (seen : VolumeSeen) (trace : List Entry) : Type 0 where
@@ -307,7 +403,6 @@ pub record LeavesTable
   pub last : State
   pub run : Run [] (at_rest start copy) trace last
   pub copy_is : last.copy ≡ copy
-  pub idle : last.utility ≡ None
   pub sure : last.copydoubt ≡ false
   pub left :
       IfTold seen.told (λ t. WasTidy pages t

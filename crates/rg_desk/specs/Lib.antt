@@ -21,7 +21,9 @@ pub mod Volume
 pub mod OnVolume
 pub mod Flushed
 pub mod Answers
+pub mod Hold
 pub mod Chronicle
+pub mod Utility
 pub mod Desk
 pub mod Begun
 pub mod Count

@@ -45,10 +45,11 @@ pub record IsSettled (log : Listed) : Type 0 where
       (n : ℕ) → log.forced ≤ n → n ≤ length log.records → (k : ℕ)
       → stored (take n log.records) k ≡ stored log.records k
 
--- as many of the records are those that the engine began with, as much of the log is forced, and
--- its set has as many pages
+-- as many of the records are those that the engine began with, as many bytes are held for the
+-- utility, as much of the log is forced, and its set has as many pages
 pub record SameBase (old new : Engine) : Type 0 where
   pub opened : new.opened ≡ old.opened
+  pub held : new.held ≡ old.held
   pub forced : new.log.forced ≡ old.log.forced
   pub pages : new.log.pages ≡ old.log.pages
 

@@ -18,6 +18,9 @@ pub const UNDO_BYTES: u32 = 911;
 /// The bytes that the record of a unit's end takes.
 pub const END_BYTES: u32 = 23;
 
+/// The bytes that the record of a switch takes.
+pub const SWITCH_BYTES: u32 = 28;
+
 // The bytes of every record but those of its kind, with its length.
 const RECORD_HEAD: u32 = 22;
 

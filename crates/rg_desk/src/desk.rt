@@ -8,7 +8,9 @@
 // 4. A process may die and the table be opened again, with one trace going on. So a desk may begin
 //    over the entries of earlier openings. They come before its own, and none is lost where the
 //    opening is refused.
-ghost use Rattle.std.specs.Prelude.{◌≡◌, ◌≤◌, ◌++◌, ◌∷◌, [], ℕ, true, false, OnOk, OnErr, IfOk, IfErr, Some, None};
+// 5. A utility may run. A step of it asks the operator first, and then makes one entry, which has
+//    the operator's answer. Its event is the next one of the stage that the desk keeps.
+ghost use Rattle.std.specs.Prelude.{◌≡◌, ◌≤◌, ◌++◌, ◌∷◌, [], ℕ, true, false, OnOk, OnErr, IfOk, IfErr, IfSome, Some, None};
 ghost use Rattle.rg_home.specs.Pages.{slot_of};
 ghost use Rattle.rg_home.specs.Rows.{row_at};
 ghost use Rattle.rg_indexes.specs.Listings.{AreListings};
@@ -34,19 +36,28 @@ ghost use Rattle.rg_desk.specs.Engine.{HasPages, ground_of};
 ghost use Rattle.rg_desk.specs.Shows.{IsShown, Shows};
 ghost use Rattle.rg_desk.specs.Volume.{HasCalls, IsCount, LeavesIfTidy, seen_volume};
 ghost use Rattle.rg_desk.specs.Wrote.{SameEngine};
+ghost use Rattle.rg_desk.specs.Desk.{HasTaken, IsNext, MadeStart, MadeStep, left_to_take};
+ghost use Rattle.rg_outside.specs.Told.{AddsAnswer, HandsOver};
+ghost use Rattle.rg_tally.specs.Changed.{no_changes};
+ghost use Rattle.rg_tending.specs.Tending.{NextBy, utility_entry};
 
 use crate::chronicle::Chronicle;
 use crate::engine::Engine;
 use crate::found::Found;
+use crate::utility::{count_from, is_started, start_utility};
+use rg_base::control::Answer;
 use rg_base::no_memory::NoMemory;
+use rg_base::options::Options;
 use rg_base::position::Position;
 use rg_base::session::Session;
 use rg_base::set::Set;
+use rg_fold::item::Stage;
 use rg_outside::counted::Counts;
 use rg_outside::operator::Operator;
 use rg_outside::volume::Volume;
 use rg_stmt::event::{Actor, Entry, Event};
 use rg_stmt::stmt::{Reply, Stmt};
+use rg_tally::changes::Changes;
 use std::alloc::Global;
 use std::marker::Model;
 
@@ -80,6 +91,10 @@ pub struct Desk<V: Counts, O> {
     marks: Vec<Option<Position>>,
     copy: u8,
     down: bool,
+    stage: Option<Stage>,
+    changes: Changes,
+    // The operator's answer that no entry has yet.
+    kept: Option<Answer>,
     volume: V,
     operator: O,
 }
@@ -87,6 +102,8 @@ pub struct Desk<V: Counts, O> {
 impl<V: Counts, O> Model for Desk<V, O> {
     ghost use Rattle.rg_desk.specs.Desk.{DeskState, IsDesk};
     ghost use Rattle.rg_desk.specs.Engine.{ground_of, seen_in};
+    ghost use Rattle.rg_model.specs.Claims.{least_holder};
+    ghost use Rattle.rg_tending.specs.Tending.{Tends};
     ghost use Rattle.rg_desk.specs.Volume.{seen_volume};
 
     ghost Value = { DeskState V O };
@@ -100,12 +117,18 @@ impl<V: Counts, O> Model for Desk<V, O> {
       opened = d.engine.opened;
       copy = d.copy;
       down = d.down;
+      stage = d.stage;
+      changes = d.changes.since;
+      kept = d.kept;
+      spare = d.chronicle.spare;
+      covered = least_holder d.engine.claims.drain d.engine.claims.claims;
       volume = d.volume;
       operator = d.operator;
     } };
 
     ghost invariant = { λ d. IsDesk d.engine d.chronicle d.copy d.down d.marks.items
-        (seen_volume V.told V.faults V.capacities d.volume) };
+        (seen_volume V.told V.faults V.capacities d.volume)
+        × Tends d.chronicle.trace d.stage d.changes d.engine.held };
 }
 
 // The entry of an event that the system makes, after so many calls.
@@ -120,14 +143,26 @@ fn system(event: Event, calls: u64) -> Entry
     }
 }
 
-// The engine over what was found, and the marks. The opening makes the first entry, after so many
-// calls.
+// The entry of an event of the utility, after so many calls.
+fn utility(event: Event, answer: Option<Answer>, calls: u64) -> Entry
+    ensures { result ≡ utility_entry event answer calls }
+{
+    Entry {
+        actor: Actor::Utility,
+        event,
+        answer,
+        calls,
+    }
+}
+
+// The engine over what was found, the marks, and the count of changes. The opening makes the first
+// entry, after so many calls.
 fn begin(
     alloc: Global,
     found: Found,
     calls: u64,
     chronicle: &mut Chronicle,
-) -> Result<(Engine, Vec<Option<Position>>), NoMemory>
+) -> Result<(Engine, Vec<Option<Position>>, Changes), NoMemory>
     requires begins { CanBegin (capacity_in found.space) (space_pages found.space) found.log
         found.top }
     requires step { InStep (list_seen (frames_of found.space)) (index_of found.space)
@@ -138,6 +173,7 @@ fn begin(
     requires calls { chronicle.old.calls ≤ calls }
     ensures begun { IfOk result (λ made. Begun found calls made.0 chronicle.new) }
     ensures marks { IfOk result (λ made. made.1 ≡ found.marks) }
+    ensures changes { IfOk result (λ made. made.2 ≡ no_changes) }
     ensures older { chronicle.new.older ≡ chronicle.old.older }
     ensures err { OnErr result (chronicle.new ≡ chronicle.old) }
 {
@@ -150,11 +186,12 @@ fn begin(
         marks,
     } = found;
     let (pages, used) = (space.count(), log.used());
+    let changes = Changes::new(alloc)?;
     let engine = Engine::new(alloc, log, space, indexes, top)?;
     let rows = engine.unlocked_rows();
     chronicle.make_room()?;
     chronicle.push(Entry::opened(copy, rows, pages, used, calls));
-    Ok((engine, marks))
+    Ok((engine, marks, changes))
 }
 
 // The number of calls up to now. It never falls, also where the volume does not report.
@@ -299,12 +336,15 @@ impl<V: Counts, O: Operator> Desk<V, O> {
         let mut chronicle = Chronicle::over(trace, calls);
         let now = calls_now(&volume, &chronicle);
         match begin(alloc, found, now, &mut chronicle) {
-            Ok((engine, marks)) => Ok(Desk {
+            Ok((engine, marks, changes)) => Ok(Desk {
                 engine,
                 chronicle,
                 marks,
                 copy,
                 down: false,
+                stage: None,
+                changes,
+                kept: None,
                 volume,
                 operator,
             }),
@@ -327,6 +367,9 @@ impl<V: Counts, O: Operator> Desk<V, O> {
             self.old session stmt self.new) }
         ensures err { OnErr result (self.new ≡ self.old) }
     {
+        if !self.changes.has_room(session) {
+            return Err(NoMemory);
+        }
         self.chronicle.make_room()?;
         let reply = reply_to(
             &mut self.engine,
@@ -337,6 +380,7 @@ impl<V: Counts, O: Operator> Desk<V, O> {
         );
         // That the records fit their set: what a crash leaves of the volume is sound by it.
         let _ = self.engine.log.records();
+        self.changes.count(session, &stmt, &reply);
         let calls = calls_now(&self.volume, &self.chronicle);
         self.chronicle
             .push(Entry::said(session, stmt, reply, calls));
@@ -380,6 +424,126 @@ impl<V: Counts, O: Operator> Desk<V, O> {
         let calls = calls_now(&self.volume, &self.chronicle);
         self.chronicle.push(system(event, calls));
         Ok(())
+    }
+
+    /// Starts a utility over the current copy, which makes one entry, and says whether it did. Else
+    /// the entry says why: the desk is down, or a utility runs, or the log has no room for the
+    /// record of its switch, or there was no memory. If there is no memory for the entry, the call
+    /// is refused and nothing was done.
+    pub fn start(&mut self, options: Options) -> Result<bool, NoMemory>
+        ensures made { IfOk result (λ started.
+            MadeStart (seen_volume V.told V.faults V.capacities) self.old options started
+            self.new) }
+        ensures err { OnErr result (self.new ≡ self.old) }
+    {
+        self.chronicle.make_room()?;
+        let event = start_utility(
+            &mut self.engine,
+            &mut self.stage,
+            options,
+            self.copy,
+            self.down,
+        );
+        let started = is_started(&event);
+        count_from(&mut self.changes, started);
+        let calls = calls_now(&self.volume, &self.chronicle);
+        self.chronicle.push(utility(event, None, calls));
+        Ok(started)
+    }
+
+    /// Makes room for an entry: afterwards one can be made without memory.
+    pub fn make_room(&mut self) -> Result<(), NoMemory>
+        ensures ok { OnOk result (1 ≤ self.new.spare) }
+        ensures same { self.new ≡ record self.old { spare = self.new.spare } }
+        ensures err { OnErr result (self.new ≡ self.old) }
+    {
+        self.chronicle.make_room()
+    }
+
+    /// Asks the operator, at a moment at which so many changes are not taken. The desk keeps the
+    /// answer until the step's entry is made with it.
+    pub fn ask_operator(&mut self, left: u64) -> Answer
+        requires up { self.old.down ≡ false }
+        requires none { self.old.kept ≡ None }
+        requires left { left ≡ left_to_take self.old }
+        ensures same { self.new
+            ≡ record self.old { kept = Some result; operator = self.new.operator } }
+        ensures answered { AddsAnswer (O.answers self.old.operator) result
+            (O.answers self.new.operator) }
+        ensures handed { HandsOver left (O.answers self.new.operator)
+            (O.last self.new.operator) }
+    {
+        let answer = self.operator.ask(left);
+        self.kept = Some(answer);
+        answer
+    }
+
+    /// Makes the entry of a step: IDLE where no utility runs, DOWN where the desk is down, else the
+    /// utility's next event with the operator's answer. None is booked yet that copies a page,
+    /// writes the new copy or switches to it. It takes no memory.
+    pub fn book(&mut self, event: Event, answer: Option<Answer>)
+        requires next { IsNext self.old answer event }
+        requires kept { answer ≡ self.old.kept }
+        requires room { 1 ≤ self.old.spare }
+        ensures { MadeStep (seen_volume V.told V.faults V.capacities) self.old answer event
+            self.new }
+    {
+        match (self.down, self.stage, answer) {
+            (false, Some(stage), Some(answer)) => self.book_step(stage, event, answer),
+            _ => self.book_refused(event),
+        }
+    }
+
+    // Makes the entry of a step of the utility that runs.
+    fn book_step(&mut self, stage: Stage, event: Event, answer: Answer)
+        requires up { self.old.down ≡ false }
+        requires stage { self.old.stage ≡ Some stage }
+        requires next { NextBy false (Some stage) self.old.changes self.old.covered (Some answer)
+            event }
+        requires room { 1 ≤ self.old.spare }
+        ensures { MadeStep (seen_volume V.told V.faults V.capacities) self.old (Some answer) event
+            self.new }
+    {
+        self.stage = self
+            .engine
+            .step_utility(&stage, self.changes.since(), &answer, &event);
+        self.kept = None;
+        let calls = calls_now(&self.volume, &self.chronicle);
+        self.chronicle.push(utility(event, Some(answer), calls));
+    }
+
+    // Makes the entry of a step that finds no utility, or the desk down.
+    fn book_refused(&mut self, event: Event)
+        requires next { IsNext self.old None event }
+        requires kept { self.old.kept ≡ None }
+        requires room { 1 ≤ self.old.spare }
+        ensures { MadeStep (seen_volume V.told V.faults V.capacities) self.old None event self.new }
+    {
+        let calls = calls_now(&self.volume, &self.chronicle);
+        self.chronicle.push(utility(event, None, calls));
+    }
+
+    /// The stage of the utility that runs. It has taken no more changes than there are, and has not
+    /// switched.
+    pub fn stage(&self) -> Option<Stage>
+        ensures stage { result ≡ self.now.stage }
+        ensures taken { IfSome result (HasTaken self.now.changes) }
+    {
+        self.stage
+    }
+
+    /// The changes since the last start of a utility, or since the opening where none has started.
+    pub fn changes(&self) -> u64
+        ensures { result ≡ self.now.changes }
+    {
+        self.changes.since()
+    }
+
+    /// The least session that holds a class that the drain covers.
+    pub fn holder(&self) -> Option<Session>
+        ensures { result ≡ self.now.covered }
+    {
+        self.engine.claims.holder()
     }
 
     /// The entries from the opening on. The reply to the last statement is in the last entry.
@@ -437,6 +601,9 @@ impl<V: Counts, O: Operator> Desk<V, O> {
             marks: _,
             copy: _,
             down: _,
+            stage: _,
+            changes: _,
+            kept: _,
             volume,
             operator,
         } = self;

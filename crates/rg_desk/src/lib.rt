@@ -17,6 +17,8 @@ pub mod engine;
 pub mod flush;
 /// What an opening found.
 pub mod found;
+/// The bytes of the log that are held for the utility.
+pub mod hold;
 /// The layout of the copy.
 pub mod layout;
 /// SELECT, SCAN and FIND.
@@ -29,5 +31,7 @@ pub mod say;
 pub mod undo;
 /// The open units of sessions.
 pub mod units;
+/// The utility, as its entries are booked.
+pub mod utility;
 /// INSERT, UPDATE and DELETE.
 pub mod writes;

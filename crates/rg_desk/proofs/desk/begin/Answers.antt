@@ -36,6 +36,7 @@ returns-clause-begun c =
       idle = c.in_ok-engine.ensures.idle;
       log = c.in_ok-engine.ensures.log;
       opened = c.in_ok-engine.ensures.opened;
+      held = c.in_ok-engine.ensures.held;
       trace =
           c.push.ensures.trace
           ∙ ap (λ (xs : List Entry). xs ++ c.opened.result ∷ []) trace

@@ -1,4 +1,4 @@
-use Rattle.std.proofs.Common.{◌≡◌, ◌||◌, true, false, List, [], ◌∷◌, ◌++◌, length, ◌∙◌, ap, subst}
+use Rattle.std.proofs.Common.{◌≡◌, ◌||◌, ℕ, true, false, List, [], ◌∷◌, ◌++◌, length, sym, ◌∙◌, ap, subst}
 use Rattle.rg_outside.specs.Faults.{Rose}
 use Rattle.rg_stmt.specs.Entries.{said_entry}
 use Rattle.rg_stmt.specs.declared.event.Entry.{Entry}
@@ -15,19 +15,30 @@ use Rattle.rg_desk.proofs.DeskGoes.{desk_replied, desk_room, desk_shown, old_sam
 use Rattle.rg_desk.proofs.Flushing.{own_calls}
 use Rattle.rg_desk.proofs.Rows.{replied_rows}
 use Rattle.rg_desk.proofs.Sounding.{replied_sound}
+use Rattle.rg_tending.specs.Tending.{Tends, behind}
+use Rattle.rg_tending.proofs.Tended.{tends_said}
 use Rattle.rg_desk.proofs.desk.Desk.exec.Goals as goal
 
 pub reply_to-reply-requires-clause-shown : goal.reply_to-reply-requires-clause-shown
-reply_to-reply-requires-clause-shown g c = desk_shown c.self.inside.engine c.self.inside.chronicle c.self.inside.copy c.self.inside.down _ _ c.self.invariant
+reply_to-reply-requires-clause-shown g c = desk_shown c.self.inside.engine c.self.inside.chronicle c.self.inside.copy c.self.inside.down _ _ c.self.invariant.0
 
 pub invariant_of-self-2 : goal.invariant_of-self-2
 invariant_of-self-2 g c =
     let inside = c.self.inside in
-    let room = desk_room inside.engine inside.chronicle inside.copy inside.down _ _ c.self.invariant c.make_room.new.self c.make_room.ensures.trace c.make_room.ensures.calls in
-    desk_replied inside.engine c.make_room.new.self inside.copy inside.down _ _ room c.args.session c.args.stmt c.reply_to-reply.result c.calls_now-calls.result c.reply_to-reply.new.engine c.reply_to-reply.new.down _ c.push.new.self c.reply_to-reply.ensures
-    (c.push.ensures.trace ∙ ap (λ (e : Entry). c.make_room.new.self.trace ++ e ∷ []) c.said.ensures)
-    (c.push.ensures.calls ∙ ap (λ (e : Entry). e.calls) c.said.ensures)
-    c.calls_now-calls.ensures.counted c.push.ensures.recorded
+    let room = desk_room inside.engine inside.chronicle inside.copy inside.down _ _ c.self.invariant.0 c.make_room.new.self c.make_room.ensures.trace c.make_room.ensures.calls in
+    let entry : Entry = said_entry c.args.session c.args.stmt c.reply_to-reply.result c.calls_now-calls.result in
+    let tends = c.self.invariant.1 in
+    let said = replied inside.engine inside.chronicle inside.copy inside.down _ _ c.self.invariant.0 c.args.session c.args.stmt c.reply_to-reply.result c.reply_to-reply.new.engine c.reply_to-reply.new.down _ c.reply_to-reply.ensures in
+    let trace = c.push.ensures.trace ∙ ap (λ (e : Entry). c.make_room.new.self.trace ++ e ∷ []) c.said.ensures in (
+      desk_replied inside.engine c.make_room.new.self inside.copy inside.down _ _ room c.args.session c.args.stmt c.reply_to-reply.result c.calls_now-calls.result c.reply_to-reply.new.engine c.reply_to-reply.new.down _ c.push.new.self c.reply_to-reply.ensures
+          trace
+          (c.push.ensures.calls ∙ ap (λ (e : Entry). e.calls) c.said.ensures)
+          c.calls_now-calls.ensures.counted c.push.ensures.recorded,
+      subst (λ (es : List Entry). Tends es inside.stage c.count.new.self c.reply_to-reply.new.engine.held) (sym (trace ∙ ap (λ (es : List Entry). es ++ entry ∷ []) c.make_room.ensures.trace))
+          (subst (λ (n : ℕ). Tends (inside.chronicle.trace ++ entry ∷ []) inside.stage c.count.new.self n) (sym said.held)
+          (tends_said inside.chronicle.trace inside.stage inside.changes c.count.new.self inside.engine.held c.args.session c.args.stmt c.reply_to-reply.result c.calls_now-calls.result tends
+          (c.count.ensures.counted (behind [] inside.chronicle.trace) c.calls_now-calls.result tends.counted) c.count.ensures.later)),
+    )
 
 pub returns-clause-made : goal.returns-clause-made
 returns-clause-made g c =
@@ -38,7 +49,7 @@ returns-clause-made g c =
     let volume = c.reply_to-reply.new.volume in
     let calls = c.calls_now-calls.result in
     let look = seen_volume g.V.Volume.told g.V.Volume.faults g.V.Volume.capacities in
-    let said = replied inside.engine inside.chronicle inside.copy inside.down _ _ c.self.invariant session stmt reply c.reply_to-reply.new.engine c.reply_to-reply.new.down _ c.reply_to-reply.ensures in
+    let said = replied inside.engine inside.chronicle inside.copy inside.down _ _ c.self.invariant.0 session stmt reply c.reply_to-reply.new.engine c.reply_to-reply.new.down _ c.reply_to-reply.ensures in
     let trace = c.make_room.ensures.trace ∙ ap (λ d. d.trace) c.self.view_is in
     record {
       reply = reply;
@@ -60,21 +71,21 @@ returns-clause-made g c =
       log = subst (λ d. SaysLog d.ground session.0 stmt reply) c.self.view_is said.log;
       log_full = subst (λ d. IfLogFull reply (logged_by 0 d.trace) d.ground.log.pages) c.self.view_is said.log_full;
       sound = subst (λ d. SoundThroughout (seen_volume g.V.Volume.told g.V.Volume.faults g.V.Volume.capacities d.volume) (seen_volume g.V.Volume.told g.V.Volume.faults g.V.Volume.capacities volume)) c.self.view_is
-          (replied_sound inside.engine inside.chronicle inside.copy inside.down _ _ c.self.invariant session stmt reply c.reply_to-reply.new.engine c.reply_to-reply.new.down _ c.reply_to-reply.ensures c.records.ensures.entries c.records.ensures.set);
+          (replied_sound inside.engine inside.chronicle inside.copy inside.down _ _ c.self.invariant.0 session stmt reply c.reply_to-reply.new.engine c.reply_to-reply.new.down _ c.reply_to-reply.ensures c.records.ensures.entries c.records.ensures.set);
       rows = subst (λ d. KeepsRows look d (λ st. StoresDuring (forces d.ground.units session stmt) st session) (look volume)) c.self.view_is
           (record {
-            start = c.self.invariant.start;
-            starts = c.self.invariant.starts;
-            last = c.self.invariant.state;
-            run = c.self.invariant.run;
-            stored = replied_rows inside.engine inside.chronicle inside.copy inside.down _ _ c.self.invariant session stmt reply c.reply_to-reply.new.engine c.reply_to-reply.new.down _ c.reply_to-reply.ensures c.records.ensures.entries c.records.ensures.set;
+            start = c.self.invariant.0.start;
+            starts = c.self.invariant.0.starts;
+            last = c.self.invariant.0.state;
+            run = c.self.invariant.0.run;
+            stored = replied_rows inside.engine inside.chronicle inside.copy inside.down _ _ c.self.invariant.0 session stmt reply c.reply_to-reply.new.engine c.reply_to-reply.new.down _ c.reply_to-reply.ensures c.records.ensures.entries c.records.ensures.set;
           });
       stays = record {
         older = c.push.ensures.older ∙ c.make_room.ensures.older ∙ ap (λ d. d.older) c.self.view_is;
         capacity = said.capacity ∙ ap (λ d. d.ground.capacity) c.self.view_is;
         log_pages = said.grows.pages ∙ ap (λ d. d.ground.log.pages) c.self.view_is;
         opened = said.opened ∙ ap (λ d. d.opened) c.self.view_is;
-        old_same = old_same inside.engine inside.chronicle inside.copy inside.down _ _ c.self.invariant c.reply_to-reply.new.engine said.opened said.grows ∙ ap (λ d. old_records d) c.self.view_is;
+        old_same = old_same inside.engine inside.chronicle inside.copy inside.down _ _ c.self.invariant.0 c.reply_to-reply.new.engine said.opened said.grows ∙ ap (λ d. old_records d) c.self.view_is;
         copy = ap (λ d. d.copy) c.self.view_is;
         calls = subst (λ d. CallsOwn d.copy (seen_volume g.V.Volume.told g.V.Volume.faults g.V.Volume.capacities d.volume) (seen_volume g.V.Volume.told g.V.Volume.faults g.V.Volume.capacities volume)) c.self.view_is (own_calls inside.copy _ _ said.calls);
         operator = ap (λ d. d.operator) c.self.view_is;

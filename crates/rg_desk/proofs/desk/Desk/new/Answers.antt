@@ -1,4 +1,4 @@
-use Rattle.std.proofs.Common.{ℕ, List, Option, length, refl, sym, ◌∙◌, ap, subst, arith}
+use Rattle.std.proofs.Common.{ℕ, List, [], ◌∷◌, Option, None, length, refl, sym, ◌∙◌, ap, subst, arith}
 use Rattle.rg_base.specs.declared.position.Position.{Position}
 use Rattle.rg_image.specs.Pack.{log_bytes}
 use Rattle.rg_home.specs.Pages.{slot_of}
@@ -18,28 +18,39 @@ use Rattle.rg_desk.specs.Volume.{LeavesIfTidy, seen_volume}
 use Rattle.rg_desk.proofs.DeskGoes.{desk_opened}
 use Rattle.rg_desk.proofs.Members.{trans_only}
 use Rattle.rg_desk.proofs.Reopens.{idle_names}
+use Rattle.rg_model.specs.State.{row_count}
+use Rattle.rg_stmt.specs.Entries.{opened_entry}
+use Rattle.rg_stmt.specs.declared.event.Entry.{Entry}
+use Rattle.rg_tally.specs.Changed.{ChangeCount, no_changes}
+use Rattle.rg_tending.specs.Tending.{Tends}
+use Rattle.rg_tending.proofs.Tended.{tends_opened}
 use Rattle.rg_desk.proofs.desk.Desk.new.Goals as goal
 
 pub invariant_of-result : goal.invariant_of-result
 invariant_of-result g c =
     let b = c.in-Ok.ensures.begun in
     let found = c.args.found in
-    let seen = seen_volume g.V.Volume.told g.V.Volume.faults g.V.Volume.capacities c.args.volume in
-    desk_opened c.in-Ok.engine c.begin.new.chronicle found.copy (length (space_pages found.space)) (log_bytes found.log.records) c.calls_now-now.result c.in-Ok.marks.items seen b.start c.requires.copy b.shows
-    (subst (λ (rs : List Record). IsStored rs b.start) (ap (λ (l : Listed). l.records) (sym b.log)) b.starts)
-    (b.opened ∙ ap (λ (l : Listed). length l.records) (sym b.log))
-    (omega (arith, ap (λ (l : Listed). taken_of l) b.log, c.requires.begins.idle))
-    (ap (λ (l : Listed). l.pages) b.log ∙ c.requires.pages)
-    (subst (LeavesIfTidy seen) (sym b.log) c.requires.leaves)
-    (subst (λ (ms : List (Option Position)). IsOnVolume found.copy c.in-Ok.engine.log c.in-Ok.engine.space ms seen) (ap (λ v. v.items) (sym c.in-Ok.ensures.marks))
-    (subst (λ sp. IsOnVolume found.copy c.in-Ok.engine.log sp found.marks.items seen) (sym b.space)
-    (subst (λ (l : Listed). IsOnVolume found.copy l found.space found.marks.items seen) (sym b.log) c.requires.is_on)))
-    (told_weaken (λ t. WasAllTidy seen.capacities t → AllBelow found.top (slot_of (space_pages found.space))) (λ t. WasAllTidy seen.capacities t → IsCleanIn c.in-Ok.engine) seen.told
-    (λ t h tidy. record {
-      names = idle_names (trans_of c.in-Ok.engine.units) (slot_of (slots_in c.in-Ok.engine)) (λ u l. let has = trans_only c.in-Ok.engine.units u l in absurd (cc (has.has, b.idle has.session)));
-      below = subst (λ (top : ℕ). AllBelow top (slot_of (slots_in c.in-Ok.engine))) (sym b.top) (subst (λ sp. AllBelow found.top (slot_of (space_pages sp))) (sym b.space) (h tidy));
-    }) c.requires.below)
-    b.few b.trace b.at c.calls_now-now.ensures.counted b.recorded
+    let seen = seen_volume g.V.Volume.told g.V.Volume.faults g.V.Volume.capacities c.args.volume in (
+      desk_opened c.in-Ok.engine c.begin.new.chronicle found.copy (length (space_pages found.space)) (log_bytes found.log.records) c.calls_now-now.result c.in-Ok.marks.items seen b.start c.requires.copy b.shows
+          (subst (λ (rs : List Record). IsStored rs b.start) (ap (λ (l : Listed). l.records) (sym b.log)) b.starts)
+          (b.opened ∙ ap (λ (l : Listed). length l.records) (sym b.log))
+          (omega (arith, ap (λ (l : Listed). taken_of l) b.log, c.requires.begins.idle))
+          (ap (λ (l : Listed). l.pages) b.log ∙ c.requires.pages)
+          (subst (LeavesIfTidy seen) (sym b.log) c.requires.leaves)
+          (subst (λ (ms : List (Option Position)). IsOnVolume found.copy c.in-Ok.engine.log c.in-Ok.engine.space ms seen) (ap (λ v. v.items) (sym c.in-Ok.ensures.marks))
+          (subst (λ sp. IsOnVolume found.copy c.in-Ok.engine.log sp found.marks.items seen) (sym b.space)
+          (subst (λ (l : Listed). IsOnVolume found.copy l found.space found.marks.items seen) (sym b.log) c.requires.is_on)))
+          (told_weaken (λ t. WasAllTidy seen.capacities t → AllBelow found.top (slot_of (space_pages found.space))) (λ t. WasAllTidy seen.capacities t → IsCleanIn c.in-Ok.engine) seen.told
+          (λ t h tidy. record {
+            names = idle_names (trans_of c.in-Ok.engine.units) (slot_of (slots_in c.in-Ok.engine)) (λ u l. let has = trans_only c.in-Ok.engine.units u l in absurd (cc (has.has, b.idle has.session)));
+            below = subst (λ (top : ℕ). AllBelow top (slot_of (slots_in c.in-Ok.engine))) (sym b.top) (subst (λ sp. AllBelow found.top (slot_of (space_pages sp))) (sym b.space) (h tidy));
+          }) c.requires.below)
+          b.few b.trace b.at c.calls_now-now.ensures.counted b.recorded,
+      subst (λ (es : List Entry). Tends es None c.in-Ok.changes c.in-Ok.engine.held) (sym b.trace)
+          (subst (λ (count : ChangeCount). Tends (opened_entry found.copy (row_count b.start) (length (space_pages found.space)) (log_bytes found.log.records) c.calls_now-now.result ∷ []) None count c.in-Ok.engine.held) (sym c.in-Ok.ensures.changes)
+          (subst (λ (n : ℕ). Tends (opened_entry found.copy (row_count b.start) (length (space_pages found.space)) (log_bytes found.log.records) c.calls_now-now.result ∷ []) None no_changes n) (sym b.held)
+          (tends_opened found.copy (row_count b.start) (length (space_pages found.space)) (log_bytes found.log.records) c.calls_now-now.result))),
+    )
 
 pub returns-in-Ok-clause-opens : goal.returns-in-Ok-clause-opens
 returns-in-Ok-clause-opens g c =

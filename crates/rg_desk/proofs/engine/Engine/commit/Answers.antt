@@ -27,7 +27,7 @@ returns-then-is_none-clause-steps g c = λ st allowed shows.
     commit_goes st allowed d _ c.args.session shows (omega (arith, c.requires.session.most)) ended.space ended.indexes ended.top ended.locks ended.claims ended.units
     (ap (λ (l : Listed). l.records) ended.log ∙ ap (records_committed d.log.records) (sym none))
     (omega (arith, ap owed_to none, ap (λ (l : Listed). l.reserved) ended.log))
-    ended.opened (subst IsSettled (sym ended.log) shows.settled) (grows_same d.log _ ended.log)
+    ended.opened ended.held (subst IsSettled (sym ended.log) shows.settled) (grows_same d.log _ ended.log)
     (space_newest d.log.records _ d.space _ (ap (λ (l : Listed). l.records) ended.log) ended.space)
 
 pub returns-in-Ok-clause-steps : goal.returns-in-Ok-clause-steps
@@ -44,6 +44,7 @@ returns-in-Ok-clause-steps g c = λ st allowed shows.
     (ap (λ (l : Listed). l.records) log ∙ c.log_commit.ensures.records)
     (omega (arith, ap (λ (l : Listed). l.reserved) log, c.log_commit.ensures.reserved))
     (ended.opened ∙ c.log_commit.ensures.base.opened)
+    (ended.held ∙ c.log_commit.ensures.base.held)
     (all_settled _ (ap (λ (l : Listed). l.forced) log ∙ c.in-Ok.ensures.ok ∙ ap (λ (l : Listed). length l.records) (sym log)))
     (record {
       more = commit_record (length d.log.records + 1) unit.0 ∷ [];
@@ -57,7 +58,7 @@ returns-in-Err-clause-steps g c = λ st allowed shows.
     let d = c.args.self.now in
     let unit = has_unit (unit_at d.units c.args.session.0) _ (sym c.get.ensures) c.is_none.ensures c.if-is_none.false in
     commit_fails st allowed d c.args.session shows unit.0 unit.1 _ c.log_commit.new.self (omega (arith, c.requires.session.most)) c.log_commit.ensures c.force.ensures.further refl
-    (ap (λ (l : Listed). l.records) c.force.ensures.kept) (ap (λ (l : Listed). l.reserved) c.force.ensures.kept) (ap (λ (l : Listed). l.pages) c.force.ensures.kept) refl
+    (ap (λ (l : Listed). l.records) c.force.ensures.kept) (ap (λ (l : Listed). l.reserved) c.force.ensures.kept) (ap (λ (l : Listed). l.pages) c.force.ensures.kept) refl refl
 
 pub returns-then-is_none-clause-asks : goal.returns-then-is_none-clause-asks
 returns-then-is_none-clause-asks g c =

@@ -24,7 +24,7 @@ loop-init c = λ st allowed shows.
     undo_begins st allowed d _ shows c.args.session.0 c.args.unit c.in_ok-work.work c.in-Ok.more c.requires.unit
     (subst (AreChain d.log.records c.args.unit.tran.0 c.args.unit.last.0 ws) (sym c.in_ok-work.ensures.work) (c.in_ok-changes.ensures ws one.walks one.count))
     (omega (arith, c.in-Ok.ensures, c.len.ensures, ap length c.in_ok-work.ensures.work)) c.in_ok-reserve.ensures.ok c.in_ok-reserve.ensures.same c.in_ok-work.ensures.frames c.in_ok-work.ensures.index c.in_ok-work.ensures.capacity
-    (omega (arith, c.in_ok-work.ensures.room, ap length c.in_ok-work.ensures.work)) refl refl refl refl refl refl
+    (omega (arith, c.in_ok-work.ensures.room, ap length c.in_ok-work.ensures.work)) refl refl refl refl refl refl refl
 
 pub undo_next-at-requires-clause-low : goal.undo_next-at-requires-clause-low
 undo_next-at-requires-clause-low c =

@@ -1,0 +1,165 @@
+-- What an engine shows while the utility's drain or its stage changes.
+use Rattle.std.proofs.Common.{◌≡◌, not, ℕ, Bool, true, false, Option, Some, None, refl, sym, ◌∙◌, ap, subst, arith}
+use Rattle.std.specs.Option.{is_some}
+use Rattle.rg_base.specs.declared.options.DrainState.{DrainState}
+use Rattle.rg_fold.specs.declared.item.Stage.{Stage}
+use Rattle.rg_log.specs.Kept.{Listed}
+use Rattle.rg_model.specs.State.{State, Table, row_of}
+use Rattle.rg_model.specs.Turn.{Turn}
+use Rattle.rg_outside.specs.Capacities.{Capacities}
+use Rattle.rg_stage.specs.Booked.{drain_kept}
+use Rattle.rg_tending.specs.Tending.{held_for}
+use Rattle.rg_version.specs.Versions.{Epoch}
+use Rattle.rg_desk.specs.Bytes.{taken_of}
+use Rattle.rg_desk.specs.Hold.{Holds}
+use Rattle.rg_desk.specs.Reopens.{IsCleanIn, Reopens}
+use Rattle.rg_desk.specs.Shows.{IsShown, Shows}
+use Rattle.rg_desk.specs.Utility.{KeepsAll, SameButUtility}
+use Rattle.rg_desk.specs.declared.engine.Engine.{Engine}
+
+-- the drain of an engine is this one
+abbrev pub with_drain : Engine → DrainState → Engine
+with_drain d drain = record d { claims = record d.claims { drain = drain } }
+
+-- a state that differs in the utility and the drain alone is shown, too, if the drain is the
+-- engine's
+pub utility_shows : (st after : State) (allowed : ℕ) (d : Engine) → Shows st allowed d → SameButUtility st after → after.drain ≡ d.claims.drain → Shows after allowed d
+utility_shows st after allowed d shows same drain = record {
+  first = shows.first;
+  begun = shows.begun;
+  within = shows.within;
+  stores = shows.stores;
+  settled = shows.settled;
+  runs = shows.runs;
+  by = record {
+    up = same.down ∙ shows.by.up;
+    sure = same.doubt ∙ shows.by.sure;
+    copy = same.copydoubt ∙ shows.by.copy;
+    table = λ k. ap (λ (table : Table). row_of table k) same.table ∙ shows.by.table k;
+    locks = same.locks ∙ shows.by.locks;
+    claims = same.claims ∙ shows.by.claims;
+    drain = drain;
+    pages = shows.by.pages;
+    slots = shows.by.slots;
+    indexes = shows.by.indexes;
+    keys = shows.by.keys;
+    places = shows.by.places;
+    units = shows.by.units;
+    top = shows.by.top;
+    owed = shows.by.owed;
+    claimed = shows.by.claimed;
+  };
+  trails = shows.trails;
+}
+
+-- so is the state with another drain, by the engine with that drain
+pub drained_shows : (st after : State) (allowed : ℕ) (d : Engine) (drain : DrainState) → Shows st allowed d → SameButUtility st after → after.drain ≡ drain → Shows after allowed (with_drain d drain)
+drained_shows st after allowed d drain shows same is =
+    utility_shows (record st { drain = drain }) after allowed (with_drain d drain) drained
+    (record { table = same.table; locks = same.locks; claims = same.claims; down = same.down; doubt = same.doubt; copydoubt = same.copydoubt }) is
+  where
+    drained : Shows (record st { drain = drain }) allowed (with_drain d drain)
+    drained = record {
+      first = shows.first;
+      begun = shows.begun;
+      within = shows.within;
+      stores = shows.stores;
+      settled = shows.settled;
+      runs = shows.runs;
+      by = record {
+        up = shows.by.up;
+        sure = shows.by.sure;
+        copy = shows.by.copy;
+        table = shows.by.table;
+        locks = shows.by.locks;
+        claims = shows.by.claims;
+        drain = refl;
+        pages = record { step = shows.by.pages.step; agree = shows.by.pages.agree };
+        slots = shows.by.slots;
+        indexes = shows.by.indexes;
+        keys = shows.by.keys;
+        places = shows.by.places;
+        units = shows.by.units;
+        top = shows.by.top;
+        owed = shows.by.owed;
+        claimed = shows.by.claimed;
+      };
+      trails = shows.trails;
+    }
+
+pub drained_clean : (d : Engine) (drain : DrainState) → IsCleanIn d → IsCleanIn (with_drain d drain)
+drained_clean d drain clean = record { names = clean.names; below = clean.below }
+
+-- it shows some state
+pub drained_shown : (d : Engine) (drain : DrainState) → IsShown d → IsShown (with_drain d drain)
+drained_shown d drain shown =
+    let st : State = record shown.state { drain = drain } in
+    let same : SameButUtility shown.state st = record { table = refl; locks = refl; claims = refl; down = refl; doubt = refl; copydoubt = refl } in
+    record { state = st; allowed = shown.allowed; shows = drained_shows shown.state st shown.allowed d drain shown.shows same refl }
+
+drained_reopens : (capacities : Capacities) (e : Epoch) (d : Engine) (drain : DrainState) → Reopens capacities e d → Reopens capacities e (with_drain d drain)
+drained_reopens capacities e d drain h = record {
+  copy = h.copy;
+  pages = h.pages;
+  newest = h.newest;
+  parts = record { can = h.parts.can; low = h.parts.low };
+  clean = drained_clean d drain h.clean;
+}
+
+-- ---- the engine after a step
+
+-- the drain alone has changed
+keeps_drained : (d : Engine) (drain : DrainState) (held : ℕ) → d.held ≡ held → KeepsAll d drain held (with_drain d drain)
+keeps_drained d drain held is = record {
+  space = refl;
+  log = refl;
+  taken = omega (arith);
+  opened = refl;
+  held_is = is;
+  units = refl;
+  top = refl;
+  shows = λ st after allowed shows same drain_is. drained_shows st after allowed d drain shows same drain_is;
+  newest = λ e h. h;
+  parts = λ capacities e h. record { can = h.parts.can; low = h.parts.low };
+  clean = drained_clean d drain;
+}
+
+-- what was held was given back, too
+keeps_over : (d : Engine) (drain : DrainState) (new : Engine) → Holds (with_drain d drain) 0 new → KeepsAll d drain 0 new
+keeps_over d drain new holds =
+    let log : new.log ≡ record d.log { reserved = new.log.reserved } = ap (λ (x : Engine). x.log) holds.same in
+    record {
+      space = ap (λ (x : Engine). x.space) holds.same;
+      log = log;
+      taken = omega (arith, ap (λ (l : Listed). taken_of l) log, holds.reserved);
+      opened = holds.opened;
+      held_is = ap (λ (x : Engine). x.held) holds.same;
+      units = ap (λ (x : Engine). x.units) holds.same;
+      top = ap (λ (x : Engine). x.top) holds.same;
+      shows = λ st after allowed shows same drain_is. holds.shows after allowed (drained_shows st after allowed d drain shows same drain_is);
+      newest = λ e h. holds.newest e h;
+      parts = λ capacities e h. holds.parts capacities e (drained_reopens capacities e d drain h);
+      clean = λ clean. holds.clean (drained_clean d drain clean);
+    }
+
+pub none_is : (o : Option Stage) (b : Bool) → is_some o ≡ not b → b ≡ true → o ≡ None
+none_is None b some is = refl
+none_is (Some s) b some is = absurd (cc (some ∙ ap not is))
+
+-- the utility is over
+pub step_over : (d : Engine) (drain : DrainState) (mid new : Engine) (next : Option Stage) → mid ≡ with_drain d drain → drain ≡ drain_kept next → next ≡ None → Holds mid 0 new → KeepsAll d (drain_kept next) (held_for next) new
+step_over d drain mid new next mid_is is none holds =
+    subst (λ (x : DrainState). KeepsAll d x (held_for next) new) is
+    (subst (λ (n : ℕ). KeepsAll d drain n new) (sym (ap held_for none))
+    (keeps_over d drain new (subst (λ (x : Engine). Holds x 0 new) mid_is holds)))
+
+-- it goes on
+pub step_goes : (d : Engine) (drain : DrainState) (new : Engine) (next : Option Stage) (b : Bool) → new ≡ with_drain d drain → drain ≡ drain_kept next → is_some next ≡ not b → b ≡ false → d.held ≡ 28 → KeepsAll d (drain_kept next) (held_for next) new
+step_goes d drain new None b new_is is some goes held = absurd (cc (some ∙ ap not goes))
+step_goes d drain new (Some s) b new_is is some goes held =
+    subst (λ (x : Engine). KeepsAll d s.drain 28 x) (sym new_is)
+    (subst (λ (x : DrainState). KeepsAll d x 28 (with_drain d drain)) is (keeps_drained d drain 28 held))
+
+pub some_of : (o : Option Turn) → is_some o ≡ true → (turn : Turn) × (o ≡ Some turn)
+some_of None e = absurd (cc (e))
+some_of (Some turn) e = (turn, refl)

@@ -1,0 +1,55 @@
+use Rattle.std.proofs.Common.{◌≡◌, List, [], ◌∷◌, ◌++◌, None, sym, ◌∙◌, ap, subst}
+use Rattle.rg_model.specs.Claims.{least_holder}
+use Rattle.rg_stmt.specs.declared.event.Entry.{Entry}
+use Rattle.rg_tending.specs.Tending.{FollowsBy, utility_entry}
+use Rattle.rg_desk.specs.Desk.{IsNext, old_records}
+use Rattle.rg_desk.specs.Flushed.{CallsOwn}
+use Rattle.rg_desk.specs.Volume.{seen_volume}
+use Rattle.rg_desk.proofs.DeskUtility.{idle_follows, idle_on}
+use Rattle.rg_desk.proofs.Flushing.{own_same}
+use Rattle.rg_desk.proofs.desk.Desk.book_refused.Goals as goal
+
+pub invariant_of-self : goal.invariant_of-self
+invariant_of-self g c =
+    let inside = c.self.inside in
+    let look = seen_volume g.V.Volume.told g.V.Volume.faults g.V.Volume.capacities in
+    let next = subst (λ d. IsNext d None c.args.event) (sym c.self.view_is) c.requires.next in
+    idle_on inside.engine inside.chronicle inside.copy inside.down inside.marks.items (look inside.volume) c.self.invariant.0 inside.stage inside.changes c.self.invariant.1
+    (least_holder inside.engine.claims.drain inside.engine.claims.claims) c.args.event next c.calls_now-calls.result c.push.new.self
+    (c.push.ensures.trace ∙ ap (λ (e : Entry). inside.chronicle.trace ++ e ∷ []) c.utility.ensures)
+    (c.push.ensures.calls ∙ ap (λ (e : Entry). e.calls) c.utility.ensures)
+    c.calls_now-calls.ensures.counted c.push.ensures.recorded
+
+pub returns : goal.returns
+returns g c =
+    let inside = c.self.inside in
+    let look = seen_volume g.V.Volume.told g.V.Volume.faults g.V.Volume.capacities in
+    let event = c.args.event in
+    let calls = c.calls_now-calls.result in
+    let trace : inside.chronicle.trace ≡ c.args.self.now.trace = ap (λ d. d.trace) c.self.view_is in
+    record {
+      calls = calls;
+      made =
+          c.push.ensures.trace
+          ∙ ap (λ (e : Entry). inside.chronicle.trace ++ e ∷ []) c.utility.ensures
+          ∙ ap (λ (es : List Entry). es ++ utility_entry event None calls ∷ []) trace;
+      counted = c.calls_now-calls.ensures.counted;
+      follows =
+          subst (λ d. FollowsBy d.down d.stage d.changes d.covered None event inside.stage) c.self.view_is
+          (idle_follows inside.down inside.stage inside.changes.since (least_holder inside.engine.claims.drain inside.engine.claims.claims) event);
+      changes = ap (λ d. d.changes) c.self.view_is;
+      kept = ap (λ d. d.kept) c.self.view_is ∙ c.requires.kept;
+      contents = ap (λ d. d.contents) c.self.view_is;
+      down = ap (λ d. d.down) c.self.view_is;
+      volume = ap (λ d. d.volume) c.self.view_is;
+      stays = record {
+        older = c.push.ensures.older ∙ ap (λ d. d.older) c.self.view_is;
+        capacity = ap (λ d. d.ground.capacity) c.self.view_is;
+        log_pages = ap (λ d. d.ground.log.pages) c.self.view_is;
+        opened = ap (λ d. d.opened) c.self.view_is;
+        old_same = ap (λ d. old_records d) c.self.view_is;
+        copy = ap (λ d. d.copy) c.self.view_is;
+        calls = subst (λ d. CallsOwn d.copy (look d.volume) (look inside.volume)) c.self.view_is (own_same inside.copy (look inside.volume));
+        operator = ap (λ d. d.operator) c.self.view_is;
+      };
+    }

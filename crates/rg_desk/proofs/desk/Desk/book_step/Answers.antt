@@ -1,0 +1,91 @@
+use Rattle.std.proofs.Common.{◌≡◌, ℕ, Bool, false, List, [], ◌∷◌, ◌++◌, Option, Some, take, refl, sym, ◌∙◌, ap, subst}
+use Rattle.rg_fold.specs.declared.item.Stage.{Stage}
+use Rattle.rg_log.specs.Kept.{Listed}
+use Rattle.rg_model.specs.Claims.{least_holder}
+use Rattle.rg_space.specs.Memory.{list_seen}
+use Rattle.rg_space.specs.Space.{capacity_in, frames_of}
+use Rattle.rg_stmt.specs.declared.event.Entry.{Entry}
+use Rattle.rg_tending.specs.Tending.{FollowsBy, NextBy, Tends, utility_entry}
+use Rattle.rg_desk.specs.Chronicle.{allowed_by}
+use Rattle.rg_desk.specs.Desk.{IsDesk, old_records}
+use Rattle.rg_desk.specs.Flushed.{CallsOwn}
+use Rattle.rg_desk.specs.Utility.{StepsOn}
+use Rattle.rg_desk.specs.Volume.{seen_volume}
+use Rattle.rg_desk.proofs.DeskUtility.{step_on}
+use Rattle.rg_desk.proofs.Flushing.{own_same}
+use Rattle.rg_desk.proofs.desk.Desk.book_step.Goals as goal
+
+pub step_utility-self-inside-requires-clause-shown : goal.step_utility-self-inside-requires-clause-shown
+step_utility-self-inside-requires-clause-shown g c =
+    let desk = c.self.invariant.0 in
+    record {
+      state = desk.state;
+      allowed = allowed_by 0 c.self.inside.chronicle.trace;
+      shows = desk.shown (ap (λ d. d.down) c.self.view_is ∙ c.requires.up);
+    }
+
+pub invariant_of-self : goal.invariant_of-self
+invariant_of-self g c =
+    let inside = c.self.inside in
+    let s = c.args.stage in
+    let seen = seen_volume g.V.Volume.told g.V.Volume.faults g.V.Volume.capacities inside.volume in
+    let up : inside.down ≡ false = ap (λ d. d.down) c.self.view_is ∙ c.requires.up in
+    let stage_is : inside.stage ≡ Some s = ap (λ d. d.stage) c.self.view_is ∙ c.requires.stage in
+    let after = c.step_utility-self-inside.new.self in
+    let next = c.step_utility-self-inside.result in
+    let on = step_on inside.engine inside.chronicle inside.copy inside.marks.items seen
+    (subst (λ (b : Bool). IsDesk inside.engine inside.chronicle inside.copy b inside.marks.items seen) up c.self.invariant.0)
+    s inside.changes (subst (λ (o : Option Stage). Tends inside.chronicle.trace o inside.changes inside.engine.held) stage_is c.self.invariant.1)
+    c.args.answer c.args.event next after
+    (subst (λ d. NextBy false (Some s) d.changes d.covered (Some c.args.answer) c.args.event) (sym c.self.view_is) c.requires.next)
+    (subst (λ (n : ℕ). StepsOn inside.engine s n c.args.answer c.args.event next after) c.since.ensures c.step_utility-self-inside.ensures)
+    c.calls_now-calls.result c.push.new.self
+    (c.push.ensures.trace ∙ ap (λ (e : Entry). inside.chronicle.trace ++ e ∷ []) c.utility.ensures)
+    (c.push.ensures.calls ∙ ap (λ (e : Entry). e.calls) c.utility.ensures)
+    c.calls_now-calls.ensures.counted c.push.ensures.recorded in
+    (subst (λ (b : Bool). IsDesk after c.push.new.self inside.copy b inside.marks.items seen) (sym up) on.0, on.1)
+
+pub returns : goal.returns
+returns g c =
+    let inside = c.self.inside in
+    let s = c.args.stage in
+    let look = seen_volume g.V.Volume.told g.V.Volume.faults g.V.Volume.capacities in
+    let event = c.args.event in
+    let answer = c.args.answer in
+    let calls = c.calls_now-calls.result in
+    let trace : inside.chronicle.trace ≡ c.args.self.now.trace = ap (λ d. d.trace) c.self.view_is in
+    let up : inside.down ≡ false = ap (λ d. d.down) c.self.view_is ∙ c.requires.up in
+    let stage_is : inside.stage ≡ Some s = ap (λ d. d.stage) c.self.view_is ∙ c.requires.stage in
+    let after = c.step_utility-self-inside.new.self in
+    let next = c.step_utility-self-inside.result in
+    let covered = least_holder inside.engine.claims.drain inside.engine.claims.claims in
+    let steps = subst (λ (n : ℕ). StepsOn inside.engine s n answer event next after) c.since.ensures c.step_utility-self-inside.ensures in
+    let records : after.log.records ≡ inside.engine.log.records = ap (λ (l : Listed). l.records) steps.engine.log in
+    let follows : FollowsBy false (Some s) inside.changes.since covered (Some answer) event next = λ turn is. steps.follows covered turn is in
+    record {
+      calls = calls;
+      made =
+          c.push.ensures.trace
+          ∙ ap (λ (e : Entry). inside.chronicle.trace ++ e ∷ []) c.utility.ensures
+          ∙ ap (λ (es : List Entry). es ++ utility_entry event (Some answer) calls ∷ []) trace;
+      counted = c.calls_now-calls.ensures.counted;
+      follows =
+          subst (λ d. FollowsBy d.down d.stage d.changes d.covered (Some answer) event next) c.self.view_is
+          (subst (λ (b : Bool). FollowsBy b inside.stage inside.changes.since covered (Some answer) event next) (sym up)
+          (subst (λ (o : Option Stage). FollowsBy false o inside.changes.since covered (Some answer) event next) (sym stage_is) follows));
+      changes = ap (λ d. d.changes) c.self.view_is;
+      kept = refl;
+      contents = ap (λ sp. (list_seen (frames_of sp)).pages) steps.engine.space ∙ ap (λ d. d.contents) c.self.view_is;
+      down = ap (λ d. d.down) c.self.view_is;
+      volume = ap (λ d. d.volume) c.self.view_is;
+      stays = record {
+        older = c.push.ensures.older ∙ ap (λ d. d.older) c.self.view_is;
+        capacity = ap (λ sp. capacity_in sp) steps.engine.space ∙ ap (λ d. d.ground.capacity) c.self.view_is;
+        log_pages = ap (λ (l : Listed). l.pages) steps.engine.log ∙ ap (λ d. d.ground.log.pages) c.self.view_is;
+        opened = steps.engine.opened ∙ ap (λ d. d.opened) c.self.view_is;
+        old_same = ap (λ (n : ℕ). take n after.log.records) steps.engine.opened ∙ ap (take inside.engine.opened) records ∙ ap (λ d. old_records d) c.self.view_is;
+        copy = ap (λ d. d.copy) c.self.view_is;
+        calls = subst (λ d. CallsOwn d.copy (look d.volume) (look inside.volume)) c.self.view_is (own_same inside.copy (look inside.volume));
+        operator = ap (λ d. d.operator) c.self.view_is;
+      };
+    }
