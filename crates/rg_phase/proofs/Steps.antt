@@ -1,0 +1,65 @@
+-- A step of a desk, put together from its calls.
+use Rattle.std.proofs.Common.{◌≡◌, ◌+◌, ℕ, Bool, true, false, Option, Some, None, refl, sym, ◌∙◌, ap, subst}
+use Rattle.std.specs.Option.{is_some}
+use Rattle.rg_base.specs.declared.control.Answer.{Answer}
+use Rattle.rg_base.specs.declared.session.Session.{Session}
+use Rattle.rg_desk.specs.Desk.{DeskState, IsNext}
+use Rattle.rg_fold.specs.declared.item.Stage.{Stage}
+use Rattle.rg_model.specs.Turn.{Turn, turn_of}
+use Rattle.rg_stage.specs.Bounded.{KeepsBounds}
+use Rattle.rg_stage.specs.Followed.{Followed}
+use Rattle.rg_stage.specs.NumbersOf.{numbers_of}
+use Rattle.rg_stmt.specs.declared.event.Event.{Event}
+use Rattle.rg_stmt.specs.declared.event.Event.TheVariants as events
+use Rattle.rg_tending.specs.Tending.{IsWithin, NextBy, is_booked}
+use Rattle.rg_tending.proofs.Early.{EarlyIf, turn_early, within_next}
+
+-- ---- the desk that was asked
+
+pub same_room : {V O : Type 0} (old mid : DeskState V O) → mid ≡ record old { spare = mid.spare } → old.kept ≡ None → mid ≡ record old { spare = mid.spare; kept = None; operator = mid.operator }
+same_room {V} {O} old mid room kept =
+    room
+    ∙ ap (λ (k : Option Answer). let d : DeskState V O = record old { spare = mid.spare; kept = k } in d) kept
+    ∙ ap (λ (o : O). let d : DeskState V O = record old { spare = mid.spare; kept = None; operator = o } in d) (sym (ap (λ (d : DeskState V O). d.operator) room))
+
+pub same_asked : {V O : Type 0} (old mid asked : DeskState V O) (answer : Answer) → mid ≡ record old { spare = mid.spare } → asked ≡ record mid { kept = Some answer; operator = asked.operator }
+    → asked ≡ record old { spare = asked.spare; kept = Some answer; operator = asked.operator }
+same_asked {V} {O} old mid asked answer room same =
+    same
+    ∙ ap (λ (m : DeskState V O). let d : DeskState V O = record m { kept = Some answer; operator = asked.operator } in d) room
+    ∙ ap (λ (n : ℕ). let d : DeskState V O = record old { spare = n; kept = Some answer; operator = asked.operator } in d) (sym (ap (λ (d : DeskState V O). d.spare) same))
+
+-- ---- the next event
+
+pub next_down : {V O : Type 0} (desk : DeskState V O) → desk.down ≡ true → IsNext desk None events.StepDown
+next_down desk down = subst (λ (b : Bool). NextBy b desk.stage desk.changes desk.covered None events.StepDown) (sym down) tt
+
+pub next_idle : {V O : Type 0} (desk : DeskState V O) → desk.down ≡ false → desk.stage ≡ None → IsNext desk None events.Idle
+next_idle desk down stage =
+    subst (λ (b : Bool). NextBy b desk.stage desk.changes desk.covered None events.Idle) (sym down)
+    (subst (λ (o : Option Stage). NextBy false o desk.changes desk.covered None events.Idle) (sym stage) tt)
+
+pub next_runs : {V O : Type 0} (desk : DeskState V O) (s : Stage) (all : ℕ) (holder : Option Session) (answer : Answer) (event : Event) → desk.down ≡ false → desk.stage ≡ Some s → all ≡ desk.changes → holder ≡ desk.covered
+    → is_booked event ≡ true → is_some (turn_of all holder answer (numbers_of s) s.drain event) ≡ true → IsNext desk (Some answer) event
+next_runs desk s all holder answer event down stage all_is holder_is booked next =
+    subst (λ (b : Bool). NextBy b desk.stage desk.changes desk.covered (Some answer) event) (sym down)
+    (subst (λ (o : Option Stage). NextBy false o desk.changes desk.covered (Some answer) event) (sym stage) (
+      booked,
+      subst (λ (n : ℕ). is_some (turn_of n desk.covered answer (numbers_of s) s.drain event) ≡ true) all_is
+          (subst (λ (o : Option Session). is_some (turn_of all o answer (numbers_of s) s.drain event) ≡ true) holder_is next),
+    ))
+
+-- ---- the numbers after it
+
+some_turn : (o : Option Turn) → is_some o ≡ true → (turn : Turn) × (o ≡ Some turn)
+some_turn None e = absurd (cc (e))
+some_turn (Some turn) e = (turn, refl)
+
+pub stays_within : (all entries n : ℕ) (s t : Stage) (answer : Answer) (holder : Option Session) (event : Event) (next : Option Stage) → IsWithin all entries (Some s) → is_booked event ≡ true
+    → is_some (turn_of all holder answer (numbers_of s) s.drain event) ≡ true → ((covered : Option Session) (turn : Turn) → turn_of all covered answer (numbers_of s) s.drain event ≡ Some turn → Followed turn next)
+    → KeepsBounds all s next → next ≡ Some t → n ≡ entries + 1 → IsWithin all n (Some t)
+stays_within all entries n s t answer holder event next within booked is followed bounded next_is n_is =
+    let has = some_turn _ is in
+    let early = subst EarlyIf has.1 (turn_early (numbers_of s) (within.1, within.2) all holder answer s.drain event booked) in
+    subst (λ (k : ℕ). IsWithin all k (Some t)) (sym n_is)
+    (subst (IsWithin all (entries + 1)) next_is (within_next all entries s has.0 next within bounded early (followed holder has.0 has.1)))

@@ -1,0 +1,9 @@
+//! The utility, step by step.
+#![tactic(auto)]
+
+/// The event of the next step.
+pub mod next;
+/// A step.
+pub mod step;
+#[cfg(test)]
+mod tests;
