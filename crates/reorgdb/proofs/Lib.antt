@@ -1,3 +1,4 @@
+mod Asked
 mod Causes
 mod Deals
 mod Pieces

@@ -40,7 +40,8 @@ pub record Completes (words : List (List ℕ)) (source source_after sink sink_af
   -- bytes for each page of the smaller copy.
   pub full : IsFullOnlyFrom (3200 * smaller_pages volume.capacities) 0 trace
   -- LOGFULL is answered only where the bytes that the last opening found, with 4,264 for each write
-  -- since and for one more, are more than the log may have: 2,270 for each of its pages but one.
+  -- since and 28 for each start of a utility, and with those of one more, are more than the log may
+  -- have: 2,270 for each of its pages but one.
   pub log_full : IsLogFullOnlyFrom (limit_of (log_pages volume.capacities)) 0 trace
   -- DEVICE is answered only where a call of the volume failed.
   pub device : IsDeviceOnlyIf (Rose volume.faults volume_after.faults) trace

@@ -1,10 +1,11 @@
 // The program's call. All that it promises is in specs/Contract.antt.
-ghost use Rattle.std.specs.Prelude.{◌≡◌, ◌+◌, ◌*◌, map, string_bytes};
+ghost use Rattle.std.specs.Prelude.{◌+◌, ◌*◌, map, string_bytes};
 ghost use Rattle.rg_outside.specs.Faults.{Rose};
 ghost use Rattle.reorgdb.specs.Answer.{seen, Concludes, Delivers, output_of};
 ghost use Rattle.reorgdb.specs.Contract.{Completes};
 ghost use Rattle.rg_image.specs.Rules.{limit_of};
 ghost use Rattle.rg_log.specs.Kept.{log_pages};
+ghost use Rattle.rg_run.specs.Asked.{HasAnswered, answers_in};
 ghost use Rattle.rg_run.specs.Full.{IsFullOnlyFrom, smaller_pages};
 ghost use Rattle.rg_run.specs.LogFull.{IsLogFullOnlyFrom};
 ghost use Rattle.rg_run.specs.Outside.{IsDeviceOnlyIf, MakesOnly, WritesOwn};
@@ -54,12 +55,15 @@ pub fn reorg_main<R: Threads + Wait + Clock + Sync, S: Source, K: Sink, V: Volum
         (seen_volume V.told V.faults V.capacities volume)
         (seen_volume V.told V.faults V.capacities result.volume)
         result.status result.trace.items }
-    ensures operator { result.operator ≡ operator }
+    // The operator was asked for the entries that have its answer, and for no other.
+    ensures asked { HasAnswered ((Operator-box operator).answers operator.value)
+        (answers_in result.trace.items)
+        ((Operator-box result.operator).answers result.operator.value) }
 {
     reorg_alone(alloc, words, source, sink, volume, operator)
 }
 
-/// The same, on one thread and without a runtime, so it returns. The operator is not asked.
+/// The same, on one thread and without a runtime, so it returns.
 pub fn reorg_alone<S: Source, K: Sink, V: Volume + Send>(
     alloc: Global,
     words: &[String],
@@ -74,7 +78,10 @@ pub fn reorg_alone<S: Source, K: Sink, V: Volume + Send>(
         (seen_volume V.told V.faults V.capacities volume)
         (seen_volume V.told V.faults V.capacities result.volume)
         result.status result.trace.items }
-    ensures operator { result.operator ≡ operator }
+    // The operator was asked for the entries that have its answer, and for no other.
+    ensures asked { HasAnswered ((Operator-box operator).answers operator.value)
+        (answers_in result.trace.items)
+        ((Operator-box result.operator).answers result.operator.value) }
 {
     let (status, trace, volume, operator) = answer(alloc, words, source, sink, volume, operator);
     Finished {
@@ -93,8 +100,7 @@ fn deliver<K: Sink, V, O>(sink: &mut K, work: &Work<V, O>) -> u8
     give_output(sink, work.output(), work.outcome.status())
 }
 
-// Reads, plays and gives. The operator is of any type, since no fact about a boxed one can be
-// stated here.
+// Reads, plays and gives. The operator is of any type.
 fn answer<S: Source, K: Sink, V: Volume, O: Operator>(
     alloc: Global,
     words: &[String],
@@ -125,7 +131,8 @@ fn answer<S: Source, K: Sink, V: Volume, O: Operator>(
     ensures bounded { TakesAtMost (DECK_LIMIT + 1) (S.left source.old) (S.left source.new) }
     ensures device { IsDeviceOnlyIf (Rose (V.faults volume) (V.faults result.2)) result.1.items }
     ensures only { MakesOnly (WritesOwn result.1.items) (V.told volume) (V.told result.2) }
-    ensures operator { result.3 ≡ operator }
+    ensures asked { HasAnswered (O.answers operator) (answers_in result.1.items)
+        (O.answers result.3) }
 {
     let work = carry_out(alloc, words, source, volume, operator);
     let status = deliver(sink, &work);

@@ -3,7 +3,7 @@
 // (2) The whole deck is read before any line of it is played.
 // (3) The whole output is made before any of it is given.
 // (4) The volume is opened after the deck was read, and before any line is played. A call that is
-//     refused before calls it not. The operator is not asked.
+//     refused before calls it not.
 // (5) A layout that is asked for is the one of a deck of a single line `L`, in full.
 ghost use Rattle.std.specs.Prelude.{ℕ, ◌≡◌, ◌≤◌, ◌+◌, ◌*◌, [], ◌∷◌, Bool, List, length, map, IfOk, OnErr};
 ghost use Rattle.std.specs.Prelude.{string_bytes};
@@ -12,6 +12,7 @@ ghost use Rattle.rg_outside.specs.Faults.{Rose};
 ghost use Rattle.rg_desk.specs.Volume.{VolumeSeen, seen_volume};
 ghost use Rattle.rg_image.specs.Rules.{limit_of};
 ghost use Rattle.rg_log.specs.Kept.{log_pages};
+ghost use Rattle.rg_run.specs.Asked.{HasAnswered, answers_in};
 ghost use Rattle.rg_run.specs.Full.{IsFullOnlyFrom, smaller_pages};
 ghost use Rattle.rg_run.specs.LogFull.{IsLogFullOnlyFrom};
 ghost use Rattle.rg_run.specs.Outside.{IsDeviceOnlyIf, IsEnd, MakesOnly, WritesOwn};
@@ -161,7 +162,8 @@ pub fn carry_out<S: Source, V: Volume, O: Operator>(
         (seen_volume V.told V.faults V.capacities result.volume) result.trace.items }
     ensures only { MakesOnly (WritesOwn result.trace.items) (V.told volume)
         (V.told result.volume) }
-    ensures operator { result.operator ≡ operator }
+    ensures asked { HasAnswered (O.answers operator) (answers_in result.trace.items)
+        (O.answers result.operator) }
 {
     let full = match words::read_admitted(words, words::Admits::Layout) {
         Ok(Words::Play { full }) => full,
@@ -203,7 +205,8 @@ fn show_layout<V: Volume, O: Operator>(alloc: Global, volume: V, operator: O) ->
         (seen_volume V.told V.faults V.capacities result.volume) result.trace.items }
     ensures only { MakesOnly (WritesOwn result.trace.items) (V.told volume)
         (V.told result.volume) }
-    ensures operator { result.operator ≡ operator }
+    ensures asked { HasAnswered (O.answers operator) (answers_in result.trace.items)
+        (O.answers result.operator) }
 {
     let mut lines = Vec::new(alloc);
     match lines.push(Line::Show) {
@@ -243,7 +246,8 @@ fn play_bytes<V: Volume, O: Operator>(
         (seen_volume V.told V.faults V.capacities result.volume) result.trace.items }
     ensures only { MakesOnly (WritesOwn result.trace.items) (V.told volume)
         (V.told result.volume) }
-    ensures operator { result.operator ≡ operator }
+    ensures asked { HasAnswered (O.answers operator) (answers_in result.trace.items)
+        (O.answers result.operator) }
 {
     match read_admitted(alloc, bytes, Admits::Played) {
         Ok(lines) => print_played(alloc, full, run(alloc, volume, operator, lines)),

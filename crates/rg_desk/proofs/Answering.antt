@@ -217,7 +217,7 @@ drained_answers st allowed d shows session stmt classes is out =
       log = tt;
       logged = omega arith;
       opened = refl;
-      held = refl;
+      set_aside = refl;
       grows = grows_same d.log d.log refl;
       newest = λ epoch h. h;
       parts = λ capacities epoch h. record { can = h.parts.can; low = h.parts.low };
@@ -265,7 +265,7 @@ module _ (st : State) (allowed : ℕ) (d : Engine) (shows : Shows st allowed d) 
     log = goes.log;
     logged = omega (arith, ap (λ (x : Engine). taken_of x.log) e, goes.logged);
     opened = ap (λ (x : Engine). x.opened) e ∙ goes.opened;
-    held = ap (λ (x : Engine). x.held) e ∙ goes.held;
+    set_aside = ap (λ (x : Engine). x.set_aside) e ∙ goes.set_aside;
     grows = subst (λ (l : LogList). Grows d.log l) (ap (λ (x : Engine). x.log) (sym e)) goes.grows;
     newest = λ epoch h. space_newest mid.log.records new.log.records mid.space new.space (ap (λ (x : Engine). x.log.records) e) (ap (λ (x : Engine). x.space) e) epoch (goes.newest epoch h);
     parts = λ capacities epoch h. subst (λ (l : LogList). PartsReopen capacities epoch (record l { forced = d.log.forced })) (ap (λ (x : Engine). x.log) (sym e)) (goes.parts capacities epoch h);
@@ -290,7 +290,7 @@ module _ (st : State) (allowed : ℕ) (d : Engine) (shows : Shows st allowed d) 
     log = goes.log;
     logged = goes.logged;
     opened = goes.opened;
-    held = goes.held;
+    set_aside = goes.set_aside;
     grows = goes.grows;
     newest = goes.newest;
     parts = goes.parts;

@@ -42,7 +42,7 @@ use Rattle.rg_desk.specs.Units.{owed, unit_at}
 use Rattle.rg_desk.specs.declared.engine.Engine.{Engine}
 use Rattle.rg_desk.proofs.Settled.{all_settled}
 
-module _ (d : Engine) (top : ℕ) (can : CanBegin (capacity_in d.space) (slots_in d) d.log top) (opened : d.opened ≡ length d.log.records) (held : d.held ≡ 0) (start : Table) (starts : IsStored d.log.records start) where
+module _ (d : Engine) (top : ℕ) (can : CanBegin (capacity_in d.space) (slots_in d) d.log top) (opened : d.opened ≡ length d.log.records) (set_aside : d.set_aside ≡ 0) (start : Table) (starts : IsStored d.log.records start) where
   -- nothing follows the records that were there
   since_none : since d ≡ []
   since_none = ap (λ (n : ℕ). acts_of [] (drop n d.log.records)) opened ∙ ap (acts_of []) (drop-length d.log.records)
@@ -88,7 +88,7 @@ module _ (d : Engine) (top : ℕ) (can : CanBegin (capacity_in d.space) (slots_i
         all = λ t l. absurd (none_live t (subst (λ (us : List ℕ). IsLive us t) can.live l));
       };
       top = top_is ∙ sym can.top_is;
-      owed = omega (arith, owes, held, can.idle);
+      owed = omega (arith, owes, set_aside, can.idle);
       claimed = omega (
         arith,
         can.claimed,
@@ -97,10 +97,10 @@ module _ (d : Engine) (top : ℕ) (can : CanBegin (capacity_in d.space) (slots_i
         ap (λ (ps : List (List Slot)). claimed_all (holding [] (suc top)) ps) can.pages_are,
       );
     });
-    trails = subst (λ (acts : List Act). Trails d.log d.held d.units (state can.first acts)) (sym since_none) (record {
+    trails = subst (λ (acts : List Act). Trails d.log d.set_aside d.units (state can.first acts)) (sym since_none) (record {
       tells = can.tells;
       each = λ n unit has. absurd (cc (units n, has));
-      paid = omega (arith, can.owes, held, can.idle);
+      paid = omega (arith, can.owes, set_aside, can.idle);
       space = omega (arith, can.space, can.idle);
     });
   }

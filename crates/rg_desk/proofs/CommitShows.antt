@@ -75,7 +75,7 @@ module _ (st : State) (allowed : ℕ) (d new : Engine) (session : Session) (show
     (units : new.units ≡ set d.units session.0 None)
     (records : new.log.records ≡ records_committed d.log.records (unit_at d.units session.0))
     (reserved : new.log.reserved + owed_to (unit_at d.units session.0) ≡ d.log.reserved)
-    (opened : new.opened ≡ d.opened) (held : new.held ≡ d.held) (settled : IsSettled new.log) (grows : Grows d.log new.log) where
+    (opened : new.opened ≡ d.opened) (set_aside : new.set_aside ≡ d.set_aside) (settled : IsSettled new.log) (grows : Grows d.log new.log) where
   abbrev s : LogState
   s = left_by shows.first d
 
@@ -91,8 +91,8 @@ module _ (st : State) (allowed : ℕ) (d new : Engine) (session : Session) (show
   slots : slots_in new ≡ s.pages
   slots = ap (λ sp. slots_in (record d { space = sp })) space ∙ shows.by.slots
 
-  owed_after : owed new.units + new.held ≡ new.log.reserved
-  owed_after = omega (arith, ap owed units, owed-set d.units session.0 None place, reserved, held, shows.by.owed)
+  owed_after : owed new.units + new.set_aside ≡ new.log.reserved
+  owed_after = omega (arith, ap owed units, owed-set d.units session.0 None place, reserved, set_aside, shows.by.owed)
 
   -- what is left stands to the state of the trace as it did
   by : (left : LogState) → left.pages ≡ s.pages → ((k : ℕ) → left.now k ≡ s.now k) → left.top ≡ s.top
@@ -123,11 +123,11 @@ module _ (st : State) (allowed : ℕ) (d new : Engine) (session : Session) (show
   }
 
   -- without a unit the trails are the same ones
-  idle_trails : unit_at d.units session.0 ≡ None → new.log.records ≡ d.log.records → set d.units session.0 None ≡ d.units → Trails new.log new.held new.units s
+  idle_trails : unit_at d.units session.0 ≡ None → new.log.records ≡ d.log.records → set d.units session.0 None ≡ d.units → Trails new.log new.set_aside new.units s
   idle_trails none same same_units = record {
     tells = subst (λ (rs : List Record). Tells rs s) (sym same) shows.trails.tells;
     each = λ n unit has. subst (λ (rs : List Record). IsTrail rs s unit) (sym same) (shows.trails.each n unit (ap (λ (us : List (Option OpenUnit)). unit_at us n) (sym same_units ∙ sym units) ∙ has));
-    paid = omega (arith, ap owed_by same, shows.trails.paid, reserved, held, ap owed_to none);
+    paid = omega (arith, ap owed_by same, shows.trails.paid, reserved, set_aside, ap owed_to none);
     space = omega (arith, ap log_bytes same, reserved, ap owed_to none, grows.pages, shows.trails.space);
   }
 
@@ -152,10 +152,10 @@ module _ (st : State) (allowed : ℕ) (d new : Engine) (session : Session) (show
       going = is_open.2;
     }
 
-    paid : owed_by (rs ++ entry ∷ []) + new.held ≡ new.log.reserved
+    paid : owed_by (rs ++ entry ∷ []) + new.set_aside ≡ new.log.reserved
     paid =
         let chain = chain_length rs t 0 [] unit.last.0 (own_of t s.writes) (left_of t rs) (shows.trails.each session.0 unit has).lefts in
-        omega (arith, owes.end rs entry is_of refl is_open.1, chain, (shows.by.units.each session.0 unit has).count, shows.trails.paid, reserved, held, ap owed_to has)
+        omega (arith, owes.end rs entry is_of refl is_open.1, chain, (shows.by.units.each session.0 unit has).count, shows.trails.paid, reserved, set_aside, ap owed_to has)
 
     same : new.log.records ≡ rs ++ entry ∷ []
     same = records ∙ ap (records_committed rs) has
@@ -184,7 +184,7 @@ module _ (st : State) (allowed : ℕ) (d new : Engine) (session : Session) (show
     )
 
     -- and then the trails of the other units go on
-    committed_trails : Trails new.log new.held new.units (step s (Commit t))
+    committed_trails : Trails new.log new.set_aside new.units (step s (Commit t))
     committed_trails =
         let one = shows.by.units.each session.0 unit has in
         record {
@@ -192,7 +192,7 @@ module _ (st : State) (allowed : ℕ) (d new : Engine) (session : Session) (show
               subst (λ (xs : List Record). Tells xs (step s (Commit t))) (sym same)
               (records_tell (capacity_in d.space) d.log.pages rs (entry ∷ []) s shows.trails.tells (left_consistent st allowed d shows) ((one.live, one.steady), tt) commit_next);
           each = λ n u h. subst (λ (xs : List Record). IsTrail xs (step s (Commit t)) u) (sym same) (go n u (ap (λ (us : List (Option OpenUnit)). unit_at us n) (sym units) ∙ h) (same_or_not n session.0));
-          paid = ap (λ (xs : List Record). owed_by xs + new.held) same ∙ paid;
+          paid = ap (λ (xs : List Record). owed_by xs + new.set_aside) same ∙ paid;
           space = omega (
             arith,
             ap log_bytes records,
@@ -288,7 +288,7 @@ module _ (st : State) (allowed : ℕ) (d new : Engine) (session : Session) (show
     log = tt;
     logged = omega (arith, ap log_bytes records, bytes_committed d.log.records (unit_at d.units session.0) d.log.reserved new.log.reserved reserved);
     opened = opened;
-    held = held;
+    set_aside = set_aside;
     grows = grows;
     forced = λ e. absurd (cc (e));
     newest = newest;

@@ -77,7 +77,7 @@ pub record Told (copy : ℕ) (down : Bool) (marks later : List (Option Position)
   pub contents : (seen_in next).pages ≡ (seen_in d).pages
   pub capacity : capacity_in next.space ≡ capacity_in d.space
   pub opened : next.opened ≡ d.opened
-  pub held : next.held ≡ d.held
+  pub set_aside : next.set_aside ≡ d.set_aside
   pub calls : CallsOwn copy seen seen_after
 
 pub flush_told : (copy : ℕ) (down : Bool) (marks later : List (Option Position)) (seen seen_after : VolumeSeen) (d : Engine) (event : Event) (next : Engine) → TellsFlush down copy marks later seen seen_after d event next → Told copy down marks later seen seen_after d event next
@@ -90,7 +90,7 @@ flush_told copy true marks later seen seen_after d event next tells =
       contents = ap (λ (x : Engine). (seen_in x).pages) same;
       capacity = ap (λ (x : Engine). capacity_in x.space) same;
       opened = ap (λ (x : Engine). x.opened) same;
-      held = ap (λ (x : Engine). x.held) same;
+      set_aside = ap (λ (x : Engine). x.set_aside) same;
       calls = subst (CallsOwn copy seen) (sym tells.3) (own_same copy seen);
     }
 flush_told copy false marks later seen seen_after d event next f = record {
@@ -100,6 +100,6 @@ flush_told copy false marks later seen seen_after d event next f = record {
   contents = f.forces.contents;
   capacity = f.forces.capacity;
   opened = f.forces.opened;
-  held = f.forces.held;
+  set_aside = f.forces.set_aside;
   calls = f.calls;
 }

@@ -429,7 +429,7 @@ pub record Replied (d : Engine) (c : ChronicleState) (down : Bool) (seen : Volum
   pub log_full : IfLogFull reply (logged_by 0 c.trace) d.log.pages
   pub capacity : capacity_in next.space ≡ capacity_in d.space
   pub opened : next.opened ≡ d.opened
-  pub held : next.held ≡ d.held
+  pub set_aside : next.set_aside ≡ d.set_aside
   pub grows : Grows d.log next.log
   pub calls : CallsLog seen seen_after
 
@@ -456,7 +456,7 @@ replied d c copy true marks seen desk session stmt reply next after seen_after r
   log_full = subst (λ (r : Reply). IfLogFull r (logged_by 0 c.trace) d.log.pages) (sym replies.0) tt;
   capacity = ap (λ (x : Engine). capacity_in x.space) replies.1;
   opened = ap (λ (x : Engine). x.opened) replies.1;
-  held = ap (λ (x : Engine). x.held) replies.1;
+  set_aside = ap (λ (x : Engine). x.set_aside) replies.1;
   grows = grows_same d.log next.log (ap (λ (x : Engine). x.log) replies.1);
   calls = subst (CallsLog seen) (sym replies.3) (same_calls seen);
 }
@@ -476,7 +476,7 @@ replied d c copy false marks seen desk session stmt reply next after seen_after 
       log_full = log_full_so (ground_of d) session.0 stmt reply (logged_by 0 c.trace) answered.log desk.logged;
       capacity = answered.capacity;
       opened = answered.opened;
-      held = answered.held;
+      set_aside = answered.set_aside;
       grows = answered.grows;
       calls = replies.1.calls;
     }

@@ -32,12 +32,12 @@ use Rattle.rg_stage.specs.NumbersOf.{numbers_of}
 use Rattle.rg_stage.proofs.Booking.{entry_allowed}
 use Rattle.rg_stmt.specs.declared.event.Event.TheVariants as events
 use Rattle.rg_tally.specs.Changed.{ChangeCount}
-use Rattle.rg_tending.specs.Tending.{FollowsBy, IsSystem, NextBy, Tends, behind, is_booked, utility_entry}
+use Rattle.rg_tending.specs.Tending.{FollowsBy, IsSystem, NextBy, Tends, aside_for, behind, is_booked, utility_entry}
 use Rattle.rg_tending.proofs.Early.{EarlyIf, IsEarly, early_plain, turn_early, within_next}
 use Rattle.rg_tending.proofs.Tended.{tends_booked, tends_refused, tends_started}
 use Rattle.rg_version.specs.Versions.{Epoch}
 use Rattle.rg_desk.specs.Bytes.{taken_of}
-use Rattle.rg_desk.specs.Engine.{seen_in}
+use Rattle.rg_desk.specs.Engine.{ground_of, seen_in}
 use Rattle.rg_desk.specs.Chronicle.{ChronicleState, IsRecorded, allowed_after, allowed_by, logged_after, logged_by}
 use Rattle.rg_desk.specs.Desk.{IsBegun, IsDesk, IfStartLogFull, IsLayout, IsStart, is_started, started_count}
 use Rattle.rg_desk.specs.Flushed.{FlushIs}
@@ -48,6 +48,7 @@ use Rattle.rg_desk.specs.OnVolume.{IsOn, WasAllTidy}
 use Rattle.rg_desk.specs.Reopens.{IsCleanIn, PartsReopen}
 use Rattle.rg_desk.specs.Shows.{Shows}
 use Rattle.rg_desk.specs.Stored.{IsStored}
+use Rattle.rg_desk.specs.declared.units.OpenUnit.{OpenUnit}
 use Rattle.rg_desk.specs.Utility.{IsNew, SameButUtility, StartIs, StepsOn}
 use Rattle.rg_desk.specs.Volume.{IsCount, LeavesIfTidy, VolumeSeen}
 use Rattle.rg_desk.specs.declared.engine.Engine.{Engine}
@@ -161,7 +162,7 @@ start_allows past st options copy pages up utility same =
     ∙ ap (λ (b : Bool). if_allowed b new) (eqb-refl copy)
 
 -- the state that the trace leads to shows the stage
-module _ (d : Engine) (c : ChronicleState) (copy : ℕ) (down : Bool) (marks : List (Option Position)) (seen : VolumeSeen) (desk : IsDesk d c copy down marks seen) (stage : Option Stage) (count : ChangeCount) (tends : Tends c.trace stage count d.held) where
+module _ (d : Engine) (c : ChronicleState) (copy : ℕ) (down : Bool) (marks : List (Option Position)) (seen : VolumeSeen) (desk : IsDesk d c copy down marks seen) (stage : Option Stage) (count : ChangeCount) (tends : Tends c.trace stage count d.set_aside) where
   pub state_shows : (desk.state.utility ≡ utility_kept stage) × (desk.state.drain ≡ drain_kept stage)
   state_shows = tends.shows desk.start copy desk.state desk.run
 
@@ -169,46 +170,46 @@ module _ (d : Engine) (c : ChronicleState) (copy : ℕ) (down : Bool) (marks : L
 
 -- a desk and what it tends, after an entry
 abbrev pub GoesOn : Engine → ChronicleState → (copy : ℕ) → (down : Bool) → List (Option Position) → VolumeSeen → Option Stage → ChangeCount → Type 0
-GoesOn d c copy down marks seen stage count = IsDesk d c copy down marks seen × Tends c.trace stage count d.held
+GoesOn d c copy down marks seen stage count = IsDesk d c copy down marks seen × Tends c.trace stage count d.set_aside
 
 module _ (c : ChronicleState) (copy : ℕ) (marks : List (Option Position)) (seen : VolumeSeen) (count : ChangeCount) (calls : ℕ) (new : ChronicleState)
     (at : new.calls ≡ calls) (counted : IsCount seen calls) (recorded : IsRecorded new.trace new.calls) where
   -- it was refused
-  refused_on : (d : Engine) (down : Bool) (stage : Option Stage) (event : Event) (desk : IsDesk d c copy down marks seen) → Tends c.trace stage count d.held
+  refused_on : (d : Engine) (down : Bool) (stage : Option Stage) (event : Event) (desk : IsDesk d c copy down marks seen) → Tends c.trace stage count d.set_aside
       → ((n : ℕ) → logged_after n event ≡ n) → ((n : ℕ) → allowed_after n event ≡ n) → Allows (behind [] c.trace) None actors.Utility event desk.state desk.state
-      → Tends (c.trace ++ utility_entry event None calls ∷ []) stage count d.held
+      → Tends (c.trace ++ utility_entry event None calls ∷ []) stage count d.set_aside
       → new.trace ≡ c.trace ++ utility_entry event None calls ∷ [] → GoesOn d new copy down marks seen stage count
   refused_on d down stage event desk tends logged none allows after trace = (
     desk_refused d c copy down marks seen desk event calls new logged none allows trace at counted recorded,
-    subst (λ (es : List Entry). Tends es stage count d.held) (sym trace) after,
+    subst (λ (es : List Entry). Tends es stage count d.set_aside) (sym trace) after,
   )
 
-  pub start_on : (options : Options) (d : Engine) (down : Bool) (stage : Option Stage) (event : Event) (next : Option Stage) (after : Engine) → IsDesk d c copy down marks seen → Tends c.trace stage count d.held → StartIs down stage options copy d event next after
+  pub start_on : (options : Options) (d : Engine) (down : Bool) (stage : Option Stage) (event : Event) (next : Option Stage) (after : Engine) → IsDesk d c copy down marks seen → Tends c.trace stage count d.set_aside → StartIs down stage options copy d event next after
       → new.trace ≡ c.trace ++ utility_entry event None calls ∷ [] → GoesOn after new copy down marks seen next (started_count (is_started event) count)
   start_on options d true stage event next after desk tends is trace =
       let down : Allows (behind [] c.trace) None actors.Utility events.StartDown desk.state desk.state = (down_allows (behind [] c.trace) desk.state desk.down_is).0 in
       subst (λ (e : Event). GoesOn after new copy true marks seen next (started_count (is_started e) count)) (sym is.0)
       (subst (λ (x : Engine). GoesOn x new copy true marks seen next count) (sym is.2)
       (subst (λ (s : Option Stage). GoesOn d new copy true marks seen s count) (sym is.1)
-      (refused_on d true stage events.StartDown desk tends (λ n. refl) (λ n. refl) down (tends_refused c.trace stage count d.held events.StartDown calls tt tends)
+      (refused_on d true stage events.StartDown desk tends (λ n. refl) (λ n. refl) down (tends_refused c.trace stage count d.set_aside events.StartDown calls tt tends)
       (trace ∙ ap (λ (e : Event). c.trace ++ utility_entry e None calls ∷ []) is.0))))
   start_on options d false (Some s) event next after desk tends is trace =
       let active = active_allows (behind [] c.trace) desk.state (numbers_of s) desk.down_is (state_shows d c copy false marks seen desk (Some s) count tends).0 in
       subst (λ (e : Event). GoesOn after new copy false marks seen next (started_count (is_started e) count)) (sym is.0)
       (subst (λ (x : Engine). GoesOn x new copy false marks seen next count) (sym is.2)
       (subst (λ (t : Option Stage). GoesOn d new copy false marks seen t count) (sym is.1)
-      (refused_on d false (Some s) events.Active desk tends (λ n. refl) (λ n. refl) active (tends_refused c.trace (Some s) count d.held events.Active calls tt tends)
+      (refused_on d false (Some s) events.Active desk tends (λ n. refl) (λ n. refl) active (tends_refused c.trace (Some s) count d.set_aside events.Active calls tt tends)
       (trace ∙ ap (λ (e : Event). c.trace ++ utility_entry e None calls ∷ []) is.0))))
   start_on options d false None (events.StartLogFull need left) next after desk tends is trace =
       let none = (none_allows (behind [] c.trace) desk.state desk.down_is (state_shows d c copy false marks seen desk None count tends).0 need left).0 in
       subst (λ (x : Engine). GoesOn x new copy false marks seen next count) (sym is.4)
       (subst (λ (t : Option Stage). GoesOn d new copy false marks seen t count) (sym is.3)
-      (refused_on d false None (events.StartLogFull need left) desk tends (λ n. refl) (λ n. refl) none (tends_refused c.trace None count d.held (events.StartLogFull need left) calls tt tends) trace))
+      (refused_on d false None (events.StartLogFull need left) desk tends (λ n. refl) (λ n. refl) none (tends_refused c.trace None count d.set_aside (events.StartLogFull need left) calls tt tends) trace))
   start_on options d false None events.StartNoMemory next after desk tends is trace =
       let none = (none_allows (behind [] c.trace) desk.state desk.down_is (state_shows d c copy false marks seen desk None count tends).0 0 0).1 in
       subst (λ (x : Engine). GoesOn x new copy false marks seen next count) (sym is.1)
       (subst (λ (t : Option Stage). GoesOn d new copy false marks seen t count) (sym is.0)
-      (refused_on d false None events.StartNoMemory desk tends (λ n. refl) (λ n. refl) none (tends_refused c.trace None count d.held events.StartNoMemory calls tt tends) trace))
+      (refused_on d false None events.StartNoMemory desk tends (λ n. refl) (λ n. refl) none (tends_refused c.trace None count d.set_aside events.StartNoMemory calls tt tends) trace))
   start_on options d false None (events.Started given of_copy pages) None after desk tends is trace = absurd is.3
   start_on options d false None (events.Started given of_copy pages) (Some s) after desk tends is trace =
       let shows = state_shows d c copy false marks seen desk None count tends in
@@ -223,9 +224,9 @@ module _ (c : ChronicleState) (copy : ℕ) (marks : List (Option Position)) (see
             (λ up. utility_shows desk.state state (allowed_by 0 c.trace) after (holds.shows desk.state (allowed_by 0 c.trace) (desk.shown up)) same
             ((desk.shown up).by.drain ∙ ap (λ (x : Engine). x.claims.drain) (sym holds.same)))
             (λ is. absurd (cc (is))) holds.clean trace at counted recorded,
-        subst (λ (es : List Entry). Tends es (Some s) (record count { since = 0 }) after.held) (sym trace)
-            (subst (λ (n : ℕ). Tends (c.trace ++ utility_entry (events.Started given of_copy pages) None calls ∷ []) (Some s) (record count { since = 0 }) n) (sym (ap (λ (x : Engine). x.held) holds.same))
-            (tends_started c.trace count d.held given of_copy pages calls s tends (is.3.0 ∙ ap (λ (o : Options). new_utility o pages) (sym is.0)) is.3.1)),
+        subst (λ (es : List Entry). Tends es (Some s) (record count { since = 0 }) after.set_aside) (sym trace)
+            (subst (λ (n : ℕ). Tends (c.trace ++ utility_entry (events.Started given of_copy pages) None calls ∷ []) (Some s) (record count { since = 0 }) n) (sym (ap (λ (x : Engine). x.set_aside) holds.same))
+            (tends_started c.trace count d.set_aside given of_copy pages calls s tends (is.3.0 ∙ ap (λ (o : Options). new_utility o pages) (sym is.0)) is.3.1)),
       )
   start_on options d false None event next after desk tends is trace = absurd is
 
@@ -255,23 +256,47 @@ start_full false None options copy d events.StartNoMemory next after logged is t
 start_full false None options copy d event next after logged is taken = absurd is
 
 -- the engine holds other bytes of the log, and is as before else
-abbrev pub IsHeld : Engine → Engine → Type 0
-IsHeld d after = after ≡ record d { log = record d.log { reserved = after.log.reserved }; held = after.held }
+abbrev pub IsAside : Engine → Engine → Type 0
+IsAside d after = after ≡ record d { log = record d.log { reserved = after.log.reserved }; set_aside = after.set_aside }
 
-same_held : (d after : Engine) → after ≡ d → IsHeld d after
-same_held d after is = subst (λ (x : Engine). IsHeld d x) (sym is) refl
+same_aside : (d after : Engine) → after ≡ d → IsAside d after
+same_aside d after is = subst (λ (x : Engine). IsAside d x) (sym is) refl
 
-pub start_held : (down : Bool) (stage : Option Stage) (options : Options) (copy : ℕ) (d : Engine) (event : Event) (next : Option Stage) (after : Engine) → StartIs down stage options copy d event next after → IsHeld d after
-start_held true stage options copy d event next after is = same_held d after is.2
-start_held false (Some s) options copy d event next after is = same_held d after is.2
-start_held false None options copy d (events.Started given of_copy pages) next after is =
+same_reserved : (d after : Engine) (stage next : Option Stage) → after ≡ d → next ≡ stage → after.log.reserved + aside_for stage ≡ d.log.reserved + aside_for next
+same_reserved d after stage next is same = ap (λ (x : Engine). x.log.reserved + aside_for stage) is ∙ ap (λ (s : Option Stage). d.log.reserved + aside_for s) (sym same)
+
+pub start_aside : (down : Bool) (stage : Option Stage) (options : Options) (copy : ℕ) (d : Engine) (event : Event) (next : Option Stage) (after : Engine) → StartIs down stage options copy d event next after → IsAside d after
+start_aside true stage options copy d event next after is = same_aside d after is.2
+start_aside false (Some s) options copy d event next after is = same_aside d after is.2
+start_aside false None options copy d (events.Started given of_copy pages) next after is =
     let same = is.4.same in
-    same ∙ ap (λ (n : ℕ). let x : Engine = record d { log = record d.log { reserved = after.log.reserved }; held = n } in x) (sym (ap (λ (x : Engine). x.held) same))
-start_held false None options copy d (events.StartLogFull need left) next after is = same_held d after is.4
-start_held false None options copy d events.StartNoMemory next after is = same_held d after is.1
-start_held false None options copy d event next after is = absurd is
+    same ∙ ap (λ (n : ℕ). let x : Engine = record d { log = record d.log { reserved = after.log.reserved }; set_aside = n } in x) (sym (ap (λ (x : Engine). x.set_aside) same))
+start_aside false None options copy d (events.StartLogFull need left) next after is = same_aside d after is.4
+start_aside false None options copy d events.StartNoMemory next after is = same_aside d after is.1
+start_aside false None options copy d event next after is = absurd is
+
+-- what is reserved changes as what is set aside does
+pub start_reserved : (down : Bool) (stage : Option Stage) (options : Options) (copy : ℕ) (d : Engine) (event : Event) (next : Option Stage) (after : Engine) → StartIs down stage options copy d event next after → d.set_aside ≡ aside_for stage
+    → after.log.reserved + aside_for stage ≡ d.log.reserved + aside_for next
+start_reserved true stage options copy d event next after is aside = same_reserved d after stage next is.2 is.1
+start_reserved false (Some s) options copy d event next after is aside = same_reserved d after (Some s) next is.2 is.1
+start_reserved false None options copy d (events.Started given of_copy pages) None after is aside = absurd is.3
+start_reserved false None options copy d (events.Started given of_copy pages) (Some s) after is aside = omega (arith, is.4.reserved, aside)
+start_reserved false None options copy d (events.StartLogFull need left) next after is aside = same_reserved d after None next is.4 is.3
+start_reserved false None options copy d events.StartNoMemory next after is aside = same_reserved d after None next is.1 is.0
+start_reserved false None options copy d event next after is aside = absurd is
 
 -- ---- a step
+
+-- what writes are planned over is as it was, but for what is reserved
+pub ground_same : (d after : Engine) → after.space ≡ d.space → after.log ≡ record d.log { reserved = after.log.reserved } → after.units ≡ d.units → after.top ≡ d.top
+    → ground_of after ≡ record (ground_of d) { log = record d.log { reserved = after.log.reserved } }
+ground_same d after space log units top =
+    let at_space : ground_of after ≡ ground_of (record after { space = d.space }) = ap (λ sp. ground_of (record after { space = sp })) space in
+    let at_units : ground_of (record after { space = d.space }) ≡ ground_of (record after { space = d.space; units = d.units }) = ap (λ (us : List (Option OpenUnit)). ground_of (record after { space = d.space; units = us })) units in
+    let at_top : ground_of (record after { space = d.space; units = d.units }) ≡ ground_of (record after { space = d.space; units = d.units; top = d.top }) = ap (λ (n : ℕ). ground_of (record after { space = d.space; units = d.units; top = n })) top in
+    let at_log : ground_of (record after { space = d.space; units = d.units; top = d.top }) ≡ ground_of (record after { space = d.space; units = d.units; top = d.top; log = record d.log { reserved = after.log.reserved } }) = ap (λ (l : Listed). ground_of (record after { space = d.space; units = d.units; top = d.top; log = l })) log in
+    at_space ∙ at_units ∙ at_top ∙ at_log
 
 if_early : (o : Option Turn) (turn : Turn) → o ≡ Some turn → EarlyIf o → IsEarly turn
 if_early o turn e early = subst EarlyIf e early
@@ -285,7 +310,7 @@ booked_logged event n is = (refl, refl)
 booked_allows : (past : List Entry) (answer : Answer) (event : Event) (st new : State) → next_state past (Some answer) actors.Utility event st ≡ Some new → Allows past (Some answer) actors.Utility event st new
 booked_allows past answer event st new e = e
 
-module _ (d : Engine) (c : ChronicleState) (copy : ℕ) (marks : List (Option Position)) (seen : VolumeSeen) (desk : IsDesk d c copy false marks seen) (s : Stage) (count : ChangeCount) (tends : Tends c.trace (Some s) count d.held)
+module _ (d : Engine) (c : ChronicleState) (copy : ℕ) (marks : List (Option Position)) (seen : VolumeSeen) (desk : IsDesk d c copy false marks seen) (s : Stage) (count : ChangeCount) (tends : Tends c.trace (Some s) count d.set_aside)
     (answer : Answer) (event : Event) (next : Option Stage) (after : Engine) (is : NextBy false (Some s) count.since (least_holder d.claims.drain d.claims.claims) (Some answer) event) (steps : StepsOn d s count.since answer event next after) where
   abbrev past : List Entry
   past = behind [] c.trace
@@ -330,21 +355,21 @@ module _ (d : Engine) (c : ChronicleState) (copy : ℕ) (marks : List (Option Po
         (booked_allows past answer event desk.state (booked).after booked.allowed) same booked.copy_is
         (λ up. steps.engine.shows desk.state (booked).after (allowed_by 0 c.trace) (desk.shown up) same booked.drain)
         (λ is. absurd (cc (is))) steps.engine.clean trace at counted recorded,
-    subst (λ (es : List Entry). Tends es next count after.held) (sym trace)
-        (subst (λ (n : ℕ). Tends (c.trace ++ utility_entry event (Some answer) calls ∷ []) next count n) (sym steps.engine.held_is)
-        (tends_booked c.trace s count d.held answer event calls next tends is.0 steps.follows (within_next count.since (length c.trace) s has.0 next tends.within steps.bounded early followed))),
+    subst (λ (es : List Entry). Tends es next count after.set_aside) (sym trace)
+        (subst (λ (n : ℕ). Tends (c.trace ++ utility_entry event (Some answer) calls ∷ []) next count n) (sym steps.engine.aside_is)
+        (tends_booked c.trace s count d.set_aside answer event calls next tends is.0 steps.follows (within_next count.since (length c.trace) s has.0 next tends.within steps.bounded early followed))),
   )
 
 -- a step that finds no utility, or the desk down
-pub idle_on : (d : Engine) (c : ChronicleState) (copy : ℕ) (down : Bool) (marks : List (Option Position)) (seen : VolumeSeen) (desk : IsDesk d c copy down marks seen) (stage : Option Stage) (count : ChangeCount) (tends : Tends c.trace stage count d.held) (covered : Option Session) (event : Event)
+pub idle_on : (d : Engine) (c : ChronicleState) (copy : ℕ) (down : Bool) (marks : List (Option Position)) (seen : VolumeSeen) (desk : IsDesk d c copy down marks seen) (stage : Option Stage) (count : ChangeCount) (tends : Tends c.trace stage count d.set_aside) (covered : Option Session) (event : Event)
     → NextBy down stage count.since covered None event
     → (calls : ℕ) (new : ChronicleState) → new.trace ≡ c.trace ++ utility_entry event None calls ∷ [] → new.calls ≡ calls → IsCount seen calls → IsRecorded new.trace new.calls → GoesOn d new copy down marks seen stage count
 idle_on d c copy true marks seen desk stage count tends covered events.StepDown is calls new trace at counted recorded =
-    refused_on c copy marks seen count calls new at counted recorded d true stage events.StepDown desk tends (λ n. refl) (λ n. refl) (down_allows (behind [] c.trace) desk.state desk.down_is).1 (tends_refused c.trace stage count d.held events.StepDown calls tt tends) trace
+    refused_on c copy marks seen count calls new at counted recorded d true stage events.StepDown desk tends (λ n. refl) (λ n. refl) (down_allows (behind [] c.trace) desk.state desk.down_is).1 (tends_refused c.trace stage count d.set_aside events.StepDown calls tt tends) trace
 idle_on d c copy true marks seen desk stage count tends covered event is calls new trace at counted recorded = absurd is
 idle_on d c copy false marks seen desk (Some s) count tends covered event is calls new trace at counted recorded = absurd is
 idle_on d c copy false marks seen desk None count tends covered events.Idle is calls new trace at counted recorded =
-    refused_on c copy marks seen count calls new at counted recorded d false None events.Idle desk tends (λ n. refl) (λ n. refl) (none_allows (behind [] c.trace) desk.state desk.down_is (state_shows d c copy false marks seen desk None count tends).0 0 0).2 (tends_refused c.trace None count d.held events.Idle calls tt tends) trace
+    refused_on c copy marks seen count calls new at counted recorded d false None events.Idle desk tends (λ n. refl) (λ n. refl) (none_allows (behind [] c.trace) desk.state desk.down_is (state_shows d c copy false marks seen desk None count tends).0 0 0).2 (tends_refused c.trace None count d.set_aside events.Idle calls tt tends) trace
 idle_on d c copy false marks seen desk None count tends covered event is calls new trace at counted recorded = absurd is
 
 -- a step without an answer leaves the stage as it was

@@ -144,7 +144,7 @@ forces_same d next same = record {
   units = same.units;
   top = same.top;
   opened = same.opened;
-  held = same.held;
+  set_aside = same.set_aside;
   further = omega (arith, ap (λ (l : Listed). l.forced) same.log);
   shows = λ st allowed shows. same_shows st allowed d next same shows;
 }
@@ -185,7 +185,7 @@ module _ (copy : ℕ) (d mid now : Engine) (before v : VolumeSeen) (same : SameE
     units = ap (λ (x : Engine). x.units) f.same ∙ same.units;
     top = ap (λ (x : Engine). x.top) f.same ∙ same.top;
     opened = ap (λ (x : Engine). x.opened) f.same ∙ same.opened;
-    held = ap (λ (x : Engine). x.held) f.same ∙ same.held;
+    set_aside = ap (λ (x : Engine). x.set_aside) f.same ∙ same.set_aside;
     further = omega (arith, ap (λ (l : Listed). l.forced) same.log, f.further);
     shows = λ st allowed shows.
         subst (Shows st allowed) (sym f.same) (forced_shows st allowed mid now.log.forced f.further (omega (arith, f.within, ap (λ (rs : List Record). length rs) records_are)) (same_shows st allowed d mid same shows));

@@ -47,7 +47,7 @@ pub mod Death
 pub mod Locked
 pub mod Forcing
 pub mod Answering
-pub mod Holding
+pub mod PuttingAside
 pub mod Counting
 pub mod Among
 pub mod Reopening

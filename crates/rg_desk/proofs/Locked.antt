@@ -76,14 +76,14 @@ module _ (st : State) (allowed : ℕ) (d : Engine) (session : Session) (shows : 
           (shows.by.units.apart lock.owner.0 session.0 h.unit unit h.has has (key.by h.unit.tran.0 h.own))
 
   -- the device refused its COMMIT
-  pub commit_fails : (new mid : Engine) → session.0 < 256 → LogsCommit d session mid → mid.log.forced ≤ new.log.forced → new.space ≡ mid.space → new.log.records ≡ mid.log.records → new.log.reserved ≡ mid.log.reserved → new.log.pages ≡ mid.log.pages → new.opened ≡ mid.opened → new.held ≡ mid.held → Goes st allowed d session Commit Device new
-  commit_fails new mid low logged further space records reserved pages opened held = record {
+  pub commit_fails : (new mid : Engine) → session.0 < 256 → LogsCommit d session mid → mid.log.forced ≤ new.log.forced → new.space ≡ mid.space → new.log.records ≡ mid.log.records → new.log.reserved ≡ mid.log.reserved → new.log.pages ≡ mid.log.pages → new.opened ≡ mid.opened → new.set_aside ≡ mid.set_aside → Goes st allowed d session Commit Device new
+  commit_fails new mid low logged further space records reserved pages opened set_aside = record {
     says = ap (λ (ls : Locks). has_locks ls session) shows.by.locks ∙ locked;
     room = tt;
     log = tt;
     logged = omega (arith, ap log_bytes records, reserved, ap log_bytes logged.records, bytes_committed d.log.records (unit_at d.units session.0) d.log.reserved mid.log.reserved logged.reserved);
     opened = opened ∙ logged.base.opened;
-    held = held ∙ logged.base.held;
+    set_aside = set_aside ∙ logged.base.set_aside;
     forced = λ e. absurd (cc (e));
     newest = λ e h. space_newest mid.log.records new.log.records mid.space new.space records space e (logged.newest e h);
     parts = refused_parts st allowed d session shows low unit has new.log (records ∙ logged.records) (omega (arith, reserved, logged.reserved)) (pages ∙ logged.base.pages) (omega (arith, further, logged.base.forced)) new refl;

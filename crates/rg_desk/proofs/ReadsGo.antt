@@ -70,8 +70,8 @@ module _ (st : State) (allowed : ℕ) (d : Engine) (shows : Shows st allowed d) 
       ∙ ap row_reply is
 
   select_so : (key : ℕ) (found : Option Row) (new : Engine) → plain_reply st session (Select key) ≡ row_reply found → SameEngine d new → Goes st allowed d session (Select key) (row_reply found) new
-  select_so key None new is same = record { says = sym is; room = tt; log = tt; logged = logged_same new same; opened = same.opened; held = same.held; grows = grows_same d.log new.log same.log; forced = λ e. ap (λ (l : LogList). l.forced) same.log; newest = same_newest d new same; parts = same_parts d new same.log; clean = same_clean d new same; left = tt; shows = later new same; capacity = same.capacity }
-  select_so key (Some row) new is same = record { says = sym is; room = tt; log = tt; logged = logged_same new same; opened = same.opened; held = same.held; grows = grows_same d.log new.log same.log; forced = λ e. ap (λ (l : LogList). l.forced) same.log; newest = same_newest d new same; parts = same_parts d new same.log; clean = same_clean d new same; left = tt; shows = later new same; capacity = same.capacity }
+  select_so key None new is same = record { says = sym is; room = tt; log = tt; logged = logged_same new same; opened = same.opened; set_aside = same.set_aside; grows = grows_same d.log new.log same.log; forced = λ e. ap (λ (l : LogList). l.forced) same.log; newest = same_newest d new same; parts = same_parts d new same.log; clean = same_clean d new same; left = tt; shows = later new same; capacity = same.capacity }
+  select_so key (Some row) new is same = record { says = sym is; room = tt; log = tt; logged = logged_same new same; opened = same.opened; set_aside = same.set_aside; grows = grows_same d.log new.log same.log; forced = λ e. ap (λ (l : LogList). l.forced) same.log; newest = same_newest d new same; parts = same_parts d new same.log; clean = same_clean d new same; left = tt; shows = later new same; capacity = same.capacity }
 
   pub select_goes : (key : ℕ) (found : Option Row) (reply : Reply) (new : Engine) → holder d.locks session key ≡ None → row_of st.table key ≡ found → reply ≡ row_reply found → SameEngine d new → Goes st allowed d session (Select key) reply new
   select_goes key found reply new alone is says same =
@@ -98,7 +98,7 @@ module _ (st : State) (allowed : ℕ) (d : Engine) (shows : Shows st allowed d) 
         log = tt;
         logged = logged_same new same;
         opened = same.opened;
-        held = same.held;
+        set_aside = same.set_aside;
         grows = grows_same d.log new.log same.log;
         forced = λ e. ap (λ (l : LogList). l.forced) same.log;
         newest = same_newest d new same;
@@ -162,7 +162,7 @@ module _ (st : State) (allowed : ℕ) (d : Engine) (shows : Shows st allowed d) 
         log = tt;
         logged = logged_same new same;
         opened = same.opened;
-        held = same.held;
+        set_aside = same.set_aside;
         grows = grows_same d.log new.log same.log;
         forced = λ e. ap (λ (l : LogList). l.forced) same.log;
         newest = same_newest d new same;

@@ -102,8 +102,8 @@ module _ (st : State) (allowed : ℕ) (d : Engine) (session : Session) (shows : 
       ap (λ (rs : List Record). length rs) so.left_is,
     )
 
-    -- what is reserved is what is owed, and what is held
-    paid_then : owed now.log.records + d.held ≡ now.log.reserved
+    -- what is reserved is what is owed, and what is set aside
+    paid_then : owed now.log.records + d.set_aside ≡ now.log.reserved
     paid_then = omega (arith, ap (λ (rs : List Record). owed rs) logged.records, owes_end, so.owes, shows.trails.paid, room, logged.reserved)
 
     room_then : taken_of now.log ≤ limit_of d.log.pages
@@ -148,12 +148,12 @@ module _ (st : State) (allowed : ℕ) (d : Engine) (session : Session) (shows : 
         subst (λ (rs : List Record). IsTrail rs later other) (sym logged.records)
         (trail_other mid.log.records later later rolled other apart refl (subst (λ (rs : List Record). IsTrail rs later other) (sym so.records) undone))
 
-    pub rollback_trails : (log : Listed) (held : ℕ) (units : List (Option OpenUnit)) → log ≡ now.log → held ≡ d.held → units ≡ set d.units session.0 None → Trails log held units (state (left_by shows.first d) (RollBack unit.tran.0 ∷ so.undos))
-    rollback_trails log held units log_is held_is units_are = record {
+    pub rollback_trails : (log : Listed) (set_aside : ℕ) (units : List (Option OpenUnit)) → log ≡ now.log → set_aside ≡ d.set_aside → units ≡ set d.units session.0 None → Trails log set_aside units (state (left_by shows.first d) (RollBack unit.tran.0 ∷ so.undos))
+    rollback_trails log set_aside units log_is aside_is units_are = record {
       tells = subst (λ (l : Listed). Tells l.records later) (sym log_is) tells_then;
       each = λ n other e.
           subst (λ (l : Listed). IsTrail l.records later other) (sym log_is) (each n other (sym (ap (λ (us : List (Option OpenUnit)). unit_at us n) units_are) ∙ e) (same_or_not n session.0));
-      paid = subst (λ (l : Listed). owed l.records + held ≡ l.reserved) (sym log_is) (subst (λ (n : ℕ). owed now.log.records + n ≡ now.log.reserved) (sym held_is) paid_then);
+      paid = subst (λ (l : Listed). owed l.records + set_aside ≡ l.reserved) (sym log_is) (subst (λ (n : ℕ). owed now.log.records + n ≡ now.log.reserved) (sym aside_is) paid_then);
       space = subst (λ (l : Listed). taken_of l ≤ limit_of l.pages) (sym log_is) (subst (λ (pages : ℕ). taken_of now.log ≤ limit_of pages) (sym (logged.base.pages ∙ so.base.pages)) room_then);
     }
       where
@@ -182,7 +182,7 @@ module _ (st : State) (allowed : ℕ) (d : Engine) (session : Session) (shows : 
       rollback_goes st allowed d new session shows low unit has so.undos so.are runs (so.more ++ r ∷ [])
       (all ∙ ap (λ (rs : List Record). rs ++ r ∷ []) so.records ∙ append_assoc d.log.records so.more (r ∷ []))
       (acts_snoc so.more r ∙ ap (λ (acts : List Act). RollBack unit.tran.0 ∷ acts) so.acts)
-      (ended.opened ∙ logged.base.opened ∙ so.base.opened) (ended.held ∙ logged.base.held ∙ so.base.held) (ap (λ (l : Listed). l.forced) ended.log ∙ logged.base.forced ∙ so.base.forced)
+      (ended.opened ∙ logged.base.opened ∙ so.base.opened) (ended.set_aside ∙ logged.base.set_aside ∙ so.base.set_aside) (ap (λ (l : Listed). l.forced) ended.log ∙ logged.base.forced ∙ so.base.forced)
       (ap (λ sp. capacity_in sp) same_space ∙ so.capacity)
       (record {
         step = subst (λ sp. InStep (list_seen (frames_of sp)) (index_of sp) (capacity_in sp)) (sym same_space) so.pages.step;
@@ -198,7 +198,7 @@ module _ (st : State) (allowed : ℕ) (d : Engine) (session : Session) (shows : 
       (omega (arith, ap (λ (l : Listed). taken_of l) ended.log, logged.taken, so.taken))
       (ap (λ (l : Listed). l.pages) ended.log ∙ logged.base.pages ∙ so.base.pages)
       (λ e h. space_newest now.log.records new.log.records now.space new.space (ap (λ (l : Listed). l.records) ended.log) ended.space e (logged.newest e (so.newest e h)))
-      (rollback_trails mid now unit last others has so room logged new.log new.held new.units ended.log (ended.held ∙ logged.base.held ∙ so.base.held) (ended.units ∙ ap (λ (us : List (Option OpenUnit)). set us session.0 None) (units ∙ so.units)))
+      (rollback_trails mid now unit last others has so room logged new.log new.set_aside new.units ended.log (ended.set_aside ∙ logged.base.set_aside ∙ so.base.set_aside) (ended.units ∙ ap (λ (us : List (Option OpenUnit)). set us session.0 None) (units ∙ so.units)))
       (rollback_next mid now unit last others has so room logged)
 
   -- without a unit nothing is put back
@@ -214,14 +214,14 @@ module _ (st : State) (allowed : ℕ) (d : Engine) (session : Session) (shows : 
         log = tt;
         logged = omega (arith, ap (λ (l : Listed). taken_of l) ended.log);
         opened = ended.opened;
-        held = ended.held;
+        set_aside = ended.set_aside;
         grows = grows_same d.log new.log ended.log;
         forced = λ e. ap (λ (l : Listed). l.forced) ended.log;
         newest = space_newest d.log.records new.log.records d.space new.space (ap (λ (l : Listed). l.records) ended.log) ended.space;
         parts = same_parts d new ended.log;
-        clean = idle_clean st allowed d new session shows low ended.space ended.indexes ended.top ended.locks ended.claims ended.units (ap (λ (l : Listed). l.records) ended.log ∙ ap (records_committed d.log.records) (sym none)) (omega (arith, ap owed_to none, ap (λ (l : Listed). l.reserved) ended.log)) ended.opened ended.held (subst IsSettled (sym ended.log) shows.settled) (grows_same d.log new.log ended.log) none;
+        clean = idle_clean st allowed d new session shows low ended.space ended.indexes ended.top ended.locks ended.claims ended.units (ap (λ (l : Listed). l.records) ended.log ∙ ap (records_committed d.log.records) (sym none)) (omega (arith, ap owed_to none, ap (λ (l : Listed). l.reserved) ended.log)) ended.opened ended.set_aside (subst IsSettled (sym ended.log) shows.settled) (grows_same d.log new.log ended.log) none;
         shows = subst (λ (x : State). Shows x (allowed + 0) new) state_is
-            (idle_shows st allowed d new session shows low ended.space ended.indexes ended.top ended.locks ended.claims ended.units (ap (λ (l : Listed). l.records) ended.log ∙ ap (records_committed d.log.records) (sym none)) (omega (arith, ap owed_to none, ap (λ (l : Listed). l.reserved) ended.log)) ended.opened ended.held (subst IsSettled (sym ended.log) shows.settled) (grows_same d.log new.log ended.log) none);
+            (idle_shows st allowed d new session shows low ended.space ended.indexes ended.top ended.locks ended.claims ended.units (ap (λ (l : Listed). l.records) ended.log ∙ ap (records_committed d.log.records) (sym none)) (omega (arith, ap owed_to none, ap (λ (l : Listed). l.reserved) ended.log)) ended.opened ended.set_aside (subst IsSettled (sym ended.log) shows.settled) (grows_same d.log new.log ended.log) none);
         left = tt;
         capacity = ap (λ sp. capacity_in sp) ended.space;
       }

@@ -55,7 +55,7 @@ module _ (st : State) (allowed : ℕ) (d new : Engine) (session : Session) (show
     (lawful : Runs (capacity_in d.space) (left_by shows.first d) (RollBack unit.tran.0 ∷ undos))
     (more : List Record) (records : new.log.records ≡ d.log.records ++ more)
     (acts : acts_of [] more ≡ RollBack unit.tran.0 ∷ undos)
-    (opened : new.opened ≡ d.opened) (held : new.held ≡ d.held) (forced : new.log.forced ≡ d.log.forced)
+    (opened : new.opened ≡ d.opened) (set_aside : new.set_aside ≡ d.set_aside) (forced : new.log.forced ≡ d.log.forced)
     (capacity : capacity_in new.space ≡ capacity_in d.space) (pages : HasPages new) where
   abbrev s : LogState
   s = left_by shows.first d
@@ -117,14 +117,14 @@ module _ (st : State) (allowed : ℕ) (d new : Engine) (session : Session) (show
   pub rollback_goes : slots_in new ≡ s_rolled.pages → AreListings (row_at (slot_of s_rolled.pages)) new.indexes → new.locks ≡ locks_without session d.locks
       → new.claims ≡ record d.claims { claims = fin.remove d.claims.claims session.0 } → new.units ≡ set d.units session.0 None → new.top ≡ d.top
       → new.log.reserved + (23 + 911 * unit.writes) ≡ d.log.reserved → taken_of new.log ≤ taken_of d.log → new.log.pages ≡ d.log.pages → KeepsNewest d new
-      → Trails new.log new.held new.units (state (left_by shows.first d) (RollBack unit.tran.0 ∷ undos)) → AreNext (capacity_in d.space) d.log.pages d.log.records more → Goes st allowed d session stmts.Rollback Done new
+      → Trails new.log new.set_aside new.units (state (left_by shows.first d) (RollBack unit.tran.0 ∷ undos)) → AreNext (capacity_in d.space) d.log.pages d.log.records more → Goes st allowed d session stmts.Rollback Done new
   rollback_goes slots indexes locks claims units top reserved taken log_pages newest trails next = record {
     says = refl;
     room = tt;
     log = tt;
     logged = omega (arith, taken);
     opened = opened;
-    held = held;
+    set_aside = set_aside;
     grows = record { more = more; records = records; pages = log_pages };
     forced = λ e. forced;
     newest = newest;
@@ -135,7 +135,7 @@ module _ (st : State) (allowed : ℕ) (d new : Engine) (session : Session) (show
         shows_more st allowed d shows (after_rollback st session) (allowed + 0) new more opened records capacity runs
         (settled_more st allowed d shows more runs (subst IsQuiet (sym acts) (quiet_undos t undos are)) new.log records forced)
         shown
-        (subst (Trails new.log new.held new.units) (sym (ap (state s) acts)) trails);
+        (subst (Trails new.log new.set_aside new.units) (sym (ap (state s) acts)) trails);
     capacity = capacity;
   }
     where
@@ -165,6 +165,6 @@ module _ (st : State) (allowed : ℕ) (d new : Engine) (session : Session) (show
             (subst (λ (rs : List Record). UnitsShown rs s_rolled (set d.units session.0 None)) (sym records)
             (units_ended t s s_rolled session unit d.units d.locks place has refl (rolled_back limit s good t undos are lawful) d.log.records more shows.by.units));
         top = top ∙ shows.by.top ∙ sym (undos_leave t s undos are).top;
-        owed = omega (arith, ap owed units, owed-set d.units session.0 None place, ap owed_to has, reserved, held, shows.by.owed);
+        owed = omega (arith, ap owed units, owed-set d.units session.0 None place, ap owed_to has, reserved, set_aside, shows.by.owed);
         claimed = omega (arith, claimed);
       })

@@ -45,12 +45,12 @@ same_shows st allowed old new same shows =
           subst (λ (us : List (Option OpenUnit)). UnitsShown new.log.records s us) (sym same.units)
           (subst (λ (rs : List Record). UnitsShown rs s old.units) records shows.by.units);
       top = same.top ∙ shows.by.top;
-      owed = omega (arith, ap owed same.units, same.held, shows.by.owed, ap (λ (l : Listed). l.reserved) same.log);
+      owed = omega (arith, ap owed same.units, same.set_aside, shows.by.owed, ap (λ (l : Listed). l.reserved) same.log);
       claimed = shows.by.claimed;
     })
-    (subst (λ (l : Listed). Trails l new.held new.units s) (sym same.log)
-    (subst (λ (n : ℕ). Trails old.log n new.units s) (sym same.held)
-    (subst (λ (us : List (Option OpenUnit)). Trails old.log old.held us s) (sym same.units) shows.trails)))
+    (subst (λ (l : Listed). Trails l new.set_aside new.units s) (sym same.log)
+    (subst (λ (n : ℕ). Trails old.log n new.units s) (sym same.set_aside)
+    (subst (λ (us : List (Option OpenUnit)). Trails old.log old.set_aside us s) (sym same.units) shows.trails)))
 
 -- the pages are sound
 pub same_sound : (st : State) (allowed : ℕ) (old new : Engine) → SameEngine old new → Shows st allowed old → Sound (slots_in new)

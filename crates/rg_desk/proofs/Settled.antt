@@ -144,7 +144,7 @@ module _ (st : State) (allowed : ℕ) (d : Engine) (shows : Shows st allowed d) 
 
   -- the engine after records that are lawful shows what they leave
   pub shows_more : (later : State) (bytes : ℕ) (new : Engine) (more : List Record) → new.opened ≡ d.opened → new.log.records ≡ d.log.records ++ more → capacity_in new.space ≡ capacity_in d.space
-      → Runs limit s (acts_of [] more) → IsSettled new.log → ShowsBy later bytes new (state s (acts_of [] more)) → Trails new.log new.held new.units (state s (acts_of [] more)) → Shows later bytes new
+      → Runs limit s (acts_of [] more) → IsSettled new.log → ShowsBy later bytes new (state s (acts_of [] more)) → Trails new.log new.set_aside new.units (state s (acts_of [] more)) → Shows later bytes new
   shows_more later bytes new more opened records capacity lawful settled by trails =
       let first = shows.first in
       let rs = d.log.records in
@@ -167,5 +167,5 @@ module _ (st : State) (allowed : ℕ) (d : Engine) (shows : Shows st allowed d) 
             subst (λ (n : ℕ). Runs n first (since new)) (sym capacity)
             (subst (Runs limit first) (sym fresh) (runs_joined limit first (acts_of [] more) (since d) shows.runs lawful));
         by = subst (ShowsBy later bytes new) (sym left) by;
-        trails = subst (Trails new.log new.held new.units) (sym left) trails;
+        trails = subst (Trails new.log new.set_aside new.units) (sym left) trails;
       }

@@ -131,22 +131,22 @@ module _ (st : State) (allowed : ℕ) (d : Engine) (shows : Shows st allowed d) 
   -- refusals leave all as it was
 
   pub go_held : (stmt : Stmt) (owner : Session) → plain_reply st session stmt ≡ Held owner → Goes st allowed d session stmt (Held owner) d
-  go_held stmt owner is = record { says = sym is; room = tt; log = tt; logged = omega arith; opened = refl; held = refl; grows = grows_same d.log d.log refl; forced = λ e. refl; newest = λ e h. h; parts = same_parts d d refl; clean = λ h. h; left = tt; shows = none_more; capacity = refl }
+  go_held stmt owner is = record { says = sym is; room = tt; log = tt; logged = omega arith; opened = refl; set_aside = refl; grows = grows_same d.log d.log refl; forced = λ e. refl; newest = λ e h. h; parts = same_parts d d refl; clean = λ h. h; left = tt; shows = none_more; capacity = refl }
 
   pub go_absent : (stmt : Stmt) → plain_reply st session stmt ≡ Absent → Goes st allowed d session stmt Absent d
-  go_absent stmt is = record { says = sym is; room = tt; log = tt; logged = omega arith; opened = refl; held = refl; grows = grows_same d.log d.log refl; forced = λ e. refl; newest = λ e h. h; parts = same_parts d d refl; clean = λ h. h; left = tt; shows = none_more; capacity = refl }
+  go_absent stmt is = record { says = sym is; room = tt; log = tt; logged = omega arith; opened = refl; set_aside = refl; grows = grows_same d.log d.log refl; forced = λ e. refl; newest = λ e h. h; parts = same_parts d d refl; clean = λ h. h; left = tt; shows = none_more; capacity = refl }
 
   pub go_duplicate : (stmt : Stmt) → plain_reply st session stmt ≡ Duplicate → Goes st allowed d session stmt Duplicate d
-  go_duplicate stmt is = record { says = sym is; room = tt; log = tt; logged = omega arith; opened = refl; held = refl; grows = grows_same d.log d.log refl; forced = λ e. refl; newest = λ e h. h; parts = same_parts d d refl; clean = λ h. h; left = tt; shows = none_more; capacity = refl }
+  go_duplicate stmt is = record { says = sym is; room = tt; log = tt; logged = omega arith; opened = refl; set_aside = refl; grows = grows_same d.log d.log refl; forced = λ e. refl; newest = λ e h. h; parts = same_parts d d refl; clean = λ h. h; left = tt; shows = none_more; capacity = refl }
 
   pub go_wanting : (stmt : Stmt) (new : Engine) → may_want_memory stmt ≡ true → SameEngine d new → Goes st allowed d session stmt NoMemory new
-  go_wanting stmt new may same = record { says = may; room = tt; log = tt; logged = omega (arith, ap (λ (l : Listed). taken_of l) same.log); opened = same.opened; held = same.held; grows = grows_same d.log new.log same.log; forced = λ e. ap (λ (l : Listed). l.forced) same.log; newest = same_newest d new same; parts = same_parts d new same.log; clean = same_clean d new same; left = tt; shows = same_shows st (allowed + 0) d new same none_more; capacity = same.capacity }
+  go_wanting stmt new may same = record { says = may; room = tt; log = tt; logged = omega (arith, ap (λ (l : Listed). taken_of l) same.log); opened = same.opened; set_aside = same.set_aside; grows = grows_same d.log new.log same.log; forced = λ e. ap (λ (l : Listed). l.forced) same.log; newest = same_newest d new same; parts = same_parts d new same.log; clean = same_clean d new same; left = tt; shows = same_shows st (allowed + 0) d new same none_more; capacity = same.capacity }
 
   pub go_full : (stmt : Stmt) (need : ℕ) (new : Engine) → may_want_room stmt ≡ true → is_done (plain_reply st session stmt) ≡ true → 3221 * capacity_in d.space ≤ allowed → SaysRoom (ground_of d) session.0 stmt (Full need) → SameEngine d new → Goes st allowed d session stmt (Full need) new
-  go_full stmt need new may done most room same = record { says = (may, done, most); room = room; log = tt; logged = omega (arith, ap (λ (l : Listed). taken_of l) same.log); opened = same.opened; held = same.held; grows = grows_same d.log new.log same.log; forced = λ e. ap (λ (l : Listed). l.forced) same.log; newest = same_newest d new same; parts = same_parts d new same.log; clean = same_clean d new same; left = tt; shows = same_shows st (allowed + 0) d new same none_more; capacity = same.capacity }
+  go_full stmt need new may done most room same = record { says = (may, done, most); room = room; log = tt; logged = omega (arith, ap (λ (l : Listed). taken_of l) same.log); opened = same.opened; set_aside = same.set_aside; grows = grows_same d.log new.log same.log; forced = λ e. ap (λ (l : Listed). l.forced) same.log; newest = same_newest d new same; parts = same_parts d new same.log; clean = same_clean d new same; left = tt; shows = same_shows st (allowed + 0) d new same none_more; capacity = same.capacity }
 
   pub go_log_full : (stmt : Stmt) (need left : ℕ) (new : Engine) → may_want_log stmt ≡ true → is_done (plain_reply st session stmt) ≡ true → SaysLog (ground_of d) session.0 stmt (LogFull need left) → SameEngine d new → Goes st allowed d session stmt (LogFull need left) new
-  go_log_full stmt need left new may done log same = record { says = (may, done); room = tt; log = log; logged = omega (arith, ap (λ (l : Listed). taken_of l) same.log); opened = same.opened; held = same.held; grows = grows_same d.log new.log same.log; forced = λ e. ap (λ (l : Listed). l.forced) same.log; newest = same_newest d new same; parts = same_parts d new same.log; clean = same_clean d new same; left = tt; shows = same_shows st (allowed + 0) d new same none_more; capacity = same.capacity }
+  go_log_full stmt need left new may done log same = record { says = (may, done); room = tt; log = log; logged = omega (arith, ap (λ (l : Listed). taken_of l) same.log); opened = same.opened; set_aside = same.set_aside; grows = grows_same d.log new.log same.log; forced = λ e. ap (λ (l : Listed). l.forced) same.log; newest = same_newest d new same; parts = same_parts d new same.log; clean = same_clean d new same; left = tt; shows = same_shows st (allowed + 0) d new same none_more; capacity = same.capacity }
 
   -- the plain table's replies
 

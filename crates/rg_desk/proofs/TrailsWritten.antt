@@ -93,8 +93,8 @@ next_near n limit (x ∷ parts) next within = (within.0.0.0, next.0, next_near n
 
 -- ---- the write
 
-module _ (limit : ℕ) (log now : Listed) (held : ℕ) (units : List (Option OpenUnit)) (s : LogState) (n : ℕ) (unit next : OpenUnit) (plan : Plan) (after : Option Row)
-    (good : IsConsistent limit s) (shown : UnitsShown log.records s units) (trails : Trails log held units s) (own : IsUnitFor units s n unit) (place : n < length units)
+module _ (limit : ℕ) (log now : Listed) (set_aside : ℕ) (units : List (Option OpenUnit)) (s : LogState) (n : ℕ) (unit next : OpenUnit) (plan : Plan) (after : Option Row)
+    (good : IsConsistent limit s) (shown : UnitsShown log.records s units) (trails : Trails log set_aside units s) (own : IsUnitFor units s n unit) (place : n < length units)
     (lawful : DeskWrites limit s unit.tran.0 plan.before after plan) (within : IsWithin limit plan.home plan.parts) (there : PlanNext (length s.pages) plan)
     (tran : next.tran.0 ≡ unit.tran.0) (last : next.last.0 ≡ length (records_cleared log.records plan.purge) + 1)
     (records : now.records ≡ records_wrote log.records unit plan after) (same_pages : now.pages ≡ log.pages)
@@ -170,7 +170,7 @@ module _ (limit : ℕ) (log now : Listed) (held : ℕ) (units : List (Option Ope
       going (inl h) = h.1
       going (inr h) = ended_none base t h.0
 
-  -- what is owed and held is what is reserved
+  -- what is owed and set aside is what is reserved
   end_is : (if length (of_tran t base) == 0 then 23 else 0) ≡ end_bytes (unit_at units n)
   end_is = go begun
     where
@@ -178,7 +178,7 @@ module _ (limit : ℕ) (log now : Listed) (held : ℕ) (units : List (Option Ope
       go (inl h) = ap (λ (b : Bool). if b then 23 else 0) (ne_eqb (length (of_tran t base)) 0 (λ z. omega (arith, z, h.0))) ∙ sym h.2
       go (inr h) = ap (λ (l : List Record). if length l == 0 then 23 else 0) h.0 ∙ sym h.2
 
-  paid : owed (base ++ e ∷ []) + held ≡ now.reserved
+  paid : owed (base ++ e ∷ []) + set_aside ≡ now.reserved
   paid = omega (arith, owes.change base e is_of refl, end_is, cleared_owed rs plan.purge, trails.paid, reserved)
 
   space : HasSpace log.pages (base ++ e ∷ [])
@@ -230,11 +230,11 @@ module _ (limit : ℕ) (log now : Listed) (held : ℕ) (units : List (Option Ope
       (trail_cleared rs s (step s (Purge plan.purge)) plan.purge u (unit_open rs units s n unit own trails.tells shown trails.each m u has).0 refl (trails.each m u has))
 
   -- the trails that it leaves
-  pub wrote_trails : Trails now held (set units n (Some next)) s_after
+  pub wrote_trails : Trails now set_aside (set units n (Some next)) s_after
   wrote_trails = record {
     tells = tells;
     each = λ m u has. subst (λ (xs : List Record). IsTrail xs s_after u) (sym records) (go m u has (same_or_not m n));
-    paid = ap (λ (xs : List Record). owed xs + held) records ∙ paid;
+    paid = ap (λ (xs : List Record). owed xs + set_aside) records ∙ paid;
     space = subst (λ (k : ℕ). log_bytes now.records + now.reserved ≤ limit_of k) (sym same_pages) room;
   }
     where

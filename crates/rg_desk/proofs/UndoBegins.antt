@@ -50,9 +50,9 @@ chain_changes records t last (w ∷ ws) (r ∷ cs) h (suc k) d low = chain_chang
 pub undo_begins : (st : State) (allowed : ℕ) (d mid : Engine) (shows : Shows st allowed d) (n : ℕ) (unit : OpenUnit) (work : List Record) (more : ℕ) → unit_at d.units n ≡ Some unit
     → AreChain d.log.records unit.tran.0 unit.last.0 (own_of unit.tran.0 (left_by shows.first d).writes) work → more ≡ length work → HasSpare more mid.indexes → SameEntries d.indexes mid.indexes
     → frames_of mid.space ≡ frames_of d.space → index_of mid.space ≡ index_of d.space → capacity_in mid.space ≡ capacity_in d.space → length work ≤ undos_in mid.space
-    → mid.log ≡ d.log → mid.locks ≡ d.locks → mid.claims ≡ d.claims → mid.units ≡ d.units → mid.top ≡ d.top → mid.opened ≡ d.opened → mid.held ≡ d.held
+    → mid.log ≡ d.log → mid.locks ≡ d.locks → mid.claims ≡ d.claims → mid.units ≡ d.units → mid.top ≡ d.top → mid.opened ≡ d.opened → mid.set_aside ≡ d.set_aside
     → IsUndoing d (left_by shows.first d) unit mid work unit.last.0 unit.last.0 0
-undo_begins st allowed d mid shows n unit work more has chain counts spare entries frames index capacity rooms log locks claims units top opened held =
+undo_begins st allowed d mid shows n unit work more has chain counts spare entries frames index capacity rooms log locks claims units top opened set_aside =
     let one = shows.by.units.each n unit has in
     let trail = shows.trails.each n unit has in
     let t : ℕ = unit.tran.0 in
@@ -90,7 +90,7 @@ undo_begins st allowed d mid shows n unit work more has chain counts spare entri
       reserved = omega (arith, ap (λ (l : Listed). l.reserved) log);
       least = omega (arith, ap (λ (l : Listed). l.reserved) log);
       taken = ap (λ (l : Listed). taken_of l) log;
-      base = record { opened = opened; held = held; forced = ap (λ (l : Listed). l.forced) log; pages = ap (λ (l : Listed). l.pages) log };
+      base = record { opened = opened; set_aside = set_aside; forced = ap (λ (l : Listed). l.forced) log; pages = ap (λ (l : Listed). l.pages) log };
       locks = locks;
       claims = claims;
       units = units;

@@ -87,7 +87,7 @@ next_undo now u t at (w ∷ ws) (r ∷ rs) own some chain = record {
 tail_is : (v w : Write) (xs ws : List Write) → v ∷ xs ≡ w ∷ ws → xs ≡ ws
 tail_is v w xs ws e = cc (e)
 
-module _ (old : Engine) (s : LogState) (good : IsConsistent (capacity_in old.space) s) (trails : Trails old.log old.held old.units s) (unit : OpenUnit) (now : Engine) (work : List Record)
+module _ (old : Engine) (s : LogState) (good : IsConsistent (capacity_in old.space) s) (trails : Trails old.log old.set_aside old.units s) (unit : OpenUnit) (now : Engine) (work : List Record)
     (at back i : ℕ) (so : IsUndoing old s unit now work at back i) (low : i < unit.writes) (room : 23 + 911 * unit.writes ≤ old.log.reserved) where
   abbrev t : ℕ
   t = unit.tran.0
@@ -258,7 +258,7 @@ module _ (old : Engine) (s : LogState) (good : IsConsistent (capacity_in old.spa
           reserved = omega (arith, did.reserved, so.reserved);
           least = omega (arith, did.least, so.least);
           taken = did.taken ∙ so.taken;
-          base = record { opened = did.base.opened ∙ so.base.opened; held = did.base.held ∙ so.base.held; forced = did.base.forced ∙ so.base.forced; pages = did.base.pages ∙ so.base.pages };
+          base = record { opened = did.base.opened ∙ so.base.opened; set_aside = did.base.set_aside ∙ so.base.set_aside; forced = did.base.forced ∙ so.base.forced; pages = did.base.pages ∙ so.base.pages };
           locks = did.locks ∙ so.locks;
           claims = did.claims ∙ so.claims;
           units = did.units ∙ so.units;

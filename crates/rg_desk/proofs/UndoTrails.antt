@@ -100,7 +100,7 @@ trail_others t rs (r ∷ more) s later unit are apart own h =
 
 -- ---- what the records of an undo tell
 
-module _ (old : Engine) (s : LogState) (good : IsConsistent (capacity_in old.space) s) (trails : Trails old.log old.held old.units s) (unit : OpenUnit) (now : Engine) (work : List Record)
+module _ (old : Engine) (s : LogState) (good : IsConsistent (capacity_in old.space) s) (trails : Trails old.log old.set_aside old.units s) (unit : OpenUnit) (now : Engine) (work : List Record)
     (at back i : ℕ) (so : IsUndoing old s unit now work at back i) where
   pub undo_tells : Tells now.log.records (state s so.undos)
   undo_tells =

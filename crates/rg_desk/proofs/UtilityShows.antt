@@ -1,5 +1,5 @@
 -- What an engine shows while the utility's drain or its stage changes.
-use Rattle.std.proofs.Common.{◌≡◌, not, ℕ, Bool, true, false, Option, Some, None, refl, sym, ◌∙◌, ap, subst, arith}
+use Rattle.std.proofs.Common.{◌≡◌, ◌+◌, not, ℕ, Bool, true, false, Option, Some, None, refl, sym, ◌∙◌, ap, subst, arith}
 use Rattle.std.specs.Option.{is_some}
 use Rattle.rg_base.specs.declared.options.DrainState.{DrainState}
 use Rattle.rg_fold.specs.declared.item.Stage.{Stage}
@@ -8,10 +8,10 @@ use Rattle.rg_model.specs.State.{State, Table, row_of}
 use Rattle.rg_model.specs.Turn.{Turn}
 use Rattle.rg_outside.specs.Capacities.{Capacities}
 use Rattle.rg_stage.specs.Booked.{drain_kept}
-use Rattle.rg_tending.specs.Tending.{held_for}
+use Rattle.rg_tending.specs.Tending.{aside_for}
 use Rattle.rg_version.specs.Versions.{Epoch}
 use Rattle.rg_desk.specs.Bytes.{taken_of}
-use Rattle.rg_desk.specs.Hold.{Holds}
+use Rattle.rg_desk.specs.Aside.{PutsAside}
 use Rattle.rg_desk.specs.Reopens.{IsCleanIn, Reopens}
 use Rattle.rg_desk.specs.Shows.{IsShown, Shows}
 use Rattle.rg_desk.specs.Utility.{KeepsAll, SameButUtility}
@@ -109,13 +109,14 @@ drained_reopens capacities e d drain h = record {
 -- ---- the engine after a step
 
 -- the drain alone has changed
-keeps_drained : (d : Engine) (drain : DrainState) (held : ℕ) → d.held ≡ held → KeepsAll d drain held (with_drain d drain)
-keeps_drained d drain held is = record {
+keeps_drained : (d : Engine) (drain : DrainState) (set_aside : ℕ) → d.set_aside ≡ set_aside → KeepsAll d drain set_aside (with_drain d drain)
+keeps_drained d drain set_aside is = record {
   space = refl;
   log = refl;
   taken = omega (arith);
   opened = refl;
-  held_is = is;
+  aside_is = is;
+  reserved = ap (λ (n : ℕ). d.log.reserved + n) is;
   units = refl;
   top = refl;
   shows = λ st after allowed shows same drain_is. drained_shows st after allowed d drain shows same drain_is;
@@ -124,8 +125,8 @@ keeps_drained d drain held is = record {
   clean = drained_clean d drain;
 }
 
--- what was held was given back, too
-keeps_over : (d : Engine) (drain : DrainState) (new : Engine) → Holds (with_drain d drain) 0 new → KeepsAll d drain 0 new
+-- what was set aside was given back, too
+keeps_over : (d : Engine) (drain : DrainState) (new : Engine) → PutsAside (with_drain d drain) 0 new → KeepsAll d drain 0 new
 keeps_over d drain new holds =
     let log : new.log ≡ record d.log { reserved = new.log.reserved } = ap (λ (x : Engine). x.log) holds.same in
     record {
@@ -133,7 +134,8 @@ keeps_over d drain new holds =
       log = log;
       taken = omega (arith, ap (λ (l : Listed). taken_of l) log, holds.reserved);
       opened = holds.opened;
-      held_is = ap (λ (x : Engine). x.held) holds.same;
+      aside_is = ap (λ (x : Engine). x.set_aside) holds.same;
+      reserved = holds.reserved;
       units = ap (λ (x : Engine). x.units) holds.same;
       top = ap (λ (x : Engine). x.top) holds.same;
       shows = λ st after allowed shows same drain_is. holds.shows after allowed (drained_shows st after allowed d drain shows same drain_is);
@@ -147,18 +149,18 @@ none_is None b some is = refl
 none_is (Some s) b some is = absurd (cc (some ∙ ap not is))
 
 -- the utility is over
-pub step_over : (d : Engine) (drain : DrainState) (mid new : Engine) (next : Option Stage) → mid ≡ with_drain d drain → drain ≡ drain_kept next → next ≡ None → Holds mid 0 new → KeepsAll d (drain_kept next) (held_for next) new
+pub step_over : (d : Engine) (drain : DrainState) (mid new : Engine) (next : Option Stage) → mid ≡ with_drain d drain → drain ≡ drain_kept next → next ≡ None → PutsAside mid 0 new → KeepsAll d (drain_kept next) (aside_for next) new
 step_over d drain mid new next mid_is is none holds =
-    subst (λ (x : DrainState). KeepsAll d x (held_for next) new) is
-    (subst (λ (n : ℕ). KeepsAll d drain n new) (sym (ap held_for none))
-    (keeps_over d drain new (subst (λ (x : Engine). Holds x 0 new) mid_is holds)))
+    subst (λ (x : DrainState). KeepsAll d x (aside_for next) new) is
+    (subst (λ (n : ℕ). KeepsAll d drain n new) (sym (ap aside_for none))
+    (keeps_over d drain new (subst (λ (x : Engine). PutsAside x 0 new) mid_is holds)))
 
 -- it goes on
-pub step_goes : (d : Engine) (drain : DrainState) (new : Engine) (next : Option Stage) (b : Bool) → new ≡ with_drain d drain → drain ≡ drain_kept next → is_some next ≡ not b → b ≡ false → d.held ≡ 28 → KeepsAll d (drain_kept next) (held_for next) new
-step_goes d drain new None b new_is is some goes held = absurd (cc (some ∙ ap not goes))
-step_goes d drain new (Some s) b new_is is some goes held =
+pub step_goes : (d : Engine) (drain : DrainState) (new : Engine) (next : Option Stage) (b : Bool) → new ≡ with_drain d drain → drain ≡ drain_kept next → is_some next ≡ not b → b ≡ false → d.set_aside ≡ 28 → KeepsAll d (drain_kept next) (aside_for next) new
+step_goes d drain new None b new_is is some goes set_aside = absurd (cc (some ∙ ap not goes))
+step_goes d drain new (Some s) b new_is is some goes set_aside =
     subst (λ (x : Engine). KeepsAll d s.drain 28 x) (sym new_is)
-    (subst (λ (x : DrainState). KeepsAll d x 28 (with_drain d drain)) is (keeps_drained d drain 28 held))
+    (subst (λ (x : DrainState). KeepsAll d x 28 (with_drain d drain)) is (keeps_drained d drain 28 set_aside))
 
 pub some_of : (o : Option Turn) → is_some o ≡ true → (turn : Turn) × (o ≡ Some turn)
 some_of None e = absurd (cc (e))

@@ -60,7 +60,7 @@ same_same a b c f g = record {
   units = g.units ∙ f.units;
   top = g.top ∙ f.top;
   opened = g.opened ∙ f.opened;
-  held = g.held ∙ f.held;
+  set_aside = g.set_aside ∙ f.set_aside;
 }
 
 -- `mid` is the engine once the write was planned, which shows the same state
@@ -119,8 +119,8 @@ module _ (st : State) (allowed : ℕ) (d : Engine) (shows : Shows st allowed d) 
   wrote_opened : (key : ℕ) (after : Option Row) (plan : Plan) (new : Engine) → Wrote mid session unit plan key after new → new.opened ≡ d.opened
   wrote_opened key after plan new w = w.put.base.opened ∙ w.prepared.opened ∙ same.opened
 
-  wrote_held : (key : ℕ) (after : Option Row) (plan : Plan) (new : Engine) → Wrote mid session unit plan key after new → new.held ≡ d.held
-  wrote_held key after plan new w = w.put.base.held ∙ w.prepared.held ∙ same.held
+  wrote_held : (key : ℕ) (after : Option Row) (plan : Plan) (new : Engine) → Wrote mid session unit plan key after new → new.set_aside ≡ d.set_aside
+  wrote_held key after plan new w = w.put.base.set_aside ∙ w.prepared.set_aside ∙ same.set_aside
 
   wrote_forced : (key : ℕ) (after : Option Row) (plan : Plan) (new : Engine) → Wrote mid session unit plan key after new → new.log.forced ≡ d.log.forced
   wrote_forced key after plan new w = w.put.base.forced ∙ ap (λ (l : Listed). l.forced) w.prepared.log ∙ ap (λ (l : Listed). l.forced) same.log
@@ -168,7 +168,7 @@ module _ (st : State) (allowed : ℕ) (d : Engine) (shows : Shows st allowed d) 
   put_goes row plan Done new low absent alone small is done w =
       let plans = put row plan absent alone small is in
       let shown = plan_shows st allowed mid shows_mid session unit own_mid (18 + row_size row) row.key (Some row) plan new plans refl (alone_mid row.key alone) low w in
-      record { says = sym done; room = put_room st allowed d shows session unit is_unit mid same row (Some plan) true is refl; log = put_needs st allowed d shows session unit is_unit mid same row plan (λ n. n ≤ left_of d.log) is (within _ w.prepared.room); logged = wrote_logged row.key (Some row) plan new w; opened = wrote_opened row.key (Some row) plan new w; held = wrote_held row.key (Some row) plan new w; grows = wrote_grows row.key (Some row) plan new w; forced = λ e. wrote_forced row.key (Some row) plan new w; newest = wrote_newest (18 + row_size row) row.key (Some row) plan new plans w; parts = wrote_parts (18 + row_size row) row.key (Some row) plan new plans refl (alone_mid row.key alone) low w; clean = wrote_clean (18 + row_size row) row.key (Some row) plan new plans refl (alone_mid row.key alone) low w; left = tt; shows = shown; capacity = wrote (Insert row) (18 + row_size row) row.key (Some row) plan new done shown w }
+      record { says = sym done; room = put_room st allowed d shows session unit is_unit mid same row (Some plan) true is refl; log = put_needs st allowed d shows session unit is_unit mid same row plan (λ n. n ≤ left_of d.log) is (within _ w.prepared.room); logged = wrote_logged row.key (Some row) plan new w; opened = wrote_opened row.key (Some row) plan new w; set_aside = wrote_held row.key (Some row) plan new w; grows = wrote_grows row.key (Some row) plan new w; forced = λ e. wrote_forced row.key (Some row) plan new w; newest = wrote_newest (18 + row_size row) row.key (Some row) plan new plans w; parts = wrote_parts (18 + row_size row) row.key (Some row) plan new plans refl (alone_mid row.key alone) low w; clean = wrote_clean (18 + row_size row) row.key (Some row) plan new plans refl (alone_mid row.key alone) low w; left = tt; shows = shown; capacity = wrote (Insert row) (18 + row_size row) row.key (Some row) plan new done shown w }
   put_goes row plan (LogFull need left) new low absent alone small is done w =
       log_full (Insert row) _ need left new refl done w (put_needs st allowed d shows session unit is_unit mid same row plan (λ n. need ≡ n) is w.0)
   put_goes row plan NoMemory new low absent alone small is done w = go_wanting st allowed d shows session (Insert row) new refl (same_same d mid new same w)
@@ -180,7 +180,7 @@ module _ (st : State) (allowed : ℕ) (d : Engine) (shows : Shows st allowed d) 
   change_goes home old row plan Done new low there is_there alone key small is done w =
       let plans = change home old row plan there is_there alone key small is in
       let shown = plan_shows st allowed mid shows_mid session unit own_mid (18 + row_size row) row.key (Some row) plan new plans refl (alone_mid row.key alone) low w in
-      record { says = sym done; room = change_room st allowed d shows session unit is_unit mid same home old row (Some plan) true there key is refl; log = change_needs st allowed d shows session unit is_unit mid same home old row plan (λ n. n ≤ left_of d.log) there key is (within _ w.prepared.room); logged = wrote_logged row.key (Some row) plan new w; opened = wrote_opened row.key (Some row) plan new w; held = wrote_held row.key (Some row) plan new w; grows = wrote_grows row.key (Some row) plan new w; forced = λ e. wrote_forced row.key (Some row) plan new w; newest = wrote_newest (18 + row_size row) row.key (Some row) plan new plans w; parts = wrote_parts (18 + row_size row) row.key (Some row) plan new plans refl (alone_mid row.key alone) low w; clean = wrote_clean (18 + row_size row) row.key (Some row) plan new plans refl (alone_mid row.key alone) low w; left = tt; shows = shown; capacity = wrote (Update row) (18 + row_size row) row.key (Some row) plan new done shown w }
+      record { says = sym done; room = change_room st allowed d shows session unit is_unit mid same home old row (Some plan) true there key is refl; log = change_needs st allowed d shows session unit is_unit mid same home old row plan (λ n. n ≤ left_of d.log) there key is (within _ w.prepared.room); logged = wrote_logged row.key (Some row) plan new w; opened = wrote_opened row.key (Some row) plan new w; set_aside = wrote_held row.key (Some row) plan new w; grows = wrote_grows row.key (Some row) plan new w; forced = λ e. wrote_forced row.key (Some row) plan new w; newest = wrote_newest (18 + row_size row) row.key (Some row) plan new plans w; parts = wrote_parts (18 + row_size row) row.key (Some row) plan new plans refl (alone_mid row.key alone) low w; clean = wrote_clean (18 + row_size row) row.key (Some row) plan new plans refl (alone_mid row.key alone) low w; left = tt; shows = shown; capacity = wrote (Update row) (18 + row_size row) row.key (Some row) plan new done shown w }
   change_goes home old row plan (LogFull need left) new low there is_there alone key small is done w =
       log_full (Update row) _ need left new refl done w (change_needs st allowed d shows session unit is_unit mid same home old row plan (λ n. need ≡ n) there key is w.0)
   change_goes home old row plan NoMemory new low there is_there alone key small is done w = go_wanting st allowed d shows session (Update row) new refl (same_same d mid new same w)
@@ -193,7 +193,7 @@ module _ (st : State) (allowed : ℕ) (d : Engine) (shows : Shows st allowed d) 
       let plans = drop home old plan there is_there (subst (λ (k : ℕ). holder d.locks session k ≡ None) (sym of_key) alone) is in
       let same_key : key_of plan.before None ≡ key = ap (λ (x : Option Row). key_of x None) plans.0 ∙ of_key in
       let shown = plan_shows st allowed mid shows_mid session unit own_mid 0 key None plan new plans.1 same_key (alone_mid key alone) low w in
-      record { says = sym done; room = tt; log = drop_needs st allowed d shows session unit is_unit mid same home old key plan (λ n. n ≤ left_of d.log) there of_key is (within _ w.prepared.room); logged = wrote_logged key None plan new w; opened = wrote_opened key None plan new w; held = wrote_held key None plan new w; grows = wrote_grows key None plan new w; forced = λ e. wrote_forced key None plan new w; newest = wrote_newest 0 key None plan new plans.1 w; parts = wrote_parts 0 key None plan new plans.1 same_key (alone_mid key alone) low w; clean = wrote_clean 0 key None plan new plans.1 same_key (alone_mid key alone) low w; left = tt; shows = shown; capacity = wrote (Delete key) 0 key None plan new done shown w }
+      record { says = sym done; room = tt; log = drop_needs st allowed d shows session unit is_unit mid same home old key plan (λ n. n ≤ left_of d.log) there of_key is (within _ w.prepared.room); logged = wrote_logged key None plan new w; opened = wrote_opened key None plan new w; set_aside = wrote_held key None plan new w; grows = wrote_grows key None plan new w; forced = λ e. wrote_forced key None plan new w; newest = wrote_newest 0 key None plan new plans.1 w; parts = wrote_parts 0 key None plan new plans.1 same_key (alone_mid key alone) low w; clean = wrote_clean 0 key None plan new plans.1 same_key (alone_mid key alone) low w; left = tt; shows = shown; capacity = wrote (Delete key) 0 key None plan new done shown w }
   drop_goes home old key plan (LogFull need left) new low there is_there alone of_key is done w =
       log_full (Delete key) _ need left new refl done w (drop_needs st allowed d shows session unit is_unit mid same home old key plan (λ n. need ≡ n) there of_key is w.0)
   drop_goes home old key plan NoMemory new low there is_there alone of_key is done w = go_wanting st allowed d shows session (Delete key) new refl (same_same d mid new same w)

@@ -184,19 +184,19 @@ module _ (st : State) (allowed more : ℕ) (old new : Engine) (session : Session
       wrote.put.top
       ∙ ap (λ (n : ℕ). if nat_le unit.tran.0 n then n else unit.tran.0) (wrote.prepared.top ∙ shows.by.top)
 
-  same_held : new.held ≡ old.held
-  same_held = wrote.put.base.held ∙ wrote.prepared.held
+  same_aside : new.set_aside ≡ old.set_aside
+  same_aside = wrote.put.base.set_aside ∙ wrote.prepared.set_aside
 
-  owed_after : owed new.units + new.held ≡ new.log.reserved
+  owed_after : owed new.units + new.set_aside ≡ new.log.reserved
   owed_after =
       let next : OpenUnit = unit_wrote old.log.records unit plan in
       go own (owed-set old.units session.0 (Some next) place)
     where
       go : IsUnitFor old.units s session.0 unit
           → owed (set old.units session.0 (Some (unit_wrote old.log.records unit plan))) + owed_to (unit_at old.units session.0) ≡ owed old.units + (23 + 911 * (unit.writes + 1))
-          → owed new.units + new.held ≡ new.log.reserved
-      go (inl e) sum = omega (arith, sum, ap owed units, ap owed_to e, ap end_bytes e, wrote.put.reserved, ap (λ (l : Listed). l.reserved) wrote.prepared.log, same_held, shows.by.owed)
-      go (inr h) sum = omega (arith, sum, ap owed units, ap owed_to h.0, ap end_bytes h.0, h.1.writes, wrote.put.reserved, ap (λ (l : Listed). l.reserved) wrote.prepared.log, same_held, shows.by.owed)
+          → owed new.units + new.set_aside ≡ new.log.reserved
+      go (inl e) sum = omega (arith, sum, ap owed units, ap owed_to e, ap end_bytes e, wrote.put.reserved, ap (λ (l : Listed). l.reserved) wrote.prepared.log, same_aside, shows.by.owed)
+      go (inr h) sum = omega (arith, sum, ap owed units, ap owed_to h.0, ap end_bytes h.0, h.1.writes, wrote.put.reserved, ap (λ (l : Listed). l.reserved) wrote.prepared.log, same_aside, shows.by.owed)
 
   -- the unit is the session's own, or it begins
   own_unit : IsOwnUnit old.units session.0 unit
@@ -241,13 +241,13 @@ module _ (st : State) (allowed more : ℕ) (old new : Engine) (session : Session
   next_there = subst (λ (ps : List (List Slot)). PlanNext (length ps) plan) shows.by.slots carries.next
 
   pub write_next : AreNext (capacity_in old.space) old.log.pages old.log.records (more_wrote old.log.records unit plan.purge (write_of unit.tran.0 plan.home plan.before after plan.parts))
-  write_next = wrote_next limit old.log new.log old.held old.units s session.0 unit (unit_wrote old.log.records unit plan) plan after consistent shows.by.units shows.trails own place lawful within next_there refl refl records same_log room reserved
+  write_next = wrote_next limit old.log new.log old.set_aside old.units s session.0 unit (unit_wrote old.log.records unit plan) plan after consistent shows.by.units shows.trails own place lawful within next_there refl refl records same_log room reserved
 
-  trails : Trails new.log new.held new.units s_written
+  trails : Trails new.log new.set_aside new.units s_written
   trails =
-      subst (λ (us : List (Option OpenUnit)). Trails new.log new.held us s_written) (sym units)
-      (subst (λ (n : ℕ). Trails new.log n (set old.units session.0 (Some (unit_wrote old.log.records unit plan))) s_written) (sym same_held)
-      (wrote_trails limit old.log new.log old.held old.units s session.0 unit (unit_wrote old.log.records unit plan) plan after consistent shows.by.units shows.trails own place lawful within next_there refl refl records same_log room reserved))
+      subst (λ (us : List (Option OpenUnit)). Trails new.log new.set_aside us s_written) (sym units)
+      (subst (λ (n : ℕ). Trails new.log n (set old.units session.0 (Some (unit_wrote old.log.records unit plan))) s_written) (sym same_aside)
+      (wrote_trails limit old.log new.log old.set_aside old.units s session.0 unit (unit_wrote old.log.records unit plan) plan after consistent shows.by.units shows.trails own place lawful within next_there refl refl records same_log room reserved))
 
   by : claimed_all (holding s_written.live (suc s_written.top)) s_written.pages ≤ allowed + more → ShowsBy (write_key st session key after) (allowed + more) new s_written
   by bound = record {
@@ -273,7 +273,7 @@ module _ (st : State) (allowed more : ℕ) (old new : Engine) (session : Session
   written_shows bound =
       shows_more st allowed old shows (write_key st session key after) (allowed + more) new entries (wrote.put.base.opened ∙ wrote.prepared.opened) appended capacity runs settled
       (subst (ShowsBy (write_key st session key after) (allowed + more) new) (sym left) (by bound))
-      (subst (Trails new.log new.held new.units) (sym left) trails)
+      (subst (Trails new.log new.set_aside new.units) (sym left) trails)
 
   -- and each part of its log can be opened
   pub written_parts : KeepsParts old new

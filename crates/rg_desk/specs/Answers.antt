@@ -103,7 +103,7 @@ pub record Answered
   pub log : SaysLog (ground_of old) session.0 stmt reply
   pub logged : taken_of new.log ≤ taken_of old.log + more_logged stmt reply
   pub opened : new.opened ≡ old.opened
-  pub held : new.held ≡ old.held
+  pub set_aside : new.set_aside ≡ old.set_aside
   pub grows : Grows old.log new.log
   pub newest : KeepsNewest old new
   pub parts : KeepsParts old new

@@ -22,7 +22,7 @@ pub record Begun (found : Found) (calls : ℕ) (d : Engine) (c : ChronicleState)
   pub idle : (n : ℕ) → unit_at d.units n ≡ None
   pub log : d.log ≡ found.log
   pub opened : d.opened ≡ length found.log.records
-  pub held : d.held ≡ 0
+  pub set_aside : d.set_aside ≡ 0
   pub trace :
       c.trace
       ≡ opened_entry found.copy (row_count start) (length (space_pages found.space))

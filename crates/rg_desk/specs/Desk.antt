@@ -60,7 +60,7 @@ use Rattle.rg_desk.specs.Utility.{IsNew}
 use Rattle.rg_desk.specs.Volume.{HasCalls, IsCount, LeavesIfTidy, VolumeSeen, WasTidy}
 use Rattle.rg_desk.specs.declared.engine.Engine.{Engine}
 use Rattle.rg_tally.specs.Changed.{ChangeCount}
-use Rattle.rg_tending.specs.Tending.{FollowsBy, NextBy, utility_entry}
+use Rattle.rg_tending.specs.Tending.{FollowsBy, NextBy, aside_for, utility_entry}
 
 -- a number that a copy has
 abbrev pub IsCopy : (copy : ℕ) → Type 0
@@ -175,9 +175,12 @@ pub record Opens {V O : Type 0}
   pub up : desk.down ≡ false
   pub same : desk.volume ≡ volume
   pub asked : desk.operator ≡ operator
+  pub stage : desk.stage ≡ None
+  pub changes : desk.changes ≡ 0
+  pub kept : desk.kept ≡ None
 
--- the copy may have as many pages as before, and the log, the entries of earlier openings and the
--- operator are as they were, and of the volume no page but the log's and the copy's was written
+-- the copy may have as many pages as before, and the log and the entries of earlier openings are as
+-- they were, and of the volume no page but the log's and the copy's was written
 pub record Stays {V O : Type 0} (look : V → VolumeSeen) (old new : DeskState V O) : Type 0 where
   pub older : new.older ≡ old.older
   pub capacity : new.ground.capacity ≡ old.ground.capacity
@@ -186,7 +189,22 @@ pub record Stays {V O : Type 0} (look : V → VolumeSeen) (old new : DeskState V
   pub old_same : old_records new ≡ old_records old
   pub copy : new.copy ≡ old.copy
   pub calls : CallsOwn old.copy (look old.volume) (look new.volume)
+
+-- the utility's stage is as it was, the answer that no entry has yet, and the operator
+pub record SameUtility {V O : Type 0} (old new : DeskState V O) : Type 0 where
+  pub stage : new.stage ≡ old.stage
+  pub kept : new.kept ≡ old.kept
   pub operator : new.operator ≡ old.operator
+
+-- What writes are planned over is as it was, but for the bytes that the log has reserved. The
+-- running utility's are set aside among them.
+pub record SameGround {V O : Type 0} (old new : DeskState V O) : Type 0 where
+  pub ground :
+      new.ground
+      ≡ record old.ground { log = record old.ground.log { reserved = new.ground.log.reserved } }
+  pub reserved :
+      new.ground.log.reserved + aside_for old.stage
+      ≡ old.ground.log.reserved + aside_for new.stage
 
 -- The entries of a desk lead to a state. Where the log read tidy, whatever a crash leaves of the
 -- volume at each moment of the calls that followed stores what it should of that state.
@@ -239,6 +257,8 @@ pub record MadeSaid {V O : Type 0}
   pub rows :
       KeepsRows look old (λ st. StoresDuring (forces old.ground.units session stmt) st session)
       (look new.volume)
+  pub utility : SameUtility old new
+  pub later : old.changes ≤ new.changes
   pub stays : Stays look old new
 
 -- a layout of this copy, or the desk was down, or there was no memory for one
@@ -259,6 +279,8 @@ pub record MadeLayout {V O : Type 0} (look : V → VolumeSeen) (old new : DeskSt
     pub ground : new.ground ≡ old.ground
     pub down : new.down ≡ old.down
     pub volume : new.volume ≡ old.volume
+    pub utility : SameUtility old new
+    pub changes : new.changes ≡ old.changes
     pub stays : Stays look old new
 
 -- A flush has one entry more, with the number of calls up to it. It is answered DOWN if and only if
@@ -279,6 +301,8 @@ pub record MadeFlush {V O : Type 0} (look : V → VolumeSeen) (old new : DeskSta
     pub down : new.down ≡ old.down
     pub sound : SoundThroughout (look old.volume) (look new.volume)
     pub rows : KeepsRows look old StoresLeft (look new.volume)
+    pub utility : SameUtility old new
+    pub changes : new.changes ≡ old.changes
     pub stays : Stays look old new
 
 -- what a control statement is answered, over a copy of so many pages, and the stage then
@@ -324,6 +348,8 @@ pub record MadeStart {V O : Type 0} (look : V → VolumeSeen) (old : DeskState V
   pub log_full : IfStartLogFull event (logged_by 0 old.trace) old.ground.log.pages
   pub changes : new.changes ≡ (if started then 0 else old.changes)
   pub kept : new.kept ≡ old.kept
+  pub operator : new.operator ≡ old.operator
+  pub ground : SameGround old new
   pub contents : new.contents ≡ old.contents
   pub down : new.down ≡ old.down
   pub volume : new.volume ≡ old.volume
@@ -344,8 +370,8 @@ pub record HasTaken (changes : ℕ) (s : Stage) : Type 0 where
   pub unswitched : s.switched ≡ false
 
 -- the event is that of the next step
-abbrev pub IsNext : {V O : Type 0} → DeskState V O → Option Answer → Event → Type 0
-IsNext desk answer event =
+abbrev pub IsNextStep : {V O : Type 0} → DeskState V O → Option Answer → Event → Type 0
+IsNextStep desk answer event =
     NextBy desk.down desk.stage desk.changes desk.covered answer event
 
 -- A step has one entry more, with the operator's answer and the number of calls up to it. It calls
@@ -358,6 +384,8 @@ pub record MadeStep {V O : Type 0} (look : V → VolumeSeen) (old : DeskState V 
   pub follows : FollowsBy old.down old.stage old.changes old.covered answer event new.stage
   pub changes : new.changes ≡ old.changes
   pub kept : new.kept ≡ None
+  pub operator : new.operator ≡ old.operator
+  pub ground : SameGround old new
   pub contents : new.contents ≡ old.contents
   pub down : new.down ≡ old.down
   pub volume : new.volume ≡ old.volume

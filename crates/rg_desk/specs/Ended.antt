@@ -61,7 +61,7 @@ pub record EndsSession (old : Engine) (session : Session) (new : Engine) : Type 
   pub claims : new.claims ≡ record old.claims { claims = fin.remove old.claims.claims session.0 }
   pub units : new.units ≡ slice_set old.units session.0 None
   pub opened : new.opened ≡ old.opened
-  pub held : new.held ≡ old.held
+  pub set_aside : new.set_aside ≡ old.set_aside
 
 -- the RolledBack record of a unit
 abbrev pub rolled_record : (position last : ℕ) → OpenUnit → Record

@@ -98,7 +98,7 @@ pub record OnlyForces (old new : Engine) : Type 0 where
   pub units : new.units ≡ old.units
   pub top : new.top ≡ old.top
   pub opened : new.opened ≡ old.opened
-  pub held : new.held ≡ old.held
+  pub set_aside : new.set_aside ≡ old.set_aside
   pub further : old.log.forced ≤ new.log.forced
   pub shows : (st : State) (allowed : ℕ) → Shows st allowed old → Shows st allowed new
 

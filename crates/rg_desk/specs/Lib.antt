@@ -21,7 +21,7 @@ pub mod Volume
 pub mod OnVolume
 pub mod Flushed
 pub mod Answers
-pub mod Hold
+pub mod Aside
 pub mod Chronicle
 pub mod Utility
 pub mod Desk

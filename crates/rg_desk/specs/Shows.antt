@@ -6,8 +6,8 @@
 --    unit alone, and the lock keeps its committed row.
 -- 3. Each session's unit is live, its records lead from write to write, and no two sessions have
 --    one transaction. Every live unit is some session's.
--- 4. The log has reserved what the open units are owed, what is held for the utility, and nothing
---    else.
+-- 4. The log has reserved what the open units are owed, what is set aside for the utility, and
+--    nothing else.
 -- 5. The pages claim no more bytes than the writes so far have allowed.
 -- 6. The log stores the committed rows, and what is forced of it stores no others.
 -- 7. Its records tell of the open units, and it has room for all that it has reserved.
@@ -89,7 +89,7 @@ pub record ShowsBy (st : State) (allowed : ℕ) (d : Engine) (s : LogState) : Ty
   pub places : length d.units ≡ 256
   pub units : UnitsShown d.log.records s d.units
   pub top : d.top ≡ s.top
-  pub owed : owed d.units + d.held ≡ d.log.reserved
+  pub owed : owed d.units + d.set_aside ≡ d.log.reserved
   pub claimed : claimed_all (holding s.live (suc s.top)) s.pages ≤ allowed
 
 -- what the records do that the log did not have when the engine began
@@ -109,7 +109,7 @@ pub record Shows (st : State) (allowed : ℕ) (d : Engine) : Type 0 where
   pub settled : IsSettled d.log
   pub runs : Runs (capacity_in d.space) first (since d)
   pub by : ShowsBy st allowed d (left_by first d)
-  pub trails : Trails d.log d.held d.units (left_by first d)
+  pub trails : Trails d.log d.set_aside d.units (left_by first d)
 
 -- it shows some state
 pub record IsShown (d : Engine) : Type 0 where

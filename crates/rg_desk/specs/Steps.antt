@@ -104,7 +104,7 @@ pub record Goes
   pub log : SaysLog (ground_of old) session.0 stmt reply
   pub logged : taken_of new.log ≤ taken_of old.log + more_logged stmt reply
   pub opened : new.opened ≡ old.opened
-  pub held : new.held ≡ old.held
+  pub set_aside : new.set_aside ≡ old.set_aside
   pub grows : Grows old.log new.log
   pub forced : is_commit stmt ≡ false → new.log.forced ≡ old.log.forced
   pub newest : KeepsNewest old new

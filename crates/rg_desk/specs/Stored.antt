@@ -45,11 +45,11 @@ pub record IsSettled (log : Listed) : Type 0 where
       (n : ℕ) → log.forced ≤ n → n ≤ length log.records → (k : ℕ)
       → stored (take n log.records) k ≡ stored log.records k
 
--- as many of the records are those that the engine began with, as many bytes are held for the
+-- as many of the records are those that the engine began with, as many bytes are set aside for the
 -- utility, as much of the log is forced, and its set has as many pages
 pub record SameBase (old new : Engine) : Type 0 where
   pub opened : new.opened ≡ old.opened
-  pub held : new.held ≡ old.held
+  pub set_aside : new.set_aside ≡ old.set_aside
   pub forced : new.log.forced ≡ old.log.forced
   pub pages : new.log.pages ≡ old.log.pages
 

@@ -2,8 +2,8 @@
 --
 -- 1. They tell the state that they leave. Of each open unit they tell its last record, and the
 --    Changes that are left, from its last one back.
--- 2. What is reserved is what ending all open transactions takes and what is held for the utility,
---    and nothing else. The log has room for it.
+-- 2. What is reserved is what ending all open transactions takes and what is set aside for the
+--    utility, and nothing else. The log has room for it.
 use Rattle.std.specs.Prelude.{◌≡◌, ◌≤◌, ◌+◌, ℕ, List, Option, Some}
 use Rattle.rg_follow.specs.Tells.{Tells}
 use Rattle.rg_image.specs.Rules.{last_position, limit_of, of_tran, owed}
@@ -24,12 +24,12 @@ pub record IsTrail (records : List Record) (s : LogState) (unit : OpenUnit) : Ty
       AreChain records unit.tran.0 unit.last.0 (own_of unit.tran.0 s.writes)
       (left_of unit.tran.0 records)
 
--- the records of a log, by the bytes that are held, the units that are open and the state that is
--- left
-pub record Trails (log : Listed) (held : ℕ) (units : List (Option OpenUnit)) (s : LogState)
+-- the records of a log, by the bytes that are set aside, the units that are open and the state that
+-- is left
+pub record Trails (log : Listed) (set_aside : ℕ) (units : List (Option OpenUnit)) (s : LogState)
     : Type 0 where
   pub tells : Tells log.records s
   pub each :
       (n : ℕ) (unit : OpenUnit) → unit_at units n ≡ Some unit → IsTrail log.records s unit
-  pub paid : owed log.records + held ≡ log.reserved
+  pub paid : owed log.records + set_aside ≡ log.reserved
   pub space : taken_of log ≤ limit_of log.pages

@@ -4,9 +4,9 @@
 --    Else the utility starts, with 28 bytes of the log for its Switch record; or the log has fewer
 --    left, or memory ran out, and all is as before.
 -- 2. A step's event is the utility's next. The stage follows it, and the drain follows the stage.
---    What was held of the log is given back when the utility is over.
+--    What was set aside of the log is given back when the utility is over.
 -- 3. The rows, the locks, the claims and the records are as they were.
-use Rattle.std.specs.Prelude.{◌≡◌, ◌≤◌, ◌<◌, ℕ, Bool, true, false, Option, Some, None, length}
+use Rattle.std.specs.Prelude.{◌≡◌, ◌≤◌, ◌<◌, ◌+◌, ℕ, Bool, true, false, Option, Some, None, length}
 use Rattle.rg_base.specs.declared.control.Answer.{Answer}
 use Rattle.rg_base.specs.declared.options.DrainState.{DrainState}
 use Rattle.rg_base.specs.declared.options.DrainState.TheVariants.{Free}
@@ -23,10 +23,10 @@ use Rattle.rg_stage.specs.Followed.{Followed}
 use Rattle.rg_stage.specs.NumbersOf.{numbers_of}
 use Rattle.rg_stmt.specs.declared.event.Event.{Event}
 use Rattle.rg_stmt.specs.declared.event.Event.TheVariants as events
-use Rattle.rg_tending.specs.Tending.{held_for}
+use Rattle.rg_tending.specs.Tending.{aside_for}
 use Rattle.rg_desk.specs.Bytes.{taken_of}
 use Rattle.rg_desk.specs.Engine.{seen_in}
-use Rattle.rg_desk.specs.Hold.{Holds}
+use Rattle.rg_desk.specs.Aside.{PutsAside}
 use Rattle.rg_desk.specs.Newest.{KeepsNewest}
 use Rattle.rg_desk.specs.Reopens.{IsCleanIn, KeepsParts}
 use Rattle.rg_desk.specs.Shows.{Shows}
@@ -43,7 +43,7 @@ abbrev pub StartsBy :
     → Type 0
 StartsBy options copy old (events.Started given of_copy pages) next new =
     (given ≡ options) × (of_copy ≡ copy) × (pages ≡ length (seen_in old).pages)
-    × IsNew options pages next × Holds old 28 new
+    × IsNew options pages next × PutsAside old 28 new
 StartsBy options copy old (events.StartLogFull need left) next new =
     (need ≡ 28) × (left ≡ left_of old.log) × (left < 28) × (next ≡ None) × (new ≡ old)
 StartsBy options copy old events.StartNoMemory next new = (next ≡ None) × (new ≡ old)
@@ -68,13 +68,15 @@ pub record SameButUtility (old new : State) : Type 0 where
   pub doubt : new.doubt ≡ old.doubt
   pub copydoubt : new.copydoubt ≡ old.copydoubt
 
--- the engine keeps what it kept, with this drain, and so many bytes are held
-pub record KeepsAll (old : Engine) (drain : DrainState) (held : ℕ) (new : Engine) : Type 0 where
+-- the engine keeps what it kept, with this drain, and so many bytes are set aside
+pub record KeepsAll (old : Engine) (drain : DrainState) (set_aside : ℕ) (new : Engine)
+    : Type 0 where
   pub space : new.space ≡ old.space
   pub log : new.log ≡ record old.log { reserved = new.log.reserved }
   pub taken : taken_of new.log ≤ taken_of old.log
   pub opened : new.opened ≡ old.opened
-  pub held_is : new.held ≡ held
+  pub aside_is : new.set_aside ≡ set_aside
+  pub reserved : new.log.reserved + old.set_aside ≡ old.log.reserved + set_aside
   pub units : new.units ≡ old.units
   pub top : new.top ≡ old.top
   pub shows :
@@ -92,4 +94,4 @@ pub record StepsOn (old : Engine) (s : Stage) (changes : ℕ) (answer : Answer) 
       → turn_of changes covered answer (numbers_of s) s.drain event ≡ Some turn
       → Followed turn next
   pub bounded : KeepsBounds changes s next
-  pub engine : KeepsAll old (drain_kept next) (held_for next) new
+  pub engine : KeepsAll old (drain_kept next) (aside_for next) new

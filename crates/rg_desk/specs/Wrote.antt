@@ -102,7 +102,7 @@ pub record Prepares
     pub units : new.units ≡ old.units
     pub top : new.top ≡ old.top
     pub opened : new.opened ≡ old.opened
-    pub held : new.held ≡ old.held
+    pub set_aside : new.set_aside ≡ old.set_aside
 
 -- a write: it was prepared and carried out
 pub record Wrote
@@ -128,7 +128,7 @@ pub record SameEngine (old new : Engine) : Type 0 where
   pub units : new.units ≡ old.units
   pub top : new.top ≡ old.top
   pub opened : new.opened ≡ old.opened
-  pub held : new.held ≡ old.held
+  pub set_aside : new.set_aside ≡ old.set_aside
 
 -- so many bytes are more than the log has left, or it is out of memory; and all is as it was
 abbrev pub Refuses : Engine → (need : ℕ) → Reply → Engine → Type 0

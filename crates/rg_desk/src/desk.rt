@@ -10,7 +10,7 @@
 //    opening is refused.
 // 5. A utility may run. A step of it asks the operator first, and then makes one entry, which has
 //    the operator's answer. Its event is the next one of the stage that the desk keeps.
-ghost use Rattle.std.specs.Prelude.{◌≡◌, ◌≤◌, ◌++◌, ◌∷◌, [], ℕ, true, false, OnOk, OnErr, IfOk, IfErr, IfSome, Some, None};
+ghost use Rattle.std.specs.Prelude.{◌≡◌, ◌≤◌, ◌++◌, [], ℕ, true, false, OnOk, OnErr, IfOk, IfErr, IfSome, Some, None};
 ghost use Rattle.rg_home.specs.Pages.{slot_of};
 ghost use Rattle.rg_home.specs.Rows.{row_at};
 ghost use Rattle.rg_indexes.specs.Listings.{AreListings};
@@ -36,7 +36,7 @@ ghost use Rattle.rg_desk.specs.Engine.{HasPages, ground_of};
 ghost use Rattle.rg_desk.specs.Shows.{IsShown, Shows};
 ghost use Rattle.rg_desk.specs.Volume.{HasCalls, IsCount, LeavesIfTidy, seen_volume};
 ghost use Rattle.rg_desk.specs.Wrote.{SameEngine};
-ghost use Rattle.rg_desk.specs.Desk.{HasTaken, IsNext, MadeStart, MadeStep, left_to_take};
+ghost use Rattle.rg_desk.specs.Desk.{HasTaken, IsNextStep, MadeStart, MadeStep, left_to_take};
 ghost use Rattle.rg_outside.specs.Told.{AddsAnswer, HandsOver};
 ghost use Rattle.rg_tally.specs.Changed.{no_changes};
 ghost use Rattle.rg_tending.specs.Tending.{NextBy, utility_entry};
@@ -128,7 +128,7 @@ impl<V: Counts, O> Model for Desk<V, O> {
 
     ghost invariant = { λ d. IsDesk d.engine d.chronicle d.copy d.down d.marks.items
         (seen_volume V.told V.faults V.capacities d.volume)
-        × Tends d.chronicle.trace d.stage d.changes d.engine.held };
+        × Tends d.chronicle.trace d.stage d.changes d.engine.set_aside };
 }
 
 // The entry of an event that the system makes, after so many calls.
@@ -480,9 +480,10 @@ impl<V: Counts, O: Operator> Desk<V, O> {
 
     /// Makes the entry of a step: IDLE where no utility runs, DOWN where the desk is down, else the
     /// utility's next event with the operator's answer. None is booked yet that copies a page,
-    /// writes the new copy or switches to it. It takes no memory.
+    /// writes the new copy or switches to it, or says that a call of the volume failed. It takes no
+    /// memory.
     pub fn book(&mut self, event: Event, answer: Option<Answer>)
-        requires next { IsNext self.old answer event }
+        requires next { IsNextStep self.old answer event }
         requires kept { answer ≡ self.old.kept }
         requires room { 1 ≤ self.old.spare }
         ensures { MadeStep (seen_volume V.told V.faults V.capacities) self.old answer event
@@ -514,7 +515,7 @@ impl<V: Counts, O: Operator> Desk<V, O> {
 
     // Makes the entry of a step that finds no utility, or the desk down.
     fn book_refused(&mut self, event: Event)
-        requires next { IsNext self.old None event }
+        requires next { IsNextStep self.old None event }
         requires kept { self.old.kept ≡ None }
         requires room { 1 ≤ self.old.spare }
         ensures { MadeStep (seen_volume V.told V.faults V.capacities) self.old None event self.new }

@@ -64,7 +64,7 @@ pub struct Engine {
     /// How many records the log had when it was opened.
     pub opened: usize,
     /// How many bytes of the log are reserved for the utility.
-    pub held: u32,
+    pub set_aside: u32,
 }
 
 // Applies a record to the pages, and appends it. It takes no memory.
@@ -163,7 +163,7 @@ impl Engine {
         ensures space { IfOk result (λ d. d.space ≡ space) }
         ensures log { IfOk result (λ d. d.log ≡ log) }
         ensures opened { IfOk result (λ d. d.opened ≡ length log.records) }
-        ensures held { IfOk result (λ d. d.held ≡ 0) }
+        ensures set_aside { IfOk result (λ d. d.set_aside ≡ 0) }
         ensures top { IfOk result (λ d. d.top ≡ top) }
         ensures idle { IfOk result (λ d. (n : ℕ) → unit_at d.units n ≡ None) }
     {
@@ -181,7 +181,7 @@ impl Engine {
             units,
             top,
             opened,
-            held: 0,
+            set_aside: 0,
         })
     }
 

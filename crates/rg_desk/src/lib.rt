@@ -17,8 +17,8 @@ pub mod engine;
 pub mod flush;
 /// What an opening found.
 pub mod found;
-/// The bytes of the log that are held for the utility.
-pub mod hold;
+/// The bytes of the log that are set aside for the utility.
+pub mod aside;
 /// The layout of the copy.
 pub mod layout;
 /// SELECT, SCAN and FIND.

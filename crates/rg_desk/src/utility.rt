@@ -5,15 +5,14 @@
 // 2. The event of a step is the utility's next. The stage follows the event, and the drain follows
 //    the stage: it is asked, granted or given up with the entry that says so.
 // 3. Nothing here touches a row or a record.
-ghost use Rattle.std.specs.Prelude.{◌≡◌, ◌≤◌, ℕ, Some, true, is_some, length};
+ghost use Rattle.std.specs.Prelude.{◌≡◌, Some, true, is_some};
 ghost use Rattle.rg_model.specs.Claims.{least_holder};
 ghost use Rattle.rg_model.specs.Turn.{turn_of};
 ghost use Rattle.rg_stage.specs.Booked.{drain_kept};
 ghost use Rattle.rg_stage.specs.Bounded.{SomeBounded};
 ghost use Rattle.rg_stage.specs.NumbersOf.{numbers_of};
-ghost use Rattle.rg_tending.specs.Tending.{MayDrain, is_booked};
+ghost use Rattle.rg_tending.specs.Tending.{MayDrain};
 ghost use Rattle.rg_desk.specs.Desk.{is_started, started_count};
-ghost use Rattle.rg_desk.specs.Engine.{HasPages, seen_in};
 ghost use Rattle.rg_desk.specs.Shows.{IsShown};
 ghost use Rattle.rg_desk.specs.Utility.{StartIs, StepsOn};
 
@@ -35,7 +34,7 @@ pub fn start_utility(
     copy: u8,
     down: bool,
 ) -> Event
-    requires free { stage.old ≡ None → engine.old.held ≡ 0 }
+    requires free { stage.old ≡ None → engine.old.set_aside ≡ 0 }
     ensures { StartIs down stage.old options copy engine.old result stage.new engine.new }
 {
     if down {
@@ -44,7 +43,7 @@ pub fn start_utility(
     if stage.is_some() {
         return Event::Active;
     }
-    match engine.hold() {
+    match engine.put_aside() {
         Ok(()) => {}
         Err(ReserveFault::LogFull { need, left }) => return Event::StartLogFull { need, left },
         Err(ReserveFault::NoMemory) => return Event::StartNoMemory,
@@ -119,7 +118,7 @@ impl Engine {
         requires shown { IsShown self.old }
         requires bounded { SomeBounded changes stage.now }
         requires drain { self.old.claims.drain ≡ stage.now.drain }
-        requires held { self.old.held ≡ 28 }
+        requires set_aside { self.old.set_aside ≡ 28 }
         requires next { is_some (turn_of changes
             (least_holder self.old.claims.drain self.old.claims.claims) answer.now
             (numbers_of stage.now) stage.now.drain event.now) ≡ true }
@@ -129,7 +128,7 @@ impl Engine {
         let next = next_stage(stage, answer, changes, event);
         self.drain_to(drain_of(&next));
         if next.is_none() {
-            self.let_go_held();
+            self.give_back_aside();
         }
         next
     }

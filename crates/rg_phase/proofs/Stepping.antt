@@ -1,9 +1,10 @@
 -- Which events of a step are the next one.
-use Rattle.std.proofs.Common.{◌≡◌, ℕ, Bool, true, false, Option, Some, if◌then◌else◌, refl, subst}
+use Rattle.std.proofs.Common.{◌≡◌, ◌+◌, nat_le, nat_lt, ℕ, Bool, true, false, Option, Some, None, if◌then◌else◌, refl, subst}
 use Rattle.std.specs.Option.{is_some}
 use Rattle.rg_base.specs.declared.control.Answer.{Answer}
 use Rattle.rg_base.specs.declared.options.DrainFor.{DrainFor}
 use Rattle.rg_base.specs.declared.options.DrainState.{DrainState}
+use Rattle.rg_base.specs.declared.options.Options.{Options}
 use Rattle.rg_base.specs.declared.session.Session.{Session}
 use Rattle.rg_base.specs.declared.step.Step.{Step}
 use Rattle.rg_base.specs.declared.step.Step.TheVariants as steps
@@ -13,7 +14,7 @@ use Rattle.rg_base.specs.declared.verdict.StopReason.TheVariants as reasons
 use Rattle.rg_model.specs.Same.{same_reason}
 use Rattle.rg_model.specs.State.{Utility}
 use Rattle.rg_model.specs.Turn.{Stops, alter, early_stop, end_turn, is_term, step_of, term_turn, turn_at, turn_of, wait_turn}
-use Rattle.rg_model.specs.Verdict.{drain_verdict}
+use Rattle.rg_model.specs.Verdict.{drain_verdict, is_late, retry_verdict, wait_verdict}
 use Rattle.rg_stage.specs.Events.{drain_event}
 use Rattle.rg_stmt.specs.declared.event.Event.{Event}
 use Rattle.rg_stmt.specs.declared.event.Event.TheVariants as events
@@ -44,11 +45,19 @@ stops_at steps.Switch all blocker answer u d = refl
 stops_at steps.End all blocker answer u d = refl
 
 -- whatever becomes of the drain is booked
-pub drain_booked : (asked : DrainFor) (failed : ℕ) (verdict : DrainVerdict) → is_booked (drain_event asked failed verdict) ≡ true
-drain_booked asked failed (waits.Wait session) = refl
-drain_booked asked failed waits.Granted = refl
-drain_booked asked failed waits.GiveUp = refl
-drain_booked asked failed (waits.Stop reason) = refl
+by_test : (what : DrainFor) (failed : ℕ) (b : Bool) (one other : DrainVerdict) → is_booked (drain_event what failed one) ≡ true → is_booked (drain_event what failed other) ≡ true → is_booked (drain_event what failed (if b then one else other)) ≡ true
+by_test what failed true one other y n = y
+by_test what failed false one other y n = n
+
+wait_booked : (options : Options) (what : DrainFor) (asked failed : ℕ) (blocker : Option Session) (now : ℕ) → is_booked (drain_event what failed (wait_verdict options asked failed blocker now)) ≡ true
+wait_booked options what asked failed None now = refl
+wait_booked options what asked failed (Some session) now =
+    by_test what failed (nat_le (asked + options.wait) now) (retry_verdict options failed) (waits.Wait session)
+    (by_test what failed (nat_lt options.retry (failed + 1)) (waits.Stop reasons.Drain) waits.GiveUp refl refl) refl
+
+pub drain_booked : (options : Options) (what : DrainFor) (asked failed : ℕ) (blocker : Option Session) (now estimate : ℕ) → is_booked (drain_event what failed (drain_verdict options asked failed blocker now estimate)) ≡ true
+drain_booked options what asked failed blocker now estimate =
+    by_test what failed (is_late options.deadline now estimate) (waits.Stop reasons.Deadline) (wait_verdict options asked failed blocker now) refl (wait_booked options what asked failed blocker now)
 
 -- the step of a utility that has not switched and is not ended by the operator
 pub turn_is : (all : ℕ) (blocker : Option Session) (answer : Answer) (u v : Utility) (d : DrainState) (event : Event) → u.switched ≡ false → is_term answer.command ≡ false → v ≡ alter u answer.command

@@ -1,9 +1,9 @@
 -- A step of a desk, put together from its calls.
-use Rattle.std.proofs.Common.{◌≡◌, ◌+◌, ℕ, Bool, true, false, Option, Some, None, refl, sym, ◌∙◌, ap, subst}
+use Rattle.std.proofs.Common.{◌≡◌, ◌+◌, ℕ, Bool, true, false, Option, Some, None, sym, ◌∙◌, ap, subst}
 use Rattle.std.specs.Option.{is_some}
 use Rattle.rg_base.specs.declared.control.Answer.{Answer}
 use Rattle.rg_base.specs.declared.session.Session.{Session}
-use Rattle.rg_desk.specs.Desk.{DeskState, IsNext}
+use Rattle.rg_desk.specs.Desk.{DeskState, IsNextStep}
 use Rattle.rg_fold.specs.declared.item.Stage.{Stage}
 use Rattle.rg_model.specs.Turn.{Turn, turn_of}
 use Rattle.rg_stage.specs.Bounded.{KeepsBounds}
@@ -11,8 +11,9 @@ use Rattle.rg_stage.specs.Followed.{Followed}
 use Rattle.rg_stage.specs.NumbersOf.{numbers_of}
 use Rattle.rg_stmt.specs.declared.event.Event.{Event}
 use Rattle.rg_stmt.specs.declared.event.Event.TheVariants as events
-use Rattle.rg_tending.specs.Tending.{IsWithin, NextBy, is_booked}
+use Rattle.rg_tending.specs.Tending.{IsEarlyStage, NextBy, is_booked}
 use Rattle.rg_tending.proofs.Early.{EarlyIf, turn_early, within_next}
+use Rattle.rg_desk.proofs.UtilityShows.{some_of}
 
 -- ---- the desk that was asked
 
@@ -31,16 +32,16 @@ same_asked {V} {O} old mid asked answer room same =
 
 -- ---- the next event
 
-pub next_down : {V O : Type 0} (desk : DeskState V O) → desk.down ≡ true → IsNext desk None events.StepDown
+pub next_down : {V O : Type 0} (desk : DeskState V O) → desk.down ≡ true → IsNextStep desk None events.StepDown
 next_down desk down = subst (λ (b : Bool). NextBy b desk.stage desk.changes desk.covered None events.StepDown) (sym down) tt
 
-pub next_idle : {V O : Type 0} (desk : DeskState V O) → desk.down ≡ false → desk.stage ≡ None → IsNext desk None events.Idle
+pub next_idle : {V O : Type 0} (desk : DeskState V O) → desk.down ≡ false → desk.stage ≡ None → IsNextStep desk None events.Idle
 next_idle desk down stage =
     subst (λ (b : Bool). NextBy b desk.stage desk.changes desk.covered None events.Idle) (sym down)
     (subst (λ (o : Option Stage). NextBy false o desk.changes desk.covered None events.Idle) (sym stage) tt)
 
 pub next_runs : {V O : Type 0} (desk : DeskState V O) (s : Stage) (all : ℕ) (holder : Option Session) (answer : Answer) (event : Event) → desk.down ≡ false → desk.stage ≡ Some s → all ≡ desk.changes → holder ≡ desk.covered
-    → is_booked event ≡ true → is_some (turn_of all holder answer (numbers_of s) s.drain event) ≡ true → IsNext desk (Some answer) event
+    → is_booked event ≡ true → is_some (turn_of all holder answer (numbers_of s) s.drain event) ≡ true → IsNextStep desk (Some answer) event
 next_runs desk s all holder answer event down stage all_is holder_is booked next =
     subst (λ (b : Bool). NextBy b desk.stage desk.changes desk.covered (Some answer) event) (sym down)
     (subst (λ (o : Option Stage). NextBy false o desk.changes desk.covered (Some answer) event) (sym stage) (
@@ -51,15 +52,11 @@ next_runs desk s all holder answer event down stage all_is holder_is booked next
 
 -- ---- the numbers after it
 
-some_turn : (o : Option Turn) → is_some o ≡ true → (turn : Turn) × (o ≡ Some turn)
-some_turn None e = absurd (cc (e))
-some_turn (Some turn) e = (turn, refl)
-
-pub stays_within : (all entries n : ℕ) (s t : Stage) (answer : Answer) (holder : Option Session) (event : Event) (next : Option Stage) → IsWithin all entries (Some s) → is_booked event ≡ true
+pub stays_within : (all entries n : ℕ) (s t : Stage) (answer : Answer) (holder : Option Session) (event : Event) (next : Option Stage) → IsEarlyStage all entries (Some s) → is_booked event ≡ true
     → is_some (turn_of all holder answer (numbers_of s) s.drain event) ≡ true → ((covered : Option Session) (turn : Turn) → turn_of all covered answer (numbers_of s) s.drain event ≡ Some turn → Followed turn next)
-    → KeepsBounds all s next → next ≡ Some t → n ≡ entries + 1 → IsWithin all n (Some t)
+    → KeepsBounds all s next → next ≡ Some t → n ≡ entries + 1 → IsEarlyStage all n (Some t)
 stays_within all entries n s t answer holder event next within booked is followed bounded next_is n_is =
-    let has = some_turn _ is in
+    let has = some_of _ is in
     let early = subst EarlyIf has.1 (turn_early (numbers_of s) (within.1, within.2) all holder answer s.drain event booked) in
-    subst (λ (k : ℕ). IsWithin all k (Some t)) (sym n_is)
-    (subst (IsWithin all (entries + 1)) next_is (within_next all entries s has.0 next within bounded early (followed holder has.0 has.1)))
+    subst (λ (k : ℕ). IsEarlyStage all k (Some t)) (sym n_is)
+    (subst (IsEarlyStage all (entries + 1)) next_is (within_next all entries s has.0 next within bounded early (followed holder has.0 has.1)))

@@ -1,6 +1,6 @@
 // A utility's steps on a table without pages, up to the new copy's writing.
 ghost use Rattle.std.specs.Prelude.{◌≡◌, Some};
-ghost use Rattle.rg_tending.specs.Tending.{IsWithin};
+ghost use Rattle.rg_tending.specs.Tending.{IsEarlyStage};
 
 use crate::next::next_event;
 use rg_base::control::{Answer, Command, Deadline, Longlog, Maxro};
@@ -21,7 +21,7 @@ struct Run {
     over: bool,
     all: u64,
     entries: u64,
-    ghost within: { IsWithin all entries (Some stage) },
+    ghost within: { IsEarlyStage all entries (Some stage) },
 }
 
 impl Run {

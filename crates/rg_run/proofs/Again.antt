@@ -1,5 +1,6 @@
 -- The table is opened again, and a run ends.
 use Rattle.std.proofs.Common.{◌≡◌, ◌==◌, ◌||◌, ◌&&◌, ◌-◌, ◌≤◌, ◌+◌, ◌⊎◌, inl, inr, ℕ, Bool, true, false, List, [], ◌∷◌, ◌++◌, Option, Some, None, length, refl, sym, ◌∙◌, ap, subst, arith, append_assoc, append-nil}
+use Rattle.rg_base.specs.declared.control.Answer.{Answer}
 use Rattle.std.specs.List.{Contains}
 use Rattle.rg_desk.specs.Chronicle.{IsRecorded}
 use Rattle.rg_desk.specs.Desk.{DeskState, EndsDown, EndsIn, EndsWithRows, LeavesTable, LegalFrom, old_records}
@@ -36,12 +37,14 @@ use Rattle.rg_sound.specs.Sound.{IsSound}
 use Rattle.rg_stmt.specs.declared.event.Entry.{Entry}
 use Rattle.rg_stmt.specs.declared.line.Line.{Line}
 use Rattle.rg_stmt.specs.declared.line.Line.TheVariants.{Death}
+use Rattle.rg_run.specs.Asked.{HasAnswered, answers_in}
 use Rattle.rg_run.specs.Full.{smaller_pages}
 use Rattle.rg_run.specs.Outside.{WritesOwn, end_of}
 use Rattle.rg_run.specs.Parts.{Came, DiesIn, EndsUp, Follows, Going, IfTidy, IsAlive, IsFailed, IsRun, IsUndamaged, LastPart, LeavesRun, Made, PartRun, RunEnds, RunsFrom, StaysSound}
 use Rattle.rg_run.specs.Played.{Goes, TraceOf}
 use Rattle.rg_run.specs.declared.played.RunEnd.{RunEnd}
 use Rattle.rg_run.specs.declared.played.RunEnd.TheVariants as ends
+use Rattle.rg_run.proofs.Asking.{answered_all}
 use Rattle.rg_run.proofs.Fullness.{smaller_least}
 use Rattle.rg_run.proofs.Going.{made_now, made_on, same_table, was_tidy, whole_run}
 use Rattle.rg_run.proofs.Joins.{own_quiet}
@@ -50,7 +53,7 @@ use Rattle.rg_run.proofs.Openings.{all_join}
 use Rattle.rg_run.proofs.Plays.{goes_opened, rose_earlier}
 
 -- one line more is played since the last opening
-pub going_on : {V O : Type 0} (look : V → VolumeSeen) (first old new : DeskState V O) (lines : List Line) (line : Line) → IsAlive line → ((base : DeskState V O) (back : List Line) → Goes look base back old → Goes look base (back ++ line ∷ []) new) → Going look first lines old → Going look first (lines ++ line ∷ []) new
+pub going_on : {V O : Type 0} {answers : O → Option (List Answer)} (look : V → VolumeSeen) (first old new : DeskState V O) (lines : List Line) (line : Line) → IsAlive line → ((base : DeskState V O) (back : List Line) → Goes look answers base back old → Goes look answers base (back ++ line ∷ []) new) → Going look answers first lines old → Going look answers first (lines ++ line ∷ []) new
 going_on look first old new lines line alive step going = record {
   base = going.base;
   back = going.back ++ line ∷ [];
@@ -101,7 +104,7 @@ quiet_sound capacities (Some before) (Some after) n end made has sound undamaged
     (calls_each (IsSoundTidy capacities) IsQuiet (Some before) (Some after) (quiet_turns (IsSoundTidy capacities)) (sound (was_tidy IsQuiet capacities before after n made has tidy)) made) in
     record { images = images; undamaged = undamaged (images (read_of after.first after.calls) (read_image after)).sound }
 
-module _ {V O : Type 0} (look : V → VolumeSeen) (first desk : DeskState V O) (lines : List Line) (going : Going look first lines desk) where
+module _ {V O : Type 0} {answers : O → Option (List Answer)} (look : V → VolumeSeen) (first desk : DeskState V O) (lines : List Line) (going : Going look answers first lines desk) where
   abbrev now : VolumeSeen
   now = look desk.volume
 
@@ -119,6 +122,13 @@ module _ {V O : Type 0} (look : V → VolumeSeen) (first desk : DeskState V O) (
       let same : trace ≡ going.base.older ++ desk.trace = is ∙ ap (λ (older : List Entry). older ++ desk.trace) older_same in
       subst (λ (es : List Entry). Made look first lines es now) (sym same)
       (made_now look first desk lines going left.legal left.count (subst (λ (es : List Entry). IsRecorded es left.count) same left.recorded) left.last left.part)
+
+  -- what the operator has answered
+  asked_left : (trace : List Entry) (operator : O) → trace ≡ all → operator ≡ desk.operator → HasAnswered (answers first.operator) (answers_in trace) (answers operator)
+  asked_left trace operator is operator_is =
+      subst (λ (o : O). HasAnswered (answers first.operator) (answers_in trace) (answers o)) (sym operator_is)
+      (answered_all (answers first.operator) (answers going.base.operator) (answers desk.operator) going.base.older desk.trace trace
+      (is ∙ ap (λ (older : List Entry). older ++ desk.trace) older_same) going.asked going.goes.asked)
 
   -- the last part
   last_part : (down : Bool) (last : State) → EndsIn (old_records desk) desk.copy desk.trace down last → LastPart (old_records first) now lines all down last
@@ -154,9 +164,6 @@ module _ {V O : Type 0} (look : V → VolumeSeen) (first desk : DeskState V O) (
 
   -- a run that goes on no further
   module _ (trace : List Entry) (is : trace ≡ all) (left : LeavesRun desk trace) (sound : LeavesSoundIfTidy now) (seen : VolumeSeen) (seen_is : seen ≡ now) (operator : O) (operator_is : operator ≡ desk.operator) where
-    asked : operator ≡ first.operator
-    asked = operator_is ∙ going.goes.stays.operator ∙ going.asked
-
     made_seen : Made look first lines trace seen
     made_seen = subst (Made look first lines trace) (sym seen_is) (made_left trace is left)
 
@@ -165,10 +172,10 @@ module _ {V O : Type 0} (look : V → VolumeSeen) (first desk : DeskState V O) (
         told_weaken (λ t. WasAllTidy seen.capacities t → EachImage (IsSoundTidy seen.capacities) t) (λ t. WasAllTidy seen.capacities t → StaysSound seen.capacities t end) seen.told (λ t is tidy. record { images = is tidy; undamaged = none })
         (subst LeavesSoundIfTidy (sym seen_is) sound)
 
-    pub ends_wanting : (rest : List Line) → IsRun look first (lines ++ rest) seen operator trace ends.NoMemory
-    ends_wanting rest = record { front = lines; rest = rest; joined = refl; made = made_seen; ends = tt; failed = λ none. absurd none; sound = stays ends.NoMemory tt; asked = asked }
+    pub ends_wanting : (rest : List Line) → IsRun look answers first (lines ++ rest) seen operator trace ends.NoMemory
+    ends_wanting rest = record { front = lines; rest = rest; joined = refl; made = made_seen; ends = tt; failed = λ none. absurd none; sound = stays ends.NoMemory tt; asked = asked_left trace operator is operator_is }
 
-    pub ends_down : desk.down ≡ true → EndsDown (old_records desk) desk.copy desk.trace → IsRun look first lines seen operator trace ends.Down
+    pub ends_down : desk.down ≡ true → EndsDown (old_records desk) desk.copy desk.trace → IsRun look answers first lines seen operator trace ends.Down
     ends_down down end = record {
       front = lines;
       rest = [];
@@ -182,7 +189,7 @@ module _ {V O : Type 0} (look : V → VolumeSeen) (first desk : DeskState V O) (
       );
       failed = λ so. subst (λ (v : VolumeSeen). Rose (look first.volume).faults v.faults) (sym seen_is) (by_came going.came);
       sound = stays ends.Down tt;
-      asked = asked;
+      asked = asked_left trace operator is operator_is;
     }
       where
         rose : Rose (look going.base.volume).faults now.faults
@@ -192,7 +199,7 @@ module _ {V O : Type 0} (look : V → VolumeSeen) (first desk : DeskState V O) (
         by_came (inl came) = subst (λ (b : DeskState V O). Rose (look b.volume).faults now.faults) came.0 rose
         by_came (inr again) = rose_earlier (look first.volume).faults (look going.base.volume).faults now.faults again.made.later rose
 
-    pub ends_up : (rows : ℕ) → EndsWithRows (old_records desk) desk.copy desk.ground.log.pages now desk.trace rows → IsRun look first lines seen operator trace (ends.Whole rows)
+    pub ends_up : (rows : ℕ) → EndsWithRows (old_records desk) desk.copy desk.ground.log.pages now desk.trace rows → IsRun look answers first lines seen operator trace (ends.Whole rows)
     ends_up rows end = record {
       front = lines;
       rest = [];
@@ -212,7 +219,7 @@ module _ {V O : Type 0} (look : V → VolumeSeen) (first desk : DeskState V O) (
       );
       failed = λ none. absurd none;
       sound = stays (ends.Whole rows) tt;
-      asked = asked;
+      asked = asked_left trace operator is operator_is;
     }
 
   -- ---- after a death
@@ -232,7 +239,7 @@ module _ {V O : Type 0} (look : V → VolumeSeen) (first desk : DeskState V O) (
     made_quiet later quiet le same =
         made_on look first lines all now later made_all count has (calls_weaken IsQuiet (WritesOwn all) now.told later.told (own_quiet all) quiet) le same
 
-    pub refused_again : (later : VolumeSeen) (cause : OpenCause) (operator : O) (trace : List Entry) (rest : List Line) → operator ≡ desk.operator → trace ≡ all → LeavesSoundIfTidy now → IsRefused now later cause → IsRun look first (lines ++ Death ∷ rest) later operator trace (end_of cause)
+    pub refused_again : (later : VolumeSeen) (cause : OpenCause) (operator : O) (trace : List Entry) (rest : List Line) → operator ≡ desk.operator → trace ≡ all → LeavesSoundIfTidy now → IsRefused now later cause → IsRun look answers first (lines ++ Death ∷ rest) later operator trace (end_of cause)
     refused_again later cause operator trace rest operator_is is sound refused = record {
       front = lines;
       rest = Death ∷ rest;
@@ -244,7 +251,7 @@ module _ {V O : Type 0} (look : V → VolumeSeen) (first desk : DeskState V O) (
           subst (λ (c : Capacities). IfTold later.told (λ t. WasAllTidy c t → StaysSound c t (end_of cause))) (sym refused.calls.capacities)
           (quiet_sound now.capacities now.told later.told count (end_of cause) refused.calls.only has sound
           (subst (λ (c : Capacities). IfTold later.told (λ t. IsSound c (read_of t.first t.calls) → IsUndamaged (end_of cause))) refused.calls.capacities (undamaged cause refused.because)));
-      asked = operator_is ∙ going.goes.stays.operator ∙ going.asked;
+      asked = asked_left trace operator is operator_is;
     }
       where
         made : Made look first lines trace later
@@ -323,7 +330,7 @@ module _ {V O : Type 0} (look : V → VolumeSeen) (first desk : DeskState V O) (
                 };
               }
 
-      pub going_again : Going look first (lines ++ Death ∷ []) next
+      pub going_again : Going look answers first (lines ++ Death ∷ []) next
       going_again =
           let opened = opened_first look now operator next opens in
           let same = opens.calls.capacities in
@@ -332,7 +339,7 @@ module _ {V O : Type 0} (look : V → VolumeSeen) (first desk : DeskState V O) (
           record {
             base = next;
             back = [];
-            goes = goes_opened look next opened (copy_first look now operator next opens) (counted_first look now operator next opens);
+            goes = goes_opened look answers next opened (copy_first look now operator next opens) (counted_first look now operator next opens);
             opened = opened;
             copy_is = copy_first look now operator next opens;
             opening = opening_then look now operator next opens;
@@ -347,5 +354,5 @@ module _ {V O : Type 0} (look : V → VolumeSeen) (first desk : DeskState V O) (
               made = subst (λ (es : List Entry). Made look first lines es later) (sym older_is) (made_quiet later opens.calls.only opens.calls.later same);
               follows = subst (λ (es : List Entry). IfTidy later (Follows (old_records first) es next)) (sym older_is) follows;
             });
-            asked = opens.opens.asked ∙ operator_is ∙ going.goes.stays.operator ∙ going.asked;
+            asked = asked_left next.older next.operator older_is (opens.opens.asked ∙ operator_is);
           }

@@ -1,5 +1,6 @@
 -- What a run over a counted volume says of the volume below.
-use Rattle.std.proofs.Common.{◌≡◌, ◌≤◌, inr, ℕ, Bool, true, false, List, [], ◌∷◌, ◌++◌, Some, length, sym, ◌∙◌, ap, subst, append-nil}
+use Rattle.std.proofs.Common.{◌≡◌, ◌≤◌, inr, ℕ, Bool, true, false, List, [], ◌∷◌, Option, ◌++◌, Some, length, sym, ◌∙◌, ap, subst, append-nil}
+use Rattle.rg_base.specs.declared.control.Answer.{Answer}
 use Rattle.rg_desk.specs.Desk.{DeskState, LegalFrom, old_records}
 use Rattle.rg_desk.specs.OnVolume.{IsTidyVolume, WasAllTidy}
 use Rattle.rg_desk.specs.Stored.{IsStored}
@@ -54,8 +55,8 @@ module _ (old new : VolumeSeen) (n : ℕ) (rs : List Record) (le : IfTold new.to
       both_weaken (λ before t. log_at (log_pages old.capacities) before ≡ rs) (λ before t. OpensLog (log_at (log_pages old.capacities) before) trace) old.told new.told
       (λ before t same. subst (λ (xs : List Record). OpensLog xs trace) (sym same) (opens_first trace entry is opens)) read
 
-  module _ {V O : Type 0} (look : V → VolumeSeen) (first : DeskState V O) (lines : List Line) (operator : O) (trace : List Entry) (end : RunEnd) (first_is : old_records first ≡ now) (kept : new.capacities ≡ old.capacities)
-      (calls : EachCall (counted old.told 0) (counted new.told n) (WritesOwn trace)) (run : IsRun look first lines counted_seen operator trace end) where
+  module _ {V O : Type 0} {answers : O → Option (List Answer)} (look : V → VolumeSeen) (first : DeskState V O) (lines : List Line) (operator : O) (trace : List Entry) (end : RunEnd) (first_is : old_records first ≡ now) (kept : new.capacities ≡ old.capacities)
+      (calls : EachCall (counted old.told 0) (counted new.told n) (WritesOwn trace)) (run : IsRun look answers first lines counted_seen operator trace end) where
     -- where the volume read tidy when the run began
     begun_tidy : (P : List Record → Type 0) → ((records : List Record) → records ≡ rs → P now → P records) → IfTidy counted_seen (P (old_records first)) → IfBegunTidy old new P
     begun_tidy P f h =

@@ -1,6 +1,8 @@
 -- What flushes tell of the calls stays so over more calls, and goes on by one entry.
 use Rattle.std.proofs.Common.{◌≡◌, ◌≤◌, ◌+◌, ◌-◌, ℕ, Bool, true, false, List, [], ◌∷◌, ◌++◌, Option, Some, None, length, drop, refl, sym, ◌∙◌, ap, subst, arith, length-append}
 use Rattle.std.proofs.Math.Seq.{drop-append-add}
+use Rattle.rg_base.specs.declared.control.Answer.{Answer}
+use Rattle.rg_base.specs.declared.options.Options.{Options}
 use Rattle.rg_base.specs.declared.position.Position.{Position}
 use Rattle.rg_desk.specs.Desk.{IsLayout}
 use Rattle.rg_desk.specs.Flushed.{FlushIs, WrotePage}
@@ -16,7 +18,7 @@ use Rattle.rg_stmt.specs.declared.event.Event.{Event}
 use Rattle.rg_stmt.specs.declared.event.Event.TheVariants as events
 use Rattle.rg_stmt.specs.declared.line.Line.{Line}
 use Rattle.rg_run.specs.Flush.{AreFlushesFrom, AreFlushesSince, IsFlushThen, WroteThen, calls_of_last, copy_after, copy_of_last}
-use Rattle.rg_run.specs.Played.{IsFlushed, IsOpenedEntry, TraceOf}
+use Rattle.rg_run.specs.Played.{IsFlushed, IsOpenedEntry, IsStartEvent, IsStepEvent, TraceOf}
 
 -- what holds of every known volume
 pub told_all : (told : Option Told) (P : Told → Type 0) → ((t : Told) → P t) → IfTold told P
@@ -37,6 +39,27 @@ layout_tells copy event is k start before calls t = tt
 pub flushed_keeps : (event : Event) → IsFlushed event → (k : ℕ) → copy_after k event ≡ k
 flushed_keeps (events.Opened opened rows pages used) is k = absurd is
 flushed_keeps event is k = refl
+
+pub start_keeps : (options : Options) (event : Event) → IsStartEvent options event → (k : ℕ) → copy_after k event ≡ k
+start_keeps options (events.Opened opened rows pages used) is k = absurd is
+start_keeps options event is k = refl
+
+pub start_tells : (options : Options) (event : Event) → IsStartEvent options event → (k start before calls : ℕ) (t : Told) → IsFlushThen k start before calls t event
+start_tells options (events.Flush page) is k start before calls t = absurd is
+start_tells options events.Clean is k start before calls t = absurd is
+start_tells options event is k start before calls t = tt
+
+pub step_keeps : (answer : Option Answer) (event : Event) → IsStepEvent answer event → (k : ℕ) → copy_after k event ≡ k
+step_keeps None (events.Opened opened rows pages used) is k = absurd is
+step_keeps (Some answer) (events.Opened opened rows pages used) is k = absurd (cc (is))
+step_keeps answer event is k = refl
+
+pub step_tells : (answer : Option Answer) (event : Event) → IsStepEvent answer event → (k start before calls : ℕ) (t : Told) → IsFlushThen k start before calls t event
+step_tells None (events.Flush page) is k start before calls t = absurd is
+step_tells (Some answer) (events.Flush page) is k start before calls t = absurd (cc (is))
+step_tells None events.Clean is k start before calls t = absurd is
+step_tells (Some answer) events.Clean is k start before calls t = absurd (cc (is))
+step_tells answer event is k start before calls t = tt
 
 -- ---- parts
 

@@ -1,5 +1,6 @@
 -- What a run has made so far.
 use Rattle.std.proofs.Common.{◌≡◌, ◌==◌, ◌||◌, ◌≤◌, ◌+◌, ◌*◌, inl, inr, ℕ, Bool, true, false, cond, List, [], ◌∷◌, ◌++◌, Option, Some, None, length, refl, sym, ◌∙◌, ap, subst, arith}
+use Rattle.rg_base.specs.declared.control.Answer.{Answer}
 use Rattle.std.specs.FinMap.{same_map, nat_cmp-IsAntisymmetric}
 use Rattle.std.specs.List.{AllByRecursion, Contains}
 use Rattle.std.proofs.lemmas.Bool.{eqb-true}
@@ -184,11 +185,11 @@ made_on look first lines trace now later made n has calls le same = record {
   flushes = flushes_on (WritesOwn trace) now.told later.told 0 0 trace calls made.flushes;
 }
 
-module _ {V O : Type 0} (look : V → VolumeSeen) (first desk : DeskState V O) (lines : List Line) (going : Going look first lines desk) where
+module _ {V O : Type 0} {answers : O → Option (List Answer)} (look : V → VolumeSeen) (first desk : DeskState V O) (lines : List Line) (going : Going look answers first lines desk) where
   abbrev base : DeskState V O
   base = going.base
 
-  abbrev goes : Goes look base going.back desk
+  abbrev goes : Goes look answers base going.back desk
   goes = going.goes
 
   abbrev now : VolumeSeen

@@ -1,8 +1,7 @@
 -- Parts of a trace, one after the other.
-use Rattle.std.proofs.Common.{◌≡◌, ◌==◌, ◌||◌, inl, inr, ℕ, zero, suc, Bool, true, false, List, [], ◌∷◌, ◌++◌, Option, Some, refl, sym, ◌∙◌, ap, subst, arith}
+use Rattle.std.proofs.Common.{◌≡◌, ◌==◌, ◌||◌, inl, inr, ℕ, zero, suc, Bool, true, false, List, [], ◌∷◌, ◌++◌, Some, refl, sym, ◌∙◌, ap, subst, arith}
 use Rattle.std.specs.List.{AllZip, Contains}
 use Rattle.std.proofs.lemmas.Bool.{eqb-true}
-use Rattle.rg_base.specs.declared.control.Answer.{Answer}
 use Rattle.rg_desk.specs.Chronicle.{allowed_after, logged_after}
 use Rattle.rg_desk.specs.Flushed.{WritesEither}
 use Rattle.rg_log.specs.Open.{IsQuiet}
@@ -14,13 +13,12 @@ use Rattle.rg_model.proofs.Overlay.{committed-at_rest}
 use Rattle.rg_model.proofs.RunPush.{behind}
 use Rattle.rg_newest.specs.Tidy.{set_of}
 use Rattle.rg_outside.specs.Calls.{Call}
-use Rattle.rg_stmt.specs.declared.event.Actor.{Actor}
-use Rattle.rg_stmt.specs.declared.event.Actor.TheVariants as actors
 use Rattle.rg_stmt.specs.declared.event.Entry.{Entry}
 use Rattle.rg_stmt.specs.declared.event.Event.{Event}
 use Rattle.rg_stmt.specs.declared.event.Event.TheVariants as events
 use Rattle.rg_stmt.specs.declared.line.Line.{Line}
-use Rattle.rg_stmt.specs.declared.line.Line.TheVariants.{Death, Flush, Reorg, Said, Show, Step}
+use Rattle.rg_stmt.specs.declared.line.Line.TheVariants.{Death}
+use Rattle.rg_run.proofs.Pasts.{IfRuns, SameSince, SameUnits, goes_alike, units_more, units_opened}
 use Rattle.rg_run.specs.Full.{IsFullFrom, IsFullOnlyFrom}
 use Rattle.rg_run.specs.LogFull.{IsLogFullFrom, IsLogFullOnlyFrom}
 use Rattle.rg_run.specs.Outside.{IsDeviceOnlyIf, WritesOf, WritesOwn}
@@ -110,33 +108,13 @@ own_part (e ∷ es) entry is copy same first call writes =
 
 -- ---- runs of the model
 
--- what no utility does is allowed whatever was done before
-abbrev IsFree : Actor → Type 0
-IsFree (actors.Session session) = Unit {0}
-IsFree actors.System = Unit {0}
-IsFree actors.Utility = ⊥
-
-free_of : (line : Line) (entry : Entry) → EntryOf line entry → IsFree entry.actor
-free_of (Said session stmt) entry of = subst (λ (e : Entry). IsFree e.actor) (sym of.1) tt
-free_of (Reorg options) entry of = absurd of
-free_of Step entry of = absurd of
-free_of Flush entry of = subst (λ (e : Entry). IsFree e.actor) (sym of.1) tt
-free_of Show entry of = subst (λ (e : Entry). IsFree e.actor) (sym of.2) tt
-free_of Death entry of = subst (λ (e : Entry). IsFree e.actor) (sym of.is) tt
-
-allowed_any : (past other : List Entry) (answer : Option Answer) (actor : Actor) (event : Event) (st new : State) → IsFree actor → Allows past answer actor event st new → Allows other answer actor event st new
-allowed_any past other answer actors.System (events.Opened copy rows pages used) st new free allows = allows
-allowed_any past other answer actors.System event st new free allows = allows
-allowed_any past other answer (actors.Session session) (events.Said stmt reply) st new free allows = allows
-allowed_any past other answer (actors.Session session) event st new free allows = allows
-allowed_any past other answer actors.Utility event st new free allows = absurd free
-
-run_any : (past other : List Entry) (lines : List Line) (entries : List Entry) (st new : State) → AllZip EntryOf lines entries → Run past st entries new → Run other st entries new
-run_any past other [] [] st new all run = run
-run_any past other [] (e ∷ es) st new all run = absurd all
-run_any past other (l ∷ ls) [] st new all run = absurd all
-run_any past other (l ∷ ls) (e ∷ es) st new all run =
-    (run.0, allowed_any past other e.answer e.actor e.event st run.0 (free_of l e all.0) run.1, run_any (e ∷ past) (e ∷ other) ls es run.0 new all.1 run.2)
+run_any : (past other : List Entry) (lines : List Line) (entries : List Entry) (st new : State) → SameUnits past other → IfRuns st.utility (SameSince past other) → AllZip EntryOf lines entries → Run past st entries new → Run other st entries new
+run_any past other [] [] st new units since all run = run
+run_any past other [] (e ∷ es) st new units since all run = absurd all
+run_any past other (l ∷ ls) [] st new units since all run = absurd all
+run_any past other (l ∷ ls) (e ∷ es) st new units since all run =
+    let goes = goes_alike past other st run.0 units since l e all.0 run.1 in
+    (run.0, goes.0, run_any (e ∷ past) (e ∷ other) ls es run.0 new (units_more past other e units) goes.1 all.1 run.2)
 
 run_join : (past : List Entry) (st mid new : State) (older part : List Entry) → Run past st older mid → Run (behind past older) mid part new → Run past st (older ++ part) new
 run_join past st mid new [] part run more = subst (λ (s : State). Run past s part new) run more
@@ -151,13 +129,17 @@ pub run_again : (first : Table) (begun : ℕ) (older part : List Entry) (lines :
     → Run [] (at_rest table copy) part last → Run [] (at_rest first begun) (older ++ part) last
 run_again first begun older [] lines mid last table copy before reopens of run = absurd of
 run_again first begun older (e ∷ es) lines mid last table copy before reopens of run =
-    run_join [] (at_rest first begun) mid last older (e ∷ es) before (run.0, allows, run_any (e ∷ []) (e ∷ behind [] older) lines es run.0 last of.1 run.2)
+    run_join [] (at_rest first begun) mid last older (e ∷ es) before (run.0, allows, run_any (e ∷ []) (e ∷ behind [] older) lines es run.0 last (units_opened [] (behind [] older) e is) rests of.1 run.2)
   where
     is : IsOpenedEntry e
     is = of.0
 
     opened : Reopens (at_rest table copy) is.copy is.rows run.0
     opened = subst (λ (x : Entry). Allows [] x.answer x.actor x.event (at_rest table copy) run.0) is.is run.1
+
+    -- no utility runs then
+    rests : IfRuns run.0.utility (SameSince (e ∷ []) (e ∷ behind [] older))
+    rests = subst (λ (x : State). IfRuns x.utility (SameSince (e ∷ []) (e ∷ behind [] older))) (sym opened.at_rest) tt
 
     same_copy : is.copy ≡ copy
     same_copy = eqb-true is.copy copy (by_or (is.copy == copy) opened.copy_left)

@@ -1,6 +1,8 @@
 pub mod Fullness
+pub mod Pasts
 pub mod Joins
 pub mod Flushes
+pub mod Asking
 pub mod Plays
 pub mod Going
 pub mod Opening

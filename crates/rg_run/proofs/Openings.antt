@@ -1,6 +1,8 @@
 -- What read at an opening stays as it was, and no other entry is one.
-use Rattle.std.proofs.Common.{◌≡◌, ◌≤◌, ◌+◌, ◌-◌, ℕ, List, [], ◌∷◌, ◌++◌, Option, Some, None, length, drop, sym, ◌∙◌, ap, subst, arith, length-append}
+use Rattle.std.proofs.Common.{◌≡◌, ◌≤◌, ◌+◌, ◌-◌, ℕ, List, [], ◌∷◌, ◌++◌, Option, Some, None, length, sym, ◌∙◌, ap, subst, arith, length-append}
 use Rattle.std.specs.List.{AllByRecursion, AllZip}
+use Rattle.rg_base.specs.declared.control.Answer.{Answer}
+use Rattle.rg_base.specs.declared.options.Options.{Options}
 use Rattle.rg_desk.specs.Desk.{IsLayout}
 use Rattle.rg_desk.specs.Stored.{IsStored}
 use Rattle.rg_desk.specs.Volume.{VolumeSeen}
@@ -19,7 +21,7 @@ use Rattle.rg_run.specs.Opening.{AreOpeningsSince, IfOpened, IsFoundThen, IsOpen
 use Rattle.rg_run.proofs.Flushes.{calls_then}
 use Rattle.rg_run.specs.Parts.{AreParts, IsAlive, IsFound, IsFoundBy}
 use Rattle.rg_run.specs.Parts.AreParts.{Next, One}
-use Rattle.rg_run.specs.Played.{EntryOf, IsFlushed, TraceOf, first_of}
+use Rattle.rg_run.specs.Played.{EntryOf, IsFlushed, IsStartEvent, IsStepEvent, TraceOf, first_of}
 
 -- ---- lists
 
@@ -49,10 +51,19 @@ flushed_none : (P : Type 0) (event : Event) → IsFlushed event → IfOpened P e
 flushed_none P (events.Opened k rows pages used) is = absurd is
 flushed_none P event is = tt
 
+start_none : (P : Type 0) (options : Options) (event : Event) → IsStartEvent options event → IfOpened P event
+start_none P options (events.Opened k rows pages used) is = absurd is
+start_none P options event is = tt
+
+step_none : (P : Type 0) (answer : Option Answer) (event : Event) → IsStepEvent answer event → IfOpened P event
+step_none P None (events.Opened k rows pages used) is = absurd is
+step_none P (Some answer) (events.Opened k rows pages used) is = absurd (cc (is))
+step_none P answer event is = tt
+
 entry_none : (P : Type 0) (line : Line) (entry : Entry) → EntryOf line entry → IsAlive line → IfOpened P entry.event
 entry_none P (Said session stmt) entry of alive = subst (λ (e : Entry). IfOpened P e.event) (sym of.1) tt
-entry_none P (Reorg options) entry of alive = absurd of
-entry_none P Step entry of alive = absurd of
+entry_none P (Reorg options) entry of alive = subst (λ (e : Entry). IfOpened P e.event) (sym of.1) (start_none P options of.0 of.2)
+entry_none P Step entry of alive = subst (λ (e : Entry). IfOpened P e.event) (sym of.2) (step_none P of.0 of.1 of.3)
 entry_none P Flush entry of alive = subst (λ (e : Entry). IfOpened P e.event) (sym of.1) (flushed_none P of.0 of.2)
 entry_none P Show entry of alive = subst (λ (e : Entry). IfOpened P e.event) (sym of.2) (layout_none P of.0 of.1 of.3)
 entry_none P Death entry of alive = absurd alive

@@ -1,5 +1,6 @@
 -- A run over a counted volume, and the same of the volume below.
 use Rattle.std.proofs.Common.{◌≡◌, ◌≤◌, ◌+◌, ◌-◌, ◌*◌, inl, ℕ, List, [], ◌∷◌, Option, None, Some, length, drop, refl, sym, ◌∙◌, ap, subst, arith}
+use Rattle.rg_base.specs.declared.control.Answer.{Answer}
 use Rattle.rg_desk.specs.Desk.{DeskState, old_records}
 use Rattle.rg_desk.specs.OnVolume.{GoesOnTidy, IsSoundTidy, IsTidyVolume, WasAllTidy}
 use Rattle.rg_desk.specs.Chronicle.{IsRecorded}
@@ -32,6 +33,8 @@ use Rattle.rg_run.specs.declared.played.RunEnd.{RunEnd}
 use Rattle.rg_run.proofs.Again.{count_has}
 use Rattle.rg_run.proofs.Between.{both_weaken, read_out, since_out, sound_out}
 use Rattle.rg_run.proofs.Flushes.{recounted}
+use Rattle.rg_run.specs.Asked.{HasAnswered, answers_in}
+use Rattle.rg_run.proofs.Asking.{unasked}
 use Rattle.rg_run.proofs.Ending.{end_out, ends_out, legal_out, opening_out}
 use Rattle.rg_run.proofs.Fullness.{smaller_least}
 use Rattle.rg_run.proofs.Joins.{own_quiet}
@@ -151,7 +154,7 @@ module _ {V : Type 0} (told : V → Option Told) (faults : V → ℕ) (capacitie
       seen_is : look ended ≡ counted_seen
       seen_is = ap (λ (v : V). let s : VolumeSeen = record { told = counted (told v) ended.calls; faults = faults v; capacities = capacities v } in s) (sym ends)
 
-      module _ (lines : List Line) (operator_left : O) (trace : List Entry) (end : RunEnd) (run : IsRun look desk lines (look ended) operator_left trace end) where
+      module _ {answers : O → Option (List Answer)} (lines : List Line) (operator_left : O) (trace : List Entry) (end : RunEnd) (run : IsRun look answers desk lines (look ended) operator_left trace end) where
         made : EachCall (counted old.told 0) (counted new.told ended.calls) (WritesOwn trace)
         made =
             counted_calls told (WritesOwn trace) volume below begun ended begins ends
@@ -168,8 +171,8 @@ module _ {V : Type 0} (told : V → Option Told) (faults : V → ℕ) (capacitie
         kept : new.capacities ≡ old.capacities
         kept = ap capacities ends ∙ run.made.capacities ∙ opens.calls.capacities ∙ begun_capacities
 
-        run_seen : IsRun look desk lines counted_seen operator_left trace end
-        run_seen = subst (λ (v : VolumeSeen). IsRun look desk lines v operator_left trace end) seen_is run
+        run_seen : IsRun look answers desk lines counted_seen operator_left trace end
+        run_seen = subst (λ (v : VolumeSeen). IsRun look answers desk lines v operator_left trace end) seen_is run
 
         now_same : (k : ℕ) → stored opens.now.records k ≡ stored opens.log.records k
         now_same = stores_first look (look begun) operator desk opens
@@ -212,8 +215,8 @@ module _ {V : Type 0} (told : V → Option Told) (faults : V → ℕ) (capacitie
         }
 
   -- the desk of the first opening
-  pub going_first : (begun : CountedCalls V) {O : Type 0} (operator : O) (desk : DeskState (CountedCalls V) O) → OpensStored look (look begun) operator desk → desk.older ≡ [] → Going look desk [] desk
-  going_first begun operator desk opens none =
+  pub going_first : (begun : CountedCalls V) {O : Type 0} (answers : O → Option (List Answer)) (operator : O) (desk : DeskState (CountedCalls V) O) → OpensStored look (look begun) operator desk → desk.older ≡ [] → Going look answers desk [] desk
+  going_first begun answers operator desk opens none =
       let opened = opened_first look (look begun) operator desk opens in
       let same = opens.calls.capacities in
       let capacity = opens.opens.capacity_is in
@@ -221,7 +224,7 @@ module _ {V : Type 0} (told : V → Option Told) (faults : V → ℕ) (capacitie
       record {
         base = desk;
         back = [];
-        goes = goes_opened look desk opened (copy_first look (look begun) operator desk opens) (counted_first look (look begun) operator desk opens);
+        goes = goes_opened look answers desk opened (copy_first look (look begun) operator desk opens) (counted_first look (look begun) operator desk opens);
         opened = opened;
         copy_is = copy_first look (look begun) operator desk opens;
         opening = opening_then look (look begun) operator desk opens;
@@ -231,5 +234,5 @@ module _ {V : Type 0} (told : V → Option Told) (faults : V → ℕ) (capacitie
         room = omega (arith, capacity, least, ap smaller_pages same);
         log_room = pages_first look (look begun) operator desk opens ∙ ap log_pages (sym same);
         came = inl (refl, none, refl);
-        asked = refl;
+        asked = subst (λ (es : List Entry). HasAnswered (answers desk.operator) (answers_in es) (answers desk.operator)) (sym none) (unasked (answers desk.operator));
       }

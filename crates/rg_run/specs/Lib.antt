@@ -1,3 +1,4 @@
+pub mod Asked
 pub mod Flush
 pub mod Full
 pub mod LogFull

@@ -9,6 +9,7 @@
 --    so many can be counted.
 use Rattle.std.specs.Prelude.{◌≡◌, ◌⊎◌, ◌<◌, ◌-◌, ◌^◌, ◌++◌, ℕ, List, [], ◌∷◌, Option, Some, length}
 use Rattle.std.specs.List.{AllByRecursion}
+use Rattle.rg_base.specs.declared.verdict.StopReason.TheVariants as reasons
 use Rattle.rg_desk.specs.Flushed.{WritesEither}
 use Rattle.rg_desk.specs.OnVolume.{IsTidyVolume}
 use Rattle.rg_desk.specs.Volume.{VolumeSeen}
@@ -26,13 +27,14 @@ use Rattle.rg_run.specs.declared.played.RunEnd.{RunEnd}
 use Rattle.rg_run.specs.declared.played.RunEnd.TheVariants.{Whole, Down, Damaged, DeviceAtOpening, NoMemory}
 use Rattle.rg_stmt.specs.declared.event.Entry.{Entry}
 use Rattle.rg_stmt.specs.declared.event.Event.{Event}
-use Rattle.rg_stmt.specs.declared.event.Event.TheVariants.{FlushDevice, Opened, Said}
+use Rattle.rg_stmt.specs.declared.event.Event.TheVariants.{FlushDevice, Opened, Said, Stop}
 use Rattle.rg_stmt.specs.declared.stmt.Reply.TheVariants.{Device}
 
 -- the event is no DEVICE, or this holds
 abbrev pub IsDeviceIf : Type 0 → Event → Type 0
 IsDeviceIf P (Said stmt Device) = P
 IsDeviceIf P FlushDevice = P
+IsDeviceIf P (Stop reasons.Device) = P
 IsDeviceIf P event = Unit {0}
 
 -- DEVICE is answered only if this holds

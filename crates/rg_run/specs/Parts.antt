@@ -5,8 +5,9 @@
 --    one from the table that it stored as the volume read at the opening of the part.
 -- 3. Where the volume is known and read tidy then, an opening finds what process death leaves of
 --    the part before. So the whole trace is legal from that table.
-use Rattle.std.specs.Prelude.{◌≡◌, ◌≤◌, ◌*◌, ◌⊎◌, ◌++◌, ℕ, Bool, true, false, List, [], ◌∷◌}
+use Rattle.std.specs.Prelude.{◌≡◌, ◌≤◌, ◌*◌, ◌⊎◌, ◌++◌, ℕ, Bool, true, false, List, [], ◌∷◌, Option}
 use Rattle.std.specs.List.{AllByRecursion}
+use Rattle.rg_base.specs.declared.control.Answer.{Answer}
 use Rattle.rg_desk.specs.Chronicle.{IsRecorded}
 use Rattle.rg_desk.specs.Desk.{DeskState, IsCopy, LegalFrom, old_records}
 use Rattle.rg_desk.specs.OnVolume.{IsSoundTidy, WasAllTidy}
@@ -28,6 +29,7 @@ use Rattle.rg_restart.specs.Sound.{IsDamage}
 use Rattle.rg_stmt.specs.declared.event.Entry.{Entry}
 use Rattle.rg_stmt.specs.declared.line.Line.{Line}
 use Rattle.rg_stmt.specs.declared.line.Line.TheVariants.{Death}
+use Rattle.rg_run.specs.Asked.{HasAnswered, answers_in}
 use Rattle.rg_run.specs.Flush.{AreFlushesSince}
 use Rattle.rg_run.specs.Full.{IsFullOnlyFrom, smaller_pages}
 use Rattle.rg_run.specs.LogFull.{IsLogFullOnlyFrom}
@@ -150,11 +152,11 @@ IsAlive Death = ⊥
 IsAlive line = Unit {0}
 
 -- a run of some first lines, which led to this desk
-pub record Going {V O : Type 0} (look : V → VolumeSeen) (first : DeskState V O)
-    (lines : List Line) (desk : DeskState V O) : Type 0 where
+pub record Going {V O : Type 0} (look : V → VolumeSeen) (answers : O → Option (List Answer))
+    (first : DeskState V O) (lines : List Line) (desk : DeskState V O) : Type 0 where
   pub base : DeskState V O
   pub back : List Line
-  pub goes : Goes look base back desk
+  pub goes : Goes look answers base back desk
   pub opened : IsOpened base
   pub copy_is : opened.is.copy ≡ base.copy
   pub opening :
@@ -168,7 +170,8 @@ pub record Going {V O : Type 0} (look : V → VolumeSeen) (first : DeskState V O
   pub room : smaller_pages (look base.volume).capacities ≤ base.ground.capacity
   pub log_room : base.ground.log.pages ≡ log_pages (look base.volume).capacities
   pub came : Came look first base lines back
-  pub asked : base.operator ≡ first.operator
+  pub asked :
+      HasAnswered (answers first.operator) (answers_in base.older) (answers base.operator)
 
 -- the process dies in one of these lines
 abbrev pub DiesIn : List Line → Type 0
@@ -228,8 +231,9 @@ IsFailed NoMemory = ⊥
 
 -- what a run leaves whose first desk was this one
 pub record IsRun {V O : Type 0}
-    (look : V → VolumeSeen) (first : DeskState V O) (lines : List Line) (seen : VolumeSeen)
-    (operator : O) (trace : List Entry) (end : RunEnd) : Type 0 where
+    (look : V → VolumeSeen) (answers : O → Option (List Answer)) (first : DeskState V O)
+    (lines : List Line) (seen : VolumeSeen) (operator : O) (trace : List Entry) (end : RunEnd)
+    : Type 0 where
   pub front : List Line
   pub rest : List Line
   pub joined : lines ≡ front ++ rest
@@ -238,4 +242,4 @@ pub record IsRun {V O : Type 0}
   pub failed : IsFailed end → Rose (look first.volume).faults seen.faults
   pub sound :
       IfTold seen.told (λ t. WasAllTidy seen.capacities t → StaysSound seen.capacities t end)
-  pub asked : operator ≡ first.operator
+  pub asked : HasAnswered (answers first.operator) (answers_in trace) (answers operator)

@@ -2,6 +2,8 @@
 use Rattle.std.specs.Prelude.{◌≡◌, ◌*◌, ℕ, true, false, List, [], ◌∷◌, ◌++◌, Option, Some, None}
 use Rattle.std.specs.List.{AllZip}
 use Rattle.rg_base.specs.Session.{IsSession}
+use Rattle.rg_base.specs.declared.control.Answer.{Answer}
+use Rattle.rg_base.specs.declared.options.Options.{Options}
 use Rattle.rg_stmt.specs.declared.event.Entry.{Entry}
 use Rattle.rg_stmt.specs.declared.event.Event.{Event}
 use Rattle.rg_stmt.specs.declared.event.Event.TheVariants as events
@@ -16,16 +18,18 @@ use Rattle.rg_desk.specs.Volume.{IsCount, VolumeSeen}
 use Rattle.rg_outside.specs.Faults.{Rose}
 use Rattle.rg_outside.specs.Moments.{IfTold}
 use Rattle.rg_image.specs.Rules.{limit_of}
+use Rattle.rg_tending.specs.Tending.{is_booked, utility_entry}
+use Rattle.rg_run.specs.Asked.{HasAnswered, answers_in}
 use Rattle.rg_run.specs.Flush.{AreFlushesSince, calls_of_last, copy_of_last}
 use Rattle.rg_run.specs.Full.{IsFullOnlyFrom}
 use Rattle.rg_run.specs.LogFull.{IsLogFullOnlyFrom}
 use Rattle.rg_run.specs.Outside.{IsDeviceOnlyIf}
 
--- statements, layouts, flushes and process deaths are played, and no other line is yet
+-- each line is played; the session of a statement is one that there is
 abbrev pub IsPlayed : Line → Type 0
 IsPlayed (Said session stmt) = IsSession session
-IsPlayed (Reorg options) = ⊥
-IsPlayed Step = ⊥
+IsPlayed (Reorg options) = Unit {0}
+IsPlayed Step = Unit {0}
 IsPlayed Flush = Unit {0}
 IsPlayed Show = Unit {0}
 IsPlayed Death = Unit {0}
@@ -47,9 +51,26 @@ IsFlushed events.FlushDown = Unit {0}
 IsFlushed events.FlushNoMemory = Unit {0}
 IsFlushed event = ⊥
 
+-- a utility started with these options, or it is said why none did
+abbrev pub IsStartEvent : Options → Event → Type 0
+IsStartEvent options (events.Started given copy pages) = given ≡ options
+IsStartEvent options events.Active = Unit {0}
+IsStartEvent options (events.StartLogFull need left) = Unit {0}
+IsStartEvent options events.StartDown = Unit {0}
+IsStartEvent options events.StartNoMemory = Unit {0}
+IsStartEvent options event = ⊥
+
+-- a step found no utility, or the desk down, and nobody was asked; or it is the event of a utility
+-- that runs, by the operator's answer
+abbrev pub IsStepEvent : Option Answer → Event → Type 0
+IsStepEvent None events.Idle = Unit {0}
+IsStepEvent None events.StepDown = Unit {0}
+IsStepEvent None event = ⊥
+IsStepEvent (Some answer) event = is_booked event ≡ true
+
 -- The entry of a line has its session and its statement, and a reply; or it is a layout or a flush,
--- or says that there is none; or it is that of an opening, after the process died. The operator was
--- not asked.
+-- or says that there is none; or it is that of an opening, after the process died; or it is one of
+-- the utility. The operator is asked for a step alone.
 abbrev pub EntryOf : Line → Entry → Type 0
 EntryOf (Said session stmt) entry =
     (reply : Reply) × (entry ≡ said_entry session stmt reply entry.calls)
@@ -57,8 +78,11 @@ EntryOf (Said session stmt) entry =
 EntryOf Show entry =
     (copy : ℕ) × (event : Event) × (entry ≡ system_entry event entry.calls)
     × IsLayout copy event
-EntryOf (Reorg options) entry = ⊥
-EntryOf Step entry = ⊥
+EntryOf (Reorg options) entry =
+    (event : Event) × (entry ≡ utility_entry event None entry.calls) × IsStartEvent options event
+EntryOf Step entry =
+    (answer : Option Answer) × (event : Event)
+    × (entry ≡ utility_entry event answer entry.calls) × IsStepEvent answer event
 EntryOf Flush entry =
     (event : Event) × (entry ≡ system_entry event entry.calls) × IsFlushed event
 EntryOf Death entry = IsOpenedEntry entry
@@ -80,8 +104,8 @@ first_of (entry ∷ entries) = Some entry
 
 -- the lines so far since a desk was opened
 pub record Goes {V O : Type 0}
-    (look : V → VolumeSeen) (first : DeskState V O) (lines : List Line) (desk : DeskState V O)
-    : Type 0 where
+    (look : V → VolumeSeen) (answers : O → Option (List Answer)) (first : DeskState V O)
+    (lines : List Line) (desk : DeskState V O) : Type 0 where
   pub entries : TraceOf lines desk.trace
   pub begins : first_of desk.trace ≡ first_of first.trace
   pub full : IsFullOnlyFrom (3221 * desk.ground.capacity) 0 desk.trace
@@ -93,6 +117,8 @@ pub record Goes {V O : Type 0}
       IfTold (look desk.volume).told (λ t. AreFlushesSince t.start t desk.trace)
   pub copy_is : copy_of_last 0 desk.trace ≡ desk.copy
   pub counted : IsCount (look desk.volume) (calls_of_last 0 desk.trace)
+  pub asked :
+      HasAnswered (answers first.operator) (answers_in desk.trace) (answers desk.operator)
   pub stays : Stays look first desk
 
 -- a desk whose trace is that of its opening, and which is up

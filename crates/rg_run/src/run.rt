@@ -4,8 +4,9 @@
 // 2. Each line makes one entry, in the order of the lines. Where the process dies the volume is
 //    opened again, and the trace goes on.
 // 3. Where there is no memory for an entry, nothing of its line is done, and the run ends.
-// 4. The calls of the volume are counted from the opening on.
-ghost use Rattle.std.specs.Prelude.{◌≡◌, ◌≤◌, ◌*◌, List, [], ◌∷◌, ◌++◌, IfOk, IfErr, length};
+// 4. The operator is asked for the steps of a running utility alone.
+// 5. The calls of the volume are counted from the opening on.
+ghost use Rattle.std.specs.Prelude.{◌≡◌, ◌≤◌, ◌*◌, List, [], ◌∷◌, ◌++◌, None, IfOk, IfErr, length};
 ghost use Rattle.std.specs.List.{AllByRecursion};
 ghost use Rattle.rg_stmt.specs.declared.line.Line.{Line};
 ghost use Rattle.rg_desk.specs.Desk.{DeskState};
@@ -15,6 +16,7 @@ ghost use Rattle.rg_outside.specs.Faults.{Rose};
 ghost use Rattle.rg_outside.specs.Moments.{IfTold};
 ghost use Rattle.rg_image.specs.Rules.{limit_of};
 ghost use Rattle.rg_log.specs.Kept.{log_pages};
+ghost use Rattle.rg_run.specs.Asked.{HasAnswered, answers_in};
 ghost use Rattle.rg_run.specs.Full.{IsFullOnlyFrom, smaller_pages};
 ghost use Rattle.rg_run.specs.LogFull.{IsLogFullOnlyFrom};
 ghost use Rattle.rg_run.specs.Outside.{IsDeviceOnlyIf, IsEnd, MakesOnly, WritesOwn, end_of};
@@ -28,6 +30,7 @@ use rg_desk::desk::{Desk, OpenCause, OpenFault};
 use rg_outside::counted::{Counted, Counts};
 use rg_outside::operator::Operator;
 use rg_outside::volume::Volume;
+use rg_phase::step::step;
 use rg_restart::open::open_desk;
 use rg_stmt::line::Line;
 use std::alloc::Global;
@@ -35,8 +38,9 @@ use std::alloc::Global;
 /// Opens the volume, and plays the lines in order over the table that its log stores. The table
 /// lies in memory, in as many pages as the set of the current copy has, and no more than 65,536.
 /// The records of committed units are on the volume, and of the pages those that a flush wrote. A
-/// death of the process drops all that lies in memory, and the volume is opened again. The operator
-/// is not asked.
+/// death of the process drops all that lies in memory, and the volume is opened again. A control
+/// statement starts a utility, which each line `U` takes a step further, as long as its steps copy
+/// or write no page; it stops there, as if memory ran out.
 pub fn run<V: Volume, O: Operator>(
     alloc: Global,
     volume: V,
@@ -69,7 +73,9 @@ pub fn run<V: Volume, O: Operator>(
     ensures only { MakesOnly (WritesOwn result.trace.items) (V.told volume)
         (V.told result.volume) }
     ensures later { V.faults volume ≤ V.faults result.volume }
-    ensures operator { result.operator ≡ operator }
+    // The operator was asked for the entries that have its answer, and for no other.
+    ensures asked { HasAnswered (O.answers operator) (answers_in result.trace.items)
+        (O.answers result.operator) }
 {
     match open_desk(alloc, Counted::new(volume), operator, Vec::new(alloc), 0) {
         Ok(desk) => play(alloc, desk, lines).uncounted(),
@@ -157,12 +163,14 @@ fn reopen<V: Counts, O: Operator>(
     desk: Desk<V, O>,
 ) -> Result<Desk<V, O>, Played<V, O>>
     ensures goes { IfOk result (λ next. (first : DeskState V O) (lines : List Line)
-        → Going (seen_volume V.told V.faults V.capacities) first lines desk
-        → Going (seen_volume V.told V.faults V.capacities) first (lines ++ Line.Death ∷ []) next) }
+        → Going (seen_volume V.told V.faults V.capacities) O.answers first lines desk
+        → Going (seen_volume V.told V.faults V.capacities) O.answers first
+        (lines ++ Line.Death ∷ []) next) }
+    ensures kept { IfOk result (λ next. next.kept ≡ None) }
     ensures ends { IfErr result (λ played. (first : DeskState V O) (lines rest : List Line)
-        → Going (seen_volume V.told V.faults V.capacities) first lines desk
-        → IsRun (seen_volume V.told V.faults V.capacities) first (lines ++ Line.Death ∷ rest)
-        (seen_volume V.told V.faults V.capacities played.volume)
+        → Going (seen_volume V.told V.faults V.capacities) O.answers first lines desk
+        → IsRun (seen_volume V.told V.faults V.capacities) O.answers first
+        (lines ++ Line.Death ∷ rest) (seen_volume V.told V.faults V.capacities played.volume)
         played.operator played.trace.items played.end) }
 {
     let (volume, operator, trace, calls) = desk.into_parts();
@@ -175,8 +183,9 @@ fn reopen<V: Counts, O: Operator>(
 // Plays the lines over a table that was opened.
 fn play<V: Counts, O: Operator>(alloc: Global, desk: Desk<V, O>, lines: Vec<Line>) -> Played<V, O>
     requires lines { AllByRecursion IsPlayed lines.items }
-    requires going { Going (seen_volume V.told V.faults V.capacities) desk [] desk }
-    ensures { IsRun (seen_volume V.told V.faults V.capacities) desk lines.items
+    requires kept { desk.kept ≡ None }
+    requires going { Going (seen_volume V.told V.faults V.capacities) O.answers desk [] desk }
+    ensures { IsRun (seen_volume V.told V.faults V.capacities) O.answers desk lines.items
         (seen_volume V.told V.faults V.capacities result.volume)
         result.operator result.trace.items result.end }
 {
@@ -194,26 +203,37 @@ fn play<V: Counts, O: Operator>(alloc: Global, desk: Desk<V, O>, lines: Vec<Line
     close(desk, RunEnd::Whole { rows })
 }
 
-// Makes the entry of a line, which is a statement, a layout, a flush or the death of the process.
-// If there is no memory for the entry, nothing is done, and the run ends.
+// Makes the entry of a line. If there is no memory for the entry, nothing is done, and the run
+// ends.
 fn play_line<V: Counts, O: Operator>(
     alloc: Global,
     desk: Desk<V, O>,
     line: Line,
 ) -> Result<Desk<V, O>, Played<V, O>>
     requires line { IsPlayed line }
+    requires kept { desk.kept ≡ None }
     ensures goes { IfOk result (λ next. (first : DeskState V O) (lines : List Line)
-        → Going (seen_volume V.told V.faults V.capacities) first lines desk
-        → Going (seen_volume V.told V.faults V.capacities) first (lines ++ line ∷ []) next) }
+        → Going (seen_volume V.told V.faults V.capacities) O.answers first lines desk
+        → Going (seen_volume V.told V.faults V.capacities) O.answers first
+        (lines ++ line ∷ []) next) }
+    ensures kept { IfOk result (λ next. next.kept ≡ None) }
     ensures ends { IfErr result (λ played. (first : DeskState V O) (lines rest : List Line)
-        → Going (seen_volume V.told V.faults V.capacities) first lines desk
-        → IsRun (seen_volume V.told V.faults V.capacities) first (lines ++ line ∷ rest)
+        → Going (seen_volume V.told V.faults V.capacities) O.answers first lines desk
+        → IsRun (seen_volume V.told V.faults V.capacities) O.answers first (lines ++ line ∷ rest)
         (seen_volume V.told V.faults V.capacities played.volume)
         played.operator played.trace.items played.end) }
 {
     let mut desk = desk;
     match line {
         Line::Said { session, stmt } => match desk.exec(session, stmt) {
+            Ok(()) => Ok(desk),
+            Err(_) => Err(close(desk, RunEnd::NoMemory)),
+        },
+        Line::Reorg(options) => match desk.start(options) {
+            Ok(_) => Ok(desk),
+            Err(_) => Err(close(desk, RunEnd::NoMemory)),
+        },
+        Line::Step => match step(&mut desk) {
             Ok(()) => Ok(desk),
             Err(_) => Err(close(desk, RunEnd::NoMemory)),
         },
@@ -226,6 +246,5 @@ fn play_line<V: Counts, O: Operator>(
             Err(_) => Err(close(desk, RunEnd::NoMemory)),
         },
         Line::Death => reopen(alloc, desk),
-        Line::Reorg(_) | Line::Step => unreachable!(),
     }
 }

@@ -1,3 +1,7 @@
+// The numbers of a utility that starts.
+//
+// 1. It has copied, taken and failed nothing, and no drain is asked for it.
+// 2. It is to copy as many pages as the table has then. Pages that come later are left to the log.
 ghost use Rattle.std.specs.Prelude.{◌≡◌, ℕ, true};
 ghost use Rattle.rg_base.specs.declared.options.DrainState.TheVariants as drains;
 ghost use Rattle.rg_model.specs.Utility.{new_utility};

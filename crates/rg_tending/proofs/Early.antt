@@ -25,7 +25,7 @@ use Rattle.rg_stage.specs.Booked.{is_fall, is_switch_turn}
 use Rattle.rg_stage.specs.Followed.{Followed}
 use Rattle.rg_stmt.specs.declared.event.Event.{Event}
 use Rattle.rg_stmt.specs.declared.event.Event.TheVariants as events
-use Rattle.rg_tending.specs.Tending.{IsWithin, is_booked}
+use Rattle.rg_tending.specs.Tending.{IsEarlyStage, is_booked}
 
 -- the new copy is not written, nor switched to
 abbrev pub IsUnwritten : Utility → Type 0
@@ -186,7 +186,7 @@ early_plain Stops e = (refl, refl)
 early_plain Falls e = absurd e
 
 -- the stage that follows is within its bounds
-pub within_next : (all entries : ℕ) (s : Stage) (turn : Turn) (next : Option Stage) → IsWithin all entries (Some s) → KeepsBounds all s next → IsEarly turn → Followed turn next → IsWithin all (entries + 1) next
+pub within_next : (all entries : ℕ) (s : Stage) (turn : Turn) (next : Option Stage) → IsEarlyStage all entries (Some s) → KeepsBounds all s next → IsEarly turn → Followed turn next → IsEarlyStage all (entries + 1) next
 within_next all entries s turn None within keeps early follows = tt
 within_next all entries s (Runs v drain) (Some t) within keeps early follows = (keeps entries within.0, ap (λ (u : Utility). u.written) follows.0 ∙ early.0, ap (λ (u : Utility). u.switched) follows.0 ∙ early.1)
 within_next all entries s (Switches copy sides v) (Some t) within keeps early follows = absurd early

@@ -17,7 +17,7 @@ use Rattle.rg_stmt.specs.declared.stmt.Reply.{Reply}
 use Rattle.rg_stmt.specs.declared.stmt.Reply.TheVariants as replies
 use Rattle.rg_stmt.specs.declared.stmt.Stmt.{Stmt}
 use Rattle.rg_stmt.specs.declared.stmt.Stmt.TheVariants.{Insert, Update, Delete, Select, Scan, Find, Commit, Rollback}
-use Rattle.rg_tending.specs.Tending.{IsRefused, IsSystem, behind, is_booked}
+use Rattle.rg_tending.specs.Tending.{IsRefusedEvent, IsSystem, behind, is_booked}
 
 -- ---- the last entry
 
@@ -127,7 +127,7 @@ system_writes session event before is = absurd is
 
 -- ---- events of the utility that change nothing
 
-pub refused_is : (past : List Entry) (event : Event) (st new : State) → IsRefused event → Allows past None actors.Utility event st new → new ≡ st
+pub refused_is : (past : List Entry) (event : Event) (st new : State) → IsRefusedEvent event → Allows past None actors.Utility event st new → new ≡ st
 refused_is past events.Active st new is allows = allowed_is _ st new allows
 refused_is past (events.StartLogFull need left) st new is allows = allowed_is _ st new allows
 refused_is past events.StartDown st new is allows = allowed_is _ st new allows
@@ -155,7 +155,7 @@ pub utility_writes : (session : ℕ) (event : Event) (before : ℕ) → is_openi
 utility_writes session (events.Opened copy rows pages used) before other = absurd (cc (other))
 utility_writes session event before other = refl
 
-pub refused_plain : (event : Event) → IsRefused event → (is_start event ≡ false) × (is_opening event ≡ false)
+pub refused_plain : (event : Event) → IsRefusedEvent event → (is_start event ≡ false) × (is_opening event ≡ false)
 refused_plain events.Active is = (refl, refl)
 refused_plain (events.StartLogFull need left) is = (refl, refl)
 refused_plain events.StartDown is = (refl, refl)

@@ -25,21 +25,21 @@ use Rattle.rg_stmt.specs.declared.event.Event.TheVariants as events
 use Rattle.rg_stmt.specs.declared.stmt.Reply.{Reply}
 use Rattle.rg_stmt.specs.declared.stmt.Stmt.{Stmt}
 use Rattle.rg_tally.specs.Changed.{ChangeCount, IsCounted, no_changes, writes_at}
-use Rattle.rg_tending.specs.Tending.{IsRefused, IsSystem, IsWithin, Tends, behind, held_for, is_booked, system_entry, utility_entry}
+use Rattle.rg_tending.specs.Tending.{IsRefusedEvent, IsSystem, IsEarlyStage, Tends, behind, aside_for, is_booked, system_entry, utility_entry}
 use Rattle.rg_tending.proofs.Keeping.{allowed_is, behind_push, booked_plain, booked_step, refused_is, refused_plain, run_pop, said_keeps, system_changes, system_keeps, system_writes, utility_changes, utility_writes}
 
 length_push : (trace : List Entry) (entry : Entry) → length (trace ++ entry ∷ []) ≡ length trace + 1
 length_push trace entry = length-append trace (entry ∷ [])
 
-within_grow : (all more entries : ℕ) (stage : Option Stage) → all ≤ more → IsWithin all entries stage → IsWithin more (entries + 1) stage
+within_grow : (all more entries : ℕ) (stage : Option Stage) → all ≤ more → IsEarlyStage all entries stage → IsEarlyStage more (entries + 1) stage
 within_grow all more entries None le within = tt
 within_grow all more entries (Some s) le within = (bounded-grow all more entries (entries + 1) s le (omega arith) within.0, within.1, within.2)
 
 -- ---- a statement
 
-pub tends_said : (trace : List Entry) (stage : Option Stage) (count later : ChangeCount) (held : ℕ) (session : Session) (stmt : Stmt) (reply : Reply) (calls : ℕ) → Tends trace stage count held
-    → IsCounted (said_entry session stmt reply calls ∷ behind [] trace) later → count.since ≤ later.since → Tends (trace ++ said_entry session stmt reply calls ∷ []) stage later held
-tends_said trace stage count later held session stmt reply calls tends counted le =
+pub tends_said : (trace : List Entry) (stage : Option Stage) (count later : ChangeCount) (set_aside : ℕ) (session : Session) (stmt : Stmt) (reply : Reply) (calls : ℕ) → Tends trace stage count set_aside
+    → IsCounted (said_entry session stmt reply calls ∷ behind [] trace) later → count.since ≤ later.since → Tends (trace ++ said_entry session stmt reply calls ∷ []) stage later set_aside
+tends_said trace stage count later set_aside session stmt reply calls tends counted le =
     let entry : Entry = said_entry session stmt reply calls in
     record {
       shows = λ start copy st run.
@@ -48,8 +48,8 @@ tends_said trace stage count later held session stmt reply calls tends counted l
           let was = tends.shows start copy pop.0 pop.1 in
           (keeps.0 ∙ was.0, keeps.1 ∙ was.1);
       counted = subst (λ (es : List Entry). IsCounted es later) (sym (behind_push [] trace entry)) counted;
-      within = subst (λ (n : ℕ). IsWithin later.since n stage) (sym (length_push trace entry)) (within_grow count.since later.since (length trace) stage le tends.within);
-      held_is = tends.held_is;
+      within = subst (λ (n : ℕ). IsEarlyStage later.since n stage) (sym (length_push trace entry)) (within_grow count.since later.since (length trace) stage le tends.within);
+      aside_is = tends.aside_is;
     }
 
 -- ---- an entry that counts nothing
@@ -57,34 +57,34 @@ tends_said trace stage count later held session stmt reply calls tends counted l
 counted_on : (past : List Entry) (entry : Entry) (count : ChangeCount) → changes (entry ∷ past) ≡ changes past → ((session : ℕ) → unit_writes session (entry ∷ past) ≡ unit_writes session past) → IsCounted past count → IsCounted (entry ∷ past) count
 counted_on past entry count same writes is = record { since = is.since ∙ sym same; writes = λ session low. is.writes session low ∙ sym (writes session) }
 
-plain_on : (trace : List Entry) (stage : Option Stage) (count : ChangeCount) (held : ℕ) (entry : Entry) → Tends trace stage count held
+plain_on : (trace : List Entry) (stage : Option Stage) (count : ChangeCount) (set_aside : ℕ) (entry : Entry) → Tends trace stage count set_aside
     → changes (entry ∷ behind [] trace) ≡ changes (behind [] trace) → ((session : ℕ) → unit_writes session (entry ∷ behind [] trace) ≡ unit_writes session (behind [] trace))
     → ((start : Table) (copy : ℕ) (mid st : State) → Run [] (at_rest start copy) trace mid → Allows (behind [] trace) entry.answer entry.actor entry.event mid st → (st.utility ≡ mid.utility) × (st.drain ≡ mid.drain))
-    → Tends (trace ++ entry ∷ []) stage count held
-plain_on trace stage count held entry tends same writes keeps = record {
+    → Tends (trace ++ entry ∷ []) stage count set_aside
+plain_on trace stage count set_aside entry tends same writes keeps = record {
   shows = λ start copy st run.
       let pop = run_pop [] (at_rest start copy) st trace entry run in
       let kept = keeps start copy pop.0 st pop.1 pop.2 in
       let was = tends.shows start copy pop.0 pop.1 in
       (kept.0 ∙ was.0, kept.1 ∙ was.1);
   counted = subst (λ (es : List Entry). IsCounted es count) (sym (behind_push [] trace entry)) (counted_on (behind [] trace) entry count same writes tends.counted);
-  within = subst (λ (n : ℕ). IsWithin count.since n stage) (sym (length_push trace entry)) (within_grow count.since count.since (length trace) stage (omega arith) tends.within);
-  held_is = tends.held_is;
+  within = subst (λ (n : ℕ). IsEarlyStage count.since n stage) (sym (length_push trace entry)) (within_grow count.since count.since (length trace) stage (omega arith) tends.within);
+  aside_is = tends.aside_is;
 }
 
 -- a layout or a flush
-pub tends_system : (trace : List Entry) (stage : Option Stage) (count : ChangeCount) (held : ℕ) (event : Event) (calls : ℕ) → IsSystem event → Tends trace stage count held
-    → Tends (trace ++ system_entry event calls ∷ []) stage count held
-tends_system trace stage count held event calls is tends =
+pub tends_system : (trace : List Entry) (stage : Option Stage) (count : ChangeCount) (set_aside : ℕ) (event : Event) (calls : ℕ) → IsSystem event → Tends trace stage count set_aside
+    → Tends (trace ++ system_entry event calls ∷ []) stage count set_aside
+tends_system trace stage count set_aside event calls is tends =
     let entry : Entry = system_entry event calls in
-    plain_on trace stage count held entry tends (system_changes event (behind [] trace) (changes (behind [] trace)) is) (λ session. system_writes session event (unit_writes session (behind [] trace)) is)
+    plain_on trace stage count set_aside entry tends (system_changes event (behind [] trace) (changes (behind [] trace)) is) (λ session. system_writes session event (unit_writes session (behind [] trace)) is)
     (λ start copy mid st run allows. system_keeps (behind [] trace) None event mid st is allows)
 
 -- a control statement or a step that was refused
-pub tends_refused : (trace : List Entry) (stage : Option Stage) (count : ChangeCount) (held : ℕ) (event : Event) (calls : ℕ) → IsRefused event → Tends trace stage count held → Tends (trace ++ utility_entry event None calls ∷ []) stage count held
-tends_refused trace stage count held event calls is tends =
+pub tends_refused : (trace : List Entry) (stage : Option Stage) (count : ChangeCount) (set_aside : ℕ) (event : Event) (calls : ℕ) → IsRefusedEvent event → Tends trace stage count set_aside → Tends (trace ++ utility_entry event None calls ∷ []) stage count set_aside
+tends_refused trace stage count set_aside event calls is tends =
     let plain = refused_plain event is in
-    plain_on trace stage count held (utility_entry event None calls) tends (utility_changes event (behind [] trace) (changes (behind [] trace)) plain.0) (λ session. utility_writes session event (unit_writes session (behind [] trace)) plain.1)
+    plain_on trace stage count set_aside (utility_entry event None calls) tends (utility_changes event (behind [] trace) (changes (behind [] trace)) plain.0) (λ session. utility_writes session event (unit_writes session (behind [] trace)) plain.1)
     (λ start copy mid st run allows.
     let same = refused_is (behind [] trace) event mid st is allows in
     (ap (λ (x : State). x.utility) same, ap (λ (x : State). x.drain) same))
@@ -103,14 +103,14 @@ tends_opened copy rows pages used calls = record {
       (ap (λ (x : State). x.utility) is, ap (λ (x : State). x.drain) is);
   counted = record { since = refl; writes = λ session low. none_at 256 session };
   within = tt;
-  held_is = refl;
+  aside_is = refl;
 }
 
 -- ---- the start of a utility
 
-pub tends_started : (trace : List Entry) (count : ChangeCount) (held : ℕ) (options : Options) (copy pages calls : ℕ) (s : Stage) → Tends trace None count held → numbers_of s ≡ new_utility options pages → s.drain ≡ drains.Free
+pub tends_started : (trace : List Entry) (count : ChangeCount) (set_aside : ℕ) (options : Options) (copy pages calls : ℕ) (s : Stage) → Tends trace None count set_aside → numbers_of s ≡ new_utility options pages → s.drain ≡ drains.Free
     → Tends (trace ++ utility_entry (events.Started options copy pages) None calls ∷ []) (Some s) (record count { since = 0 }) 28
-tends_started trace count held options copy pages calls s tends numbers drain =
+tends_started trace count set_aside options copy pages calls s tends numbers drain =
     let entry : Entry = utility_entry (events.Started options copy pages) None calls in
     record {
       shows = λ start first st run.
@@ -120,7 +120,7 @@ tends_started trace count held options copy pages calls s tends numbers drain =
           (ap (λ (x : State). x.utility) is ∙ ap Some (sym numbers), ap (λ (x : State). x.drain) is ∙ was.1 ∙ sym drain);
       counted = subst (λ (es : List Entry). IsCounted es (record count { since = 0 })) (sym (behind_push [] trace entry)) (record { since = refl; writes = λ session low. tends.counted.writes session low });
       within = (bounded-start 0 (length (trace ++ entry ∷ [])) options pages s numbers, ap (λ (u : Utility). u.written) numbers, ap (λ (u : Utility). u.switched) numbers);
-      held_is = refl;
+      aside_is = refl;
     }
 
 -- ---- a step
@@ -156,10 +156,10 @@ stepped past answer event mid st u e = go mid.down e
     go true e = absurd (cc (e))
     go false e = e
 
-pub tends_booked : (trace : List Entry) (s : Stage) (count : ChangeCount) (held : ℕ) (answer : Answer) (event : Event) (calls : ℕ) (next : Option Stage) → Tends trace (Some s) count held → is_booked event ≡ true
-    → ((covered : Option Session) (turn : Turn) → turn_of count.since covered answer (numbers_of s) s.drain event ≡ Some turn → Followed turn next) → IsWithin count.since (length trace + 1) next
-    → Tends (trace ++ utility_entry event (Some answer) calls ∷ []) next count (held_for next)
-tends_booked trace s count held answer event calls next tends is follows within =
+pub tends_booked : (trace : List Entry) (s : Stage) (count : ChangeCount) (set_aside : ℕ) (answer : Answer) (event : Event) (calls : ℕ) (next : Option Stage) → Tends trace (Some s) count set_aside → is_booked event ≡ true
+    → ((covered : Option Session) (turn : Turn) → turn_of count.since covered answer (numbers_of s) s.drain event ≡ Some turn → Followed turn next) → IsEarlyStage count.since (length trace + 1) next
+    → Tends (trace ++ utility_entry event (Some answer) calls ∷ []) next count (aside_for next)
+tends_booked trace s count set_aside answer event calls next tends is follows within =
     let entry : Entry = utility_entry event (Some answer) calls in
     let past : List Entry = behind [] trace in
     let plain = booked_plain event is in
@@ -178,6 +178,6 @@ tends_booked trace s count held answer event calls next tends is follows within 
           ∙ ap (λ (d : DrainState). turn_of (changes past) (least_holder (pop.0).drain (pop.0).claims) answer (numbers_of s) d event) (sym was.1) ∙ e));
       counted = subst (λ (es : List Entry). IsCounted es count) (sym (behind_push [] trace entry))
           (counted_on past entry count (utility_changes event past (changes past) plain.0) (λ session. utility_writes session event (unit_writes session past) plain.1) tends.counted);
-      within = subst (λ (n : ℕ). IsWithin count.since n next) (sym (length_push trace entry)) within;
-      held_is = refl;
+      within = subst (λ (n : ℕ). IsEarlyStage count.since n next) (sym (length_push trace entry)) within;
+      aside_is = refl;
     }

@@ -27,29 +27,29 @@ use Rattle.rg_stmt.specs.declared.event.Event.TheVariants.{Started}
 use Rattle.rg_stmt.specs.declared.stmt.Reply.{Reply}
 use Rattle.rg_stmt.specs.declared.stmt.Stmt.{Stmt}
 use Rattle.rg_tally.specs.Changed.{ChangeCount, IsCounted, no_changes}
-use Rattle.rg_tending.specs.Tending.{IsRefused, IsSystem, IsWithin, MayDrain, Tends, behind}
-use Rattle.rg_tending.specs.Tending.{held_for, is_booked, system_entry, utility_entry}
+use Rattle.rg_tending.specs.Tending.{IsEarlyStage, IsRefusedEvent, IsSystem, MayDrain, Tends, behind}
+use Rattle.rg_tending.specs.Tending.{aside_for, is_booked, system_entry, utility_entry}
 
 abbrev pub SaidTends : Type 0
 SaidTends =
-    (trace : List Entry) (stage : Option Stage) (count later : ChangeCount) (held : ℕ)
+    (trace : List Entry) (stage : Option Stage) (count later : ChangeCount) (set_aside : ℕ)
     (session : Session) (stmt : Stmt) (reply : Reply) (calls : ℕ)
-    → Tends trace stage count held
+    → Tends trace stage count set_aside
     → IsCounted (said_entry session stmt reply calls ∷ behind [] trace) later
     → count.since ≤ later.since
-    → Tends (trace ++ said_entry session stmt reply calls ∷ []) stage later held
+    → Tends (trace ++ said_entry session stmt reply calls ∷ []) stage later set_aside
 
 abbrev pub SystemTends : Type 0
 SystemTends =
-    (trace : List Entry) (stage : Option Stage) (count : ChangeCount) (held : ℕ) (event : Event)
-    (calls : ℕ) → IsSystem event → Tends trace stage count held
-    → Tends (trace ++ system_entry event calls ∷ []) stage count held
+    (trace : List Entry) (stage : Option Stage) (count : ChangeCount) (set_aside : ℕ)
+    (event : Event) (calls : ℕ) → IsSystem event → Tends trace stage count set_aside
+    → Tends (trace ++ system_entry event calls ∷ []) stage count set_aside
 
 abbrev pub RefusedTends : Type 0
 RefusedTends =
-    (trace : List Entry) (stage : Option Stage) (count : ChangeCount) (held : ℕ) (event : Event)
-    (calls : ℕ) → IsRefused event → Tends trace stage count held
-    → Tends (trace ++ utility_entry event None calls ∷ []) stage count held
+    (trace : List Entry) (stage : Option Stage) (count : ChangeCount) (set_aside : ℕ)
+    (event : Event) (calls : ℕ) → IsRefusedEvent event → Tends trace stage count set_aside
+    → Tends (trace ++ utility_entry event None calls ∷ []) stage count set_aside
 
 abbrev pub OpenedTends : Type 0
 OpenedTends =
@@ -58,22 +58,22 @@ OpenedTends =
 
 abbrev pub StartTends : Type 0
 StartTends =
-    (trace : List Entry) (count : ChangeCount) (held : ℕ) (options : Options)
+    (trace : List Entry) (count : ChangeCount) (set_aside : ℕ) (options : Options)
     (copy pages calls : ℕ) (s : Stage)
-    → Tends trace None count held → numbers_of s ≡ new_utility options pages → s.drain ≡ Free
+    → Tends trace None count set_aside → numbers_of s ≡ new_utility options pages → s.drain ≡ Free
     → Tends (trace ++ utility_entry (Started options copy pages) None calls ∷ []) (Some s)
     (record count { since = 0 }) 28
 
 abbrev pub StepTends : Type 0
 StepTends =
-    (trace : List Entry) (s : Stage) (count : ChangeCount) (held : ℕ) (answer : Answer)
+    (trace : List Entry) (s : Stage) (count : ChangeCount) (set_aside : ℕ) (answer : Answer)
     (event : Event) (calls : ℕ) (next : Option Stage)
-    → Tends trace (Some s) count held → is_booked event ≡ true
+    → Tends trace (Some s) count set_aside → is_booked event ≡ true
     → ((covered : Option Session) (turn : Turn)
     → turn_of count.since covered answer (numbers_of s) s.drain event ≡ Some turn
     → Followed turn next)
-    → IsWithin count.since (length trace + 1) next
-    → Tends (trace ++ utility_entry event (Some answer) calls ∷ []) next count (held_for next)
+    → IsEarlyStage count.since (length trace + 1) next
+    → Tends (trace ++ utility_entry event (Some answer) calls ∷ []) next count (aside_for next)
 
 abbrev pub NoneFalls : Type 0
 NoneFalls =

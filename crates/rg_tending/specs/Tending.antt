@@ -4,12 +4,13 @@
 -- 2. The changes since the utility started, and the writes of open units, are counted by the
 --    entries alone.
 -- 3. The numbers are bounded. No entry of a desk says yet that a new copy was written.
--- 4. While a utility runs, 28 bytes of the log are held for the record of its Switch.
-use Rattle.std.specs.Prelude.{◌≡◌, ◌⊎◌, ◌-◌, ℕ, Bool, true, false, List, [], ◌∷◌, Option, Some, None, is_some, length}
+-- 4. While a utility runs, 28 bytes of the log are set aside for the record of its Switch.
+use Rattle.std.specs.Prelude.{◌≡◌, ◌⊎◌, ℕ, Bool, true, false, List, [], ◌∷◌, Option, Some, None, is_some, length}
 use Rattle.rg_base.specs.declared.control.Answer.{Answer}
 use Rattle.rg_base.specs.declared.options.DrainState.{DrainState}
 use Rattle.rg_base.specs.declared.options.DrainState.TheVariants as drains
 use Rattle.rg_base.specs.declared.session.Session.{Session}
+use Rattle.rg_base.specs.declared.verdict.StopReason.TheVariants as reasons
 use Rattle.rg_fold.specs.declared.item.Stage.{Stage}
 use Rattle.rg_model.specs.Run.{Run}
 use Rattle.rg_model.specs.State.{State, Table, at_rest}
@@ -29,10 +30,10 @@ abbrev pub behind : List Entry → List Entry → List Entry
 behind past [] = past
 behind past (entry ∷ entries) = behind (entry ∷ past) entries
 
--- the bytes of the log that are held for a utility
-abbrev pub held_for : Option Stage → ℕ
-held_for None = 0
-held_for (Some s) = 28
+-- the bytes of the log that are set aside for a utility
+abbrev pub aside_for : Option Stage → ℕ
+aside_for None = 0
+aside_for (Some s) = 28
 
 -- whatever state the entries lead to shows this stage
 abbrev pub ShowsStage : List Entry → Option Stage → Type 0
@@ -41,18 +42,18 @@ ShowsStage trace stage =
     → (st.utility ≡ utility_kept stage) × (st.drain ≡ drain_kept stage)
 
 -- the numbers are bounded, and the new copy is not written
-abbrev pub IsWithin : (all entries : ℕ) → Option Stage → Type 0
-IsWithin all entries None = Unit {0}
-IsWithin all entries (Some s) =
+abbrev pub IsEarlyStage : (all entries : ℕ) → Option Stage → Type 0
+IsEarlyStage all entries None = Unit {0}
+IsEarlyStage all entries (Some s) =
     Bounded all entries s × (s.written ≡ false) × (s.switched ≡ false)
 
 -- a desk with these entries keeps this stage and these counts, and holds so many bytes of the log
-pub record Tends (trace : List Entry) (stage : Option Stage) (changes : ChangeCount) (held : ℕ)
+pub record Tends (trace : List Entry) (stage : Option Stage) (changes : ChangeCount) (set_aside : ℕ)
     : Type 0 where
   pub shows : ShowsStage trace stage
   pub counted : IsCounted (behind [] trace) changes
-  pub within : IsWithin changes.since (length trace) stage
-  pub held_is : held ≡ held_for stage
+  pub within : IsEarlyStage changes.since (length trace) stage
+  pub aside_is : set_aside ≡ aside_for stage
 
 -- the entry of an event of the system
 abbrev pub system_entry : Event → (calls : ℕ) → Entry
@@ -65,7 +66,7 @@ utility_entry event answer calls =
     record { actor = actors.Utility; event = event; answer = answer; calls = calls }
 
 -- an event of a running utility that the desk books: none yet that copies a page, writes the new
--- copy or switches to it
+-- copy or switches to it, or says that a call of the volume failed
 abbrev pub is_booked : Event → Bool
 is_booked (events.Reload page rows) = true
 is_booked (events.Sort which) = true
@@ -75,6 +76,7 @@ is_booked (events.Wait session) = true
 is_booked (events.Granted drain) = true
 is_booked (events.GiveUp count) = true
 is_booked (events.Last took left) = true
+is_booked (events.Stop reasons.Device) = false
 is_booked (events.Stop reason) = true
 is_booked event = false
 
@@ -99,10 +101,6 @@ FollowsBy false (Some s) changes covered (Some answer) event new =
     → Followed turn new
 FollowsBy down stage changes covered answer event new = new ≡ stage
 
--- the changes that a stage has not taken
-abbrev pub left_of : (changes : ℕ) → Stage → ℕ
-left_of changes s = changes - s.done
-
 -- A drain may be in force next: one that is granted was granted before, or was asked and no session
 -- is in its way.
 abbrev pub MayDrain : (old : DrainState) → (blocker : Option Session) → (new : DrainState) → Type 0
@@ -123,11 +121,11 @@ IsSystem events.FlushNoMemory = Unit {0}
 IsSystem event = ⊥
 
 -- a control statement or a step that was refused
-abbrev pub IsRefused : Event → Type 0
-IsRefused events.Active = Unit {0}
-IsRefused (events.StartLogFull need left) = Unit {0}
-IsRefused events.StartDown = Unit {0}
-IsRefused events.StartNoMemory = Unit {0}
-IsRefused events.Idle = Unit {0}
-IsRefused events.StepDown = Unit {0}
-IsRefused event = ⊥
+abbrev pub IsRefusedEvent : Event → Type 0
+IsRefusedEvent events.Active = Unit {0}
+IsRefusedEvent (events.StartLogFull need left) = Unit {0}
+IsRefusedEvent events.StartDown = Unit {0}
+IsRefusedEvent events.StartNoMemory = Unit {0}
+IsRefusedEvent events.Idle = Unit {0}
+IsRefusedEvent events.StepDown = Unit {0}
+IsRefusedEvent event = ⊥

@@ -6,6 +6,7 @@ use Rattle.rg_words.specs.declared.words.Words.{Words}
 use Rattle.rg_words.specs.declared.words.WordsFault.{WordsFault}
 use Rattle.reorgdb.specs.Answer.{DealsWithBytes, seen}
 use Rattle.reorgdb.proofs.Deals.{comes_read, comes_shown, no_command}
+use Rattle.reorgdb.proofs.Asked.{none_asked}
 use Rattle.reorgdb.proofs.work.carry_out.Goals as goal
 
 pub returns-in-Ok-Layout-clause-comes : goal.returns-in-Ok-Layout-clause-comes
@@ -32,3 +33,15 @@ returns-in-Ok-clause-comes g c =
     (full, subst (λ (asked : Words). Spells asked words) c.in-Ok-Play.field-0-is c.in-Ok-Play.ensures.command.0)
     (record { short = c.in-Ok.ensures.short; taken = c.in-Ok.ensures.read; end = c.in-Ok.ensures.end })
     (subst (λ (bytes : List ℕ). DealsWithBytes full (look c.args.volume) (look played.volume) bytes played.outcome played.trace.items played.print) c.deref.ensures.value c.play_bytes.ensures.deals)
+
+pub returns-in-Err-Unknown-clause-asked : goal.returns-in-Err-Unknown-clause-asked
+returns-in-Err-Unknown-clause-asked g c = none_asked g.O.Operator.answers c.args.operator c.bare.result.operator c.bare.result.trace.items c.bare.ensures.operator c.bare.ensures.trace
+
+pub returns-in-Err-Failed-clause-asked : goal.returns-in-Err-Failed-clause-asked
+returns-in-Err-Failed-clause-asked g c = none_asked g.O.Operator.answers c.args.operator c.bare-in-Err-Failed.result.operator c.bare-in-Err-Failed.result.trace.items c.bare-in-Err-Failed.ensures.operator c.bare-in-Err-Failed.ensures.trace
+
+pub returns-in-Err-Long-clause-asked : goal.returns-in-Err-Long-clause-asked
+returns-in-Err-Long-clause-asked g c = none_asked g.O.Operator.answers c.args.operator c.bare-in-Err-Long.result.operator c.bare-in-Err-Long.result.trace.items c.bare-in-Err-Long.ensures.operator c.bare-in-Err-Long.ensures.trace
+
+pub returns-in-Err-NoMemory-clause-asked : goal.returns-in-Err-NoMemory-clause-asked
+returns-in-Err-NoMemory-clause-asked g c = none_asked g.O.Operator.answers c.args.operator c.bare-in-Err-NoMemory.result.operator c.bare-in-Err-NoMemory.result.trace.items c.bare-in-Err-NoMemory.ensures.operator c.bare-in-Err-NoMemory.ensures.trace

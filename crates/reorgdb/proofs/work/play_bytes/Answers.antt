@@ -5,6 +5,7 @@ use Rattle.rg_run.specs.Outside.{IsDeviceOnlyIf}
 use Rattle.rg_run.specs.Table.{Ends}
 use Rattle.rg_stmt.specs.declared.event.Entry.{Entry}
 use Rattle.reorgdb.proofs.Deals.{DealsWithBytes-lines, all_played}
+use Rattle.reorgdb.proofs.Asked.{none_asked, run_asked}
 use Rattle.reorgdb.proofs.work.play_bytes.Goals as goal
 
 pub run-requires : goal.run-requires
@@ -21,3 +22,12 @@ pub returns-in-Ok-clause-device : goal.returns-in-Ok-clause-device
 returns-in-Ok-clause-device g c =
     subst (λ (v : g.row.V.Denot). IsDeviceOnlyIf (Rose (g.V.Volume.faults c.args.volume) (g.V.Volume.faults v)) c.print_played.result.trace.items) (sym c.print_played.ensures.volume)
     (subst (λ (es : List Entry). IsDeviceOnlyIf (Rose (g.V.Volume.faults c.args.volume) (g.V.Volume.faults c.run.result.volume)) es) (sym c.print_played.ensures.trace) c.run.ensures.device)
+
+pub returns-in-Ok-clause-asked : goal.returns-in-Ok-clause-asked
+returns-in-Ok-clause-asked g c = run_asked g.O.Operator.answers c.args.operator c.run.result.operator c.print_played.result.operator c.run.result.trace.items c.print_played.result.trace.items c.print_played.ensures.operator c.print_played.ensures.trace c.run.ensures.asked
+
+pub returns-in-Err-Line-clause-asked : goal.returns-in-Err-Line-clause-asked
+returns-in-Err-Line-clause-asked g c = none_asked g.O.Operator.answers c.args.operator c.refuse_line.result.operator c.refuse_line.result.trace.items c.refuse_line.ensures.operator c.refuse_line.ensures.trace
+
+pub returns-in-Err-NoMemory-clause-asked : goal.returns-in-Err-NoMemory-clause-asked
+returns-in-Err-NoMemory-clause-asked g c = none_asked g.O.Operator.answers c.args.operator c.bare.result.operator c.bare.result.trace.items c.bare.ensures.operator c.bare.ensures.trace

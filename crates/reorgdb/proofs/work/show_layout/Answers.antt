@@ -3,6 +3,7 @@ use Rattle.rg_desk.specs.Volume.{seen_volume}
 use Rattle.rg_run.specs.Table.{Ends}
 use Rattle.rg_stmt.specs.declared.line.Line.{Line}
 use Rattle.rg_stmt.specs.declared.line.Line.TheVariants.{Show}
+use Rattle.reorgdb.proofs.Asked.{none_asked, run_asked}
 use Rattle.reorgdb.proofs.work.show_layout.Goals as goal
 
 pub returns-in-Ok-clause-shows : goal.returns-in-Ok-clause-shows
@@ -12,3 +13,9 @@ returns-in-Ok-clause-shows g c = λ words source show.
     let ends = subst (λ (ls : List Line). Ends (look c.args.volume) (look c.run.result.volume) ls c.run.result.trace.items c.run.result.end) lines c.run.ensures.ends in
     c.print_shown.ensures.shows (look c.args.volume) (look c.print_shown.result.volume) words source
     (subst (λ (v : g.row.V.Denot). Ends (look c.args.volume) (look v) (Show ∷ []) c.run.result.trace.items c.run.result.end) (sym c.print_shown.ensures.volume) ends) show
+
+pub returns-in-Ok-clause-asked : goal.returns-in-Ok-clause-asked
+returns-in-Ok-clause-asked g c = run_asked g.O.Operator.answers c.args.operator c.run.result.operator c.print_shown.result.operator c.run.result.trace.items c.print_shown.result.trace.items c.print_shown.ensures.operator c.print_shown.ensures.trace c.run.ensures.asked
+
+pub returns-in-Err-clause-asked : goal.returns-in-Err-clause-asked
+returns-in-Err-clause-asked g c = none_asked g.O.Operator.answers c.args.operator c.bare.result.operator c.bare.result.trace.items c.bare.ensures.operator c.bare.ensures.trace

@@ -36,7 +36,7 @@ returns-clause-begun c =
       idle = c.in_ok-engine.ensures.idle;
       log = c.in_ok-engine.ensures.log;
       opened = c.in_ok-engine.ensures.opened;
-      held = c.in_ok-engine.ensures.held;
+      set_aside = c.in_ok-engine.ensures.set_aside;
       trace =
           c.push.ensures.trace
           ∙ ap (λ (xs : List Entry). xs ++ c.opened.result ∷ []) trace

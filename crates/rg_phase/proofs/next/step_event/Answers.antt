@@ -2,7 +2,6 @@ use Rattle.std.proofs.Common.{◌≡◌, true, ap, ◌∙◌, subst}
 use Rattle.std.specs.Option.{is_some}
 use Rattle.rg_base.specs.declared.step.Step.{Step}
 use Rattle.rg_model.specs.Turn.{turn_at}
-use Rattle.rg_model.specs.Verdict.{drain_verdict}
 use Rattle.rg_stage.specs.NumbersOf.{numbers_of}
 use Rattle.rg_tending.specs.Tending.{is_booked}
 use Rattle.rg_phase.proofs.Stepping.{drain_booked}
@@ -15,8 +14,7 @@ returns-in-Log-clause-next c =
 pub returns-in-Wait-clause-booked : goal.returns-in-Wait-clause-booked
 returns-in-Wait-clause-booked c =
     ap is_booked c.wait_event.ensures.event
-    ∙ drain_booked c.in-Wait.asked c.args.stage.now.failed
-    (drain_verdict c.args.stage.now.options c.args.stage.now.asked c.args.stage.now.failed c.args.holder c.args.answer.now.now c.args.answer.now.estimate)
+    ∙ drain_booked c.args.stage.now.options c.in-Wait.asked c.args.stage.now.asked c.args.stage.now.failed c.args.holder c.args.answer.now.now c.args.answer.now.estimate
 
 pub returns-in-Last-clause-next : goal.returns-in-Last-clause-next
 returns-in-Last-clause-next c =

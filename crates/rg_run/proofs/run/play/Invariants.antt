@@ -1,4 +1,4 @@
-use Rattle.std.proofs.Common.{◌≡◌, ◌++◌, length}
+use Rattle.std.proofs.Common.{◌≡◌, ◌++◌, None, length}
 use Rattle.std.specs.List.{AllByRecursion}
 use Rattle.std.specs.Vec.Iter.{into_iter_items, into_iter_len}
 use Rattle.rg_desk.specs.Volume.{seen_volume}
@@ -9,8 +9,9 @@ use Rattle.rg_run.proofs.run.play.Given as goal
 abbrev pub invariant-loop-line : goal.invariant-loop-line
 invariant-loop-line g l =
     record {
-      going : Going (seen_volume g.V.Volume.told g.V.Volume.faults g.V.Volume.capacities) l.fn.desk l.yielded l.desk;
+      going : Going (seen_volume g.V.Volume.told g.V.Volume.faults g.V.Volume.capacities) g.O.Operator.answers l.fn.desk l.yielded l.desk;
       rest : l.yielded ++ into_iter_items l.line-iterator ≡ l.fn.lines.items;
       left : into_iter_len l.line-iterator ≡ length (into_iter_items l.line-iterator);
+      kept : l.desk.kept ≡ None;
       lines : AllByRecursion IsPlayed (into_iter_items l.line-iterator);
     }

@@ -12,6 +12,7 @@ use Rattle.rg_run.proofs.run.reopen.Goals as goal
 pub returns-in-Ok-clause-goes : goal.returns-in-Ok-clause-goes
 returns-in-Ok-clause-goes g c = λ first lines going.
     let look = seen_volume g.V.Volume.told g.V.Volume.faults g.V.Volume.capacities in
+    let answers = g.O.Operator.answers in
     let parts = c.into_parts-volume.ensures in
     let count = c.into_parts-volume.result.3 in
     going_again look first c.args.desk lines going parts.left parts.copy parts.legal count
@@ -20,15 +21,19 @@ returns-in-Ok-clause-goes g c = λ first lines going.
     (subst (λ v. OpensStored look (look v) c.into_parts-volume.result.1 c.in-Ok.desk) parts.volume c.in-Ok.ensures.opens)
     (c.in-Ok.ensures.older ∙ parts.trace)
 
+pub returns-in-Ok-clause-kept : goal.returns-in-Ok-clause-kept
+returns-in-Ok-clause-kept g c = c.in-Ok.ensures.opens.opens.kept
+
 pub returns-in-Err-clause-ends : goal.returns-in-Err-clause-ends
 returns-in-Err-clause-ends g c = λ first lines rest going.
     let look = seen_volume g.V.Volume.told g.V.Volume.faults g.V.Volume.capacities in
+    let answers = g.O.Operator.answers in
     let parts = c.into_parts-volume.ensures in
     let count = c.into_parts-volume.result.3 in
     let left = c.refused.ensures in
     let seen = look c.in-Err.fault.volume in
-    subst (λ v. IsRun look first (lines ++ Death ∷ rest) (look v) c.refused.result.operator c.refused.result.trace.items c.refused.result.end) (sym left.volume)
-    (subst (λ (end : RunEnd). IsRun look first (lines ++ Death ∷ rest) seen c.refused.result.operator c.refused.result.trace.items end) (sym left.end)
+    subst (λ v. IsRun look answers first (lines ++ Death ∷ rest) (look v) c.refused.result.operator c.refused.result.trace.items c.refused.result.end) (sym left.volume)
+    (subst (λ (end : RunEnd). IsRun look answers first (lines ++ Death ∷ rest) seen c.refused.result.operator c.refused.result.trace.items end) (sym left.end)
     (refused_again look first c.args.desk lines going parts.left parts.copy parts.legal count
     (subst (λ (es : List Entry). IsRecorded es count) parts.trace parts.recorded) parts.counted
     seen c.in-Err.fault.cause c.refused.result.operator c.refused.result.trace.items rest

@@ -1,11 +1,13 @@
-use Rattle.std.proofs.Common.{sym, ◌∙◌, ap, subst}
+use Rattle.std.proofs.Common.{List, sym, ◌∙◌, ap, subst}
 use Rattle.std.specs.declared.vec.Vec.{Vec}
 use Rattle.std.specs.declared.alloc.Global.{Global}
 use Rattle.rg_desk.specs.Volume.{seen_volume}
 use Rattle.rg_outside.specs.Counts.{CountedCalls, counted}
 use Rattle.rg_restart.specs.Opening.{IsRefused}
 use Rattle.rg_stmt.specs.declared.event.Entry.{Entry}
+use Rattle.rg_run.specs.Asked.{HasAnswered, answers_in}
 use Rattle.rg_run.specs.declared.played.RunEnd.{RunEnd}
+use Rattle.rg_run.proofs.Asking.{same_unasked}
 use Rattle.rg_run.proofs.Wholly.{Whole, begun_counted, begun_tidy, going_first, none_recorded, whole_refused, whole_run}
 use Rattle.rg_run.proofs.run.run.Given as given
 use Rattle.rg_run.proofs.run.run.Goals as goal
@@ -19,7 +21,10 @@ open_desk-requires g c = record {
 }
 
 pub play-requires-clause-going : goal.play-requires-clause-going
-play-requires-clause-going g c = going_first g.V.Volume.told g.V.Volume.faults g.V.Volume.capacities c.args.volume c.new.result c.args.operator c.in-Ok.desk c.in-Ok.ensures.opens (c.in-Ok.ensures.older ∙ c.new-2.ensures.items)
+play-requires-clause-going g c = going_first g.V.Volume.told g.V.Volume.faults g.V.Volume.capacities c.args.volume c.new.result g.O.Operator.answers c.args.operator c.in-Ok.desk c.in-Ok.ensures.opens (c.in-Ok.ensures.older ∙ c.new-2.ensures.items)
+
+pub play-requires-clause-kept : goal.play-requires-clause-kept
+play-requires-clause-kept g c = c.in-Ok.ensures.opens.opens.kept
 
 -- the run that was counted is one of the volume below
 played : (g : given.Over) (c : goal.After-uncounted g)
@@ -118,3 +123,18 @@ returns-in-Err-clause-only g c = (not_opened g c).only
 
 pub returns-in-Err-clause-later : goal.returns-in-Err-clause-later
 returns-in-Err-clause-later g c = (not_opened g c).later
+
+pub returns-in-Ok-clause-asked : goal.returns-in-Ok-clause-asked
+returns-in-Ok-clause-asked g c =
+    let answers = g.O.Operator.answers in
+    subst (λ (o : g.row.O.Denot). HasAnswered (answers c.args.operator) (answers_in c.uncounted.result.trace.items) (answers o)) (sym c.uncounted.ensures.operator)
+    (subst (λ (es : Vec Entry Global). HasAnswered (answers c.args.operator) (answers_in es.items) (answers c.play.result.operator)) (sym c.uncounted.ensures.trace)
+    (subst (λ (o : g.row.O.Denot). HasAnswered (answers o) (answers_in c.play.result.trace.items) (answers c.play.result.operator)) c.in-Ok.ensures.opens.opens.asked c.play.ensures.asked))
+
+pub returns-in-Err-clause-asked : goal.returns-in-Err-clause-asked
+returns-in-Err-clause-asked g c =
+    let answers = g.O.Operator.answers in
+    let left = c.uncounted-in-Err.ensures in
+    subst (λ (es : List Entry). HasAnswered (answers c.args.operator) (answers_in es) (answers c.uncounted-in-Err.result.operator))
+    (sym (ap (λ (v : Vec Entry Global). v.items) left.trace ∙ c.refused.ensures.trace ∙ c.in-Err.ensures.trace ∙ c.new-2.ensures.items))
+    (same_unasked answers c.args.operator c.uncounted-in-Err.result.operator (left.operator ∙ c.refused.ensures.operator ∙ c.in-Err.ensures.operator))

@@ -1,9 +1,10 @@
-use Rattle.std.proofs.Common.{◌≡◌, List, [], ◌∷◌, ◌++◌, None, sym, ◌∙◌, ap, subst}
+use Rattle.std.proofs.Common.{◌≡◌, ◌+◌, List, [], ◌∷◌, ◌++◌, None, refl, sym, ◌∙◌, ap, subst}
 use Rattle.rg_model.specs.Claims.{least_holder}
 use Rattle.rg_stmt.specs.declared.event.Entry.{Entry}
-use Rattle.rg_tending.specs.Tending.{FollowsBy, utility_entry}
-use Rattle.rg_desk.specs.Desk.{IsNext, old_records}
+use Rattle.rg_tending.specs.Tending.{FollowsBy, aside_for, utility_entry}
+use Rattle.rg_desk.specs.Desk.{IsNextStep, old_records}
 use Rattle.rg_desk.specs.Flushed.{CallsOwn}
+use Rattle.rg_desk.specs.Room.{Ground}
 use Rattle.rg_desk.specs.Volume.{seen_volume}
 use Rattle.rg_desk.proofs.DeskUtility.{idle_follows, idle_on}
 use Rattle.rg_desk.proofs.Flushing.{own_same}
@@ -13,7 +14,7 @@ pub invariant_of-self : goal.invariant_of-self
 invariant_of-self g c =
     let inside = c.self.inside in
     let look = seen_volume g.V.Volume.told g.V.Volume.faults g.V.Volume.capacities in
-    let next = subst (λ d. IsNext d None c.args.event) (sym c.self.view_is) c.requires.next in
+    let next = subst (λ d. IsNextStep d None c.args.event) (sym c.self.view_is) c.requires.next in
     idle_on inside.engine inside.chronicle inside.copy inside.down inside.marks.items (look inside.volume) c.self.invariant.0 inside.stage inside.changes c.self.invariant.1
     (least_holder inside.engine.claims.drain inside.engine.claims.claims) c.args.event next c.calls_now-calls.result c.push.new.self
     (c.push.ensures.trace ∙ ap (λ (e : Entry). inside.chronicle.trace ++ e ∷ []) c.utility.ensures)
@@ -39,6 +40,11 @@ returns g c =
           (idle_follows inside.down inside.stage inside.changes.since (least_holder inside.engine.claims.drain inside.engine.claims.claims) event);
       changes = ap (λ d. d.changes) c.self.view_is;
       kept = ap (λ d. d.kept) c.self.view_is ∙ c.requires.kept;
+      operator = ap (λ d. d.operator) c.self.view_is;
+      ground = record {
+        ground = ap (λ d. let g : Ground = record d.ground { log = record d.ground.log { reserved = inside.engine.log.reserved } } in g) c.self.view_is;
+        reserved = subst (λ d. inside.engine.log.reserved + aside_for d.stage ≡ d.ground.log.reserved + aside_for inside.stage) c.self.view_is refl;
+      };
       contents = ap (λ d. d.contents) c.self.view_is;
       down = ap (λ d. d.down) c.self.view_is;
       volume = ap (λ d. d.volume) c.self.view_is;
@@ -50,6 +56,5 @@ returns g c =
         old_same = ap (λ d. old_records d) c.self.view_is;
         copy = ap (λ d. d.copy) c.self.view_is;
         calls = subst (λ d. CallsOwn d.copy (look d.volume) (look inside.volume)) c.self.view_is (own_same inside.copy (look inside.volume));
-        operator = ap (λ d. d.operator) c.self.view_is;
       };
     }

@@ -1,17 +1,18 @@
-use Rattle.std.proofs.Common.{◌≡◌, ℕ, Bool, false, List, [], ◌∷◌, ◌++◌, Option, Some, take, refl, sym, ◌∙◌, ap, subst}
+use Rattle.std.proofs.Common.{◌≡◌, ◌+◌, ℕ, Bool, false, List, [], ◌∷◌, ◌++◌, Option, Some, take, refl, sym, ◌∙◌, ap, subst}
 use Rattle.rg_fold.specs.declared.item.Stage.{Stage}
 use Rattle.rg_log.specs.Kept.{Listed}
 use Rattle.rg_model.specs.Claims.{least_holder}
 use Rattle.rg_space.specs.Memory.{list_seen}
 use Rattle.rg_space.specs.Space.{capacity_in, frames_of}
 use Rattle.rg_stmt.specs.declared.event.Entry.{Entry}
-use Rattle.rg_tending.specs.Tending.{FollowsBy, NextBy, Tends, utility_entry}
+use Rattle.rg_tending.specs.Tending.{FollowsBy, NextBy, Tends, aside_for, utility_entry}
 use Rattle.rg_desk.specs.Chronicle.{allowed_by}
 use Rattle.rg_desk.specs.Desk.{IsDesk, old_records}
 use Rattle.rg_desk.specs.Flushed.{CallsOwn}
+use Rattle.rg_desk.specs.Room.{Ground}
 use Rattle.rg_desk.specs.Utility.{StepsOn}
 use Rattle.rg_desk.specs.Volume.{seen_volume}
-use Rattle.rg_desk.proofs.DeskUtility.{step_on}
+use Rattle.rg_desk.proofs.DeskUtility.{ground_same, step_on}
 use Rattle.rg_desk.proofs.Flushing.{own_same}
 use Rattle.rg_desk.proofs.desk.Desk.book_step.Goals as goal
 
@@ -35,7 +36,7 @@ invariant_of-self g c =
     let next = c.step_utility-self-inside.result in
     let on = step_on inside.engine inside.chronicle inside.copy inside.marks.items seen
     (subst (λ (b : Bool). IsDesk inside.engine inside.chronicle inside.copy b inside.marks.items seen) up c.self.invariant.0)
-    s inside.changes (subst (λ (o : Option Stage). Tends inside.chronicle.trace o inside.changes inside.engine.held) stage_is c.self.invariant.1)
+    s inside.changes (subst (λ (o : Option Stage). Tends inside.chronicle.trace o inside.changes inside.engine.set_aside) stage_is c.self.invariant.1)
     c.args.answer c.args.event next after
     (subst (λ d. NextBy false (Some s) d.changes d.covered (Some c.args.answer) c.args.event) (sym c.self.view_is) c.requires.next)
     (subst (λ (n : ℕ). StepsOn inside.engine s n c.args.answer c.args.event next after) c.since.ensures c.step_utility-self-inside.ensures)
@@ -75,6 +76,12 @@ returns g c =
           (subst (λ (o : Option Stage). FollowsBy false o inside.changes.since covered (Some answer) event next) (sym stage_is) follows));
       changes = ap (λ d. d.changes) c.self.view_is;
       kept = refl;
+      operator = ap (λ d. d.operator) c.self.view_is;
+      ground = record {
+        ground = ground_same inside.engine after steps.engine.space steps.engine.log steps.engine.units steps.engine.top ∙ ap (λ d. let g : Ground = record d.ground { log = record d.ground.log { reserved = after.log.reserved } } in g) c.self.view_is;
+        reserved = subst (λ d. after.log.reserved + aside_for d.stage ≡ d.ground.log.reserved + aside_for next) c.self.view_is
+            (subst (λ (o : Option Stage). after.log.reserved + aside_for o ≡ inside.engine.log.reserved + aside_for next) (sym stage_is) (subst (λ (n : ℕ). after.log.reserved + n ≡ inside.engine.log.reserved + aside_for next) (c.self.invariant.1.aside_is ∙ ap aside_for stage_is) steps.engine.reserved));
+      };
       contents = ap (λ sp. (list_seen (frames_of sp)).pages) steps.engine.space ∙ ap (λ d. d.contents) c.self.view_is;
       down = ap (λ d. d.down) c.self.view_is;
       volume = ap (λ d. d.volume) c.self.view_is;
@@ -86,6 +93,5 @@ returns g c =
         old_same = ap (λ (n : ℕ). take n after.log.records) steps.engine.opened ∙ ap (take inside.engine.opened) records ∙ ap (λ d. old_records d) c.self.view_is;
         copy = ap (λ d. d.copy) c.self.view_is;
         calls = subst (λ d. CallsOwn d.copy (look d.volume) (look inside.volume)) c.self.view_is (own_same inside.copy (look inside.volume));
-        operator = ap (λ d. d.operator) c.self.view_is;
       };
     }

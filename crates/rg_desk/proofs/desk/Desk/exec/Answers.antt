@@ -1,4 +1,4 @@
-use Rattle.std.proofs.Common.{◌≡◌, ◌||◌, ℕ, true, false, List, [], ◌∷◌, ◌++◌, length, sym, ◌∙◌, ap, subst}
+use Rattle.std.proofs.Common.{◌≡◌, ◌≤◌, ◌||◌, ℕ, true, false, List, [], ◌∷◌, ◌++◌, length, sym, ◌∙◌, ap, subst}
 use Rattle.rg_outside.specs.Faults.{Rose}
 use Rattle.rg_stmt.specs.Entries.{said_entry}
 use Rattle.rg_stmt.specs.declared.event.Entry.{Entry}
@@ -34,9 +34,9 @@ invariant_of-self-2 g c =
           trace
           (c.push.ensures.calls ∙ ap (λ (e : Entry). e.calls) c.said.ensures)
           c.calls_now-calls.ensures.counted c.push.ensures.recorded,
-      subst (λ (es : List Entry). Tends es inside.stage c.count.new.self c.reply_to-reply.new.engine.held) (sym (trace ∙ ap (λ (es : List Entry). es ++ entry ∷ []) c.make_room.ensures.trace))
-          (subst (λ (n : ℕ). Tends (inside.chronicle.trace ++ entry ∷ []) inside.stage c.count.new.self n) (sym said.held)
-          (tends_said inside.chronicle.trace inside.stage inside.changes c.count.new.self inside.engine.held c.args.session c.args.stmt c.reply_to-reply.result c.calls_now-calls.result tends
+      subst (λ (es : List Entry). Tends es inside.stage c.count.new.self c.reply_to-reply.new.engine.set_aside) (sym (trace ∙ ap (λ (es : List Entry). es ++ entry ∷ []) c.make_room.ensures.trace))
+          (subst (λ (n : ℕ). Tends (inside.chronicle.trace ++ entry ∷ []) inside.stage c.count.new.self n) (sym said.set_aside)
+          (tends_said inside.chronicle.trace inside.stage inside.changes c.count.new.self inside.engine.set_aside c.args.session c.args.stmt c.reply_to-reply.result c.calls_now-calls.result tends
           (c.count.ensures.counted (behind [] inside.chronicle.trace) c.calls_now-calls.result tends.counted) c.count.ensures.later)),
     )
 
@@ -80,6 +80,8 @@ returns-clause-made g c =
             run = c.self.invariant.0.run;
             stored = replied_rows inside.engine inside.chronicle inside.copy inside.down _ _ c.self.invariant.0 session stmt reply c.reply_to-reply.new.engine c.reply_to-reply.new.down _ c.reply_to-reply.ensures c.records.ensures.entries c.records.ensures.set;
           });
+      utility = record { stage = ap (λ d. d.stage) c.self.view_is; kept = ap (λ d. d.kept) c.self.view_is; operator = ap (λ d. d.operator) c.self.view_is };
+      later = subst (λ d. d.changes ≤ c.count.new.self.since) c.self.view_is c.count.ensures.later;
       stays = record {
         older = c.push.ensures.older ∙ c.make_room.ensures.older ∙ ap (λ d. d.older) c.self.view_is;
         capacity = said.capacity ∙ ap (λ d. d.ground.capacity) c.self.view_is;
@@ -88,6 +90,5 @@ returns-clause-made g c =
         old_same = old_same inside.engine inside.chronicle inside.copy inside.down _ _ c.self.invariant.0 c.reply_to-reply.new.engine said.opened said.grows ∙ ap (λ d. old_records d) c.self.view_is;
         copy = ap (λ d. d.copy) c.self.view_is;
         calls = subst (λ d. CallsOwn d.copy (seen_volume g.V.Volume.told g.V.Volume.faults g.V.Volume.capacities d.volume) (seen_volume g.V.Volume.told g.V.Volume.faults g.V.Volume.capacities volume)) c.self.view_is (own_calls inside.copy _ _ said.calls);
-        operator = ap (λ d. d.operator) c.self.view_is;
       };
     }

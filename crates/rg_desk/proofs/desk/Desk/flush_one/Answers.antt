@@ -30,9 +30,9 @@ invariant_of-self-2 g c =
           trace
           (c.push.ensures.calls ∙ ap (λ (e : Entry). e.calls) c.system.ensures)
           c.calls_now-calls.ensures.counted c.push.ensures.recorded,
-      subst (λ (es : List Entry). Tends es inside.stage inside.changes c.tell_flush-event.new.engine.held) (sym (trace ∙ ap (λ (es : List Entry). es ++ entry ∷ []) c.make_room.ensures.trace))
-          (subst (λ (n : ℕ). Tends (inside.chronicle.trace ++ entry ∷ []) inside.stage inside.changes n) (sym told.held)
-          (tends_system inside.chronicle.trace inside.stage inside.changes inside.engine.held event calls
+      subst (λ (es : List Entry). Tends es inside.stage inside.changes c.tell_flush-event.new.engine.set_aside) (sym (trace ∙ ap (λ (es : List Entry). es ++ entry ∷ []) c.make_room.ensures.trace))
+          (subst (λ (n : ℕ). Tends (inside.chronicle.trace ++ entry ∷ []) inside.stage inside.changes n) (sym told.set_aside)
+          (tends_system inside.chronicle.trace inside.stage inside.changes inside.engine.set_aside event calls
           (flush_system inside.down inside.copy _ inside.marks.items c.tell_flush-event.new.marks.items (look inside.volume) (look c.tell_flush-event.new.volume) event told.is) c.self.invariant.1)),
     )
 
@@ -71,6 +71,8 @@ returns-clause-made g c =
             run = c.self.invariant.0.run;
             stored = flushed_rows inside.engine inside.chronicle inside.copy inside.down inside.marks.items marks (look inside.volume) after c.self.invariant.0 event next c.tell_flush-event.ensures c.records.ensures.entries c.records.ensures.set;
           });
+      utility = record { stage = ap (λ d. d.stage) c.self.view_is; kept = ap (λ d. d.kept) c.self.view_is; operator = ap (λ d. d.operator) c.self.view_is };
+      changes = ap (λ d. d.changes) c.self.view_is;
       stays = record {
         older = c.push.ensures.older ∙ c.make_room.ensures.older ∙ ap (λ d. d.older) c.self.view_is;
         capacity = told.capacity ∙ ap (λ d. d.ground.capacity) c.self.view_is;
@@ -79,6 +81,5 @@ returns-clause-made g c =
         old_same = ap (λ (n : ℕ). take n next.log.records) told.opened ∙ ap (take inside.engine.opened) records ∙ ap (λ d. old_records d) c.self.view_is;
         copy = ap (λ d. d.copy) c.self.view_is;
         calls = subst (λ d. CallsOwn d.copy (look d.volume) after) c.self.view_is told.calls;
-        operator = ap (λ d. d.operator) c.self.view_is;
       };
     }

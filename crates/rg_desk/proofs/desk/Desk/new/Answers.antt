@@ -46,9 +46,9 @@ invariant_of-result g c =
             below = subst (λ (top : ℕ). AllBelow top (slot_of (slots_in c.in-Ok.engine))) (sym b.top) (subst (λ sp. AllBelow found.top (slot_of (space_pages sp))) (sym b.space) (h tidy));
           }) c.requires.below)
           b.few b.trace b.at c.calls_now-now.ensures.counted b.recorded,
-      subst (λ (es : List Entry). Tends es None c.in-Ok.changes c.in-Ok.engine.held) (sym b.trace)
-          (subst (λ (count : ChangeCount). Tends (opened_entry found.copy (row_count b.start) (length (space_pages found.space)) (log_bytes found.log.records) c.calls_now-now.result ∷ []) None count c.in-Ok.engine.held) (sym c.in-Ok.ensures.changes)
-          (subst (λ (n : ℕ). Tends (opened_entry found.copy (row_count b.start) (length (space_pages found.space)) (log_bytes found.log.records) c.calls_now-now.result ∷ []) None no_changes n) (sym b.held)
+      subst (λ (es : List Entry). Tends es None c.in-Ok.changes c.in-Ok.engine.set_aside) (sym b.trace)
+          (subst (λ (count : ChangeCount). Tends (opened_entry found.copy (row_count b.start) (length (space_pages found.space)) (log_bytes found.log.records) c.calls_now-now.result ∷ []) None count c.in-Ok.engine.set_aside) (sym c.in-Ok.ensures.changes)
+          (subst (λ (n : ℕ). Tends (opened_entry found.copy (row_count b.start) (length (space_pages found.space)) (log_bytes found.log.records) c.calls_now-now.result ∷ []) None no_changes n) (sym b.set_aside)
           (tends_opened found.copy (row_count b.start) (length (space_pages found.space)) (log_bytes found.log.records) c.calls_now-now.result))),
     )
 
@@ -69,6 +69,9 @@ returns-in-Ok-clause-opens g c =
       up = refl;
       same = refl;
       asked = refl;
+      stage = refl;
+      changes = ap (λ (count : ChangeCount). count.since) c.in-Ok.ensures.changes;
+      kept = refl;
     }
 
 pub returns-in-Ok-clause-contents : goal.returns-in-Ok-clause-contents

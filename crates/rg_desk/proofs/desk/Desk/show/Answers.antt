@@ -24,7 +24,7 @@ invariant_of-self-2 g c =
           trace
           (c.push.ensures.calls ∙ ap (λ (e : Entry). e.calls) c.system.ensures)
           c.calls_now-calls.ensures.counted c.push.ensures.recorded,
-      subst (λ (es : List Entry). Tends es inside.stage inside.changes c.tell_layout-event.new.engine.held) (sym (trace ∙ ap (λ (es : List Entry). es ++ entry ∷ []) c.make_room.ensures.trace))
-          (subst (λ (n : ℕ). Tends (inside.chronicle.trace ++ entry ∷ []) inside.stage inside.changes n) (sym told.same.held)
-          (tends_system inside.chronicle.trace inside.stage inside.changes inside.engine.held event calls (layout_system inside.copy event told.is) c.self.invariant.1)),
+      subst (λ (es : List Entry). Tends es inside.stage inside.changes c.tell_layout-event.new.engine.set_aside) (sym (trace ∙ ap (λ (es : List Entry). es ++ entry ∷ []) c.make_room.ensures.trace))
+          (subst (λ (n : ℕ). Tends (inside.chronicle.trace ++ entry ∷ []) inside.stage inside.changes n) (sym told.same.set_aside)
+          (tends_system inside.chronicle.trace inside.stage inside.changes inside.engine.set_aside event calls (layout_system inside.copy event told.is) c.self.invariant.1)),
     )

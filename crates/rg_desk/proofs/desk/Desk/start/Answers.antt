@@ -1,17 +1,19 @@
-use Rattle.std.proofs.Common.{◌≡◌, if◌then◌else◌, ℕ, Bool, List, [], ◌∷◌, ◌++◌, None, length, take, sym, ◌∙◌, ap, subst}
+use Rattle.std.proofs.Common.{◌≡◌, ◌+◌, if◌then◌else◌, ℕ, Bool, List, [], ◌∷◌, ◌++◌, None, length, take, sym, ◌∙◌, ap, subst}
 use Rattle.rg_log.specs.Kept.{Listed}
 use Rattle.rg_space.specs.Memory.{list_seen}
 use Rattle.rg_space.specs.Space.{capacity_in, frames_of}
 use Rattle.rg_stmt.specs.declared.event.Entry.{Entry}
 use Rattle.rg_tally.specs.Changed.{ChangeCount}
-use Rattle.rg_tending.specs.Tending.{Tends, utility_entry}
+use Rattle.rg_tending.specs.Tending.{Tends, aside_for, utility_entry}
 use Rattle.rg_desk.specs.Chronicle.{logged_by}
 use Rattle.rg_desk.specs.Desk.{IfStartLogFull, IsStart, old_records, started_count}
+use Rattle.rg_desk.specs.Engine.{ground_of}
 use Rattle.rg_desk.specs.Flushed.{CallsOwn}
+use Rattle.rg_desk.specs.Room.{Ground}
 use Rattle.rg_desk.specs.Volume.{seen_volume}
 use Rattle.rg_desk.specs.declared.engine.Engine.{Engine}
 use Rattle.rg_desk.proofs.DeskGoes.{desk_room}
-use Rattle.rg_desk.proofs.DeskUtility.{count_since, start_full, start_held, start_made, start_on}
+use Rattle.rg_desk.proofs.DeskUtility.{count_since, start_aside, start_full, start_made, start_on, start_reserved}
 use Rattle.rg_desk.proofs.Flushing.{own_same}
 use Rattle.rg_desk.proofs.desk.Desk.start.Goals as goal
 
@@ -21,7 +23,7 @@ invariant_of-self-2 g c =
     let seen = seen_volume g.V.Volume.told g.V.Volume.faults g.V.Volume.capacities inside.volume in
     let mid = c.make_room.new.self in
     let room = desk_room inside.engine inside.chronicle inside.copy inside.down _ _ c.self.invariant.0 mid c.make_room.ensures.trace c.make_room.ensures.calls in
-    let tends = subst (λ (es : List Entry). Tends es inside.stage inside.changes inside.engine.held) (sym c.make_room.ensures.trace) c.self.invariant.1 in
+    let tends = subst (λ (es : List Entry). Tends es inside.stage inside.changes inside.engine.set_aside) (sym c.make_room.ensures.trace) c.self.invariant.1 in
     let event = c.start_utility-event.result in
     let next = c.start_utility-event.new.stage in
     let after = c.start_utility-event.new.engine in
@@ -31,7 +33,7 @@ invariant_of-self-2 g c =
     (c.push.ensures.trace ∙ ap (λ (e : Entry). mid.trace ++ e ∷ []) c.utility.ensures) in
     let changes : c.count_from.new.changes ≡ started_count c.is_started-started.result inside.changes = c.count_from.ensures in (
       on.0,
-      subst (λ (count : ChangeCount). Tends c.push.new.self.trace next count after.held)
+      subst (λ (count : ChangeCount). Tends c.push.new.self.trace next count after.set_aside)
           (sym (changes ∙ ap (λ (b : Bool). started_count b inside.changes) c.is_started-started.ensures)) on.1,
     )
 
@@ -46,9 +48,9 @@ returns-clause-made g c =
     let calls = c.calls_now-calls.result in
     let started = c.is_started-started.result in
     let is = c.start_utility-event.ensures in
-    let held = start_held inside.down inside.stage c.args.options inside.copy inside.engine event next after is in
-    let log : after.log ≡ record inside.engine.log { reserved = after.log.reserved } = ap (λ (x : Engine). x.log) held in
-    let opened : after.opened ≡ inside.engine.opened = ap (λ (x : Engine). x.opened) held in
+    let set_aside = start_aside inside.down inside.stage c.args.options inside.copy inside.engine event next after is in
+    let log : after.log ≡ record inside.engine.log { reserved = after.log.reserved } = ap (λ (x : Engine). x.log) set_aside in
+    let opened : after.opened ≡ inside.engine.opened = ap (λ (x : Engine). x.opened) set_aside in
     let records : after.log.records ≡ inside.engine.log.records = ap (λ (l : Listed). l.records) log in
     let trace : mid.trace ≡ c.args.self.now.trace = c.make_room.ensures.trace ∙ ap (λ d. d.trace) c.self.view_is in
     record {
@@ -71,17 +73,22 @@ returns-clause-made g c =
           ∙ count_since started inside.changes
           ∙ ap (λ d. if started then 0 else d.changes) c.self.view_is;
       kept = ap (λ d. d.kept) c.self.view_is;
-      contents = ap (λ (x : Engine). (list_seen (frames_of x.space)).pages) held ∙ ap (λ d. d.contents) c.self.view_is;
+      operator = ap (λ d. d.operator) c.self.view_is;
+      ground = record {
+        ground = ap (λ (x : Engine). ground_of x) set_aside ∙ ap (λ d. let g : Ground = record d.ground { log = record d.ground.log { reserved = after.log.reserved } } in g) c.self.view_is;
+        reserved = subst (λ d. after.log.reserved + aside_for d.stage ≡ d.ground.log.reserved + aside_for next) c.self.view_is
+            (start_reserved inside.down inside.stage c.args.options inside.copy inside.engine event next after is c.self.invariant.1.aside_is);
+      };
+      contents = ap (λ (x : Engine). (list_seen (frames_of x.space)).pages) set_aside ∙ ap (λ d. d.contents) c.self.view_is;
       down = ap (λ d. d.down) c.self.view_is;
       volume = ap (λ d. d.volume) c.self.view_is;
       stays = record {
         older = c.push.ensures.older ∙ c.make_room.ensures.older ∙ ap (λ d. d.older) c.self.view_is;
-        capacity = ap (λ (x : Engine). capacity_in x.space) held ∙ ap (λ d. d.ground.capacity) c.self.view_is;
+        capacity = ap (λ (x : Engine). capacity_in x.space) set_aside ∙ ap (λ d. d.ground.capacity) c.self.view_is;
         log_pages = ap (λ (l : Listed). l.pages) log ∙ ap (λ d. d.ground.log.pages) c.self.view_is;
         opened = opened ∙ ap (λ d. d.opened) c.self.view_is;
         old_same = ap (λ (n : ℕ). take n after.log.records) opened ∙ ap (take inside.engine.opened) records ∙ ap (λ d. old_records d) c.self.view_is;
         copy = ap (λ d. d.copy) c.self.view_is;
         calls = subst (λ d. CallsOwn d.copy (look d.volume) (look inside.volume)) c.self.view_is (own_same inside.copy (look inside.volume));
-        operator = ap (λ d. d.operator) c.self.view_is;
       };
     }

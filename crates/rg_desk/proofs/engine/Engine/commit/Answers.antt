@@ -27,7 +27,7 @@ returns-then-is_none-clause-steps g c = λ st allowed shows.
     commit_goes st allowed d _ c.args.session shows (omega (arith, c.requires.session.most)) ended.space ended.indexes ended.top ended.locks ended.claims ended.units
     (ap (λ (l : Listed). l.records) ended.log ∙ ap (records_committed d.log.records) (sym none))
     (omega (arith, ap owed_to none, ap (λ (l : Listed). l.reserved) ended.log))
-    ended.opened ended.held (subst IsSettled (sym ended.log) shows.settled) (grows_same d.log _ ended.log)
+    ended.opened ended.set_aside (subst IsSettled (sym ended.log) shows.settled) (grows_same d.log _ ended.log)
     (space_newest d.log.records _ d.space _ (ap (λ (l : Listed). l.records) ended.log) ended.space)
 
 pub returns-in-Ok-clause-steps : goal.returns-in-Ok-clause-steps
@@ -44,7 +44,7 @@ returns-in-Ok-clause-steps g c = λ st allowed shows.
     (ap (λ (l : Listed). l.records) log ∙ c.log_commit.ensures.records)
     (omega (arith, ap (λ (l : Listed). l.reserved) log, c.log_commit.ensures.reserved))
     (ended.opened ∙ c.log_commit.ensures.base.opened)
-    (ended.held ∙ c.log_commit.ensures.base.held)
+    (ended.set_aside ∙ c.log_commit.ensures.base.set_aside)
     (all_settled _ (ap (λ (l : Listed). l.forced) log ∙ c.in-Ok.ensures.ok ∙ ap (λ (l : Listed). length l.records) (sym log)))
     (record {
       more = commit_record (length d.log.records + 1) unit.0 ∷ [];

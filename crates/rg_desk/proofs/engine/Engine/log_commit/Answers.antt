@@ -35,7 +35,7 @@ returns c =
       reserved = omega (arith, ap (λ (l : Listed). l.reserved) c.give_back.ensures, c.append.ensures.reserved, commit_bytes, c.undo_bytes-undo.ensures, ap owed_to c.in-Some.ensures, room);
       base = record {
         opened = refl;
-        held = refl;
+        set_aside = refl;
         forced = ap (λ (l : Listed). l.forced) c.give_back.ensures ∙ c.append.ensures.forced;
         pages = ap (λ (l : Listed). l.pages) c.give_back.ensures ∙ c.append.ensures.pages;
       };

@@ -30,7 +30,7 @@ returns c = record {
   taken = omega (arith, ap (λ (l : Listed). l.reserved) c.give_back.ensures, ap (λ (l : Listed). log_bytes l.records) c.give_back.ensures, c.append.ensures.taken);
   base = record {
     opened = refl;
-    held = refl;
+    set_aside = refl;
     forced = ap (λ (l : Listed). l.forced) c.give_back.ensures ∙ c.append.ensures.forced;
     pages = ap (λ (l : Listed). l.pages) c.give_back.ensures ∙ c.append.ensures.pages;
   };

@@ -50,7 +50,7 @@ returns c =
           ∙ ap (λ (rs : List Record). rs ++ change c.next_position-position.result ∷ []) c.clear.ensures.records
           ∙ ap (λ (n : ℕ). base ++ change (record { 0 = n }) ∷ []) at;
       reserved = omega (arith, c.make.ensures.reserved, c.clear.ensures.reserved);
-      base = record { opened = refl; held = refl; forced = c.make.ensures.forced ∙ c.clear.ensures.forced; pages = c.make.ensures.pages ∙ c.clear.ensures.pages };
+      base = record { opened = refl; set_aside = refl; forced = c.make.ensures.forced ∙ c.clear.ensures.forced; pages = c.make.ensures.pages ∙ c.clear.ensures.pages };
       indexes = λ rows next are here sets. c.replace.ensures.listings rows next are (here ∙ sym c.as_ref.ensures.value) (subst (SetsRow rows next plan.home) (sym c.as_ref-2.ensures.value) sets);
       locks = refl;
       claims = refl;

@@ -1,6 +1,6 @@
 -- What holding bytes of the log for the utility leaves of an engine.
 --
--- 1. What the log has reserved changes by as much as what is held. All else is as it was.
+-- 1. What the log has reserved changes by as much as what is set aside. All else is as it was.
 -- 2. So the engine shows each state that it showed, and what its log leaves can be opened again as
 --    before.
 use Rattle.std.specs.Prelude.{◌≡◌, ◌+◌, ℕ}
@@ -12,10 +12,12 @@ use Rattle.rg_desk.specs.Shows.{Shows}
 use Rattle.rg_desk.specs.Stored.{Grows}
 use Rattle.rg_desk.specs.declared.engine.Engine.{Engine}
 
--- so many bytes are held now
-pub record Holds (old : Engine) (bytes : ℕ) (new : Engine) : Type 0 where
-  pub same : new ≡ record old { log = record old.log { reserved = new.log.reserved }; held = bytes }
-  pub reserved : new.log.reserved + old.held ≡ old.log.reserved + bytes
+-- so many bytes are set aside now
+pub record PutsAside (old : Engine) (bytes : ℕ) (new : Engine) : Type 0 where
+  pub same :
+      new
+      ≡ record old { log = record old.log { reserved = new.log.reserved }; set_aside = bytes }
+  pub reserved : new.log.reserved + old.set_aside ≡ old.log.reserved + bytes
   pub shows : (st : State) (allowed : ℕ) → Shows st allowed old → Shows st allowed new
   pub grows : Grows old.log new.log
   pub opened : new.opened ≡ old.opened

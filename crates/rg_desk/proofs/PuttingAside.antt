@@ -4,13 +4,13 @@ use Rattle.rg_image.specs.Pack.{log_bytes}
 use Rattle.rg_image.specs.Rules.{limit_of}
 use Rattle.rg_log.specs.Kept.{Listed}
 use Rattle.rg_model.specs.State.{State}
-use Rattle.rg_desk.specs.Hold.{Holds}
+use Rattle.rg_desk.specs.Aside.{PutsAside}
 use Rattle.rg_desk.specs.Shows.{Shows}
 use Rattle.rg_desk.specs.declared.engine.Engine.{Engine}
 
--- it shows what it showed, if as much more is reserved as is held, and the log has room for it
-holding_shows : (st : State) (allowed : ℕ) (d : Engine) (bytes reserved : ℕ) → reserved + d.held ≡ d.log.reserved + bytes → log_bytes d.log.records + reserved ≤ limit_of d.log.pages → Shows st allowed d → Shows st allowed (record d { log = record d.log { reserved = reserved }; held = bytes })
-holding_shows st allowed d bytes reserved is room shows = record {
+-- it shows what it showed, if as much more is reserved as is set aside, and the log has room for it
+aside_shows : (st : State) (allowed : ℕ) (d : Engine) (bytes reserved : ℕ) → reserved + d.set_aside ≡ d.log.reserved + bytes → log_bytes d.log.records + reserved ≤ limit_of d.log.pages → Shows st allowed d → Shows st allowed (record d { log = record d.log { reserved = reserved }; set_aside = bytes })
+aside_shows st allowed d bytes reserved is room shows = record {
   first = shows.first;
   begun = shows.begun;
   within = shows.within;
@@ -38,11 +38,11 @@ holding_shows st allowed d bytes reserved is room shows = record {
   trails = record { tells = shows.trails.tells; each = shows.trails.each; paid = omega (arith, shows.trails.paid, is); space = room };
 }
 
-holding_so : (d : Engine) (bytes reserved : ℕ) → reserved + d.held ≡ d.log.reserved + bytes → log_bytes d.log.records + reserved ≤ limit_of d.log.pages → Holds d bytes (record d { log = record d.log { reserved = reserved }; held = bytes })
-holding_so d bytes reserved is room = record {
+aside_so : (d : Engine) (bytes reserved : ℕ) → reserved + d.set_aside ≡ d.log.reserved + bytes → log_bytes d.log.records + reserved ≤ limit_of d.log.pages → PutsAside d bytes (record d { log = record d.log { reserved = reserved }; set_aside = bytes })
+aside_so d bytes reserved is room = record {
   same = refl;
   reserved = is;
-  shows = λ st allowed shows. holding_shows st allowed d bytes reserved is room shows;
+  shows = λ st allowed shows. aside_shows st allowed d bytes reserved is room shows;
   grows = record { more = []; records = sym (append-nil d.log.records); pages = refl };
   opened = refl;
   capacity = refl;
@@ -51,5 +51,5 @@ holding_so d bytes reserved is room = record {
   clean = λ clean. record { names = clean.names; below = clean.below };
 }
 
-pub holding : (d : Engine) (bytes reserved : ℕ) (log : Listed) → log ≡ record d.log { reserved = reserved } → reserved + d.held ≡ d.log.reserved + bytes → log_bytes d.log.records + reserved ≤ limit_of d.log.pages → Holds d bytes (record d { log = log; held = bytes })
-holding d bytes reserved log log_is is room = subst (λ (l : Listed). Holds d bytes (record d { log = l; held = bytes })) (sym log_is) (holding_so d bytes reserved is room)
+pub put_aside : (d : Engine) (bytes reserved : ℕ) (log : Listed) → log ≡ record d.log { reserved = reserved } → reserved + d.set_aside ≡ d.log.reserved + bytes → log_bytes d.log.records + reserved ≤ limit_of d.log.pages → PutsAside d bytes (record d { log = log; set_aside = bytes })
+put_aside d bytes reserved log log_is is room = subst (λ (l : Listed). PutsAside d bytes (record d { log = l; set_aside = bytes })) (sym log_is) (aside_so d bytes reserved is room)

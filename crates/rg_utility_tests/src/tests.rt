@@ -1,0 +1,254 @@
+use rg_base::map::NumberMap;
+use rg_base::table::Table;
+use rg_deck::read::{DECK_LIMIT, read_deck};
+use rg_judge::judge::judge;
+use rg_mem::script::ScriptOperator;
+use rg_mem::volume::MemVolume;
+use rg_opts::operator::read_operator;
+use rg_outside::operator::Operator;
+use rg_print::print::{Close, print};
+use rg_run::played::{Played, RunEnd};
+use rg_run::run::run;
+use std::alloc::Global;
+use std::process::Abort;
+use std::test::Fail;
+
+// Room for more calls than any of these decks makes.
+const CALLS: u32 = 1000;
+
+// The pages of a log that none of these decks fills.
+const WIDE_LOG: u32 = 64;
+
+// The calls of the volume are as many as these decks make.
+const NEVER: Option<u64> = None;
+
+// Plays a deck over an empty table, whose log has so many pages, and whose calls all fail after so
+// many. The operator has the answers of these lines.
+fn played(
+    alloc: Global,
+    log: u32,
+    stop: Option<u64>,
+    deck: &[u8],
+    operator: &[u8],
+) -> Result<Played<MemVolume, ScriptOperator>, Fail> {
+    if deck.len() > DECK_LIMIT {
+        return Err("the deck is too long".into());
+    }
+    let Ok(lines) = read_deck(alloc, deck) else {
+        return Err("the deck has a line outside the grammar".into());
+    };
+    let Ok(answers) = read_operator(alloc, operator) else {
+        return Err("the operator has a line that is no answer".into());
+    };
+    let operator = ScriptOperator::new(alloc, answers.as_slice())?;
+    let volume = MemVolume::new(alloc, log, 8, 8, CALLS, CALLS, &[], stop)?;
+    Ok(run(alloc, volume, operator, lines))
+}
+
+// The run of a deck has this print, after the line of the opening, and is legal.
+fn expect_over(
+    rt: &impl Abort,
+    alloc: Global,
+    log: u32,
+    stop: Option<u64>,
+    deck: &[u8],
+    operator: &[u8],
+    lines: &[u8],
+) -> Result<(), Fail> {
+    let played = played(alloc, log, stop, deck, operator)?;
+    let close = match played.end {
+        RunEnd::Whole { rows } => Close::Rows(rows),
+        RunEnd::Down => Close::Down,
+        _ => return Err("the run was not played to its end".into()),
+    };
+    let mut wanted = b"0 - OPENED copy=1 rows=0 pages=0\n".to_vec(alloc)?;
+    wanted.extend_from_slice(lines)?;
+    let came = print(alloc, &played.trace, false, close)?;
+    assert_eq!(rt; came.as_slice(), wanted.as_slice(), "at {deck:?}");
+    let start: Table = NumberMap::new(alloc);
+    assert_eq!(rt; judge(alloc, &start, &played.trace)?, None, "at {deck:?}");
+    Ok(())
+}
+
+fn expect(
+    rt: &impl Abort,
+    alloc: Global,
+    deck: &[u8],
+    operator: &[u8],
+    lines: &[u8],
+) -> Result<(), Fail> {
+    expect_over(rt, alloc, WIDE_LOG, NEVER, deck, operator, lines)
+}
+
+#[test]
+fn starts_once(rt: HostRuntime) -> Result<(), Fail> {
+    expect(
+        &rt,
+        rt.alloc(),
+        b"REORG TABLESPACE SHRLEVEL CHANGE\nREORG TABLESPACE SHRLEVEL CHANGE\nU\nU\n",
+        b"0 0 TERM\n",
+        b"1 U STARTED copy=1 pages=0\n2 U ACTIVE\n3 U STOP TERM\n4 U IDLE\nEND entries=5 rows=0\n",
+    )
+}
+
+#[test]
+fn obeys_alter_and_deadline(rt: HostRuntime) -> Result<(), Fail> {
+    expect(
+        &rt,
+        rt.alloc(),
+        b"REORG TABLESPACE SHRLEVEL CHANGE MAXRO DEFER DEADLINE 50\nU\nU\nU\nU\nU\nU\nU\nU\nU\n",
+        b"0 0\n0 0\n0 0\n0 0\n0 0\n0 0\n40 10\n40 10 ALTER MAXRO 10\n41 10\n",
+        b"1 U STARTED copy=1 pages=0\n2 U SORT KEY\n3 U SORT CLUS\n4 U SORT CAT\n5 U BUILD KEY\n\
+            6 U BUILD CLUS\n7 U BUILD CAT\n8 U LOG iteration=1 took=0 left=0 NEXT\n\
+            9 U LOG iteration=2 took=0 left=0 DRAIN WRITERS\n10 U STOP DEADLINE\n\
+            END entries=11 rows=0\n",
+    )
+}
+
+// What the steps do that are built, up to the first that is not.
+#[test]
+fn stops_where_it_would_write(rt: HostRuntime) -> Result<(), Fail> {
+    for (deck, operator, lines) in [
+        (
+            b"U\nREORG TABLESPACE SHRLEVEL CHANGE\nU\nU\nU\nU\nU\nU\nU\nU\nU\nU\nU\n".as_slice(),
+            b"".as_slice(),
+            b"1 U IDLE\n2 U STARTED copy=1 pages=0\n3 U SORT KEY\n4 U SORT CLUS\n5 U SORT CAT\n\
+                6 U BUILD KEY\n7 U BUILD CLUS\n8 U BUILD CAT\n\
+                9 U LOG iteration=1 took=0 left=0 DRAIN WRITERS\n10 U GRANTED WRITERS\n\
+                11 U LAST took=0 left=0\n12 U STOP NOMEMORY\n13 U IDLE\nEND entries=14 rows=0\n"
+                .as_slice(),
+        ),
+        // A page is to be copied.
+        (
+            b"1 INSERT 1 10 1 a\n1 COMMIT\nREORG TABLESPACE SHRLEVEL CHANGE\nU\nU\n",
+            b"",
+            b"1 1 OK\n2 1 OK\n3 U STARTED copy=1 pages=1\n4 U STOP NOMEMORY\n5 U IDLE\n\
+                END entries=6 rows=1\n",
+        ),
+        // A change is to be taken: in an iteration, or in the last.
+        (
+            b"REORG TABLESPACE SHRLEVEL CHANGE MAXRO DEFER LONGLOG TERM DELAY 10\n\
+                U\nU\nU\nU\nU\nU\n1 INSERT 1 10 1 a\nU\nU\n1 COMMIT\n",
+            b"7 0\n",
+            b"1 U STARTED copy=1 pages=0\n2 U SORT KEY\n3 U SORT CLUS\n4 U SORT CAT\n\
+                5 U BUILD KEY\n6 U BUILD CLUS\n7 U BUILD CAT\n8 1 OK\n\
+                9 U LOG iteration=1 took=0 left=1 MESSAGE\n10 U STOP NOMEMORY\n11 1 OK\n\
+                END entries=12 rows=1\n",
+        ),
+        (
+            b"REORG TABLESPACE SHRLEVEL CHANGE\nU\nU\nU\nU\nU\nU\n1 INSERT 1 10 1 a\nU\n\
+                2 INSERT 2 20 1 b\n2 SCAN 5 9\n1 INSERT 3 30 1 c\nU\n1 COMMIT\nU\n\
+                1 DELETE 3\n1 COMMIT\nU\n1 DELETE 3\n1 ROLLBACK\n",
+            b"",
+            b"1 U STARTED copy=1 pages=0\n2 U SORT KEY\n3 U SORT CLUS\n4 U SORT CAT\n\
+                5 U BUILD KEY\n6 U BUILD CLUS\n7 U BUILD CAT\n8 1 OK\n\
+                9 U LOG iteration=1 took=0 left=1 DRAIN WRITERS\n10 2 -904 DRAINED\n\
+                11 2 ROWS 0\n12 1 OK\n13 U WAIT 1\n14 1 OK\n15 U GRANTED WRITERS\n\
+                16 1 -904 DRAINED\n17 1 OK\n18 U STOP NOMEMORY\n19 1 OK\n20 1 OK\n\
+                END entries=21 rows=2\n",
+        ),
+    ] {
+        expect(&rt, rt.alloc(), deck, operator, lines)?;
+    }
+    Ok(())
+}
+
+// A drain for ALL, in whose way two readers are.
+#[test]
+fn waits_and_gives_up(rt: HostRuntime) -> Result<(), Fail> {
+    for (deck, operator, lines) in [
+        (
+            b"1 SCAN 1 9\n\
+                REORG TABLESPACE SHRLEVEL CHANGE DRAIN ALL DRAIN_WAIT 5 RETRY 1 RETRY_DELAY 2\n\
+                U\nU\nU\nU\nU\nU\nU\n2 SCAN 1 9\n1 FIND 3\nU\nU\n2 SCAN 1 9\nU\nU\nU\n1 COMMIT\n\
+                U\n2 COMMIT\nU\n3 SELECT 4\nU\nU\n3 SELECT 4\n"
+                .as_slice(),
+            b"0 0\n0 0\n0 0\n0 0\n0 0\n0 0\n0 0\n0 0\n5 0\n6 0\n7 0\n7 0\n8 0\n".as_slice(),
+            b"1 1 ROWS 0\n2 U STARTED copy=1 pages=0\n3 U SORT KEY\n4 U SORT CLUS\n\
+                5 U SORT CAT\n6 U BUILD KEY\n7 U BUILD CLUS\n8 U BUILD CAT\n\
+                9 U LOG iteration=1 took=0 left=0 DRAIN ALL\n10 2 -904 DRAINED\n11 1 KEYS 0:\n\
+                12 U WAIT 1\n13 U GIVEUP 1\n14 2 ROWS 0\n\
+                15 U LOG iteration=2 took=0 left=0 NEXT\n\
+                16 U LOG iteration=3 took=0 left=0 DRAIN ALL\n17 U WAIT 1\n18 1 OK\n\
+                19 U WAIT 2\n20 2 OK\n21 U GRANTED ALL\n22 3 -904 DRAINED\n\
+                23 U LAST took=0 left=0\n24 U STOP NOMEMORY\n25 3 100 NONE\n\
+                END entries=26 rows=0\n"
+                .as_slice(),
+        ),
+        (
+            b"1 SCAN 1 9\nREORG TABLESPACE SHRLEVEL CHANGE RETRY 0 DRAIN_WAIT 5 DRAIN ALL\n\
+                U\nU\nU\nU\nU\nU\nU\nU\nU\n2 SCAN 1 9\nU\n",
+            b"4 0\n4 0\n4 0\n4 0\n4 0\n4 0\n4 0\n8 0\n9 0\n",
+            b"1 1 ROWS 0\n2 U STARTED copy=1 pages=0\n3 U SORT KEY\n4 U SORT CLUS\n\
+                5 U SORT CAT\n6 U BUILD KEY\n7 U BUILD CLUS\n8 U BUILD CAT\n\
+                9 U LOG iteration=1 took=0 left=0 DRAIN ALL\n10 U WAIT 1\n11 U STOP DRAIN\n\
+                12 2 ROWS 0\n13 U IDLE\nEND entries=14 rows=0\n",
+        ),
+    ] {
+        expect(&rt, rt.alloc(), deck, operator, lines)?;
+    }
+    Ok(())
+}
+
+// A log of one page has no room for the record of a switch.
+#[test]
+fn needs_room_in_the_log(rt: HostRuntime) -> Result<(), Fail> {
+    expect_over(
+        &rt,
+        rt.alloc(),
+        1,
+        NEVER,
+        b"REORG TABLESPACE SHRLEVEL CHANGE\nU\n",
+        b"",
+        b"1 U 2 LOGFULL\n2 U IDLE\nEND entries=3 rows=0\n",
+    )
+}
+
+// The opening makes two calls: the third is that of the COMMIT.
+#[test]
+fn is_down_with_the_desk(rt: HostRuntime) -> Result<(), Fail> {
+    expect_over(
+        &rt,
+        rt.alloc(),
+        WIDE_LOG,
+        Some(2),
+        b"REORG TABLESPACE SHRLEVEL CHANGE\nU\n1 INSERT 1 10 1 a\n1 COMMIT\nU\n\
+            REORG TABLESPACE SHRLEVEL CHANGE\n",
+        b"0 0 TERM\n",
+        b"1 U STARTED copy=1 pages=0\n2 U STOP TERM\n3 1 OK\n4 1 3 DEVICE\n5 U 4 DOWN\n\
+            6 U 4 DOWN\nEND entries=7 DOWN\n",
+    )
+}
+
+#[test]
+fn dies_with_the_process(rt: HostRuntime) -> Result<(), Fail> {
+    expect(
+        &rt,
+        rt.alloc(),
+        b"REORG TABLESPACE SHRLEVEL CHANGE\nU\nX\nU\nREORG TABLESPACE SHRLEVEL CHANGE\nU\n",
+        b"",
+        b"1 U STARTED copy=1 pages=0\n2 U SORT KEY\n3 - OPENED copy=1 rows=0 pages=0\n4 U IDLE\n\
+            5 U STARTED copy=1 pages=0\n6 U SORT KEY\nEND entries=7 rows=0\n",
+    )
+}
+
+// Steps that find no utility ask nobody: the next answer is the one behind those of the trace.
+#[test]
+fn asks_once_a_step(rt: HostRuntime) -> Result<(), Fail> {
+    let mut played = played(
+        rt.alloc(),
+        WIDE_LOG,
+        NEVER,
+        b"U\nREORG TABLESPACE SHRLEVEL CHANGE\nU\nX\nU\nREORG TABLESPACE SHRLEVEL CHANGE\nU\nU\n",
+        b"1 0\n2 0\n3 0 TERM\n4 0\n",
+    )?;
+    let mut moments = Vec::new(rt.alloc());
+    for entry in played.trace.iter() {
+        if let Some(answer) = entry.answer {
+            moments.push(answer.now)?;
+        }
+    }
+    assert_eq!(rt; moments.as_slice(), [1, 2, 3].as_slice());
+    assert_eq!(rt; played.operator.ask(0).now, 4);
+    Ok(())
+}
