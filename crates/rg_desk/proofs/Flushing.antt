@@ -46,7 +46,8 @@ use Rattle.rg_desk.specs.Volume.{CallsLog, HasCalls, Leaves, LeavesIfTidy, Volum
 use Rattle.rg_desk.specs.Wrote.{SameEngine}
 use Rattle.rg_desk.specs.declared.engine.Engine.{Engine}
 use Rattle.rg_desk.proofs.Leaving.{has_more, on_calls}
-use Rattle.rg_desk.proofs.OnVolume.{clean_reads, copy_apart, log_wrote, on_fewer, on_marked, on_more, on_same, on_wrote, tidy_then}
+use Rattle.rg_desk.proofs.Copies.{copy_apart}
+use Rattle.rg_desk.proofs.OnVolume.{clean_reads, log_wrote, on_fewer, on_marked, on_more, on_same, on_wrote, tidy_then}
 use Rattle.rg_desk.proofs.Reopening.{sound_leaves}
 use Rattle.rg_desk.proofs.Same.{same_shows}
 use Rattle.rg_desk.proofs.Throughout.{log_sound, sound_begins, sound_more}

@@ -17,6 +17,7 @@ pub mod Members
 pub mod Sessions
 pub mod Claimed
 pub mod NewestKept
+pub mod Copies
 pub mod OnVolume
 pub mod Marks
 pub mod UndoNewest

@@ -5,7 +5,7 @@ use Rattle.std.proofs.lemmas.List.{take-append-le}
 use Rattle.std.specs.List.{AllByRecursion}
 use Rattle.rg_base.specs.declared.position.Position.{Position}
 use Rattle.rg_base.specs.declared.set.Set.{Set}
-use Rattle.rg_base.specs.declared.set.Set.TheVariants.{Log, First, Second}
+use Rattle.rg_base.specs.declared.set.Set.TheVariants.{Log}
 use Rattle.rg_image.specs.Log.{SpellsFrom}
 use Rattle.rg_image.specs.Meaning.{current_of}
 use Rattle.rg_image.specs.Rules.{copy_capacity}
@@ -23,31 +23,23 @@ use Rattle.rg_record.specs.declared.record.Record.{Record}
 use Rattle.rg_space.specs.Memory.{list_seen}
 use Rattle.rg_space.specs.Space.{capacity_in, frames_of}
 use Rattle.rg_space.specs.declared.space.Space.{Space}
-use Rattle.rg_version.specs.OnImage.{HasPages}
 use Rattle.rg_version.specs.Versions.{Epoch, IsOnVolume as IsOnPage, Spells, version}
-use Rattle.rg_version.proofs.OnImage.{calls_keep, more_keeps, write_keeps}
 use Rattle.rg_version.proofs.Redo.{version_more}
 use Rattle.rg_newest.specs.Newest.{IsNewest}
 use Rattle.rg_newest.specs.Tidy.{set_of, switched_pages}
 use Rattle.rg_newest.proofs.Flush.{clean_newest, newest_written, written_version}
 use Rattle.rg_newest.proofs.InMemory.{there_in}
 use Rattle.rg_desk.specs.Newest.{HasNewest}
-use Rattle.rg_desk.specs.OnVolume.{AreMarks, BeganAt, IsMark, IsOn, IsTidyVolume, PartsIfTidy, WasAllTidy, is_clean, is_clean_at, mark_at}
+use Rattle.rg_desk.specs.OnVolume.{AreMarks, BeganAt, HasCopies, IsMark, IsOn, IsTidyVolume, PartsIfTidy, WasAllTidy, is_clean, is_clean_at, mark_at}
 use Rattle.rg_desk.specs.Reopens.{PartsReopen}
 use Rattle.rg_desk.specs.Volume.{CallsLog, HasCalls, VolumeSeen}
 use Rattle.rg_desk.specs.Wrote.{SameEngine}
 use Rattle.rg_desk.specs.declared.engine.Engine.{Engine}
+use Rattle.rg_desk.proofs.Copies.{copies_keep, copies_more, copies_wrote, copy_apart}
 use Rattle.rg_desk.proofs.Leaving.{began}
 use Rattle.rg_desk.proofs.NewestKept.{same_newest}
 
 -- ---- what reads of a set, over calls
-
-pub copy_apart : (copy : ℕ) → Log ≢ set_of copy
-copy_apart copy = go (copy == 1)
-  where
-    go : (b : Bool) → Log ≢ (if b then First else Second)
-    go true = λ e. cc (e)
-    go false = λ e. cc (e)
 
 set_apart : (s set : Set) (q p : ℕ) → (s ≡ set → ⊥) → is_same_page s q set p ≡ false
 set_apart s set q p differ = go (is_same_page s q set p) refl
@@ -133,12 +125,13 @@ began_more e log later more began records within further =
 module _ (e : Epoch) (copy : ℕ) (log later : Listed) (space next : Space ListFrames) (marks : List (Option Position)) (old new : VolumeSeen) (on : IsOn e copy log space marks old)
     (more : List Record) (records : later.records ≡ log.records ++ more) (newest : HasNewest e later.records next) (capacity : capacity_in next ≡ capacity_in space)
     (within : log.forced ≤ length log.records) (further : log.forced ≤ later.forced) (calls : CallsLog old new) (n : ℕ) (has : HasCalls old n) (parts : PartsIfTidy new e later) where
-  pages_on : IfTold old.told (EachImage (HasPages (set_of copy) (capacity_in space) e log.records log.forced)) → IfTold new.told (EachImage (HasPages (set_of copy) (capacity_in next) e later.records later.forced))
+  pages_on : IfTold old.told (EachImage (HasCopies old.capacities copy (capacity_in space) e log.records log.forced)) → IfTold new.told (EachImage (HasCopies old.capacities copy (capacity_in next) e later.records later.forced))
   pages_on h =
-      subst (λ (k : ℕ). IfTold new.told (EachImage (HasPages (set_of copy) k e later.records later.forced))) (sym capacity)
-      (subst (λ (rs : List Record). IfTold new.told (EachImage (HasPages (set_of copy) (capacity_in space) e rs later.forced))) (sym records)
-      (more_keeps (set_of copy) (capacity_in space) e log.records more log.forced later.forced new.told within further
-      (calls_keep (set_of copy) (capacity_in space) e log.records log.forced old.told new.told Log (copy_apart copy) h calls.only)))
+      subst (λ (k : ℕ). IfTold new.told (EachImage (HasCopies old.capacities copy k e later.records later.forced))) (sym capacity)
+      (subst (λ (rs : List Record). IfTold new.told (EachImage (HasCopies old.capacities copy (capacity_in space) e rs later.forced))) (sym records)
+      (told_weaken (EachImage (HasCopies old.capacities copy (capacity_in space) e log.records log.forced)) (EachImage (HasCopies old.capacities copy (capacity_in space) e (log.records ++ more) later.forced)) new.told
+      (λ t each i is. copies_more old.capacities copy (capacity_in space) e log.records more log.forced later.forced i within further (each i is))
+      (copies_keep old.capacities copy (capacity_in space) e log.records log.forced old.told new.told h calls.only)))
 
   marks_on : AreMarks new (set_of copy) e later.records marks
   marks_on =
@@ -155,8 +148,8 @@ module _ (e : Epoch) (copy : ℕ) (log later : Listed) (space next : Space ListF
     began = began_more e log later more on.began records within further;
     newest = newest;
     leaves =
-        subst (λ (c : Capacities). IfTold new.told (λ t. WasAllTidy c t → EachImage (HasPages (set_of copy) (capacity_in next) e later.records later.forced) t)) (sym calls.capacities)
-        (tidy_on _ old.told new.told old.capacities (EachImage (HasPages (set_of copy) (capacity_in space) e log.records log.forced)) (EachImage (HasPages (set_of copy) (capacity_in next) e later.records later.forced)) n calls.only has pages_on on.leaves);
+        subst (λ (c : Capacities). IfTold new.told (λ t. WasAllTidy c t → EachImage (HasCopies c copy (capacity_in next) e later.records later.forced) t)) (sym calls.capacities)
+        (tidy_on _ old.told new.told old.capacities (EachImage (HasCopies old.capacities copy (capacity_in space) e log.records log.forced)) (EachImage (HasCopies old.capacities copy (capacity_in next) e later.records later.forced)) n calls.only has pages_on on.leaves);
     marked = marks_on;
     bases = on.bases;
     counts = on.counts ∙ ap (λ (rs : List Record). switched_pages rs) (sym (ap (take e.from) records ∙ take-append-le e.from log.records more (omega (arith, on.begun, within))));
@@ -175,7 +168,7 @@ on_same e copy d next marks seen same on =
       begun = on.begun;
       began = on.began;
       newest = newest;
-      leaves = subst (λ (k : ℕ). IfTold seen.told (λ t. WasAllTidy seen.capacities t → EachImage (HasPages (set_of copy) k e d.log.records d.log.forced) t)) (sym same.capacity) on.leaves;
+      leaves = subst (λ (k : ℕ). IfTold seen.told (λ t. WasAllTidy seen.capacities t → EachImage (HasCopies seen.capacities copy k e d.log.records d.log.forced) t)) (sym same.capacity) on.leaves;
       marked = on.marked;
       bases = on.bases;
       counts = on.counts;
@@ -237,9 +230,9 @@ module _ (e : Epoch) (copy : ℕ) (log : Listed) (space : Space ListFrames) (pag
         began = on.began;
         newest = on.newest;
         leaves =
-            subst (λ (c : Capacities). IfTold new.told (λ t. WasAllTidy c t → EachImage (HasPages (set_of copy) (capacity_in space) e log.records log.forced) t)) (sym caps)
-            (tidy_on _ old.told new.told old.capacities (EachImage (HasPages (set_of copy) (capacity_in space) e log.records log.forced)) (EachImage (HasPages (set_of copy) (capacity_in space) e log.records log.forced)) n calls has
-            (λ leaves. write_keeps (set_of copy) (capacity_in space) e log.records log.forced old.told new.told result page bytes leaves may made) on.leaves);
+            subst (λ (c : Capacities). IfTold new.told (λ t. WasAllTidy c t → EachImage (HasCopies c copy (capacity_in space) e log.records log.forced) t)) (sym caps)
+            (tidy_on _ old.told new.told old.capacities (EachImage (HasCopies old.capacities copy (capacity_in space) e log.records log.forced)) (EachImage (HasCopies old.capacities copy (capacity_in space) e log.records log.forced)) n calls has
+            (λ leaves. copies_wrote old.capacities copy (capacity_in space) e log.records log.forced old.told new.told result page bytes leaves may made) on.leaves);
         marked = reads_wrote (λ p b. IsMark e log.records p b (mark_at marks p)) (set_of copy) page bytes (λ b. subst (IsMark e log.records page b) (sym none) tt) old.told new.told result on.marked made;
         bases = on.bases;
         counts = on.counts;

@@ -30,7 +30,8 @@ use Rattle.rg_sound.proofs.Imaged.{image_sound}
 use Rattle.rg_sound.proofs.LogPages.{left_entries, left_pages, left_positions}
 use Rattle.rg_sound.proofs.Owners.{image_owners}
 use Rattle.rg_sound.proofs.Switched.{pages_front}
-use Rattle.rg_desk.specs.OnVolume.{GoesOnTidy, HasTidyOwners, IsOn, IsSoundTidy, IsTidyVolume, LeavesCopyIfTidy, LeavesSoundIfTidy, WasAllTidy}
+use Rattle.rg_switch.specs.Switched.{AreOldPages, other_of}
+use Rattle.rg_desk.specs.OnVolume.{GoesOnTidy, HasCopies, HasTidyOthers, HasTidyOwners, IsOn, IsSoundTidy, IsTidyVolume, LeavesCopyIfTidy, LeavesSoundIfTidy, WasAllTidy}
 use Rattle.rg_desk.specs.Reopens.{PartsReopen}
 use Rattle.rg_desk.specs.Volume.{HasCalls, LeavesIfTidy, VolumeSeen, WasTidy}
 
@@ -88,20 +89,33 @@ module _ (e : Epoch) (copy : ℕ) (log : Listed) (space : Space ListFrames) (mar
       spelled_tidy (log_pages seen.capacities) (take is.count log.records) i (left_entries seen.capacities e log.records log.forced is.count i left) (left_positions seen.capacities e log.records log.forced is.count i left)
       (λ some. omega (arith, front_page is.count log.records, left.room (omega (arith, some, length-take is.count log.records, left.high)))) left.log
 
+  -- no page of the other copy has a position that its log has not
+  others_left : (i : Image) (is : SpellsFrom log.pages log.records log.forced i) → IsLeft seen.capacities e log.records log.forced is.count i → AreOldPages seen.capacities (other_of copy) log.forced i → HasTidyOthers seen.capacities i
+  others_left i is left old =
+      let read : log_of (log_pages seen.capacities) i ≡ take is.count log.records = log_is_read (log_pages seen.capacities) i (take is.count log.records) (left_pages seen.capacities e log.records log.forced is.count i left) in
+      let same : (current_of (take is.count log.records)).copy ≡ copy = (steady_front e log.records is.count (omega (arith, on.begun, is.least)) is.most on.newest.steady).copy ∙ on.copy_is in
+      subst (λ (rs : List Record). AreOldPages seen.capacities (other_of (current_of rs).copy) (length rs) i) (sym read)
+      (subst (λ (c : ℕ). AreOldPages seen.capacities (other_of c) (length (take is.count log.records)) i) (sym same)
+      (λ p one high.
+      let was = old p one high in
+      let low = was.is.position in
+      record { page = was.page; spells = was.spells; is = record { copy_is = was.is.copy_is; number = was.is.number; position = omega (arith, low, is.least, length-take is.count log.records, is.most) } }))
+
   -- it is sound, and tidy
-  pub sound_left : (i : Image) → SpellsFrom log.pages log.records log.forced i → HasPages (set_of copy) (capacity_in space) e log.records log.forced i → PartsReopen seen.capacities e log → IsSoundTidy seen.capacities i
+  pub sound_left : (i : Image) → SpellsFrom log.pages log.records log.forced i → HasCopies seen.capacities copy (capacity_in space) e log.records log.forced i → PartsReopen seen.capacities e log → IsSoundTidy seen.capacities i
   sound_left i is stand parts =
-      let left : IsLeft seen.capacities e log.records log.forced is.count i = is_left i is stand in
+      let left : IsLeft seen.capacities e log.records log.forced is.count i = is_left i is stand.own in
       record {
         sound = image_sound seen.capacities e log.records log.forced is.count i left (parts.can is.count is.least is.most);
         tidy = record {
-          log = log_left i is stand;
+          log = log_left i is stand.own;
           pages =
               tidy_left i
               (subst (λ (k : ℕ). HasPart k log.records log.forced i) (sym pages)
               (is.count, is.least, is.most, log_is_read (log_pages seen.capacities) i (take is.count log.records) (left_pages seen.capacities e log.records log.forced is.count i left)))
-              stand;
-          owners = owners_left i is stand parts;
+              stand.own;
+          others = others_left i is left stand.other;
+          owners = owners_left i is stand.own parts;
         };
       }
 
@@ -109,7 +123,7 @@ module _ (e : Epoch) (copy : ℕ) (log : Listed) (space : Space ListFrames) (mar
   sound_leaves leaves = go seen.told leaves on.leaves on.parts
     where
       go : (told : Option Told) → IfTold told (λ t. WasTidy log.pages t → EachImage (SpellsFrom log.pages log.records log.forced) t)
-          → IfTold told (λ t. WasAllTidy seen.capacities t → EachImage (HasPages (set_of copy) (capacity_in space) e log.records log.forced) t)
+          → IfTold told (λ t. WasAllTidy seen.capacities t → EachImage (HasCopies seen.capacities copy (capacity_in space) e log.records log.forced) t)
           → IfTold told (λ t. WasAllTidy seen.capacities t → PartsReopen seen.capacities e log)
           → IfTold told (λ t. WasAllTidy seen.capacities t → EachImage (IsSoundTidy seen.capacities) t)
       go None left stand parts = tt
@@ -122,7 +136,7 @@ module _ (e : Epoch) (copy : ℕ) (log : Listed) (space : Space ListFrames) (mar
       then t was = subst (λ (k : ℕ). WasTidy k t) (sym pages) was
 
       go : (told : Option Told) → IfTold told (λ t. t.start + calls ≤ length t.calls) → IfTold told (λ t. WasTidy log.pages t → EachImage (SpellsFrom log.pages log.records log.forced) t)
-          → IfTold told (λ t. WasAllTidy seen.capacities t → EachImage (HasPages (set_of copy) (capacity_in space) e log.records log.forced) t)
+          → IfTold told (λ t. WasAllTidy seen.capacities t → EachImage (HasCopies seen.capacities copy (capacity_in space) e log.records log.forced) t)
           → IfTold told (λ t. WasAllTidy seen.capacities t → PartsReopen seen.capacities e log)
           → IfTold told (λ t. (t.start ≤ length t.calls) × (WasTidy (log_pages seen.capacities) t → IsTidyLog (log_pages seen.capacities) (read_of t.first t.calls)) × (WasAllTidy seen.capacities t → IsTidyVolume seen.capacities (read_of t.first t.calls)))
       go None has left stand parts = tt

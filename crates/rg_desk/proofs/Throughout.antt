@@ -1,31 +1,28 @@
 -- What a crash leaves at each moment of calls is sound.
-use Rattle.std.proofs.Common.{◌≡◌, ◌≢◌, ◌≤◌, ◌++◌, ℕ, Bool, true, false, if◌then◌else◌, List, length, Option, Some, None, refl, sym, ◌∙◌, ap, subst, arith}
+use Rattle.std.proofs.Common.{◌≡◌, ◌≤◌, ◌++◌, ℕ, List, length, Option, Some, None, sym, ◌∙◌, ap, subst, arith}
 use Rattle.rg_base.specs.declared.position.Position.{Position}
-use Rattle.rg_base.specs.declared.set.Set.{Set}
 use Rattle.rg_base.specs.declared.set.Set.TheVariants.{Log}
 use Rattle.rg_image.specs.Kept.{AreEntries}
 use Rattle.rg_image.specs.Log.{SpellsFrom}
 use Rattle.rg_image.specs.Pack.{end_of, start}
 use Rattle.rg_log.specs.Kept.{Listed, log_pages}
-use Rattle.rg_outside.specs.Calls.{Call, FailedRead, FailedSync, FailedWrite, Image, Read, Refused, Synced, Told, Wrote, effect_of, is_same_page}
+use Rattle.rg_outside.specs.Calls.{Call, Image, Told}
 use Rattle.rg_outside.specs.Capacities.{Capacities}
 use Rattle.rg_outside.specs.Made.{Made, WritesIn}
-use Rattle.rg_outside.specs.Moments.{EachCall, EachImage, HoldsThroughout, IfTold, put}
-use Rattle.rg_outside.proofs.Every.{Turns, at_same, told_weaken}
-use Rattle.rg_outside.proofs.Frame.{both_throughout, calls_each}
+use Rattle.rg_outside.specs.Moments.{EachCall, EachImage, HoldsThroughout, IfTold}
+use Rattle.rg_outside.proofs.Every.{told_weaken}
+use Rattle.rg_outside.proofs.Frame.{both_throughout}
 use Rattle.rg_outside.proofs.Run.{begins, goes_on, weaken}
 use Rattle.rg_page.specs.declared.list.ListFrames.{ListFrames}
 use Rattle.rg_record.specs.declared.record.Record.{Record}
 use Rattle.rg_space.specs.Space.{capacity_in}
 use Rattle.rg_space.specs.declared.space.Space.{Space}
-use Rattle.rg_version.specs.OnImage.{HasPages}
-use Rattle.rg_version.specs.Versions.{Epoch, IsOnVolume as IsOnPage}
-use Rattle.rg_version.proofs.OnVolume.{stays_there}
-use Rattle.rg_newest.specs.Tidy.{set_of}
-use Rattle.rg_desk.specs.OnVolume.{IsOn, IsSoundTidy, LeavesSoundIfTidy, SoundThroughout, WasAllTidy}
+use Rattle.rg_version.specs.Versions.{Epoch}
+use Rattle.rg_desk.specs.OnVolume.{HasCopies, IsOn, IsSoundTidy, LeavesSoundIfTidy, SoundThroughout, WasAllTidy}
 use Rattle.rg_desk.specs.Reopens.{PartsReopen}
 use Rattle.rg_desk.specs.Volume.{CallsLog, HasCalls, Leaves, LeavesIfTidy, VolumeSeen, WasTidy}
-use Rattle.rg_desk.proofs.OnVolume.{both_tidy, copy_apart, tidy_on}
+use Rattle.rg_desk.proofs.Copies.{copies_more, copies_through}
+use Rattle.rg_desk.proofs.OnVolume.{both_tidy, tidy_on}
 use Rattle.rg_desk.proofs.Reopening.{sound_left}
 
 -- ---- no calls, and one more
@@ -59,31 +56,6 @@ sound_more old mid new call n so_far sound made calls has caps =
 
 -- ---- calls of the log
 
--- a page of another set leaves those of this one
-module _ (set : Set) (capacity : ℕ) (e : Epoch) (rs : List Record) (forced : ℕ) where
-  put_apart : (other : Set) (page : ℕ) (bytes : List ℕ) → other ≢ set → (i : Image) → HasPages set capacity e rs forced i → HasPages set capacity e rs forced (put i other page bytes)
-  put_apart other page bytes differ i has = λ p one high. go p one high (is_same_page other page set p) refl
-    where
-      go : (p : ℕ) → 1 ≤ p → p ≤ capacity → (t : Bool) → is_same_page other page set p ≡ t → IsOnPage e rs forced p (put i other page bytes set p)
-      go p one high true same = absurd (differ (at_same other set page p (λ s q. other ≡ s) same refl))
-      go p one high false same = subst (λ (t : Bool). IsOnPage e rs forced p (if t then bytes else i set p)) (sym same) (has p one high)
-
-  turns_apart : (other : Set) → other ≢ set → (call : Call) → WritesIn other call → Turns (HasPages set capacity e rs forced) (HasPages set capacity e rs forced) (effect_of call)
-  turns_apart other differ (Wrote s p b) is = (λ i has. has, λ i has. put_apart s p b (λ same. differ (sym is ∙ same)) i has)
-  turns_apart other differ (FailedWrite s p b reads) is = (λ i has. has, λ i has. put_apart s p b (λ same. differ (sym is ∙ same)) i has)
-  turns_apart other differ Read is = λ i has. has
-  turns_apart other differ Synced is = λ i has. has
-  turns_apart other differ FailedRead is = λ i has. has
-  turns_apart other differ FailedSync is = λ i has. has
-  turns_apart other differ Refused is = λ i has. has
-
-  -- so calls that write another set leave them at each moment, also where records were appended
-  pages_apart : (more : List Record) (old new : Option Told) (other : Set) → other ≢ set → forced ≤ length rs → IfTold old (EachImage (HasPages set capacity e rs forced)) → EachCall old new (WritesIn other) → HoldsThroughout old new (EachImage (HasPages set capacity e (rs ++ more) forced))
-  pages_apart more old new other differ within h made =
-      weaken (EachImage (HasPages set capacity e rs forced)) (EachImage (HasPages set capacity e (rs ++ more) forced)) old new
-      (λ t each i is p one last. stays_there e rs more p forced forced (i set p) within (omega arith) (each i is p one last))
-      (calls_each (HasPages set capacity e rs forced) (WritesIn other) old new (turns_apart other differ) h made)
-
 -- at the end of calls
 pub each_moment : (old new : Option Told) (P : Told → Type 0) → HoldsThroughout old new P → IfTold new (λ t. HoldsThroughout old (Some t) P)
 each_moment old None P h = tt
@@ -98,7 +70,7 @@ module _ (e : Epoch) (copy : ℕ) (log later : Listed) (space next : Space ListF
   held = record later { forced = log.forced }
 
   abbrev Pages : Image → Type 0
-  Pages i = HasPages (set_of copy) (capacity_in next) e later.records log.forced i
+  Pages i = HasCopies old.capacities copy (capacity_in next) e later.records log.forced i
 
   abbrev Spelled : Image → Type 0
   Spelled i = SpellsFrom later.pages later.records log.forced i
@@ -106,13 +78,15 @@ module _ (e : Epoch) (copy : ℕ) (log later : Listed) (space next : Space ListF
   abbrev Both : Image → Type 0
   Both i = Spelled i × Pages i
 
-  pages_through : IfTold old.told (EachImage (HasPages (set_of copy) (capacity_in space) e log.records log.forced)) → HoldsThroughout old.told new.told (EachImage (λ i. HasPages (set_of copy) (capacity_in next) e later.records log.forced i))
+  pages_through : IfTold old.told (EachImage (HasCopies old.capacities copy (capacity_in space) e log.records log.forced)) → HoldsThroughout old.told new.told (EachImage (λ i. HasCopies old.capacities copy (capacity_in next) e later.records log.forced i))
   pages_through h =
-      subst (λ (k : ℕ). HoldsThroughout old.told new.told (EachImage (HasPages (set_of copy) k e later.records log.forced))) (sym capacity)
-      (subst (λ (rs : List Record). HoldsThroughout old.told new.told (EachImage (HasPages (set_of copy) (capacity_in space) e rs log.forced))) (sym records)
-      (pages_apart (set_of copy) (capacity_in space) e log.records log.forced more old.told new.told Log (copy_apart copy) within h calls.only))
+      subst (λ (k : ℕ). HoldsThroughout old.told new.told (EachImage (HasCopies old.capacities copy k e later.records log.forced))) (sym capacity)
+      (subst (λ (rs : List Record). HoldsThroughout old.told new.told (EachImage (HasCopies old.capacities copy (capacity_in space) e rs log.forced))) (sym records)
+      (weaken (EachImage (HasCopies old.capacities copy (capacity_in space) e log.records log.forced)) (EachImage (HasCopies old.capacities copy (capacity_in space) e (log.records ++ more) log.forced)) old.told new.told
+      (λ t each i is. copies_more old.capacities copy (capacity_in space) e log.records more log.forced log.forced i within (omega arith) (each i is))
+      (copies_through old.capacities copy (capacity_in space) e log.records log.forced old.told new.told h calls.only)))
 
-  both_through : IfTold old.told (λ t. EachImage (SpellsFrom log.pages log.records log.forced) t × EachImage (HasPages (set_of copy) (capacity_in space) e log.records log.forced) t) → IfTold new.told (λ t. HoldsThroughout old.told (Some t) (EachImage Both))
+  both_through : IfTold old.told (λ t. EachImage (SpellsFrom log.pages log.records log.forced) t × EachImage (HasCopies old.capacities copy (capacity_in space) e log.records log.forced) t) → IfTold new.told (λ t. HoldsThroughout old.told (Some t) (EachImage Both))
   both_through h =
       each_moment old.told new.told (EachImage Both)
       (both_throughout Spelled Pages Both old.told new.told (λ i spells stand. (spells, stand))
@@ -124,15 +98,15 @@ module _ (e : Epoch) (copy : ℕ) (log later : Listed) (space next : Space ListF
   each_sound : (t : Told) → HoldsThroughout old.told (Some t) (EachImage Both) → PartsReopen new.capacities e held → HoldsThroughout old.told (Some t) (EachImage (IsSoundTidy new.capacities))
   each_sound t h parts =
       weaken (EachImage Both) (EachImage (IsSoundTidy new.capacities)) old.told (Some t)
-      (λ u each i is. let here : Both i = each i is in sound_left e copy held next marks_after new after held_pages entries set i here.0 here.1 parts) h
+      (λ u each i is. let here : Both i = each i is in sound_left e copy held next marks_after new after held_pages entries set i here.0 (subst (λ (c : Capacities). HasCopies c copy (capacity_in next) e later.records log.forced i) (sym calls.capacities) here.1) parts) h
 
   pub log_sound : SoundThroughout old new
   log_sound =
       told_then new.told new.capacities (λ t. HoldsThroughout old.told (Some t) (EachImage Both)) (λ t. PartsReopen new.capacities e held) (λ t. HoldsThroughout old.told (Some t) (EachImage (IsSoundTidy new.capacities))) each_sound
       (subst (λ (c : Capacities). IfTold new.told (λ t. WasAllTidy c t → HoldsThroughout old.told (Some t) (EachImage Both))) (sym calls.capacities)
-      (tidy_on (WritesIn Log) old.told new.told old.capacities (λ t. EachImage (SpellsFrom log.pages log.records log.forced) t × EachImage (HasPages (set_of copy) (capacity_in space) e log.records log.forced) t)
+      (tidy_on (WritesIn Log) old.told new.told old.capacities (λ t. EachImage (SpellsFrom log.pages log.records log.forced) t × EachImage (HasCopies old.capacities copy (capacity_in space) e log.records log.forced) t)
       (λ t. HoldsThroughout old.told (Some t) (EachImage Both)) n calls.only has both_through
-      (both_tidy old.told old.capacities (EachImage (SpellsFrom log.pages log.records log.forced)) (EachImage (HasPages (set_of copy) (capacity_in space) e log.records log.forced)) spelled on.leaves)))
+      (both_tidy old.told old.capacities (EachImage (SpellsFrom log.pages log.records log.forced)) (EachImage (HasCopies old.capacities copy (capacity_in space) e log.records log.forced)) spelled on.leaves)))
       after.parts
     where
       spelled : IfTold old.told (λ t. WasAllTidy old.capacities t → EachImage (SpellsFrom log.pages log.records log.forced) t)

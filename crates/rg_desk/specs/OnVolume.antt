@@ -2,7 +2,8 @@
 --
 -- 1. The copy began with some pages, and each page of the engine is the newest version of its page.
 -- 2. Where the volume read tidy when the count began, whatever a crash leaves of each page of the
---    copy's set is a version that the forced records cover, or a page that is left over.
+--    copy's set is a version that the forced records cover, or a page that is left over. No page of
+--    the other copy has a position above them.
 -- 3. A mark is a position: the volume reads the page as it was up to there, since it was read so or
 --    written so by a call that succeeded. A page without a mark was neither read nor written.
 -- 4. A page is clean where its mark is its own position.
@@ -30,6 +31,7 @@ use Rattle.rg_version.specs.OnImage.{HasPages}
 use Rattle.rg_sound.specs.Reopens.{AreTidyOwners}
 use Rattle.rg_sound.specs.Sound.{IsSound}
 use Rattle.rg_version.specs.Versions.{Epoch, IsBegun, Spells, version}
+use Rattle.rg_switch.specs.Switched.{AreOldPages, other_of}
 use Rattle.rg_newest.specs.Tidy.{AreTidyPages, set_of, switched_pages}
 use Rattle.rg_desk.specs.Newest.{HasNewest}
 use Rattle.rg_desk.specs.Reopens.{IsCleanIn, PartsReopen}
@@ -40,10 +42,18 @@ use Rattle.rg_desk.specs.declared.engine.Engine.{Engine}
 abbrev pub HasTidyOwners : Capacities → Image → Type 0
 HasTidyOwners capacities i = AreTidyOwners (log_of (log_pages capacities) i) i
 
--- an image is tidy: its log, the pages past those of its copy, and the owners of its dead areas
+-- the pages of the other copy of an image have no position that its log has not
+abbrev pub HasTidyOthers : Capacities → Image → Type 0
+HasTidyOthers capacities i =
+    let rs = log_of (log_pages capacities) i in
+    AreOldPages capacities (other_of (current_of rs).copy) (length rs) i
+
+-- an image is tidy: its log, the pages past those of its copy and those of the other copy, and the
+-- owners of its dead areas
 pub record IsTidyVolume (capacities : Capacities) (i : Image) : Type 0 where
   pub log : IsTidyLog (log_pages capacities) i
   pub pages : AreTidyPages capacities i
+  pub others : HasTidyOthers capacities i
   pub owners : HasTidyOwners capacities i
 
 -- it is sound, and tidy
@@ -55,12 +65,19 @@ pub record IsSoundTidy (capacities : Capacities) (i : Image) : Type 0 where
 abbrev pub WasAllTidy : Capacities → Told → Type 0
 WasAllTidy capacities t = IsTidyVolume capacities (read_at t t.start)
 
--- where it did, a crash leaves the pages of the copy
+-- an image has the pages of both copies: of the current one each may stand there, and none of the
+-- other one has a position above those that are forced
+pub record HasCopies (capacities : Capacities) (copy capacity : ℕ) (e : Epoch) (rs : List Record)
+    (forced : ℕ) (i : Image) : Type 0 where
+  pub own : HasPages (set_of copy) capacity e rs forced i
+  pub other : AreOldPages capacities (other_of copy) forced i
+
+-- where it did, a crash leaves the pages of both copies
 abbrev pub LeavesPagesIfTidy :
     VolumeSeen → (copy capacity : ℕ) → Epoch → List Record → (forced : ℕ) → Type 0
 LeavesPagesIfTidy seen copy capacity e rs forced =
     IfTold seen.told (λ t. WasAllTidy seen.capacities t
-    → EachImage (HasPages (set_of copy) capacity e rs forced) t)
+    → EachImage (HasCopies seen.capacities copy capacity e rs forced) t)
 
 -- If the log read tidy when the count began, it does so now. So it is with all of the volume.
 abbrev pub GoesOnTidy : VolumeSeen → Type 0

@@ -16,7 +16,7 @@ use Rattle.rg_log.specs.Kept.{Listed, log_pages}
 use Rattle.rg_log.specs.Open.{IsCertain, IsQuiet}
 use Rattle.rg_outside.specs.Calls.{Call, FailedRead, FailedSync, FailedWrite, Image, Read, Refused, Synced, Told, Wrote, left_of, read_of}
 use Rattle.rg_outside.specs.Capacities.{Capacities, IsPage, capacity_of}
-use Rattle.rg_outside.specs.Moments.{EachCall, EachImage, IfTold}
+use Rattle.rg_outside.specs.Moments.{EachCall, EachImage, IfTold, IsImage}
 use Rattle.rg_outside.proofs.Every.{told_weaken}
 use Rattle.rg_outside.proofs.Images.{one_only}
 use Rattle.rg_page.specs.Content.{Content, content_at}
@@ -25,9 +25,7 @@ use Rattle.rg_rebuilt.specs.Rebuilt.{CanRebuild}
 use Rattle.rg_record.specs.declared.record.Record.{Record}
 use Rattle.rg_space.specs.Space.{capacity_in}
 use Rattle.rg_space.specs.declared.space.Space.{Space}
-use Rattle.rg_version.specs.OnImage.{HasPages}
 use Rattle.rg_version.specs.Versions.{Epoch, IsOnVolume as IsOnPage, Spells, taken_if, taken_past, version}
-use Rattle.rg_version.proofs.OnImage.{more_keeps}
 use Rattle.rg_version.proofs.Redo.{version_more}
 use Rattle.rg_newest.specs.OpenLaws.{IsOpened}
 use Rattle.rg_newest.specs.Tidy.{AreSpare, opened_epoch, set_of}
@@ -35,9 +33,11 @@ use Rattle.rg_newest.proofs.Opening.{opening_marks, opening_stands}
 use Rattle.rg_newest.proofs.Steady.{opened_past}
 use Rattle.rg_newest.proofs.Switching.{has_switched}
 use Rattle.rg_desk.specs.Newest.{HasNewest}
-use Rattle.rg_desk.specs.OnVolume.{IsMark, IsOn, IsTidyVolume, WasAllTidy, mark_at}
+use Rattle.rg_desk.specs.OnVolume.{HasCopies, IsMark, IsOn, IsTidyVolume, WasAllTidy, mark_at}
 use Rattle.rg_desk.specs.Reopens.{PartsReopen}
 use Rattle.rg_desk.specs.Volume.{VolumeSeen}
+use Rattle.rg_desk.proofs.Copies.{copies_more}
+use Rattle.rg_switch.specs.Switched.{AreOldPages, IsOldPage, other_of}
 use Rattle.rg_restart.specs.declared.data.LastSwitch.{LastSwitch}
 use Rattle.rg_restart.specs.Data.{IsMarked, IsTaken, MarksPages, mark_if, switch_of}
 use Rattle.rg_restart.specs.Found.{ReopensFrom}
@@ -142,11 +142,21 @@ module _ (rs : List Record) (base : List Content) (marks : List (Option Position
     pub low : WasAllTidy capacities t → (p : ℕ) → 1 ≤ p → p ≤ count_of rs → IsBelow (greatest_tran rs) (content_at base p)
     low was = subst (λ (xs : List Record). AreTidyOwners xs i) (log_is_read (used_pages capacities.log) i rs k.has) (k.tidy was).owners base k.takes
 
+    -- no page of the other copy has a position that the log has not
+    others : WasAllTidy capacities t → AreOldPages capacities (other_of (copy_of rs)) (length rs) i
+    others was = subst (λ (xs : List Record). AreOldPages capacities (other_of (current_of xs).copy) (length xs) i) (log_is_read (used_pages capacities.log) i rs k.has) (k.tidy was).others
+
     -- a crash leaves what was read
-    stands : WasAllTidy capacities t → EachImage (HasPages set (copy_capacity capacities (copy_of rs)) e rs (length rs)) t
-    stands was j is p one high =
-        let in_set : IsPage t.capacities set p = subst (λ (c : Capacities). IsPage c set p) (sym k.own) (one, omega (arith, high, copy_within capacities (copy_of rs))) in
-        subst (IsOnPage e rs (length rs) p) (sym (k.sure set p (j set p) (is set p in_set))) (opening_stands capacities rs base i opened (spare was) p one high)
+    same_there : (copy p : ℕ) → 1 ≤ p → p ≤ copy_capacity capacities copy → (j : Image) → IsImage t j → j (set_of copy) p ≡ i (set_of copy) p
+    same_there copy p one high j is =
+        let in_set : IsPage t.capacities (set_of copy) p = subst (λ (c : Capacities). IsPage c (set_of copy) p) (sym k.own) (one, omega (arith, high, copy_within capacities copy)) in
+        k.sure (set_of copy) p (j (set_of copy) p) (is (set_of copy) p in_set)
+
+    stands : WasAllTidy capacities t → EachImage (HasCopies capacities (copy_of rs) (copy_capacity capacities (copy_of rs)) e rs (length rs)) t
+    stands was j is = record {
+      own = λ p one high. subst (IsOnPage e rs (length rs) p) (sym (same_there (copy_of rs) p one high j is)) (opening_stands capacities rs base i opened (spare was) p one high);
+      other = λ p one high. subst (IsOldPage (other_of (copy_of rs)) (length rs) p) (sym (same_there (other_of (copy_of rs)) p one high j is)) (others was p one high);
+    }
 
     -- a mark shows a version
     marks_one : (n : ℕ) (m : Option Position) → 1 ≤ n → mark_at marks n ≡ m → IsMark e rs n (i set n) m
@@ -186,8 +196,8 @@ module _ (rs : List Record) (base : List Content) (marks : List (Option Position
     };
     newest = newest;
     leaves =
-        subst (λ (c : Capacities). IfTold seen.told (λ t. WasAllTidy c t → EachImage (HasPages (set_of copy) (capacity_in space) e log.records log.forced) t)) (sym own)
-        (told_weaken (IsKnown rs base marks capacities) (λ t. WasAllTidy capacities t → EachImage (HasPages (set_of copy) (capacity_in space) e log.records log.forced) t) seen.told leaves_at known);
+        subst (λ (c : Capacities). IfTold seen.told (λ t. WasAllTidy c t → EachImage (HasCopies c copy (capacity_in space) e log.records log.forced) t)) (sym own)
+        (told_weaken (IsKnown rs base marks capacities) (λ t. WasAllTidy capacities t → EachImage (HasCopies capacities copy (capacity_in space) e log.records log.forced) t) seen.told leaves_at known);
     marked =
         told_weaken (IsKnown rs base marks capacities) (λ t. (p : ℕ) → 1 ≤ p → IsMark e log.records p (read_of t.first t.calls (set_of copy) p) (mark_at marks p)) seen.told marks_at known;
     bases = reopens.begun;
@@ -200,12 +210,12 @@ module _ (rs : List Record) (base : List Content) (marks : List (Option Position
       front : take (length rs) log.records ≡ rs
       front = ap (take (length rs)) records ∙ take-append-le (length rs) rs more (omega arith) ∙ take-length rs
 
-      leaves_at : (t : Told) → IsKnown rs base marks capacities t → WasAllTidy capacities t → EachImage (HasPages (set_of copy) (capacity_in space) e log.records log.forced) t
+      leaves_at : (t : Told) → IsKnown rs base marks capacities t → WasAllTidy capacities t → EachImage (HasCopies capacities copy (capacity_in space) e log.records log.forced) t
       leaves_at t k was =
-          subst (λ (c : ℕ). EachImage (HasPages (set_of c) (capacity_in space) e log.records log.forced) t) (sym copy_is)
-          (subst (λ (n : ℕ). EachImage (HasPages set n e log.records log.forced) t) (sym capacity)
-          (subst (λ (xs : List Record). EachImage (HasPages set (copy_capacity capacities (copy_of rs)) e xs log.forced) t) (sym records)
-          (more_keeps set (copy_capacity capacities (copy_of rs)) e rs more (length rs) log.forced (Some t) (omega arith) (omega (arith, forced)) (stands t k was))))
+          subst (λ (c : ℕ). EachImage (HasCopies capacities c (capacity_in space) e log.records log.forced) t) (sym copy_is)
+          (subst (λ (n : ℕ). EachImage (HasCopies capacities (copy_of rs) n e log.records log.forced) t) (sym capacity)
+          (subst (λ (xs : List Record). EachImage (HasCopies capacities (copy_of rs) (copy_capacity capacities (copy_of rs)) e xs log.forced) t) (sym records)
+          (λ j is. copies_more capacities (copy_of rs) (copy_capacity capacities (copy_of rs)) e rs more (length rs) log.forced j (omega arith) (omega (arith, forced)) (stands t k was j is))))
 
       parts_at : (t : Told) → IsKnown rs base marks capacities t → WasAllTidy capacities t → PartsReopen capacities e log
       parts_at t k was = record {

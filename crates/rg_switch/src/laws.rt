@@ -1,0 +1,17 @@
+//! Each function's contract is a law of the definitions. None of them runs anything.
+ghost use Rattle.rg_switch.specs.Laws.{SwitchIsLeft, SwitchOwners, SwitchReopens, SwitchStands, SwitchStores, SwitchTells};
+
+/// A log that ends with a Switch can be opened, of the copy that it names.
+pub fn switch_law()
+    ensures stores { SwitchStores }
+    ensures tells { SwitchTells }
+    ensures stands { SwitchStands }
+    ensures reopens { SwitchReopens }
+    ensures owners { SwitchOwners }
+{}
+
+/// What a crash leaves of such a log, and of the pages that were written before, is left of that
+/// copy.
+pub fn image_law()
+    ensures { SwitchIsLeft }
+{}
