@@ -1,0 +1,15 @@
+//! Each function's contract is a law of the definitions. None of them runs anything.
+ghost use Rattle.rg_anew.specs.Anew.{NewCopyCanSwitch, SwitchBegins};
+ghost use Rattle.rg_anew.specs.Forcing.{SwitchIsEither, VersionsAreOld};
+
+/// A log may turn to a copy that has its rows, and the table begins anew on it.
+pub fn begin_law()
+    ensures can { NewCopyCanSwitch }
+    ensures begins { SwitchBegins }
+{}
+
+/// While the Switch is forced, what a crash leaves is left of the one copy or of the other.
+pub fn either_law()
+    ensures either { SwitchIsEither }
+    ensures versions { VersionsAreOld }
+{}
