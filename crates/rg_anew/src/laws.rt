@@ -1,6 +1,7 @@
 //! Each function's contract is a law of the definitions. None of them runs anything.
 ghost use Rattle.rg_anew.specs.Anew.{NewCopyCanSwitch, SwitchBegins};
 ghost use Rattle.rg_anew.specs.Forcing.{SwitchIsEither, VersionsAreOld};
+ghost use Rattle.rg_anew.specs.Writing.{OldThroughout, SyncLeavesCopy, WriteReads};
 
 /// A log may turn to a copy that has its rows, and the table begins anew on it.
 pub fn begin_law()
@@ -12,4 +13,12 @@ pub fn begin_law()
 pub fn either_law()
     ensures either { SwitchIsEither }
     ensures versions { VersionsAreOld }
+{}
+
+/// While the pages of a new copy are written, its set has old pages. After the sync whatever a
+/// crash leaves has the copy.
+pub fn writing_law()
+    ensures old { OldThroughout }
+    ensures reads { WriteReads }
+    ensures leaves { SyncLeavesCopy }
 {}
