@@ -47,6 +47,12 @@ pub trans_below : (top : ℕ) (rs : List Record) → AllByRecursion (λ (entry :
 trans_below top [] all = tt
 trans_below top (entry ∷ rs) all = (all.0, trans_below top rs all.1)
 
+-- a log without open transactions owes nothing
+pub owed_closed : (rs : List Record) → ((t : ℕ) → IsOpen t rs → ⊥) → owed rs ≡ 0
+owed_closed rs closed =
+    sym (owed_listed (greatest_tran rs) rs)
+    ∙ ap (λ (us : List ℕ). owed_for us rs) (none_in (greatest_tran rs) rs (open_in rs) (all_open (greatest_tran rs) rs) closed)
+
 -- ---- the state in which the table begins
 
 module _ (capacities : Capacities) (limit : ℕ) (rs : List Record) (copy : ℕ) (pages : List Content) (s : LogState) (can : CanSwitch capacities limit rs copy pages s) where
@@ -78,7 +84,7 @@ module _ (capacities : Capacities) (limit : ℕ) (rs : List Record) (copy : ℕ)
     other = can.other;
     room = can.room;
     closed = can.closed;
-    chain = can.chain;
+    positions = can.positions;
     space = can.space;
     each = can.each;
     slots = refl;
@@ -99,9 +105,7 @@ module _ (capacities : Capacities) (limit : ℕ) (rs : List Record) (copy : ℕ)
   below = subst (λ (top : ℕ). TransBelow top later) tells.top (trans_below (greatest_tran later) later (below_by_recursion later))
 
   owes : owed later ≡ 0
-  owes =
-      sym (owed_listed (greatest_tran later) later)
-      ∙ ap (λ (us : List ℕ). owed_for us later) (none_in (greatest_tran later) later (open_in later) (all_open (greatest_tran later) later) none_open)
+  owes = owed_closed later none_open
 
   pub switch_begins : BeginsAnew limit (next_epoch rs copy pages) later first
   switch_begins = record {
@@ -148,7 +152,7 @@ module _ (capacities : Capacities) (rs : List Record) (copy : ℕ) (pages : List
     other = is.other;
     room = is.room;
     closed = is.closed;
-    chain = is.chain;
+    positions = is.positions;
     space = is.space;
     each = is.each;
     slots = refl;

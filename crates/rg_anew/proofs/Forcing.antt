@@ -6,7 +6,6 @@ use Rattle.std.proofs.lemmas.List.{take-append-le}
 use Rattle.rg_anew.specs.Forcing.{IsEither, IsForcing}
 use Rattle.rg_image.proofs.Decode.{contains_take}
 use Rattle.rg_image.proofs.Pack.{front_page}
-use Rattle.rg_image.proofs.Sound.{chain_positions}
 use Rattle.rg_image.specs.Kept.{AreEntries}
 use Rattle.rg_image.specs.Log.{Spells as LogSpells}
 use Rattle.rg_image.specs.Pack.{end_of, start}
@@ -49,7 +48,7 @@ module _ (capacities : Capacities) (limit : ℕ) (e : Epoch) (rs : List Record) 
     begun = is.begun;
     low = is.low;
     high = few;
-    positions = chain_positions capacities rs can.chain;
+    positions = can.positions;
     steady = is.steady;
     counts = is.counts ∙ sym (pages_front e rs n (omega (arith, is.begun, is.low)) few is.steady);
     base = is.base;

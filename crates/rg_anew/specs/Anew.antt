@@ -12,7 +12,7 @@ use Rattle.rg_home.specs.Able.{Proper}
 use Rattle.rg_home.specs.Pages.{slot_of}
 use Rattle.rg_home.specs.Rows.{row_at}
 use Rattle.rg_image.specs.Meaning.{current_of, stored}
-use Rattle.rg_image.specs.Rules.{HasSpace, IsChain, IsOpen, copy_capacity, greatest_tran, owed}
+use Rattle.rg_image.specs.Rules.{ArePositions, HasSpace, IsOpen, copy_capacity, greatest_tran, owed}
 use Rattle.rg_keyed.specs.Keyed.{keyed_acts}
 use Rattle.rg_lawful.specs.Act.{LogState, state}
 use Rattle.rg_lawful.specs.Consistent.{IsClean, IsConsistent, stored_of}
@@ -39,7 +39,7 @@ pub record IsNewCopy (capacities : Capacities) (rs : List Record) (copy : ℕ)
   pub other : copy ≢ (current_of rs).copy
   pub room : length pages ≤ copy_capacity capacities copy
   pub closed : (t : ℕ) → IsOpen t rs → ⊥
-  pub chain : IsChain capacities rs
+  pub positions : ArePositions rs
   pub space : HasSpace (log_pages capacities) (switched rs copy pages)
   pub each :
       (p : ℕ) → 1 ≤ p → p ≤ length pages → IsPageOfCopy copy (length rs) p (content_at pages p)

@@ -31,7 +31,7 @@ use Rattle.rg_keyed.proofs.Stores.{log_stores}
 use Rattle.rg_log.specs.Kept.{Listed}
 use Rattle.rg_space.specs.Space.{capacity_in}
 use Rattle.rg_desk.specs.Count.{locked_present, present_in}
-use Rattle.rg_desk.specs.Desk.{CanBegin}
+use Rattle.rg_desk.specs.Desk.{CanBegin, CanShow}
 use Rattle.rg_desk.specs.Engine.{HasPages, slots_in}
 use Rattle.rg_desk.specs.Shows.{KeyShown, Shows, ShowsBy, since}
 use Rattle.rg_desk.specs.Trails.{Trails}
@@ -42,7 +42,25 @@ use Rattle.rg_desk.specs.Units.{owed, unit_at}
 use Rattle.rg_desk.specs.declared.engine.Engine.{Engine}
 use Rattle.rg_desk.proofs.Settled.{all_settled}
 
-module _ (d : Engine) (top : ℕ) (can : CanBegin (capacity_in d.space) (slots_in d) d.log top) (opened : d.opened ≡ length d.log.records) (set_aside : d.set_aside ≡ 0) (start : Table) (starts : IsStored d.log.records start) where
+-- the table is no part of it
+pub can_show : (capacity : ℕ) (pages : List (List Slot)) (log : Listed) (top : ℕ) → CanBegin capacity pages log top → CanShow capacity pages log top
+can_show capacity pages log top can = record {
+  first = can.first;
+  good = can.good;
+  stores = can.stores;
+  settled = can.settled;
+  pages_are = can.pages_are;
+  live = can.live;
+  writes = can.writes;
+  top_is = can.top_is;
+  idle = can.idle;
+  claimed = can.claimed;
+  tells = can.tells;
+  owes = can.owes;
+  space = can.space;
+}
+
+module _ (d : Engine) (top : ℕ) (can : CanShow (capacity_in d.space) (slots_in d) d.log top) (opened : d.opened ≡ length d.log.records) (set_aside : d.set_aside ≡ 0) (start : Table) (starts : IsStored d.log.records start) where
   -- nothing follows the records that were there
   since_none : since d ≡ []
   since_none = ap (λ (n : ℕ). acts_of [] (drop n d.log.records)) opened ∙ ap (acts_of []) (drop-length d.log.records)

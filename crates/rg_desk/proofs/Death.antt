@@ -23,6 +23,7 @@ use Rattle.rg_desk.specs.Stored.{Grows, IsStored}
 use Rattle.rg_desk.specs.Units.{owed_to, unit_at}
 use Rattle.rg_desk.specs.Volume.{VolumeSeen}
 use Rattle.rg_desk.specs.declared.engine.Engine.{Engine}
+use Rattle.rg_desk.specs.declared.origin.Origin.{Origin}
 use Rattle.rg_desk.specs.declared.units.OpenUnit.{OpenUnit}
 use Rattle.rg_desk.specs.Reopens.{KeepsParts}
 use Rattle.rg_desk.proofs.CommitShows.{commit_next, ended, one_runs}
@@ -33,7 +34,6 @@ use Rattle.rg_desk.proofs.Settled.{all_settled}
 -- an engine that is up stores the committed rows
 pub shown_left : (st : State) (allowed : ℕ) (d : Engine) → Shows st allowed d → LeavesState st d.log
 shown_left st allowed d shows = record {
-  sure = shows.by.copy;
   stored = λ n low high. record {
     table = committed_table st;
     among = subst (λ (doubt : Option Session). Contains (tables_left st doubt) (committed_table st)) (sym shows.by.sure) (only_one (committed_table st) (committed_table st) refl);
@@ -78,7 +78,6 @@ module _ (st : State) (allowed : ℕ) (d : Engine) (session : Session) (shows : 
 
   pub refused_left : LeavesState (in_doubt st session) log
   refused_left = record {
-    sure = shows.by.copy;
     stored = λ n from to. by_place n from to (nat_le n (length d.log.records)) refl;
   }
     where
@@ -101,6 +100,6 @@ module _ (st : State) (allowed : ℕ) (d : Engine) (session : Session) (shows : 
           }
 
 -- a desk, whether it is up or down
-pub desk_left : (d : Engine) (c : ChronicleState) (copy : ℕ) (down : Bool) (marks : List (Option Position)) (seen : VolumeSeen) (desk : IsDesk d c copy down marks seen) → LeavesState desk.state d.log
-desk_left d c copy false marks seen desk = shown_left desk.state (allowed_by 0 c.trace) d (desk.shown refl)
-desk_left d c copy true marks seen desk = desk.left refl
+pub desk_left : (d : Engine) (c : ChronicleState) (origin : Origin) (copy : ℕ) (down : Bool) (marks : List (Option Position)) (seen : VolumeSeen) (desk : IsDesk d c origin copy down marks seen) → LeavesState desk.state d.log
+desk_left d c origin copy false marks seen desk = shown_left desk.state (allowed_by 0 c.trace) d (desk.shown refl)
+desk_left d c origin copy true marks seen desk = desk.left refl

@@ -16,9 +16,10 @@ use Rattle.rg_desk.specs.Desk.{IsDesk}
 use Rattle.rg_desk.specs.Engine.{seen_in}
 use Rattle.rg_desk.specs.Flushed.{CallsOwn, FlushIs, IsFlush, TellsFlush, WritesEither}
 use Rattle.rg_desk.specs.Left.{LeavesState}
-use Rattle.rg_desk.specs.OnVolume.{IsOnVolume}
+use Rattle.rg_desk.specs.OnVolume.{RestsOn}
 use Rattle.rg_desk.specs.Volume.{IsCount, LeavesIfTidy, VolumeSeen}
 use Rattle.rg_desk.specs.declared.engine.Engine.{Engine}
+use Rattle.rg_desk.specs.declared.origin.Origin.{Origin}
 use Rattle.rg_tending.specs.Tending.{IsSystem}
 use Rattle.rg_desk.proofs.DeskGoes.{desk_quiet}
 use Rattle.rg_desk.proofs.Flushing.{forces_clean, own_same}
@@ -41,29 +42,29 @@ allowed st up copy contents marks later old new FlushDevice is = ap (λ (b : Boo
 allowed st up copy contents marks later old new FlushNoMemory is = ap (λ (b : Bool). if_allowed (not b) st) up
 allowed st up copy contents marks later old new event is = absurd is
 
-pub desk_flushed : (d : Engine) (c : ChronicleState) (copy : ℕ) (down : Bool) (marks : List (Option Position)) (seen : VolumeSeen) (desk : IsDesk d c copy down marks seen) (event : Event) (calls : ℕ) (next : Engine) (later : List (Option Position)) (seen_after : VolumeSeen) (new : ChronicleState)
+pub desk_flushed : (d : Engine) (c : ChronicleState) (origin : Origin) (copy : ℕ) (down : Bool) (marks : List (Option Position)) (seen : VolumeSeen) (desk : IsDesk d c origin copy down marks seen) (event : Event) (calls : ℕ) (next : Engine) (later : List (Option Position)) (seen_after : VolumeSeen) (new : ChronicleState)
     → TellsFlush down copy marks later seen seen_after d event next
-    → new.trace ≡ c.trace ++ system_entry event calls ∷ [] → new.calls ≡ calls → IsCount seen_after calls → IsRecorded new.trace new.calls → IsDesk next new copy down later seen_after
-desk_flushed d c copy true marks seen desk event calls next later seen_after new tells trace at counted recorded =
+    → new.trace ≡ c.trace ++ system_entry event calls ∷ [] → new.calls ≡ calls → IsCount seen_after calls → IsRecorded new.trace new.calls → IsDesk next new origin copy down later seen_after
+desk_flushed d c origin copy true marks seen desk event calls next later seen_after new tells trace at counted recorded =
     let same = tells.1 in
-    desk_quiet d c copy true marks seen desk event calls next later seen_after new
+    desk_quiet d c origin copy true marks seen desk event calls next later seen_after new
     (ap (λ (x : Engine). x.log) same ∙ ap (λ (n : ℕ). let l : Listed = record d.log { forced = n } in l) (sym (ap (λ (x : Engine). x.log.forced) same)))
-    (ap (λ (x : Engine). x.opened) same) (λ up. absurd (cc (up))) (λ down. subst (λ (x : Engine). LeavesState desk.state x.log) (sym same) (desk.left down))
+    (λ up. absurd (cc (up))) (λ down. subst (λ (x : Engine). LeavesState desk.state x.log) (sym same) (desk.left down))
     (subst IsSystem (sym tells.0) tt)
     (subst (λ (e : Event). next_state [] None actors.System e desk.state ≡ Some desk.state) (sym tells.0) (ap (λ (b : Bool). if_allowed b desk.state) desk.down_is))
     (ap (λ (x : Engine). x.log.pages) same ∙ desk.pages ∙ ap (λ (v : VolumeSeen). log_pages v.capacities) (sym tells.3))
     (subst (λ (v : VolumeSeen). LeavesIfTidy v next.log) (sym tells.3) (subst (λ (x : Engine). LeavesIfTidy seen x.log) (sym same) desk.leaves))
-    (subst (IsOnVolume copy next.log next.space later) (sym tells.3) (subst (λ (ms : List (Option Position)). IsOnVolume copy next.log next.space ms seen) (sym tells.2) (subst (λ (x : Engine). IsOnVolume copy x.log x.space marks seen) (sym same) desk.is_on)))
+    (λ up. absurd (cc (up))) (λ down. subst (RestsOn desk.state) (sym tells.3) (desk.rests refl))
     (λ up. absurd (cc (up)))
     trace at counted recorded
-desk_flushed d c copy false marks seen desk event calls next later seen_after new f trace at counted recorded =
+desk_flushed d c origin copy false marks seen desk event calls next later seen_after new f trace at counted recorded =
     let pages : next.log.pages ≡ d.log.pages = ap (λ (l : Listed). l.pages) f.forces.log in
-    desk_quiet d c copy false marks seen desk event calls next later seen_after new f.forces.log f.forces.opened
+    desk_quiet d c origin copy false marks seen desk event calls next later seen_after new f.forces.log
     (λ up. f.forces.shows desk.state (allowed_by 0 c.trace) (desk.shown refl)) (λ down. absurd (cc (down)))
     (is_system copy (seen_in d).pages marks later seen seen_after event f.is) (allowed desk.state desk.down_is copy (seen_in d).pages marks later seen seen_after event f.is)
     (pages ∙ desk.pages ∙ ap (λ x. log_pages x) (sym f.calls.capacities))
     (on_calls (WritesEither (set_of copy)) seen.told seen_after.told d.log next.log c.calls f.calls.only desk.counted pages f.leaves desk.leaves)
-    f.is_on
+    (λ up. f.is_on) (λ down. absurd (cc (down)))
     (λ up.
     tidy_then (WritesEither (set_of copy)) seen.told seen_after.told seen.capacities seen_after.capacities (IsCleanIn d) (IsCleanIn next) c.calls f.calls.only desk.counted f.calls.capacities
     (forces_clean d next f.forces) (desk.clean up))
@@ -76,7 +77,6 @@ pub record Told (copy : ℕ) (down : Bool) (marks later : List (Option Position)
   pub further : d.log.forced ≤ next.log.forced
   pub contents : (seen_in next).pages ≡ (seen_in d).pages
   pub capacity : capacity_in next.space ≡ capacity_in d.space
-  pub opened : next.opened ≡ d.opened
   pub set_aside : next.set_aside ≡ d.set_aside
   pub calls : CallsOwn copy seen seen_after
 
@@ -89,7 +89,6 @@ flush_told copy true marks later seen seen_after d event next tells =
       further = omega (arith, ap (λ (x : Engine). x.log.forced) same);
       contents = ap (λ (x : Engine). (seen_in x).pages) same;
       capacity = ap (λ (x : Engine). capacity_in x.space) same;
-      opened = ap (λ (x : Engine). x.opened) same;
       set_aside = ap (λ (x : Engine). x.set_aside) same;
       calls = subst (CallsOwn copy seen) (sym tells.3) (own_same copy seen);
     }
@@ -99,7 +98,6 @@ flush_told copy false marks later seen seen_after d event next f = record {
   further = f.forces.further;
   contents = f.forces.contents;
   capacity = f.forces.capacity;
-  opened = f.forces.opened;
   set_aside = f.forces.set_aside;
   calls = f.calls;
 }

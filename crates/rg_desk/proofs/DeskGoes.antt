@@ -51,22 +51,27 @@ use Rattle.rg_desk.specs.Chronicle.{ChronicleState, IsEntry, IsRecorded, allowed
 use Rattle.rg_desk.specs.Desk.{AreKeys, IsAmong, IsBegun, IsCopy, IsDesk, IsLayout, is_reply}
 use Rattle.rg_desk.specs.Engine.{ground_of}
 use Rattle.rg_desk.specs.Left.{LeavesState}
-use Rattle.rg_desk.specs.OnVolume.{CleanIfTidy, IsOnVolume, WasAllTidy}
+use Rattle.rg_desk.specs.OnVolume.{CleanIfTidy, IsOn, IsOnVolume, RestsOn, WasAllTidy}
+use Rattle.rg_image.specs.Kept.{AreEntries}
+use Rattle.rg_image.specs.Pack.{end_of, start}
 use Rattle.rg_image.specs.Rules.{copy_capacity}
 use Rattle.rg_outside.proofs.Every.{told_weaken}
 use Rattle.rg_outside.specs.Capacities.{Capacities}
 use Rattle.rg_desk.specs.Reopens.{IsCleanIn, PartsReopen, Reopens}
 use Rattle.rg_outside.specs.Faults.{Rose}
 use Rattle.rg_space.specs.Space.{capacity_in}
+use Rattle.rg_version.specs.Versions.{Epoch}
 use Rattle.rg_desk.specs.Count.{IsShownFew}
 use Rattle.rg_desk.specs.Room.{Ground, SaysLog, SaysRoom}
 use Rattle.rg_desk.specs.Shows.{IsShown, Shows}
 use Rattle.rg_desk.specs.Wrote.{SameEngine}
 use Rattle.rg_desk.specs.declared.engine.Engine.{Engine}
+use Rattle.rg_desk.specs.declared.origin.Origin.{Origin}
 use Rattle.rg_desk.proofs.Among.{few_committed, few_with, keys_left, keys_with}
 use Rattle.rg_desk.proofs.Answering.{down_if, same_calls, up_if}
 use Rattle.rg_desk.proofs.Leaving.{has_more, leaves_on}
 use Rattle.rg_desk.proofs.OnVolume.{both_tidy, on_more, on_same, tidy_then}
+use Rattle.rg_desk.proofs.Reopening.{on_rests}
 use Rattle.rg_desk.proofs.Reopens.{parts_further, same_clean}
 use Rattle.rg_desk.proofs.Same.{same_shows}
 use Rattle.rg_desk.proofs.Settled.{grows_same}
@@ -152,16 +157,17 @@ count_is seen calls n e is = subst (HasCalls seen) (sym is) (count_has seen.told
 pub calls_on : (old new : VolumeSeen) (n : ℕ) → CallsLog old new → HasCalls old n → HasCalls new n
 calls_on old new n calls e = has_more (WritesIn Log) old.told new.told n calls.only e
 
-module _ (d : Engine) (c : ChronicleState) (copy : ℕ) (down : Bool) (marks : List (Option Position)) (seen : VolumeSeen) (desk : IsDesk d c copy down marks seen) where
+module _ (d : Engine) (c : ChronicleState) (origin : Origin) (copy : ℕ) (down : Bool) (marks : List (Option Position)) (seen : VolumeSeen) (desk : IsDesk d c origin copy down marks seen) where
   -- room for an entry changes nothing
-  pub desk_room : (mid : ChronicleState) → mid.trace ≡ c.trace → mid.calls ≡ c.calls → IsDesk d mid copy down marks seen
+  pub desk_room : (mid : ChronicleState) → mid.trace ≡ c.trace → mid.calls ≡ c.calls → IsDesk d mid origin copy down marks seen
   desk_room mid trace calls = record {
     start = desk.start;
     starts = desk.starts;
     within = desk.within;
     state = desk.state;
-    begun = subst (IsBegun copy (row_count desk.start)) (sym trace) desk.begun;
-    run = subst (λ (es : List Entry). Run [] (at_rest desk.start copy) es desk.state) (sym trace) desk.run;
+    begun = subst (IsBegun origin.copy (row_count desk.start)) (sym trace) desk.begun;
+    run = subst (λ (es : List Entry). Run [] (at_rest desk.start origin.copy) es desk.state) (sym trace) desk.run;
+    is_first = desk.is_first;
     is_copy = desk.is_copy;
     copy_is = desk.copy_is;
     down_is = desk.down_is;
@@ -173,6 +179,7 @@ module _ (d : Engine) (c : ChronicleState) (copy : ℕ) (down : Bool) (marks : L
     pages = desk.pages;
     leaves = desk.leaves;
     is_on = desk.is_on;
+    rests = desk.rests;
     clean = desk.clean;
     keys = desk.keys;
     among = desk.among;
@@ -185,17 +192,17 @@ module _ (d : Engine) (c : ChronicleState) (copy : ℕ) (down : Bool) (marks : L
   desk_shown up = record { state = desk.state; allowed = allowed_by 0 c.trace; shows = desk.shown up }
 
   -- the records that the log had when it was opened stay the first ones
-  pub old_same : (next : Engine) → next.opened ≡ d.opened → Grows d.log next.log → take next.opened next.log.records ≡ take d.opened d.log.records
-  old_same next opened grows = ap (λ (n : ℕ). take n next.log.records) opened ∙ ap (take d.opened) grows.records ∙ take-append-le d.opened d.log.records grows.more desk.within
+  pub old_same : (next : Engine) → Grows d.log next.log → take origin.records next.log.records ≡ take origin.records d.log.records
+  old_same next grows = ap (take origin.records) grows.records ∙ take-append-le origin.records d.log.records grows.more desk.within
 
   -- the entry of a statement
   desk_on : (session : Session) (stmt : Stmt) (reply : Reply) (calls : ℕ) (after : State) (next : Engine) (down_after : Bool) (seen_after : VolumeSeen) (new : ChronicleState) (keys : List ℕ)
       → AreKeys keys after → length keys ≤ length desk.keys + 1 → Says desk.state session stmt reply after → after.copy ≡ copy → after.down ≡ down_after
       → (down_after ≡ false → Shows after (allowed_by 0 c.trace + more_allowed stmt reply) next) → (down_after ≡ true → LeavesState after next.log)
       → taken_of next.log ≤ taken_of d.log + more_logged stmt reply → next.log.pages ≡ log_pages seen_after.capacities
-      → next.opened ≡ d.opened → Grows d.log next.log → LeavesIfTidy seen_after next.log → IsOnVolume copy next.log next.space marks seen_after → (down_after ≡ false → CleanIfTidy seen_after next)
-      → new.trace ≡ c.trace ++ said_entry session stmt reply calls ∷ [] → new.calls ≡ calls → IsCount seen_after calls → IsRecorded new.trace new.calls → IsDesk next new copy down_after marks seen_after
-  desk_on session stmt reply calls after next down_after seen_after new keys among more says copy_is down_is shown left logged pages opened grows leaves is_on clean trace at counted recorded =
+      → Grows d.log next.log → LeavesIfTidy seen_after next.log → (down_after ≡ false → IsOnVolume copy next.log next.space marks seen_after) → (down_after ≡ true → RestsOn after seen_after) → (down_after ≡ false → CleanIfTidy seen_after next)
+      → new.trace ≡ c.trace ++ said_entry session stmt reply calls ∷ [] → new.calls ≡ calls → IsCount seen_after calls → IsRecorded new.trace new.calls → IsDesk next new origin copy down_after marks seen_after
+  desk_on session stmt reply calls after next down_after seen_after new keys among more says copy_is down_is shown left logged pages grows leaves is_on rests clean trace at counted recorded =
       let entry = said_entry session stmt reply calls in
       let longer = ap (λ (es : List Entry). length es) trace ∙ length-append c.trace (entry ∷ []) in
       let few = desk.few in
@@ -203,12 +210,13 @@ module _ (d : Engine) (c : ChronicleState) (copy : ℕ) (down : Bool) (marks : L
       let more_records = ap (λ (rs : List Record). length rs) grows.records ∙ length-append d.log.records grows.more in
       record {
         start = desk.start;
-        starts = subst (λ (rs : List Record). IsStored rs desk.start) (sym (old_same next opened grows)) desk.starts;
-        within = omega (arith, opened, within, more_records);
+        starts = subst (λ (rs : List Record). IsStored rs desk.start) (sym (old_same next grows)) desk.starts;
+        within = omega (arith, within, more_records);
         state = after;
-        begun = subst (IsBegun copy (row_count desk.start)) (sym trace) (begun-push copy (row_count desk.start) c.trace entry desk.begun);
-        run = subst (λ (es : List Entry). Run [] (at_rest desk.start copy) es after) (sym trace)
-            (Run-push [] (at_rest desk.start copy) desk.state after c.trace entry desk.run says);
+        begun = subst (IsBegun origin.copy (row_count desk.start)) (sym trace) (begun-push origin.copy (row_count desk.start) c.trace entry desk.begun);
+        run = subst (λ (es : List Entry). Run [] (at_rest desk.start origin.copy) es after) (sym trace)
+            (Run-push [] (at_rest desk.start origin.copy) desk.state after c.trace entry desk.run says);
+        is_first = desk.is_first;
         is_copy = desk.is_copy;
         copy_is = copy_is;
         down_is = down_is;
@@ -220,6 +228,7 @@ module _ (d : Engine) (c : ChronicleState) (copy : ℕ) (down : Bool) (marks : L
         pages = pages;
         leaves = leaves;
         is_on = is_on;
+        rests = rests;
         clean = clean;
         keys = keys;
         among = among;
@@ -229,22 +238,23 @@ module _ (d : Engine) (c : ChronicleState) (copy : ℕ) (down : Bool) (marks : L
 
   -- the entry of an event that changes nothing but how much of the log is forced, and marks
   pub desk_quiet : (event : Event) (calls : ℕ) (next : Engine) (later : List (Option Position)) (seen_after : VolumeSeen) (new : ChronicleState)
-      → next.log ≡ record d.log { forced = next.log.forced } → next.opened ≡ d.opened → (down ≡ false → Shows desk.state (allowed_by 0 c.trace) next) → (down ≡ true → LeavesState desk.state next.log)
+      → next.log ≡ record d.log { forced = next.log.forced } → (down ≡ false → Shows desk.state (allowed_by 0 c.trace) next) → (down ≡ true → LeavesState desk.state next.log)
       → IsSystem event → next_state [] None actors.System event desk.state ≡ Some desk.state
-      → next.log.pages ≡ log_pages seen_after.capacities → LeavesIfTidy seen_after next.log → IsOnVolume copy next.log next.space later seen_after → (down ≡ false → CleanIfTidy seen_after next)
-      → new.trace ≡ c.trace ++ system_entry event calls ∷ [] → new.calls ≡ calls → IsCount seen_after calls → IsRecorded new.trace new.calls → IsDesk next new copy down later seen_after
-  desk_quiet event calls next later seen_after new log opened shown left is allows pages leaves is_on clean trace at counted recorded =
+      → next.log.pages ≡ log_pages seen_after.capacities → LeavesIfTidy seen_after next.log → (down ≡ false → IsOnVolume copy next.log next.space later seen_after) → (down ≡ true → RestsOn desk.state seen_after) → (down ≡ false → CleanIfTidy seen_after next)
+      → new.trace ≡ c.trace ++ system_entry event calls ∷ [] → new.calls ≡ calls → IsCount seen_after calls → IsRecorded new.trace new.calls → IsDesk next new origin copy down later seen_after
+  desk_quiet event calls next later seen_after new log shown left is allows pages leaves is_on rests clean trace at counted recorded =
       let entry = system_entry event calls in
       let longer = ap (λ (es : List Entry). length es) trace ∙ length-append c.trace (entry ∷ []) in
       let few = desk.few in
       let records : next.log.records ≡ d.log.records = ap (λ (l : LogList). l.records) log in
       record {
         start = desk.start;
-        starts = subst (λ (rs : List Record). IsStored rs desk.start) (sym (ap (λ (n : ℕ). take n next.log.records) opened ∙ ap (take d.opened) records)) desk.starts;
-        within = subst (λ (n : ℕ). n ≤ length next.log.records) (sym opened) (subst (λ (rs : List Record). d.opened ≤ length rs) (sym records) desk.within);
+        starts = subst (λ (rs : List Record). IsStored (take origin.records rs) desk.start) (sym records) desk.starts;
+        within = subst (λ (rs : List Record). origin.records ≤ length rs) (sym records) desk.within;
         state = desk.state;
-        begun = subst (IsBegun copy (row_count desk.start)) (sym trace) (begun-push copy (row_count desk.start) c.trace entry desk.begun);
-        run = subst (λ (es : List Entry). Run [] (at_rest desk.start copy) es desk.state) (sym trace) (pushed event is allows);
+        begun = subst (IsBegun origin.copy (row_count desk.start)) (sym trace) (begun-push origin.copy (row_count desk.start) c.trace entry desk.begun);
+        run = subst (λ (es : List Entry). Run [] (at_rest desk.start origin.copy) es desk.state) (sym trace) (pushed event is allows);
+        is_first = desk.is_first;
         is_copy = desk.is_copy;
         copy_is = desk.copy_is;
         down_is = desk.down_is;
@@ -256,6 +266,7 @@ module _ (d : Engine) (c : ChronicleState) (copy : ℕ) (down : Bool) (marks : L
         pages = pages;
         leaves = leaves;
         is_on = is_on;
+        rests = rests;
         clean = clean;
         keys = desk.keys;
         among = desk.among;
@@ -285,27 +296,27 @@ module _ (d : Engine) (c : ChronicleState) (copy : ℕ) (down : Bool) (marks : L
       none_logged FlushNoMemory is n = refl
       none_logged event is n = absurd is
 
-      pushed : (event : Event) → IsSystem event → next_state [] None actors.System event desk.state ≡ Some desk.state → Run [] (at_rest desk.start copy) (c.trace ++ system_entry event calls ∷ []) desk.state
-      pushed (Layout shown side) is allows = Run-push [] (at_rest desk.start copy) desk.state desk.state c.trace (system_entry (Layout shown side) calls) desk.run allows
-      pushed LayoutNoMemory is allows = Run-push [] (at_rest desk.start copy) desk.state desk.state c.trace (system_entry LayoutNoMemory calls) desk.run allows
-      pushed LayoutDown is allows = Run-push [] (at_rest desk.start copy) desk.state desk.state c.trace (system_entry LayoutDown calls) desk.run allows
-      pushed (Flush page) is allows = Run-push [] (at_rest desk.start copy) desk.state desk.state c.trace (system_entry (Flush page) calls) desk.run allows
-      pushed Clean is allows = Run-push [] (at_rest desk.start copy) desk.state desk.state c.trace (system_entry Clean calls) desk.run allows
-      pushed FlushDevice is allows = Run-push [] (at_rest desk.start copy) desk.state desk.state c.trace (system_entry FlushDevice calls) desk.run allows
-      pushed FlushDown is allows = Run-push [] (at_rest desk.start copy) desk.state desk.state c.trace (system_entry FlushDown calls) desk.run allows
-      pushed FlushNoMemory is allows = Run-push [] (at_rest desk.start copy) desk.state desk.state c.trace (system_entry FlushNoMemory calls) desk.run allows
+      pushed : (event : Event) → IsSystem event → next_state [] None actors.System event desk.state ≡ Some desk.state → Run [] (at_rest desk.start origin.copy) (c.trace ++ system_entry event calls ∷ []) desk.state
+      pushed (Layout shown side) is allows = Run-push [] (at_rest desk.start origin.copy) desk.state desk.state c.trace (system_entry (Layout shown side) calls) desk.run allows
+      pushed LayoutNoMemory is allows = Run-push [] (at_rest desk.start origin.copy) desk.state desk.state c.trace (system_entry LayoutNoMemory calls) desk.run allows
+      pushed LayoutDown is allows = Run-push [] (at_rest desk.start origin.copy) desk.state desk.state c.trace (system_entry LayoutDown calls) desk.run allows
+      pushed (Flush page) is allows = Run-push [] (at_rest desk.start origin.copy) desk.state desk.state c.trace (system_entry (Flush page) calls) desk.run allows
+      pushed Clean is allows = Run-push [] (at_rest desk.start origin.copy) desk.state desk.state c.trace (system_entry Clean calls) desk.run allows
+      pushed FlushDevice is allows = Run-push [] (at_rest desk.start origin.copy) desk.state desk.state c.trace (system_entry FlushDevice calls) desk.run allows
+      pushed FlushDown is allows = Run-push [] (at_rest desk.start origin.copy) desk.state desk.state c.trace (system_entry FlushDown calls) desk.run allows
+      pushed FlushNoMemory is allows = Run-push [] (at_rest desk.start origin.copy) desk.state desk.state c.trace (system_entry FlushNoMemory calls) desk.run allows
       pushed event is allows = absurd is
 
   -- the entry of a layout
   pub desk_same : (event : Event) (calls : ℕ) (next : Engine) (new : ChronicleState)
-      → SameEngine d next → next.opened ≡ d.opened → IsLayout copy event → next_state [] None actors.System event desk.state ≡ Some desk.state
-      → new.trace ≡ c.trace ++ system_entry event calls ∷ [] → new.calls ≡ calls → IsCount seen calls → IsRecorded new.trace new.calls → IsDesk next new copy down marks seen
-  desk_same event calls next new same opened is allows trace at counted recorded =
+      → SameEngine d next → IsLayout copy event → next_state [] None actors.System event desk.state ≡ Some desk.state
+      → new.trace ≡ c.trace ++ system_entry event calls ∷ [] → new.calls ≡ calls → IsCount seen calls → IsRecorded new.trace new.calls → IsDesk next new origin copy down marks seen
+  desk_same event calls next new same is allows trace at counted recorded =
       let log = same.log in
-      desk_quiet event calls next marks seen new (log ∙ ap (λ (n : ℕ). let l : LogList = record d.log { forced = n } in l) (sym (ap (λ (l : LogList). l.forced) log))) opened
+      desk_quiet event calls next marks seen new (log ∙ ap (λ (n : ℕ). let l : LogList = record d.log { forced = n } in l) (sym (ap (λ (l : LogList). l.forced) log)))
       (λ up. same_shows desk.state (allowed_by 0 c.trace) d next same (desk.shown up)) (λ down. subst (LeavesState desk.state) (sym log) (desk.left down)) (is_system event is) allows
       (ap (λ (l : LogList). l.pages) log ∙ desk.pages) (subst (LeavesIfTidy seen) (sym log) desk.leaves)
-      (record { epoch = desk.is_on.epoch; is_on = on_same desk.is_on.epoch copy d next marks seen same desk.is_on.is_on })
+      (λ up. let on = desk.is_on up in record { epoch = on.epoch; is_on = on_same on.epoch copy d next marks seen same on.is_on }) desk.rests
       (λ up. told_weaken (λ t. WasAllTidy seen.capacities t → IsCleanIn d) (λ t. WasAllTidy seen.capacities t → IsCleanIn next) seen.told (λ t h tidy. same_clean d next same (h tidy)) (desk.clean up)) trace at counted recorded
     where
       is_system : (event : Event) → IsLayout copy event → IsSystem event
@@ -332,11 +343,11 @@ module _ (d : Engine) (c : ChronicleState) (copy : ℕ) (down : Bool) (marks : L
   known n (inl e) = ap (λ (k : ℕ). k == 1 || k == 2) e
   known n (inr e) = ap (λ (k : ℕ). k == 1 || k == 2) e
 
-  ends_possible : (es : List Entry) → IsBegun copy (row_count desk.start) es → Run [] (at_rest desk.start copy) es desk.state → Contains (possible desk.start es) desk.state
+  ends_possible : (es : List Entry) → IsBegun origin.copy (row_count desk.start) es → Run [] (at_rest desk.start origin.copy) es desk.state → Contains (possible desk.start es) desk.state
   ends_possible [] begun run = absurd begun
   ends_possible (e ∷ es) begun run =
-      run_possible_start desk.start copy e es desk.state
-      (ap (λ (f : Entry). states_before desk.start f.event) begun.2 ∙ ap (λ (b : Bool). cond b (at_rest desk.start copy ∷ []) []) (known copy desk.is_copy)) run
+      run_possible_start desk.start origin.copy e es desk.state
+      (ap (λ (f : Entry). states_before desk.start f.event) begun.2 ∙ ap (λ (b : Bool). cond b (at_rest desk.start origin.copy ∷ []) []) (known origin.copy desk.is_first)) run
 
   pub desk_legal : Legal desk.start c.trace
   desk_legal = record {
@@ -356,11 +367,11 @@ module _ (d : Engine) (c : ChronicleState) (copy : ℕ) (down : Bool) (marks : L
       record { state = desk.state; allowed = allowed_by 0 c.trace; shows = desk.shown up; few = omega (arith, committed, few, bound, few_rows) }
 
 -- what a desk that is up leaves can be opened again, if the volume read tidy
-pub desk_reopens : (d : Engine) (c : ChronicleState) (copy : ℕ) (marks : List (Option Position)) (seen : VolumeSeen) (desk : IsDesk d c copy false marks seen) → PartsReopen seen.capacities desk.is_on.epoch d.log → IsCleanIn d → Reopens seen.capacities desk.is_on.epoch d
-desk_reopens d c copy marks seen desk parts clean = record {
-  copy = ap (copy_capacity seen.capacities) desk.is_on.is_on.copy_is ∙ sym desk.is_on.is_on.capacity;
+pub desk_reopens : (d : Engine) (c : ChronicleState) (origin : Origin) (copy : ℕ) (marks : List (Option Position)) (seen : VolumeSeen) (desk : IsDesk d c origin copy false marks seen) → PartsReopen seen.capacities (desk.is_on refl).epoch d.log → IsCleanIn d → Reopens seen.capacities (desk.is_on refl).epoch d
+desk_reopens d c origin copy marks seen desk parts clean = record {
+  copy = ap (copy_capacity seen.capacities) (desk.is_on refl).is_on.copy_is ∙ sym (desk.is_on refl).is_on.capacity;
   pages = sym desk.pages;
-  newest = desk.is_on.is_on.newest;
+  newest = (desk.is_on refl).is_on.newest;
   parts = parts;
   clean = clean;
 }
@@ -368,51 +379,61 @@ desk_reopens d c copy marks seen desk parts clean = record {
 -- where more is forced fewer parts are left
 left_further : (st : State) (log : LogList) (low : ℕ) → low ≤ log.forced → LeavesState st (record log { forced = low }) → LeavesState st log
 left_further st log low further left = record {
-  sure = left.sure;
   stored = λ n from to. left.stored n (omega (arith, further, from)) to;
 }
 
 -- the entry of a statement, whether the desk is up or down
-pub desk_replied : (d : Engine) (c : ChronicleState) (copy : ℕ) (down : Bool) (marks : List (Option Position)) (seen : VolumeSeen) (desk : IsDesk d c copy down marks seen) (session : Session) (stmt : Stmt) (reply : Reply) (calls : ℕ)
+pub desk_replied : (d : Engine) (c : ChronicleState) (origin : Origin) (copy : ℕ) (down : Bool) (marks : List (Option Position)) (seen : VolumeSeen) (desk : IsDesk d c origin copy down marks seen) (session : Session) (stmt : Stmt) (reply : Reply) (calls : ℕ)
     (next : Engine) (down_after : Bool) (seen_after : VolumeSeen) (new : ChronicleState)
     → Replies down d session stmt reply next down_after seen seen_after
-    → new.trace ≡ c.trace ++ said_entry session stmt reply calls ∷ [] → new.calls ≡ calls → IsCount seen_after calls → IsRecorded new.trace new.calls → IsDesk next new copy down_after marks seen_after
-desk_replied d c copy true marks seen desk session stmt reply calls next down_after seen_after new replies trace at counted recorded =
-    desk_on d c copy true marks seen desk session stmt reply calls desk.state next down_after seen_after new desk.keys desk.among (omega arith)
+    → AreEntries next.log.records → (1 ≤ length next.log.records → (end_of start next.log.records).page ≤ next.log.pages)
+    → new.trace ≡ c.trace ++ said_entry session stmt reply calls ∷ [] → new.calls ≡ calls → IsCount seen_after calls → IsRecorded new.trace new.calls → IsDesk next new origin copy down_after marks seen_after
+desk_replied d c origin copy true marks seen desk session stmt reply calls next down_after seen_after new replies entries set trace at counted recorded =
+    desk_on d c origin copy true marks seen desk session stmt reply calls desk.state next down_after seen_after new desk.keys desk.among (omega arith)
     (subst (λ (r : Reply). Says desk.state session stmt r desk.state) (sym replies.0) (desk.down_is, refl)) desk.copy_is (desk.down_is ∙ sym replies.2)
     (λ up. absurd (cc (up, replies.2))) (λ down. subst (λ (x : Engine). LeavesState desk.state x.log) (sym replies.1) (desk.left refl))
     (omega (arith, ap (λ (x : Engine). taken_of x.log) replies.1))
     (ap (λ (x : Engine). x.log.pages) replies.1 ∙ desk.pages ∙ ap (λ (v : VolumeSeen). log_pages v.capacities) (sym replies.3))
-    (ap (λ (x : Engine). x.opened) replies.1) (grows_same d.log next.log (ap (λ (x : Engine). x.log) replies.1))
+    (grows_same d.log next.log (ap (λ (x : Engine). x.log) replies.1))
     (subst (λ (v : VolumeSeen). LeavesIfTidy v next.log) (sym replies.3) (subst (LeavesIfTidy seen) (ap (λ (x : Engine). x.log) (sym replies.1)) desk.leaves))
-    (subst (IsOnVolume copy next.log next.space marks) (sym replies.3) (subst (λ (x : Engine). IsOnVolume copy x.log x.space marks seen) (sym replies.1) desk.is_on))
+    (λ up. absurd (cc (up, replies.2))) (λ down. subst (RestsOn desk.state) (sym replies.3) (desk.rests refl))
     (λ up. absurd (cc (up, replies.2)))
     trace at counted recorded
-desk_replied d c copy false marks seen desk session stmt reply calls next down_after seen_after new replies trace at counted recorded =
+desk_replied d c origin copy false marks seen desk session stmt reply calls next down_after seen_after new replies entries set trace at counted recorded =
     let answered = replies.0 desk.state (allowed_by 0 c.trace) (desk.shown refl) in
     let asks = replies.1 in
-    desk_on d c copy false marks seen desk session stmt reply calls answered.after next down_after seen_after new (keys_with stmt desk.keys)
+    let e : Epoch = (desk.is_on refl).epoch in
+    let on : IsOn e copy d.log d.space marks seen = (desk.is_on refl).is_on in
+    let same_copy : answered.after.copy ≡ copy = ap (λ (st : State). st.copy) answered.is_after ∙ copy_left desk.state session stmt reply ∙ desk.copy_is in
+    let pages : next.log.pages ≡ log_pages seen_after.capacities = answered.grows.pages ∙ desk.pages ∙ ap (λ x. log_pages x) (sym asks.calls.capacities) in
+    let leaves : LeavesIfTidy seen_after next.log = leaves_on seen seen_after d.log next.log c.calls asks.calls desk.counted answered.grows.pages asks.leaves desk.leaves in
+    let now : IsOn e copy next.log next.space marks seen_after =
+    on_more e copy d.log next.log d.space next.space marks seen seen_after on answered.grows.more answered.grows.records
+    (answered.newest e on.newest) answered.capacity (desk.shown refl).settled.within asks.further asks.calls c.calls desk.counted
+    (subst (λ (caps : Capacities). IfTold seen_after.told (λ t. WasAllTidy caps t → PartsReopen caps e next.log)) (sym asks.calls.capacities)
+    (tidy_then (WritesIn Log) seen.told seen_after.told seen.capacities seen.capacities (PartsReopen seen.capacities e d.log × IsCleanIn d) (PartsReopen seen.capacities e next.log) c.calls asks.calls.only desk.counted refl
+    (λ h. parts_further seen.capacities e next.log d.log.forced asks.further (answered.parts seen.capacities e (desk_reopens d c origin copy marks seen desk h.0 h.1)))
+    (both_tidy seen.told seen.capacities (λ t. PartsReopen seen.capacities e d.log) (λ t. IsCleanIn d) on.parts (desk.clean refl)))) in
+    desk_on d c origin copy false marks seen desk session stmt reply calls answered.after next down_after seen_after new (keys_with stmt desk.keys)
     (subst (AreKeys (keys_with stmt desk.keys)) (sym answered.is_after) (keys_left desk.keys desk.state desk.among session stmt reply)) (few_with stmt desk.keys)
-    answered.says (ap (λ (st : State). st.copy) answered.is_after ∙ copy_left desk.state session stmt reply ∙ desk.copy_is)
+    answered.says same_copy
     (ap (λ (st : State). st.down) answered.is_after ∙ down_left desk.state session stmt reply desk.down_is ∙ sym replies.2)
     (λ up. up_if _ reply (sym replies.2 ∙ up) answered.shows) (λ down. left_further answered.after next.log d.log.forced asks.further (down_if _ reply (sym replies.2 ∙ down) answered.left))
-    answered.logged
-    (answered.grows.pages ∙ desk.pages ∙ ap (λ x. log_pages x) (sym asks.calls.capacities))
-    answered.opened answered.grows
-    (leaves_on seen seen_after d.log next.log c.calls asks.calls desk.counted answered.grows.pages asks.leaves desk.leaves)
-    (record {
-      epoch = desk.is_on.epoch;
-      is_on = on_more desk.is_on.epoch copy d.log next.log d.space next.space marks seen seen_after desk.is_on.is_on answered.grows.more answered.grows.records
-          (answered.newest desk.is_on.epoch desk.is_on.is_on.newest) answered.capacity (desk.shown refl).settled.within asks.further asks.calls c.calls desk.counted
-          (subst (λ (caps : Capacities). IfTold seen_after.told (λ t. WasAllTidy caps t → PartsReopen caps desk.is_on.epoch next.log)) (sym asks.calls.capacities)
-          (tidy_then (WritesIn Log) seen.told seen_after.told seen.capacities seen.capacities (PartsReopen seen.capacities desk.is_on.epoch d.log × IsCleanIn d) (PartsReopen seen.capacities desk.is_on.epoch next.log) c.calls asks.calls.only desk.counted refl
-          (λ h. parts_further seen.capacities desk.is_on.epoch next.log d.log.forced asks.further (answered.parts seen.capacities desk.is_on.epoch (desk_reopens d c copy marks seen desk h.0 h.1)))
-          (both_tidy seen.told seen.capacities (λ t. PartsReopen seen.capacities desk.is_on.epoch d.log) (λ t. IsCleanIn d) desk.is_on.is_on.parts (desk.clean refl))));
-    })
+    answered.logged pages answered.grows leaves
+    (λ up. record { epoch = e; is_on = now })
+    (λ down. on_rests e copy next.log next.space marks seen_after now pages entries set answered.after same_copy leaves c.calls (calls_on seen seen_after c.calls asks.calls desk.counted))
     (λ up.
     tidy_then (WritesIn Log) seen.told seen_after.told seen.capacities seen_after.capacities (IsCleanIn d) (IsCleanIn next) c.calls asks.calls.only desk.counted asks.calls.capacities
     (λ h. up_if _ reply (sym replies.2 ∙ up) (answered.clean h)) (desk.clean refl))
     trace at counted recorded
+
+-- the volume of a desk that goes down now, or is down
+pub desk_rests : (d : Engine) (c : ChronicleState) (origin : Origin) (copy : ℕ) (down : Bool) (marks : List (Option Position)) (seen : VolumeSeen) (desk : IsDesk d c origin copy down marks seen)
+    → AreEntries d.log.records → (1 ≤ length d.log.records → (end_of start d.log.records).page ≤ d.log.pages) → RestsOn desk.state seen
+desk_rests d c origin copy true marks seen desk entries set = desk.rests refl
+desk_rests d c origin copy false marks seen desk entries set =
+    let on = desk.is_on refl in
+    on_rests on.epoch copy d.log d.space marks seen on.is_on desk.pages entries set desk.state desk.copy_is desk.leaves c.calls desk.counted
 
 -- what the entry of a statement says
 pub record Replied (d : Engine) (c : ChronicleState) (down : Bool) (seen : VolumeSeen) (session : Session) (stmt : Stmt) (reply : Reply) (next : Engine) (after : Bool) (seen_after : VolumeSeen) : Type 0 where
@@ -428,7 +449,6 @@ pub record Replied (d : Engine) (c : ChronicleState) (down : Bool) (seen : Volum
   pub log : SaysLog (ground_of d) session.0 stmt reply
   pub log_full : IfLogFull reply (logged_by 0 c.trace) d.log.pages
   pub capacity : capacity_in next.space ≡ capacity_in d.space
-  pub opened : next.opened ≡ d.opened
   pub set_aside : next.set_aside ≡ d.set_aside
   pub grows : Grows d.log next.log
   pub calls : CallsLog seen seen_after
@@ -440,9 +460,9 @@ reply_so stmt reply e = e
 not_down : (stmt : Stmt) (reply : Reply) → is_answer stmt reply ≡ true → reply ≡ Down → ⊥
 not_down stmt reply e is = absurd (cc (ap (is_answer stmt) (sym is), e))
 
-pub replied : (d : Engine) (c : ChronicleState) (copy : ℕ) (down : Bool) (marks : List (Option Position)) (seen : VolumeSeen) (desk : IsDesk d c copy down marks seen) (session : Session) (stmt : Stmt) (reply : Reply) (next : Engine) (after : Bool) (seen_after : VolumeSeen)
+pub replied : (d : Engine) (c : ChronicleState) (origin : Origin) (copy : ℕ) (down : Bool) (marks : List (Option Position)) (seen : VolumeSeen) (desk : IsDesk d c origin copy down marks seen) (session : Session) (stmt : Stmt) (reply : Reply) (next : Engine) (after : Bool) (seen_after : VolumeSeen)
     → Replies down d session stmt reply next after seen seen_after → Replied d c down seen session stmt reply next after seen_after
-replied d c copy true marks seen desk session stmt reply next after seen_after replies = record {
+replied d c origin copy true marks seen desk session stmt reply next after seen_after replies = record {
   is = subst (λ (r : Reply). is_reply stmt r ≡ true) (sym replies.0) refl;
   was_down = λ e. replies.0;
   was_up = λ e. absurd (cc (e));
@@ -455,12 +475,11 @@ replied d c copy true marks seen desk session stmt reply next after seen_after r
   log = subst (λ (r : Reply). SaysLog (ground_of d) session.0 stmt r) (sym replies.0) tt;
   log_full = subst (λ (r : Reply). IfLogFull r (logged_by 0 c.trace) d.log.pages) (sym replies.0) tt;
   capacity = ap (λ (x : Engine). capacity_in x.space) replies.1;
-  opened = ap (λ (x : Engine). x.opened) replies.1;
   set_aside = ap (λ (x : Engine). x.set_aside) replies.1;
   grows = grows_same d.log next.log (ap (λ (x : Engine). x.log) replies.1);
   calls = subst (CallsLog seen) (sym replies.3) (same_calls seen);
 }
-replied d c copy false marks seen desk session stmt reply next after seen_after replies =
+replied d c origin copy false marks seen desk session stmt reply next after seen_after replies =
     let answered = replies.0 desk.state (allowed_by 0 c.trace) (desk.shown refl) in
     record {
       is = reply_so stmt reply answered.is;
@@ -475,7 +494,6 @@ replied d c copy false marks seen desk session stmt reply next after seen_after 
       log = answered.log;
       log_full = log_full_so (ground_of d) session.0 stmt reply (logged_by 0 c.trace) answered.log desk.logged;
       capacity = answered.capacity;
-      opened = answered.opened;
       set_aside = answered.set_aside;
       grows = answered.grows;
       calls = replies.1.calls;
@@ -500,10 +518,10 @@ keys_count : (es : List (ℕ × Row)) → length (keys_in es) ≡ length es
 keys_count [] = refl
 keys_count (e ∷ es) = ap suc (keys_count es)
 
-pub desk_opened : (d : Engine) (c : ChronicleState) (copy pages used calls : ℕ) (marks : List (Option Position)) (seen : VolumeSeen) (start : Table) → IsCopy copy → Shows (at_rest start copy) (4064 * pages) d → IsStored d.log.records start → d.opened ≡ length d.log.records
+pub desk_opened : (d : Engine) (c : ChronicleState) (records copy pages used calls : ℕ) (marks : List (Option Position)) (seen : VolumeSeen) (start : Table) → IsCopy copy → Shows (at_rest start copy) (4064 * pages) d → IsStored d.log.records start → records ≡ length d.log.records
     → taken_of d.log ≤ used → d.log.pages ≡ log_pages seen.capacities → LeavesIfTidy seen d.log → IsOnVolume copy d.log d.space marks seen → CleanIfTidy seen d → row_count start < 2 ^ 32
-    → c.trace ≡ opened_entry copy (row_count start) pages used calls ∷ [] → c.calls ≡ calls → IsCount seen calls → IsRecorded c.trace c.calls → IsDesk d c copy false marks seen
-desk_opened d c copy pages used calls marks seen start is_copy shown starts opened taken log_pages_are leaves is_on clean few trace at counted recorded =
+    → c.trace ≡ opened_entry copy (row_count start) pages used calls ∷ [] → c.calls ≡ calls → IsCount seen calls → IsRecorded c.trace c.calls → IsDesk d c (record { records = records; copy = copy }) copy false marks seen
+desk_opened d c records copy pages used calls marks seen start is_copy shown starts opened taken log_pages_are leaves is_on clean few trace at counted recorded =
     let none : committed_table (at_rest start copy) ≡ start = committed-at_rest start copy in
     let first : State = at_rest (committed_table (at_rest start copy)) copy in
     let is : first ≡ at_rest start copy = ap (λ t. at_rest t copy) none in
@@ -525,6 +543,7 @@ desk_opened d c copy pages used calls marks seen start is_copy shown starts open
       state = at_rest start copy;
       begun = subst (IsBegun copy (row_count start)) (sym trace) (pages, used, refl);
       run = subst (λ (st : State). Run [] (at_rest start copy) c.trace st) is (subst (λ (es : List Entry). Run [] (at_rest start copy) es first) (sym trace) run);
+      is_first = is_copy;
       is_copy = is_copy;
       copy_is = refl;
       down_is = refl;
@@ -535,7 +554,8 @@ desk_opened d c copy pages used calls marks seen start is_copy shown starts open
       logged = subst (λ (es : List Entry). taken_of d.log ≤ logged_by 0 es) (sym trace) taken;
       pages = log_pages_are;
       leaves = leaves;
-      is_on = is_on;
+      is_on = λ up. is_on;
+      rests = λ down. absurd (cc (down));
       clean = λ up. clean;
       keys = keys_in (map.entries start);
       among = record {

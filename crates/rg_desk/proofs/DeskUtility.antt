@@ -26,14 +26,15 @@ use Rattle.rg_base.specs.declared.options.Options.{Options}
 use Rattle.rg_base.specs.declared.session.Session.{Session}
 use Rattle.rg_fold.specs.declared.item.Stage.{Stage}
 use Rattle.rg_lawful.proofs.Tables.{eqb-refl}
-use Rattle.rg_stage.specs.Booked.{Booked, drain_kept, is_fall, utility_kept}
+use Rattle.rg_stage.specs.Booked.{Booked, drain_kept, is_fall, is_switch_turn, utility_kept}
 use Rattle.rg_stage.specs.Followed.{Followed}
 use Rattle.rg_stage.specs.NumbersOf.{numbers_of}
 use Rattle.rg_stage.proofs.Booking.{entry_allowed}
 use Rattle.rg_stmt.specs.declared.event.Event.TheVariants as events
 use Rattle.rg_tally.specs.Changed.{ChangeCount}
-use Rattle.rg_tending.specs.Tending.{FollowsBy, IsSystem, NextBy, Tends, aside_for, behind, is_booked, utility_entry}
-use Rattle.rg_tending.proofs.Early.{EarlyIf, IsEarly, early_plain, turn_early, within_next}
+use Rattle.rg_tending.specs.Tending.{FollowsBy, IsSystem, NextBy, Tends, aside_for, behind, is_booked, is_plain, utility_entry}
+use Rattle.rg_tending.proofs.Kept.{kept_on}
+use Rattle.rg_tending.proofs.Switching.{plain_neither, plain_turn}
 use Rattle.rg_tending.proofs.Tended.{tends_booked, tends_refused, tends_started}
 use Rattle.rg_version.specs.Versions.{Epoch}
 use Rattle.rg_desk.specs.Bytes.{taken_of}
@@ -42,9 +43,9 @@ use Rattle.rg_desk.specs.Chronicle.{ChronicleState, IsRecorded, allowed_after, a
 use Rattle.rg_desk.specs.Desk.{IsBegun, IsDesk, IfStartLogFull, IsLayout, IsStart, is_started, started_count}
 use Rattle.rg_desk.specs.Flushed.{FlushIs}
 use Rattle.rg_page.specs.Content.{Content}
-use Rattle.rg_desk.proofs.UtilityShows.{some_of, utility_shows}
+use Rattle.rg_desk.proofs.UtilityShows.{utility_shows}
 use Rattle.rg_desk.specs.Left.{LeavesState}
-use Rattle.rg_desk.specs.OnVolume.{IsOn, WasAllTidy}
+use Rattle.rg_desk.specs.OnVolume.{IsOn, RestsOn, WasAllTidy}
 use Rattle.rg_desk.specs.Reopens.{IsCleanIn, PartsReopen}
 use Rattle.rg_desk.specs.Shows.{Shows}
 use Rattle.rg_desk.specs.Stored.{IsStored}
@@ -52,6 +53,7 @@ use Rattle.rg_desk.specs.declared.units.OpenUnit.{OpenUnit}
 use Rattle.rg_desk.specs.Utility.{IsNew, SameButUtility, StartIs, StepsOn}
 use Rattle.rg_desk.specs.Volume.{IsCount, LeavesIfTidy, VolumeSeen}
 use Rattle.rg_desk.specs.declared.engine.Engine.{Engine}
+use Rattle.rg_desk.specs.declared.origin.Origin.{Origin}
 use Rattle.rg_desk.proofs.DeskGoes.{allowed-push, begun-push, count_is, logged-push}
 
 -- the two ways to turn a trace are one
@@ -76,30 +78,31 @@ on_reserved e copy log space marks seen n on = record {
 }
 
 left_reserved : (st after : State) (log : Listed) (n : ℕ) → after ≡ st → LeavesState st log → LeavesState after (record log { reserved = n })
-left_reserved st after log n is left = subst (λ (x : State). LeavesState x (record log { reserved = n })) (sym is) (record { sure = left.sure; stored = left.stored })
+left_reserved st after log n is left = subst (λ (x : State). LeavesState x (record log { reserved = n })) (sym is) (record { stored = left.stored })
 
-module _ (d : Engine) (c : ChronicleState) (copy : ℕ) (down : Bool) (marks : List (Option Position)) (seen : VolumeSeen) (desk : IsDesk d c copy down marks seen) where
+module _ (d : Engine) (c : ChronicleState) (origin : Origin) (copy : ℕ) (down : Bool) (marks : List (Option Position)) (seen : VolumeSeen) (desk : IsDesk d c origin copy down marks seen) where
   -- the entry of an event of the utility that touches no row and no record
   pub desk_utility : (event : Event) (answer : Option Answer) (calls : ℕ) (after : State) (next : Engine) (new : ChronicleState)
-      → next.space ≡ d.space → next.log ≡ record d.log { reserved = next.log.reserved } → next.opened ≡ d.opened
+      → next.space ≡ d.space → next.log ≡ record d.log { reserved = next.log.reserved }
       → taken_of next.log ≤ logged_after (logged_by 0 c.trace) event → ((n : ℕ) → allowed_after n event ≡ n)
       → Allows (behind [] c.trace) answer actors.Utility event desk.state after → SameButUtility desk.state after → after.copy ≡ desk.state.copy
       → (down ≡ false → Shows after (allowed_by 0 c.trace) next) → (down ≡ true → after ≡ desk.state) → (IsCleanIn d → IsCleanIn next)
-      → new.trace ≡ c.trace ++ utility_entry event answer calls ∷ [] → new.calls ≡ calls → IsCount seen calls → IsRecorded new.trace new.calls → IsDesk next new copy down marks seen
-  desk_utility event answer calls after next new space log opened taken none allows same copy_same shown down_same clean trace at counted recorded =
+      → new.trace ≡ c.trace ++ utility_entry event answer calls ∷ [] → new.calls ≡ calls → IsCount seen calls → IsRecorded new.trace new.calls → IsDesk next new origin copy down marks seen
+  desk_utility event answer calls after next new space log taken none allows same copy_same shown down_same clean trace at counted recorded =
       let entry : Entry = utility_entry event answer calls in
       let longer = ap (λ (es : List Entry). length es) trace ∙ length-append c.trace (entry ∷ []) in
       let few = desk.few in
       let records : next.log.records ≡ d.log.records = ap (λ (l : Listed). l.records) log in
       record {
         start = desk.start;
-        starts = subst (λ (rs : List Record). IsStored rs desk.start) (sym (ap (λ (n : ℕ). take n next.log.records) opened ∙ ap (take d.opened) records)) desk.starts;
-        within = subst (λ (n : ℕ). n ≤ length next.log.records) (sym opened) (subst (λ (rs : List Record). d.opened ≤ length rs) (sym records) desk.within);
+        starts = subst (λ (rs : List Record). IsStored (take origin.records rs) desk.start) (sym records) desk.starts;
+        within = subst (λ (rs : List Record). origin.records ≤ length rs) (sym records) desk.within;
         state = after;
-        begun = subst (IsBegun copy (row_count desk.start)) (sym trace) (begun-push copy (row_count desk.start) c.trace entry desk.begun);
-        run = subst (λ (es : List Entry). Run [] (at_rest desk.start copy) es after) (sym trace)
-            (Run-push [] (at_rest desk.start copy) desk.state after c.trace entry desk.run
+        begun = subst (IsBegun origin.copy (row_count desk.start)) (sym trace) (begun-push origin.copy (row_count desk.start) c.trace entry desk.begun);
+        run = subst (λ (es : List Entry). Run [] (at_rest desk.start origin.copy) es after) (sym trace)
+            (Run-push [] (at_rest desk.start origin.copy) desk.state after c.trace entry desk.run
             (subst (λ (past : List Entry). Allows past answer actors.Utility event desk.state after) (behind_is [] c.trace) allows));
+        is_first = desk.is_first;
         is_copy = desk.is_copy;
         copy_is = copy_same ∙ desk.copy_is;
         down_is = same.down ∙ desk.down_is;
@@ -110,13 +113,16 @@ module _ (d : Engine) (c : ChronicleState) (copy : ℕ) (down : Bool) (marks : L
         logged = omega (arith, ap (logged_by 0) trace, logged-push 0 c.trace entry, taken);
         pages = ap (λ (l : Listed). l.pages) log ∙ desk.pages;
         leaves = subst (LeavesIfTidy seen) (sym log) desk.leaves;
-        is_on = record {
-          epoch = desk.is_on.epoch;
-          is_on =
-              subst (λ (l : Listed). IsOn desk.is_on.epoch copy l next.space marks seen) (sym log)
-              (subst (λ (sp : Space ListFrames). IsOn desk.is_on.epoch copy (record d.log { reserved = next.log.reserved }) sp marks seen) (sym space)
-              (on_reserved desk.is_on.epoch copy d.log d.space marks seen next.log.reserved desk.is_on.is_on));
-        };
+        is_on = λ up.
+            let on = desk.is_on up in
+            record {
+              epoch = on.epoch;
+              is_on =
+                  subst (λ (l : Listed). IsOn on.epoch copy l next.space marks seen) (sym log)
+                  (subst (λ (sp : Space ListFrames). IsOn on.epoch copy (record d.log { reserved = next.log.reserved }) sp marks seen) (sym space)
+                  (on_reserved on.epoch copy d.log d.space marks seen next.log.reserved on.is_on));
+            };
+        rests = λ is. subst (λ (st : State). RestsOn st seen) (sym (down_same is)) (desk.rests is);
         clean = λ up. told_weaken (λ t. WasAllTidy seen.capacities t → IsCleanIn d) (λ t. WasAllTidy seen.capacities t → IsCleanIn next) seen.told (λ t h tidy. clean (h tidy)) (desk.clean up);
         keys = desk.keys;
         among = record {
@@ -135,9 +141,9 @@ module _ (d : Engine) (c : ChronicleState) (copy : ℕ) (down : Bool) (marks : L
   -- an entry that leaves the state and the engine as they are
   pub desk_refused : (event : Event) (calls : ℕ) (new : ChronicleState) → ((n : ℕ) → logged_after n event ≡ n) → ((n : ℕ) → allowed_after n event ≡ n)
       → Allows (behind [] c.trace) None actors.Utility event desk.state desk.state
-      → new.trace ≡ c.trace ++ utility_entry event None calls ∷ [] → new.calls ≡ calls → IsCount seen calls → IsRecorded new.trace new.calls → IsDesk d new copy down marks seen
+      → new.trace ≡ c.trace ++ utility_entry event None calls ∷ [] → new.calls ≡ calls → IsCount seen calls → IsRecorded new.trace new.calls → IsDesk d new origin copy down marks seen
   desk_refused event calls new logged none allows trace at counted recorded =
-      desk_utility event None calls desk.state d new refl refl refl (omega (arith, logged (logged_by 0 c.trace), desk.logged)) none allows same_state refl desk.shown (λ is. refl) (λ clean. clean) trace at counted recorded
+      desk_utility event None calls desk.state d new refl refl (omega (arith, logged (logged_by 0 c.trace), desk.logged)) none allows same_state refl desk.shown (λ is. refl) (λ clean. clean) trace at counted recorded
 
 -- what an entry that changes nothing needs of the state
 down_allows : (past : List Entry) (st : State) → st.down ≡ true → (Allows past None actors.Utility events.StartDown st st) × (Allows past None actors.Utility events.StepDown st st)
@@ -162,63 +168,63 @@ start_allows past st options copy pages up utility same =
     ∙ ap (λ (b : Bool). if_allowed b new) (eqb-refl copy)
 
 -- the state that the trace leads to shows the stage
-module _ (d : Engine) (c : ChronicleState) (copy : ℕ) (down : Bool) (marks : List (Option Position)) (seen : VolumeSeen) (desk : IsDesk d c copy down marks seen) (stage : Option Stage) (count : ChangeCount) (tends : Tends c.trace stage count d.set_aside) where
+module _ (d : Engine) (c : ChronicleState) (origin : Origin) (copy : ℕ) (down : Bool) (marks : List (Option Position)) (seen : VolumeSeen) (desk : IsDesk d c origin copy down marks seen) (stage : Option Stage) (count : ChangeCount) (tends : Tends c.trace stage count d.set_aside) where
   pub state_shows : (desk.state.utility ≡ utility_kept stage) × (desk.state.drain ≡ drain_kept stage)
-  state_shows = tends.shows desk.start copy desk.state desk.run
+  state_shows = tends.shows desk.start origin.copy desk.state desk.run
 
 -- ---- a control statement
 
 -- a desk and what it tends, after an entry
-abbrev pub GoesOn : Engine → ChronicleState → (copy : ℕ) → (down : Bool) → List (Option Position) → VolumeSeen → Option Stage → ChangeCount → Type 0
-GoesOn d c copy down marks seen stage count = IsDesk d c copy down marks seen × Tends c.trace stage count d.set_aside
+abbrev pub GoesOn : Engine → ChronicleState → Origin → (copy : ℕ) → (down : Bool) → List (Option Position) → VolumeSeen → Option Stage → ChangeCount → Type 0
+GoesOn d c origin copy down marks seen stage count = IsDesk d c origin copy down marks seen × Tends c.trace stage count d.set_aside
 
-module _ (c : ChronicleState) (copy : ℕ) (marks : List (Option Position)) (seen : VolumeSeen) (count : ChangeCount) (calls : ℕ) (new : ChronicleState)
+module _ (c : ChronicleState) (origin : Origin) (copy : ℕ) (marks : List (Option Position)) (seen : VolumeSeen) (count : ChangeCount) (calls : ℕ) (new : ChronicleState)
     (at : new.calls ≡ calls) (counted : IsCount seen calls) (recorded : IsRecorded new.trace new.calls) where
   -- it was refused
-  refused_on : (d : Engine) (down : Bool) (stage : Option Stage) (event : Event) (desk : IsDesk d c copy down marks seen) → Tends c.trace stage count d.set_aside
+  refused_on : (d : Engine) (down : Bool) (stage : Option Stage) (event : Event) (desk : IsDesk d c origin copy down marks seen) → Tends c.trace stage count d.set_aside
       → ((n : ℕ) → logged_after n event ≡ n) → ((n : ℕ) → allowed_after n event ≡ n) → Allows (behind [] c.trace) None actors.Utility event desk.state desk.state
       → Tends (c.trace ++ utility_entry event None calls ∷ []) stage count d.set_aside
-      → new.trace ≡ c.trace ++ utility_entry event None calls ∷ [] → GoesOn d new copy down marks seen stage count
+      → new.trace ≡ c.trace ++ utility_entry event None calls ∷ [] → GoesOn d new origin copy down marks seen stage count
   refused_on d down stage event desk tends logged none allows after trace = (
-    desk_refused d c copy down marks seen desk event calls new logged none allows trace at counted recorded,
+    desk_refused d c origin copy down marks seen desk event calls new logged none allows trace at counted recorded,
     subst (λ (es : List Entry). Tends es stage count d.set_aside) (sym trace) after,
   )
 
-  pub start_on : (options : Options) (d : Engine) (down : Bool) (stage : Option Stage) (event : Event) (next : Option Stage) (after : Engine) → IsDesk d c copy down marks seen → Tends c.trace stage count d.set_aside → StartIs down stage options copy d event next after
-      → new.trace ≡ c.trace ++ utility_entry event None calls ∷ [] → GoesOn after new copy down marks seen next (started_count (is_started event) count)
+  pub start_on : (options : Options) (d : Engine) (down : Bool) (stage : Option Stage) (event : Event) (next : Option Stage) (after : Engine) → IsDesk d c origin copy down marks seen → Tends c.trace stage count d.set_aside → StartIs down stage options copy d event next after
+      → new.trace ≡ c.trace ++ utility_entry event None calls ∷ [] → GoesOn after new origin copy down marks seen next (started_count (is_started event) count)
   start_on options d true stage event next after desk tends is trace =
       let down : Allows (behind [] c.trace) None actors.Utility events.StartDown desk.state desk.state = (down_allows (behind [] c.trace) desk.state desk.down_is).0 in
-      subst (λ (e : Event). GoesOn after new copy true marks seen next (started_count (is_started e) count)) (sym is.0)
-      (subst (λ (x : Engine). GoesOn x new copy true marks seen next count) (sym is.2)
-      (subst (λ (s : Option Stage). GoesOn d new copy true marks seen s count) (sym is.1)
+      subst (λ (e : Event). GoesOn after new origin copy true marks seen next (started_count (is_started e) count)) (sym is.0)
+      (subst (λ (x : Engine). GoesOn x new origin copy true marks seen next count) (sym is.2)
+      (subst (λ (s : Option Stage). GoesOn d new origin copy true marks seen s count) (sym is.1)
       (refused_on d true stage events.StartDown desk tends (λ n. refl) (λ n. refl) down (tends_refused c.trace stage count d.set_aside events.StartDown calls tt tends)
       (trace ∙ ap (λ (e : Event). c.trace ++ utility_entry e None calls ∷ []) is.0))))
   start_on options d false (Some s) event next after desk tends is trace =
-      let active = active_allows (behind [] c.trace) desk.state (numbers_of s) desk.down_is (state_shows d c copy false marks seen desk (Some s) count tends).0 in
-      subst (λ (e : Event). GoesOn after new copy false marks seen next (started_count (is_started e) count)) (sym is.0)
-      (subst (λ (x : Engine). GoesOn x new copy false marks seen next count) (sym is.2)
-      (subst (λ (t : Option Stage). GoesOn d new copy false marks seen t count) (sym is.1)
+      let active = active_allows (behind [] c.trace) desk.state (numbers_of s) desk.down_is (state_shows d c origin copy false marks seen desk (Some s) count tends).0 in
+      subst (λ (e : Event). GoesOn after new origin copy false marks seen next (started_count (is_started e) count)) (sym is.0)
+      (subst (λ (x : Engine). GoesOn x new origin copy false marks seen next count) (sym is.2)
+      (subst (λ (t : Option Stage). GoesOn d new origin copy false marks seen t count) (sym is.1)
       (refused_on d false (Some s) events.Active desk tends (λ n. refl) (λ n. refl) active (tends_refused c.trace (Some s) count d.set_aside events.Active calls tt tends)
       (trace ∙ ap (λ (e : Event). c.trace ++ utility_entry e None calls ∷ []) is.0))))
   start_on options d false None (events.StartLogFull need left) next after desk tends is trace =
-      let none = (none_allows (behind [] c.trace) desk.state desk.down_is (state_shows d c copy false marks seen desk None count tends).0 need left).0 in
-      subst (λ (x : Engine). GoesOn x new copy false marks seen next count) (sym is.4)
-      (subst (λ (t : Option Stage). GoesOn d new copy false marks seen t count) (sym is.3)
+      let none = (none_allows (behind [] c.trace) desk.state desk.down_is (state_shows d c origin copy false marks seen desk None count tends).0 need left).0 in
+      subst (λ (x : Engine). GoesOn x new origin copy false marks seen next count) (sym is.4)
+      (subst (λ (t : Option Stage). GoesOn d new origin copy false marks seen t count) (sym is.3)
       (refused_on d false None (events.StartLogFull need left) desk tends (λ n. refl) (λ n. refl) none (tends_refused c.trace None count d.set_aside (events.StartLogFull need left) calls tt tends) trace))
   start_on options d false None events.StartNoMemory next after desk tends is trace =
-      let none = (none_allows (behind [] c.trace) desk.state desk.down_is (state_shows d c copy false marks seen desk None count tends).0 0 0).1 in
-      subst (λ (x : Engine). GoesOn x new copy false marks seen next count) (sym is.1)
-      (subst (λ (t : Option Stage). GoesOn d new copy false marks seen t count) (sym is.0)
+      let none = (none_allows (behind [] c.trace) desk.state desk.down_is (state_shows d c origin copy false marks seen desk None count tends).0 0 0).1 in
+      subst (λ (x : Engine). GoesOn x new origin copy false marks seen next count) (sym is.1)
+      (subst (λ (t : Option Stage). GoesOn d new origin copy false marks seen t count) (sym is.0)
       (refused_on d false None events.StartNoMemory desk tends (λ n. refl) (λ n. refl) none (tends_refused c.trace None count d.set_aside events.StartNoMemory calls tt tends) trace))
   start_on options d false None (events.Started given of_copy pages) None after desk tends is trace = absurd is.3
   start_on options d false None (events.Started given of_copy pages) (Some s) after desk tends is trace =
-      let shows = state_shows d c copy false marks seen desk None count tends in
+      let shows = state_shows d c origin copy false marks seen desk None count tends in
       let holds = is.4 in
       let state : State = start_utility desk.state given pages in
       let same : SameButUtility desk.state state = record { table = refl; locks = refl; claims = refl; down = refl; doubt = refl; copydoubt = refl } in
       let log : after.log ≡ record d.log { reserved = after.log.reserved } = ap (λ (x : Engine). x.log) holds.same in
       let bytes = ap (λ (l : Listed). taken_of l) log in (
-        desk_utility d c copy false marks seen desk (events.Started given of_copy pages) None calls state after new (ap (λ (x : Engine). x.space) holds.same) log holds.opened
+        desk_utility d c origin copy false marks seen desk (events.Started given of_copy pages) None calls state after new (ap (λ (x : Engine). x.space) holds.same) log
             (omega (arith, bytes, holds.reserved, desk.logged)) (λ n. refl)
             (start_allows (behind [] c.trace) desk.state given of_copy pages desk.down_is shows.0 (desk.copy_is ∙ sym is.1)) same refl
             (λ up. utility_shows desk.state state (allowed_by 0 c.trace) after (holds.shows desk.state (allowed_by 0 c.trace) (desk.shown up)) same
@@ -281,7 +287,7 @@ pub start_reserved : (down : Bool) (stage : Option Stage) (options : Options) (c
 start_reserved true stage options copy d event next after is aside = same_reserved d after stage next is.2 is.1
 start_reserved false (Some s) options copy d event next after is aside = same_reserved d after (Some s) next is.2 is.1
 start_reserved false None options copy d (events.Started given of_copy pages) None after is aside = absurd is.3
-start_reserved false None options copy d (events.Started given of_copy pages) (Some s) after is aside = omega (arith, is.4.reserved, aside)
+start_reserved false None options copy d (events.Started given of_copy pages) (Some s) after is aside = omega (arith, is.4.reserved, aside, ap {B = ℕ} (λ (u : Utility). if u.switched then 0 else 28) is.3.0)
 start_reserved false None options copy d (events.StartLogFull need left) next after is aside = same_reserved d after None next is.4 is.3
 start_reserved false None options copy d events.StartNoMemory next after is aside = same_reserved d after None next is.1 is.0
 start_reserved false None options copy d event next after is aside = absurd is
@@ -298,45 +304,43 @@ ground_same d after space log units top =
     let at_log : ground_of (record after { space = d.space; units = d.units; top = d.top }) ≡ ground_of (record after { space = d.space; units = d.units; top = d.top; log = record d.log { reserved = after.log.reserved } }) = ap (λ (l : Listed). ground_of (record after { space = d.space; units = d.units; top = d.top; log = l })) log in
     at_space ∙ at_units ∙ at_top ∙ at_log
 
-if_early : (o : Option Turn) (turn : Turn) → o ≡ Some turn → EarlyIf o → IsEarly turn
-if_early o turn e early = subst EarlyIf e early
-
 booked_logged : (event : Event) (n : ℕ) → is_booked event ≡ true → (logged_after n event ≡ n) × (allowed_after n event ≡ n)
 booked_logged (events.Started options copy pages) n is = absurd (cc (is))
 booked_logged (events.Opened copy rows pages used) n is = absurd (cc (is))
 booked_logged (events.Said stmt reply) n is = absurd (cc (is))
+booked_logged (events.Switched copy sides) n is = absurd (cc (is))
 booked_logged event n is = (refl, refl)
 
-booked_allows : (past : List Entry) (answer : Answer) (event : Event) (st new : State) → next_state past (Some answer) actors.Utility event st ≡ Some new → Allows past (Some answer) actors.Utility event st new
+pub booked_allows : (past : List Entry) (answer : Answer) (event : Event) (st new : State) → next_state past (Some answer) actors.Utility event st ≡ Some new → Allows past (Some answer) actors.Utility event st new
 booked_allows past answer event st new e = e
 
-module _ (d : Engine) (c : ChronicleState) (copy : ℕ) (marks : List (Option Position)) (seen : VolumeSeen) (desk : IsDesk d c copy false marks seen) (s : Stage) (count : ChangeCount) (tends : Tends c.trace (Some s) count d.set_aside)
+module _ (d : Engine) (c : ChronicleState) (origin : Origin) (copy : ℕ) (marks : List (Option Position)) (seen : VolumeSeen) (desk : IsDesk d c origin copy false marks seen) (s : Stage) (count : ChangeCount) (tends : Tends c.trace (Some s) count d.set_aside)
     (answer : Answer) (event : Event) (next : Option Stage) (after : Engine) (is : NextBy false (Some s) count.since (least_holder d.claims.drain d.claims.claims) (Some answer) event) (steps : StepsOn d s count.since answer event next after) where
   abbrev past : List Entry
   past = behind [] c.trace
 
-  has : (turn : Turn) × (turn_of count.since (least_holder d.claims.drain d.claims.claims) answer (numbers_of s) s.drain event ≡ Some turn)
-  has = some_of _ is.1
+  has : (turn : Turn) × (turn_of count.since (least_holder d.claims.drain d.claims.claims) answer (numbers_of s) s.drain event ≡ Some turn) × (is_plain (Some turn) ≡ true)
+  has = plain_turn _ is.1
 
-  early : IsEarly has.0
-  early = if_early _ has.0 has.1 (turn_early (numbers_of s) (tends.within.1, tends.within.2) count.since (least_holder d.claims.drain d.claims.claims) answer s.drain event is.0)
+  plain : (is_switch_turn has.0 ≡ false) × (is_fall has.0 ≡ false)
+  plain = plain_neither has.0 has.2
 
   followed : Followed has.0 next
   followed = steps.follows (least_holder d.claims.drain d.claims.claims) has.0 has.1
 
   booked : Booked past answer event desk.state desk.state.copy (is_fall has.0) next
   booked =
-      let shows = state_shows d c copy false marks seen desk (Some s) count tends in
+      let shows = state_shows d c origin copy false marks seen desk (Some s) count tends in
       let by = (desk.shown refl).by in
       entry_allowed past answer event desk.state s has.0 next (record { utility = shows.0; drain = shows.1; up = desk.down_is })
       (ap (λ (n : ℕ). turn_of n (least_holder desk.state.drain desk.state.claims) answer (numbers_of s) s.drain event) (sym tends.counted.since)
       ∙ ap (λ (o : Option Session). turn_of count.since o answer (numbers_of s) s.drain event)
       (ap (λ (drain : DrainState). least_holder drain desk.state.claims) by.drain ∙ ap (λ cs. least_holder d.claims.drain cs) by.claims)
       ∙ has.1)
-      (early_plain has.0 early).0 followed
+      plain.0 followed
 
   no_fall : (b : Bool) → (is_fall has.0 || b) ≡ b
-  no_fall b = ap (λ (f : Bool). f || b) (early_plain has.0 early).1
+  no_fall b = ap (λ (f : Bool). f || b) plain.1
 
   same : SameButUtility desk.state (booked).after
   same = record {
@@ -348,29 +352,30 @@ module _ (d : Engine) (c : ChronicleState) (copy : ℕ) (marks : List (Option Po
     copydoubt = booked.copydoubt ∙ no_fall desk.state.copydoubt;
   }
 
-  pub step_on : (calls : ℕ) (new : ChronicleState) → new.trace ≡ c.trace ++ utility_entry event (Some answer) calls ∷ [] → new.calls ≡ calls → IsCount seen calls → IsRecorded new.trace new.calls → GoesOn after new copy false marks seen next count
+  pub step_on : (calls : ℕ) (new : ChronicleState) → new.trace ≡ c.trace ++ utility_entry event (Some answer) calls ∷ [] → new.calls ≡ calls → IsCount seen calls → IsRecorded new.trace new.calls → GoesOn after new origin copy false marks seen next count
   step_on calls new trace at counted recorded = (
-    desk_utility d c copy false marks seen desk event (Some answer) calls (booked).after after new steps.engine.space steps.engine.log steps.engine.opened
+    desk_utility d c origin copy false marks seen desk event (Some answer) calls (booked).after after new steps.engine.space steps.engine.log
         (omega (arith, (booked_logged event (logged_by 0 c.trace) is.0).0, steps.engine.taken, desk.logged)) (λ n. (booked_logged event n is.0).1)
         (booked_allows past answer event desk.state (booked).after booked.allowed) same booked.copy_is
         (λ up. steps.engine.shows desk.state (booked).after (allowed_by 0 c.trace) (desk.shown up) same booked.drain)
         (λ is. absurd (cc (is))) steps.engine.clean trace at counted recorded,
     subst (λ (es : List Entry). Tends es next count after.set_aside) (sym trace)
         (subst (λ (n : ℕ). Tends (c.trace ++ utility_entry event (Some answer) calls ∷ []) next count n) (sym steps.engine.aside_is)
-        (tends_booked c.trace s count d.set_aside answer event calls next tends is.0 steps.follows (within_next count.since (length c.trace) s has.0 next tends.within steps.bounded early followed))),
+        (tends_booked c.trace s count d.set_aside answer event calls (least_holder d.claims.drain d.claims.claims) has.0 next tends has.1 steps.follows
+        (kept_on count.since (length c.trace) s (least_holder d.claims.drain d.claims.claims) answer event has.0 next tends.within steps.bounded has.1 followed))),
   )
 
 -- a step that finds no utility, or the desk down
-pub idle_on : (d : Engine) (c : ChronicleState) (copy : ℕ) (down : Bool) (marks : List (Option Position)) (seen : VolumeSeen) (desk : IsDesk d c copy down marks seen) (stage : Option Stage) (count : ChangeCount) (tends : Tends c.trace stage count d.set_aside) (covered : Option Session) (event : Event)
+pub idle_on : (d : Engine) (c : ChronicleState) (origin : Origin) (copy : ℕ) (down : Bool) (marks : List (Option Position)) (seen : VolumeSeen) (desk : IsDesk d c origin copy down marks seen) (stage : Option Stage) (count : ChangeCount) (tends : Tends c.trace stage count d.set_aside) (covered : Option Session) (event : Event)
     → NextBy down stage count.since covered None event
-    → (calls : ℕ) (new : ChronicleState) → new.trace ≡ c.trace ++ utility_entry event None calls ∷ [] → new.calls ≡ calls → IsCount seen calls → IsRecorded new.trace new.calls → GoesOn d new copy down marks seen stage count
-idle_on d c copy true marks seen desk stage count tends covered events.StepDown is calls new trace at counted recorded =
-    refused_on c copy marks seen count calls new at counted recorded d true stage events.StepDown desk tends (λ n. refl) (λ n. refl) (down_allows (behind [] c.trace) desk.state desk.down_is).1 (tends_refused c.trace stage count d.set_aside events.StepDown calls tt tends) trace
-idle_on d c copy true marks seen desk stage count tends covered event is calls new trace at counted recorded = absurd is
-idle_on d c copy false marks seen desk (Some s) count tends covered event is calls new trace at counted recorded = absurd is
-idle_on d c copy false marks seen desk None count tends covered events.Idle is calls new trace at counted recorded =
-    refused_on c copy marks seen count calls new at counted recorded d false None events.Idle desk tends (λ n. refl) (λ n. refl) (none_allows (behind [] c.trace) desk.state desk.down_is (state_shows d c copy false marks seen desk None count tends).0 0 0).2 (tends_refused c.trace None count d.set_aside events.Idle calls tt tends) trace
-idle_on d c copy false marks seen desk None count tends covered event is calls new trace at counted recorded = absurd is
+    → (calls : ℕ) (new : ChronicleState) → new.trace ≡ c.trace ++ utility_entry event None calls ∷ [] → new.calls ≡ calls → IsCount seen calls → IsRecorded new.trace new.calls → GoesOn d new origin copy down marks seen stage count
+idle_on d c origin copy true marks seen desk stage count tends covered events.StepDown is calls new trace at counted recorded =
+    refused_on c origin copy marks seen count calls new at counted recorded d true stage events.StepDown desk tends (λ n. refl) (λ n. refl) (down_allows (behind [] c.trace) desk.state desk.down_is).1 (tends_refused c.trace stage count d.set_aside events.StepDown calls tt tends) trace
+idle_on d c origin copy true marks seen desk stage count tends covered event is calls new trace at counted recorded = absurd is
+idle_on d c origin copy false marks seen desk (Some s) count tends covered event is calls new trace at counted recorded = absurd is
+idle_on d c origin copy false marks seen desk None count tends covered events.Idle is calls new trace at counted recorded =
+    refused_on c origin copy marks seen count calls new at counted recorded d false None events.Idle desk tends (λ n. refl) (λ n. refl) (none_allows (behind [] c.trace) desk.state desk.down_is (state_shows d c origin copy false marks seen desk None count tends).0 0 0).2 (tends_refused c.trace None count d.set_aside events.Idle calls tt tends) trace
+idle_on d c origin copy false marks seen desk None count tends covered event is calls new trace at counted recorded = absurd is
 
 -- a step without an answer leaves the stage as it was
 pub idle_follows : (down : Bool) (stage : Option Stage) (changes : ℕ) (covered : Option Session) (event : Event) → FollowsBy down stage changes covered None event stage

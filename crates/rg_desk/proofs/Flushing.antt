@@ -54,7 +54,7 @@ use Rattle.rg_desk.proofs.Throughout.{log_sound, sound_begins, sound_more}
 
 -- ---- calls
 
-in_log : (set : Set) (call : Call) → WritesIn Log call → WritesEither set call
+pub in_log : (set : Set) (call : Call) → WritesIn Log call → WritesEither set call
 in_log set (Wrote s p b) is = inl is
 in_log set (FailedWrite s p b r) is = inl is
 in_log set Read is = tt

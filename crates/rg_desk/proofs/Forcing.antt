@@ -22,13 +22,13 @@ module _ (old new : VolumeSeen) (old_log mid log : Listed) (grows : Grows old_lo
     (ahead : LeavesLog old.told mid.pages mid.records mid.forced → LeavesLog new.told mid.pages mid.records log.forced)
     (moments : KeepsLog old.told new.told mid.pages mid.records mid.forced) where
   -- a crash leaves the records with the Commit, as far as they were forced
-  leaves_forced : Leaves old old_log → Leaves new log
+  pub leaves_forced : Leaves old old_log → Leaves new log
   leaves_forced h =
       subst (λ (n : ℕ). LeavesLog new.told n log.records log.forced) (sym (ap (λ (l : Listed). l.pages) is))
       (subst (λ rs. LeavesLog new.told mid.pages rs log.forced) (sym (ap (λ (l : Listed). l.records) is)) (ahead (leaves_grown old old_log mid grows same h)))
 
   -- and at each moment no less than was forced before
-  through_forced : Leaves old old_log → HoldsThroughout old.told new.told (EachImage (SpellsFrom log.pages log.records old_log.forced))
+  pub through_forced : Leaves old old_log → HoldsThroughout old.told new.told (EachImage (SpellsFrom log.pages log.records old_log.forced))
   through_forced h =
       subst (λ (n : ℕ). HoldsThroughout old.told new.told (EachImage (SpellsFrom n log.records old_log.forced))) (sym (ap (λ (l : Listed). l.pages) is))
       (subst (λ (rs : List Record). HoldsThroughout old.told new.told (EachImage (SpellsFrom mid.pages rs old_log.forced))) (sym (ap (λ (l : Listed). l.records) is))

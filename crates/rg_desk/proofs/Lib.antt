@@ -52,6 +52,8 @@ pub mod PuttingAside
 pub mod Counting
 pub mod Among
 pub mod Reopening
+pub mod Preparing
+pub mod Drained
 pub mod Throughout
 pub mod DeskGoes
 pub mod UtilityShows
@@ -59,6 +61,12 @@ pub mod DeskUtility
 pub mod DeskFlush
 pub mod Sounding
 pub mod Rows
+pub mod Switching
+pub mod Turning
+pub mod Turned
+pub mod DeskSwitch
+pub mod Committing
+pub mod Elsewhere
 pub mod Recorded
 pub mod Parts
 pub mod Trails

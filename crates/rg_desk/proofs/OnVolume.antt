@@ -178,7 +178,7 @@ on_same e copy d next marks seen same on =
 -- ---- the write of a page
 
 -- a crash leaves the log as it did
-put_log : (pages : ℕ) (rs : List Record) (low : ℕ) (set : Set) (page : ℕ) (bytes : List ℕ) → Log ≢ set → (i : Image) → SpellsFrom pages rs low i → SpellsFrom pages rs low (put i set page bytes)
+pub put_log : (pages : ℕ) (rs : List Record) (low : ℕ) (set : Set) (page : ℕ) (bytes : List ℕ) → Log ≢ set → (i : Image) → SpellsFrom pages rs low i → SpellsFrom pages rs low (put i set page bytes)
 put_log pages rs low set page bytes differ i is = record {
   count = is.count;
   least = is.least;

@@ -39,6 +39,7 @@ use Rattle.rg_desk.specs.Steps.{IfDevice, IfUp, more_allowed}
 use Rattle.rg_desk.specs.Stored.{IsStored}
 use Rattle.rg_desk.specs.Volume.{HasCalls, Leaves, LeavesIfTidy, VolumeSeen, WasTidy}
 use Rattle.rg_desk.specs.declared.engine.Engine.{Engine}
+use Rattle.rg_desk.specs.declared.origin.Origin.{Origin}
 use Rattle.rg_desk.specs.declared.units.OpenUnit.{OpenUnit}
 use Rattle.rg_desk.proofs.Death.{desk_left, shown_left}
 use Rattle.rg_desk.proofs.Exits.{part_stored}
@@ -77,12 +78,12 @@ module _ (K : Call → Type 0) (P : List Record → Type 0) (log later : Listed)
 
 -- ---- the first records of a log
 
-front_entries : (rs more : List Record) → AreEntries (rs ++ more) → AreEntries rs
+pub front_entries : (rs more : List Record) → AreEntries (rs ++ more) → AreEntries rs
 front_entries rs more entries =
     let front : take (length rs) (rs ++ more) ≡ rs = take-append-le (length rs) rs more (omega arith) ∙ take-length rs in
     subst AreEntries front (λ r c. entries r (contains_take (length rs) (rs ++ more) r c))
 
-front_set : (rs more : List Record) (pages : ℕ) → (1 ≤ length (rs ++ more) → (end_of start (rs ++ more)).page ≤ pages) → 1 ≤ length rs → (end_of start rs).page ≤ pages
+pub front_set : (rs more : List Record) (pages : ℕ) → (1 ≤ length (rs ++ more) → (end_of start (rs ++ more)).page ≤ pages) → 1 ≤ length rs → (end_of start rs).page ≤ pages
 front_set rs more pages set some =
     let front : take (length rs) (rs ++ more) ≡ rs = take-append-le (length rs) rs more (omega arith) ∙ take-length rs in
     let all : (end_of start (rs ++ more)).page ≤ pages = set (omega (arith, some, length-append rs more)) in
@@ -90,22 +91,22 @@ front_set rs more pages set some =
 
 -- ---- a desk that makes no call
 
-module _ (d : Engine) (c : ChronicleState) (copy : ℕ) (down : Bool) (marks : List (Option Position)) (seen : VolumeSeen) (desk : IsDesk d c copy down marks seen) where
+module _ (d : Engine) (c : ChronicleState) (origin : Origin) (copy : ℕ) (down : Bool) (marks : List (Option Position)) (seen : VolumeSeen) (desk : IsDesk d c origin copy down marks seen) where
   still_rows : (P : List Record → Type 0) → AreEntries d.log.records → (1 ≤ length d.log.records → (end_of start d.log.records).page ≤ d.log.pages) → ((rs : List Record) → StoresLeft desk.state rs → P rs) → StoredThroughout seen seen d.log.pages P
   still_rows P entries set so =
       stored_through (WritesIn Log) P d.log d.log seen seen c.calls (no_calls (WritesIn Log) seen.told) desk.counted entries set refl desk.leaves
       (begins (EachImage (SpellsFrom d.log.pages d.log.records d.log.forced)) seen.told)
-      (λ n from to. so (take n d.log.records) ((desk_left d c copy down marks seen desk).stored n from to))
+      (λ n from to. so (take n d.log.records) ((desk_left d c origin copy down marks seen desk).stored n from to))
 
 -- ---- a flush
 
-pub flushed_rows : (d : Engine) (c : ChronicleState) (copy : ℕ) (down : Bool) (marks later : List (Option Position)) (seen seen_after : VolumeSeen) (desk : IsDesk d c copy down marks seen) (event : Event) (next : Engine)
+pub flushed_rows : (d : Engine) (c : ChronicleState) (origin : Origin) (copy : ℕ) (down : Bool) (marks later : List (Option Position)) (seen seen_after : VolumeSeen) (desk : IsDesk d c origin copy down marks seen) (event : Event) (next : Engine)
     → TellsFlush down copy marks later seen seen_after d event next → AreEntries d.log.records → (1 ≤ length d.log.records → (end_of start d.log.records).page ≤ d.log.pages) → StoredThroughout seen seen_after d.log.pages (StoresLeft desk.state)
-flushed_rows d c copy true marks later seen seen_after desk event next tells entries set =
-    subst (λ (v : VolumeSeen). StoredThroughout seen v d.log.pages (StoresLeft desk.state)) (sym tells.3) (still_rows d c copy true marks seen desk (StoresLeft desk.state) entries set (λ rs h. h))
-flushed_rows d c copy false marks later seen seen_after desk event next f entries set =
+flushed_rows d c origin copy true marks later seen seen_after desk event next tells entries set =
+    subst (λ (v : VolumeSeen). StoredThroughout seen v d.log.pages (StoresLeft desk.state)) (sym tells.3) (still_rows d c origin copy true marks seen desk (StoresLeft desk.state) entries set (λ rs h. h))
+flushed_rows d c origin copy false marks later seen seen_after desk event next f entries set =
     stored_through (WritesEither (set_of copy)) (StoresLeft desk.state) d.log d.log seen seen_after c.calls f.calls.only desk.counted entries set refl desk.leaves f.through
-    (desk_left d c copy false marks seen desk).stored
+    (desk_left d c origin copy false marks seen desk).stored
 
 -- ---- a statement
 
@@ -148,21 +149,21 @@ module _ (st : State) (allowed later : ℕ) (d next : Engine) (session : Session
       by_done true now = by_place (inr (record { table = committed_table_with st session; among = (1, omega arith, refl); stored = whole_stored (claim_classes (after st session Commit) session (classes_needed Commit)) now }))
       by_done false now = by_place (inl ((shown_left st later next now).stored (length next.log.records) now.settled.within (omega arith)))
 
-pub replied_rows : (d : Engine) (c : ChronicleState) (copy : ℕ) (down : Bool) (marks : List (Option Position)) (seen : VolumeSeen) (desk : IsDesk d c copy down marks seen) (session : Session) (stmt : Stmt) (reply : Reply) (next : Engine) (down_after : Bool) (seen_after : VolumeSeen)
+pub replied_rows : (d : Engine) (c : ChronicleState) (origin : Origin) (copy : ℕ) (down : Bool) (marks : List (Option Position)) (seen : VolumeSeen) (desk : IsDesk d c origin copy down marks seen) (session : Session) (stmt : Stmt) (reply : Reply) (next : Engine) (down_after : Bool) (seen_after : VolumeSeen)
     → Replies down d session stmt reply next down_after seen seen_after → AreEntries next.log.records → (1 ≤ length next.log.records → (end_of start next.log.records).page ≤ next.log.pages)
     → StoredThroughout seen seen_after d.log.pages (StoresDuring (forces d.units session stmt) desk.state session)
-replied_rows d c copy true marks seen desk session stmt reply next down_after seen_after replies entries set =
+replied_rows d c origin copy true marks seen desk session stmt reply next down_after seen_after replies entries set =
     let force : Bool = forces d.units session stmt in
     subst (λ (v : VolumeSeen). StoredThroughout seen v d.log.pages (StoresDuring force desk.state session)) (sym replies.3)
-    (still_rows d c copy true marks seen desk (StoresDuring force desk.state session)
+    (still_rows d c origin copy true marks seen desk (StoresDuring force desk.state session)
     (subst (λ (x : Engine). AreEntries x.log.records) replies.1 entries) (subst (λ (x : Engine). 1 ≤ length x.log.records → (end_of start x.log.records).page ≤ x.log.pages) replies.1 set) (during_left force desk.state session))
-replied_rows d c copy false marks seen desk session stmt reply next down_after seen_after replies entries set = by_force (forces d.units session stmt) refl
+replied_rows d c origin copy false marks seen desk session stmt reply next down_after seen_after replies entries set = by_force (forces d.units session stmt) refl
   where
     by_force : (b : Bool) → forces d.units session stmt ≡ b → StoredThroughout seen seen_after d.log.pages (StoresDuring b desk.state session)
     by_force false e =
         let answered = replies.0 desk.state (allowed_by 0 c.trace) (desk.shown refl) in
         subst (λ (v : VolumeSeen). StoredThroughout seen v d.log.pages (StoresLeft desk.state)) (sym (replies.1.none e))
-        (still_rows d c copy false marks seen desk (StoresLeft desk.state)
+        (still_rows d c origin copy false marks seen desk (StoresLeft desk.state)
         (front_entries d.log.records answered.grows.more (subst AreEntries answered.grows.records entries))
         (front_set d.log.records answered.grows.more d.log.pages (subst (λ (k : ℕ). 1 ≤ length (d.log.records ++ answered.grows.more) → (end_of start (d.log.records ++ answered.grows.more)).page ≤ k) answered.grows.pages (subst (λ (rs : List Record). 1 ≤ length rs → (end_of start rs).page ≤ next.log.pages) answered.grows.records set)))
         (λ rs h. h))

@@ -21,31 +21,31 @@ use Rattle.rg_desk.specs.OnVolume.{IsOn, PartsIfTidy, SoundThroughout, WasAllTid
 use Rattle.rg_desk.specs.Reopens.{IsCleanIn, PartsReopen}
 use Rattle.rg_desk.specs.Volume.{VolumeSeen}
 use Rattle.rg_desk.specs.declared.engine.Engine.{Engine}
-use Rattle.rg_desk.proofs.DeskGoes.{desk_reopens}
+use Rattle.rg_desk.specs.declared.origin.Origin.{Origin}
+use Rattle.rg_desk.proofs.DeskGoes.{desk_reopens, desk_rests}
 use Rattle.rg_desk.proofs.OnVolume.{both_tidy, on_more, tidy_then}
-use Rattle.rg_desk.proofs.Reopening.{sound_leaves}
 use Rattle.rg_desk.proofs.Throughout.{log_sound, sound_begins}
 
 -- of a desk that makes no call
-desk_sound : (d : Engine) (c : ChronicleState) (copy : ℕ) (down : Bool) (marks : List (Option Position)) (seen : VolumeSeen) (desk : IsDesk d c copy down marks seen) → AreEntries d.log.records → (1 ≤ length d.log.records → (end_of start d.log.records).page ≤ d.log.pages) → SoundThroughout seen seen
-desk_sound d c copy down marks seen desk entries set = sound_begins seen (sound_leaves desk.is_on.epoch copy d.log d.space marks seen desk.is_on.is_on desk.pages entries set desk.leaves)
+desk_sound : (d : Engine) (c : ChronicleState) (origin : Origin) (copy : ℕ) (down : Bool) (marks : List (Option Position)) (seen : VolumeSeen) (desk : IsDesk d c origin copy down marks seen) → AreEntries d.log.records → (1 ≤ length d.log.records → (end_of start d.log.records).page ≤ d.log.pages) → SoundThroughout seen seen
+desk_sound d c origin copy down marks seen desk entries set = sound_begins seen (desk_rests d c origin copy down marks seen desk entries set).sound
 
 -- of a statement
-pub replied_sound : (d : Engine) (c : ChronicleState) (copy : ℕ) (down : Bool) (marks : List (Option Position)) (seen : VolumeSeen) (desk : IsDesk d c copy down marks seen) (session : Session) (stmt : Stmt) (reply : Reply) (next : Engine) (down_after : Bool) (seen_after : VolumeSeen)
+pub replied_sound : (d : Engine) (c : ChronicleState) (origin : Origin) (copy : ℕ) (down : Bool) (marks : List (Option Position)) (seen : VolumeSeen) (desk : IsDesk d c origin copy down marks seen) (session : Session) (stmt : Stmt) (reply : Reply) (next : Engine) (down_after : Bool) (seen_after : VolumeSeen)
     → Replies down d session stmt reply next down_after seen seen_after → AreEntries next.log.records → (1 ≤ length next.log.records → (end_of start next.log.records).page ≤ next.log.pages) → SoundThroughout seen seen_after
-replied_sound d c copy true marks seen desk session stmt reply next down_after seen_after replies entries set =
+replied_sound d c origin copy true marks seen desk session stmt reply next down_after seen_after replies entries set =
     subst (SoundThroughout seen) (sym replies.3)
-    (desk_sound d c copy true marks seen desk (subst (λ (x : Engine). AreEntries x.log.records) replies.1 entries) (subst (λ (x : Engine). 1 ≤ length x.log.records → (end_of start x.log.records).page ≤ x.log.pages) replies.1 set))
-replied_sound d c copy false marks seen desk session stmt reply next down_after seen_after replies entries set =
+    (desk_sound d c origin copy true marks seen desk (subst (λ (x : Engine). AreEntries x.log.records) replies.1 entries) (subst (λ (x : Engine). 1 ≤ length x.log.records → (end_of start x.log.records).page ≤ x.log.pages) replies.1 set))
+replied_sound d c origin copy false marks seen desk session stmt reply next down_after seen_after replies entries set =
     let answered = replies.0 desk.state (allowed_by 0 c.trace) (desk.shown refl) in
     let asks = replies.1 in
-    let e : Epoch = desk.is_on.epoch in
-    let on = desk.is_on.is_on in
+    let e : Epoch = (desk.is_on refl).epoch in
+    let on = (desk.is_on refl).is_on in
     let held : Listed = record next.log { forced = d.log.forced } in
     let parts : PartsIfTidy seen_after e held =
     subst (λ (caps : Capacities). IfTold seen_after.told (λ t. WasAllTidy caps t → PartsReopen caps e held)) (sym asks.calls.capacities)
     (tidy_then (WritesIn Log) seen.told seen_after.told seen.capacities seen.capacities (PartsReopen seen.capacities e d.log × IsCleanIn d) (PartsReopen seen.capacities e held) c.calls asks.calls.only desk.counted refl
-    (λ h. answered.parts seen.capacities e (desk_reopens d c copy marks seen desk h.0 h.1))
+    (λ h. answered.parts seen.capacities e (desk_reopens d c origin copy marks seen desk h.0 h.1))
     (both_tidy seen.told seen.capacities (λ t. PartsReopen seen.capacities e d.log) (λ t. IsCleanIn d) on.parts (desk.clean refl))) in
     let after : IsOn e copy held next.space marks seen_after =
     on_more e copy d.log held d.space next.space marks seen seen_after on answered.grows.more answered.grows.records (answered.newest e on.newest) answered.capacity (desk.shown refl).settled.within (omega arith) asks.calls c.calls desk.counted parts in
@@ -53,7 +53,7 @@ replied_sound d c copy false marks seen desk session stmt reply next down_after 
     desk.pages answered.grows.pages entries set desk.leaves asks.through
 
 -- of a flush
-pub flushed_sound : (d : Engine) (c : ChronicleState) (copy : ℕ) (down : Bool) (marks later : List (Option Position)) (seen seen_after : VolumeSeen) (desk : IsDesk d c copy down marks seen) (event : Event) (next : Engine)
+pub flushed_sound : (d : Engine) (c : ChronicleState) (origin : Origin) (copy : ℕ) (down : Bool) (marks later : List (Option Position)) (seen seen_after : VolumeSeen) (desk : IsDesk d c origin copy down marks seen) (event : Event) (next : Engine)
     → TellsFlush down copy marks later seen seen_after d event next → AreEntries d.log.records → (1 ≤ length d.log.records → (end_of start d.log.records).page ≤ d.log.pages) → SoundThroughout seen seen_after
-flushed_sound d c copy true marks later seen seen_after desk event next tells entries set = subst (SoundThroughout seen) (sym tells.3) (desk_sound d c copy true marks seen desk entries set)
-flushed_sound d c copy false marks later seen seen_after desk event next f entries set = f.sound (record { entries = entries; set = set; pages = desk.pages }) desk.leaves
+flushed_sound d c origin copy true marks later seen seen_after desk event next tells entries set = subst (SoundThroughout seen) (sym tells.3) (desk_sound d c origin copy true marks seen desk entries set)
+flushed_sound d c origin copy false marks later seen seen_after desk event next f entries set = f.sound (record { entries = entries; set = set; pages = desk.pages }) desk.leaves

@@ -23,7 +23,7 @@ use Rattle.rg_desk.specs.Reopens.{PartsReopen}
 use Rattle.rg_desk.specs.Volume.{CallsLog, HasCalls, Leaves, LeavesIfTidy, VolumeSeen, WasTidy}
 use Rattle.rg_desk.proofs.Copies.{copies_more, copies_through}
 use Rattle.rg_desk.proofs.OnVolume.{both_tidy, tidy_on}
-use Rattle.rg_desk.proofs.Reopening.{sound_left}
+use Rattle.rg_desk.proofs.Reopening.{footed, sound_left}
 
 -- ---- no calls, and one more
 
@@ -36,7 +36,7 @@ sound_begins seen h = go seen.told h
     go (Some t) h = λ was. begins (EachImage (IsSoundTidy seen.capacities)) (Some t) (h was)
 
 -- what follows at the end of calls from two facts
-told_then : (told : Option Told) (caps : Capacities) (P Q R : Told → Type 0) → ((t : Told) → P t → Q t → R t) → IfTold told (λ t. WasAllTidy caps t → P t) → IfTold told (λ t. WasAllTidy caps t → Q t) → IfTold told (λ t. WasAllTidy caps t → R t)
+pub told_then : (told : Option Told) (caps : Capacities) (P Q R : Told → Type 0) → ((t : Told) → P t → Q t → R t) → IfTold told (λ t. WasAllTidy caps t → P t) → IfTold told (λ t. WasAllTidy caps t → Q t) → IfTold told (λ t. WasAllTidy caps t → R t)
 told_then None caps P Q R f p q = tt
 told_then (Some t) caps P Q R f p q = λ was. f t (p was) (q was)
 
@@ -98,7 +98,7 @@ module _ (e : Epoch) (copy : ℕ) (log later : Listed) (space next : Space ListF
   each_sound : (t : Told) → HoldsThroughout old.told (Some t) (EachImage Both) → PartsReopen new.capacities e held → HoldsThroughout old.told (Some t) (EachImage (IsSoundTidy new.capacities))
   each_sound t h parts =
       weaken (EachImage Both) (EachImage (IsSoundTidy new.capacities)) old.told (Some t)
-      (λ u each i is. let here : Both i = each i is in sound_left e copy held next marks_after new after held_pages entries set i here.0 (subst (λ (c : Capacities). HasCopies c copy (capacity_in next) e later.records log.forced i) (sym calls.capacities) here.1) parts) h
+      (λ u each i is. let here : Both i = each i is in sound_left new.capacities e copy (capacity_in next) held (footed e copy held next marks_after new after) held_pages entries set i here.0 (subst (λ (c : Capacities). HasCopies c copy (capacity_in next) e later.records log.forced i) (sym calls.capacities) here.1) parts) h
 
   pub log_sound : SoundThroughout old new
   log_sound =

@@ -1,14 +1,20 @@
 -- What an engine shows while the utility's drain or its stage changes.
-use Rattle.std.proofs.Common.{◌≡◌, ◌+◌, not, ℕ, Bool, true, false, Option, Some, None, refl, sym, ◌∙◌, ap, subst, arith}
+use Rattle.std.proofs.Common.{◌≡◌, ◌+◌, if◌then◌else◌, not, ℕ, Bool, true, false, Option, Some, None, refl, sym, ◌∙◌, ap, subst, arith}
 use Rattle.std.specs.Option.{is_some}
+use Rattle.rg_base.specs.declared.control.Answer.{Answer}
 use Rattle.rg_base.specs.declared.options.DrainState.{DrainState}
+use Rattle.rg_base.specs.declared.session.Session.{Session}
 use Rattle.rg_fold.specs.declared.item.Stage.{Stage}
 use Rattle.rg_log.specs.Kept.{Listed}
-use Rattle.rg_model.specs.State.{State, Table, row_of}
-use Rattle.rg_model.specs.Turn.{Turn}
+use Rattle.rg_model.specs.State.{State, Table, Utility, row_of}
+use Rattle.rg_model.specs.Turn.{Turn, Runs, Switches, Stops, Falls, turn_of}
 use Rattle.rg_outside.specs.Capacities.{Capacities}
 use Rattle.rg_stage.specs.Booked.{drain_kept}
-use Rattle.rg_tending.specs.Tending.{aside_for}
+use Rattle.rg_stage.specs.Followed.{Followed}
+use Rattle.rg_stage.specs.NumbersOf.{numbers_of}
+use Rattle.rg_stmt.specs.declared.event.Event.{Event}
+use Rattle.rg_tending.specs.Tending.{aside_for, is_plain}
+use Rattle.rg_tending.proofs.Switching.{goes_unswitched}
 use Rattle.rg_version.specs.Versions.{Epoch}
 use Rattle.rg_desk.specs.Bytes.{taken_of}
 use Rattle.rg_desk.specs.Aside.{PutsAside}
@@ -156,12 +162,18 @@ step_over d drain mid new next mid_is is none holds =
     (keeps_over d drain new (subst (λ (x : Engine). PutsAside x 0 new) mid_is holds)))
 
 -- it goes on
-pub step_goes : (d : Engine) (drain : DrainState) (new : Engine) (next : Option Stage) (b : Bool) → new ≡ with_drain d drain → drain ≡ drain_kept next → is_some next ≡ not b → b ≡ false → d.set_aside ≡ 28 → KeepsAll d (drain_kept next) (aside_for next) new
+pub step_goes : (d : Engine) (drain : DrainState) (new : Engine) (next : Option Stage) (b : Bool) → new ≡ with_drain d drain → drain ≡ drain_kept next → is_some next ≡ not b → b ≡ false → ((t : Stage) → next ≡ Some t → d.set_aside ≡ aside_for (Some t)) → KeepsAll d (drain_kept next) (aside_for next) new
 step_goes d drain new None b new_is is some goes set_aside = absurd (cc (some ∙ ap not goes))
 step_goes d drain new (Some s) b new_is is some goes set_aside =
-    subst (λ (x : Engine). KeepsAll d s.drain 28 x) (sym new_is)
-    (subst (λ (x : DrainState). KeepsAll d x 28 (with_drain d drain)) is (keeps_drained d drain 28 set_aside))
+    subst (λ (x : Engine). KeepsAll d s.drain (aside_for (Some s)) x) (sym new_is)
+    (subst (λ (x : DrainState). KeepsAll d x (aside_for (Some s)) (with_drain d drain)) is (keeps_drained d drain (aside_for (Some s)) (set_aside s refl)))
 
-pub some_of : (o : Option Turn) → is_some o ≡ true → (turn : Turn) × (o ≡ Some turn)
-some_of None e = absurd (cc (e))
-some_of (Some turn) e = (turn, refl)
+-- a plain turn after which the utility goes on leaves as much set aside
+pub still_aside : (all : ℕ) (blocker : Option Session) (answer : Answer) (s t : Stage) (event : Event) (turn : Turn) → turn_of all blocker answer (numbers_of s) s.drain event ≡ Some turn → is_plain (Some turn) ≡ true → Followed turn (Some t)
+    → aside_for (Some s) ≡ aside_for (Some t)
+still_aside all blocker answer s t event (Runs v drain) e plain follows =
+    let unswitched = goes_unswitched all blocker answer s event v drain e in
+    ap (λ (b : Bool). if b then 0 else 28) (unswitched.0 ∙ sym unswitched.1 ∙ sym (ap (λ (u : Utility). u.switched) follows.0))
+still_aside all blocker answer s t event (Switches copy sides v) e plain follows = absurd (cc (plain))
+still_aside all blocker answer s t event Stops e plain follows = absurd follows
+still_aside all blocker answer s t event Falls e plain follows = absurd (cc (plain))

@@ -1,4 +1,4 @@
--- What holding bytes of the log for the utility leaves of an engine.
+-- What setting bytes of the log aside for the utility leaves of an engine.
 --
 -- 1. What the log has reserved changes by as much as what is set aside. All else is as it was.
 -- 2. So the engine shows each state that it showed, and what its log leaves can be opened again as

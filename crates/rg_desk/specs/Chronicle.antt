@@ -6,14 +6,13 @@
 --    be.
 -- 3. The entries of earlier openings are kept before those from the opening on, and the two rules
 --    above hold of all of them.
-use Rattle.std.specs.Prelude.{◌≡◌, ◌≤◌, ◌<◌, ◌+◌, ◌*◌, ◌^◌, ℕ, List, [], ◌∷◌, None, is_some, length}
+use Rattle.std.specs.Prelude.{◌≡◌, ◌≤◌, ◌<◌, ◌+◌, ◌*◌, ◌^◌, ℕ, List, [], ◌∷◌, is_some, length}
 use Rattle.std.specs.List.{AllByRecursion}
 use Rattle.std.specs.List.Sorted.{IsNonDecreasingBy}
 use Rattle.rg_model.specs.Legal.{IsActor, asks}
-use Rattle.rg_stmt.specs.declared.event.Actor.TheVariants as actors
 use Rattle.rg_stmt.specs.declared.event.Entry.{Entry}
 use Rattle.rg_stmt.specs.declared.event.Event.{Event}
-use Rattle.rg_stmt.specs.declared.event.Event.TheVariants.{Opened, Said, Started}
+use Rattle.rg_stmt.specs.declared.event.Event.TheVariants.{Opened, Said, Started, Switched}
 pub use Rattle.rg_tending.specs.Tending.{system_entry}
 use Rattle.rg_desk.specs.Steps.{more_allowed, more_logged}
 
@@ -37,10 +36,12 @@ pub record IsRecorded (trace : List Entry) (calls : ℕ) : Type 0 where
   pub each : AllByRecursion IsEntry trace
   pub few : length trace < 2 ^ 63
 
--- An opening allows 4,064 bytes for each page that it finds, and a statement what it writes.
+-- An opening allows 4,064 bytes for each page that it finds, and a switch for each page of the new
+-- copy. A statement allows what it writes.
 abbrev pub allowed_after : (allowed : ℕ) → Event → ℕ
 allowed_after allowed (Opened copy rows pages used) = 4064 * pages
 allowed_after allowed (Said stmt reply) = allowed + more_allowed stmt reply
+allowed_after allowed (Switched copy sides) = 4064 * sides.new.pages
 allowed_after allowed event = allowed
 
 -- An opening finds so many bytes of the log taken, and a statement takes or reserves more. A

@@ -12,10 +12,11 @@
 -- 6. Where the log read tidy when the count began, a crash leaves all of it that is forced.
 -- 7. Each key with a row, and each locked one, is among some keys that are no more than the entries
 --    and the rows at the opening.
--- 8. Each page is the newest version of its page, and each mark says how it reads. Where the volume
---    read tidy when the count began, a crash leaves versions that the forced records cover. Then
---    whatever it leaves can be opened, and dead areas have numbers that were drawn.
-use Rattle.std.specs.Prelude.{◌≡◌, ◌≤◌, ◌<◌, ◌+◌, ◌-◌, ◌*◌, ◌^◌, ◌⊎◌, ◌||◌, ◌++◌, if◌then◌else◌, ℕ, suc, Bool, true, false, List, [], ◌∷◌, Option, Some, None, length, take}
+-- 8. While it is up each page is the newest version of its page, and each mark says how it reads.
+--    Where the volume read tidy when the count began, a crash leaves versions that the forced
+--    records cover. Then whatever it leaves can be opened, and dead areas have numbers that were
+--    drawn.
+use Rattle.std.specs.Prelude.{◌≡◌, ◌≤◌, ◌<◌, ◌+◌, ◌-◌, ◌*◌, ◌^◌, ◌⊎◌, ◌||◌, ◌++◌, if◌then◌else◌, ℕ, suc, Bool, true, false, List, [], ◌∷◌, Option, Some, None, IfSome, length, take}
 use Rattle.rg_base.specs.declared.control.Answer.{Answer}
 use Rattle.rg_base.specs.declared.options.Options.{Options}
 use Rattle.rg_base.specs.declared.position.Position.{Position}
@@ -24,7 +25,7 @@ use Rattle.rg_base.specs.declared.session.Session.{Session}
 use Rattle.rg_model.specs.Committed.{committed_table}
 use Rattle.rg_model.specs.Legal.{Legal}
 use Rattle.rg_model.specs.Run.{Run}
-use Rattle.rg_model.specs.State.{State, Table, at_rest, is_present, row_count}
+use Rattle.rg_model.specs.State.{State, Table, at_rest, is_present, row_count, row_of}
 use Rattle.rg_outside.specs.Moments.{EachImage, HoldsThroughout, IfTold}
 use Rattle.rg_claimed.specs.Claim.{claimed_all, holding}
 use Rattle.rg_fold.specs.declared.item.Stage.{Stage}
@@ -47,20 +48,34 @@ use Rattle.rg_stmt.specs.declared.stmt.Reply.TheVariants.{Device, Done, Down}
 use Rattle.rg_stmt.specs.declared.stmt.Stmt.{Stmt}
 use Rattle.rg_log.specs.Kept.{Listed, left_of, log_pages}
 use Rattle.rg_outside.specs.Faults.{Rose}
+use Rattle.rg_base.specs.declared.step.Step.TheVariants as steps
+use Rattle.rg_base.specs.declared.verdict.StopReason.TheVariants as reasons
+use Rattle.rg_home.specs.Pages.{slot_of}
+use Rattle.rg_home.specs.Rows.{row_at}
+use Rattle.rg_lawful.specs.Table.{IsTable}
+use Rattle.rg_model.specs.Changes.{changes}
+use Rattle.rg_model.specs.Layout.{is_right_side}
+use Rattle.rg_model.specs.Right.{are_quiet_right, is_packed}
+use Rattle.rg_model.specs.Turn.{alter, is_term, step_of}
+use Rattle.rg_stage.specs.NumbersOf.{numbers_of}
+use Rattle.rg_stmt.specs.declared.layout.Sides.{Sides}
+use Rattle.rg_switch.specs.Switched.{other_of}
 use Rattle.rg_desk.specs.Answers.{IfFull, IfLogFull, forces, is_answer, is_device}
 use Rattle.rg_desk.specs.Bytes.{taken_of}
 use Rattle.rg_desk.specs.Flushed.{CallsOwn, FlushIs}
 use Rattle.rg_desk.specs.Left.{LeavesState, StoresDuring, StoresLeft}
-use Rattle.rg_desk.specs.OnVolume.{CleanIfTidy, IsOnVolume, SoundThroughout}
+use Rattle.rg_desk.specs.OnVolume.{CleanIfTidy, IsOnVolume, LeavesCopies, RestsOn, SoundThroughout}
 use Rattle.rg_desk.specs.Chronicle.{ChronicleState, IsRecorded, allowed_by, logged_by, system_entry}
+use Rattle.rg_desk.specs.Prepared.{PreparedSeen}
 use Rattle.rg_desk.specs.Room.{Ground, SaysLog, SaysRoom}
 use Rattle.rg_desk.specs.Shows.{Shows}
 use Rattle.rg_desk.specs.Stored.{IsSettled, IsStored, StoresCommitted}
 use Rattle.rg_desk.specs.Utility.{IsNew}
-use Rattle.rg_desk.specs.Volume.{HasCalls, IsCount, LeavesIfTidy, VolumeSeen, WasTidy}
+use Rattle.rg_desk.specs.Volume.{CallsLog, HasCalls, IsCount, LeavesIfTidy, VolumeSeen, WasTidy}
 use Rattle.rg_desk.specs.declared.engine.Engine.{Engine}
+use Rattle.rg_desk.specs.declared.origin.Origin.{Origin}
 use Rattle.rg_tally.specs.Changed.{ChangeCount}
-use Rattle.rg_tending.specs.Tending.{FollowsBy, NextBy, aside_for, utility_entry}
+use Rattle.rg_tending.specs.Tending.{FollowsBy, NextBy, aside_for, behind, utility_entry}
 
 -- a number that a copy has
 abbrev pub IsCopy : (copy : ℕ) → Type 0
@@ -82,15 +97,17 @@ pub record AreKeys (keys : List ℕ) (st : State) : Type 0 where
   pub present : (k : ℕ) → is_present st.table k ≡ true → IsAmong keys k
   pub locked : (k : ℕ) → map.contains_key st.locks k ≡ true → IsAmong keys k
 
--- what a desk keeps of its engine and its entries, over a volume of which so much is seen
-pub record IsDesk (d : Engine) (c : ChronicleState) (copy : ℕ) (down : Bool)
+-- what a desk keeps of its engine and its entries since it was opened, over a volume of which so
+-- much is seen
+pub record IsDesk (d : Engine) (c : ChronicleState) (origin : Origin) (copy : ℕ) (down : Bool)
     (marks : List (Option Position)) (seen : VolumeSeen) : Type 0 where
   pub start : Table
-  pub starts : IsStored (take d.opened d.log.records) start
-  pub within : d.opened ≤ length d.log.records
+  pub starts : IsStored (take origin.records d.log.records) start
+  pub within : origin.records ≤ length d.log.records
   pub state : State
-  pub begun : IsBegun copy (row_count start) c.trace
-  pub run : Run [] (at_rest start copy) c.trace state
+  pub begun : IsBegun origin.copy (row_count start) c.trace
+  pub run : Run [] (at_rest start origin.copy) c.trace state
+  pub is_first : IsCopy origin.copy
   pub is_copy : IsCopy copy
   pub copy_is : state.copy ≡ copy
   pub down_is : state.down ≡ down
@@ -101,7 +118,8 @@ pub record IsDesk (d : Engine) (c : ChronicleState) (copy : ℕ) (down : Bool)
   pub logged : taken_of d.log ≤ logged_by 0 c.trace
   pub pages : d.log.pages ≡ log_pages seen.capacities
   pub leaves : LeavesIfTidy seen d.log
-  pub is_on : IsOnVolume copy d.log d.space marks seen
+  pub is_on : down ≡ false → IsOnVolume copy d.log d.space marks seen
+  pub rests : down ≡ true → RestsOn state seen
   pub clean : down ≡ false → CleanIfTidy seen d
   pub keys : List ℕ
   pub among : AreKeys keys state
@@ -110,9 +128,10 @@ pub record IsDesk (d : Engine) (c : ChronicleState) (copy : ℕ) (down : Bool)
 
 -- What callers see of a desk: the entries of earlier openings, those from its own on, what its
 -- writes are planned over, its pages and their marks, how many records the log had when it was
--- opened, the number of the copy, and whether it is down. Then the stage of the utility that runs,
--- the changes since one started, the operator's answer that no entry has yet, for how many entries
--- there is room, and the least session that is in the drain's way. Last what it was handed.
+-- opened and of which copy it was, the current copy, and whether it is down. Then the stage of the
+-- utility that runs, the changes since one started, the operator's answer that no entry has yet,
+-- the new copy that was written, for how many entries there is room, and the least session that is
+-- in the drain's way. Last what it was handed.
 pub record DeskState (V O : Type 0) : Type 0 where
   pub older : List Entry
   pub trace : List Entry
@@ -120,11 +139,13 @@ pub record DeskState (V O : Type 0) : Type 0 where
   pub contents : List Content
   pub marks : List (Option Position)
   pub opened : ℕ
+  pub first_copy : ℕ
   pub copy : ℕ
   pub down : Bool
   pub stage : Option Stage
   pub changes : ℕ
   pub kept : Option Answer
+  pub shadow : Option PreparedSeen
   pub spare : ℕ
   pub covered : Option Session
   pub volume : V
@@ -156,6 +177,23 @@ pub record CanBegin (capacity : ℕ) (pages : List (List Slot)) (log : Listed) (
     pub owes : owed log.records ≡ 0
     pub space : HasSpace log.pages log.records
 
+-- the same of pages and a log, but for the stored table
+pub record CanShow (capacity : ℕ) (pages : List (List Slot)) (log : Listed) (top : ℕ) : Type 0
+  where
+    pub first : LogState
+    pub good : IsConsistent capacity first
+    pub stores : StoresCommitted capacity first log.records
+    pub settled : IsSettled log
+    pub pages_are : first.pages ≡ pages
+    pub live : first.live ≡ []
+    pub writes : first.writes ≡ []
+    pub top_is : first.top ≡ top
+    pub idle : log.reserved ≡ 0
+    pub claimed : claimed_all (holding [] (suc top)) pages ≤ 4064 * length pages
+    pub tells : Tells log.records first
+    pub owes : owed log.records ≡ 0
+    pub space : HasSpace log.pages log.records
+
 -- a desk that was opened over a volume, with this log and these pages
 pub record Opens {V O : Type 0}
     (look : V → VolumeSeen) (volume : V) (operator : O) (log : Listed) (copy capacity : ℕ)
@@ -171,6 +209,7 @@ pub record Opens {V O : Type 0}
   pub capacity_is : desk.ground.capacity ≡ capacity
   pub log_is : desk.ground.log ≡ log
   pub opened : desk.opened ≡ length log.records
+  pub first_copy : desk.first_copy ≡ copy
   pub copy_is : desk.copy ≡ copy
   pub up : desk.down ≡ false
   pub same : desk.volume ≡ volume
@@ -178,6 +217,7 @@ pub record Opens {V O : Type 0}
   pub stage : desk.stage ≡ None
   pub changes : desk.changes ≡ 0
   pub kept : desk.kept ≡ None
+  pub shadow : desk.shadow ≡ None
 
 -- the copy may have as many pages as before, and the log and the entries of earlier openings are as
 -- they were, and of the volume no page but the log's and the copy's was written
@@ -186,14 +226,17 @@ pub record Stays {V O : Type 0} (look : V → VolumeSeen) (old new : DeskState V
   pub capacity : new.ground.capacity ≡ old.ground.capacity
   pub log_pages : new.ground.log.pages ≡ old.ground.log.pages
   pub opened : new.opened ≡ old.opened
+  pub first_copy : new.first_copy ≡ old.first_copy
   pub old_same : old_records new ≡ old_records old
   pub copy : new.copy ≡ old.copy
   pub calls : CallsOwn old.copy (look old.volume) (look new.volume)
 
--- the utility's stage is as it was, the answer that no entry has yet, and the operator
+-- the utility's stage is as it was, the answer that no entry has yet, the new copy that was
+-- written, and the operator
 pub record SameUtility {V O : Type 0} (old new : DeskState V O) : Type 0 where
   pub stage : new.stage ≡ old.stage
   pub kept : new.kept ≡ old.kept
+  pub shadow : new.shadow ≡ old.shadow
   pub operator : new.operator ≡ old.operator
 
 -- What writes are planned over is as it was, but for the bytes that the log has reserved. The
@@ -213,7 +256,7 @@ pub record KeepsRows {V O : Type 0} (look : V → VolumeSeen) (old : DeskState V
   pub start : Table
   pub starts : IsStored (old_records old) start
   pub last : State
-  pub run : Run [] (at_rest start old.copy) old.trace last
+  pub run : Run [] (at_rest start old.first_copy) old.trace last
   pub stored :
       IfTold new.told (λ t. WasTidy old.ground.log.pages t
       → HoldsThroughout (look old.volume).told (Some t)
@@ -348,6 +391,7 @@ pub record MadeStart {V O : Type 0} (look : V → VolumeSeen) (old : DeskState V
   pub log_full : IfStartLogFull event (logged_by 0 old.trace) old.ground.log.pages
   pub changes : new.changes ≡ (if started then 0 else old.changes)
   pub kept : new.kept ≡ old.kept
+  pub shadow : new.shadow ≡ old.shadow
   pub operator : new.operator ≡ old.operator
   pub ground : SameGround old new
   pub contents : new.contents ≡ old.contents
@@ -363,16 +407,20 @@ left_by_stage changes (Some s) = changes - s.done
 abbrev pub left_to_take : {V O : Type 0} → DeskState V O → ℕ
 left_to_take desk = left_by_stage desk.changes desk.stage
 
--- it has taken no more changes than there are, up to the end of its iteration, and not switched
+-- it has taken no more changes than there are, up to the end of its iteration
 pub record HasTaken (changes : ℕ) (s : Stage) : Type 0 where
   pub done : s.done ≤ s.target
   pub target : s.target ≤ changes
-  pub unswitched : s.switched ≡ false
 
 -- the event is that of the next step
 abbrev pub IsNextStep : {V O : Type 0} → DeskState V O → Option Answer → Event → Type 0
 IsNextStep desk answer event =
     NextBy desk.down desk.stage desk.changes desk.covered answer event
+
+-- a new copy that was written is kept while a utility runs
+abbrev pub while_running : {A : Type 0} → Option Stage → Option A → Option A
+while_running None shadow = None
+while_running (Some s) shadow = shadow
 
 -- A step has one entry more, with the operator's answer and the number of calls up to it. It calls
 -- no volume. The stage follows the event.
@@ -384,12 +432,91 @@ pub record MadeStep {V O : Type 0} (look : V → VolumeSeen) (old : DeskState V 
   pub follows : FollowsBy old.down old.stage old.changes old.covered answer event new.stage
   pub changes : new.changes ≡ old.changes
   pub kept : new.kept ≡ None
+  pub shadow : new.shadow ≡ while_running new.stage old.shadow
   pub operator : new.operator ≡ old.operator
   pub ground : SameGround old new
   pub contents : new.contents ≡ old.contents
   pub down : new.down ≡ old.down
   pub volume : new.volume ≡ old.volume
   pub stays : Stays look old new
+
+-- The step of the utility is its switch, by the operator's answer, and a new copy is kept that was
+-- written since the last record. These are the layouts of the copies: they are right for the table,
+-- the quiet rows lie at home in clustering order, and the new copy is packed where nothing has
+-- changed since the utility started.
+pub record CanCommit {V O : Type 0} (desk : DeskState V O) (answer : Answer) (sides : Sides)
+    : Type 0 where
+  pub stage : Stage
+  pub stage_is : desk.stage ≡ Some stage
+  pub unswitched : stage.switched ≡ false
+  pub no_term : is_term answer.command ≡ false
+  pub step : step_of (alter (numbers_of stage) answer.command) stage.drain ≡ steps.Switch
+  pub shadow : PreparedSeen
+  pub shadow_is : desk.shadow ≡ Some shadow
+  pub current : shadow.records ≡ length desk.ground.log.records
+  pub as_written : sides.new.pages ≡ stage.shadow
+  pub as_kept : sides.new.pages ≡ length shadow.shade.pages
+  pub right :
+      (t : Table) → IsTable (row_at (slot_of desk.ground.pages)) (row_of t)
+      → (is_right_side t sides.old ≡ true) × (is_right_side t sides.new ≡ true)
+  pub quiet : are_quiet_right (behind [] desk.trace) sides.new.spots ≡ true
+  pub packed :
+      changes (behind [] desk.trace) ≡ 0
+      → (t : Table) → IsTable (row_at (slot_of desk.ground.pages)) (row_of t)
+      → is_packed stage.options t sides.new ≡ true
+
+-- what a switch leaves as it was, whether it succeeds or fails
+pub record StaysOpened {V O : Type 0} (look : V → VolumeSeen) (old new : DeskState V O) : Type 0
+  where
+    pub older : new.older ≡ old.older
+    pub log_pages : new.ground.log.pages ≡ old.ground.log.pages
+    pub opened : new.opened ≡ old.opened
+    pub first_copy : new.first_copy ≡ old.first_copy
+    pub old_same : old_records new ≡ old_records old
+    pub changes : new.changes ≡ old.changes
+    pub kept : new.kept ≡ None
+    pub shadow : new.shadow ≡ None
+    pub operator : new.operator ≡ old.operator
+    pub calls : CallsLog (look old.volume) (look new.volume)
+    pub sound : SoundThroughout (look old.volume) (look new.volume)
+
+-- the pages of a desk are those of this new copy
+abbrev pub HasCopy : {V O : Type 0} → DeskState V O → PreparedSeen → Type 0
+HasCopy desk p =
+    (desk.contents ≡ p.shade.pages) × (desk.ground.capacity ≡ p.shade.capacity)
+    × (desk.ground.log.forced ≡ length desk.ground.log.records)
+
+-- A switch has one entry more, with the operator's answer and the number of calls up to it. The
+-- desk has the new copy from then on. All records are forced.
+pub record MadeSwitch {V O : Type 0} (look : V → VolumeSeen) (old : DeskState V O)
+    (answer : Answer) (sides : Sides) (new : DeskState V O) : Type 0 where
+  pub calls : ℕ
+  pub made :
+      new.trace
+      ≡ old.trace
+      ++ utility_entry (events.Switched (other_of old.copy) sides) (Some answer) calls ∷ []
+  pub counted : IsCount (look new.volume) calls
+  pub stage : Stage
+  pub stage_is : new.stage ≡ Some stage
+  pub switched : stage.switched ≡ true
+  pub copy : new.copy ≡ other_of old.copy
+  pub down : new.down ≡ false
+  pub taken : IfSome old.shadow (HasCopy new)
+  pub stays : StaysOpened look old new
+
+-- A switch that failed has one entry more, too. A call has failed, and the desk is down.
+pub record MadeFall {V O : Type 0} (look : V → VolumeSeen) (old : DeskState V O)
+    (answer : Answer) (new : DeskState V O) : Type 0 where
+  pub calls : ℕ
+  pub made :
+      new.trace
+      ≡ old.trace ++ utility_entry (events.Stop reasons.Device) (Some answer) calls ∷ []
+  pub counted : IsCount (look new.volume) calls
+  pub stage : new.stage ≡ None
+  pub copy : new.copy ≡ old.copy
+  pub down : new.down ≡ true
+  pub device : Rose (look old.volume).faults (look new.volume).faults
+  pub stays : StaysOpened look old new
 
 -- the trace is legal from the table that these records store
 abbrev pub LegalFrom : List Record → List Entry → Type 0
@@ -421,17 +548,16 @@ pub record EndsWithRows
       IfTold seen.told (λ t. WasTidy pages t
       → EachImage (λ i. IsStored (log_of pages i) (committed_table last)) t)
 
--- It leads from that table, in this copy, to a last state, up or down, in which it is known which
--- copy is current. Where the log read tidy, whatever a crash leaves of the volume
--- stores a table that process death leaves of that state.
+-- It leads from that table, in this copy, to a last state, up or down. Where the log read tidy,
+-- whatever a crash leaves of the volume stores a table that process death leaves of that state, and
+-- the copy that it makes current is one that process death leaves.
 pub record LeavesTable
     (old : List Record) (copy pages : ℕ) (seen : VolumeSeen) (trace : List Entry) : Type 0 where
   pub start : Table
   pub starts : IsStored old start
   pub last : State
   pub run : Run [] (at_rest start copy) trace last
-  pub copy_is : last.copy ≡ copy
-  pub sure : last.copydoubt ≡ false
+  pub copies : LeavesCopies last seen
   pub left :
       IfTold seen.told (λ t. WasTidy pages t
       → EachImage (λ i. StoresLeft last (log_of pages i)) t)

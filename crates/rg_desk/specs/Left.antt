@@ -4,10 +4,9 @@
 --    then it leaves them with what the session wrote, or without.
 -- 2. Each part of the log that has all that is forced stores one of these tables. So does what a
 --    crash leaves, which is such a part.
--- 3. It is known which copy is current.
--- 4. While a statement is answered that forces the log, a crash leaves what it would leave before,
+-- 3. While a statement is answered that forces the log, a crash leaves what it would leave before,
 --    or what it leaves where the device refuses the COMMIT.
-use Rattle.std.specs.Prelude.{◌≡◌, ◌≤◌, ◌⊎◌, ℕ, Bool, true, false, List, Some, length, take}
+use Rattle.std.specs.Prelude.{◌≤◌, ◌⊎◌, ℕ, Bool, true, false, List, Some, length, take}
 use Rattle.std.specs.List.{Contains}
 use Rattle.rg_base.specs.declared.session.Session.{Session}
 use Rattle.rg_log.specs.Kept.{Listed}
@@ -28,7 +27,6 @@ pub record StoresLeft (st : State) (records : List Record) : Type 0 where
 
 -- so does whatever part of the log has all that is forced
 pub record LeavesState (st : State) (log : Listed) : Type 0 where
-  pub sure : st.copydoubt ≡ false
   pub stored :
       (n : ℕ) → log.forced ≤ n → n ≤ length log.records → StoresLeft st (take n log.records)
 

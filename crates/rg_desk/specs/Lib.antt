@@ -27,3 +27,5 @@ pub mod Utility
 pub mod Desk
 pub mod Begun
 pub mod Count
+pub mod Prepared
+pub mod Turned

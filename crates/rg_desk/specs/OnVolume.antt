@@ -12,6 +12,8 @@
 --    whatever a crash leaves of the log.
 -- 6. Where the volume read tidy then, each part of the log that has all that is forced can be
 --    opened. So whatever a crash leaves is sound, and tidy.
+-- 7. Of a desk that is down only so much is known of the volume: that it goes on tidy, that
+--    whatever a crash leaves is sound and tidy, and which copies that may make current.
 use Rattle.std.specs.Prelude.{◌≡◌, ◌≤◌, ◌<◌, ◌==◌, ℕ, Bool, true, false, List, ◌∷◌, Option, Some, None, length, slice_index_or, take}
 use Rattle.rg_base.specs.declared.position.Position.{Position}
 use Rattle.rg_base.specs.declared.set.Set.{Set}
@@ -20,8 +22,10 @@ use Rattle.rg_outside.specs.Capacities.{Capacities, capacity_of}
 use Rattle.rg_outside.specs.Moments.{EachImage, HoldsThroughout, IfTold, read_at}
 use Rattle.rg_image.specs.Log.{log_of}
 use Rattle.rg_image.specs.Meaning.{current_of}
-use Rattle.rg_image.specs.Rules.{IsTidyLog, copy_capacity}
+use Rattle.rg_image.specs.Rules.{ArePositions, IsTidyLog, copy_capacity}
 use Rattle.rg_log.specs.Kept.{Listed, log_pages}
+use Rattle.rg_model.specs.Possible.{is_copy_left}
+use Rattle.rg_model.specs.State.{State}
 use Rattle.rg_page.specs.Content.{Content, content_at, empty}
 use Rattle.rg_page.specs.declared.list.ListFrames.{ListFrames}
 use Rattle.rg_record.specs.declared.record.Record.{Record}
@@ -32,6 +36,7 @@ use Rattle.rg_sound.specs.Reopens.{AreTidyOwners}
 use Rattle.rg_sound.specs.Sound.{IsSound}
 use Rattle.rg_version.specs.Versions.{Epoch, IsBegun, Spells, version}
 use Rattle.rg_switch.specs.Switched.{AreOldPages, other_of}
+use Rattle.rg_newest.specs.Steady.{IsSteady}
 use Rattle.rg_newest.specs.Tidy.{AreTidyPages, set_of, switched_pages}
 use Rattle.rg_desk.specs.Newest.{HasNewest}
 use Rattle.rg_desk.specs.Reopens.{IsCleanIn, PartsReopen}
@@ -107,11 +112,19 @@ SoundThroughout old new =
     IfTold new.told (λ t. WasAllTidy new.capacities t
     → HoldsThroughout old.told (Some t) (EachImage (IsSoundTidy new.capacities)))
 
--- if the log read tidy then, this copy is the current one by whatever a crash leaves of it
-abbrev pub LeavesCopyIfTidy : VolumeSeen → (copy : ℕ) → Type 0
-LeavesCopyIfTidy seen copy =
+-- if the log read tidy then, the copy that is current by whatever a crash leaves of it is one that
+-- process death leaves of the state
+abbrev pub LeavesCopies : State → VolumeSeen → Type 0
+LeavesCopies st seen =
     IfTold seen.told (λ t. WasTidy (log_pages seen.capacities) t
-    → EachImage (λ i. (current_of (log_of (log_pages seen.capacities) i)).copy ≡ copy) t)
+    → EachImage (λ i.
+    is_copy_left st (current_of (log_of (log_pages seen.capacities) i)).copy ≡ true) t)
+
+-- a volume on which a desk rests that is down in this state
+pub record RestsOn (st : State) (seen : VolumeSeen) : Type 0 where
+  pub tidy : GoesOnTidy seen
+  pub sound : LeavesSoundIfTidy seen
+  pub copies : LeavesCopies st seen
 
 -- the mark of page p, if it has one
 abbrev pub mark_at : List (Option Position) → (p : ℕ) → Option Position
@@ -135,6 +148,18 @@ pub record BeganAt (e : Epoch) (log : Listed) : Type 0 where
   pub low : e.from ≤ at
   pub forced : at ≤ log.forced
   pub empties : (p : ℕ) → (current_of (take at log.records)).pages < p → e.base p ≡ empty e.copy p
+
+-- a copy that began so is the current one of this log, and of each part that has all that is forced
+pub record IsFooted (capacities : Capacities) (e : Epoch) (copy capacity : ℕ) (log : Listed)
+    : Type 0 where
+  pub copy_is : e.copy ≡ copy
+  pub fills : capacity ≡ copy_capacity capacities copy
+  pub begun : e.from ≤ log.forced
+  pub began : BeganAt e log
+  pub positions : ArePositions log.records
+  pub steady : IsSteady e log.records
+  pub bases : (p : ℕ) → 1 ≤ p → IsBegun e p
+  pub counts : e.pages ≡ switched_pages (take e.from log.records)
 
 -- what of the pages of a space is on the volume, for a copy that began so
 pub record IsOn (e : Epoch) (copy : ℕ) (log : Listed) (space : Space ListFrames)

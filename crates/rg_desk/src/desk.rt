@@ -25,9 +25,10 @@ ghost use Rattle.rg_desk.specs.Chronicle.{IsRecorded, system_entry};
 ghost use Rattle.rg_desk.specs.Begun.{Begun};
 ghost use Rattle.rg_desk.specs.Desk.{CanBegin, EndsDown, EndsWithRows, IsCopy, IsLayout};
 ghost use Rattle.rg_desk.specs.Desk.{LeavesTable, LegalFrom, MadeFlush, MadeLayout, MadeSaid};
-ghost use Rattle.rg_desk.specs.Desk.{Opens, old_records};
+ghost use Rattle.rg_desk.specs.Desk.{CanCommit, MadeFall, MadeSwitch};
+ghost use Rattle.rg_desk.specs.Desk.{Opens, old_records, while_running};
 ghost use Rattle.rg_desk.specs.Flushed.{TellsFlush};
-ghost use Rattle.rg_desk.specs.OnVolume.{GoesOnTidy, IsOnVolume, LeavesCopyIfTidy};
+ghost use Rattle.rg_desk.specs.OnVolume.{GoesOnTidy, IsOnVolume};
 ghost use Rattle.rg_desk.specs.OnVolume.{LeavesSoundIfTidy, WasAllTidy};
 ghost use Rattle.rg_lawful.specs.Lawful.{AllBelow};
 ghost use Rattle.rg_outside.specs.Moments.{IfTold};
@@ -44,6 +45,9 @@ ghost use Rattle.rg_tending.specs.Tending.{NextBy, utility_entry};
 use crate::chronicle::Chronicle;
 use crate::engine::Engine;
 use crate::found::Found;
+use crate::origin::Origin;
+use crate::prepared::Prepared;
+use crate::switch::{Old, other_of, turn};
 use crate::utility::{count_from, is_started, start_utility};
 use rg_base::control::Answer;
 use rg_base::no_memory::NoMemory;
@@ -51,11 +55,15 @@ use rg_base::options::Options;
 use rg_base::position::Position;
 use rg_base::session::Session;
 use rg_base::set::Set;
+use rg_base::verdict::StopReason;
 use rg_fold::item::Stage;
+use rg_log::fault::Device;
 use rg_outside::counted::Counts;
 use rg_outside::operator::Operator;
 use rg_outside::volume::Volume;
+use rg_stage::follow::next_stage;
 use rg_stmt::event::{Actor, Entry, Event};
+use rg_stmt::layout::Sides;
 use rg_stmt::stmt::{Reply, Stmt};
 use rg_tally::changes::Changes;
 use std::alloc::Global;
@@ -88,6 +96,7 @@ pub enum OpenCause {
 pub struct Desk<V: Counts, O> {
     engine: Engine,
     chronicle: Chronicle,
+    origin: Origin,
     marks: Vec<Option<Position>>,
     copy: u8,
     down: bool,
@@ -95,6 +104,8 @@ pub struct Desk<V: Counts, O> {
     changes: Changes,
     // The operator's answer that no entry has yet.
     kept: Option<Answer>,
+    // The new copy that was written and may become current.
+    shadow: Option<Prepared>,
     volume: V,
     operator: O,
 }
@@ -102,11 +113,17 @@ pub struct Desk<V: Counts, O> {
 impl<V: Counts, O> Model for Desk<V, O> {
     ghost use Rattle.rg_desk.specs.Desk.{DeskState, IsDesk};
     ghost use Rattle.rg_desk.specs.Engine.{ground_of, seen_in};
+    ghost use Rattle.rg_desk.specs.Prepared.{KeepsPrepared, prepared_seen};
     ghost use Rattle.rg_model.specs.Claims.{least_holder};
     ghost use Rattle.rg_tending.specs.Tending.{Tends};
     ghost use Rattle.rg_desk.specs.Volume.{seen_volume};
 
     ghost Value = { DeskState V O };
+
+    ghost use Rattle.std.specs.Coded.{codes};
+    ghost use Rattle.rg_shadow.specs.Stored.{shade_code};
+
+    ghost coded = { Prim.hlevel (codes, shade_code) };
 
     ghost view = { λ d. record {
       older = d.chronicle.older;
@@ -114,21 +131,25 @@ impl<V: Counts, O> Model for Desk<V, O> {
       ground = ground_of d.engine;
       contents = (seen_in d.engine).pages;
       marks = d.marks.items;
-      opened = d.engine.opened;
+      opened = d.origin.records;
+      first_copy = d.origin.copy;
       copy = d.copy;
       down = d.down;
       stage = d.stage;
       changes = d.changes.since;
       kept = d.kept;
+      shadow = prepared_seen d.shadow;
       spare = d.chronicle.spare;
       covered = least_holder d.engine.claims.drain d.engine.claims.claims;
       volume = d.volume;
       operator = d.operator;
     } };
 
-    ghost invariant = { λ d. IsDesk d.engine d.chronicle d.copy d.down d.marks.items
+    ghost invariant = { λ d. IsDesk d.engine d.chronicle d.origin d.copy d.down d.marks.items
         (seen_volume V.told V.faults V.capacities d.volume)
-        × Tends d.chronicle.trace d.stage d.changes d.engine.set_aside };
+        × Tends d.chronicle.trace d.stage d.changes d.engine.set_aside
+        × KeepsPrepared d.shadow d.engine.log.records d.copy
+        (seen_volume V.told V.faults V.capacities d.volume) };
 }
 
 // The entry of an event that the system makes, after so many calls.
@@ -265,6 +286,16 @@ fn tell_layout(engine: &mut Engine, copy: u8, down: bool) -> Event
     engine.layout(copy)
 }
 
+// A new copy that was written is kept while a utility runs.
+fn keep_while_running(stage: &Option<Stage>, shadow: &mut Option<Prepared>)
+    ensures { shadow.new ≡ while_running stage.entry.now shadow.old }
+{
+    match stage {
+        Some(_) => {}
+        None => *shadow = None,
+    }
+}
+
 // The event of a flush, where the desk is up or down.
 fn tell_flush<V: Volume>(
     engine: &mut Engine,
@@ -276,8 +307,8 @@ fn tell_flush<V: Volume>(
     requires pages { down ≡ false → HasPages engine.old }
     requires set { engine.old.log.pages ≡ log_pages (V.capacities volume.old) }
     requires counted { HasCalls (seen_volume V.told V.faults V.capacities volume.old) 0 }
-    requires is_on { IsOnVolume copy engine.old.log engine.old.space marks.old.items
-        (seen_volume V.told V.faults V.capacities volume.old) }
+    requires is_on { down ≡ false → IsOnVolume copy engine.old.log engine.old.space
+        marks.old.items (seen_volume V.told V.faults V.capacities volume.old) }
     ensures { TellsFlush down copy marks.old.items marks.new.items
         (seen_volume V.told V.faults V.capacities volume.old)
         (seen_volume V.told V.faults V.capacities volume.new) engine.old result engine.new }
@@ -333,18 +364,24 @@ impl<V: Counts, O: Operator> Desk<V, O> {
         ensures trace { IfErr result (λ fault. fault.trace.items ≡ trace.items) }
     {
         let copy = found.copy;
+        let origin = Origin {
+            records: found.log.records().len(),
+            copy,
+        };
         let mut chronicle = Chronicle::over(trace, calls);
         let now = calls_now(&volume, &chronicle);
         match begin(alloc, found, now, &mut chronicle) {
             Ok((engine, marks, changes)) => Ok(Desk {
                 engine,
                 chronicle,
+                origin,
                 marks,
                 copy,
                 down: false,
                 stage: None,
                 changes,
                 kept: None,
+                shadow: None,
                 volume,
                 operator,
             }),
@@ -479,9 +516,8 @@ impl<V: Counts, O: Operator> Desk<V, O> {
     }
 
     /// Makes the entry of a step: IDLE where no utility runs, DOWN where the desk is down, else the
-    /// utility's next event with the operator's answer. None is booked yet that copies a page,
-    /// writes the new copy or switches to it, or says that a call of the volume failed. It takes no
-    /// memory.
+    /// utility's next event with the operator's answer. No event is booked so that copies a page,
+    /// or that switches to the new copy or fails to. It takes no memory.
     pub fn book(&mut self, event: Event, answer: Option<Answer>)
         requires next { IsNextStep self.old answer event }
         requires kept { answer ≡ self.old.kept }
@@ -509,8 +545,50 @@ impl<V: Counts, O: Operator> Desk<V, O> {
             .engine
             .step_utility(&stage, self.changes.since(), &answer, &event);
         self.kept = None;
+        keep_while_running(&self.stage, &mut self.shadow);
         let calls = calls_now(&self.volume, &self.chronicle);
         self.chronicle.push(utility(event, Some(answer), calls));
+    }
+
+    /// Makes the new copy that was written the current one, which makes one entry: SWITCHED, with
+    /// these layouts of both copies, or STOP DEVICE, where the record of the switch could not be
+    /// forced. Then the desk is down, and it is open which copy is current. It takes no memory. The
+    /// old copy is handed back, for whoever has it to drop.
+    pub fn commit_switch(&mut self, sides: Sides, answer: Answer) -> Result<Old, Device>
+        requires up { self.old.down ≡ false }
+        requires kept { self.old.kept ≡ Some answer }
+        requires room { 1 ≤ self.old.spare }
+        requires can { CanCommit self.old answer sides }
+        ensures ok { OnOk result (MadeSwitch (seen_volume V.told V.faults V.capacities) self.old
+            answer sides self.new) }
+        ensures err { OnErr result (MadeFall (seen_volume V.told V.faults V.capacities) self.old
+            answer self.new) }
+    {
+        let (Some(stage), Some(prepared)) = (self.stage, self.shadow.take()) else {
+            unreachable!()
+        };
+        let copy = other_of(self.copy);
+        let Prepared { shadow, marks, .. } = prepared;
+        let turned = turn(&mut self.engine, &mut self.volume, copy, shadow);
+        let calls = calls_now(&self.volume, &self.chronicle);
+        self.kept = None;
+        match turned {
+            Ok(old) => {
+                let event = Event::Switched { copy, sides };
+                self.copy = copy;
+                self.marks = marks;
+                self.stage = next_stage(&stage, &answer, self.changes.since(), &event);
+                self.chronicle.push(utility(event, Some(answer), calls));
+                Ok(old)
+            }
+            Err(fault) => {
+                self.down = true;
+                self.stage = None;
+                let event = Event::Stop(StopReason::Device);
+                self.chronicle.push(utility(event, Some(answer), calls));
+                Err(fault)
+            }
+        }
     }
 
     // Makes the entry of a step that finds no utility, or the desk down.
@@ -520,12 +598,12 @@ impl<V: Counts, O: Operator> Desk<V, O> {
         requires room { 1 ≤ self.old.spare }
         ensures { MadeStep (seen_volume V.told V.faults V.capacities) self.old None event self.new }
     {
+        keep_while_running(&self.stage, &mut self.shadow);
         let calls = calls_now(&self.volume, &self.chronicle);
         self.chronicle.push(utility(event, None, calls));
     }
 
-    /// The stage of the utility that runs. It has taken no more changes than there are, and has not
-    /// switched.
+    /// The stage of the utility that runs. It has taken no more changes than there are.
     pub fn stage(&self) -> Option<Stage>
         ensures stage { result ≡ self.now.stage }
         ensures taken { IfSome result (HasTaken self.now.changes) }
@@ -558,7 +636,7 @@ impl<V: Counts, O: Operator> Desk<V, O> {
     pub fn down(&self) -> bool
         ensures is { result ≡ self.now.down }
         ensures ends { self.now.down ≡ true
-            → EndsDown (old_records self.now) self.now.copy self.now.trace }
+            → EndsDown (old_records self.now) self.now.first_copy self.now.trace }
     {
         self.down
     }
@@ -567,7 +645,8 @@ impl<V: Counts, O: Operator> Desk<V, O> {
     /// looks at each lock.
     pub fn committed_rows(&self) -> u64
         requires { self.now.down ≡ false }
-        ensures { EndsWithRows (old_records self.now) self.now.copy self.now.ground.log.pages
+        ensures { EndsWithRows (old_records self.now) self.now.first_copy
+            self.now.ground.log.pages
             (seen_volume V.told V.faults V.capacities self.now.volume) self.now.trace result }
     {
         // That the records fit their set: the clause on what a crash leaves needs it.
@@ -587,11 +666,9 @@ impl<V: Counts, O: Operator> Desk<V, O> {
         ensures counted { HasCalls (seen_volume V.told V.faults V.capacities self.volume)
             result.3 }
         ensures legal { LegalFrom (old_records self) self.trace }
-        ensures left { LeavesTable (old_records self) self.copy self.ground.log.pages
+        ensures left { LeavesTable (old_records self) self.first_copy self.ground.log.pages
             (seen_volume V.told V.faults V.capacities self.volume) self.trace }
         ensures tidy { GoesOnTidy (seen_volume V.told V.faults V.capacities self.volume) }
-        ensures copy { LeavesCopyIfTidy (seen_volume V.told V.faults V.capacities self.volume)
-            self.copy }
         ensures sound { LeavesSoundIfTidy (seen_volume V.told V.faults V.capacities self.volume) }
     {
         // That the records fit their set: the clauses on what is left of the volume need it.
@@ -599,12 +676,14 @@ impl<V: Counts, O: Operator> Desk<V, O> {
         let Desk {
             engine: _,
             chronicle,
+            origin: _,
             marks: _,
             copy: _,
             down: _,
             stage: _,
             changes: _,
             kept: _,
+            shadow: _,
             volume,
             operator,
         } = self;

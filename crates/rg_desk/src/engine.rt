@@ -61,7 +61,7 @@ pub struct Engine {
     pub claims: Claims,
     pub units: Units,
     pub top: u32,
-    /// How many records the log had when it was opened.
+    /// How many records the log had when its pages were begun with.
     pub opened: usize,
     /// How many bytes of the log are reserved for the utility.
     pub set_aside: u32,

@@ -21,12 +21,18 @@ pub mod found;
 pub mod aside;
 /// The layout of the copy.
 pub mod layout;
+/// How a table was opened.
+pub mod origin;
+/// A new copy that was written to the other set.
+pub mod prepared;
 /// SELECT, SCAN and FIND.
 pub mod reads;
 /// The records of a log, by their positions.
 pub mod records;
 /// The answer to any statement.
 pub mod say;
+/// The switch of an engine to a new copy.
+pub mod switch;
 /// The undo of a unit's writes.
 pub mod undo;
 /// The open units of sessions.

@@ -11,7 +11,7 @@ ghost use Rattle.rg_model.specs.Turn.{turn_of};
 ghost use Rattle.rg_stage.specs.Booked.{drain_kept};
 ghost use Rattle.rg_stage.specs.Bounded.{SomeBounded};
 ghost use Rattle.rg_stage.specs.NumbersOf.{numbers_of};
-ghost use Rattle.rg_tending.specs.Tending.{MayDrain};
+ghost use Rattle.rg_tending.specs.Tending.{MayDrain, aside_for, is_plain};
 ghost use Rattle.rg_desk.specs.Desk.{is_started, started_count};
 ghost use Rattle.rg_desk.specs.Shows.{IsShown};
 ghost use Rattle.rg_desk.specs.Utility.{StartIs, StepsOn};
@@ -106,8 +106,8 @@ impl Engine {
         }
     }
 
-    /// A step of the running utility, whose stage this is. The answer is its stage from then on, or
-    /// `None` where the utility is over.
+    /// A step of the running utility, whose stage this is, that is no switch. The answer is its
+    /// stage from then on, or `None` where the utility is over.
     pub fn step_utility(
         &mut self,
         stage: &Stage,
@@ -118,8 +118,8 @@ impl Engine {
         requires shown { IsShown self.old }
         requires bounded { SomeBounded changes stage.now }
         requires drain { self.old.claims.drain ≡ stage.now.drain }
-        requires set_aside { self.old.set_aside ≡ 28 }
-        requires next { is_some (turn_of changes
+        requires set_aside { self.old.set_aside ≡ aside_for (Some stage.now) }
+        requires next { is_plain (turn_of changes
             (least_holder self.old.claims.drain self.old.claims.claims) answer.now
             (numbers_of stage.now) stage.now.drain event.now) ≡ true }
         ensures { StepsOn self.old stage.entry.now changes answer.entry.now event.entry.now result

@@ -59,8 +59,58 @@ fn listing_of(index: &Tree) -> Result<Listing, SpaceFault>
     }
 }
 
-/// The layout of a space and its indexes: its pages, the spots of its rows by rising place, and
-/// what each index lists. All pages are let go at the end.
+/// The layout of a space and three trees that index it: its pages, the spots of its rows by rising
+/// place, and what each tree lists. All pages are let go at the end.
+pub fn side_of<F: Frames>(
+    alloc: Global,
+    space: &mut Space<F>,
+    keys: &Tree,
+    cluses: &Tree,
+    cats: &Tree,
+) -> Result<Side, SpaceFault>
+    requires spare { 2 ≤ (F.seen (frames_of space.old)).spare }
+    requires step { InStep (F.seen (frames_of space.old)) (index_of space.old)
+        (capacity_in space.old) }
+    ensures pages { IfOk result (λ side. side.pages
+        ≡ length (F.seen (frames_of space.new)).pages) }
+    ensures spots { IfOk result (λ side. (F.seen (frames_of space.new)).sure ≡ true
+        → side.spots ≡ spots_of (slots_of (F.seen (frames_of space.new)).pages)) }
+    ensures keys { IfOk result (λ side. side.keys ≡ entries_of keys.now) }
+    ensures cluses { IfOk result (λ side. side.cluses ≡ entries_of cluses.now) }
+    ensures cats { IfOk result (λ side. side.cats ≡ entries_of cats.now) }
+    // Where frames are not sure, pages may have changed between two slots.
+    ensures right { IfOk result (λ side. (F.seen (frames_of space.new)).sure ≡ true
+        → IsRightFor (slots_of (F.seen (frames_of space.new)).pages)
+        (record { keys = keys.now; cluses = cluses.now; cats = cats.now }) side) }
+    ensures step { InStep (F.seen (frames_of space.new)) (index_of space.new)
+        (capacity_in space.new) }
+    ensures capacity { capacity_in space.new ≡ capacity_in space.old }
+    ensures undos { undos_in space.new ≡ undos_in space.old }
+    ensures summaries { index_of space.new ≡ index_of space.old }
+    ensures reserved { (F.seen (frames_of space.new)).reserved
+        ≡ (F.seen (frames_of space.old)).reserved }
+    ensures reads { Reads (F.seen (frames_of space.old)) (F.seen (frames_of space.new)) }
+    ensures idle { (F.seen (frames_of space.old)).idle ≤ (F.seen (frames_of space.new)).idle }
+    ensures spare { (F.seen (frames_of space.new)).spare ≡ (F.seen (frames_of space.new)).idle }
+    ensures cause { IfErr result (λ fault. HasRisen fault (F.seen (frames_of space.old))
+        (F.seen (frames_of space.new))) }
+    ensures gave { F.gave (F.seen (frames_of space.old)).pages
+        (F.seen (frames_of space.old)).forced (frames_of space.old) (frames_of space.new) }
+{
+    let spots = spots_in(alloc, space)?;
+    let keys = listing_of(keys)?;
+    let cluses = listing_of(cluses)?;
+    let cats = listing_of(cats)?;
+    Ok(Side {
+        pages: space.count(),
+        spots,
+        keys,
+        cluses,
+        cats,
+    })
+}
+
+/// The layout of a space and its indexes: that of their three trees.
 pub fn side<F: Frames>(
     alloc: Global,
     space: &mut Space<F>,
@@ -94,15 +144,5 @@ pub fn side<F: Frames>(
     ensures gave { F.gave (F.seen (frames_of space.old)).pages
         (F.seen (frames_of space.old)).forced (frames_of space.old) (frames_of space.new) }
 {
-    let spots = spots_in(alloc, space)?;
-    let keys = listing_of(&indexes.keys)?;
-    let cluses = listing_of(&indexes.cluses)?;
-    let cats = listing_of(&indexes.cats)?;
-    Ok(Side {
-        pages: space.count(),
-        spots,
-        keys,
-        cluses,
-        cats,
-    })
+    side_of(alloc, space, &indexes.keys, &indexes.cluses, &indexes.cats)
 }

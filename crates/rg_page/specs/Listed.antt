@@ -1,5 +1,5 @@
 -- What a list of pages keeps.
-use Rattle.std.specs.Prelude.{◌≡◌, ◌≤◌, ◌<◌, ◌+◌, ℕ, zero, suc, length, slice_index_or, vec_capacity}
+use Rattle.std.specs.Prelude.{◌≡◌, ◌≤◌, ◌<◌, ◌+◌, ◌-◌, ℕ, List, zero, suc, length, slice_index_or, slice_set, vec_capacity}
 use Rattle.std.specs.declared.vec.Vec.{Vec}
 use Rattle.std.specs.declared.alloc.Global.{Global}
 use Rattle.std.proofs.Common.{arith}
@@ -12,8 +12,14 @@ pub record IsList (copy : ℕ) (pages reserved : Vec Content Global) : Type 0 wh
   pub room : length pages.items + length reserved.items ≤ vec_capacity pages
   pub numbered : (k : ℕ) → k < length pages.items
       → (slice_index_or pages.items k (empty 0 0)).number ≡ k + 1
+  pub of_copy : (k : ℕ) → k < length pages.items
+      → (slice_index_or pages.items k (empty 0 0)).copy ≡ copy
   pub empty_ones : (k : ℕ) → k < length reserved.items
       → slice_index_or reserved.items k (empty copy 0) ≡ empty copy 0
+
+-- the pages with another position of page p
+abbrev pub stamped : List Content → (p at : ℕ) → List Content
+stamped pages p at = slice_set pages (p - 1) (record (content_at pages p) { position = at })
 
 pub list_few : (copy : ℕ) (pages reserved : Vec Content Global) → IsList copy pages reserved
     → length pages.items ≤ 4294967295
@@ -23,3 +29,8 @@ pub list_numbered : (copy : ℕ) (pages reserved : Vec Content Global) → IsLis
     → (n : ℕ) → 1 ≤ n → n ≤ length pages.items → (content_at pages.items n).number ≡ n
 list_numbered copy pages reserved is zero low high = absurd (omega arith)
 list_numbered copy pages reserved is (suc k) low high = omega (arith, is.numbered k (omega arith))
+
+pub list_of_copy : (copy : ℕ) (pages reserved : Vec Content Global) → IsList copy pages reserved
+    → (n : ℕ) → 1 ≤ n → n ≤ length pages.items → (content_at pages.items n).copy ≡ copy
+list_of_copy copy pages reserved is zero low high = absurd (omega arith)
+list_of_copy copy pages reserved is (suc k) low high = is.of_copy k (omega arith)

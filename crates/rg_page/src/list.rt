@@ -3,8 +3,9 @@
 // 1. A reserved page is there already, and only its number is to come, so adding it takes no
 //    memory.
 // 2. No page is ever given up, so all are sure and fixed, and frames are spare without end.
+// 3. A page that is stamped keeps all but its position.
 ghost use Rattle.std.specs.Prelude.{◌≡◌, ◌≤◌, ◌<◌, ◌+◌, ◌∷◌, ◌++◌, [], OnOk, OnErr, IfOk, length};
-ghost use Rattle.rg_page.specs.Listed.{IsList};
+ghost use Rattle.rg_page.specs.Listed.{IsList, stamped};
 
 use crate::areas::push_within;
 use crate::frames::{Device, FrameFault, Frames};
@@ -56,6 +57,18 @@ impl ListFrames {
         self.pages.reserve(self.reserved.len() + 1)?;
         push_within(&mut self.pages, page);
         Ok(())
+    }
+
+    /// Gives a page another position. The pages of a new copy, which no record has changed, take
+    /// that of the last record of the log before they are written to a volume.
+    pub fn stamp(&mut self, number: u32, at: Position)
+        requires low { 1 ≤ number }
+        requires high { number ≤ length self.old.pages.items }
+        ensures pages { self.new.pages.items ≡ stamped self.old.pages.items number at.0 }
+        ensures reserved { self.new.reserved.items ≡ self.old.reserved.items }
+        ensures copy { self.new.copy ≡ self.old.copy }
+    {
+        self.pages[number as usize - 1].set_position(at);
     }
 }
 

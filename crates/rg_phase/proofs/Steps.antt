@@ -1,6 +1,5 @@
 -- A step of a desk, put together from its calls.
 use Rattle.std.proofs.Common.{◌≡◌, ◌+◌, ℕ, Bool, true, false, Option, Some, None, sym, ◌∙◌, ap, subst}
-use Rattle.std.specs.Option.{is_some}
 use Rattle.rg_base.specs.declared.control.Answer.{Answer}
 use Rattle.rg_base.specs.declared.session.Session.{Session}
 use Rattle.rg_desk.specs.Desk.{DeskState, IsNextStep}
@@ -11,9 +10,9 @@ use Rattle.rg_stage.specs.Followed.{Followed}
 use Rattle.rg_stage.specs.NumbersOf.{numbers_of}
 use Rattle.rg_stmt.specs.declared.event.Event.{Event}
 use Rattle.rg_stmt.specs.declared.event.Event.TheVariants as events
-use Rattle.rg_tending.specs.Tending.{IsEarlyStage, NextBy, is_booked}
-use Rattle.rg_tending.proofs.Early.{EarlyIf, turn_early, within_next}
-use Rattle.rg_desk.proofs.UtilityShows.{some_of}
+use Rattle.rg_tending.specs.Tending.{IsKeptStage, NextBy, is_booked, is_plain}
+use Rattle.rg_tending.proofs.Kept.{kept_on}
+use Rattle.rg_tending.proofs.Switching.{plain_turn}
 
 -- ---- the desk that was asked
 
@@ -41,22 +40,21 @@ next_idle desk down stage =
     (subst (λ (o : Option Stage). NextBy false o desk.changes desk.covered None events.Idle) (sym stage) tt)
 
 pub next_runs : {V O : Type 0} (desk : DeskState V O) (s : Stage) (all : ℕ) (holder : Option Session) (answer : Answer) (event : Event) → desk.down ≡ false → desk.stage ≡ Some s → all ≡ desk.changes → holder ≡ desk.covered
-    → is_booked event ≡ true → is_some (turn_of all holder answer (numbers_of s) s.drain event) ≡ true → IsNextStep desk (Some answer) event
+    → is_booked event ≡ true → is_plain (turn_of all holder answer (numbers_of s) s.drain event) ≡ true → IsNextStep desk (Some answer) event
 next_runs desk s all holder answer event down stage all_is holder_is booked next =
     subst (λ (b : Bool). NextBy b desk.stage desk.changes desk.covered (Some answer) event) (sym down)
     (subst (λ (o : Option Stage). NextBy false o desk.changes desk.covered (Some answer) event) (sym stage) (
       booked,
-      subst (λ (n : ℕ). is_some (turn_of n desk.covered answer (numbers_of s) s.drain event) ≡ true) all_is
-          (subst (λ (o : Option Session). is_some (turn_of all o answer (numbers_of s) s.drain event) ≡ true) holder_is next),
+      subst (λ (n : ℕ). is_plain (turn_of n desk.covered answer (numbers_of s) s.drain event) ≡ true) all_is
+          (subst (λ (o : Option Session). is_plain (turn_of all o answer (numbers_of s) s.drain event) ≡ true) holder_is next),
     ))
 
 -- ---- the numbers after it
 
-pub stays_within : (all entries n : ℕ) (s t : Stage) (answer : Answer) (holder : Option Session) (event : Event) (next : Option Stage) → IsEarlyStage all entries (Some s) → is_booked event ≡ true
-    → is_some (turn_of all holder answer (numbers_of s) s.drain event) ≡ true → ((covered : Option Session) (turn : Turn) → turn_of all covered answer (numbers_of s) s.drain event ≡ Some turn → Followed turn next)
-    → KeepsBounds all s next → next ≡ Some t → n ≡ entries + 1 → IsEarlyStage all n (Some t)
-stays_within all entries n s t answer holder event next within booked is followed bounded next_is n_is =
-    let has = some_of _ is in
-    let early = subst EarlyIf has.1 (turn_early (numbers_of s) (within.1, within.2) all holder answer s.drain event booked) in
-    subst (λ (k : ℕ). IsEarlyStage all k (Some t)) (sym n_is)
-    (subst (IsEarlyStage all (entries + 1)) next_is (within_next all entries s has.0 next within bounded early (followed holder has.0 has.1)))
+pub stays_within : (all entries n : ℕ) (s t : Stage) (answer : Answer) (holder : Option Session) (event : Event) (next : Option Stage) → IsKeptStage all entries (Some s)
+    → is_plain (turn_of all holder answer (numbers_of s) s.drain event) ≡ true → ((covered : Option Session) (turn : Turn) → turn_of all covered answer (numbers_of s) s.drain event ≡ Some turn → Followed turn next)
+    → KeepsBounds all s next → next ≡ Some t → n ≡ entries + 1 → IsKeptStage all n (Some t)
+stays_within all entries n s t answer holder event next within plain followed bounded next_is n_is =
+    let has = plain_turn _ plain in
+    subst (λ (k : ℕ). IsKeptStage all k (Some t)) (sym n_is)
+    (subst (IsKeptStage all (entries + 1)) next_is (kept_on all entries s holder answer event has.0 next within bounded has.1 (followed holder has.0 has.1)))

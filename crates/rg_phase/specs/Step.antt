@@ -3,12 +3,21 @@
 -- 1. The operator is asked once, unless no utility runs or the desk is down. It is told how many
 --    changes are left.
 -- 2. Then one entry is made, with the answer. Its event is the utility's next.
-use Rattle.std.specs.Prelude.{◌≡◌, ℕ, List, Option, Some, None}
+-- 3. STOP DEVICE stands in it only where a call of the volume failed in this step.
+use Rattle.std.specs.Prelude.{◌≡◌, ℕ, Bool, true, false, List, Option, Some, None}
 use Rattle.rg_base.specs.declared.control.Answer.{Answer}
+use Rattle.rg_base.specs.declared.verdict.StopReason.TheVariants as reasons
 use Rattle.rg_desk.specs.Desk.{DeskState, IsNextStep, MadeStep, left_to_take}
 use Rattle.rg_desk.specs.Volume.{VolumeSeen}
+use Rattle.rg_outside.specs.Faults.{Rose}
 use Rattle.rg_outside.specs.Told.{AddsAnswer, HandsOver}
 use Rattle.rg_stmt.specs.declared.event.Event.{Event}
+use Rattle.rg_stmt.specs.declared.event.Event.TheVariants as events
+
+-- STOP DEVICE
+abbrev pub is_device_stop : Event → Bool
+is_device_stop (events.Stop reasons.Device) = true
+is_device_stop event = false
 
 -- the operator was asked if there is an answer, and was told how many changes are left
 abbrev pub AsksOnce :
@@ -28,3 +37,5 @@ pub record Stepped {V O : Type 0} (look : V → VolumeSeen) (answers : O → Opt
       asked ≡ record old { spare = asked.spare; kept = answer; operator = asked.operator }
   pub operator : AsksOnce answers last (left_to_take old) old.operator answer asked.operator
   pub made : MadeStep look asked answer event new
+  pub device :
+      is_device_stop event ≡ true → Rose (look old.volume).faults (look new.volume).faults

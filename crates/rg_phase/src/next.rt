@@ -1,17 +1,20 @@
 // The event of a step.
 //
-// 1. Before the switch the operator's command comes first: TERM ends the utility, and ALTER changes
-//    its options.
-// 2. Then the stage decides what the step makes.
-// 3. Steps that copy or fill pages, take changes, write the new copy or switch to it are not built
+// 1. After the switch the utility ends, whatever the operator wants.
+// 2. Before it the operator's command comes first: TERM ends the utility, and ALTER changes its
+//    options.
+// 3. Then the stage decides what the step makes.
+// 4. Steps that copy or fill pages, take changes, write the new copy or switch to it are not built
 //    yet. In their place the utility stops, as if memory ran out.
-ghost use Rattle.std.specs.Prelude.{◌≡◌, ◌≤◌, false, true, is_some, Option};
+// 5. No step calls the volume yet, so none stops because a call failed.
+ghost use Rattle.std.specs.Prelude.{◌≡◌, ◌≤◌, false, true, Option};
 ghost use Rattle.rg_base.specs.declared.control.Answer.{Answer as AnswerOf};
 ghost use Rattle.rg_base.specs.declared.session.Session.{Session as SessionOf};
 ghost use Rattle.rg_base.specs.declared.step.Step.TheVariants as steps;
 ghost use Rattle.rg_model.specs.Turn.{step_of, turn_at, turn_of};
+ghost use Rattle.rg_phase.specs.Step.{is_device_stop};
 ghost use Rattle.rg_stage.specs.NumbersOf.{numbers_of};
-ghost use Rattle.rg_tending.specs.Tending.{is_booked};
+ghost use Rattle.rg_tending.specs.Tending.{is_booked, is_plain};
 
 use rg_base::control::Answer;
 use rg_base::session::Session;
@@ -29,7 +32,8 @@ fn take_changes(stage: &Stage, all: u64, answer: &Answer) -> Event
     requires done { stage.now.done ≤ stage.now.target }
     requires target { stage.now.target ≤ all }
     ensures booked { is_booked result ≡ true }
-    ensures next { (covered : Option SessionOf) → is_some
+    ensures device { is_device_stop result ≡ false }
+    ensures next { (covered : Option SessionOf) → is_plain
         (turn_at steps.Log all covered answer.entry.now (numbers_of stage.entry.now)
         stage.entry.now.drain result) ≡ true }
 {
@@ -43,7 +47,8 @@ fn take_changes(stage: &Stage, all: u64, answer: &Answer) -> Event
 fn take_last(stage: &Stage, all: u64) -> Event
     requires done { stage.now.done ≤ all }
     ensures booked { is_booked result ≡ true }
-    ensures next { (covered : Option SessionOf) (answer : AnswerOf) → is_some
+    ensures device { is_device_stop result ≡ false }
+    ensures next { (covered : Option SessionOf) (answer : AnswerOf) → is_plain
         (turn_at steps.Last all covered answer (numbers_of stage.now) stage.now.drain result)
         ≡ true }
 {
@@ -58,8 +63,9 @@ fn step_event(stage: &Stage, all: u64, holder: Option<Session>, answer: &Answer)
     requires done { stage.now.done ≤ stage.now.target }
     requires target { stage.now.target ≤ all }
     ensures booked { is_booked result ≡ true }
+    ensures device { is_device_stop result ≡ false }
     ensures next { let u = numbers_of stage.entry.now in let drain = stage.entry.now.drain in
-        is_some (turn_at (step_of u drain) all holder answer.entry.now u drain result) ≡ true }
+        is_plain (turn_at (step_of u drain) all holder answer.entry.now u drain result) ≡ true }
 {
     match step_for(stage) {
         Step::Sort => sort_event(stage),
@@ -73,16 +79,19 @@ fn step_event(stage: &Stage, all: u64, holder: Option<Session>, answer: &Answer)
     }
 }
 
-/// The event of the next step of a utility that has not switched, where `all` are the changes so
-/// far and `holder` is the least session that is in the drain's way.
+/// The event of the next step of a utility, where `all` are the changes so far and `holder` is the
+/// least session that is in the drain's way.
 pub fn next_event(stage: &Stage, all: u64, holder: Option<Session>, answer: &Answer) -> Event
     requires done { stage.now.done ≤ stage.now.target }
     requires target { stage.now.target ≤ all }
-    requires switched { stage.now.switched ≡ false }
     ensures booked { is_booked result ≡ true }
-    ensures next { is_some (turn_of all holder answer.entry.now (numbers_of stage.entry.now)
+    ensures device { is_device_stop result ≡ false }
+    ensures next { is_plain (turn_of all holder answer.entry.now (numbers_of stage.entry.now)
         stage.entry.now.drain result) ≡ true }
 {
+    if stage.switched {
+        return Event::Ended;
+    }
     if is_terminated(&answer.command) {
         return Event::Stop(StopReason::Term);
     }

@@ -1,6 +1,7 @@
-// A utility's steps on a table without pages, up to the new copy's writing.
-ghost use Rattle.std.specs.Prelude.{◌≡◌, Some};
-ghost use Rattle.rg_tending.specs.Tending.{IsEarlyStage};
+// A utility's steps on a table without pages, up to the new copy's writing, and after the switch.
+ghost use Rattle.std.specs.Prelude.{◌≡◌};
+ghost use Rattle.std.proofs.Props.{props};
+ghost use Rattle.rg_tending.specs.Tending.{IsForAll-prop, IsKeptUtility};
 
 use crate::next::next_event;
 use rg_base::control::{Answer, Command, Deadline, Longlog, Maxro};
@@ -21,13 +22,27 @@ struct Run {
     over: bool,
     all: u64,
     entries: u64,
-    ghost within: { IsEarlyStage all entries (Some stage) },
+    ghost within: { IsKeptUtility all entries stage } by { Prim.hlevel (props, IsForAll-prop) },
 }
 
 impl Run {
     fn new(options: Options) -> Run {
         Run {
             stage: started(options, 0),
+            over: false,
+            all: 0,
+            entries: 0,
+        }
+    }
+
+    // A utility that has switched.
+    fn switched(options: Options) -> Run {
+        let stage = Stage {
+            switched: true,
+            ..started(options, 0)
+        };
+        Run {
+            stage,
             over: false,
             all: 0,
             entries: 0,
@@ -139,6 +154,15 @@ fn waits_for_a_holder(rt: HostRuntime) -> Result<(), Fail> {
 fn obeys_the_operator(rt: HostRuntime) -> Result<(), Fail> {
     let mut run = built(&rt, rt.alloc())?;
     let steps = [(3, 10, None, Command::Term, "Stop(Term)")];
+    play(&rt, rt.alloc(), &mut run, &steps)?;
+    assert_eq!(rt; run.over, true);
+    Ok(())
+}
+
+#[test]
+fn ends_after_the_switch(rt: HostRuntime) -> Result<(), Fail> {
+    let mut run = Run::switched(options());
+    let steps = [(0, 10, None, Command::Term, "Ended")];
     play(&rt, rt.alloc(), &mut run, &steps)?;
     assert_eq!(rt; run.over, true);
     Ok(())

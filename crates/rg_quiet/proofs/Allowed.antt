@@ -1,4 +1,4 @@
--- What an entry that is allowed leaves of the locks.
+-- What an entry that is allowed leaves of the locks, and which entries leave the claims too.
 use Rattle.std.proofs.Common.{◌≡◌, ◌==◌, ℕ, Bool, true, false, not, List, Option, Some, None, refl, sym, ◌∙◌, ap, if◌then◌else◌, inl, inr, ◌⊎◌}
 use Rattle.std.specs.FinMap as map
 use Rattle.std.specs.Option.{unwrap_or}
@@ -40,51 +40,60 @@ allowed_is : (b : Bool) (st new : State) → if_allowed b st ≡ Some new → ne
 allowed_is true st new e = some_is st new e
 allowed_is false st new e = absurd (cc (e))
 
+-- the locks and the claims are the same
+pub record SameHeld (st new : State) : Type 0 where
+  pub locks : new.locks ≡ st.locks
+  pub claims : new.claims ≡ st.claims
+
+-- the new state is one that has the old locks and claims
+held_by : (st new is : State) → new ≡ is → is.locks ≡ st.locks → is.claims ≡ st.claims → SameHeld st new
+held_by st new is e locks claims = record { locks = ap (λ (s : State). s.locks) e ∙ locks; claims = ap (λ (s : State). s.claims) e ∙ claims }
+
 -- the utility and the system
 
 module _ (past : List Entry) (st new : State) where
-  turned_locks : (u : Utility) (turn : Option Turn) → state_by_turn past st u turn ≡ Some new → new.locks ≡ st.locks
-  turned_locks u None e = absurd (cc (e))
-  turned_locks u (Some (Runs v drain)) e = ap (λ (s : State). s.locks) (some_is _ new e)
-  turned_locks u (Some (Switches copy sides v)) e = ap (λ (s : State). s.locks) (allowed_is _ _ new e)
-  turned_locks u (Some Stops) e = ap (λ (s : State). s.locks) (some_is _ new e)
-  turned_locks u (Some Falls) e = ap (λ (s : State). s.locks) (some_is _ new e)
+  turned_held : (u : Utility) (turn : Option Turn) → state_by_turn past st u turn ≡ Some new → SameHeld st new
+  turned_held u None e = absurd (cc (e))
+  turned_held u (Some (Runs v drain)) e = held_by st new _ (some_is _ new e) refl refl
+  turned_held u (Some (Switches copy sides v)) e = held_by st new _ (allowed_is _ _ new e) refl refl
+  turned_held u (Some Stops) e = held_by st new _ (some_is _ new e) refl refl
+  turned_held u (Some Falls) e = held_by st new _ (some_is _ new e) refl refl
 
-  stepped_locks : (answer : Option Answer) (event : Event) (u : Utility) → state_stepped past answer event st u ≡ Some new → new.locks ≡ st.locks
-  stepped_locks None event u e = absurd (cc (e))
-  stepped_locks (Some answer) event u e = turned_locks u (turn_of (changes past) (least_holder st.drain st.claims) answer u st.drain event) e
+  stepped_held : (answer : Option Answer) (event : Event) (u : Utility) → state_stepped past answer event st u ≡ Some new → SameHeld st new
+  stepped_held None event u e = absurd (cc (e))
+  stepped_held (Some answer) event u e = turned_held u (turn_of (changes past) (least_holder st.drain st.claims) answer u st.drain event) e
 
-  after_step_locks : (answer : Option Answer) (event : Event) (o : Option Utility) → state_after_step past answer event st o ≡ Some new → new.locks ≡ st.locks
-  after_step_locks answer event None e = absurd (cc (e))
-  after_step_locks answer event (Some u) e = go st.down e
+  after_step_held : (answer : Option Answer) (event : Event) (o : Option Utility) → state_after_step past answer event st o ≡ Some new → SameHeld st new
+  after_step_held answer event None e = absurd (cc (e))
+  after_step_held answer event (Some u) e = go st.down e
     where
-      go : (b : Bool) → (if b then None else state_stepped past answer event st u) ≡ Some new → new.locks ≡ st.locks
+      go : (b : Bool) → (if b then None else state_stepped past answer event st u) ≡ Some new → SameHeld st new
       go true e = absurd (cc (e))
-      go false e = stepped_locks answer event u e
+      go false e = stepped_held answer event u e
 
-  -- an event of the utility leaves the locks
-  pub utility_locks : (answer : Option Answer) (event : Event) → next_state past answer actors.Utility event st ≡ Some new → new.locks ≡ st.locks
-  utility_locks answer (events.Started options copy pages) e = ap (λ (s : State). s.locks) (allowed_is _ _ new e)
-  utility_locks answer events.Active e = ap (λ (s : State). s.locks) (allowed_is _ _ new e)
-  utility_locks answer (events.StartLogFull need left) e = ap (λ (s : State). s.locks) (allowed_is _ _ new e)
-  utility_locks answer events.StartDown e = ap (λ (s : State). s.locks) (allowed_is _ _ new e)
-  utility_locks answer events.StartNoMemory e = ap (λ (s : State). s.locks) (allowed_is _ _ new e)
-  utility_locks answer events.Idle e = ap (λ (s : State). s.locks) (allowed_is _ _ new e)
-  utility_locks answer events.StepDown e = ap (λ (s : State). s.locks) (allowed_is _ _ new e)
-  utility_locks answer event e = after_step_locks answer event st.utility e
+  -- an event of the utility leaves the locks and the claims
+  pub utility_held : (answer : Option Answer) (event : Event) → next_state past answer actors.Utility event st ≡ Some new → SameHeld st new
+  utility_held answer (events.Started options copy pages) e = held_by st new _ (allowed_is _ _ new e) refl refl
+  utility_held answer events.Active e = held_by st new _ (allowed_is _ _ new e) refl refl
+  utility_held answer (events.StartLogFull need left) e = held_by st new _ (allowed_is _ _ new e) refl refl
+  utility_held answer events.StartDown e = held_by st new _ (allowed_is _ _ new e) refl refl
+  utility_held answer events.StartNoMemory e = held_by st new _ (allowed_is _ _ new e) refl refl
+  utility_held answer events.Idle e = held_by st new _ (allowed_is _ _ new e) refl refl
+  utility_held answer events.StepDown e = held_by st new _ (allowed_is _ _ new e) refl refl
+  utility_held answer event e = after_step_held answer event st.utility e
 
   -- and so does one of the system, but for an opening
-  pub system_locks : (answer : Option Answer) (event : Event) → next_state past answer actors.System event st ≡ Some new → new.locks ≡ st.locks
-  system_locks answer (events.Flush page) e = ap (λ (s : State). s.locks) (allowed_is _ _ new e)
-  system_locks answer events.Clean e = ap (λ (s : State). s.locks) (allowed_is _ _ new e)
-  system_locks answer events.FlushDevice e = ap (λ (s : State). s.locks) (allowed_is _ _ new e)
-  system_locks answer events.FlushDown e = ap (λ (s : State). s.locks) (allowed_is _ _ new e)
-  system_locks answer events.FlushNoMemory e = ap (λ (s : State). s.locks) (allowed_is _ _ new e)
-  system_locks answer (events.Layout copy side) e = ap (λ (s : State). s.locks) (allowed_is _ _ new e)
-  system_locks answer events.LayoutDevice e = ap (λ (s : State). s.locks) (allowed_is _ _ new e)
-  system_locks answer events.LayoutDown e = ap (λ (s : State). s.locks) (allowed_is _ _ new e)
-  system_locks answer events.LayoutNoMemory e = ap (λ (s : State). s.locks) (allowed_is _ _ new e)
-  system_locks answer event e = absurd (cc (e))
+  pub system_held : (answer : Option Answer) (event : Event) → next_state past answer actors.System event st ≡ Some new → SameHeld st new
+  system_held answer (events.Flush page) e = held_by st new _ (allowed_is _ _ new e) refl refl
+  system_held answer events.Clean e = held_by st new _ (allowed_is _ _ new e) refl refl
+  system_held answer events.FlushDevice e = held_by st new _ (allowed_is _ _ new e) refl refl
+  system_held answer events.FlushDown e = held_by st new _ (allowed_is _ _ new e) refl refl
+  system_held answer events.FlushNoMemory e = held_by st new _ (allowed_is _ _ new e) refl refl
+  system_held answer (events.Layout copy side) e = held_by st new _ (allowed_is _ _ new e) refl refl
+  system_held answer events.LayoutDevice e = held_by st new _ (allowed_is _ _ new e) refl refl
+  system_held answer events.LayoutDown e = held_by st new _ (allowed_is _ _ new e) refl refl
+  system_held answer events.LayoutNoMemory e = held_by st new _ (allowed_is _ _ new e) refl refl
+  system_held answer event e = absurd (cc (e))
 
 -- no step of a utility is an opening
 
@@ -179,7 +188,8 @@ idle_writes : (stmt : Stmt) (reply : Reply) → is_idle reply ≡ true → is_wr
 idle_writes stmt Done e = absurd (cc (e))
 idle_writes stmt reply e = refl
 
-victim_ends : (stmt : Stmt) (owner : Session) → is_unit_end stmt (Victim owner) ≡ true
+-- the unit of a victim is over
+pub victim_ends : (stmt : Stmt) (owner : Session) → is_unit_end stmt (Victim owner) ≡ true
 victim_ends Commit owner = refl
 victim_ends Rollback owner = refl
 victim_ends stmt owner = refl
@@ -192,17 +202,18 @@ module _ (st new : State) (session : Session) (stmt : Stmt) where
   same e = ap (λ (s : State). s.locks) e
 
 module _ (st new : State) (session : Session) where
-  failed_locks : (stmt : Stmt) → state_failed st session stmt ≡ Some new → new.locks ≡ st.locks
-  failed_locks Commit e = ap (λ (s : State). s.locks) (allowed_is (has_locks st.locks session) _ new e)
-  failed_locks Rollback e = ap (λ (s : State). s.locks) (some_is _ new e)
-  failed_locks stmt e = ap (λ (s : State). s.locks) (some_is _ new e)
+  failed_held : (stmt : Stmt) → state_failed st session stmt ≡ Some new → SameHeld st new
+  failed_held Commit e = held_by st new _ (allowed_is (has_locks st.locks session) _ new e) refl refl
+  failed_held Rollback e = held_by st new _ (some_is _ new e) refl refl
+  failed_held stmt e = held_by st new _ (some_is _ new e) refl refl
 
-  refused_locks : (stmt : Stmt) (plain : Reply) → state_refused st session stmt plain ≡ Some new → new.locks ≡ st.locks
-  refused_locks stmt (Held owner) e = ap (λ (s : State). s.locks) (some_is _ new e)
-  refused_locks stmt plain e = go (is_done plain) e
+  -- a statement that the device refuses leaves the locks and the claims
+  pub refused_held : (stmt : Stmt) (plain : Reply) → state_refused st session stmt plain ≡ Some new → SameHeld st new
+  refused_held stmt (Held owner) e = held_by st new _ (some_is _ new e) refl refl
+  refused_held stmt plain e = go (is_done plain) e
     where
-      go : (b : Bool) → (if b then state_failed st session stmt else None) ≡ Some new → new.locks ≡ st.locks
-      go true e = failed_locks stmt e
+      go : (b : Bool) → (if b then state_failed st session stmt else None) ≡ Some new → SameHeld st new
+      go true e = failed_held stmt e
       go false e = absurd (cc (e))
 
 abbrev is_lookup : Reply → Bool
@@ -267,7 +278,7 @@ module _ (st : State) (session : Session) where
     moved stmt (Victim owner) s = inl (record { end = victim_ends stmt owner; locks = ap (λ (s : State). s.locks) s.2.1 })
     moved stmt (Full need) s = idle st new session stmt (Full need) refl (same st new session stmt s.2.2)
     moved stmt (LogFull need left) s = idle st new session stmt (LogFull need left) refl (same st new session stmt s.2.2)
-    moved stmt Device s = idle st new session stmt Device refl (refused_locks st new session stmt (plain_reply st session stmt) s.2)
+    moved stmt Device s = idle st new session stmt Device refl (refused_held st new session stmt (plain_reply st session stmt) s.2).locks
     moved stmt Done s = done stmt s.2.0 s.2.1
     moved stmt (Found row) s = idle st new session stmt (Found row) refl (ap (λ (s : State). s.locks) s.2.1 ∙ looked stmt (sym (ap is_lookup s.2.0)))
     moved stmt (Listed rows) s = idle st new session stmt (Listed rows) refl (ap (λ (s : State). s.locks) s.2.1 ∙ looked stmt (sym (ap is_lookup s.2.0)))

@@ -25,7 +25,7 @@ use Rattle.rg_model.specs.State.{State, Table, at_rest}
 use Rattle.rg_model.proofs.Overlay.{get-without}
 use Rattle.rg_quiet.specs.Laws.{WasQuiet}
 use Rattle.rg_quiet.specs.Told.{LocksTold, QuietFree, left_of}
-use Rattle.rg_quiet.proofs.Allowed.{Ended, Moved, Stayed, Wrote, moved, system_locks, utility_locks, utility_opens_not}
+use Rattle.rg_quiet.proofs.Allowed.{Ended, Moved, Stayed, Wrote, moved, system_held, utility_held, utility_opens_not}
 
 same_way : (a b : ℕ) → (a == b) ≡ (b == a)
 same_way a b = grind (arith, nat_tests)
@@ -177,18 +177,18 @@ module _ (past : List Entry) (st new : State) where
   told_goes answer (actors.Session session) (events.Said stmt reply) allowed told = told_moved session stmt reply (moved st session new stmt reply allowed) told
   told_goes answer (actors.Session session) event allowed told = absurd (cc (allowed))
   told_goes answer actors.System (events.Opened copy rows pages used) allowed told = told_at new (ap (λ (s : State). s.locks) allowed.at_rest)
-  told_goes answer actors.System event allowed told = told_same (system_locks past st new answer event allowed) told
+  told_goes answer actors.System event allowed told = told_same (system_held past st new answer event allowed).locks told
   told_goes answer actors.Utility (events.Opened copy rows pages used) allowed told = absurd (utility_opens_not copy rows pages used past st new answer allowed)
-  told_goes answer actors.Utility event allowed told = told_same (utility_locks past st new answer event allowed) told
+  told_goes answer actors.Utility event allowed told = told_same (utility_held past st new answer event allowed).locks told
 
   pub free_goes : (answer : Option Answer) (actor : Actor) (event : Event) → Allows past answer actor event st new → LocksTold past st → QuietFree past st → FreeBy actor event past new
   free_goes answer (actors.Session session) (events.Said stmt reply) allowed told free = free_moved session stmt reply (moved st session new stmt reply allowed) free
   free_goes answer (actors.Session session) event allowed told free = absurd (cc (allowed))
   free_goes answer actors.System (events.Opened copy rows pages used) allowed told free = λ key q. free_at new (ap (λ (s : State). s.locks) allowed.at_rest) key
   free_goes answer actors.System (events.Started options copy pages) allowed told free = absurd (cc (allowed))
-  free_goes answer actors.System event allowed told free = free_same (system_locks past st new answer event allowed) free
-  free_goes answer actors.Utility (events.Started options copy pages) allowed told free = free_started (utility_locks past st new answer (events.Started options copy pages) allowed) told
-  free_goes answer actors.Utility event allowed told free = free_same (utility_locks past st new answer event allowed) free
+  free_goes answer actors.System event allowed told free = free_same (system_held past st new answer event allowed).locks free
+  free_goes answer actors.Utility (events.Started options copy pages) allowed told free = free_started (utility_held past st new answer (events.Started options copy pages) allowed).locks told
+  free_goes answer actors.Utility event allowed told free = free_same (utility_held past st new answer event allowed).locks free
 
 pub both_begin : (table : Table) (copy : ℕ) → LocksTold [] (at_rest table copy) × QuietFree [] (at_rest table copy)
 both_begin table copy = (told_at (at_rest table copy) refl, λ key q. free_at (at_rest table copy) refl key)

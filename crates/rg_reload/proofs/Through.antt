@@ -13,6 +13,7 @@ use Rattle.rg_home.specs.Pages.{slot_of}
 use Rattle.rg_home.specs.Rows.{Tied, TiesAt, home_row, row_at}
 use Rattle.rg_home.specs.Slot.{Slot}
 use Rattle.rg_home.specs.Slots.{IsTrimmed, slot_at, trim}
+use Rattle.rg_lawful.specs.Lawful.{AllBelow, OwnerBelow}
 use Rattle.rg_model.specs.Layout.{same_place}
 use Rattle.rg_model.specs.Packed.{area_of, free_part, page_at}
 use Rattle.rg_page.specs.Content.{Content, slots_of}
@@ -127,6 +128,16 @@ proper_is options rows pages h = record {
   };
   holds = λ p. subst Holds (sym (slot_is options rows pages h p)) (holds_with (row_in (new_homes (packed_rows options rows)) p));
 }
+
+below_with : (o : Option Row) → OwnerBelow 0 (slot_with o)
+below_with None = tt
+below_with (Some row) = tt
+
+-- no area is dead, so none has an owner
+pub below_is : (options : Options) (rows : List (Place × Row)) (pages : List Content) → HasRows pages (packed_rows options rows)
+    → AllBelow 0 (slot_of (slots_of pages))
+below_is options rows pages h = λ p.
+    subst (OwnerBelow 0) (sym (slot_is options rows pages h p)) (below_with (row_in (new_homes (packed_rows options rows)) p))
 
 turned : (a b : Place) → same_place a b ≡ same_place b a
 turned a b = ap (λ t. t && a.slot == b.slot) (even a.page b.page) ∙ ap (λ t. b.page == a.page && t) (even a.slot b.slot)

@@ -11,6 +11,7 @@ ghost use Rattle.rg_fold.specs.Fold.{row_in};
 ghost use Rattle.rg_fold.specs.Lawful.{AreApart};
 ghost use Rattle.rg_home.specs.Able.{Proper};
 ghost use Rattle.rg_home.specs.Rows.{row_at};
+ghost use Rattle.rg_lawful.specs.Lawful.{AllBelow};
 ghost use Rattle.rg_model.specs.Layout.{are_rising};
 ghost use Rattle.rg_model.specs.Packed.{page_count, spots_from};
 ghost use Rattle.rg_page.specs.Content.{slots_of};
@@ -219,6 +220,8 @@ impl Packer {
         ensures slots { (place : ThePlace) → space_slots result.0 place
             ≡ slot_with (row_in (new_homes (packed_rows self.options self.rows)) place) }
         ensures proper { Proper (slots_of (frames_of result.0).pages.items) }
+        // No area is dead.
+        ensures below { AllBelow 0 (space_slots result.0) }
         // The old place of each row leads to the row.
         ensures rows { (place : ThePlace) → row_through (row_at (space_slots result.0))
             (target_in result.1 place) ≡ row_in self.rows place }

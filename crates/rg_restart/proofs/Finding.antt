@@ -16,7 +16,6 @@ use Rattle.rg_image.specs.Kept.{AreEntries}
 use Rattle.rg_image.specs.Meaning.{Current, stored}
 use Rattle.rg_image.specs.Rules.{greatest_tran, owed}
 use Rattle.rg_indexes.specs.Listings.{AreListings}
-use Rattle.rg_keyed.specs.Keyed.{TransBelow}
 use Rattle.rg_lawful.specs.Table.{IsTable}
 use Rattle.rg_lawful.specs.Tested.{OwnersBelow, all_of}
 use Rattle.rg_log.specs.Kept.{Listed}
@@ -36,6 +35,7 @@ use Rattle.rg_undo.specs.Unit.{writes_of}
 use Rattle.rg_unended.specs.Unended.{left_of, open_in}
 use Rattle.rg_unended.proofs.Lefts.{below_by_recursion, owners_by_recursion}
 use Rattle.rg_unended.proofs.Opens.{listed_is}
+use Rattle.rg_anew.proofs.Anew.{trans_below}
 use Rattle.rg_newest.specs.Newest.{AreNewest}
 use Rattle.rg_newest.specs.Tidy.{opened_epoch}
 use Rattle.rg_desk.specs.Desk.{CanBegin, IsCopy}
@@ -70,10 +70,6 @@ most_of top (t ∷ ts) all = (all t (zero, omega arith, refl), most_of top ts (�
 
 pub open_most : (rs : List Record) → AllAtMost (greatest_tran rs) (open_in rs)
 open_most rs = most_of (greatest_tran rs) (open_in rs) (λ t there. (listed_is rs t there).1)
-
-trans_below : (top : ℕ) (rs : List Record) → AllByRecursion (λ (e : Record). e.tran.0 ≤ top) rs → TransBelow top rs
-trans_below top [] all = tt
-trans_below top (entry ∷ rs) all = (all.0, trans_below top rs all.1)
 
 owners_join : (top : ℕ) (xs ys : List Written) → OwnersBelow top xs → OwnersBelow top ys → OwnersBelow top (xs ++ ys)
 owners_join top [] ys all more = more

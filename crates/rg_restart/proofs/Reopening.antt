@@ -7,7 +7,7 @@
 -- 3. An opening takes each of the pages as it is, and the copy has as many as its Switch counts.
 use Rattle.std.proofs.Common.{◌≡◌, ◌≤◌, ◌<◌, ◌+◌, ◌⊎◌, ◌&&◌, nat_lt, inl, inr, ℕ, zero, suc, Bool, true, false, List, [], ◌∷◌, ◌++◌, Option, length, map, take, drop, get_or, refl, sym, ◌∙◌, ap, subst, arith, length-append}
 use Rattle.std.proofs.lemmas.Bool.{cases_lt}
-use Rattle.std.proofs.lemmas.List.{get_or-map, length-map, take-append-drop, take-append-le, take_all}
+use Rattle.std.proofs.lemmas.List.{get_or-map, length-map, take-append-le, take_all}
 use Rattle.std.specs.List.{AllByRecursion}
 use Rattle.rg_base.specs.declared.position.Position.{Position}
 use Rattle.rg_chain.specs.Running.{Running}
@@ -19,7 +19,7 @@ use Rattle.rg_image.specs.Rules.{ArePositions, HasSpace, greatest_tran, limit_of
 use Rattle.rg_lawful.specs.Lawful.{AllBelow}
 use Rattle.rg_log.specs.Kept.{Listed, log_pages}
 use Rattle.rg_newest.specs.Newest.{AreNewest, page_in}
-use Rattle.rg_newest.specs.Tidy.{opened_epoch, switch_pages, switched_at, switched_pages, switched_pages_from}
+use Rattle.rg_newest.specs.Tidy.{opened_epoch, switched_at, switched_pages}
 use Rattle.rg_newest.proofs.InMemory.{past_in, there_in}
 use Rattle.rg_newest.proofs.Near.{past_there}
 use Rattle.rg_newest.proofs.Steady.{steady_opened}
@@ -29,10 +29,8 @@ use Rattle.rg_page.specs.Content.{Content, content_at, empty, slots_of}
 use Rattle.rg_page.specs.Seen.{Seen}
 use Rattle.rg_rebuilt.specs.Rebuilt.{CanRebuild}
 use Rattle.rg_record.specs.Applied.{parts_of}
-use Rattle.rg_record.specs.declared.record.Kind.{Kind}
-use Rattle.rg_record.specs.declared.record.Kind.TheVariants.{Change, Undo, Commit, RolledBack, Purge, Switch}
 use Rattle.rg_record.specs.declared.record.Record.{Record}
-use Rattle.rg_redo.specs.Redo.{AllRedoFit, is_switch, since_switch}
+use Rattle.rg_redo.specs.Redo.{AllRedoFit, since_switch}
 use Rattle.rg_sound.specs.ClosingLaws.{IsClosedLog, MayClose}
 use Rattle.rg_sound.specs.Pages.{Fit, IsMatched, copy_of, count_of}
 use Rattle.rg_sound.specs.Reopens.{CanReopen, HasLowOwners, IsBelow, IsRedone}

@@ -1,11 +1,11 @@
 -- The table is opened again, and a run ends.
-use Rattle.std.proofs.Common.{◌≡◌, ◌==◌, ◌||◌, ◌&&◌, ◌-◌, ◌≤◌, ◌+◌, ◌⊎◌, inl, inr, ℕ, Bool, true, false, List, [], ◌∷◌, ◌++◌, Option, Some, None, length, refl, sym, ◌∙◌, ap, subst, arith, append_assoc, append-nil}
+use Rattle.std.proofs.Common.{◌≡◌, ◌≤◌, ◌+◌, ◌⊎◌, inl, inr, ℕ, Bool, true, false, List, [], ◌∷◌, ◌++◌, Option, Some, None, length, refl, sym, ◌∙◌, ap, subst, arith, append_assoc, append-nil}
 use Rattle.rg_base.specs.declared.control.Answer.{Answer}
 use Rattle.std.specs.List.{Contains}
 use Rattle.rg_desk.specs.Chronicle.{IsRecorded}
 use Rattle.rg_desk.specs.Desk.{DeskState, EndsDown, EndsIn, EndsWithRows, LeavesTable, LegalFrom, old_records}
 use Rattle.rg_desk.specs.Left.{StoresLeft}
-use Rattle.rg_desk.specs.OnVolume.{IsSoundTidy, LeavesCopyIfTidy, LeavesSoundIfTidy, WasAllTidy}
+use Rattle.rg_desk.specs.OnVolume.{IsSoundTidy, LeavesSoundIfTidy, WasAllTidy}
 use Rattle.rg_desk.specs.Stored.{IsStored}
 use Rattle.rg_desk.specs.Volume.{HasCalls, VolumeSeen, WasTidy}
 use Rattle.rg_desk.specs.declared.desk.OpenCause.{OpenCause}
@@ -18,9 +18,8 @@ use Rattle.rg_log.specs.Kept.{log_pages}
 use Rattle.rg_log.specs.Open.{IsQuiet}
 use Rattle.rg_log.proofs.Ready.{quiet_reads}
 use Rattle.rg_model.specs.Committed.{committed_table}
-use Rattle.rg_model.specs.Possible.{tables_left}
+use Rattle.rg_model.specs.Possible.{is_copy_left, tables_left}
 use Rattle.rg_model.specs.State.{State}
-use Rattle.rg_model.proofs.RunPossible.{same_number-refl}
 use Rattle.rg_outside.specs.Calls.{Call, FailedRead, FailedSync, FailedWrite, Image, Read, Refused, Synced, Told, Wrote, effect_of, read_of}
 use Rattle.rg_outside.specs.Capacities.{Capacities}
 use Rattle.rg_outside.specs.Faults.{Rose}
@@ -131,13 +130,13 @@ module _ {V O : Type 0} {answers : O → Option (List Answer)} (look : V → Vol
       (is ∙ ap (λ (older : List Entry). older ++ desk.trace) older_same) going.asked going.goes.asked)
 
   -- the last part
-  last_part : (down : Bool) (last : State) → EndsIn (old_records desk) desk.copy desk.trace down last → LastPart (old_records first) now lines all down last
+  last_part : (down : Bool) (last : State) → EndsIn (old_records desk) desk.first_copy desk.trace down last → LastPart (old_records first) now lines all down last
   last_part down last ends = record {
     before = going.base.older;
     part = desk.trace;
     joined = ap (λ (older : List Entry). older ++ desk.trace) older_same;
     start = ends.start;
-    copy = desk.copy;
+    copy = desk.first_copy;
     run = ends.run;
     is = ends.down_is;
     alone = alone going.came;
@@ -175,7 +174,7 @@ module _ {V O : Type 0} {answers : O → Option (List Answer)} (look : V → Vol
     pub ends_wanting : (rest : List Line) → IsRun look answers first (lines ++ rest) seen operator trace ends.NoMemory
     ends_wanting rest = record { front = lines; rest = rest; joined = refl; made = made_seen; ends = tt; failed = λ none. absurd none; sound = stays ends.NoMemory tt; asked = asked_left trace operator is operator_is }
 
-    pub ends_down : desk.down ≡ true → EndsDown (old_records desk) desk.copy desk.trace → IsRun look answers first lines seen operator trace ends.Down
+    pub ends_down : desk.down ≡ true → EndsDown (old_records desk) desk.first_copy desk.trace → IsRun look answers first lines seen operator trace ends.Down
     ends_down down end = record {
       front = lines;
       rest = [];
@@ -199,7 +198,7 @@ module _ {V O : Type 0} {answers : O → Option (List Answer)} (look : V → Vol
         by_came (inl came) = subst (λ (b : DeskState V O). Rose (look b.volume).faults now.faults) came.0 rose
         by_came (inr again) = rose_earlier (look first.volume).faults (look going.base.volume).faults now.faults again.made.later rose
 
-    pub ends_up : (rows : ℕ) → EndsWithRows (old_records desk) desk.copy desk.ground.log.pages now desk.trace rows → IsRun look answers first lines seen operator trace (ends.Whole rows)
+    pub ends_up : (rows : ℕ) → EndsWithRows (old_records desk) desk.first_copy desk.ground.log.pages now desk.trace rows → IsRun look answers first lines seen operator trace (ends.Whole rows)
     ends_up rows end = record {
       front = lines;
       rest = [];
@@ -224,7 +223,7 @@ module _ {V O : Type 0} {answers : O → Option (List Answer)} (look : V → Vol
 
   -- ---- after a death
 
-  module _ (left : LeavesTable (old_records desk) desk.copy desk.ground.log.pages now desk.trace) (copies : LeavesCopyIfTidy now desk.copy) (legal : LegalFrom (old_records desk) desk.trace)
+  module _ (left : LeavesTable (old_records desk) desk.first_copy desk.ground.log.pages now desk.trace) (legal : LegalFrom (old_records desk) desk.trace)
       (count : ℕ) (recorded : IsRecorded all count) (has : HasCalls now count) where
     part : PartRun desk left.last
     part = record { start = left.start; starts = left.starts; run = left.run }
@@ -292,7 +291,7 @@ module _ {V O : Type 0} {answers : O → Option (List Answer)} (look : V → Vol
       follows =
           subst (λ c. IfTold later.told (λ t. WasAllTidy c t → Follows (old_records first) all next)) (sym opens.calls.capacities)
           (go now.told later.told opens.calls.only has
-          (subst (λ (n : ℕ). IfTold now.told (λ t. WasTidy n t → EachImage (λ i. StoresLeft left.last (log_of n i)) t)) pages_now left.left) copies
+          (subst (λ (n : ℕ). IfTold now.told (λ t. WasTidy n t → EachImage (λ i. StoresLeft left.last (log_of n i)) t)) pages_now left.left) left.copies
           (subst (λ (older : List Entry). IfTidy now (RunsFrom (old_records first) (older ++ desk.trace) left.last)) (sym older_same) (whole_run look first desk lines going left.last part))
           (read_first_log look now operator next opens))
         where
@@ -300,7 +299,7 @@ module _ {V O : Type 0} {answers : O → Option (List Answer)} (look : V → Vol
           pages = log_pages now.capacities
 
           go : (old new : Option Told) → EachCall old new IsQuiet → IfTold old (λ t. t.start + count ≤ length t.calls) → IfTold old (λ t. WasTidy (log_pages now.capacities) t → EachImage (λ i. StoresLeft left.last (log_of (log_pages now.capacities) i)) t)
-              → IfTold old (λ t. WasTidy (log_pages now.capacities) t → EachImage (λ i. (current_of (log_of (log_pages now.capacities) i)).copy ≡ desk.copy) t)
+              → IfTold old (λ t. WasTidy (log_pages now.capacities) t → EachImage (λ i. is_copy_left left.last (current_of (log_of (log_pages now.capacities) i)).copy ≡ true) t)
               → IfTold old (λ t. WasAllTidy now.capacities t → RunsFrom (old_records first) all left.last)
               → IfTold new (λ t. HasLogPages (log_pages now.capacities) (read_of t.first t.calls) rs) → IfTold new (λ t. WasAllTidy now.capacities t → Follows (old_records first) all next)
           go old None made has stored copied runs reads = tt
@@ -313,8 +312,7 @@ module _ {V O : Type 0} {answers : O → Option (List Answer)} (look : V → Vol
               let same : read_of after.first after.calls ≡ i = ap (λ (t : Told). read_of t.first t.calls) is ∙ (λ j s p. quiet_reads before.first made.1 before.calls s p made.4 j) in
               let log : log_of (log_pages now.capacities) i ≡ rs = ap (log_of (log_pages now.capacities)) (sym same) ∙ log_is_read (log_pages now.capacities) (read_of after.first after.calls) rs reads in
               let left_there : StoresLeft left.last rs = subst (StoresLeft left.last) log (stored then.log i (read_image before)) in
-              let copy : (current_of rs).copy ≡ desk.copy = subst (λ (xs : List Record). (current_of xs).copy ≡ desk.copy) log (copied then.log i (read_image before)) in
-              let there : next.copy ≡ left.last.copy = opens.opens.copy_is ∙ copy ∙ sym left.copy_is in
+              let copy : is_copy_left left.last (current_of rs).copy ≡ true = subst (λ (xs : List Record). is_copy_left left.last (current_of xs).copy ≡ true) log (copied then.log i (read_image before)) in
               record {
                 last = left.last;
                 runs = runs then;
@@ -323,8 +321,7 @@ module _ {V O : Type 0} {answers : O → Option (List Answer)} (look : V → Vol
                 reopens = record {
                   table = opens.opens.start;
                   left = subst (Contains (tables_left left.last left.last.doubt)) (same_table rs left_there.table opens.opens.start left_there.stored starts) left_there.among;
-                  copy_left =
-                      ap (λ (b : Bool). b || (left.last.copydoubt && (next.copy == 3 - left.last.copy))) (ap (λ (n : ℕ). n == left.last.copy) there ∙ same_number-refl left.last.copy);
+                  copy_left = subst (λ (n : ℕ). is_copy_left left.last n ≡ true) (sym opens.opens.first_copy) copy;
                   counted = refl;
                   at_rest = refl;
                 };

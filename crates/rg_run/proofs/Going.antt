@@ -239,15 +239,15 @@ module _ {V O : Type 0} {answers : O → Option (List Answer)} (look : V → Vol
       starts : IsStored (old_records base) part.start
       starts = subst (λ (rs : List Record). IsStored rs part.start) goes.stays.old_same part.starts
 
-      run : Run [] (at_rest part.start base.copy) desk.trace last
-      run = subst (λ (n : ℕ). Run [] (at_rest part.start n) desk.trace last) goes.stays.copy part.run
+      run : Run [] (at_rest part.start base.first_copy) desk.trace last
+      run = subst (λ (n : ℕ). Run [] (at_rest part.start n) desk.trace last) goes.stays.first_copy part.run
 
       by_came : Came look first base lines going.back → IfTidy now (RunsFrom (old_records first) (base.older ++ desk.trace) last)
       by_came (inl came) = if_tidy now (RunsFrom (old_records first) (base.older ++ desk.trace) last) (record {
         start = part.start;
         starts = subst (λ (b : DeskState V O). IsStored (old_records b) part.start) came.0 starts;
-        copy = base.copy;
-        run = subst (λ (older : List Entry). Run [] (at_rest part.start base.copy) (older ++ desk.trace) last) (sym (ap (λ (b : DeskState V O). b.older) came.0 ∙ came.1)) run;
+        copy = base.first_copy;
+        run = subst (λ (older : List Entry). Run [] (at_rest part.start base.first_copy) (older ++ desk.trace) last) (sym (ap (λ (b : DeskState V O). b.older) came.0 ∙ came.1)) run;
       })
       by_came (inr again) =
           tidy_on (WritesOwn desk.trace) (RunsFrom (old_records first) (base.older ++ desk.trace) last) (look base.volume) now 0 part_calls going.counted same_capacities
@@ -256,8 +256,8 @@ module _ {V O : Type 0} {answers : O → Option (List Answer)} (look : V → Vol
             starts = follows.runs.starts;
             copy = follows.runs.copy;
             run =
-                run_again follows.runs.start follows.runs.copy base.older desk.trace going.back follows.last last follows.table base.copy follows.runs.run follows.reopens goes.entries
-                (subst (λ (t : Table). Run [] (at_rest t base.copy) desk.trace last) (same_table (old_records base) part.start follows.table starts follows.stored) run);
+                run_again follows.runs.start follows.runs.copy base.older desk.trace going.back follows.last last follows.table base.first_copy follows.runs.run follows.reopens goes.entries
+                (subst (λ (t : Table). Run [] (at_rest t base.first_copy) desk.trace last) (same_table (old_records base) part.start follows.table starts follows.stored) run);
           }) again.follows)
 
   module _ (legal : LegalFrom (old_records desk) desk.trace) (count : ℕ) (recorded : IsRecorded (base.older ++ desk.trace) count) (last : State) (part : PartRun desk last) where

@@ -14,12 +14,12 @@ use Rattle.rg_desk.specs.Desk.{IsLayout}
 use Rattle.rg_model.specs.Changes.{changes, changes_after, changes_of, is_rollback, is_unit_end, is_write, unit_writes, unit_writes_after}
 use Rattle.rg_model.specs.Claims.{least_holder}
 use Rattle.rg_model.specs.Layout.{is_right_side}
-use Rattle.rg_model.specs.Possible.{state_after_step}
+use Rattle.rg_model.specs.Possible.{next_state, state_after_step}
 use Rattle.rg_model.specs.Quiet.{is_among, is_locked_by, is_locked_in, is_quiet, is_quiet_by, is_write_of}
 use Rattle.rg_model.specs.Right.{are_clustered, are_quiet_right, is_at_home, is_packed, is_right_switch, quiet_spots}
 use Rattle.rg_model.specs.Run.{Allows}
 use Rattle.rg_model.specs.Said.{if_allowed}
-use Rattle.rg_model.specs.State.{State, Utility, at_rest}
+use Rattle.rg_model.specs.State.{State, Utility}
 use Rattle.rg_model.specs.Turn.{Turn, Runs, Switches, Stops, Falls, turn_of}
 use Rattle.rg_model.specs.Utility.{state_by_turn, state_stepped}
 use Rattle.rg_stmt.specs.Entries.{opened_entry, said_entry}
@@ -32,8 +32,8 @@ use Rattle.rg_stmt.specs.declared.layout.Sides.{Sides}
 use Rattle.rg_stmt.specs.declared.layout.Spot.{Spot}
 use Rattle.rg_stmt.specs.declared.line.Line.{Line}
 use Rattle.rg_stmt.specs.declared.line.Line.TheVariants.{Death, Flush, Reorg, Said, Show, Step}
-use Rattle.rg_tending.specs.Tending.{IsRefusedEvent, IsSystem, utility_entry}
-use Rattle.rg_tending.proofs.Keeping.{booked_step, refused_is, said_keeps, system_keeps}
+use Rattle.rg_tending.specs.Tending.{IsRefusedEvent, IsSystem, is_booked, utility_entry}
+use Rattle.rg_tending.proofs.Keeping.{refused_is, said_keeps, system_keeps}
 use Rattle.rg_run.specs.Played.{EntryOf, IsFlushed, IsOpenedEntry, IsStartEvent, IsStepEvent}
 
 -- ---- what is told
@@ -164,6 +164,21 @@ refused_any past other events.StartNoMemory st new is allows = allows
 refused_any past other events.Idle st new is allows = allows
 refused_any past other events.StepDown st new is allows = allows
 refused_any past other event st new is allows = absurd is
+
+-- an event that a desk books is a step of the utility that runs
+booked_step : (past : List Entry) (answer : Option Answer) (event : Event) (st : State) → is_booked event ≡ true → next_state past answer actors.Utility event st ≡ state_after_step past answer event st st.utility
+booked_step past answer (events.Reload page rows) st is = refl
+booked_step past answer (events.Sort which) st is = refl
+booked_step past answer (events.Build which) st is = refl
+booked_step past answer (events.Log iteration took left verdict) st is = refl
+booked_step past answer (events.Wait session) st is = refl
+booked_step past answer (events.Granted drain) st is = refl
+booked_step past answer (events.GiveUp count) st is = refl
+booked_step past answer (events.Last took left) st is = refl
+booked_step past answer (events.Written pages) st is = refl
+booked_step past answer events.Ended st is = refl
+booked_step past answer (events.Stop reason) st is = refl
+booked_step past answer event st is = absurd (cc (is))
 
 -- it is allowed by the other entries, and so will be what follows
 abbrev pub GoesAlike : (past other : List Entry) → State → State → Entry → Type 0

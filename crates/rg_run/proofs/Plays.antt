@@ -8,7 +8,7 @@ use Rattle.rg_base.specs.declared.session.Session.{Session}
 use Rattle.rg_base.specs.declared.verdict.StopReason.TheVariants as reasons
 use Rattle.rg_fold.specs.declared.item.Stage.{Stage}
 use Rattle.rg_log.specs.Kept.{Listed as ListedLog}
-use Rattle.rg_phase.specs.Step.{Stepped}
+use Rattle.rg_phase.specs.Step.{Stepped, is_device_stop}
 use Rattle.rg_tending.specs.Tending.{NextBy, utility_entry}
 use Rattle.rg_base.specs.declared.position.Position.{Position}
 use Rattle.rg_page.specs.Content.{Content}
@@ -194,15 +194,15 @@ log_step None (events.StartLogFull need left) limit logged is = absurd is
 log_step (Some answer) (events.StartLogFull need left) limit logged is = absurd (cc (is))
 log_step answer event limit logged is = tt
 
-device_step : (P : Type 0) (answer : Option Answer) (event : Event) → IsStepEvent answer event → IsDeviceIf P event
-device_step P None (EventSaid stmt reply) is = absurd is
-device_step P (Some answer) (EventSaid stmt reply) is = absurd (cc (is))
-device_step P None FlushDevice is = absurd is
-device_step P (Some answer) FlushDevice is = absurd (cc (is))
-device_step P None (Stop reason) is = absurd is
-device_step P (Some answer) (Stop reasons.Device) is = absurd (cc (is))
-device_step P (Some answer) (Stop reason) is = tt
-device_step P answer event is = tt
+device_step : (P : Type 0) (answer : Option Answer) (event : Event) → (is_device_stop event ≡ true → P) → IsStepEvent answer event → IsDeviceIf P event
+device_step P None (EventSaid stmt reply) f is = absurd is
+device_step P (Some answer) (EventSaid stmt reply) f is = absurd (cc (is))
+device_step P None FlushDevice f is = absurd is
+device_step P (Some answer) FlushDevice f is = absurd (cc (is))
+device_step P None (Stop reason) f is = absurd is
+device_step P (Some answer) (Stop reasons.Device) f is = f refl
+device_step P (Some answer) (Stop reason) f is = tt
+device_step P answer event f is = tt
 
 device_said : (P : Type 0) (session : Session) (stmt : Stmt) (reply : Reply) → (reply ≡ Device → P) → IsDeviceIf P (said_entry session stmt reply 0).event
 device_said P session stmt Device is = is refl
@@ -254,6 +254,7 @@ module _ {V O : Type 0} {answers : O → Option (List Answer)} (look : V → Vol
     capacity = stays.capacity ∙ goes.stays.capacity;
     log_pages = stays.log_pages ∙ goes.stays.log_pages;
     opened = stays.opened ∙ goes.stays.opened;
+    first_copy = stays.first_copy ∙ goes.stays.first_copy;
     old_same = stays.old_same ∙ goes.stays.old_same;
     copy = stays.copy ∙ goes.stays.copy;
     calls = own_calls_join first.copy (look first.volume) (look old.volume) (look new.volume) goes.stays.calls (subst (λ (n : ℕ). CallsOwn n (look old.volume) (look new.volume)) goes.stays.copy stays.calls);
@@ -340,7 +341,7 @@ module _ {V O : Type 0} {answers : O → Option (List Answer)} (look : V → Vol
       let event = stepped.event in
       let is = step_so old.down old.stage old.changes old.covered answer event stepped.next in
       on Step (utility_entry event answer made.calls) made.made (answer, event, refl, is) (full_step answer event (3221 * old.ground.capacity) (allowed_by 0 old.trace) is)
-      (log_step answer event (limit_of old.ground.log.pages) (logged_by 0 old.trace) is) (device_step (Rose (look first.volume).faults (look new.volume).faults) answer event is)
+      (log_step answer event (limit_of old.ground.log.pages) (logged_by 0 old.trace) is) (device_step (Rose (look first.volume).faults (look new.volume).faults) answer event (λ at. rises (stepped.device at)) is)
       (λ down. risen stays (goes.down (sym made.down ∙ down)))
       (told_all (look new.volume).told (λ t. IsFlushThen (copy_of_last 0 old.trace) t.start (calls_of_last 0 old.trace) made.calls t event) (λ t. step_tells answer event is (copy_of_last 0 old.trace) t.start (calls_of_last 0 old.trace) made.calls t))
       (step_keeps answer event is) made.counted
@@ -360,6 +361,7 @@ module _ {V O : Type 0} {answers : O → Option (List Answer)} (look : V → Vol
         capacity = made.stays.capacity;
         log_pages = made.stays.log_pages;
         opened = made.stays.opened;
+        first_copy = made.stays.first_copy;
         old_same = made.stays.old_same;
         copy = made.stays.copy;
         calls = made.stays.calls;
@@ -396,6 +398,7 @@ goes_opened {V} {O} look answers desk opened copy counted = record {
     capacity = refl;
     log_pages = refl;
     opened = refl;
+    first_copy = refl;
     old_same = refl;
     copy = refl;
     calls = record { only = no_calls (WritesEither (set_of desk.copy)) (look desk.volume).told; later = omega arith; capacities = refl };

@@ -77,7 +77,7 @@ pub record Follows {V O : Type 0} (old : List Record) (older : List Entry) (base
   pub runs : RunsFrom old older last
   pub table : Table
   pub stored : IsStored (old_records base) table
-  pub reopens : Reopens last base.copy (row_count table) (at_rest table base.copy)
+  pub reopens : Reopens last base.first_copy (row_count table) (at_rest table base.first_copy)
 
 -- the first entry opens copy 1 or 2
 abbrev pub IsKnown : List Entry → Type 0
@@ -88,7 +88,7 @@ IsKnown (entry ∷ entries) = (opened : IsOpenedEntry entry) × IsCopy opened.co
 pub record PartRun {V O : Type 0} (desk : DeskState V O) (last : State) : Type 0 where
   pub start : Table
   pub starts : IsStored (old_records desk) start
-  pub run : Run [] (at_rest start desk.copy) desk.trace last
+  pub run : Run [] (at_rest start desk.first_copy) desk.trace last
 
 -- no opening of the run found damage
 abbrev pub IsUndamaged : RunEnd → Type 0

@@ -1,5 +1,6 @@
 -- A plan of a change, once it is carried out and the mapping table follows.
 use Rattle.std.proofs.Common.{◌≡◌, List, Option, Some, None, sym, ◌∙◌, ap, subst}
+use Rattle.std.proofs.Math.Nat.{le_refl}
 use Rattle.std.specs.Prelude.{IsSomeAnd}
 use Rattle.std.specs.FinMap as map
 use Rattle.rg_base.specs.declared.place.Place.{Place}
@@ -11,7 +12,10 @@ use Rattle.rg_home.specs.Plan.{pages_after}
 use Rattle.rg_home.specs.Rows.{ChangesHome}
 use Rattle.rg_home.specs.Slot.{Slot}
 use Rattle.rg_home.specs.declared.plan.Plan.{Plan}
+use Rattle.rg_lawful.specs.Lawful.{AllBelow}
+use Rattle.rg_lawful.proofs.Parts.{applied_below}
 use Rattle.rg_map.specs.Mapping.{Mapping, Targets}
+use Rattle.rg_space.specs.Carries.{cleared}
 use Rattle.rg_space.specs.Space.{capacity_in}
 use Rattle.rg_shadow.specs.Pieces.{Carried, IsReady, IsWhole, SamePieces, rows_in, shade_of}
 use Rattle.rg_shadow.specs.Planned.{change_plan, drop_plan, put_plan, slots_in}
@@ -34,6 +38,14 @@ module _ (old mid car : Pieces) (plan : Plan) (source : Place) (same : SamePiece
   pub sets : (after : Option Row) → IsReady mid after plan → Carried mid plan after car → SetsRow (rows_in mid) (rows_in car) plan.home after
   sets after ready carried = row_set (shade_of mid) (shade_of car) plan.home after (changes after ready carried)
 
+  -- what the plan leaves dead is of owner 0
+  below : (after : Option Row) → IsReady mid after plan → Carried mid plan after car → AllBelow 0 (slot_of (slots_in car.space))
+  below after ready carried =
+      let c = ready.carries in
+      let purged = applied_below 0 0 (row_or_empty None) (capacity_in mid.space) (slots_in mid.space) plan.purge (le_refl 0) c.purge_fits whole.below in
+      subst (λ (ps : List (List Slot)). AllBelow 0 (slot_of ps)) (c.after ∙ sym carried.slots)
+      (applied_below 0 0 (row_or_empty after) (capacity_in mid.space) (cleared 0 (slots_in mid.space) plan) plan.parts (le_refl 0) c.parts_fit purged)
+
   follows : (m : Mapping) (after : Option Row) → IsReady mid after plan → Carried mid plan after car
       → Moves mid.map.targets m.targets (rows_in mid) (rows_in car) source plan.home after → plan_for (shade_of mid) source after ≡ Some plan
       → Follows old mid car m source after
@@ -41,6 +53,7 @@ module _ (old mid car : Pieces) (plan : Plan) (source : Place) (same : SamePiece
     whole = record {
       has = carried.has;
       proper = subst Proper (sym carried.slots) ready.carries.writes.proper;
+      below = below after ready carried;
       mapped = mapped mid.map.targets m.targets (rows_in mid) (rows_in car) source plan.home after moves whole.mapped;
       kept = carried.kept;
     };

@@ -13,6 +13,7 @@ use Rattle.rg_home.specs.Pages.{slot_of}
 use Rattle.rg_home.specs.Rows.{ChangesHome, row_at}
 use Rattle.rg_home.specs.Slot.{Slot}
 use Rattle.rg_index.specs.Listed.{SetsRow, has_value}
+use Rattle.rg_lawful.specs.Lawful.{AllBelow}
 use Rattle.rg_map.specs.Mapping.{Targets}
 use Rattle.rg_home.specs.declared.plan.Plan.{Plan}
 use Rattle.rg_page.specs.Content.{slots_of}
@@ -84,17 +85,26 @@ same_shade old new same = λ i. record {
   cats = same.drafts.cats.stage i;
 }
 
+-- the slots of the pages, the targets and what is made of the indexes are the same
+pub record SameSlots (old new : Pieces) : Type 0 where
+  pub slots : slots_in new.space ≡ slots_in old.space
+  pub targets : new.map.targets ≡ old.map.targets
+  pub drafts : SameDrafts old.drafts new.drafts
+
+pub whole_slots : (old new : Pieces) → SameSlots old new → HasPages new.space → IsWhole old → IsWhole new
+whole_slots old new same has was = record {
+  has = has;
+  proper = subst Proper (sym same.slots) was.proper;
+  below = subst (λ (ps : List (List Slot)). AllBelow 0 (slot_of ps)) (sym same.slots) was.below;
+  mapped = subst (λ (ts : Targets). IsMapped ts (rows_in new)) (sym same.targets)
+      (subst (λ (ps : List (List Slot)). IsMapped old.map.targets (λ place. row_at (slot_of ps) place)) (sym same.slots) was.mapped);
+  kept = kept_same (rows_in new) old.drafts new.drafts same.drafts
+      (subst (λ (ps : List (List Slot)). AreKept (λ place. row_at (slot_of ps) place) old.drafts) (sym same.slots) was.kept);
+}
+
 pub whole_same : (old new : Pieces) → SamePieces old new → HasPages new.space → IsWhole old → IsWhole new
 whole_same old new same has was =
-    let slots : slots_in old.space ≡ slots_in new.space = sym (ap slots_of same.space.pages) in
-    record {
-      has = has;
-      proper = subst Proper slots was.proper;
-      mapped = subst (λ (ts : Targets). IsMapped ts (rows_in new)) (sym same.targets)
-          (subst (λ (ps : List (List Slot)). IsMapped old.map.targets (λ place. row_at (slot_of ps) place)) slots was.mapped);
-      kept = kept_same (rows_in new) old.drafts new.drafts same.drafts
-          (subst (λ (ps : List (List Slot)). AreKept (λ place. row_at (slot_of ps) place) old.drafts) slots was.kept);
-    }
+    whole_slots old new (record { slots = ap slots_of same.space.pages; targets = same.targets; drafts = same.drafts }) has was
 
 pub same_drafts : (x : Drafts) → SameDrafts x x
 same_drafts x = record {
@@ -134,6 +144,7 @@ pub built_whole : (p : Pieces) (which : Which) (drafts : Drafts) (r : Result (Un
 built_whole p which drafts (Ok x) ok err was = record {
   has = was.has;
   proper = was.proper;
+  below = was.below;
   mapped = was.mapped;
   kept = subst (AreKept (rows_in p)) (sym ok.is) (one_more which (rows_in p) p.drafts ok.tree was.kept (ok.kept (rows_in p)));
 }

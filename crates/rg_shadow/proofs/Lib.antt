@@ -8,3 +8,5 @@ pub mod Everywhere
 pub mod Running
 pub mod Merging
 pub mod Changing
+pub mod Stamping
+pub mod Laying

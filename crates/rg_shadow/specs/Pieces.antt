@@ -2,9 +2,10 @@
 --
 -- 1. Its pages are proper: each Pointer and Over name each other, pages are within their bytes, and
 --    rows within their areas.
--- 2. No two sources have one target. Each target is the home of a row, and each home of a row is a
+-- 2. Every dead area has owner 0, since the plans of a new copy are carried out by transaction 0.
+-- 3. No two sources have one target. Each target is the home of a row, and each home of a row is a
 --    target.
--- 3. What is made of each index lists the rows at their homes.
+-- 4. What is made of each index lists the rows at their homes.
 use Rattle.std.specs.Prelude.{◌≡◌, ◌≤◌, true, Option, Some, is_some}
 use Rattle.std.specs.FinMap as map
 use Rattle.rg_base.specs.declared.place.Place.{Place}
@@ -14,6 +15,7 @@ use Rattle.rg_home.specs.Pages.{row_or_empty, slot_of}
 use Rattle.rg_home.specs.Plan.{pages_after}
 use Rattle.rg_home.specs.Rows.{row_at}
 use Rattle.rg_home.specs.declared.plan.Plan.{Plan}
+use Rattle.rg_lawful.specs.Lawful.{AllBelow}
 use Rattle.rg_map.specs.Mapping.{IsOneToOne, IsTarget, Targets}
 use Rattle.rg_shadow.specs.Drafts.{AreKept, HaveSpare, KeepBuilt, SameDrafts, stage_of}
 use Rattle.rg_shadow.specs.Planned.{AreUnlogged, HasPages, SameSpace, pages_in, seen_in, slots_in}
@@ -49,6 +51,7 @@ shade_of p = record {
 pub record IsWhole (p : Pieces) : Type 0 where
   pub has : HasPages p.space
   pub proper : Proper (slots_in p.space)
+  pub below : AllBelow 0 (slot_of (slots_in p.space))
   pub mapped : IsMapped p.map.targets (rows_in p)
   pub kept : AreKept (rows_in p) p.drafts
 

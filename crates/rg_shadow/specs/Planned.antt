@@ -1,7 +1,7 @@
 -- Plans of a space that is in memory.
 --
 -- 1. No unit is live in a new copy: every dead area may be purged, and its owner is 0.
-use Rattle.std.specs.Prelude.{◌≡◌, ℕ, List, [], Option, None}
+use Rattle.std.specs.Prelude.{◌≡◌, ◌≤◌, ℕ, List, [], Option, None, length}
 use Rattle.rg_base.specs.RowBytes.{row_size}
 use Rattle.rg_base.specs.declared.place.Place.{Place}
 use Rattle.rg_base.specs.declared.row.Row.{Row}
@@ -10,6 +10,7 @@ use Rattle.rg_home.specs.Plan.{new_area, planned_put, planned_change, planned_dr
 use Rattle.rg_home.specs.Slot.{Slot}
 use Rattle.rg_home.specs.declared.plan.Plan.{Plan}
 use Rattle.rg_page.specs.Content.{Content, content_at, slots_of}
+use Rattle.rg_page.specs.Listed.{stamped}
 use Rattle.rg_page.specs.Seen.{Seen}
 use Rattle.rg_page.specs.declared.list.ListFrames.{ListFrames}
 use Rattle.rg_reload.specs.Pages.{frames_seen}
@@ -28,6 +29,16 @@ pages_in space = (frames_of space).pages.items
 abbrev pub AreUnlogged : List Content → Type 0
 AreUnlogged pages = (n : ℕ) → (content_at pages n).position ≡ 0
 
+-- each page has the number of its place
+abbrev pub AreNumbered : List Content → Type 0
+AreNumbered pages =
+    (n : ℕ) → 1 ≤ n → n ≤ length pages → (content_at pages n).number ≡ n
+
+-- each page is of this copy
+abbrev pub AreOfCopy : (copy : ℕ) → List Content → Type 0
+AreOfCopy copy pages =
+    (n : ℕ) → 1 ≤ n → n ≤ length pages → (content_at pages n).copy ≡ copy
+
 -- the slots of its pages
 abbrev pub slots_in : Space ListFrames → List (List Slot)
 slots_in space = slots_of (pages_in space)
@@ -42,6 +53,12 @@ pub record SameSpace (old new : Space ListFrames) : Type 0 where
   pub copy : (frames_of new).copy ≡ (frames_of old).copy
   pub capacity : capacity_in new ≡ capacity_in old
   pub pages : pages_in new ≡ pages_in old
+
+-- one page has another position, and all else is the same
+pub record Stamps (number at : ℕ) (old new : Space ListFrames) : Type 0 where
+  pub copy : (frames_of new).copy ≡ (frames_of old).copy
+  pub capacity : capacity_in new ≡ capacity_in old
+  pub pages : pages_in new ≡ stamped (pages_in old) number at
 
 -- the plan of a new row, if there is room
 abbrev pub put_plan : Row → (capacity : ℕ) → List (List Slot) → Option Plan

@@ -5,7 +5,8 @@
 -- 2. A change of a source changes the row of that source alone. Every other source keeps its row,
 --    its target, and where the row lies. So a row that no change names lies as it was packed.
 -- 3. The pages are those that the plans of puts, changes and drops leave, where no unit is live. No
---    record of the log changes one of them: its position stays 0.
+--    record of the log changes one of them: its position stays 0 until it is given another one, as
+--    it goes to a volume.
 use Rattle.std.specs.Prelude.{◌≡◌, ℕ, Bool, true, false, List, [], Option, Some, None, is_some, IsSomeAnd}
 use Rattle.std.specs.FinMap as map
 use Rattle.rg_base.specs.declared.place.Place.{Place}
@@ -19,7 +20,9 @@ use Rattle.rg_home.specs.Rows.{lies_at, row_at}
 use Rattle.rg_home.specs.Slot.{Slot}
 use Rattle.rg_home.specs.declared.plan.Plan.{Plan}
 use Rattle.rg_map.specs.Mapping.{Targets}
-use Rattle.rg_model.specs.Layout.{same_place}
+use Rattle.rg_lawful.specs.Table.{IsTable}
+use Rattle.rg_model.specs.Layout.{is_right_side, same_place}
+use Rattle.rg_model.specs.State.{Table, row_of}
 use Rattle.rg_page.specs.Content.{Content, slots_of}
 use Rattle.rg_reload.specs.Moved.{row_through}
 use Rattle.rg_shadow.specs.Planned.{AreUnlogged, change_plan, drop_plan, put_plan}
@@ -27,6 +30,7 @@ use Rattle.rg_shadow.specs.declared.drafts.IndexStage.{IndexStage}
 use Rattle.rg_shadow.specs.declared.drafts.IndexStage.TheVariants.{Unsorted, Sorted, Built}
 use Rattle.rg_shadow.specs.declared.fault.ShadowFault.{ShadowFault}
 use Rattle.rg_shadow.specs.declared.fault.ShadowFault.TheVariants.{NoSpace, NoMemory}
+use Rattle.rg_stmt.specs.declared.layout.Side.{Side}
 
 -- the copy, its capacity in pages, its pages, the targets, and how far each index is made
 pub record Shade : Type 0 where
@@ -73,6 +77,11 @@ abbrev pub with_stage : Which → IndexStage → Shade → Shade
 with_stage Key stage s = record s { keys = stage }
 with_stage Clus stage s = record s { cluses = stage }
 with_stage Cat stage s = record s { cats = stage }
+
+-- a layout is right for the table whose rows are those at their homes
+abbrev pub IsRightSideOf : Shade → Side → Type 0
+IsRightSideOf s side = (table : Table) → IsTable (home_rows s) (λ key. row_of table key)
+    → is_right_side table side ≡ true
 
 -- no plan is needed
 abbrev pub no_plan : Plan

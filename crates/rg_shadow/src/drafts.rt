@@ -132,6 +132,17 @@ fn tree_of(draft: IndexDraft) -> Tree
 }
 
 impl IndexDraft {
+    /// Its tree, which is built.
+    pub fn tree(&self) -> &Tree
+        requires { stage_of self.now ≡ Built }
+        ensures { self.now ≡ drafts.Built result.now }
+    {
+        match self {
+            IndexDraft::Built(tree) => tree,
+            _ => unreachable!(),
+        }
+    }
+
     /// How far it is made.
     pub fn stage(&self) -> IndexStage
         ensures { result ≡ stage_of self.now }

@@ -8,6 +8,8 @@ pub mod fault;
 pub mod drafts;
 // Plans of a space in memory, and how they are carried out.
 mod plans;
+// The pages of a space in memory, as they go to a volume.
+mod spell;
 // Space, mapping table and indexes, and how they change together.
 mod pieces;
 // The mapping table of pairs.

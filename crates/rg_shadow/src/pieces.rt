@@ -4,28 +4,39 @@
 //    table and in the indexes. After that nothing fails.
 // 2. The row of a source is changed at its target. A row that comes gets a target, and one that
 //    goes gives it up. No other source is touched.
-ghost use Rattle.std.specs.Prelude.{◌≡◌, ◌≤◌, Some, None, IfOk, IfErr, OnOk, OnErr, is_some, true};
+// 3. To spell a page, or to lay all of them out, changes no slot, no target and no index.
+ghost use Rattle.std.specs.Prelude.{◌≡◌, ◌≤◌, Some, None, IfOk, IfErr, OnOk, OnErr, is_some, length, true};
 ghost use Rattle.std.specs.FinMap as map;
 ghost use Rattle.std.specs.Option.{option_copied};
+ghost use Rattle.rg_layout.specs.Spots.{spots_of};
+ghost use Rattle.rg_page.specs.Content.{content_at};
+ghost use Rattle.rg_page.specs.Listed.{stamped};
+ghost use Rattle.rg_page_bytes.specs.Content.{FitsPage};
+ghost use Rattle.rg_page_bytes.specs.PageBytes.{page_bytes};
 ghost use Rattle.rg_space.specs.Space.{capacity_in};
 ghost use Rattle.rg_shadow.specs.Drafts.{HaveSpare};
 ghost use Rattle.rg_shadow.specs.Pieces.{Carried, IsReady, IsWhole, SamePieces, rows_in, shade_of};
 ghost use Rattle.rg_shadow.specs.Planned.{IsRefusal, change_plan, drop_plan, put_plan, slots_in};
-ghost use Rattle.rg_shadow.specs.Shade.{Applies, Refuses, stage_in, with_stage};
+ghost use Rattle.rg_shadow.specs.Shade.{Applies, IsRightSideOf, Refuses, shade_slots, stage_in, with_stage};
 ghost use Rattle.rg_shadow.specs.declared.drafts.IndexStage.TheVariants.{Sorted, Built};
 
 use crate::drafts::Drafts;
 use crate::fault::ShadowFault;
 use crate::plans::{carry_out, plan_change, plan_drop, plan_put};
 use crate::sort::sorted_list;
+use crate::spell::spell;
 use rg_base::no_memory::NoMemory;
 use rg_base::place::Place;
+use rg_base::position::Position;
 use rg_base::row::Row;
 use rg_base::which::Which;
 use rg_home::plan::Plan;
+use rg_layout::side::side_of;
 use rg_map::table::MapTable;
 use rg_page::list::ListFrames;
+use rg_record::buffer::PAGE_SIZE;
 use rg_space::space::Space;
+use rg_stmt::layout::Side;
 use std::alloc::Global;
 
 /// A new copy: where its rows lie, where the row of each source has its home, and what its indexes
@@ -62,6 +73,43 @@ impl Pieces {
         ensures err { OnErr result (shade_of self.new ≡ shade_of self.old) }
     {
         self.drafts.build(self.alloc, which)
+    }
+
+    /// Gives a page a position, and writes its bytes. It takes no memory.
+    pub fn spell(&mut self, number: u32, at: Position, into: &mut [u8; PAGE_SIZE])
+        requires whole { IsWhole self.old }
+        requires low { 1 ≤ number }
+        requires high { number ≤ length (shade_of self.old).pages }
+        ensures whole { IsWhole self.new }
+        ensures stamped { shade_of self.new ≡ record (shade_of self.old)
+            { pages = stamped (shade_of self.old).pages number at.0 } }
+        ensures bytes { into.new ≡ page_bytes (content_at (shade_of self.new).pages number) }
+        ensures fits { FitsPage (content_at (shade_of self.new).pages number) }
+    {
+        spell(&mut self.space, number, at, into);
+    }
+
+    /// Where the rows lie, and what the indexes list, all of which are built.
+    pub fn side(&mut self) -> Result<Side, NoMemory>
+        requires whole { IsWhole self.old }
+        requires keys { (shade_of self.old).keys ≡ Built }
+        requires cluses { (shade_of self.old).cluses ≡ Built }
+        requires cats { (shade_of self.old).cats ≡ Built }
+        ensures whole { IsWhole self.new }
+        ensures same { shade_of self.new ≡ shade_of self.old }
+        ensures pages { IfOk result (λ side. side.pages ≡ length (shade_of self.new).pages) }
+        ensures spots { IfOk result (λ side.
+            side.spots ≡ spots_of (shade_slots (shade_of self.new))) }
+        ensures right { IfOk result (IsRightSideOf (shade_of self.new)) }
+    {
+        let keys = self.drafts.keys.tree();
+        let cluses = self.drafts.cluses.tree();
+        let cats = self.drafts.cats.tree();
+        match side_of(self.alloc, &mut self.space, keys, cluses, cats) {
+            Ok(side) => Ok(side),
+            // In memory nothing else is refused.
+            Err(_) => Err(NoMemory),
+        }
     }
 
     // Takes the room that one change may need.

@@ -7,18 +7,27 @@
 //    entries of the indexes that are built. Every other source keeps its row, its target, and where
 //    the row lies.
 // 4. A refusal changes nothing.
-ghost use Rattle.std.specs.Prelude.{◌≡◌, IfOk, IfErr, IfSome, OnOk, OnErr, is_some, length};
+// 5. A page goes to a volume at a position that it is given then. `spell` changes the position, and
+//    nothing else: rows, targets and indexes stay as they were.
+ghost use Rattle.std.specs.Prelude.{◌≡◌, ◌≤◌, IfOk, IfErr, IfSome, OnOk, OnErr, is_some, length};
 ghost use Rattle.std.specs.Option.{option_copied};
 ghost use Rattle.rg_base.specs.declared.place.Place.{Place as ThePlace};
 ghost use Rattle.rg_home.specs.Able.{Proper};
+ghost use Rattle.rg_home.specs.Pages.{slot_of};
 ghost use Rattle.rg_home.specs.Rows.{row_at};
 ghost use Rattle.rg_index.specs.Listed.{IsListingOf};
 ghost use Rattle.rg_indexes.specs.Listings.{AreListings, entries_of};
+ghost use Rattle.rg_lawful.specs.Lawful.{AllBelow};
+ghost use Rattle.rg_layout.specs.Spots.{spots_of};
+ghost use Rattle.rg_page.specs.Content.{content_at};
+ghost use Rattle.rg_page.specs.Listed.{stamped};
+ghost use Rattle.rg_page_bytes.specs.Content.{FitsPage};
+ghost use Rattle.rg_page_bytes.specs.PageBytes.{page_bytes};
 ghost use Rattle.rg_reload.specs.Moved.{AreOneToOne, AreTargets, target_in};
 ghost use Rattle.rg_reload.specs.Reloading.{space_slots};
 ghost use Rattle.rg_shadow.specs.Pieces.{IsMapped};
-ghost use Rattle.rg_shadow.specs.Planned.{HasPages, pages_in, slots_in};
-ghost use Rattle.rg_shadow.specs.Shade.{Applies, Refuses, home_rows, is_built_stage, stage_in, target_of, with_stage};
+ghost use Rattle.rg_shadow.specs.Planned.{AreNumbered, AreOfCopy, HasPages, pages_in, slots_in};
+ghost use Rattle.rg_shadow.specs.Shade.{Applies, IsRightSideOf, Refuses, home_rows, is_built_stage, shade_slots, stage_in, target_of, with_stage};
 ghost use Rattle.rg_shadow.specs.declared.drafts.IndexStage.TheVariants.{Unsorted, Sorted, Built};
 ghost use Rattle.rg_space.specs.Space.{capacity_in, frames_of};
 
@@ -28,13 +37,16 @@ use crate::mapping::map_pairs;
 use crate::pieces::Pieces;
 use rg_base::no_memory::NoMemory;
 use rg_base::place::Place;
+use rg_base::position::Position;
 use rg_base::row::Row;
 use rg_base::which::Which;
 use rg_btree::tree::Tree;
 use rg_indexes::indexes::Indexes;
 use rg_page::list::ListFrames;
+use rg_record::buffer::PAGE_SIZE;
 use rg_reload::pairs::Pairs;
 use rg_space::space::Space;
+use rg_stmt::layout::Side;
 use std::alloc::Global;
 use std::marker::Model;
 
@@ -67,6 +79,7 @@ impl Shadow {
     pub fn load(alloc: Global, space: Space<ListFrames>, pairs: Pairs) -> Result<Shadow, NoMemory>
         requires has { HasPages space }
         requires proper { Proper (slots_in space) }
+        requires below { AllBelow 0 (slot_of (slots_in space)) }
         requires one_to_one { AreOneToOne pairs }
         requires homes { AreTargets pairs (row_at (space_slots space)) }
         ensures pages { IfOk result (λ s. s.pages ≡ pages_in space) }
@@ -106,7 +119,13 @@ impl Shadow {
 
     /// How many pages it has.
     pub fn count(&self) -> u32
-        ensures { result ≡ length self.now.pages }
+        ensures count { result ≡ length self.now.pages }
+        ensures room { length self.now.pages ≤ self.now.capacity }
+        // What its pages are, whoever asks how many there are.
+        ensures numbered { AreNumbered self.now.pages }
+        ensures of_copy { AreOfCopy self.now.copy self.now.pages }
+        ensures proper { Proper (shade_slots self.now) }
+        ensures below { AllBelow 0 (slot_of (shade_slots self.now)) }
     {
         self.pieces.space.count()
     }
@@ -151,6 +170,33 @@ impl Shadow {
         self.pieces.apply(home, after)
     }
 
+    /// Gives a page a position, which is that of the last record that its rows follow from, and
+    /// writes the page's bytes. It takes no memory.
+    pub fn spell(&mut self, number: u32, at: Position, into: &mut [u8; PAGE_SIZE])
+        requires low { 1 ≤ number }
+        requires high { number ≤ length self.old.pages }
+        ensures stamped { self.new
+            ≡ record self.old { pages = stamped self.old.pages number at.0 } }
+        ensures bytes { into.new ≡ page_bytes (content_at self.new.pages number) }
+        ensures fits { FitsPage (content_at self.new.pages number) }
+    {
+        self.pieces.spell(number, at, into);
+    }
+
+    /// Where its rows lie, and what its indexes list, all of which are built. It reads each page
+    /// once.
+    pub fn side(&mut self) -> Result<Side, NoMemory>
+        requires keys { self.old.keys ≡ Built }
+        requires cluses { self.old.cluses ≡ Built }
+        requires cats { self.old.cats ≡ Built }
+        ensures same { self.new ≡ self.old }
+        ensures pages { IfOk result (λ side. side.pages ≡ length self.new.pages) }
+        ensures spots { IfOk result (λ side. side.spots ≡ spots_of (shade_slots self.new)) }
+        ensures right { IfOk result (IsRightSideOf self.new) }
+    {
+        self.pieces.side()
+    }
+
     /// Its pages and its indexes, all of which are built. It takes no memory.
     pub fn into_parts(self) -> (Space<ListFrames>, Indexes)
         requires keys { self.keys ≡ Built }
@@ -158,6 +204,9 @@ impl Shadow {
         requires cats { self.cats ≡ Built }
         ensures has { HasPages result.0 }
         ensures proper { Proper (slots_in result.0) }
+        ensures below { AllBelow 0 (slot_of (slots_in result.0)) }
+        ensures numbered { AreNumbered (pages_in result.0) }
+        ensures of_copy { AreOfCopy self.copy (pages_in result.0) }
         ensures pages { pages_in result.0 ≡ self.pages }
         ensures copy { (frames_of result.0).copy ≡ self.copy }
         ensures capacity { capacity_in result.0 ≡ self.capacity }

@@ -7,12 +7,16 @@ use rg_base::homes::Homes;
 use rg_base::no_memory::NoMemory;
 use rg_base::options::{DrainFor, Options};
 use rg_base::place::Place;
+use rg_base::position::Position;
 use rg_base::row::Row;
 use rg_base::text::Text;
 use rg_base::which::Which;
+use rg_page::page::Page;
+use rg_record::buffer::PAGE_SIZE;
 use rg_reload::packer::Packer;
 use rg_shadow::fault::ShadowFault;
 use rg_shadow::shadow::Shadow;
+use rg_stmt::layout::Side;
 use std::alloc::Global;
 use std::process::Abort;
 use std::test::Fail;
@@ -184,6 +188,59 @@ fn built(rt: &impl Abort, alloc: Global) -> Result<Shadow, Fail>
     shadow.sort(Which::Cat)?;
     shadow.build(Which::Cat)?;
     Ok(shadow)
+}
+
+// The spots of a layout: the place of each row, its key and its `clus`.
+fn spots_text(alloc: Global, side: &Side) -> Result<String, Fail> {
+    let mut text = String::new(alloc);
+    for spot in side.spots.as_slice() {
+        let at = spot.place;
+        let line = format!(in alloc; "{}.{} {} {}\n", at.page, at.slot, spot.key, spot.clus)?;
+        text.push_str(line.as_str())?;
+    }
+    Ok(text)
+}
+
+#[test]
+fn lays_out_its_rows(rt: HostRuntime) -> Result<(), Fail> {
+    let alloc = rt.alloc();
+    let mut shadow = built(&rt, alloc)?;
+    let side = shadow.side()?;
+    assert_eq!(rt; side.pages, 1);
+    assert_eq!(rt;
+        spots_text(alloc, &side)?.as_str(),
+        "1.0 9 1\n1.1 4 2\n1.2 5 2\n"
+    );
+    let cluses = [(1, place(1, 0)), (2, place(1, 1)), (2, place(1, 2))];
+    assert_eq!(rt; side.cluses.as_slice(), cluses.as_slice());
+    Ok(())
+}
+
+// The page that is spelled at this position, read back.
+fn read_back(rt: &impl Abort, alloc: Global, shadow: &mut Shadow, at: u64) -> Result<Page, Fail> {
+    assert!(rt; 1 <= shadow.count());
+    let mut bytes = [1; PAGE_SIZE];
+    shadow.spell(1, Position(at), &mut bytes);
+    Ok(Page::read(alloc, 2, 1, &bytes)?)
+}
+
+#[test]
+fn spells_a_page_at_a_position(rt: HostRuntime) -> Result<(), Fail> {
+    let alloc = rt.alloc();
+    let mut shadow = indexed(&rt, alloc, Which::Key)?;
+    for at in [77, 5] {
+        let page = read_back(&rt, alloc, &mut shadow, at)?;
+        assert_eq!(rt; page.position().0, at);
+        assert_eq!(rt; page.slot_count(), 3);
+        // 444 bytes for each row.
+        assert_eq!(rt; page.free(), 2732);
+    }
+    // The indexes are as before.
+    assert_eq!(rt;
+        listed(alloc, &shadow, Which::Key)?.as_str(),
+        "4 1.1 5 1.2 9 1.0 "
+    );
+    Ok(())
 }
 
 #[test]

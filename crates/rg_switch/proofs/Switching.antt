@@ -1,5 +1,5 @@
 -- A log that ends with a Switch.
-use Rattle.std.proofs.Common.{◌≡◌, ◌≢◌, ◌≤◌, ◌<◌, ◌+◌, ◌&&◌, max, nat_lt, inl, inr, ℕ, suc, Bool, true, false, List, [], ◌∷◌, ◌++◌, length, drop, refl, sym, ◌∙◌, ap, subst, arith, length-append}
+use Rattle.std.proofs.Common.{◌≡◌, ◌≢◌, ◌≤◌, ◌<◌, ◌+◌, ◌&&◌, max, nat_lt, inl, inr, ℕ, suc, Bool, true, false, List, [], ◌∷◌, ◌++◌, length, drop, take, refl, sym, ◌∙◌, ap, subst, arith, length-append}
 use Rattle.std.proofs.Math.Seq.{drop-length, take-length}
 use Rattle.std.proofs.lemmas.Bool.{cases_lt, le-ltb}
 use Rattle.std.specs.List.{AllByRecursion}
@@ -11,7 +11,7 @@ use Rattle.rg_home.specs.Able.{IsLive}
 use Rattle.rg_home.specs.Pages.{page_at}
 use Rattle.rg_home.specs.Slot.{Slot}
 use Rattle.rg_home.specs.Slots.{slot_at}
-use Rattle.rg_image.proofs.Sound.{chain_positions}
+use Rattle.rg_image.proofs.Sound.{more_positions}
 use Rattle.rg_image.specs.Log.{Spells as LogSpells}
 use Rattle.rg_image.specs.Meaning.{current_of, stored}
 use Rattle.rg_image.specs.Rules.{ArePositions, IsChain, IsChained, IsOpen, copy_capacity, greatest_tran}
@@ -21,13 +21,14 @@ use Rattle.rg_lawful.specs.Act.{Act, LogState}
 use Rattle.rg_lawful.specs.Lawful.{OwnerBelow}
 use Rattle.rg_lawful.specs.Stored.{stored_at}
 use Rattle.rg_log.specs.Kept.{log_pages}
+use Rattle.rg_newest.proofs.Flush.{version_early}
 use Rattle.rg_newest.proofs.InMemory.{past_in, there_in}
 use Rattle.rg_newest.proofs.Opening.{opening_stands}
 use Rattle.rg_newest.proofs.Records.{rebuilt_newest}
 use Rattle.rg_newest.proofs.Steady.{steady_opened}
 use Rattle.rg_newest.proofs.Switching.{has_switched}
 use Rattle.rg_newest.specs.Laws.{CanRedoFrom}
-use Rattle.rg_newest.specs.Newest.{AreNewest}
+use Rattle.rg_newest.specs.Newest.{AreNewest, IsNewest, page_in}
 use Rattle.rg_newest.specs.OpenLaws.{IsCutAtSwitch, IsOpened}
 use Rattle.rg_newest.specs.Tidy.{AreSpare, set_of, switched_at, switched_from, switched_pages, switched_pages_from, switch_pages}
 use Rattle.rg_outside.specs.Calls.{Image}
@@ -43,7 +44,7 @@ use Rattle.rg_sound.specs.Reopens.{CanReopen, HasLowOwners, IsBelow, Stands}
 use Rattle.rg_space.proofs.Took.{page_slots}
 use Rattle.rg_space.specs.Carries.{AllThere}
 use Rattle.rg_version.specs.Versions.{EachFits, Epoch, IsBegun, Spells, taken, taken_if}
-use Rattle.rg_switch.specs.Laws.{HasSwitched, IsLeftSwitched}
+use Rattle.rg_switch.specs.Laws.{HasSwitched, IsLeftSwitched, IsTurned}
 use Rattle.rg_switch.specs.Switched.{CanSwitch, next_epoch, switch_to, switched}
 
 -- ---- what is stored
@@ -114,14 +115,8 @@ module _ (capacities : Capacities) (limit : ℕ) (rs : List Record) (copy : ℕ)
   count_now : (current_of later).pages ≡ length pages
   count_now = count_more rs entry (Switch copy (length pages)) refl
 
-  chained : IsChained capacities rs entry
-  chained = record { position = refl; kind = (can.other, can.closed); pages = can.room }
-
-  chain : IsChain capacities later
-  chain = chain_more capacities rs entry can.chain chained
-
   positions : ArePositions later
-  positions = chain_positions capacities later chain
+  positions = more_positions rs entry can.positions refl
 
   cut : IsCutAtSwitch later
   cut = has_switched later positions
@@ -225,9 +220,41 @@ module _ (capacities : Capacities) (limit : ℕ) (rs : List Record) (copy : ℕ)
     slots = can.slots;
   }
 
-  pub switch_reopens : CanReopen capacities e later
-  switch_reopens =
-      stands_reopens capacities limit e later s switch_stands can.good can.clean switch_tells (λ k. switch_stores rs copy pages k ∙ can.stores k) chain can.space
+  chained : IsChained capacities rs entry
+  chained = record { position = refl; kind = (can.other, can.closed); pages = can.room }
+
+  pub switch_reopens : IsChain capacities rs → CanReopen capacities e later
+  switch_reopens chain =
+      stands_reopens capacities limit e later s switch_stands can.good can.clean switch_tells (λ k. switch_stores rs copy pages k ∙ can.stores k)
+      (chain_more capacities rs entry chain chained) can.space
+
+  -- ---- the copy to which it turned
+
+  from_all : take e.from later ≡ later
+  from_all = ap (λ (n : ℕ). take n later) (at_is ∙ sym longer) ∙ take-length later
+
+  same_newest : (seen : Seen) → seen.copy ≡ copy → seen.pages ≡ pages → (p : ℕ) → 1 ≤ p → IsNewest e later p (page_in seen.copy seen.pages p)
+  same_newest seen copy_is pages_are p one =
+      subst (λ (c : ℕ). IsNewest e later p (page_in c seen.pages p)) (copy_now ∙ sym copy_is)
+      (subst (λ (xs : List Content). IsNewest e later p (page_in (current_of later).copy xs p)) (sym pages_are) (newest.each p one))
+
+  pub switch_turns : IsTurned capacities rs copy pages
+  switch_turns = record {
+    positions = positions;
+    count = count_now;
+    copy_is = copy_now;
+    from_is = at_is ∙ sym longer;
+    counts = ap (λ (xs : List Record). switched_pages xs) (sym from_all);
+    steady = steady_opened later pages positions;
+    begun = begun;
+    past = beyond;
+    newest = λ seen copy_is pages_are. record {
+      begun = cut.high;
+      copy = copy_is ∙ sym copy_now;
+      each = same_newest seen copy_is pages_are;
+    };
+    reads = λ p one high. version_early e later p (content_at pages p).position (omega (arith, (can.each p one high).position, at_is)) ∙ here p high;
+  }
 
   -- ---- owners
 

@@ -7,7 +7,7 @@
 -- 3. The copy begins with these pages just as an opening of that log has it begin (`opened_epoch`).
 use Rattle.std.specs.Prelude.{◌≡◌, ◌≢◌, ◌≤◌, ◌<◌, ◌+◌, ◌==◌, ◌++◌, ℕ, if◌then◌else◌, List, [], ◌∷◌, length}
 use Rattle.rg_image.specs.Meaning.{current_of, stored}
-use Rattle.rg_image.specs.Rules.{HasSpace, IsChain, IsOpen, copy_capacity, greatest_tran}
+use Rattle.rg_image.specs.Rules.{ArePositions, HasSpace, IsOpen, copy_capacity, greatest_tran}
 use Rattle.rg_lawful.specs.Act.{LogState}
 use Rattle.rg_lawful.specs.Consistent.{IsClean, IsConsistent, stored_of}
 use Rattle.rg_log.specs.Kept.{log_pages}
@@ -53,7 +53,7 @@ pub record CanSwitch (capacities : Capacities) (limit : ℕ) (rs : List Record) 
   pub other : copy ≢ (current_of rs).copy
   pub room : length pages ≤ copy_capacity capacities copy
   pub closed : (t : ℕ) → IsOpen t rs → ⊥
-  pub chain : IsChain capacities rs
+  pub positions : ArePositions rs
   pub space : HasSpace (log_pages capacities) (switched rs copy pages)
   pub each :
       (p : ℕ) → 1 ≤ p → p ≤ length pages → IsPageOfCopy copy (length rs) p (content_at pages p)

@@ -1,5 +1,6 @@
 //! Each function's contract is a law of the definitions. None of them runs anything.
-ghost use Rattle.rg_switch.specs.Laws.{SwitchIsLeft, SwitchOwners, SwitchReopens, SwitchStands, SwitchStores, SwitchTells};
+ghost use Rattle.rg_switch.specs.Laws.{SwitchIsLeft, SwitchOwners, SwitchReopens, SwitchStands};
+ghost use Rattle.rg_switch.specs.Laws.{SwitchStores, SwitchTells, SwitchTurns};
 
 /// A log that ends with a Switch can be opened, of the copy that it names.
 pub fn switch_law()
@@ -8,6 +9,7 @@ pub fn switch_law()
     ensures stands { SwitchStands }
     ensures reopens { SwitchReopens }
     ensures owners { SwitchOwners }
+    ensures turns { SwitchTurns }
 {}
 
 /// What a crash leaves of such a log, and of the pages that were written before, is left of that

@@ -1,5 +1,5 @@
 -- A drain is granted only where it was asked, and no session is in its way.
-use Rattle.std.proofs.Common.{◌≡◌, ◌+◌, if◌then◌else◌, inl, inr, not, nat_le, nat_lt, ℕ, Bool, true, false, Option, Some, None, refl, sym, subst}
+use Rattle.std.proofs.Common.{◌≡◌, ◌+◌, if◌then◌else◌, inl, inr, nat_le, nat_lt, ℕ, Bool, true, false, Option, Some, None, refl, sym, subst}
 use Rattle.rg_base.specs.declared.control.Answer.{Answer}
 use Rattle.rg_base.specs.declared.options.DrainFor.{DrainFor}
 use Rattle.rg_base.specs.declared.options.DrainFor.TheVariants as what
@@ -18,13 +18,14 @@ use Rattle.rg_base.specs.declared.verdict.Verdict.TheVariants as verdicts
 use Rattle.rg_fold.specs.declared.item.Stage.{Stage}
 use Rattle.rg_model.specs.Same.{same_reason}
 use Rattle.rg_model.specs.State.{Utility}
-use Rattle.rg_model.specs.Turn.{Turn, Runs, Switches, Stops, Falls, alter, build_turn, early_stop, end_turn, is_term, last_turn, log_turn, reload_turn, sort_turn, space_stop, step_by_drain, step_of, switch_turn, term_turn, turn_at, turn_if, turn_of, unload_turn, verdict_turn, wait_turn, write_turn}
+use Rattle.rg_model.specs.Turn.{Turn, Runs, Switches, Stops, Falls, alter, build_turn, early_stop, end_turn, is_term, last_turn, log_turn, reload_turn, sort_turn, space_stop, step_of, switch_turn, term_turn, turn_at, turn_if, turn_of, unload_turn, verdict_turn, wait_turn, write_turn}
 use Rattle.rg_model.specs.Verdict.{drain_verdict, is_late, is_slow, retry_verdict, wait_verdict}
 use Rattle.rg_stage.specs.Booked.{drain_kept}
 use Rattle.rg_stage.specs.Followed.{Followed}
 use Rattle.rg_stmt.specs.declared.event.Event.{Event}
 use Rattle.rg_stmt.specs.declared.event.Event.TheVariants as events
 use Rattle.rg_tending.specs.Tending.{MayDrain}
+use Rattle.rg_tending.proofs.Turning.{IsAt, step_at}
 
 -- the drain that a turn leaves may be in force
 abbrev pub MayLeave : (old : DrainState) → (blocker : Option Session) → Turn → Type 0
@@ -119,31 +120,6 @@ module _ (old : DrainState) (blocker : Option Session) where
   term_leaves (events.Stop reasons.NoMemory) = tt
   term_leaves event = tt
 
--- the step that looks at a drain looks at the one that is asked
-abbrev Agrees : Step → DrainState → Type 0
-Agrees (steps.Wait asked) drain = drain ≡ drains.Asked asked
-Agrees step drain = Unit {0}
-
-step_agrees : (u : Utility) (drain : DrainState) → Agrees (step_of u drain) drain
-step_agrees u drain = go (nat_lt u.copied u.pages) (nat_lt u.reloaded u.unloaded) (nat_lt u.sorted 3) (nat_lt u.built 3)
-  where
-    under : (granted : DrainFor) (last written : Bool) → Agrees (if not last then steps.Last else (if not written then steps.Write granted else steps.Switch)) (drains.Granted granted)
-    under granted false written = tt
-    under granted true false = tt
-    under granted true true = tt
-
-    by_drain : (drain : DrainState) → Agrees (step_by_drain u drain) drain
-    by_drain drains.Free = tt
-    by_drain (drains.Asked asked) = refl
-    by_drain (drains.Granted granted) = under granted u.last u.written
-
-    go : (a b c d : Bool) → Agrees (if a then steps.Unload else (if b then steps.Reload else (if c then steps.Sort else (if d then steps.Build else step_by_drain u drain)))) drain
-    go true b c d = tt
-    go false true c d = tt
-    go false false true d = tt
-    go false false false true = tt
-    go false false false false = by_drain drain
-
 -- a drain is granted where nobody is in its way
 nobody : (options : Options) (asked failed : ℕ) (blocker : Option Session) (now estimate : ℕ) → drain_verdict options asked failed blocker now estimate ≡ waits.Granted → blocker ≡ None
 nobody options asked failed None now estimate e = refl
@@ -161,18 +137,18 @@ nobody options asked failed (Some session) now estimate e = late (is_late option
     late true e = absurd (cc (e))
     late false e = waited (nat_le (asked + options.wait) now) e
 
-at_leaves : (drain : DrainState) (blocker : Option Session) (u : Utility) (step : Step) → Agrees step drain → (all : ℕ) (answer : Answer) (event : Event) → MayLeaveIf drain blocker (turn_at step all blocker answer u drain event)
-at_leaves drain blocker u steps.Unload agrees all answer event = unload_leaves drain blocker u event
-at_leaves drain blocker u steps.Reload agrees all answer event = reload_leaves drain blocker u event
-at_leaves drain blocker u steps.Sort agrees all answer event = sort_leaves drain blocker u event
-at_leaves drain blocker u steps.Build agrees all answer event = build_leaves drain blocker all u event
-at_leaves drain blocker u steps.Log agrees all answer event = log_leaves drain blocker all answer u event
-at_leaves drain blocker u (steps.Wait asked) agrees all answer event =
-    wait_leaves drain blocker all answer u asked (drain_verdict u.options u.asked u.failed blocker answer.now answer.estimate) event agrees (nobody u.options u.asked u.failed blocker answer.now answer.estimate)
-at_leaves drain blocker u steps.Last agrees all answer event = last_leaves drain blocker all u event
-at_leaves drain blocker u (steps.Write granted) agrees all answer event = write_leaves drain blocker answer u granted event
-at_leaves drain blocker u steps.Switch agrees all answer event = switch_leaves drain blocker u event
-at_leaves drain blocker u steps.End agrees all answer event = end_leaves drain blocker event
+at_leaves : (drain : DrainState) (blocker : Option Session) (u : Utility) (step : Step) → IsAt step u drain → (all : ℕ) (answer : Answer) (event : Event) → MayLeaveIf drain blocker (turn_at step all blocker answer u drain event)
+at_leaves drain blocker u steps.Unload at all answer event = unload_leaves drain blocker u event
+at_leaves drain blocker u steps.Reload at all answer event = reload_leaves drain blocker u event
+at_leaves drain blocker u steps.Sort at all answer event = sort_leaves drain blocker u event
+at_leaves drain blocker u steps.Build at all answer event = build_leaves drain blocker all u event
+at_leaves drain blocker u steps.Log at all answer event = log_leaves drain blocker all answer u event
+at_leaves drain blocker u (steps.Wait asked) at all answer event =
+    wait_leaves drain blocker all answer u asked (drain_verdict u.options u.asked u.failed blocker answer.now answer.estimate) event at (nobody u.options u.asked u.failed blocker answer.now answer.estimate)
+at_leaves drain blocker u steps.Last at all answer event = last_leaves drain blocker all u event
+at_leaves drain blocker u (steps.Write granted) at all answer event = write_leaves drain blocker answer u granted event
+at_leaves drain blocker u steps.Switch at all answer event = switch_leaves drain blocker u event
+at_leaves drain blocker u steps.End at all answer event = end_leaves drain blocker event
 
 pub turn_leaves : (all : ℕ) (blocker : Option Session) (answer : Answer) (u : Utility) (drain : DrainState) (event : Event) → MayLeaveIf drain blocker (turn_of all blocker answer u drain event)
 turn_leaves all blocker answer u drain event = by_switched u.switched
@@ -181,7 +157,7 @@ turn_leaves all blocker answer u drain event = by_switched u.switched
     by_term true = term_leaves drain blocker event
     by_term false =
         let v : Utility = alter u answer.command in
-        at_leaves drain blocker v (step_of v drain) (step_agrees v drain) all answer event
+        at_leaves drain blocker v (step_of v drain) (step_at v drain) all answer event
 
     by_switched : (b : Bool) → MayLeaveIf drain blocker (if b then end_turn event else (if is_term answer.command then term_turn event else turn_at (step_of (alter u answer.command) drain) all blocker answer (alter u answer.command) drain event))
     by_switched true = end_leaves drain blocker event

@@ -1,14 +1,23 @@
 -- What an entry keeps of the utility and of the drain.
-use Rattle.std.proofs.Common.{◌≡◌, ℕ, Bool, true, false, cond, List, [], ◌∷◌, ◌++◌, Option, Some, None, refl, sym, ◌∙◌, ap, subst, arith}
+use Rattle.std.proofs.Common.{◌≡◌, ℕ, Bool, true, false, cond, if◌then◌else◌, List, [], ◌∷◌, ◌++◌, Option, Some, None, refl, sym, ◌∙◌, ap, subst, arith}
 use Rattle.rg_base.specs.declared.control.Answer.{Answer}
+use Rattle.rg_base.specs.declared.options.DrainFor.{DrainFor}
+use Rattle.rg_base.specs.declared.options.DrainState.{DrainState}
 use Rattle.rg_base.specs.declared.session.Session.{Session}
+use Rattle.rg_base.specs.declared.step.Step.{Step}
+use Rattle.rg_base.specs.declared.step.Step.TheVariants as steps
+use Rattle.rg_base.specs.declared.verdict.DrainVerdict.{DrainVerdict}
+use Rattle.rg_base.specs.declared.verdict.DrainVerdict.TheVariants as waits
 use Rattle.rg_model.specs.Changes.{changes_after, unit_writes_after}
 use Rattle.rg_model.specs.Claims.{claim_classes, classes_needed}
 use Rattle.rg_model.specs.Plain.{after, after_answer, after_rollback, is_done, plain_reply}
 use Rattle.rg_model.specs.Possible.{next_state, state_after_step}
 use Rattle.rg_model.specs.Run.{Allows, Run, Says}
 use Rattle.rg_model.specs.Said.{has_locks, if_allowed, state_failed, state_refused}
-use Rattle.rg_model.specs.State.{State}
+use Rattle.rg_model.specs.State.{State, Utility}
+use Rattle.rg_model.specs.Turn.{Turn, alter, is_term, step_of, turn_at, turn_of, wait_turn}
+use Rattle.rg_model.specs.Verdict.{drain_verdict}
+use Rattle.rg_stage.proofs.Steps.{has_step, is_step}
 use Rattle.rg_stmt.specs.declared.event.Actor.TheVariants as actors
 use Rattle.rg_stmt.specs.declared.event.Entry.{Entry}
 use Rattle.rg_stmt.specs.declared.event.Event.{Event}
@@ -17,7 +26,7 @@ use Rattle.rg_stmt.specs.declared.stmt.Reply.{Reply}
 use Rattle.rg_stmt.specs.declared.stmt.Reply.TheVariants as replies
 use Rattle.rg_stmt.specs.declared.stmt.Stmt.{Stmt}
 use Rattle.rg_stmt.specs.declared.stmt.Stmt.TheVariants.{Insert, Update, Delete, Select, Scan, Find, Commit, Rollback}
-use Rattle.rg_tending.specs.Tending.{IsRefusedEvent, IsSystem, behind, is_booked}
+use Rattle.rg_tending.specs.Tending.{IsRefusedEvent, IsSystem, behind}
 
 -- ---- the last entry
 
@@ -164,21 +173,45 @@ refused_plain events.Idle is = (refl, refl)
 refused_plain events.StepDown is = (refl, refl)
 refused_plain event is = absurd is
 
-pub booked_plain : (event : Event) → is_booked event ≡ true → (is_start event ≡ false) × (is_opening event ≡ false)
-booked_plain (events.Started options copy pages) is = absurd (cc (is))
-booked_plain (events.Opened copy rows pages used) is = absurd (cc (is))
-booked_plain event is = (refl, refl)
-
 -- ---- a step
 
-pub booked_step : (past : List Entry) (answer : Option Answer) (event : Event) (st : State) → is_booked event ≡ true → next_state past answer actors.Utility event st ≡ state_after_step past answer event st st.utility
-booked_step past answer (events.Reload page rows) st is = refl
-booked_step past answer (events.Sort which) st is = refl
-booked_step past answer (events.Build which) st is = refl
-booked_step past answer (events.Log iteration took left verdict) st is = refl
-booked_step past answer (events.Wait session) st is = refl
-booked_step past answer (events.Granted drain) st is = refl
-booked_step past answer (events.GiveUp count) st is = refl
-booked_step past answer (events.Last took left) st is = refl
-booked_step past answer (events.Stop reason) st is = refl
-booked_step past answer event st is = absurd (cc (is))
+-- an opening has no turn
+opening_waits : (all : ℕ) (answer : Answer) (u : Utility) (d : DrainState) (asked : DrainFor) (verdict : DrainVerdict) (copy rows pages used : ℕ) → wait_turn all answer u d asked verdict (events.Opened copy rows pages used) ≡ None
+opening_waits all answer u d asked (waits.Wait session) copy rows pages used = refl
+opening_waits all answer u d asked waits.Granted copy rows pages used = refl
+opening_waits all answer u d asked waits.GiveUp copy rows pages used = refl
+opening_waits all answer u d asked (waits.Stop reason) copy rows pages used = refl
+
+opening_steps : (step : Step) (all : ℕ) (blocker : Option Session) (answer : Answer) (u : Utility) (d : DrainState) (copy rows pages used : ℕ) → turn_at step all blocker answer u d (events.Opened copy rows pages used) ≡ None
+opening_steps (steps.Wait asked) all blocker answer u d copy rows pages used = opening_waits all answer u d asked (drain_verdict u.options u.asked u.failed blocker answer.now answer.estimate) copy rows pages used
+opening_steps step all blocker answer u d copy rows pages used = refl
+
+opening_none : (all : ℕ) (blocker : Option Session) (answer : Answer) (u : Utility) (d : DrainState) (copy rows pages used : ℕ) → turn_of all blocker answer u d (events.Opened copy rows pages used) ≡ None
+opening_none all blocker answer u d copy rows pages used = by_tests u.switched (is_term answer.command)
+  where
+    by_tests : (s t : Bool) → (if s then None else (if t then None else turn_at (step_of (alter u answer.command) d) all blocker answer (alter u answer.command) d (events.Opened copy rows pages used))) ≡ None
+    by_tests true t = refl
+    by_tests false true = refl
+    by_tests false false = opening_steps (step_of (alter u answer.command) d) all blocker answer (alter u answer.command) d copy rows pages used
+
+step_no_start : (event : Event) → is_step event ≡ true → is_start event ≡ false
+step_no_start (events.Started options copy pages) is = absurd (cc (is))
+step_no_start event is = refl
+
+turn_no_opening : (all : ℕ) (blocker : Option Session) (answer : Answer) (u : Utility) (d : DrainState) (event : Event) (turn : Turn) → turn_of all blocker answer u d event ≡ Some turn → is_opening event ≡ false
+turn_no_opening all blocker answer u d (events.Opened copy rows pages used) turn e = absurd (cc (e, opening_none all blocker answer u d copy rows pages used))
+turn_no_opening all blocker answer u d event turn e = refl
+
+-- an event that has a turn neither begins the count of changes anew nor ends units
+pub turn_plain : (all : ℕ) (blocker : Option Session) (answer : Answer) (u : Utility) (d : DrainState) (event : Event) (turn : Turn) → turn_of all blocker answer u d event ≡ Some turn → (is_start event ≡ false) × (is_opening event ≡ false)
+turn_plain all blocker answer u d event turn e = (step_no_start event (has_step all blocker answer u d event turn e), turn_no_opening all blocker answer u d event turn e)
+
+pub step_next : (past : List Entry) (answer : Option Answer) (event : Event) (st : State) → is_step event ≡ true → next_state past answer actors.Utility event st ≡ state_after_step past answer event st st.utility
+step_next past answer (events.Started options copy pages) st is = absurd (cc (is))
+step_next past answer events.Active st is = absurd (cc (is))
+step_next past answer (events.StartLogFull need left) st is = absurd (cc (is))
+step_next past answer events.StartDown st is = absurd (cc (is))
+step_next past answer events.StartNoMemory st is = absurd (cc (is))
+step_next past answer events.Idle st is = absurd (cc (is))
+step_next past answer events.StepDown st is = absurd (cc (is))
+step_next past answer event st is = refl

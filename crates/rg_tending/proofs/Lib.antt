@@ -1,4 +1,6 @@
 pub mod Keeping
 pub mod Tended
-pub mod Early
+pub mod Turning
+pub mod Kept
+pub mod Switching
 pub mod Granting

@@ -1,5 +1,5 @@
 -- A desk tends its utility, one entry after another.
-use Rattle.std.proofs.Common.{◌≡◌, ◌≤◌, ◌+◌, ℕ, zero, suc, Bool, true, false, cond, List, [], ◌∷◌, ◌++◌, Option, Some, None, length, replicate, refl, sym, ◌∙◌, ap, subst, arith, length-append}
+use Rattle.std.proofs.Common.{◌≡◌, ◌≤◌, ◌+◌, ℕ, zero, suc, Bool, true, false, cond, if◌then◌else◌, List, [], ◌∷◌, ◌++◌, Option, Some, None, length, replicate, refl, sym, ◌∙◌, ap, subst, arith, length-append}
 use Rattle.rg_base.specs.declared.control.Answer.{Answer}
 use Rattle.rg_base.specs.declared.options.DrainState.{DrainState}
 use Rattle.rg_base.specs.declared.options.DrainState.TheVariants as drains
@@ -17,6 +17,7 @@ use Rattle.rg_stage.specs.Booked.{drain_kept, utility_kept}
 use Rattle.rg_stage.specs.Followed.{Followed}
 use Rattle.rg_stage.specs.NumbersOf.{numbers_of}
 use Rattle.rg_stage.proofs.Bounds.{bounded-grow, bounded-start}
+use Rattle.rg_stage.proofs.Steps.{has_step, is_step}
 use Rattle.rg_stmt.specs.Entries.{opened_entry, said_entry}
 use Rattle.rg_stmt.specs.declared.event.Actor.TheVariants as actors
 use Rattle.rg_stmt.specs.declared.event.Entry.{Entry}
@@ -25,15 +26,19 @@ use Rattle.rg_stmt.specs.declared.event.Event.TheVariants as events
 use Rattle.rg_stmt.specs.declared.stmt.Reply.{Reply}
 use Rattle.rg_stmt.specs.declared.stmt.Stmt.{Stmt}
 use Rattle.rg_tally.specs.Changed.{ChangeCount, IsCounted, no_changes, writes_at}
-use Rattle.rg_tending.specs.Tending.{IsRefusedEvent, IsSystem, IsEarlyStage, Tends, behind, aside_for, is_booked, system_entry, utility_entry}
-use Rattle.rg_tending.proofs.Keeping.{allowed_is, behind_push, booked_plain, booked_step, refused_is, refused_plain, run_pop, said_keeps, system_changes, system_keeps, system_writes, utility_changes, utility_writes}
+use Rattle.rg_tending.specs.Tending.{IsRefusedEvent, IsSystem, IsKeptStage, Tends, behind, aside_for, system_entry, utility_entry}
+use Rattle.rg_tending.proofs.Keeping.{allowed_is, behind_push, refused_is, refused_plain, run_pop, said_keeps, step_next, system_changes, system_keeps, system_writes, turn_plain, utility_changes, utility_writes}
 
 length_push : (trace : List Entry) (entry : Entry) → length (trace ++ entry ∷ []) ≡ length trace + 1
 length_push trace entry = length-append trace (entry ∷ [])
 
-within_grow : (all more entries : ℕ) (stage : Option Stage) → all ≤ more → IsEarlyStage all entries stage → IsEarlyStage more (entries + 1) stage
+within_grow : (all more entries : ℕ) (stage : Option Stage) → all ≤ more → IsKeptStage all entries stage → IsKeptStage more (entries + 1) stage
 within_grow all more entries None le within = tt
-within_grow all more entries (Some s) le within = (bounded-grow all more entries (entries + 1) s le (omega arith) within.0, within.1, within.2)
+within_grow all more entries (Some s) le within = record {
+  bounded = bounded-grow all more entries (entries + 1) s le (omega arith) within.bounded;
+  for_all = within.for_all;
+  free = within.free;
+}
 
 -- ---- a statement
 
@@ -48,7 +53,7 @@ tends_said trace stage count later set_aside session stmt reply calls tends coun
           let was = tends.shows start copy pop.0 pop.1 in
           (keeps.0 ∙ was.0, keeps.1 ∙ was.1);
       counted = subst (λ (es : List Entry). IsCounted es later) (sym (behind_push [] trace entry)) counted;
-      within = subst (λ (n : ℕ). IsEarlyStage later.since n stage) (sym (length_push trace entry)) (within_grow count.since later.since (length trace) stage le tends.within);
+      within = subst (λ (n : ℕ). IsKeptStage later.since n stage) (sym (length_push trace entry)) (within_grow count.since later.since (length trace) stage le tends.within);
       aside_is = tends.aside_is;
     }
 
@@ -68,7 +73,7 @@ plain_on trace stage count set_aside entry tends same writes keeps = record {
       let was = tends.shows start copy pop.0 pop.1 in
       (kept.0 ∙ was.0, kept.1 ∙ was.1);
   counted = subst (λ (es : List Entry). IsCounted es count) (sym (behind_push [] trace entry)) (counted_on (behind [] trace) entry count same writes tends.counted);
-  within = subst (λ (n : ℕ). IsEarlyStage count.since n stage) (sym (length_push trace entry)) (within_grow count.since count.since (length trace) stage (omega arith) tends.within);
+  within = subst (λ (n : ℕ). IsKeptStage count.since n stage) (sym (length_push trace entry)) (within_grow count.since count.since (length trace) stage (omega arith) tends.within);
   aside_is = tends.aside_is;
 }
 
@@ -119,8 +124,12 @@ tends_started trace count set_aside options copy pages calls s tends numbers dra
           let is : st ≡ start_utility pop.0 options pages = allowed_is _ (start_utility pop.0 options pages) st pop.2 in
           (ap (λ (x : State). x.utility) is ∙ ap Some (sym numbers), ap (λ (x : State). x.drain) is ∙ was.1 ∙ sym drain);
       counted = subst (λ (es : List Entry). IsCounted es (record count { since = 0 })) (sym (behind_push [] trace entry)) (record { since = refl; writes = λ session low. tends.counted.writes session low });
-      within = (bounded-start 0 (length (trace ++ entry ∷ [])) options pages s numbers, ap (λ (u : Utility). u.written) numbers, ap (λ (u : Utility). u.switched) numbers);
-      aside_is = refl;
+      within = record {
+        bounded = bounded-start 0 (length (trace ++ entry ∷ [])) options pages s numbers;
+        for_all = λ w n. absurd (cc (w, ap (λ (u : Utility). u.written) numbers));
+        free = λ w. drain;
+      };
+      aside_is = ap (λ (u : Utility). if u.switched then 0 else 28) (sym numbers);
     }
 
 -- ---- a step
@@ -156,20 +165,21 @@ stepped past answer event mid st u e = go mid.down e
     go true e = absurd (cc (e))
     go false e = e
 
-pub tends_booked : (trace : List Entry) (s : Stage) (count : ChangeCount) (set_aside : ℕ) (answer : Answer) (event : Event) (calls : ℕ) (next : Option Stage) → Tends trace (Some s) count set_aside → is_booked event ≡ true
-    → ((covered : Option Session) (turn : Turn) → turn_of count.since covered answer (numbers_of s) s.drain event ≡ Some turn → Followed turn next) → IsEarlyStage count.since (length trace + 1) next
+pub tends_booked : (trace : List Entry) (s : Stage) (count : ChangeCount) (set_aside : ℕ) (answer : Answer) (event : Event) (calls : ℕ) (blocker : Option Session) (turn : Turn) (next : Option Stage) → Tends trace (Some s) count set_aside
+    → turn_of count.since blocker answer (numbers_of s) s.drain event ≡ Some turn → ((covered : Option Session) (other : Turn) → turn_of count.since covered answer (numbers_of s) s.drain event ≡ Some other → Followed other next) → IsKeptStage count.since (length trace + 1) next
     → Tends (trace ++ utility_entry event (Some answer) calls ∷ []) next count (aside_for next)
-tends_booked trace s count set_aside answer event calls next tends is follows within =
+tends_booked trace s count set_aside answer event calls blocker turn next tends has follows within =
     let entry : Entry = utility_entry event (Some answer) calls in
     let past : List Entry = behind [] trace in
-    let plain = booked_plain event is in
+    let plain = turn_plain count.since blocker answer (numbers_of s) s.drain event turn has in
+    let is : is_step event ≡ true = has_step count.since blocker answer (numbers_of s) s.drain event turn has in
     record {
       shows = λ start copy st run.
           let pop = run_pop [] (at_rest start copy) st trace entry run in
           let was = tends.shows start copy pop.0 pop.1 in
           let allowed : next_state past (Some answer) actors.Utility event pop.0 ≡ Some st = pop.2 in
           let step : state_after_step past (Some answer) event pop.0 (Some (numbers_of s)) ≡ Some st =
-          ap (state_after_step past (Some answer) event pop.0) (sym was.0) ∙ sym (booked_step past (Some answer) event pop.0 is) ∙ allowed in
+          ap (state_after_step past (Some answer) event pop.0) (sym was.0) ∙ sym (step_next past (Some answer) event pop.0 is) ∙ allowed in
           by_turn past pop.0 st (numbers_of s) (turn_of (changes past) (least_holder (pop.0).drain (pop.0).claims) answer (numbers_of s) (pop.0).drain event) next
           (stepped past answer event pop.0 st (numbers_of s) step)
           (λ turn e.
@@ -178,6 +188,6 @@ tends_booked trace s count set_aside answer event calls next tends is follows wi
           ∙ ap (λ (d : DrainState). turn_of (changes past) (least_holder (pop.0).drain (pop.0).claims) answer (numbers_of s) d event) (sym was.1) ∙ e));
       counted = subst (λ (es : List Entry). IsCounted es count) (sym (behind_push [] trace entry))
           (counted_on past entry count (utility_changes event past (changes past) plain.0) (λ session. utility_writes session event (unit_writes session past) plain.1) tends.counted);
-      within = subst (λ (n : ℕ). IsEarlyStage count.since n next) (sym (length_push trace entry)) within;
+      within = subst (λ (n : ℕ). IsKeptStage count.since n next) (sym (length_push trace entry)) within;
       aside_is = refl;
     }

@@ -3,21 +3,27 @@
 -- 1. It keeps it over the entry of a statement (`SaidTends`), of a layout or a flush
 --    (`SystemTends`), of a start or a step that was refused (`RefusedTends`), of a start
 --    (`StartTends`) and of a step (`StepTends`). It begins so with an opening (`OpenedTends`).
--- 2. Before the new copy is written no event switches to it or brings the engine down
---    (`NoneFalls`).
--- 3. The drain of the stage that follows is granted only where it was asked, and no session was in
+-- 2. What is kept of the stage is kept over each turn of its utility (`KeptGoesOn`).
+-- 3. A plain turn neither switches nor brings the engine down (`PlainIsNeither`). Any other is made
+--    at the switch, by a utility that has not switched yet (`SwitchTurn`). Then the drain for ALL
+--    is granted (`SwitchIsUnderAll`).
+-- 4. The drain of the stage that follows is granted only where it was asked, and no session was in
 --    its way (`DrainIsGranted`).
 use Rattle.std.specs.Prelude.{◌≡◌, ◌≤◌, ◌+◌, ℕ, true, false, List, [], ◌∷◌, ◌++◌, Option, Some, None, length}
 use Rattle.rg_base.specs.declared.control.Answer.{Answer}
+use Rattle.rg_base.specs.declared.control.Command.{Command}
+use Rattle.rg_base.specs.declared.options.DrainFor.TheVariants.{All}
 use Rattle.rg_base.specs.declared.options.DrainState.{DrainState}
-use Rattle.rg_base.specs.declared.options.DrainState.TheVariants.{Free}
+use Rattle.rg_base.specs.declared.options.DrainState.TheVariants.{Free, Granted}
 use Rattle.rg_base.specs.declared.options.Options.{Options}
 use Rattle.rg_base.specs.declared.session.Session.{Session}
+use Rattle.rg_base.specs.declared.step.Step.TheVariants.{Switch}
 use Rattle.rg_fold.specs.declared.item.Stage.{Stage}
 use Rattle.rg_model.specs.State.{Utility}
-use Rattle.rg_model.specs.Turn.{Turn, turn_of}
+use Rattle.rg_model.specs.Turn.{Turn, alter, step_of, turn_of}
 use Rattle.rg_model.specs.Utility.{new_utility}
 use Rattle.rg_stage.specs.Booked.{drain_kept, is_fall, is_switch_turn}
+use Rattle.rg_stage.specs.Bounded.{KeepsBounds}
 use Rattle.rg_stage.specs.Followed.{Followed}
 use Rattle.rg_stage.specs.NumbersOf.{numbers_of}
 use Rattle.rg_stmt.specs.Entries.{opened_entry, said_entry}
@@ -27,8 +33,8 @@ use Rattle.rg_stmt.specs.declared.event.Event.TheVariants.{Started}
 use Rattle.rg_stmt.specs.declared.stmt.Reply.{Reply}
 use Rattle.rg_stmt.specs.declared.stmt.Stmt.{Stmt}
 use Rattle.rg_tally.specs.Changed.{ChangeCount, IsCounted, no_changes}
-use Rattle.rg_tending.specs.Tending.{IsEarlyStage, IsRefusedEvent, IsSystem, MayDrain, Tends, behind}
-use Rattle.rg_tending.specs.Tending.{aside_for, is_booked, system_entry, utility_entry}
+use Rattle.rg_tending.specs.Tending.{IsKeptStage, IsRefusedEvent, IsSystem, MayDrain, Tends, behind}
+use Rattle.rg_tending.specs.Tending.{aside_for, is_plain, system_entry, utility_entry}
 
 abbrev pub SaidTends : Type 0
 SaidTends =
@@ -64,24 +70,44 @@ StartTends =
     → Tends (trace ++ utility_entry (Started options copy pages) None calls ∷ []) (Some s)
     (record count { since = 0 }) 28
 
+-- the event has a turn, which the stage follows
 abbrev pub StepTends : Type 0
 StepTends =
     (trace : List Entry) (s : Stage) (count : ChangeCount) (set_aside : ℕ) (answer : Answer)
-    (event : Event) (calls : ℕ) (next : Option Stage)
-    → Tends trace (Some s) count set_aside → is_booked event ≡ true
-    → ((covered : Option Session) (turn : Turn)
-    → turn_of count.since covered answer (numbers_of s) s.drain event ≡ Some turn
-    → Followed turn next)
-    → IsEarlyStage count.since (length trace + 1) next
+    (event : Event) (calls : ℕ) (blocker : Option Session) (turn : Turn) (next : Option Stage)
+    → Tends trace (Some s) count set_aside
+    → turn_of count.since blocker answer (numbers_of s) s.drain event ≡ Some turn
+    → ((covered : Option Session) (other : Turn)
+    → turn_of count.since covered answer (numbers_of s) s.drain event ≡ Some other
+    → Followed other next)
+    → IsKeptStage count.since (length trace + 1) next
     → Tends (trace ++ utility_entry event (Some answer) calls ∷ []) next count (aside_for next)
 
-abbrev pub NoneFalls : Type 0
-NoneFalls =
-    (u : Utility) (all : ℕ) (blocker : Option Session) (answer : Answer) (drain : DrainState)
-    (event : Event) (turn : Turn)
-    → u.written ≡ false → u.switched ≡ false → is_booked event ≡ true
-    → turn_of all blocker answer u drain event ≡ Some turn
+abbrev pub KeptGoesOn : Type 0
+KeptGoesOn =
+    (all entries : ℕ) (s : Stage) (blocker : Option Session) (answer : Answer) (event : Event)
+    (turn : Turn) (next : Option Stage)
+    → IsKeptStage all entries (Some s) → KeepsBounds all s next
+    → turn_of all blocker answer (numbers_of s) s.drain event ≡ Some turn → Followed turn next
+    → IsKeptStage all (entries + 1) next
+
+abbrev pub PlainIsNeither : Type 0
+PlainIsNeither =
+    (turn : Turn) → is_plain (Some turn) ≡ true
     → (is_switch_turn turn ≡ false) × (is_fall turn ≡ false)
+
+abbrev pub SwitchTurn : Type 0
+SwitchTurn =
+    (all : ℕ) (blocker : Option Session) (answer : Answer) (s : Stage) (event : Event) (turn : Turn)
+    → turn_of all blocker answer (numbers_of s) s.drain event ≡ Some turn
+    → is_plain (Some turn) ≡ false
+    → (s.switched ≡ false) × (step_of (alter (numbers_of s) answer.command) s.drain ≡ Switch)
+
+abbrev pub SwitchIsUnderAll : Type 0
+SwitchIsUnderAll =
+    (all entries : ℕ) (s : Stage) (command : Command)
+    → IsKeptStage all entries (Some s) → s.switched ≡ false
+    → step_of (alter (numbers_of s) command) s.drain ≡ Switch → s.drain ≡ Granted All
 
 abbrev pub DrainIsGranted : Type 0
 DrainIsGranted =

@@ -3,18 +3,21 @@
 -- 1. Whatever state its entries lead to shows the numbers of the utility's stage, and the drain.
 -- 2. The changes since the utility started, and the writes of open units, are counted by the
 --    entries alone.
--- 3. The numbers are bounded. No entry of a desk says yet that a new copy was written.
--- 4. While a utility runs, 28 bytes of the log are set aside for the record of its Switch.
-use Rattle.std.specs.Prelude.{◌≡◌, ◌⊎◌, ℕ, Bool, true, false, List, [], ◌∷◌, Option, Some, None, is_some, length}
+-- 3. The numbers are bounded. Once the new copy is written only the drain for ALL is asked or
+--    granted, until the copies are switched. From then on no drain is in force.
+-- 4. From a utility's start to its switch, 28 bytes of the log are set aside for the record of the
+--    switch. That record takes them.
+use Rattle.std.specs.Prelude.{◌≡◌, ◌⊎◌, ℕ, Bool, true, false, List, [], ◌∷◌, Option, Some, None, if◌then◌else◌, length}
+use Rattle.std.specs.Coded.{Unit-prop}
 use Rattle.rg_base.specs.declared.control.Answer.{Answer}
+use Rattle.rg_base.specs.declared.options.DrainFor.TheVariants as what
 use Rattle.rg_base.specs.declared.options.DrainState.{DrainState}
 use Rattle.rg_base.specs.declared.options.DrainState.TheVariants as drains
 use Rattle.rg_base.specs.declared.session.Session.{Session}
-use Rattle.rg_base.specs.declared.verdict.StopReason.TheVariants as reasons
 use Rattle.rg_fold.specs.declared.item.Stage.{Stage}
 use Rattle.rg_model.specs.Run.{Run}
 use Rattle.rg_model.specs.State.{State, Table, at_rest}
-use Rattle.rg_model.specs.Turn.{Turn, turn_of}
+use Rattle.rg_model.specs.Turn.{Turn, Runs, Switches, Stops, Falls, turn_of}
 use Rattle.rg_stage.specs.Booked.{drain_kept, utility_kept}
 use Rattle.rg_stage.specs.Bounded.{Bounded}
 use Rattle.rg_stage.specs.Followed.{Followed}
@@ -30,10 +33,10 @@ abbrev pub behind : List Entry → List Entry → List Entry
 behind past [] = past
 behind past (entry ∷ entries) = behind (entry ∷ past) entries
 
--- the bytes of the log that are set aside for a utility
+-- the bytes of the log that are set aside for a utility: those of the record of its switch
 abbrev pub aside_for : Option Stage → ℕ
 aside_for None = 0
-aside_for (Some s) = 28
+aside_for (Some s) = if s.switched then 0 else 28
 
 -- whatever state the entries lead to shows this stage
 abbrev pub ShowsStage : List Entry → Option Stage → Type 0
@@ -41,18 +44,40 @@ ShowsStage trace stage =
     (start : Table) (copy : ℕ) (st : State) → Run [] (at_rest start copy) trace st
     → (st.utility ≡ utility_kept stage) × (st.drain ≡ drain_kept stage)
 
--- the numbers are bounded, and the new copy is not written
-abbrev pub IsEarlyStage : (all entries : ℕ) → Option Stage → Type 0
-IsEarlyStage all entries None = Unit {0}
-IsEarlyStage all entries (Some s) =
-    Bounded all entries s × (s.written ≡ false) × (s.switched ≡ false)
+-- the drain for ALL is asked or granted
+abbrev pub IsForAll : DrainState → Type 0
+IsForAll drains.Free = ⊥
+IsForAll (drains.Asked what.Writers) = ⊥
+IsForAll (drains.Asked what.All) = Unit {0}
+IsForAll (drains.Granted what.Writers) = ⊥
+IsForAll (drains.Granted what.All) = Unit {0}
+
+-- it has one proof at most, so a ghost field can keep it
+pub IsForAll-prop : (drain : DrainState) → IsProp (IsForAll drain)
+IsForAll-prop drains.Free = λ x y. absurd x
+IsForAll-prop (drains.Asked what.Writers) = λ x y. absurd x
+IsForAll-prop (drains.Asked what.All) = Unit-prop
+IsForAll-prop (drains.Granted what.Writers) = λ x y. absurd x
+IsForAll-prop (drains.Granted what.All) = Unit-prop
+
+-- The numbers are bounded. Between the writing of the new copy and the switch the drain for ALL is
+-- asked or granted; after the switch no drain is in force.
+pub record IsKeptUtility (all entries : ℕ) (s : Stage) : Type 0 where
+  pub bounded : Bounded all entries s
+  pub for_all : s.written ≡ true → s.switched ≡ false → IsForAll s.drain
+  pub free : s.switched ≡ true → s.drain ≡ drains.Free
+
+-- what is kept of the stage, if a utility runs
+abbrev pub IsKeptStage : (all entries : ℕ) → Option Stage → Type 0
+IsKeptStage all entries None = Unit {0}
+IsKeptStage all entries (Some s) = IsKeptUtility all entries s
 
 -- a desk with these entries keeps this stage and these counts, and holds so many bytes of the log
 pub record Tends (trace : List Entry) (stage : Option Stage) (changes : ChangeCount) (set_aside : ℕ)
     : Type 0 where
   pub shows : ShowsStage trace stage
   pub counted : IsCounted (behind [] trace) changes
-  pub within : IsEarlyStage changes.since (length trace) stage
+  pub within : IsKeptStage changes.since (length trace) stage
   pub aside_is : set_aside ≡ aside_for stage
 
 -- the entry of an event of the system
@@ -65,8 +90,8 @@ abbrev pub utility_entry : Event → Option Answer → (calls : ℕ) → Entry
 utility_entry event answer calls =
     record { actor = actors.Utility; event = event; answer = answer; calls = calls }
 
--- an event of a running utility that the desk books: none yet that copies a page, writes the new
--- copy or switches to it, or says that a call of the volume failed
+-- an event of a running utility that the desk books as a step: a page is copied, and the copies are
+-- switched, by calls of their own
 abbrev pub is_booked : Event → Bool
 is_booked (events.Reload page rows) = true
 is_booked (events.Sort which) = true
@@ -76,12 +101,21 @@ is_booked (events.Wait session) = true
 is_booked (events.Granted drain) = true
 is_booked (events.GiveUp count) = true
 is_booked (events.Last took left) = true
-is_booked (events.Stop reasons.Device) = false
+is_booked (events.Written pages) = true
+is_booked events.Ended = true
 is_booked (events.Stop reason) = true
 is_booked event = false
 
--- The event is the utility's next: of a desk that is up or down, with this stage and so many
--- changes, where this session is the least that is in the drain's way.
+-- the event is the utility's next, and neither switches nor brings the engine down
+abbrev pub is_plain : Option Turn → Bool
+is_plain None = false
+is_plain (Some (Runs u drain)) = true
+is_plain (Some (Switches copy sides u)) = false
+is_plain (Some Stops) = true
+is_plain (Some Falls) = false
+
+-- The event is the utility's next, and plain: of a desk that is up or down, with this stage and so
+-- many changes, where this session is the least that is in the drain's way.
 abbrev pub NextBy :
     (down : Bool) → Option Stage → (changes : ℕ) → (covered : Option Session) → Option Answer
     → Event → Type 0
@@ -89,7 +123,7 @@ NextBy true stage changes covered None events.StepDown = Unit {0}
 NextBy false None changes covered None events.Idle = Unit {0}
 NextBy false (Some s) changes covered (Some answer) event =
     (is_booked event ≡ true)
-    × (is_some (turn_of changes covered answer (numbers_of s) s.drain event) ≡ true)
+    × (is_plain (turn_of changes covered answer (numbers_of s) s.drain event) ≡ true)
 NextBy down stage changes covered answer event = ⊥
 
 -- the stage that such an event leaves

@@ -1,6 +1,7 @@
 //! Each function's contract is a law of the definitions. None of them runs anything.
-ghost use Rattle.rg_tending.specs.Laws.{DrainIsGranted, NoneFalls, OpenedTends, RefusedTends};
-ghost use Rattle.rg_tending.specs.Laws.{SaidTends, StartTends, StepTends, SystemTends};
+ghost use Rattle.rg_tending.specs.Laws.{DrainIsGranted, KeptGoesOn, OpenedTends, PlainIsNeither};
+ghost use Rattle.rg_tending.specs.Laws.{RefusedTends, SaidTends, StartTends, StepTends};
+ghost use Rattle.rg_tending.specs.Laws.{SwitchIsUnderAll, SwitchTurn, SystemTends};
 
 /// Each entry keeps what a desk keeps of its utility. An opening begins it.
 pub fn entries_law()
@@ -12,8 +13,12 @@ pub fn entries_law()
     ensures step { StepTends }
 {}
 
-/// What no event does before the new copy is written, and when a drain is granted.
+/// What a turn keeps of the stage, when it switches or brings the engine down, and when a drain is
+/// granted.
 pub fn turns_law()
-    ensures falls { NoneFalls }
+    ensures kept { KeptGoesOn }
+    ensures plain { PlainIsNeither }
+    ensures switch { SwitchTurn }
+    ensures under_all { SwitchIsUnderAll }
     ensures granted { DrainIsGranted }
 {}

@@ -25,19 +25,19 @@ use Rattle.rg_stmt.specs.declared.stmt.Reply.{Reply}
 use Rattle.rg_stmt.specs.declared.stmt.Reply.TheVariants.{Done, Found, Listed, Keyed, Absent, Duplicate, Held, Victim, Drained, Full, LogFull, Device, Down, NoMemory}
 use Rattle.rg_stmt.specs.declared.stmt.Stmt.{Stmt}
 use Rattle.rg_stmt.specs.declared.stmt.Stmt.TheVariants.{Insert, Update, Delete, Select, Scan, Find, Commit, Rollback}
-use Rattle.rg_model.specs.Changes.{changes, is_unit_end, is_write}
-use Rattle.rg_model.specs.Claims.{claim_with, claims_with, classes_needed, has_class, least_holder}
+use Rattle.rg_model.specs.Changes.{is_unit_end, is_write}
+use Rattle.rg_model.specs.Claims.{claim_with, claims_with, classes_needed, has_class}
 use Rattle.rg_model.specs.Held.{is_others}
 use Rattle.rg_model.specs.Plain.{after, after_answer, is_done, plain_reply}
-use Rattle.rg_model.specs.Possible.{next_state, state_after_step}
 use Rattle.rg_model.specs.Run.{Allows, Run, Says}
-use Rattle.rg_model.specs.Said.{has_locks, if_allowed, state_failed, state_refused}
-use Rattle.rg_model.specs.State.{Claims, Locks, State, Table, Utility, at_rest}
-use Rattle.rg_model.specs.Turn.{Turn, Falls, Runs, Stops, Switches, turn_of}
-use Rattle.rg_model.specs.Utility.{state_by_turn, state_stepped}
+use Rattle.rg_model.specs.State.{Claims, Locks, State, Table, at_rest}
 use Rattle.rg_model.proofs.Overlay.{get-without}
-use Rattle.rg_quiet.proofs.Allowed.{Ended, Moved, Stayed, Wrote, moved, system_locks, utility_locks, utility_opens_not}
+use Rattle.rg_quiet.proofs.Allowed.{Ended, Moved, SameHeld, Stayed, Wrote, moved, refused_held, system_held, utility_held, utility_opens_not, victim_ends}
 use Rattle.rg_unlocked.specs.Unlocked.{AreClaimed}
+
+apart : (b : Bool) → b ≡ true → b ≡ false → ⊥
+apart true e f = absurd (cc (f))
+apart false e f = absurd (cc (e))
 
 -- ---- the claims of sessions
 
@@ -83,69 +83,6 @@ others_kept claims session n other is =
 
 -- ---- what an entry leaves of the claims
 
-some_is : (st new : State) → Some st ≡ Some new → new ≡ st
-some_is st new e = sym (ap (λ o. unwrap_or o st) e)
-
-allowed_is : (b : Bool) (st new : State) → if_allowed b st ≡ Some new → new ≡ st
-allowed_is true st new e = some_is st new e
-allowed_is false st new e = absurd (cc (e))
-
-module _ (past : List Entry) (st new : State) where
-  turned_claims : (u : Utility) (turn : Option Turn) → state_by_turn past st u turn ≡ Some new → new.claims ≡ st.claims
-  turned_claims u None e = absurd (cc (e))
-  turned_claims u (Some (Runs v drain)) e = ap (λ (s : State). s.claims) (some_is _ new e)
-  turned_claims u (Some (Switches copy sides v)) e = ap (λ (s : State). s.claims) (allowed_is _ _ new e)
-  turned_claims u (Some Stops) e = ap (λ (s : State). s.claims) (some_is _ new e)
-  turned_claims u (Some Falls) e = ap (λ (s : State). s.claims) (some_is _ new e)
-
-  stepped_claims : (answer : Option Answer) (event : Event) (u : Utility) → state_stepped past answer event st u ≡ Some new → new.claims ≡ st.claims
-  stepped_claims None event u e = absurd (cc (e))
-  stepped_claims (Some answer) event u e = turned_claims u (turn_of (changes past) (least_holder st.drain st.claims) answer u st.drain event) e
-
-  after_step_claims : (answer : Option Answer) (event : Event) (o : Option Utility) → state_after_step past answer event st o ≡ Some new → new.claims ≡ st.claims
-  after_step_claims answer event None e = absurd (cc (e))
-  after_step_claims answer event (Some u) e = go st.down e
-    where
-      go : (b : Bool) → (if b then None else state_stepped past answer event st u) ≡ Some new → new.claims ≡ st.claims
-      go true e = absurd (cc (e))
-      go false e = stepped_claims answer event u e
-
-  utility_claims : (answer : Option Answer) (event : Event) → next_state past answer actors.Utility event st ≡ Some new → new.claims ≡ st.claims
-  utility_claims answer (events.Started options copy pages) e = ap (λ (s : State). s.claims) (allowed_is _ _ new e)
-  utility_claims answer events.Active e = ap (λ (s : State). s.claims) (allowed_is _ _ new e)
-  utility_claims answer (events.StartLogFull need left) e = ap (λ (s : State). s.claims) (allowed_is _ _ new e)
-  utility_claims answer events.StartDown e = ap (λ (s : State). s.claims) (allowed_is _ _ new e)
-  utility_claims answer events.StartNoMemory e = ap (λ (s : State). s.claims) (allowed_is _ _ new e)
-  utility_claims answer events.Idle e = ap (λ (s : State). s.claims) (allowed_is _ _ new e)
-  utility_claims answer events.StepDown e = ap (λ (s : State). s.claims) (allowed_is _ _ new e)
-  utility_claims answer event e = after_step_claims answer event st.utility e
-
-  system_claims : (answer : Option Answer) (event : Event) → next_state past answer actors.System event st ≡ Some new → new.claims ≡ st.claims
-  system_claims answer (events.Flush page) e = ap (λ (s : State). s.claims) (allowed_is _ _ new e)
-  system_claims answer events.Clean e = ap (λ (s : State). s.claims) (allowed_is _ _ new e)
-  system_claims answer events.FlushDevice e = ap (λ (s : State). s.claims) (allowed_is _ _ new e)
-  system_claims answer events.FlushDown e = ap (λ (s : State). s.claims) (allowed_is _ _ new e)
-  system_claims answer events.FlushNoMemory e = ap (λ (s : State). s.claims) (allowed_is _ _ new e)
-  system_claims answer (events.Layout copy side) e = ap (λ (s : State). s.claims) (allowed_is _ _ new e)
-  system_claims answer events.LayoutDevice e = ap (λ (s : State). s.claims) (allowed_is _ _ new e)
-  system_claims answer events.LayoutDown e = ap (λ (s : State). s.claims) (allowed_is _ _ new e)
-  system_claims answer events.LayoutNoMemory e = ap (λ (s : State). s.claims) (allowed_is _ _ new e)
-  system_claims answer event e = absurd (cc (e))
-
-module _ (st new : State) (session : Session) where
-  failed_claims : (stmt : Stmt) → state_failed st session stmt ≡ Some new → new.claims ≡ st.claims
-  failed_claims Commit e = ap (λ (s : State). s.claims) (allowed_is (has_locks st.locks session) _ new e)
-  failed_claims Rollback e = ap (λ (s : State). s.claims) (some_is _ new e)
-  failed_claims stmt e = ap (λ (s : State). s.claims) (some_is _ new e)
-
-  refused_claims : (stmt : Stmt) (plain : Reply) → state_refused st session stmt plain ≡ Some new → new.claims ≡ st.claims
-  refused_claims stmt (Held owner) e = ap (λ (s : State). s.claims) (some_is _ new e)
-  refused_claims stmt plain e = go (is_done plain) e
-    where
-      go : (b : Bool) → (if b then state_failed st session stmt else None) ≡ Some new → new.claims ≡ st.claims
-      go true e = failed_claims stmt e
-      go false e = absurd (cc (e))
-
 -- Who holds Writer still does, but for the session at the end of its unit. A session that wrote
 -- holds it.
 record Holds (st new : State) (session : Session) (stmt : Stmt) (reply : Reply) : Type 0 where
@@ -161,10 +98,6 @@ module _ (st new : State) (session : Session) where
     own = λ goes is. subst (λ (claims : Claims). IsWriter claims session.0) (sym same) is;
     writer = λ wrote. absurd (apart (is_write stmt reply) wrote none);
   }
-    where
-      apart : (b : Bool) → b ≡ true → b ≡ false → ⊥
-      apart true e f = absurd (cc (f))
-      apart false e f = absurd (cc (e))
 
   -- the claims of classes that are registered
   more_held : (stmt : Stmt) (reply : Reply) (classes : List Class) → new.claims ≡ claims_with st.claims session classes → (is_write stmt reply ≡ true → IsWriter (claims_with st.claims session classes) session.0) → Holds st new session stmt reply
@@ -181,10 +114,6 @@ module _ (st new : State) (session : Session) where
     own = λ goes was. absurd (apart (is_unit_end stmt reply) ends goes);
     writer = λ wrote. absurd (apart (is_write stmt reply) wrote none);
   }
-    where
-      apart : (b : Bool) → b ≡ true → b ≡ false → ⊥
-      apart true e f = absurd (cc (f))
-      apart false e f = absurd (cc (e))
 
   abbrev claims_are : (stmt : Stmt) (reply : Reply) → new ≡ after_answer st session stmt reply → new.claims ≡ (after_answer st session stmt reply).claims
   claims_are stmt reply is = ap (λ (s : State). s.claims) is
@@ -217,15 +146,10 @@ module _ (st new : State) (session : Session) where
   holds stmt Down s = same_held stmt Down refl (ap (λ (x : State). x.claims) s.1)
   holds stmt Drained s = same_held stmt Drained refl (ap (λ (x : State). x.claims) s.2)
   holds stmt NoMemory s = same_held stmt NoMemory refl (ap (λ (x : State). x.claims) s.2.1)
-  holds stmt (Victim owner) s = less_held stmt (Victim owner) (ends stmt) refl (ap (λ (x : State). x.claims) s.2.1)
-    where
-      ends : (stmt : Stmt) → is_unit_end stmt (Victim owner) ≡ true
-      ends Commit = refl
-      ends Rollback = refl
-      ends stmt = refl
+  holds stmt (Victim owner) s = less_held stmt (Victim owner) (victim_ends stmt owner) refl (ap (λ (x : State). x.claims) s.2.1)
   holds stmt (Full need) s = same_held stmt (Full need) refl (ap (λ (x : State). x.claims) s.2.2)
   holds stmt (LogFull need left) s = same_held stmt (LogFull need left) refl (ap (λ (x : State). x.claims) s.2.2)
-  holds stmt Device s = same_held stmt Device refl (refused_claims st new session stmt (plain_reply st session stmt) s.2)
+  holds stmt Device s = same_held stmt Device refl (refused_held st new session stmt (plain_reply st session stmt) s.2).claims
   holds stmt Done s = done stmt s.2.1
   holds stmt (Found row) s = looked stmt (Found row) refl refl (λ e. cc (e)) s.2.0 s.2.1
   holds stmt (Listed rows) s = looked stmt (Listed rows) refl refl (λ e. cc (e)) s.2.0 s.2.1
@@ -238,9 +162,9 @@ module _ (st new : State) (session : Session) where
 
 module _ (st new : State) where
   -- no lock and no claim has changed
-  claimed_same : new.locks ≡ st.locks → new.claims ≡ st.claims → AreClaimed st → AreClaimed new
-  claimed_same locks claims claimed key lock has =
-      subst (λ (cs : Claims). IsWriter cs lock.owner.0) (sym claims) (claimed key lock (subst (λ (ls : Locks). map.get ls key ≡ Some lock) locks has))
+  claimed_same : SameHeld st new → AreClaimed st → AreClaimed new
+  claimed_same same claimed key lock has =
+      subst (λ (cs : Claims). IsWriter cs lock.owner.0) (sym same.claims) (claimed key lock (subst (λ (ls : Locks). map.get ls key ≡ Some lock) same.locks has))
 
   module _ (session : Session) (stmt : Stmt) (reply : Reply) (h : Holds st new session stmt reply) (claimed : AreClaimed st) where
     -- a lock from before, of whatever session
@@ -299,26 +223,19 @@ pub claimed_goes : (past : List Entry) (st new : State) (answer : Option Answer)
 claimed_goes past st new answer (actors.Session session) (events.Said stmt reply) allowed claimed = claimed_moved st new session stmt reply (holds st new session stmt reply allowed) claimed (moved st session new stmt reply allowed)
 claimed_goes past st new answer (actors.Session session) event allowed claimed = absurd (cc (allowed))
 claimed_goes past st new answer actors.System (events.Opened copy rows pages used) allowed claimed = subst AreClaimed (sym allowed.at_rest) (claimed_begins allowed.table copy)
-claimed_goes past st new answer actors.System event allowed claimed = claimed_same st new (system_locks past st new answer event allowed) (system_claims past st new answer event allowed) claimed
+claimed_goes past st new answer actors.System event allowed claimed = claimed_same st new (system_held past st new answer event allowed) claimed
 claimed_goes past st new answer actors.Utility (events.Opened copy rows pages used) allowed claimed = absurd (utility_opens_not copy rows pages used past st new answer allowed)
-claimed_goes past st new answer actors.Utility event allowed claimed = claimed_same st new (utility_locks past st new answer event allowed) (utility_claims past st new answer event allowed) claimed
+claimed_goes past st new answer actors.Utility event allowed claimed = claimed_same st new (utility_held past st new answer event allowed) claimed
 
 pub claimed_run : (past trace : List Entry) (st new : State) → Run past st trace new → AreClaimed st → AreClaimed new
 claimed_run past [] st new run claimed = subst AreClaimed (sym run) claimed
 claimed_run past (entry ∷ trace) st new run claimed = claimed_run (entry ∷ past) trace run.0 new run.2 (claimed_goes past st run.0 entry.answer entry.actor entry.event run.1 claimed)
 
--- ---- nobody holds a claim
+-- ---- nobody holds Writer
 
-pub none_locked : (st : State) → AreClaimed st → st.claims ≡ map.empty → st.locks ≡ map.empty
-none_locked st claimed none = same_map nat_cmp_total nat_cmp-IsAntisymmetric st.locks map.empty (λ key. by_lock key (map.get st.locks key) refl ∙ sym (get-empty nat_cmp key))
+pub none_locked : (st : State) → AreClaimed st → ((session : ℕ) → has_class (map.get st.claims session) Writer ≡ false) → st.locks ≡ map.empty
+none_locked st claimed free = same_map nat_cmp_total nat_cmp-IsAntisymmetric st.locks map.empty (λ key. by_lock key (map.get st.locks key) refl ∙ sym (get-empty nat_cmp key))
   where
-    free : (n : ℕ) → has_class (map.get st.claims n) Writer ≡ false
-    free n = ap (λ (o : Option Class). has_class o Writer) (ap (λ (cs : Claims). map.get cs n) none ∙ get-empty nat_cmp n)
-
-    apart : (b : Bool) → b ≡ true → b ≡ false → ⊥
-    apart true e f = absurd (cc (f))
-    apart false e f = absurd (cc (e))
-
     by_lock : (key : ℕ) (o : Option Lock) → map.get st.locks key ≡ o → map.get st.locks key ≡ None
     by_lock key None at = at
     by_lock key (Some lock) at = absurd (apart (has_class (map.get st.claims lock.owner.0) Writer) (claimed key lock at) (free lock.owner.0))

@@ -4,8 +4,8 @@
 --    the claim, and the end of the unit drops both.
 -- 2. A table at rest has neither (`ClaimedBegins`). Each entry that is allowed keeps it so
 --    (`ClaimedGoesOn`), and then each trace does (`ClaimedInRun`).
--- 3. So where nobody holds a claim, no key is locked (`NoneLocked`).
-use Rattle.std.specs.Prelude.{◌≡◌, ℕ, true, List, [], Some}
+-- 3. So where nobody holds Writer, no key is locked (`NoneLocked`).
+use Rattle.std.specs.Prelude.{◌≡◌, ℕ, true, false, List, [], Some}
 use Rattle.std.specs.FinMap as map
 use Rattle.rg_base.specs.declared.lock.Lock.{Lock}
 use Rattle.rg_base.specs.declared.session.Class.TheVariants.{Writer}
@@ -34,4 +34,7 @@ ClaimedInRun =
     → Run [] (at_rest table copy) trace st → AreClaimed st
 
 abbrev pub NoneLocked : Type 0
-NoneLocked = (st : State) → AreClaimed st → st.claims ≡ map.empty → st.locks ≡ map.empty
+NoneLocked =
+    (st : State) → AreClaimed st
+    → ((session : ℕ) → has_class (map.get st.claims session) Writer ≡ false)
+    → st.locks ≡ map.empty

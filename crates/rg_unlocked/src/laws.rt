@@ -1,8 +1,8 @@
 //! Each function's contract is a law of the definitions. None of them runs anything.
 ghost use Rattle.rg_unlocked.specs.Unlocked.{ClaimedBegins, ClaimedGoesOn, ClaimedInRun, NoneLocked};
 
-/// Whoever has locked a key holds Writer, in each state of a trace. So where nobody holds a claim
-/// no key is locked.
+/// Whoever has locked a key holds Writer, in each state of a trace. So where nobody holds Writer no
+/// key is locked.
 pub fn claimed_law()
     ensures begins { ClaimedBegins }
     ensures goes_on { ClaimedGoesOn }

@@ -5,7 +5,9 @@ ghost use Rattle.rg_base.specs.declared.place.Place.{Place as ThePlace};
 ghost use Rattle.rg_fold.specs.Fold.{copied_rows, row_in, since_begin};
 ghost use Rattle.rg_fold.specs.Lawful.{Lawful};
 ghost use Rattle.rg_home.specs.Able.{Proper};
+ghost use Rattle.rg_home.specs.Pages.{slot_of};
 ghost use Rattle.rg_home.specs.Rows.{row_at};
+ghost use Rattle.rg_lawful.specs.Lawful.{AllBelow};
 ghost use Rattle.rg_reload.specs.Moved.{AreOneToOne, AreTargets, row_through, target_in};
 ghost use Rattle.rg_reload.specs.Reloading.{space_slots};
 ghost use Rattle.rg_shadow.specs.Planned.{HasPages, slots_in};
@@ -92,6 +94,7 @@ fn fill_all(packer: &mut Packer) -> Result<(), Fail>
 pub fn packed(packer: Packer) -> Result<(Table, Pairs), Fail>
     ensures has { IfOk result (λ made. HasPages made.0) }
     ensures proper { IfOk result (λ made. Proper (slots_in made.0)) }
+    ensures below { IfOk result (λ made. AllBelow 0 (slot_of (slots_in made.0))) }
     ensures one_to_one { IfOk result (λ made. AreOneToOne made.1) }
     ensures homes { IfOk result (λ made. AreTargets made.1 (row_at (space_slots made.0))) }
     ensures rows { IfOk result (λ made. (source : ThePlace) →

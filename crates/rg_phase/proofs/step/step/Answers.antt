@@ -1,4 +1,4 @@
-use Rattle.std.proofs.Common.{ℕ, false, true, Option, Some, None, sym, ◌∙◌, ap, subst}
+use Rattle.std.proofs.Common.{ℕ, Option, Some, None, sym, ◌∙◌, ap, subst}
 use Rattle.rg_desk.specs.Desk.{left_by_stage}
 use Rattle.rg_fold.specs.declared.item.Stage.{Stage}
 use Rattle.rg_outside.specs.Told.{AddsAnswer, HandsOver}
@@ -19,6 +19,7 @@ returns-then-down-clause-stepped g c =
       same = same_room old mid room c.requires;
       operator = ap (λ d. d.operator) room;
       made = c.book.ensures;
+      device = λ is. absurd (cc (is));
     }
 
 pub returns-in-None-clause-stepped : goal.returns-in-None-clause-stepped
@@ -36,6 +37,7 @@ returns-in-None-clause-stepped g c =
       same = same_room old mid room c.requires;
       operator = ap (λ d. d.operator) room;
       made = c.book-in-None.ensures;
+      device = λ is. absurd (cc (is));
     }
 
 pub returns-clause-stepped : goal.returns-clause-stepped
@@ -66,4 +68,5 @@ returns-clause-stepped g c =
             c.ask_operator-answer.ensures.handed,
       );
       made = c.book-2.ensures;
+      device = λ is. absurd (cc (is, c.next_event-event.ensures.device));
     }

@@ -15,7 +15,7 @@ returns-in-Ok-clause-goes g c = λ first lines going.
     let answers = g.O.Operator.answers in
     let parts = c.into_parts-volume.ensures in
     let count = c.into_parts-volume.result.3 in
-    going_again look first c.args.desk lines going parts.left parts.copy parts.legal count
+    going_again look first c.args.desk lines going parts.left parts.legal count
     (subst (λ (es : List Entry). IsRecorded es count) parts.trace parts.recorded) parts.counted
     c.into_parts-volume.result.1 parts.operator c.in-Ok.desk
     (subst (λ v. OpensStored look (look v) c.into_parts-volume.result.1 c.in-Ok.desk) parts.volume c.in-Ok.ensures.opens)
@@ -34,7 +34,7 @@ returns-in-Err-clause-ends g c = λ first lines rest going.
     let seen = look c.in-Err.fault.volume in
     subst (λ v. IsRun look answers first (lines ++ Death ∷ rest) (look v) c.refused.result.operator c.refused.result.trace.items c.refused.result.end) (sym left.volume)
     (subst (λ (end : RunEnd). IsRun look answers first (lines ++ Death ∷ rest) seen c.refused.result.operator c.refused.result.trace.items end) (sym left.end)
-    (refused_again look first c.args.desk lines going parts.left parts.copy parts.legal count
+    (refused_again look first c.args.desk lines going parts.left parts.legal count
     (subst (λ (es : List Entry). IsRecorded es count) parts.trace parts.recorded) parts.counted
     seen c.in-Err.fault.cause c.refused.result.operator c.refused.result.trace.items rest
     (left.operator ∙ c.in-Err.ensures.operator ∙ parts.operator) (left.trace ∙ c.in-Err.ensures.trace ∙ parts.trace) parts.sound

@@ -1,4 +1,4 @@
-use Rattle.rg_switch.proofs.Switching.{switch_owners, switch_reopens, switch_stands, switch_stores, switch_tells}
+use Rattle.rg_switch.proofs.Switching.{switch_owners, switch_reopens, switch_stands, switch_stores, switch_tells, switch_turns}
 use Rattle.rg_switch.proofs.laws.switch_law.Goals as goal
 
 pub returns-clause-stores : goal.returns-clause-stores
@@ -11,7 +11,10 @@ pub returns-clause-stands : goal.returns-clause-stands
 returns-clause-stands c capacities limit rs copy pages s can = switch_stands capacities limit rs copy pages s can
 
 pub returns-clause-reopens : goal.returns-clause-reopens
-returns-clause-reopens c capacities limit rs copy pages s can = switch_reopens capacities limit rs copy pages s can
+returns-clause-reopens c capacities limit rs copy pages s can chain = switch_reopens capacities limit rs copy pages s can chain
 
 pub returns-clause-owners : goal.returns-clause-owners
 returns-clause-owners c capacities limit rs copy pages s can = switch_owners capacities limit rs copy pages s can
+
+pub returns-clause-turns : goal.returns-clause-turns
+returns-clause-turns c capacities limit rs copy pages s can = switch_turns capacities limit rs copy pages s can

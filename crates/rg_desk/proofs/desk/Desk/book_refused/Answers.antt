@@ -1,13 +1,16 @@
-use Rattle.std.proofs.Common.{◌≡◌, ◌+◌, List, [], ◌∷◌, ◌++◌, None, refl, sym, ◌∙◌, ap, subst}
+use Rattle.std.proofs.Common.{◌≡◌, ◌+◌, List, [], ◌∷◌, ◌++◌, Option, None, refl, sym, ◌∙◌, ap, subst}
 use Rattle.rg_model.specs.Claims.{least_holder}
 use Rattle.rg_stmt.specs.declared.event.Entry.{Entry}
 use Rattle.rg_tending.specs.Tending.{FollowsBy, aside_for, utility_entry}
-use Rattle.rg_desk.specs.Desk.{IsNextStep, old_records}
+use Rattle.rg_desk.specs.Desk.{IsNextStep, old_records, while_running}
 use Rattle.rg_desk.specs.Flushed.{CallsOwn}
+use Rattle.rg_desk.specs.Prepared.{KeepsPrepared, prepared_seen}
 use Rattle.rg_desk.specs.Room.{Ground}
 use Rattle.rg_desk.specs.Volume.{seen_volume}
 use Rattle.rg_desk.proofs.DeskUtility.{idle_follows, idle_on}
+use Rattle.rg_desk.specs.declared.prepared.Prepared.{Prepared}
 use Rattle.rg_desk.proofs.Flushing.{own_same}
+use Rattle.rg_desk.proofs.Preparing.{prepared_while, seen_while}
 use Rattle.rg_desk.proofs.desk.Desk.book_refused.Goals as goal
 
 pub invariant_of-self : goal.invariant_of-self
@@ -15,11 +18,16 @@ invariant_of-self g c =
     let inside = c.self.inside in
     let look = seen_volume g.V.Volume.told g.V.Volume.faults g.V.Volume.capacities in
     let next = subst (λ d. IsNextStep d None c.args.event) (sym c.self.view_is) c.requires.next in
-    idle_on inside.engine inside.chronicle inside.copy inside.down inside.marks.items (look inside.volume) c.self.invariant.0 inside.stage inside.changes c.self.invariant.1
+    let on = idle_on inside.engine inside.chronicle inside.origin inside.copy inside.down inside.marks.items (look inside.volume) c.self.invariant.0 inside.stage inside.changes c.self.invariant.1
     (least_holder inside.engine.claims.drain inside.engine.claims.claims) c.args.event next c.calls_now-calls.result c.push.new.self
     (c.push.ensures.trace ∙ ap (λ (e : Entry). inside.chronicle.trace ++ e ∷ []) c.utility.ensures)
     (c.push.ensures.calls ∙ ap (λ (e : Entry). e.calls) c.utility.ensures)
-    c.calls_now-calls.ensures.counted c.push.ensures.recorded
+    c.calls_now-calls.ensures.counted c.push.ensures.recorded in (
+      on.0,
+      on.1,
+      subst (λ (o : Option Prepared). KeepsPrepared o inside.engine.log.records inside.copy (look inside.volume)) (sym c.keep_while_running.ensures)
+          (prepared_while inside.stage inside.shadow inside.engine.log.records inside.copy (look inside.volume) c.self.invariant.2),
+    )
 
 pub returns : goal.returns
 returns g c =
@@ -40,6 +48,7 @@ returns g c =
           (idle_follows inside.down inside.stage inside.changes.since (least_holder inside.engine.claims.drain inside.engine.claims.claims) event);
       changes = ap (λ d. d.changes) c.self.view_is;
       kept = ap (λ d. d.kept) c.self.view_is ∙ c.requires.kept;
+      shadow = ap prepared_seen c.keep_while_running.ensures ∙ seen_while inside.stage inside.shadow ∙ ap (λ d. while_running inside.stage d.shadow) c.self.view_is;
       operator = ap (λ d. d.operator) c.self.view_is;
       ground = record {
         ground = ap (λ d. let g : Ground = record d.ground { log = record d.ground.log { reserved = inside.engine.log.reserved } } in g) c.self.view_is;
@@ -53,6 +62,7 @@ returns g c =
         capacity = ap (λ d. d.ground.capacity) c.self.view_is;
         log_pages = ap (λ d. d.ground.log.pages) c.self.view_is;
         opened = ap (λ d. d.opened) c.self.view_is;
+        first_copy = ap (λ d. d.first_copy) c.self.view_is;
         old_same = ap (λ d. old_records d) c.self.view_is;
         copy = ap (λ d. d.copy) c.self.view_is;
         calls = subst (λ d. CallsOwn d.copy (look d.volume) (look inside.volume)) c.self.view_is (own_same inside.copy (look inside.volume));

@@ -7,13 +7,16 @@ use Rattle.rg_space.specs.Space.{capacity_in, frames_of}
 use Rattle.rg_stmt.specs.declared.event.Entry.{Entry}
 use Rattle.rg_tending.specs.Tending.{FollowsBy, NextBy, Tends, aside_for, utility_entry}
 use Rattle.rg_desk.specs.Chronicle.{allowed_by}
-use Rattle.rg_desk.specs.Desk.{IsDesk, old_records}
+use Rattle.rg_desk.specs.Desk.{IsDesk, old_records, while_running}
 use Rattle.rg_desk.specs.Flushed.{CallsOwn}
+use Rattle.rg_desk.specs.Prepared.{KeepsPrepared, prepared_seen}
 use Rattle.rg_desk.specs.Room.{Ground}
 use Rattle.rg_desk.specs.Utility.{StepsOn}
 use Rattle.rg_desk.specs.Volume.{seen_volume}
 use Rattle.rg_desk.proofs.DeskUtility.{ground_same, step_on}
+use Rattle.rg_desk.specs.declared.prepared.Prepared.{Prepared}
 use Rattle.rg_desk.proofs.Flushing.{own_same}
+use Rattle.rg_desk.proofs.Preparing.{prepared_same, prepared_while, seen_while}
 use Rattle.rg_desk.proofs.desk.Desk.book_step.Goals as goal
 
 pub step_utility-self-inside-requires-clause-shown : goal.step_utility-self-inside-requires-clause-shown
@@ -34,8 +37,8 @@ invariant_of-self g c =
     let stage_is : inside.stage ≡ Some s = ap (λ d. d.stage) c.self.view_is ∙ c.requires.stage in
     let after = c.step_utility-self-inside.new.self in
     let next = c.step_utility-self-inside.result in
-    let on = step_on inside.engine inside.chronicle inside.copy inside.marks.items seen
-    (subst (λ (b : Bool). IsDesk inside.engine inside.chronicle inside.copy b inside.marks.items seen) up c.self.invariant.0)
+    let on = step_on inside.engine inside.chronicle inside.origin inside.copy inside.marks.items seen
+    (subst (λ (b : Bool). IsDesk inside.engine inside.chronicle inside.origin inside.copy b inside.marks.items seen) up c.self.invariant.0)
     s inside.changes (subst (λ (o : Option Stage). Tends inside.chronicle.trace o inside.changes inside.engine.set_aside) stage_is c.self.invariant.1)
     c.args.answer c.args.event next after
     (subst (λ d. NextBy false (Some s) d.changes d.covered (Some c.args.answer) c.args.event) (sym c.self.view_is) c.requires.next)
@@ -44,7 +47,11 @@ invariant_of-self g c =
     (c.push.ensures.trace ∙ ap (λ (e : Entry). inside.chronicle.trace ++ e ∷ []) c.utility.ensures)
     (c.push.ensures.calls ∙ ap (λ (e : Entry). e.calls) c.utility.ensures)
     c.calls_now-calls.ensures.counted c.push.ensures.recorded in
-    (subst (λ (b : Bool). IsDesk after c.push.new.self inside.copy b inside.marks.items seen) (sym up) on.0, on.1)
+    let kept : KeepsPrepared c.keep_while_running.new.shadow after.log.records inside.copy seen =
+    subst (λ (o : Option Prepared). KeepsPrepared o after.log.records inside.copy seen) (sym c.keep_while_running.ensures)
+    (prepared_while next inside.shadow after.log.records inside.copy seen
+    (prepared_same inside.shadow inside.engine.log.records after.log.records inside.copy seen (ap (λ (l : Listed). l.records) c.step_utility-self-inside.ensures.engine.log) c.self.invariant.2)) in
+    (subst (λ (b : Bool). IsDesk after c.push.new.self inside.origin inside.copy b inside.marks.items seen) (sym up) on.0, on.1, kept)
 
 pub returns : goal.returns
 returns g c =
@@ -76,6 +83,7 @@ returns g c =
           (subst (λ (o : Option Stage). FollowsBy false o inside.changes.since covered (Some answer) event next) (sym stage_is) follows));
       changes = ap (λ d. d.changes) c.self.view_is;
       kept = refl;
+      shadow = ap prepared_seen c.keep_while_running.ensures ∙ seen_while next inside.shadow ∙ ap (λ d. while_running next d.shadow) c.self.view_is;
       operator = ap (λ d. d.operator) c.self.view_is;
       ground = record {
         ground = ground_same inside.engine after steps.engine.space steps.engine.log steps.engine.units steps.engine.top ∙ ap (λ d. let g : Ground = record d.ground { log = record d.ground.log { reserved = after.log.reserved } } in g) c.self.view_is;
@@ -89,8 +97,9 @@ returns g c =
         older = c.push.ensures.older ∙ ap (λ d. d.older) c.self.view_is;
         capacity = ap (λ sp. capacity_in sp) steps.engine.space ∙ ap (λ d. d.ground.capacity) c.self.view_is;
         log_pages = ap (λ (l : Listed). l.pages) steps.engine.log ∙ ap (λ d. d.ground.log.pages) c.self.view_is;
-        opened = steps.engine.opened ∙ ap (λ d. d.opened) c.self.view_is;
-        old_same = ap (λ (n : ℕ). take n after.log.records) steps.engine.opened ∙ ap (take inside.engine.opened) records ∙ ap (λ d. old_records d) c.self.view_is;
+        opened = ap (λ d. d.opened) c.self.view_is;
+        first_copy = ap (λ d. d.first_copy) c.self.view_is;
+        old_same = ap (take inside.origin.records) records ∙ ap (λ d. old_records d) c.self.view_is;
         copy = ap (λ d. d.copy) c.self.view_is;
         calls = subst (λ d. CallsOwn d.copy (look d.volume) (look inside.volume)) c.self.view_is (own_same inside.copy (look inside.volume));
       };

@@ -31,9 +31,9 @@ invariant_of-result g c =
     let b = c.in-Ok.ensures.begun in
     let found = c.args.found in
     let seen = seen_volume g.V.Volume.told g.V.Volume.faults g.V.Volume.capacities c.args.volume in (
-      desk_opened c.in-Ok.engine c.begin.new.chronicle found.copy (length (space_pages found.space)) (log_bytes found.log.records) c.calls_now-now.result c.in-Ok.marks.items seen b.start c.requires.copy b.shows
+      desk_opened c.in-Ok.engine c.begin.new.chronicle _ found.copy (length (space_pages found.space)) (log_bytes found.log.records) c.calls_now-now.result c.in-Ok.marks.items seen b.start c.requires.copy b.shows
           (subst (λ (rs : List Record). IsStored rs b.start) (ap (λ (l : Listed). l.records) (sym b.log)) b.starts)
-          (b.opened ∙ ap (λ (l : Listed). length l.records) (sym b.log))
+          (ap length c.records.ensures.records ∙ ap (λ (l : Listed). length l.records) (sym b.log))
           (omega (arith, ap (λ (l : Listed). taken_of l) b.log, c.requires.begins.idle))
           (ap (λ (l : Listed). l.pages) b.log ∙ c.requires.pages)
           (subst (LeavesIfTidy seen) (sym b.log) c.requires.leaves)
@@ -50,6 +50,7 @@ invariant_of-result g c =
           (subst (λ (count : ChangeCount). Tends (opened_entry found.copy (row_count b.start) (length (space_pages found.space)) (log_bytes found.log.records) c.calls_now-now.result ∷ []) None count c.in-Ok.engine.set_aside) (sym c.in-Ok.ensures.changes)
           (subst (λ (n : ℕ). Tends (opened_entry found.copy (row_count b.start) (length (space_pages found.space)) (log_bytes found.log.records) c.calls_now-now.result ∷ []) None no_changes n) (sym b.set_aside)
           (tends_opened found.copy (row_count b.start) (length (space_pages found.space)) (log_bytes found.log.records) c.calls_now-now.result))),
+      tt,
     )
 
 pub returns-in-Ok-clause-opens : goal.returns-in-Ok-clause-opens
@@ -64,7 +65,8 @@ returns-in-Ok-clause-opens g c =
       pages_are = ap (λ sp. space_pages sp) b.space;
       capacity_is = ap (λ sp. capacity_in sp) b.space;
       log_is = b.log;
-      opened = b.opened;
+      opened = ap length c.records.ensures.records;
+      first_copy = refl;
       copy_is = refl;
       up = refl;
       same = refl;
@@ -72,6 +74,7 @@ returns-in-Ok-clause-opens g c =
       stage = refl;
       changes = ap (λ (count : ChangeCount). count.since) c.in-Ok.ensures.changes;
       kept = refl;
+      shadow = refl;
     }
 
 pub returns-in-Ok-clause-contents : goal.returns-in-Ok-clause-contents

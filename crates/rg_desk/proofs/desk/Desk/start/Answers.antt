@@ -15,6 +15,7 @@ use Rattle.rg_desk.specs.declared.engine.Engine.{Engine}
 use Rattle.rg_desk.proofs.DeskGoes.{desk_room}
 use Rattle.rg_desk.proofs.DeskUtility.{count_since, start_aside, start_full, start_made, start_on, start_reserved}
 use Rattle.rg_desk.proofs.Flushing.{own_same}
+use Rattle.rg_desk.proofs.Preparing.{prepared_same}
 use Rattle.rg_desk.proofs.desk.Desk.start.Goals as goal
 
 pub invariant_of-self-2 : goal.invariant_of-self-2
@@ -22,12 +23,12 @@ invariant_of-self-2 g c =
     let inside = c.self.inside in
     let seen = seen_volume g.V.Volume.told g.V.Volume.faults g.V.Volume.capacities inside.volume in
     let mid = c.make_room.new.self in
-    let room = desk_room inside.engine inside.chronicle inside.copy inside.down _ _ c.self.invariant.0 mid c.make_room.ensures.trace c.make_room.ensures.calls in
+    let room = desk_room inside.engine inside.chronicle inside.origin inside.copy inside.down _ _ c.self.invariant.0 mid c.make_room.ensures.trace c.make_room.ensures.calls in
     let tends = subst (λ (es : List Entry). Tends es inside.stage inside.changes inside.engine.set_aside) (sym c.make_room.ensures.trace) c.self.invariant.1 in
     let event = c.start_utility-event.result in
     let next = c.start_utility-event.new.stage in
     let after = c.start_utility-event.new.engine in
-    let on = start_on mid inside.copy inside.marks.items seen inside.changes c.calls_now-calls.result c.push.new.self
+    let on = start_on mid inside.origin inside.copy inside.marks.items seen inside.changes c.calls_now-calls.result c.push.new.self
     (c.push.ensures.calls ∙ ap (λ (e : Entry). e.calls) c.utility.ensures) c.calls_now-calls.ensures.counted c.push.ensures.recorded
     c.args.options inside.engine inside.down inside.stage event next after room tends c.start_utility-event.ensures
     (c.push.ensures.trace ∙ ap (λ (e : Entry). mid.trace ++ e ∷ []) c.utility.ensures) in
@@ -35,6 +36,8 @@ invariant_of-self-2 g c =
       on.0,
       subst (λ (count : ChangeCount). Tends c.push.new.self.trace next count after.set_aside)
           (sym (changes ∙ ap (λ (b : Bool). started_count b inside.changes) c.is_started-started.ensures)) on.1,
+      prepared_same inside.shadow inside.engine.log.records _ inside.copy _
+          (ap (λ (x : Engine). x.log.records) (start_aside inside.down inside.stage c.args.options inside.copy inside.engine event next after c.start_utility-event.ensures)) c.self.invariant.2,
     )
 
 pub returns-clause-made : goal.returns-clause-made
@@ -50,7 +53,6 @@ returns-clause-made g c =
     let is = c.start_utility-event.ensures in
     let set_aside = start_aside inside.down inside.stage c.args.options inside.copy inside.engine event next after is in
     let log : after.log ≡ record inside.engine.log { reserved = after.log.reserved } = ap (λ (x : Engine). x.log) set_aside in
-    let opened : after.opened ≡ inside.engine.opened = ap (λ (x : Engine). x.opened) set_aside in
     let records : after.log.records ≡ inside.engine.log.records = ap (λ (l : Listed). l.records) log in
     let trace : mid.trace ≡ c.args.self.now.trace = c.make_room.ensures.trace ∙ ap (λ d. d.trace) c.self.view_is in
     record {
@@ -73,6 +75,7 @@ returns-clause-made g c =
           ∙ count_since started inside.changes
           ∙ ap (λ d. if started then 0 else d.changes) c.self.view_is;
       kept = ap (λ d. d.kept) c.self.view_is;
+      shadow = ap (λ d. d.shadow) c.self.view_is;
       operator = ap (λ d. d.operator) c.self.view_is;
       ground = record {
         ground = ap (λ (x : Engine). ground_of x) set_aside ∙ ap (λ d. let g : Ground = record d.ground { log = record d.ground.log { reserved = after.log.reserved } } in g) c.self.view_is;
@@ -86,8 +89,9 @@ returns-clause-made g c =
         older = c.push.ensures.older ∙ c.make_room.ensures.older ∙ ap (λ d. d.older) c.self.view_is;
         capacity = ap (λ (x : Engine). capacity_in x.space) set_aside ∙ ap (λ d. d.ground.capacity) c.self.view_is;
         log_pages = ap (λ (l : Listed). l.pages) log ∙ ap (λ d. d.ground.log.pages) c.self.view_is;
-        opened = opened ∙ ap (λ d. d.opened) c.self.view_is;
-        old_same = ap (λ (n : ℕ). take n after.log.records) opened ∙ ap (take inside.engine.opened) records ∙ ap (λ d. old_records d) c.self.view_is;
+        opened = ap (λ d. d.opened) c.self.view_is;
+        first_copy = ap (λ d. d.first_copy) c.self.view_is;
+        old_same = ap (take inside.origin.records) records ∙ ap (λ d. old_records d) c.self.view_is;
         copy = ap (λ d. d.copy) c.self.view_is;
         calls = subst (λ d. CallsOwn d.copy (look d.volume) (look inside.volume)) c.self.view_is (own_same inside.copy (look inside.volume));
       };

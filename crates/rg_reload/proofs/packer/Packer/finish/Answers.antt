@@ -17,7 +17,7 @@ use Rattle.rg_reload.specs.declared.packer.NewCopy.TheVariants.{Whole}
 use Rattle.rg_model.specs.Layout.{are_rising}
 use Rattle.rg_reload.proofs.Rising.{targets_rise}
 use Rattle.rg_reload.proofs.Steps.{first_spots, length-moved_from, moved_spots-moved}
-use Rattle.rg_reload.proofs.Through.{homes_are, one_to_one_is, proper_is, slot_is, source_is}
+use Rattle.rg_reload.proofs.Through.{below_is, homes_are, one_to_one_is, proper_is, slot_is, source_is}
 use Rattle.rg_reload.proofs.packer.Packer.finish.Goals as goal
 
 all_placed : (options : Options) (rows : List (Place × Row)) (count : ℕ) → count ≡ length rows
@@ -60,6 +60,9 @@ returns-clause-slots c = slot_is c.args.self.options c.args.self.rows (frames_of
 
 pub returns-clause-proper : goal.returns-clause-proper
 returns-clause-proper c = proper_is c.args.self.options c.args.self.rows (frames_of c.in-Whole.space).pages.items (copy_of c).rows_are
+
+pub returns-clause-below : goal.returns-clause-below
+returns-clause-below c = below_is c.args.self.options c.args.self.rows (frames_of c.in-Whole.space).pages.items (copy_of c).rows_are
 
 pub returns-clause-homes : goal.returns-clause-homes
 returns-clause-homes c =

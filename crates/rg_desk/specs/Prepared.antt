@@ -1,0 +1,69 @@
+-- What a desk keeps of a new copy that was written to the other set.
+--
+-- 1. It has the rows that the log stored then, each once, and its indexes are built.
+-- 2. No page has a position above that of the last record then. They read as they were written, and
+--    that is what their marks say. Where the volume read tidy when the count began, whatever a
+--    crash leaves of the set has them.
+-- 3. While the log has no more records, the copy has the rows of the table.
+use Rattle.std.specs.Prelude.{◌≡◌, ◌≤◌, ℕ, List, Option, Some, None, length, take}
+use Rattle.rg_anew.specs.Writing.{HasFirst}
+use Rattle.rg_base.specs.declared.position.Position.{Position}
+use Rattle.rg_base.specs.declared.which.Which.{Which}
+use Rattle.rg_home.specs.Pages.{slot_of}
+use Rattle.rg_home.specs.Rows.{row_at}
+use Rattle.rg_image.specs.Meaning.{stored}
+use Rattle.rg_image.specs.Rules.{copy_capacity}
+use Rattle.rg_lawful.specs.Table.{IsTable}
+use Rattle.rg_outside.specs.Calls.{read_of}
+use Rattle.rg_outside.specs.Moments.{EachImage, IfTold}
+use Rattle.rg_page.specs.Content.{Content, content_at}
+use Rattle.rg_record.specs.declared.record.Record.{Record}
+use Rattle.rg_shadow.specs.Shade.{Shade, shade_slots, stage_in}
+use Rattle.rg_shadow.specs.declared.drafts.IndexStage.TheVariants.{Built}
+use Rattle.rg_switch.specs.Switched.{HasNewCopy, IsPageOfCopy, other_of}
+use Rattle.rg_desk.specs.OnVolume.{WasAllTidy, mark_at}
+use Rattle.rg_desk.specs.Volume.{VolumeSeen}
+use Rattle.rg_desk.specs.declared.prepared.Prepared.{Prepared}
+
+-- what callers see of it: the copy, and how many records the log had when it was written
+pub record PreparedSeen : Type 0 where
+  pub shade : Shade
+  pub records : ℕ
+
+abbrev pub prepared_seen : Option Prepared → Option PreparedSeen
+prepared_seen None = None
+prepared_seen (Some p) = Some (record { shade = p.shadow; records = p.records })
+
+-- what a mark says of page p of these
+abbrev pub IsMarkOf : List Content → (p : ℕ) → Option Position → Type 0
+IsMarkOf pages p None = Unit {0}
+IsMarkOf pages p (Some q) = (p ≤ length pages) × (q.0 ≡ (content_at pages p).position)
+
+-- a new copy that was written when the log had some first of these records, while this copy is
+-- current
+pub record IsPrepared (p : Prepared) (records : List Record) (copy : ℕ) (seen : VolumeSeen)
+    : Type 0 where
+  pub within : p.records ≤ length records
+  pub copy_is : p.shadow.copy ≡ other_of copy
+  pub capacity : p.shadow.capacity ≡ copy_capacity seen.capacities (other_of copy)
+  pub built : (which : Which) → stage_in which p.shadow ≡ Built
+  pub each :
+      (q : ℕ) → 1 ≤ q → q ≤ length p.shadow.pages
+      → IsPageOfCopy (other_of copy) p.records q (content_at p.shadow.pages q)
+  pub rows :
+      IsTable (row_at (slot_of (shade_slots p.shadow))) (stored (take p.records records))
+  pub marked : (q : ℕ) → 1 ≤ q → IsMarkOf p.shadow.pages q (mark_at p.marks.items q)
+  pub reads :
+      IfTold seen.told
+      (λ t. HasFirst (other_of copy) p.shadow.pages (length p.shadow.pages)
+      (read_of t.first t.calls))
+  pub there :
+      IfTold seen.told (λ t. WasAllTidy seen.capacities t
+      → EachImage
+      (HasNewCopy seen.capacities (take p.records records) (other_of copy) p.shadow.pages) t)
+
+-- so it is of the one that is kept, if there is one
+abbrev pub KeepsPrepared :
+    Option Prepared → List Record → (copy : ℕ) → VolumeSeen → Type 0
+KeepsPrepared None records copy seen = Unit {0}
+KeepsPrepared (Some p) records copy seen = IsPrepared p records copy seen
