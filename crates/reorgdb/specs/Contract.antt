@@ -36,8 +36,8 @@ pub record Completes (words : List (List ℕ)) (source source_after sink sink_af
   -- A flush that says that a page was written has written that page to the set of the current copy,
   -- by its last call. One that says CLEAN has made no call.
   pub flushes : AreFlushes volume volume_after trace
-  -- FULL is answered only where what the last opening found and what was written since reach 3,200
-  -- bytes for each page of the smaller copy.
+  -- FULL is answered only where the pages of the last opening or switch and what was written since
+  -- reach 3,200 bytes for each page of the smaller copy.
   pub full : IsFullOnlyFrom (3200 * smaller_pages volume.capacities) 0 trace
   -- LOGFULL is answered only where the bytes that the last opening found, with 4,264 for each write
   -- since and 28 for each start of a utility, and with those of one more, are more than the log may
@@ -45,8 +45,8 @@ pub record Completes (words : List (List ℕ)) (source source_after sink sink_af
   pub log_full : IsLogFullOnlyFrom (limit_of (log_pages volume.capacities)) 0 trace
   -- DEVICE is answered only where a call of the volume failed.
   pub device : IsDeviceOnlyIf (Rose volume.faults volume_after.faults) trace
-  -- No page is written but those of the log and of the copies that were opened, and none where
-  -- there is no entry.
+  -- No page is written but those of the log and of the copies that were opened, after the start of
+  -- a utility those of both copies, and none where there is no entry.
   pub only : MakesOnly (WritesOwn trace) volume.told volume_after.told
   -- Once it was opened, whatever a crash leaves of the volume at the end is sound and tidy, if it
   -- read tidy when the call began.

@@ -5,18 +5,17 @@
 --    (`copies_through`, `log_through`). Whatever it leaves is sound (`other_sound`).
 -- 2. The set of the current copy reads as before, so the marks go on to say how (`on_elsewhere`).
 -- 3. The desk stays as it was (`desk_elsewhere`).
-use Rattle.std.proofs.Common.{◌≡◌, ◌≢◌, ◌≤◌, ℕ, Bool, true, false, List, length, Option, Some, None, refl, sym, ◌∙◌, ap, subst}
+use Rattle.std.proofs.Common.{◌≡◌, ◌≤◌, ℕ, false, List, length, Option, Some, refl, sym, ◌∙◌, ap, subst}
 use Rattle.rg_anew.specs.Writing.{ArePagesOf, IsWriteOf, WritesCopy}
 use Rattle.rg_base.specs.declared.position.Position.{Position}
 use Rattle.rg_base.specs.declared.set.Set.{Set}
-use Rattle.rg_base.specs.declared.set.Set.TheVariants.{Log}
 use Rattle.rg_image.specs.Kept.{AreEntries}
 use Rattle.rg_image.specs.Log.{SpellsFrom}
 use Rattle.rg_image.specs.Pack.{end_of, start}
 use Rattle.rg_image.specs.Rules.{copy_capacity}
 use Rattle.rg_log.specs.Kept.{LeavesLog, Listed, log_pages}
 use Rattle.rg_newest.specs.Tidy.{set_of}
-use Rattle.rg_outside.specs.Calls.{Call, FailedRead, FailedSync, FailedWrite, Image, Read, Refused, Synced, Told, Wrote, effect_of, read_of}
+use Rattle.rg_outside.specs.Calls.{Call, FailedRead, FailedSync, FailedWrite, Image, Read, Refused, Synced, Told, Wrote, effect_of}
 use Rattle.rg_outside.specs.Capacities.{Capacities, capacity_of}
 use Rattle.rg_outside.specs.Made.{WritesIn}
 use Rattle.rg_outside.specs.Moments.{EachCall, EachImage, HoldsThroughout, IfTold, put}
@@ -32,7 +31,7 @@ use Rattle.rg_switch.specs.Switched.{IsOldPage, other_of}
 use Rattle.rg_version.specs.Versions.{Epoch, IsOnVolume as IsOnPage}
 use Rattle.rg_desk.specs.Chronicle.{ChronicleState}
 use Rattle.rg_desk.specs.Desk.{IsDesk}
-use Rattle.rg_desk.specs.OnVolume.{AreMarks, HasCopies, IsMark, IsOn, IsSoundTidy, PartsIfTidy, SoundThroughout, WasAllTidy, mark_at}
+use Rattle.rg_desk.specs.OnVolume.{HasCopies, IsMark, IsOn, IsSoundTidy, PartsIfTidy, SoundThroughout, WasAllTidy, mark_at}
 use Rattle.rg_desk.specs.Reopens.{IsCleanIn, PartsReopen}
 use Rattle.rg_desk.specs.Volume.{HasCalls, LeavesIfTidy, VolumeSeen, WasTidy}
 use Rattle.rg_desk.specs.declared.engine.Engine.{Engine}

@@ -208,7 +208,7 @@ module _ (copy : ℕ) (d mid now : Engine) (before v : VolumeSeen) (same : SameE
       (subst (λ (c : Capacities). IfTold v.told (λ t. WasAllTidy c t → PartsReopen c e d.log)) (sym f.calls.capacities)
       (tidy_then (WritesIn Log) before.told v.told before.capacities before.capacities (PartsReopen before.capacities e d.log) (PartsReopen before.capacities e d.log) 0 f.calls.only has refl (λ h. h) on.parts))
 
-  force_sound : (e : Epoch) (marks : List (Option Position)) → IsOn e copy d.log d.space marks before → FitsSet before d.log → LeavesIfTidy before d.log → SoundThroughout before v
+  pub force_sound : (e : Epoch) (marks : List (Option Position)) → IsOn e copy d.log d.space marks before → FitsSet before d.log → LeavesIfTidy before d.log → SoundThroughout before v
   force_sound e marks on fits leaves =
       log_sound e copy d.log d.log d.space d.space marks marks before v on (still_on e marks on) [] (sym (append-nil d.log.records)) refl old_within f.calls 0 has fits.pages refl fits.entries fits.set leaves through_now
 

@@ -67,6 +67,9 @@ pub mod Turned
 pub mod DeskSwitch
 pub mod Committing
 pub mod Elsewhere
+pub mod WrittenCopy
+pub mod Still
+pub mod BothSides
 pub mod Recorded
 pub mod Parts
 pub mod Trails

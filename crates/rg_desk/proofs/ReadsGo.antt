@@ -24,7 +24,7 @@ use Rattle.rg_lock.specs.First.{IsFirstHeld}
 use Rattle.rg_model.specs.Held.{find_holder, has_cat, holder, is_held_with_cat, is_others, scan_holder}
 use Rattle.rg_model.specs.Layout.{is_right_side}
 use Rattle.rg_model.specs.Plain.{keys_with_cat, plain_reply, row_reply, rows_between, unless_held}
-use Rattle.rg_model.specs.State.{Locks, State, row_count, row_of}
+use Rattle.rg_model.specs.State.{Locks, State, Table, row_count, row_of}
 use Rattle.rg_stmt.specs.declared.layout.Side.{Side}
 use Rattle.rg_stmt.specs.declared.stmt.Reply.{Reply}
 use Rattle.rg_stmt.specs.declared.stmt.Reply.TheVariants.{Held, Keyed, Listed}
@@ -179,6 +179,11 @@ module _ (st : State) (allowed : ℕ) (d : Engine) (shows : Shows st allowed d) 
   side_right pages side same right =
       subst (λ (ps : List (List Slot)). IsRightFor ps d.indexes side) (same ∙ shows.by.slots) right
       (left_consistent st allowed d shows).ready.proper.tied st.table table shows.by.indexes
+
+  pub side_right_of : (pages : List (List Slot)) (side : Side) → pages ≡ slots_in d → IsRightFor pages d.indexes side → (t : Table) → IsTable (row_at (slot_of (slots_in d))) (λ key. row_of t key) → is_right_side t side ≡ true
+  side_right_of pages side same right t is =
+      subst (λ (ps : List (List Slot)). IsRightFor ps d.indexes side) (same ∙ shows.by.slots) right
+      (left_consistent st allowed d shows).ready.proper.tied t (subst (λ (ps : List (List Slot)). IsTable (row_at (slot_of ps)) (λ key. row_of t key)) shows.by.slots is) shows.by.indexes
 
   -- how many rows there are
 

@@ -18,7 +18,15 @@
 --    drawn.
 use Rattle.std.specs.Prelude.{◌≡◌, ◌≤◌, ◌<◌, ◌+◌, ◌-◌, ◌*◌, ◌^◌, ◌⊎◌, ◌||◌, ◌++◌, if◌then◌else◌, ℕ, suc, Bool, true, false, List, [], ◌∷◌, Option, Some, None, IfSome, length, take}
 use Rattle.rg_base.specs.declared.control.Answer.{Answer}
+use Rattle.rg_base.specs.declared.options.DrainFor.{DrainFor}
+use Rattle.rg_base.specs.declared.options.DrainState.TheVariants.{Granted}
 use Rattle.rg_base.specs.declared.options.Options.{Options}
+use Rattle.rg_base.specs.declared.row.Row.{Row}
+use Rattle.rg_base.specs.declared.which.Which.{Which}
+use Rattle.rg_image.specs.Rules.{copy_capacity}
+use Rattle.rg_shadow.specs.Shade.{Shade, shade_slots, stage_in}
+use Rattle.rg_shadow.specs.declared.drafts.IndexStage.TheVariants.{Built}
+use Rattle.rg_written.specs.Stamped.{stamped_all}
 use Rattle.rg_base.specs.declared.position.Position.{Position}
 use Rattle.std.specs.FinMap as map
 use Rattle.rg_base.specs.declared.session.Session.{Session}
@@ -58,6 +66,8 @@ use Rattle.rg_model.specs.Layout.{is_right_side}
 use Rattle.rg_model.specs.Right.{are_quiet_right, is_packed}
 use Rattle.rg_model.specs.Turn.{alter, is_term, step_of}
 use Rattle.rg_stage.specs.NumbersOf.{numbers_of}
+use Rattle.rg_layout.specs.Spots.{spots_of}
+use Rattle.rg_stmt.specs.declared.layout.Side.{Side}
 use Rattle.rg_stmt.specs.declared.layout.Sides.{Sides}
 use Rattle.rg_switch.specs.Switched.{other_of}
 use Rattle.rg_desk.specs.Answers.{IfFull, IfLogFull, forces, is_answer, is_device}
@@ -440,6 +450,70 @@ pub record MadeStep {V O : Type 0} (look : V → VolumeSeen) (old : DeskState V 
   pub volume : new.volume ≡ old.volume
   pub stays : Stays look old new
 
+-- the utility that runs has a drain, so that nobody writes
+pub record HasDrain {V O : Type 0} (desk : DeskState V O) : Type 0 where
+  pub stage : Stage
+  pub stage_is : desk.stage ≡ Some stage
+  pub granted : DrainFor
+  pub drain : stage.drain ≡ Granted granted
+
+-- a new copy with its indexes, which may become the other copy of a desk
+pub record IsOtherCopy {V O : Type 0} (look : V → VolumeSeen) (desk : DeskState V O)
+    (shade : Shade) : Type 0 where
+  pub copy : shade.copy ≡ other_of desk.copy
+  pub capacity :
+      shade.capacity ≡ copy_capacity (look desk.volume).capacities (other_of desk.copy)
+  pub built : (which : Which) → stage_in which shade ≡ Built
+
+-- a new copy may be written: the utility that runs has a drain, and the copy the rows of the table
+pub record CanPrepare {V O : Type 0} (look : V → VolumeSeen) (desk : DeskState V O) (shade : Shade)
+    : Type 0 where
+  pub drained : HasDrain desk
+  pub other : IsOtherCopy look desk shade
+  pub rows :
+      (t : ℕ → Option Row) → IsTable (row_at (slot_of desk.ground.pages)) t
+      → IsTable (row_at (slot_of (shade_slots shade))) t
+
+-- The write of a new copy makes no entry. All is as it was, but for how much of the log is forced,
+-- what is kept of the copy, and the volume, where no page of the current copy was written.
+pub record Prepares {V O : Type 0} (look : V → VolumeSeen) (old : DeskState V O)
+    (shadow : Option PreparedSeen) (new : DeskState V O) : Type 0 where
+  pub same : new ≡ record old { ground = new.ground; shadow = shadow; volume = new.volume }
+  pub ground :
+      new.ground
+      ≡ record old.ground { log = record old.ground.log { forced = new.ground.log.forced } }
+  pub calls : CallsOwn (other_of old.copy) (look old.volume) (look new.volume)
+  pub sound : SoundThroughout (look old.volume) (look new.volume)
+
+-- the new copy of these pages, each with this position, which is that of the last record
+abbrev pub written_seen : (at : ℕ) → Shade → Option PreparedSeen
+written_seen at shade =
+    Some (record { shade = record shade { pages = stamped_all at shade.pages }; records = at })
+
+-- a new copy is kept that was written since the last record
+pub record HasCurrent {V O : Type 0} (desk : DeskState V O) : Type 0 where
+  pub shadow : PreparedSeen
+  pub shadow_is : desk.shadow ≡ Some shadow
+  pub current : shadow.records ≡ length desk.ground.log.records
+
+-- a layout of the new copy that is kept: it has the copy's pages, and the spots of their rows
+abbrev pub IsNewSide : Side → PreparedSeen → Type 0
+IsNewSide side p =
+    (side.pages ≡ length p.shade.pages) × (side.spots ≡ spots_of (shade_slots p.shade))
+
+-- These are the layouts of the current copy and of the new one that is kept. Both are right for the
+-- table.
+pub record AreSides {V O : Type 0} (desk : DeskState V O) (sides : Sides) : Type 0 where
+  pub new : IfSome desk.shadow (IsNewSide sides.new)
+  pub right :
+      (t : Table) → IsTable (row_at (slot_of desk.ground.pages)) (row_of t)
+      → (is_right_side t sides.old ≡ true) × (is_right_side t sides.new ≡ true)
+
+-- the new copy that is kept
+abbrev pub shade_kept : Option PreparedSeen → Option Shade
+shade_kept None = None
+shade_kept (Some p) = Some p.shade
+
 -- The step of the utility is its switch, by the operator's answer, and a new copy is kept that was
 -- written since the last record. These are the layouts of the copies: they are right for the table,
 -- the quiet rows lie at home in clustering order, and the new copy is packed where nothing has
@@ -500,6 +574,8 @@ pub record MadeSwitch {V O : Type 0} (look : V → VolumeSeen) (old : DeskState 
   pub stage_is : new.stage ≡ Some stage
   pub switched : stage.switched ≡ true
   pub copy : new.copy ≡ other_of old.copy
+  pub capacity :
+      new.ground.capacity ≡ copy_capacity (look old.volume).capacities (other_of old.copy)
   pub down : new.down ≡ false
   pub taken : IfSome old.shadow (HasCopy new)
   pub stays : StaysOpened look old new
@@ -514,6 +590,7 @@ pub record MadeFall {V O : Type 0} (look : V → VolumeSeen) (old : DeskState V 
   pub counted : IsCount (look new.volume) calls
   pub stage : new.stage ≡ None
   pub copy : new.copy ≡ old.copy
+  pub capacity : new.ground.capacity ≡ old.ground.capacity
   pub down : new.down ≡ true
   pub device : Rose (look old.volume).faults (look new.volume).faults
   pub stays : StaysOpened look old new

@@ -10,7 +10,7 @@
 //    opening is refused.
 // 5. A utility may run. A step of it asks the operator first, and then makes one entry, which has
 //    the operator's answer. Its event is the next one of the stage that the desk keeps.
-ghost use Rattle.std.specs.Prelude.{◌≡◌, ◌≤◌, ◌++◌, [], ℕ, true, false, OnOk, OnErr, IfOk, IfErr, IfSome, Some, None};
+ghost use Rattle.std.specs.Prelude.{◌≡◌, ◌≤◌, ◌++◌, [], ℕ, true, false, OnOk, OnErr, IfOk, IfErr, IfSome, Some, None, length};
 ghost use Rattle.rg_home.specs.Pages.{slot_of};
 ghost use Rattle.rg_home.specs.Rows.{row_at};
 ghost use Rattle.rg_indexes.specs.Listings.{AreListings};
@@ -25,7 +25,12 @@ ghost use Rattle.rg_desk.specs.Chronicle.{IsRecorded, system_entry};
 ghost use Rattle.rg_desk.specs.Begun.{Begun};
 ghost use Rattle.rg_desk.specs.Desk.{CanBegin, EndsDown, EndsWithRows, IsCopy, IsLayout};
 ghost use Rattle.rg_desk.specs.Desk.{LeavesTable, LegalFrom, MadeFlush, MadeLayout, MadeSaid};
-ghost use Rattle.rg_desk.specs.Desk.{CanCommit, MadeFall, MadeSwitch};
+ghost use Rattle.rg_desk.specs.Desk.{AreSides, CanCommit, CanPrepare, HasCurrent, HasDrain};
+ghost use Rattle.rg_desk.specs.Desk.{IsOtherCopy, MadeFall, MadeSwitch, Prepares, shade_kept};
+ghost use Rattle.rg_desk.specs.Desk.{written_seen};
+ghost use Rattle.rg_image.specs.Rules.{copy_capacity};
+ghost use Rattle.rg_switch.specs.Switched.{other_of};
+ghost use Rattle.rg_outside.specs.Faults.{Rose};
 ghost use Rattle.rg_desk.specs.Desk.{Opens, old_records, while_running};
 ghost use Rattle.rg_desk.specs.Flushed.{TellsFlush};
 ghost use Rattle.rg_desk.specs.OnVolume.{GoesOnTidy, IsOnVolume};
@@ -46,7 +51,7 @@ use crate::chronicle::Chronicle;
 use crate::engine::Engine;
 use crate::found::Found;
 use crate::origin::Origin;
-use crate::prepared::Prepared;
+use crate::prepared::{PrepareCause, Prepared, forget, keep, new_side, prepare, take};
 use crate::switch::{Old, other_of, turn};
 use crate::utility::{count_from, is_started, start_utility};
 use rg_base::control::Answer;
@@ -56,11 +61,13 @@ use rg_base::position::Position;
 use rg_base::session::Session;
 use rg_base::set::Set;
 use rg_base::verdict::StopReason;
+use rg_chain::names::copy_pages;
 use rg_fold::item::Stage;
 use rg_log::fault::Device;
 use rg_outside::counted::Counts;
 use rg_outside::operator::Operator;
 use rg_outside::volume::Volume;
+use rg_shadow::shadow::Shadow;
 use rg_stage::follow::next_stage;
 use rg_stmt::event::{Actor, Entry, Event};
 use rg_stmt::layout::Sides;
@@ -550,6 +557,67 @@ impl<V: Counts, O: Operator> Desk<V, O> {
         self.chronicle.push(utility(event, Some(answer), calls));
     }
 
+    /// Writes a new copy to the set of the other copy, for a switch that comes before the log has a
+    /// record more. All records are forced first. It makes no entry. Where memory runs out, or a
+    /// call of the volume fails, no new copy is kept, and the desk goes on.
+    pub fn prepare_switch(&mut self, alloc: Global, shadow: Shadow) -> Result<(), PrepareCause>
+        requires up { self.old.down ≡ false }
+        requires can { CanPrepare (seen_volume V.told V.faults V.capacities) self.old shadow }
+        ensures ok { OnOk result (Prepares (seen_volume V.told V.faults V.capacities) self.old
+            (written_seen (length self.old.ground.log.records) shadow) self.new) }
+        ensures err { OnErr result (Prepares (seen_volume V.told V.faults V.capacities) self.old
+            None self.new) }
+        ensures device { result ≡ Err PrepareCause.Device
+            → Rose (V.faults self.old.volume) (V.faults self.new.volume) }
+    {
+        forget(&mut self.shadow);
+        let copy = other_of(self.copy);
+        match prepare(alloc, &mut self.engine, &mut self.volume, copy, shadow) {
+            Ok(prepared) => {
+                keep(&mut self.shadow, prepared);
+                Ok(())
+            }
+            Err(cause) => Err(cause),
+        }
+    }
+
+    /// Whether a new copy was written, and the log has no record more since.
+    pub fn is_current(&self) -> bool
+        ensures { result ≡ true → HasCurrent self.now }
+    {
+        match &self.shadow {
+            Some(prepared) => prepared.records == self.engine.log.records().len(),
+            None => false,
+        }
+    }
+
+    /// The layouts of the current copy and of the new one that was written. It reads each page
+    /// once.
+    pub fn sides(&mut self) -> Result<Sides, NoMemory>
+        requires up { self.old.down ≡ false }
+        requires drained { HasDrain self.old }
+        requires current { HasCurrent self.old }
+        ensures same { self.new ≡ self.old }
+        ensures sides { IfOk result (AreSides self.old) }
+    {
+        // That no session holds a claim that a granted drain covers: nobody has a lock then.
+        let _ = self.engine.claims.drain();
+        let old = self.engine.side()?;
+        let new = new_side(&mut self.shadow)?;
+        Ok(Sides { old, new })
+    }
+
+    /// Hands back the new copy that was written, if one is kept. None is kept from then on. It
+    /// takes no memory.
+    pub fn take_shadow(&mut self) -> Option<Shadow>
+        ensures same { self.new ≡ record self.old { shadow = None } }
+        ensures shade { result ≡ shade_kept self.old.shadow }
+        ensures is { IfSome result (IsOtherCopy (seen_volume V.told V.faults V.capacities)
+            self.new) }
+    {
+        take(&mut self.shadow)
+    }
+
     /// Makes the new copy that was written the current one, which makes one entry: SWITCHED, with
     /// these layouts of both copies, or STOP DEVICE, where the record of the switch could not be
     /// forced. Then the desk is down, and it is open which copy is current. It takes no memory. The
@@ -616,6 +684,23 @@ impl<V: Counts, O: Operator> Desk<V, O> {
         ensures { result ≡ self.now.changes }
     {
         self.changes.since()
+    }
+
+    /// How many pages the current copy has.
+    pub fn pages(&self) -> u32
+        ensures { result ≡ length self.now.ground.pages }
+    {
+        self.engine.space.count()
+    }
+
+    /// The other copy, and how many pages it may have.
+    pub fn other(&self) -> (u8, u32)
+        ensures copy { result.0 ≡ other_of self.now.copy }
+        ensures capacity { result.1
+            ≡ copy_capacity (V.capacities self.now.volume) (other_of self.now.copy) }
+    {
+        let copy = other_of(self.copy);
+        (copy, copy_pages(&self.volume, copy))
     }
 
     /// The least session that holds a class that the drain covers.

@@ -128,8 +128,8 @@ impl Engine {
         None
     }
 
-    // Forces the log, where it is not forced up to this position.
-    fn force_to<V: Volume>(&mut self, volume: &mut V, position: Position) -> Result<(), Device>
+    /// Forces the log, where it is not forced up to this position.
+    pub fn force_to<V: Volume>(&mut self, volume: &mut V, position: Position) -> Result<(), Device>
         requires high { position.0 ≤ length self.old.log.records }
         requires pages { self.old.log.pages ≡ log_pages (V.capacities volume.old) }
         ensures forces { ForcesLog (seen_volume V.told V.faults V.capacities volume.old)

@@ -1,8 +1,11 @@
 // The layout of the copy.
 ghost use Rattle.std.specs.Prelude.{◌≡◌, ℕ, true, IfOk};
+ghost use Rattle.rg_home.specs.Pages.{slot_of};
+ghost use Rattle.rg_home.specs.Rows.{row_at};
+ghost use Rattle.rg_lawful.specs.Table.{IsTable};
 ghost use Rattle.rg_model.specs.Layout.{is_right_side};
-ghost use Rattle.rg_model.specs.State.{State};
-ghost use Rattle.rg_desk.specs.Engine.{HasPages};
+ghost use Rattle.rg_model.specs.State.{State, Table, row_of};
+ghost use Rattle.rg_desk.specs.Engine.{HasPages, slots_in};
 ghost use Rattle.rg_desk.specs.Shows.{Shows};
 ghost use Rattle.rg_desk.specs.Wrote.{SameEngine};
 
@@ -18,6 +21,9 @@ impl Engine {
         ensures same { SameEngine self.old self.new }
         ensures right { IfOk result (λ side. (st : State) (allowed : ℕ) → Shows st allowed self.old
             → is_right_side st.table side ≡ true) }
+        ensures table { IfOk result (λ side. (st : State) (allowed : ℕ) → Shows st allowed self.old
+            → (t : Table) → IsTable (row_at (slot_of (slots_in self.old))) (row_of t)
+            → is_right_side t side ≡ true) }
     {
         match side(self.alloc, &mut self.space, &self.indexes) {
             Ok(side) => Ok(side),

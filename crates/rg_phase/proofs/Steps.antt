@@ -1,8 +1,11 @@
 -- A step of a desk, put together from its calls.
-use Rattle.std.proofs.Common.{◌≡◌, ◌+◌, ℕ, Bool, true, false, Option, Some, None, sym, ◌∙◌, ap, subst}
+use Rattle.std.proofs.Common.{◌≡◌, ◌+◌, ◌⊎◌, inl, inr, ℕ, Bool, true, false, Option, Some, None, refl, sym, ◌∙◌, ap, subst}
+use Rattle.std.specs.Option.{is_some}
 use Rattle.rg_base.specs.declared.control.Answer.{Answer}
 use Rattle.rg_base.specs.declared.session.Session.{Session}
+use Rattle.rg_base.specs.declared.verdict.StopReason.TheVariants as reasons
 use Rattle.rg_desk.specs.Desk.{DeskState, IsNextStep}
+use Rattle.rg_desk.specs.Volume.{VolumeSeen}
 use Rattle.rg_fold.specs.declared.item.Stage.{Stage}
 use Rattle.rg_model.specs.Turn.{Turn, turn_of}
 use Rattle.rg_stage.specs.Bounded.{KeepsBounds}
@@ -13,6 +16,9 @@ use Rattle.rg_stmt.specs.declared.event.Event.TheVariants as events
 use Rattle.rg_tending.specs.Tending.{IsKeptStage, NextBy, is_booked, is_plain}
 use Rattle.rg_tending.proofs.Kept.{kept_on}
 use Rattle.rg_tending.proofs.Switching.{plain_turn}
+use Rattle.rg_phase.specs.Step.{NextMade, is_device_stop, is_made}
+use Rattle.rg_phase.specs.Working.{Writes}
+use Rattle.rg_phase.proofs.Stops.{stop_next}
 
 -- ---- the desk that was asked
 
@@ -31,23 +37,43 @@ same_asked {V} {O} old mid asked answer room same =
 
 -- ---- the next event
 
-pub next_down : {V O : Type 0} (desk : DeskState V O) → desk.down ≡ true → IsNextStep desk None events.StepDown
-next_down desk down = subst (λ (b : Bool). NextBy b desk.stage desk.changes desk.covered None events.StepDown) (sym down) tt
+pub next_down : {V O : Type 0} (desk : DeskState V O) → desk.down ≡ true → NextMade desk.down desk.stage desk.changes desk.covered None events.StepDown
+next_down desk down = subst (λ (b : Bool). NextMade b desk.stage desk.changes desk.covered None events.StepDown) (sym down) tt
 
-pub next_idle : {V O : Type 0} (desk : DeskState V O) → desk.down ≡ false → desk.stage ≡ None → IsNextStep desk None events.Idle
+pub next_idle : {V O : Type 0} (desk : DeskState V O) → desk.down ≡ false → desk.stage ≡ None → NextMade desk.down desk.stage desk.changes desk.covered None events.Idle
 next_idle desk down stage =
-    subst (λ (b : Bool). NextBy b desk.stage desk.changes desk.covered None events.Idle) (sym down)
-    (subst (λ (o : Option Stage). NextBy false o desk.changes desk.covered None events.Idle) (sym stage) tt)
+    subst (λ (b : Bool). NextMade b desk.stage desk.changes desk.covered None events.Idle) (sym down)
+    (subst (λ (o : Option Stage). NextMade false o desk.changes desk.covered None events.Idle) (sym stage) tt)
 
-pub next_runs : {V O : Type 0} (desk : DeskState V O) (s : Stage) (all : ℕ) (holder : Option Session) (answer : Answer) (event : Event) → desk.down ≡ false → desk.stage ≡ Some s → all ≡ desk.changes → holder ≡ desk.covered
-    → is_booked event ≡ true → is_plain (turn_of all holder answer (numbers_of s) s.drain event) ≡ true → IsNextStep desk (Some answer) event
-next_runs desk s all holder answer event down stage all_is holder_is booked next =
+pub next_runs : {V O : Type 0} (desk : DeskState V O) (s : Stage) (answer : Answer) (event : Event) → desk.down ≡ false → desk.stage ≡ Some s
+    → is_booked event ≡ true → is_plain (turn_of desk.changes desk.covered answer (numbers_of s) s.drain event) ≡ true → IsNextStep desk (Some answer) event
+next_runs desk s answer event down stage booked next =
     subst (λ (b : Bool). NextBy b desk.stage desk.changes desk.covered (Some answer) event) (sym down)
-    (subst (λ (o : Option Stage). NextBy false o desk.changes desk.covered (Some answer) event) (sym stage) (
-      booked,
-      subst (λ (n : ℕ). is_plain (turn_of n desk.covered answer (numbers_of s) s.drain event) ≡ true) all_is
-          (subst (λ (o : Option Session). is_plain (turn_of all o answer (numbers_of s) s.drain event) ≡ true) holder_is next),
-    ))
+    (subst (λ (o : Option Stage). NextBy false o desk.changes desk.covered (Some answer) event) (sym stage) (booked, next))
+
+pub made_runs : {V O : Type 0} (desk : DeskState V O) (s : Stage) (answer : Answer) (event : Event) → desk.down ≡ false → desk.stage ≡ Some s
+    → is_made event ≡ true → is_some (turn_of desk.changes desk.covered answer (numbers_of s) s.drain event) ≡ true → NextMade desk.down desk.stage desk.changes desk.covered (Some answer) event
+made_runs desk s answer event down stage made next =
+    subst (λ (b : Bool). NextMade b desk.stage desk.changes desk.covered (Some answer) event) (sym down)
+    (subst (λ (o : Option Stage). NextMade false o desk.changes desk.covered (Some answer) event) (sym stage) (made, next))
+
+-- the next event is the same, where the desk differs in what a step makes before it
+pub next_same : {V O : Type 0} (look : V → VolumeSeen) (old mid : DeskState V O) (answer : Answer) (event : Event) → Writes look old mid → IsNextStep old (Some answer) event → IsNextStep mid (Some answer) event
+next_same {V} {O} look old mid answer event wrote next = subst (λ (d : DeskState V O). IsNextStep d (Some answer) event) (sym wrote.same) next
+
+pub runs_some : {V O : Type 0} (desk : DeskState V O) (s : Stage) → desk.stage ≡ Some s → is_some desk.stage ≡ true
+runs_some desk s stage = ap (λ (o : Option Stage). is_some o) stage
+
+-- the event, or STOP NOMEMORY in its place, is the next one
+pub or_stop_next : {V O : Type 0} (desk : DeskState V O) (s : Stage) (answer : Answer) (event result : Event) → desk.down ≡ false → desk.stage ≡ Some s
+    → is_booked event ≡ true → is_device_stop event ≡ false → is_plain (turn_of desk.changes desk.covered answer (numbers_of s) s.drain event) ≡ true
+    → (result ≡ event) ⊎ (result ≡ events.Stop reasons.NoMemory)
+    → (is_booked result ≡ true) × (is_device_stop result ≡ false) × IsNextStep desk (Some answer) result
+or_stop_next desk s answer event result down stage booked quiet next (inl is) =
+    subst (λ (e : Event). (is_booked e ≡ true) × (is_device_stop e ≡ false) × IsNextStep desk (Some answer) e) (sym is) (booked, quiet, next_runs desk s answer event down stage booked next)
+or_stop_next desk s answer event result down stage booked quiet next (inr is) =
+    subst (λ (e : Event). (is_booked e ≡ true) × (is_device_stop e ≡ false) × IsNextStep desk (Some answer) e) (sym is)
+    (refl, refl, next_runs desk s answer (events.Stop reasons.NoMemory) down stage refl (stop_next s desk.changes desk.covered answer))
 
 -- ---- the numbers after it
 

@@ -1,1 +1,3 @@
 pub mod Step
+pub mod Drafted
+pub mod Working

@@ -3,16 +3,28 @@
 -- 1. The operator is asked once, unless no utility runs or the desk is down. It is told how many
 --    changes are left.
 -- 2. Then one entry is made, with the answer. Its event is the utility's next.
--- 3. STOP DEVICE stands in it only where a call of the volume failed in this step.
-use Rattle.std.specs.Prelude.{◌≡◌, ℕ, Bool, true, false, List, Option, Some, None}
+-- 3. SWITCHED makes the other copy the current one.
+-- 4. A step of a utility that runs writes no page but those of the log and of the other copy. Else
+--    it calls no volume.
+-- 5. STOP DEVICE stands in it only where a call of the volume failed in this step, and only then
+--    does the step bring the desk down.
+use Rattle.std.specs.Prelude.{◌≡◌, ◌⊎◌, ◌++◌, ℕ, Bool, true, false, List, [], ◌∷◌, Option, Some, None, is_some}
 use Rattle.rg_base.specs.declared.control.Answer.{Answer}
+use Rattle.rg_base.specs.declared.session.Session.{Session}
 use Rattle.rg_base.specs.declared.verdict.StopReason.TheVariants as reasons
-use Rattle.rg_desk.specs.Desk.{DeskState, IsNextStep, MadeStep, left_to_take}
-use Rattle.rg_desk.specs.Volume.{VolumeSeen}
+use Rattle.rg_desk.specs.Desk.{DeskState, left_to_take, old_records}
+use Rattle.rg_desk.specs.Flushed.{CallsOwn}
+use Rattle.rg_desk.specs.Volume.{IsCount, VolumeSeen}
+use Rattle.rg_fold.specs.declared.item.Stage.{Stage}
+use Rattle.rg_image.specs.Rules.{copy_capacity}
+use Rattle.rg_model.specs.Turn.{turn_of}
 use Rattle.rg_outside.specs.Faults.{Rose}
 use Rattle.rg_outside.specs.Told.{AddsAnswer, HandsOver}
+use Rattle.rg_stage.specs.NumbersOf.{numbers_of}
 use Rattle.rg_stmt.specs.declared.event.Event.{Event}
 use Rattle.rg_stmt.specs.declared.event.Event.TheVariants as events
+use Rattle.rg_switch.specs.Switched.{other_of}
+use Rattle.rg_tending.specs.Tending.{is_booked, utility_entry}
 
 -- STOP DEVICE
 abbrev pub is_device_stop : Event → Bool
@@ -27,15 +39,84 @@ AsksOnce answers last left old None new = new ≡ old
 AsksOnce answers last left old (Some answer) new =
     AddsAnswer (answers old) answer (answers new) × HandsOver left (answers new) (last new)
 
+-- an event of a utility that runs: the switch, or another one
+abbrev pub is_made : Event → Bool
+is_made (events.Switched copy sides) = true
+is_made event = is_booked event
+
+-- The event is the next one of a desk that is up or down, with this stage and so many changes,
+-- where this session is the least that is in the drain's way.
+abbrev pub NextMade :
+    (down : Bool) → Option Stage → (changes : ℕ) → (covered : Option Session) → Option Answer
+    → Event → Type 0
+NextMade true stage changes covered None events.StepDown = Unit {0}
+NextMade false None changes covered None events.Idle = Unit {0}
+NextMade false (Some s) changes covered (Some answer) event =
+    (is_made event ≡ true)
+    × (is_some (turn_of changes covered answer (numbers_of s) s.drain event) ≡ true)
+NextMade down stage changes covered answer event = ⊥
+
+-- the copy that is current after such an event
+abbrev pub copy_left : (copy : ℕ) → Event → ℕ
+copy_left copy (events.Switched to sides) = to
+copy_left copy event = copy
+
+-- a switch is to the other copy
+abbrev pub IsSwitchFrom : (copy : ℕ) → Event → Type 0
+IsSwitchFrom copy (events.Switched to sides) = to ≡ other_of copy
+IsSwitchFrom copy event = Unit {0}
+
+-- One entry was made, with this event and answer, and the number of calls up to it.
+pub record Makes {V O : Type 0} (look : V → VolumeSeen) (old : DeskState V O)
+    (answer : Option Answer) (event : Event) (new : DeskState V O) : Type 0 where
+  pub calls : ℕ
+  pub made : new.trace ≡ old.trace ++ utility_entry event answer calls ∷ []
+  pub counted : IsCount (look new.volume) calls
+  pub copy : new.copy ≡ copy_left old.copy event
+  pub to : IsSwitchFrom old.copy event
+  pub capacity :
+      (new.ground.capacity ≡ old.ground.capacity)
+      ⊎ (new.ground.capacity
+      ≡ copy_capacity (look old.volume).capacities (other_of old.copy))
+  pub down :
+      new.down ≡ true
+      → (old.down ≡ true) ⊎ Rose (look old.volume).faults (look new.volume).faults
+  pub device :
+      is_device_stop event ≡ true → Rose (look old.volume).faults (look new.volume).faults
+  pub runs : is_some new.stage ≡ true → is_some old.stage ≡ true
+  pub kept : new.kept ≡ None
+  pub operator : new.operator ≡ old.operator
+  pub older : new.older ≡ old.older
+  pub log_pages : new.ground.log.pages ≡ old.ground.log.pages
+  pub opened : new.opened ≡ old.opened
+  pub first_copy : new.first_copy ≡ old.first_copy
+  pub old_same : old_records new ≡ old_records old
+
+-- what it called: nothing, or as far as a utility may that runs
+abbrev pub StepCalls :
+    {V O : Type 0} → (look : V → VolumeSeen) → DeskState V O → Option Answer → DeskState V O
+    → Type 0
+StepCalls look old None new = new.volume ≡ old.volume
+StepCalls look old (Some answer) new =
+    (is_some old.stage ≡ true)
+    × CallsOwn (other_of old.copy) (look old.volume) (look new.volume)
+
+-- a utility runs, and the operator has given this answer
+pub record Acts {V O : Type 0} (look : V → VolumeSeen) (old : DeskState V O) (answer : Answer)
+    (new : DeskState V O) : Type 0 where
+  pub event : Event
+  pub next : NextMade old.down old.stage old.changes old.covered (Some answer) event
+  pub made : Makes look old (Some answer) event new
+  pub only : StepCalls look old (Some answer) new
+
 pub record Stepped {V O : Type 0} (look : V → VolumeSeen) (answers : O → Option (List Answer))
     (last : O → Option ℕ) (old new : DeskState V O) : Type 0 where
   pub answer : Option Answer
   pub event : Event
-  pub next : IsNextStep old answer event
+  pub next : NextMade old.down old.stage old.changes old.covered answer event
   pub asked : DeskState V O
   pub same :
       asked ≡ record old { spare = asked.spare; kept = answer; operator = asked.operator }
   pub operator : AsksOnce answers last (left_to_take old) old.operator answer asked.operator
-  pub made : MadeStep look asked answer event new
-  pub device :
-      is_device_stop event ≡ true → Rose (look old.volume).faults (look new.volume).faults
+  pub made : Makes look asked answer event new
+  pub only : StepCalls look old answer new

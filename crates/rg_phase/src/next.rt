@@ -4,19 +4,23 @@
 // 2. Before it the operator's command comes first: TERM ends the utility, and ALTER changes its
 //    options.
 // 3. Then the stage decides what the step makes.
-// 4. Steps that copy or fill pages, take changes, write the new copy or switch to it are not built
-//    yet. In their place the utility stops, as if memory ran out.
-// 5. No step calls the volume yet, so none stops because a call failed.
-ghost use Rattle.std.specs.Prelude.{◌≡◌, ◌≤◌, false, true, Option};
+// 4. Steps that copy or fill pages, or take changes, are not built yet. In their place the utility
+//    stops, as if memory ran out.
+// 5. The steps that write the new copy and switch to it say themselves what became of it.
+ghost use Rattle.std.specs.Prelude.{◌≡◌, ◌≤◌, ◌⊎◌, false, true, IfSome, Option};
 ghost use Rattle.rg_base.specs.declared.control.Answer.{Answer as AnswerOf};
 ghost use Rattle.rg_base.specs.declared.session.Session.{Session as SessionOf};
 ghost use Rattle.rg_base.specs.declared.step.Step.TheVariants as steps;
+ghost use Rattle.rg_base.specs.declared.verdict.StopReason.TheVariants as reasons;
 ghost use Rattle.rg_model.specs.Turn.{step_of, turn_at, turn_of};
 ghost use Rattle.rg_phase.specs.Step.{is_device_stop};
+ghost use Rattle.rg_phase.specs.Working.{MakesStep};
 ghost use Rattle.rg_stage.specs.NumbersOf.{numbers_of};
+ghost use Rattle.rg_stmt.specs.declared.event.Event.TheVariants as events;
 ghost use Rattle.rg_tending.specs.Tending.{is_booked, is_plain};
 
 use rg_base::control::Answer;
+use rg_base::no_memory::NoMemory;
 use rg_base::session::Session;
 use rg_base::step::Step;
 use rg_base::verdict::StopReason;
@@ -96,4 +100,24 @@ pub fn next_event(stage: &Stage, all: u64, holder: Option<Session>, answer: &Ans
         return Event::Stop(StopReason::Term);
     }
     step_event(&with_alter(stage, &answer.command), all, holder, answer)
+}
+
+/// The step that a utility makes, or none where it has switched or the operator ends it.
+pub fn step_now(stage: &Stage, answer: &Answer) -> Option<Step>
+    ensures { IfSome result (MakesStep stage.entry.now answer.entry.now) }
+{
+    if stage.switched || is_terminated(&answer.command) {
+        return None;
+    }
+    Some(step_for(&with_alter(stage, &answer.command)))
+}
+
+/// The event, or STOP NOMEMORY where what goes with it could not be made.
+pub fn or_stop(event: Event, made: Result<(), NoMemory>) -> Event
+    ensures { (result ≡ event) ⊎ (result ≡ events.Stop reasons.NoMemory) }
+{
+    match made {
+        Ok(()) => event,
+        Err(_) => Event::Stop(StopReason::NoMemory),
+    }
 }

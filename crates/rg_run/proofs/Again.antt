@@ -58,12 +58,10 @@ going_on look first old new lines line alive step going = record {
   back = going.back ++ line ∷ [];
   goes = step going.base going.back going.goes;
   opened = going.opened;
-  copy_is = going.copy_is;
   opening = going.opening;
   found = going.found;
   alive = all_join IsAlive going.back (line ∷ []) going.alive (alive, tt);
   counted = going.counted;
-  room = going.room;
   log_room = going.log_room;
   came = by_came going.came;
   asked = going.asked;
@@ -114,7 +112,7 @@ module _ {V O : Type 0} {answers : O → Option (List Answer)} (look : V → Vol
   older_same = going.goes.stays.older
 
   pages_now : desk.ground.log.pages ≡ log_pages now.capacities
-  pages_now = going.goes.stays.log_pages ∙ going.log_room ∙ ap log_pages (sym going.goes.stays.calls.capacities)
+  pages_now = going.goes.stays.log_pages ∙ going.log_room ∙ ap log_pages (sym going.goes.stays.capacities)
 
   pub made_left : (trace : List Entry) → trace ≡ all → LeavesRun desk trace → Made look first lines trace now
   made_left trace is left =
@@ -336,14 +334,14 @@ module _ {V O : Type 0} {answers : O → Option (List Answer)} (look : V → Vol
           record {
             base = next;
             back = [];
-            goes = goes_opened look answers next opened (copy_first look now operator next opens) (counted_first look now operator next opens);
+            goes =
+                goes_opened look answers next opened (copy_first look now operator next opens) (counted_first look now operator next opens)
+                (omega (arith, capacity, least, ap smaller_pages same)) opens.opens.stage;
             opened = opened;
-            copy_is = copy_first look now operator next opens;
             opening = opening_then look now operator next opens;
             found = found_first look now operator next opens;
             alive = tt;
             counted = count_has later.told opens.opens.calls opens.opens.counted;
-            room = omega (arith, capacity, least, ap smaller_pages same);
             log_room = pages_first look now operator next opens ∙ ap log_pages (sym same);
             came = inr (record {
               front = lines;

@@ -13,6 +13,7 @@ use Rattle.rg_outside.specs.Moments.{EachCall, IfTold, moment}
 use Rattle.rg_outside.proofs.Every.{told_both, told_weaken}
 use Rattle.rg_page.specs.Content.{Content, content_at}
 use Rattle.rg_page_bytes.specs.PageBytes.{page_bytes}
+use Rattle.rg_phase.specs.Step.{copy_left}
 use Rattle.rg_stmt.specs.declared.event.Entry.{Entry}
 use Rattle.rg_stmt.specs.declared.event.Event.{Event}
 use Rattle.rg_stmt.specs.declared.event.Event.TheVariants as events
@@ -29,6 +30,7 @@ told_all (Some t) P f = f t
 
 pub layout_keeps : (copy : ℕ) (event : Event) → IsLayout copy event → (k : ℕ) → copy_after k event ≡ k
 layout_keeps copy (events.Opened opened rows pages used) is k = absurd is
+layout_keeps copy (events.Switched to sides) is k = absurd is
 layout_keeps copy event is k = refl
 
 pub layout_tells : (copy : ℕ) (event : Event) → IsLayout copy event → (k start before calls : ℕ) (t : Told) → IsFlushThen k start before calls t event
@@ -38,10 +40,12 @@ layout_tells copy event is k start before calls t = tt
 
 pub flushed_keeps : (event : Event) → IsFlushed event → (k : ℕ) → copy_after k event ≡ k
 flushed_keeps (events.Opened opened rows pages used) is k = absurd is
+flushed_keeps (events.Switched to sides) is k = absurd is
 flushed_keeps event is k = refl
 
 pub start_keeps : (options : Options) (event : Event) → IsStartEvent options event → (k : ℕ) → copy_after k event ≡ k
 start_keeps options (events.Opened opened rows pages used) is k = absurd is
+start_keeps options (events.Switched to sides) is k = absurd is
 start_keeps options event is k = refl
 
 pub start_tells : (options : Options) (event : Event) → IsStartEvent options event → (k start before calls : ℕ) (t : Told) → IsFlushThen k start before calls t event
@@ -49,10 +53,10 @@ start_tells options (events.Flush page) is k start before calls t = absurd is
 start_tells options events.Clean is k start before calls t = absurd is
 start_tells options event is k start before calls t = tt
 
-pub step_keeps : (answer : Option Answer) (event : Event) → IsStepEvent answer event → (k : ℕ) → copy_after k event ≡ k
-step_keeps None (events.Opened opened rows pages used) is k = absurd is
-step_keeps (Some answer) (events.Opened opened rows pages used) is k = absurd (cc (is))
-step_keeps answer event is k = refl
+pub step_copy : (answer : Option Answer) (event : Event) → IsStepEvent answer event → (k : ℕ) → copy_after k event ≡ copy_left k event
+step_copy None (events.Opened opened rows pages used) is k = absurd is
+step_copy (Some answer) (events.Opened opened rows pages used) is k = absurd (cc (is))
+step_copy answer event is k = refl
 
 pub step_tells : (answer : Option Answer) (event : Event) → IsStepEvent answer event → (k start before calls : ℕ) (t : Told) → IsFlushThen k start before calls t event
 step_tells None (events.Flush page) is k start before calls t = absurd is

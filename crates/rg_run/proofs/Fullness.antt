@@ -10,7 +10,7 @@ use Rattle.rg_stmt.specs.declared.event.Event.TheVariants.{Said}
 use Rattle.rg_stmt.specs.declared.stmt.Reply.TheVariants.{Full}
 use Rattle.rg_run.specs.Full.{IsFullFrom, IsFullOnlyFrom, smaller_pages}
 
-full_one : (less more allowed : ℕ) (event : Event) → less ≤ more → IsFullFrom more allowed event → IsFullFrom less allowed event
+pub full_one : (less more allowed : ℕ) (event : Event) → less ≤ more → IsFullFrom more allowed event → IsFullFrom less allowed event
 full_one less more allowed (Said stmt (Full need)) le is = omega (arith, le, is)
 full_one less more allowed (Said stmt reply) le is = is
 full_one less more allowed event le is = is

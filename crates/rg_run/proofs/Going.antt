@@ -8,7 +8,6 @@ use Rattle.std.specs.Cmp.{nat_cmp_total}
 use Rattle.std.specs.Option.{is_some}
 use Rattle.rg_desk.specs.Chronicle.{IsEntry, IsRecorded}
 use Rattle.rg_desk.specs.Desk.{DeskState, IsCopy, LegalFrom, old_records}
-use Rattle.rg_desk.specs.Flushed.{WritesEither}
 use Rattle.rg_desk.specs.OnVolume.{IsTidyVolume, WasAllTidy}
 use Rattle.rg_desk.specs.Stored.{IsStored}
 use Rattle.rg_desk.specs.Volume.{HasCalls, VolumeSeen}
@@ -20,7 +19,6 @@ use Rattle.rg_model.specs.Possible.{possible, states_before, states_from}
 use Rattle.rg_model.specs.Run.{Allows, Reopens, Run}
 use Rattle.rg_model.specs.State.{State, Table, at_rest}
 use Rattle.rg_model.proofs.RunPossible.{run_possible_start}
-use Rattle.rg_newest.specs.Tidy.{set_of}
 use Rattle.rg_outside.specs.Calls.{Call, Image, Told}
 use Rattle.rg_outside.specs.Capacities.{Capacities}
 use Rattle.rg_outside.specs.Faults.{Rose}
@@ -38,8 +36,7 @@ use Rattle.rg_run.specs.Outside.{IsDeviceOnlyIf, WritesOwn}
 use Rattle.rg_run.specs.Parts.{Again, AreParts, Came, Follows, Going, IfTidy, IsFound, IsKnown, Made, PartRun, RunsFrom}
 use Rattle.rg_run.specs.Parts.AreParts.{Next, One}
 use Rattle.rg_run.specs.Played.{Goes, TraceOf, first_of}
-use Rattle.rg_run.proofs.Fullness.{full_less}
-use Rattle.rg_run.proofs.Joins.{device_join, first_join, full_join, log_join, own_left, own_part, own_right, run_again, trace_join}
+use Rattle.rg_run.proofs.Joins.{device_join, first_join, full_join, log_join, own_left, own_right, run_again, trace_join}
 use Rattle.rg_run.proofs.Flushes.{flushes_join, flushes_on}
 use Rattle.rg_run.proofs.Openings.{all_join, found_by, found_on, openings_on, part_opened, parts_more}
 use Rattle.rg_run.proofs.Plays.{device_more, rose_earlier, rose_later}
@@ -197,13 +194,10 @@ module _ {V O : Type 0} {answers : O → Option (List Answer)} (look : V → Vol
 
   -- the calls since the last opening
   part_calls : EachCall (look base.volume).told now.told (WritesOwn desk.trace)
-  part_calls =
-      calls_weaken (WritesEither (set_of base.copy)) (WritesOwn desk.trace) (look base.volume).told now.told
-      (own_part desk.trace going.opened.entry going.opened.is base.copy going.copy_is (goes.begins ∙ ap first_of going.opened.trace))
-      goes.stays.calls.only
+  part_calls = goes.stays.only
 
   same_capacities : now.capacities ≡ (look base.volume).capacities
-  same_capacities = goes.stays.calls.capacities
+  same_capacities = goes.stays.capacities
 
   begun : first_of desk.trace ≡ Some going.opened.entry
   begun = goes.begins ∙ ap first_of going.opened.trace
@@ -223,11 +217,7 @@ module _ {V O : Type 0} {answers : O → Option (List Answer)} (look : V → Vol
       (openings_on (WritesOwn desk.trace) (log_pages (look base.volume).capacities) (look base.volume).told now.told trace part_calls all)
 
   part_full : IsFullOnlyFrom (3221 * smaller_pages now.capacities) 0 desk.trace
-  part_full =
-      let capacity = goes.stays.capacity in
-      let least = going.room in
-      let same = ap smaller_pages same_capacities in
-      full_less (3221 * smaller_pages now.capacities) (3221 * desk.ground.capacity) 0 desk.trace (omega (arith, capacity, least, same)) goes.full
+  part_full = goes.full
 
   part_log : IsLogFullOnlyFrom (limit_of (log_pages now.capacities)) 0 desk.trace
   part_log = subst (λ (n : ℕ). IsLogFullOnlyFrom (limit_of n) 0 desk.trace) (goes.stays.log_pages ∙ going.log_room ∙ ap log_pages (sym same_capacities)) goes.log_full
@@ -290,7 +280,7 @@ module _ {V O : Type 0} {answers : O → Option (List Answer)} (look : V → Vol
           log_full = subst (IsLogFullOnlyFrom (limit_of (log_pages now.capacities)) 0) only part_log;
           device = subst (λ (v : VolumeSeen). IsDeviceOnlyIf (Rose v.faults now.faults) trace) volume (subst (IsDeviceOnlyIf (Rose (look base.volume).faults now.faults)) only goes.device);
           calls = subst (λ (v : VolumeSeen). EachCall v.told now.told (WritesOwn trace)) volume (subst (λ (es : List Entry). EachCall (look base.volume).told now.told (WritesOwn es)) only part_calls);
-          later = subst (λ (v : VolumeSeen). v.faults ≤ now.faults) volume goes.stays.calls.later;
+          later = subst (λ (v : VolumeSeen). v.faults ≤ now.faults) volume goes.stays.later;
           capacities = same_capacities ∙ ap (λ (v : VolumeSeen). v.capacities) volume;
           openings = openings_now trace (subst (λ (es : List Entry). IfTold (look base.volume).told (λ t. AreOpeningsSince (log_pages (look base.volume).capacities) t.start t es)) only base_opening);
           flushes = subst (λ (es : List Entry). IfTold now.told (λ t. AreFlushesSince t.start t es)) only goes.flushes;
@@ -318,13 +308,13 @@ module _ {V O : Type 0} {answers : O → Option (List Answer)} (look : V → Vol
               (subst (λ (c : Capacities). IsLogFullOnlyFrom (limit_of (log_pages c)) 0 base.older) (sym same_capacities) past.log_full) goes.entries part_log;
           device =
               device_join (Rose low high) base.older desk.trace
-              (device_more (Rose low mid) (Rose low high) base.older (rose_later low mid high goes.stays.calls.later) past.device)
+              (device_more (Rose low mid) (Rose low high) base.older (rose_later low mid high goes.stays.later) past.device)
               (device_more (Rose mid high) (Rose low high) desk.trace (rose_earlier low mid high past.later) goes.device);
           calls =
               calls_join (WritesOwn trace) (look first.volume).told (look base.volume).told now.told
               (calls_weaken (WritesOwn base.older) (WritesOwn trace) (look first.volume).told (look base.volume).told (own_left base.older desk.trace) past.calls)
               (calls_weaken (WritesOwn desk.trace) (WritesOwn trace) (look base.volume).told now.told (own_right base.older desk.trace) part_calls);
-          later = omega (arith, past.later, goes.stays.calls.later);
+          later = omega (arith, past.later, goes.stays.later);
           capacities = same_capacities ∙ past.capacities;
           openings = openings_now trace openings_joined;
           flushes = flushes_joined;

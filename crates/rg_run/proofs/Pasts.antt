@@ -32,7 +32,8 @@ use Rattle.rg_stmt.specs.declared.layout.Sides.{Sides}
 use Rattle.rg_stmt.specs.declared.layout.Spot.{Spot}
 use Rattle.rg_stmt.specs.declared.line.Line.{Line}
 use Rattle.rg_stmt.specs.declared.line.Line.TheVariants.{Death, Flush, Reorg, Said, Show, Step}
-use Rattle.rg_tending.specs.Tending.{IsRefusedEvent, IsSystem, is_booked, utility_entry}
+use Rattle.rg_phase.specs.Step.{is_made}
+use Rattle.rg_tending.specs.Tending.{IsRefusedEvent, IsSystem, utility_entry}
 use Rattle.rg_tending.proofs.Keeping.{refused_is, said_keeps, system_keeps}
 use Rattle.rg_run.specs.Played.{EntryOf, IsFlushed, IsOpenedEntry, IsStartEvent, IsStepEvent}
 
@@ -165,20 +166,21 @@ refused_any past other events.Idle st new is allows = allows
 refused_any past other events.StepDown st new is allows = allows
 refused_any past other event st new is allows = absurd is
 
--- an event that a desk books is a step of the utility that runs
-booked_step : (past : List Entry) (answer : Option Answer) (event : Event) (st : State) → is_booked event ≡ true → next_state past answer actors.Utility event st ≡ state_after_step past answer event st st.utility
-booked_step past answer (events.Reload page rows) st is = refl
-booked_step past answer (events.Sort which) st is = refl
-booked_step past answer (events.Build which) st is = refl
-booked_step past answer (events.Log iteration took left verdict) st is = refl
-booked_step past answer (events.Wait session) st is = refl
-booked_step past answer (events.Granted drain) st is = refl
-booked_step past answer (events.GiveUp count) st is = refl
-booked_step past answer (events.Last took left) st is = refl
-booked_step past answer (events.Written pages) st is = refl
-booked_step past answer events.Ended st is = refl
-booked_step past answer (events.Stop reason) st is = refl
-booked_step past answer event st is = absurd (cc (is))
+-- an event of a step is one of the utility that runs
+made_step : (past : List Entry) (answer : Option Answer) (event : Event) (st : State) → is_made event ≡ true → next_state past answer actors.Utility event st ≡ state_after_step past answer event st st.utility
+made_step past answer (events.Reload page rows) st is = refl
+made_step past answer (events.Sort which) st is = refl
+made_step past answer (events.Build which) st is = refl
+made_step past answer (events.Log iteration took left verdict) st is = refl
+made_step past answer (events.Wait session) st is = refl
+made_step past answer (events.Granted drain) st is = refl
+made_step past answer (events.GiveUp count) st is = refl
+made_step past answer (events.Last took left) st is = refl
+made_step past answer (events.Written pages) st is = refl
+made_step past answer events.Ended st is = refl
+made_step past answer (events.Stop reason) st is = refl
+made_step past answer (events.Switched copy sides) st is = refl
+made_step past answer event st is = absurd (cc (is))
 
 -- it is allowed by the other entries, and so will be what follows
 abbrev pub GoesAlike : (past other : List Entry) → State → State → Entry → Type 0
@@ -208,8 +210,8 @@ module _ (past other : List Entry) (st new : State) (units : SameUnits past othe
   stepped None events.StepDown calls is allows = refused events.StepDown calls tt allows
   stepped None event calls is allows = absurd is
   stepped (Some answer) event calls is allows =
-      let goes = after_same past other (Some answer) event st new st.utility since (sym (booked_step past (Some answer) event st is) ∙ allows) in (
-        booked_step other (Some answer) event st is ∙ goes.0,
+      let goes = after_same past other (Some answer) event st new st.utility since (sym (made_step past (Some answer) event st is) ∙ allows) in (
+        made_step other (Some answer) event st is ∙ goes.0,
         runs_any new.utility _ (since_more past other (utility_entry event (Some answer) calls) units goes.1),
       )
 

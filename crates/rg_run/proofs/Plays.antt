@@ -1,15 +1,16 @@
 -- A run goes on by one line.
-use Rattle.std.proofs.Common.{◌≡◌, ◌≤◌, ◌||◌, ◌*◌, ℕ, Bool, true, false, List, [], ◌∷◌, ◌++◌, Option, Some, None, length, refl, sym, ◌∙◌, ap, subst, arith}
+use Rattle.std.proofs.Common.{◌≡◌, ◌==◌, ◌≤◌, ◌⊎◌, inl, inr, ◌||◌, ◌*◌, ℕ, Bool, true, false, List, [], ◌∷◌, ◌++◌, Option, Some, None, if◌then◌else◌, length, refl, sym, ◌∙◌, ap, subst, arith}
 use Rattle.std.specs.Prelude.{Result, Ok, Err, IfOk}
 use Rattle.std.specs.List.{AllZip}
+use Rattle.std.specs.Option.{is_some}
 use Rattle.rg_base.specs.declared.control.Answer.{Answer}
 use Rattle.rg_base.specs.declared.options.Options.{Options}
 use Rattle.rg_base.specs.declared.session.Session.{Session}
 use Rattle.rg_base.specs.declared.verdict.StopReason.TheVariants as reasons
 use Rattle.rg_fold.specs.declared.item.Stage.{Stage}
 use Rattle.rg_log.specs.Kept.{Listed as ListedLog}
-use Rattle.rg_phase.specs.Step.{Stepped, is_device_stop}
-use Rattle.rg_tending.specs.Tending.{NextBy, utility_entry}
+use Rattle.rg_phase.specs.Step.{IsSwitchFrom, Makes, NextMade, StepCalls, Stepped, copy_left, is_device_stop}
+use Rattle.rg_tending.specs.Tending.{utility_entry}
 use Rattle.rg_base.specs.declared.position.Position.{Position}
 use Rattle.rg_page.specs.Content.{Content}
 use Rattle.rg_stmt.specs.declared.event.Entry.{Entry}
@@ -22,25 +23,29 @@ use Rattle.rg_stmt.specs.declared.stmt.Reply.{Reply}
 use Rattle.rg_stmt.specs.declared.stmt.Reply.TheVariants.{Done, Found, Listed, Keyed, Absent, Duplicate, Held, Victim, Drained, Full, LogFull, Device, Down, NoMemory}
 use Rattle.rg_stmt.specs.declared.stmt.Stmt.{Stmt}
 use Rattle.rg_stmt.specs.Entries.{said_entry}
-use Rattle.rg_image.specs.Rules.{limit_of}
+use Rattle.rg_switch.specs.Switched.{other_of}
+use Rattle.rg_image.specs.Rules.{copy_capacity, limit_of}
 use Rattle.rg_desk.specs.Answers.{IfFull, IfLogFull, is_device}
 use Rattle.rg_desk.specs.Chronicle.{allowed_after, allowed_by, logged_after, logged_by, system_entry}
-use Rattle.rg_desk.specs.Desk.{DeskState, IfStartLogFull, IsLayout, IsStart, MadeFlush, MadeLayout, MadeSaid, MadeStart, MadeStep, Stays, left_to_take}
-use Rattle.rg_desk.specs.Flushed.{CallsOwn, FlushIs, WritesEither}
+use Rattle.rg_desk.specs.Desk.{DeskState, IfStartLogFull, IsCopy, IsLayout, IsStart, MadeFlush, MadeLayout, MadeSaid, MadeStart, Stays, is_started, left_to_take, old_records}
+use Rattle.rg_desk.specs.Flushed.{FlushIs, WritesEither}
 use Rattle.rg_desk.specs.Volume.{IsCount, VolumeSeen}
 use Rattle.rg_newest.specs.Tidy.{set_of}
+use Rattle.rg_outside.specs.Capacities.{Capacities}
 use Rattle.rg_outside.specs.Faults.{Rose}
-use Rattle.rg_outside.specs.Moments.{IfTold}
+use Rattle.rg_outside.specs.Moments.{EachCall, IfTold}
 use Rattle.rg_outside.proofs.Every.{told_both, told_weaken}
-use Rattle.rg_outside.proofs.Frame.{calls_join, no_calls}
+use Rattle.rg_outside.proofs.Frame.{calls_join, calls_weaken, no_calls}
 use Rattle.rg_run.specs.Asked.{HasAnswered, answer_before, answers_in}
 use Rattle.rg_run.specs.Flush.{AreFlushesSince, IsFlushThen, calls_of_last, copy_after, copy_of_last}
-use Rattle.rg_run.specs.Full.{IsFullFrom, IsFullOnlyFrom}
+use Rattle.rg_run.specs.Full.{IsFullFrom, IsFullOnlyFrom, smaller_pages}
 use Rattle.rg_run.specs.LogFull.{IsLogFullFrom, IsLogFullOnlyFrom}
-use Rattle.rg_run.specs.Outside.{IsDeviceIf, IsDeviceOnlyIf}
-use Rattle.rg_run.specs.Played.{EntryOf, Goes, IsFlushed, IsOpened, IsOpenedEntry, IsStartEvent, IsStepEvent, TraceOf, first_of}
+use Rattle.rg_run.specs.Outside.{IsDeviceIf, IsDeviceOnlyIf, WritesOwn}
+use Rattle.rg_run.specs.Played.{AllowsCopy, EntryOf, Goes, IsFlushed, IsOpened, IsOpenedEntry, IsStartEvent, IsStepEvent, StaysSince, TraceOf, first_of}
+use Rattle.rg_run.proofs.Fullness.{full_one, smaller_least}
+use Rattle.rg_run.proofs.Joins.{own_left, own_part, own_right}
 use Rattle.rg_run.proofs.Asking.{answered_all, answered_once, same_unasked, unasked}
-use Rattle.rg_run.proofs.Flushes.{calls_push, copy_push, flush_then, flushed_keeps, flushes_on, flushes_push, layout_keeps, layout_tells, opened_alone, start_keeps, start_tells, step_keeps, step_tells, told_all}
+use Rattle.rg_run.proofs.Flushes.{calls_push, copy_push, flush_then, flushed_keeps, flushes_on, flushes_push, layout_keeps, layout_tells, opened_alone, start_keeps, start_tells, step_copy, step_tells, told_all}
 
 entries_push : (lines : List Line) (entries : List Entry) (line : Line) (entry : Entry) → AllZip EntryOf lines entries → EntryOf line entry → AllZip EntryOf (lines ++ line ∷ []) (entries ++ entry ∷ [])
 entries_push [] [] line entry all of = (of, tt)
@@ -172,7 +177,7 @@ device_start P options FlushDevice is = absurd is
 device_start P options (Stop reason) is = absurd is
 device_start P options event is = tt
 
-step_so : (down : Bool) (stage : Option Stage) (changes : ℕ) (covered : Option Session) (answer : Option Answer) (event : Event) → NextBy down stage changes covered answer event → IsStepEvent answer event
+step_so : (down : Bool) (stage : Option Stage) (changes : ℕ) (covered : Option Session) (answer : Option Answer) (event : Event) → NextMade down stage changes covered answer event → IsStepEvent answer event
 step_so true stage changes covered None events.StepDown is = tt
 step_so true stage changes covered None event is = absurd is
 step_so true stage changes covered (Some answer) event is = absurd is
@@ -241,130 +246,257 @@ rose_later a b c le rose = λ low. let lt = rose (omega (arith, low, le)) in ome
 pub rose_earlier : (a b c : ℕ) → a ≤ b → Rose b c → Rose a c
 rose_earlier a b c le rose = λ low. let lt = rose low in omega (arith, lt, le)
 
-own_calls_join : (copy : ℕ) (a b c : VolumeSeen) → CallsOwn copy a b → CallsOwn copy b c → CallsOwn copy a c
-own_calls_join copy a b c x y = record {
-  only = calls_join (WritesEither (set_of copy)) a.told b.told c.told x.only y.only;
-  later = omega (arith, x.later, y.later);
-  capacities = y.capacities ∙ x.capacities;
-}
+-- the other copy is a copy
+other_is : (copy : ℕ) → IsCopy (other_of copy)
+other_is copy = go (copy == 1)
+  where
+    go : (b : Bool) → IsCopy (if b then 2 else 1)
+    go true = inr refl
+    go false = inl refl
+
+-- only such calls were made as the entries before allow
+record CallsWithin {V O : Type 0} (look : V → VolumeSeen) (old new : DeskState V O) : Type 0 where
+  pub only : EachCall (look old.volume).told (look new.volume).told (WritesOwn old.trace)
+  pub later : (look old.volume).faults ≤ (look new.volume).faults
+  pub capacities : (look new.volume).capacities ≡ (look old.volume).capacities
+
+-- what an entry's calls and its desk leave as it was
+record Moves {V O : Type 0} (look : V → VolumeSeen) (old new : DeskState V O) (entry : Entry) : Type 0 where
+  pub older : new.older ≡ old.older
+  pub log_pages : new.ground.log.pages ≡ old.ground.log.pages
+  pub opened : new.opened ≡ old.opened
+  pub first_copy : new.first_copy ≡ old.first_copy
+  pub old_same : old_records new ≡ old_records old
+  pub only : EachCall (look old.volume).told (look new.volume).told (WritesOwn old.trace)
+  pub later : (look old.volume).faults ≤ (look new.volume).faults
+  pub capacities : (look new.volume).capacities ≡ (look old.volume).capacities
+  pub room : smaller_pages (look old.volume).capacities ≤ new.ground.capacity
+  pub copy : new.copy ≡ copy_after old.copy entry.event
+  pub own : AllowsCopy (old.trace ++ entry ∷ []) new.copy
+  pub both : is_some new.stage ≡ true → (copy : ℕ) → IsCopy copy → AllowsCopy (old.trace ++ entry ∷ []) copy
 
 module _ {V O : Type 0} {answers : O → Option (List Answer)} (look : V → VolumeSeen) (first old new : DeskState V O) (lines : List Line) (goes : Goes look answers first lines old) where
-  stays_on : Stays look old new → Stays look first new
-  stays_on stays = record {
-    capacity = stays.capacity ∙ goes.stays.capacity;
-    log_pages = stays.log_pages ∙ goes.stays.log_pages;
-    opened = stays.opened ∙ goes.stays.opened;
-    first_copy = stays.first_copy ∙ goes.stays.first_copy;
-    old_same = stays.old_same ∙ goes.stays.old_same;
-    copy = stays.copy ∙ goes.stays.copy;
-    calls = own_calls_join first.copy (look first.volume) (look old.volume) (look new.volume) goes.stays.calls (subst (λ (n : ℕ). CallsOwn n (look old.volume) (look new.volume)) goes.stays.copy stays.calls);
-    older = stays.older ∙ goes.stays.older;
+  stays_on : (entry : Entry) → new.trace ≡ old.trace ++ entry ∷ [] → Moves look old new entry → StaysSince look first new
+  stays_on entry made moves = record {
+    older = moves.older ∙ goes.stays.older;
+    log_pages = moves.log_pages ∙ goes.stays.log_pages;
+    opened = moves.opened ∙ goes.stays.opened;
+    first_copy = moves.first_copy ∙ goes.stays.first_copy;
+    old_same = moves.old_same ∙ goes.stays.old_same;
+    only =
+        subst (λ (es : List Entry). EachCall (look first.volume).told (look new.volume).told (WritesOwn es)) (sym made)
+        (calls_weaken (WritesOwn old.trace) (WritesOwn (old.trace ++ entry ∷ [])) (look first.volume).told (look new.volume).told (own_left old.trace (entry ∷ []))
+        (calls_join (WritesOwn old.trace) (look first.volume).told (look old.volume).told (look new.volume).told goes.stays.only moves.only));
+    later = omega (arith, goes.stays.later, moves.later);
+    capacities = moves.capacities ∙ goes.stays.capacities;
   }
 
   -- faults that rose before have risen, and so have those that rose now
-  risen : Stays look old new → Rose (look first.volume).faults (look old.volume).faults → Rose (look first.volume).faults (look new.volume).faults
-  risen stays rose = rose_later (look first.volume).faults (look old.volume).faults (look new.volume).faults stays.calls.later rose
+  risen : (look old.volume).faults ≤ (look new.volume).faults → Rose (look first.volume).faults (look old.volume).faults → Rose (look first.volume).faults (look new.volume).faults
+  risen later rose = rose_later (look first.volume).faults (look old.volume).faults (look new.volume).faults later rose
 
   rises : Rose (look old.volume).faults (look new.volume).faults → Rose (look first.volume).faults (look new.volume).faults
-  rises rose = rose_earlier (look first.volume).faults (look old.volume).faults (look new.volume).faults goes.stays.calls.later rose
+  rises rose = rose_earlier (look first.volume).faults (look old.volume).faults (look new.volume).faults goes.stays.later rose
 
-  on : (line : Line) (entry : Entry) → new.trace ≡ old.trace ++ entry ∷ [] → EntryOf line entry → IsFullFrom (3221 * old.ground.capacity) (allowed_by 0 old.trace) entry.event → IsLogFullFrom (limit_of old.ground.log.pages) (logged_by 0 old.trace) entry.event
+  abbrev least : ℕ
+  least = 3221 * smaller_pages (look old.volume).capacities
+
+  on : (line : Line) (entry : Entry) → new.trace ≡ old.trace ++ entry ∷ [] → EntryOf line entry → IsFullFrom least (allowed_by 0 old.trace) entry.event → IsLogFullFrom (limit_of old.ground.log.pages) (logged_by 0 old.trace) entry.event
       → IsDeviceIf (Rose (look first.volume).faults (look new.volume).faults) entry.event → (new.down ≡ true → Rose (look first.volume).faults (look new.volume).faults)
-      → IfTold (look new.volume).told (λ t. IsFlushThen (copy_of_last 0 old.trace) t.start (calls_of_last 0 old.trace) entry.calls t entry.event) → ((k : ℕ) → copy_after k entry.event ≡ k) → IsCount (look new.volume) entry.calls → HasAnswered (answers old.operator) (answer_before entry.answer []) (answers new.operator) → Stays look old new → Goes look answers first (lines ++ line ∷ []) new
-  on line entry made of full log device down flush keeps counted asked stays = record {
+      → IfTold (look new.volume).told (λ t. IsFlushThen (copy_of_last 0 old.trace) t.start (calls_of_last 0 old.trace) entry.calls t entry.event) → IsCount (look new.volume) entry.calls → HasAnswered (answers old.operator) (answer_before entry.answer []) (answers new.operator) → Moves look old new entry → Goes look answers first (lines ++ line ∷ []) new
+  on line entry made of full log device down flush counted asked moves = record {
     entries = subst (TraceOf (lines ++ line ∷ [])) (sym made) (trace_push lines old.trace line entry goes.entries of);
     begins = ap first_of made ∙ first_push lines old.trace entry goes.entries ∙ goes.begins;
     full =
-        subst (λ (n : ℕ). IsFullOnlyFrom (3221 * n) 0 new.trace) (sym stays.capacity)
-        (subst (IsFullOnlyFrom (3221 * old.ground.capacity) 0) (sym made) (full_push (3221 * old.ground.capacity) 0 old.trace entry goes.full full));
+        subst (λ (c : Capacities). IsFullOnlyFrom (3221 * smaller_pages c) 0 new.trace) (sym moves.capacities)
+        (subst (IsFullOnlyFrom least 0) (sym made) (full_push least 0 old.trace entry goes.full full));
     log_full =
-        subst (λ (n : ℕ). IsLogFullOnlyFrom (limit_of n) 0 new.trace) (sym stays.log_pages)
+        subst (λ (n : ℕ). IsLogFullOnlyFrom (limit_of n) 0 new.trace) (sym moves.log_pages)
         (subst (IsLogFullOnlyFrom (limit_of old.ground.log.pages) 0) (sym made) (log_push (limit_of old.ground.log.pages) 0 old.trace entry goes.log_full log));
     device =
         subst (IsDeviceOnlyIf (Rose (look first.volume).faults (look new.volume).faults)) (sym made)
         (device_push (Rose (look first.volume).faults (look new.volume).faults) old.trace entry
-        (device_more (Rose (look first.volume).faults (look old.volume).faults) (Rose (look first.volume).faults (look new.volume).faults) old.trace (risen stays) goes.device) device);
+        (device_more (Rose (look first.volume).faults (look old.volume).faults) (Rose (look first.volume).faults (look new.volume).faults) old.trace (risen moves.later) goes.device) device);
     down = down;
     flushes =
         subst (λ (es : List Entry). IfTold (look new.volume).told (λ t. AreFlushesSince t.start t es)) (sym made)
         (told_weaken (λ t. AreFlushesSince t.start t old.trace × IsFlushThen (copy_of_last 0 old.trace) t.start (calls_of_last 0 old.trace) entry.calls t entry.event) (λ t. AreFlushesSince t.start t (old.trace ++ entry ∷ [])) (look new.volume).told
         (λ t both. flushes_push 0 t.start 0 t old.trace entry both.0 both.1)
         (told_both (λ t. AreFlushesSince t.start t old.trace) (λ t. IsFlushThen (copy_of_last 0 old.trace) t.start (calls_of_last 0 old.trace) entry.calls t entry.event) (look new.volume).told
-        (flushes_on (WritesEither (set_of old.copy)) (look old.volume).told (look new.volume).told 0 0 old.trace stays.calls.only goes.flushes) flush));
-    copy_is = ap (copy_of_last 0) made ∙ copy_push 0 old.trace entry ∙ keeps (copy_of_last 0 old.trace) ∙ goes.copy_is ∙ sym stays.copy;
+        (flushes_on (WritesOwn old.trace) (look old.volume).told (look new.volume).told 0 0 old.trace moves.only goes.flushes) flush));
+    copy_is = ap (copy_of_last 0) made ∙ copy_push 0 old.trace entry ∙ ap (λ (n : ℕ). copy_after n entry.event) goes.copy_is ∙ sym moves.copy;
     counted = subst (IsCount (look new.volume)) (sym (ap (calls_of_last 0) made ∙ calls_push 0 old.trace entry)) counted;
     asked =
         subst (λ (es : List Entry). HasAnswered (answers first.operator) (answers_in es) (answers new.operator)) (sym made)
         (answered_all (answers first.operator) (answers old.operator) (answers new.operator) old.trace (entry ∷ []) (old.trace ++ entry ∷ []) refl goes.asked asked);
-    stays = stays_on stays;
+    room = subst (λ (c : Capacities). smaller_pages c ≤ new.ground.capacity) (sym moves.capacities) moves.room;
+    own = subst (λ (es : List Entry). AllowsCopy es new.copy) (sym made) moves.own;
+    both = λ runs copy is. subst (λ (es : List Entry). AllowsCopy es copy) (sym made) (moves.both runs copy is);
+    stays = stays_on entry made moves;
   }
+
+  -- what one more entry allows
+  allows_more : (entry : Entry) (copy : ℕ) → AllowsCopy old.trace copy → AllowsCopy (old.trace ++ entry ∷ []) copy
+  allows_more entry copy allows call writes = own_left old.trace (entry ∷ []) call (allows call writes)
+
+  moves_of : (entry : Entry) → Stays look old new → ((k : ℕ) → copy_after k entry.event ≡ k)
+      → (is_some new.stage ≡ true → (copy : ℕ) → IsCopy copy → AllowsCopy (old.trace ++ entry ∷ []) copy) → Moves look old new entry
+  moves_of entry stays keeps both = record {
+    older = stays.older;
+    log_pages = stays.log_pages;
+    opened = stays.opened;
+    first_copy = stays.first_copy;
+    old_same = stays.old_same;
+    only = calls_weaken (WritesEither (set_of old.copy)) (WritesOwn old.trace) (look old.volume).told (look new.volume).told goes.own stays.calls.only;
+    later = stays.calls.later;
+    capacities = stays.calls.capacities;
+    room = let room = goes.room in let capacity = stays.capacity in omega (arith, room, capacity);
+    copy = stays.copy ∙ sym (keeps old.copy);
+    own = allows_more entry new.copy (subst (AllowsCopy old.trace) (sym stays.copy) goes.own);
+    both = both;
+  }
+
+  -- where the utility's stage is as it was
+  both_still : (entry : Entry) → new.stage ≡ old.stage → is_some new.stage ≡ true → (copy : ℕ) → IsCopy copy → AllowsCopy (old.trace ++ entry ∷ []) copy
+  both_still entry same runs copy is = allows_more entry copy (goes.both (ap (λ (o : Option Stage). is_some o) (sym same) ∙ runs) copy is)
+
+  full_least : (allowed : ℕ) (event : Event) → IsFullFrom (3221 * old.ground.capacity) allowed event → IsFullFrom least allowed event
+  full_least allowed event full = let room = goes.room in full_one least (3221 * old.ground.capacity) allowed event (omega (arith, room)) full
 
   pub goes_said : (session : Session) (stmt : Stmt) → MadeSaid look old session stmt new → Goes look answers first (lines ++ Said session stmt ∷ []) new
   goes_said session stmt said =
-      on (Said session stmt) (said_entry session stmt said.reply said.calls) said.made (said.reply, refl, said.is) (full_said session stmt said.reply (allowed_by 0 old.trace) old.ground.capacity said.full) (log_said session stmt said.reply (logged_by 0 old.trace) old.ground.log.pages said.log_full)
+      let entry = said_entry session stmt said.reply said.calls in
+      on (Said session stmt) entry said.made (said.reply, refl, said.is) (full_least (allowed_by 0 old.trace) entry.event (full_said session stmt said.reply (allowed_by 0 old.trace) old.ground.capacity said.full)) (log_said session stmt said.reply (logged_by 0 old.trace) old.ground.log.pages said.log_full)
       (device_said (Rose (look first.volume).faults (look new.volume).faults) session stmt said.reply (λ is. rises (said.device is)))
-      (λ down. by_old old.down refl (sym said.down ∙ down)) (told_all (look new.volume).told (λ t. Unit {0}) (λ t. tt)) (λ k. refl) said.counted (same_unasked answers old.operator new.operator said.utility.operator) said.stays
+      (λ down. by_old old.down refl (sym said.down ∙ down)) (told_all (look new.volume).told (λ t. Unit {0}) (λ t. tt)) said.counted (same_unasked answers old.operator new.operator said.utility.operator)
+      (moves_of entry said.stays (λ k. refl) (both_still entry said.utility.stage))
     where
       by_old : (b : Bool) → old.down ≡ b → (b || is_device said.reply) ≡ true → Rose (look first.volume).faults (look new.volume).faults
-      by_old true e down = risen said.stays (goes.down e)
+      by_old true e down = risen said.stays.calls.later (goes.down e)
       by_old false e down = rises (said.device (device_is said.reply down))
 
   pub goes_shown : MadeLayout look old new → Goes look answers first (lines ++ Show ∷ []) new
   goes_shown shown =
-      on Show (system_entry shown.event shown.calls) shown.made (old.copy, shown.event, refl, shown.is) (full_layout old.copy shown.event (3221 * old.ground.capacity) (allowed_by 0 old.trace) shown.is) (log_layout old.copy shown.event (limit_of old.ground.log.pages) (logged_by 0 old.trace) shown.is)
-      (device_layout (Rose (look first.volume).faults (look new.volume).faults) old.copy shown.event shown.is) (λ down. risen shown.stays (goes.down (sym shown.down ∙ down)))
+      let entry = system_entry shown.event shown.calls in
+      on Show entry shown.made (old.copy, shown.event, refl, shown.is) (full_layout old.copy shown.event least (allowed_by 0 old.trace) shown.is) (log_layout old.copy shown.event (limit_of old.ground.log.pages) (logged_by 0 old.trace) shown.is)
+      (device_layout (Rose (look first.volume).faults (look new.volume).faults) old.copy shown.event shown.is) (λ down. risen shown.stays.calls.later (goes.down (sym shown.down ∙ down)))
       (told_all (look new.volume).told (λ t. IsFlushThen (copy_of_last 0 old.trace) t.start (calls_of_last 0 old.trace) shown.calls t shown.event) (λ t. layout_tells old.copy shown.event shown.is (copy_of_last 0 old.trace) t.start (calls_of_last 0 old.trace) shown.calls t))
-      (layout_keeps old.copy shown.event shown.is) shown.counted (same_unasked answers old.operator new.operator shown.utility.operator) shown.stays
+      shown.counted (same_unasked answers old.operator new.operator shown.utility.operator) (moves_of entry shown.stays (layout_keeps old.copy shown.event shown.is) (both_still entry shown.utility.stage))
 
   pub goes_flushed : MadeFlush look old new → Goes look answers first (lines ++ Flush ∷ []) new
   goes_flushed made =
       let is = flushed_so old.down old.copy old.contents old.marks new.marks (look old.volume) (look new.volume) made.event made.is in
-      on Flush (system_entry made.event made.calls) made.made (made.event, refl, is) (full_flush made.event (3221 * old.ground.capacity) (allowed_by 0 old.trace) is) (log_flush made.event (limit_of old.ground.log.pages) (logged_by 0 old.trace) is)
+      let entry = system_entry made.event made.calls in
+      on Flush entry made.made (made.event, refl, is) (full_flush made.event least (allowed_by 0 old.trace) is) (log_flush made.event (limit_of old.ground.log.pages) (logged_by 0 old.trace) is)
       (device_flush (Rose (look first.volume).faults (look new.volume).faults) old.down old.copy old.contents old.marks new.marks (look old.volume) (look new.volume) made.event rises made.is)
-      (λ down. risen made.stays (goes.down (sym made.down ∙ down)))
+      (λ down. risen made.stays.calls.later (goes.down (sym made.down ∙ down)))
       (subst (λ (k : ℕ). IfTold (look new.volume).told (λ t. IsFlushThen k t.start (calls_of_last 0 old.trace) made.calls t made.event)) (sym goes.copy_is)
       (flush_then (WritesEither (set_of old.copy)) old.down old.copy old.contents old.marks new.marks (look old.volume) (look new.volume) (calls_of_last 0 old.trace) made.calls made.event made.stays.calls.only goes.counted made.counted made.is))
-      (flushed_keeps made.event is) made.counted (same_unasked answers old.operator new.operator made.utility.operator) made.stays
+      made.counted (same_unasked answers old.operator new.operator made.utility.operator) (moves_of entry made.stays (flushed_keeps made.event is) (both_still entry made.utility.stage))
+
+  -- where a utility runs, it ran before, or it started
+  started_runs : (down : Bool) (stage next : Option Stage) (options : Options) (copy pages : ℕ) (log : ListedLog) (event : Event) → IsStart down stage options copy pages log event next → is_some next ≡ true → (is_some stage ≡ true) ⊎ (is_started event ≡ true)
+  started_runs true stage next options copy pages log event is runs = inl (ap (λ (o : Option Stage). is_some o) (sym is.1) ∙ runs)
+  started_runs false (Some s) next options copy pages log event is runs = inl refl
+  started_runs false None next options copy pages log (events.Started given of_copy of_pages) is runs = inr refl
+  started_runs false None next options copy pages log (events.StartLogFull need left) is runs = absurd (cc (ap (λ (o : Option Stage). is_some o) is.3, runs))
+  started_runs false None next options copy pages log events.StartNoMemory is runs = absurd (cc (ap (λ (o : Option Stage). is_some o) is, runs))
+  started_runs false None next options copy pages log event is runs = absurd is
+
+  -- the start of a utility allows both copies
+  start_allows : (event : Event) (calls : ℕ) → is_started event ≡ true → (copy : ℕ) → IsCopy copy → AllowsCopy (old.trace ++ utility_entry event None calls ∷ []) copy
+  start_allows (events.Started options of_copy pages) calls is copy (inl one) call writes =
+      own_right old.trace (utility_entry (events.Started options of_copy pages) None calls ∷ []) call (inl (inl (subst (λ (n : ℕ). WritesEither (set_of n) call) one writes)))
+  start_allows (events.Started options of_copy pages) calls is copy (inr two) call writes =
+      own_right old.trace (utility_entry (events.Started options of_copy pages) None calls ∷ []) call (inl (inr (subst (λ (n : ℕ). WritesEither (set_of n) call) two writes)))
+  start_allows event calls is copy which call writes = absurd (cc (is))
 
   pub goes_started : (options : Options) (started : Bool) → MadeStart look old options started new → Goes look answers first (lines ++ Reorg options ∷ []) new
   goes_started options started made =
       let is = start_so old.down old.stage options old.copy (length old.contents) old.ground.log made.event new.stage made.is in
-      on (Reorg options) (utility_entry made.event None made.calls) made.made (made.event, refl, is) (full_start options made.event (3221 * old.ground.capacity) (allowed_by 0 old.trace) is)
+      let entry = utility_entry made.event None made.calls in
+      on (Reorg options) entry made.made (made.event, refl, is) (full_start options made.event least (allowed_by 0 old.trace) is)
       (log_start options made.event (logged_by 0 old.trace) old.ground.log.pages is made.log_full) (device_start (Rose (look first.volume).faults (look new.volume).faults) options made.event is)
-      (λ down. risen made.stays (goes.down (sym made.down ∙ down)))
+      (λ down. risen made.stays.calls.later (goes.down (sym made.down ∙ down)))
       (told_all (look new.volume).told (λ t. IsFlushThen (copy_of_last 0 old.trace) t.start (calls_of_last 0 old.trace) made.calls t made.event) (λ t. start_tells options made.event is (copy_of_last 0 old.trace) t.start (calls_of_last 0 old.trace) made.calls t))
-      (start_keeps options made.event is) made.counted (same_unasked answers old.operator new.operator made.operator) made.stays
+      made.counted (same_unasked answers old.operator new.operator made.operator)
+      (moves_of entry made.stays (start_keeps options made.event is)
+      (λ runs copy which. by_start copy which (started_runs old.down old.stage new.stage options old.copy (length old.contents) old.ground.log made.event made.is runs)))
+    where
+      by_start : (copy : ℕ) → IsCopy copy → (is_some old.stage ≡ true) ⊎ (is_started made.event ≡ true) → AllowsCopy (old.trace ++ utility_entry made.event None made.calls ∷ []) copy
+      by_start copy which (inl ran) = allows_more (utility_entry made.event None made.calls) copy (goes.both ran copy which)
+      by_start copy which (inr started) = start_allows made.event made.calls started copy which
 
   pub goes_stepped : (last : O → Option ℕ) → Stepped look answers last old new → Goes look answers first (lines ++ Step ∷ []) new
   goes_stepped last stepped =
       let answer = stepped.answer in
       let event = stepped.event in
       let is = step_so old.down old.stage old.changes old.covered answer event stepped.next in
-      on Step (utility_entry event answer made.calls) made.made (answer, event, refl, is) (full_step answer event (3221 * old.ground.capacity) (allowed_by 0 old.trace) is)
-      (log_step answer event (limit_of old.ground.log.pages) (logged_by 0 old.trace) is) (device_step (Rose (look first.volume).faults (look new.volume).faults) answer event (λ at. rises (stepped.device at)) is)
-      (λ down. risen stays (goes.down (sym made.down ∙ down)))
+      on Step entry made.made (answer, event, refl, is) (full_step answer event least (allowed_by 0 old.trace) is)
+      (log_step answer event (limit_of old.ground.log.pages) (logged_by 0 old.trace) is) (device_step (Rose (look first.volume).faults (look new.volume).faults) answer event (λ at. rises (made.device at)) is)
+      (λ down. by_down (made.down down))
       (told_all (look new.volume).told (λ t. IsFlushThen (copy_of_last 0 old.trace) t.start (calls_of_last 0 old.trace) made.calls t event) (λ t. step_tells answer event is (copy_of_last 0 old.trace) t.start (calls_of_last 0 old.trace) made.calls t))
-      (step_keeps answer event is) made.counted
+      made.counted
       (subst (λ (o : O). HasAnswered (answers old.operator) (answer_before answer []) (answers o)) (sym made.operator)
       (answered_once answers last (left_to_take old) old.operator stepped.asked.operator answer stepped.operator))
-      stays
+      moves
     where
       asked : DeskState V O
       asked = record old { spare = stepped.asked.spare; kept = stepped.answer; operator = stepped.asked.operator }
 
-      made : MadeStep look asked stepped.answer stepped.event new
-      made = subst (λ (d : DeskState V O). MadeStep look d stepped.answer stepped.event new) stepped.same stepped.made
+      made : Makes look asked stepped.answer stepped.event new
+      made = subst (λ (d : DeskState V O). Makes look d stepped.answer stepped.event new) stepped.same stepped.made
 
-      stays : Stays look old new
-      stays = record {
-        older = made.stays.older;
-        capacity = made.stays.capacity;
-        log_pages = made.stays.log_pages;
-        opened = made.stays.opened;
-        first_copy = made.stays.first_copy;
-        old_same = made.stays.old_same;
-        copy = made.stays.copy;
-        calls = made.stays.calls;
+      entry : Entry
+      entry = utility_entry stepped.event stepped.answer made.calls
+
+      -- it calls nothing, or only as far as the start of the utility allows
+      calls_of : (answer : Option Answer) → StepCalls look old answer new → CallsWithin look old new
+      calls_of None same = record {
+        only = subst (λ (v : V). EachCall (look old.volume).told (look v).told (WritesOwn old.trace)) (sym same) (no_calls (WritesOwn old.trace) (look old.volume).told);
+        later = omega (arith, ap (λ (v : V). (look v).faults) same);
+        capacities = ap (λ (v : V). (look v).capacities) same;
+      }
+      calls_of (Some a) calls = record {
+        only = calls_weaken (WritesEither (set_of (other_of old.copy))) (WritesOwn old.trace) (look old.volume).told (look new.volume).told (goes.both calls.0 (other_of old.copy) (other_is old.copy)) calls.1.only;
+        later = calls.1.later;
+        capacities = calls.1.capacities;
+      }
+
+      calls : CallsWithin look old new
+      calls = calls_of stepped.answer stepped.only
+
+      by_down : (old.down ≡ true) ⊎ Rose (look old.volume).faults (look new.volume).faults → Rose (look first.volume).faults (look new.volume).faults
+      by_down (inl down) = risen calls.later (goes.down down)
+      by_down (inr rose) = rises rose
+
+      room : (new.ground.capacity ≡ old.ground.capacity) ⊎ (new.ground.capacity ≡ copy_capacity (look old.volume).capacities (other_of old.copy)) → smaller_pages (look old.volume).capacities ≤ new.ground.capacity
+      room (inl same) = let least = goes.room in omega (arith, least, same)
+      room (inr other) = let least = smaller_least (look old.volume).capacities (other_of old.copy) in omega (arith, least, other)
+
+      -- the copy that is current after it is one that may be written
+      own_copy : (answer : Option Answer) (event : Event) → IsStepEvent answer event → StepCalls look old answer new → IsSwitchFrom old.copy event → AllowsCopy old.trace (copy_left old.copy event)
+      own_copy None (events.Switched to sides) is calls to_is = absurd is
+      own_copy (Some a) (events.Switched to sides) is calls to_is = subst (AllowsCopy old.trace) (sym to_is) (goes.both calls.0 (other_of old.copy) (other_is old.copy))
+      own_copy answer event is calls to_is = goes.own
+
+      step_is : IsStepEvent stepped.answer stepped.event
+      step_is = step_so old.down old.stage old.changes old.covered stepped.answer stepped.event stepped.next
+
+      moves : Moves look old new entry
+      moves = record {
+        older = made.older;
+        log_pages = made.log_pages;
+        opened = made.opened;
+        first_copy = made.first_copy;
+        old_same = made.old_same;
+        only = calls.only;
+        later = calls.later;
+        capacities = calls.capacities;
+        room = room made.capacity;
+        copy = made.copy ∙ sym (step_copy stepped.answer stepped.event step_is old.copy);
+        own = allows_more entry new.copy (subst (AllowsCopy old.trace) (sym made.copy) (own_copy stepped.answer stepped.event step_is stepped.only made.to));
+        both = λ runs copy which. allows_more entry copy (goes.both (made.runs runs) copy which);
       }
 
 -- the entry of an opening answers no statement
@@ -378,11 +510,12 @@ device_opened : (entry : Entry) → IsOpenedEntry entry → (P : Type 0) → IsD
 device_opened entry is P = subst (λ (e : Entry). IsDeviceIf P e.event) (sym is.is) tt
 
 -- the run begins with the entry of the opening
-pub goes_opened : {V O : Type 0} (look : V → VolumeSeen) (answers : O → Option (List Answer)) (desk : DeskState V O) → (opened : IsOpened desk) → opened.is.copy ≡ desk.copy → IsCount (look desk.volume) opened.entry.calls → Goes look answers desk [] desk
-goes_opened {V} {O} look answers desk opened copy counted = record {
+pub goes_opened : {V O : Type 0} (look : V → VolumeSeen) (answers : O → Option (List Answer)) (desk : DeskState V O) → (opened : IsOpened desk) → opened.is.copy ≡ desk.copy → IsCount (look desk.volume) opened.entry.calls
+    → smaller_pages (look desk.volume).capacities ≤ desk.ground.capacity → desk.stage ≡ None → Goes look answers desk [] desk
+goes_opened {V} {O} look answers desk opened copy counted room idle = record {
   entries = subst (TraceOf []) (sym opened.trace) (opened.is, tt);
   begins = refl;
-  full = subst (IsFullOnlyFrom (3221 * desk.ground.capacity) 0) (sym opened.trace) (full_opened opened.entry opened.is (3221 * desk.ground.capacity) 0, tt);
+  full = subst (IsFullOnlyFrom (3221 * smaller_pages (look desk.volume).capacities) 0) (sym opened.trace) (full_opened opened.entry opened.is (3221 * smaller_pages (look desk.volume).capacities) 0, tt);
   log_full = subst (IsLogFullOnlyFrom (limit_of desk.ground.log.pages) 0) (sym opened.trace) (log_opened opened.entry opened.is (limit_of desk.ground.log.pages) 0, tt);
   device = subst (IsDeviceOnlyIf (Rose (look desk.volume).faults (look desk.volume).faults)) (sym opened.trace) (device_opened opened.entry opened.is (Rose (look desk.volume).faults (look desk.volume).faults), tt);
   down = λ down. absurd (cc (down, opened.up));
@@ -394,15 +527,18 @@ goes_opened {V} {O} look answers desk opened copy counted = record {
   asked =
       subst (λ (es : List Entry). HasAnswered (answers desk.operator) (answers_in es) (answers desk.operator)) (sym opened.trace)
       (subst (λ (e : Entry). HasAnswered (answers desk.operator) (answers_in (e ∷ [])) (answers desk.operator)) (sym opened.is.is) (unasked (answers desk.operator)));
+  room = room;
+  own = λ call writes. own_part desk.trace opened.entry opened.is desk.copy copy (ap first_of opened.trace) call writes;
+  both = λ runs. absurd (cc (runs, ap (λ (o : Option Stage). is_some o) idle));
   stays = record {
-    capacity = refl;
+    older = refl;
     log_pages = refl;
     opened = refl;
     first_copy = refl;
     old_same = refl;
-    copy = refl;
-    calls = record { only = no_calls (WritesEither (set_of desk.copy)) (look desk.volume).told; later = omega arith; capacities = refl };
-    older = refl;
+    only = no_calls (WritesOwn desk.trace) (look desk.volume).told;
+    later = omega arith;
+    capacities = refl;
   };
 }
 

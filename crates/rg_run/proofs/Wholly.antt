@@ -224,14 +224,14 @@ module _ {V : Type 0} (told : V → Option Told) (faults : V → ℕ) (capacitie
       record {
         base = desk;
         back = [];
-        goes = goes_opened look answers desk opened (copy_first look (look begun) operator desk opens) (counted_first look (look begun) operator desk opens);
+        goes =
+            goes_opened look answers desk opened (copy_first look (look begun) operator desk opens) (counted_first look (look begun) operator desk opens)
+            (omega (arith, capacity, least, ap smaller_pages same)) opens.opens.stage;
         opened = opened;
-        copy_is = copy_first look (look begun) operator desk opens;
         opening = opening_then look (look begun) operator desk opens;
         found = found_first look (look begun) operator desk opens;
         alive = tt;
         counted = count_has (look desk.volume).told opens.opens.calls opens.opens.counted;
-        room = omega (arith, capacity, least, ap smaller_pages same);
         log_room = pages_first look (look begun) operator desk opens ∙ ap log_pages (sym same);
         came = inl (refl, none, refl);
         asked = subst (λ (es : List Entry). HasAnswered (answers desk.operator) (answers_in es) (answers desk.operator)) (sym none) (unasked (answers desk.operator));

@@ -3,18 +3,19 @@
 -- 1. Where an entry says that a page was written, the last call up to it was the write of that page
 --    to the set of the current copy. It succeeded, and it was made since the entry before.
 -- 2. Where an entry says CLEAN, no call was made since the entry before.
--- 3. The current copy is that of the last opening.
+-- 3. The current copy is that of the last opening or switch.
 use Rattle.std.specs.Prelude.{◌≡◌, ◌≤◌, ◌<◌, ◌+◌, ℕ, List, [], ◌∷◌, length}
 use Rattle.rg_newest.specs.Tidy.{set_of}
 use Rattle.rg_outside.specs.Calls.{Call, Told, Wrote}
 use Rattle.rg_outside.specs.Moments.{moment}
 use Rattle.rg_stmt.specs.declared.event.Entry.{Entry}
 use Rattle.rg_stmt.specs.declared.event.Event.{Event}
-use Rattle.rg_stmt.specs.declared.event.Event.TheVariants.{Clean, Flush, Opened}
+use Rattle.rg_stmt.specs.declared.event.Event.TheVariants.{Clean, Flush, Opened, Switched}
 
 -- the copy that is current after this event
 abbrev pub copy_after : (copy : ℕ) → Event → ℕ
 copy_after copy (Opened opened rows pages used) = opened
+copy_after copy (Switched to sides) = to
 copy_after copy event = copy
 
 -- The count began after `start` calls, and up to an entry there were `calls`, more than up to the

@@ -21,7 +21,7 @@ IsFullFrom least allowed (Said stmt (Full need)) = least ≤ allowed
 IsFullFrom least allowed event = Unit {0}
 
 -- FULL is answered only where the entries before have allowed so many bytes: 4,064 for each page of
--- the last opening, and 18 and its bytes for each row that was written since
+-- the last opening or switch, and 18 and its bytes for each row that was written since
 abbrev pub IsFullOnlyFrom : (least allowed : ℕ) → List Entry → Type 0
 IsFullOnlyFrom least allowed [] = Unit {0}
 IsFullOnlyFrom least allowed (entry ∷ entries) =

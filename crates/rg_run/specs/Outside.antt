@@ -3,12 +3,13 @@
 -- 1. DEVICE is answered only where a call of the volume failed, and so is a run's end that the
 --    device brought about.
 -- 2. An opening writes nothing. After it no page is written but those of the log and of the copy
---    that was opened.
+--    that was opened, and after the start of a utility those of both copies.
 -- 3. If the volume read tidy when a run began, no opening finds damage but the first one.
 -- 4. What is said of a known volume's contents holds while its calls are fewer than 2 ^ 64 - 1, for
 --    so many can be counted.
 use Rattle.std.specs.Prelude.{◌≡◌, ◌⊎◌, ◌<◌, ◌-◌, ◌^◌, ◌++◌, ℕ, List, [], ◌∷◌, Option, Some, length}
 use Rattle.std.specs.List.{AllByRecursion}
+use Rattle.rg_base.specs.declared.set.Set.TheVariants.{First, Second}
 use Rattle.rg_base.specs.declared.verdict.StopReason.TheVariants as reasons
 use Rattle.rg_desk.specs.Flushed.{WritesEither}
 use Rattle.rg_desk.specs.OnVolume.{IsTidyVolume}
@@ -27,7 +28,7 @@ use Rattle.rg_run.specs.declared.played.RunEnd.{RunEnd}
 use Rattle.rg_run.specs.declared.played.RunEnd.TheVariants.{Whole, Down, Damaged, DeviceAtOpening, NoMemory}
 use Rattle.rg_stmt.specs.declared.event.Entry.{Entry}
 use Rattle.rg_stmt.specs.declared.event.Event.{Event}
-use Rattle.rg_stmt.specs.declared.event.Event.TheVariants.{FlushDevice, Opened, Said, Stop}
+use Rattle.rg_stmt.specs.declared.event.Event.TheVariants.{FlushDevice, Opened, Said, Started, Stop}
 use Rattle.rg_stmt.specs.declared.stmt.Reply.TheVariants.{Device}
 
 -- the event is no DEVICE, or this holds
@@ -68,12 +69,14 @@ abbrev pub MakesOnly : (Call → Type 0) → (old new : Option Told) → Type 0
 MakesOnly Kind old new = IfCounted new (MadeSince Kind old)
 
 -- what may be written after this event: the log and the copy that was opened, where it is the event
--- of an opening
+-- of an opening, or both copies, where a utility started
 abbrev pub WritesOf : Event → Call → Type 0
 WritesOf (Opened copy rows pages used) call = WritesEither (set_of copy) call
+WritesOf (Started options copy pages) call =
+    WritesEither First call ⊎ WritesEither Second call
 WritesOf event call = IsQuiet call
 
--- what the calls of a run may write, by its trace: the log, and each copy that was opened
+-- what the calls of a run may write, by its trace: the log, and each copy that was opened, or both
 abbrev pub WritesOwn : List Entry → Call → Type 0
 WritesOwn [] call = IsQuiet call
 WritesOwn (entry ∷ entries) call = WritesOf entry.event call ⊎ WritesOwn entries call

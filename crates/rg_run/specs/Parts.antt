@@ -158,7 +158,6 @@ pub record Going {V O : Type 0} (look : V → VolumeSeen) (answers : O → Optio
   pub back : List Line
   pub goes : Goes look answers base back desk
   pub opened : IsOpened base
-  pub copy_is : opened.is.copy ≡ base.copy
   pub opening :
       IfTold (look base.volume).told
       (λ t. IsOpeningThen (log_pages (look base.volume).capacities) t.start t opened.entry)
@@ -167,7 +166,6 @@ pub record Going {V O : Type 0} (look : V → VolumeSeen) (answers : O → Optio
       → IsFound (look base.volume) opened.entry start
   pub alive : AllByRecursion IsAlive back
   pub counted : HasCalls (look base.volume) 0
-  pub room : smaller_pages (look base.volume).capacities ≤ base.ground.capacity
   pub log_room : base.ground.log.pages ≡ log_pages (look base.volume).capacities
   pub came : Came look first base lines back
   pub asked :

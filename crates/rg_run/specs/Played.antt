@@ -1,5 +1,5 @@
 -- What the run of a deck leaves.
-use Rattle.std.specs.Prelude.{◌≡◌, ◌*◌, ℕ, true, false, List, [], ◌∷◌, ◌++◌, Option, Some, None}
+use Rattle.std.specs.Prelude.{◌≡◌, ◌≤◌, ◌*◌, ℕ, true, false, List, [], ◌∷◌, ◌++◌, Option, Some, None, is_some}
 use Rattle.std.specs.List.{AllZip}
 use Rattle.rg_base.specs.Session.{IsSession}
 use Rattle.rg_base.specs.declared.control.Answer.{Answer}
@@ -12,18 +12,22 @@ use Rattle.rg_stmt.specs.declared.line.Line.TheVariants.{Said, Reorg, Step, Flus
 use Rattle.rg_stmt.specs.declared.stmt.Reply.{Reply}
 use Rattle.rg_stmt.specs.Entries.{opened_entry, said_entry}
 use Rattle.rg_desk.specs.Chronicle.{system_entry}
-use Rattle.rg_desk.specs.Desk.{DeskState, IsLayout, Stays}
+use Rattle.rg_desk.specs.Desk.{DeskState, IsCopy, IsLayout, old_records}
 use Rattle.rg_desk.specs.Desk.{is_reply}
 use Rattle.rg_desk.specs.Volume.{IsCount, VolumeSeen}
 use Rattle.rg_outside.specs.Faults.{Rose}
-use Rattle.rg_outside.specs.Moments.{IfTold}
+use Rattle.rg_desk.specs.Flushed.{WritesEither}
+use Rattle.rg_newest.specs.Tidy.{set_of}
+use Rattle.rg_outside.specs.Calls.{Call}
+use Rattle.rg_outside.specs.Moments.{EachCall, IfTold}
 use Rattle.rg_image.specs.Rules.{limit_of}
-use Rattle.rg_tending.specs.Tending.{is_booked, utility_entry}
+use Rattle.rg_phase.specs.Step.{is_made}
+use Rattle.rg_tending.specs.Tending.{utility_entry}
 use Rattle.rg_run.specs.Asked.{HasAnswered, answers_in}
 use Rattle.rg_run.specs.Flush.{AreFlushesSince, calls_of_last, copy_of_last}
-use Rattle.rg_run.specs.Full.{IsFullOnlyFrom}
+use Rattle.rg_run.specs.Full.{IsFullOnlyFrom, smaller_pages}
 use Rattle.rg_run.specs.LogFull.{IsLogFullOnlyFrom}
-use Rattle.rg_run.specs.Outside.{IsDeviceOnlyIf}
+use Rattle.rg_run.specs.Outside.{IsDeviceOnlyIf, WritesOwn}
 
 -- each line is played; the session of a statement is one that there is
 abbrev pub IsPlayed : Line → Type 0
@@ -66,7 +70,7 @@ abbrev pub IsStepEvent : Option Answer → Event → Type 0
 IsStepEvent None events.Idle = Unit {0}
 IsStepEvent None events.StepDown = Unit {0}
 IsStepEvent None event = ⊥
-IsStepEvent (Some answer) event = is_booked event ≡ true
+IsStepEvent (Some answer) event = is_made event ≡ true
 
 -- The entry of a line has its session and its statement, and a reply; or it is a layout or a flush,
 -- or says that there is none; or it is that of an opening, after the process died; or it is one of
@@ -102,13 +106,31 @@ abbrev pub first_of : List Entry → Option Entry
 first_of [] = None
 first_of (entry ∷ entries) = Some entry
 
+-- What the lines since a desk was opened leave as it was. They made only such calls as its entries
+-- allow.
+pub record StaysSince {V O : Type 0} (look : V → VolumeSeen) (first desk : DeskState V O) : Type 0
+  where
+    pub older : desk.older ≡ first.older
+    pub log_pages : desk.ground.log.pages ≡ first.ground.log.pages
+    pub opened : desk.opened ≡ first.opened
+    pub first_copy : desk.first_copy ≡ first.first_copy
+    pub old_same : old_records desk ≡ old_records first
+    pub only : EachCall (look first.volume).told (look desk.volume).told (WritesOwn desk.trace)
+    pub later : (look first.volume).faults ≤ (look desk.volume).faults
+    pub capacities : (look desk.volume).capacities ≡ (look first.volume).capacities
+
+-- these entries allow the calls that write the set of a copy
+abbrev pub AllowsCopy : List Entry → (copy : ℕ) → Type 0
+AllowsCopy entries copy = (call : Call) → WritesEither (set_of copy) call → WritesOwn entries call
+
 -- the lines so far since a desk was opened
 pub record Goes {V O : Type 0}
     (look : V → VolumeSeen) (answers : O → Option (List Answer)) (first : DeskState V O)
     (lines : List Line) (desk : DeskState V O) : Type 0 where
   pub entries : TraceOf lines desk.trace
   pub begins : first_of desk.trace ≡ first_of first.trace
-  pub full : IsFullOnlyFrom (3221 * desk.ground.capacity) 0 desk.trace
+  pub full :
+      IsFullOnlyFrom (3221 * smaller_pages (look desk.volume).capacities) 0 desk.trace
   pub log_full : IsLogFullOnlyFrom (limit_of desk.ground.log.pages) 0 desk.trace
   pub device :
       IsDeviceOnlyIf (Rose (look first.volume).faults (look desk.volume).faults) desk.trace
@@ -119,7 +141,11 @@ pub record Goes {V O : Type 0}
   pub counted : IsCount (look desk.volume) (calls_of_last 0 desk.trace)
   pub asked :
       HasAnswered (answers first.operator) (answers_in desk.trace) (answers desk.operator)
-  pub stays : Stays look first desk
+  pub room : smaller_pages (look desk.volume).capacities ≤ desk.ground.capacity
+  pub own : AllowsCopy desk.trace desk.copy
+  pub both :
+      is_some desk.stage ≡ true → (copy : ℕ) → IsCopy copy → AllowsCopy desk.trace copy
+  pub stays : StaysSince look first desk
 
 -- a desk whose trace is that of its opening, and which is up
 pub record IsOpened {V O : Type 0} (desk : DeskState V O) : Type 0 where

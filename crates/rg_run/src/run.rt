@@ -30,7 +30,7 @@ use rg_desk::desk::{Desk, OpenCause, OpenFault};
 use rg_outside::counted::{Counted, Counts};
 use rg_outside::operator::Operator;
 use rg_outside::volume::Volume;
-use rg_phase::step::step;
+use rg_phase::step::Reorg;
 use rg_restart::open::open_desk;
 use rg_stmt::line::Line;
 use std::alloc::Global;
@@ -39,8 +39,9 @@ use std::alloc::Global;
 /// lies in memory, in as many pages as the set of the current copy has, and no more than 65,536.
 /// The records of committed units are on the volume, and of the pages those that a flush wrote. A
 /// death of the process drops all that lies in memory, and the volume is opened again. A control
-/// statement starts a utility, which each line `U` takes a step further, as long as its steps copy
-/// or write no page; it stops there, as if memory ran out.
+/// statement starts a utility, which each line `U` takes a step further. A table without pages is
+/// reorganised whole; over another one the utility stops where it would copy a page, as if memory
+/// ran out.
 pub fn run<V: Volume, O: Operator>(
     alloc: Global,
     volume: V,
@@ -69,7 +70,8 @@ pub fn run<V: Volume, O: Operator>(
         (seen_volume V.told V.faults V.capacities result.volume) result.trace.items result.end }
     ensures sound { KeepsSound (seen_volume V.told V.faults V.capacities volume)
         (seen_volume V.told V.faults V.capacities result.volume) result.trace.items }
-    // No page is written but those of the log and of the copies that were opened.
+    // No page is written but those of the log and of the copies that were opened, and from the
+    // start of a utility on those of both copies.
     ensures only { MakesOnly (WritesOwn result.trace.items) (V.told volume)
         (V.told result.volume) }
     ensures later { V.faults volume ≤ V.faults result.volume }
@@ -190,8 +192,9 @@ fn play<V: Counts, O: Operator>(alloc: Global, desk: Desk<V, O>, lines: Vec<Line
         result.operator result.trace.items result.end }
 {
     let mut desk = desk;
+    let mut reorg = Reorg::new();
     for line in lines {
-        desk = match play_line(alloc, desk, line) {
+        desk = match play_line(alloc, desk, &mut reorg, line) {
             Ok(next) => next,
             Err(played) => return played,
         };
@@ -208,6 +211,7 @@ fn play<V: Counts, O: Operator>(alloc: Global, desk: Desk<V, O>, lines: Vec<Line
 fn play_line<V: Counts, O: Operator>(
     alloc: Global,
     desk: Desk<V, O>,
+    reorg: &mut Reorg,
     line: Line,
 ) -> Result<Desk<V, O>, Played<V, O>>
     requires line { IsPlayed line }
@@ -230,10 +234,13 @@ fn play_line<V: Counts, O: Operator>(
             Err(_) => Err(close(desk, RunEnd::NoMemory)),
         },
         Line::Reorg(options) => match desk.start(options) {
-            Ok(_) => Ok(desk),
+            Ok(started) => {
+                reorg.begin_anew(started);
+                Ok(desk)
+            }
             Err(_) => Err(close(desk, RunEnd::NoMemory)),
         },
-        Line::Step => match step(&mut desk) {
+        Line::Step => match reorg.step(alloc, &mut desk) {
             Ok(()) => Ok(desk),
             Err(_) => Err(close(desk, RunEnd::NoMemory)),
         },
@@ -245,6 +252,9 @@ fn play_line<V: Counts, O: Operator>(
             Ok(()) => Ok(desk),
             Err(_) => Err(close(desk, RunEnd::NoMemory)),
         },
-        Line::Death => reopen(alloc, desk),
+        Line::Death => {
+            reorg.begin_anew(true);
+            reopen(alloc, desk)
+        }
     }
 }

@@ -105,25 +105,96 @@ fn obeys_alter_and_deadline(rt: HostRuntime) -> Result<(), Fail> {
     )
 }
 
-// What the steps do that are built, up to the first that is not.
+// A table without pages is reorganised whole, and then used, and reorganised again.
 #[test]
-fn stops_where_it_would_write(rt: HostRuntime) -> Result<(), Fail> {
+fn reorganises_an_empty_table(rt: HostRuntime) -> Result<(), Fail> {
     for (deck, operator, lines) in [
         (
-            b"U\nREORG TABLESPACE SHRLEVEL CHANGE\nU\nU\nU\nU\nU\nU\nU\nU\nU\nU\nU\n".as_slice(),
+            b"REORG TABLESPACE SHRLEVEL CHANGE\n\
+                U\nU\nU\nU\nU\nU\nU\nU\nU\nU\nU\nU\nU\nU\n"
+                .as_slice(),
             b"".as_slice(),
-            b"1 U IDLE\n2 U STARTED copy=1 pages=0\n3 U SORT KEY\n4 U SORT CLUS\n5 U SORT CAT\n\
-                6 U BUILD KEY\n7 U BUILD CLUS\n8 U BUILD CAT\n\
-                9 U LOG iteration=1 took=0 left=0 DRAIN WRITERS\n10 U GRANTED WRITERS\n\
-                11 U LAST took=0 left=0\n12 U STOP NOMEMORY\n13 U IDLE\nEND entries=14 rows=0\n"
+            b"1 U STARTED copy=1 pages=0\n2 U SORT KEY\n3 U SORT CLUS\n4 U SORT CAT\n\
+                5 U BUILD KEY\n6 U BUILD CLUS\n7 U BUILD CAT\n\
+                8 U LOG iteration=1 took=0 left=0 DRAIN WRITERS\n9 U GRANTED WRITERS\n\
+                10 U LAST took=0 left=0\n11 U WRITTEN pages=0\n12 U GRANTED ALL\n\
+                13 U SWITCHED copy=2\n  OLD pages=0 rows=0 over=0\n  NEW pages=0 rows=0 over=0\n\
+                14 U ENDED\n15 U IDLE\nEND entries=16 rows=0\n"
                 .as_slice(),
         ),
+        // The new copy is used, and found again.
+        (
+            b"REORG TABLESPACE SHRLEVEL CHANGE\nU\nU\nU\nU\nU\nU\nU\nU\nU\nU\nU\nU\n\
+                1 INSERT 1 10 1 a\nF\n1 COMMIT\nF\nL\nU\n1 UPDATE 1 20 1 b\nX\n1 SELECT 1\nL\n"
+                .as_slice(),
+            b"".as_slice(),
+            b"1 U STARTED copy=1 pages=0\n2 U SORT KEY\n3 U SORT CLUS\n4 U SORT CAT\n\
+                5 U BUILD KEY\n6 U BUILD CLUS\n7 U BUILD CAT\n\
+                8 U LOG iteration=1 took=0 left=0 DRAIN WRITERS\n9 U GRANTED WRITERS\n\
+                10 U LAST took=0 left=0\n11 U WRITTEN pages=0\n12 U GRANTED ALL\n\
+                13 U SWITCHED copy=2\n  OLD pages=0 rows=0 over=0\n  NEW pages=0 rows=0 over=0\n\
+                14 1 OK\n15 - FLUSH page=1\n16 1 OK\n17 - CLEAN\n\
+                18 - LAYOUT copy=2\n  NOW pages=1 rows=1 over=0\n19 U ENDED\n20 1 OK\n\
+                21 - OPENED copy=2 rows=1 pages=1\n22 1 ROW 1 10 1 a\n\
+                23 - LAYOUT copy=2\n  NOW pages=1 rows=1 over=0\nEND entries=24 rows=1\n"
+                .as_slice(),
+        ),
+        // The next switch leads back to the first copy.
+        (
+            b"REORG TABLESPACE SHRLEVEL CHANGE\nU\nU\nU\nU\nU\nU\nU\nU\nU\nU\nU\nU\nU\n\
+                REORG TABLESPACE SHRLEVEL CHANGE\nU\nU\nU\nU\nU\nU\nU\nU\nU\nU\nU\nU\nU\nX\n\
+                1 INSERT 2 5 5 c\n1 COMMIT\nF\n"
+                .as_slice(),
+            b"".as_slice(),
+            b"1 U STARTED copy=1 pages=0\n2 U SORT KEY\n3 U SORT CLUS\n4 U SORT CAT\n\
+                5 U BUILD KEY\n6 U BUILD CLUS\n7 U BUILD CAT\n\
+                8 U LOG iteration=1 took=0 left=0 DRAIN WRITERS\n9 U GRANTED WRITERS\n\
+                10 U LAST took=0 left=0\n11 U WRITTEN pages=0\n12 U GRANTED ALL\n\
+                13 U SWITCHED copy=2\n  OLD pages=0 rows=0 over=0\n  NEW pages=0 rows=0 over=0\n\
+                14 U ENDED\n15 U STARTED copy=2 pages=0\n16 U SORT KEY\n17 U SORT CLUS\n\
+                18 U SORT CAT\n19 U BUILD KEY\n20 U BUILD CLUS\n21 U BUILD CAT\n\
+                22 U LOG iteration=1 took=0 left=0 DRAIN WRITERS\n23 U GRANTED WRITERS\n\
+                24 U LAST took=0 left=0\n25 U WRITTEN pages=0\n26 U GRANTED ALL\n\
+                27 U SWITCHED copy=1\n  OLD pages=0 rows=0 over=0\n  NEW pages=0 rows=0 over=0\n\
+                28 U ENDED\n29 - OPENED copy=1 rows=0 pages=0\n30 1 OK\n31 1 OK\n\
+                32 - FLUSH page=1\nEND entries=33 rows=1\n"
+                .as_slice(),
+        ),
+        // A reader is in the way of the second drain: the new copy is written once more.
+        (
+            b"1 SCAN 1 9\nREORG TABLESPACE SHRLEVEL CHANGE DRAIN_WAIT 5 RETRY 3 RETRY_DELAY 2\n\
+                U\nU\nU\nU\nU\nU\nU\nU\nU\nU\nU\nU\nU\nU\nU\nU\n1 COMMIT\nU\nU\nU\n"
+                .as_slice(),
+            b"0 0\n0 0\n0 0\n0 0\n0 0\n0 0\n0 0\n0 0\n0 0\n0 0\n3 0\n5 0\n7 0\n7 0\n7 0\n7 0\n\
+                7 0\n8 0\n"
+                .as_slice(),
+            b"1 1 ROWS 0\n2 U STARTED copy=1 pages=0\n3 U SORT KEY\n4 U SORT CLUS\n\
+                5 U SORT CAT\n6 U BUILD KEY\n7 U BUILD CLUS\n8 U BUILD CAT\n\
+                9 U LOG iteration=1 took=0 left=0 DRAIN WRITERS\n10 U GRANTED WRITERS\n\
+                11 U LAST took=0 left=0\n12 U WRITTEN pages=0\n13 U WAIT 1\n14 U GIVEUP 1\n\
+                15 U LOG iteration=2 took=0 left=0 DRAIN WRITERS\n16 U GRANTED WRITERS\n\
+                17 U LAST took=0 left=0\n18 U WRITTEN pages=0\n19 1 OK\n20 U GRANTED ALL\n\
+                21 U SWITCHED copy=2\n  OLD pages=0 rows=0 over=0\n  NEW pages=0 rows=0 over=0\n\
+                22 U ENDED\nEND entries=23 rows=0\n"
+                .as_slice(),
+        ),
+    ] {
+        expect(&rt, rt.alloc(), deck, operator, lines)?;
+    }
+    Ok(())
+}
+
+// Steps over a table with pages, up to the first that is not built.
+#[test]
+fn stops_where_it_would_copy(rt: HostRuntime) -> Result<(), Fail> {
+    for (deck, operator, lines) in [
         // A page is to be copied.
         (
-            b"1 INSERT 1 10 1 a\n1 COMMIT\nREORG TABLESPACE SHRLEVEL CHANGE\nU\nU\n",
-            b"",
+            b"1 INSERT 1 10 1 a\n1 COMMIT\nREORG TABLESPACE SHRLEVEL CHANGE\nU\nU\n".as_slice(),
+            b"".as_slice(),
             b"1 1 OK\n2 1 OK\n3 U STARTED copy=1 pages=1\n4 U STOP NOMEMORY\n5 U IDLE\n\
-                END entries=6 rows=1\n",
+                END entries=6 rows=1\n"
+                .as_slice(),
         ),
         // A change is to be taken: in an iteration, or in the last.
         (
@@ -171,7 +242,7 @@ fn waits_and_gives_up(rt: HostRuntime) -> Result<(), Fail> {
                 15 U LOG iteration=2 took=0 left=0 NEXT\n\
                 16 U LOG iteration=3 took=0 left=0 DRAIN ALL\n17 U WAIT 1\n18 1 OK\n\
                 19 U WAIT 2\n20 2 OK\n21 U GRANTED ALL\n22 3 -904 DRAINED\n\
-                23 U LAST took=0 left=0\n24 U STOP NOMEMORY\n25 3 100 NONE\n\
+                23 U LAST took=0 left=0\n24 U WRITTEN pages=0\n25 3 -904 DRAINED\n\
                 END entries=26 rows=0\n"
                 .as_slice(),
         ),
@@ -250,5 +321,43 @@ fn asks_once_a_step(rt: HostRuntime) -> Result<(), Fail> {
     }
     assert_eq!(rt; moments.as_slice(), [1, 2, 3].as_slice());
     assert_eq!(rt; played.operator.ask(0).now, 4);
+    Ok(())
+}
+
+// The opening makes two calls: the third is the sync of the new copy, and the fourth is the record
+// of the switch.
+#[test]
+fn stops_where_the_volume_fails(rt: HostRuntime) -> Result<(), Fail> {
+    for (stop, deck, lines) in [
+        // The table stays as it was.
+        (
+            2,
+            b"REORG TABLESPACE SHRLEVEL CHANGE\n\
+                U\nU\nU\nU\nU\nU\nU\nU\nU\nU\nU\n1 SELECT 1\n"
+                .as_slice(),
+            b"1 U STARTED copy=1 pages=0\n2 U SORT KEY\n3 U SORT CLUS\n4 U SORT CAT\n\
+                5 U BUILD KEY\n6 U BUILD CLUS\n7 U BUILD CAT\n\
+                8 U LOG iteration=1 took=0 left=0 DRAIN WRITERS\n9 U GRANTED WRITERS\n\
+                10 U LAST took=0 left=0\n11 U STOP DEVICE\n12 U IDLE\n13 1 100 NONE\n\
+                END entries=14 rows=0\n"
+                .as_slice(),
+        ),
+        // It is open which copy is current.
+        (
+            3,
+            b"REORG TABLESPACE SHRLEVEL CHANGE\nU\nU\nU\nU\nU\nU\nU\nU\nU\nU\nU\nU\nU\n\
+                1 SELECT 1\nF\nL\nREORG TABLESPACE SHRLEVEL CHANGE\n"
+                .as_slice(),
+            b"1 U STARTED copy=1 pages=0\n2 U SORT KEY\n3 U SORT CLUS\n4 U SORT CAT\n\
+                5 U BUILD KEY\n6 U BUILD CLUS\n7 U BUILD CAT\n\
+                8 U LOG iteration=1 took=0 left=0 DRAIN WRITERS\n9 U GRANTED WRITERS\n\
+                10 U LAST took=0 left=0\n11 U WRITTEN pages=0\n12 U GRANTED ALL\n\
+                13 U STOP DEVICE\n14 U 4 DOWN\n15 1 4 DOWN\n16 - 4 DOWN\n17 - 4 DOWN\n\
+                18 U 4 DOWN\nEND entries=19 DOWN\n"
+                .as_slice(),
+        ),
+    ] {
+        expect_over(&rt, rt.alloc(), WIDE_LOG, Some(stop), deck, b"", lines)?;
+    }
     Ok(())
 }

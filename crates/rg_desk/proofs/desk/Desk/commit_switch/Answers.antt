@@ -2,6 +2,7 @@ use Rattle.std.proofs.Common.{◌≡◌, ◌++◌, ℕ, Bool, false, List, [], �
 use Rattle.rg_base.specs.declared.verdict.StopReason.TheVariants as reasons
 use Rattle.rg_base.specs.declared.which.Which.TheVariants.{Key, Clus, Cat}
 use Rattle.rg_fold.specs.declared.item.Stage.{Stage}
+use Rattle.rg_image.specs.Rules.{copy_capacity}
 use Rattle.rg_log.specs.Kept.{Listed}
 use Rattle.rg_outside.specs.Faults.{Rose}
 use Rattle.rg_model.specs.Turn.{alter}
@@ -175,6 +176,7 @@ returns-in-Ok-clause-ok g c =
       stage_is = has.1;
       switched = has.2;
       copy = copy_is;
+      capacity = takes.capacity ∙ is.capacity ∙ ap (λ d. copy_capacity (look d.volume).capacities (other_of d.copy)) c.self.view_is;
       down = up;
       taken = subst (λ (o : Option PreparedSeen). IfSome o (λ x. ((seen_in c.turn-turned.new.engine).pages ≡ x.shade.pages) × (capacity_in c.turn-turned.new.engine.space ≡ x.shade.capacity) × (c.turn-turned.new.engine.log.forced ≡ length c.turn-turned.new.engine.log.records))) (sym kept_is)
           (takes.pages, takes.capacity, ap (λ (l : Listed). l.forced) log_is ∙ c.in-Ok.ensures.ok.forced ∙ ap (λ (l : Listed). length l.records) (sym log_is));
@@ -230,6 +232,7 @@ returns-in-Err-clause-err g c =
       counted = c.calls_now-calls.ensures.counted;
       stage = refl;
       copy = ap (λ d. d.copy) c.self.view_is;
+      capacity = ap (λ (x : Engine). capacity_in x.space) logs.same ∙ ap (λ d. d.ground.capacity) c.self.view_is;
       down = refl;
       device = subst (λ v. Rose (look v).faults after.faults) volume_is c.in-Err.ensures.cause;
       stays = record {

@@ -1,13 +1,17 @@
-use Rattle.std.proofs.Common.{ℕ, Option, Some, None, sym, ◌∙◌, ap, subst}
+use Rattle.std.proofs.Common.{ℕ, Option, Some, None, refl, sym, ◌∙◌, ap, subst}
 use Rattle.rg_desk.specs.Desk.{left_by_stage}
+use Rattle.rg_desk.specs.Volume.{seen_volume}
 use Rattle.rg_fold.specs.declared.item.Stage.{Stage}
 use Rattle.rg_outside.specs.Told.{AddsAnswer, HandsOver}
 use Rattle.rg_stmt.specs.declared.event.Event.TheVariants as events
-use Rattle.rg_phase.proofs.Steps.{next_down, next_idle, next_runs, same_asked, same_room}
-use Rattle.rg_phase.proofs.step.step.Goals as goal
+use Rattle.rg_phase.specs.Step.{NextMade, StepCalls}
+use Rattle.rg_phase.proofs.Making.{makes_refused}
+use Rattle.rg_phase.proofs.Steps.{next_down, next_idle, same_asked, same_room}
+use Rattle.rg_phase.proofs.step.Reorg.step.Goals as goal
 
 pub returns-then-down-clause-stepped : goal.returns-then-down-clause-stepped
 returns-then-down-clause-stepped g c =
+    let look = seen_volume g.V.Volume.told g.V.Volume.faults g.V.Volume.capacities in
     let old = c.args.desk.now in
     let mid = c.make_room.new.self in
     let room = c.make_room.ensures.same in
@@ -18,12 +22,13 @@ returns-then-down-clause-stepped g c =
       asked = mid;
       same = same_room old mid room c.requires;
       operator = ap (λ d. d.operator) room;
-      made = c.book.ensures;
-      device = λ is. absurd (cc (is));
+      made = makes_refused look mid c.book.new.self events.StepDown refl tt refl c.book.ensures;
+      only = c.book.ensures.volume ∙ ap (λ d. d.volume) room;
     }
 
 pub returns-in-None-clause-stepped : goal.returns-in-None-clause-stepped
 returns-in-None-clause-stepped g c =
+    let look = seen_volume g.V.Volume.told g.V.Volume.faults g.V.Volume.capacities in
     let old = c.args.desk.now in
     let mid = c.make_room.new.self in
     let room = c.make_room.ensures.same in
@@ -36,28 +41,23 @@ returns-in-None-clause-stepped g c =
       asked = mid;
       same = same_room old mid room c.requires;
       operator = ap (λ d. d.operator) room;
-      made = c.book-in-None.ensures;
-      device = λ is. absurd (cc (is));
+      made = makes_refused look mid c.book-in-None.new.self events.Idle refl tt refl c.book-in-None.ensures;
+      only = c.book-in-None.ensures.volume ∙ ap (λ d. d.volume) room;
     }
 
 pub returns-clause-stepped : goal.returns-clause-stepped
 returns-clause-stepped g c =
+    let look = seen_volume g.V.Volume.told g.V.Volume.faults g.V.Volume.capacities in
     let old = c.args.desk.now in
-    let mid = c.make_room.new.self in
     let asked = c.ask_operator-answer.new.self in
     let answer = c.ask_operator-answer.result in
     let room = c.make_room.ensures.same in
-    let same = same_asked old mid asked answer room c.ask_operator-answer.ensures.same in
+    let same = same_asked old c.make_room.new.self asked answer room c.ask_operator-answer.ensures.same in
+    let acts = c.act.ensures in
     record {
       answer = Some answer;
-      event = c.next_event-event.result;
-      next =
-          next_runs old c.in-Some.stage c.changes-all.result c.holder.result answer c.next_event-event.result
-          (sym (ap (λ d. d.down) room) ∙ sym c.down.ensures.is ∙ c.if-down.false)
-          (sym (ap (λ d. d.stage) room) ∙ sym c.stage.ensures.stage ∙ c.in-Some.is)
-          (c.changes-all.ensures ∙ ap (λ d. d.changes) room)
-          (c.holder.ensures ∙ ap (λ d. d.covered) same)
-          c.next_event-event.ensures.booked c.next_event-event.ensures.next;
+      event = acts.event;
+      next = subst (λ d. NextMade d.down d.stage d.changes d.covered (Some answer) acts.event) same acts.next;
       asked = asked;
       same = same;
       operator = (
@@ -67,6 +67,6 @@ returns-clause-stepped g c =
             ∙ ap (λ (o : Option Stage). left_by_stage old.changes o) (sym c.in-Some.is ∙ c.stage.ensures.stage ∙ ap (λ d. d.stage) room))
             c.ask_operator-answer.ensures.handed,
       );
-      made = c.book-2.ensures;
-      device = λ is. absurd (cc (is, c.next_event-event.ensures.device));
+      made = acts.made;
+      only = subst (λ d. StepCalls look d (Some answer) c.act.new.desk) same acts.only;
     }

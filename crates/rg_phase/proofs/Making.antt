@@ -1,0 +1,206 @@
+-- One entry of a step is made, whatever the step did before it.
+use Rattle.std.proofs.Common.{◌≡◌, ◌++◌, inl, inr, ℕ, Bool, true, false, List, [], ◌∷◌, Option, Some, None, take, refl, sym, ◌∙◌, ap, subst, arith}
+use Rattle.std.specs.Option.{is_some}
+use Rattle.rg_base.specs.declared.control.Answer.{Answer}
+use Rattle.rg_base.specs.declared.session.Session.{Session}
+use Rattle.rg_base.specs.declared.set.Set.TheVariants.{Log}
+use Rattle.rg_base.specs.declared.verdict.StopReason.TheVariants as reasons
+use Rattle.rg_desk.specs.Desk.{DeskState, IsNextStep, MadeFall, MadeStep, MadeSwitch, Prepares}
+use Rattle.rg_desk.specs.Flushed.{CallsOwn, WritesEither}
+use Rattle.rg_desk.specs.Prepared.{PreparedSeen}
+use Rattle.rg_desk.specs.Room.{Ground}
+use Rattle.rg_desk.specs.Volume.{CallsLog, VolumeSeen}
+use Rattle.rg_fold.specs.declared.item.Stage.{Stage}
+use Rattle.rg_model.specs.Turn.{Turn, turn_of}
+use Rattle.rg_newest.specs.Tidy.{set_of}
+use Rattle.rg_outside.specs.Calls.{Call, FailedRead, FailedSync, FailedWrite, Read, Refused, Synced, Wrote}
+use Rattle.rg_outside.specs.Faults.{Rose}
+use Rattle.rg_outside.specs.Made.{WritesIn}
+use Rattle.rg_outside.proofs.Frame.{calls_weaken, no_calls}
+use Rattle.rg_stage.specs.NumbersOf.{numbers_of}
+use Rattle.rg_stmt.specs.declared.event.Entry.{Entry}
+use Rattle.rg_stmt.specs.declared.event.Event.{Event}
+use Rattle.rg_stmt.specs.declared.event.Event.TheVariants as events
+use Rattle.rg_stmt.specs.declared.layout.Sides.{Sides}
+use Rattle.rg_switch.specs.Switched.{other_of}
+use Rattle.rg_tending.specs.Tending.{FollowsBy, NextBy, is_booked, is_plain, utility_entry}
+use Rattle.rg_phase.specs.Step.{Acts, IsSwitchFrom, Makes, NextMade, copy_left, is_device_stop, is_made}
+use Rattle.rg_phase.specs.Working.{Writes}
+
+-- ---- events
+
+booked_made : (event : Event) → is_booked event ≡ true → is_made event ≡ true
+booked_made (events.Switched copy sides) is = refl
+booked_made event is = is
+
+booked_left : (copy : ℕ) (event : Event) → is_booked event ≡ true → copy_left copy event ≡ copy
+booked_left copy (events.Switched to sides) is = absurd (cc (is))
+booked_left copy event is = refl
+
+booked_from : (copy : ℕ) (event : Event) → is_booked event ≡ true → IsSwitchFrom copy event
+booked_from copy (events.Switched to sides) is = absurd (cc (is))
+booked_from copy event is = tt
+
+plain_some : (o : Option Turn) → is_plain o ≡ true → is_some o ≡ true
+plain_some None is = absurd (cc (is))
+plain_some (Some turn) is = refl
+
+-- a plain event that is booked is the next one
+pub next_booked : (down : Bool) (stage : Option Stage) (changes : ℕ) (covered : Option Session) (answer : Answer) (event : Event) → NextBy down stage changes covered (Some answer) event → NextMade down stage changes covered (Some answer) event
+next_booked true stage changes covered answer event next = absurd next
+next_booked false None changes covered answer event next = absurd next
+next_booked false (Some s) changes covered answer event next = (booked_made event next.0, plain_some (turn_of changes covered answer (numbers_of s) s.drain event) next.1)
+
+-- where a utility runs after a step that was booked, it ran before
+runs_on : (down : Bool) (stage next : Option Stage) (changes : ℕ) (covered : Option Session) (answer : Option Answer) (event : Event) → FollowsBy down stage changes covered answer event next → is_some next ≡ true → is_some stage ≡ true
+runs_on true stage next changes covered answer event follows runs = ap (λ (o : Option Stage). is_some o) (sym follows) ∙ runs
+runs_on false None next changes covered answer event follows runs = ap (λ (o : Option Stage). is_some o) (sym follows) ∙ runs
+runs_on false (Some s) next changes covered answer event follows runs = refl
+
+-- ---- calls
+
+log_either : (set : ℕ) (call : Call) → WritesIn Log call → WritesEither (set_of set) call
+log_either set (Wrote s p b) is = inl is
+log_either set (FailedWrite s p b reads) is = inl is
+log_either set Read is = tt
+log_either set Synced is = tt
+log_either set FailedRead is = tt
+log_either set FailedSync is = tt
+log_either set Refused is = tt
+
+log_own : (copy : ℕ) (old new : VolumeSeen) → CallsLog old new → CallsOwn copy old new
+log_own copy old new calls = record { only = calls_weaken (WritesIn Log) (WritesEither (set_of copy)) old.told new.told (log_either copy) calls.only; later = calls.later; capacities = calls.capacities }
+
+-- nothing is called
+still_own : {V : Type 0} (look : V → VolumeSeen) (copy : ℕ) (v w : V) → w ≡ v → CallsOwn copy (look v) (look w)
+still_own {V} look copy v w same = subst (λ (x : V). CallsOwn copy (look v) (look x)) (sym same) (record { only = no_calls (WritesEither (set_of copy)) (look v).told; later = omega arith; capacities = refl })
+
+module _ {V O : Type 0} (look : V → VolumeSeen) where
+  pub writes_none : (old : DeskState V O) → Writes look old old
+  writes_none old = record { same = refl; ground = refl; calls = still_own look (other_of old.copy) old.volume old.volume refl }
+
+  pub writes_prepared : (old new : DeskState V O) (shadow : Option PreparedSeen) → Prepares look old shadow new → Writes look old new
+  writes_prepared old new shadow p = record {
+    same = p.same ∙ ap (λ (s : Option PreparedSeen). let d : DeskState V O = record old { ground = new.ground; shadow = s; volume = new.volume } in d) (sym (ap (λ (d : DeskState V O). d.shadow) p.same));
+    ground = p.ground;
+    calls = p.calls;
+  }
+
+  pub writes_shadow : (old new : DeskState V O) → new ≡ record old { shadow = new.shadow } → Writes look old new
+  writes_shadow old new same = record {
+    same = same ∙ ap (λ (x : V). let d : DeskState V O = record old { shadow = new.shadow; volume = x } in d) (sym volume) ∙ ap (λ (g : Ground). let d : DeskState V O = record old { ground = g; shadow = new.shadow; volume = new.volume } in d) (sym ground);
+    ground = ground ∙ ap (λ (n : ℕ). let g : Ground = record old.ground { log = record old.ground.log { forced = n } } in g) (sym (ap (λ (g : Ground). g.log.forced) ground));
+    calls = still_own look (other_of old.copy) old.volume new.volume volume;
+  }
+    where
+      volume : new.volume ≡ old.volume
+      volume = ap (λ (d : DeskState V O). d.volume) same
+
+      ground : new.ground ≡ old.ground
+      ground = ap (λ (d : DeskState V O). d.ground) same
+
+  -- a desk that is down, or over which no utility runs
+  pub makes_refused : (old new : DeskState V O) (event : Event) → copy_left old.copy event ≡ old.copy → IsSwitchFrom old.copy event → is_device_stop event ≡ false → MadeStep look old None event new → Makes look old None event new
+  makes_refused old new event left from quiet made = record {
+    calls = made.calls;
+    made = made.made;
+    counted = made.counted;
+    copy = made.stays.copy ∙ sym left;
+    to = from;
+    capacity = inl made.stays.capacity;
+    down = λ down. inl (sym made.down ∙ down);
+    device = λ is. absurd (cc (is, quiet));
+    runs = runs_on old.down old.stage new.stage old.changes old.covered None event made.follows;
+    kept = made.kept;
+    operator = made.operator;
+    older = made.stays.older;
+    log_pages = made.stays.log_pages;
+    opened = made.stays.opened;
+    first_copy = made.stays.first_copy;
+    old_same = made.stays.old_same;
+  }
+
+  module _ (old : DeskState V O) (answer : Answer) where
+    -- a step was booked, after a new copy was written or not
+    pub acts_booked : (mid new : DeskState V O) (event : Event) → is_some old.stage ≡ true → Writes look old mid → IsNextStep old (Some answer) event → is_booked event ≡ true
+        → (is_device_stop event ≡ true → Rose (look old.volume).faults (look mid.volume).faults) → MadeStep look mid (Some answer) event new → Acts look old answer new
+    acts_booked mid new event runs wrote next booked device made = record {
+      event = event;
+      next = next_booked old.down old.stage old.changes old.covered answer event next;
+      made = record {
+        calls = made.calls;
+        made = made.made ∙ ap (λ (es : List Entry). es ++ utility_entry event (Some answer) made.calls ∷ []) (ap (λ (d : DeskState V O). d.trace) wrote.same);
+        counted = made.counted;
+        copy = made.stays.copy ∙ copy ∙ sym (booked_left old.copy event booked);
+        to = booked_from old.copy event booked;
+        capacity = inl (made.stays.capacity ∙ ap (λ (g : Ground). g.capacity) wrote.ground);
+        down = λ down. inl (sym (ap (λ (d : DeskState V O). d.down) wrote.same) ∙ sym made.down ∙ down);
+        device = λ is. subst (λ (v : V). Rose (look old.volume).faults (look v).faults) (sym made.volume) (device is);
+        runs = λ is. runs;
+        kept = made.kept;
+        operator = made.operator ∙ ap (λ (d : DeskState V O). d.operator) wrote.same;
+        older = made.stays.older ∙ ap (λ (d : DeskState V O). d.older) wrote.same;
+        log_pages = made.stays.log_pages ∙ ap (λ (g : Ground). g.log.pages) wrote.ground;
+        opened = made.stays.opened ∙ ap (λ (d : DeskState V O). d.opened) wrote.same;
+        first_copy = made.stays.first_copy ∙ ap (λ (d : DeskState V O). d.first_copy) wrote.same;
+        old_same =
+            made.stays.old_same ∙ ap (λ (g : Ground). take mid.opened g.log.records) wrote.ground
+            ∙ ap (λ (n : ℕ). take n old.ground.log.records) (ap (λ (d : DeskState V O). d.opened) wrote.same);
+      };
+      only = (runs, subst (λ (v : V). CallsOwn (other_of old.copy) (look old.volume) (look v)) (sym made.volume) wrote.calls);
+    }
+      where
+        copy : mid.copy ≡ old.copy
+        copy = ap (λ (d : DeskState V O). d.copy) wrote.same
+
+    -- the copies were switched
+    pub acts_switched : (new : DeskState V O) (sides : Sides) → is_some old.stage ≡ true → NextMade old.down old.stage old.changes old.covered (Some answer) (events.Switched (other_of old.copy) sides) → MadeSwitch look old answer sides new → Acts look old answer new
+    acts_switched new sides runs next made = record {
+      event = events.Switched (other_of old.copy) sides;
+      next = next;
+      made = record {
+        calls = made.calls;
+        made = made.made;
+        counted = made.counted;
+        copy = made.copy;
+        to = refl;
+        capacity = inr made.capacity;
+        down = λ down. absurd (cc (down, made.down));
+        device = λ is. absurd (cc (is));
+        runs = λ is. runs;
+        kept = made.stays.kept;
+        operator = made.stays.operator;
+        older = made.stays.older;
+        log_pages = made.stays.log_pages;
+        opened = made.stays.opened;
+        first_copy = made.stays.first_copy;
+        old_same = made.stays.old_same;
+      };
+      only = (runs, log_own (other_of old.copy) (look old.volume) (look new.volume) made.stays.calls);
+    }
+
+    -- the record of the switch could not be forced
+    pub acts_fallen : (new : DeskState V O) → is_some old.stage ≡ true → NextMade old.down old.stage old.changes old.covered (Some answer) (events.Stop reasons.Device) → MadeFall look old answer new → Acts look old answer new
+    acts_fallen new runs next made = record {
+      event = events.Stop reasons.Device;
+      next = next;
+      made = record {
+        calls = made.calls;
+        made = made.made;
+        counted = made.counted;
+        copy = made.copy;
+        to = tt;
+        capacity = inl made.capacity;
+        down = λ down. inr made.device;
+        device = λ is. made.device;
+        runs = λ is. runs;
+        kept = made.stays.kept;
+        operator = made.stays.operator;
+        older = made.stays.older;
+        log_pages = made.stays.log_pages;
+        opened = made.stays.opened;
+        first_copy = made.stays.first_copy;
+        old_same = made.stays.old_same;
+      };
+      only = (runs, log_own (other_of old.copy) (look old.volume) (look new.volume) made.stays.calls);
+    }
