@@ -1,0 +1,68 @@
+-- What the changes have that records make.
+--
+-- 1. Where the records are lawful, the changes lead from the rows that are there to those that the
+--    records leave (`ChangesMoveRows`).
+-- 2. Each is above those before, where the records are numbered (`ChangesAreAbove`).
+-- 3. No change has a quiet key, where no record writes one, and no write before that is not yet
+--    undone is of one (`ChangesAreLoud`). An Undo has the key of the write that it undoes.
+-- 4. Undos of a unit's writes make one change for each write that they undo (`UndosAreCounted`).
+use Rattle.std.specs.Prelude.{◌≡◌, ◌+◌, ℕ, false, List, [], ◌∷◌, length}
+use Rattle.std.specs.List.{AllByRecursion}
+use Rattle.rg_home.specs.Pages.{slot_of}
+use Rattle.rg_home.specs.Rows.{row_at}
+use Rattle.rg_lawful.specs.Act.{LogState, state}
+use Rattle.rg_lawful.specs.Closing.{AreUndos}
+use Rattle.rg_lawful.specs.Consistent.{IsConsistent}
+use Rattle.rg_lawful.specs.Lawful.{Runs}
+use Rattle.rg_lawful.specs.Records.{acts_of}
+use Rattle.rg_lawful.specs.Write.{NoneHit, at_key, key_of, own_of}
+use Rattle.rg_record.specs.declared.record.Record.{Record}
+use Rattle.rg_record.specs.declared.record.Kind.{Kind}
+use Rattle.rg_record.specs.declared.record.Kind.TheVariants as kind
+use Rattle.rg_model.specs.Quiet.{is_quiet}
+use Rattle.rg_sent.specs.Keeps.{AreAbove, IsLoud, MovesRows}
+use Rattle.rg_stmt.specs.declared.event.Entry.{Entry}
+use Rattle.rg_changed.specs.Changed.{changes_in}
+
+abbrev pub ChangesMoveRows : Type 0
+ChangesMoveRows =
+    (limit : ℕ) (s : LogState) (records : List Record)
+    → IsConsistent limit s → Runs limit s (acts_of [] records)
+    → MovesRows (changes_in records) (row_at (slot_of s.pages))
+    (row_at (slot_of (state s (acts_of [] records)).pages))
+
+-- each has the number after the one before, from this one on
+abbrev pub AreNumbered : (last : ℕ) → List Record → Type 0
+AreNumbered last [] = Unit {0}
+AreNumbered last (entry ∷ records) =
+    (entry.position.0 ≡ last + 1) × AreNumbered (last + 1) records
+
+abbrev pub ChangesAreAbove : Type 0
+ChangesAreAbove =
+    (last : ℕ) (records : List Record) → AreNumbered last records
+    → AreAbove last (last + length records) (changes_in records)
+
+-- the key that a record of this kind writes is not quiet, if it writes one
+abbrev pub WritesLoud : List Entry → Kind → Type 0
+WritesLoud past (kind.Change home before after parts) =
+    is_quiet (key_of before after) past ≡ false
+WritesLoud past (kind.Undo next home after parts) = Unit {0}
+WritesLoud past kind.Commit = Unit {0}
+WritesLoud past kind.RolledBack = Unit {0}
+WritesLoud past (kind.Purge parts) = Unit {0}
+WritesLoud past (kind.Switch copy pages) = Unit {0}
+
+abbrev pub ChangesAreLoud : Type 0
+ChangesAreLoud =
+    (limit : ℕ) (s : LogState) (records : List Record) (past : List Entry)
+    → IsConsistent limit s → Runs limit s (acts_of [] records)
+    → ((key : ℕ) → (NoneHit (at_key key) s.writes → ⊥) → is_quiet key past ≡ false)
+    → AllByRecursion (λ (entry : Record). WritesLoud past entry.kind) records
+    → AllByRecursion (IsLoud past) (changes_in records)
+
+abbrev pub UndosAreCounted : Type 0
+UndosAreCounted =
+    (limit : ℕ) (s : LogState) (t : ℕ) (records : List Record)
+    → AreUndos t (acts_of [] records) → Runs limit s (acts_of [] records)
+    → length (own_of t (state s (acts_of [] records)).writes) + length (changes_in records)
+    ≡ length (own_of t s.writes)
