@@ -18,6 +18,7 @@ use Rattle.rg_stmt.specs.declared.stmt.Stmt.TheVariants.{Insert, Update, Delete,
 use Rattle.rg_space.specs.Space.{capacity_in}
 use Rattle.rg_desk.specs.Bytes.{taken_of}
 use Rattle.rg_desk.specs.Answers.{Answered, Asks, IfFull, Replies, forces, is_answer, is_device, is_served, needs_claim, state_left}
+use Rattle.rg_desk.specs.Engine.{slots_in}
 use Rattle.rg_desk.specs.Left.{LeavesState, in_doubt}
 use Rattle.rg_desk.specs.Reopens.{IsCleanIn, PartsReopen}
 use Rattle.rg_desk.specs.Shows.{IsShown, Shows}
@@ -33,6 +34,7 @@ use Rattle.rg_image.specs.Log.{SpellsFrom}
 use Rattle.rg_desk.specs.Volume.{CallsLog, Leaves, VolumeSeen}
 use Rattle.rg_desk.specs.declared.units.OpenUnit.{OpenUnit}
 use Rattle.rg_desk.specs.declared.engine.Engine.{Engine}
+use Rattle.rg_desk.proofs.Moving.{moves_to, no_moves}
 use Rattle.rg_desk.proofs.NewestKept.{space_newest}
 use Rattle.rg_desk.proofs.Leaving.{leaves_grown, left_lower}
 use Rattle.rg_desk.proofs.Settled.{grows_same}
@@ -224,6 +226,7 @@ drained_answers st allowed d shows session stmt classes is out =
       clean = λ clean. clean;
       shows = subst (λ (n : ℕ). Shows st n d) (omega arith) shows;
       left = tt;
+      moves = no_moves d session stmt Drained refl;
       capacity = refl;
     }
 
@@ -276,6 +279,7 @@ module _ (st : State) (allowed : ℕ) (d : Engine) (shows : Shows st allowed d) 
         (subst (λ (cs : List Class). Shows (claim_classes (unclaimed st session stmt reply) session cs) (allowed + more_allowed stmt reply) new) is
         (registered_shows (unclaimed st session stmt reply) (allowed + more_allowed stmt reply) mid (up_of _ reply done goes.shows) session classes new e)));
     left = done_up _ reply done;
+    moves = if_up _ reply (moves_to d session stmt reply mid new (ap slots_in e) (ap (λ (x : Engine). x.log) e) (ap (λ (x : Engine). x.units) e) (up_of _ reply done goes.moves));
     capacity = ap (λ (x : Engine). capacity_in x.space) e ∙ goes.capacity;
   }
 
@@ -297,6 +301,7 @@ module _ (st : State) (allowed : ℕ) (d : Engine) (shows : Shows st allowed d) 
     clean = goes.clean;
     shows = left_refused st session stmt (allowed + more_allowed stmt reply) mid reply (after_is false done) goes.shows;
     left = left_device st session stmt (record mid.log { forced = d.log.forced }) reply goes.left;
+    moves = goes.moves;
     capacity = goes.capacity;
   }
 

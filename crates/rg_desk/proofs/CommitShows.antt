@@ -41,18 +41,20 @@ use Rattle.rg_desk.specs.Ended.{HasEnded, commit_record, records_committed}
 use Rattle.rg_desk.specs.Engine.{HasPages, slots_in}
 use Rattle.rg_desk.specs.Newest.{KeepsNewest}
 use Rattle.rg_space.specs.Memory.{list_seen}
+use Rattle.rg_desk.specs.Moves.{Moves}
 use Rattle.rg_desk.specs.Shows.{KeyShown, Shows, ShowsBy, UnitsShown, left_by}
 use Rattle.rg_desk.specs.Steps.{Goes}
 use Rattle.rg_desk.specs.Stored.{Grows, IsSettled}
 use Rattle.rg_desk.specs.Reopens.{IsCleanIn, KeepsParts}
 use Rattle.rg_desk.specs.Trails.{IsTrail, Trails}
-use Rattle.rg_desk.specs.Units.{owed, owed_to, unit_at}
+use Rattle.rg_desk.specs.Units.{owed, owed_to, unit_at, writes_in}
 use Rattle.rg_desk.specs.declared.engine.Engine.{Engine}
 use Rattle.rg_desk.specs.declared.units.OpenUnit.{OpenUnit}
 use Rattle.rg_desk.proofs.Ended.{keys_ended, units_ended}
 use Rattle.rg_desk.proofs.Logged.{bytes_committed}
 use Rattle.rg_desk.proofs.Settled.{shows_more}
 use Rattle.rg_desk.proofs.Keys.{same_or_not}
+use Rattle.rg_desk.proofs.Moving.{ended_others, ended_own, idle_end_moves, record_moves}
 use Rattle.rg_desk.proofs.Reopens.{appended_clean, appended_parts, clean_in, clean_of}
 use Rattle.rg_desk.proofs.Sessions.{left_consistent}
 use Rattle.rg_desk.proofs.Trails.{trail_other}
@@ -281,6 +283,17 @@ module _ (st : State) (allowed : ℕ) (d new : Engine) (session : Session) (show
   ended_clean unit has clean =
       appended_clean st allowed d shows (commit_record (length d.log.records + 1) unit ∷ []) (one_runs unit has) (commit_next unit has) (after_commit st session) (allowed + 0) new (ended_by unit has) clean
 
+  -- no row is moved
+
+  idle_moves : unit_at d.units session.0 ≡ None → Moves d session stmts.Commit Done new
+  idle_moves none = idle_end_moves d session stmts.Commit new place none (ap (λ sp. slots_in (record d { space = sp })) space) (no_record none) units refl refl
+
+  ended_moves : (unit : OpenUnit) → unit_at d.units session.0 ≡ Some unit → Moves d session stmts.Commit Done new
+  ended_moves unit has =
+      record_moves st allowed d shows session stmts.Commit Done new (commit_record (length d.log.records + 1) unit ∷ []) (one_record unit has) (one_runs unit has) (commit_next unit has) slots (λ past write. (tt, tt)) refl
+      (ap (λ (us : List (Option OpenUnit)). writes_in (unit_at us session.0)) units ∙ ended_own d.units session.0 place)
+      (λ n apart. ap (λ (us : List (Option OpenUnit)). writes_in (unit_at us n)) units ∙ ended_others d.units session.0 n apart)
+
   pub commit_goes : KeepsNewest d new → Goes st allowed d session stmts.Commit Done new
   commit_goes newest = record {
     says = refl;
@@ -296,9 +309,14 @@ module _ (st : State) (allowed : ℕ) (d new : Engine) (session : Session) (show
     clean = go_clean (unit_at d.units session.0) refl;
     shows = go (unit_at d.units session.0) refl;
     left = tt;
+    moves = go_moves (unit_at d.units session.0) refl;
     capacity = ap (λ sp. capacity_in sp) space;
   }
     where
+      go_moves : (o : Option OpenUnit) → unit_at d.units session.0 ≡ o → Moves d session stmts.Commit Done new
+      go_moves None e = idle_moves e
+      go_moves (Some unit) e = ended_moves unit e
+
       go : (o : Option OpenUnit) → unit_at d.units session.0 ≡ o → Shows (after_commit st session) (allowed + 0) new
       go None e = idle_shows e
       go (Some unit) e = ended unit e

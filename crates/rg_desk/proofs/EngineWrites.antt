@@ -15,7 +15,11 @@ use Rattle.rg_index.specs.Listed.{has_value}
 use Rattle.rg_indexes.specs.Listings.{AreListedAt}
 use Rattle.rg_model.specs.Held.{holder}
 use Rattle.rg_model.specs.Plain.{write_key}
+use Rattle.rg_model.specs.Quiet.{names_key}
+use Rattle.rg_model.specs.Said.{may_want_log}
 use Rattle.rg_model.specs.State.{State, row_of}
+use Rattle.rg_stmt.specs.declared.stmt.Reply.TheVariants.{Done}
+use Rattle.rg_stmt.specs.declared.stmt.Stmt.{Stmt}
 use Rattle.rg_lawful.specs.Act.{LogState}
 use Rattle.rg_lawful.specs.Consistent.{IsConsistent}
 use Rattle.rg_lawful.specs.Write.{key_of}
@@ -23,6 +27,7 @@ use Rattle.rg_space.specs.Carries.{Carries}
 use Rattle.rg_space.specs.Space.{capacity_in}
 use Rattle.rg_log.specs.Kept.{Listed}
 use Rattle.rg_desk.specs.Engine.{slots_in}
+use Rattle.rg_desk.specs.Moves.{Moves}
 use Rattle.rg_desk.specs.Newest.{KeepsNewest}
 use Rattle.rg_desk.specs.Planned.{change_plan, drop_plan, put_plan, units_with}
 use Rattle.rg_desk.specs.Reopens.{IsCleanIn, KeepsParts}
@@ -35,7 +40,7 @@ use Rattle.rg_desk.proofs.NewestKept.{space_newest}
 use Rattle.rg_desk.proofs.PlansWrite.{MayPlan, full_change, full_put, may_change, may_drop, may_put}
 use Rattle.rg_desk.proofs.Sessions.{are_live, begins, left_consistent, mine}
 use Rattle.rg_desk.proofs.UnitsWritten.{IsUnitFor}
-use Rattle.rg_desk.proofs.Written.{written_clean, written_parts, written_shows}
+use Rattle.rg_desk.proofs.Written.{written_clean, written_moves, written_parts, written_shows}
 
 module _ (st : State) (allowed : ℕ) (d : Engine) (shows : Shows st allowed d) (session : Session) (unit : OpenUnit)
     (own : IsUnitFor d.units (left_by shows.first d) session.0 unit) where
@@ -114,6 +119,13 @@ module _ (st : State) (allowed : ℕ) (d : Engine) (shows : Shows st allowed d) 
       written_shows st allowed more d new session unit plan key after shows wrote low own alone plans.lawful of_key
       (subst (λ (ps : List (List Slot)). Carries t 0 limit ps after plan) (sym shows.by.slots) plans.carries) plans.within
       (written_claims limit s t allowed more plan after good (begins st allowed d shows session unit own) plans.lawful shows.by.claimed plans.grows)
+
+  -- the rows are moved by it
+  pub plan_moves : (more key : ℕ) (after : Option Row) (plan : Plan) (new : Engine) → Plans more after plan → key_of plan.before after ≡ key → holder d.locks session key ≡ None → session.0 < 256
+      → Wrote d session unit plan key after new → (stmt : Stmt) → may_want_log stmt ≡ true → names_key key stmt ≡ true → Moves d session stmt Done new
+  plan_moves more key after plan new plans of_key alone low wrote =
+      written_moves st allowed more d new session unit plan key after shows wrote low own alone plans.lawful of_key
+      (subst (λ (ps : List (List Slot)). Carries t 0 limit ps after plan) (sym shows.by.slots) plans.carries) plans.within
 
   -- and the parts of the log can be opened
   pub plan_parts : (more key : ℕ) (after : Option Row) (plan : Plan) (new : Engine) → Plans more after plan → key_of plan.before after ≡ key → holder d.locks session key ≡ None → session.0 < 256

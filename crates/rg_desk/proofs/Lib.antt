@@ -12,6 +12,8 @@ pub mod Exits
 pub mod Leaving
 pub mod Appended
 pub mod Purged
+pub mod Moving
+pub mod RollbackMoves
 pub mod Written
 pub mod Members
 pub mod Sessions

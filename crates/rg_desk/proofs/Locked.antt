@@ -95,6 +95,7 @@ module _ (st : State) (allowed : ℕ) (d : Engine) (session : Session) (shows : 
     };
     shows = tt;
     left = refused_left st allowed d session shows low unit has (record new.log { forced = d.log.forced }) (records ∙ logged.records) (omega (arith, reserved, logged.reserved)) (pages ∙ logged.base.pages) (omega arith);
+    moves = tt;
     capacity = ap (λ sp. capacity_in sp) space ∙ ap (λ (x : Engine). capacity_in x.space) logged.same;
   }
 

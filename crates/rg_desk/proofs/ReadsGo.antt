@@ -36,6 +36,7 @@ use Rattle.rg_log.specs.Kept.{Listed as LogList}
 use Rattle.rg_desk.specs.Steps.{Goes}
 use Rattle.rg_desk.specs.Wrote.{SameEngine}
 use Rattle.rg_desk.specs.declared.engine.Engine.{Engine}
+use Rattle.rg_desk.proofs.Moving.{same_moves}
 use Rattle.rg_desk.proofs.NewestKept.{same_newest}
 use Rattle.rg_desk.proofs.Reopens.{same_clean, same_parts}
 use Rattle.rg_desk.proofs.LockWalk.{scan_free, scan_held}
@@ -70,8 +71,8 @@ module _ (st : State) (allowed : ℕ) (d : Engine) (shows : Shows st allowed d) 
       ∙ ap row_reply is
 
   select_so : (key : ℕ) (found : Option Row) (new : Engine) → plain_reply st session (Select key) ≡ row_reply found → SameEngine d new → Goes st allowed d session (Select key) (row_reply found) new
-  select_so key None new is same = record { says = sym is; room = tt; log = tt; logged = logged_same new same; opened = same.opened; set_aside = same.set_aside; grows = grows_same d.log new.log same.log; forced = λ e. ap (λ (l : LogList). l.forced) same.log; newest = same_newest d new same; parts = same_parts d new same.log; clean = same_clean d new same; left = tt; shows = later new same; capacity = same.capacity }
-  select_so key (Some row) new is same = record { says = sym is; room = tt; log = tt; logged = logged_same new same; opened = same.opened; set_aside = same.set_aside; grows = grows_same d.log new.log same.log; forced = λ e. ap (λ (l : LogList). l.forced) same.log; newest = same_newest d new same; parts = same_parts d new same.log; clean = same_clean d new same; left = tt; shows = later new same; capacity = same.capacity }
+  select_so key None new is same = record { says = sym is; room = tt; log = tt; logged = logged_same new same; opened = same.opened; set_aside = same.set_aside; grows = grows_same d.log new.log same.log; forced = λ e. ap (λ (l : LogList). l.forced) same.log; newest = same_newest d new same; parts = same_parts d new same.log; clean = same_clean d new same; left = tt; shows = later new same; moves = same_moves d session (Select key) (row_reply None) new refl same; capacity = same.capacity }
+  select_so key (Some row) new is same = record { says = sym is; room = tt; log = tt; logged = logged_same new same; opened = same.opened; set_aside = same.set_aside; grows = grows_same d.log new.log same.log; forced = λ e. ap (λ (l : LogList). l.forced) same.log; newest = same_newest d new same; parts = same_parts d new same.log; clean = same_clean d new same; left = tt; shows = later new same; moves = same_moves d session (Select key) (row_reply (Some row)) new refl same; capacity = same.capacity }
 
   pub select_goes : (key : ℕ) (found : Option Row) (reply : Reply) (new : Engine) → holder d.locks session key ≡ None → row_of st.table key ≡ found → reply ≡ row_reply found → SameEngine d new → Goes st allowed d session (Select key) reply new
   select_goes key found reply new alone is says same =
@@ -106,6 +107,7 @@ module _ (st : State) (allowed : ℕ) (d : Engine) (shows : Shows st allowed d) 
         clean = same_clean d new same;
         shows = later new same;
         left = tt;
+        moves = same_moves d session (Scan lo hi) (Listed rows) new refl same;
         capacity = same.capacity;
       }
 
@@ -170,6 +172,7 @@ module _ (st : State) (allowed : ℕ) (d : Engine) (shows : Shows st allowed d) 
         clean = same_clean d new same;
         shows = later new same;
         left = tt;
+        moves = same_moves d session (Find cat) (Keyed keys) new refl same;
         capacity = same.capacity;
       }
 

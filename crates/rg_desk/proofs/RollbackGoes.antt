@@ -50,7 +50,9 @@ use Rattle.rg_desk.proofs.Appended.{acts_snoc}
 use Rattle.rg_desk.proofs.CommitShows.{idle_clean, idle_shows}
 use Rattle.rg_desk.proofs.Reopens.{same_parts}
 use Rattle.rg_desk.proofs.Keys.{same_or_not}
+use Rattle.rg_desk.proofs.Moving.{idle_end_moves}
 use Rattle.rg_desk.proofs.NewestKept.{space_newest}
+use Rattle.rg_desk.proofs.RollbackMoves.{undos_loud, undos_made}
 use Rattle.rg_desk.proofs.Rolled.{rolled_back, undos_leave}
 use Rattle.rg_desk.proofs.RollbackShows.{rollback_goes}
 use Rattle.rg_desk.proofs.Sessions.{left_consistent}
@@ -179,6 +181,7 @@ module _ (st : State) (allowed : ℕ) (d : Engine) (session : Session) (shows : 
       let r : Record = rolled_record (length mid.log.records + 1) last unit in
       let all : new.log.records ≡ mid.log.records ++ r ∷ [] = ap (λ (l : Listed). l.records) ended.log ∙ logged.records in
       let same_space : new.space ≡ mid.space = ended.space ∙ space in
+      let undo_acts : AreUndos t (acts_of [] so.more) = subst (AreUndos t) (sym so.acts) so.are in
       rollback_goes st allowed d new session shows low unit has so.undos so.are runs (so.more ++ r ∷ [])
       (all ∙ ap (λ (rs : List Record). rs ++ r ∷ []) so.records ∙ append_assoc d.log.records so.more (r ∷ []))
       (acts_snoc so.more r ∙ ap (λ (acts : List Act). RollBack unit.tran.0 ∷ acts) so.acts)
@@ -200,6 +203,8 @@ module _ (st : State) (allowed : ℕ) (d : Engine) (session : Session) (shows : 
       (λ e h. space_newest now.log.records new.log.records now.space new.space (ap (λ (l : Listed). l.records) ended.log) ended.space e (logged.newest e (so.newest e h)))
       (rollback_trails mid now unit last others has so room logged new.log new.set_aside new.units ended.log (ended.set_aside ∙ logged.base.set_aside ∙ so.base.set_aside) (ended.units ∙ ap (λ (us : List (Option OpenUnit)). set us session.0 None) (units ∙ so.units)))
       (rollback_next mid now unit last others has so room logged)
+      (λ past. undos_loud past t so.more unit (length mid.log.records + 1) last undo_acts)
+      (undos_made limit s unit so.more (length mid.log.records + 1) last undo_acts (subst (Runs limit s) (sym so.acts) so.runs) (subst (λ (acts : List Act). own_of t (state s acts).writes ≡ []) (sym so.acts) (none_left (own_of t u.writes) unit.writes so.left)) (shows.by.units.each session.0 unit has).count)
 
   -- without a unit nothing is put back
   pub rollback_idle : (new : Engine) → unit_at d.units session.0 ≡ None → EndsSession d session new → Goes st allowed d session Rollback Done new
@@ -223,6 +228,7 @@ module _ (st : State) (allowed : ℕ) (d : Engine) (session : Session) (shows : 
         shows = subst (λ (x : State). Shows x (allowed + 0) new) state_is
             (idle_shows st allowed d new session shows low ended.space ended.indexes ended.top ended.locks ended.claims ended.units (ap (λ (l : Listed). l.records) ended.log ∙ ap (records_committed d.log.records) (sym none)) (omega (arith, ap owed_to none, ap (λ (l : Listed). l.reserved) ended.log)) ended.opened ended.set_aside (subst IsSettled (sym ended.log) shows.settled) (grows_same d.log new.log ended.log) none);
         left = tt;
+        moves = idle_end_moves d session Rollback new (omega (arith, low, shows.by.places)) none (ap (λ sp. slots_in (record d { space = sp })) ended.space) (ap (λ (l : Listed). l.records) ended.log) ended.units refl refl;
         capacity = ap (λ sp. capacity_in sp) ended.space;
       }
     where

@@ -33,6 +33,8 @@ use Rattle.rg_lawful.proofs.Rolls.{rollback_rows}
 use Rattle.rg_space.specs.Space.{capacity_in}
 use Rattle.rg_stmt.specs.declared.stmt.Reply.TheVariants.{Done}
 use Rattle.rg_stmt.specs.declared.stmt.Stmt.TheVariants as stmts
+use Rattle.rg_stmt.specs.declared.event.Entry.{Entry}
+use Rattle.rg_changed.specs.Changed.{changes_in}
 use Rattle.rg_desk.specs.Bytes.{taken_of}
 use Rattle.rg_desk.specs.Engine.{HasPages, slots_in}
 use Rattle.rg_desk.specs.Newest.{KeepsNewest}
@@ -40,10 +42,11 @@ use Rattle.rg_desk.specs.Shows.{IsLocked, KeyShown, Shows, ShowsBy, UnitsShown, 
 use Rattle.rg_desk.specs.Steps.{Goes}
 use Rattle.rg_desk.specs.Stored.{IsQuiet}
 use Rattle.rg_desk.specs.Trails.{Trails}
-use Rattle.rg_desk.specs.Units.{owed, owed_to, unit_at}
+use Rattle.rg_desk.specs.Units.{owed, owed_to, unit_at, writes_in}
 use Rattle.rg_desk.specs.declared.engine.Engine.{Engine}
 use Rattle.rg_desk.specs.declared.units.OpenUnit.{OpenUnit}
 use Rattle.rg_desk.proofs.Ended.{keys_ended, units_ended}
+use Rattle.rg_desk.proofs.Moving.{AllLoud, ended_others, ended_own, record_moves}
 use Rattle.rg_desk.proofs.Rolled.{rolled_back, undos_claim, undos_leave}
 use Rattle.rg_desk.proofs.Reopens.{appended_clean, appended_parts}
 use Rattle.rg_desk.proofs.Sessions.{left_consistent}
@@ -117,8 +120,9 @@ module _ (st : State) (allowed : ℕ) (d new : Engine) (session : Session) (show
   pub rollback_goes : slots_in new ≡ s_rolled.pages → AreListings (row_at (slot_of s_rolled.pages)) new.indexes → new.locks ≡ locks_without session d.locks
       → new.claims ≡ record d.claims { claims = fin.remove d.claims.claims session.0 } → new.units ≡ set d.units session.0 None → new.top ≡ d.top
       → new.log.reserved + (23 + 911 * unit.writes) ≡ d.log.reserved → taken_of new.log ≤ taken_of d.log → new.log.pages ≡ d.log.pages → KeepsNewest d new
-      → Trails new.log new.set_aside new.units (state (left_by shows.first d) (RollBack unit.tran.0 ∷ undos)) → AreNext (capacity_in d.space) d.log.pages d.log.records more → Goes st allowed d session stmts.Rollback Done new
-  rollback_goes slots indexes locks claims units top reserved taken log_pages newest trails next = record {
+      → Trails new.log new.set_aside new.units (state (left_by shows.first d) (RollBack unit.tran.0 ∷ undos)) → AreNext (capacity_in d.space) d.log.pages d.log.records more
+      → ((past : List Entry) → AllLoud past more) → length (changes_in more) ≡ unit.writes → Goes st allowed d session stmts.Rollback Done new
+  rollback_goes slots indexes locks claims units top reserved taken log_pages newest trails next loud made = record {
     says = refl;
     room = tt;
     log = tt;
@@ -136,6 +140,10 @@ module _ (st : State) (allowed : ℕ) (d new : Engine) (session : Session) (show
         (settled_more st allowed d shows more runs (subst IsQuiet (sym acts) (quiet_undos t undos are)) new.log records forced)
         shown
         (subst (Trails new.log new.set_aside new.units) (sym (ap (state s) acts)) trails);
+    moves =
+        record_moves st allowed d shows session stmts.Rollback Done new more records runs next (slots ∙ ap (λ (as_is : List Act). (state s as_is).pages) (sym acts)) (λ past write. loud past) (made ∙ sym (ap writes_in has))
+        (ap (λ (us : List (Option OpenUnit)). writes_in (unit_at us session.0)) units ∙ ended_own d.units session.0 place)
+        (λ n apart. ap (λ (us : List (Option OpenUnit)). writes_in (unit_at us n)) units ∙ ended_others d.units session.0 n apart);
     capacity = capacity;
   }
     where

@@ -1,5 +1,5 @@
 -- What is as it was, but for room, shows what it showed.
-use Rattle.std.proofs.Common.{◌≡◌, ℕ, List, [], length, Option, sym, ◌∙◌, ap, subst, append-nil, arith}
+use Rattle.std.proofs.Common.{◌≡◌, ℕ, List, [], length, Option, refl, sym, ◌∙◌, ap, subst, append-nil, arith}
 use Rattle.std.specs.FinMap as fin
 use Rattle.rg_claim.specs.declared.claims.Claims.{Claims}
 use Rattle.rg_home.specs.Pages.{Sound, slot_of}
@@ -20,6 +20,24 @@ use Rattle.rg_desk.specs.declared.units.OpenUnit.{OpenUnit}
 use Rattle.rg_desk.proofs.Sessions.{left_consistent}
 use Rattle.rg_desk.proofs.Settled.{shows_more}
 use Rattle.rg_desk.proofs.Written.{same_listings}
+
+-- all is as it is
+pub same_engine : (d : Engine) → SameEngine d d
+same_engine d = record {
+  capacity = refl;
+  pages = λ h. h;
+  slots = refl;
+  contents = refl;
+  of_copy = refl;
+  log = refl;
+  entries = record { keys = refl; cluses = refl; cats = refl };
+  locks = refl;
+  claims = refl;
+  units = refl;
+  top = refl;
+  opened = refl;
+  set_aside = refl;
+}
 
 pub same_shows : (st : State) (allowed : ℕ) (old new : Engine) → SameEngine old new → Shows st allowed old → Shows st allowed new
 same_shows st allowed old new same shows =

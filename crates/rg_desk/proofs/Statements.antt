@@ -16,12 +16,12 @@ use Rattle.rg_index.specs.Entries.{has_entry}
 use Rattle.rg_index.specs.Listed.{has_value}
 use Rattle.rg_indexes.specs.Listings.{entries_of}
 use Rattle.rg_model.specs.Held.{holder}
-use Rattle.rg_model.specs.Plain.{change_reply, insert_reply, is_done, plain_reply, unless_held}
+use Rattle.rg_model.specs.Plain.{change_reply, insert_reply, is_done, plain_reply, row_reply, unless_held}
 use Rattle.rg_model.specs.Said.{may_want_log, may_want_memory, may_want_room}
 use Rattle.rg_model.specs.State.{Locks, State, row_of}
 use Rattle.rg_stmt.specs.declared.stmt.Reply.TheVariants.{Absent, Done, Duplicate, Full, Held, LogFull, NoMemory}
 use Rattle.rg_stmt.specs.declared.stmt.Stmt.{Stmt}
-use Rattle.rg_stmt.specs.declared.stmt.Stmt.TheVariants.{Delete, Insert, Update}
+use Rattle.rg_stmt.specs.declared.stmt.Stmt.TheVariants.{Delete, Insert, Select, Update}
 use Rattle.rg_lawful.specs.Act.{LogState, is_in}
 use Rattle.rg_lawful.proofs.Own.{own_live}
 use Rattle.rg_lawful.proofs.Tables.{eqb-refl}
@@ -36,9 +36,10 @@ use Rattle.rg_desk.specs.Units.{unit_at}
 use Rattle.rg_desk.specs.Wrote.{SameEngine}
 use Rattle.rg_desk.specs.declared.engine.Engine.{Engine}
 use Rattle.rg_desk.specs.declared.units.OpenUnit.{OpenUnit}
+use Rattle.rg_desk.proofs.Moving.{no_moves, same_moves}
 use Rattle.rg_desk.proofs.NewestKept.{same_newest}
 use Rattle.rg_desk.proofs.Reopens.{same_clean, same_parts}
-use Rattle.rg_desk.proofs.Same.{same_shows}
+use Rattle.rg_desk.proofs.Same.{same_engine, same_shows}
 use Rattle.rg_desk.proofs.Sessions.{left_consistent}
 use Rattle.rg_desk.proofs.Settled.{grows_same}
 use Rattle.rg_desk.proofs.UnitsWritten.{IsUnitFor}
@@ -131,22 +132,26 @@ module _ (st : State) (allowed : ℕ) (d : Engine) (shows : Shows st allowed d) 
   -- refusals leave all as it was
 
   pub go_held : (stmt : Stmt) (owner : Session) → plain_reply st session stmt ≡ Held owner → Goes st allowed d session stmt (Held owner) d
-  go_held stmt owner is = record { says = sym is; room = tt; log = tt; logged = omega arith; opened = refl; set_aside = refl; grows = grows_same d.log d.log refl; forced = λ e. refl; newest = λ e h. h; parts = same_parts d d refl; clean = λ h. h; left = tt; shows = none_more; capacity = refl }
+  go_held stmt owner is = record { says = sym is; room = tt; log = tt; logged = omega arith; opened = refl; set_aside = refl; grows = grows_same d.log d.log refl; forced = λ e. refl; newest = λ e h. h; parts = same_parts d d refl; clean = λ h. h; left = tt; shows = none_more; moves = no_moves d session stmt (Held owner) refl; capacity = refl }
 
   pub go_absent : (stmt : Stmt) → plain_reply st session stmt ≡ Absent → Goes st allowed d session stmt Absent d
-  go_absent stmt is = record { says = sym is; room = tt; log = tt; logged = omega arith; opened = refl; set_aside = refl; grows = grows_same d.log d.log refl; forced = λ e. refl; newest = λ e h. h; parts = same_parts d d refl; clean = λ h. h; left = tt; shows = none_more; capacity = refl }
+  go_absent stmt is = record { says = sym is; room = tt; log = tt; logged = omega arith; opened = refl; set_aside = refl; grows = grows_same d.log d.log refl; forced = λ e. refl; newest = λ e h. h; parts = same_parts d d refl; clean = λ h. h; left = tt; shows = none_more; moves = no_moves d session stmt Absent refl; capacity = refl }
 
   pub go_duplicate : (stmt : Stmt) → plain_reply st session stmt ≡ Duplicate → Goes st allowed d session stmt Duplicate d
-  go_duplicate stmt is = record { says = sym is; room = tt; log = tt; logged = omega arith; opened = refl; set_aside = refl; grows = grows_same d.log d.log refl; forced = λ e. refl; newest = λ e h. h; parts = same_parts d d refl; clean = λ h. h; left = tt; shows = none_more; capacity = refl }
+  go_duplicate stmt is = record { says = sym is; room = tt; log = tt; logged = omega arith; opened = refl; set_aside = refl; grows = grows_same d.log d.log refl; forced = λ e. refl; newest = λ e h. h; parts = same_parts d d refl; clean = λ h. h; left = tt; shows = none_more; moves = no_moves d session stmt Duplicate refl; capacity = refl }
 
   pub go_wanting : (stmt : Stmt) (new : Engine) → may_want_memory stmt ≡ true → SameEngine d new → Goes st allowed d session stmt NoMemory new
-  go_wanting stmt new may same = record { says = may; room = tt; log = tt; logged = omega (arith, ap (λ (l : Listed). taken_of l) same.log); opened = same.opened; set_aside = same.set_aside; grows = grows_same d.log new.log same.log; forced = λ e. ap (λ (l : Listed). l.forced) same.log; newest = same_newest d new same; parts = same_parts d new same.log; clean = same_clean d new same; left = tt; shows = same_shows st (allowed + 0) d new same none_more; capacity = same.capacity }
+  go_wanting stmt new may same = record { says = may; room = tt; log = tt; logged = omega (arith, ap (λ (l : Listed). taken_of l) same.log); opened = same.opened; set_aside = same.set_aside; grows = grows_same d.log new.log same.log; forced = λ e. ap (λ (l : Listed). l.forced) same.log; newest = same_newest d new same; parts = same_parts d new same.log; clean = same_clean d new same; left = tt; shows = same_shows st (allowed + 0) d new same none_more; moves = same_moves d session stmt NoMemory new refl same; capacity = same.capacity }
+
+  -- out of memory before anything was done
+  pub go_wanting_here : (stmt : Stmt) → may_want_memory stmt ≡ true → Goes st allowed d session stmt NoMemory d
+  go_wanting_here stmt may = go_wanting stmt d may (same_engine d)
 
   pub go_full : (stmt : Stmt) (need : ℕ) (new : Engine) → may_want_room stmt ≡ true → is_done (plain_reply st session stmt) ≡ true → 3221 * capacity_in d.space ≤ allowed → SaysRoom (ground_of d) session.0 stmt (Full need) → SameEngine d new → Goes st allowed d session stmt (Full need) new
-  go_full stmt need new may done most room same = record { says = (may, done, most); room = room; log = tt; logged = omega (arith, ap (λ (l : Listed). taken_of l) same.log); opened = same.opened; set_aside = same.set_aside; grows = grows_same d.log new.log same.log; forced = λ e. ap (λ (l : Listed). l.forced) same.log; newest = same_newest d new same; parts = same_parts d new same.log; clean = same_clean d new same; left = tt; shows = same_shows st (allowed + 0) d new same none_more; capacity = same.capacity }
+  go_full stmt need new may done most room same = record { says = (may, done, most); room = room; log = tt; logged = omega (arith, ap (λ (l : Listed). taken_of l) same.log); opened = same.opened; set_aside = same.set_aside; grows = grows_same d.log new.log same.log; forced = λ e. ap (λ (l : Listed). l.forced) same.log; newest = same_newest d new same; parts = same_parts d new same.log; clean = same_clean d new same; left = tt; shows = same_shows st (allowed + 0) d new same none_more; moves = same_moves d session stmt (Full need) new refl same; capacity = same.capacity }
 
   pub go_log_full : (stmt : Stmt) (need left : ℕ) (new : Engine) → may_want_log stmt ≡ true → is_done (plain_reply st session stmt) ≡ true → SaysLog (ground_of d) session.0 stmt (LogFull need left) → SameEngine d new → Goes st allowed d session stmt (LogFull need left) new
-  go_log_full stmt need left new may done log same = record { says = (may, done); room = tt; log = log; logged = omega (arith, ap (λ (l : Listed). taken_of l) same.log); opened = same.opened; set_aside = same.set_aside; grows = grows_same d.log new.log same.log; forced = λ e. ap (λ (l : Listed). l.forced) same.log; newest = same_newest d new same; parts = same_parts d new same.log; clean = same_clean d new same; left = tt; shows = same_shows st (allowed + 0) d new same none_more; capacity = same.capacity }
+  go_log_full stmt need left new may done log same = record { says = (may, done); room = tt; log = log; logged = omega (arith, ap (λ (l : Listed). taken_of l) same.log); opened = same.opened; set_aside = same.set_aside; grows = grows_same d.log new.log same.log; forced = λ e. ap (λ (l : Listed). l.forced) same.log; newest = same_newest d new same; parts = same_parts d new same.log; clean = same_clean d new same; left = tt; shows = same_shows st (allowed + 0) d new same none_more; moves = same_moves d session stmt (LogFull need left) new refl same; capacity = same.capacity }
 
   -- the plain table's replies
 
@@ -176,3 +181,17 @@ module _ (st : State) (allowed : ℕ) (d : Engine) (shows : Shows st allowed d) 
 
   pub delete_absent : (key : ℕ) → holder d.locks session key ≡ None → row_of st.table key ≡ None → plain_reply st session (Delete key) ≡ Absent
   delete_absent key alone none = delete_is key None alone none
+
+  -- another session has the key
+
+  pub go_select_held : (key : ℕ) (owner : Session) → Some owner ≡ holder d.locks session key → Goes st allowed d session (Select key) (Held owner) d
+  go_select_held key owner e = go_held (Select key) owner (ap (λ (h : Option Session). unless_held h (row_reply (row_of st.table key))) (held_is key (Some owner) e))
+
+  pub go_insert_held : (row : Row) (owner : Session) → Some owner ≡ holder d.locks session row.key → Goes st allowed d session (Insert row) (Held owner) d
+  go_insert_held row owner e = go_held (Insert row) owner (ap (λ (h : Option Session). unless_held h (insert_reply (is_some (row_of st.table row.key)))) (held_is row.key (Some owner) e))
+
+  pub go_update_held : (row : Row) (owner : Session) → Some owner ≡ holder d.locks session row.key → Goes st allowed d session (Update row) (Held owner) d
+  go_update_held row owner e = go_held (Update row) owner (ap (λ (h : Option Session). unless_held h (change_reply (is_some (row_of st.table row.key)))) (held_is row.key (Some owner) e))
+
+  pub go_delete_held : (key : ℕ) (owner : Session) → Some owner ≡ holder d.locks session key → Goes st allowed d session (Delete key) (Held owner) d
+  go_delete_held key owner e = go_held (Delete key) owner (ap (λ (h : Option Session). unless_held h (change_reply (is_some (row_of st.table key)))) (held_is key (Some owner) e))

@@ -63,7 +63,7 @@ abbrev pub AreOf : ℕ → List Record → Type 0
 AreOf t [] = Unit {0}
 AreOf t (r ∷ rs) = (r.tran.0 ≡ t) × AreOf t rs
 
-undos_front : (t : ℕ) (xs ys : List Act) → AreUndos t (xs ++ ys) → AreUndos t xs × AreUndos t ys
+pub undos_front : (t : ℕ) (xs ys : List Act) → AreUndos t (xs ++ ys) → AreUndos t xs × AreUndos t ys
 undos_front t [] ys are = (tt, are)
 undos_front t (Undo u home after parts ∷ xs) ys are = let rest = undos_front t xs ys are.1 in ((are.0, rest.0), rest.1)
 undos_front t (Purge parts ∷ xs) ys are = absurd are

@@ -1,5 +1,5 @@
 -- What a write that was planned leaves, as the trace sees it.
-use Rattle.std.proofs.Common.{◌≡◌, ◌≤◌, ◌<◌, ◌+◌, ◌*◌, ℕ, suc, List, [], ◌∷◌, ◌++◌, Option, Some, None, length, set, refl, sym, ◌∙◌, ap, subst, inl, inr, arith, if◌then◌else◌}
+use Rattle.std.proofs.Common.{◌≡◌, ◌≤◌, ◌<◌, ◌+◌, ◌*◌, ℕ, suc, true, List, [], ◌∷◌, ◌++◌, Option, Some, None, length, set, refl, sym, ◌∙◌, ap, subst, inl, inr, arith, if◌then◌else◌}
 use Rattle.std.specs.Prelude.{nat_le, ◌==◌}
 use Rattle.std.specs.FinMap as fin
 use Rattle.std.proofs.lemmas.List.{length-set}
@@ -20,6 +20,10 @@ use Rattle.rg_indexes.specs.declared.indexes.Indexes.{Indexes}
 use Rattle.rg_lock.specs.Taken.{take_key}
 use Rattle.rg_model.specs.Held.{holder}
 use Rattle.rg_model.specs.Plain.{lock_key, write_key}
+use Rattle.rg_model.specs.Quiet.{is_quiet, names_key}
+use Rattle.rg_model.specs.Said.{may_want_log}
+use Rattle.rg_stmt.specs.declared.stmt.Reply.TheVariants.{Done}
+use Rattle.rg_stmt.specs.declared.stmt.Stmt.{Stmt}
 use Rattle.rg_model.specs.State.{Locks, State, row_of}
 use Rattle.rg_record.specs.declared.record.Record.{Record}
 use Rattle.rg_lawful.specs.Act.{LogState, state, step}
@@ -39,9 +43,10 @@ use Rattle.rg_desk.specs.Engine.{HasPages, slots_in}
 use Rattle.rg_space.specs.Memory.{list_seen}
 use Rattle.rg_desk.specs.Shows.{KeyShown, Shows, ShowsBy, UnitsShown, left_by}
 use Rattle.rg_desk.specs.Stored.{IsQuiet, IsSettled}
+use Rattle.rg_desk.specs.Moves.{Moves}
 use Rattle.rg_desk.specs.Reopens.{IsCleanIn, KeepsParts}
 use Rattle.rg_desk.specs.Trails.{Trails}
-use Rattle.rg_desk.specs.Units.{owed, owed_to, unit_at}
+use Rattle.rg_desk.specs.Units.{owed, owed_to, unit_at, writes_in}
 use Rattle.rg_desk.specs.Bytes.{end_bytes}
 use Rattle.rg_log.specs.Kept.{Listed}
 use Rattle.rg_desk.specs.Wrote.{Wrote, records_cleared, records_wrote, unit_wrote}
@@ -50,13 +55,14 @@ use Rattle.rg_desk.specs.declared.units.OpenUnit.{OpenUnit}
 use Rattle.rg_desk.proofs.Appended.{acts_wrote, more_wrote, quiet_wrote, wrote_more}
 use Rattle.rg_desk.proofs.Keys.{set_table}
 use Rattle.rg_desk.proofs.KeysWritten.{IsOwnUnit, keys_written}
+use Rattle.rg_desk.proofs.Moving.{record_moves, writing_after, writing_made, wrote_loud, wrote_one}
 use Rattle.rg_desk.proofs.Purged.{key_purged, units_purged, walks_cleared}
 use Rattle.rg_desk.proofs.Reopens.{appended_clean, appended_parts}
 use Rattle.rg_desk.proofs.Sessions.{left_consistent}
 use Rattle.rg_desk.proofs.Settled.{settled_more, shows_more}
 use Rattle.rg_desk.proofs.TrailsWritten.{wrote_next, wrote_trails}
 use Rattle.rg_desk.proofs.Logged.{bytes_wrote}
-use Rattle.rg_desk.proofs.UnitSlots.{owed-set}
+use Rattle.rg_desk.proofs.UnitSlots.{owed-set, set_here, set_there}
 use Rattle.rg_desk.proofs.UnitsWritten.{IsUnitFor, units_written}
 
 -- indexes with the same entries list the same
@@ -281,3 +287,19 @@ module _ (st : State) (allowed more : ℕ) (old new : Engine) (session : Session
 
   pub written_clean : claimed_all (holding s_written.live (suc s_written.top)) s_written.pages ≤ allowed + more → IsCleanIn old → IsCleanIn new
   written_clean bound = appended_clean st allowed old shows entries runs write_next (write_key st session key after) (allowed + more) new (subst (ShowsBy (write_key st session key after) (allowed + more) new) (sym left) (by bound))
+
+  -- the rows are moved by the record of the write
+  pub written_moves : (stmt : Stmt) → may_want_log stmt ≡ true → names_key key stmt ≡ true → Moves old session stmt Done new
+  written_moves stmt may names =
+      record_moves st allowed old shows session stmt Done new entries appended runs write_next (slots ∙ ap (λ (x : LogState). x.pages) (sym left))
+      (λ past write. wrote_loud past old.log.records unit plan.purge w (ap (λ (k : ℕ). is_quiet k past) of_key ∙ write may key names))
+      (wrote_one old.log.records unit plan.purge w ∙ sym (writing_made stmt (writes_in (unit_at old.units session.0)) may))
+      (ap (λ (us : List (Option OpenUnit)). writes_in (unit_at us session.0)) units
+      ∙ ap writes_in (set_here old.units session.0 (Some (unit_wrote old.log.records unit plan)) place)
+      ∙ ap (λ (n : ℕ). n + 1) (sym (writes_before own))
+      ∙ sym (writing_after stmt (writes_in (unit_at old.units session.0)) may))
+      (λ n apart. ap (λ (us : List (Option OpenUnit)). writes_in (unit_at us n)) units ∙ ap writes_in (set_there old.units session.0 n (Some (unit_wrote old.log.records unit plan)) apart))
+    where
+      writes_before : IsUnitFor old.units s session.0 unit → writes_in (unit_at old.units session.0) ≡ unit.writes
+      writes_before (inl e) = ap writes_in e
+      writes_before (inr h) = ap writes_in h.0 ∙ sym h.1.writes

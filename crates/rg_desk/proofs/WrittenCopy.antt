@@ -54,7 +54,6 @@ use Rattle.rg_desk.specs.Prepared.{AreMarksAt, IsMarkAt, IsMarkOf, IsPrepared, W
 use Rattle.rg_desk.specs.Reopens.{IsCleanIn}
 use Rattle.rg_desk.specs.Stored.{IsStored}
 use Rattle.rg_desk.specs.Volume.{HasCalls, VolumeSeen}
-use Rattle.rg_desk.specs.Wrote.{SameEngine}
 use Rattle.rg_desk.specs.declared.engine.Engine.{Engine}
 use Rattle.rg_desk.specs.declared.origin.Origin.{Origin}
 use Rattle.rg_desk.specs.declared.prepared.Prepared.{Prepared}
@@ -63,24 +62,8 @@ use Rattle.rg_desk.proofs.Elsewhere.{desk_elsewhere, other_sound}
 use Rattle.rg_desk.proofs.Flushing.{force_sound, forces_clean, on_now, only_forces}
 use Rattle.rg_desk.proofs.Leaving.{has_more, leaves_on}
 use Rattle.rg_desk.proofs.OnVolume.{tidy_on, tidy_then}
+use Rattle.rg_desk.proofs.Same.{same_engine}
 use Rattle.rg_desk.proofs.Throughout.{told_then}
-
-same_engine : (d : Engine) → SameEngine d d
-same_engine d = record {
-  capacity = refl;
-  pages = λ h. h;
-  slots = refl;
-  contents = refl;
-  of_copy = refl;
-  log = refl;
-  entries = record { keys = refl; cluses = refl; cats = refl };
-  locks = refl;
-  claims = refl;
-  units = refl;
-  top = refl;
-  opened = refl;
-  set_aside = refl;
-}
 
 no_fewer : (told : Option Told) (n : ℕ) → IfTold told (λ t. t.start + n ≤ length t.calls) → IfTold told (λ t. t.start + 0 ≤ length t.calls)
 no_fewer None n h = tt

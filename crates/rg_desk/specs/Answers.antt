@@ -28,6 +28,7 @@ use Rattle.rg_stmt.specs.declared.stmt.Stmt.{Stmt}
 use Rattle.rg_stmt.specs.declared.stmt.Stmt.TheVariants.{Commit, Rollback}
 use Rattle.rg_desk.specs.Engine.{ground_of}
 use Rattle.rg_desk.specs.Left.{LeavesState, in_doubt}
+use Rattle.rg_desk.specs.Moves.{Moves}
 use Rattle.rg_desk.specs.Newest.{KeepsNewest}
 use Rattle.rg_desk.specs.Reopens.{IsCleanIn, KeepsParts}
 use Rattle.rg_desk.specs.Room.{SaysLog, SaysRoom}
@@ -110,6 +111,7 @@ pub record Answered
   pub clean : IsCleanIn old → IfUp reply (IsCleanIn new)
   pub shows : IfUp reply (Shows after (allowed + more_allowed stmt reply) new)
   pub left : IfDevice reply (LeavesState after (record new.log { forced = old.log.forced }))
+  pub moves : IfUp reply (Moves old session stmt reply new)
   pub capacity : capacity_in new.space ≡ capacity_in old.space
 
 -- from each state that the engine shows

@@ -13,6 +13,7 @@ pub mod Trails
 pub mod Shows
 pub mod Reopens
 pub mod Planned
+pub mod Moves
 pub mod Steps
 pub mod Ended
 pub mod Reads

@@ -8,6 +8,7 @@
 --    then on, and nothing is said of it but what its log stores: the committed rows, with those of
 --    the COMMIT or without.
 -- 3. A put or a change allows 18 bytes more than its row has.
+-- 4. The rows move as the records tell that it appends, unless it leaves the engine down.
 use Rattle.std.specs.Prelude.{◌≡◌, ◌≤◌, ◌+◌, ◌*◌, ℕ, Bool, true, false, Some, None, ◌⊎◌, if◌then◌else◌}
 use Rattle.rg_base.specs.RowBytes.{row_size}
 use Rattle.rg_base.specs.declared.session.Session.{Session}
@@ -22,6 +23,7 @@ use Rattle.rg_space.specs.Space.{capacity_in}
 use Rattle.rg_desk.specs.Bytes.{most_needed, taken_of}
 use Rattle.rg_desk.specs.Engine.{ground_of}
 use Rattle.rg_desk.specs.Left.{LeavesState, in_doubt}
+use Rattle.rg_desk.specs.Moves.{Moves}
 use Rattle.rg_desk.specs.Newest.{KeepsNewest}
 use Rattle.rg_desk.specs.Reopens.{IsCleanIn, KeepsParts}
 use Rattle.rg_desk.specs.Room.{SaysLog, SaysRoom}
@@ -115,6 +117,7 @@ pub record Goes
   pub left :
       IfDevice reply
       (LeavesState (in_doubt st session) (record new.log { forced = old.log.forced }))
+  pub moves : IfUp reply (Moves old session stmt reply new)
   pub capacity : capacity_in new.space ≡ capacity_in old.space
 
 -- from each state that the engine shows

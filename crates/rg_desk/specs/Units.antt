@@ -18,6 +18,11 @@ trans_of [] = []
 trans_of (None ∷ units) = trans_of units
 trans_of (Some unit ∷ units) = unit.tran.0 ∷ trans_of units
 
+-- the writes of a unit, if there is one
+abbrev pub writes_in : Option OpenUnit → ℕ
+writes_in None = 0
+writes_in (Some unit) = unit.writes
+
 -- the bytes that are reserved for a unit
 abbrev pub owed_to : Option OpenUnit → ℕ
 owed_to None = 0

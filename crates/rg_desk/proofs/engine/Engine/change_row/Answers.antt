@@ -1,4 +1,4 @@
-use Rattle.std.proofs.Common.{◌≤◌, ℕ, sym, subst}
+use Rattle.std.proofs.Common.{◌≤◌, ℕ, sym, subst, refl}
 use Rattle.rg_stmt.specs.declared.stmt.Stmt.TheVariants.{Update}
 use Rattle.rg_base.specs.RowBytes.{row_size}
 use Rattle.rg_space.specs.Space.{capacity_in}
@@ -7,7 +7,7 @@ use Rattle.rg_desk.specs.Planned.{units_with}
 use Rattle.rg_desk.specs.Steps.{Goes}
 use Rattle.rg_desk.proofs.Same.{same_shows, same_sound}
 use Rattle.rg_desk.proofs.Spelled.{change_spelled}
-use Rattle.rg_desk.proofs.Statements.{key_some, update_done}
+use Rattle.rg_desk.proofs.Statements.{key_some, update_done, go_wanting_here}
 use Rattle.rg_desk.proofs.WritesGo.{change_goes, change_listed, change_refused}
 use Rattle.rg_desk.proofs.engine.Engine.change_row.Goals as goal
 
@@ -44,3 +44,6 @@ returns-in-Err c = λ st allowed shows.
     subst (λ reply. Goes st allowed d c.args.session (Update c.args.row) reply mid) (sym c.reply_of.ensures)
     (change_refused st allowed d shows c.args.session c.in-Some.unit c.in-Some.ensures.unit mid c.in-Err.ensures.same (same_shows st allowed d mid c.in-Err.ensures.same shows)
     c.args.home at.row c.args.row c.in-Err.fault at.there (sym at.key_is) (subst (λ (n : ℕ). n ≤ 826) c.size-size.ensures.size c.size-size.ensures.high) c.in-Err.ensures.refusal (update_done st allowed d shows c.args.session c.args.row at.row c.requires.alone at.now))
+
+pub returns-in_default : goal.returns-in_default
+returns-in_default c = λ st allowed shows. go_wanting_here st allowed c.args.self.now shows c.args.session (Update c.args.row) refl

@@ -1,7 +1,7 @@
-use Rattle.std.proofs.Common.{sym, subst}
+use Rattle.std.proofs.Common.{sym, subst, refl}
 use Rattle.rg_stmt.specs.declared.stmt.Stmt.TheVariants.{Insert}
 use Rattle.rg_desk.specs.Steps.{Goes}
-use Rattle.rg_desk.proofs.Statements.{insert_duplicate, go_duplicate, key_some}
+use Rattle.rg_desk.proofs.Statements.{insert_duplicate, go_duplicate, key_some, go_insert_held, go_wanting_here}
 use Rattle.rg_desk.proofs.engine.Engine.insert.Goals as goal
 
 pub returns-in-Some-home_of : goal.returns-in-Some-home_of
@@ -14,3 +14,9 @@ returns-in-Some-home_of c = λ st allowed shows.
 pub returns-in-Ok : goal.returns-in-Ok
 returns-in-Ok c = λ st allowed shows.
     subst (λ row. Goes st allowed c.args.self.now c.args.session (Insert row) c.put_row.result c.put_row.new.self) c.in-Ok.ensures (c.put_row.ensures st allowed shows)
+
+pub returns-in-Some : goal.returns-in-Some
+returns-in-Some c = λ st allowed shows. go_insert_held st allowed c.args.self.now shows c.args.session c.args.row.now c.in-Some.owner c.in-Some.ensures
+
+pub returns-in-Err : goal.returns-in-Err
+returns-in-Err c = λ st allowed shows. go_wanting_here st allowed c.args.self.now shows c.args.session (Insert c.args.row.now) refl

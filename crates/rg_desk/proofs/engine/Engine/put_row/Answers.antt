@@ -1,4 +1,4 @@
-use Rattle.std.proofs.Common.{◌≤◌, ℕ, sym, subst}
+use Rattle.std.proofs.Common.{◌≤◌, ℕ, sym, subst, refl}
 use Rattle.rg_stmt.specs.declared.stmt.Stmt.TheVariants.{Insert}
 use Rattle.rg_base.specs.RowBytes.{row_size}
 use Rattle.rg_home.specs.Plan.{new_area}
@@ -8,7 +8,7 @@ use Rattle.rg_desk.specs.Planned.{units_with}
 use Rattle.rg_desk.specs.Steps.{Goes}
 use Rattle.rg_desk.proofs.Same.{same_shows, same_sound}
 use Rattle.rg_desk.proofs.Spelled.{put_spelled}
-use Rattle.rg_desk.proofs.Statements.{key_none, insert_done}
+use Rattle.rg_desk.proofs.Statements.{key_none, insert_done, go_wanting_here}
 use Rattle.rg_desk.proofs.WritesGo.{put_goes, put_listed, put_refused}
 use Rattle.rg_desk.proofs.engine.Engine.put_row.Goals as goal
 
@@ -45,3 +45,6 @@ returns-in-Err c = λ st allowed shows.
     subst (λ reply. Goes st allowed d c.args.session (Insert c.args.row) reply mid) (sym c.reply_of.ensures)
     (put_refused st allowed d shows c.args.session c.in-Some.unit c.in-Some.ensures.unit mid c.in-Err.ensures.same (same_shows st allowed d mid c.in-Err.ensures.same shows)
     c.args.row c.in-Err.fault (subst (λ (n : ℕ). n ≤ 826) c.size-size.ensures.size c.size-size.ensures.high) c.in-Err.ensures.refusal (insert_done st allowed d shows c.args.session c.args.row c.requires.alone absent))
+
+pub returns-in_default : goal.returns-in_default
+returns-in_default c = λ st allowed shows. go_wanting_here st allowed c.args.self.now shows c.args.session (Insert c.args.row) refl

@@ -1,0 +1,206 @@
+-- How a statement moves the rows, from a state that the engine shows.
+use Rattle.std.proofs.Common.{◌≡◌, ◌+◌, ◌<◌, ◌++◌, ℕ, Bool, true, false, List, [], ◌∷◌, Option, Some, None, length, set, refl, sym, ◌∙◌, ap, subst, arith, append-nil, length-append, if◌then◌else◌}
+use Rattle.std.specs.FinMap as fin
+use Rattle.std.specs.List.{AllByRecursion}
+use Rattle.rg_base.specs.declared.lock.Lock.{Lock}
+use Rattle.rg_base.specs.declared.part.Part.{Part}
+use Rattle.rg_base.specs.declared.session.Session.{Session}
+use Rattle.rg_changed.specs.Changed.{changes_in}
+use Rattle.rg_changed.specs.Laws.{AreNumbered, WritesLoud}
+use Rattle.rg_changed.proofs.Keying.{changes_loud}
+use Rattle.rg_changed.proofs.Moving.{changes_above, changes_move}
+use Rattle.rg_follow.specs.Next.{AreNext}
+use Rattle.rg_home.specs.Pages.{slot_of}
+use Rattle.rg_home.specs.Rows.{row_at}
+use Rattle.rg_home.specs.Slot.{Slot}
+use Rattle.rg_lawful.specs.Act.{LogState, state}
+use Rattle.rg_lawful.specs.Lawful.{Runs}
+use Rattle.rg_lawful.specs.Records.{acts_of}
+use Rattle.rg_lawful.specs.Write.{NoneHit, Write, at_key, key_of}
+use Rattle.rg_log.specs.Kept.{Listed}
+use Rattle.rg_model.specs.Changes.{is_rollback, is_unit_end, is_write, writes_after}
+use Rattle.rg_model.specs.Quiet.{is_quiet}
+use Rattle.rg_model.specs.Said.{may_want_log}
+use Rattle.rg_model.specs.State.{Locks, State}
+use Rattle.rg_record.specs.declared.record.Record.{Record}
+use Rattle.rg_sent.specs.Keeps.{AreAbove, MovesRows}
+use Rattle.rg_space.specs.Space.{capacity_in}
+use Rattle.rg_stmt.specs.declared.event.Entry.{Entry}
+use Rattle.rg_stmt.specs.declared.stmt.Reply.{Reply}
+use Rattle.rg_stmt.specs.declared.stmt.Reply.TheVariants.{Done, Victim}
+use Rattle.rg_stmt.specs.declared.stmt.Stmt.{Stmt}
+use Rattle.rg_stmt.specs.declared.stmt.Stmt.TheVariants.{Commit, Delete, Insert, Rollback, Update}
+use Rattle.rg_tally.specs.Changed.{made_by}
+use Rattle.rg_desk.specs.Engine.{slots_in}
+use Rattle.rg_desk.specs.Moves.{LocksAreLoud, Moves, WriteIsLoud}
+use Rattle.rg_desk.specs.Shows.{KeyShown, Shows, left_by}
+use Rattle.rg_desk.specs.Units.{unit_at, writes_in}
+use Rattle.rg_desk.specs.Wrote.{SameEngine}
+use Rattle.rg_desk.specs.declared.engine.Engine.{Engine}
+use Rattle.rg_desk.specs.declared.units.OpenUnit.{OpenUnit}
+use Rattle.rg_desk.proofs.Appended.{more_wrote}
+use Rattle.rg_desk.proofs.Sessions.{left_consistent}
+use Rattle.rg_desk.proofs.UnitSlots.{set_here, set_there}
+
+-- ---- replies that write nothing
+
+-- neither OK nor of a victim
+abbrev pub is_idle : Reply → Bool
+is_idle Done = false
+is_idle (Victim owner) = false
+is_idle reply = true
+
+record Idles (stmt : Stmt) (reply : Reply) : Type 0 where
+  pub write : is_write stmt reply ≡ false
+  pub back : is_rollback stmt reply ≡ false
+  pub end : is_unit_end stmt reply ≡ false
+
+idles : (stmt : Stmt) (reply : Reply) → is_idle reply ≡ true → Idles stmt reply
+idles stmt Done idle = absurd (cc (idle))
+idles stmt (Victim owner) idle = absurd (cc (idle))
+idles Commit reply idle = record { write = refl; back = refl; end = refl }
+idles Rollback reply idle = record { write = refl; back = refl; end = refl }
+idles stmt reply idle = record { write = refl; back = refl; end = refl }
+
+module _ (stmt : Stmt) (reply : Reply) (n : ℕ) (idle : Idles stmt reply) where
+  none_made : made_by stmt reply n ≡ 0
+  none_made = λ i. if idle.write i then 1 else (if idle.back i then n else 0)
+
+  none_after : writes_after stmt reply n ≡ n
+  none_after = λ i. if idle.end i then 0 else (if idle.write i then n + 1 else n)
+
+-- what is as it was, with the units' writes
+still_moves : (d : Engine) (session : Session) (stmt : Stmt) (reply : Reply) (new : Engine) → slots_in new ≡ slots_in d → new.log.records ≡ d.log.records
+    → made_by stmt reply (writes_in (unit_at d.units session.0)) ≡ 0 → writes_in (unit_at new.units session.0) ≡ writes_after stmt reply (writes_in (unit_at d.units session.0))
+    → ((n : ℕ) → (n ≡ session.0 → ⊥) → writes_in (unit_at new.units n) ≡ writes_in (unit_at d.units n)) → Moves d session stmt reply new
+still_moves d session stmt reply new slots records none own others = record {
+  more = [];
+  records = records ∙ sym (append-nil d.log.records);
+  rows = λ place. ap (λ (ps : List (List Slot)). row_at (slot_of ps) place) slots;
+  above = omega (arith, ap (λ (rs : List Record). length rs) records);
+  loud = λ past locks write. tt;
+  counted = sym none;
+  own = own;
+  others = others;
+}
+
+pub same_moves : (d : Engine) (session : Session) (stmt : Stmt) (reply : Reply) (new : Engine) → is_idle reply ≡ true → SameEngine d new → Moves d session stmt reply new
+same_moves d session stmt reply new idle same =
+    let is = idles stmt reply idle in
+    still_moves d session stmt reply new same.slots (ap (λ (l : Listed). l.records) same.log)
+    (none_made stmt reply (writes_in (unit_at d.units session.0)) is)
+    (ap (λ (us : List (Option OpenUnit)). writes_in (unit_at us session.0)) same.units ∙ sym (none_after stmt reply (writes_in (unit_at d.units session.0)) is))
+    (λ n apart. ap (λ (us : List (Option OpenUnit)). writes_in (unit_at us n)) same.units)
+
+pub no_moves : (d : Engine) (session : Session) (stmt : Stmt) (reply : Reply) → is_idle reply ≡ true → Moves d session stmt reply d
+no_moves d session stmt reply idle =
+    let is = idles stmt reply idle in
+    still_moves d session stmt reply d refl refl (none_made stmt reply (writes_in (unit_at d.units session.0)) is) (sym (none_after stmt reply (writes_in (unit_at d.units session.0)) is)) (λ n apart. refl)
+
+-- from an engine that was as this one
+pub moves_since : (d mid : Engine) (session : Session) (stmt : Stmt) (reply : Reply) (new : Engine) → SameEngine d mid → Moves mid session stmt reply new → Moves d session stmt reply new
+moves_since d mid session stmt reply new same m = record {
+  more = m.more;
+  records = m.records ∙ ap (λ (l : Listed). l.records ++ m.more) same.log;
+  rows = subst (λ (ps : List (List Slot)). MovesRows (changes_in m.more) (row_at (slot_of ps)) (row_at (slot_of (slots_in new)))) same.slots m.rows;
+  above = subst (λ (l : Listed). AreAbove (length l.records) (length new.log.records) (changes_in m.more)) same.log m.above;
+  loud = λ past locks write. m.loud past (λ key lock e. locks key lock (ap (λ (ls : Locks). fin.get ls key) (sym same.locks) ∙ e)) write;
+  counted = m.counted ∙ ap (λ (us : List (Option OpenUnit)). made_by stmt reply (writes_in (unit_at us session.0))) same.units;
+  own = m.own ∙ ap (λ (us : List (Option OpenUnit)). writes_after stmt reply (writes_in (unit_at us session.0))) same.units;
+  others = λ n apart. m.others n apart ∙ ap (λ (us : List (Option OpenUnit)). writes_in (unit_at us n)) same.units;
+}
+
+-- to an engine that has its pages, log and units
+pub moves_to : (d : Engine) (session : Session) (stmt : Stmt) (reply : Reply) (mid new : Engine) → slots_in new ≡ slots_in mid → new.log ≡ mid.log → new.units ≡ mid.units → Moves d session stmt reply mid → Moves d session stmt reply new
+moves_to d session stmt reply mid new slots log units m = record {
+  more = m.more;
+  records = ap (λ (l : Listed). l.records) log ∙ m.records;
+  rows = subst (λ (ps : List (List Slot)). MovesRows (changes_in m.more) (row_at (slot_of (slots_in d))) (row_at (slot_of ps))) (sym slots) m.rows;
+  above = subst (λ (l : Listed). AreAbove (length d.log.records) (length l.records) (changes_in m.more)) (sym log) m.above;
+  loud = m.loud;
+  counted = m.counted;
+  own = ap (λ (us : List (Option OpenUnit)). writes_in (unit_at us session.0)) units ∙ m.own;
+  others = λ n apart. ap (λ (us : List (Option OpenUnit)). writes_in (unit_at us n)) units ∙ m.others n apart;
+}
+
+-- ---- records
+
+next_numbered : (limit pages : ℕ) (rs more : List Record) → AreNext limit pages rs more → AreNumbered (length rs) more
+next_numbered limit pages rs [] next = tt
+next_numbered limit pages rs (entry ∷ more) next = (
+  next.0.position,
+  subst (λ (n : ℕ). AreNumbered n more) (length-append rs (entry ∷ [])) (next_numbered limit pages (rs ++ entry ∷ []) more next.1),
+)
+
+-- each record that it appends writes no quiet key
+abbrev pub AllLoud : List Entry → List Record → Type 0
+AllLoud past more = AllByRecursion (λ (entry : Record). WritesLoud past entry.kind) more
+
+module _ (st : State) (allowed : ℕ) (d : Engine) (shows : Shows st allowed d) (session : Session) (stmt : Stmt) (reply : Reply) (new : Engine) (more : List Record) where
+  abbrev s : LogState
+  s = left_by shows.first d
+
+  pub record_moves : new.log.records ≡ d.log.records ++ more → Runs (capacity_in d.space) (left_by shows.first d) (acts_of [] more) → AreNext (capacity_in d.space) d.log.pages d.log.records more
+      → slots_in new ≡ (state (left_by shows.first d) (acts_of [] more)).pages → ((past : List Entry) → WriteIsLoud stmt reply past → AllLoud past more)
+      → length (changes_in more) ≡ made_by stmt reply (writes_in (unit_at d.units session.0)) → writes_in (unit_at new.units session.0) ≡ writes_after stmt reply (writes_in (unit_at d.units session.0))
+      → ((n : ℕ) → (n ≡ session.0 → ⊥) → writes_in (unit_at new.units n) ≡ writes_in (unit_at d.units n)) → Moves d session stmt reply new
+  record_moves records runs next slots loud counted own others = record {
+    more = more;
+    records = records;
+    rows =
+        subst (λ (ps : List (List Slot)). MovesRows (changes_in more) (row_at (slot_of (slots_in d))) (row_at (slot_of ps))) (sym slots)
+        (subst (λ (ps : List (List Slot)). MovesRows (changes_in more) (row_at (slot_of ps)) (row_at (slot_of (state s (acts_of [] more)).pages))) (sym shows.by.slots)
+        (changes_move (capacity_in d.space) s more (left_consistent st allowed d shows) runs));
+    above =
+        subst (λ (n : ℕ). AreAbove (length d.log.records) n (changes_in more)) (sym (ap (λ (rs : List Record). length rs) records ∙ length-append d.log.records more))
+        (changes_above (length d.log.records) more (next_numbered (capacity_in d.space) d.log.pages d.log.records more next));
+    loud = λ past locks write. changes_loud (capacity_in d.space) s more past (left_consistent st allowed d shows) runs (hits past locks) (loud past write);
+    counted = counted;
+    own = own;
+    others = others;
+  }
+    where
+      hit : (past : List Entry) → LocksAreLoud d past → (key : ℕ) (o : Option Lock) → fin.get d.locks key ≡ o → KeyShown d.units s o key → (NoneHit (at_key key) s.writes → ⊥) → is_quiet key past ≡ false
+      hit past locks key None e none some = absurd (some none)
+      hit past locks key (Some lock) e own some = locks key lock e
+
+      hits : (past : List Entry) → LocksAreLoud d past → (key : ℕ) → (NoneHit (at_key key) s.writes → ⊥) → is_quiet key past ≡ false
+      hits past locks key some = hit past locks key (fin.get d.locks key) refl (shows.by.keys key) some
+
+-- ---- a write
+
+pub wrote_one : (rs : List Record) (unit : OpenUnit) (purge : List Part) (w : Write) → length (changes_in (more_wrote rs unit purge w)) ≡ 1
+wrote_one rs unit [] w = refl
+wrote_one rs unit (x ∷ purge) w = refl
+
+pub wrote_loud : (past : List Entry) (rs : List Record) (unit : OpenUnit) (purge : List Part) (w : Write) → is_quiet (key_of w.written.before w.after) past ≡ false → AllLoud past (more_wrote rs unit purge w)
+wrote_loud past rs unit [] w loud = (loud, tt)
+wrote_loud past rs unit (x ∷ purge) w loud = (tt, (loud, tt))
+
+pub writing_made : (stmt : Stmt) (n : ℕ) → may_want_log stmt ≡ true → made_by stmt Done n ≡ 1
+writing_made stmt n may = ap (λ (b : Bool). if b then 1 else (if is_rollback stmt Done then n else 0)) may
+
+pub writing_after : (stmt : Stmt) (n : ℕ) → may_want_log stmt ≡ true → writes_after stmt Done n ≡ n + 1
+writing_after (Insert row) n may = refl
+writing_after (Update row) n may = refl
+writing_after (Delete key) n may = refl
+writing_after stmt n may = absurd (cc (may))
+
+-- ---- the end of a unit
+
+-- the session has no unit any more
+pub ended_own : (us : List (Option OpenUnit)) (n : ℕ) → n < length us → writes_in (unit_at (set us n None) n) ≡ 0
+ended_own us n low = ap writes_in (set_here us n None low)
+
+pub ended_others : (us : List (Option OpenUnit)) (n m : ℕ) → (m ≡ n → ⊥) → writes_in (unit_at (set us n None) m) ≡ writes_in (unit_at us m)
+ended_others us n m apart = ap writes_in (set_there us n m None apart)
+
+-- a unit that has not written, or none
+pub idle_end_moves : (d : Engine) (session : Session) (stmt : Stmt) (new : Engine) → session.0 < length d.units → unit_at d.units session.0 ≡ None → slots_in new ≡ slots_in d → new.log.records ≡ d.log.records
+    → new.units ≡ set d.units session.0 None → made_by stmt Done 0 ≡ 0 → writes_after stmt Done 0 ≡ 0 → Moves d session stmt Done new
+idle_end_moves d session stmt new low none slots records units made after =
+    let no_writes : writes_in (unit_at d.units session.0) ≡ 0 = ap writes_in none in
+    still_moves d session stmt Done new slots records
+    (ap (λ (n : ℕ). made_by stmt Done n) no_writes ∙ made)
+    (ap (λ (us : List (Option OpenUnit)). writes_in (unit_at us session.0)) units ∙ ended_own d.units session.0 low ∙ sym (ap (λ (n : ℕ). writes_after stmt Done n) no_writes ∙ after))
+    (λ n apart. ap (λ (us : List (Option OpenUnit)). writes_in (unit_at us n)) units ∙ ended_others d.units session.0 n apart)

@@ -1,0 +1,48 @@
+-- How a rollback moves the rows: by its undos, one for each write.
+use Rattle.std.proofs.Common.{◌≡◌, ◌+◌, ◌++◌, ℕ, List, [], ◌∷◌, length, refl, sym, ◌∙◌, ap, subst, arith, length-append}
+use Rattle.rg_changed.specs.Changed.{changes_at, changes_in}
+use Rattle.rg_changed.specs.Laws.{WritesLoud}
+use Rattle.rg_changed.proofs.Counting.{undos_counted}
+use Rattle.rg_follow.proofs.Telling.{acts_first}
+use Rattle.rg_lawful.specs.Act.{LogState, state}
+use Rattle.rg_lawful.specs.Closing.{AreUndos}
+use Rattle.rg_lawful.specs.Lawful.{Runs}
+use Rattle.rg_lawful.specs.Records.{act_of, act_of_kind, acts_of}
+use Rattle.rg_lawful.specs.Write.{Write, own_of}
+use Rattle.rg_record.specs.declared.record.Kind.{Kind}
+use Rattle.rg_record.specs.declared.record.Kind.TheVariants as kind
+use Rattle.rg_record.specs.declared.record.Record.{Record}
+use Rattle.rg_stmt.specs.declared.event.Entry.{Entry}
+use Rattle.rg_desk.specs.Ended.{rolled_record}
+use Rattle.rg_desk.specs.declared.units.OpenUnit.{OpenUnit}
+use Rattle.rg_desk.proofs.Moving.{AllLoud}
+use Rattle.rg_desk.proofs.UndoTrails.{undos_front}
+
+-- Undos and the record of the unit's end write no key
+undo_loud : (past : List Entry) (t u : ℕ) (k : Kind) → AreUndos t (act_of_kind [] u k ∷ []) → WritesLoud past k
+undo_loud past t u (kind.Undo next home after parts) are = tt
+undo_loud past t u (kind.Change home before after parts) are = absurd are
+undo_loud past t u kind.Commit are = absurd are
+undo_loud past t u kind.RolledBack are = absurd are
+undo_loud past t u (kind.Purge parts) are = absurd are
+undo_loud past t u (kind.Switch copy pages) are = absurd are
+
+pub undos_loud : (past : List Entry) (t : ℕ) (more : List Record) (unit : OpenUnit) (position last : ℕ) → AreUndos t (acts_of [] more) → AllLoud past (more ++ rolled_record position last unit ∷ [])
+undos_loud past t [] unit position last are = (tt, tt)
+undos_loud past t (r ∷ more) unit position last are =
+    let both = undos_front t (acts_of [] more) (act_of [] r ∷ []) (subst (AreUndos t) (acts_first r more) are) in
+    (undo_loud past t r.tran.0 r.kind both.1, undos_loud past t more unit position last both.0)
+
+changes_rolled : (more : List Record) (unit : OpenUnit) (position last : ℕ) → length (changes_in (more ++ rolled_record position last unit ∷ [])) ≡ length (changes_in more)
+changes_rolled [] unit position last = refl
+changes_rolled (r ∷ more) unit position last =
+    length-append (changes_at r.position r.kind) (changes_in (more ++ rolled_record position last unit ∷ []))
+    ∙ ap (λ (n : ℕ). length (changes_at r.position r.kind) + n) (changes_rolled more unit position last)
+    ∙ sym (length-append (changes_at r.position r.kind) (changes_in more))
+
+-- they are as many as the unit's writes, where none is left
+pub undos_made : (limit : ℕ) (s : LogState) (unit : OpenUnit) (more : List Record) (position last : ℕ) → AreUndos unit.tran.0 (acts_of [] more) → Runs limit s (acts_of [] more)
+    → own_of unit.tran.0 (state s (acts_of [] more)).writes ≡ [] → length (own_of unit.tran.0 s.writes) ≡ unit.writes
+    → length (changes_in (more ++ rolled_record position last unit ∷ [])) ≡ unit.writes
+undos_made limit s unit more position last are runs none count =
+    omega (arith, changes_rolled more unit position last, undos_counted limit s unit.tran.0 more are runs, ap (λ (ws : List Write). length ws) none, count)

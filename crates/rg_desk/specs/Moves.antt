@@ -1,0 +1,59 @@
+-- How a statement moves the rows of an engine.
+--
+-- 1. It does by the changes of the records that it appends, one after the other, at positions above
+--    those before.
+-- 2. None of them has a quiet key, where no locked key is quiet, and not the one that the statement
+--    writes.
+-- 3. They are as many as the statement makes. The writes of open units are counted on as the
+--    statement's answer says.
+use Rattle.std.specs.Prelude.{◌≡◌, ◌++◌, ℕ, true, false, List, Some, length}
+use Rattle.std.specs.FinMap as fin
+use Rattle.std.specs.List.{AllByRecursion}
+use Rattle.rg_base.specs.declared.lock.Lock.{Lock}
+use Rattle.rg_base.specs.declared.session.Session.{Session}
+use Rattle.rg_changed.specs.Changed.{changes_in}
+use Rattle.rg_home.specs.Pages.{slot_of}
+use Rattle.rg_home.specs.Rows.{row_at}
+use Rattle.rg_model.specs.Changes.{is_write, writes_after}
+use Rattle.rg_model.specs.Quiet.{is_quiet, names_key}
+use Rattle.rg_record.specs.declared.record.Record.{Record}
+use Rattle.rg_sent.specs.Keeps.{AreAbove, IsLoud, MovesRows}
+use Rattle.rg_stmt.specs.declared.event.Entry.{Entry}
+use Rattle.rg_stmt.specs.declared.stmt.Reply.{Reply}
+use Rattle.rg_stmt.specs.declared.stmt.Stmt.{Stmt}
+use Rattle.rg_tally.specs.Changed.{made_by}
+use Rattle.rg_desk.specs.Engine.{slots_in}
+use Rattle.rg_desk.specs.Units.{unit_at, writes_in}
+use Rattle.rg_desk.specs.declared.engine.Engine.{Engine}
+
+-- no locked key is quiet after these entries
+abbrev pub LocksAreLoud : Engine → List Entry → Type 0
+LocksAreLoud d past =
+    (key : ℕ) (lock : Lock) → fin.get d.locks key ≡ Some lock → is_quiet key past ≡ false
+
+-- nor is the key that the statement writes, if it does
+abbrev pub WriteIsLoud : Stmt → Reply → List Entry → Type 0
+WriteIsLoud stmt reply past =
+    is_write stmt reply ≡ true → (key : ℕ) → names_key key stmt ≡ true
+    → is_quiet key past ≡ false
+
+pub record Moves (old : Engine) (session : Session) (stmt : Stmt) (reply : Reply) (new : Engine)
+    : Type 0 where
+  pub more : List Record
+  pub records : new.log.records ≡ old.log.records ++ more
+  pub rows :
+      MovesRows (changes_in more) (row_at (slot_of (slots_in old)))
+      (row_at (slot_of (slots_in new)))
+  pub above :
+      AreAbove (length old.log.records) (length new.log.records) (changes_in more)
+  pub loud :
+      (past : List Entry) → LocksAreLoud old past → WriteIsLoud stmt reply past
+      → AllByRecursion (IsLoud past) (changes_in more)
+  pub counted :
+      length (changes_in more) ≡ made_by stmt reply (writes_in (unit_at old.units session.0))
+  pub own :
+      writes_in (unit_at new.units session.0)
+      ≡ writes_after stmt reply (writes_in (unit_at old.units session.0))
+  pub others :
+      (n : ℕ) → (n ≡ session.0 → ⊥)
+      → writes_in (unit_at new.units n) ≡ writes_in (unit_at old.units n)

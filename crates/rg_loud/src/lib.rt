@@ -1,0 +1,5 @@
+//! Which keys are not quiet after a statement.
+#![tactic(auto)]
+
+/// The laws, each the contract of a function without a body.
+pub mod laws;
