@@ -1,5 +1,5 @@
 use Rattle.rg_translate.proofs.Replaying.{copied_rows-take}
-use Rattle.rg_translate_tests.proofs.tests.loading.rows_of.Goals as goal
+use Rattle.rg_loaded.proofs.copied.rows_of.Goals as goal
 
 pub loop-item-preserved : goal.loop-item-preserved
 loop-item-preserved c =
