@@ -1,9 +1,9 @@
 -- What a new copy keeps that was loaded, and what it is of the table.
 --
 -- 1. While its indexes are sorted and built it stays as it was packed (`PackedStays`).
--- 2. Where all pages were copied, and nothing has changed since the start, the rows at its homes are
---    the table. Whichever keys are quiet, their rows lie right; and its layout is that of a packed
---    copy of the table (`PackedIsRight`).
+-- 2. Where all pages were copied, and nothing has changed since the start, the rows at its homes
+--    are the table. Whichever keys are quiet, their rows lie right; and its layout is that of a
+--    packed copy of the table (`PackedIsRight`).
 use Rattle.std.specs.Prelude.{◌≡◌, ℕ, Bool, true, List, Option, length}
 use Rattle.std.specs.List.Sorted.{IsPermutation}
 use Rattle.rg_base.specs.declared.options.Options.{Options}

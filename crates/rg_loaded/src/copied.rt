@@ -1,7 +1,7 @@
 // The rows of all copies of pages.
 //
-// 1. They are copied, since the copies of pages are asked again later: a change is passed over where
-//    its page was copied after it.
+// 1. They are copied, since the copies of pages are asked again later: a change is passed over
+//    where its page was copied after it.
 ghost use Rattle.std.specs.Prelude.{◌≡◌, [], ◌∷◌, ◌++◌, IfOk, OnOk};
 ghost use Rattle.rg_fold.specs.Fold.{copied_rows};
 
