@@ -2,9 +2,10 @@
 --
 -- 1. A Change makes one, and so does an Undo: the row at its home is another one from then on, or
 --    none. No other record makes any. A change has the position of its record.
-use Rattle.std.specs.Prelude.{◌++◌, List, [], ◌∷◌}
+use Rattle.std.specs.Prelude.{◌++◌, List, [], ◌∷◌, Option}
 use Rattle.rg_base.specs.declared.change.Change.{Change}
 use Rattle.rg_base.specs.declared.position.Position.{Position}
+use Rattle.rg_base.specs.declared.row.Row.{Row}
 use Rattle.rg_record.specs.declared.record.Record.{Record}
 use Rattle.rg_record.specs.declared.record.Kind.{Kind}
 use Rattle.rg_record.specs.declared.record.Kind.TheVariants as kind
@@ -23,3 +24,8 @@ changes_at position (kind.Switch copy pages) = []
 abbrev pub changes_in : List Record → List Change
 changes_in [] = []
 changes_in (entry ∷ records) = changes_at entry.position entry.kind ++ changes_in records
+
+-- the rows of changes
+abbrev pub rows_after : List Change → List (Option Row)
+rows_after [] = []
+rows_after (change ∷ changes) = change.after ∷ rows_after changes

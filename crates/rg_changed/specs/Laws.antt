@@ -5,9 +5,13 @@
 -- 2. Each is above those before, where the records are numbered (`ChangesAreAbove`).
 -- 3. No change has a quiet key, where no record writes one, and no write before that is not yet
 --    undone is of one (`ChangesAreLoud`). An Undo has the key of the write that it undoes.
--- 4. Undos of a unit's writes make one change for each write that they undo (`UndosAreCounted`).
-use Rattle.std.specs.Prelude.{◌≡◌, ◌+◌, ℕ, false, List, [], ◌∷◌, length}
+-- 4. Undos of a unit's writes make one change for each write that they undo (`UndosAreCounted`). It
+--    has the home of that write, and the row that was there before it (`UndosTell`).
+use Rattle.std.specs.Prelude.{◌≡◌, ◌+◌, ◌++◌, ℕ, false, List, [], ◌∷◌, Option, length}
 use Rattle.std.specs.List.{AllByRecursion}
+use Rattle.rg_base.specs.declared.change.Change.{Change}
+use Rattle.rg_base.specs.declared.place.Place.{Place}
+use Rattle.rg_base.specs.declared.row.Row.{Row}
 use Rattle.rg_home.specs.Pages.{slot_of}
 use Rattle.rg_home.specs.Rows.{row_at}
 use Rattle.rg_lawful.specs.Act.{LogState, state}
@@ -15,7 +19,7 @@ use Rattle.rg_lawful.specs.Closing.{AreUndos}
 use Rattle.rg_lawful.specs.Consistent.{IsConsistent}
 use Rattle.rg_lawful.specs.Lawful.{Runs}
 use Rattle.rg_lawful.specs.Records.{acts_of}
-use Rattle.rg_lawful.specs.Write.{NoneHit, at_key, key_of, own_of}
+use Rattle.rg_lawful.specs.Write.{NoneHit, Write, at_key, key_of, own_of}
 use Rattle.rg_record.specs.declared.record.Record.{Record}
 use Rattle.rg_record.specs.declared.record.Kind.{Kind}
 use Rattle.rg_record.specs.declared.record.Kind.TheVariants as kind
@@ -66,3 +70,21 @@ UndosAreCounted =
     → AreUndos t (acts_of [] records) → Runs limit s (acts_of [] records)
     → length (own_of t (state s (acts_of [] records)).writes) + length (changes_in records)
     ≡ length (own_of t s.writes)
+
+-- the home of each change, and its row
+abbrev pub told_by : List Change → List (Place × Option Row)
+told_by [] = []
+told_by (change ∷ changes) = (change.home, change.after) ∷ told_by changes
+
+-- the home of each write, and the row that was there before it
+abbrev pub told_before : List Write → List (Place × Option Row)
+told_before [] = []
+told_before (w ∷ ws) = (w.written.home, w.written.before) ∷ told_before ws
+
+abbrev pub UndosTell : Type 0
+UndosTell =
+    (limit : ℕ) (s : LogState) (t : ℕ) (records : List Record)
+    → AreUndos t (acts_of [] records) → Runs limit s (acts_of [] records)
+    → told_by (changes_in records)
+    ++ told_before (own_of t (state s (acts_of [] records)).writes)
+    ≡ told_before (own_of t s.writes)

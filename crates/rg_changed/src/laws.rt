@@ -1,6 +1,6 @@
 //! Each function's contract is a law of the definitions. None of them runs anything.
 ghost use Rattle.rg_changed.specs.Laws.{ChangesAreAbove, ChangesAreLoud, ChangesMoveRows};
-ghost use Rattle.rg_changed.specs.Laws.{UndosAreCounted};
+ghost use Rattle.rg_changed.specs.Laws.{UndosAreCounted, UndosTell};
 
 /// The changes of lawful records, one after the other, lead to the rows that the records leave.
 pub fn rows_law()
@@ -17,7 +17,8 @@ pub fn keys_law()
     ensures { ChangesAreLoud }
 {}
 
-/// Undos make as many changes as they undo writes.
+/// Undos make as many changes as they undo writes, each to the row before its write.
 pub fn undos_law()
-    ensures { UndosAreCounted }
+    ensures counted { UndosAreCounted }
+    ensures told { UndosTell }
 {}

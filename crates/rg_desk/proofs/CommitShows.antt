@@ -286,11 +286,11 @@ module _ (st : State) (allowed : ℕ) (d new : Engine) (session : Session) (show
   -- no row is moved
 
   idle_moves : unit_at d.units session.0 ≡ None → Moves d session stmts.Commit Done new
-  idle_moves none = idle_end_moves d session stmts.Commit new place none (ap (λ sp. slots_in (record d { space = sp })) space) (no_record none) units refl refl
+  idle_moves none = idle_end_moves d session stmts.Commit new place none (ap (λ sp. slots_in (record d { space = sp })) space) (no_record none) units refl refl refl
 
   ended_moves : (unit : OpenUnit) → unit_at d.units session.0 ≡ Some unit → Moves d session stmts.Commit Done new
   ended_moves unit has =
-      record_moves st allowed d shows session stmts.Commit Done new (commit_record (length d.log.records + 1) unit ∷ []) (one_record unit has) (one_runs unit has) (commit_next unit has) slots (λ past write. (tt, tt)) refl
+      record_moves st allowed d shows session stmts.Commit Done new (commit_record (length d.log.records + 1) unit ∷ []) (one_record unit has) (one_runs unit has) (commit_next unit has) slots (λ past write. (tt, tt)) (λ ws are. refl) refl
       (ap (λ (us : List (Option OpenUnit)). writes_in (unit_at us session.0)) units ∙ ended_own d.units session.0 place)
       (λ n apart. ap (λ (us : List (Option OpenUnit)). writes_in (unit_at us n)) units ∙ ended_others d.units session.0 n apart)
 

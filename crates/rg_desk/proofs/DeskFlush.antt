@@ -78,6 +78,7 @@ pub record Told (copy : ℕ) (down : Bool) (marks later : List (Option Position)
   pub contents : (seen_in next).pages ≡ (seen_in d).pages
   pub capacity : capacity_in next.space ≡ capacity_in d.space
   pub set_aside : next.set_aside ≡ d.set_aside
+  pub units : next.units ≡ d.units
   pub calls : CallsOwn copy seen seen_after
 
 pub flush_told : (copy : ℕ) (down : Bool) (marks later : List (Option Position)) (seen seen_after : VolumeSeen) (d : Engine) (event : Event) (next : Engine) → TellsFlush down copy marks later seen seen_after d event next → Told copy down marks later seen seen_after d event next
@@ -90,6 +91,7 @@ flush_told copy true marks later seen seen_after d event next tells =
       contents = ap (λ (x : Engine). (seen_in x).pages) same;
       capacity = ap (λ (x : Engine). capacity_in x.space) same;
       set_aside = ap (λ (x : Engine). x.set_aside) same;
+      units = ap (λ (x : Engine). x.units) same;
       calls = subst (CallsOwn copy seen) (sym tells.3) (own_same copy seen);
     }
 flush_told copy false marks later seen seen_after d event next f = record {
@@ -99,5 +101,6 @@ flush_told copy false marks later seen seen_after d event next f = record {
   contents = f.forces.contents;
   capacity = f.forces.capacity;
   set_aside = f.forces.set_aside;
+  units = f.forces.units;
   calls = f.calls;
 }

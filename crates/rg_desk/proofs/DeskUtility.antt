@@ -304,7 +304,7 @@ ground_same d after space log units top =
     let at_log : ground_of (record after { space = d.space; units = d.units; top = d.top }) ≡ ground_of (record after { space = d.space; units = d.units; top = d.top; log = record d.log { reserved = after.log.reserved } }) = ap (λ (l : Listed). ground_of (record after { space = d.space; units = d.units; top = d.top; log = l })) log in
     at_space ∙ at_units ∙ at_top ∙ at_log
 
-booked_logged : (event : Event) (n : ℕ) → is_booked event ≡ true → (logged_after n event ≡ n) × (allowed_after n event ≡ n)
+pub booked_logged : (event : Event) (n : ℕ) → is_booked event ≡ true → (logged_after n event ≡ n) × (allowed_after n event ≡ n)
 booked_logged (events.Started options copy pages) n is = absurd (cc (is))
 booked_logged (events.Opened copy rows pages used) n is = absurd (cc (is))
 booked_logged (events.Said stmt reply) n is = absurd (cc (is))
@@ -315,12 +315,12 @@ pub booked_allows : (past : List Entry) (answer : Answer) (event : Event) (st ne
 booked_allows past answer event st new e = e
 
 module _ (d : Engine) (c : ChronicleState) (origin : Origin) (copy : ℕ) (marks : List (Option Position)) (seen : VolumeSeen) (desk : IsDesk d c origin copy false marks seen) (s : Stage) (count : ChangeCount) (tends : Tends c.trace (Some s) count d.set_aside)
-    (answer : Answer) (event : Event) (next : Option Stage) (after : Engine) (is : NextBy false (Some s) count.since (least_holder d.claims.drain d.claims.claims) (Some answer) event) (steps : StepsOn d s count.since answer event next after) where
+    (answer : Answer) (event : Event) (next : Option Stage) (after : Engine) (is : is_plain (turn_of count.since (least_holder d.claims.drain d.claims.claims) answer (numbers_of s) s.drain event) ≡ true) (quiet : (n : ℕ) → (logged_after n event ≡ n) × (allowed_after n event ≡ n)) (steps : StepsOn d s count.since answer event next after) where
   abbrev past : List Entry
   past = behind [] c.trace
 
   has : (turn : Turn) × (turn_of count.since (least_holder d.claims.drain d.claims.claims) answer (numbers_of s) s.drain event ≡ Some turn) × (is_plain (Some turn) ≡ true)
-  has = plain_turn _ is.1
+  has = plain_turn _ is
 
   plain : (is_switch_turn has.0 ≡ false) × (is_fall has.0 ≡ false)
   plain = plain_neither has.0 has.2
@@ -355,7 +355,7 @@ module _ (d : Engine) (c : ChronicleState) (origin : Origin) (copy : ℕ) (marks
   pub step_on : (calls : ℕ) (new : ChronicleState) → new.trace ≡ c.trace ++ utility_entry event (Some answer) calls ∷ [] → new.calls ≡ calls → IsCount seen calls → IsRecorded new.trace new.calls → GoesOn after new origin copy false marks seen next count
   step_on calls new trace at counted recorded = (
     desk_utility d c origin copy false marks seen desk event (Some answer) calls (booked).after after new steps.engine.space steps.engine.log
-        (omega (arith, (booked_logged event (logged_by 0 c.trace) is.0).0, steps.engine.taken, desk.logged)) (λ n. (booked_logged event n is.0).1)
+        (omega (arith, (quiet (logged_by 0 c.trace)).0, steps.engine.taken, desk.logged)) (λ n. (quiet n).1)
         (booked_allows past answer event desk.state (booked).after booked.allowed) same booked.copy_is
         (λ up. steps.engine.shows desk.state (booked).after (allowed_by 0 c.trace) (desk.shown up) same booked.drain)
         (λ is. absurd (cc (is))) steps.engine.clean trace at counted recorded,

@@ -61,6 +61,9 @@ pub mod DeskGoes
 pub mod UtilityShows
 pub mod DeskUtility
 pub mod DeskFlush
+pub mod Readying
+pub mod CopyOf
+pub mod Feeding
 pub mod Sounding
 pub mod Rows
 pub mod Switching

@@ -4,8 +4,9 @@ use Rattle.std.specs.FinMap as fin
 use Rattle.std.specs.List.{AllByRecursion}
 use Rattle.rg_base.specs.declared.lock.Lock.{Lock}
 use Rattle.rg_base.specs.declared.part.Part.{Part}
+use Rattle.rg_base.specs.declared.row.Row.{Row}
 use Rattle.rg_base.specs.declared.session.Session.{Session}
-use Rattle.rg_changed.specs.Changed.{changes_in}
+use Rattle.rg_changed.specs.Changed.{changes_in, rows_after}
 use Rattle.rg_changed.specs.Laws.{AreNumbered, WritesLoud}
 use Rattle.rg_changed.proofs.Keying.{changes_loud}
 use Rattle.rg_changed.proofs.Moving.{changes_above, changes_move}
@@ -22,6 +23,8 @@ use Rattle.rg_model.specs.Changes.{is_rollback, is_unit_end, is_write, writes_af
 use Rattle.rg_model.specs.Quiet.{is_quiet}
 use Rattle.rg_model.specs.Said.{may_want_log}
 use Rattle.rg_model.specs.State.{Locks, State}
+use Rattle.rg_record.specs.declared.record.Kind.{Kind}
+use Rattle.rg_record.specs.declared.record.Kind.TheVariants as kind
 use Rattle.rg_record.specs.declared.record.Record.{Record}
 use Rattle.rg_sent.specs.Keeps.{AreAbove, MovesRows}
 use Rattle.rg_space.specs.Space.{capacity_in}
@@ -32,9 +35,10 @@ use Rattle.rg_stmt.specs.declared.stmt.Stmt.{Stmt}
 use Rattle.rg_stmt.specs.declared.stmt.Stmt.TheVariants.{Commit, Delete, Insert, Rollback, Update}
 use Rattle.rg_tally.specs.Changed.{made_by}
 use Rattle.rg_desk.specs.Engine.{slots_in}
-use Rattle.rg_desk.specs.Moves.{LocksAreLoud, Moves, WriteIsLoud}
+use Rattle.rg_desk.specs.Moves.{AreOwn, LocksAreLoud, Moves, WriteIsLoud, rows_before, rows_made}
 use Rattle.rg_desk.specs.Shows.{KeyShown, Shows, left_by}
 use Rattle.rg_desk.specs.Units.{unit_at, writes_in}
+use Rattle.rg_desk.specs.Walks.{Walks, change_record}
 use Rattle.rg_desk.specs.Wrote.{SameEngine}
 use Rattle.rg_desk.specs.declared.engine.Engine.{Engine}
 use Rattle.rg_desk.specs.declared.units.OpenUnit.{OpenUnit}
@@ -69,16 +73,26 @@ module _ (stmt : Stmt) (reply : Reply) (n : ℕ) (idle : Idles stmt reply) where
   none_after : writes_after stmt reply n ≡ n
   none_after = λ i. if idle.end i then 0 else (if idle.write i then n + 1 else n)
 
+pub idle_rows : (stmt : Stmt) (reply : Reply) (found : List (Option Row)) → is_idle reply ≡ true → rows_made stmt reply found ≡ []
+idle_rows stmt Done found idle = absurd (cc (idle))
+idle_rows (Insert row) reply found idle = refl
+idle_rows (Update row) reply found idle = refl
+idle_rows (Delete key) reply found idle = refl
+idle_rows Rollback reply found idle = refl
+idle_rows stmt reply found idle = refl
+
 -- what is as it was, with the units' writes
 still_moves : (d : Engine) (session : Session) (stmt : Stmt) (reply : Reply) (new : Engine) → slots_in new ≡ slots_in d → new.log.records ≡ d.log.records
+    → ((ws : List Write) → AreOwn d.log.records (unit_at d.units session.0) ws → rows_made stmt reply (rows_before ws) ≡ [])
     → made_by stmt reply (writes_in (unit_at d.units session.0)) ≡ 0 → writes_in (unit_at new.units session.0) ≡ writes_after stmt reply (writes_in (unit_at d.units session.0))
     → ((n : ℕ) → (n ≡ session.0 → ⊥) → writes_in (unit_at new.units n) ≡ writes_in (unit_at d.units n)) → Moves d session stmt reply new
-still_moves d session stmt reply new slots records none own others = record {
+still_moves d session stmt reply new slots records made none own others = record {
   more = [];
   records = records ∙ sym (append-nil d.log.records);
   rows = λ place. ap (λ (ps : List (List Slot)). row_at (slot_of ps) place) slots;
   above = omega (arith, ap (λ (rs : List Record). length rs) records);
   loud = λ past locks write. tt;
+  told = λ ws are. sym (made ws are);
   counted = sym none;
   own = own;
   others = others;
@@ -88,6 +102,7 @@ pub same_moves : (d : Engine) (session : Session) (stmt : Stmt) (reply : Reply) 
 same_moves d session stmt reply new idle same =
     let is = idles stmt reply idle in
     still_moves d session stmt reply new same.slots (ap (λ (l : Listed). l.records) same.log)
+    (λ ws are. idle_rows stmt reply (rows_before ws) idle)
     (none_made stmt reply (writes_in (unit_at d.units session.0)) is)
     (ap (λ (us : List (Option OpenUnit)). writes_in (unit_at us session.0)) same.units ∙ sym (none_after stmt reply (writes_in (unit_at d.units session.0)) is))
     (λ n apart. ap (λ (us : List (Option OpenUnit)). writes_in (unit_at us n)) same.units)
@@ -95,7 +110,7 @@ same_moves d session stmt reply new idle same =
 pub no_moves : (d : Engine) (session : Session) (stmt : Stmt) (reply : Reply) → is_idle reply ≡ true → Moves d session stmt reply d
 no_moves d session stmt reply idle =
     let is = idles stmt reply idle in
-    still_moves d session stmt reply d refl refl (none_made stmt reply (writes_in (unit_at d.units session.0)) is) (sym (none_after stmt reply (writes_in (unit_at d.units session.0)) is)) (λ n apart. refl)
+    still_moves d session stmt reply d refl refl (λ ws are. idle_rows stmt reply (rows_before ws) idle) (none_made stmt reply (writes_in (unit_at d.units session.0)) is) (sym (none_after stmt reply (writes_in (unit_at d.units session.0)) is)) (λ n apart. refl)
 
 -- from an engine that was as this one
 pub moves_since : (d mid : Engine) (session : Session) (stmt : Stmt) (reply : Reply) (new : Engine) → SameEngine d mid → Moves mid session stmt reply new → Moves d session stmt reply new
@@ -105,6 +120,7 @@ moves_since d mid session stmt reply new same m = record {
   rows = subst (λ (ps : List (List Slot)). MovesRows (changes_in m.more) (row_at (slot_of ps)) (row_at (slot_of (slots_in new)))) same.slots m.rows;
   above = subst (λ (l : Listed). AreAbove (length l.records) (length new.log.records) (changes_in m.more)) same.log m.above;
   loud = λ past locks write. m.loud past (λ key lock e. locks key lock (ap (λ (ls : Locks). fin.get ls key) (sym same.locks) ∙ e)) write;
+  told = λ ws are. m.told ws (subst (λ (us : List (Option OpenUnit)). AreOwn mid.log.records (unit_at us session.0) ws) (sym same.units) (subst (λ (l : Listed). AreOwn l.records (unit_at d.units session.0) ws) (sym same.log) are));
   counted = m.counted ∙ ap (λ (us : List (Option OpenUnit)). made_by stmt reply (writes_in (unit_at us session.0))) same.units;
   own = m.own ∙ ap (λ (us : List (Option OpenUnit)). writes_after stmt reply (writes_in (unit_at us session.0))) same.units;
   others = λ n apart. m.others n apart ∙ ap (λ (us : List (Option OpenUnit)). writes_in (unit_at us n)) same.units;
@@ -118,6 +134,7 @@ moves_to d session stmt reply mid new slots log units m = record {
   rows = subst (λ (ps : List (List Slot)). MovesRows (changes_in m.more) (row_at (slot_of (slots_in d))) (row_at (slot_of ps))) (sym slots) m.rows;
   above = subst (λ (l : Listed). AreAbove (length d.log.records) (length l.records) (changes_in m.more)) (sym log) m.above;
   loud = m.loud;
+  told = m.told;
   counted = m.counted;
   own = ap (λ (us : List (Option OpenUnit)). writes_in (unit_at us session.0)) units ∙ m.own;
   others = λ n apart. ap (λ (us : List (Option OpenUnit)). writes_in (unit_at us n)) units ∙ m.others n apart;
@@ -142,9 +159,10 @@ module _ (st : State) (allowed : ℕ) (d : Engine) (shows : Shows st allowed d) 
 
   pub record_moves : new.log.records ≡ d.log.records ++ more → Runs (capacity_in d.space) (left_by shows.first d) (acts_of [] more) → AreNext (capacity_in d.space) d.log.pages d.log.records more
       → slots_in new ≡ (state (left_by shows.first d) (acts_of [] more)).pages → ((past : List Entry) → WriteIsLoud stmt reply past → AllLoud past more)
+      → ((ws : List Write) → AreOwn d.log.records (unit_at d.units session.0) ws → rows_after (changes_in more) ≡ rows_made stmt reply (rows_before ws))
       → length (changes_in more) ≡ made_by stmt reply (writes_in (unit_at d.units session.0)) → writes_in (unit_at new.units session.0) ≡ writes_after stmt reply (writes_in (unit_at d.units session.0))
       → ((n : ℕ) → (n ≡ session.0 → ⊥) → writes_in (unit_at new.units n) ≡ writes_in (unit_at d.units n)) → Moves d session stmt reply new
-  record_moves records runs next slots loud counted own others = record {
+  record_moves records runs next slots loud told counted own others = record {
     more = more;
     records = records;
     rows =
@@ -155,6 +173,7 @@ module _ (st : State) (allowed : ℕ) (d : Engine) (shows : Shows st allowed d) 
         subst (λ (n : ℕ). AreAbove (length d.log.records) n (changes_in more)) (sym (ap (λ (rs : List Record). length rs) records ∙ length-append d.log.records more))
         (changes_above (length d.log.records) more (next_numbered (capacity_in d.space) d.log.pages d.log.records more next));
     loud = λ past locks write. changes_loud (capacity_in d.space) s more past (left_consistent st allowed d shows) runs (hits past locks) (loud past write);
+    told = told;
     counted = counted;
     own = own;
     others = others;
@@ -172,6 +191,10 @@ module _ (st : State) (allowed : ℕ) (d : Engine) (shows : Shows st allowed d) 
 pub wrote_one : (rs : List Record) (unit : OpenUnit) (purge : List Part) (w : Write) → length (changes_in (more_wrote rs unit purge w)) ≡ 1
 wrote_one rs unit [] w = refl
 wrote_one rs unit (x ∷ purge) w = refl
+
+pub wrote_rows : (rs : List Record) (unit : OpenUnit) (purge : List Part) (w : Write) → rows_after (changes_in (more_wrote rs unit purge w)) ≡ w.after ∷ []
+wrote_rows rs unit [] w = refl
+wrote_rows rs unit (x ∷ purge) w = refl
 
 pub wrote_loud : (past : List Entry) (rs : List Record) (unit : OpenUnit) (purge : List Part) (w : Write) → is_quiet (key_of w.written.before w.after) past ≡ false → AllLoud past (more_wrote rs unit purge w)
 wrote_loud past rs unit [] w loud = (loud, tt)
@@ -197,10 +220,36 @@ ended_others us n m apart = ap writes_in (set_there us n m None apart)
 
 -- a unit that has not written, or none
 pub idle_end_moves : (d : Engine) (session : Session) (stmt : Stmt) (new : Engine) → session.0 < length d.units → unit_at d.units session.0 ≡ None → slots_in new ≡ slots_in d → new.log.records ≡ d.log.records
-    → new.units ≡ set d.units session.0 None → made_by stmt Done 0 ≡ 0 → writes_after stmt Done 0 ≡ 0 → Moves d session stmt Done new
-idle_end_moves d session stmt new low none slots records units made after =
+    → new.units ≡ set d.units session.0 None → rows_made stmt Done [] ≡ [] → made_by stmt Done 0 ≡ 0 → writes_after stmt Done 0 ≡ 0 → Moves d session stmt Done new
+idle_end_moves d session stmt new low none slots records units rows made after =
     let no_writes : writes_in (unit_at d.units session.0) ≡ 0 = ap writes_in none in
     still_moves d session stmt Done new slots records
+    (λ ws are. ap (λ (vs : List Write). rows_made stmt Done (rows_before vs)) (subst (λ (o : Option OpenUnit). AreOwn d.log.records o ws) none are) ∙ rows)
     (ap (λ (n : ℕ). made_by stmt Done n) no_writes ∙ made)
     (ap (λ (us : List (Option OpenUnit)). writes_in (unit_at us session.0)) units ∙ ended_own d.units session.0 low ∙ sym (ap (λ (n : ℕ). writes_after stmt Done n) no_writes ∙ after))
     (λ n apart. ap (λ (us : List (Option OpenUnit)). writes_in (unit_at us n)) units ∙ ended_others d.units session.0 n apart)
+
+-- ---- the writes of a unit
+
+abbrev before_of : Kind → Option Row
+before_of (kind.Change home before after parts) = before
+before_of k = None
+
+abbrev before_in : Option Record → Option Row
+before_in None = None
+before_in (Some entry) = before_of entry.kind
+
+abbrev back_in : Option Record → ℕ
+back_in None = 0
+back_in (Some entry) = entry.back.0
+
+-- the records tell which rows they found
+pub walked_rows : (rs : List Record) (t last : ℕ) (ws vs : List Write) → Walks rs t last ws → Walks rs t last vs → rows_before ws ≡ rows_before vs
+walked_rows rs t last [] [] h k = refl
+walked_rows rs t last [] (v ∷ vs) h k = absurd (omega (arith, h, k.1))
+walked_rows rs t last (w ∷ ws) [] h k = absurd (omega (arith, k, h.1))
+walked_rows rs t last (w ∷ ws) (v ∷ vs) h k =
+    let same : Some (change_record last t h.0 w) ≡ Some (change_record last t k.0 v) = sym h.2 ∙ k.2 in
+    let found : w.written.before ≡ v.written.before = ap before_in same in
+    ap (λ (row : Option Row). row ∷ rows_before ws) found
+    ∙ ap (λ (rows : List (Option Row)). v.written.before ∷ rows) (walked_rows rs t k.0 ws vs (subst (λ (n : ℕ). Walks rs t n ws) (ap back_in same) h.3) k.3)

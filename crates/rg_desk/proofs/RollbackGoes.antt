@@ -52,7 +52,7 @@ use Rattle.rg_desk.proofs.Reopens.{same_parts}
 use Rattle.rg_desk.proofs.Keys.{same_or_not}
 use Rattle.rg_desk.proofs.Moving.{idle_end_moves}
 use Rattle.rg_desk.proofs.NewestKept.{space_newest}
-use Rattle.rg_desk.proofs.RollbackMoves.{undos_loud, undos_made}
+use Rattle.rg_desk.proofs.RollbackMoves.{undos_loud, undos_made, undos_rows}
 use Rattle.rg_desk.proofs.Rolled.{rolled_back, undos_leave}
 use Rattle.rg_desk.proofs.RollbackShows.{rollback_goes}
 use Rattle.rg_desk.proofs.Sessions.{left_consistent}
@@ -205,6 +205,7 @@ module _ (st : State) (allowed : ℕ) (d : Engine) (session : Session) (shows : 
       (rollback_next mid now unit last others has so room logged)
       (λ past. undos_loud past t so.more unit (length mid.log.records + 1) last undo_acts)
       (undos_made limit s unit so.more (length mid.log.records + 1) last undo_acts (subst (Runs limit s) (sym so.acts) so.runs) (subst (λ (acts : List Act). own_of t (state s acts).writes ≡ []) (sym so.acts) (none_left (own_of t u.writes) unit.writes so.left)) (shows.by.units.each session.0 unit has).count)
+      (undos_rows limit s unit so.more (length mid.log.records + 1) last undo_acts (subst (Runs limit s) (sym so.acts) so.runs) (subst (λ (acts : List Act). own_of t (state s acts).writes ≡ []) (sym so.acts) (none_left (own_of t u.writes) unit.writes so.left)))
 
   -- without a unit nothing is put back
   pub rollback_idle : (new : Engine) → unit_at d.units session.0 ≡ None → EndsSession d session new → Goes st allowed d session Rollback Done new
@@ -228,7 +229,7 @@ module _ (st : State) (allowed : ℕ) (d : Engine) (session : Session) (shows : 
         shows = subst (λ (x : State). Shows x (allowed + 0) new) state_is
             (idle_shows st allowed d new session shows low ended.space ended.indexes ended.top ended.locks ended.claims ended.units (ap (λ (l : Listed). l.records) ended.log ∙ ap (records_committed d.log.records) (sym none)) (omega (arith, ap owed_to none, ap (λ (l : Listed). l.reserved) ended.log)) ended.opened ended.set_aside (subst IsSettled (sym ended.log) shows.settled) (grows_same d.log new.log ended.log) none);
         left = tt;
-        moves = idle_end_moves d session Rollback new (omega (arith, low, shows.by.places)) none (ap (λ sp. slots_in (record d { space = sp })) ended.space) (ap (λ (l : Listed). l.records) ended.log) ended.units refl refl;
+        moves = idle_end_moves d session Rollback new (omega (arith, low, shows.by.places)) none (ap (λ sp. slots_in (record d { space = sp })) ended.space) (ap (λ (l : Listed). l.records) ended.log) ended.units refl refl refl;
         capacity = ap (λ sp. capacity_in sp) ended.space;
       }
     where

@@ -26,7 +26,7 @@ use Rattle.rg_lawful.specs.Closing.{AreUndos}
 use Rattle.rg_lawful.specs.Consistent.{IsConsistent, stored_of}
 use Rattle.rg_lawful.specs.Lawful.{Runs}
 use Rattle.rg_lawful.specs.Records.{acts_of}
-use Rattle.rg_lawful.specs.Write.{HitBy, NoneHit, at_key, own_of}
+use Rattle.rg_lawful.specs.Write.{Write, HitBy, NoneHit, at_key, own_of}
 use Rattle.rg_lawful.proofs.Free.{free_apart, free_kept}
 use Rattle.rg_lawful.proofs.Live.{live_was}
 use Rattle.rg_lawful.proofs.Rolls.{rollback_rows}
@@ -34,9 +34,10 @@ use Rattle.rg_space.specs.Space.{capacity_in}
 use Rattle.rg_stmt.specs.declared.stmt.Reply.TheVariants.{Done}
 use Rattle.rg_stmt.specs.declared.stmt.Stmt.TheVariants as stmts
 use Rattle.rg_stmt.specs.declared.event.Entry.{Entry}
-use Rattle.rg_changed.specs.Changed.{changes_in}
+use Rattle.rg_changed.specs.Changed.{changes_in, rows_after}
 use Rattle.rg_desk.specs.Bytes.{taken_of}
 use Rattle.rg_desk.specs.Engine.{HasPages, slots_in}
+use Rattle.rg_desk.specs.Moves.{AreOwn, rows_before}
 use Rattle.rg_desk.specs.Newest.{KeepsNewest}
 use Rattle.rg_desk.specs.Shows.{IsLocked, KeyShown, Shows, ShowsBy, UnitsShown, left_by}
 use Rattle.rg_desk.specs.Steps.{Goes}
@@ -46,7 +47,7 @@ use Rattle.rg_desk.specs.Units.{owed, owed_to, unit_at, writes_in}
 use Rattle.rg_desk.specs.declared.engine.Engine.{Engine}
 use Rattle.rg_desk.specs.declared.units.OpenUnit.{OpenUnit}
 use Rattle.rg_desk.proofs.Ended.{keys_ended, units_ended}
-use Rattle.rg_desk.proofs.Moving.{AllLoud, ended_others, ended_own, record_moves}
+use Rattle.rg_desk.proofs.Moving.{AllLoud, ended_others, ended_own, record_moves, walked_rows}
 use Rattle.rg_desk.proofs.Rolled.{rolled_back, undos_claim, undos_leave}
 use Rattle.rg_desk.proofs.Reopens.{appended_clean, appended_parts}
 use Rattle.rg_desk.proofs.Sessions.{left_consistent}
@@ -121,8 +122,8 @@ module _ (st : State) (allowed : ℕ) (d new : Engine) (session : Session) (show
       → new.claims ≡ record d.claims { claims = fin.remove d.claims.claims session.0 } → new.units ≡ set d.units session.0 None → new.top ≡ d.top
       → new.log.reserved + (23 + 911 * unit.writes) ≡ d.log.reserved → taken_of new.log ≤ taken_of d.log → new.log.pages ≡ d.log.pages → KeepsNewest d new
       → Trails new.log new.set_aside new.units (state (left_by shows.first d) (RollBack unit.tran.0 ∷ undos)) → AreNext (capacity_in d.space) d.log.pages d.log.records more
-      → ((past : List Entry) → AllLoud past more) → length (changes_in more) ≡ unit.writes → Goes st allowed d session stmts.Rollback Done new
-  rollback_goes slots indexes locks claims units top reserved taken log_pages newest trails next loud made = record {
+      → ((past : List Entry) → AllLoud past more) → length (changes_in more) ≡ unit.writes → rows_after (changes_in more) ≡ rows_before (own_of unit.tran.0 (left_by shows.first d).writes) → Goes st allowed d session stmts.Rollback Done new
+  rollback_goes slots indexes locks claims units top reserved taken log_pages newest trails next loud made rows = record {
     says = refl;
     room = tt;
     log = tt;
@@ -141,12 +142,17 @@ module _ (st : State) (allowed : ℕ) (d new : Engine) (session : Session) (show
         shown
         (subst (Trails new.log new.set_aside new.units) (sym (ap (state s) acts)) trails);
     moves =
-        record_moves st allowed d shows session stmts.Rollback Done new more records runs next (slots ∙ ap (λ (as_is : List Act). (state s as_is).pages) (sym acts)) (λ past write. loud past) (made ∙ sym (ap writes_in has))
+        record_moves st allowed d shows session stmts.Rollback Done new more records runs next (slots ∙ ap (λ (as_is : List Act). (state s as_is).pages) (sym acts)) (λ past write. loud past)
+        (λ ws are. rows ∙ own_rows ws (subst (λ (o : Option OpenUnit). AreOwn d.log.records o ws) has are))
+        (made ∙ sym (ap writes_in has))
         (ap (λ (us : List (Option OpenUnit)). writes_in (unit_at us session.0)) units ∙ ended_own d.units session.0 place)
         (λ n apart. ap (λ (us : List (Option OpenUnit)). writes_in (unit_at us n)) units ∙ ended_others d.units session.0 n apart);
     capacity = capacity;
   }
     where
+      own_rows : (ws : List Write) → AreOwn d.log.records (Some unit) ws → rows_before (own_of t s.writes) ≡ rows_before ws
+      own_rows ws are = walked_rows d.log.records t unit.last.0 (own_of t s.writes) ws (shows.by.units.each session.0 unit has).walks are.0
+
       runs : Runs limit s (acts_of [] more)
       runs = subst (Runs limit s) (sym acts) lawful
 

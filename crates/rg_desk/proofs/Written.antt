@@ -43,7 +43,7 @@ use Rattle.rg_desk.specs.Engine.{HasPages, slots_in}
 use Rattle.rg_space.specs.Memory.{list_seen}
 use Rattle.rg_desk.specs.Shows.{KeyShown, Shows, ShowsBy, UnitsShown, left_by}
 use Rattle.rg_desk.specs.Stored.{IsQuiet, IsSettled}
-use Rattle.rg_desk.specs.Moves.{Moves}
+use Rattle.rg_desk.specs.Moves.{Moves, rows_before, rows_made}
 use Rattle.rg_desk.specs.Reopens.{IsCleanIn, KeepsParts}
 use Rattle.rg_desk.specs.Trails.{Trails}
 use Rattle.rg_desk.specs.Units.{owed, owed_to, unit_at, writes_in}
@@ -55,7 +55,7 @@ use Rattle.rg_desk.specs.declared.units.OpenUnit.{OpenUnit}
 use Rattle.rg_desk.proofs.Appended.{acts_wrote, more_wrote, quiet_wrote, wrote_more}
 use Rattle.rg_desk.proofs.Keys.{set_table}
 use Rattle.rg_desk.proofs.KeysWritten.{IsOwnUnit, keys_written}
-use Rattle.rg_desk.proofs.Moving.{record_moves, writing_after, writing_made, wrote_loud, wrote_one}
+use Rattle.rg_desk.proofs.Moving.{record_moves, writing_after, writing_made, wrote_loud, wrote_one, wrote_rows}
 use Rattle.rg_desk.proofs.Purged.{key_purged, units_purged, walks_cleared}
 use Rattle.rg_desk.proofs.Reopens.{appended_clean, appended_parts}
 use Rattle.rg_desk.proofs.Sessions.{left_consistent}
@@ -289,10 +289,11 @@ module _ (st : State) (allowed more : ℕ) (old new : Engine) (session : Session
   written_clean bound = appended_clean st allowed old shows entries runs write_next (write_key st session key after) (allowed + more) new (subst (ShowsBy (write_key st session key after) (allowed + more) new) (sym left) (by bound))
 
   -- the rows are moved by the record of the write
-  pub written_moves : (stmt : Stmt) → may_want_log stmt ≡ true → names_key key stmt ≡ true → Moves old session stmt Done new
-  written_moves stmt may names =
+  pub written_moves : (stmt : Stmt) → may_want_log stmt ≡ true → names_key key stmt ≡ true → ((found : List (Option Row)) → rows_made stmt Done found ≡ after ∷ []) → Moves old session stmt Done new
+  written_moves stmt may names rows =
       record_moves st allowed old shows session stmt Done new entries appended runs write_next (slots ∙ ap (λ (x : LogState). x.pages) (sym left))
       (λ past write. wrote_loud past old.log.records unit plan.purge w (ap (λ (k : ℕ). is_quiet k past) of_key ∙ write may key names))
+      (λ ws are. wrote_rows old.log.records unit plan.purge w ∙ sym (rows (rows_before ws)))
       (wrote_one old.log.records unit plan.purge w ∙ sym (writing_made stmt (writes_in (unit_at old.units session.0)) may))
       (ap (λ (us : List (Option OpenUnit)). writes_in (unit_at us session.0)) units
       ∙ ap writes_in (set_here old.units session.0 (Some (unit_wrote old.log.records unit plan)) place)

@@ -21,6 +21,7 @@ use Rattle.rg_base.specs.declared.control.Answer.{Answer}
 use Rattle.rg_base.specs.declared.options.DrainFor.{DrainFor}
 use Rattle.rg_base.specs.declared.options.DrainState.TheVariants.{Granted}
 use Rattle.rg_base.specs.declared.options.Options.{Options}
+use Rattle.rg_base.specs.declared.place.Place.{Place}
 use Rattle.rg_base.specs.declared.row.Row.{Row}
 use Rattle.rg_base.specs.declared.which.Which.{Which}
 use Rattle.rg_image.specs.Rules.{copy_capacity}
@@ -36,6 +37,9 @@ use Rattle.rg_model.specs.Run.{Run}
 use Rattle.rg_model.specs.State.{State, Table, at_rest, is_present, row_count, row_of}
 use Rattle.rg_outside.specs.Moments.{EachImage, HoldsThroughout, IfTold}
 use Rattle.rg_claimed.specs.Claim.{claimed_all, holding}
+use Rattle.rg_feed.specs.Ring.{Ring}
+use Rattle.rg_fold.specs.declared.item.Item.{Item}
+use Rattle.rg_fold.specs.declared.item.Item.TheVariants.{PageCopy}
 use Rattle.rg_fold.specs.declared.item.Stage.{Stage}
 use Rattle.rg_follow.specs.Tells.{Tells}
 use Rattle.rg_home.specs.Slot.{Slot}
@@ -64,7 +68,7 @@ use Rattle.rg_lawful.specs.Table.{IsTable}
 use Rattle.rg_model.specs.Changes.{changes}
 use Rattle.rg_model.specs.Layout.{is_right_side}
 use Rattle.rg_model.specs.Right.{are_quiet_right, is_packed}
-use Rattle.rg_model.specs.Turn.{alter, is_term, step_of}
+use Rattle.rg_model.specs.Turn.{alter, is_term, step_of, turn_of}
 use Rattle.rg_stage.specs.NumbersOf.{numbers_of}
 use Rattle.rg_layout.specs.Spots.{spots_of}
 use Rattle.rg_stmt.specs.declared.layout.Side.{Side}
@@ -78,14 +82,17 @@ use Rattle.rg_desk.specs.OnVolume.{CleanIfTidy, IsOnVolume, LeavesCopies, RestsO
 use Rattle.rg_desk.specs.Chronicle.{ChronicleState, IsRecorded, allowed_by, logged_by, system_entry}
 use Rattle.rg_desk.specs.Prepared.{PreparedSeen}
 use Rattle.rg_desk.specs.Room.{Ground, SaysLog, SaysRoom}
+use Rattle.rg_desk.specs.Sends.{begin_items}
 use Rattle.rg_desk.specs.Shows.{Shows}
 use Rattle.rg_desk.specs.Stored.{IsSettled, IsStored, StoresCommitted}
 use Rattle.rg_desk.specs.Utility.{IsNew}
 use Rattle.rg_desk.specs.Volume.{CallsLog, HasCalls, IsCount, LeavesIfTidy, VolumeSeen, WasTidy}
 use Rattle.rg_desk.specs.declared.engine.Engine.{Engine}
 use Rattle.rg_desk.specs.declared.origin.Origin.{Origin}
+use Rattle.rg_sending.specs.Sending.{AddsChanges, AreCopies}
+use Rattle.rg_sent.specs.Keeps.{KeepsFeed}
 use Rattle.rg_tally.specs.Changed.{ChangeCount}
-use Rattle.rg_tending.specs.Tending.{FollowsBy, NextBy, aside_for, behind, utility_entry}
+use Rattle.rg_tending.specs.Tending.{FollowsBy, NextBy, aside_for, behind, is_plain, utility_entry}
 
 -- a number that a copy has
 abbrev pub IsCopy : (copy : ℕ) → Type 0
@@ -140,8 +147,8 @@ pub record IsDesk (d : Engine) (c : ChronicleState) (origin : Origin) (copy : �
 -- writes are planned over, its pages and their marks, how many records the log had when it was
 -- opened and of which copy it was, the current copy, and whether it is down. Then the stage of the
 -- utility that runs, the changes since one started, the operator's answer that no entry has yet,
--- the new copy that was written, for how many entries there is room, and the least session that is
--- in the drain's way. Last what it was handed.
+-- the new copy that was written, the ring of its feed and the items that it has sent, for how many
+-- entries there is room, and the least session that is in the drain's way. Last what it was handed.
 pub record DeskState (V O : Type 0) : Type 0 where
   pub older : List Entry
   pub trace : List Entry
@@ -156,6 +163,8 @@ pub record DeskState (V O : Type 0) : Type 0 where
   pub changes : ℕ
   pub kept : Option Answer
   pub shadow : Option PreparedSeen
+  pub ring : Ring
+  pub feed : List Item
   pub spare : ℕ
   pub covered : Option Session
   pub volume : V
@@ -228,6 +237,7 @@ pub record Opens {V O : Type 0}
   pub changes : desk.changes ≡ 0
   pub kept : desk.kept ≡ None
   pub shadow : desk.shadow ≡ None
+  pub feed : desk.feed ≡ []
 
 -- the copy may have as many pages as before, and the log and the entries of earlier openings are as
 -- they were, and of the volume no page but the log's and the copy's was written
@@ -239,15 +249,17 @@ pub record Stays {V O : Type 0} (look : V → VolumeSeen) (old new : DeskState V
   pub first_copy : new.first_copy ≡ old.first_copy
   pub old_same : old_records new ≡ old_records old
   pub copy : new.copy ≡ old.copy
+  pub ring : new.ring ≡ old.ring
   pub calls : CallsOwn old.copy (look old.volume) (look new.volume)
 
--- the utility's stage is as it was, the answer that no entry has yet, the new copy that was
--- written, and the operator
+-- The utility's stage is as it was, the answer that no entry has yet, the new copy that was
+-- written, and the operator. No more was sent than changes.
 pub record SameUtility {V O : Type 0} (old new : DeskState V O) : Type 0 where
   pub stage : new.stage ≡ old.stage
   pub kept : new.kept ≡ old.kept
   pub shadow : new.shadow ≡ old.shadow
   pub operator : new.operator ≡ old.operator
+  pub feed : AddsChanges old.feed new.feed
 
 -- What writes are planned over is as it was, but for the bytes that the log has reserved. The
 -- running utility's are set aside among them.
@@ -400,6 +412,7 @@ pub record MadeStart {V O : Type 0} (look : V → VolumeSeen) (old : DeskState V
   pub started_is : started ≡ is_started event
   pub log_full : IfStartLogFull event (logged_by 0 old.trace) old.ground.log.pages
   pub changes : new.changes ≡ (if started then 0 else old.changes)
+  pub feed : new.feed ≡ old.feed ++ begin_items event
   pub kept : new.kept ≡ old.kept
   pub shadow : new.shadow ≡ old.shadow
   pub operator : new.operator ≡ old.operator
@@ -433,22 +446,58 @@ while_running None shadow = None
 while_running (Some s) shadow = shadow
 
 -- A step has one entry more, with the operator's answer and the number of calls up to it. It calls
--- no volume. The stage follows the event.
+-- no volume. The stage follows the event. These items were sent.
 pub record MadeStep {V O : Type 0} (look : V → VolumeSeen) (old : DeskState V O)
-    (answer : Option Answer) (event : Event) (new : DeskState V O) : Type 0 where
-  pub calls : ℕ
-  pub made : new.trace ≡ old.trace ++ utility_entry event answer calls ∷ []
-  pub counted : IsCount (look new.volume) calls
-  pub follows : FollowsBy old.down old.stage old.changes old.covered answer event new.stage
-  pub changes : new.changes ≡ old.changes
-  pub kept : new.kept ≡ None
-  pub shadow : new.shadow ≡ while_running new.stage old.shadow
-  pub operator : new.operator ≡ old.operator
-  pub ground : SameGround old new
-  pub contents : new.contents ≡ old.contents
-  pub down : new.down ≡ old.down
-  pub volume : new.volume ≡ old.volume
-  pub stays : Stays look old new
+    (answer : Option Answer) (event : Event) (items : List Item) (new : DeskState V O) : Type 0
+  where
+    pub calls : ℕ
+    pub made : new.trace ≡ old.trace ++ utility_entry event answer calls ∷ []
+    pub counted : IsCount (look new.volume) calls
+    pub follows : FollowsBy old.down old.stage old.changes old.covered answer event new.stage
+    pub changes : new.changes ≡ old.changes
+    pub feed : new.feed ≡ old.feed ++ items
+    pub kept : new.kept ≡ None
+    pub shadow : new.shadow ≡ while_running new.stage old.shadow
+    pub operator : new.operator ≡ old.operator
+    pub ground : SameGround old new
+    pub contents : new.contents ≡ old.contents
+    pub down : new.down ≡ old.down
+    pub volume : new.volume ≡ old.volume
+    pub stays : Stays look old new
+
+-- What the items that a desk has sent are to its utility. They are in order. Until the copies are
+-- switched they lead to the rows of the table, at each place of a page that was copied or that the
+-- table did not have at the start. As many pages are copied as the stage says, and as many rows. The
+-- changes are counted as the entries tell.
+pub record FeedIs {V O : Type 0} (desk : DeskState V O) : Type 0 where
+  pub counted : desk.changes ≡ changes (behind [] desk.trace)
+  pub copies : AreCopies desk.stage desk.feed
+  pub keeps :
+      KeepsFeed (row_at (slot_of desk.ground.pages)) (behind [] desk.trace) desk.stage
+      desk.changes (length desk.ground.log.records) desk.feed
+
+-- The next event of the utility that runs is UNLOAD of this page, however many rows the page has.
+pub record CanFeed {V O : Type 0} (desk : DeskState V O) (page : ℕ) (answer : Answer) : Type 0
+  where
+    pub stage : Stage
+    pub stage_is : desk.stage ≡ Some stage
+    pub next :
+        (rows : ℕ) → rows ≤ 225
+        → is_plain
+        (turn_of desk.changes desk.covered answer (numbers_of stage) stage.drain
+        (events.Unload page rows))
+        ≡ true
+
+-- UNLOAD of a page with so many rows was made, and a copy of the page was sent
+pub record MadeCopy {V O : Type 0} (look : V → VolumeSeen) (old : DeskState V O) (answer : Answer)
+    (page rows : ℕ) (new : DeskState V O) : Type 0 where
+  pub few : rows ≤ 225
+  pub position : Position
+  pub copied : List (Place × Row)
+  pub rows_are : rows ≡ length copied
+  pub made :
+      MadeStep look old (Some answer) (events.Unload page rows)
+      (PageCopy page position copied ∷ []) new
 
 -- the utility that runs has a drain, so that nobody writes
 pub record HasDrain {V O : Type 0} (desk : DeskState V O) : Type 0 where
@@ -548,6 +597,8 @@ pub record StaysOpened {V O : Type 0} (look : V → VolumeSeen) (old new : DeskS
     pub first_copy : new.first_copy ≡ old.first_copy
     pub old_same : old_records new ≡ old_records old
     pub changes : new.changes ≡ old.changes
+    pub ring : new.ring ≡ old.ring
+    pub feed : new.feed ≡ old.feed
     pub kept : new.kept ≡ None
     pub shadow : new.shadow ≡ None
     pub operator : new.operator ≡ old.operator

@@ -24,6 +24,7 @@ pub mod Flushed
 pub mod Answers
 pub mod Aside
 pub mod Chronicle
+pub mod Sends
 pub mod Utility
 pub mod Desk
 pub mod Begun

@@ -4,14 +4,18 @@
 --    those before.
 -- 2. None of them has a quiet key, where no locked key is quiet, and not the one that the statement
 --    writes.
--- 3. They are as many as the statement makes. The writes of open units are counted on as the
+-- 3. Their rows are the one that the statement gives, or none where it takes one away; or those that
+--    the unit's writes found, the latest first, where they are undone.
+-- 4. They are as many as the statement makes. The writes of open units are counted on as the
 --    statement's answer says.
-use Rattle.std.specs.Prelude.{◌≡◌, ◌++◌, ℕ, true, false, List, Some, length}
+use Rattle.std.specs.Prelude.{◌≡◌, ◌++◌, ℕ, true, false, List, [], ◌∷◌, Option, Some, None, length}
 use Rattle.std.specs.FinMap as fin
 use Rattle.std.specs.List.{AllByRecursion}
 use Rattle.rg_base.specs.declared.lock.Lock.{Lock}
 use Rattle.rg_base.specs.declared.session.Session.{Session}
-use Rattle.rg_changed.specs.Changed.{changes_in}
+use Rattle.rg_base.specs.declared.row.Row.{Row}
+use Rattle.rg_lawful.specs.Write.{Write}
+use Rattle.rg_changed.specs.Changed.{changes_in, rows_after}
 use Rattle.rg_home.specs.Pages.{slot_of}
 use Rattle.rg_home.specs.Rows.{row_at}
 use Rattle.rg_model.specs.Changes.{is_write, writes_after}
@@ -20,11 +24,15 @@ use Rattle.rg_record.specs.declared.record.Record.{Record}
 use Rattle.rg_sent.specs.Keeps.{AreAbove, IsLoud, MovesRows}
 use Rattle.rg_stmt.specs.declared.event.Entry.{Entry}
 use Rattle.rg_stmt.specs.declared.stmt.Reply.{Reply}
+use Rattle.rg_stmt.specs.declared.stmt.Reply.TheVariants.{Done}
 use Rattle.rg_stmt.specs.declared.stmt.Stmt.{Stmt}
+use Rattle.rg_stmt.specs.declared.stmt.Stmt.TheVariants.{Delete, Insert, Rollback, Update}
 use Rattle.rg_tally.specs.Changed.{made_by}
 use Rattle.rg_desk.specs.Engine.{slots_in}
 use Rattle.rg_desk.specs.Units.{unit_at, writes_in}
+use Rattle.rg_desk.specs.Walks.{Walks}
 use Rattle.rg_desk.specs.declared.engine.Engine.{Engine}
+use Rattle.rg_desk.specs.declared.units.OpenUnit.{OpenUnit}
 
 -- no locked key is quiet after these entries
 abbrev pub LocksAreLoud : Engine → List Entry → Type 0
@@ -36,6 +44,25 @@ abbrev pub WriteIsLoud : Stmt → Reply → List Entry → Type 0
 WriteIsLoud stmt reply past =
     is_write stmt reply ≡ true → (key : ℕ) → names_key key stmt ≡ true
     → is_quiet key past ≡ false
+
+-- the rows that writes found
+abbrev pub rows_before : List Write → List (Option Row)
+rows_before [] = []
+rows_before (w ∷ ws) = w.written.before ∷ rows_before ws
+
+-- these are the writes of a unit, the latest first
+abbrev pub AreOwn : List Record → Option OpenUnit → List Write → Type 0
+AreOwn records None ws = ws ≡ []
+AreOwn records (Some unit) ws =
+    Walks records unit.tran.0 unit.last.0 ws × (length ws ≡ unit.writes)
+
+-- the rows that a statement makes, of a unit whose writes found these
+abbrev pub rows_made : Stmt → Reply → List (Option Row) → List (Option Row)
+rows_made (Insert row) Done found = Some row ∷ []
+rows_made (Update row) Done found = Some row ∷ []
+rows_made (Delete key) Done found = None ∷ []
+rows_made Rollback Done found = found
+rows_made stmt reply found = []
 
 pub record Moves (old : Engine) (session : Session) (stmt : Stmt) (reply : Reply) (new : Engine)
     : Type 0 where
@@ -49,6 +76,9 @@ pub record Moves (old : Engine) (session : Session) (stmt : Stmt) (reply : Reply
   pub loud :
       (past : List Entry) → LocksAreLoud old past → WriteIsLoud stmt reply past
       → AllByRecursion (IsLoud past) (changes_in more)
+  pub told :
+      (ws : List Write) → AreOwn old.log.records (unit_at old.units session.0) ws
+      → rows_after (changes_in more) ≡ rows_made stmt reply (rows_before ws)
   pub counted :
       length (changes_in more) ≡ made_by stmt reply (writes_in (unit_at old.units session.0))
   pub own :

@@ -10,7 +10,9 @@
 //    opening is refused.
 // 5. A utility may run. A step of it asks the operator first, and then makes one entry, which has
 //    the operator's answer. Its event is the next one of the stage that the desk keeps.
-ghost use Rattle.std.specs.Prelude.{◌≡◌, ◌≤◌, ◌++◌, [], ℕ, true, false, OnOk, OnErr, IfOk, IfErr, IfSome, Some, None, length};
+// 6. What a utility needs is sent to it: a Begin at its start, a copy of each page that it copies,
+//    and each change of a row since. Whoever has the other end receives it all with `hand_over`.
+ghost use Rattle.std.specs.Prelude.{◌≡◌, ◌≤◌, ◌++◌, [], ℕ, true, false, OnOk, OnErr, IfOk, IfErr, IfSome, Some, None, drop, length};
 ghost use Rattle.rg_home.specs.Pages.{slot_of};
 ghost use Rattle.rg_home.specs.Rows.{row_at};
 ghost use Rattle.rg_indexes.specs.Listings.{AreListings};
@@ -21,6 +23,7 @@ ghost use Rattle.rg_model.specs.State.{State};
 ghost use Rattle.rg_stmt.specs.declared.event.Actor.TheVariants as actors;
 ghost use Rattle.rg_desk.specs.Answers.{Replies};
 ghost use Rattle.rg_log.specs.Kept.{log_pages};
+ghost use Rattle.rg_changed.specs.Changed.{changes_in};
 ghost use Rattle.rg_desk.specs.Chronicle.{IsRecorded, system_entry};
 ghost use Rattle.rg_desk.specs.Begun.{Begun};
 ghost use Rattle.rg_desk.specs.Desk.{CanBegin, EndsDown, EndsWithRows, IsCopy, IsLayout};
@@ -42,6 +45,10 @@ ghost use Rattle.rg_desk.specs.Engine.{HasPages, ground_of};
 ghost use Rattle.rg_desk.specs.Shows.{IsShown, Shows};
 ghost use Rattle.rg_desk.specs.Volume.{HasCalls, IsCount, LeavesIfTidy, seen_volume};
 ghost use Rattle.rg_desk.specs.Wrote.{SameEngine};
+ghost use Rattle.rg_desk.specs.Desk.{CanFeed, FeedIs, MadeCopy};
+ghost use Rattle.rg_desk.specs.Sends.{begin_items};
+ghost use Rattle.rg_feed.specs.Ends.{Grew, SameReceived, sent_items};
+ghost use Rattle.rg_sending.specs.Sending.{AddsChanges, items_made};
 ghost use Rattle.rg_desk.specs.Desk.{HasTaken, IsNextStep, MadeStart, MadeStep, left_to_take};
 ghost use Rattle.rg_outside.specs.Told.{AddsAnswer, HandsOver};
 ghost use Rattle.rg_tally.specs.Changed.{no_changes};
@@ -62,7 +69,11 @@ use rg_base::session::Session;
 use rg_base::set::Set;
 use rg_base::verdict::StopReason;
 use rg_chain::names::copy_pages;
-use rg_fold::item::Stage;
+use rg_feed::ends::feed;
+use rg_feed::hand_over::hand_over;
+use rg_feed::inlet::FeedIn;
+use rg_feed::outlet::FeedOut;
+use rg_fold::item::{Item, Stage};
 use rg_log::fault::Device;
 use rg_outside::counted::Counts;
 use rg_outside::operator::Operator;
@@ -113,6 +124,8 @@ pub struct Desk<V: Counts, O> {
     kept: Option<Answer>,
     // The new copy that was written and may become current.
     shadow: Option<Prepared>,
+    // The sending end of the feed.
+    outlet: FeedOut,
     volume: V,
     operator: O,
 }
@@ -121,6 +134,8 @@ impl<V: Counts, O> Model for Desk<V, O> {
     ghost use Rattle.rg_desk.specs.Desk.{DeskState, IsDesk};
     ghost use Rattle.rg_desk.specs.Engine.{ground_of, seen_in};
     ghost use Rattle.rg_desk.specs.Prepared.{KeepsPrepared, prepared_seen};
+    ghost use Rattle.rg_desk.specs.Sends.{KeepsItems};
+    ghost use Rattle.rg_feed.specs.Ends.{sent_items};
     ghost use Rattle.rg_model.specs.Claims.{least_holder};
     ghost use Rattle.rg_tending.specs.Tending.{Tends};
     ghost use Rattle.rg_desk.specs.Volume.{seen_volume};
@@ -146,6 +161,8 @@ impl<V: Counts, O> Model for Desk<V, O> {
       changes = d.changes.since;
       kept = d.kept;
       shadow = prepared_seen d.shadow;
+      ring = d.outlet.ring;
+      feed = sent_items d.outlet;
       spare = d.chronicle.spare;
       covered = least_holder d.engine.claims.drain d.engine.claims.claims;
       volume = d.volume;
@@ -156,7 +173,8 @@ impl<V: Counts, O> Model for Desk<V, O> {
         (seen_volume V.told V.faults V.capacities d.volume)
         × Tends d.chronicle.trace d.stage d.changes d.engine.set_aside
         × KeepsPrepared d.shadow d.engine.log.records d.copy
-        (seen_volume V.told V.faults V.capacities d.volume) };
+        (seen_volume V.told V.faults V.capacities d.volume)
+        × KeepsItems d.engine d.chronicle.trace d.down d.stage d.changes (sent_items d.outlet) };
 }
 
 // The entry of an event that the system makes, after so many calls.
@@ -183,14 +201,14 @@ fn utility(event: Event, answer: Option<Answer>, calls: u64) -> Entry
     }
 }
 
-// The engine over what was found, the marks, and the count of changes. The opening makes the first
-// entry, after so many calls.
+// The engine over what was found, the marks, the count of changes, and both ends of the feed. The
+// opening makes the first entry, after so many calls.
 fn begin(
     alloc: Global,
     found: Found,
     calls: u64,
     chronicle: &mut Chronicle,
-) -> Result<(Engine, Vec<Option<Position>>, Changes), NoMemory>
+) -> Result<(Engine, Vec<Option<Position>>, Changes, FeedOut, FeedIn), NoMemory>
     requires begins { CanBegin (capacity_in found.space) (space_pages found.space) found.log
         found.top }
     requires step { InStep (list_seen (frames_of found.space)) (index_of found.space)
@@ -202,6 +220,9 @@ fn begin(
     ensures begun { IfOk result (λ made. Begun found calls made.0 chronicle.new) }
     ensures marks { IfOk result (λ made. made.1 ≡ found.marks) }
     ensures changes { IfOk result (λ made. made.2 ≡ no_changes) }
+    ensures ring { IfOk result (λ made. made.3.ring ≡ made.4.ring) }
+    ensures sent { IfOk result (λ made. sent_items made.3 ≡ []) }
+    ensures received { IfOk result (λ made. made.4.items ≡ []) }
     ensures older { chronicle.new.older ≡ chronicle.old.older }
     ensures err { OnErr result (chronicle.new ≡ chronicle.old) }
 {
@@ -215,11 +236,12 @@ fn begin(
     } = found;
     let (pages, used) = (space.count(), log.used());
     let changes = Changes::new(alloc)?;
+    let (outlet, inlet) = feed(alloc)?;
     let engine = Engine::new(alloc, log, space, indexes, top)?;
     let rows = engine.unlocked_rows();
     chronicle.make_room()?;
     chronicle.push(Entry::opened(copy, rows, pages, used, calls));
-    Ok((engine, marks, changes))
+    Ok((engine, marks, changes, outlet, inlet))
 }
 
 // The number of calls up to now. It never falls, also where the volume does not report.
@@ -232,28 +254,51 @@ fn calls_now<V: Counts>(volume: &V, chronicle: &Chronicle) -> u64
 }
 
 /// The reply to a statement, where the desk is up or down before. The device's refusal brings it
-/// down.
+/// down. Where a utility runs, the statement's changes are sent.
 pub fn reply_to<V: Volume>(
     engine: &mut Engine,
     down: &mut bool,
     volume: &mut V,
     session: Session,
     stmt: &Stmt,
+    runs: bool,
+    outlet: &mut FeedOut,
 ) -> Reply
     requires session { IsSession session }
     requires shown { down.old ≡ false → IsShown engine.old }
     requires pages { engine.old.log.pages ≡ log_pages (V.capacities volume.old) }
-    ensures { Replies down.old engine.old session stmt.now result engine.new down.new
+    ensures replies { Replies down.old engine.old session stmt.now result engine.new down.new
         (seen_volume V.told V.faults V.capacities volume.old)
         (seen_volume V.told V.faults V.capacities volume.new) }
+    ensures ring { outlet.new.ring ≡ outlet.old.ring }
+    ensures adds { AddsChanges (sent_items outlet.old) (sent_items outlet.new) }
+    ensures sent { down.new ≡ false → sent_items outlet.new
+        ≡ sent_items outlet.old
+        ++ items_made runs (changes_in
+        (drop (length engine.old.log.records) engine.new.log.records)) }
 {
     if *down {
         return Reply::Down;
     }
     engine.make_spare();
-    let reply = engine.say(volume, session, stmt);
+    let reply = engine.say(volume, session, stmt, runs, outlet);
     *down = matches!(reply, Reply::Device);
     reply
+}
+
+// The start of a utility is sent.
+fn send_start(outlet: &mut FeedOut, event: &Event)
+    requires room { 1 ≤ outlet.old.spare }
+    ensures ring { outlet.new.ring ≡ outlet.old.ring }
+    ensures items { sent_items outlet.new ≡ sent_items outlet.old ++ begin_items event.now }
+{
+    match event {
+        Event::Started { options, pages, .. } => outlet.send(Item::Begin {
+            options: *options,
+            pages: *pages,
+        }),
+        _ => {}
+    }
 }
 
 impl Engine {
@@ -332,6 +377,7 @@ impl<V: Counts, O: Operator> Desk<V, O> {
     /// rows, the pages and the bytes of the log that were found. It comes after the entries of
     /// earlier openings, up to which there were so many calls, and has no fewer calls than they
     /// have, also where the volume does not report. Neither the volume nor the operator is called.
+    /// Beside the desk stands the end at which all that it sends is received.
     pub fn new(
         alloc: Global,
         volume: V,
@@ -339,7 +385,7 @@ impl<V: Counts, O: Operator> Desk<V, O> {
         trace: Vec<Entry>,
         calls: u64,
         found: Found,
-    ) -> Result<Desk<V, O>, OpenFault<V, O>>
+    ) -> Result<(Desk<V, O>, FeedIn), OpenFault<V, O>>
         requires begins { CanBegin (capacity_in found.space) (space_pages found.space) found.log
             found.top }
         requires step { InStep (list_seen (frames_of found.space)) (index_of found.space)
@@ -357,11 +403,14 @@ impl<V: Counts, O: Operator> Desk<V, O> {
             → AllBelow found.top (slot_of (space_pages found.space))) }
         requires recorded { IsRecorded trace.items calls }
         requires counted { HasCalls (seen_volume V.told V.faults V.capacities volume) calls }
-        ensures opens { IfOk result (Opens (seen_volume V.told V.faults V.capacities) volume
-            operator found.log found.copy (capacity_in found.space) (space_pages found.space)) }
+        ensures opens { IfOk result (λ made. Opens (seen_volume V.told V.faults V.capacities)
+            volume operator found.log found.copy (capacity_in found.space)
+            (space_pages found.space) made.0) }
         ensures contents { IfOk result
-            (λ desk. desk.contents ≡ (list_seen (frames_of found.space)).pages) }
-        ensures older { IfOk result (λ desk. desk.older ≡ trace.items) }
+            (λ made. made.0.contents ≡ (list_seen (frames_of found.space)).pages) }
+        ensures older { IfOk result (λ made. made.0.older ≡ trace.items) }
+        ensures ring { IfOk result (λ made. made.0.ring ≡ made.1.ring) }
+        ensures received { IfOk result (λ made. made.1.items ≡ []) }
         ensures err { IfErr result (λ fault. fault ≡ record {
           volume = volume;
           operator = operator;
@@ -378,20 +427,24 @@ impl<V: Counts, O: Operator> Desk<V, O> {
         let mut chronicle = Chronicle::over(trace, calls);
         let now = calls_now(&volume, &chronicle);
         match begin(alloc, found, now, &mut chronicle) {
-            Ok((engine, marks, changes)) => Ok(Desk {
-                engine,
-                chronicle,
-                origin,
-                marks,
-                copy,
-                down: false,
-                stage: None,
-                changes,
-                kept: None,
-                shadow: None,
-                volume,
-                operator,
-            }),
+            Ok((engine, marks, changes, outlet, inlet)) => {
+                let desk = Desk {
+                    engine,
+                    chronicle,
+                    origin,
+                    marks,
+                    copy,
+                    down: false,
+                    stage: None,
+                    changes,
+                    kept: None,
+                    shadow: None,
+                    outlet,
+                    volume,
+                    operator,
+                };
+                Ok((desk, inlet))
+            }
             Err(_) => Err(OpenFault {
                 volume,
                 operator,
@@ -402,8 +455,8 @@ impl<V: Counts, O: Operator> Desk<V, O> {
     }
 
     /// Answers a statement of a session, which makes one entry. If there is no memory for the
-    /// entry, the call is refused and nothing was done. If there is none for the answer, the entry
-    /// says NOMEMORY. The reply stands in the entry: handing out a copy of it too would take memory
+    /// entry, the call is refused and nothing was done. If there is none for the answer, or for the
+    /// changes that are to be sent to a utility, the entry says NOMEMORY. The reply stands in the entry: handing out a copy of it too would take memory
     /// after the statement was done.
     pub fn exec(&mut self, session: Session, stmt: Stmt) -> Result<(), NoMemory>
         requires { IsSession session }
@@ -415,12 +468,15 @@ impl<V: Counts, O: Operator> Desk<V, O> {
             return Err(NoMemory);
         }
         self.chronicle.make_room()?;
+        let runs = self.stage.is_some();
         let reply = reply_to(
             &mut self.engine,
             &mut self.down,
             &mut self.volume,
             session,
             &stmt,
+            runs,
+            &mut self.outlet,
         );
         // That the records fit their set: what a crash leaves of the volume is sound by it.
         let _ = self.engine.log.records();
@@ -480,6 +536,7 @@ impl<V: Counts, O: Operator> Desk<V, O> {
             self.new) }
         ensures err { OnErr result (self.new ≡ self.old) }
     {
+        self.outlet.reserve(1)?;
         self.chronicle.make_room()?;
         let event = start_utility(
             &mut self.engine,
@@ -490,9 +547,23 @@ impl<V: Counts, O: Operator> Desk<V, O> {
         );
         let started = is_started(&event);
         count_from(&mut self.changes, started);
+        send_start(&mut self.outlet, &event);
         let calls = calls_now(&self.volume, &self.chronicle);
         self.chronicle.push(utility(event, None, calls));
         Ok(started)
+    }
+
+    /// Hands over all that was sent to the end at which it is received. If there is no memory for it
+    /// there, nothing is received.
+    pub fn hand_over(&mut self, inlet: &mut FeedIn) -> Result<(), NoMemory>
+        requires { self.old.ring ≡ inlet.old.ring }
+        ensures same { self.new ≡ self.old }
+        ensures grew { Grew inlet.old inlet.new }
+        ensures all { OnOk result (inlet.new.items ≡ self.old.feed) }
+        ensures err { OnErr result (SameReceived inlet.old inlet.new) }
+        ensures feed { self.old.down ≡ false → FeedIs self.old }
+    {
+        hand_over(&mut self.outlet, inlet)
     }
 
     /// Makes room for an entry: afterwards one can be made without memory.
@@ -529,13 +600,41 @@ impl<V: Counts, O: Operator> Desk<V, O> {
         requires next { IsNextStep self.old answer event }
         requires kept { answer ≡ self.old.kept }
         requires room { 1 ≤ self.old.spare }
-        ensures { MadeStep (seen_volume V.told V.faults V.capacities) self.old answer event
+        ensures { MadeStep (seen_volume V.told V.faults V.capacities) self.old answer event []
             self.new }
     {
         match (self.down, self.stage, answer) {
             (false, Some(stage), Some(answer)) => self.book_step(stage, event, answer),
             _ => self.book_refused(event),
         }
+    }
+
+    /// Copies a page, and sends the copy. It makes the entry of UNLOAD, with the operator's answer,
+    /// and says how many rows the copy has. If there is no memory for it, nothing was done.
+    pub fn feed_page(&mut self, page: u32, answer: Answer) -> Result<u16, NoMemory>
+        requires up { self.old.down ≡ false }
+        requires kept { self.old.kept ≡ Some answer }
+        requires room { 1 ≤ self.old.spare }
+        requires can { CanFeed self.old page answer }
+        ensures made { IfOk result (λ rows. MadeCopy (seen_volume V.told V.faults V.capacities)
+            self.old answer page rows self.new) }
+        ensures err { OnErr result (self.new ≡ self.old) }
+    {
+        let Some(stage) = self.stage else {
+            unreachable!()
+        };
+        self.outlet.reserve(1)?;
+        let (item, rows) = self.engine.copy_page(page)?;
+        let event = Event::Unload { page, rows };
+        self.stage = self
+            .engine
+            .step_utility(&stage, self.changes.since(), &answer, &event);
+        self.outlet.send(item);
+        self.kept = None;
+        keep_while_running(&self.stage, &mut self.shadow);
+        let calls = calls_now(&self.volume, &self.chronicle);
+        self.chronicle.push(utility(event, Some(answer), calls));
+        Ok(rows)
     }
 
     // Makes the entry of a step of the utility that runs.
@@ -546,7 +645,7 @@ impl<V: Counts, O: Operator> Desk<V, O> {
             event }
         requires room { 1 ≤ self.old.spare }
         ensures { MadeStep (seen_volume V.told V.faults V.capacities) self.old (Some answer) event
-            self.new }
+            [] self.new }
     {
         self.stage = self
             .engine
@@ -583,7 +682,8 @@ impl<V: Counts, O: Operator> Desk<V, O> {
 
     /// Whether a new copy was written, and the log has no record more since.
     pub fn is_current(&self) -> bool
-        ensures { result ≡ true → HasCurrent self.now }
+        ensures sure { result ≡ true → HasCurrent self.now }
+        ensures all { HasCurrent self.now → result ≡ true }
     {
         match &self.shadow {
             Some(prepared) => prepared.records == self.engine.log.records().len(),
@@ -664,7 +764,8 @@ impl<V: Counts, O: Operator> Desk<V, O> {
         requires next { IsNextStep self.old None event }
         requires kept { self.old.kept ≡ None }
         requires room { 1 ≤ self.old.spare }
-        ensures { MadeStep (seen_volume V.told V.faults V.capacities) self.old None event self.new }
+        ensures { MadeStep (seen_volume V.told V.faults V.capacities) self.old None event []
+            self.new }
     {
         keep_while_running(&self.stage, &mut self.shadow);
         let calls = calls_now(&self.volume, &self.chronicle);
@@ -769,6 +870,7 @@ impl<V: Counts, O: Operator> Desk<V, O> {
             changes: _,
             kept: _,
             shadow: _,
+            outlet: _,
             volume,
             operator,
         } = self;

@@ -5,6 +5,8 @@
 pub mod bytes;
 /// The entries of a desk.
 pub mod chronicle;
+/// The copy of a page, for the utility.
+pub mod copying;
 /// How many rows are committed.
 pub mod count;
 /// The table as a deck sees it.
@@ -31,6 +33,8 @@ pub mod reads;
 pub mod records;
 /// The answer to any statement.
 pub mod say;
+/// What is sent of a statement.
+pub mod send;
 /// The switch of an engine to a new copy.
 pub mod switch;
 /// The undo of a unit's writes.

@@ -3,19 +3,26 @@
 // 1. A drain comes first: a statement is DRAINED if and only if a drain covers a class that it
 //    needs and that its session does not hold.
 // 2. A statement that is answered with number 0 registers its classes, and no other does.
-ghost use Rattle.std.specs.Prelude.{◌≡◌, false};
+// 3. While a utility runs, the changes of a statement that is answered OK are sent to it. What that
+//    takes is taken before the statement is answered, and after the drain has let it through.
+ghost use Rattle.std.specs.Prelude.{◌≡◌, ◌++◌, false, drop, length};
 ghost use Rattle.std.specs.FinMap as map;
 ghost use Rattle.rg_base.specs.Session.{IsSession};
 ghost use Rattle.rg_model.specs.Claims.{claims_with, classes_needed, is_kept_out};
 ghost use Rattle.rg_model.specs.Plain.{is_done};
 ghost use Rattle.rg_log.specs.Kept.{log_pages};
+ghost use Rattle.rg_changed.specs.Changed.{changes_in};
 ghost use Rattle.rg_desk.specs.Answers.{Answers, Asks, classes_in, forces};
 ghost use Rattle.rg_desk.specs.Shows.{IsShown};
-ghost use Rattle.rg_desk.specs.Steps.{Steps, is_commit};
+ghost use Rattle.rg_desk.specs.Steps.{IfUp, Steps, is_commit};
 ghost use Rattle.rg_desk.specs.Volume.{seen_volume};
+ghost use Rattle.rg_feed.specs.Ends.{sent_items};
+ghost use Rattle.rg_sending.specs.Sending.{AddsChanges, items_made};
 
 use crate::engine::Engine;
+use crate::send::{is_ok, send_since};
 use rg_base::session::{Class, Session};
+use rg_feed::outlet::FeedOut;
 use rg_model::plain::parts::is_done;
 use rg_outside::volume::Volume;
 use rg_stmt::stmt::{Reply, Stmt};
@@ -108,8 +115,15 @@ impl Engine {
         self.answer(session, stmt)
     }
 
-    /// Answers a statement of a session.
-    pub fn say<V: Volume>(&mut self, volume: &mut V, session: Session, stmt: &Stmt) -> Reply
+    /// Answers a statement of a session, and sends its changes where a utility runs.
+    pub fn say<V: Volume>(
+        &mut self,
+        volume: &mut V,
+        session: Session,
+        stmt: &Stmt,
+        runs: bool,
+        outlet: &mut FeedOut,
+    ) -> Reply
         requires session { IsSession session }
         requires shown { IsShown self.old }
         requires pages { self.old.log.pages ≡ log_pages (V.capacities volume.old) }
@@ -118,14 +132,30 @@ impl Engine {
             self.old.log self.new.log
             (seen_volume V.told V.faults V.capacities volume.old)
             (seen_volume V.told V.faults V.capacities volume.new) }
+        ensures ring { outlet.new.ring ≡ outlet.old.ring }
+        ensures adds { AddsChanges (sent_items outlet.old) (sent_items outlet.new) }
+        ensures sent { IfUp result (sent_items outlet.new
+            ≡ sent_items outlet.old
+            ++ items_made runs (changes_in
+            (drop (length self.old.log.records) self.new.log.records))) }
     {
         let class = class_of(stmt);
         if self.is_drained(session, class) {
             return Reply::Drained;
         }
+        let Ok(rows) = self.make_ready(session, stmt, runs, outlet) else {
+            return Reply::NoMemory;
+        };
+        let first = self.log.records().len();
         let reply = self.answer_over(volume, session, stmt);
+        if is_ok(&reply) {
+            self.register(session, class);
+            send_since(&self.log, first, runs, rows, outlet);
+            return reply;
+        }
         if is_done(&reply) {
             self.register(session, class);
+            return reply;
         }
         reply
     }

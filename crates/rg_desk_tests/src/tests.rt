@@ -142,3 +142,60 @@ fn answers_full(rt: HostRuntime) -> Result<(), Fail> {
     expect_steps(&rt, rt.alloc(), &mut engine, &steps)?;
     Ok(())
 }
+
+// The changes that were sent since the last time: of each its position, the slot of its home on
+// page 1, and the bytes of the row's text, or -1 where the row is gone.
+fn expect_sent(
+    rt: &impl Abort,
+    engine: &mut ShownEngine,
+    changes: &[(u64, u16, i64)],
+) -> Result<(), Fail> {
+    for (position, slot, size) in changes.iter().copied() {
+        let Some(change) = engine.next_change()? else {
+            return Err("a change was not sent".into());
+        };
+        let came = match &change.after {
+            Some(row) => i64::try_from(row.clus).unwrap_or(-2),
+            None => -1,
+        };
+        assert_eq!(rt; change.position.0, position, "of {position}");
+        assert_eq!(rt; change.home.page, 1, "of {position}");
+        assert_eq!(rt; change.home.slot, slot, "of {position}");
+        assert_eq!(rt; came, size, "of {position}");
+    }
+    assert_eq!(rt; engine.next_change()?.is_none(), true);
+    Ok(())
+}
+
+// While a utility runs each write that was answered OK is sent, and each that is undone, the latest
+// first. What is refused, or only read, is not.
+#[test]
+fn sends_writes_and_undone_ones(rt: HostRuntime) -> Result<(), Fail> {
+    let mut engine = ShownEngine::new(rt.alloc(), 8, 100)?;
+    let before: [Step; 3] = [
+        (1, insert(1, 10), DONE),
+        (1, insert(2, 20), DONE),
+        (1, Ask::Commit, DONE),
+    ];
+    expect_steps(&rt, rt.alloc(), &mut engine, &before)?;
+    expect_sent(&rt, &mut engine, &[])?;
+    let unit: [Step; 2] = [(1, update(1, 11), DONE), (2, insert(3, 30), DONE)];
+    expect_steps(&rt, rt.alloc(), &mut engine, &unit)?;
+    engine.runs = true;
+    let beside: [Step; 8] = [
+        (1, Ask::Delete(2), DONE),
+        (1, insert(3, 0), HELD),
+        (2, update(3, 31), DONE),
+        (2, update(9, 0), ABSENT),
+        (2, Ask::Select(3), DONE),
+        (2, Ask::Commit, DONE),
+        (1, Ask::Rollback, DONE),
+        (1, Ask::Rollback, DONE),
+    ];
+    expect_steps(&rt, rt.alloc(), &mut engine, &beside)?;
+    expect_sent(
+        &rt,
+        &mut engine,
+        &[(6, 1, -1), (7, 2, 31), (9, 1, 20), (10, 0, 10)],
+    )
+}

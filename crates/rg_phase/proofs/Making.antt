@@ -100,12 +100,13 @@ module _ {V O : Type 0} (look : V → VolumeSeen) where
       ground = ap (λ (d : DeskState V O). d.ground) same
 
   -- a desk that is down, or over which no utility runs
-  pub makes_refused : (old new : DeskState V O) (event : Event) → copy_left old.copy event ≡ old.copy → IsSwitchFrom old.copy event → is_device_stop event ≡ false → MadeStep look old None event new → Makes look old None event new
+  pub makes_refused : (old new : DeskState V O) (event : Event) → copy_left old.copy event ≡ old.copy → IsSwitchFrom old.copy event → is_device_stop event ≡ false → MadeStep look old None event [] new → Makes look old None event new
   makes_refused old new event left from quiet made = record {
     calls = made.calls;
     made = made.made;
     counted = made.counted;
     copy = made.stays.copy ∙ sym left;
+    ring = made.stays.ring;
     to = from;
     capacity = inl made.stays.capacity;
     down = λ down. inl (sym made.down ∙ down);
@@ -123,7 +124,7 @@ module _ {V O : Type 0} (look : V → VolumeSeen) where
   module _ (old : DeskState V O) (answer : Answer) where
     -- a step was booked, after a new copy was written or not
     pub acts_booked : (mid new : DeskState V O) (event : Event) → is_some old.stage ≡ true → Writes look old mid → IsNextStep old (Some answer) event → is_booked event ≡ true
-        → (is_device_stop event ≡ true → Rose (look old.volume).faults (look mid.volume).faults) → MadeStep look mid (Some answer) event new → Acts look old answer new
+        → (is_device_stop event ≡ true → Rose (look old.volume).faults (look mid.volume).faults) → MadeStep look mid (Some answer) event [] new → Acts look old answer new
     acts_booked mid new event runs wrote next booked device made = record {
       event = event;
       next = next_booked old.down old.stage old.changes old.covered answer event next;
@@ -132,6 +133,7 @@ module _ {V O : Type 0} (look : V → VolumeSeen) where
         made = made.made ∙ ap (λ (es : List Entry). es ++ utility_entry event (Some answer) made.calls ∷ []) (ap (λ (d : DeskState V O). d.trace) wrote.same);
         counted = made.counted;
         copy = made.stays.copy ∙ copy ∙ sym (booked_left old.copy event booked);
+        ring = made.stays.ring ∙ ap (λ (d : DeskState V O). d.ring) wrote.same;
         to = booked_from old.copy event booked;
         capacity = inl (made.stays.capacity ∙ ap (λ (g : Ground). g.capacity) wrote.ground);
         down = λ down. inl (sym (ap (λ (d : DeskState V O). d.down) wrote.same) ∙ sym made.down ∙ down);
@@ -163,6 +165,7 @@ module _ {V O : Type 0} (look : V → VolumeSeen) where
         made = made.made;
         counted = made.counted;
         copy = made.copy;
+        ring = made.stays.ring;
         to = refl;
         capacity = inr made.capacity;
         down = λ down. absurd (cc (down, made.down));
@@ -189,6 +192,7 @@ module _ {V O : Type 0} (look : V → VolumeSeen) where
         made = made.made;
         counted = made.counted;
         copy = made.copy;
+        ring = made.stays.ring;
         to = tt;
         capacity = inl made.capacity;
         down = λ down. inr made.device;

@@ -73,6 +73,7 @@ pub record Makes {V O : Type 0} (look : V → VolumeSeen) (old : DeskState V O)
   pub made : new.trace ≡ old.trace ++ utility_entry event answer calls ∷ []
   pub counted : IsCount (look new.volume) calls
   pub copy : new.copy ≡ copy_left old.copy event
+  pub ring : new.ring ≡ old.ring
   pub to : IsSwitchFrom old.copy event
   pub capacity :
       (new.ground.capacity ≡ old.ground.capacity)

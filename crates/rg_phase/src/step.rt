@@ -29,6 +29,7 @@ use rg_base::verdict::StopReason;
 use rg_base::which::Which;
 use rg_desk::desk::Desk;
 use rg_desk::prepared::PrepareCause;
+use rg_feed::inlet::FeedIn;
 use rg_fold::item::Stage;
 use rg_outside::counted::Counts;
 use rg_outside::operator::Operator;
@@ -57,18 +58,22 @@ impl Reorg {
     }
 
     /// Makes one entry: that of the next step of the utility, or IDLE where none runs, or DOWN
-    /// where the desk is down. If there is no memory for the entry, the call is refused and nothing
-    /// was done.
+    /// where the desk is down. What the desk has sent is received first. If there is no memory for
+    /// that, or for the entry, the call is refused and nothing was done.
     pub fn step<V: Counts, O: Operator>(
         &mut self,
         alloc: Global,
         desk: &mut Desk<V, O>,
+        inlet: &mut FeedIn,
     ) -> Result<(), NoMemory>
-        requires { desk.old.kept ≡ None }
+        requires kept { desk.old.kept ≡ None }
+        requires ring { desk.old.ring ≡ inlet.old.ring }
         ensures stepped { OnOk result (Stepped (seen_volume V.told V.faults V.capacities)
             O.answers O.last desk.old desk.new) }
+        ensures ring { desk.new.ring ≡ inlet.new.ring }
         ensures err { OnErr result (desk.new ≡ desk.old) }
     {
+        desk.hand_over(inlet)?;
         desk.make_room()?;
         if desk.down() {
             desk.book(Event::StepDown, None);

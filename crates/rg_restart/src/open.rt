@@ -6,7 +6,7 @@
 //    asked.
 // 3. The entries of earlier openings are kept, before those of the desk that is opened. A refusal
 //    hands them back.
-ghost use Rattle.std.specs.Prelude.{◌≡◌, IfOk, IfErr};
+ghost use Rattle.std.specs.Prelude.{◌≡◌, [], IfOk, IfErr};
 ghost use Rattle.rg_chain.specs.Kept.{IsKept};
 ghost use Rattle.rg_desk.specs.Chronicle.{IsRecorded};
 ghost use Rattle.rg_desk.specs.Volume.{HasCalls, seen_volume};
@@ -25,6 +25,7 @@ use rg_chain::test::{LogTest, test_log};
 use rg_desk::desk::{Desk, OpenCause, OpenFault};
 use rg_desk::flush::set_of;
 use rg_desk::found::Found;
+use rg_feed::inlet::FeedIn;
 use rg_log::fault::LogFault;
 use rg_log::log::Log;
 use rg_log::open::open_log;
@@ -91,20 +92,23 @@ fn look<V: Volume>(alloc: Global, volume: &mut V) -> Result<Found, OpenCause>
 /// Opens a volume over the table that its log stores. A page that breaks a rule of a sound volume
 /// is named. The undo of open units is appended to the log in memory, and written by the next
 /// COMMIT. The table may have been opened before: the trace has the entries of earlier openings, up
-/// to which there were so many calls.
+/// to which there were so many calls. Beside the desk stands the end at which all that it sends is
+/// received.
 pub fn open_desk<V: Counts, O: Operator>(
     alloc: Global,
     volume: V,
     operator: O,
     trace: Vec<Entry>,
     calls: u64,
-) -> Result<Desk<V, O>, OpenFault<V, O>>
+) -> Result<(Desk<V, O>, FeedIn), OpenFault<V, O>>
     requires tidy { GoesOnTidy (seen_volume V.told V.faults V.capacities volume) }
     requires recorded { IsRecorded trace.items calls }
     requires counted { HasCalls (seen_volume V.told V.faults V.capacities volume) calls }
-    ensures opens { IfOk result (OpensStored (seen_volume V.told V.faults V.capacities)
-        (seen_volume V.told V.faults V.capacities volume) operator) }
-    ensures older { IfOk result (λ desk. desk.older ≡ trace.items) }
+    ensures opens { IfOk result (λ made. OpensStored (seen_volume V.told V.faults V.capacities)
+        (seen_volume V.told V.faults V.capacities volume) operator made.0) }
+    ensures older { IfOk result (λ made. made.0.older ≡ trace.items) }
+    ensures ring { IfOk result (λ made. made.0.ring ≡ made.1.ring) }
+    ensures received { IfOk result (λ made. made.1.items ≡ []) }
     ensures refused { IfErr result (λ fault. IsRefused
         (seen_volume V.told V.faults V.capacities volume)
         (seen_volume V.told V.faults V.capacities fault.volume) fault.cause) }

@@ -27,6 +27,7 @@ ghost use Rattle.rg_run.specs.Table.{AreFlushes, AreOpenings, Ends, IsLegalRun, 
 use crate::played::{Played, RunEnd};
 use rg_base::no_memory::NoMemory;
 use rg_desk::desk::{Desk, OpenCause, OpenFault};
+use rg_feed::inlet::FeedIn;
 use rg_outside::counted::{Counted, Counts};
 use rg_outside::operator::Operator;
 use rg_outside::volume::Volume;
@@ -80,7 +81,7 @@ pub fn run<V: Volume, O: Operator>(
         (O.answers result.operator) }
 {
     match open_desk(alloc, Counted::new(volume), operator, Vec::new(alloc), 0) {
-        Ok(desk) => play(alloc, desk, lines).uncounted(),
+        Ok((desk, inlet)) => play(alloc, desk, inlet, lines).uncounted(),
         Err(fault) => refused(fault).uncounted(),
     }
 }
@@ -160,15 +161,18 @@ fn close<V: Counts, O: Operator>(desk: Desk<V, O>, end: RunEnd) -> Played<V, O>
 }
 
 // The table is opened again, after the process died. Its entries go before those of the opening.
+// What it sends is received at another end from then on.
 fn reopen<V: Counts, O: Operator>(
     alloc: Global,
     desk: Desk<V, O>,
+    inlet: &mut FeedIn,
 ) -> Result<Desk<V, O>, Played<V, O>>
     ensures goes { IfOk result (λ next. (first : DeskState V O) (lines : List Line)
         → Going (seen_volume V.told V.faults V.capacities) O.answers first lines desk
         → Going (seen_volume V.told V.faults V.capacities) O.answers first
         (lines ++ Line.Death ∷ []) next) }
     ensures kept { IfOk result (λ next. next.kept ≡ None) }
+    ensures ring { IfOk result (λ next. next.ring ≡ inlet.new.ring) }
     ensures ends { IfErr result (λ played. (first : DeskState V O) (lines rest : List Line)
         → Going (seen_volume V.told V.faults V.capacities) O.answers first lines desk
         → IsRun (seen_volume V.told V.faults V.capacities) O.answers first
@@ -177,24 +181,33 @@ fn reopen<V: Counts, O: Operator>(
 {
     let (volume, operator, trace, calls) = desk.into_parts();
     match open_desk(alloc, volume, operator, trace, calls) {
-        Ok(desk) => Ok(desk),
+        Ok((desk, opened)) => {
+            *inlet = opened;
+            Ok(desk)
+        }
         Err(fault) => Err(refused(fault)),
     }
 }
 
 // Plays the lines over a table that was opened.
-fn play<V: Counts, O: Operator>(alloc: Global, desk: Desk<V, O>, lines: Vec<Line>) -> Played<V, O>
+fn play<V: Counts, O: Operator>(
+    alloc: Global,
+    desk: Desk<V, O>,
+    inlet: FeedIn,
+    lines: Vec<Line>,
+) -> Played<V, O>
     requires lines { AllByRecursion IsPlayed lines.items }
     requires kept { desk.kept ≡ None }
+    requires ring { desk.ring ≡ inlet.ring }
     requires going { Going (seen_volume V.told V.faults V.capacities) O.answers desk [] desk }
     ensures { IsRun (seen_volume V.told V.faults V.capacities) O.answers desk lines.items
         (seen_volume V.told V.faults V.capacities result.volume)
         result.operator result.trace.items result.end }
 {
-    let mut desk = desk;
+    let (mut desk, mut inlet) = (desk, inlet);
     let mut reorg = Reorg::new();
     for line in lines {
-        desk = match play_line(alloc, desk, &mut reorg, line) {
+        desk = match play_line(alloc, desk, &mut inlet, &mut reorg, line) {
             Ok(next) => next,
             Err(played) => return played,
         };
@@ -211,16 +224,19 @@ fn play<V: Counts, O: Operator>(alloc: Global, desk: Desk<V, O>, lines: Vec<Line
 fn play_line<V: Counts, O: Operator>(
     alloc: Global,
     desk: Desk<V, O>,
+    inlet: &mut FeedIn,
     reorg: &mut Reorg,
     line: Line,
 ) -> Result<Desk<V, O>, Played<V, O>>
     requires line { IsPlayed line }
     requires kept { desk.kept ≡ None }
+    requires ring { desk.ring ≡ inlet.old.ring }
     ensures goes { IfOk result (λ next. (first : DeskState V O) (lines : List Line)
         → Going (seen_volume V.told V.faults V.capacities) O.answers first lines desk
         → Going (seen_volume V.told V.faults V.capacities) O.answers first
         (lines ++ line ∷ []) next) }
     ensures kept { IfOk result (λ next. next.kept ≡ None) }
+    ensures ring { IfOk result (λ next. next.ring ≡ inlet.new.ring) }
     ensures ends { IfErr result (λ played. (first : DeskState V O) (lines rest : List Line)
         → Going (seen_volume V.told V.faults V.capacities) O.answers first lines desk
         → IsRun (seen_volume V.told V.faults V.capacities) O.answers first (lines ++ line ∷ rest)
@@ -240,7 +256,7 @@ fn play_line<V: Counts, O: Operator>(
             }
             Err(_) => Err(close(desk, RunEnd::NoMemory)),
         },
-        Line::Step => match reorg.step(alloc, &mut desk) {
+        Line::Step => match reorg.step(alloc, &mut desk, inlet) {
             Ok(()) => Ok(desk),
             Err(_) => Err(close(desk, RunEnd::NoMemory)),
         },
@@ -254,7 +270,7 @@ fn play_line<V: Counts, O: Operator>(
         },
         Line::Death => {
             reorg.begin_anew(true);
-            reopen(alloc, desk)
+            reopen(alloc, desk, inlet)
         }
     }
 }

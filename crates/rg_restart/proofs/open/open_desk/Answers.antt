@@ -23,8 +23,8 @@ returns-in-Ok-clause-opens g c =
     let volume = c.look.new.volume in
     let operator = c.args.operator in
     ok_both c.new.result
-    (Opens look volume operator found.log found.copy (capacity_in found.space) (space_pages found.space))
-    (λ desk. desk.contents ≡ (list_seen (frames_of found.space)).pages)
-    (OpensStored look (look c.args.volume) operator)
-    (λ desk opens contents. opens_stored look (look c.args.volume) volume operator found desk c.in-Ok.ensures.looks opens contents)
+    (λ made. Opens look volume operator found.log found.copy (capacity_in found.space) (space_pages found.space) made.0)
+    (λ made. made.0.contents ≡ (list_seen (frames_of found.space)).pages)
+    (λ made. OpensStored look (look c.args.volume) operator made.0)
+    (λ made opens contents. opens_stored look (look c.args.volume) volume operator found made.0 c.in-Ok.ensures.looks opens contents)
     c.new.ensures.opens c.new.ensures.contents

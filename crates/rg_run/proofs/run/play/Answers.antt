@@ -20,6 +20,7 @@ loop-line-preserved g c =
       rest = append_assoc c.loop-line.yielded (c.in-Some.line ∷ []) _ ∙ ap (λ rest. c.loop-line.yielded ++ rest) (sym steps.0) ∙ c.loop-line.invariant.rest;
       left = one_fewer _ _ c.in-Some.line _ _ steps.1 c.loop-line.invariant.left steps.0;
       kept = c.in-Ok.ensures.kept;
+      ring = c.in-Ok.ensures.ring;
       lines = (subst (AllByRecursion IsPlayed) steps.0 c.loop-line.invariant.lines).1;
     }
 

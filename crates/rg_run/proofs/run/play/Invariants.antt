@@ -13,5 +13,6 @@ invariant-loop-line g l =
       rest : l.yielded ++ into_iter_items l.line-iterator ≡ l.fn.lines.items;
       left : into_iter_len l.line-iterator ≡ length (into_iter_items l.line-iterator);
       kept : l.desk.kept ≡ None;
+      ring : l.desk.ring ≡ l.inlet.ring;
       lines : AllByRecursion IsPlayed (into_iter_items l.line-iterator);
     }

@@ -1,4 +1,4 @@
-use Rattle.std.proofs.Common.{◌≡◌, ◌+◌, List, [], ◌∷◌, ◌++◌, Option, None, refl, sym, ◌∙◌, ap, subst}
+use Rattle.std.proofs.Common.{◌≡◌, ◌+◌, List, [], ◌∷◌, ◌++◌, Option, None, refl, sym, ◌∙◌, ap, subst, append-nil}
 use Rattle.rg_model.specs.Claims.{least_holder}
 use Rattle.rg_stmt.specs.declared.event.Entry.{Entry}
 use Rattle.rg_tending.specs.Tending.{FollowsBy, aside_for, utility_entry}
@@ -11,6 +11,8 @@ use Rattle.rg_desk.proofs.DeskUtility.{idle_follows, idle_on}
 use Rattle.rg_desk.specs.declared.prepared.Prepared.{Prepared}
 use Rattle.rg_desk.proofs.Flushing.{own_same}
 use Rattle.rg_desk.proofs.Preparing.{prepared_while, seen_while}
+use Rattle.rg_feed.specs.Ends.{sent_items}
+use Rattle.rg_desk.proofs.Feeding.{idle_items}
 use Rattle.rg_desk.proofs.desk.Desk.book_refused.Goals as goal
 
 pub invariant_of-self : goal.invariant_of-self
@@ -27,6 +29,8 @@ invariant_of-self g c =
       on.1,
       subst (λ (o : Option Prepared). KeepsPrepared o inside.engine.log.records inside.copy (look inside.volume)) (sym c.keep_while_running.ensures)
           (prepared_while inside.stage inside.shadow inside.engine.log.records inside.copy (look inside.volume) c.self.invariant.2),
+      idle_items inside.engine inside.chronicle.trace inside.down inside.stage inside.changes.since (least_holder inside.engine.claims.drain inside.engine.claims.claims) c.args.event c.calls_now-calls.result inside.changes (sent_items inside.outlet)
+          c.self.invariant.3 next c.push.new.self.trace (c.push.ensures.trace ∙ ap (λ (e : Entry). inside.chronicle.trace ++ e ∷ []) c.utility.ensures),
     )
 
 pub returns : goal.returns
@@ -47,6 +51,7 @@ returns g c =
           subst (λ d. FollowsBy d.down d.stage d.changes d.covered None event inside.stage) c.self.view_is
           (idle_follows inside.down inside.stage inside.changes.since (least_holder inside.engine.claims.drain inside.engine.claims.claims) event);
       changes = ap (λ d. d.changes) c.self.view_is;
+      feed = ap (λ d. d.feed) c.self.view_is ∙ sym (append-nil c.args.self.now.feed);
       kept = ap (λ d. d.kept) c.self.view_is ∙ c.requires.kept;
       shadow = ap prepared_seen c.keep_while_running.ensures ∙ seen_while inside.stage inside.shadow ∙ ap (λ d. while_running inside.stage d.shadow) c.self.view_is;
       operator = ap (λ d. d.operator) c.self.view_is;
@@ -65,6 +70,7 @@ returns g c =
         first_copy = ap (λ d. d.first_copy) c.self.view_is;
         old_same = ap (λ d. old_records d) c.self.view_is;
         copy = ap (λ d. d.copy) c.self.view_is;
+        ring = ap (λ d. d.ring) c.self.view_is;
         calls = subst (λ d. CallsOwn d.copy (look d.volume) (look inside.volume)) c.self.view_is (own_same inside.copy (look inside.volume));
       };
     }

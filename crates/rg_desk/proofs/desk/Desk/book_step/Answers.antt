@@ -1,4 +1,4 @@
-use Rattle.std.proofs.Common.{◌≡◌, ◌+◌, ℕ, Bool, false, List, [], ◌∷◌, ◌++◌, Option, Some, take, refl, sym, ◌∙◌, ap, subst}
+use Rattle.std.proofs.Common.{◌≡◌, ◌+◌, ℕ, Bool, false, List, [], ◌∷◌, ◌++◌, Option, Some, take, refl, sym, ◌∙◌, ap, subst, append-nil}
 use Rattle.rg_fold.specs.declared.item.Stage.{Stage}
 use Rattle.rg_log.specs.Kept.{Listed}
 use Rattle.rg_model.specs.Claims.{least_holder}
@@ -13,10 +13,13 @@ use Rattle.rg_desk.specs.Prepared.{KeepsPrepared, prepared_seen}
 use Rattle.rg_desk.specs.Room.{Ground}
 use Rattle.rg_desk.specs.Utility.{StepsOn}
 use Rattle.rg_desk.specs.Volume.{seen_volume}
-use Rattle.rg_desk.proofs.DeskUtility.{ground_same, step_on}
+use Rattle.rg_desk.proofs.DeskUtility.{booked_logged, ground_same, step_on}
 use Rattle.rg_desk.specs.declared.prepared.Prepared.{Prepared}
 use Rattle.rg_desk.proofs.Flushing.{own_same}
 use Rattle.rg_desk.proofs.Preparing.{prepared_same, prepared_while, seen_while}
+use Rattle.rg_feed.specs.Ends.{sent_items}
+use Rattle.rg_desk.specs.Sends.{KeepsItems}
+use Rattle.rg_desk.proofs.Feeding.{booked_items}
 use Rattle.rg_desk.proofs.desk.Desk.book_step.Goals as goal
 
 pub step_utility-self-inside-requires-clause-shown : goal.step_utility-self-inside-requires-clause-shown
@@ -37,11 +40,12 @@ invariant_of-self g c =
     let stage_is : inside.stage ≡ Some s = ap (λ d. d.stage) c.self.view_is ∙ c.requires.stage in
     let after = c.step_utility-self-inside.new.self in
     let next = c.step_utility-self-inside.result in
+    let by = subst (λ d. NextBy false (Some s) d.changes d.covered (Some c.args.answer) c.args.event) (sym c.self.view_is) c.requires.next in
     let on = step_on inside.engine inside.chronicle inside.origin inside.copy inside.marks.items seen
     (subst (λ (b : Bool). IsDesk inside.engine inside.chronicle inside.origin inside.copy b inside.marks.items seen) up c.self.invariant.0)
     s inside.changes (subst (λ (o : Option Stage). Tends inside.chronicle.trace o inside.changes inside.engine.set_aside) stage_is c.self.invariant.1)
     c.args.answer c.args.event next after
-    (subst (λ d. NextBy false (Some s) d.changes d.covered (Some c.args.answer) c.args.event) (sym c.self.view_is) c.requires.next)
+    by.1 (λ n. booked_logged c.args.event n by.0)
     (subst (λ (n : ℕ). StepsOn inside.engine s n c.args.answer c.args.event next after) c.since.ensures c.step_utility-self-inside.ensures)
     c.calls_now-calls.result c.push.new.self
     (c.push.ensures.trace ∙ ap (λ (e : Entry). inside.chronicle.trace ++ e ∷ []) c.utility.ensures)
@@ -51,7 +55,17 @@ invariant_of-self g c =
     subst (λ (o : Option Prepared). KeepsPrepared o after.log.records inside.copy seen) (sym c.keep_while_running.ensures)
     (prepared_while next inside.shadow after.log.records inside.copy seen
     (prepared_same inside.shadow inside.engine.log.records after.log.records inside.copy seen (ap (λ (l : Listed). l.records) c.step_utility-self-inside.ensures.engine.log) c.self.invariant.2)) in
-    (subst (λ (b : Bool). IsDesk after c.push.new.self inside.origin inside.copy b inside.marks.items seen) (sym up) on.0, on.1, kept)
+    let covered = least_holder inside.engine.claims.drain inside.engine.claims.claims in
+    let steps = subst (λ (n : ℕ). StepsOn inside.engine s n c.args.answer c.args.event next after) c.since.ensures c.step_utility-self-inside.ensures in
+    let had = subst (λ (b : Bool). KeepsItems inside.engine inside.chronicle.trace b (Some s) inside.changes (sent_items inside.outlet)) up
+    (subst (λ (o : Option Stage). KeepsItems inside.engine inside.chronicle.trace inside.down o inside.changes (sent_items inside.outlet)) stage_is c.self.invariant.3) in (
+      subst (λ (b : Bool). IsDesk after c.push.new.self inside.origin inside.copy b inside.marks.items seen) (sym up) on.0,
+      on.1,
+      kept,
+      subst (λ (b : Bool). KeepsItems after c.push.new.self.trace b next inside.changes (sent_items inside.outlet)) (sym up)
+          (booked_items inside.engine after inside.chronicle.trace s next c.args.answer c.args.event covered c.calls_now-calls.result inside.changes (sent_items inside.outlet) had steps by
+          c.push.new.self.trace (c.push.ensures.trace ∙ ap (λ (e : Entry). inside.chronicle.trace ++ e ∷ []) c.utility.ensures)),
+    )
 
 pub returns : goal.returns
 returns g c =
@@ -82,6 +96,7 @@ returns g c =
           (subst (λ (b : Bool). FollowsBy b inside.stage inside.changes.since covered (Some answer) event next) (sym up)
           (subst (λ (o : Option Stage). FollowsBy false o inside.changes.since covered (Some answer) event next) (sym stage_is) follows));
       changes = ap (λ d. d.changes) c.self.view_is;
+      feed = ap (λ d. d.feed) c.self.view_is ∙ sym (append-nil c.args.self.now.feed);
       kept = refl;
       shadow = ap prepared_seen c.keep_while_running.ensures ∙ seen_while next inside.shadow ∙ ap (λ d. while_running next d.shadow) c.self.view_is;
       operator = ap (λ d. d.operator) c.self.view_is;
@@ -101,6 +116,7 @@ returns g c =
         first_copy = ap (λ d. d.first_copy) c.self.view_is;
         old_same = ap (take inside.origin.records) records ∙ ap (λ d. old_records d) c.self.view_is;
         copy = ap (λ d. d.copy) c.self.view_is;
+        ring = ap (λ d. d.ring) c.self.view_is;
         calls = subst (λ d. CallsOwn d.copy (look d.volume) (look inside.volume)) c.self.view_is (own_same inside.copy (look inside.volume));
       };
     }

@@ -22,6 +22,9 @@ use Rattle.rg_desk.specs.declared.engine.Engine.{Engine}
 use Rattle.rg_desk.specs.declared.prepared.Prepared.{Prepared}
 use Rattle.rg_desk.proofs.Committing.{by_result, fallen_goes, has_stage, old_on, sound_on, stage_of, switched_goes}
 use Rattle.rg_desk.proofs.DeskGoes.{calls_on}
+use Rattle.rg_feed.specs.Ends.{sent_items}
+use Rattle.rg_desk.specs.Sends.{KeepsItems}
+use Rattle.rg_desk.proofs.Feeding.{switched_items, turns_more, turns_units}
 use Rattle.rg_desk.proofs.desk.Desk.commit_switch.Goals as goal
 
 pub turn-turned-requires-clause-keys : goal.turn-turned-requires-clause-keys
@@ -87,6 +90,14 @@ invariant_of-self g c =
     let at = c.push.ensures.calls ∙ ap (λ (e : Entry). e.calls) c.utility.ensures in
     let trace = c.push.ensures.trace ∙ ap (λ (e : Entry). inside.chronicle.trace ++ e ∷ []) c.utility.ensures in
     let after = look c.turn-turned.new.volume in
+    let had = subst (λ (b : Bool). KeepsItems inside.engine inside.chronicle.trace b (Some s) inside.changes (sent_items inside.outlet)) up
+    (subst (λ (o : Option Stage). KeepsItems inside.engine inside.chronicle.trace inside.down o inside.changes (sent_items inside.outlet)) c.in-Some-Some.is-0 c.self.invariant.3) in
+    let followed = has_stage inside.engine inside.chronicle inside.origin inside.copy inside.marks.items seen desk s inside.changes tends c.args.answer c.args.sides p is
+    g.row.V.Denot g.row.O.Denot c.args.self.now c.requires.can stage_is kept_is
+    (sym (ap (λ d. d.ground.log.records) c.self.view_is)) (sym (ap (λ d. d.ground.pages) c.self.view_is)) (sym (ap (λ d. d.trace) c.self.view_is))
+    c.turn-turned.ensures.shade c.turn-turned.ensures.grant
+    calls after c.push.new.self at c.calls_now-calls.ensures.counted c.push.ensures.recorded
+    c.since.result c.other_of-copy.result c.next_stage-self-inside.result c.next_stage-self-inside.ensures.followed in
     let on = switched_goes inside.engine inside.chronicle inside.origin inside.copy inside.marks.items seen desk s inside.changes tends c.args.answer c.args.sides p is
     g.row.V.Denot g.row.O.Denot c.args.self.now c.requires.can stage_is kept_is
     (sym (ap (λ d. d.ground.log.records) c.self.view_is)) (sym (ap (λ d. d.ground.pages) c.self.view_is)) (sym (ap (λ d. d.trace) c.self.view_is))
@@ -97,6 +108,9 @@ invariant_of-self g c =
       subst (λ (b : Bool). IsDesk c.turn-turned.new.engine c.push.new.self inside.origin c.other_of-copy.result b p.marks.items after) (sym up) on.0,
       on.1,
       subst (λ (o : Option Prepared). KeepsPrepared o c.turn-turned.new.engine.log.records c.other_of-copy.result after) (sym c.take.ensures.after) tt,
+      subst (λ (b : Bool). KeepsItems c.turn-turned.new.engine c.push.new.self.trace b c.next_stage-self-inside.result inside.changes (sent_items inside.outlet)) (sym up)
+          (switched_items inside.engine c.turn-turned.new.engine inside.chronicle.trace c.push.new.self.trace s c.next_stage-self-inside.result c.other_of-copy.result c.args.sides c.args.answer.command inside.changes (sent_items inside.outlet) had
+          followed (turns_more c.other_of-copy.result p.shadow seen after inside.engine c.turn-turned.new.engine c.in-Ok.ensures.ok) (turns_units c.other_of-copy.result p.shadow seen after inside.engine c.turn-turned.new.engine c.in-Ok.ensures.ok)),
     )
 
 pub invariant_of-self-in-Err-1 : goal.invariant_of-self-in-Err-1
@@ -123,7 +137,7 @@ invariant_of-self-in-Err-1 g c =
     c.turn-turned.ensures.shade c.turn-turned.ensures.grant
     calls after c.push-in-Err.new.self at c.calls_now-calls.ensures.counted c.push-in-Err.ensures.recorded
     c.other_of-copy.result c.other_of-copy.ensures.is c.turn-turned.new.engine c.in-Err.ensures.err trace in
-    (on.0, on.1, subst (λ (o : Option Prepared). KeepsPrepared o c.turn-turned.new.engine.log.records inside.copy after) (sym c.take.ensures.after) tt)
+    (on.0, on.1, subst (λ (o : Option Prepared). KeepsPrepared o c.turn-turned.new.engine.log.records inside.copy after) (sym c.take.ensures.after) tt, λ now. absurd (cc (now)))
 
 pub returns-in-Ok-clause-ok : goal.returns-in-Ok-clause-ok
 returns-in-Ok-clause-ok g c =
@@ -187,6 +201,8 @@ returns-in-Ok-clause-ok g c =
         first_copy = ap (λ d. d.first_copy) c.self.view_is;
         old_same = old ∙ ap (λ d. old_records d) c.self.view_is;
         changes = ap (λ d. d.changes) c.self.view_is;
+        ring = ap (λ d. d.ring) c.self.view_is;
+        feed = ap (λ d. d.feed) c.self.view_is;
         kept = refl;
         shadow = ap prepared_seen c.take.ensures.after;
         operator = ap (λ d. d.operator) c.self.view_is;
@@ -242,6 +258,8 @@ returns-in-Err-clause-err g c =
         first_copy = ap (λ d. d.first_copy) c.self.view_is;
         old_same = old ∙ ap (λ d. old_records d) c.self.view_is;
         changes = ap (λ d. d.changes) c.self.view_is;
+        ring = ap (λ d. d.ring) c.self.view_is;
+        feed = ap (λ d. d.feed) c.self.view_is;
         kept = refl;
         shadow = ap prepared_seen c.take.ensures.after;
         operator = ap (λ d. d.operator) c.self.view_is;

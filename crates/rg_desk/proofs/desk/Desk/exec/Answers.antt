@@ -1,4 +1,4 @@
-use Rattle.std.proofs.Common.{◌≡◌, ◌≤◌, ◌||◌, ℕ, true, false, List, [], ◌∷◌, ◌++◌, length, sym, ◌∙◌, ap, subst}
+use Rattle.std.proofs.Common.{◌≡◌, ◌≤◌, ◌||◌, ℕ, Bool, true, false, List, [], ◌∷◌, ◌++◌, drop, length, sym, ◌∙◌, ap, subst}
 use Rattle.rg_outside.specs.Faults.{Rose}
 use Rattle.rg_stmt.specs.Entries.{said_entry}
 use Rattle.rg_stmt.specs.declared.event.Entry.{Entry}
@@ -18,6 +18,11 @@ use Rattle.rg_desk.proofs.Sounding.{replied_sound}
 use Rattle.rg_tending.specs.Tending.{Tends, behind}
 use Rattle.rg_tending.proofs.Tended.{tends_said}
 use Rattle.rg_desk.proofs.Preparing.{prepared_on, prepared_same}
+use Rattle.rg_feed.specs.Ends.{sent_items}
+use Rattle.rg_changed.specs.Changed.{changes_in}
+use Rattle.rg_sending.specs.Sending.{items_made}
+use Rattle.rg_sent.specs.Keeps.{sent_changes}
+use Rattle.rg_desk.proofs.Feeding.{said_items}
 use Rattle.rg_desk.proofs.desk.Desk.exec.Goals as goal
 
 pub reply_to-reply-requires-clause-shown : goal.reply_to-reply-requires-clause-shown
@@ -29,9 +34,9 @@ invariant_of-self-2 g c =
     let room = desk_room inside.engine inside.chronicle inside.origin inside.copy inside.down _ _ c.self.invariant.0 c.make_room.new.self c.make_room.ensures.trace c.make_room.ensures.calls in
     let entry : Entry = said_entry c.args.session c.args.stmt c.reply_to-reply.result c.calls_now-calls.result in
     let tends = c.self.invariant.1 in
-    let said = replied inside.engine inside.chronicle inside.origin inside.copy inside.down _ _ c.self.invariant.0 c.args.session c.args.stmt c.reply_to-reply.result c.reply_to-reply.new.engine c.reply_to-reply.new.down _ c.reply_to-reply.ensures in
+    let said = replied inside.engine inside.chronicle inside.origin inside.copy inside.down _ _ c.self.invariant.0 c.args.session c.args.stmt c.reply_to-reply.result c.reply_to-reply.new.engine c.reply_to-reply.new.down _ c.reply_to-reply.ensures.replies in
     let trace = c.push.ensures.trace ∙ ap (λ (e : Entry). c.make_room.new.self.trace ++ e ∷ []) c.said.ensures in (
-      desk_replied inside.engine c.make_room.new.self inside.origin inside.copy inside.down _ _ room c.args.session c.args.stmt c.reply_to-reply.result c.calls_now-calls.result c.reply_to-reply.new.engine c.reply_to-reply.new.down _ c.push.new.self c.reply_to-reply.ensures
+      desk_replied inside.engine c.make_room.new.self inside.origin inside.copy inside.down _ _ room c.args.session c.args.stmt c.reply_to-reply.result c.calls_now-calls.result c.reply_to-reply.new.engine c.reply_to-reply.new.down _ c.push.new.self c.reply_to-reply.ensures.replies
           c.records.ensures.entries c.records.ensures.set
           trace
           (c.push.ensures.calls ∙ ap (λ (e : Entry). e.calls) c.said.ensures)
@@ -42,6 +47,11 @@ invariant_of-self-2 g c =
           (c.count.ensures.counted (behind [] inside.chronicle.trace) c.calls_now-calls.result tends.counted) c.count.ensures.later)),
       prepared_same inside.shadow (inside.engine.log.records ++ said.grows.more) _ inside.copy _ said.grows.records
           (prepared_on inside.shadow inside.engine.log.records said.grows.more inside.copy _ _ inside.chronicle.calls (own_calls inside.copy _ _ said.calls).only said.calls.capacities c.self.invariant.0.counted c.self.invariant.2),
+      said_items inside.engine inside.chronicle inside.origin inside.copy inside.down inside.marks.items _ c.self.invariant.0 inside.stage inside.changes c.count.new.self c.args.session c.args.stmt c.reply_to-reply.result c.calls_now-calls.result
+          c.reply_to-reply.new.engine c.reply_to-reply.new.down _ (sent_items inside.outlet) (sent_items c.reply_to-reply.new.outlet) c.requires c.reply_to-reply.ensures.replies c.self.invariant.3 tends.counted
+          (c.count.ensures.counted (behind [] inside.chronicle.trace) c.calls_now-calls.result tends.counted)
+          (λ up. c.reply_to-reply.ensures.sent up ∙ ap (λ (b : Bool). sent_items inside.outlet ++ items_made b (changes_in (drop (length inside.engine.log.records) c.reply_to-reply.new.engine.log.records))) c.is_some-runs.ensures)
+          c.push.new.self.trace (trace ∙ ap (λ (es : List Entry). es ++ entry ∷ []) c.make_room.ensures.trace),
     )
 
 pub returns-clause-made : goal.returns-clause-made
@@ -53,7 +63,7 @@ returns-clause-made g c =
     let volume = c.reply_to-reply.new.volume in
     let calls = c.calls_now-calls.result in
     let look = seen_volume g.V.Volume.told g.V.Volume.faults g.V.Volume.capacities in
-    let said = replied inside.engine inside.chronicle inside.origin inside.copy inside.down _ _ c.self.invariant.0 session stmt reply c.reply_to-reply.new.engine c.reply_to-reply.new.down _ c.reply_to-reply.ensures in
+    let said = replied inside.engine inside.chronicle inside.origin inside.copy inside.down _ _ c.self.invariant.0 session stmt reply c.reply_to-reply.new.engine c.reply_to-reply.new.down _ c.reply_to-reply.ensures.replies in
     let trace = c.make_room.ensures.trace ∙ ap (λ d. d.trace) c.self.view_is in
     record {
       reply = reply;
@@ -75,16 +85,16 @@ returns-clause-made g c =
       log = subst (λ d. SaysLog d.ground session.0 stmt reply) c.self.view_is said.log;
       log_full = subst (λ d. IfLogFull reply (logged_by 0 d.trace) d.ground.log.pages) c.self.view_is said.log_full;
       sound = subst (λ d. SoundThroughout (seen_volume g.V.Volume.told g.V.Volume.faults g.V.Volume.capacities d.volume) (seen_volume g.V.Volume.told g.V.Volume.faults g.V.Volume.capacities volume)) c.self.view_is
-          (replied_sound inside.engine inside.chronicle inside.origin inside.copy inside.down _ _ c.self.invariant.0 session stmt reply c.reply_to-reply.new.engine c.reply_to-reply.new.down _ c.reply_to-reply.ensures c.records.ensures.entries c.records.ensures.set);
+          (replied_sound inside.engine inside.chronicle inside.origin inside.copy inside.down _ _ c.self.invariant.0 session stmt reply c.reply_to-reply.new.engine c.reply_to-reply.new.down _ c.reply_to-reply.ensures.replies c.records.ensures.entries c.records.ensures.set);
       rows = subst (λ d. KeepsRows look d (λ st. StoresDuring (forces d.ground.units session stmt) st session) (look volume)) c.self.view_is
           (record {
             start = c.self.invariant.0.start;
             starts = c.self.invariant.0.starts;
             last = c.self.invariant.0.state;
             run = c.self.invariant.0.run;
-            stored = replied_rows inside.engine inside.chronicle inside.origin inside.copy inside.down _ _ c.self.invariant.0 session stmt reply c.reply_to-reply.new.engine c.reply_to-reply.new.down _ c.reply_to-reply.ensures c.records.ensures.entries c.records.ensures.set;
+            stored = replied_rows inside.engine inside.chronicle inside.origin inside.copy inside.down _ _ c.self.invariant.0 session stmt reply c.reply_to-reply.new.engine c.reply_to-reply.new.down _ c.reply_to-reply.ensures.replies c.records.ensures.entries c.records.ensures.set;
           });
-      utility = record { stage = ap (λ d. d.stage) c.self.view_is; kept = ap (λ d. d.kept) c.self.view_is; shadow = ap (λ d. d.shadow) c.self.view_is; operator = ap (λ d. d.operator) c.self.view_is };
+      utility = record { stage = ap (λ d. d.stage) c.self.view_is; kept = ap (λ d. d.kept) c.self.view_is; shadow = ap (λ d. d.shadow) c.self.view_is; operator = ap (λ d. d.operator) c.self.view_is; feed = (c.reply_to-reply.ensures.adds.0, c.reply_to-reply.ensures.adds.1 ∙ ap (λ d. d.feed ++ sent_changes c.reply_to-reply.ensures.adds.0) c.self.view_is) };
       later = subst (λ d. d.changes ≤ c.count.new.self.since) c.self.view_is c.count.ensures.later;
       stays = record {
         older = c.push.ensures.older ∙ c.make_room.ensures.older ∙ ap (λ d. d.older) c.self.view_is;
@@ -94,6 +104,7 @@ returns-clause-made g c =
         first_copy = ap (λ d. d.first_copy) c.self.view_is;
         old_same = old_same inside.engine inside.chronicle inside.origin inside.copy inside.down _ _ c.self.invariant.0 c.reply_to-reply.new.engine said.grows ∙ ap (λ d. old_records d) c.self.view_is;
         copy = ap (λ d. d.copy) c.self.view_is;
+        ring = c.reply_to-reply.ensures.ring ∙ ap (λ d. d.ring) c.self.view_is;
         calls = subst (λ d. CallsOwn d.copy (seen_volume g.V.Volume.told g.V.Volume.faults g.V.Volume.capacities d.volume) (seen_volume g.V.Volume.told g.V.Volume.faults g.V.Volume.capacities volume)) c.self.view_is (own_calls inside.copy _ _ said.calls);
       };
     }

@@ -15,6 +15,9 @@ use Rattle.rg_tending.specs.Tending.{Tends}
 use Rattle.rg_tending.proofs.Tended.{tends_system}
 use Rattle.rg_desk.proofs.DeskUtility.{flush_system}
 use Rattle.rg_desk.proofs.Preparing.{prepared_on, prepared_same}
+use Rattle.rg_feed.specs.Ends.{sent_items}
+use Rattle.rg_page.specs.Content.{slots_of}
+use Rattle.rg_desk.proofs.Feeding.{passed, stays_copied, system_other}
 use Rattle.rg_desk.proofs.desk.Desk.flush_one.Goals as goal
 
 pub invariant_of-self-2 : goal.invariant_of-self-2
@@ -37,6 +40,10 @@ invariant_of-self-2 g c =
           (flush_system inside.down inside.copy _ inside.marks.items c.tell_flush-event.new.marks.items (look inside.volume) (look c.tell_flush-event.new.volume) event told.is) c.self.invariant.1)),
       prepared_same inside.shadow (inside.engine.log.records ++ []) _ inside.copy _ (ap (λ (l : Listed). l.records) told.log ∙ sym (append-nil inside.engine.log.records))
           (prepared_on inside.shadow inside.engine.log.records [] inside.copy _ _ inside.chronicle.calls told.calls.only told.calls.capacities c.self.invariant.0.counted c.self.invariant.2),
+      passed inside.engine c.tell_flush-event.new.engine inside.chronicle.trace entry inside.down inside.stage inside.stage inside.changes (sent_items inside.outlet) c.self.invariant.3
+          (λ up. record { slots = ap slots_of told.contents; records = ap (λ (l : Listed). l.records) told.log; units = told.units }) (stays_copied inside.stage)
+          (system_other event (flush_system inside.down inside.copy _ inside.marks.items c.tell_flush-event.new.marks.items (look inside.volume) (look c.tell_flush-event.new.volume) event told.is))
+          c.push.new.self.trace (trace ∙ ap (λ (es : List Entry). es ++ entry ∷ []) c.make_room.ensures.trace),
     )
 
 pub returns-clause-made : goal.returns-clause-made
@@ -74,7 +81,7 @@ returns-clause-made g c =
             run = c.self.invariant.0.run;
             stored = flushed_rows inside.engine inside.chronicle inside.origin inside.copy inside.down inside.marks.items marks (look inside.volume) after c.self.invariant.0 event next c.tell_flush-event.ensures c.records.ensures.entries c.records.ensures.set;
           });
-      utility = record { stage = ap (λ d. d.stage) c.self.view_is; kept = ap (λ d. d.kept) c.self.view_is; shadow = ap (λ d. d.shadow) c.self.view_is; operator = ap (λ d. d.operator) c.self.view_is };
+      utility = record { stage = ap (λ d. d.stage) c.self.view_is; kept = ap (λ d. d.kept) c.self.view_is; shadow = ap (λ d. d.shadow) c.self.view_is; operator = ap (λ d. d.operator) c.self.view_is; feed = ([], ap (λ d. d.feed) c.self.view_is ∙ sym (append-nil c.args.self.now.feed)) };
       changes = ap (λ d. d.changes) c.self.view_is;
       stays = record {
         older = c.push.ensures.older ∙ c.make_room.ensures.older ∙ ap (λ d. d.older) c.self.view_is;
@@ -84,6 +91,7 @@ returns-clause-made g c =
         first_copy = ap (λ d. d.first_copy) c.self.view_is;
         old_same = ap (take inside.origin.records) records ∙ ap (λ d. old_records d) c.self.view_is;
         copy = ap (λ d. d.copy) c.self.view_is;
+        ring = ap (λ d. d.ring) c.self.view_is;
         calls = subst (λ d. CallsOwn d.copy (look d.volume) after) c.self.view_is told.calls;
       };
     }

@@ -24,10 +24,12 @@ use Rattle.rg_stmt.specs.declared.event.Entry.{Entry}
 use Rattle.rg_tally.specs.Changed.{ChangeCount, no_changes}
 use Rattle.rg_tending.specs.Tending.{Tends}
 use Rattle.rg_tending.proofs.Tended.{tends_opened}
+use Rattle.rg_feed.specs.Ends.{sent_items}
+use Rattle.rg_desk.proofs.Feeding.{opened_items}
 use Rattle.rg_desk.proofs.desk.Desk.new.Goals as goal
 
-pub invariant_of-result : goal.invariant_of-result
-invariant_of-result g c =
+pub invariant_of-desk : goal.invariant_of-desk
+invariant_of-desk g c =
     let b = c.in-Ok.ensures.begun in
     let found = c.args.found in
     let seen = seen_volume g.V.Volume.told g.V.Volume.faults g.V.Volume.capacities c.args.volume in (
@@ -51,6 +53,7 @@ invariant_of-result g c =
           (subst (λ (n : ℕ). Tends (opened_entry found.copy (row_count b.start) (length (space_pages found.space)) (log_bytes found.log.records) c.calls_now-now.result ∷ []) None no_changes n) (sym b.set_aside)
           (tends_opened found.copy (row_count b.start) (length (space_pages found.space)) (log_bytes found.log.records) c.calls_now-now.result))),
       tt,
+      opened_items found c.calls_now-now.result c.in-Ok.engine c.begin.new.chronicle c.in-Ok.changes (sent_items c.in-Ok.outlet) b c.in-Ok.ensures.changes c.in-Ok.ensures.sent,
     )
 
 pub returns-in-Ok-clause-opens : goal.returns-in-Ok-clause-opens
@@ -75,6 +78,7 @@ returns-in-Ok-clause-opens g c =
       changes = ap (λ (count : ChangeCount). count.since) c.in-Ok.ensures.changes;
       kept = refl;
       shadow = refl;
+      feed = c.in-Ok.ensures.sent;
     }
 
 pub returns-in-Ok-clause-contents : goal.returns-in-Ok-clause-contents

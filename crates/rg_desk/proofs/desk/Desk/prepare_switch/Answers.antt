@@ -11,7 +11,7 @@ use Rattle.rg_switch.specs.Switched.{other_of}
 use Rattle.rg_tending.specs.Tending.{Tends}
 use Rattle.rg_written.specs.Stamped.{stamped_all}
 use Rattle.rg_desk.specs.Desk.{DeskState, IsDesk, written_seen}
-use Rattle.rg_desk.specs.Engine.{ground_of, seen_in}
+use Rattle.rg_desk.specs.Engine.{ground_of, seen_in, slots_in}
 use Rattle.rg_desk.specs.Flushed.{CallsOwn}
 use Rattle.rg_desk.specs.OnVolume.{SoundThroughout}
 use Rattle.rg_desk.specs.Room.{Ground}
@@ -22,6 +22,8 @@ use Rattle.rg_desk.specs.declared.engine.Engine.{Engine}
 use Rattle.rg_desk.specs.declared.prepared.Prepared.{Prepared}
 use Rattle.rg_desk.proofs.DeskUtility.{state_shows}
 use Rattle.rg_desk.proofs.WrittenCopy.{claims_are, desk_writes, is_prepared, writes_capacities, writes_later, writes_only, writes_sound}
+use Rattle.rg_feed.specs.Ends.{sent_items}
+use Rattle.rg_desk.proofs.Feeding.{same_items}
 use Rattle.rg_desk.proofs.desk.Desk.prepare_switch.Goals as goal
 
 pub invariant_of-self : goal.invariant_of-self
@@ -47,8 +49,13 @@ invariant_of-self g c =
     (subst (λ d. shade.capacity ≡ copy_capacity (look d.volume).capacities (other_of d.copy)) (sym c.self.view_is) can.other.capacity) can.other.built
     (subst (λ d. (t : ℕ → Option Row) → IsTable (row_at (slot_of d.ground.pages)) t → IsTable (row_at (slot_of (shade_slots shade))) t) (sym c.self.view_is) can.rows)
     c.prepare.ensures.grant can.drained.granted granted (claims_are inside.engine inside.chronicle inside.origin inside.copy inside.marks.items seen desk next) written.wrote c.in-Ok.prepared.marks.items written.marks
-    c.in-Ok.prepared written.shadow written.records refl in
-    (subst (λ (b : Bool). IsDesk next inside.chronicle inside.origin inside.copy b inside.marks.items now) (sym up) on, tends, subst (λ (o : Option Prepared). KeepsPrepared o next.log.records inside.copy now) (sym c.keep.ensures) kept)
+    c.in-Ok.prepared written.shadow written.records refl in (
+      subst (λ (b : Bool). IsDesk next inside.chronicle inside.origin inside.copy b inside.marks.items now) (sym up) on,
+      tends,
+      subst (λ (o : Option Prepared). KeepsPrepared o next.log.records inside.copy now) (sym c.keep.ensures) kept,
+      same_items inside.engine next inside.chronicle.trace inside.down inside.stage inside.changes (sent_items inside.outlet)
+          (record { slots = ap (λ (x : Engine). slots_in x) w.forces.same; records = ap (λ (x : Engine). x.log.records) w.forces.same; units = ap (λ (x : Engine). x.units) w.forces.same }) c.self.invariant.3,
+    )
 
 pub invariant_of-self-in-Err : goal.invariant_of-self-in-Err
 invariant_of-self-in-Err g c =
@@ -63,8 +70,13 @@ invariant_of-self-in-Err g c =
     let copy_is : shade.copy ≡ other_of inside.copy = c.requires.can.other.copy ∙ ap (λ d. other_of d.copy) (sym c.self.view_is) in
     let w = subst (λ (n : ℕ). WritesShadow n (stamped_all (length inside.engine.log.records) shade.pages) seen now inside.engine next) c.other_of-copy.ensures.is c.in-Err.ensures.err in
     let on = desk_writes inside.engine inside.chronicle inside.origin inside.copy inside.marks.items seen desk next shade copy_is c.prepare.ensures.numbered c.prepare.ensures.of_copy now w in
-    let tends = subst (λ (n : ℕ). Tends inside.chronicle.trace inside.stage inside.changes n) (sym (ap (λ (x : Engine). x.set_aside) w.forces.same)) c.self.invariant.1 in
-    (subst (λ (b : Bool). IsDesk next inside.chronicle inside.origin inside.copy b inside.marks.items now) (sym up) on, tends, subst (λ (o : Option Prepared). KeepsPrepared o next.log.records inside.copy now) (sym c.forget.ensures) tt)
+    let tends = subst (λ (n : ℕ). Tends inside.chronicle.trace inside.stage inside.changes n) (sym (ap (λ (x : Engine). x.set_aside) w.forces.same)) c.self.invariant.1 in (
+      subst (λ (b : Bool). IsDesk next inside.chronicle inside.origin inside.copy b inside.marks.items now) (sym up) on,
+      tends,
+      subst (λ (o : Option Prepared). KeepsPrepared o next.log.records inside.copy now) (sym c.forget.ensures) tt,
+      same_items inside.engine next inside.chronicle.trace inside.down inside.stage inside.changes (sent_items inside.outlet)
+          (record { slots = ap (λ (x : Engine). slots_in x) w.forces.same; records = ap (λ (x : Engine). x.log.records) w.forces.same; units = ap (λ (x : Engine). x.units) w.forces.same }) c.self.invariant.3,
+    )
 
 pub returns-in-Ok-clause-ok : goal.returns-in-Ok-clause-ok
 returns-in-Ok-clause-ok g c =
@@ -99,6 +111,8 @@ returns-in-Ok-clause-ok g c =
       changes = inside.changes.since;
       kept = inside.kept;
       shadow = shadow;
+      ring = inside.outlet.ring;
+      feed = sent_items inside.outlet;
       spare = inside.chronicle.spare;
       covered = least_holder x.claims.drain x.claims.claims;
       volume = c.prepare.new.volume;
@@ -144,6 +158,8 @@ returns-in-Err-clause-err g c =
       changes = inside.changes.since;
       kept = inside.kept;
       shadow = shadow;
+      ring = inside.outlet.ring;
+      feed = sent_items inside.outlet;
       spare = inside.chronicle.spare;
       covered = least_holder x.claims.drain x.claims.claims;
       volume = c.prepare.new.volume;

@@ -7,6 +7,8 @@ use Rattle.rg_desk.specs.Chronicle.{allowed_by, system_entry}
 use Rattle.rg_desk.proofs.DeskUtility.{layout_system}
 use Rattle.rg_desk.proofs.DeskGoes.{desk_room, desk_same}
 use Rattle.rg_desk.proofs.Preparing.{prepared_same}
+use Rattle.rg_feed.specs.Ends.{sent_items}
+use Rattle.rg_desk.proofs.Feeding.{engine_rows, passed, stays_copied, system_other}
 use Rattle.rg_desk.proofs.desk.Desk.show.Goals as goal
 
 pub tell_layout-event-requires : goal.tell_layout-event-requires
@@ -30,4 +32,7 @@ invariant_of-self-2 g c =
           (subst (λ (n : ℕ). Tends (inside.chronicle.trace ++ entry ∷ []) inside.stage inside.changes n) (sym told.same.set_aside)
           (tends_system inside.chronicle.trace inside.stage inside.changes inside.engine.set_aside event calls (layout_system inside.copy event told.is) c.self.invariant.1)),
       prepared_same inside.shadow inside.engine.log.records _ inside.copy _ (ap (λ (l : Listed). l.records) told.same.log) c.self.invariant.2,
+      passed inside.engine c.tell_layout-event.new.engine inside.chronicle.trace entry inside.down inside.stage inside.stage inside.changes (sent_items inside.outlet) c.self.invariant.3
+          (λ up. engine_rows inside.engine c.tell_layout-event.new.engine told.same) (stays_copied inside.stage) (system_other event (layout_system inside.copy event told.is))
+          c.push.new.self.trace (trace ∙ ap (λ (es : List Entry). es ++ entry ∷ []) c.make_room.ensures.trace),
     )

@@ -6,7 +6,7 @@ use Rattle.rg_stmt.specs.declared.event.Entry.{Entry}
 use Rattle.rg_tally.specs.Changed.{ChangeCount}
 use Rattle.rg_tending.specs.Tending.{Tends, aside_for, utility_entry}
 use Rattle.rg_desk.specs.Chronicle.{logged_by}
-use Rattle.rg_desk.specs.Desk.{IfStartLogFull, IsStart, old_records, started_count}
+use Rattle.rg_desk.specs.Desk.{IfStartLogFull, IsStart, is_started, old_records, started_count}
 use Rattle.rg_desk.specs.Engine.{ground_of}
 use Rattle.rg_desk.specs.Flushed.{CallsOwn}
 use Rattle.rg_desk.specs.Room.{Ground}
@@ -16,6 +16,10 @@ use Rattle.rg_desk.proofs.DeskGoes.{desk_room}
 use Rattle.rg_desk.proofs.DeskUtility.{count_since, start_aside, start_full, start_made, start_on, start_reserved}
 use Rattle.rg_desk.proofs.Flushing.{own_same}
 use Rattle.rg_desk.proofs.Preparing.{prepared_same}
+use Rattle.rg_feed.specs.Ends.{sent_items}
+use Rattle.rg_desk.specs.Sends.{KeepsItems, begin_items}
+use Rattle.rg_fold.specs.declared.item.Item.{Item}
+use Rattle.rg_desk.proofs.Feeding.{started_items}
 use Rattle.rg_desk.proofs.desk.Desk.start.Goals as goal
 
 pub invariant_of-self-2 : goal.invariant_of-self-2
@@ -38,6 +42,13 @@ invariant_of-self-2 g c =
           (sym (changes ∙ ap (λ (b : Bool). started_count b inside.changes) c.is_started-started.ensures)) on.1,
       prepared_same inside.shadow inside.engine.log.records _ inside.copy _
           (ap (λ (x : Engine). x.log.records) (start_aside inside.down inside.stage c.args.options inside.copy inside.engine event next after c.start_utility-event.ensures)) c.self.invariant.2,
+      subst (λ (count : ChangeCount). KeepsItems after c.push.new.self.trace inside.down next count (sent_items c.send_start.new.outlet))
+          (sym (changes ∙ ap (λ (b : Bool). started_count b inside.changes) c.is_started-started.ensures))
+          (subst (λ (xs : List Item). KeepsItems after c.push.new.self.trace inside.down next (started_count (is_started event) inside.changes) xs)
+          (sym (c.send_start.ensures.items ∙ ap (λ (xs : List Item). xs ++ begin_items event) c.in_ok-reserve.ensures.same.items))
+          (started_items inside.engine after inside.chronicle.trace inside.down inside.stage next c.args.options inside.copy event c.calls_now-calls.result inside.changes (sent_items inside.outlet) c.self.invariant.3
+          c.start_utility-event.ensures c.push.new.self.trace
+          (c.push.ensures.trace ∙ ap (λ (e : Entry). mid.trace ++ e ∷ []) c.utility.ensures ∙ ap (λ (es : List Entry). es ++ utility_entry event None c.calls_now-calls.result ∷ []) c.make_room.ensures.trace))),
     )
 
 pub returns-clause-made : goal.returns-clause-made
@@ -74,6 +85,10 @@ returns-clause-made g c =
           ap (λ (count : ChangeCount). count.since) c.count_from.ensures
           ∙ count_since started inside.changes
           ∙ ap (λ d. if started then 0 else d.changes) c.self.view_is;
+      feed =
+          c.send_start.ensures.items
+          ∙ ap (λ (xs : List Item). xs ++ begin_items event) c.in_ok-reserve.ensures.same.items
+          ∙ ap (λ d. d.feed ++ begin_items event) c.self.view_is;
       kept = ap (λ d. d.kept) c.self.view_is;
       shadow = ap (λ d. d.shadow) c.self.view_is;
       operator = ap (λ d. d.operator) c.self.view_is;
@@ -93,6 +108,7 @@ returns-clause-made g c =
         first_copy = ap (λ d. d.first_copy) c.self.view_is;
         old_same = ap (take inside.origin.records) records ∙ ap (λ d. old_records d) c.self.view_is;
         copy = ap (λ d. d.copy) c.self.view_is;
+        ring = c.send_start.ensures.ring ∙ c.in_ok-reserve.ensures.same.ring ∙ ap (λ d. d.ring) c.self.view_is;
         calls = subst (λ d. CallsOwn d.copy (look d.volume) (look inside.volume)) c.self.view_is (own_same inside.copy (look inside.volume));
       };
     }

@@ -1,5 +1,5 @@
-use Rattle.std.proofs.Common.{ℕ, Option, Some, None, refl, sym, ◌∙◌, ap, subst}
-use Rattle.rg_desk.specs.Desk.{left_by_stage}
+use Rattle.std.proofs.Common.{◌≡◌, ℕ, Option, Some, None, refl, sym, ◌∙◌, ap, subst}
+use Rattle.rg_desk.specs.Desk.{DeskState, left_by_stage}
 use Rattle.rg_desk.specs.Volume.{seen_volume}
 use Rattle.rg_fold.specs.declared.item.Stage.{Stage}
 use Rattle.rg_outside.specs.Told.{AddsAnswer, HandsOver}
@@ -14,13 +14,14 @@ returns-then-down-clause-stepped g c =
     let look = seen_volume g.V.Volume.told g.V.Volume.faults g.V.Volume.capacities in
     let old = c.args.desk.now in
     let mid = c.make_room.new.self in
-    let room = c.make_room.ensures.same in
+    let handed = c.hand_over.ensures.same in
+    let room : c.make_room.new.self ≡ record c.args.desk.now { spare = c.make_room.new.self.spare } = c.make_room.ensures.same ∙ ap (λ d. let x : DeskState g.row.V.Denot g.row.O.Denot = record d { spare = c.make_room.new.self.spare } in x) handed in
     record {
       answer = None;
       event = events.StepDown;
       next = next_down old (sym (ap (λ d. d.down) room) ∙ sym c.down.ensures.is ∙ c.if-down.true);
       asked = mid;
-      same = same_room old mid room c.requires;
+      same = same_room old mid room c.requires.kept;
       operator = ap (λ d. d.operator) room;
       made = makes_refused look mid c.book.new.self events.StepDown refl tt refl c.book.ensures;
       only = c.book.ensures.volume ∙ ap (λ d. d.volume) room;
@@ -31,7 +32,8 @@ returns-in-None-clause-stepped g c =
     let look = seen_volume g.V.Volume.told g.V.Volume.faults g.V.Volume.capacities in
     let old = c.args.desk.now in
     let mid = c.make_room.new.self in
-    let room = c.make_room.ensures.same in
+    let handed = c.hand_over.ensures.same in
+    let room : c.make_room.new.self ≡ record c.args.desk.now { spare = c.make_room.new.self.spare } = c.make_room.ensures.same ∙ ap (λ d. let x : DeskState g.row.V.Denot g.row.O.Denot = record d { spare = c.make_room.new.self.spare } in x) handed in
     record {
       answer = None;
       event = events.Idle;
@@ -39,7 +41,7 @@ returns-in-None-clause-stepped g c =
           next_idle old (sym (ap (λ d. d.down) room) ∙ sym c.down.ensures.is ∙ c.if-down.false)
           (sym (ap (λ d. d.stage) room) ∙ sym c.stage.ensures.stage ∙ c.in-None.is);
       asked = mid;
-      same = same_room old mid room c.requires;
+      same = same_room old mid room c.requires.kept;
       operator = ap (λ d. d.operator) room;
       made = makes_refused look mid c.book-in-None.new.self events.Idle refl tt refl c.book-in-None.ensures;
       only = c.book-in-None.ensures.volume ∙ ap (λ d. d.volume) room;
@@ -51,7 +53,8 @@ returns-clause-stepped g c =
     let old = c.args.desk.now in
     let asked = c.ask_operator-answer.new.self in
     let answer = c.ask_operator-answer.result in
-    let room = c.make_room.ensures.same in
+    let handed = c.hand_over.ensures.same in
+    let room : c.make_room.new.self ≡ record c.args.desk.now { spare = c.make_room.new.self.spare } = c.make_room.ensures.same ∙ ap (λ d. let x : DeskState g.row.V.Denot g.row.O.Denot = record d { spare = c.make_room.new.self.spare } in x) handed in
     let same = same_asked old c.make_room.new.self asked answer room c.ask_operator-answer.ensures.same in
     let acts = c.act.ensures in
     record {
