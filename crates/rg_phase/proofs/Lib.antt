@@ -2,4 +2,6 @@ pub mod Stepping
 pub mod Steps
 pub mod Making
 pub mod Stops
-pub mod EmptySwitch
+pub mod Drafting
+pub mod Receiving
+pub mod Switchable

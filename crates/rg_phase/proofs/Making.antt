@@ -5,11 +5,13 @@ use Rattle.rg_base.specs.declared.control.Answer.{Answer}
 use Rattle.rg_base.specs.declared.session.Session.{Session}
 use Rattle.rg_base.specs.declared.set.Set.TheVariants.{Log}
 use Rattle.rg_base.specs.declared.verdict.StopReason.TheVariants as reasons
-use Rattle.rg_desk.specs.Desk.{DeskState, IsNextStep, MadeFall, MadeStep, MadeSwitch, Prepares}
+use Rattle.rg_desk.specs.Desk.{DeskState, IsNextStep, MadeCopy, MadeFall, MadeStep, MadeSwitch, Prepares}
 use Rattle.rg_desk.specs.Flushed.{CallsOwn, WritesEither}
 use Rattle.rg_desk.specs.Prepared.{PreparedSeen}
 use Rattle.rg_desk.specs.Room.{Ground}
 use Rattle.rg_desk.specs.Volume.{CallsLog, VolumeSeen}
+use Rattle.rg_fold.specs.declared.item.Item.{Item}
+use Rattle.rg_fold.specs.declared.item.Item.TheVariants.{PageCopy}
 use Rattle.rg_fold.specs.declared.item.Stage.{Stage}
 use Rattle.rg_model.specs.Turn.{Turn, turn_of}
 use Rattle.rg_newest.specs.Tidy.{set_of}
@@ -31,6 +33,7 @@ use Rattle.rg_phase.specs.Working.{Writes}
 
 booked_made : (event : Event) → is_booked event ≡ true → is_made event ≡ true
 booked_made (events.Switched copy sides) is = refl
+booked_made (events.Unload page rows) is = refl
 booked_made event is = is
 
 booked_left : (copy : ℕ) (event : Event) → is_booked event ≡ true → copy_left copy event ≡ copy
@@ -122,19 +125,19 @@ module _ {V O : Type 0} (look : V → VolumeSeen) where
   }
 
   module _ (old : DeskState V O) (answer : Answer) where
-    -- a step was booked, after a new copy was written or not
-    pub acts_booked : (mid new : DeskState V O) (event : Event) → is_some old.stage ≡ true → Writes look old mid → IsNextStep old (Some answer) event → is_booked event ≡ true
-        → (is_device_stop event ≡ true → Rose (look old.volume).faults (look mid.volume).faults) → MadeStep look mid (Some answer) event [] new → Acts look old answer new
-    acts_booked mid new event runs wrote next booked device made = record {
+    -- a step was made, after a new copy was written or not
+    acts_made : (mid new : DeskState V O) (event : Event) (items : List Item) → is_some old.stage ≡ true → Writes look old mid → NextMade old.down old.stage old.changes old.covered (Some answer) event → copy_left old.copy event ≡ old.copy → IsSwitchFrom old.copy event
+        → (is_device_stop event ≡ true → Rose (look old.volume).faults (look mid.volume).faults) → MadeStep look mid (Some answer) event items new → Acts look old answer new
+    acts_made mid new event items runs wrote next left from device made = record {
       event = event;
-      next = next_booked old.down old.stage old.changes old.covered answer event next;
+      next = next;
       made = record {
         calls = made.calls;
         made = made.made ∙ ap (λ (es : List Entry). es ++ utility_entry event (Some answer) made.calls ∷ []) (ap (λ (d : DeskState V O). d.trace) wrote.same);
         counted = made.counted;
-        copy = made.stays.copy ∙ copy ∙ sym (booked_left old.copy event booked);
+        copy = made.stays.copy ∙ copy ∙ sym left;
         ring = made.stays.ring ∙ ap (λ (d : DeskState V O). d.ring) wrote.same;
-        to = booked_from old.copy event booked;
+        to = from;
         capacity = inl (made.stays.capacity ∙ ap (λ (g : Ground). g.capacity) wrote.ground);
         down = λ down. inl (sym (ap (λ (d : DeskState V O). d.down) wrote.same) ∙ sym made.down ∙ down);
         device = λ is. subst (λ (v : V). Rose (look old.volume).faults (look v).faults) (sym made.volume) (device is);
@@ -154,6 +157,17 @@ module _ {V O : Type 0} (look : V → VolumeSeen) where
       where
         copy : mid.copy ≡ old.copy
         copy = ap (λ (d : DeskState V O). d.copy) wrote.same
+
+    -- it was booked
+    pub acts_booked : (mid new : DeskState V O) (event : Event) → is_some old.stage ≡ true → Writes look old mid → IsNextStep old (Some answer) event → is_booked event ≡ true
+        → (is_device_stop event ≡ true → Rose (look old.volume).faults (look mid.volume).faults) → MadeStep look mid (Some answer) event [] new → Acts look old answer new
+    acts_booked mid new event runs wrote next booked device made =
+        acts_made mid new event [] runs wrote (next_booked old.down old.stage old.changes old.covered answer event next) (booked_left old.copy event booked) (booked_from old.copy event booked) device made
+
+    -- a page was copied
+    pub acts_copied : (mid new : DeskState V O) (page rows : ℕ) → is_some old.stage ≡ true → Writes look old mid → NextMade old.down old.stage old.changes old.covered (Some answer) (events.Unload page rows) → MadeCopy look mid answer page rows new → Acts look old answer new
+    acts_copied mid new page rows runs wrote next made =
+        acts_made mid new (events.Unload page rows) (PageCopy page made.position made.copied ∷ []) runs wrote next refl tt (λ is. absurd (cc (is))) made.made
 
     -- the copies were switched
     pub acts_switched : (new : DeskState V O) (sides : Sides) → is_some old.stage ≡ true → NextMade old.down old.stage old.changes old.covered (Some answer) (events.Switched (other_of old.copy) sides) → MadeSwitch look old answer sides new → Acts look old answer new

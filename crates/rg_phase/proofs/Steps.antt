@@ -1,5 +1,5 @@
 -- A step of a desk, put together from its calls.
-use Rattle.std.proofs.Common.{◌≡◌, ◌+◌, ◌⊎◌, inl, inr, ℕ, Bool, true, false, Option, Some, None, refl, sym, ◌∙◌, ap, subst}
+use Rattle.std.proofs.Common.{◌≡◌, ◌+◌, inl, inr, ℕ, Bool, true, false, Option, Some, None, refl, sym, ◌∙◌, ap, subst}
 use Rattle.std.specs.Option.{is_some}
 use Rattle.rg_base.specs.declared.control.Answer.{Answer}
 use Rattle.rg_base.specs.declared.session.Session.{Session}
@@ -17,8 +17,8 @@ use Rattle.rg_tending.specs.Tending.{IsKeptStage, NextBy, is_booked, is_plain}
 use Rattle.rg_tending.proofs.Kept.{kept_on}
 use Rattle.rg_tending.proofs.Switching.{plain_turn}
 use Rattle.rg_phase.specs.Step.{NextMade, is_device_stop, is_made}
-use Rattle.rg_phase.specs.Working.{Writes}
-use Rattle.rg_phase.proofs.Stops.{stop_next}
+use Rattle.rg_phase.specs.Working.{IsEventOrStop, Writes}
+use Rattle.rg_phase.proofs.Stops.{space_next, stop_next}
 
 -- ---- the desk that was asked
 
@@ -64,16 +64,19 @@ next_same {V} {O} look old mid answer event wrote next = subst (λ (d : DeskStat
 pub runs_some : {V O : Type 0} (desk : DeskState V O) (s : Stage) → desk.stage ≡ Some s → is_some desk.stage ≡ true
 runs_some desk s stage = ap (λ (o : Option Stage). is_some o) stage
 
--- the event, or STOP NOMEMORY in its place, is the next one
-pub or_stop_next : {V O : Type 0} (desk : DeskState V O) (s : Stage) (answer : Answer) (event result : Event) → desk.down ≡ false → desk.stage ≡ Some s
+-- the event, or the stop that stands in its place, is the next one
+pub or_stop_next : {V O : Type 0} (desk : DeskState V O) (s : Stage) (answer : Answer) (event result : Event) → desk.down ≡ false → desk.stage ≡ Some s → s.switched ≡ false
     → is_booked event ≡ true → is_device_stop event ≡ false → is_plain (turn_of desk.changes desk.covered answer (numbers_of s) s.drain event) ≡ true
-    → (result ≡ event) ⊎ (result ≡ events.Stop reasons.NoMemory)
+    → IsEventOrStop event result
     → (is_booked result ≡ true) × (is_device_stop result ≡ false) × IsNextStep desk (Some answer) result
-or_stop_next desk s answer event result down stage booked quiet next (inl is) =
+or_stop_next desk s answer event result down stage unswitched booked quiet next (inl is) =
     subst (λ (e : Event). (is_booked e ≡ true) × (is_device_stop e ≡ false) × IsNextStep desk (Some answer) e) (sym is) (booked, quiet, next_runs desk s answer event down stage booked next)
-or_stop_next desk s answer event result down stage booked quiet next (inr is) =
+or_stop_next desk s answer event result down stage unswitched booked quiet next (inr (inl is)) =
     subst (λ (e : Event). (is_booked e ≡ true) × (is_device_stop e ≡ false) × IsNextStep desk (Some answer) e) (sym is)
     (refl, refl, next_runs desk s answer (events.Stop reasons.NoMemory) down stage refl (stop_next s desk.changes desk.covered answer))
+or_stop_next desk s answer event result down stage unswitched booked quiet next (inr (inr is)) =
+    subst (λ (e : Event). (is_booked e ≡ true) × (is_device_stop e ≡ false) × IsNextStep desk (Some answer) e) (sym is.0)
+    (refl, refl, next_runs desk s answer (events.Stop reasons.NoSpace) down stage refl (space_next s desk.changes desk.covered answer event is.1 unswitched next))
 
 -- ---- the numbers after it
 

@@ -1,3 +1,4 @@
 pub mod Step
 pub mod Drafted
+pub mod Made
 pub mod Working

@@ -39,8 +39,9 @@ AsksOnce answers last left old None new = new ≡ old
 AsksOnce answers last left old (Some answer) new =
     AddsAnswer (answers old) answer (answers new) × HandsOver left (answers new) (last new)
 
--- an event of a utility that runs: the switch, or another one
+-- an event of a utility that runs: UNLOAD, the switch, or another one
 abbrev pub is_made : Event → Bool
+is_made (events.Unload page rows) = true
 is_made (events.Switched copy sides) = true
 is_made event = is_booked event
 

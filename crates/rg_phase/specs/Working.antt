@@ -1,15 +1,28 @@
 -- What a step makes before its entry.
-use Rattle.std.specs.Prelude.{◌≡◌, false, []}
+use Rattle.std.specs.Prelude.{◌≡◌, ◌⊎◌, ℕ, Bool, true, false, [], Option}
 use Rattle.rg_base.specs.declared.control.Answer.{Answer}
+use Rattle.rg_base.specs.declared.session.Session.{Session}
 use Rattle.rg_base.specs.declared.step.Step.{Step}
+use Rattle.rg_base.specs.declared.step.Step.TheVariants as steps
+use Rattle.rg_base.specs.declared.verdict.StopReason.TheVariants as reasons
 use Rattle.rg_desk.specs.Desk.{AreSides, DeskState, HasCurrent}
 use Rattle.rg_desk.specs.Flushed.{CallsOwn}
 use Rattle.rg_desk.specs.Volume.{VolumeSeen}
 use Rattle.rg_fold.specs.declared.item.Stage.{Stage}
-use Rattle.rg_model.specs.Turn.{alter, is_term, step_of}
+use Rattle.rg_home.specs.Pages.{slot_of}
+use Rattle.rg_home.specs.Rows.{row_at}
+use Rattle.rg_lawful.specs.Table.{IsTable}
+use Rattle.rg_model.specs.Changes.{changes}
+use Rattle.rg_model.specs.Right.{are_quiet_right, is_packed}
+use Rattle.rg_model.specs.State.{Table, row_of}
+use Rattle.rg_model.specs.Turn.{alter, is_term, step_of, turn_at}
+use Rattle.rg_phase.specs.Step.{is_device_stop}
 use Rattle.rg_stage.specs.NumbersOf.{numbers_of}
+use Rattle.rg_stmt.specs.declared.event.Event.{Event}
+use Rattle.rg_stmt.specs.declared.event.Event.TheVariants as events
 use Rattle.rg_stmt.specs.declared.layout.Sides.{Sides}
 use Rattle.rg_switch.specs.Switched.{other_of}
+use Rattle.rg_tending.specs.Tending.{behind, is_booked, is_plain}
 
 -- the operator lets the utility make this step
 pub record MakesStep (stage : Stage) (answer : Answer) (step : Step) : Type 0 where
@@ -25,12 +38,41 @@ pub record Writes {V O : Type 0} (look : V → VolumeSeen) (old new : DeskState 
       ≡ record old.ground { log = record old.ground.log { forced = new.ground.log.forced } }
   pub calls : CallsOwn (other_of old.copy) (look old.volume) (look new.volume)
 
--- The layouts of both copies, neither of which has a page. The new one was written since the last
--- record.
-pub record AreEmptySides {V O : Type 0} (desk : DeskState V O) (stage : Stage) (sides : Sides)
+-- The layouts of both copies. The new one was written since the last record, and has as many pages as
+-- the utility has counted. Its quiet rows lie at home, in clustering order, and it is packed where
+-- nothing has changed since the start.
+pub record AreSidesToSwitch {V O : Type 0} (desk : DeskState V O) (stage : Stage) (sides : Sides)
     : Type 0 where
   pub current : HasCurrent desk
   pub are : AreSides desk sides
-  pub empty : desk.ground.pages ≡ []
-  pub none : sides.new.pages ≡ 0
-  pub as_written : stage.shadow ≡ 0
+  pub as_written : sides.new.pages ≡ stage.shadow
+  pub quiet : are_quiet_right (behind [] desk.trace) sides.new.spots ≡ true
+  pub packed :
+      changes (behind [] desk.trace) ≡ 0
+      → (t : Table) → IsTable (row_at (slot_of desk.ground.pages)) (row_of t)
+      → is_packed stage.options t sides.new ≡ true
+
+-- An event of RELOAD, or one that stops it: it may be the next one of that step, and brings nothing
+-- down.
+pub record IsReloadEvent (stage : Stage) (event : Event) : Type 0 where
+  pub booked : is_booked event ≡ true
+  pub device : is_device_stop event ≡ false
+  pub next :
+      (all : ℕ) (covered : Option Session) (answer : Answer)
+      → is_plain
+      (turn_at steps.Reload all covered answer (alter (numbers_of stage) answer.command)
+      stage.drain event)
+      ≡ true
+
+-- changes are taken with the event
+abbrev pub takes : Event → Bool
+takes (events.Log iteration took left verdict) = true
+takes (events.Last took left) = true
+takes event = false
+
+-- an event, or the stop that stands in its place
+abbrev pub IsEventOrStop : (event result : Event) → Type 0
+IsEventOrStop event result =
+    (result ≡ event)
+    ⊎ ((result ≡ events.Stop reasons.NoMemory)
+    ⊎ ((result ≡ events.Stop reasons.NoSpace) × (takes event ≡ true)))

@@ -4,63 +4,31 @@
 // 2. Before it the operator's command comes first: TERM ends the utility, and ALTER changes its
 //    options.
 // 3. Then the stage decides what the step makes.
-// 4. Steps that copy or fill pages, or take changes, are not built yet. In their place the utility
-//    stops, as if memory ran out.
-// 5. The steps that write the new copy and switch to it say themselves what became of it.
-ghost use Rattle.std.specs.Prelude.{◌≡◌, ◌≤◌, ◌⊎◌, false, true, IfSome, Option};
-ghost use Rattle.rg_base.specs.declared.control.Answer.{Answer as AnswerOf};
-ghost use Rattle.rg_base.specs.declared.session.Session.{Session as SessionOf};
-ghost use Rattle.rg_base.specs.declared.step.Step.TheVariants as steps;
-ghost use Rattle.rg_base.specs.declared.verdict.StopReason.TheVariants as reasons;
+// 4. LOG and LAST take as many changes as they may. Where they cannot be made, for want of room or
+//    of memory, the utility stops.
+// 5. The steps that copy or fill a page, write the new copy, or switch to it say themselves what
+//    became of it.
+ghost use Rattle.std.specs.Prelude.{◌≡◌, ◌≤◌, ◌^◌, false, true, IfSome};
+ghost use Rattle.rg_model.specs.Packed.{page_at};
 ghost use Rattle.rg_model.specs.Turn.{step_of, turn_at, turn_of};
 ghost use Rattle.rg_phase.specs.Step.{is_device_stop};
-ghost use Rattle.rg_phase.specs.Working.{MakesStep};
+ghost use Rattle.rg_phase.specs.Working.{IsEventOrStop, IsReloadEvent, MakesStep, takes};
 ghost use Rattle.rg_stage.specs.NumbersOf.{numbers_of};
-ghost use Rattle.rg_stmt.specs.declared.event.Event.TheVariants as events;
 ghost use Rattle.rg_tending.specs.Tending.{is_booked, is_plain};
 
 use rg_base::control::Answer;
-use rg_base::no_memory::NoMemory;
 use rg_base::session::Session;
 use rg_base::step::Step;
 use rg_base::verdict::StopReason;
 use rg_fold::item::Stage;
+use rg_reload::fault::ReloadFault;
+use rg_reload::packer::Filled;
+use rg_shadow::fault::ShadowFault;
 use rg_stage::events::{
     build_event, last_batch, last_event, log_batch, log_event, sort_event, wait_event,
 };
 use rg_stage::step::{is_terminated, step_for, with_alter};
 use rg_stmt::event::Event;
-
-// A part of an iteration.
-fn take_changes(stage: &Stage, all: u64, answer: &Answer) -> Event
-    requires done { stage.now.done ≤ stage.now.target }
-    requires target { stage.now.target ≤ all }
-    ensures booked { is_booked result ≡ true }
-    ensures device { is_device_stop result ≡ false }
-    ensures next { (covered : Option SessionOf) → is_plain
-        (turn_at steps.Log all covered answer.entry.now (numbers_of stage.entry.now)
-        stage.entry.now.drain result) ≡ true }
-{
-    if log_batch(stage) == 0 {
-        return log_event(stage, all, 0, answer);
-    }
-    Event::Stop(StopReason::NoMemory)
-}
-
-// A part of the last iteration.
-fn take_last(stage: &Stage, all: u64) -> Event
-    requires done { stage.now.done ≤ all }
-    ensures booked { is_booked result ≡ true }
-    ensures device { is_device_stop result ≡ false }
-    ensures next { (covered : Option SessionOf) (answer : AnswerOf) → is_plain
-        (turn_at steps.Last all covered answer (numbers_of stage.now) stage.now.drain result)
-        ≡ true }
-{
-    if last_batch(stage, all) == 0 {
-        return last_event(stage, all, 0);
-    }
-    Event::Stop(StopReason::NoMemory)
-}
 
 // The event of the step that the stage decides, which has the operator's ALTER in it.
 fn step_event(stage: &Stage, all: u64, holder: Option<Session>, answer: &Answer) -> Event
@@ -74,9 +42,9 @@ fn step_event(stage: &Stage, all: u64, holder: Option<Session>, answer: &Answer)
     match step_for(stage) {
         Step::Sort => sort_event(stage),
         Step::Build => build_event(stage),
-        Step::Log => take_changes(stage, all, answer),
+        Step::Log => log_event(stage, all, log_batch(stage), answer),
         Step::Wait(asked) => wait_event(stage, asked, holder, answer),
-        Step::Last => take_last(stage, all),
+        Step::Last => last_event(stage, all, last_batch(stage, all)),
         Step::Unload | Step::Reload | Step::Write(_) | Step::Switch | Step::End => {
             Event::Stop(StopReason::NoMemory)
         }
@@ -112,12 +80,62 @@ pub fn step_now(stage: &Stage, answer: &Answer) -> Option<Step>
     Some(step_for(&with_alter(stage, &answer.command)))
 }
 
-/// The event, or STOP NOMEMORY where what goes with it could not be made.
-pub fn or_stop(event: Event, made: Result<(), NoMemory>) -> Event
-    ensures { (result ≡ event) ⊎ (result ≡ events.Stop reasons.NoMemory) }
+// Whether changes are taken with an event.
+fn takes(event: &Event) -> bool
+    ensures { result ≡ takes event.now }
+{
+    matches!(event, Event::Log { .. } | Event::Last { .. })
+}
+
+/// The event, or a stop where what goes with it could not be made: STOP NOSPACE where the new copy
+/// has no room for a change, else STOP NOMEMORY.
+pub fn or_stop(event: Event, made: Result<(), ShadowFault>) -> Event
+    ensures { IsEventOrStop event result }
 {
     match made {
         Ok(()) => event,
+        Err(ShadowFault::NoSpace) if takes(&event) => Event::Stop(StopReason::NoSpace),
         Err(_) => Event::Stop(StopReason::NoMemory),
+    }
+}
+
+// The number of the k-th filled page.
+fn page_number(freepage: u8, k: u64) -> u64
+    requires low { 1 ≤ k }
+    requires high { k ≤ 2 ^ 32 }
+    ensures { result ≡ page_at freepage k }
+{
+    if freepage == 0 {
+        k
+    } else {
+        k + (k - 1) / u64::from(freepage)
+    }
+}
+
+// RELOAD of a page that was filled, as the numbers ask for it. Else the utility stops.
+fn page_event(stage: &Stage, filled: &Filled) -> Event
+    ensures { IsReloadEvent stage.now result }
+{
+    let next = page_number(stage.options.freepage, u64::from(stage.filled) + 1);
+    let left = stage.unloaded.saturating_sub(stage.reloaded);
+    let rows = u64::from(filled.rows);
+    if u64::from(filled.page) == next && 1 <= rows && rows <= left {
+        return Event::Reload {
+            page: filled.page,
+            rows: filled.rows,
+        };
+    }
+    Event::Stop(StopReason::NoMemory)
+}
+
+/// RELOAD of the page that was filled, or the stop where none could be: STOP NOSPACE where the new
+/// copy may have no page more, else STOP NOMEMORY.
+pub fn reload_event(stage: &Stage, made: Result<Filled, ReloadFault>) -> Event
+    ensures { IsReloadEvent stage.now result }
+{
+    match made {
+        Ok(filled) => page_event(stage, &filled),
+        Err(ReloadFault::NoSpace { .. }) => Event::Stop(StopReason::NoSpace),
+        Err(ReloadFault::NoMemory) => Event::Stop(StopReason::NoMemory),
     }
 }

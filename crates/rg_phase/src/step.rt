@@ -1,29 +1,37 @@
 // A step of the utility.
 //
-// 1. The room for its entry is taken first. Where there is none, nothing is done and nobody is
-//    asked.
+// 1. What the desk has sent is received first, and the room for the entry is taken. Where there is
+//    none, nothing is done and nobody is asked.
 // 2. Where no utility runs, or the desk is down, the entry says so, and nobody is asked either.
 // 3. Else the operator is asked once, and told how many changes are left. The entry has the answer.
 // 4. What the step makes beside its entry comes between the two. Where that fails, the entry says
 //    why the utility stops.
-// 5. The new copy is written whole, with a sync at the end, before WRITTEN is said. It is kept for
-//    the switch.
-// 6. A table with pages is not reorganised yet: in place of WRITTEN and of SWITCHED the utility
-//    stops, as if memory ran out.
-ghost use Rattle.std.specs.Prelude.{◌≡◌, ◌≤◌, false, Some, None, Err, OnErr, OnOk, IfOk};
+// 5. Pages are copied first. With RELOAD the rows of all copies are packed, in clustering order.
+//    Before the first list is sorted the new copy is loaded. In LOG and LAST the next changes are
+//    made in it.
+// 6. It is written whole, with a sync at the end, before WRITTEN is said, once no change is left.
+//    The desk keeps it for the switch. At GIVEUP it is taken back.
+ghost use Rattle.std.specs.Prelude.{◌≡◌, ◌≤◌, List, false, Some, None, Err, OnErr, OnOk, IfOk, length};
 ghost use Rattle.rg_base.specs.declared.options.DrainState.TheVariants.{Granted};
 ghost use Rattle.rg_base.specs.declared.step.Step.TheVariants as steps;
-ghost use Rattle.rg_desk.specs.Desk.{HasDrain, HasTaken};
+ghost use Rattle.rg_desk.specs.Desk.{HasDrain, HasTaken, while_running};
 ghost use Rattle.rg_desk.specs.Volume.{seen_volume};
+ghost use Rattle.rg_fold.specs.Fold.{changes, since_begin};
+ghost use Rattle.rg_fold.specs.Lawful.{Lawful};
 ghost use Rattle.rg_outside.specs.Faults.{Rose};
+ghost use Rattle.rg_feed.specs.Ends.{Received};
+ghost use Rattle.rg_fold.specs.declared.item.Item.{Item};
+ghost use Rattle.rg_phase.specs.Made.{HasMade, Hears, KeepsWorks, Works};
 ghost use Rattle.rg_phase.specs.Step.{Acts, Stepped};
-ghost use Rattle.rg_phase.specs.Working.{AreEmptySides, MakesStep, Writes};
+ghost use Rattle.rg_phase.specs.Working.{AreSidesToSwitch, MakesStep, Writes};
+ghost use Rattle.rg_phase.specs.declared.made.Made.TheVariants.{Nothing};
 
-use crate::draft::Draft;
-use crate::next::{next_event, or_stop, step_now};
+use crate::draft::{Draft, Packing};
+use crate::made::Made;
+use crate::next::{next_event, or_stop, reload_event, step_now};
 use rg_base::control::Answer;
 use rg_base::no_memory::NoMemory;
-use rg_base::options::{DrainFor, Options};
+use rg_base::options::DrainFor;
 use rg_base::step::Step;
 use rg_base::verdict::StopReason;
 use rg_base::which::Which;
@@ -33,28 +41,39 @@ use rg_feed::inlet::FeedIn;
 use rg_fold::item::Stage;
 use rg_outside::counted::Counts;
 use rg_outside::operator::Operator;
+use rg_reload::fault::ReloadFault;
+use rg_reload::packer::Filled;
+use rg_shadow::fault::ShadowFault;
+use rg_stage::events::next_page;
 use rg_stmt::event::Event;
 use rg_stmt::layout::Sides;
 use std::alloc::Global;
+use std::mem;
 
-/// What a utility has made so far that its desk does not keep.
+/// What a utility has made so far.
 #[derive(Drop)]
 pub struct Reorg {
-    draft: Option<Draft>,
+    pub made: Made,
 }
 
 impl Reorg {
     /// A utility that has just started, or none.
-    pub fn new() -> Reorg {
-        Reorg { draft: None }
+    pub fn new() -> Reorg
+        ensures { result.made ≡ Nothing }
+    {
+        Reorg {
+            made: Made::Nothing,
+        }
     }
 
-    /// What was made for an earlier utility is dropped, where another one has started or the
-    /// process has died.
-    pub fn begin_anew(&mut self, begun: bool) {
-        if begun {
-            self.draft = None;
-        }
+    /// What was made is dropped, also what the desk keeps of it. So it is where another utility has
+    /// started.
+    pub fn forget<V: Counts, O: Operator>(&mut self, desk: &mut Desk<V, O>)
+        ensures made { self.new.made ≡ Nothing }
+        ensures desk { desk.new ≡ record desk.old { shadow = None } }
+    {
+        let _ = desk.take_shadow();
+        self.made = Made::Nothing;
     }
 
     /// Makes one entry: that of the next step of the utility, or IDLE where none runs, or DOWN
@@ -68,9 +87,12 @@ impl Reorg {
     ) -> Result<(), NoMemory>
         requires kept { desk.old.kept ≡ None }
         requires ring { desk.old.ring ≡ inlet.old.ring }
+        requires works { Works self.old.made desk.old.shadow inlet.old desk.old.feed }
         ensures stepped { OnOk result (Stepped (seen_volume V.told V.faults V.capacities)
             O.answers O.last desk.old desk.new) }
         ensures ring { desk.new.ring ≡ inlet.new.ring }
+        ensures works { OnOk result
+            (Works self.new.made desk.new.shadow inlet.new desk.new.feed) }
         ensures err { OnErr result (desk.new ≡ desk.old) }
     {
         desk.hand_over(inlet)?;
@@ -88,7 +110,7 @@ impl Reorg {
         };
         let all = desk.changes();
         let answer = desk.ask_operator(all - stage.done);
-        self.act(alloc, desk, &stage, answer);
+        self.act(alloc, desk, inlet, &stage, answer);
         Ok(())
     }
 
@@ -97,6 +119,7 @@ impl Reorg {
         &mut self,
         alloc: Global,
         desk: &mut Desk<V, O>,
+        inlet: &mut FeedIn,
         stage: &Stage,
         answer: Answer,
     )
@@ -105,48 +128,127 @@ impl Reorg {
         requires taken { HasTaken desk.old.changes stage.now }
         requires kept { desk.old.kept ≡ Some answer }
         requires room { 1 ≤ desk.old.spare }
-        ensures { Acts (seen_volume V.told V.faults V.capacities) desk.old answer desk.new }
+        requires hears { Hears desk.old inlet.old }
+        requires works { Works self.old.made desk.old.shadow inlet.old desk.old.feed }
+        ensures acts { Acts (seen_volume V.told V.faults V.capacities) desk.old answer desk.new }
+        ensures ring { inlet.new.ring ≡ inlet.old.ring }
+        ensures works { Works self.new.made desk.new.shadow inlet.new desk.new.feed }
     {
         match step_now(stage, &answer) {
-            Some(Step::Write(granted)) => self.write(alloc, desk, stage, granted, answer),
-            Some(Step::Switch) => switch(desk, stage, answer),
-            _ => self.work(alloc, desk, stage, answer),
+            None => end(desk, stage, answer),
+            Some(Step::Unload) => self.unload(desk, stage, answer),
+            Some(Step::Reload) => self.reload(alloc, desk, inlet, stage, answer),
+            Some(Step::Write(granted)) => self.write(alloc, desk, inlet, stage, granted, answer),
+            Some(Step::Switch) => self.switch(desk, inlet, stage, answer),
+            Some(_) => self.work(alloc, desk, inlet, stage, answer),
         }
     }
 
-    // Makes the entry of a step that calls no volume.
+    // Makes the entry of UNLOAD, and sends the copy of the page.
+    fn unload<V: Counts, O: Operator>(
+        &mut self,
+        desk: &mut Desk<V, O>,
+        stage: &Stage,
+        answer: Answer,
+    )
+        requires up { desk.old.down ≡ false }
+        requires stage { desk.old.stage ≡ Some stage.now }
+        requires step { MakesStep stage.now answer steps.Unload }
+        requires kept { desk.old.kept ≡ Some answer }
+        requires room { 1 ≤ desk.old.spare }
+        ensures acts { Acts (seen_volume V.told V.faults V.capacities) desk.old answer desk.new }
+        ensures made { self.new.made ≡ Nothing }
+        ensures shadow { desk.new.shadow ≡ None }
+    {
+        self.forget(desk);
+        let page = next_page(stage);
+        match desk.feed_page(page, answer) {
+            Ok(_) => {}
+            Err(_) => desk.book(Event::Stop(StopReason::NoMemory), Some(answer)),
+        }
+    }
+
+    // Makes the entry of RELOAD, and fills the page.
+    fn reload<V: Counts, O: Operator>(
+        &mut self,
+        alloc: Global,
+        desk: &mut Desk<V, O>,
+        inlet: &mut FeedIn,
+        stage: &Stage,
+        answer: Answer,
+    )
+        requires up { desk.old.down ≡ false }
+        requires stage { desk.old.stage ≡ Some stage.now }
+        requires step { MakesStep stage.now answer steps.Reload }
+        requires kept { desk.old.kept ≡ Some answer }
+        requires room { 1 ≤ desk.old.spare }
+        requires hears { Hears desk.old inlet.old }
+        requires works { Works self.old.made desk.old.shadow inlet.old desk.old.feed }
+        ensures acts { Acts (seen_volume V.told V.faults V.capacities) desk.old answer desk.new }
+        ensures inlet { inlet.new ≡ inlet.old }
+        ensures works { Works self.new.made desk.new.shadow inlet.new desk.new.feed }
+    {
+        let (all, other) = (desk.changes(), desk.other());
+        let filled = self.fill(alloc, inlet, stage, other, all);
+        desk.book(reload_event(stage, filled), Some(answer));
+    }
+
+    // Makes the entry of a step that calls no volume and fills no page.
     fn work<V: Counts, O: Operator>(
         &mut self,
         alloc: Global,
         desk: &mut Desk<V, O>,
+        inlet: &mut FeedIn,
         stage: &Stage,
         answer: Answer,
     )
         requires up { desk.old.down ≡ false }
         requires stage { desk.old.stage ≡ Some stage.now }
+        requires unswitched { stage.now.switched ≡ false }
         requires taken { HasTaken desk.old.changes stage.now }
         requires kept { desk.old.kept ≡ Some answer }
         requires room { 1 ≤ desk.old.spare }
-        ensures { Acts (seen_volume V.told V.faults V.capacities) desk.old answer desk.new }
+        requires hears { Hears desk.old inlet.old }
+        requires works { Works self.old.made desk.old.shadow inlet.old desk.old.feed }
+        ensures acts { Acts (seen_volume V.told V.faults V.capacities) desk.old answer desk.new }
+        ensures ring { inlet.new.ring ≡ inlet.old.ring }
+        ensures works { Works self.new.made desk.new.shadow inlet.new desk.new.feed }
     {
         let event = next_event(stage, desk.changes(), desk.holder(), &answer);
-        let made = self.make(alloc, desk, &stage.options, &event);
+        let made = self.make(alloc, desk, inlet, stage, &event);
         desk.book(or_stop(event, made), Some(answer));
     }
 
-    // Makes what goes with an event: a list, or an index. At GIVEUP the new copy is taken back.
+    // Makes what goes with an event: a list, an index, or changes. At GIVEUP the new copy is taken
+    // back.
     fn make<V: Counts, O: Operator>(
         &mut self,
         alloc: Global,
         desk: &mut Desk<V, O>,
-        options: &Options,
+        inlet: &mut FeedIn,
+        stage: &Stage,
         event: &Event,
-    ) -> Result<(), NoMemory>
-        ensures { desk.new ≡ record desk.old { shadow = desk.new.shadow } }
+    ) -> Result<(), ShadowFault>
+        requires stage { desk.old.stage ≡ Some stage.now }
+        requires unswitched { stage.now.switched ≡ false }
+        requires hears { Hears desk.old inlet.old }
+        requires works { Works self.old.made desk.old.shadow inlet.old desk.old.feed }
+        ensures desk { desk.new ≡ record desk.old { shadow = desk.new.shadow } }
+        ensures ring { inlet.new.ring ≡ inlet.old.ring }
+        ensures works { Works self.new.made desk.new.shadow inlet.new desk.new.feed }
     {
         match event {
-            Event::Sort(which) => self.sort(alloc, desk.other(), options, *which),
-            Event::Build(which) => self.build(*which),
+            Event::Sort(which) => {
+                let (all, other) = (desk.changes(), desk.other());
+                self.sort(alloc, inlet, stage, other, all, *which)?;
+                Ok(())
+            }
+            Event::Build(which) => {
+                self.build(*which)?;
+                Ok(())
+            }
+            Event::Log { took, .. } => self.take(alloc, inlet, *took),
+            Event::Last { took, .. } => self.take(alloc, inlet, *took),
             Event::GiveUp(_) => {
                 self.take_back(desk);
                 Ok(())
@@ -154,40 +256,150 @@ impl Reorg {
             _ => Ok(()),
         }
     }
+}
 
-    // Sorts a list of the new copy, which is begun where there is none.
+// What is made without a desk. Whatever new copy the desk keeps, all that it has sent is received.
+impl Reorg {
+    // Packs the rows of all copies, if nothing is made. No change was taken yet.
+    fn pack(
+        &mut self,
+        alloc: Global,
+        inlet: &FeedIn,
+        stage: &Stage,
+        other: (u8, u32),
+        all: u64,
+    ) -> Result<(), NoMemory>
+        requires lawful { Lawful (since_begin inlet.now.items) }
+        requires counted { length (changes (since_begin inlet.now.items)) ≡ all }
+        ensures made { HasMade self.old.made inlet.now → HasMade self.new.made inlet.now }
+        ensures works { KeepsWorks self.old.made inlet.now self.new.made inlet.now }
+    {
+        match self.made {
+            Made::Nothing => {}
+            _ => return Ok(()),
+        }
+        if inlet.backlog() as u64 != all {
+            return Err(NoMemory);
+        }
+        let (copy, capacity) = other;
+        let packing = Packing::begin(alloc, inlet, copy, &stage.options, capacity)?;
+        self.made = Made::Packing(packing);
+        Ok(())
+    }
+
+    // Fills the next page of the new copy.
+    fn fill(
+        &mut self,
+        alloc: Global,
+        inlet: &FeedIn,
+        stage: &Stage,
+        other: (u8, u32),
+        all: u64,
+    ) -> Result<Filled, ReloadFault>
+        requires lawful { Lawful (since_begin inlet.now.items) }
+        requires counted { length (changes (since_begin inlet.now.items)) ≡ all }
+        ensures { KeepsWorks self.old.made inlet.now self.new.made inlet.now }
+    {
+        self.pack(alloc, inlet, stage, other, all)?;
+        match &mut self.made {
+            Made::Packing(packing) => packing.fill(),
+            _ => Err(ReloadFault::NoMemory),
+        }
+    }
+
+    // Loads the new copy, if it is packed. It is dropped where that fails.
+    fn load(&mut self, alloc: Global, inlet: &FeedIn) -> Result<(), NoMemory>
+        requires lawful { Lawful (since_begin inlet.now.items) }
+        requires made { HasMade self.old.made inlet.now }
+        ensures { KeepsWorks self.old.made inlet.now self.new.made inlet.now }
+    {
+        match mem::replace(&mut self.made, Made::Nothing) {
+            Made::Packing(packing) => {
+                let draft = packing.load(alloc, inlet)?;
+                self.made = Made::Drafted(draft);
+                Ok(())
+            }
+            made => {
+                self.made = made;
+                Ok(())
+            }
+        }
+    }
+
+    // Sorts a list of the new copy, which is loaded before its first one.
     fn sort(
         &mut self,
         alloc: Global,
+        inlet: &FeedIn,
+        stage: &Stage,
         other: (u8, u32),
-        options: &Options,
+        all: u64,
         which: Which,
-    ) -> Result<(), NoMemory> {
-        if self.draft.is_none() {
-            let (copy, capacity) = other;
-            self.draft = Some(Draft::begin(alloc, copy, options, capacity)?);
-        }
-        match &mut self.draft {
-            Some(draft) => draft.sort(which),
-            None => Err(NoMemory),
+    ) -> Result<(), NoMemory>
+        requires lawful { Lawful (since_begin inlet.now.items) }
+        requires counted { length (changes (since_begin inlet.now.items)) ≡ all }
+        requires made { HasMade self.old.made inlet.now }
+        ensures { KeepsWorks self.old.made inlet.now self.new.made inlet.now }
+    {
+        self.pack(alloc, inlet, stage, other, all)?;
+        self.load(alloc, inlet)?;
+        match &mut self.made {
+            Made::Drafted(draft) => draft.sort(which),
+            _ => Err(NoMemory),
         }
     }
 
     // Builds an index of the new copy.
-    fn build(&mut self, which: Which) -> Result<(), NoMemory> {
-        match &mut self.draft {
-            Some(draft) => draft.build(which),
-            None => Err(NoMemory),
+    fn build(&mut self, which: Which) -> Result<(), NoMemory>
+        ensures { (inlet : Received) → KeepsWorks self.old.made inlet self.new.made inlet }
+    {
+        match &mut self.made {
+            Made::Drafted(draft) => draft.build(which),
+            _ => Err(NoMemory),
         }
     }
 
+    // Makes the next changes in the new copy, exactly so many. It is dropped where that fails.
+    fn take(&mut self, alloc: Global, inlet: &mut FeedIn, count: u8) -> Result<(), ShadowFault>
+        requires lawful { Lawful (since_begin inlet.old.items) }
+        requires made { HasMade self.old.made inlet.old }
+        ensures ring { inlet.new.ring ≡ inlet.old.ring }
+        ensures items { inlet.new.items ≡ inlet.old.items }
+        ensures works { KeepsWorks self.old.made inlet.old self.new.made inlet.new }
+    {
+        if count == 0 {
+            return Ok(());
+        }
+        match mem::replace(&mut self.made, Made::Nothing) {
+            Made::Drafted(draft) => {
+                let mut draft = draft;
+                draft.take(alloc, inlet, count)?;
+                self.made = Made::Drafted(draft);
+                Ok(())
+            }
+            made => {
+                self.made = made;
+                Err(ShadowFault::NoMemory)
+            }
+        }
+    }
+}
+
+// What is made of the new copy that the desk keeps.
+impl Reorg {
     // Takes the new copy back from the desk, if it keeps one.
     fn take_back<V: Counts, O: Operator>(&mut self, desk: &mut Desk<V, O>)
-        ensures { desk.new ≡ record desk.old { shadow = None } }
+        ensures desk { desk.new ≡ record desk.old { shadow = None } }
+        ensures works { (inlet : Received) (feed : List Item)
+            → Works self.old.made desk.old.shadow inlet feed
+            → Works self.new.made None inlet feed }
     {
         let (copy, capacity) = desk.other();
-        if let Some(shadow) = desk.take_shadow() {
-            self.draft = Some(Draft::of(shadow, copy, capacity));
+        let Some(shadow) = desk.take_shadow() else {
+            return;
+        };
+        if let Made::Written(options) = self.made {
+            self.made = Made::Drafted(Draft::of(shadow, options, copy, capacity));
         }
     }
 
@@ -196,6 +408,7 @@ impl Reorg {
         &mut self,
         alloc: Global,
         desk: &mut Desk<V, O>,
+        inlet: &FeedIn,
         stage: &Stage,
         granted: DrainFor,
         answer: Answer,
@@ -205,9 +418,12 @@ impl Reorg {
         requires step { MakesStep stage.now answer (steps.Write granted) }
         requires kept { desk.old.kept ≡ Some answer }
         requires room { 1 ≤ desk.old.spare }
-        ensures { Acts (seen_volume V.told V.faults V.capacities) desk.old answer desk.new }
+        requires hears { Hears desk.old inlet.now }
+        requires works { Works self.old.made desk.old.shadow inlet.now desk.old.feed }
+        ensures acts { Acts (seen_volume V.told V.faults V.capacities) desk.old answer desk.new }
+        ensures works { Works self.new.made desk.new.shadow inlet.now desk.new.feed }
     {
-        let event = match self.put(alloc, desk, stage, granted) {
+        let event = match self.put(alloc, desk, inlet, stage, granted) {
             Ok(pages) => Event::Written { pages },
             Err(PrepareCause::Device) => Event::Stop(StopReason::Device),
             Err(PrepareCause::NoMemory) => Event::Stop(StopReason::NoMemory),
@@ -220,64 +436,115 @@ impl Reorg {
         &mut self,
         alloc: Global,
         desk: &mut Desk<V, O>,
+        inlet: &FeedIn,
         stage: &Stage,
         granted: DrainFor,
     ) -> Result<u32, PrepareCause>
         requires up { desk.old.down ≡ false }
         requires stage { desk.old.stage ≡ Some stage.now }
+        requires unswitched { stage.now.switched ≡ false }
         requires drain { stage.now.drain ≡ Granted granted }
+        requires hears { Hears desk.old inlet.now }
+        requires works { Works self.old.made desk.old.shadow inlet.now desk.old.feed }
         ensures writes { Writes (seen_volume V.told V.faults V.capacities) desk.old desk.new }
         ensures device { result ≡ Err PrepareCause.Device
             → Rose (V.faults desk.old.volume) (V.faults desk.new.volume) }
+        ensures works { Works self.new.made desk.new.shadow inlet.now desk.new.feed }
     {
-        let Some(draft) = self.draft.take() else {
-            return Err(PrepareCause::NoMemory);
+        let draft = match mem::replace(&mut self.made, Made::Nothing) {
+            Made::Drafted(draft) => draft,
+            made => {
+                self.made = made;
+                return Err(PrepareCause::NoMemory);
+            }
         };
         let (copy, capacity) = desk.other();
-        if desk.pages() > 0 || !draft.is_ready(copy, capacity) {
+        if inlet.backlog() > 0 || stage.copied != stage.pages || !draft.is_ready(copy, capacity) {
             return Err(PrepareCause::NoMemory);
         }
+        let (pages, options) = (draft.count(), draft.options);
         match desk.prepare_switch(alloc, draft.into_shadow()) {
-            Ok(()) => Ok(0),
+            Ok(()) => {
+                self.made = Made::Written(options);
+                Ok(pages)
+            }
             Err(cause) => Err(cause),
         }
     }
+
+    // Makes the entry of the switch.
+    fn switch<V: Counts, O: Operator>(
+        &mut self,
+        desk: &mut Desk<V, O>,
+        inlet: &FeedIn,
+        stage: &Stage,
+        answer: Answer,
+    )
+        requires up { desk.old.down ≡ false }
+        requires stage { desk.old.stage ≡ Some stage.now }
+        requires step { MakesStep stage.now answer steps.Switch }
+        requires kept { desk.old.kept ≡ Some answer }
+        requires room { 1 ≤ desk.old.spare }
+        requires hears { Hears desk.old inlet.now }
+        requires works { Works self.old.made desk.old.shadow inlet.now desk.old.feed }
+        ensures acts { Acts (seen_volume V.told V.faults V.capacities) desk.old answer desk.new }
+        ensures works { Works self.new.made desk.new.shadow inlet.now desk.new.feed }
+    {
+        match self.sides(desk, inlet, stage) {
+            Ok(sides) => {
+                // The old copy is dropped.
+                let _ = desk.commit_switch(sides, answer);
+                self.made = Made::Nothing;
+            }
+            Err(_) => desk.book(Event::Stop(StopReason::NoMemory), Some(answer)),
+        }
+    }
+
+    // The layouts of both copies, where the new one that was written is caught up with all changes,
+    // and the log has no record more since.
+    fn sides<V: Counts, O: Operator>(
+        &self,
+        desk: &mut Desk<V, O>,
+        inlet: &FeedIn,
+        stage: &Stage,
+    ) -> Result<Sides, NoMemory>
+        requires up { desk.old.down ≡ false }
+        requires drained { HasDrain desk.old }
+        requires stage { desk.old.stage ≡ Some stage.now }
+        requires unswitched { stage.now.switched ≡ false }
+        requires hears { Hears desk.old inlet.now }
+        requires works { Works self.now.made desk.old.shadow inlet.now desk.old.feed }
+        ensures same { desk.new ≡ desk.old }
+        ensures sides { IfOk result (AreSidesToSwitch desk.old stage.entry.now) }
+    {
+        let Made::Written(options) = self.made else {
+            return Err(NoMemory);
+        };
+        if inlet.backlog() > 0 || stage.copied != stage.pages || !desk.is_current() {
+            return Err(NoMemory);
+        }
+        if options.pctfree != stage.options.pctfree || options.freepage != stage.options.freepage {
+            return Err(NoMemory);
+        }
+        let sides = desk.sides()?;
+        if sides.new.pages != stage.shadow {
+            return Err(NoMemory);
+        }
+        Ok(sides)
+    }
 }
 
-// Makes the entry of the switch.
-fn switch<V: Counts, O: Operator>(desk: &mut Desk<V, O>, stage: &Stage, answer: Answer)
+// Makes the entry of a step after the switch, or of one at which the operator ends the utility.
+fn end<V: Counts, O: Operator>(desk: &mut Desk<V, O>, stage: &Stage, answer: Answer)
     requires up { desk.old.down ≡ false }
     requires stage { desk.old.stage ≡ Some stage.now }
-    requires step { MakesStep stage.now answer steps.Switch }
+    requires taken { HasTaken desk.old.changes stage.now }
     requires kept { desk.old.kept ≡ Some answer }
     requires room { 1 ≤ desk.old.spare }
-    ensures { Acts (seen_volume V.told V.faults V.capacities) desk.old answer desk.new }
+    ensures acts { Acts (seen_volume V.told V.faults V.capacities) desk.old answer desk.new }
+    ensures feed { desk.new.feed ≡ desk.old.feed }
+    ensures shadow { desk.new.shadow ≡ while_running desk.new.stage desk.old.shadow }
 {
-    match empty_sides(desk, stage) {
-        Ok(sides) => {
-            // The old copy is dropped.
-            let _ = desk.commit_switch(sides, answer);
-        }
-        Err(_) => desk.book(Event::Stop(StopReason::NoMemory), Some(answer)),
-    }
-}
-
-// The layouts of both copies, where neither has a page.
-fn empty_sides<V: Counts, O: Operator>(
-    desk: &mut Desk<V, O>,
-    stage: &Stage,
-) -> Result<Sides, NoMemory>
-    requires up { desk.old.down ≡ false }
-    requires drained { HasDrain desk.old }
-    ensures same { desk.new ≡ desk.old }
-    ensures sides { IfOk result (AreEmptySides desk.old stage.entry.now) }
-{
-    if desk.pages() > 0 || stage.shadow > 0 || !desk.is_current() {
-        return Err(NoMemory);
-    }
-    let sides = desk.sides()?;
-    if sides.new.pages > 0 {
-        return Err(NoMemory);
-    }
-    Ok(sides)
+    let event = next_event(stage, desk.changes(), desk.holder(), &answer);
+    desk.book(event, Some(answer));
 }

@@ -4,6 +4,7 @@ pub mod Joins
 pub mod Flushes
 pub mod Asking
 pub mod Plays
+pub mod Working
 pub mod Going
 pub mod Opening
 pub mod Openings

@@ -168,6 +168,7 @@ refused_any past other event st new is allows = absurd is
 
 -- an event of a step is one of the utility that runs
 made_step : (past : List Entry) (answer : Option Answer) (event : Event) (st : State) → is_made event ≡ true → next_state past answer actors.Utility event st ≡ state_after_step past answer event st st.utility
+made_step past answer (events.Unload page rows) st is = refl
 made_step past answer (events.Reload page rows) st is = refl
 made_step past answer (events.Sort which) st is = refl
 made_step past answer (events.Build which) st is = refl

@@ -546,3 +546,31 @@ goes_opened {V} {O} look answers desk opened copy counted room idle = record {
 pub ok_weaken : {A B : Type 0} (P Q : A → Type 0) (result : Result A B) → ((x : A) → P x → Q x) → IfOk result P → IfOk result Q
 ok_weaken P Q (Ok x) f p = f x p
 ok_weaken P Q (Err e) f p = p
+
+-- the new copy that a desk keeps is no matter of its entries
+pub goes_dropped : {V O : Type 0} {answers : O → Option (List Answer)} (look : V → VolumeSeen) (first desk new : DeskState V O) (lines : List Line) → new ≡ record desk { shadow = None } → Goes look answers first lines desk → Goes look answers first lines new
+goes_dropped {V} {O} {answers} look first desk new lines same goes = subst (Goes look answers first lines) (sym same) (record {
+  entries = goes.entries;
+  begins = goes.begins;
+  full = goes.full;
+  log_full = goes.log_full;
+  device = goes.device;
+  down = goes.down;
+  flushes = goes.flushes;
+  copy_is = goes.copy_is;
+  counted = goes.counted;
+  asked = goes.asked;
+  room = goes.room;
+  own = goes.own;
+  both = goes.both;
+  stays = record {
+    older = goes.stays.older;
+    log_pages = goes.stays.log_pages;
+    opened = goes.stays.opened;
+    first_copy = goes.stays.first_copy;
+    old_same = goes.stays.old_same;
+    only = goes.stays.only;
+    later = goes.stays.later;
+    capacities = goes.stays.capacities;
+  };
+})

@@ -6,7 +6,7 @@
 // 3. Where there is no memory for an entry, nothing of its line is done, and the run ends.
 // 4. The operator is asked for the steps of a running utility alone.
 // 5. The calls of the volume are counted from the opening on.
-ghost use Rattle.std.specs.Prelude.{◌≡◌, ◌≤◌, ◌*◌, List, [], ◌∷◌, ◌++◌, None, IfOk, IfErr, length};
+ghost use Rattle.std.specs.Prelude.{◌≡◌, ◌≤◌, ◌*◌, List, [], ◌∷◌, ◌++◌, None, IfOk, IfErr, OnErr, OnOk, length};
 ghost use Rattle.std.specs.List.{AllByRecursion};
 ghost use Rattle.rg_stmt.specs.declared.line.Line.{Line};
 ghost use Rattle.rg_desk.specs.Desk.{DeskState};
@@ -14,18 +14,21 @@ ghost use Rattle.rg_desk.specs.OnVolume.{LeavesSoundIfTidy};
 ghost use Rattle.rg_desk.specs.Volume.{seen_volume};
 ghost use Rattle.rg_outside.specs.Faults.{Rose};
 ghost use Rattle.rg_outside.specs.Moments.{IfTold};
+ghost use Rattle.rg_feed.specs.Ends.{Received};
 ghost use Rattle.rg_image.specs.Rules.{limit_of};
 ghost use Rattle.rg_log.specs.Kept.{log_pages};
+ghost use Rattle.rg_phase.specs.Made.{Works};
 ghost use Rattle.rg_run.specs.Asked.{HasAnswered, answers_in};
 ghost use Rattle.rg_run.specs.Full.{IsFullOnlyFrom, smaller_pages};
 ghost use Rattle.rg_run.specs.LogFull.{IsLogFullOnlyFrom};
 ghost use Rattle.rg_run.specs.Outside.{IsDeviceOnlyIf, IsEnd, MakesOnly, WritesOwn, end_of};
 ghost use Rattle.rg_run.specs.Parts.{Going, IsRun, LeavesRun};
-ghost use Rattle.rg_run.specs.Played.{IsPlayed};
+ghost use Rattle.rg_run.specs.Played.{Goes, IsPlayed};
 ghost use Rattle.rg_run.specs.Table.{AreFlushes, AreOpenings, Ends, IsLegalRun, IsOpening, KeepsSound};
 
 use crate::played::{Played, RunEnd};
 use rg_base::no_memory::NoMemory;
+use rg_base::options::Options;
 use rg_desk::desk::{Desk, OpenCause, OpenFault};
 use rg_feed::inlet::FeedIn;
 use rg_outside::counted::{Counted, Counts};
@@ -40,9 +43,8 @@ use std::alloc::Global;
 /// lies in memory, in as many pages as the set of the current copy has, and no more than 65,536.
 /// The records of committed units are on the volume, and of the pages those that a flush wrote. A
 /// death of the process drops all that lies in memory, and the volume is opened again. A control
-/// statement starts a utility, which each line `U` takes a step further. A table without pages is
-/// reorganised whole; over another one the utility stops where it would copy a page, as if memory
-/// ran out.
+/// statement starts a utility, which each line `U` takes a step further, up to the switch to a new
+/// copy of the table. What it is sent by the lines between is made in that copy too.
 pub fn run<V: Volume, O: Operator>(
     alloc: Global,
     volume: V,
@@ -172,6 +174,7 @@ fn reopen<V: Counts, O: Operator>(
         → Going (seen_volume V.told V.faults V.capacities) O.answers first
         (lines ++ Line.Death ∷ []) next) }
     ensures kept { IfOk result (λ next. next.kept ≡ None) }
+    ensures shadow { IfOk result (λ next. next.shadow ≡ None) }
     ensures ring { IfOk result (λ next. next.ring ≡ inlet.new.ring) }
     ensures ends { IfErr result (λ played. (first : DeskState V O) (lines rest : List Line)
         → Going (seen_volume V.told V.faults V.capacities) O.answers first lines desk
@@ -189,6 +192,30 @@ fn reopen<V: Counts, O: Operator>(
     }
 }
 
+// Starts a utility, where none runs. What was made for an earlier one is dropped then.
+fn start<V: Counts, O: Operator>(
+    desk: &mut Desk<V, O>,
+    reorg: &mut Reorg,
+    options: Options,
+) -> Result<(), NoMemory>
+    ensures goes { OnOk result ((first : DeskState V O) (lines : List Line)
+        → Goes (seen_volume V.told V.faults V.capacities) O.answers first lines desk.old
+        → Goes (seen_volume V.told V.faults V.capacities) O.answers first
+        (lines ++ Line.Reorg options ∷ []) desk.new) }
+    ensures kept { OnOk result (desk.new.kept ≡ desk.old.kept) }
+    ensures ring { OnOk result (desk.new.ring ≡ desk.old.ring) }
+    ensures works { OnOk result ((inlet : Received)
+        → Works reorg.old.made desk.old.shadow inlet desk.old.feed
+        → Works reorg.new.made desk.new.shadow inlet desk.new.feed) }
+    ensures err { OnErr result (desk.new ≡ desk.old) }
+{
+    if !desk.start(options)? {
+        return Ok(());
+    }
+    reorg.forget(desk);
+    Ok(())
+}
+
 // Plays the lines over a table that was opened.
 fn play<V: Counts, O: Operator>(
     alloc: Global,
@@ -199,6 +226,7 @@ fn play<V: Counts, O: Operator>(
     requires lines { AllByRecursion IsPlayed lines.items }
     requires kept { desk.kept ≡ None }
     requires ring { desk.ring ≡ inlet.ring }
+    requires shadow { desk.shadow ≡ None }
     requires going { Going (seen_volume V.told V.faults V.capacities) O.answers desk [] desk }
     ensures { IsRun (seen_volume V.told V.faults V.capacities) O.answers desk lines.items
         (seen_volume V.told V.faults V.capacities result.volume)
@@ -231,12 +259,15 @@ fn play_line<V: Counts, O: Operator>(
     requires line { IsPlayed line }
     requires kept { desk.kept ≡ None }
     requires ring { desk.ring ≡ inlet.old.ring }
+    requires works { Works reorg.old.made desk.shadow inlet.old desk.feed }
     ensures goes { IfOk result (λ next. (first : DeskState V O) (lines : List Line)
         → Going (seen_volume V.told V.faults V.capacities) O.answers first lines desk
         → Going (seen_volume V.told V.faults V.capacities) O.answers first
         (lines ++ line ∷ []) next) }
     ensures kept { IfOk result (λ next. next.kept ≡ None) }
     ensures ring { IfOk result (λ next. next.ring ≡ inlet.new.ring) }
+    ensures works { IfOk result
+        (λ next. Works reorg.new.made next.shadow inlet.new next.feed) }
     ensures ends { IfErr result (λ played. (first : DeskState V O) (lines rest : List Line)
         → Going (seen_volume V.told V.faults V.capacities) O.answers first lines desk
         → IsRun (seen_volume V.told V.faults V.capacities) O.answers first (lines ++ line ∷ rest)
@@ -249,11 +280,8 @@ fn play_line<V: Counts, O: Operator>(
             Ok(()) => Ok(desk),
             Err(_) => Err(close(desk, RunEnd::NoMemory)),
         },
-        Line::Reorg(options) => match desk.start(options) {
-            Ok(started) => {
-                reorg.begin_anew(started);
-                Ok(desk)
-            }
+        Line::Reorg(options) => match start(&mut desk, reorg, options) {
+            Ok(()) => Ok(desk),
             Err(_) => Err(close(desk, RunEnd::NoMemory)),
         },
         Line::Step => match reorg.step(alloc, &mut desk, inlet) {
@@ -269,7 +297,7 @@ fn play_line<V: Counts, O: Operator>(
             Err(_) => Err(close(desk, RunEnd::NoMemory)),
         },
         Line::Death => {
-            reorg.begin_anew(true);
+            *reorg = Reorg::new();
             reopen(alloc, desk, inlet)
         }
     }

@@ -45,7 +45,8 @@ fn played(
     Ok(run(alloc, volume, operator, lines))
 }
 
-// The run of a deck has this print, after the line of the opening, and is legal.
+// The run of a deck has this print, with layouts in brief, after the line of the opening, and is
+// legal.
 fn expect_over(
     rt: &impl Abort,
     alloc: Global,
@@ -56,6 +57,18 @@ fn expect_over(
     lines: &[u8],
 ) -> Result<(), Fail> {
     let played = played(alloc, log, stop, deck, operator)?;
+    expect_print(rt, alloc, &played, false, deck, lines)
+}
+
+// A run has this print, after the line of the opening, and is legal.
+fn expect_print(
+    rt: &impl Abort,
+    alloc: Global,
+    played: &Played<MemVolume, ScriptOperator>,
+    full: bool,
+    deck: &[u8],
+    lines: &[u8],
+) -> Result<(), Fail> {
     let close = match played.end {
         RunEnd::Whole { rows } => Close::Rows(rows),
         RunEnd::Down => Close::Down,
@@ -63,7 +76,7 @@ fn expect_over(
     };
     let mut wanted = b"0 - OPENED copy=1 rows=0 pages=0\n".to_vec(alloc)?;
     wanted.extend_from_slice(lines)?;
-    let came = print(alloc, &played.trace, false, close)?;
+    let came = print(alloc, &played.trace, full, close)?;
     assert_eq!(rt; came.as_slice(), wanted.as_slice(), "at {deck:?}");
     let start: Table = NumberMap::new(alloc);
     assert_eq!(rt; judge(alloc, &start, &played.trace)?, None, "at {deck:?}");
@@ -184,27 +197,150 @@ fn reorganises_an_empty_table(rt: HostRuntime) -> Result<(), Fail> {
     Ok(())
 }
 
-// Steps over a table with pages, up to the first that is not built.
+// The rows are clustered again, and the new copy lists exactly them.
 #[test]
-fn stops_where_it_would_copy(rt: HostRuntime) -> Result<(), Fail> {
+fn restores_clustering(rt: HostRuntime) -> Result<(), Fail> {
+    let deck = b"1 INSERT 1 30 1 a\n1 INSERT 2 10 1 b\n1 INSERT 3 20 2 c\n1 COMMIT\n\
+        REORG TABLESPACE SHRLEVEL CHANGE\nU\nU\nU\nU\nU\nU\nU\nU\nU\nU\nU\nU\nU\nU\nU\nX\nL\n"
+        .as_slice();
+    let played = played(rt.alloc(), WIDE_LOG, NEVER, deck, b"")?;
+    expect_print(
+        &rt,
+        rt.alloc(),
+        &played,
+        true,
+        deck,
+        b"1 1 OK\n2 1 OK\n3 1 OK\n4 1 OK\n5 U STARTED copy=1 pages=1\n6 U UNLOAD page=1 rows=3\n\
+            7 U RELOAD page=1 rows=3\n8 U SORT KEY\n9 U SORT CLUS\n10 U SORT CAT\n11 U BUILD KEY\n\
+            12 U BUILD CLUS\n13 U BUILD CAT\n14 U LOG iteration=1 took=0 left=0 DRAIN WRITERS\n\
+            15 U GRANTED WRITERS\n16 U LAST took=0 left=0\n17 U WRITTEN pages=1\n18 U GRANTED ALL\n\
+            19 U SWITCHED copy=2\n  OLD pages=1 rows=3 over=0\n  SPOT 1.0 1 30 HOME\n\
+            \x20 SPOT 1.1 2 10 HOME\n  SPOT 1.2 3 20 HOME\n  KEY 1 1.0\n  KEY 2 1.1\n  KEY 3 1.2\n\
+            \x20 CLUS 10 1.1\n  CLUS 20 1.2\n  CLUS 30 1.0\n  CAT 1 1.0\n  CAT 1 1.1\n  CAT 2 1.2\n\
+            \x20 NEW pages=1 rows=3 over=0\n  SPOT 1.0 2 10 HOME\n  SPOT 1.1 3 20 HOME\n\
+            \x20 SPOT 1.2 1 30 HOME\n  KEY 1 1.2\n  KEY 2 1.0\n  KEY 3 1.1\n  CLUS 10 1.0\n\
+            \x20 CLUS 20 1.1\n  CLUS 30 1.2\n  CAT 1 1.0\n  CAT 1 1.2\n  CAT 2 1.1\n20 U ENDED\n\
+            21 - OPENED copy=2 rows=3 pages=1\n22 - LAYOUT copy=2\n  NOW pages=1 rows=3 over=0\n\
+            \x20 SPOT 1.0 2 10 HOME\n  SPOT 1.1 3 20 HOME\n  SPOT 1.2 1 30 HOME\n  KEY 1 1.2\n\
+            \x20 KEY 2 1.0\n  KEY 3 1.1\n  CLUS 10 1.0\n  CLUS 20 1.1\n  CLUS 30 1.2\n  CAT 1 1.0\n\
+            \x20 CAT 1 1.2\n  CAT 2 1.1\nEND entries=23 rows=3\n",
+    )
+}
+
+// Sessions write, commit and roll back beside each step.
+#[test]
+fn reorganises_beside_writers(rt: HostRuntime) -> Result<(), Fail> {
     for (deck, operator, lines) in [
-        // A page is to be copied.
+        // A row changes before its page is copied, another is deleted and a third comes after that.
+        // The first unit rolls back before its changes are taken.
         (
-            b"1 INSERT 1 10 1 a\n1 COMMIT\nREORG TABLESPACE SHRLEVEL CHANGE\nU\nU\n".as_slice(),
+            b"1 INSERT 1 30 1 a\n1 INSERT 2 10 1 b\n1 COMMIT\nREORG TABLESPACE SHRLEVEL CHANGE\n\
+                1 UPDATE 1 5 1 aa\nU\n1 DELETE 2\n2 INSERT 3 1 1 z\nU\n1 ROLLBACK\n2 COMMIT\n\
+                U\nU\nU\nU\nU\nU\nU\nU\n1 INSERT 4 2 2 y\nU\nU\nU\nU\nU\n\
+                1 SELECT 1\n1 SELECT 2\n1 SELECT 3\nX\n1 FIND 1\n"
+                .as_slice(),
             b"".as_slice(),
-            b"1 1 OK\n2 1 OK\n3 U STARTED copy=1 pages=1\n4 U STOP NOMEMORY\n5 U IDLE\n\
-                END entries=6 rows=1\n"
+            b"1 1 OK\n2 1 OK\n3 1 OK\n4 U STARTED copy=1 pages=1\n5 1 OK\n\
+                6 U UNLOAD page=1 rows=2\n7 1 OK\n8 2 OK\n9 U RELOAD page=1 rows=2\n10 1 OK\n\
+                11 2 OK\n12 U SORT KEY\n13 U SORT CLUS\n14 U SORT CAT\n15 U BUILD KEY\n\
+                16 U BUILD CLUS\n17 U BUILD CAT\n18 U LOG iteration=1 took=5 left=0 DRAIN WRITERS\n\
+                19 U GRANTED WRITERS\n20 1 -904 DRAINED\n21 U LAST took=0 left=0\n\
+                22 U WRITTEN pages=1\n23 U GRANTED ALL\n24 U SWITCHED copy=2\n\
+                \x20 OLD pages=1 rows=3 over=0\n  NEW pages=1 rows=3 over=0\n25 U ENDED\n\
+                26 1 ROW 1 30 1 a\n27 1 ROW 2 10 1 b\n28 1 ROW 3 1 1 z\n\
+                29 - OPENED copy=2 rows=3 pages=1\n30 1 KEYS 3: 1 2 3\nEND entries=31 rows=3\n"
                 .as_slice(),
         ),
-        // A change is to be taken: in an iteration, or in the last.
+        // The unit in the drain's way rolls back: its change is taken last, with the undo of it. A
+        // reader is in the way of the second drain.
+        (
+            b"1 INSERT 1 30 1 a\n1 COMMIT\n2 SCAN 5 9\nREORG TABLESPACE SHRLEVEL CHANGE\n\
+                U\nU\nU\nU\nU\nU\nU\nU\n1 UPDATE 1 7 1 b\nU\nU\n1 ROLLBACK\nU\nU\nU\n2 SELECT 1\nU\n\
+                2 COMMIT\nU\nU\nU\n1 SELECT 1\n"
+                .as_slice(),
+            b"".as_slice(),
+            b"1 1 OK\n2 1 OK\n3 2 ROWS 0\n4 U STARTED copy=1 pages=1\n5 U UNLOAD page=1 rows=1\n\
+                6 U RELOAD page=1 rows=1\n7 U SORT KEY\n8 U SORT CLUS\n9 U SORT CAT\n10 U BUILD KEY\n\
+                11 U BUILD CLUS\n12 U BUILD CAT\n13 1 OK\n\
+                14 U LOG iteration=1 took=0 left=1 DRAIN WRITERS\n15 U WAIT 1\n16 1 OK\n\
+                17 U GRANTED WRITERS\n18 U LAST took=2 left=0\n19 U WRITTEN pages=1\n\
+                20 2 ROW 1 30 1 a\n21 U WAIT 2\n22 2 OK\n23 U GRANTED ALL\n24 U SWITCHED copy=2\n\
+                \x20 OLD pages=1 rows=1 over=0\n  NEW pages=1 rows=1 over=0\n25 U ENDED\n\
+                26 1 ROW 1 30 1 a\nEND entries=27 rows=1\n"
+                .as_slice(),
+        ),
+        // The drain for ALL is given up once the new copy is written. It takes a change more, and is
+        // written again.
+        (
+            b"2 INSERT 1 30 1 a\n2 COMMIT\n1 SCAN 5 9\n\
+                REORG TABLESPACE SHRLEVEL CHANGE DRAIN_WAIT 5 RETRY 3 RETRY_DELAY 2\n\
+                U\nU\nU\nU\nU\nU\nU\nU\nU\nU\nU\nU\nU\nU\n2 UPDATE 1 3 1 b\n2 COMMIT\nU\nU\nU\nU\n\
+                1 COMMIT\nU\nU\nU\n1 SELECT 1\n"
+                .as_slice(),
+            b"0 0\n0 0\n0 0\n0 0\n0 0\n0 0\n0 0\n0 0\n0 0\n0 0\n0 0\n0 0\n3 0\n5 0\n7 0\n7 0\n7 0\n\
+                7 0\n7 0\n8 0\n"
+                .as_slice(),
+            b"1 2 OK\n2 2 OK\n3 1 ROWS 0\n4 U STARTED copy=1 pages=1\n5 U UNLOAD page=1 rows=1\n\
+                6 U RELOAD page=1 rows=1\n7 U SORT KEY\n8 U SORT CLUS\n9 U SORT CAT\n10 U BUILD KEY\n\
+                11 U BUILD CLUS\n12 U BUILD CAT\n13 U LOG iteration=1 took=0 left=0 DRAIN WRITERS\n\
+                14 U GRANTED WRITERS\n15 U LAST took=0 left=0\n16 U WRITTEN pages=1\n17 U WAIT 1\n\
+                18 U GIVEUP 1\n19 2 OK\n20 2 OK\n21 U LOG iteration=2 took=0 left=1 DRAIN WRITERS\n\
+                22 U GRANTED WRITERS\n23 U LAST took=1 left=0\n24 U WRITTEN pages=1\n25 1 OK\n\
+                26 U GRANTED ALL\n27 U SWITCHED copy=2\n  OLD pages=1 rows=1 over=0\n\
+                \x20 NEW pages=1 rows=1 over=0\n28 U ENDED\n29 1 ROW 1 3 1 b\nEND entries=30 rows=1\n"
+                .as_slice(),
+        ),
+        // The process dies once the new copy is written: the old one is the current copy still.
+        (
+            b"1 INSERT 1 30 1 a\n1 COMMIT\nREORG TABLESPACE SHRLEVEL CHANGE\n\
+                U\nU\nU\nU\nU\nU\nU\nU\nU\nU\nU\nU\nX\n1 SELECT 1\nU\n"
+                .as_slice(),
+            b"".as_slice(),
+            b"1 1 OK\n2 1 OK\n3 U STARTED copy=1 pages=1\n4 U UNLOAD page=1 rows=1\n\
+                5 U RELOAD page=1 rows=1\n6 U SORT KEY\n7 U SORT CLUS\n8 U SORT CAT\n9 U BUILD KEY\n\
+                10 U BUILD CLUS\n11 U BUILD CAT\n12 U LOG iteration=1 took=0 left=0 DRAIN WRITERS\n\
+                13 U GRANTED WRITERS\n14 U LAST took=0 left=0\n15 U WRITTEN pages=1\n\
+                16 - OPENED copy=1 rows=1 pages=1\n17 1 ROW 1 30 1 a\n18 U IDLE\n\
+                END entries=19 rows=1\n"
+                .as_slice(),
+        ),
+    ] {
+        expect(&rt, rt.alloc(), deck, operator, lines)?;
+    }
+    Ok(())
+}
+
+// Each page takes one row, and every other page stays free: the fifth row finds no page.
+#[test]
+fn stops_without_space(rt: HostRuntime) -> Result<(), Fail> {
+    expect(
+        &rt,
+        rt.alloc(),
+        b"1 INSERT 1 1 1 a\n1 INSERT 2 2 1 a\n1 INSERT 3 3 1 a\n1 INSERT 4 4 1 a\n1 INSERT 5 5 1 a\n\
+            1 COMMIT\nREORG TABLESPACE SHRLEVEL CHANGE PCTFREE 99 FREEPAGE 1\nU\nU\nU\nU\nU\nU\nU\n\
+            1 SELECT 5\n",
+        b"",
+        b"1 1 OK\n2 1 OK\n3 1 OK\n4 1 OK\n5 1 OK\n6 1 OK\n7 U STARTED copy=1 pages=1\n\
+            8 U UNLOAD page=1 rows=5\n9 U RELOAD page=1 rows=1\n10 U RELOAD page=3 rows=1\n\
+            11 U RELOAD page=5 rows=1\n12 U RELOAD page=7 rows=1\n13 U STOP NOSPACE\n14 U IDLE\n\
+            15 1 ROW 5 5 1 a\nEND entries=16 rows=5\n",
+    )
+}
+
+// Changes are taken in iterations and in the last step, over a table that was empty.
+#[test]
+fn takes_changes(rt: HostRuntime) -> Result<(), Fail> {
+    for (deck, operator, lines) in [
         (
             b"REORG TABLESPACE SHRLEVEL CHANGE MAXRO DEFER LONGLOG TERM DELAY 10\n\
-                U\nU\nU\nU\nU\nU\n1 INSERT 1 10 1 a\nU\nU\n1 COMMIT\n",
-            b"7 0\n",
+                U\nU\nU\nU\nU\nU\n1 INSERT 1 10 1 a\nU\nU\n1 COMMIT\n"
+                .as_slice(),
+            b"7 0\n".as_slice(),
             b"1 U STARTED copy=1 pages=0\n2 U SORT KEY\n3 U SORT CLUS\n4 U SORT CAT\n\
                 5 U BUILD KEY\n6 U BUILD CLUS\n7 U BUILD CAT\n8 1 OK\n\
-                9 U LOG iteration=1 took=0 left=1 MESSAGE\n10 U STOP NOMEMORY\n11 1 OK\n\
-                END entries=12 rows=1\n",
+                9 U LOG iteration=1 took=0 left=1 MESSAGE\n10 U LOG iteration=2 took=1 left=0 NEXT\n\
+                11 1 OK\nEND entries=12 rows=1\n"
+                .as_slice(),
         ),
         (
             b"REORG TABLESPACE SHRLEVEL CHANGE\nU\nU\nU\nU\nU\nU\n1 INSERT 1 10 1 a\nU\n\
@@ -215,7 +351,7 @@ fn stops_where_it_would_copy(rt: HostRuntime) -> Result<(), Fail> {
                 5 U BUILD KEY\n6 U BUILD CLUS\n7 U BUILD CAT\n8 1 OK\n\
                 9 U LOG iteration=1 took=0 left=1 DRAIN WRITERS\n10 2 -904 DRAINED\n\
                 11 2 ROWS 0\n12 1 OK\n13 U WAIT 1\n14 1 OK\n15 U GRANTED WRITERS\n\
-                16 1 -904 DRAINED\n17 1 OK\n18 U STOP NOMEMORY\n19 1 OK\n20 1 OK\n\
+                16 1 -904 DRAINED\n17 1 OK\n18 U LAST took=2 left=0\n19 1 -904 DRAINED\n20 1 OK\n\
                 END entries=21 rows=2\n",
         ),
     ] {

@@ -21,6 +21,7 @@ loop-line-preserved g c =
       left = one_fewer _ _ c.in-Some.line _ _ steps.1 c.loop-line.invariant.left steps.0;
       kept = c.in-Ok.ensures.kept;
       ring = c.in-Ok.ensures.ring;
+      works = c.in-Ok.ensures.works;
       lines = (subst (AllByRecursion IsPlayed) steps.0 c.loop-line.invariant.lines).1;
     }
 

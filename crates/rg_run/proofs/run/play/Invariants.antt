@@ -2,6 +2,7 @@ use Rattle.std.proofs.Common.{◌≡◌, ◌++◌, None, length}
 use Rattle.std.specs.List.{AllByRecursion}
 use Rattle.std.specs.Vec.Iter.{into_iter_items, into_iter_len}
 use Rattle.rg_desk.specs.Volume.{seen_volume}
+use Rattle.rg_phase.specs.Made.{Works}
 use Rattle.rg_run.specs.Parts.{Going}
 use Rattle.rg_run.specs.Played.{IsPlayed}
 use Rattle.rg_run.proofs.run.play.Given as goal
@@ -14,5 +15,6 @@ invariant-loop-line g l =
       left : into_iter_len l.line-iterator ≡ length (into_iter_items l.line-iterator);
       kept : l.desk.kept ≡ None;
       ring : l.desk.ring ≡ l.inlet.ring;
+      works : Works l.reorg.made l.desk.shadow l.inlet l.desk.feed;
       lines : AllByRecursion IsPlayed (into_iter_items l.line-iterator);
     }

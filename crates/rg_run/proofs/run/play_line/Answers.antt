@@ -1,13 +1,16 @@
 use Rattle.std.proofs.Common.{[], ◌∷◌, ◌++◌, List, sym, ap, subst}
-use Rattle.std.specs.Prelude.{IfErr}
+use Rattle.std.specs.Prelude.{IfErr, IfOk}
 use Rattle.rg_desk.specs.Desk.{DeskState}
 use Rattle.rg_desk.specs.Volume.{seen_volume}
 use Rattle.rg_stmt.specs.declared.line.Line.{Line}
 use Rattle.rg_stmt.specs.declared.line.Line.TheVariants.{Death}
+use Rattle.rg_phase.specs.Made.{Works}
+use Rattle.rg_phase.specs.declared.made.Made.{Made}
 use Rattle.rg_run.specs.Parts.{Going, IsRun}
 use Rattle.rg_run.specs.declared.played.RunEnd.{RunEnd}
 use Rattle.rg_run.proofs.Again.{ends_wanting, going_on}
-use Rattle.rg_run.proofs.Plays.{goes_flushed, goes_said, goes_shown, goes_started, goes_stepped, ok_weaken}
+use Rattle.rg_run.proofs.Plays.{goes_flushed, goes_said, goes_shown, goes_stepped, ok_weaken}
+use Rattle.rg_run.proofs.Working.{works_same}
 use Rattle.rg_run.proofs.run.play_line.Goals as goal
 
 pub returns-in-Ok-clause-goes : goal.returns-in-Ok-clause-goes
@@ -35,8 +38,8 @@ pub returns-in-Ok-start-clause-goes : goal.returns-in-Ok-start-clause-goes
 returns-in-Ok-start-clause-goes g c = λ first lines going.
     let look = seen_volume g.V.Volume.told g.V.Volume.faults g.V.Volume.capacities in
     let answers = g.O.Operator.answers in
-    subst (λ (line : Line). Going look answers first (lines ++ line ∷ []) c.start.new.self) (sym c.in-Reorg.is)
-    (going_on look first c.args.desk c.start.new.self lines _ tt (λ base back goes. goes_started look base c.args.desk c.start.new.self back goes c.in-Reorg.options _ c.in-Ok-start.ensures.made) going)
+    subst (λ (line : Line). Going look answers first (lines ++ line ∷ []) c.start.new.desk) (sym c.in-Reorg.is)
+    (going_on look first c.args.desk c.start.new.desk lines _ tt (λ base back goes. c.in-Ok-start.ensures.goes base back goes) going)
 
 pub returns-in-Ok-step-clause-goes : goal.returns-in-Ok-step-clause-goes
 returns-in-Ok-step-clause-goes g c = λ first lines going.
@@ -97,7 +100,7 @@ returns-in-Err-start-clause-ends g c = λ first lines rest going.
     let left = c.close-in-Err-start.ensures in
     let played = c.close-in-Err-start.result in
     subst (λ (end : RunEnd). IsRun look answers first (lines ++ c.args.line ∷ rest) (look played.volume) played.operator played.trace.items end) (sym left.end)
-    (ends_wanting look first c.start.new.self lines (subst (Going look answers first lines) (sym c.in-Err-start.ensures.err) going) played.trace.items left.trace left.left left.sound (look played.volume) (ap look left.volume) played.operator left.operator (c.args.line ∷ rest))
+    (ends_wanting look first c.start.new.desk lines (subst (Going look answers first lines) (sym c.in-Err-start.ensures.err) going) played.trace.items left.trace left.left left.sound (look played.volume) (ap look left.volume) played.operator left.operator (c.args.line ∷ rest))
 
 pub returns-in-Err-step-clause-ends : goal.returns-in-Err-step-clause-ends
 returns-in-Err-step-clause-ends g c = λ first lines rest going.
@@ -107,3 +110,18 @@ returns-in-Err-step-clause-ends g c = λ first lines rest going.
     let played = c.close-in-Err-step.result in
     subst (λ (end : RunEnd). IsRun look answers first (lines ++ c.args.line ∷ rest) (look played.volume) played.operator played.trace.items end) (sym left.end)
     (ends_wanting look first c.step.new.desk lines (subst (Going look answers first lines) (sym c.in-Err-step.ensures.err) going) played.trace.items left.trace left.left left.sound (look played.volume) (ap look left.volume) played.operator left.operator (c.args.line ∷ rest))
+
+pub returns-in-Ok-clause-works : goal.returns-in-Ok-clause-works
+returns-in-Ok-clause-works g c = works_same c.args.reorg.now.made c.args.inlet.now c.args.desk c.exec.new.self c.in-Ok.ensures.made.utility c.requires.works
+
+pub returns-in-Ok-show-clause-works : goal.returns-in-Ok-show-clause-works
+returns-in-Ok-show-clause-works g c = works_same c.args.reorg.now.made c.args.inlet.now c.args.desk c.show.new.self c.in-Ok-show.ensures.made.utility c.requires.works
+
+pub returns-in-Ok-flush_one-clause-works : goal.returns-in-Ok-flush_one-clause-works
+returns-in-Ok-flush_one-clause-works g c = works_same c.args.reorg.now.made c.args.inlet.now c.args.desk c.flush_one.new.self c.in-Ok-flush_one.ensures.made.utility c.requires.works
+
+pub returns-in-Ok-start-clause-works : goal.returns-in-Ok-start-clause-works
+returns-in-Ok-start-clause-works g c = c.in-Ok-start.ensures.works c.args.inlet.now c.requires.works
+
+pub returns-in-Death-clause-works : goal.returns-in-Death-clause-works
+returns-in-Death-clause-works g c = subst (λ (m : Made). IfOk c.reopen.result (λ next. Works m next.shadow c.reopen.new.inlet next.feed)) (sym c.new.ensures) c.reopen.ensures.shadow

@@ -24,6 +24,9 @@ returns-in-Ok-clause-goes g c = λ first lines going.
 pub returns-in-Ok-clause-kept : goal.returns-in-Ok-clause-kept
 returns-in-Ok-clause-kept g c = c.in-Ok.ensures.opens.opens.kept
 
+pub returns-in-Ok-clause-shadow : goal.returns-in-Ok-clause-shadow
+returns-in-Ok-clause-shadow g c = c.in-Ok.ensures.opens.opens.shadow
+
 pub returns-in-Err-clause-ends : goal.returns-in-Err-clause-ends
 returns-in-Err-clause-ends g c = λ first lines rest going.
     let look = seen_volume g.V.Volume.told g.V.Volume.faults g.V.Volume.capacities in

@@ -26,6 +26,9 @@ play-requires-clause-going g c = going_first g.V.Volume.told g.V.Volume.faults g
 pub play-requires-clause-kept : goal.play-requires-clause-kept
 play-requires-clause-kept g c = c.in-Ok.ensures.opens.opens.kept
 
+pub play-requires-clause-shadow : goal.play-requires-clause-shadow
+play-requires-clause-shadow g c = c.in-Ok.ensures.opens.opens.shadow
+
 -- the run that was counted is one of the volume below
 played : (g : given.Over) (c : goal.After-uncounted g)
     → Whole (seen_volume g.V.Volume.told g.V.Volume.faults g.V.Volume.capacities c.args.volume) (seen_volume g.V.Volume.told g.V.Volume.faults g.V.Volume.capacities c.uncounted.result.volume) c.args.lines.items c.uncounted.result.trace.items c.uncounted.result.end

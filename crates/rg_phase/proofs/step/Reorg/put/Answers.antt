@@ -1,20 +1,40 @@
-use Rattle.std.proofs.Common.{ℕ, sym, subst, arith}
+use Rattle.std.proofs.Common.{ℕ, length, Option, sym, ◌∙◌, ap, subst, arith}
+use Rattle.rg_desk.specs.Desk.{CanPrepare}
+use Rattle.rg_desk.specs.Prepared.{PreparedSeen}
 use Rattle.rg_desk.specs.Volume.{seen_volume}
 use Rattle.rg_image.specs.Rules.{copy_capacity}
 use Rattle.rg_shadow.specs.Shade.{Shade}
 use Rattle.rg_switch.specs.Switched.{other_of}
-use Rattle.rg_desk.specs.Desk.{CanPrepare}
-use Rattle.rg_phase.specs.Drafted.{IsReady}
-use Rattle.rg_phase.proofs.EmptySwitch.{can_prepare, is_nil}
+use Rattle.rg_phase.specs.Drafted.{IsDraftOf, IsReady}
+use Rattle.rg_phase.specs.Made.{HasMade, IsWrittenOf}
+use Rattle.rg_phase.specs.declared.made.Made.{Made}
+use Rattle.rg_phase.proofs.Receiving.{added_is, works_made}
+use Rattle.rg_phase.proofs.Switchable.{can_prepare, draft_stamped}
 use Rattle.rg_phase.proofs.step.Reorg.put.Goals as goal
 
 pub prepare_switch-requires-clause-can : goal.prepare_switch-requires-clause-can
 prepare_switch-requires-clause-can g c =
     let look = seen_volume g.V.Volume.told g.V.Volume.faults g.V.Volume.capacities in
     let desk = c.args.desk.now in
-    let shade = c.in-Some.draft.shadow in
+    let inlet = c.args.inlet.now in
+    let s = c.args.stage.now in
+    let shade = c.in-Drafted.draft.shadow in
+    let made = subst (λ (m : Made). HasMade m inlet) (sym c.replace.ensures.value ∙ c.in-Drafted.is) (works_made c.args.self.now.made desk.shadow inlet desk.feed c.requires.works) in
     let ready = c.is_ready.ensures c.if-not-is_ready.false in
-    subst (λ (s : Shade). CanPrepare look desk s) (sym c.into_shadow.ensures)
-    (can_prepare look desk shade (record { stage = c.args.stage.now; stage_is = c.requires.stage; granted = c.args.granted; drain = c.requires.drain })
-    (is_nil desk.ground.pages (omega (arith, c.pages.ensures, c.if-pages-gt0.false)))
+    subst (λ (x : Shade). CanPrepare look desk x) (sym c.into_shadow.ensures)
+    (can_prepare look desk inlet s c.in-Drafted.draft.options shade (record { stage = s; stage_is = c.requires.stage; granted = c.args.granted; drain = c.requires.drain }) c.requires.hears c.requires.stage c.requires.unswitched c.if-stage.false made
+    (omega (arith, c.backlog.ensures, c.if-backlog-gt0.false))
     (subst (λ (n : ℕ). IsReady n (copy_capacity (look desk.volume).capacities (other_of desk.copy)) shade) c.other-copy.ensures.copy (subst (λ (n : ℕ). IsReady c.other-copy.result.0 n shade) c.other-copy.ensures.capacity ready)))
+
+pub returns-in-Ok-clause-works : goal.returns-in-Ok-clause-works
+returns-in-Ok-clause-works g c =
+    let desk = c.args.desk.now in
+    let inlet = c.args.inlet.now in
+    let options = c.in-Drafted.draft.options in
+    let made = subst (λ (m : Made). HasMade m inlet) (sym c.replace.ensures.value ∙ c.in-Drafted.is) (works_made c.args.self.now.made desk.shadow inlet desk.feed c.requires.works) in
+    let shade = subst (λ (x : Shade). IsDraftOf options x inlet.items inlet.taken) (sym c.into_shadow.ensures) made in
+    let same = c.in-Ok.ensures.ok.same in (
+      subst (λ (o : Option PreparedSeen). IsWrittenOf options o inlet) (sym (ap (λ d. d.shadow) same))
+          (draft_stamped options c.into_shadow.result inlet.items inlet.taken (length desk.ground.log.records) shade),
+      added_is inlet.items c.prepare_switch.new.self.feed (c.requires.hears.items ∙ sym (ap (λ d. d.feed) same)),
+    )

@@ -1,11 +1,13 @@
-use Rattle.std.proofs.Common.{◌≡◌, ℕ, Option, Some, None, refl, sym, ◌∙◌, ap, subst}
-use Rattle.rg_desk.specs.Desk.{DeskState, left_by_stage}
+use Rattle.std.proofs.Common.{◌≡◌, ℕ, Option, Some, None, refl, sym, ◌∙◌, ap, append-nil, subst}
+use Rattle.rg_desk.specs.Desk.{DeskState, left_by_stage, while_running}
 use Rattle.rg_desk.specs.Volume.{seen_volume}
 use Rattle.rg_fold.specs.declared.item.Stage.{Stage}
 use Rattle.rg_outside.specs.Told.{AddsAnswer, HandsOver}
 use Rattle.rg_stmt.specs.declared.event.Event.TheVariants as events
 use Rattle.rg_phase.specs.Step.{NextMade, StepCalls}
+use Rattle.rg_phase.specs.Made.{Works}
 use Rattle.rg_phase.proofs.Making.{makes_refused}
+use Rattle.rg_phase.proofs.Receiving.{works_heard, works_on}
 use Rattle.rg_phase.proofs.Steps.{next_down, next_idle, same_asked, same_room}
 use Rattle.rg_phase.proofs.step.Reorg.step.Goals as goal
 
@@ -56,7 +58,7 @@ returns-clause-stepped g c =
     let handed = c.hand_over.ensures.same in
     let room : c.make_room.new.self ≡ record c.args.desk.now { spare = c.make_room.new.self.spare } = c.make_room.ensures.same ∙ ap (λ d. let x : DeskState g.row.V.Denot g.row.O.Denot = record d { spare = c.make_room.new.self.spare } in x) handed in
     let same = same_asked old c.make_room.new.self asked answer room c.ask_operator-answer.ensures.same in
-    let acts = c.act.ensures in
+    let acts = c.act.ensures.acts in
     record {
       answer = Some answer;
       event = acts.event;
@@ -73,3 +75,38 @@ returns-clause-stepped g c =
       made = acts.made;
       only = subst (λ d. StepCalls look d (Some answer) c.act.new.desk) same acts.only;
     }
+
+pub returns-then-down-clause-works : goal.returns-then-down-clause-works
+returns-then-down-clause-works g c =
+    let made = c.args.self.now.made in
+    let old = c.args.desk.now in
+    let inlet = c.hand_over.new.inlet in
+    let handed = c.hand_over.ensures.same in
+    let room : c.make_room.new.self ≡ record c.args.desk.now { spare = c.make_room.new.self.spare } = c.make_room.ensures.same ∙ ap (λ d. let x : DeskState g.row.V.Denot g.row.O.Denot = record d { spare = c.make_room.new.self.spare } in x) handed in
+    let heard = works_heard made old.shadow c.args.inlet.now inlet old.feed c.hand_over.ensures.grew c.in_ok-hand_over.ensures.all c.requires.works in
+    let mid = c.make_room.new.self in
+    let new = c.book.new.self in
+    works_on made new.stage old.shadow new.shadow inlet old.feed new.feed (c.book.ensures.shadow ∙ ap (λ o. while_running new.stage o) (ap (λ d. d.shadow) room)) (c.book.ensures.feed ∙ append-nil mid.feed ∙ ap (λ d. d.feed) room) heard
+
+pub returns-in-None-clause-works : goal.returns-in-None-clause-works
+returns-in-None-clause-works g c =
+    let made = c.args.self.now.made in
+    let old = c.args.desk.now in
+    let inlet = c.hand_over.new.inlet in
+    let handed = c.hand_over.ensures.same in
+    let room : c.make_room.new.self ≡ record c.args.desk.now { spare = c.make_room.new.self.spare } = c.make_room.ensures.same ∙ ap (λ d. let x : DeskState g.row.V.Denot g.row.O.Denot = record d { spare = c.make_room.new.self.spare } in x) handed in
+    let heard = works_heard made old.shadow c.args.inlet.now inlet old.feed c.hand_over.ensures.grew c.in_ok-hand_over.ensures.all c.requires.works in
+    let mid = c.make_room.new.self in
+    let new = c.book-in-None.new.self in
+    works_on made new.stage old.shadow new.shadow inlet old.feed new.feed (c.book-in-None.ensures.shadow ∙ ap (λ o. while_running new.stage o) (ap (λ d. d.shadow) room)) (c.book-in-None.ensures.feed ∙ append-nil mid.feed ∙ ap (λ d. d.feed) room) heard
+
+pub act-requires-clause-works : goal.act-requires-clause-works
+act-requires-clause-works g c =
+    let made = c.args.self.now.made in
+    let old = c.args.desk.now in
+    let inlet = c.hand_over.new.inlet in
+    let handed = c.hand_over.ensures.same in
+    let room : c.make_room.new.self ≡ record c.args.desk.now { spare = c.make_room.new.self.spare } = c.make_room.ensures.same ∙ ap (λ d. let x : DeskState g.row.V.Denot g.row.O.Denot = record d { spare = c.make_room.new.self.spare } in x) handed in
+    let heard = works_heard made old.shadow c.args.inlet.now inlet old.feed c.hand_over.ensures.grew c.in_ok-hand_over.ensures.all c.requires.works in
+    let same = same_asked old c.make_room.new.self c.ask_operator-answer.new.self c.ask_operator-answer.result room c.ask_operator-answer.ensures.same in
+    subst (λ d. Works made d.shadow inlet d.feed) (sym same) heard

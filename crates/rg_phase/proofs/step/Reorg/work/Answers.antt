@@ -1,10 +1,11 @@
-use Rattle.std.proofs.Common.{◌≡◌, ℕ, true, Option, subst}
+use Rattle.std.proofs.Common.{◌≡◌, ℕ, true, Option, ◌∙◌, append-nil, subst}
 use Rattle.rg_base.specs.declared.session.Session.{Session}
 use Rattle.rg_desk.specs.Volume.{seen_volume}
 use Rattle.rg_model.specs.Turn.{turn_of}
 use Rattle.rg_stage.specs.NumbersOf.{numbers_of}
 use Rattle.rg_tending.specs.Tending.{is_plain}
 use Rattle.rg_phase.proofs.Making.{acts_booked, writes_shadow}
+use Rattle.rg_phase.proofs.Receiving.{works_on}
 use Rattle.rg_phase.proofs.Steps.{next_same, or_stop_next, runs_some}
 use Rattle.rg_phase.proofs.step.Reorg.work.Goals as goal
 
@@ -17,11 +18,11 @@ book-requires-clause-next g c =
     let next =
     subst (λ (n : ℕ). is_plain (turn_of n old.covered c.args.answer (numbers_of s) s.drain event) ≡ true) c.changes.ensures
     (subst (λ (o : Option Session). is_plain (turn_of c.changes.result o c.args.answer (numbers_of s) s.drain event) ≡ true) c.holder.ensures c.next_event-event.ensures.next) in
-    let goes = or_stop_next old s c.args.answer event c.or_stop.result c.requires.up c.requires.stage c.next_event-event.ensures.booked c.next_event-event.ensures.device next c.or_stop.ensures in
-    next_same look old c.make-made.new.desk c.args.answer c.or_stop.result (writes_shadow look old c.make-made.new.desk c.make-made.ensures) goes.2
+    let goes = or_stop_next old s c.args.answer event c.or_stop.result c.requires.up c.requires.stage c.requires.unswitched c.next_event-event.ensures.booked c.next_event-event.ensures.device next c.or_stop.ensures in
+    next_same look old c.make-made.new.desk c.args.answer c.or_stop.result (writes_shadow look old c.make-made.new.desk c.make-made.ensures.desk) goes.2
 
-pub returns : goal.returns
-returns g c =
+pub returns-clause-acts : goal.returns-clause-acts
+returns-clause-acts g c =
     let look = seen_volume g.V.Volume.told g.V.Volume.faults g.V.Volume.capacities in
     let old = c.args.desk.now in
     let s = c.args.stage.now in
@@ -29,6 +30,12 @@ returns g c =
     let next =
     subst (λ (n : ℕ). is_plain (turn_of n old.covered c.args.answer (numbers_of s) s.drain event) ≡ true) c.changes.ensures
     (subst (λ (o : Option Session). is_plain (turn_of c.changes.result o c.args.answer (numbers_of s) s.drain event) ≡ true) c.holder.ensures c.next_event-event.ensures.next) in
-    let goes = or_stop_next old s c.args.answer event c.or_stop.result c.requires.up c.requires.stage c.next_event-event.ensures.booked c.next_event-event.ensures.device next c.or_stop.ensures in
-    acts_booked look old c.args.answer c.make-made.new.desk c.book.new.self c.or_stop.result (runs_some old s c.requires.stage) (writes_shadow look old c.make-made.new.desk c.make-made.ensures) goes.2 goes.0
+    let goes = or_stop_next old s c.args.answer event c.or_stop.result c.requires.up c.requires.stage c.requires.unswitched c.next_event-event.ensures.booked c.next_event-event.ensures.device next c.or_stop.ensures in
+    acts_booked look old c.args.answer c.make-made.new.desk c.book.new.self c.or_stop.result (runs_some old s c.requires.stage) (writes_shadow look old c.make-made.new.desk c.make-made.ensures.desk) goes.2 goes.0
     (λ is. absurd (cc (is, goes.1))) c.book.ensures
+
+pub returns-clause-works : goal.returns-clause-works
+returns-clause-works g c =
+    let mid = c.make-made.new.desk in
+    let new = c.book.new.self in
+    works_on c.make-made.new.self.made new.stage mid.shadow new.shadow c.make-made.new.inlet mid.feed new.feed c.book.ensures.shadow (c.book.ensures.feed ∙ append-nil mid.feed) c.make-made.ensures.works

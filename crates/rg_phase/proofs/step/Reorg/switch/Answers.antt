@@ -1,4 +1,4 @@
-use Rattle.std.proofs.Common.{refl, sym, ◌∙◌, ap, subst}
+use Rattle.std.proofs.Common.{◌≡◌, None, refl, sym, ◌∙◌, ap, subst}
 use Rattle.rg_base.specs.declared.verdict.StopReason.TheVariants as reasons
 use Rattle.rg_desk.specs.Desk.{CanCommit, MadeFall, MadeSwitch}
 use Rattle.rg_desk.specs.Volume.{seen_volume}
@@ -6,26 +6,21 @@ use Rattle.rg_desk.proofs.Committing.{by_result}
 use Rattle.rg_stmt.specs.declared.event.Event.TheVariants as events
 use Rattle.rg_switch.specs.Switched.{other_of}
 use Rattle.rg_phase.specs.Step.{Acts}
-use Rattle.rg_phase.proofs.EmptySwitch.{can_commit}
 use Rattle.rg_phase.proofs.Making.{acts_fallen, acts_switched}
 use Rattle.rg_phase.proofs.Steps.{made_runs, runs_some}
-use Rattle.rg_phase.proofs.Stops.{switch_drain, switch_next}
-use Rattle.rg_phase.proofs.step.switch.Goals as goal
-
-pub empty_sides-requires : goal.empty_sides-requires
-empty_sides-requires g c =
-    let drain = switch_drain c.args.stage.now c.args.answer c.requires.step in
-    record { up = c.requires.up; drained = record { stage = c.args.stage.now; stage_is = c.requires.stage; granted = drain.0; drain = drain.1 } }
+use Rattle.rg_phase.proofs.Stops.{switch_next}
+use Rattle.rg_phase.proofs.Switchable.{can_commit}
+use Rattle.rg_phase.proofs.step.Reorg.switch.Goals as goal
 
 pub commit_switch-requires-clause-can : goal.commit_switch-requires-clause-can
 commit_switch-requires-clause-can g c =
     subst (λ d. CanCommit d c.args.answer c.in-Ok.sides) (sym c.in-Ok.ensures.same)
     (can_commit c.args.desk.now c.args.stage.now c.args.answer c.in-Ok.sides c.requires.stage c.requires.step c.in-Ok.ensures.sides)
 
-pub returns-in-Ok : goal.returns-in-Ok
-returns-in-Ok g c =
+pub returns-in-Ok-clause-acts : goal.returns-in-Ok-clause-acts
+returns-in-Ok-clause-acts g c =
     let look = seen_volume g.V.Volume.told g.V.Volume.faults g.V.Volume.capacities in
-    let mid = c.empty_sides.new.desk in
+    let mid = c.sides.new.desk in
     let new = c.commit_switch.new.self in
     let s = c.args.stage.now in
     let answer = c.args.answer in
@@ -41,3 +36,11 @@ returns-in-Ok g c =
     (λ made.
     acts_fallen look mid answer new (runs_some mid s stage)
     (made_runs mid s answer (events.Stop reasons.Device) up stage refl (switch_next s answer c.requires.step mid.changes mid.covered (events.Stop reasons.Device) refl)) made))
+
+pub returns-in-Ok-clause-works : goal.returns-in-Ok-clause-works
+returns-in-Ok-clause-works g c =
+    let look = seen_volume g.V.Volume.told g.V.Volume.faults g.V.Volume.capacities in
+    let mid = c.sides.new.desk in
+    let new = c.commit_switch.new.self in
+    by_result c.commit_switch.result (MadeSwitch look mid c.args.answer c.in-Ok.sides new) (MadeFall look mid c.args.answer new) (new.shadow ≡ None) c.commit_switch.ensures.ok c.commit_switch.ensures.err
+    (λ made. made.stays.shadow) (λ made. made.stays.shadow)
