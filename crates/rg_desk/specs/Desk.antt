@@ -467,8 +467,8 @@ pub record MadeStep {V O : Type 0} (look : V → VolumeSeen) (old : DeskState V 
 
 -- What the items that a desk has sent are to its utility. They are in order. Until the copies are
 -- switched they lead to the rows of the table, at each place of a page that was copied or that the
--- table did not have at the start. As many pages are copied as the stage says, and as many rows. The
--- changes are counted as the entries tell.
+-- table did not have at the start. As many pages are copied as the stage says, and as many rows.
+-- The changes are counted as the entries tell.
 pub record FeedIs {V O : Type 0} (desk : DeskState V O) : Type 0 where
   pub counted : desk.changes ≡ changes (behind [] desk.trace)
   pub copies : AreCopies desk.stage desk.feed

@@ -4,8 +4,8 @@
 --    those before.
 -- 2. None of them has a quiet key, where no locked key is quiet, and not the one that the statement
 --    writes.
--- 3. Their rows are the one that the statement gives, or none where it takes one away; or those that
---    the unit's writes found, the latest first, where they are undone.
+-- 3. Their rows are the one that the statement gives, or none where it takes one away; or those
+--    that the unit's writes found, the latest first, where they are undone.
 -- 4. They are as many as the statement makes. The writes of open units are counted on as the
 --    statement's answer says.
 use Rattle.std.specs.Prelude.{◌≡◌, ◌++◌, ℕ, true, false, List, [], ◌∷◌, Option, Some, None, length}

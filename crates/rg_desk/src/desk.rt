@@ -456,8 +456,8 @@ impl<V: Counts, O: Operator> Desk<V, O> {
 
     /// Answers a statement of a session, which makes one entry. If there is no memory for the
     /// entry, the call is refused and nothing was done. If there is none for the answer, or for the
-    /// changes that are to be sent to a utility, the entry says NOMEMORY. The reply stands in the entry: handing out a copy of it too would take memory
-    /// after the statement was done.
+    /// changes that are to be sent to a utility, the entry says NOMEMORY. The reply stands in the
+    /// entry: handing out a copy of it too would take memory after the statement was done.
     pub fn exec(&mut self, session: Session, stmt: Stmt) -> Result<(), NoMemory>
         requires { IsSession session }
         ensures made { OnOk result (MadeSaid (seen_volume V.told V.faults V.capacities)
@@ -553,8 +553,8 @@ impl<V: Counts, O: Operator> Desk<V, O> {
         Ok(started)
     }
 
-    /// Hands over all that was sent to the end at which it is received. If there is no memory for it
-    /// there, nothing is received.
+    /// Hands over all that was sent to the end at which it is received. If there is no memory for
+    /// it there, nothing is received.
     pub fn hand_over(&mut self, inlet: &mut FeedIn) -> Result<(), NoMemory>
         requires { self.old.ring ≡ inlet.old.ring }
         ensures same { self.new ≡ self.old }

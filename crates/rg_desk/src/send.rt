@@ -126,8 +126,8 @@ impl Engine {
         }
     }
 
-    /// Copies the rows of the changes that a statement makes that is answered OK, and takes room for
-    /// these changes, where a utility runs. A COMMIT makes none, and takes no memory.
+    /// Copies the rows of the changes that a statement makes that is answered OK, and takes room
+    /// for these changes, where a utility runs. A COMMIT makes none, and takes no memory.
     pub fn make_ready(
         &self,
         session: Session,

@@ -38,8 +38,8 @@ pub record Writes {V O : Type 0} (look : V → VolumeSeen) (old new : DeskState 
       ≡ record old.ground { log = record old.ground.log { forced = new.ground.log.forced } }
   pub calls : CallsOwn (other_of old.copy) (look old.volume) (look new.volume)
 
--- The layouts of both copies. The new one was written since the last record, and has as many pages as
--- the utility has counted. Its quiet rows lie at home, in clustering order, and it is packed where
+-- The layouts of both copies. The new one was written since the last record, and has as many pages
+-- as the utility has counted. Its quiet rows lie at home, in clustering order, and it is packed where
 -- nothing has changed since the start.
 pub record AreSidesToSwitch {V O : Type 0} (desk : DeskState V O) (stage : Stage) (sides : Sides)
     : Type 0 where

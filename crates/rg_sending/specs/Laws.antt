@@ -90,8 +90,8 @@ SwitchIsKept =
     (rows new : Rows) (writes later : ℕ → ℕ) (past now : List Entry) (old s : Stage)
     (count : ChangeCount) (records more : ℕ) (feed : List Item)
     → KeepsSent rows writes past (Some old) count records feed → s.switched ≡ true
-    → s.copied ≡ old.copied → s.unloaded ≡ old.unloaded → records ≤ more → ((n : ℕ) → later n ≡ writes n)
-    → KeepsSent new later now (Some s) count more feed
+    → s.copied ≡ old.copied → s.unloaded ≡ old.unloaded → records ≤ more
+    → ((n : ℕ) → later n ≡ writes n) → KeepsSent new later now (Some s) count more feed
 
 abbrev pub BookedCopiesNone : Type 0
 BookedCopiesNone =

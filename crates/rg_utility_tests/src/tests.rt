@@ -255,12 +255,14 @@ fn reorganises_beside_writers(rt: HostRuntime) -> Result<(), Fail> {
         // reader is in the way of the second drain.
         (
             b"1 INSERT 1 30 1 a\n1 COMMIT\n2 SCAN 5 9\nREORG TABLESPACE SHRLEVEL CHANGE\n\
-                U\nU\nU\nU\nU\nU\nU\nU\n1 UPDATE 1 7 1 b\nU\nU\n1 ROLLBACK\nU\nU\nU\n2 SELECT 1\nU\n\
+                U\nU\nU\nU\nU\nU\nU\nU\n1 UPDATE 1 7 1 b\nU\nU\n1 ROLLBACK\nU\nU\nU\n2 SELECT 1\n\
+                U\n\
                 2 COMMIT\nU\nU\nU\n1 SELECT 1\n"
                 .as_slice(),
             b"".as_slice(),
             b"1 1 OK\n2 1 OK\n3 2 ROWS 0\n4 U STARTED copy=1 pages=1\n5 U UNLOAD page=1 rows=1\n\
-                6 U RELOAD page=1 rows=1\n7 U SORT KEY\n8 U SORT CLUS\n9 U SORT CAT\n10 U BUILD KEY\n\
+                6 U RELOAD page=1 rows=1\n7 U SORT KEY\n8 U SORT CLUS\n9 U SORT CAT\n\
+                10 U BUILD KEY\n\
                 11 U BUILD CLUS\n12 U BUILD CAT\n13 1 OK\n\
                 14 U LOG iteration=1 took=0 left=1 DRAIN WRITERS\n15 U WAIT 1\n16 1 OK\n\
                 17 U GRANTED WRITERS\n18 U LAST took=2 left=0\n19 U WRITTEN pages=1\n\
@@ -269,8 +271,8 @@ fn reorganises_beside_writers(rt: HostRuntime) -> Result<(), Fail> {
                 26 1 ROW 1 30 1 a\nEND entries=27 rows=1\n"
                 .as_slice(),
         ),
-        // The drain for ALL is given up once the new copy is written. It takes a change more, and is
-        // written again.
+        // The drain for ALL is given up once the new copy is written. It takes a change more, and
+        // is written again.
         (
             b"2 INSERT 1 30 1 a\n2 COMMIT\n1 SCAN 5 9\n\
                 REORG TABLESPACE SHRLEVEL CHANGE DRAIN_WAIT 5 RETRY 3 RETRY_DELAY 2\n\
@@ -281,13 +283,15 @@ fn reorganises_beside_writers(rt: HostRuntime) -> Result<(), Fail> {
                 7 0\n7 0\n8 0\n"
                 .as_slice(),
             b"1 2 OK\n2 2 OK\n3 1 ROWS 0\n4 U STARTED copy=1 pages=1\n5 U UNLOAD page=1 rows=1\n\
-                6 U RELOAD page=1 rows=1\n7 U SORT KEY\n8 U SORT CLUS\n9 U SORT CAT\n10 U BUILD KEY\n\
+                6 U RELOAD page=1 rows=1\n7 U SORT KEY\n8 U SORT CLUS\n9 U SORT CAT\n\
+                10 U BUILD KEY\n\
                 11 U BUILD CLUS\n12 U BUILD CAT\n13 U LOG iteration=1 took=0 left=0 DRAIN WRITERS\n\
                 14 U GRANTED WRITERS\n15 U LAST took=0 left=0\n16 U WRITTEN pages=1\n17 U WAIT 1\n\
                 18 U GIVEUP 1\n19 2 OK\n20 2 OK\n21 U LOG iteration=2 took=0 left=1 DRAIN WRITERS\n\
                 22 U GRANTED WRITERS\n23 U LAST took=1 left=0\n24 U WRITTEN pages=1\n25 1 OK\n\
                 26 U GRANTED ALL\n27 U SWITCHED copy=2\n  OLD pages=1 rows=1 over=0\n\
-                \x20 NEW pages=1 rows=1 over=0\n28 U ENDED\n29 1 ROW 1 3 1 b\nEND entries=30 rows=1\n"
+                \x20 NEW pages=1 rows=1 over=0\n28 U ENDED\n29 1 ROW 1 3 1 b\n\
+                END entries=30 rows=1\n"
                 .as_slice(),
         ),
         // The process dies once the new copy is written: the old one is the current copy still.
@@ -297,7 +301,8 @@ fn reorganises_beside_writers(rt: HostRuntime) -> Result<(), Fail> {
                 .as_slice(),
             b"".as_slice(),
             b"1 1 OK\n2 1 OK\n3 U STARTED copy=1 pages=1\n4 U UNLOAD page=1 rows=1\n\
-                5 U RELOAD page=1 rows=1\n6 U SORT KEY\n7 U SORT CLUS\n8 U SORT CAT\n9 U BUILD KEY\n\
+                5 U RELOAD page=1 rows=1\n6 U SORT KEY\n7 U SORT CLUS\n8 U SORT CAT\n\
+                9 U BUILD KEY\n\
                 10 U BUILD CLUS\n11 U BUILD CAT\n12 U LOG iteration=1 took=0 left=0 DRAIN WRITERS\n\
                 13 U GRANTED WRITERS\n14 U LAST took=0 left=0\n15 U WRITTEN pages=1\n\
                 16 - OPENED copy=1 rows=1 pages=1\n17 1 ROW 1 30 1 a\n18 U IDLE\n\
@@ -316,7 +321,8 @@ fn stops_without_space(rt: HostRuntime) -> Result<(), Fail> {
     expect(
         &rt,
         rt.alloc(),
-        b"1 INSERT 1 1 1 a\n1 INSERT 2 2 1 a\n1 INSERT 3 3 1 a\n1 INSERT 4 4 1 a\n1 INSERT 5 5 1 a\n\
+        b"1 INSERT 1 1 1 a\n1 INSERT 2 2 1 a\n1 INSERT 3 3 1 a\n1 INSERT 4 4 1 a\n\
+            1 INSERT 5 5 1 a\n\
             1 COMMIT\nREORG TABLESPACE SHRLEVEL CHANGE PCTFREE 99 FREEPAGE 1\nU\nU\nU\nU\nU\nU\nU\n\
             1 SELECT 5\n",
         b"",
@@ -338,7 +344,8 @@ fn takes_changes(rt: HostRuntime) -> Result<(), Fail> {
             b"7 0\n".as_slice(),
             b"1 U STARTED copy=1 pages=0\n2 U SORT KEY\n3 U SORT CLUS\n4 U SORT CAT\n\
                 5 U BUILD KEY\n6 U BUILD CLUS\n7 U BUILD CAT\n8 1 OK\n\
-                9 U LOG iteration=1 took=0 left=1 MESSAGE\n10 U LOG iteration=2 took=1 left=0 NEXT\n\
+                9 U LOG iteration=1 took=0 left=1 MESSAGE\n\
+                10 U LOG iteration=2 took=1 left=0 NEXT\n\
                 11 1 OK\nEND entries=12 rows=1\n"
                 .as_slice(),
         ),
