@@ -1,0 +1,9 @@
+pub mod Phases
+pub mod Steps
+pub mod Resting
+pub mod Going
+pub mod Writers
+pub mod Quieted
+pub mod Turning
+pub mod Granting
+pub mod Caught

@@ -1,0 +1,5 @@
+//! When a utility that nothing hinders has ended.
+#![tactic(auto)]
+
+/// The laws, each the contract of a function without a body.
+pub mod laws;
