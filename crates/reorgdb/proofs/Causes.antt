@@ -11,7 +11,8 @@ use Rattle.rg_log.specs.Kept.{log_pages}
 use Rattle.rg_run.specs.Full.{IsFullOnlyFrom, smaller_pages}
 use Rattle.rg_run.specs.LogFull.{IsLogFullOnlyFrom}
 use Rattle.rg_run.specs.Outside.{IfBoth, IfCounted, IsDeviceOnlyIf, IsEnd, MadeSince, MakesOnly, WasUntidy, WritesOwn}
-use Rattle.rg_deck.specs.declared.read.Admits.TheVariants.{Played as PlayedLines}
+use Rattle.rg_deck.specs.Grammar.{Lines}
+use Rattle.rg_deck.specs.declared.read.Admits.TheVariants.{Every}
 use Rattle.rg_deck.proofs.Readings.{one_reading}
 use Rattle.rg_print.specs.Print.{print_text}
 use Rattle.rg_print.specs.declared.print.Close.TheVariants as closes
@@ -28,7 +29,7 @@ use Rattle.rg_desk.specs.OnVolume.{IsTidyVolume}
 use Rattle.rg_desk.specs.Volume.{VolumeSeen}
 use Rattle.rg_stmt.specs.declared.event.Entry.{Entry}
 use Rattle.rg_stmt.specs.declared.line.Line.{Line}
-use Rattle.reorgdb.specs.Answer.{Seen, IsPlay, IsShow, IsCommand, IsDeck, ReadsDeck, Comes, Concludes, DealsWithBytes, Finds, PlaysTo, ShowsTo, output_of}
+use Rattle.reorgdb.specs.Answer.{Seen, IsPlay, IsShow, IsCommand, ReadsDeck, Comes, Concludes, DealsWithBytes, Finds, PlaysTo, ShowsTo, output_of}
 use Rattle.reorgdb.specs.Causes.{IsSoundVolume, Plays, Shows, RefusesDeck, RefusesVolume, IsDue, GivesDue}
 use Rattle.reorgdb.specs.Contract.{Completes}
 use Rattle.reorgdb.specs.Reading.{TakesAtMost, TakesTooMany}
@@ -130,7 +131,7 @@ IsOfLines Device = Unit {0}
 IsOfLines outcome = ⊥
 
 -- bytes that come to such an outcome are a deck
-is_deck : (outcome : Outcome) (full : Bool) (before after : VolumeSeen) (bytes : List ℕ) (trace : List Entry) (print : List ℕ) → IsOfLines outcome → DealsWithBytes full before after bytes outcome trace print → (lines : List Line) × IsDeck bytes lines
+is_deck : (outcome : Outcome) (full : Bool) (before after : VolumeSeen) (bytes : List ℕ) (trace : List Entry) (print : List ℕ) → IsOfLines outcome → DealsWithBytes full before after bytes outcome trace print → (lines : List Line) × Lines bytes lines
 is_deck Played full before after bytes trace print of deals = (deals.0, deals.1)
 is_deck Down full before after bytes trace print of deals = (deals.0, deals.1)
 is_deck (Damaged set page) full before after bytes trace print of deals = (deals.0, deals.1)
@@ -349,7 +350,7 @@ module _ (words : List (List ℕ)) (source source_after sink sink_after : Seen) 
   no_deck_due outcome line print of is_due comes =
       let (asked, read, reads, deals) = comes in
       let (lines, spelled) = is_deck outcome asked.0 volume volume_after read trace print of deals in
-      is_due.4 lines (subst (λ b. IsDeck b lines) (all_read read is_due.1 is_due.2 reads) spelled)
+      is_due.4 lines (subst (λ b. Lines b lines) (all_read read is_due.1 is_due.2 reads) spelled)
 
   -- what comes where nothing fails has the status of what is due, or is want of memory
   played_due : (outcome due : Outcome) (print : List ℕ) → IsDue due words source.bytes volume volume_after → IsPlay words → (Rose source.faults source_after.faults → ⊥)
@@ -375,13 +376,13 @@ module _ (words : List (List ℕ)) (source source_after sink sink_after : Seen) 
   played_due (Deck line) Played print is_due play sure comes finds =
       let (asked, read, reads, deals) = comes in
       let (refused, none, printed) = deals in
-      absurd (refused.1 is_due.5 (subst (λ b. IsDeck b is_due.5) (sym (all_read read is_due.1 is_due.2 reads)) is_due.6))
+      absurd (refused.1 is_due.5 (subst (λ b. Lines b is_due.5) (sym (all_read read is_due.1 is_due.2 reads)) is_due.6))
   played_due Down Played print is_due play sure comes finds = absurd (is_due.4.sure finds)
   played_due Device Played print is_due play sure comes finds = absurd (is_due.4.sure finds)
   played_due (Damaged set page) Played print is_due play sure comes finds =
       let (asked, read, reads, deals) = comes in
       let (lines, spelled, at, printed) = deals in
-      let same : lines ≡ is_due.5 = one_reading PlayedLines is_due.1 lines is_due.5 (subst (λ b. IsDeck b lines) (all_read read is_due.1 is_due.2 reads) spelled) is_due.6 in
+      let same : lines ≡ is_due.5 = one_reading Every is_due.1 lines is_due.5 (subst (λ b. Lines b lines) (all_read read is_due.1 is_due.2 reads) spelled) is_due.6 in
       absurd (by_place at same)
     where
       by_place : {lines : List Line} → EndsAtOpening lines trace → lines ≡ is_due.5 → ⊥

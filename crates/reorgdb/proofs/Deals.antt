@@ -7,9 +7,9 @@ use Rattle.rg_print.specs.declared.print.Close.TheVariants as closes
 use Rattle.rg_stmt.specs.declared.event.Entry.{Entry}
 use Rattle.std.specs.List.{AllByRecursion}
 use Rattle.rg_stmt.specs.declared.line.Line.{Line}
-use Rattle.rg_stmt.specs.declared.line.Line.TheVariants.{Death, Flush, Said, Show}
-use Rattle.rg_deck.specs.Grammar.{IsAdmitted}
-use Rattle.rg_deck.specs.declared.read.Admits.TheVariants.{Played as PlayedLines}
+use Rattle.rg_stmt.specs.declared.line.Line.TheVariants.{Death, Flush, Reorg, Said, Show, Step}
+use Rattle.rg_deck.specs.Grammar.{IsAdmitted, Lines}
+use Rattle.rg_deck.specs.declared.read.Admits.TheVariants.{Every}
 use Rattle.rg_desk.specs.Volume.{VolumeSeen}
 use Rattle.rg_run.specs.Played.{IsPlayed, TraceOf, TraceOfFront}
 use Rattle.rg_base.specs.declared.set.Set.{Set}
@@ -21,7 +21,7 @@ use Rattle.rg_words.specs.Spelling.{IsAdmitted as Admitted, Spells}
 use Rattle.rg_words.specs.declared.words.Words.{Words as Asked}
 use Rattle.rg_words.specs.declared.words.Words.TheVariants as asks
 use Rattle.rg_words.specs.declared.words.Admits.TheVariants as upto
-use Rattle.reorgdb.specs.Answer.{IsCommand, Comes, DealsWithBytes, DealsWithLines, IsDeck, IsPlay, ReadsDeck, Seen, ShowsTo}
+use Rattle.reorgdb.specs.Answer.{IsCommand, Comes, DealsWithBytes, DealsWithLines, IsPlay, ReadsDeck, Seen, ShowsTo}
 use Rattle.reorgdb.specs.declared.outcome.Outcome.{Outcome}
 use Rattle.reorgdb.specs.declared.outcome.Outcome.TheVariants.{Played, Down, Shown, Words, Deck, Source, Damaged, Device, Long, NoMemory}
 
@@ -29,12 +29,12 @@ use Rattle.reorgdb.specs.declared.outcome.Outcome.TheVariants.{Played, Down, Sho
 pub TraceOfFront-whole : (lines : List Line) (trace : List Entry) → TraceOf lines trace → TraceOfFront lines trace
 TraceOfFront-whole lines trace of = (lines, [], sym (append-nil lines), of)
 
-front_of : (bytes : List ℕ) (lines : List Line) (trace : List Entry) → IsDeck bytes lines → (trace ≡ []) ⊎ TraceOfFront lines trace
-    → (trace ≡ []) ⊎ ((lines : List Line) × IsDeck bytes lines × TraceOfFront lines trace)
+front_of : (bytes : List ℕ) (lines : List Line) (trace : List Entry) → Lines bytes lines → (trace ≡ []) ⊎ TraceOfFront lines trace
+    → (trace ≡ []) ⊎ ((lines : List Line) × Lines bytes lines × TraceOfFront lines trace)
 front_of bytes lines trace spelled (inl none) = inl none
 front_of bytes lines trace spelled (inr front) = inr (lines, spelled, front)
 
-pub DealsWithBytes-lines : (full : Bool) (volume volume_after : VolumeSeen) (outcome : Outcome) (bytes : List ℕ) (lines : List Line) (trace : List Entry) (print : List ℕ) → IsDeck bytes lines
+pub DealsWithBytes-lines : (full : Bool) (volume volume_after : VolumeSeen) (outcome : Outcome) (bytes : List ℕ) (lines : List Line) (trace : List Entry) (print : List ℕ) → Lines bytes lines
     → DealsWithLines full volume volume_after lines outcome trace print → DealsWithBytes full volume volume_after bytes outcome trace print
 DealsWithBytes-lines full volume volume_after Played bytes lines trace print spelled deals = (lines, spelled, deals)
 DealsWithBytes-lines full volume volume_after Down bytes lines trace print spelled deals = (lines, spelled, deals)
@@ -104,14 +104,15 @@ pub no_command : (words : List (List ℕ)) → ((asked : Asked) → Spells asked
 no_command words none (inl play) = none (asks.Play play.0) play.1 refl
 no_command words none (inr show) = none asks.Layout show refl
 
--- statements, layouts, flushes and deaths are played
-each_played : (line : Line) → IsAdmitted PlayedLines line → IsPlayed line
+-- every line of the grammar is played
+each_played : (line : Line) → IsAdmitted Every line → IsPlayed line
 each_played (Said session stmt) is = is.0.0
+each_played (Reorg options) is = tt
+each_played Step is = tt
 each_played Flush is = tt
 each_played Show is = tt
 each_played Death is = tt
-each_played line is = absurd (cc (is.1))
 
-pub all_played : (lines : List Line) → AllByRecursion (IsAdmitted PlayedLines) lines → AllByRecursion IsPlayed lines
+pub all_played : (lines : List Line) → AllByRecursion (IsAdmitted Every) lines → AllByRecursion IsPlayed lines
 all_played [] all = tt
 all_played (line ∷ lines) all = (each_played line all.0, all_played lines all.1)

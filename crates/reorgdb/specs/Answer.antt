@@ -1,8 +1,8 @@
 -- What a call of the program comes to, and how its output is given.
 use Rattle.std.specs.Prelude.{ℕ, ◌≡◌, ◌≤◌, ◌⊎◌, ◌++◌, Bool, true, List, [], ◌∷◌, Option, length}
 use Rattle.std.specs.Io.KnownBytes.{Consumes, IsAtEnd}
-use Rattle.rg_deck.specs.Grammar.{LinesOf, IsFirstOutside}
-use Rattle.rg_deck.specs.declared.read.Admits.TheVariants.{Played as PlayedLines}
+use Rattle.rg_deck.specs.Grammar.{Lines, IsFirstOutside}
+use Rattle.rg_deck.specs.declared.read.Admits.TheVariants.{Every}
 use Rattle.rg_deck.specs.declared.read.TheConstants.{DECK_LIMIT}
 use Rattle.rg_model.specs.Layout.{is_right_side}
 use Rattle.rg_model.specs.State.{Table}
@@ -52,17 +52,13 @@ IsShow words = Spells asks.Layout words
 abbrev pub IsCommand : List (List ℕ) → Type 0
 IsCommand words = IsPlay words ⊎ IsShow words
 
--- the bytes are statements, layouts, flushes and deaths of the process, one to a line
-abbrev pub IsDeck : List ℕ → List Line → Type 0
-IsDeck bytes lines = LinesOf PlayedLines bytes lines
-
--- they are not
+-- the bytes are no lines of the grammar
 abbrev pub IsNoDeck : List ℕ → Type 0
-IsNoDeck bytes = (lines : List Line) → IsDeck bytes lines → ⊥
+IsNoDeck bytes = (lines : List Line) → Lines bytes lines → ⊥
 
--- this line is the first that is outside the grammar, or is not played
+-- this line is the first that is outside the grammar
 abbrev pub IsRefusedAt : List ℕ → ℕ → Type 0
-IsRefusedAt bytes line = IsFirstOutside PlayedLines bytes line × IsNoDeck bytes
+IsRefusedAt bytes line = IsFirstOutside Every bytes line × IsNoDeck bytes
 
 -- the source was read to its end, and these bytes are not more than the limit
 pub record ReadsDeck (before : Seen) (bytes : List ℕ) (after : Seen) : Type 0 where
@@ -80,7 +76,7 @@ pub record PrintsPlayed
   pub counted : EndsWhole volume volume_after lines trace rows
   pub printed : print ≡ print_text trace full (closes.Rows rows)
 
--- the same, where the device refused a COMMIT: the print says DOWN at its end
+-- the same, where the device refused a COMMIT or a switch: the print says DOWN at its end
 pub record PrintsDown
     (full : Bool) (volume volume_after : VolumeSeen) (lines : List Line) (trace : List Entry)
     (print : List ℕ) : Type 0 where
@@ -152,20 +148,20 @@ DealsWithLines full volume volume_after lines Long trace print = ⊥
 abbrev pub DealsWithBytes :
     Bool → (volume volume_after : VolumeSeen) → List ℕ → Outcome → List Entry → List ℕ → Type 0
 DealsWithBytes full volume volume_after bytes Played trace print =
-    (lines : List Line) × IsDeck bytes lines
+    (lines : List Line) × Lines bytes lines
     × PrintsPlayed full volume volume_after lines trace print
 DealsWithBytes full volume volume_after bytes Down trace print =
-    (lines : List Line) × IsDeck bytes lines
+    (lines : List Line) × Lines bytes lines
     × (PrintsDown full volume volume_after lines trace print ⊎ PrintsStopped full lines trace print)
 DealsWithBytes full volume volume_after bytes (Damaged set page) trace print =
-    (lines : List Line) × IsDeck bytes lines × EndsAtOpening lines trace
+    (lines : List Line) × Lines bytes lines × EndsAtOpening lines trace
     × (print ≡ print_text trace full (closes.Damaged set page))
 DealsWithBytes full volume volume_after bytes Device trace print =
-    (lines : List Line) × IsDeck bytes lines × (trace ≡ [])
+    (lines : List Line) × Lines bytes lines × (trace ≡ [])
 DealsWithBytes full volume volume_after bytes (Deck line) trace print =
     IsRefusedAt bytes line × (trace ≡ []) × (print ≡ deck_refusal line)
 DealsWithBytes full volume volume_after bytes NoMemory trace print =
-    (trace ≡ []) ⊎ ((lines : List Line) × IsDeck bytes lines × TraceOfFront lines trace)
+    (trace ≡ []) ⊎ ((lines : List Line) × Lines bytes lines × TraceOfFront lines trace)
 DealsWithBytes full volume volume_after bytes Shown trace print = ⊥
 DealsWithBytes full volume volume_after bytes Words trace print = ⊥
 DealsWithBytes full volume volume_after bytes Source trace print = ⊥

@@ -2,6 +2,7 @@
 use Rattle.std.specs.Prelude.{ℕ, ◌≡◌, ◌<◌, ◌≤◌, ◌-◌, ◌^◌, ◌⊎◌, Bool, List, Option, Some}
 use Rattle.std.specs.Prelude.{length}
 use Rattle.std.specs.Io.KnownBytes.{Appends}
+use Rattle.rg_deck.specs.Grammar.{Lines}
 use Rattle.rg_deck.specs.declared.read.TheConstants.{DECK_LIMIT}
 use Rattle.rg_outside.specs.Faults.{Rose}
 use Rattle.rg_print.specs.Print.{print_text}
@@ -18,16 +19,15 @@ use Rattle.rg_run.specs.Parts.{DiesIn}
 use Rattle.rg_run.specs.Table.{EndsAtOpening, EndsWhole}
 use Rattle.rg_stmt.specs.declared.event.Entry.{Entry}
 use Rattle.rg_stmt.specs.declared.line.Line.{Line}
-use Rattle.reorgdb.specs.Answer.{Seen, IsPlay, IsShow, IsCommand, IsDeck, IsNoDeck, IsRefusedAt}
+use Rattle.reorgdb.specs.Answer.{Seen, IsPlay, IsShow, IsCommand, IsNoDeck, IsRefusedAt}
 use Rattle.reorgdb.specs.Answer.{ReadsDeck, ShowsLayout}
 use Rattle.reorgdb.specs.Refusals.{status_of, deck_refusal}
 use Rattle.reorgdb.specs.declared.outcome.Outcome.{Outcome}
 use Rattle.reorgdb.specs.declared.outcome.Outcome.TheVariants as outcomes
 
--- Status 0 of `play`: the source was read to its end, and its bytes are statements, layouts,
--- flushes and deaths of the process. The trace is theirs, and its print was appended to what the
--- sink held, with layouts as the words ask. The committed rows are as many as the print says, and
--- the volume stores them.
+-- Status 0 of `play`: the source was read to its end, and its bytes are lines of the grammar. The
+-- trace is theirs, and its print was appended to what the sink held, with layouts as the words ask.
+-- The committed rows are as many as the print says, and the volume stores them.
 pub record Plays (words : List (List ℕ)) (source source_after sink sink_after : Seen)
     (volume volume_after : VolumeSeen) (trace : List Entry) : Type 0 where
   pub asked : IsPlay words
@@ -35,7 +35,7 @@ pub record Plays (words : List (List ℕ)) (source source_after sink sink_after 
   pub lines : List Line
   pub rows : ℕ
   pub read : ReadsDeck source bytes source_after
-  pub spelled : IsDeck bytes lines
+  pub spelled : Lines bytes lines
   pub entries : TraceOf lines trace
   pub counted : EndsWhole volume volume_after lines trace rows
   pub shown : Appends sink.bytes sink_after.bytes (print_text trace asked.0 (closes.Rows rows))
@@ -50,7 +50,7 @@ pub record Shows (source source_after sink sink_after : Seen) (volume volume_aft
   pub shown : Appends sink.bytes sink_after.bytes text
 
 -- Status 2: the source was read to its end, and the sink got the number of the first line that is
--- outside the grammar, or is not played.
+-- outside the grammar.
 pub record RefusesDeck (source source_after sink sink_after : Seen) : Type 0 where
   pub bytes : List ℕ
   pub line : ℕ
@@ -89,7 +89,7 @@ abbrev pub IsDue :
     Outcome → List (List ℕ) → Option (List ℕ) → (before after : VolumeSeen) → Type 0
 IsDue outcomes.Played words told before after =
     IsPlay words × (bytes : List ℕ) × (told ≡ Some bytes) × (length bytes ≤ DECK_LIMIT)
-    × (sound : IsSoundVolume before after) × (lines : List Line) × IsDeck bytes lines
+    × (sound : IsSoundVolume before after) × (lines : List Line) × Lines bytes lines
     × (DiesIn lines
     → IsTidyVolume before.capacities (read_of sound.old.first sound.old.calls))
 IsDue outcomes.Shown words told before after = IsShow words × IsSoundVolume before after

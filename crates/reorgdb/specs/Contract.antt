@@ -68,7 +68,7 @@ pub record Completes (words : List (List ℕ)) (source source_after sink sink_af
   pub unread : IsShow words → source_after ≡ source
   pub layout : IsShow words → Contains (0 ∷ 4 ∷ 5 ∷ 6 ∷ 8 ∷ []) status
   -- Status 2: the bytes were read to their end, and the output names the first line that is outside
-  -- the grammar, or is not played.
+  -- the grammar.
   pub deck : status ≡ 2 → RefusesDeck source source_after sink sink_after
   -- Statuses 3 and 4 are returned only if the source, or the sink, failed in this call.
   pub source_failed : status ≡ 3 → Rose source.faults source_after.faults
@@ -77,7 +77,8 @@ pub record Completes (words : List (List ℕ)) (source source_after sink sink_af
   -- Status 5: a page of the volume breaks a rule. A volume that read tidy has none after a death of
   -- the process.
   pub damaged : status ≡ 5 → RefusesVolume sink sink_after volume volume_after trace
-  -- Status 6 is returned only if a call of the volume failed: in an opening, or in a COMMIT.
+  -- Status 6 is returned only if a call of the volume failed: in an opening, in a COMMIT, or in the
+  -- step that switches to the new copy.
   pub volume_failed : status ≡ 6 → Rose volume.faults volume_after.faults
   -- Status 7: one byte more than the limit was read.
   pub long : status ≡ 7 → TakesTooMany source.bytes source_after.bytes

@@ -15,16 +15,15 @@ use std::io::Write;
 pub enum Outcome {
     /// The deck was read to its end and played. Status 0.
     Played,
-    /// The deck was read to its end and played, and the device refused a COMMIT; or the device
-    /// failed in the opening after a death of the process, and the lines before were played. Status
-    /// 6.
+    /// The deck was read to its end and played, and the device refused a COMMIT or the switch to a
+    /// new copy; or the device failed in the opening after a death of the process, and the lines
+    /// before were played. Status 6.
     Down,
     /// The volume was opened and its layout made. Status 0.
     Shown,
     /// The words are not those of a command. Status 1.
     Words,
-    /// Line `line` of the deck, counted from 1, is the first that is outside the grammar or is not
-    /// played. Status 2.
+    /// Line `line` of the deck, counted from 1, is the first that is outside the grammar. Status 2.
     Deck { line: u32 },
     /// The source failed. Status 3.
     Source,

@@ -16,6 +16,7 @@ mod layouts;
 mod openings;
 mod operators;
 mod outside;
+mod utility;
 
 const ALL: usize = usize::MAX;
 
@@ -217,7 +218,7 @@ fn refuses(rt: HostRuntime) -> Result<(), Fail> {
         ),
         (
             &["play"].as_slice(),
-            b"L\nF\nU\n",
+            b"L\nF\nu\n",
             ALL,
             NEVER,
             2,

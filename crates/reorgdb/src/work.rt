@@ -26,7 +26,7 @@ use crate::outcome::{Outcome, damaged_refusal, deck_refusal};
 use crate::reading::{ReadFault, read_source};
 use rg_base::bytes::Bytes;
 use rg_base::no_memory::NoMemory;
-use rg_deck::read::{Admits, DECK_LIMIT, DeckFault, read_admitted};
+use rg_deck::read::{DECK_LIMIT, DeckFault, read_deck};
 use rg_outside::operator::Operator;
 use rg_outside::source::Source;
 use rg_outside::volume::Volume;
@@ -249,7 +249,7 @@ fn play_bytes<V: Volume, O: Operator>(
     ensures asked { HasAnswered (O.answers operator) (answers_in result.trace.items)
         (O.answers result.operator) }
 {
-    match read_admitted(alloc, bytes, Admits::Played) {
+    match read_deck(alloc, bytes) {
         Ok(lines) => print_played(alloc, full, run(alloc, volume, operator, lines)),
         Err(DeckFault::Line { number }) => refuse_line(alloc, number, volume, operator),
         Err(DeckFault::NoMemory) => Work::bare(alloc, Outcome::NoMemory, volume, operator),

@@ -22,7 +22,7 @@ use Rattle.rg_stmt.specs.declared.stmt.Stmt.{Stmt}
 use Rattle.rg_stmt.specs.declared.stmt.Stmt.TheVariants.{Insert, Update, Delete, Select, Scan, Find}
 use Rattle.rg_stmt.specs.declared.stmt.Stmt.TheVariants.{Commit, Rollback}
 use Rattle.rg_deck.specs.declared.read.Admits.{Admits}
-use Rattle.rg_deck.specs.declared.read.Admits.TheVariants.{Every, Statements, Played}
+use Rattle.rg_deck.specs.declared.read.Admits.TheVariants.{Every, Statements}
 
 abbrev pub stmt_words : Stmt → List (List ℕ)
 stmt_words (Insert row) = codes "INSERT" ∷ row_words row
@@ -88,12 +88,6 @@ admits Statements Step = false
 admits Statements Flush = false
 admits Statements Show = false
 admits Statements Death = false
-admits Played (Said session stmt) = true
-admits Played (Reorg options) = false
-admits Played Step = false
-admits Played Flush = true
-admits Played Show = true
-admits Played Death = true
 
 -- a line of the grammar that is taken
 abbrev pub IsAdmitted : Admits → Line → Type 0

@@ -1,6 +1,6 @@
 -- What the parts of the reader find.
 use Rattle.std.specs.Prelude.{ℕ, ◌≡◌, ◌≢◌, ◌<◌, ◌^◌, ◌⊎◌, List, [], ◌∷◌, ◌++◌, length, slice_index}
-use Rattle.std.specs.Prelude.{Option, None, Some, IsTrue}
+use Rattle.std.specs.Prelude.{Option, None, Some}
 use Rattle.std.specs.Fmt.{decimal}
 use Rattle.std.specs.List.{AllByRecursion, join_with_byte}
 use Rattle.rg_base.specs.Words.{row_words}
@@ -9,8 +9,7 @@ use Rattle.rg_base.specs.declared.row.Row.{Row}
 use Rattle.rg_stmt.specs.declared.line.Line.{Line}
 use Rattle.rg_stmt.specs.declared.line.Line.TheVariants.{Said, Reorg, Step, Flush, Show, Death}
 use Rattle.rg_stmt.specs.declared.stmt.Stmt.{Stmt}
-use Rattle.rg_deck.specs.Grammar.{IsTextOf, admits, stmt_words, deck_text}
-use Rattle.rg_deck.specs.declared.read.Admits.TheVariants.{Played}
+use Rattle.rg_deck.specs.Grammar.{IsTextOf, stmt_words, deck_text}
 
 -- the bytes have no such byte
 abbrev pub Lacks : ℕ → List ℕ → Type 0
@@ -54,10 +53,6 @@ IsLetter Step = Unit {0}
 IsLetter Flush = Unit {0}
 IsLetter Show = Unit {0}
 IsLetter Death = Unit {0}
-
--- a line of one letter that the program plays
-abbrev pub IsPlayedLetter : Line → Type 0
-IsPlayedLetter line = IsLetter line × IsTrue (admits Played line)
 
 -- the bytes begin with this number and a space, and then come these
 abbrev pub BeginsWithNumber : List ℕ → ℕ → List ℕ → Type 0

@@ -8,7 +8,7 @@
 ghost use Rattle.std.specs.Prelude.{◌≡◌, ◌≤◌, IfOk, IfSome, IfNone};
 ghost use Rattle.rg_base.specs.Session.{IsSession};
 ghost use Rattle.rg_deck.specs.Grammar.{IsRow, IsStmt, IsAdmitted, IsTextOf};
-ghost use Rattle.rg_deck.specs.Reading.{Finds, FindsBy, FindsOptions, IsLetter, IsPlayedLetter};
+ghost use Rattle.rg_deck.specs.Reading.{Finds, FindsBy, FindsOptions, IsLetter};
 ghost use Rattle.rg_deck.specs.Reading.{row_spelling, stmt_spelling};
 ghost use Rattle.rg_deck.specs.declared.read.Admits.TheVariants.{Statements};
 
@@ -121,18 +121,6 @@ fn read_letter(bytes: &[u8]) -> Option<Line>
     }
 }
 
-// A line of one letter that the program plays.
-fn read_played_letter(bytes: &[u8]) -> Option<Line>
-    ensures { FindsBy IsPlayedLetter IsTextOf bytes.now result }
-{
-    match bytes {
-        b"F" => Some(Line::Flush),
-        b"L" => Some(Line::Show),
-        b"X" => Some(Line::Death),
-        _ => None,
-    }
-}
-
 // The options of the utility's control statement, without its line feed.
 fn read_options(alloc: Global, bytes: &[u8]) -> Result<Option<Options>, NoMemory>
     ensures { IfOk result (FindsOptions bytes.now) }
@@ -153,10 +141,6 @@ pub fn read_line(alloc: Global, bytes: &[u8], admits: Admits) -> Result<Option<L
 {
     match admits {
         Admits::Statements => read_said(alloc, bytes),
-        Admits::Played => match read_played_letter(bytes) {
-            Some(line) => Ok(Some(line)),
-            None => read_said(alloc, bytes),
-        },
         Admits::Every => match read_letter(bytes) {
             Some(line) => Ok(Some(line)),
             None => match read_options(alloc, bytes)? {

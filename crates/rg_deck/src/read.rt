@@ -24,9 +24,6 @@ pub enum Admits {
     Every,
     /// Only statements.
     Statements,
-    /// The lines that the program plays: statements, layouts (`L`), flushes (`F`) and deaths of the
-    /// process (`X`).
-    Played,
 }
 
 /// Why a deck was not read.

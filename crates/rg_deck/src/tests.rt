@@ -19,12 +19,6 @@ fn count_statements(rt: &impl Abort, alloc: Global, deck: &[u8]) -> Result<usize
     Ok(read_admitted(alloc, deck, Admits::Statements)?.len())
 }
 
-// The lines of a deck that the program plays.
-fn played_lines(rt: &impl Abort, alloc: Global, deck: &[u8]) -> Result<Vec<Line>, DeckFault> {
-    assert!(rt; deck.len() <= 16_777_216);
-    read_admitted(alloc, deck, Admits::Played)
-}
-
 // How long the text is of the row that a deck inserts, where it does nothing else.
 fn text_length(rt: &impl Abort, alloc: Global, deck: &[u8]) -> Result<usize, DeckFault> {
     let lines = lines_of(rt, alloc, deck)?;
@@ -280,43 +274,28 @@ fn counts_lines(rt: HostRuntime) {
 }
 
 #[test]
-fn reads_played_lines(rt: HostRuntime) -> Result<(), Fail> {
+fn reads_lines_of_one_letter(rt: HostRuntime) -> Result<(), Fail> {
     let alloc = rt.alloc();
     for (deck, want) in [
-        (
-            b"1 COMMIT".as_slice(),
-            "Ok([Said { session: Session(1), stmt: Commit }])",
-        ),
-        (b"L", "Ok([Show])"),
-        (b"F", "Ok([Flush])"),
+        (b"L".as_slice(), "Ok([Show])"),
         (b"F\n", "Ok([Flush])"),
         (
             b"F\n7 DELETE 10\nL\nF\nF",
             "Ok([Flush, Said { session: Session(7), stmt: Delete(10) }, Show, Flush, Flush])",
         ),
-        (b"", "Ok([])"),
-        (b"U", "Err(Line { number: 1 })"),
+        (b"U", "Ok([Step])"),
+        (b"U\nU\n", "Ok([Step, Step])"),
         (b"X", "Ok([Death])"),
         (b"f", "Err(Line { number: 1 })"),
         (b"F ", "Err(Line { number: 1 })"),
         (b"FL", "Err(Line { number: 1 })"),
         (b"1 F", "Err(Line { number: 1 })"),
+        (b"1 U", "Err(Line { number: 1 })"),
         (b"F\n\n", "Err(Line { number: 2 })"),
         (b"F\nX", "Ok([Flush, Death])"),
-        (b"X\nX\n", "Ok([Death, Death])"),
-        (b"1 X", "Err(Line { number: 1 })"),
-        (b"F\nU", "Err(Line { number: 2 })"),
-        (
-            b"REORG TABLESPACE SHRLEVEL CHANGE",
-            "Err(Line { number: 1 })",
-        ),
-        (
-            b"1 COMMIT\nREORG TABLESPACE SHRLEVEL CHANGE MAXRO 10\nF",
-            "Err(Line { number: 2 })",
-        ),
-        (b"L\nF\nU\nX", "Err(Line { number: 3 })"),
+        (b"L\nF\nU\nX\nu", "Err(Line { number: 5 })"),
     ] {
-        let lines = played_lines(&rt, alloc, deck);
+        let lines = lines_of(&rt, alloc, deck);
         let found = format!(in alloc; "{lines:?}")?;
         assert_eq!(rt; found.as_str(), want, "at {deck:?}");
     }

@@ -8,8 +8,7 @@
 //    of memory, the utility stops.
 // 5. The steps that copy or fill a page, write the new copy, or switch to it say themselves what
 //    became of it.
-ghost use Rattle.std.specs.Prelude.{◌≡◌, ◌≤◌, ◌^◌, false, true, IfSome};
-ghost use Rattle.rg_model.specs.Packed.{page_at};
+ghost use Rattle.std.specs.Prelude.{◌≡◌, ◌≤◌, false, true, IfSome};
 ghost use Rattle.rg_model.specs.Turn.{step_of, turn_at, turn_of};
 ghost use Rattle.rg_phase.specs.Step.{is_device_stop};
 ghost use Rattle.rg_phase.specs.Working.{IsEventOrStop, IsReloadEvent, MakesStep, takes};
@@ -29,6 +28,7 @@ use rg_stage::events::{
 };
 use rg_stage::step::{is_terminated, step_for, with_alter};
 use rg_stmt::event::Event;
+use rg_tally::pages::page_at;
 
 // The event of the step that the stage decides, which has the operator's ALTER in it.
 fn step_event(stage: &Stage, all: u64, holder: Option<Session>, answer: &Answer) -> Event
@@ -99,24 +99,13 @@ pub fn or_stop(event: Event, made: Result<(), ShadowFault>) -> Event
     }
 }
 
-// The number of the k-th filled page.
-fn page_number(freepage: u8, k: u64) -> u64
-    requires low { 1 ≤ k }
-    requires high { k ≤ 2 ^ 32 }
-    ensures { result ≡ page_at freepage k }
-{
-    if freepage == 0 {
-        k
-    } else {
-        k + (k - 1) / u64::from(freepage)
-    }
-}
-
 // RELOAD of a page that was filled, as the numbers ask for it. Else the utility stops.
 fn page_event(stage: &Stage, filled: &Filled) -> Event
     ensures { IsReloadEvent stage.now result }
 {
-    let next = page_number(stage.options.freepage, u64::from(stage.filled) + 1);
+    let Ok(next) = page_at(stage.options.freepage, u64::from(stage.filled) + 1) else {
+        return Event::Stop(StopReason::NoMemory);
+    };
     let left = stage.unloaded.saturating_sub(stage.reloaded);
     let rows = u64::from(filled.rows);
     if u64::from(filled.page) == next && 1 <= rows && rows <= left {

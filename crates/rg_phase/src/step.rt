@@ -1,7 +1,7 @@
 // A step of the utility.
 //
 // 1. What the desk has sent is received first, and the room for the entry is taken. Where there is
-//    none, nothing is done and nobody is asked.
+//    none, no entry is made and nobody is asked.
 // 2. Where no utility runs, or the desk is down, the entry says so, and nobody is asked either.
 // 3. Else the operator is asked once, and told how many changes are left. The entry has the answer.
 // 4. What the step makes beside its entry comes between the two. Where that fails, the entry says
@@ -78,7 +78,7 @@ impl Reorg {
 
     /// Makes one entry: that of the next step of the utility, or IDLE where none runs, or DOWN
     /// where the desk is down. What the desk has sent is received first. If there is no memory for
-    /// that, or for the entry, the call is refused and nothing was done.
+    /// that, or for the entry, the call is refused: nobody was asked, and the desk is as it was.
     pub fn step<V: Counts, O: Operator>(
         &mut self,
         alloc: Global,
@@ -91,8 +91,7 @@ impl Reorg {
         ensures stepped { OnOk result (Stepped (seen_volume V.told V.faults V.capacities)
             O.answers O.last desk.old desk.new) }
         ensures ring { desk.new.ring ≡ inlet.new.ring }
-        ensures works { OnOk result
-            (Works self.new.made desk.new.shadow inlet.new desk.new.feed) }
+        ensures works { Works self.new.made desk.new.shadow inlet.new desk.new.feed }
         ensures err { OnErr result (desk.new ≡ desk.old) }
     {
         desk.hand_over(inlet)?;

@@ -1,3 +1,5 @@
+mod seeded;
+
 use rg_base::map::NumberMap;
 use rg_base::table::Table;
 use rg_deck::read::{DECK_LIMIT, read_deck};

@@ -110,3 +110,13 @@ act-requires-clause-works g c =
     let heard = works_heard made old.shadow c.args.inlet.now inlet old.feed c.hand_over.ensures.grew c.in_ok-hand_over.ensures.all c.requires.works in
     let same = same_asked old c.make_room.new.self c.ask_operator-answer.new.self c.ask_operator-answer.result room c.ask_operator-answer.ensures.same in
     subst (λ d. Works made d.shadow inlet d.feed) (sym same) heard
+
+pub returns-in_err-make_room-clause-works : goal.returns-in_err-make_room-clause-works
+returns-in_err-make_room-clause-works g c =
+    let made = c.args.self.now.made in
+    let old = c.args.desk.now in
+    let inlet = c.hand_over.new.inlet in
+    let handed = c.hand_over.ensures.same in
+    let room : c.make_room.new.self ≡ record c.args.desk.now { spare = c.make_room.new.self.spare } = c.make_room.ensures.same ∙ ap (λ d. let x : DeskState g.row.V.Denot g.row.O.Denot = record d { spare = c.make_room.new.self.spare } in x) handed in
+    let heard = works_heard made old.shadow c.args.inlet.now inlet old.feed c.hand_over.ensures.grew c.in_ok-hand_over.ensures.all c.requires.works in
+    subst (λ (d : DeskState g.row.V.Denot g.row.O.Denot). Works made d.shadow inlet d.feed) (sym room) heard
