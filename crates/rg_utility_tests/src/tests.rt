@@ -1,3 +1,4 @@
+mod hostile;
 mod seeded;
 
 use rg_base::map::NumberMap;
