@@ -80,3 +80,4 @@ pub mod Parts
 pub mod Trails
 pub mod TrailsWritten
 pub mod Reopens
+pub mod TableRows

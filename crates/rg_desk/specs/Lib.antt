@@ -31,3 +31,4 @@ pub mod Begun
 pub mod Count
 pub mod Prepared
 pub mod Turned
+pub mod Tabled

@@ -31,6 +31,7 @@ ghost use Rattle.rg_desk.specs.Desk.{LeavesTable, LegalFrom, MadeFlush, MadeLayo
 ghost use Rattle.rg_desk.specs.Desk.{AreSides, CanCommit, CanPrepare, HasCurrent, HasDrain};
 ghost use Rattle.rg_desk.specs.Desk.{IsOtherCopy, MadeFall, MadeSwitch, Prepares, shade_kept};
 ghost use Rattle.rg_desk.specs.Desk.{written_seen};
+ghost use Rattle.rg_desk.specs.Tabled.{EndsWithTable};
 ghost use Rattle.rg_image.specs.Rules.{copy_capacity};
 ghost use Rattle.rg_switch.specs.Switched.{other_of};
 ghost use Rattle.rg_outside.specs.Faults.{Rose};
@@ -67,6 +68,7 @@ use rg_base::options::Options;
 use rg_base::position::Position;
 use rg_base::session::Session;
 use rg_base::set::Set;
+use rg_base::table::Table;
 use rg_base::verdict::StopReason;
 use rg_chain::names::copy_pages;
 use rg_feed::ends::feed;
@@ -825,6 +827,16 @@ impl<V: Counts, O: Operator> Desk<V, O> {
             → EndsDown (old_records self.now) self.now.first_copy self.now.trace }
     {
         self.down
+    }
+
+    /// The table, as the statements so far have left it, with the rows of units that are still open.
+    pub fn table(&mut self) -> Result<Table, NoMemory>
+        requires up { self.old.down ≡ false }
+        ensures same { self.new ≡ self.old }
+        ensures table { IfOk result
+            (EndsWithTable (old_records self.old) self.old.first_copy self.old.trace) }
+    {
+        self.engine.table()
     }
 
     /// The number of committed rows: those of a unit that is still open are not among them. It

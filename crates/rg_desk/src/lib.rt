@@ -37,6 +37,8 @@ pub mod say;
 pub mod send;
 /// The switch of an engine to a new copy.
 pub mod switch;
+/// The table, row by row.
+pub mod table;
 /// The undo of a unit's writes.
 pub mod undo;
 /// The open units of sessions.

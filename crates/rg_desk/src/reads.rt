@@ -57,8 +57,8 @@ fn is_others(session: Session, lock: &Lock) -> bool
 }
 
 impl Engine {
-    // The row at a home, if there is one.
-    fn row_at(&mut self, home: Place) -> Result<Option<Row>, NoMemory>
+    /// The row at a home, if there is one.
+    pub fn row_at(&mut self, home: Place) -> Result<Option<Row>, NoMemory>
         requires pages { HasPages self.old }
         ensures same { SameEngine self.old self.new }
         ensures row { IfOk result (λ row. row ≡ row_at (slot_of (slots_in self.old)) home) }
