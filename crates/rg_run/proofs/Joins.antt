@@ -120,7 +120,7 @@ run_join : (past : List Entry) (st mid new : State) (older part : List Entry) �
 run_join past st mid new [] part run more = subst (λ (s : State). Run past s part new) run more
 run_join past st mid new (e ∷ es) part run more = (run.0, run.1, run_join (e ∷ past) run.0 mid new es part run.2 more)
 
-only_is : (x y : Table) → Contains (x ∷ []) y → y ≡ x
+pub only_is : (x y : Table) → Contains (x ∷ []) y → y ≡ x
 only_is x y (zero, lt, is) = sym is
 only_is x y (suc k, lt, is) = absurd (omega (arith, lt))
 

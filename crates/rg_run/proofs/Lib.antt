@@ -13,3 +13,4 @@ pub mod Uncounted
 pub mod Between
 pub mod Ending
 pub mod Wholly
+pub mod Judging

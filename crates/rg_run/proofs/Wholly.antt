@@ -28,7 +28,11 @@ use Rattle.rg_run.specs.Outside.{IfBoth, IsDeviceOnlyIf, IsEnd, MakesOnly, Write
 use Rattle.rg_run.specs.Flush.{AreFlushesSince}
 use Rattle.rg_run.specs.Opening.{AreOpeningsSince}
 use Rattle.rg_run.specs.Parts.{Going, IsRun, StaysSound}
-use Rattle.rg_run.specs.Table.{AreFlushes, AreOpenings, Ends, IsLegalRun, IsOpening, KeepsSound}
+use Rattle.rg_run.specs.Table.{AreFlushes, AreOpenings, Begins, Ends, IsLegalRun, IsOpening, KeepsSound}
+use Rattle.rg_desk.specs.Stored.{IsStored}
+use Rattle.rg_model.specs.State.{Table}
+use Rattle.rg_record.specs.declared.record.Record.{Record}
+use Rattle.rg_run.specs.Whole.{Whole}
 use Rattle.rg_run.specs.declared.played.RunEnd.{RunEnd}
 use Rattle.rg_run.proofs.Again.{count_has}
 use Rattle.rg_run.proofs.Between.{both_weaken, read_out, since_out, sound_out}
@@ -41,21 +45,6 @@ use Rattle.rg_run.proofs.Joins.{own_quiet}
 use Rattle.rg_run.proofs.Opening.{copy_first, counted_first, entry_first, entry_zero, found_first, old_first, opened_first, opening_first, opening_then, pages_first, read_first_log, stores_first}
 use Rattle.rg_run.proofs.Plays.{device_more, goes_opened, rose_wider}
 use Rattle.rg_run.proofs.Uncounted.{counted_calls, uncounted_only, uncounted_told}
-
--- what is said of a run
-pub record Whole (old new : VolumeSeen) (lines : List Line) (trace : List Entry) (end : RunEnd) : Type 0 where
-  pub ends : Ends old new lines trace end
-  pub legal : IsLegalRun old new trace
-  pub opening : IsOpening old new trace
-  pub openings : AreOpenings old new trace
-  pub flushes : AreFlushes old new trace
-  pub full : IsFullOnlyFrom (3221 * smaller_pages old.capacities) 0 trace
-  pub log_full : IsLogFullOnlyFrom (limit_of (log_pages old.capacities)) 0 trace
-  pub device : IsDeviceOnlyIf (Rose old.faults new.faults) trace
-  pub is_end : IsEnd old new trace end
-  pub sound : KeepsSound old new trace
-  pub only : MakesOnly (WritesOwn trace) old.told new.told
-  pub later : old.faults ≤ new.faults
 
 -- no entries
 pub none_recorded : (trace : List Entry) → trace ≡ [] → IsRecorded trace 0
@@ -191,6 +180,12 @@ module _ {V : Type 0} (told : V → Option Told) (faults : V → ℕ) (capacitie
         by_trace (e ∷ es) =
             both_weaken (λ before t. IsTidyVolume old.capacities (read_of before.first before.calls) → StaysSound new.capacities t end)
             (λ before t. IsTidyVolume old.capacities (read_of before.first before.calls) → EachImage (IsSoundTidy new.capacities) t) old.told new.told (λ before t keeps tidy. (keeps tidy).images) stays
+
+        -- the table that the first desk began with is the one that the log stored
+        pub begins_out : (start : Table) → IsStored (old_records desk) start → Begins old new start
+        begins_out start is =
+            both_weaken (λ before t. log_at (log_pages old.capacities) before ≡ opens.log.records) (λ before t. IsStored (log_at (log_pages old.capacities) before) start) old.told new.told
+            (λ before t e. subst (λ (rs : List Record). IsStored rs start) (sym e) (λ k. is k ∙ ap (λ (rs : List Record). stored rs k) had ∙ now_same k)) read
 
         pub whole_run : Whole old new lines trace end
         whole_run = record {

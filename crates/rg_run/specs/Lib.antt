@@ -7,3 +7,5 @@ pub mod Outside
 pub mod Played
 pub mod Parts
 pub mod Table
+pub mod Whole
+pub mod Judged

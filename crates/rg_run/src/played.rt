@@ -18,6 +18,14 @@ pub enum RunEnd {
     NoMemory,
 }
 
+/// What a run leaves that was judged: what the run leaves, and the number of the first entry of its
+/// trace that is not legal, if there is one. Where memory ran out nothing was judged.
+#[derive(Drop)]
+pub struct Judged<V, O> {
+    pub played: Played<V, O>,
+    pub verdict: Option<usize>,
+}
+
 /// What a run leaves: the volume and the operator that it was handed, its trace, and how it ended.
 #[derive(Drop)]
 pub struct Played<V, O> {

@@ -21,16 +21,21 @@ ghost use Rattle.rg_phase.specs.Made.{Works};
 ghost use Rattle.rg_run.specs.Asked.{HasAnswered, answers_in};
 ghost use Rattle.rg_run.specs.Full.{IsFullOnlyFrom, smaller_pages};
 ghost use Rattle.rg_run.specs.LogFull.{IsLogFullOnlyFrom};
+ghost use Rattle.rg_run.specs.declared.played.RunEnd.{RunEnd};
+ghost use Rattle.rg_run.specs.Judged.{JudgesRun, Settles};
+ghost use Rattle.rg_run.specs.Whole.{Whole};
 ghost use Rattle.rg_run.specs.Outside.{IsDeviceOnlyIf, IsEnd, MakesOnly, WritesOwn, end_of};
 ghost use Rattle.rg_run.specs.Parts.{Going, IsRun, LeavesRun};
 ghost use Rattle.rg_run.specs.Played.{Goes, IsPlayed};
 ghost use Rattle.rg_run.specs.Table.{AreFlushes, AreOpenings, Ends, IsLegalRun, IsOpening, KeepsSound};
 
-use crate::played::{Played, RunEnd};
+use crate::played::{Judged, Played, RunEnd};
 use rg_base::no_memory::NoMemory;
 use rg_base::options::Options;
+use rg_base::table::Table;
 use rg_desk::desk::{Desk, OpenCause, OpenFault};
 use rg_feed::inlet::FeedIn;
+use rg_judge::judge::judge;
 use rg_outside::counted::{Counted, Counts};
 use rg_outside::operator::Operator;
 use rg_outside::volume::Volume;
@@ -85,6 +90,78 @@ pub fn run<V: Volume, O: Operator>(
     match open_desk(alloc, Counted::new(volume), operator, Vec::new(alloc), 0) {
         Ok((desk, inlet)) => play(alloc, desk, inlet, lines).uncounted(),
         Err(fault) => refused(fault).uncounted(),
+    }
+}
+
+/// A run as `run` makes it, whose trace is then judged. The judge starts from the table that the
+/// first opening found. If there is no memory for that table, or for the judge, the run ends so.
+pub fn run_judged<V: Volume, O: Operator>(
+    alloc: Global,
+    volume: V,
+    operator: O,
+    lines: Vec<Line>,
+) -> Judged<V, O>
+    requires { AllByRecursion IsPlayed lines.items }
+    ensures whole { Whole (seen_volume V.told V.faults V.capacities volume)
+        (seen_volume V.told V.faults V.capacities result.played.volume) lines.items
+        result.played.trace.items result.played.end }
+    // The operator was asked for the entries that have its answer, and for no other.
+    ensures asked { HasAnswered (O.answers operator) (answers_in result.played.trace.items)
+        (O.answers result.played.operator) }
+    ensures judged { JudgesRun (seen_volume V.told V.faults V.capacities volume)
+        (seen_volume V.told V.faults V.capacities result.played.volume)
+        result.played.trace.items result.played.end result.verdict }
+{
+    match open_desk(alloc, Counted::new(volume), operator, Vec::new(alloc), 0) {
+        Ok((desk, inlet)) => {
+            let mut desk = desk;
+            let start = desk.table();
+            settle(alloc, start, play(alloc, desk, inlet, lines).uncounted())
+        }
+        Err(fault) => Judged {
+            played: refused(fault).uncounted(),
+            verdict: None,
+        },
+    }
+}
+
+// Has the trace of a run judged.
+fn settle<V, O>(alloc: Global, start: Result<Table, NoMemory>, played: Played<V, O>) -> Judged<V, O>
+    ensures settled { Settles start played.trace.items played.end result.played.end result.verdict }
+    ensures trace { result.played.trace ≡ played.trace }
+    ensures volume { result.played.volume ≡ played.volume }
+    ensures operator { result.played.operator ≡ played.operator }
+{
+    let Ok(table) = start else {
+        return unjudged(played);
+    };
+    match judge(alloc, &table, &played.trace) {
+        Ok(verdict) => Judged { played, verdict },
+        Err(_) => unjudged(played),
+    }
+}
+
+// A run whose trace could not be judged.
+fn unjudged<V, O>(played: Played<V, O>) -> Judged<V, O>
+    ensures end { result.played.end ≡ RunEnd.NoMemory }
+    ensures trace { result.played.trace ≡ played.trace }
+    ensures volume { result.played.volume ≡ played.volume }
+    ensures operator { result.played.operator ≡ played.operator }
+{
+    let Played {
+        volume,
+        operator,
+        trace,
+        ..
+    } = played;
+    Judged {
+        played: Played {
+            volume,
+            operator,
+            trace,
+            end: RunEnd::NoMemory,
+        },
+        verdict: None,
     }
 }
 

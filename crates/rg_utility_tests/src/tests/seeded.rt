@@ -7,13 +7,10 @@
 //    of the utility, has the same reply to each statement, and as many rows at each opening.
 ghost use Rattle.std.specs.Prelude.{◌≤◌};
 
-use rg_base::map::NumberMap;
-use rg_base::table::Table;
 use rg_deck::read::{DECK_LIMIT, read_deck};
-use rg_judge::judge::judge;
 use rg_mem::script::ScriptOperator;
 use rg_mem::volume::MemVolume;
-use rg_run::run::run;
+use rg_run::run::run_judged;
 use rg_stmt::event::{Entry, Event};
 use rg_stmt::stmt::Reply;
 use std::alloc::{AllocError, Global};
@@ -122,8 +119,8 @@ fn deck_of(alloc: Global, seed: u32) -> Result<Vec<u8>, AllocError> {
     Ok(deck)
 }
 
-// The trace of a deck over an empty table.
-fn trace_of(alloc: Global, deck: &[u8]) -> Result<Vec<Entry>, Fail> {
+// The trace of a deck over an empty table, and the first entry that is not legal.
+fn judged(alloc: Global, deck: &[u8]) -> Result<(Vec<Entry>, Option<usize>), Fail> {
     if deck.len() > DECK_LIMIT {
         return Err("the deck is too long".into());
     }
@@ -132,7 +129,8 @@ fn trace_of(alloc: Global, deck: &[u8]) -> Result<Vec<Entry>, Fail> {
     };
     let operator = ScriptOperator::new(alloc, &[])?;
     let volume = MemVolume::new(alloc, 1000, 256, 256, 30_000, 6_000, &[], None)?;
-    Ok(run(alloc, volume, operator, lines).trace)
+    let judged = run_judged(alloc, volume, operator, lines);
+    Ok((judged.played.trace, judged.verdict))
 }
 
 // The deck without the lines of the utility, and without the statements that a drain refused.
@@ -196,12 +194,12 @@ fn count(trace: &[Entry]) -> (u32, u32, u32) {
 fn replies_as_without_utilities(rt: HostRuntime) -> Result<(), Fail> {
     let alloc = rt.alloc();
     let deck = deck_of(alloc, 7)?;
-    let trace = trace_of(alloc, &deck)?;
+    let (trace, refused) = judged(alloc, &deck)?;
     assert_eq!(rt; trace.len(), 5001);
     assert_eq!(rt; count(&trace), (3, 59, 6));
-    let start: Table = NumberMap::new(alloc);
-    assert_eq!(rt; judge(alloc, &start, &trace)?, None);
-    let plain = trace_of(alloc, &without_utility(alloc, &deck, &trace)?)?;
+    assert_eq!(rt; refused, None);
+    let (plain, refused) = judged(alloc, &without_utility(alloc, &deck, &trace)?)?;
+    assert_eq!(rt; refused, None);
     let (with, without) = (replies(alloc, &trace)?, replies(alloc, &plain)?);
     assert_eq!(rt; with.len(), without.len());
     for (a, b) in with.iter().zip(without.iter()) {

@@ -8,7 +8,8 @@ use Rattle.rg_stmt.specs.declared.event.Entry.{Entry}
 use Rattle.rg_run.specs.Asked.{HasAnswered, answers_in}
 use Rattle.rg_run.specs.declared.played.RunEnd.{RunEnd}
 use Rattle.rg_run.proofs.Asking.{same_unasked}
-use Rattle.rg_run.proofs.Wholly.{Whole, begun_counted, begun_tidy, going_first, none_recorded, whole_refused, whole_run}
+use Rattle.rg_run.specs.Whole.{Whole}
+use Rattle.rg_run.proofs.Wholly.{begun_counted, begun_tidy, going_first, none_recorded, whole_refused, whole_run}
 use Rattle.rg_run.proofs.run.run.Given as given
 use Rattle.rg_run.proofs.run.run.Goals as goal
 
