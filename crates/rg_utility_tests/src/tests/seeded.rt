@@ -10,6 +10,7 @@ ghost use Rattle.std.specs.Prelude.{◌≤◌};
 use rg_deck::read::{DECK_LIMIT, read_deck};
 use rg_mem::script::ScriptOperator;
 use rg_mem::volume::MemVolume;
+use rg_run::played::{Judged, Played};
 use rg_run::run::run_judged;
 use rg_stmt::event::{Entry, Event};
 use rg_stmt::stmt::Reply;
@@ -129,8 +130,9 @@ fn judged(alloc: Global, deck: &[u8]) -> Result<(Vec<Entry>, Option<usize>), Fai
     };
     let operator = ScriptOperator::new(alloc, &[])?;
     let volume = MemVolume::new(alloc, 1000, 256, 256, 30_000, 6_000, &[], None)?;
-    let judged = run_judged(alloc, volume, operator, lines);
-    Ok((judged.played.trace, judged.verdict))
+    let Judged { played, verdict } = run_judged(alloc, volume, operator, lines);
+    let Played { trace, .. } = played;
+    Ok((trace, verdict))
 }
 
 // The deck without the lines of the utility, and without the statements that a drain refused.
