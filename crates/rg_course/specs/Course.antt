@@ -1,8 +1,8 @@
 -- How many steps a utility takes that nothing hinders.
 --
 -- 1. Nothing hinders a utility where no session has a claim when it starts, nothing but its steps
---    follows, the operator answers moment 0 and estimate 0 without a command, and no step stops it:
---    no memory is wanting, the new copy has room, and no call of the volume fails.
+--    follows, the operator answers moment 0 and estimate 0 without a command, and no step stops it.
+--    A step may stop it where memory runs out, the new copy has no room, or the volume fails.
 -- 2. Each page is copied by a step, and each page of the new copy filled by one. Then come three
 --    lists and three indexes, an iteration, its drain, the last changes, the writing, under DRAIN
 --    WRITERS the drain of all, the switch, and ENDED.

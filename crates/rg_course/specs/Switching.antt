@@ -2,9 +2,9 @@
 --
 -- 1. From a grant up to the switch no page is copied and none is filled: the new copy that is
 --    switched to is the one that was caught up before.
--- 2. Under the drain nobody writes. So the changes that were not taken at the grant are taken by
---    LAST, 64 in each, and one LAST is made at least. After a grant that finds them taken, that of
---    the drain of all under DRAIN WRITERS, there is none.
+-- 2. The changes that were not taken at the grant are taken by LAST, 64 in each, and one LAST is
+--    made at least. After the second grant, that of the drain of all under DRAIN WRITERS, there is
+--    none.
 -- 3. All this where the drain is not given up, and neither the utility nor the process ends in
 --    between.
 use Rattle.std.specs.Prelude.{ℕ, ◌≡◌, ◌+◌, ◌-◌, ◌/◌, Bool, true, false, List, [], ◌∷◌, Some}

@@ -829,7 +829,7 @@ impl<V: Counts, O: Operator> Desk<V, O> {
         self.down
     }
 
-    /// The table, as the statements so far have left it, with the rows of units that are still open.
+    /// The table, as the statements so far have left it. It has what open units wrote, too.
     pub fn table(&mut self) -> Result<Table, NoMemory>
         requires up { self.old.down ≡ false }
         ensures same { self.new ≡ self.old }

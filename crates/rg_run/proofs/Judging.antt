@@ -31,7 +31,7 @@ use Rattle.rg_run.specs.declared.played.RunEnd.TheVariants as ends
 use Rattle.rg_run.proofs.Between.{both_and, both_weaken}
 use Rattle.rg_run.proofs.Joins.{only_is}
 
--- ---- a run that ends for want of memory
+-- ---- a run that ends out of memory
 
 ends_so : (old new : VolumeSeen) (lines : List Line) (trace : List Entry) (end : RunEnd) → Ends old new lines trace end → (trace ≡ []) ⊎ TraceOfFront lines trace
 ends_so old new lines trace (ends.Whole rows) is = inr (lines, [], sym (append-nil lines), is.0)

@@ -6,6 +6,7 @@
 // 3. Where there is no memory for an entry, nothing of its line is done, and the run ends.
 // 4. The operator is asked for the steps of a running utility alone.
 // 5. The calls of the volume are counted from the opening on.
+// 6. A trace that is to be judged is judged at the end, from the table that the first opening found.
 ghost use Rattle.std.specs.Prelude.{◌≡◌, ◌≤◌, ◌*◌, List, [], ◌∷◌, ◌++◌, None, IfOk, IfErr, OnErr, OnOk, length};
 ghost use Rattle.std.specs.List.{AllByRecursion};
 ghost use Rattle.rg_stmt.specs.declared.line.Line.{Line};
