@@ -1,7 +1,8 @@
 // What a run leaves.
 //
 // 1. The volume and the operator are handed back, however the run ended.
-// 2. Of a run that was judged it is also said which entry is the first that is not legal, if one is.
+// 2. Of a run that was judged it is also said which entry is the first that is not legal, if there
+//    is one.
 use rg_base::set::Set;
 use rg_stmt::event::Entry;
 
