@@ -1,23 +1,19 @@
 -- The contract of a call follows from what it comes to.
-use Rattle.std.proofs.Common.{Bool, false, codes, ◌≡◌, ◌≢◌, ◌<◌, ◌≤◌, ◌+◌, ◌*◌, ◌⊎◌, inl, inr, ℕ, zero, suc, ◌-◌, ◌^◌, slice_index_or, List, [], ◌∷◌, ◌++◌, Option, Some, None, length, refl, sym, ◌∙◌, ap, subst, arith, append-nil, length-append}
-use Rattle.std.specs.List.{Contains}
+use Rattle.std.proofs.Common.{Bool, ◌≡◌, ◌≢◌, ◌<◌, ◌≤◌, ◌+◌, ◌*◌, ◌⊎◌, inl, inr, ℕ, zero, suc, ◌-◌, ◌^◌, slice_index_or, List, [], ◌∷◌, ◌++◌, Option, Some, None, length, refl, sym, ◌∙◌, ap, subst, arith, append-nil, length-append}
+use Rattle.std.specs.List.{AllByRecursion, Contains}
 use Rattle.std.specs.Io.KnownBytes.{Consumes, Appends, IsAtEnd}
 use Rattle.rg_base.specs.declared.set.Set.{Set}
 use Rattle.rg_deck.specs.declared.read.TheConstants.{DECK_LIMIT}
 use Rattle.rg_outside.specs.Faults.{Rose}
 use Rattle.rg_outside.specs.Capacities.{Capacities}
-use Rattle.rg_image.specs.Rules.{limit_of}
-use Rattle.rg_log.specs.Kept.{log_pages}
-use Rattle.rg_run.specs.Full.{IsFullOnlyFrom, smaller_pages}
-use Rattle.rg_run.specs.LogFull.{IsLogFullOnlyFrom}
-use Rattle.rg_run.specs.Outside.{IfBoth, IfCounted, IsDeviceOnlyIf, IsEnd, MadeSince, MakesOnly, WasUntidy, WritesOwn}
+use Rattle.rg_run.specs.Full.{smaller_pages}
+use Rattle.rg_run.specs.Outside.{IfBoth, IfCounted, IsEnd, MadeSince, WasUntidy}
 use Rattle.rg_deck.specs.Grammar.{Lines}
 use Rattle.rg_deck.specs.declared.read.Admits.TheVariants.{Every}
 use Rattle.rg_deck.proofs.Readings.{one_reading}
-use Rattle.rg_print.specs.Print.{print_text}
 use Rattle.rg_print.specs.declared.print.Close.TheVariants as closes
 use Rattle.rg_run.specs.Played.{TraceOf}
-use Rattle.rg_run.specs.Table.{AreFlushes, AreOpenings, EndsAtOpening, IsLegalRun, IsOpening, KeepsSound}
+use Rattle.rg_run.specs.Table.{EndsWhole}
 use Rattle.rg_run.specs.declared.played.RunEnd.TheVariants as ends
 use Rattle.rg_log.proofs.Ready.{quiet_reads}
 use Rattle.rg_run.proofs.Fullness.{full_less}
@@ -29,13 +25,24 @@ use Rattle.rg_desk.specs.OnVolume.{IsTidyVolume}
 use Rattle.rg_desk.specs.Volume.{VolumeSeen}
 use Rattle.rg_stmt.specs.declared.event.Entry.{Entry}
 use Rattle.rg_stmt.specs.declared.line.Line.{Line}
-use Rattle.reorgdb.specs.Answer.{Seen, IsPlay, IsShow, IsCommand, ReadsDeck, Comes, Concludes, DealsWithBytes, Finds, PlaysTo, ShowsTo, output_of}
-use Rattle.reorgdb.specs.Causes.{IsSoundVolume, Plays, Shows, RefusesDeck, RefusesVolume, IsDue, GivesDue}
+use Rattle.rg_gen.specs.Deck.{IsOfSessions, deck_of}
+use Rattle.rg_gen.proofs.Sessions.{each_of_sessions}
+use Rattle.rg_stmt.specs.declared.line.Line.TheVariants.{Death}
+use Rattle.rg_words.specs.Spelling.{Spells, command_word}
+use Rattle.rg_words.specs.declared.words.Words.{Words as Asked}
+use Rattle.rg_words.specs.declared.words.Words.TheVariants as asks
+use Rattle.rg_words.proofs.Once.{one_command}
+use Rattle.reorgdb.specs.Answer.{Seen, AsksDeck, IsPlay, IsJudge, IsGen, IsShow, IsCommand, ReadsDeck, Comes, Concludes, DealsWithBytes, DealsWithLines, EndsAtDeath, Finds, MakesTo, PlaysTo, ShowsTo, TakesDeck, TakesNothing, output_of}
+use Rattle.reorgdb.specs.Causes.{IsSoundVolume, Plays, Judges, Sums, Shows, RefusesDeck, RefusesVolume, IsDue, IsDueDeck, GivesDue}
+use Rattle.reorgdb.specs.Telling.{TellsRun}
+use Rattle.reorgdb.specs.Traced.{Traced}
 use Rattle.reorgdb.specs.Contract.{Completes}
 use Rattle.reorgdb.specs.Reading.{TakesAtMost, TakesTooMany}
 use Rattle.reorgdb.specs.Refusals.{status_of}
 use Rattle.reorgdb.specs.declared.outcome.Outcome.{Outcome}
 use Rattle.reorgdb.specs.declared.outcome.Outcome.TheVariants.{Played, Down, Shown, Words, Deck, Source, Damaged, Device, Long, NoMemory}
+use Rattle.reorgdb.specs.declared.telling.Tells.{Tells}
+use Rattle.reorgdb.specs.declared.telling.Tells.TheVariants.{Print, Verdict, Summary}
 
 not_four : (a : Outcome) → status_of a ≢ 4
 not_four Played e = omega arith
@@ -49,13 +56,67 @@ not_four Device e = omega arith
 not_four Long e = omega arith
 not_four NoMemory e = omega arith
 
--- no words ask for both commands
-not_both : (words : List (List ℕ)) → IsPlay words → IsShow words → ⊥
-not_both [] play show = absurd show
-not_both (word ∷ options) play show =
-    let (full, spelled) = play in
-    let same : length (codes "play") ≡ length (codes "layout") = ap length (sym spelled.0 ∙ show.0) in
-    omega (arith, same)
+-- ---- words
+
+-- two commands that the same words ask for have the same first word
+same_word : (words : List (List ℕ)) (a b : Asked) → Spells a words → Spells b words → command_word a ≡ command_word b
+same_word [] a b one other = absurd one
+same_word (word ∷ options) a b one other = sym one.0 ∙ other.0
+
+-- no words ask for two of the commands, whose words have different lengths
+apart : (words : List (List ℕ)) (a b : Asked) (m n : ℕ) → length (command_word a) ≡ m → length (command_word b) ≡ n → m ≢ n → Spells a words → Spells b words → ⊥
+apart words a b m n of_a of_b differ one other = differ (sym of_a ∙ ap length (same_word words a b one other) ∙ of_b)
+
+play_or_judge : (full : Bool) (words : List (List ℕ)) → Spells (asks.Play full) words → IsJudge words → ⊥
+play_or_judge full words = apart words (asks.Play full) asks.Judge 4 5 refl refl (λ e. omega (arith, e))
+
+play_or_gen : (full : Bool) (seed rows : ℕ) (words : List (List ℕ)) → Spells (asks.Play full) words → IsGen seed rows words → ⊥
+play_or_gen full seed rows words = apart words (asks.Play full) (asks.Gen seed rows) 4 3 refl refl (λ e. omega (arith, e))
+
+play_or_show : (full : Bool) (words : List (List ℕ)) → Spells (asks.Play full) words → IsShow words → ⊥
+play_or_show full words = apart words (asks.Play full) asks.Layout 4 6 refl refl (λ e. omega (arith, e))
+
+judge_or_gen : (seed rows : ℕ) (words : List (List ℕ)) → IsJudge words → IsGen seed rows words → ⊥
+judge_or_gen seed rows words = apart words asks.Judge (asks.Gen seed rows) 5 3 refl refl (λ e. omega (arith, e))
+
+judge_or_show : (words : List (List ℕ)) → IsJudge words → IsShow words → ⊥
+judge_or_show words = apart words asks.Judge asks.Layout 5 6 refl refl (λ e. omega (arith, e))
+
+gen_or_show : (seed rows : ℕ) (words : List (List ℕ)) → IsGen seed rows words → IsShow words → ⊥
+gen_or_show seed rows words = apart words (asks.Gen seed rows) asks.Layout 3 6 refl refl (λ e. omega (arith, e))
+
+-- nor for a deck to be read and for nothing to be
+deck_or_gen : (words : List (List ℕ)) (seed rows : ℕ) → TakesDeck words → IsGen seed rows words → ⊥
+deck_or_gen words seed rows deck gen = by_told deck.0 deck.1
+  where
+    by_told : (tells : Tells) → AsksDeck tells words → ⊥
+    by_told (Print full) asked = play_or_gen full seed rows words asked gen
+    by_told Verdict asked = judge_or_gen seed rows words asked gen
+    by_told (Summary a b) asked = asked
+
+deck_or_show : (words : List (List ℕ)) → TakesDeck words → IsShow words → ⊥
+deck_or_show words deck show = by_told deck.0 deck.1
+  where
+    by_told : (tells : Tells) → AsksDeck tells words → ⊥
+    by_told (Print full) asked = play_or_show full words asked show
+    by_told Verdict asked = judge_or_show words asked show
+    by_told (Summary a b) asked = asked
+
+deck_or_nothing : (words : List (List ℕ)) → TakesDeck words → TakesNothing words → ⊥
+deck_or_nothing words deck (inl made) = deck_or_gen words made.0 made.1 deck made.2
+deck_or_nothing words deck (inr show) = deck_or_show words deck show
+
+play_deck : (words : List (List ℕ)) → IsPlay words → TakesDeck words
+play_deck words play = (Print play.0, play.1)
+
+judge_deck : (words : List (List ℕ)) → IsJudge words → TakesDeck words
+judge_deck words judge = (Verdict, judge)
+
+-- the seed and the number of rows of the words are one
+same_gen : (words : List (List ℕ)) (seed rows a b : ℕ) → IsGen seed rows words → IsGen a b words → (seed ≡ a) × (rows ≡ b)
+same_gen words seed rows a b one other = let same : asks.Gen seed rows ≡ asks.Gen a b = one_command words (asks.Gen seed rows) (asks.Gen a b) one other in (cc (same), cc (same))
+
+-- ---- a source
 
 -- what was read to the end is all that was told
 whole_read : (before after : Option (List ℕ)) (read bytes : List ℕ) → before ≡ Some bytes → Consumes before after read → IsAtEnd after → read ≡ bytes
@@ -131,150 +192,277 @@ IsOfLines Device = Unit {0}
 IsOfLines outcome = ⊥
 
 -- bytes that come to such an outcome are a deck
-is_deck : (outcome : Outcome) (full : Bool) (before after : VolumeSeen) (bytes : List ℕ) (trace : List Entry) (print : List ℕ) → IsOfLines outcome → DealsWithBytes full before after bytes outcome trace print → (lines : List Line) × Lines bytes lines
-is_deck Played full before after bytes trace print of deals = (deals.0, deals.1)
-is_deck Down full before after bytes trace print of deals = (deals.0, deals.1)
-is_deck (Damaged set page) full before after bytes trace print of deals = (deals.0, deals.1)
-is_deck Device full before after bytes trace print of deals = (deals.0, deals.1)
-is_deck outcome full before after bytes trace print of deals = absurd of
+is_deck : (outcome : Outcome) (tells : Tells) (before after : VolumeSeen) (bytes : List ℕ) (trace : List Entry) (text : List ℕ) → IsOfLines outcome → DealsWithBytes tells before after bytes outcome trace text → (lines : List Line) × Lines bytes lines
+is_deck Played tells before after bytes trace text of deals = (deals.0, deals.1)
+is_deck Down tells before after bytes trace text of deals = (deals.0, deals.1)
+is_deck (Damaged set page) tells before after bytes trace text of deals = (deals.0, deals.1)
+is_deck Device tells before after bytes trace text of deals = (deals.0, deals.1)
+is_deck outcome tells before after bytes trace text of deals = absurd of
+
+-- the process does not die in a deck that is made
+never_dies : (front rest lines : List Line) → AllByRecursion IsOfSessions lines → lines ≡ front ++ Death ∷ rest → ⊥
+never_dies front rest [] all is = no_lines front is
+  where
+    no_lines : (front : List Line) → [] ≡ front ++ Death ∷ rest → ⊥
+    no_lines [] e = absurd (cc (e))
+    no_lines (l ∷ ls) e = absurd (cc (e))
+never_dies [] rest (line ∷ lines) all is = let first : line ≡ Death = cc (is) in subst IsOfSessions first all.0
+never_dies (l ∷ front) rest (line ∷ lines) all is = let more : lines ≡ front ++ Death ∷ rest = cc (is) in never_dies front rest lines all.1 more
+
+not_made : (seed rows : ℕ) (trace : List Entry) → EndsAtDeath (deck_of seed rows) trace → ⊥
+not_made seed rows trace dies = never_dies dies.front dies.rest (deck_of seed rows) (each_of_sessions seed rows) dies.joined
 
 module _ (words : List (List ℕ)) (source source_after sink sink_after : Seen) (volume volume_after : VolumeSeen) (status : ℕ) (trace : List Entry) where
   -- a status but 4 and 8 is the outcome's
-  record OfStatus (outcome : Outcome) (print : List ℕ) : Type 0 where
+  record OfStatus (outcome : Outcome) (text : List ℕ) : Type 0 where
     is : status ≡ status_of outcome
-    comes : Comes outcome words source source_after volume volume_after trace print
+    comes : Comes outcome words source source_after volume volume_after trace text
     finds : Finds outcome volume volume_after trace
-    shown : Appends sink.bytes sink_after.bytes (output_of outcome print)
+    shown : Appends sink.bytes sink_after.bytes (output_of outcome text)
 
-  by_status : status ≢ 4 → status ≢ 8 → (a : Concludes words source source_after sink sink_after volume volume_after status trace) → OfStatus a.outcome a.print
+  by_status : status ≢ 4 → status ≢ 8 → (a : Concludes words source source_after sink sink_after volume volume_after status trace) → OfStatus a.outcome a.text
   by_status four eight a = elim a.delivered [
     | inl whole ↦ record { is = whole.0; comes = a.comes; finds = a.finds; shown = whole.1 }
     | inr front ↦ elim front [ inl failed ↦ absurd (four failed.0) | inr wanted ↦ absurd (eight wanted.0) ]
   ]
 
-  -- what a deck comes to that is played, and what a layout comes to
-  plays_of : (print : List ℕ) → OfStatus Played print → PlaysTo Played words source source_after volume volume_after trace print → Plays words source source_after sink sink_after volume volume_after trace
-  plays_of print of comes =
-      let (play, bytes, read, deals) = comes in
-      let (lines, spelled, printed) = deals in
+  -- what a deck comes to that is read and played
+  record IsRead (text : List ℕ) : Type 0 where
+    tells : Tells
+    asked : AsksDeck tells words
+    bytes : List ℕ
+    lines : List Line
+    rows : ℕ
+    read : ReadsDeck source bytes source_after
+    spelled : Lines bytes lines
+    entries : TraceOf lines trace
+    counted : EndsWhole volume volume_after lines trace rows
+    told : TellsRun tells volume volume_after trace (closes.Rows rows) text
+    shown : Appends sink.bytes sink_after.bytes text
+
+  is_read : (text : List ℕ) → OfStatus Played text → PlaysTo Played words source source_after volume volume_after trace text → IsRead text
+  is_read text of comes =
+      let (asked, bytes, read, deals) = comes in
+      let (lines, spelled, whole) = deals in
       record {
-        asked = play;
+        tells = asked.0;
+        asked = asked.1;
         bytes = bytes;
         lines = lines;
-        rows = printed.rows;
+        rows = whole.rows;
         read = read;
         spelled = spelled;
-        entries = printed.entries;
-        counted = printed.counted;
-        shown = subst (Appends sink.bytes sink_after.bytes) printed.printed of.shown;
+        entries = whole.entries;
+        counted = whole.counted;
+        told = whole.told;
+        shown = of.shown;
       }
 
-  played_of : (outcome : Outcome) (print : List ℕ) → status ≡ 0 → IsPlay words → OfStatus outcome print → Plays words source source_after sink sink_after volume volume_after trace
-  played_of Played print is play of = elim of.comes [ inl played ↦ plays_of print of played | inr shown ↦ absurd shown ]
-  played_of Shown print is play of = elim of.comes [ inl played ↦ absurd played.3 | inr shown ↦ absurd (not_both words play shown.0) ]
-  played_of outcome print is play of = absurd (omega (arith, of.is, is))
+  read_of_status : (outcome : Outcome) (text : List ℕ) → status ≡ 0 → TakesDeck words → OfStatus outcome text → IsRead text
+  read_of_status Played text is deck of = elim of.comes [
+    | inl played ↦ is_read text of played
+    | inr other ↦ elim other [ inl made ↦ absurd (deck_or_gen words made.0 made.1 deck made.2) | inr shown ↦ absurd shown ]
+  ]
+  read_of_status Shown text is deck of = elim of.comes [
+    | inl played ↦ absurd played.3.2
+    | inr other ↦ elim other [ inl made ↦ absurd made.4 | inr shown ↦ absurd (deck_or_show words deck shown.0) ]
+  ]
+  read_of_status outcome text is deck of = absurd (omega (arith, of.is, is))
+
+  reads : (a : Concludes words source source_after sink sink_after volume volume_after status trace) → status ≡ 0 → TakesDeck words → IsRead a.text
+  reads a is deck = read_of_status a.outcome a.text is deck (by_status (λ e. omega arith) (λ e. omega arith) a)
+
+  -- for `play`
+  plays_of : (text : List ℕ) (read : IsRead text) → IsPlay words → Plays words source source_after sink sink_after volume volume_after trace
+  plays_of text read play = by_told read.tells read.asked read.told
+    where
+      by_told : (tells : Tells) → AsksDeck tells words → TellsRun tells volume volume_after trace (closes.Rows read.rows) text → Plays words source source_after sink sink_after volume volume_after trace
+      by_told (Print full) asked told = record {
+        asked = (full, asked);
+        bytes = read.bytes;
+        lines = read.lines;
+        rows = read.rows;
+        read = read.read;
+        spelled = read.spelled;
+        entries = read.entries;
+        counted = read.counted;
+        shown = subst (Appends sink.bytes sink_after.bytes) told.is read.shown;
+      }
+      by_told Verdict asked told = absurd (play_or_judge play.0 words play.1 asked)
+      by_told (Summary seed rows) asked told = absurd asked
 
   plays : Concludes words source source_after sink sink_after volume volume_after status trace → status ≡ 0 → IsPlay words → Plays words source source_after sink sink_after volume volume_after trace
-  plays a is play = played_of a.outcome a.print is play (by_status (λ e. omega arith) (λ e. omega arith) a)
+  plays a is play = plays_of a.text (reads a is (play_deck words play)) play
 
-  shown_of : (outcome : Outcome) (print : List ℕ) → status ≡ 0 → IsShow words → OfStatus outcome print → Shows source source_after sink sink_after volume volume_after trace
-  shown_of Played print is show of = elim of.comes [ inl played ↦ absurd (not_both words played.0 show) | inr shown ↦ absurd shown ]
-  shown_of Shown print is show of = elim of.comes [
-    | inl played ↦ absurd played.3
-    | inr shown ↦ record { unread = shown.1; text = print; layout = shown.2; shown = of.shown }
+  -- for `judge`
+  judges_of : (text : List ℕ) (read : IsRead text) → IsJudge words → Judges source source_after sink sink_after volume volume_after trace
+  judges_of text read judge = by_told read.tells read.asked read.told
+    where
+      by_told : (tells : Tells) → AsksDeck tells words → TellsRun tells volume volume_after trace (closes.Rows read.rows) text → Judges source source_after sink sink_after volume volume_after trace
+      by_told (Print full) asked told = absurd (play_or_judge full words asked judge)
+      by_told Verdict asked told = record {
+        bytes = read.bytes;
+        lines = read.lines;
+        rows = read.rows;
+        verdict = told.verdict;
+        read = read.read;
+        spelled = read.spelled;
+        entries = read.entries;
+        counted = read.counted;
+        judged = told.told;
+        shown = subst (Appends sink.bytes sink_after.bytes) told.is read.shown;
+      }
+      by_told (Summary seed rows) asked told = absurd asked
+
+  judges : Concludes words source source_after sink sink_after volume volume_after status trace → status ≡ 0 → IsJudge words → Judges source source_after sink sink_after volume volume_after trace
+  judges a is judge = judges_of a.text (reads a is (judge_deck words judge)) judge
+
+  -- for `gen`
+  summed_to : (seed rows : ℕ) (text : List ℕ) → OfStatus Played text → source_after ≡ source → DealsWithLines (Summary seed rows) volume volume_after (deck_of seed rows) Played trace text
+      → Sums seed rows source source_after sink sink_after volume volume_after trace
+  summed_to seed rows text of unread whole = record {
+    verdict = whole.told.verdict;
+    count = whole.rows;
+    unread = unread;
+    entries = whole.entries;
+    counted = whole.counted;
+    judged = whole.told.told;
+    shown = subst (Appends sink.bytes sink_after.bytes) whole.told.is of.shown;
+  }
+
+  summed_made : (seed rows : ℕ) (text : List ℕ) → IsGen seed rows words → OfStatus Played text → MakesTo Played words source source_after volume volume_after trace text → Sums seed rows source source_after sink sink_after volume volume_after trace
+  summed_made seed rows text gen of made =
+      let same = same_gen words made.0 made.1 seed rows made.2 gen in
+      subst (λ n. Sums n rows source source_after sink sink_after volume volume_after trace) same.0
+      (subst (λ n. Sums made.0 n source source_after sink sink_after volume volume_after trace) same.1
+      (summed_to made.0 made.1 text of made.3 made.4))
+
+  summed_of : (seed rows : ℕ) (outcome : Outcome) (text : List ℕ) → status ≡ 0 → IsGen seed rows words → OfStatus outcome text → Sums seed rows source source_after sink sink_after volume volume_after trace
+  summed_of seed rows Played text is gen of = elim of.comes [
+    | inl played ↦ absurd (deck_or_gen words seed rows played.0 gen)
+    | inr other ↦ elim other [ inl made ↦ summed_made seed rows text gen of made | inr shown ↦ absurd shown ]
   ]
-  shown_of outcome print is show of = absurd (omega (arith, of.is, is))
+  summed_of seed rows Shown text is gen of = elim of.comes [
+    | inl played ↦ absurd played.3.2
+    | inr other ↦ elim other [ inl made ↦ absurd made.4 | inr shown ↦ absurd (gen_or_show seed rows words gen shown.0) ]
+  ]
+  summed_of seed rows outcome text is gen of = absurd (omega (arith, of.is, is))
+
+  sums : Concludes words source source_after sink sink_after volume volume_after status trace → (seed rows : ℕ) → status ≡ 0 → IsGen seed rows words → Sums seed rows source source_after sink sink_after volume volume_after trace
+  sums a seed rows is gen = summed_of seed rows a.outcome a.text is gen (by_status (λ e. omega arith) (λ e. omega arith) a)
+
+  -- for `layout`
+  shown_of : (outcome : Outcome) (text : List ℕ) → status ≡ 0 → IsShow words → OfStatus outcome text → Shows source source_after sink sink_after volume volume_after trace
+  shown_of Played text is show of = elim of.comes [
+    | inl played ↦ absurd (deck_or_show words played.0 show)
+    | inr other ↦ elim other [ inl made ↦ absurd (gen_or_show made.0 made.1 words made.2 show) | inr shown ↦ absurd shown ]
+  ]
+  shown_of Shown text is show of = elim of.comes [
+    | inl played ↦ absurd played.3.2
+    | inr other ↦ elim other [
+      | inl made ↦ absurd made.4
+      | inr shown ↦ record { unread = shown.1; text = text; layout = shown.2; shown = of.shown }
+    ]
+  ]
+  shown_of outcome text is show of = absurd (omega (arith, of.is, is))
 
   shows : Concludes words source source_after sink sink_after volume volume_after status trace → status ≡ 0 → IsShow words → Shows source source_after sink sink_after volume volume_after trace
-  shows a is show = shown_of a.outcome a.print is show (by_status (λ e. omega arith) (λ e. omega arith) a)
+  shows a is show = shown_of a.outcome a.text is show (by_status (λ e. omega arith) (λ e. omega arith) a)
 
-  words_of : (outcome : Outcome) (print : List ℕ) → status ≡ 1 → OfStatus outcome print → IsCommand words → ⊥
-  words_of Words print is of = of.comes.0
-  words_of outcome print is of = absurd (omega (arith, of.is, is))
+  words_of : (outcome : Outcome) (text : List ℕ) → status ≡ 1 → OfStatus outcome text → IsCommand words → ⊥
+  words_of Words text is of = of.comes.0
+  words_of outcome text is of = absurd (omega (arith, of.is, is))
 
   no_words : Concludes words source source_after sink sink_after volume volume_after status trace → status ≡ 1 → IsCommand words → ⊥
-  no_words a is = words_of a.outcome a.print is (by_status (λ e. omega arith) (λ e. omega arith) a)
+  no_words a is = words_of a.outcome a.text is (by_status (λ e. omega arith) (λ e. omega arith) a)
 
-  deck_of : (outcome : Outcome) (print : List ℕ) → status ≡ 2 → OfStatus outcome print → RefusesDeck source source_after sink sink_after
-  deck_of (Deck line) print is of = elim of.comes [
-    | inl played ↦ refuses_line played
-    | inr shown ↦ absurd shown
+  refuses_line : (line : ℕ) (text : List ℕ) → OfStatus (Deck line) text → PlaysTo (Deck line) words source source_after volume volume_after trace text → RefusesDeck source source_after sink sink_after
+  refuses_line line text of comes =
+      let (deck, bytes, read, deals) = comes in
+      let (refused, none, printed) = deals in
+      record { bytes = bytes; line = line; read = read; refused = refused; shown = subst (Appends sink.bytes sink_after.bytes) printed of.shown }
+
+  deck_status : (outcome : Outcome) (text : List ℕ) → status ≡ 2 → OfStatus outcome text → RefusesDeck source source_after sink sink_after
+  deck_status (Deck line) text is of = elim of.comes [
+    | inl played ↦ refuses_line line text of played
+    | inr other ↦ elim other [ inl made ↦ absurd made.4 | inr shown ↦ absurd shown ]
   ]
-    where
-      refuses_line : PlaysTo (Deck line) words source source_after volume volume_after trace print → RefusesDeck source source_after sink sink_after
-      refuses_line comes =
-          let (play, bytes, read, deals) = comes in
-          let (refused, none, printed) = deals in
-          record { bytes = bytes; line = line; read = read; refused = refused; shown = subst (Appends sink.bytes sink_after.bytes) printed of.shown }
-  deck_of outcome print is of = absurd (omega (arith, of.is, is))
+  deck_status outcome text is of = absurd (omega (arith, of.is, is))
 
   no_deck : Concludes words source source_after sink sink_after volume volume_after status trace → status ≡ 2 → RefusesDeck source source_after sink sink_after
-  no_deck a is = deck_of a.outcome a.print is (by_status (λ e. omega arith) (λ e. omega arith) a)
+  no_deck a is = deck_status a.outcome a.text is (by_status (λ e. omega arith) (λ e. omega arith) a)
 
-  source_of : (outcome : Outcome) (print : List ℕ) → status ≡ 3 → OfStatus outcome print → Rose source.faults source_after.faults
-  source_of Source print is of = elim of.comes [ inl played ↦ played.1 | inr shown ↦ absurd shown ]
-  source_of outcome print is of = absurd (omega (arith, of.is, is))
+  source_of : (outcome : Outcome) (text : List ℕ) → status ≡ 3 → OfStatus outcome text → Rose source.faults source_after.faults
+  source_of Source text is of = elim of.comes [
+    | inl played ↦ played.1
+    | inr other ↦ elim other [ inl made ↦ absurd made.4 | inr shown ↦ absurd shown ]
+  ]
+  source_of outcome text is of = absurd (omega (arith, of.is, is))
 
   no_source : Concludes words source source_after sink sink_after volume volume_after status trace → status ≡ 3 → Rose source.faults source_after.faults
-  no_source a is = source_of a.outcome a.print is (by_status (λ e. omega arith) (λ e. omega arith) a)
+  no_source a is = source_of a.outcome a.text is (by_status (λ e. omega arith) (λ e. omega arith) a)
 
-  damaged_of : (outcome : Outcome) (print : List ℕ) → status ≡ 5 → OfStatus outcome print → RefusesVolume sink sink_after volume volume_after trace
-  damaged_of (Damaged set page) print is of = elim of.comes [
-    | inl played ↦ refuses_page played
-    | inr shown ↦ record {
-      set = set;
-      page = page;
-      because = of.finds;
-      lines = [];
-      entries = inl shown.2;
-      full = false;
-      shown = subst (Appends sink.bytes sink_after.bytes) (shown.3 ∙ ap (λ (es : List Entry). print_text es false (closes.Damaged set page)) (sym shown.2)) of.shown;
-    }
+  -- what lines come to whose run found a page that breaks a rule
+  refuses_lines : (tells : Tells) (lines : List Line) (set : Set) (page : ℕ) (text : List ℕ) → OfStatus (Damaged set page) text → DealsWithLines tells volume volume_after lines (Damaged set page) trace text → RefusesVolume sink sink_after volume volume_after trace
+  refuses_lines tells lines set page text of (inl first) =
+      record { set = set; page = page; because = of.finds; text = text; tells = inl first; shown = of.shown }
+  refuses_lines tells lines set page text of (inr dies) =
+      record { set = set; page = page; because = of.finds; text = text; tells = inr (tells, lines, dies); shown = of.shown }
+
+  refuses_deck : (set : Set) (page : ℕ) (text : List ℕ) → OfStatus (Damaged set page) text → PlaysTo (Damaged set page) words source source_after volume volume_after trace text → RefusesVolume sink sink_after volume volume_after trace
+  refuses_deck set page text of comes =
+      let (asked, bytes, read, deals) = comes in
+      refuses_lines asked.0 deals.0 set page text of deals.2
+
+  damaged_of : (outcome : Outcome) (text : List ℕ) → status ≡ 5 → OfStatus outcome text → RefusesVolume sink sink_after volume volume_after trace
+  damaged_of (Damaged set page) text is of = elim of.comes [
+    | inl played ↦ refuses_deck set page text of played
+    | inr other ↦ elim other [
+      | inl made ↦ refuses_lines (Summary made.0 made.1) (deck_of made.0 made.1) set page text of made.4
+      | inr shown ↦ record { set = set; page = page; because = of.finds; text = text; tells = inl (shown.2, shown.3); shown = of.shown }
+    ]
   ]
-    where
-      refuses_page : PlaysTo (Damaged set page) words source source_after volume volume_after trace print → RefusesVolume sink sink_after volume volume_after trace
-      refuses_page comes =
-          let (play, bytes, read, deals) = comes in
-          let (lines, spelled, at, printed) = deals in
-          record { set = set; page = page; because = of.finds; lines = lines; entries = at; full = play.0; shown = subst (Appends sink.bytes sink_after.bytes) printed of.shown }
-  damaged_of outcome print is of = absurd (omega (arith, of.is, is))
+  damaged_of outcome text is of = absurd (omega (arith, of.is, is))
 
   no_volume : Concludes words source source_after sink sink_after volume volume_after status trace → status ≡ 5 → RefusesVolume sink sink_after volume volume_after trace
-  no_volume a is = damaged_of a.outcome a.print is (by_status (λ e. omega arith) (λ e. omega arith) a)
+  no_volume a is = damaged_of a.outcome a.text is (by_status (λ e. omega arith) (λ e. omega arith) a)
 
-  failed_of : (outcome : Outcome) (print : List ℕ) → status ≡ 6 → OfStatus outcome print → Rose volume.faults volume_after.faults
-  failed_of Down print is of = of.finds
-  failed_of Device print is of = of.finds
-  failed_of outcome print is of = absurd (omega (arith, of.is, is))
+  failed_of : (outcome : Outcome) (text : List ℕ) → status ≡ 6 → OfStatus outcome text → Rose volume.faults volume_after.faults
+  failed_of Down text is of = of.finds
+  failed_of Device text is of = of.finds
+  failed_of outcome text is of = absurd (omega (arith, of.is, is))
 
   volume_fails : Concludes words source source_after sink sink_after volume volume_after status trace → status ≡ 6 → Rose volume.faults volume_after.faults
-  volume_fails a is = failed_of a.outcome a.print is (by_status (λ e. omega arith) (λ e. omega arith) a)
+  volume_fails a is = failed_of a.outcome a.text is (by_status (λ e. omega arith) (λ e. omega arith) a)
 
   -- a refusal before the opening calls no volume
-  uncalled_of : (outcome : Outcome) (print : List ℕ) → Contains (1 ∷ 2 ∷ 3 ∷ 7 ∷ []) status → OfStatus outcome print → volume_after ≡ volume
-  uncalled_of Words print is of = of.finds
-  uncalled_of (Deck line) print is of = of.finds
-  uncalled_of Source print is of = of.finds
-  uncalled_of Long print is of = of.finds
-  uncalled_of Played print is of = absurd (not_early status is (inr (inr (inr (inl of.is)))))
-  uncalled_of Shown print is of = absurd (not_early status is (inr (inr (inr (inl of.is)))))
-  uncalled_of Down print is of = absurd (not_early status is (inr (inr (inl of.is))))
-  uncalled_of (Damaged set page) print is of = absurd (not_early status is (inr (inl of.is)))
-  uncalled_of Device print is of = absurd (not_early status is (inr (inr (inl of.is))))
-  uncalled_of NoMemory print is of = absurd (not_early status is (inr (inr (inr (inr of.is)))))
+  uncalled_of : (outcome : Outcome) (text : List ℕ) → Contains (1 ∷ 2 ∷ 3 ∷ 7 ∷ []) status → OfStatus outcome text → volume_after ≡ volume
+  uncalled_of Words text is of = of.finds
+  uncalled_of (Deck line) text is of = of.finds
+  uncalled_of Source text is of = of.finds
+  uncalled_of Long text is of = of.finds
+  uncalled_of Played text is of = absurd (not_early status is (inr (inr (inr (inl of.is)))))
+  uncalled_of Shown text is of = absurd (not_early status is (inr (inr (inr (inl of.is)))))
+  uncalled_of Down text is of = absurd (not_early status is (inr (inr (inl of.is))))
+  uncalled_of (Damaged set page) text is of = absurd (not_early status is (inr (inl of.is)))
+  uncalled_of Device text is of = absurd (not_early status is (inr (inr (inl of.is))))
+  uncalled_of NoMemory text is of = absurd (not_early status is (inr (inr (inr (inr of.is)))))
 
   early_so : Contains (1 ∷ 2 ∷ 3 ∷ 7 ∷ []) status → (status ≢ 4) × (status ≢ 8)
   early_so is = (λ e. not_early status is (inl e), λ e. not_early status is (inr (inr (inr (inr e)))))
 
   uncalled : Concludes words source source_after sink sink_after volume volume_after status trace → Contains (1 ∷ 2 ∷ 3 ∷ 7 ∷ []) status → volume_after ≡ volume
-  uncalled a is = uncalled_of a.outcome a.print is (by_status (early_so is).0 (early_so is).1 a)
+  uncalled a is = uncalled_of a.outcome a.text is (by_status (early_so is).0 (early_so is).1 a)
 
-  long_of : (outcome : Outcome) (print : List ℕ) → status ≡ 7 → OfStatus outcome print → TakesTooMany source.bytes source_after.bytes
-  long_of Long print is of = elim of.comes [ inl played ↦ played.1 | inr shown ↦ absurd shown ]
-  long_of outcome print is of = absurd (omega (arith, of.is, is))
+  long_of : (outcome : Outcome) (text : List ℕ) → status ≡ 7 → OfStatus outcome text → TakesTooMany source.bytes source_after.bytes
+  long_of Long text is of = elim of.comes [
+    | inl played ↦ played.1
+    | inr other ↦ elim other [ inl made ↦ absurd made.4 | inr shown ↦ absurd shown ]
+  ]
+  long_of outcome text is of = absurd (omega (arith, of.is, is))
 
   too_long : Concludes words source source_after sink sink_after volume volume_after status trace → status ≡ 7 → TakesTooMany source.bytes source_after.bytes
-  too_long a is = long_of a.outcome a.print is (by_status (λ e. omega arith) (λ e. omega arith) a)
+  too_long a is = long_of a.outcome a.text is (by_status (λ e. omega arith) (λ e. omega arith) a)
 
   no_sink : Concludes words source source_after sink sink_after volume volume_after status trace → status ≡ 4 → Rose sink.faults sink_after.faults
   no_sink a is = elim a.delivered [
@@ -283,60 +471,74 @@ module _ (words : List (List ℕ)) (source source_after sink sink_after : Seen) 
   ]
 
   -- the words of each outcome but one
-  played_words : (outcome : Outcome) (print : List ℕ) → PlaysTo outcome words source source_after volume volume_after trace print → IsPlay words
-  played_words Source print comes = comes.0
-  played_words Long print comes = comes.0
-  played_words NoMemory print comes = comes.0
-  played_words outcome print comes = comes.0
+  played_words : (outcome : Outcome) (text : List ℕ) → PlaysTo outcome words source source_after volume volume_after trace text → TakesDeck words
+  played_words Source text comes = comes.0
+  played_words Long text comes = comes.0
+  played_words NoMemory text comes = comes.0
+  played_words outcome text comes = comes.0
 
-  -- a layout's outcomes
-  record IsShown (outcome : Outcome) : Type 0 where
-    asked : IsShow words
+  -- the outcomes of a call that takes nothing
+  abbrev Unread : Outcome → Type 0
+  Unread outcome = Contains (0 ∷ 4 ∷ 5 ∷ 6 ∷ 8 ∷ []) (status_of outcome)
+
+  record TakesNone (outcome : Outcome) : Type 0 where
+    asked : TakesNothing words
     unread : source_after ≡ source
-    status_is : Contains (0 ∷ 4 ∷ 5 ∷ 6 ∷ 8 ∷ []) (status_of outcome)
+    status_is : Unread outcome
 
-  is_shown : (outcome : Outcome) (print : List ℕ) → ShowsTo outcome words source source_after volume volume_after trace print → IsShown outcome
-  is_shown Shown print comes = record { asked = comes.0; unread = comes.1; status_is = (0, omega arith, refl) }
-  is_shown (Damaged set page) print comes = record { asked = comes.0; unread = comes.1; status_is = (2, omega arith, refl) }
-  is_shown Device print comes = record { asked = comes.0; unread = comes.1; status_is = (3, omega arith, refl) }
-  is_shown NoMemory print comes = record { asked = comes.0; unread = comes.1; status_is = (4, omega arith, refl) }
-  is_shown outcome print comes = absurd comes
+  is_shown : (outcome : Outcome) (text : List ℕ) → ShowsTo outcome words source source_after volume volume_after trace text → TakesNone outcome
+  is_shown Shown text comes = record { asked = inr comes.0; unread = comes.1; status_is = (0, omega arith, refl) }
+  is_shown (Damaged set page) text comes = record { asked = inr comes.0; unread = comes.1; status_is = (2, omega arith, refl) }
+  is_shown Device text comes = record { asked = inr comes.0; unread = comes.1; status_is = (3, omega arith, refl) }
+  is_shown NoMemory text comes = record { asked = inr comes.0; unread = comes.1; status_is = (4, omega arith, refl) }
+  is_shown outcome text comes = absurd comes
+
+  made_status : (seed rows : ℕ) (outcome : Outcome) (text : List ℕ) → DealsWithLines (Summary seed rows) volume volume_after (deck_of seed rows) outcome trace text → Unread outcome
+  made_status seed rows Played text deals = (0, omega arith, refl)
+  made_status seed rows (Damaged set page) text deals = (2, omega arith, refl)
+  made_status seed rows Down text deals = (3, omega arith, refl)
+  made_status seed rows Device text deals = (3, omega arith, refl)
+  made_status seed rows NoMemory text deals = (4, omega arith, refl)
+  made_status seed rows outcome text deals = absurd deals
+
+  is_made : (outcome : Outcome) (text : List ℕ) → MakesTo outcome words source source_after volume volume_after trace text → TakesNone outcome
+  is_made outcome text comes = record { asked = inl (comes.0, comes.1, comes.2); unread = comes.3; status_is = made_status comes.0 comes.1 outcome text comes.4 }
 
   -- each outcome but that of words that ask for nothing
-  asked_for : (outcome : Outcome) (print : List ℕ) → Comes outcome words source source_after volume volume_after trace print → (outcome ≡ Words) ⊎ (IsPlay words ⊎ IsShown outcome)
-  asked_for Words print comes = inl refl
-  asked_for outcome print comes = elim comes [
-    | inl played ↦ inr (inl (played_words outcome print played))
-    | inr shown ↦ inr (inr (is_shown outcome print shown))
+  asked_for : (outcome : Outcome) (text : List ℕ) → Comes outcome words source source_after volume volume_after trace text → (outcome ≡ Words) ⊎ (TakesDeck words ⊎ TakesNone outcome)
+  asked_for Words text comes = inl refl
+  asked_for outcome text comes = elim comes [
+    | inl played ↦ inr (inl (played_words outcome text played))
+    | inr other ↦ elim other [ inl made ↦ inr (inr (is_made outcome text made)) | inr shown ↦ inr (inr (is_shown outcome text shown)) ]
   ]
 
   other_words : Concludes words source source_after sink sink_after volume volume_after status trace → (IsCommand words → ⊥) → Contains (1 ∷ 4 ∷ 8 ∷ []) status
   other_words a other = elim a.delivered [
-    | inl whole ↦ (0, omega arith, sym (whole.0 ∙ ap status_of (refused (asked_for a.outcome a.print a.comes))))
+    | inl whole ↦ (0, omega arith, sym (whole.0 ∙ ap status_of (refused (asked_for a.outcome a.text a.comes))))
     | inr front ↦ elim front [ inl failed ↦ (1, omega arith, sym failed.0) | inr wanted ↦ (2, omega arith, sym wanted.0) ]
   ]
     where
-      refused : (a.outcome ≡ Words) ⊎ (IsPlay words ⊎ IsShown a.outcome) → a.outcome ≡ Words
+      refused : (a.outcome ≡ Words) ⊎ (TakesDeck words ⊎ TakesNone a.outcome) → a.outcome ≡ Words
       refused (inl is) = is
-      refused (inr (inl play)) = absurd (other (inl play))
-      refused (inr (inr shown)) = absurd (other (inr shown.asked))
+      refused (inr (inl deck)) = absurd (other (inl deck))
+      refused (inr (inr none)) = absurd (other (inr none.asked))
 
-  -- what words that ask for a layout come to
-  only_shown : IsShow words → (outcome : Outcome) (print : List ℕ) → Comes outcome words source source_after volume volume_after trace print → IsShown outcome
-  only_shown show outcome print comes = by_case outcome print comes (asked_for outcome print comes)
+  -- what words that take nothing come to
+  only_none : TakesNothing words → (outcome : Outcome) (text : List ℕ) → Comes outcome words source source_after volume volume_after trace text → TakesNone outcome
+  only_none nothing outcome text comes = by_case outcome text comes (asked_for outcome text comes)
     where
-      by_case : (outcome : Outcome) (print : List ℕ) → Comes outcome words source source_after volume volume_after trace print → (outcome ≡ Words) ⊎ (IsPlay words ⊎ IsShown outcome) → IsShown outcome
-      by_case Words print comes (inl is) = absurd (comes.0 (inr show))
-      by_case outcome print comes (inl is) = absurd (cc (is))
-      by_case outcome print comes (inr (inl play)) = absurd (not_both words play show)
-      by_case outcome print comes (inr (inr shown)) = shown
+      by_case : (outcome : Outcome) (text : List ℕ) → Comes outcome words source source_after volume volume_after trace text → (outcome ≡ Words) ⊎ (TakesDeck words ⊎ TakesNone outcome) → TakesNone outcome
+      by_case Words text comes (inl is) = absurd (comes.0 (inr nothing))
+      by_case outcome text comes (inl is) = absurd (cc (is))
+      by_case outcome text comes (inr (inl deck)) = absurd (deck_or_nothing words deck nothing)
+      by_case outcome text comes (inr (inr none)) = none
 
-  left_unread : Concludes words source source_after sink sink_after volume volume_after status trace → IsShow words → source_after ≡ source
-  left_unread a show = (only_shown show a.outcome a.print a.comes).unread
+  left_unread : Concludes words source source_after sink sink_after volume volume_after status trace → TakesNothing words → source_after ≡ source
+  left_unread a nothing = (only_none nothing a.outcome a.text a.comes).unread
 
-  shown_status : Concludes words source source_after sink sink_after volume volume_after status trace → IsShow words → Contains (0 ∷ 4 ∷ 5 ∷ 6 ∷ 8 ∷ []) status
-  shown_status a show = elim a.delivered [
-    | inl whole ↦ subst (Contains (0 ∷ 4 ∷ 5 ∷ 6 ∷ 8 ∷ [])) (sym whole.0) (only_shown show a.outcome a.print a.comes).status_is
+  none_status : Concludes words source source_after sink sink_after volume volume_after status trace → TakesNothing words → Contains (0 ∷ 4 ∷ 5 ∷ 6 ∷ 8 ∷ []) status
+  none_status a nothing = elim a.delivered [
+    | inl whole ↦ subst (Contains (0 ∷ 4 ∷ 5 ∷ 6 ∷ 8 ∷ [])) (sym whole.0) (only_none nothing a.outcome a.text a.comes).status_is
     | inr front ↦ elim front [ inl failed ↦ (1, omega arith, sym failed.0) | inr wanted ↦ (4, omega arith, sym wanted.0) ]
   ]
 
@@ -344,88 +546,147 @@ module _ (words : List (List ℕ)) (source source_after sink sink_after : Seen) 
   all_read : (read bytes : List ℕ) → source.bytes ≡ Some bytes → ReadsDeck source read source_after → read ≡ bytes
   all_read read bytes told reads = whole_read source.bytes source_after.bytes read bytes told reads.taken reads.end
 
+  -- the status is that of what is due, or memory ran out
+  abbrev Meets : Outcome → Outcome → Type 0
+  Meets outcome due = (status_of outcome ≡ status_of due) ⊎ (outcome ≡ NoMemory)
+
   -- bytes that are no deck come to no outcome of lines
-  no_deck_due : (outcome : Outcome) (line : ℕ) (print : List ℕ) → IsOfLines outcome → IsDue (Deck line) words source.bytes volume volume_after
-      → (asked : IsPlay words) × (bytes : List ℕ) × ReadsDeck source bytes source_after × DealsWithBytes asked.0 volume volume_after bytes outcome trace print → ⊥
-  no_deck_due outcome line print of is_due comes =
+  no_deck_due : (outcome : Outcome) (line : ℕ) (text : List ℕ) → IsOfLines outcome → IsDue (Deck line) words source.bytes volume volume_after
+      → (asked : TakesDeck words) × (bytes : List ℕ) × ReadsDeck source bytes source_after × DealsWithBytes asked.0 volume volume_after bytes outcome trace text → ⊥
+  no_deck_due outcome line text of is_due comes =
       let (asked, read, reads, deals) = comes in
-      let (lines, spelled) = is_deck outcome asked.0 volume volume_after read trace print of deals in
+      let (lines, spelled) = is_deck outcome asked.0 volume volume_after read trace text of deals in
       is_due.4 lines (subst (λ b. Lines b lines) (all_read read is_due.1 is_due.2 reads) spelled)
 
-  -- what comes where nothing fails has the status of what is due, or is want of memory
-  played_due : (outcome due : Outcome) (print : List ℕ) → IsDue due words source.bytes volume volume_after → IsPlay words → (Rose source.faults source_after.faults → ⊥)
-      → PlaysTo outcome words source source_after volume volume_after trace print → Finds outcome volume volume_after trace → (status_of outcome ≡ status_of due) ⊎ (outcome ≡ NoMemory)
-  played_due NoMemory due print is_due play sure comes finds = inr refl
-  played_due Source due print is_due play sure comes finds = absurd (sure comes.1)
-  played_due Words due print is_due play sure comes finds = absurd comes.3
-  played_due Shown due print is_due play sure comes finds = absurd comes.3
-  played_due outcome Source print is_due play sure comes finds = absurd is_due
-  played_due outcome NoMemory print is_due play sure comes finds = absurd is_due
-  played_due outcome Down print is_due play sure comes finds = absurd is_due
-  played_due outcome (Damaged set page) print is_due play sure comes finds = absurd is_due
-  played_due outcome Device print is_due play sure comes finds = absurd is_due
-  played_due outcome Words print is_due play sure comes finds = absurd (is_due (inl play))
-  played_due outcome Shown print is_due play sure comes finds = absurd (not_both words play is_due.0)
-  played_due Played Played print is_due play sure comes finds = inl refl
-  played_due (Deck line) (Deck other) print is_due play sure comes finds = inl refl
-  played_due Long Long print is_due play sure comes finds = inl refl
-  played_due Long Played print is_due play sure comes finds = absurd (too_many source.bytes source_after.bytes comes.1.0 is_due.1 is_due.2 comes.1.2 comes.1.1 is_due.3)
-  played_due Long (Deck line) print is_due play sure comes finds = absurd (too_many source.bytes source_after.bytes comes.1.0 is_due.1 is_due.2 comes.1.2 comes.1.1 is_due.3)
-  played_due outcome Long print is_due play sure comes finds =
-      absurd (short_and_long comes.1 is_due.1 (all_read comes.1 is_due.1 is_due.2 comes.2) comes.2.short is_due.3)
-  played_due (Deck line) Played print is_due play sure comes finds =
+  -- the first opening finds no damage in a sound volume
+  not_first : (set : Set) (page : ℕ) → IsSoundVolume volume volume_after → Finds (Damaged set page) volume volume_after trace → trace ≡ [] → ⊥
+  not_first set page sound finds none = still_sound volume volume_after set page sound (subst (λ (es : List Entry). IsEnd volume volume_after es (ends.Damaged set page)) none finds)
+
+  -- what comes of a deck that is read and due to be played
+  deck_due : (outcome : Outcome) (text : List ℕ) → IsDueDeck words source.bytes volume volume_after → (Rose source.faults source_after.faults → ⊥)
+      → PlaysTo outcome words source source_after volume volume_after trace text → Finds outcome volume volume_after trace → Meets outcome Played
+  deck_due NoMemory text is_due sure comes finds = inr refl
+  deck_due Source text is_due sure comes finds = absurd (sure comes.1)
+  deck_due Words text is_due sure comes finds = absurd comes.3.2
+  deck_due Shown text is_due sure comes finds = absurd comes.3.2
+  deck_due Played text is_due sure comes finds = inl refl
+  deck_due Long text is_due sure comes finds = absurd (too_many source.bytes source_after.bytes comes.1.0 is_due.1 is_due.2 comes.1.2 comes.1.1 is_due.3)
+  deck_due (Deck line) text is_due sure comes finds =
       let (asked, read, reads, deals) = comes in
       let (refused, none, printed) = deals in
       absurd (refused.1 is_due.5 (subst (λ b. Lines b is_due.5) (sym (all_read read is_due.1 is_due.2 reads)) is_due.6))
-  played_due Down Played print is_due play sure comes finds = absurd (is_due.4.sure finds)
-  played_due Device Played print is_due play sure comes finds = absurd (is_due.4.sure finds)
-  played_due (Damaged set page) Played print is_due play sure comes finds =
+  deck_due Down text is_due sure comes finds = absurd (is_due.4.sure finds)
+  deck_due Device text is_due sure comes finds = absurd (is_due.4.sure finds)
+  deck_due (Damaged set page) text is_due sure comes finds =
       let (asked, read, reads, deals) = comes in
-      let (lines, spelled, at, printed) = deals in
+      let (lines, spelled, at) = deals in
       let same : lines ≡ is_due.5 = one_reading Every is_due.1 lines is_due.5 (subst (λ b. Lines b lines) (all_read read is_due.1 is_due.2 reads) spelled) is_due.6 in
-      absurd (by_place at same)
+      absurd (by_place asked.0 lines at same)
     where
-      by_place : {lines : List Line} → EndsAtOpening lines trace → lines ≡ is_due.5 → ⊥
-      by_place (inl none) same = still_sound volume volume_after set page is_due.4 (subst (λ (es : List Entry). IsEnd volume volume_after es (ends.Damaged set page)) none finds)
-      by_place (inr dies) same = was_untidy volume volume_after dies.0 trace dies.3 is_due.4 finds.3 (is_due.7 (dies.0, dies.1, sym same ∙ dies.2))
-  played_due Played (Deck line) print is_due play sure comes finds = absurd (no_deck_due Played line print tt is_due comes)
-  played_due Down (Deck line) print is_due play sure comes finds = absurd (no_deck_due Down line print tt is_due comes)
-  played_due (Damaged set page) (Deck line) print is_due play sure comes finds = absurd (no_deck_due (Damaged set page) line print tt is_due comes)
-  played_due Device (Deck line) print is_due play sure comes finds = absurd (no_deck_due Device line print tt is_due comes)
+      by_place : (tells : Tells) (lines : List Line) → DealsWithLines tells volume volume_after lines (Damaged set page) trace text → lines ≡ is_due.5 → ⊥
+      by_place tells lines (inl first) same = not_first set page is_due.4 finds first.0
+      by_place tells lines (inr dies) same = was_untidy volume volume_after dies.0.front trace dies.0.entries is_due.4 finds.3 (is_due.7 (dies.0.front, dies.0.rest, sym same ∙ dies.0.joined))
 
-  shown_due : (outcome due : Outcome) (print : List ℕ) → IsDue due words source.bytes volume volume_after → IsShow words
-      → ShowsTo outcome words source source_after volume volume_after trace print → Finds outcome volume volume_after trace → (status_of outcome ≡ status_of due) ⊎ (outcome ≡ NoMemory)
-  shown_due NoMemory due print is_due show comes finds = inr refl
-  shown_due outcome Source print is_due show comes finds = absurd is_due
-  shown_due outcome NoMemory print is_due show comes finds = absurd is_due
-  shown_due outcome Down print is_due show comes finds = absurd is_due
-  shown_due outcome (Damaged set page) print is_due show comes finds = absurd is_due
-  shown_due outcome Device print is_due show comes finds = absurd is_due
-  shown_due outcome Words print is_due show comes finds = absurd (is_due (inr show))
-  shown_due outcome Played print is_due show comes finds = absurd (not_both words is_due.0 show)
-  shown_due outcome (Deck line) print is_due show comes finds = absurd (not_both words is_due.0 show)
-  shown_due outcome Long print is_due show comes finds = absurd (not_both words is_due.0 show)
-  shown_due Shown Shown print is_due show comes finds = inl refl
-  shown_due (Damaged set page) Shown print is_due show comes finds = absurd (still_sound volume volume_after set page is_due.1 (subst (λ (es : List Entry). IsEnd volume volume_after es (ends.Damaged set page)) comes.2 finds))
-  shown_due Device Shown print is_due show comes finds = absurd (is_due.1.sure finds)
-  shown_due outcome Shown print is_due show comes finds = absurd comes
+  -- what comes where nothing fails has the status of what is due, or is want of memory
+  played_due : (outcome due : Outcome) (text : List ℕ) → IsDue due words source.bytes volume volume_after → TakesDeck words → (Rose source.faults source_after.faults → ⊥)
+      → PlaysTo outcome words source source_after volume volume_after trace text → Finds outcome volume volume_after trace → Meets outcome due
+  played_due NoMemory due text is_due deck sure comes finds = inr refl
+  played_due outcome Played text (inl is_due) deck sure comes finds = deck_due outcome text is_due sure comes finds
+  played_due outcome Played text (inr is_due) deck sure comes finds = absurd (deck_or_gen words is_due.0 is_due.1 deck is_due.2)
+  played_due Source due text is_due deck sure comes finds = absurd (sure comes.1)
+  played_due Words due text is_due deck sure comes finds = absurd comes.3.2
+  played_due Shown due text is_due deck sure comes finds = absurd comes.3.2
+  played_due outcome Source text is_due deck sure comes finds = absurd is_due
+  played_due outcome NoMemory text is_due deck sure comes finds = absurd is_due
+  played_due outcome Down text is_due deck sure comes finds = absurd is_due
+  played_due outcome (Damaged set page) text is_due deck sure comes finds = absurd is_due
+  played_due outcome Device text is_due deck sure comes finds = absurd is_due
+  played_due outcome Words text is_due deck sure comes finds = absurd (is_due (inl deck))
+  played_due outcome Shown text is_due deck sure comes finds = absurd (deck_or_show words deck is_due.0)
+  played_due (Deck line) (Deck other) text is_due deck sure comes finds = inl refl
+  played_due Long Long text is_due deck sure comes finds = inl refl
+  played_due Long (Deck line) text is_due deck sure comes finds = absurd (too_many source.bytes source_after.bytes comes.1.0 is_due.1 is_due.2 comes.1.2 comes.1.1 is_due.3)
+  played_due outcome Long text is_due deck sure comes finds =
+      absurd (short_and_long comes.1 is_due.1 (all_read comes.1 is_due.1 is_due.2 comes.2) comes.2.short is_due.3)
+  played_due Played (Deck line) text is_due deck sure comes finds = absurd (no_deck_due Played line text tt is_due comes)
+  played_due Down (Deck line) text is_due deck sure comes finds = absurd (no_deck_due Down line text tt is_due comes)
+  played_due (Damaged set page) (Deck line) text is_due deck sure comes finds = absurd (no_deck_due (Damaged set page) line text tt is_due comes)
+  played_due Device (Deck line) text is_due deck sure comes finds = absurd (no_deck_due Device line text tt is_due comes)
 
-  due_outcome : (outcome due : Outcome) (print : List ℕ) → IsDue due words source.bytes volume volume_after → (Rose source.faults source_after.faults → ⊥)
-      → Comes outcome words source source_after volume volume_after trace print → Finds outcome volume volume_after trace → (status_of outcome ≡ status_of due) ⊎ (outcome ≡ NoMemory)
-  due_outcome Words Played print is_due sure comes finds = absurd (comes.0 (inl is_due.0))
-  due_outcome Words Shown print is_due sure comes finds = absurd (comes.0 (inr is_due.0))
-  due_outcome Words (Deck line) print is_due sure comes finds = absurd (comes.0 (inl is_due.0))
-  due_outcome Words Long print is_due sure comes finds = absurd (comes.0 (inl is_due.0))
-  due_outcome Words Words print is_due sure comes finds = inl refl
-  due_outcome Words due print is_due sure comes finds = absurd is_due
-  due_outcome outcome due print is_due sure comes finds = elim comes [
-    | inl played ↦ played_due outcome due print is_due (played_words outcome print played) sure played finds
-    | inr shown ↦ shown_due outcome due print is_due (is_shown outcome print shown).asked shown finds
+  -- what comes of a deck that is made and due to be played
+  made_lines_due : (seed rows : ℕ) (outcome : Outcome) (text : List ℕ) → IsSoundVolume volume volume_after → DealsWithLines (Summary seed rows) volume volume_after (deck_of seed rows) outcome trace text → Finds outcome volume volume_after trace → Meets outcome Played
+  made_lines_due seed rows NoMemory text sound deals finds = inr refl
+  made_lines_due seed rows Played text sound deals finds = inl refl
+  made_lines_due seed rows Down text sound deals finds = absurd (sound.sure finds)
+  made_lines_due seed rows Device text sound deals finds = absurd (sound.sure finds)
+  made_lines_due seed rows (Damaged set page) text sound (inl first) finds = absurd (not_first set page sound finds first.0)
+  made_lines_due seed rows (Damaged set page) text sound (inr dies) finds = absurd (not_made seed rows trace dies.0)
+  made_lines_due seed rows outcome text sound deals finds = absurd deals
+
+  made_due : (outcome due : Outcome) (text : List ℕ) → IsDue due words source.bytes volume volume_after
+      → MakesTo outcome words source source_after volume volume_after trace text → Finds outcome volume volume_after trace → Meets outcome due
+  made_due outcome Played text (inl is_due) comes finds = absurd (deck_or_gen words comes.0 comes.1 is_due.0 comes.2)
+  made_due outcome Played text (inr is_due) comes finds = made_lines_due comes.0 comes.1 outcome text is_due.3 comes.4 finds
+  made_due outcome Source text is_due comes finds = absurd is_due
+  made_due outcome NoMemory text is_due comes finds = absurd is_due
+  made_due outcome Down text is_due comes finds = absurd is_due
+  made_due outcome (Damaged set page) text is_due comes finds = absurd is_due
+  made_due outcome Device text is_due comes finds = absurd is_due
+  made_due outcome Words text is_due comes finds = absurd (is_due (inr (inl (comes.0, comes.1, comes.2))))
+  made_due outcome Shown text is_due comes finds = absurd (gen_or_show comes.0 comes.1 words comes.2 is_due.0)
+  made_due outcome (Deck line) text is_due comes finds = absurd (deck_or_gen words comes.0 comes.1 is_due.0 comes.2)
+  made_due outcome Long text is_due comes finds = absurd (deck_or_gen words comes.0 comes.1 is_due.0 comes.2)
+
+  shown_due : (outcome due : Outcome) (text : List ℕ) → IsDue due words source.bytes volume volume_after → IsShow words
+      → ShowsTo outcome words source source_after volume volume_after trace text → Finds outcome volume volume_after trace → Meets outcome due
+  shown_due NoMemory due text is_due show comes finds = inr refl
+  shown_due outcome Source text is_due show comes finds = absurd is_due
+  shown_due outcome NoMemory text is_due show comes finds = absurd is_due
+  shown_due outcome Down text is_due show comes finds = absurd is_due
+  shown_due outcome (Damaged set page) text is_due show comes finds = absurd is_due
+  shown_due outcome Device text is_due show comes finds = absurd is_due
+  shown_due outcome Words text is_due show comes finds = absurd (is_due (inr (inr show)))
+  shown_due outcome Played text (inl is_due) show comes finds = absurd (deck_or_show words is_due.0 show)
+  shown_due outcome Played text (inr is_due) show comes finds = absurd (gen_or_show is_due.0 is_due.1 words is_due.2 show)
+  shown_due outcome (Deck line) text is_due show comes finds = absurd (deck_or_show words is_due.0 show)
+  shown_due outcome Long text is_due show comes finds = absurd (deck_or_show words is_due.0 show)
+  shown_due Shown Shown text is_due show comes finds = inl refl
+  shown_due (Damaged set page) Shown text is_due show comes finds = absurd (not_first set page is_due.1 finds comes.2)
+  shown_due Device Shown text is_due show comes finds = absurd (is_due.1.sure finds)
+  shown_due outcome Shown text is_due show comes finds = absurd comes
+
+  -- the words of a layout's outcomes
+  shown_words : (outcome : Outcome) (text : List ℕ) → ShowsTo outcome words source source_after volume volume_after trace text → IsShow words
+  shown_words Shown text comes = comes.0
+  shown_words (Damaged set page) text comes = comes.0
+  shown_words Device text comes = comes.0
+  shown_words NoMemory text comes = comes.0
+  shown_words outcome text comes = absurd comes
+
+  -- words of a command that is due are refused by none
+  refused_due : (due : Outcome) → IsDue due words source.bytes volume volume_after → (IsCommand words → ⊥) → Meets Words due
+  refused_due Played (inl is_due) none = absurd (none (inl is_due.0))
+  refused_due Played (inr is_due) none = absurd (none (inr (inl (is_due.0, is_due.1, is_due.2))))
+  refused_due Shown is_due none = absurd (none (inr (inr is_due.0)))
+  refused_due (Deck line) is_due none = absurd (none (inl is_due.0))
+  refused_due Long is_due none = absurd (none (inl is_due.0))
+  refused_due Words is_due none = inl refl
+  refused_due due is_due none = absurd is_due
+
+  due_outcome : (outcome due : Outcome) (text : List ℕ) → IsDue due words source.bytes volume volume_after → (Rose source.faults source_after.faults → ⊥)
+      → Comes outcome words source source_after volume volume_after trace text → Finds outcome volume volume_after trace → Meets outcome due
+  due_outcome Words due text is_due sure comes finds = refused_due due is_due comes.0
+  due_outcome outcome due text is_due sure comes finds = elim comes [
+    | inl played ↦ played_due outcome due text is_due (played_words outcome text played) sure played finds
+    | inr other ↦ elim other [
+      | inl made ↦ made_due outcome due text is_due made finds
+      | inr shown ↦ shown_due outcome due text is_due (shown_words outcome text shown) shown finds
+    ]
   ]
 
   gives_due : Concludes words source source_after sink sink_after volume volume_after status trace → GivesDue words source source_after sink sink_after volume volume_after status
   gives_due a due is_due sure_source sure_sink = elim a.delivered [
-    | inl whole ↦ elim (due_outcome a.outcome due a.print is_due sure_source a.comes a.finds) [
+    | inl whole ↦ elim (due_outcome a.outcome due a.text is_due sure_source a.comes a.finds) [
       | inl same ↦ inl (whole.0 ∙ same)
       | inr none ↦ inr (whole.0 ∙ ap status_of none)
     ]
@@ -434,30 +695,28 @@ module _ (words : List (List ℕ)) (source source_after sink sink_after : Seen) 
 
   -- the whole contract, by what the call comes to
   pub completes :
-      Concludes words source source_after sink sink_after volume volume_after status trace → IsLegalRun volume volume_after trace → IsOpening volume volume_after trace → AreOpenings volume volume_after trace → AreFlushes volume volume_after trace → KeepsSound volume volume_after trace
-      → IsFullOnlyFrom (3221 * smaller_pages volume.capacities) 0 trace
-      → IsLogFullOnlyFrom (limit_of (log_pages volume.capacities)) 0 trace
-      → IsDeviceOnlyIf (Rose volume.faults volume_after.faults) trace
-      → MakesOnly (WritesOwn trace) volume.told volume_after.told
-      → TakesAtMost (DECK_LIMIT + 1) source.bytes source_after.bytes
+      Concludes words source source_after sink sink_after volume volume_after status trace → Traced volume volume_after trace → TakesAtMost (DECK_LIMIT + 1) source.bytes source_after.bytes
       → Completes words source source_after sink sink_after volume volume_after status trace
-  completes concludes legal opening openings flushes sound full log_full device only bounded = record {
+  completes concludes traced bounded = record {
     concludes = concludes;
-    legal = legal;
-    opening = opening;
-    openings = openings;
-    flushes = flushes;
-    sound = sound;
-    full = full_less (3200 * smaller_pages volume.capacities) (3221 * smaller_pages volume.capacities) 0 trace (omega arith) full;
-    log_full = log_full;
-    device = device;
-    only = only;
+    legal = traced.legal;
+    opening = traced.opening;
+    openings = traced.openings;
+    flushes = traced.flushes;
+    sound = traced.sound;
+    full = full_less (3200 * smaller_pages volume.capacities) (3221 * smaller_pages volume.capacities) 0 trace (omega arith) traced.full;
+    log_full = traced.log_full;
+    space = traced.space;
+    device = traced.device;
+    only = traced.only;
     played = plays concludes;
+    judged = judges concludes;
+    summed = sums concludes;
     shown = shows concludes;
     no_command = no_words concludes;
     other_words = other_words concludes;
     unread = left_unread concludes;
-    layout = shown_status concludes;
+    statuses = none_status concludes;
     deck = no_deck concludes;
     source_failed = no_source concludes;
     sink_failed = no_sink concludes;

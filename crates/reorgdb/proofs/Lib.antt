@@ -3,3 +3,4 @@ mod Causes
 mod Deals
 mod Pieces
 mod Shown
+mod Traces

@@ -7,12 +7,14 @@ use Rattle.rg_deck.specs.declared.read.TheConstants.{DECK_LIMIT}
 use Rattle.rg_model.specs.Layout.{is_right_side}
 use Rattle.rg_model.specs.State.{Table}
 use Rattle.rg_outside.specs.Faults.{Rose}
-use Rattle.rg_print.specs.Print.{damaged_text, print_layout_text, print_text}
+use Rattle.rg_gen.specs.Deck.{deck_of}
+use Rattle.rg_print.specs.Print.{damaged_text, print_layout_text}
+use Rattle.rg_print.specs.declared.print.Close.{Close}
 use Rattle.rg_print.specs.declared.print.Close.TheVariants as closes
 use Rattle.rg_desk.specs.Volume.{VolumeSeen}
 use Rattle.rg_run.specs.Outside.{IsEnd}
 use Rattle.rg_run.specs.Played.{TraceOf, TraceOfFront}
-use Rattle.rg_run.specs.Table.{Begins, EndsAtDown, EndsAtOpening, EndsWhole}
+use Rattle.rg_run.specs.Table.{Begins, EndsAtDown, EndsWhole}
 use Rattle.rg_run.specs.declared.played.RunEnd.TheVariants as ends
 use Rattle.rg_stmt.specs.Entries.{opened_entry}
 use Rattle.rg_stmt.specs.declared.event.Entry.{Entry}
@@ -25,10 +27,13 @@ use Rattle.rg_words.specs.declared.words.Words.TheVariants as asks
 use Rattle.reorgdb.specs.Giving.{GivesOutput}
 use Rattle.reorgdb.specs.Reading.{TakesTooMany}
 use Rattle.reorgdb.specs.Refusals.{status_of, fixed_text, deck_refusal}
+use Rattle.reorgdb.specs.Telling.{TellsRun}
 use Rattle.reorgdb.specs.declared.outcome.Outcome.{Outcome}
 use Rattle.reorgdb.specs.declared.outcome.Outcome.TheVariants.{Played, Down, Shown, Words, Deck}
 use Rattle.reorgdb.specs.declared.outcome.Outcome.TheVariants.{Source, Damaged, Device, Long}
 use Rattle.reorgdb.specs.declared.outcome.Outcome.TheVariants.{NoMemory}
+use Rattle.reorgdb.specs.declared.telling.Tells.{Tells}
+use Rattle.reorgdb.specs.declared.telling.Tells.TheVariants.{Print, Verdict, Summary}
 
 -- what is known of a source or a sink at one moment: the bytes that it has left or holds, where it
 -- reports them, and its count of faults
@@ -44,13 +49,35 @@ seen bytes faults x = record { bytes = bytes x; faults = faults x }
 abbrev pub IsPlay : List (List ℕ) → Type 0
 IsPlay words = (full : Bool) × Spells (asks.Play full) words
 
+-- the words ask for `judge`
+abbrev pub IsJudge : List (List ℕ) → Type 0
+IsJudge words = Spells asks.Judge words
+
+-- the words ask for `gen`, with this seed and so many rows
+abbrev pub IsGen : ℕ → ℕ → List (List ℕ) → Type 0
+IsGen seed rows words = Spells (asks.Gen seed rows) words
+
 -- the words ask for `layout`
 abbrev pub IsShow : List (List ℕ) → Type 0
 IsShow words = Spells asks.Layout words
 
+-- the words ask for this to be told of the deck that the source has
+abbrev pub AsksDeck : Tells → List (List ℕ) → Type 0
+AsksDeck (Print full) words = Spells (asks.Play full) words
+AsksDeck Verdict words = IsJudge words
+AsksDeck (Summary seed rows) words = ⊥
+
+-- the words ask for one of the two commands that take a deck from the source
+abbrev pub TakesDeck : List (List ℕ) → Type 0
+TakesDeck words = (told : Tells) × AsksDeck told words
+
+-- the words ask for one of the two that take nothing
+abbrev pub TakesNothing : List (List ℕ) → Type 0
+TakesNothing words = ((seed : ℕ) × (rows : ℕ) × IsGen seed rows words) ⊎ IsShow words
+
 -- the words ask for one of these
 abbrev pub IsCommand : List (List ℕ) → Type 0
-IsCommand words = IsPlay words ⊎ IsShow words
+IsCommand words = TakesDeck words ⊎ TakesNothing words
 
 -- the bytes are no lines of the grammar
 abbrev pub IsNoDeck : List ℕ → Type 0
@@ -66,33 +93,36 @@ pub record ReadsDeck (before : Seen) (bytes : List ℕ) (after : Seen) : Type 0 
   pub taken : Consumes before.bytes after.bytes bytes
   pub end : IsAtEnd after.bytes
 
--- the trace has an entry for each line, and the print is the trace with the number of committed
--- rows at its end, and with full layouts or brief ones
-pub record PrintsPlayed
-    (full : Bool) (volume volume_after : VolumeSeen) (lines : List Line) (trace : List Entry)
-    (print : List ℕ) : Type 0 where
+-- the trace has an entry for each line, and the text tells of it, with the number of committed rows
+-- at its end
+pub record TellsWhole
+    (tells : Tells) (volume volume_after : VolumeSeen) (lines : List Line) (trace : List Entry)
+    (text : List ℕ) : Type 0 where
   pub entries : TraceOf lines trace
   pub rows : ℕ
   pub counted : EndsWhole volume volume_after lines trace rows
-  pub printed : print ≡ print_text trace full (closes.Rows rows)
+  pub told : TellsRun tells volume volume_after trace (closes.Rows rows) text
 
--- the same, where the device refused a COMMIT or a switch: the print says DOWN at its end
-pub record PrintsDown
-    (full : Bool) (volume volume_after : VolumeSeen) (lines : List Line) (trace : List Entry)
-    (print : List ℕ) : Type 0 where
+-- the same, where the device refused a COMMIT or a switch: the text says DOWN at its end
+pub record TellsDown
+    (tells : Tells) (volume volume_after : VolumeSeen) (lines : List Line) (trace : List Entry)
+    (text : List ℕ) : Type 0 where
   pub entries : TraceOf lines trace
   pub down : EndsAtDown volume volume_after lines trace
-  pub printed : print ≡ print_text trace full closes.Down
+  pub told : TellsRun tells volume volume_after trace closes.Down text
 
--- The process died, and the device failed in the opening after that: the trace is that of the lines
--- before, and the print says DOWN at its end.
-pub record PrintsStopped (full : Bool) (lines : List Line) (trace : List Entry) (print : List ℕ)
-    : Type 0 where
+-- the process died, and its trace is that of the lines before
+pub record EndsAtDeath (lines : List Line) (trace : List Entry) : Type 0 where
   pub front : List Line
   pub rest : List Line
   pub joined : lines ≡ front ++ Death ∷ rest
   pub entries : TraceOf front trace
-  pub printed : print ≡ print_text trace full closes.Down
+
+-- the opening after a death was refused: the text tells of the lines before
+abbrev pub TellsUpToDeath :
+    Tells → (volume volume_after : VolumeSeen) → List Line → List Entry → Close → List ℕ → Type 0
+TellsUpToDeath tells volume volume_after lines trace close text =
+    EndsAtDeath lines trace × TellsRun tells volume volume_after trace close text
 
 -- the trace is an opening and a layout, and this is the layout's text in full
 pub record IsLayoutText (trace : List Entry) (text : List ℕ) : Type 0 where
@@ -125,88 +155,85 @@ pub record ShowsLayout
   pub ends : EndsWhole volume volume_after (Show ∷ []) trace count
   pub printed : text ≡ print_layout_text copy side
 
--- what lines that were read come to
+-- What lines come to that were to be played. A volume that the first opening refuses is refused by
+-- its page, whatever was to be told.
 abbrev pub DealsWithLines :
-    Bool → (volume volume_after : VolumeSeen) → List Line → Outcome → List Entry → List ℕ
+    Tells → (volume volume_after : VolumeSeen) → List Line → Outcome → List Entry → List ℕ
     → Type 0
-DealsWithLines full volume volume_after lines Played trace print =
-    PrintsPlayed full volume volume_after lines trace print
-DealsWithLines full volume volume_after lines Down trace print =
-    PrintsDown full volume volume_after lines trace print ⊎ PrintsStopped full lines trace print
-DealsWithLines full volume volume_after lines (Damaged set page) trace print =
-    EndsAtOpening lines trace × (print ≡ print_text trace full (closes.Damaged set page))
-DealsWithLines full volume volume_after lines Device trace print = trace ≡ []
-DealsWithLines full volume volume_after lines NoMemory trace print =
+DealsWithLines tells volume volume_after lines Played trace text =
+    TellsWhole tells volume volume_after lines trace text
+DealsWithLines tells volume volume_after lines Down trace text =
+    TellsDown tells volume volume_after lines trace text
+    ⊎ TellsUpToDeath tells volume volume_after lines trace closes.Down text
+DealsWithLines tells volume volume_after lines (Damaged set page) trace text =
+    ((trace ≡ []) × (text ≡ damaged_text set page))
+    ⊎ TellsUpToDeath tells volume volume_after lines trace (closes.Damaged set page) text
+DealsWithLines tells volume volume_after lines Device trace text = trace ≡ []
+DealsWithLines tells volume volume_after lines NoMemory trace text =
     (trace ≡ []) ⊎ TraceOfFront lines trace
-DealsWithLines full volume volume_after lines Shown trace print = ⊥
-DealsWithLines full volume volume_after lines Words trace print = ⊥
-DealsWithLines full volume volume_after lines (Deck line) trace print = ⊥
-DealsWithLines full volume volume_after lines Source trace print = ⊥
-DealsWithLines full volume volume_after lines Long trace print = ⊥
+DealsWithLines tells volume volume_after lines outcome trace text = ⊥
 
 -- what bytes that were read come to
 abbrev pub DealsWithBytes :
-    Bool → (volume volume_after : VolumeSeen) → List ℕ → Outcome → List Entry → List ℕ → Type 0
-DealsWithBytes full volume volume_after bytes Played trace print =
-    (lines : List Line) × Lines bytes lines
-    × PrintsPlayed full volume volume_after lines trace print
-DealsWithBytes full volume volume_after bytes Down trace print =
-    (lines : List Line) × Lines bytes lines
-    × (PrintsDown full volume volume_after lines trace print ⊎ PrintsStopped full lines trace print)
-DealsWithBytes full volume volume_after bytes (Damaged set page) trace print =
-    (lines : List Line) × Lines bytes lines × EndsAtOpening lines trace
-    × (print ≡ print_text trace full (closes.Damaged set page))
-DealsWithBytes full volume volume_after bytes Device trace print =
-    (lines : List Line) × Lines bytes lines × (trace ≡ [])
-DealsWithBytes full volume volume_after bytes (Deck line) trace print =
-    IsRefusedAt bytes line × (trace ≡ []) × (print ≡ deck_refusal line)
-DealsWithBytes full volume volume_after bytes NoMemory trace print =
+    Tells → (volume volume_after : VolumeSeen) → List ℕ → Outcome → List Entry → List ℕ → Type 0
+DealsWithBytes tells volume volume_after bytes (Deck line) trace text =
+    IsRefusedAt bytes line × (trace ≡ []) × (text ≡ deck_refusal line)
+DealsWithBytes tells volume volume_after bytes NoMemory trace text =
     (trace ≡ []) ⊎ ((lines : List Line) × Lines bytes lines × TraceOfFront lines trace)
-DealsWithBytes full volume volume_after bytes Shown trace print = ⊥
-DealsWithBytes full volume volume_after bytes Words trace print = ⊥
-DealsWithBytes full volume volume_after bytes Source trace print = ⊥
-DealsWithBytes full volume volume_after bytes Long trace print = ⊥
+DealsWithBytes tells volume volume_after bytes outcome trace text =
+    (lines : List Line) × Lines bytes lines
+    × DealsWithLines tells volume volume_after lines outcome trace text
 
 -- What a layout comes to that was asked for. The source is left as it was.
 abbrev pub ShowsTo :
     Outcome → List (List ℕ) → Seen → Seen → (volume volume_after : VolumeSeen) → List Entry
     → List ℕ → Type 0
-ShowsTo Shown words before after volume volume_after trace print =
-    IsShow words × (after ≡ before) × ShowsLayout volume volume_after trace print
-ShowsTo (Damaged set page) words before after volume volume_after trace print =
-    IsShow words × (after ≡ before) × (trace ≡ []) × (print ≡ damaged_text set page)
-ShowsTo Device words before after volume volume_after trace print =
+ShowsTo Shown words before after volume volume_after trace text =
+    IsShow words × (after ≡ before) × ShowsLayout volume volume_after trace text
+ShowsTo (Damaged set page) words before after volume volume_after trace text =
+    IsShow words × (after ≡ before) × (trace ≡ []) × (text ≡ damaged_text set page)
+ShowsTo Device words before after volume volume_after trace text =
     IsShow words × (after ≡ before) × (trace ≡ [])
-ShowsTo NoMemory words before after volume volume_after trace print =
+ShowsTo NoMemory words before after volume volume_after trace text =
     IsShow words × (after ≡ before) × ((trace ≡ []) ⊎ TraceOfFront (Show ∷ []) trace)
-ShowsTo outcome words before after volume volume_after trace print = ⊥
+ShowsTo outcome words before after volume volume_after trace text = ⊥
 
--- what a deck comes to that was to be played
+-- What a deck comes to that was to be made of a seed and a number of rows, and to be played. The
+-- source is left as it was.
+abbrev pub MakesTo :
+    Outcome → List (List ℕ) → Seen → Seen → (volume volume_after : VolumeSeen) → List Entry
+    → List ℕ → Type 0
+MakesTo outcome words before after volume volume_after trace text =
+    (seed : ℕ) × (rows : ℕ) × IsGen seed rows words × (after ≡ before)
+    × DealsWithLines (Summary seed rows) volume volume_after (deck_of seed rows) outcome trace text
+
+-- what a deck comes to that was to be read and played
 abbrev pub PlaysTo :
     Outcome → List (List ℕ) → Seen → Seen → (volume volume_after : VolumeSeen) → List Entry
     → List ℕ → Type 0
-PlaysTo Source words before after volume volume_after trace print =
-    IsPlay words × Rose before.faults after.faults × (trace ≡ [])
-PlaysTo Long words before after volume volume_after trace print =
-    IsPlay words × TakesTooMany before.bytes after.bytes × (trace ≡ [])
-PlaysTo NoMemory words before after volume volume_after trace print =
-    (asked : IsPlay words)
+PlaysTo Source words before after volume volume_after trace text =
+    TakesDeck words × Rose before.faults after.faults × (trace ≡ [])
+PlaysTo Long words before after volume volume_after trace text =
+    TakesDeck words × TakesTooMany before.bytes after.bytes × (trace ≡ [])
+PlaysTo NoMemory words before after volume volume_after trace text =
+    (asked : TakesDeck words)
     × ((trace ≡ [])
     ⊎ ((bytes : List ℕ) × ReadsDeck before bytes after
-    × DealsWithBytes asked.0 volume volume_after bytes NoMemory trace print))
-PlaysTo outcome words before after volume volume_after trace print =
-    (asked : IsPlay words) × (bytes : List ℕ) × ReadsDeck before bytes after
-    × DealsWithBytes asked.0 volume volume_after bytes outcome trace print
+    × DealsWithBytes asked.0 volume volume_after bytes NoMemory trace text))
+PlaysTo outcome words before after volume volume_after trace text =
+    (asked : TakesDeck words) × (bytes : List ℕ) × ReadsDeck before bytes after
+    × DealsWithBytes asked.0 volume volume_after bytes outcome trace text
 
 -- what each outcome says of the call before its output is given
 abbrev pub Comes :
     Outcome → List (List ℕ) → Seen → Seen → (volume volume_after : VolumeSeen) → List Entry
     → List ℕ → Type 0
-Comes Words words before after volume volume_after trace print =
+Comes Words words before after volume volume_after trace text =
     (IsCommand words → ⊥) × (after ≡ before) × (trace ≡ [])
-Comes outcome words before after volume volume_after trace print =
-    PlaysTo outcome words before after volume volume_after trace print
-    ⊎ ShowsTo outcome words before after volume volume_after trace print
+Comes outcome words before after volume volume_after trace text =
+    PlaysTo outcome words before after volume volume_after trace text
+    ⊎ (MakesTo outcome words before after volume volume_after trace text
+    ⊎ ShowsTo outcome words before after volume volume_after trace text)
 
 -- What each outcome says of the volume. A refusal before the opening calls it not.
 abbrev pub Finds : Outcome → (before after : VolumeSeen) → List Entry → Type 0
@@ -223,12 +250,12 @@ Finds NoMemory before after trace = Unit {0}
 
 -- the whole output
 abbrev pub output_of : Outcome → List ℕ → List ℕ
-output_of Played print = print
-output_of Down print = print
-output_of Shown print = print
-output_of (Damaged set page) print = print
-output_of (Deck line) print = print
-output_of outcome print = fixed_text outcome
+output_of Played text = text
+output_of Down text = text
+output_of Shown text = text
+output_of (Damaged set page) text = text
+output_of (Deck line) text = text
+output_of outcome text = fixed_text outcome
 
 -- the text is given as the output of a call with the outcome's status
 abbrev pub Delivers : Outcome → List ℕ → Seen → Seen → ℕ → Type 0
@@ -240,7 +267,7 @@ Delivers outcome text before after status =
 pub record Concludes (words : List (List ℕ)) (source source_after sink sink_after : Seen)
     (volume volume_after : VolumeSeen) (status : ℕ) (trace : List Entry) : Type 0 where
   pub outcome : Outcome
-  pub print : List ℕ
-  pub comes : Comes outcome words source source_after volume volume_after trace print
+  pub text : List ℕ
+  pub comes : Comes outcome words source source_after volume volume_after trace text
   pub finds : Finds outcome volume volume_after trace
-  pub delivered : Delivers outcome (output_of outcome print) sink sink_after status
+  pub delivered : Delivers outcome (output_of outcome text) sink sink_after status

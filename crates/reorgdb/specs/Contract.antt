@@ -2,7 +2,7 @@
 -- by what is known of the source, the sink and the volume before and after the call, and by the
 -- status and the trace that it leaves. Out of memory is the one answer that may come at any time:
 -- status 8 may stand in place of any other.
-use Rattle.std.specs.Prelude.{ℕ, ◌≡◌, ◌+◌, ◌*◌, List, [], ◌∷◌}
+use Rattle.std.specs.Prelude.{ℕ, ◌≡◌, ◌+◌, ◌*◌, List, [], ◌∷◌, None}
 use Rattle.std.specs.List.{Contains}
 use Rattle.rg_deck.specs.declared.read.TheConstants.{DECK_LIMIT}
 use Rattle.rg_outside.specs.Faults.{Rose}
@@ -13,9 +13,11 @@ use Rattle.rg_image.specs.Rules.{limit_of}
 use Rattle.rg_log.specs.Kept.{log_pages}
 use Rattle.rg_run.specs.Full.{IsFullOnlyFrom, smaller_pages}
 use Rattle.rg_run.specs.LogFull.{IsLogFullOnlyFrom}
+use Rattle.rg_run.specs.Space.{AreForSpace}
 use Rattle.rg_stmt.specs.declared.event.Entry.{Entry}
-use Rattle.reorgdb.specs.Answer.{Seen, IsPlay, IsShow, IsCommand, Concludes}
-use Rattle.reorgdb.specs.Causes.{Plays, Shows, RefusesDeck, RefusesVolume, GivesDue}
+use Rattle.reorgdb.specs.Answer.{Seen, IsPlay, IsJudge, IsGen, IsShow, TakesNothing, IsCommand}
+use Rattle.reorgdb.specs.Answer.{Concludes}
+use Rattle.reorgdb.specs.Causes.{Plays, Judges, Sums, Shows, RefusesDeck, RefusesVolume, GivesDue}
 use Rattle.reorgdb.specs.Reading.{TakesAtMost, TakesTooMany}
 
 pub record Completes (words : List (List ℕ)) (source source_after sink sink_after : Seen)
@@ -43,6 +45,10 @@ pub record Completes (words : List (List ℕ)) (source source_after sink sink_af
   -- since and 28 for each start of a utility, and with those of one more, are more than the log may
   -- have: 2,270 for each of its pages but one.
   pub log_full : IsLogFullOnlyFrom (limit_of (log_pages volume.capacities)) 0 trace
+  -- RELOAD fills a page only where the other copy may have it, with all before it and with the
+  -- empty one that is due after it. Up to the first list that is sorted STOP NOSPACE comes only
+  -- where it may not.
+  pub space : AreForSpace volume.capacities None trace
   -- DEVICE is answered only where a call of the volume failed.
   pub device : IsDeviceOnlyIf (Rose volume.faults volume_after.faults) trace
   -- No page is written but those of the log and of the copies that were opened, after the start of
@@ -56,17 +62,27 @@ pub record Completes (words : List (List ℕ)) (source source_after sink sink_af
   pub played :
       status ≡ 0 → IsPlay words
       → Plays words source source_after sink sink_after volume volume_after trace
+  -- Status 0 of `judge`: the same, and the line of the judge. It says that the trace is legal, if
+  -- the volume read tidy when the call began.
+  pub judged :
+      status ≡ 0 → IsJudge words
+      → Judges source source_after sink sink_after volume volume_after trace
+  -- Status 0 of `gen`: the deck of the seed and the number of rows was played, and the line that
+  -- sums it up was given.
+  pub summed :
+      (seed rows : ℕ) → status ≡ 0 → IsGen seed rows words
+      → Sums seed rows source source_after sink sink_after volume volume_after trace
   -- Status 0 of `layout`: the volume was opened, and its layout given in full.
   pub shown :
       status ≡ 0 → IsShow words
       → Shows source source_after sink sink_after volume volume_after trace
-  -- Status 1 is returned only if the words ask for neither; then no other is but 4 and 8. It and
-  -- the statuses 2, 3 and 7 call no volume.
+  -- Status 1 is returned only if the words ask for none of them; then no other is but 4 and 8. It
+  -- and the statuses 2, 3 and 7 call no volume.
   pub no_command : status ≡ 1 → IsCommand words → ⊥
   pub other_words : (IsCommand words → ⊥) → Contains (1 ∷ 4 ∷ 8 ∷ []) status
-  -- `layout` takes nothing from the source, and has no other statuses.
-  pub unread : IsShow words → source_after ≡ source
-  pub layout : IsShow words → Contains (0 ∷ 4 ∷ 5 ∷ 6 ∷ 8 ∷ []) status
+  -- `gen` and `layout` take nothing from the source, and have no other statuses.
+  pub unread : TakesNothing words → source_after ≡ source
+  pub statuses : TakesNothing words → Contains (0 ∷ 4 ∷ 5 ∷ 6 ∷ 8 ∷ []) status
   -- Status 2: the bytes were read to their end, and the output names the first line that is outside
   -- the grammar.
   pub deck : status ≡ 2 → RefusesDeck source source_after sink sink_after

@@ -5,3 +5,5 @@ pub mod Giving
 pub mod Operator
 pub mod Reading
 pub mod Refusals
+pub mod Telling
+pub mod Traced

@@ -1,5 +1,5 @@
-//! Plays a deck of statements, read from standard input, over the volume `reorgdb.vol`, and prints
-//! every reply; or prints the layout of that volume.
+//! Plays a deck of statements, read from standard input or made of a seed, over the volume
+//! `reorgdb.vol`, and prints every reply, or sums them up; or prints the layout of that volume.
 #![tactic(auto)]
 
 use edge::{refuse, script};
@@ -23,6 +23,8 @@ mod giving;
 mod outcome;
 /// Reading the deck from the source.
 mod reading;
+/// What is told of a run.
+mod telling;
 #[cfg(test)]
 mod tests;
 /// The public call.

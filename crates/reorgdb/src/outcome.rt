@@ -13,11 +13,10 @@ use std::io::Write;
 /// What a call comes to, before its output is given.
 #[derive(Clone, Copy, Debug, PartialEq, Eq)]
 pub enum Outcome {
-    /// The deck was read to its end and played. Status 0.
+    /// The deck was read to its end, or made, and played. Status 0.
     Played,
-    /// The deck was read to its end and played, and the device refused a COMMIT or the switch to a
-    /// new copy; or the device failed in the opening after a death of the process, and the lines
-    /// before were played. Status 6.
+    /// The same, and the device refused a COMMIT or the switch to a new copy; or the device failed
+    /// in the opening after a death of the process, and the lines before were played. Status 6.
     Down,
     /// The volume was opened and its layout made. Status 0.
     Shown,

@@ -12,6 +12,7 @@ use std::test::Fail;
 mod crashes;
 mod deaths;
 mod decks;
+mod judged;
 mod layouts;
 mod openings;
 mod operators;

@@ -1,17 +1,11 @@
 // The program's call. All that it promises is in specs/Contract.antt.
-ghost use Rattle.std.specs.Prelude.{◌+◌, ◌*◌, map, string_bytes};
-ghost use Rattle.rg_outside.specs.Faults.{Rose};
+ghost use Rattle.std.specs.Prelude.{◌+◌, map, string_bytes};
 ghost use Rattle.reorgdb.specs.Answer.{seen, Concludes, Delivers, output_of};
 ghost use Rattle.reorgdb.specs.Contract.{Completes};
-ghost use Rattle.rg_image.specs.Rules.{limit_of};
-ghost use Rattle.rg_log.specs.Kept.{log_pages};
 ghost use Rattle.rg_run.specs.Asked.{HasAnswered, answers_in};
-ghost use Rattle.rg_run.specs.Full.{IsFullOnlyFrom, smaller_pages};
-ghost use Rattle.rg_run.specs.LogFull.{IsLogFullOnlyFrom};
-ghost use Rattle.rg_run.specs.Outside.{IsDeviceOnlyIf, MakesOnly, WritesOwn};
-ghost use Rattle.rg_run.specs.Table.{AreFlushes, AreOpenings, IsLegalRun, IsOpening, KeepsSound};
 ghost use Rattle.rg_desk.specs.Volume.{seen_volume};
 ghost use Rattle.reorgdb.specs.Reading.{TakesAtMost};
+ghost use Rattle.reorgdb.specs.Traced.{Traced};
 
 use crate::giving::give_output;
 use crate::work::{Work, carry_out};
@@ -38,8 +32,10 @@ pub struct Finished<V> {
 
 /// The call of the program. For `play` it reads the whole deck from the source, opens the volume,
 /// plays the deck over the table that the log stores, and gives the whole print to the sink. For
-/// `layout` it reads nothing, opens the volume, and gives its layout in full. It does all that
-/// `reorg_alone` says, in one call of it; no command uses the runtime yet.
+/// `judge` it does the same, and a last line says whether the trace is legal. For `gen` it makes
+/// the deck, reads nothing, and gives a line that sums up the run. For `layout` it reads nothing,
+/// opens the volume, and gives its layout in full. It does all that `reorg_alone` says, in one call
+/// of it; no command uses the runtime yet.
 pub fn reorg_main<R: Threads + Wait + Clock + Sync, S: Source, K: Sink, V: Volume + Send>(
     rt: &R,
     alloc: Global,
@@ -94,7 +90,7 @@ pub fn reorg_alone<S: Source, K: Sink, V: Volume + Send>(
 
 // Gives the output, and returns the status.
 fn deliver<K: Sink, V, O>(sink: &mut K, work: &Work<V, O>) -> u8
-    ensures delivered { Delivers work.now.outcome (output_of work.now.outcome work.now.print)
+    ensures delivered { Delivers work.now.outcome (output_of work.now.outcome work.now.text)
         (seen K.contents K.faults sink.old) (seen K.contents K.faults sink.new) result }
 {
     give_output(sink, work.output(), work.outcome.status())
@@ -115,22 +111,9 @@ fn answer<S: Source, K: Sink, V: Volume, O: Operator>(
         (seen_volume V.told V.faults V.capacities volume)
         (seen_volume V.told V.faults V.capacities result.2)
         result.0 result.1.items }
-    ensures legal { IsLegalRun (seen_volume V.told V.faults V.capacities volume)
+    ensures traced { Traced (seen_volume V.told V.faults V.capacities volume)
         (seen_volume V.told V.faults V.capacities result.2) result.1.items }
-    ensures opening { IsOpening (seen_volume V.told V.faults V.capacities volume)
-        (seen_volume V.told V.faults V.capacities result.2) result.1.items }
-    ensures openings { AreOpenings (seen_volume V.told V.faults V.capacities volume)
-        (seen_volume V.told V.faults V.capacities result.2) result.1.items }
-    ensures flushes { AreFlushes (seen_volume V.told V.faults V.capacities volume)
-        (seen_volume V.told V.faults V.capacities result.2) result.1.items }
-    ensures sound { KeepsSound (seen_volume V.told V.faults V.capacities volume)
-        (seen_volume V.told V.faults V.capacities result.2) result.1.items }
-    ensures full { IsFullOnlyFrom (3221 * smaller_pages (V.capacities volume)) 0 result.1.items }
-    ensures log_full { IsLogFullOnlyFrom (limit_of (log_pages (V.capacities volume))) 0
-        result.1.items }
     ensures bounded { TakesAtMost (DECK_LIMIT + 1) (S.left source.old) (S.left source.new) }
-    ensures device { IsDeviceOnlyIf (Rose (V.faults volume) (V.faults result.2)) result.1.items }
-    ensures only { MakesOnly (WritesOwn result.1.items) (V.told volume) (V.told result.2) }
     ensures asked { HasAnswered (O.answers operator) (answers_in result.1.items)
         (O.answers result.3) }
 {

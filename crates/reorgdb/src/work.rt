@@ -1,57 +1,63 @@
 // A call up to its output.
-// (1) The words are looked at first. Where they do not ask for `play`, the source isn't read.
-// (2) The whole deck is read before any line of it is played.
+// (1) The words are looked at first. Where they ask for neither `play` nor `judge`, the source is
+//     not read.
+// (2) The whole deck is read before any line of it is played. For `gen` it is made, not read.
 // (3) The whole output is made before any of it is given.
-// (4) The volume is opened after the deck was read, and before any line is played. A call that is
-//     refused before calls it not.
-// (5) A layout that is asked for is the one of a deck of a single line `L`, in full.
-ghost use Rattle.std.specs.Prelude.{ℕ, ◌≡◌, ◌≤◌, ◌+◌, ◌*◌, [], ◌∷◌, Bool, List, length, map, IfOk, OnErr};
-ghost use Rattle.std.specs.Prelude.{string_bytes};
+// (4) The volume is opened after the deck was read or made, and before any line is played. A call
+//     that is refused before calls it not.
+// (5) The judge is asked where what it says is told, and not for `play`.
+// (6) A layout that is asked for is the one of a deck of a single line `L`, in full.
+ghost use Rattle.std.specs.Prelude.{ℕ, ◌≡◌, ◌≢◌, ◌≤◌, ◌+◌, [], ◌∷◌, List, length, map, IfOk};
+ghost use Rattle.std.specs.Prelude.{OnErr, string_bytes};
+ghost use Rattle.std.specs.List.{AllByRecursion};
 ghost use Rattle.rg_stmt.specs.declared.line.Line.{Line};
-ghost use Rattle.rg_outside.specs.Faults.{Rose};
 ghost use Rattle.rg_desk.specs.Volume.{VolumeSeen, seen_volume};
-ghost use Rattle.rg_image.specs.Rules.{limit_of};
-ghost use Rattle.rg_log.specs.Kept.{log_pages};
+ghost use Rattle.rg_gen.specs.Deck.{deck_of};
 ghost use Rattle.rg_run.specs.Asked.{HasAnswered, answers_in};
-ghost use Rattle.rg_run.specs.Full.{IsFullOnlyFrom, smaller_pages};
-ghost use Rattle.rg_run.specs.LogFull.{IsLogFullOnlyFrom};
-ghost use Rattle.rg_run.specs.Outside.{IsDeviceOnlyIf, IsEnd, MakesOnly, WritesOwn};
-ghost use Rattle.rg_run.specs.Table.{AreFlushes, AreOpenings, Ends, IsLegalRun, IsOpening};
-ghost use Rattle.rg_run.specs.Table.{KeepsSound};
-ghost use Rattle.reorgdb.specs.Answer.{Seen, seen, IsShow, IsRefusedAt, DealsWithLines, DealsWithBytes};
-ghost use Rattle.reorgdb.specs.Answer.{Comes, Finds, IsLayoutText, ShowsTo, output_of};
+ghost use Rattle.rg_run.specs.Outside.{IsEnd};
+ghost use Rattle.rg_run.specs.Played.{IsPlayed};
+ghost use Rattle.rg_run.specs.Table.{Ends};
+ghost use Rattle.rg_run.specs.Whole.{Whole};
+ghost use Rattle.reorgdb.specs.Answer.{AsksDeck, Seen, seen, IsShow, IsRefusedAt, DealsWithLines};
+ghost use Rattle.reorgdb.specs.Answer.{Comes, DealsWithBytes, Finds, IsLayoutText, PlaysTo};
+ghost use Rattle.reorgdb.specs.Answer.{ShowsTo, output_of};
 ghost use Rattle.reorgdb.specs.Reading.{TakesAtMost};
+ghost use Rattle.reorgdb.specs.Telling.{IsTold};
+ghost use Rattle.reorgdb.specs.Traced.{Traced};
+ghost use Rattle.reorgdb.specs.declared.telling.Tells.{Tells};
 
 use crate::outcome::{Outcome, damaged_refusal, deck_refusal};
 use crate::reading::{ReadFault, read_source};
+use crate::telling::{Tells, run_text};
 use rg_base::bytes::Bytes;
 use rg_base::no_memory::NoMemory;
 use rg_deck::read::{DECK_LIMIT, DeckFault, read_deck};
+use rg_gen::make::{ROWS_LIMIT, make};
 use rg_outside::operator::Operator;
 use rg_outside::source::Source;
 use rg_outside::volume::Volume;
-use rg_print::print::{Close, print, print_layout};
-use rg_run::played::{Played, RunEnd};
-use rg_run::run::run;
+use rg_print::print::{Close, print_layout};
+use rg_run::played::{Judged, Played, RunEnd};
+use rg_run::run::{run, run_judged};
 use rg_stmt::event::{Entry, Event};
 use rg_stmt::line::Line;
 use rg_words::words;
 use rg_words::words::{Words, WordsFault};
 use std::alloc::Global;
 
-/// A call before its output is given: what it comes to, the trace, the print or the refusal of a
-/// deck, and the volume and the operator that it was given.
+/// A call before its output is given: what it comes to, the trace, the text of the run or of the
+/// refusal of a deck, and the volume and the operator that it was given.
 #[derive(Drop)]
 pub struct Work<V, O> {
     pub outcome: Outcome,
     pub trace: Vec<Entry>,
-    pub print: Bytes,
+    pub text: Bytes,
     pub volume: V,
     pub operator: O,
 }
 
 impl<V, O> Work<V, O> {
-    // The outcome with a trace, and no print. It takes no memory.
+    // The outcome with a trace, and no text. It takes no memory.
     fn with_trace(
         alloc: Global,
         outcome: Outcome,
@@ -67,7 +73,7 @@ impl<V, O> Work<V, O> {
         Work {
             outcome,
             trace,
-            print: Bytes::new(Vec::new(alloc)),
+            text: Bytes::new(Vec::new(alloc)),
             volume,
             operator,
         }
@@ -83,17 +89,17 @@ impl<V, O> Work<V, O> {
         operator: O,
     ) -> Work<V, O>
         ensures ok { IfOk text
-            (λ print. (result.outcome ≡ outcome) × (result.print ≡ print)) }
+            (λ made. (result.outcome ≡ outcome) × (result.text ≡ made)) }
         ensures err { OnErr text (result.outcome ≡ Outcome.NoMemory) }
         ensures trace { result.trace ≡ trace }
         ensures volume { result.volume ≡ volume }
         ensures operator { result.operator ≡ operator }
     {
         match text {
-            Ok(print) => Work {
+            Ok(text) => Work {
                 outcome,
                 trace,
-                print,
+                text,
                 volume,
                 operator,
             },
@@ -113,21 +119,21 @@ impl<V, O> Work<V, O> {
 
     /// The whole output.
     pub fn output(&self) -> &[u8]
-        ensures { result.now ≡ output_of self.now.outcome self.now.print }
+        ensures { result.now ≡ output_of self.now.outcome self.now.text }
     {
         match self.outcome {
             Outcome::Played
             | Outcome::Down
             | Outcome::Shown
             | Outcome::Deck { .. }
-            | Outcome::Damaged { .. } => self.print.as_slice(),
+            | Outcome::Damaged { .. } => self.text.as_slice(),
             other => other.fixed_text(),
         }
     }
 }
 
-/// Reads the words. For `play` it reads the whole deck, and plays it; for `layout` it opens the
-/// volume and makes its layout.
+/// Reads the words. For `play` and `judge` it reads the whole deck and plays it, for `gen` it makes
+/// the deck and plays it, and for `layout` it opens the volume and makes its layout.
 pub fn carry_out<S: Source, V: Volume, O: Operator>(
     alloc: Global,
     words: &[String],
@@ -139,43 +145,170 @@ pub fn carry_out<S: Source, V: Volume, O: Operator>(
         (seen S.left S.faults source.old) (seen S.left S.faults source.new)
         (seen_volume V.told V.faults V.capacities volume)
         (seen_volume V.told V.faults V.capacities result.volume)
-        result.trace.items result.print }
-    ensures legal { IsLegalRun (seen_volume V.told V.faults V.capacities volume)
+        result.trace.items result.text }
+    ensures traced { Traced (seen_volume V.told V.faults V.capacities volume)
         (seen_volume V.told V.faults V.capacities result.volume) result.trace.items }
-    ensures opening { IsOpening (seen_volume V.told V.faults V.capacities volume)
-        (seen_volume V.told V.faults V.capacities result.volume) result.trace.items }
-    ensures openings { AreOpenings (seen_volume V.told V.faults V.capacities volume)
-        (seen_volume V.told V.faults V.capacities result.volume) result.trace.items }
-    ensures flushes { AreFlushes (seen_volume V.told V.faults V.capacities volume)
-        (seen_volume V.told V.faults V.capacities result.volume) result.trace.items }
-    ensures sound { KeepsSound (seen_volume V.told V.faults V.capacities volume)
-        (seen_volume V.told V.faults V.capacities result.volume) result.trace.items }
-    ensures full { IsFullOnlyFrom (3221 * smaller_pages (V.capacities volume)) 0
-        result.trace.items }
-    ensures log_full { IsLogFullOnlyFrom (limit_of (log_pages (V.capacities volume))) 0
-        result.trace.items }
     ensures bounded { TakesAtMost (DECK_LIMIT + 1) (S.left source.old) (S.left source.new) }
     ensures later { S.faults source.old ≤ S.faults source.new }
-    ensures device { IsDeviceOnlyIf (Rose (V.faults volume) (V.faults result.volume))
-        result.trace.items }
     ensures finds { Finds result.outcome (seen_volume V.told V.faults V.capacities volume)
         (seen_volume V.told V.faults V.capacities result.volume) result.trace.items }
-    ensures only { MakesOnly (WritesOwn result.trace.items) (V.told volume)
-        (V.told result.volume) }
     ensures asked { HasAnswered (O.answers operator) (answers_in result.trace.items)
         (O.answers result.operator) }
 {
-    let full = match words::read_admitted(words, words::Admits::Layout) {
-        Ok(Words::Play { full }) => full,
-        Ok(Words::Layout) => return show_layout(alloc, volume, operator),
-        Ok(Words::Threads { .. } | Words::Gen { .. } | Words::Judge) => unreachable!(),
-        Err(WordsFault::Unknown) => return Work::bare(alloc, Outcome::Words, volume, operator),
-    };
+    match words::read_admitted(words, words::Admits::Gen) {
+        Ok(Words::Play { full }) => {
+            play_source(alloc, Tells::Print { full }, source, volume, operator)
+        }
+        Ok(Words::Judge) => play_source(alloc, Tells::Verdict, source, volume, operator),
+        Ok(Words::Gen { seed, rows }) => play_made(alloc, seed, rows, volume, operator),
+        Ok(Words::Layout) => show_layout(alloc, volume, operator),
+        Ok(Words::Threads { .. }) => unreachable!(),
+        Err(WordsFault::Unknown) => Work::bare(alloc, Outcome::Words, volume, operator),
+    }
+}
+
+// Reads the whole deck, and plays it.
+fn play_source<S: Source, V: Volume, O: Operator>(
+    alloc: Global,
+    tells: Tells,
+    source: &mut S,
+    volume: V,
+    operator: O,
+) -> Work<V, O>
+    ensures plays { (words : List (List ℕ)) → AsksDeck tells words
+        → PlaysTo result.outcome words
+        (seen S.left S.faults source.old) (seen S.left S.faults source.new)
+        (seen_volume V.told V.faults V.capacities volume)
+        (seen_volume V.told V.faults V.capacities result.volume)
+        result.trace.items result.text }
+    ensures traced { Traced (seen_volume V.told V.faults V.capacities volume)
+        (seen_volume V.told V.faults V.capacities result.volume) result.trace.items }
+    ensures bounded { TakesAtMost (DECK_LIMIT + 1) (S.left source.old) (S.left source.new) }
+    ensures later { S.faults source.old ≤ S.faults source.new }
+    ensures finds { Finds result.outcome (seen_volume V.told V.faults V.capacities volume)
+        (seen_volume V.told V.faults V.capacities result.volume) result.trace.items }
+    ensures asked { HasAnswered (O.answers operator) (answers_in result.trace.items)
+        (O.answers result.operator) }
+{
     match read_source(alloc, source) {
-        Ok(bytes) => play_bytes(alloc, &bytes, full, volume, operator),
+        Ok(bytes) => play_bytes(alloc, tells, &bytes, volume, operator),
         Err(ReadFault::Failed) => Work::bare(alloc, Outcome::Source, volume, operator),
         Err(ReadFault::Long) => Work::bare(alloc, Outcome::Long, volume, operator),
         Err(ReadFault::NoMemory) => Work::bare(alloc, Outcome::NoMemory, volume, operator),
+    }
+}
+
+fn play_bytes<V: Volume, O: Operator>(
+    alloc: Global,
+    tells: Tells,
+    bytes: &[u8],
+    volume: V,
+    operator: O,
+) -> Work<V, O>
+    requires { length bytes.now ≤ DECK_LIMIT }
+    ensures deals { DealsWithBytes tells (seen_volume V.told V.faults V.capacities volume)
+        (seen_volume V.told V.faults V.capacities result.volume) bytes.now result.outcome
+        result.trace.items result.text }
+    ensures traced { Traced (seen_volume V.told V.faults V.capacities volume)
+        (seen_volume V.told V.faults V.capacities result.volume) result.trace.items }
+    ensures finds { Finds result.outcome (seen_volume V.told V.faults V.capacities volume)
+        (seen_volume V.told V.faults V.capacities result.volume) result.trace.items }
+    ensures asked { HasAnswered (O.answers operator) (answers_in result.trace.items)
+        (O.answers result.operator) }
+{
+    match read_deck(alloc, bytes) {
+        Ok(lines) => play_lines(alloc, tells, volume, operator, lines),
+        Err(DeckFault::Line { number }) => refuse_line(alloc, number, volume, operator),
+        Err(DeckFault::NoMemory) => Work::bare(alloc, Outcome::NoMemory, volume, operator),
+    }
+}
+
+// Makes the deck of a seed and a number of rows, and plays it.
+fn play_made<V: Volume, O: Operator>(
+    alloc: Global,
+    seed: u64,
+    rows: u32,
+    volume: V,
+    operator: O,
+) -> Work<V, O>
+    requires least { 1 ≤ rows }
+    requires greatest { rows ≤ ROWS_LIMIT }
+    ensures deals { DealsWithLines (Tells.Summary seed rows)
+        (seen_volume V.told V.faults V.capacities volume)
+        (seen_volume V.told V.faults V.capacities result.volume) (deck_of seed rows)
+        result.outcome result.trace.items result.text }
+    ensures traced { Traced (seen_volume V.told V.faults V.capacities volume)
+        (seen_volume V.told V.faults V.capacities result.volume) result.trace.items }
+    ensures finds { Finds result.outcome (seen_volume V.told V.faults V.capacities volume)
+        (seen_volume V.told V.faults V.capacities result.volume) result.trace.items }
+    ensures asked { HasAnswered (O.answers operator) (answers_in result.trace.items)
+        (O.answers result.operator) }
+{
+    match make(alloc, seed, rows) {
+        Ok(lines) => {
+            play_lines(
+                alloc,
+                Tells::Summary { seed, rows },
+                volume,
+                operator,
+                lines,
+            )
+        }
+        Err(_) => Work::bare(alloc, Outcome::NoMemory, volume, operator),
+    }
+}
+
+// Plays the lines, and makes the text of their run.
+fn play_lines<V: Volume, O: Operator>(
+    alloc: Global,
+    tells: Tells,
+    volume: V,
+    operator: O,
+    lines: Vec<Line>,
+) -> Work<V, O>
+    requires { AllByRecursion IsPlayed lines.items }
+    ensures deals { DealsWithLines tells (seen_volume V.told V.faults V.capacities volume)
+        (seen_volume V.told V.faults V.capacities result.volume) lines.items result.outcome
+        result.trace.items result.text }
+    ensures traced { Traced (seen_volume V.told V.faults V.capacities volume)
+        (seen_volume V.told V.faults V.capacities result.volume) result.trace.items }
+    ensures finds { Finds result.outcome (seen_volume V.told V.faults V.capacities volume)
+        (seen_volume V.told V.faults V.capacities result.volume) result.trace.items }
+    ensures asked { HasAnswered (O.answers operator) (answers_in result.trace.items)
+        (O.answers result.operator) }
+{
+    tell_run(
+        alloc,
+        tells,
+        run_lines(alloc, tells, volume, operator, lines),
+    )
+}
+
+// The run of the lines. Its trace is judged where it is told what the judge says of it.
+fn run_lines<V: Volume, O: Operator>(
+    alloc: Global,
+    tells: Tells,
+    volume: V,
+    operator: O,
+    lines: Vec<Line>,
+) -> Judged<V, O>
+    requires { AllByRecursion IsPlayed lines.items }
+    ensures whole { Whole (seen_volume V.told V.faults V.capacities volume)
+        (seen_volume V.told V.faults V.capacities result.played.volume) lines.items
+        result.played.trace.items result.played.end }
+    ensures asked { HasAnswered (O.answers operator) (answers_in result.played.trace.items)
+        (O.answers result.played.operator) }
+    ensures told { result.played.end ≢ RunEnd.NoMemory
+        → IsTold tells (seen_volume V.told V.faults V.capacities volume)
+        (seen_volume V.told V.faults V.capacities result.played.volume)
+        result.played.trace.items result.verdict }
+{
+    match tells {
+        Tells::Print { .. } => Judged {
+            played: run(alloc, volume, operator, lines),
+            verdict: None,
+        },
+        Tells::Verdict | Tells::Summary { .. } => run_judged(alloc, volume, operator, lines),
     }
 }
 
@@ -184,27 +317,11 @@ fn show_layout<V: Volume, O: Operator>(alloc: Global, volume: V, operator: O) ->
     ensures shows { (words : List (List ℕ)) (source : Seen) → IsShow words
         → ShowsTo result.outcome words source source
         (seen_volume V.told V.faults V.capacities volume)
-        (seen_volume V.told V.faults V.capacities result.volume) result.trace.items result.print }
-    ensures legal { IsLegalRun (seen_volume V.told V.faults V.capacities volume)
+        (seen_volume V.told V.faults V.capacities result.volume) result.trace.items result.text }
+    ensures traced { Traced (seen_volume V.told V.faults V.capacities volume)
         (seen_volume V.told V.faults V.capacities result.volume) result.trace.items }
-    ensures opening { IsOpening (seen_volume V.told V.faults V.capacities volume)
-        (seen_volume V.told V.faults V.capacities result.volume) result.trace.items }
-    ensures openings { AreOpenings (seen_volume V.told V.faults V.capacities volume)
-        (seen_volume V.told V.faults V.capacities result.volume) result.trace.items }
-    ensures flushes { AreFlushes (seen_volume V.told V.faults V.capacities volume)
-        (seen_volume V.told V.faults V.capacities result.volume) result.trace.items }
-    ensures sound { KeepsSound (seen_volume V.told V.faults V.capacities volume)
-        (seen_volume V.told V.faults V.capacities result.volume) result.trace.items }
-    ensures full { IsFullOnlyFrom (3221 * smaller_pages (V.capacities volume)) 0
-        result.trace.items }
-    ensures log_full { IsLogFullOnlyFrom (limit_of (log_pages (V.capacities volume))) 0
-        result.trace.items }
-    ensures device { IsDeviceOnlyIf (Rose (V.faults volume) (V.faults result.volume))
-        result.trace.items }
     ensures finds { Finds result.outcome (seen_volume V.told V.faults V.capacities volume)
         (seen_volume V.told V.faults V.capacities result.volume) result.trace.items }
-    ensures only { MakesOnly (WritesOwn result.trace.items) (V.told volume)
-        (V.told result.volume) }
     ensures asked { HasAnswered (O.answers operator) (answers_in result.trace.items)
         (O.answers result.operator) }
 {
@@ -215,53 +332,12 @@ fn show_layout<V: Volume, O: Operator>(alloc: Global, volume: V, operator: O) ->
     }
 }
 
-fn play_bytes<V: Volume, O: Operator>(
-    alloc: Global,
-    bytes: &[u8],
-    full: bool,
-    volume: V,
-    operator: O,
-) -> Work<V, O>
-    requires { length bytes.now ≤ DECK_LIMIT }
-    ensures deals { DealsWithBytes full (seen_volume V.told V.faults V.capacities volume)
-        (seen_volume V.told V.faults V.capacities result.volume) bytes.now result.outcome
-        result.trace.items result.print }
-    ensures legal { IsLegalRun (seen_volume V.told V.faults V.capacities volume)
-        (seen_volume V.told V.faults V.capacities result.volume) result.trace.items }
-    ensures opening { IsOpening (seen_volume V.told V.faults V.capacities volume)
-        (seen_volume V.told V.faults V.capacities result.volume) result.trace.items }
-    ensures openings { AreOpenings (seen_volume V.told V.faults V.capacities volume)
-        (seen_volume V.told V.faults V.capacities result.volume) result.trace.items }
-    ensures flushes { AreFlushes (seen_volume V.told V.faults V.capacities volume)
-        (seen_volume V.told V.faults V.capacities result.volume) result.trace.items }
-    ensures sound { KeepsSound (seen_volume V.told V.faults V.capacities volume)
-        (seen_volume V.told V.faults V.capacities result.volume) result.trace.items }
-    ensures full { IsFullOnlyFrom (3221 * smaller_pages (V.capacities volume)) 0
-        result.trace.items }
-    ensures log_full { IsLogFullOnlyFrom (limit_of (log_pages (V.capacities volume))) 0
-        result.trace.items }
-    ensures device { IsDeviceOnlyIf (Rose (V.faults volume) (V.faults result.volume))
-        result.trace.items }
-    ensures finds { Finds result.outcome (seen_volume V.told V.faults V.capacities volume)
-        (seen_volume V.told V.faults V.capacities result.volume) result.trace.items }
-    ensures only { MakesOnly (WritesOwn result.trace.items) (V.told volume)
-        (V.told result.volume) }
-    ensures asked { HasAnswered (O.answers operator) (answers_in result.trace.items)
-        (O.answers result.operator) }
-{
-    match read_deck(alloc, bytes) {
-        Ok(lines) => print_played(alloc, full, run(alloc, volume, operator, lines)),
-        Err(DeckFault::Line { number }) => refuse_line(alloc, number, volume, operator),
-        Err(DeckFault::NoMemory) => Work::bare(alloc, Outcome::NoMemory, volume, operator),
-    }
-}
-
 // The refusal of a deck by the number of a line.
 fn refuse_line<V, O>(alloc: Global, line: u32, volume: V, operator: O) -> Work<V, O>
-    ensures deals { (full : Bool) (before after : VolumeSeen) (bytes : List ℕ)
+    ensures deals { (tells : Tells) (before after : VolumeSeen) (bytes : List ℕ)
         → IsRefusedAt bytes line
-        → DealsWithBytes full before after bytes result.outcome result.trace.items
-        result.print }
+        → DealsWithBytes tells before after bytes result.outcome result.trace.items
+        result.text }
     ensures outcome { (before : VolumeSeen) (trace : List Entry)
         → Finds result.outcome before before trace }
     ensures trace { result.trace.items ≡ [] }
@@ -269,10 +345,10 @@ fn refuse_line<V, O>(alloc: Global, line: u32, volume: V, operator: O) -> Work<V
     ensures operator { result.operator ≡ operator }
 {
     match deck_refusal(alloc, line) {
-        Ok(print) => Work {
+        Ok(text) => Work {
             outcome: Outcome::Deck { line },
             trace: Vec::new(alloc),
-            print,
+            text,
             volume,
             operator,
         },
@@ -280,17 +356,21 @@ fn refuse_line<V, O>(alloc: Global, line: u32, volume: V, operator: O) -> Work<V
     }
 }
 
-fn print_played<V, O>(alloc: Global, full: bool, played: Played<V, O>) -> Work<V, O>
+// The text of a run, by what is to be told of it.
+fn tell_run<V, O>(alloc: Global, tells: Tells, judged: Judged<V, O>) -> Work<V, O>
     ensures deals { (before after : VolumeSeen) (lines : List Line)
-        → Ends before after lines played.trace.items played.end
-        → DealsWithLines full before after lines result.outcome result.trace.items
-        result.print }
-    ensures finds { (before after : VolumeSeen) → IsEnd before after played.trace.items played.end
+        → Ends before after lines judged.played.trace.items judged.played.end
+        → (judged.played.end ≢ RunEnd.NoMemory
+        → IsTold tells before after judged.played.trace.items judged.verdict)
+        → DealsWithLines tells before after lines result.outcome result.trace.items result.text }
+    ensures finds { (before after : VolumeSeen)
+        → IsEnd before after judged.played.trace.items judged.played.end
         → Finds result.outcome before after result.trace.items }
-    ensures trace { result.trace.items ≡ played.trace.items }
-    ensures volume { result.volume ≡ played.volume }
-    ensures operator { result.operator ≡ played.operator }
+    ensures trace { result.trace.items ≡ judged.played.trace.items }
+    ensures volume { result.volume ≡ judged.played.volume }
+    ensures operator { result.operator ≡ judged.played.operator }
 {
+    let Judged { played, verdict } = judged;
     let Played {
         volume,
         operator,
@@ -300,24 +380,28 @@ fn print_played<V, O>(alloc: Global, full: bool, played: Played<V, O>) -> Work<V
     match end {
         RunEnd::NoMemory => Work::with_trace(alloc, Outcome::NoMemory, trace, volume, operator),
         RunEnd::DeviceAtOpening => {
-            // In the first opening nothing was played. After a death the trace is shown.
+            // In the first opening nothing was played. After a death it is told what was.
             if trace.is_empty() {
                 return Work::with_trace(alloc, Outcome::Device, trace, volume, operator);
             }
-            let text = print(alloc, &trace, full, Close::Down);
+            let text = run_text(alloc, tells, &trace, Close::Down, verdict);
             Work::with_text(alloc, Outcome::Down, text, trace, volume, operator)
         }
         RunEnd::Damaged { set, page } => {
-            let text = print(alloc, &trace, full, Close::Damaged { set, page });
             let outcome = Outcome::Damaged { set, page };
+            if trace.is_empty() {
+                let text = damaged_refusal(alloc, set, page);
+                return Work::with_text(alloc, outcome, text, trace, volume, operator);
+            }
+            let text = run_text(alloc, tells, &trace, Close::Damaged { set, page }, verdict);
             Work::with_text(alloc, outcome, text, trace, volume, operator)
         }
         RunEnd::Down => {
-            let text = print(alloc, &trace, full, Close::Down);
+            let text = run_text(alloc, tells, &trace, Close::Down, verdict);
             Work::with_text(alloc, Outcome::Down, text, trace, volume, operator)
         }
         RunEnd::Whole { rows } => {
-            let text = print(alloc, &trace, full, Close::Rows(rows));
+            let text = run_text(alloc, tells, &trace, Close::Rows(rows), verdict);
             Work::with_text(alloc, Outcome::Played, text, trace, volume, operator)
         }
     }
@@ -328,7 +412,7 @@ fn print_shown<V, O>(alloc: Global, played: Played<V, O>) -> Work<V, O>
     ensures shows { (before after : VolumeSeen) (words : List (List ℕ)) (source : Seen)
         → Ends before after (Line.Show ∷ []) played.trace.items played.end → IsShow words
         → ShowsTo result.outcome words source source before after result.trace.items
-        result.print }
+        result.text }
     ensures finds { (before after : VolumeSeen) → IsEnd before after played.trace.items played.end
         → Finds result.outcome before after result.trace.items }
     ensures trace { result.trace.items ≡ played.trace.items }

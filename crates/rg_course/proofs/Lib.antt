@@ -1,3 +1,4 @@
+pub mod Loads
 pub mod Phases
 pub mod Steps
 pub mod Resting

@@ -1,5 +1,6 @@
 //! Each function's contract is a law of the definitions. None of them runs anything.
 ghost use Rattle.rg_course.specs.Course.{EndsInTime};
+ghost use Rattle.rg_course.specs.Loading.{LoadingGoesOn};
 ghost use Rattle.rg_course.specs.Switching.{CaughtUpAtSwitch};
 
 /// A utility that nothing hinders ends after as many steps as its pages, its RELOAD steps and
@@ -13,4 +14,9 @@ pub fn course_law()
 /// were not taken.
 pub fn switching_law()
     ensures { CaughtUpAtSwitch }
+{}
+
+/// How many pages of the new copy are filled is told by the entries.
+pub fn loading_law()
+    ensures { LoadingGoesOn }
 {}

@@ -5,9 +5,11 @@
 -- (3) Rounds follow. In each, one of sessions 2 to 5 in turn updates the row of a drawn key and
 --     commits, and the utility makes a step.
 -- (4) More steps of the utility follow, and the layout is the last line.
+-- (5) So each statement is of a session from 1 to 5, and the process does not die.
 use Rattle.std.specs.Prelude.{ℕ, ◌+◌, ◌%◌, List, [], ◌∷◌, ◌++◌, Bool, zero, suc}
 use Rattle.std.specs.Prelude.{◌==◌, ◌||◌, if◌then◌else◌, replicate}
 use Rattle.std.specs.Int.{div_ceil}
+use Rattle.rg_base.specs.Session.{IsSession}
 use Rattle.rg_base.specs.declared.row.Row.{Row}
 use Rattle.rg_base.specs.declared.session.Session.{Session}
 use Rattle.rg_opts.specs.Given.{none_set, with_defaults}
@@ -79,3 +81,9 @@ deck_of seed rows =
     ++ lines.Reorg (with_defaults none_set)
     ∷ (rounds rows (round_count rows) 1 (after_draws rows seed)
     ++ (replicate (step_count rows) lines.Step ++ lines.Show ∷ []))
+
+-- a line of a session that there is, or of no session; the process does not die by it
+abbrev pub IsOfSessions : Line → Type 0
+IsOfSessions (lines.Said session stmt) = IsSession session
+IsOfSessions lines.Death = ⊥
+IsOfSessions line = Unit {0}

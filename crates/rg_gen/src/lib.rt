@@ -3,6 +3,8 @@
 
 // Drawn numbers.
 mod draws;
+/// What holds of a deck.
+pub mod laws;
 /// The deck.
 pub mod make;
 /// The line that sums up a run.

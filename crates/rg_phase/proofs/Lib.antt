@@ -1,5 +1,6 @@
 pub mod Stepping
 pub mod Steps
+pub mod Loading
 pub mod Making
 pub mod Stops
 pub mod Drafting

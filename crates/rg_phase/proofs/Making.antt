@@ -1,5 +1,5 @@
 -- One entry of a step is made, whatever the step did before it.
-use Rattle.std.proofs.Common.{◌≡◌, ◌++◌, inl, inr, ℕ, Bool, true, false, List, [], ◌∷◌, Option, Some, None, take, refl, sym, ◌∙◌, ap, subst, arith}
+use Rattle.std.proofs.Common.{◌≡◌, ◌++◌, inl, inr, ℕ, Bool, true, false, List, [], ◌∷◌, Option, Some, None, IfSome, take, refl, sym, ◌∙◌, ap, subst, arith}
 use Rattle.std.specs.Option.{is_some}
 use Rattle.rg_base.specs.declared.control.Answer.{Answer}
 use Rattle.rg_base.specs.declared.session.Session.{Session}
@@ -26,7 +26,10 @@ use Rattle.rg_stmt.specs.declared.event.Event.TheVariants as events
 use Rattle.rg_stmt.specs.declared.layout.Sides.{Sides}
 use Rattle.rg_switch.specs.Switched.{other_of}
 use Rattle.rg_tending.specs.Tending.{FollowsBy, NextBy, is_booked, is_plain, utility_entry}
-use Rattle.rg_phase.specs.Step.{Acts, IsSwitchFrom, Makes, NextMade, copy_left, is_device_stop, is_made}
+use Rattle.rg_course.specs.Loading.{Loading, loading_after}
+use Rattle.rg_image.specs.Rules.{copy_capacity}
+use Rattle.rg_phase.specs.Step.{Acts, HasSpace, IsSwitchFrom, Loads, Makes, NextMade, copy_left, is_device_stop, is_made}
+use Rattle.rg_phase.proofs.Loading.{shows_none, shows_same, shows_step, shows_switched, space_any}
 use Rattle.rg_phase.specs.Working.{Writes}
 
 -- ---- events
@@ -44,7 +47,7 @@ booked_from : (copy : ℕ) (event : Event) → is_booked event ≡ true → IsSw
 booked_from copy (events.Switched to sides) is = absurd (cc (is))
 booked_from copy event is = tt
 
-plain_some : (o : Option Turn) → is_plain o ≡ true → is_some o ≡ true
+pub plain_some : (o : Option Turn) → is_plain o ≡ true → is_some o ≡ true
 plain_some None is = absurd (cc (is))
 plain_some (Some turn) is = refl
 
@@ -102,6 +105,11 @@ module _ {V O : Type 0} (look : V → VolumeSeen) where
       ground : new.ground ≡ old.ground
       ground = ap (λ (d : DeskState V O). d.ground) same
 
+  -- the new copy that was kept is dropped
+  pub writes_forgotten : (old new : DeskState V O) → new ≡ record old { shadow = None } → Writes look old new
+  writes_forgotten old new same =
+      writes_shadow old new (same ∙ ap (λ (x : Option PreparedSeen). let d : DeskState V O = record old { shadow = x } in d) (sym (ap (λ (d : DeskState V O). d.shadow) same)))
+
   -- a desk that is down, or over which no utility runs
   pub makes_refused : (old new : DeskState V O) (event : Event) → copy_left old.copy event ≡ old.copy → IsSwitchFrom old.copy event → is_device_stop event ≡ false → MadeStep look old None event [] new → Makes look old None event new
   makes_refused old new event left from quiet made = record {
@@ -124,13 +132,42 @@ module _ {V O : Type 0} (look : V → VolumeSeen) where
     old_same = made.stays.old_same;
   }
 
+  -- it tells nothing of the new copy
+  pub loads_refused : (old mid new : DeskState V O) (event : Event) → ((l : Option Loading) → loading_after l event ≡ l) → ((capacity : ℕ) (s : Stage) → HasSpace capacity s event) → mid.copy ≡ old.copy → mid.stage ≡ old.stage → FollowsBy mid.down mid.stage mid.changes mid.covered None event new.stage
+      → new.copy ≡ mid.copy → Loads look old event new
+  loads_refused old mid new event tells space copy stage follows same = record {
+    space = space_any old.stage (copy_capacity (look old.volume).capacities (other_of old.copy)) event (space (copy_capacity (look old.volume).capacities (other_of old.copy)));
+    shows = shows_same old.stage new.stage event old.copy new.copy (same ∙ copy) (stayed mid.down mid.stage follows ∙ stage) tells;
+  }
+    where
+      stayed : (down : Bool) (o : Option Stage) → FollowsBy down o mid.changes mid.covered None event new.stage → new.stage ≡ o
+      stayed true o follows = follows
+      stayed false None follows = follows
+      stayed false (Some s) follows = follows
+
+  -- from the desk that was asked
+  pub loads_asked : (old asked new : DeskState V O) (answer : Answer) (event : Event) → asked ≡ record old { spare = asked.spare; kept = Some answer; operator = asked.operator } → Loads look asked event new → Loads look old event new
+  loads_asked old asked new answer event same loads =
+      let moved : Loads look (record old { spare = asked.spare; kept = Some answer; operator = asked.operator }) event new = subst (λ (d : DeskState V O). Loads look d event new) same loads in
+      record { space = moved.space; shows = moved.shows }
+
   module _ (old : DeskState V O) (answer : Answer) where
+    -- the event is as the other copy has room
+    abbrev Space : Event → Type 0
+    Space event = IfSome old.stage (λ s. HasSpace (copy_capacity (look old.volume).capacities (other_of old.copy)) s event)
+
     -- a step was made, after a new copy was written or not
     acts_made : (mid new : DeskState V O) (event : Event) (items : List Item) → is_some old.stage ≡ true → Writes look old mid → NextMade old.down old.stage old.changes old.covered (Some answer) event → copy_left old.copy event ≡ old.copy → IsSwitchFrom old.copy event
-        → (is_device_stop event ≡ true → Rose (look old.volume).faults (look mid.volume).faults) → MadeStep look mid (Some answer) event items new → Acts look old answer new
-    acts_made mid new event items runs wrote next left from device made = record {
+        → (is_device_stop event ≡ true → Rose (look old.volume).faults (look mid.volume).faults) → Space event → MadeStep look mid (Some answer) event items new → Acts look old answer new
+    acts_made mid new event items runs wrote next left from device space made = record {
       event = event;
       next = next;
+      loads = record {
+        space = space;
+        shows =
+            shows_step old.down old.stage new.stage old.changes old.covered answer event old.copy new.copy (made.stays.copy ∙ copy) next
+            (subst (λ (d : DeskState V O). FollowsBy d.down d.stage d.changes d.covered (Some answer) event new.stage) wrote.same made.follows);
+      };
       made = record {
         calls = made.calls;
         made = made.made ∙ ap (λ (es : List Entry). es ++ utility_entry event (Some answer) made.calls ∷ []) (ap (λ (d : DeskState V O). d.trace) wrote.same);
@@ -160,20 +197,24 @@ module _ {V O : Type 0} (look : V → VolumeSeen) where
 
     -- it was booked
     pub acts_booked : (mid new : DeskState V O) (event : Event) → is_some old.stage ≡ true → Writes look old mid → IsNextStep old (Some answer) event → is_booked event ≡ true
-        → (is_device_stop event ≡ true → Rose (look old.volume).faults (look mid.volume).faults) → MadeStep look mid (Some answer) event [] new → Acts look old answer new
-    acts_booked mid new event runs wrote next booked device made =
-        acts_made mid new event [] runs wrote (next_booked old.down old.stage old.changes old.covered answer event next) (booked_left old.copy event booked) (booked_from old.copy event booked) device made
+        → (is_device_stop event ≡ true → Rose (look old.volume).faults (look mid.volume).faults) → Space event → MadeStep look mid (Some answer) event [] new → Acts look old answer new
+    acts_booked mid new event runs wrote next booked device space made =
+        acts_made mid new event [] runs wrote (next_booked old.down old.stage old.changes old.covered answer event next) (booked_left old.copy event booked) (booked_from old.copy event booked) device space made
 
     -- a page was copied
     pub acts_copied : (mid new : DeskState V O) (page rows : ℕ) → is_some old.stage ≡ true → Writes look old mid → NextMade old.down old.stage old.changes old.covered (Some answer) (events.Unload page rows) → MadeCopy look mid answer page rows new → Acts look old answer new
     acts_copied mid new page rows runs wrote next made =
-        acts_made mid new (events.Unload page rows) (PageCopy page made.position made.copied ∷ []) runs wrote next refl tt (λ is. absurd (cc (is))) made.made
+        acts_made mid new (events.Unload page rows) (PageCopy page made.position made.copied ∷ []) runs wrote next refl tt (λ is. absurd (cc (is))) (space_any old.stage (copy_capacity (look old.volume).capacities (other_of old.copy)) (events.Unload page rows) (λ s. tt)) made.made
 
     -- the copies were switched
     pub acts_switched : (new : DeskState V O) (sides : Sides) → is_some old.stage ≡ true → NextMade old.down old.stage old.changes old.covered (Some answer) (events.Switched (other_of old.copy) sides) → MadeSwitch look old answer sides new → Acts look old answer new
     acts_switched new sides runs next made = record {
       event = events.Switched (other_of old.copy) sides;
       next = next;
+      loads = record {
+        space = space_any old.stage (copy_capacity (look old.volume).capacities (other_of old.copy)) (events.Switched (other_of old.copy) sides) (λ s. tt);
+        shows = shows_switched old.stage new.stage made.stage (events.Switched (other_of old.copy) sides) old.copy new.copy made.stage_is made.switched;
+      };
       made = record {
         calls = made.calls;
         made = made.made;
@@ -201,6 +242,10 @@ module _ {V O : Type 0} (look : V → VolumeSeen) where
     acts_fallen new runs next made = record {
       event = events.Stop reasons.Device;
       next = next;
+      loads = record {
+        space = space_any old.stage (copy_capacity (look old.volume).capacities (other_of old.copy)) (events.Stop reasons.Device) (λ s. tt);
+        shows = shows_none old.stage new.stage (events.Stop reasons.Device) old.copy new.copy made.stage;
+      };
       made = record {
         calls = made.calls;
         made = made.made;

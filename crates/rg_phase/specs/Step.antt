@@ -8,15 +8,21 @@
 --    it calls no volume.
 -- 5. STOP DEVICE stands in it only where a call of the volume failed in this step, and only then
 --    does the step bring the desk down.
-use Rattle.std.specs.Prelude.{◌≡◌, ◌⊎◌, ◌++◌, ℕ, Bool, true, false, List, [], ◌∷◌, Option, Some, None, is_some}
+-- 6. RELOAD fills a page only where it, and the empty one that is due after it, are among those
+--    that the other copy may have. Before the first list is sorted, STOP NOSPACE stands in it only
+--    where one of them is not.
+use Rattle.std.specs.Prelude.{◌≡◌, ◌⊎◌, ◌++◌, ◌≤◌, ◌<◌, ◌+◌, ℕ, Bool, true, false, List, []}
+use Rattle.std.specs.Prelude.{◌∷◌, Option, Some, None, IfSome, is_some}
 use Rattle.rg_base.specs.declared.control.Answer.{Answer}
 use Rattle.rg_base.specs.declared.session.Session.{Session}
 use Rattle.rg_base.specs.declared.verdict.StopReason.TheVariants as reasons
+use Rattle.rg_course.specs.Loading.{loading_after, loading_of}
 use Rattle.rg_desk.specs.Desk.{DeskState, left_to_take, old_records}
 use Rattle.rg_desk.specs.Flushed.{CallsOwn}
 use Rattle.rg_desk.specs.Volume.{IsCount, VolumeSeen}
 use Rattle.rg_fold.specs.declared.item.Stage.{Stage}
 use Rattle.rg_image.specs.Rules.{copy_capacity}
+use Rattle.rg_model.specs.Packed.{page_count}
 use Rattle.rg_model.specs.Turn.{turn_of}
 use Rattle.rg_outside.specs.Faults.{Rose}
 use Rattle.rg_outside.specs.Told.{AddsAnswer, HandsOver}
@@ -103,12 +109,35 @@ StepCalls look old (Some answer) new =
     (is_some old.stage ≡ true)
     × CallsOwn (other_of old.copy) (look old.volume) (look new.volume)
 
+-- this event of a utility at this stage is as the other copy has room, which may have so many pages
+abbrev pub HasSpace : (capacity : ℕ) → Stage → Event → Type 0
+HasSpace capacity s (events.Reload page rows) =
+    (s.switched ≡ false) × (page_count s.options.freepage (s.filled + 1) ≤ capacity)
+HasSpace capacity s (events.Stop reasons.NoSpace) =
+    (s.switched ≡ false)
+    × (s.sorted ≡ 0 → capacity < page_count s.options.freepage (s.filled + 1))
+HasSpace capacity s event = Unit {0}
+
+-- The same, where one runs. How far the new copy is filled is told by the event, up to the switch.
+pub record Loads {V O : Type 0} (look : V → VolumeSeen) (old : DeskState V O) (event : Event)
+    (new : DeskState V O) : Type 0 where
+  pub space :
+      IfSome old.stage
+      (λ s. HasSpace (copy_capacity (look old.volume).capacities (other_of old.copy)) s event)
+  pub shows :
+      IfSome old.stage (λ s. IfSome new.stage (λ t.
+      t.switched ≡ false
+      → (s.switched ≡ false)
+      × (loading_of new.copy (numbers_of t)
+      ≡ loading_after (loading_of old.copy (numbers_of s)) event)))
+
 -- a utility runs, and the operator has given this answer
 pub record Acts {V O : Type 0} (look : V → VolumeSeen) (old : DeskState V O) (answer : Answer)
     (new : DeskState V O) : Type 0 where
   pub event : Event
   pub next : NextMade old.down old.stage old.changes old.covered (Some answer) event
   pub made : Makes look old (Some answer) event new
+  pub loads : Loads look old event new
   pub only : StepCalls look old (Some answer) new
 
 pub record Stepped {V O : Type 0} (look : V → VolumeSeen) (answers : O → Option (List Answer))
@@ -121,4 +150,5 @@ pub record Stepped {V O : Type 0} (look : V → VolumeSeen) (answers : O → Opt
       asked ≡ record old { spare = asked.spare; kept = answer; operator = asked.operator }
   pub operator : AsksOnce answers last (left_to_take old) old.operator answer asked.operator
   pub made : Makes look asked answer event new
+  pub loads : Loads look old event new
   pub only : StepCalls look old answer new

@@ -39,8 +39,8 @@ pub record Writes {V O : Type 0} (look : V → VolumeSeen) (old new : DeskState 
   pub calls : CallsOwn (other_of old.copy) (look old.volume) (look new.volume)
 
 -- The layouts of both copies. The new one was written since the last record, and has as many pages
--- as the utility has counted. Its quiet rows lie at home, in clustering order, and it is packed where
--- nothing has changed since the start.
+-- as the utility has counted. Its quiet rows lie at home, in clustering order, and it is packed
+-- where nothing has changed since the start.
 pub record AreSidesToSwitch {V O : Type 0} (desk : DeskState V O) (stage : Stage) (sides : Sides)
     : Type 0 where
   pub current : HasCurrent desk
@@ -63,6 +63,12 @@ pub record IsReloadEvent (stage : Stage) (event : Event) : Type 0 where
       (turn_at steps.Reload all covered answer (alter (numbers_of stage) answer.command)
       stage.drain event)
       ≡ true
+
+-- a page is filled with the event, or there is none for it
+abbrev pub fills : Event → Bool
+fills (events.Reload page rows) = true
+fills (events.Stop reasons.NoSpace) = true
+fills event = false
 
 -- changes are taken with the event
 abbrev pub takes : Event → Bool

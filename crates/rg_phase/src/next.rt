@@ -8,14 +8,18 @@
 //    of memory, the utility stops.
 // 5. The steps that copy or fill a page, write the new copy, or switch to it say themselves what
 //    became of it.
-ghost use Rattle.std.specs.Prelude.{◌≡◌, ◌≤◌, false, true, IfSome};
+// 6. A page is filled only where the other copy may have it, with the empty one that is due after
+//    it. Where it may not, the utility stops.
+ghost use Rattle.std.specs.Prelude.{◌≡◌, ◌≤◌, ◌<◌, ◌+◌, false, true, Ok, IfSome};
 ghost use Rattle.rg_model.specs.Turn.{step_of, turn_at, turn_of};
-ghost use Rattle.rg_phase.specs.Step.{is_device_stop};
-ghost use Rattle.rg_phase.specs.Working.{IsEventOrStop, IsReloadEvent, MakesStep, takes};
+ghost use Rattle.rg_model.specs.Packed.{page_count};
+ghost use Rattle.rg_phase.specs.Step.{HasSpace, is_device_stop};
+ghost use Rattle.rg_phase.specs.Working.{IsEventOrStop, IsReloadEvent, MakesStep, fills, takes};
 ghost use Rattle.rg_stage.specs.NumbersOf.{numbers_of};
 ghost use Rattle.rg_tending.specs.Tending.{is_booked, is_plain};
 
 use rg_base::control::Answer;
+use rg_base::no_memory::NoMemory;
 use rg_base::session::Session;
 use rg_base::step::Step;
 use rg_base::verdict::StopReason;
@@ -28,7 +32,7 @@ use rg_stage::events::{
 };
 use rg_stage::step::{is_terminated, step_for, with_alter};
 use rg_stmt::event::Event;
-use rg_tally::pages::page_at;
+use rg_tally::pages::{page_at, page_count};
 
 // The event of the step that the stage decides, which has the operator's ALTER in it.
 fn step_event(stage: &Stage, all: u64, holder: Option<Session>, answer: &Answer) -> Event
@@ -36,6 +40,7 @@ fn step_event(stage: &Stage, all: u64, holder: Option<Session>, answer: &Answer)
     requires target { stage.now.target ≤ all }
     ensures booked { is_booked result ≡ true }
     ensures device { is_device_stop result ≡ false }
+    ensures unfilled { fills result ≡ false }
     ensures next { let u = numbers_of stage.entry.now in let drain = stage.entry.now.drain in
         is_plain (turn_at (step_of u drain) all holder answer.entry.now u drain result) ≡ true }
 {
@@ -58,6 +63,7 @@ pub fn next_event(stage: &Stage, all: u64, holder: Option<Session>, answer: &Ans
     requires target { stage.now.target ≤ all }
     ensures booked { is_booked result ≡ true }
     ensures device { is_device_stop result ≡ false }
+    ensures unfilled { fills result ≡ false }
     ensures next { is_plain (turn_of all holder answer.entry.now (numbers_of stage.entry.now)
         stage.entry.now.drain result) ≡ true }
 {
@@ -99,9 +105,23 @@ pub fn or_stop(event: Event, made: Result<(), ShadowFault>) -> Event
     }
 }
 
+// Whether the other copy may have the next page, and the empty one that is due after it.
+fn has_page(stage: &Stage, capacity: u32) -> Result<bool, NoMemory>
+    ensures yes { result ≡ Ok true
+        → page_count stage.now.options.freepage (stage.now.filled + 1) ≤ capacity }
+    ensures no { result ≡ Ok false
+        → capacity < page_count stage.now.options.freepage (stage.now.filled + 1) }
+{
+    let pages = page_count(stage.options.freepage, u64::from(stage.filled) + 1)?;
+    Ok(pages <= u64::from(capacity))
+}
+
 // RELOAD of a page that was filled, as the numbers ask for it. Else the utility stops.
-fn page_event(stage: &Stage, filled: &Filled) -> Event
-    ensures { IsReloadEvent stage.now result }
+fn page_event(stage: &Stage, capacity: u32, filled: &Filled) -> Event
+    requires page { page_count stage.now.options.freepage (stage.now.filled + 1) ≤ capacity }
+    requires unswitched { stage.now.switched ≡ false }
+    ensures event { IsReloadEvent stage.now result }
+    ensures space { HasSpace capacity stage.now result }
 {
     let Ok(next) = page_at(stage.options.freepage, u64::from(stage.filled) + 1) else {
         return Event::Stop(StopReason::NoMemory);
@@ -118,13 +138,15 @@ fn page_event(stage: &Stage, filled: &Filled) -> Event
 }
 
 /// RELOAD of the page that was filled, or the stop where none could be: STOP NOSPACE where the new
-/// copy may have no page more, else STOP NOMEMORY.
-pub fn reload_event(stage: &Stage, made: Result<Filled, ReloadFault>) -> Event
-    ensures { IsReloadEvent stage.now result }
+/// copy may have no page more, else STOP NOMEMORY. The new copy may have `capacity` pages.
+pub fn reload_event(stage: &Stage, capacity: u32, made: Result<Filled, ReloadFault>) -> Event
+    requires unswitched { stage.now.switched ≡ false }
+    ensures event { IsReloadEvent stage.now result }
+    ensures space { HasSpace capacity stage.now result }
 {
-    match made {
-        Ok(filled) => page_event(stage, &filled),
-        Err(ReloadFault::NoSpace { .. }) => Event::Stop(StopReason::NoSpace),
-        Err(ReloadFault::NoMemory) => Event::Stop(StopReason::NoMemory),
+    match (made, has_page(stage, capacity)) {
+        (Ok(filled), Ok(true)) => page_event(stage, capacity, &filled),
+        (Err(ReloadFault::NoSpace { .. }), Ok(false)) => Event::Stop(StopReason::NoSpace),
+        _ => Event::Stop(StopReason::NoMemory),
     }
 }

@@ -189,7 +189,7 @@ impl Reorg {
     {
         let (all, other) = (desk.changes(), desk.other());
         let filled = self.fill(alloc, inlet, stage, other, all);
-        desk.book(reload_event(stage, filled), Some(answer));
+        desk.book(reload_event(stage, other.1, filled), Some(answer));
     }
 
     // Makes the entry of a step that calls no volume and fills no page.

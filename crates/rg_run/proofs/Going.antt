@@ -31,6 +31,8 @@ use Rattle.rg_stmt.specs.declared.line.Line.{Line}
 use Rattle.rg_run.specs.Flush.{AreFlushesSince}
 use Rattle.rg_run.specs.Full.{IsFullOnlyFrom, smaller_pages}
 use Rattle.rg_run.specs.LogFull.{IsLogFullOnlyFrom}
+use Rattle.rg_run.specs.Space.{AreForSpace}
+use Rattle.rg_run.proofs.Spaces.{space_join}
 use Rattle.rg_run.specs.Opening.{AreOpeningsSince, IfOpened, IsOpeningThen}
 use Rattle.rg_run.specs.Outside.{IsDeviceOnlyIf, WritesOwn}
 use Rattle.rg_run.specs.Parts.{Again, AreParts, Came, Follows, Going, IfTidy, IsFound, IsKnown, Made, PartRun, RunsFrom}
@@ -172,6 +174,7 @@ made_on look first lines trace now later made n has calls le same = record {
   recorded = made.recorded;
   full = subst (λ (c : Capacities). IsFullOnlyFrom (3221 * smaller_pages c) 0 trace) (sym same) made.full;
   log_full = subst (λ (c : Capacities). IsLogFullOnlyFrom (limit_of (log_pages c)) 0 trace) (sym same) made.log_full;
+  space = subst (λ (c : Capacities). AreForSpace c None trace) (sym same) made.space;
   device = device_more (Rose (look first.volume).faults now.faults) (Rose (look first.volume).faults later.faults) trace (rose_later (look first.volume).faults now.faults later.faults le) made.device;
   calls = calls_join (WritesOwn trace) (look first.volume).told now.told later.told made.calls calls;
   later = omega (arith, made.later, le);
@@ -278,6 +281,7 @@ module _ {V O : Type 0} {answers : O → Option (List Answer)} (look : V → Vol
           recorded = recorded;
           full = subst (IsFullOnlyFrom (3221 * smaller_pages now.capacities) 0) only part_full;
           log_full = subst (IsLogFullOnlyFrom (limit_of (log_pages now.capacities)) 0) only part_log;
+          space = subst (AreForSpace now.capacities None) only goes.space;
           device = subst (λ (v : VolumeSeen). IsDeviceOnlyIf (Rose v.faults now.faults) trace) volume (subst (IsDeviceOnlyIf (Rose (look base.volume).faults now.faults)) only goes.device);
           calls = subst (λ (v : VolumeSeen). EachCall v.told now.told (WritesOwn trace)) volume (subst (λ (es : List Entry). EachCall (look base.volume).told now.told (WritesOwn es)) only part_calls);
           later = subst (λ (v : VolumeSeen). v.faults ≤ now.faults) volume goes.stays.later;
@@ -306,6 +310,7 @@ module _ {V O : Type 0} {answers : O → Option (List Answer)} (look : V → Vol
           log_full =
               log_join (limit_of (log_pages now.capacities)) 0 going.back base.older desk.trace
               (subst (λ (c : Capacities). IsLogFullOnlyFrom (limit_of (log_pages c)) 0 base.older) (sym same_capacities) past.log_full) goes.entries part_log;
+          space = space_join now.capacities None going.back base.older desk.trace (subst (λ (c : Capacities). AreForSpace c None base.older) (sym same_capacities) past.space) goes.entries goes.space;
           device =
               device_join (Rose low high) base.older desk.trace
               (device_more (Rose low mid) (Rose low high) base.older (rose_later low mid high goes.stays.later) past.device)

@@ -1,5 +1,5 @@
 -- The trace of a run, judged from the table that its first opening found.
-use Rattle.std.proofs.Common.{◌≡◌, ◌⊎◌, ◌++◌, inl, inr, ℕ, suc, false, List, [], ◌∷◌, Option, None, Some, Result, Ok, Err, IfOk, ◌↔◌, refl, sym, ◌∙◌, ap, subst, append-nil, arith}
+use Rattle.std.proofs.Common.{◌≡◌, ◌⊎◌, inl, inr, ℕ, suc, List, [], ◌∷◌, Option, None, Some, Result, Ok, IfOk, ◌↔◌, refl, sym, ◌∙◌, ap, subst, append-nil, arith}
 use Rattle.std.specs.FinMap.{nat_cmp-IsAntisymmetric, same_map}
 use Rattle.std.proofs.lemmas.Cmp.{nat_cmp_total}
 use Rattle.rg_base.specs.declared.no_memory.NoMemory.{NoMemory as WantsMemory}
@@ -23,12 +23,12 @@ use Rattle.rg_stmt.specs.declared.line.Line.{Line}
 use Rattle.rg_stmt.specs.declared.line.Line.TheVariants.{Death}
 use Rattle.rg_run.specs.Judged.{IsVerdict, JudgesRun, RefusesNone, Settles}
 use Rattle.rg_run.specs.Outside.{IfBoth, log_at}
-use Rattle.rg_run.specs.Played.{IsOpenedEntry, TraceOf, TraceOfFront}
+use Rattle.rg_run.specs.Played.{IsOpenedEntry, TraceOfFront}
 use Rattle.rg_run.specs.Table.{Begins, Ends, IsLegalRun}
 use Rattle.rg_run.specs.Whole.{Whole}
 use Rattle.rg_run.specs.declared.played.RunEnd.{RunEnd}
 use Rattle.rg_run.specs.declared.played.RunEnd.TheVariants as ends
-use Rattle.rg_run.proofs.Between.{both_and, both_weaken}
+use Rattle.rg_run.proofs.Between.{both_and}
 use Rattle.rg_run.proofs.Joins.{only_is}
 
 -- ---- a run that ends out of memory
@@ -51,6 +51,7 @@ whole_wanting old new lines trace end whole = record {
   flushes = whole.flushes;
   full = whole.full;
   log_full = whole.log_full;
+  space = whole.space;
   device = whole.device;
   is_end = tt;
   sound = whole.sound;

@@ -1,6 +1,7 @@
 pub mod Fullness
 pub mod Pasts
 pub mod Joins
+pub mod Spaces
 pub mod Flushes
 pub mod Asking
 pub mod Plays

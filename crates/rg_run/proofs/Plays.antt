@@ -41,8 +41,11 @@ use Rattle.rg_run.specs.Flush.{AreFlushesSince, IsFlushThen, calls_of_last, copy
 use Rattle.rg_run.specs.Full.{IsFullFrom, IsFullOnlyFrom, smaller_pages}
 use Rattle.rg_run.specs.LogFull.{IsLogFullFrom, IsLogFullOnlyFrom}
 use Rattle.rg_run.specs.Outside.{IsDeviceIf, IsDeviceOnlyIf, WritesOwn}
-use Rattle.rg_run.specs.Played.{AllowsCopy, EntryOf, Goes, IsFlushed, IsOpened, IsOpenedEntry, IsStartEvent, IsStepEvent, StaysSince, TraceOf, first_of}
+use Rattle.rg_run.specs.Played.{AllowsCopy, EntryOf, Goes, IsFlushed, IsOpened, IsOpenedEntry, IsStartEvent, IsStepEvent, ShowsLoading, StaysSince, TraceOf, first_of}
+use Rattle.rg_course.specs.Loading.{Loading, loading_after, loading_in}
+use Rattle.rg_run.specs.Space.{AreForSpace, IsForSpace}
 use Rattle.rg_run.proofs.Fullness.{full_one, smaller_least}
+use Rattle.rg_run.proofs.Spaces.{fills_idle, flush_none, layout_none, shown_start, shown_step, shown_still, space_on, space_opened, space_said, space_start, space_step}
 use Rattle.rg_run.proofs.Joins.{own_left, own_part, own_right}
 use Rattle.rg_run.proofs.Asking.{answered_all, answered_once, same_unasked, unasked}
 use Rattle.rg_run.proofs.Flushes.{calls_push, copy_push, flush_then, flushed_keeps, flushes_on, flushes_push, layout_keeps, layout_tells, opened_alone, start_keeps, start_tells, step_copy, step_tells, told_all}
@@ -274,6 +277,8 @@ record Moves {V O : Type 0} (look : V → VolumeSeen) (old new : DeskState V O) 
   pub copy : new.copy ≡ copy_after old.copy entry.event
   pub own : AllowsCopy (old.trace ++ entry ∷ []) new.copy
   pub both : is_some new.stage ≡ true → (copy : ℕ) → IsCopy copy → AllowsCopy (old.trace ++ entry ∷ []) copy
+  pub space : IsForSpace (look old.volume).capacities (loading_in None old.trace) entry.event
+  pub loading : ShowsLoading new.stage new.copy (old.trace ++ entry ∷ [])
 
 module _ {V O : Type 0} {answers : O → Option (List Answer)} (look : V → VolumeSeen) (first old new : DeskState V O) (lines : List Line) (goes : Goes look answers first lines old) where
   stays_on : (entry : Entry) → new.trace ≡ old.trace ++ entry ∷ [] → Moves look old new entry → StaysSince look first new
@@ -313,6 +318,10 @@ module _ {V O : Type 0} {answers : O → Option (List Answer)} (look : V → Vol
     log_full =
         subst (λ (n : ℕ). IsLogFullOnlyFrom (limit_of n) 0 new.trace) (sym moves.log_pages)
         (subst (IsLogFullOnlyFrom (limit_of old.ground.log.pages) 0) (sym made) (log_push (limit_of old.ground.log.pages) 0 old.trace entry goes.log_full log));
+    space =
+        subst (AreForSpace (look new.volume).capacities None) (sym made)
+        (space_on (look old.volume).capacities (look new.volume).capacities old.trace entry moves.capacities goes.space moves.space);
+    loading = subst (ShowsLoading new.stage new.copy) (sym made) moves.loading;
     device =
         subst (IsDeviceOnlyIf (Rose (look first.volume).faults (look new.volume).faults)) (sym made)
         (device_push (Rose (look first.volume).faults (look new.volume).faults) old.trace entry
@@ -340,8 +349,9 @@ module _ {V O : Type 0} {answers : O → Option (List Answer)} (look : V → Vol
   allows_more entry copy allows call writes = own_left old.trace (entry ∷ []) call (allows call writes)
 
   moves_of : (entry : Entry) → Stays look old new → ((k : ℕ) → copy_after k entry.event ≡ k)
-      → (is_some new.stage ≡ true → (copy : ℕ) → IsCopy copy → AllowsCopy (old.trace ++ entry ∷ []) copy) → Moves look old new entry
-  moves_of entry stays keeps both = record {
+      → (is_some new.stage ≡ true → (copy : ℕ) → IsCopy copy → AllowsCopy (old.trace ++ entry ∷ []) copy)
+      → IsForSpace (look old.volume).capacities (loading_in None old.trace) entry.event → ShowsLoading new.stage new.copy (old.trace ++ entry ∷ []) → Moves look old new entry
+  moves_of entry stays keeps both space loading = record {
     older = stays.older;
     log_pages = stays.log_pages;
     opened = stays.opened;
@@ -354,7 +364,13 @@ module _ {V O : Type 0} {answers : O → Option (List Answer)} (look : V → Vol
     copy = stays.copy ∙ sym (keeps old.copy);
     own = allows_more entry new.copy (subst (AllowsCopy old.trace) (sym stays.copy) goes.own);
     both = both;
+    space = space;
+    loading = loading;
   }
+
+  -- where the entry tells nothing of the new copy, and the stage and the copy are as they were
+  loading_still : (entry : Entry) → new.stage ≡ old.stage → new.copy ≡ old.copy → ((now : Option Loading) → loading_after now entry.event ≡ now) → ShowsLoading new.stage new.copy (old.trace ++ entry ∷ [])
+  loading_still entry stage copy tells = shown_still old.stage new.stage old.copy new.copy old.trace entry stage copy (tells (loading_in None old.trace)) goes.loading
 
   -- where the utility's stage is as it was
   both_still : (entry : Entry) → new.stage ≡ old.stage → is_some new.stage ≡ true → (copy : ℕ) → IsCopy copy → AllowsCopy (old.trace ++ entry ∷ []) copy
@@ -369,7 +385,7 @@ module _ {V O : Type 0} {answers : O → Option (List Answer)} (look : V → Vol
       on (Said session stmt) entry said.made (said.reply, refl, said.is) (full_least (allowed_by 0 old.trace) entry.event (full_said session stmt said.reply (allowed_by 0 old.trace) old.ground.capacity said.full)) (log_said session stmt said.reply (logged_by 0 old.trace) old.ground.log.pages said.log_full)
       (device_said (Rose (look first.volume).faults (look new.volume).faults) session stmt said.reply (λ is. rises (said.device is)))
       (λ down. by_old old.down refl (sym said.down ∙ down)) (told_all (look new.volume).told (λ t. Unit {0}) (λ t. tt)) said.counted (same_unasked answers old.operator new.operator said.utility.operator)
-      (moves_of entry said.stays (λ k. refl) (both_still entry said.utility.stage))
+      (moves_of entry said.stays (λ k. refl) (both_still entry said.utility.stage) (space_said (look old.volume).capacities stmt said.reply (loading_in None old.trace)) (loading_still entry said.utility.stage said.stays.copy (λ now. refl)))
     where
       by_old : (b : Bool) → old.down ≡ b → (b || is_device said.reply) ≡ true → Rose (look first.volume).faults (look new.volume).faults
       by_old true e down = risen said.stays.calls.later (goes.down e)
@@ -381,7 +397,8 @@ module _ {V O : Type 0} {answers : O → Option (List Answer)} (look : V → Vol
       on Show entry shown.made (old.copy, shown.event, refl, shown.is) (full_layout old.copy shown.event least (allowed_by 0 old.trace) shown.is) (log_layout old.copy shown.event (limit_of old.ground.log.pages) (logged_by 0 old.trace) shown.is)
       (device_layout (Rose (look first.volume).faults (look new.volume).faults) old.copy shown.event shown.is) (λ down. risen shown.stays.calls.later (goes.down (sym shown.down ∙ down)))
       (told_all (look new.volume).told (λ t. IsFlushThen (copy_of_last 0 old.trace) t.start (calls_of_last 0 old.trace) shown.calls t shown.event) (λ t. layout_tells old.copy shown.event shown.is (copy_of_last 0 old.trace) t.start (calls_of_last 0 old.trace) shown.calls t))
-      shown.counted (same_unasked answers old.operator new.operator shown.utility.operator) (moves_of entry shown.stays (layout_keeps old.copy shown.event shown.is) (both_still entry shown.utility.stage))
+      shown.counted (same_unasked answers old.operator new.operator shown.utility.operator) (moves_of entry shown.stays (layout_keeps old.copy shown.event shown.is) (both_still entry shown.utility.stage)
+      ((layout_none old.copy shown.event shown.is).space (look old.volume).capacities (loading_in None old.trace)) (loading_still entry shown.utility.stage shown.stays.copy (layout_none old.copy shown.event shown.is).same))
 
   pub goes_flushed : MadeFlush look old new → Goes look answers first (lines ++ Flush ∷ []) new
   goes_flushed made =
@@ -392,7 +409,8 @@ module _ {V O : Type 0} {answers : O → Option (List Answer)} (look : V → Vol
       (λ down. risen made.stays.calls.later (goes.down (sym made.down ∙ down)))
       (subst (λ (k : ℕ). IfTold (look new.volume).told (λ t. IsFlushThen k t.start (calls_of_last 0 old.trace) made.calls t made.event)) (sym goes.copy_is)
       (flush_then (WritesEither (set_of old.copy)) old.down old.copy old.contents old.marks new.marks (look old.volume) (look new.volume) (calls_of_last 0 old.trace) made.calls made.event made.stays.calls.only goes.counted made.counted made.is))
-      made.counted (same_unasked answers old.operator new.operator made.utility.operator) (moves_of entry made.stays (flushed_keeps made.event is) (both_still entry made.utility.stage))
+      made.counted (same_unasked answers old.operator new.operator made.utility.operator) (moves_of entry made.stays (flushed_keeps made.event is) (both_still entry made.utility.stage)
+      ((flush_none made.event is).space (look old.volume).capacities (loading_in None old.trace)) (loading_still entry made.utility.stage made.stays.copy (flush_none made.event is).same))
 
   -- where a utility runs, it ran before, or it started
   started_runs : (down : Bool) (stage next : Option Stage) (options : Options) (copy pages : ℕ) (log : ListedLog) (event : Event) → IsStart down stage options copy pages log event next → is_some next ≡ true → (is_some stage ≡ true) ⊎ (is_started event ≡ true)
@@ -421,7 +439,9 @@ module _ {V O : Type 0} {answers : O → Option (List Answer)} (look : V → Vol
       (told_all (look new.volume).told (λ t. IsFlushThen (copy_of_last 0 old.trace) t.start (calls_of_last 0 old.trace) made.calls t made.event) (λ t. start_tells options made.event is (copy_of_last 0 old.trace) t.start (calls_of_last 0 old.trace) made.calls t))
       made.counted (same_unasked answers old.operator new.operator made.operator)
       (moves_of entry made.stays (start_keeps options made.event is)
-      (λ runs copy which. by_start copy which (started_runs old.down old.stage new.stage options old.copy (length old.contents) old.ground.log made.event made.is runs)))
+      (λ runs copy which. by_start copy which (started_runs old.down old.stage new.stage options old.copy (length old.contents) old.ground.log made.event made.is runs))
+      (space_start options made.event is (look old.volume).capacities (loading_in None old.trace))
+      (shown_start old.down old.stage new.stage options old.copy new.copy (length old.contents) old.ground.log old.trace entry made.is made.stays.copy goes.loading))
     where
       by_start : (copy : ℕ) → IsCopy copy → (is_some old.stage ≡ true) ⊎ (is_started made.event ≡ true) → AllowsCopy (old.trace ++ utility_entry made.event None made.calls ∷ []) copy
       by_start copy which (inl ran) = allows_more (utility_entry made.event None made.calls) copy (goes.both ran copy which)
@@ -497,6 +517,8 @@ module _ {V O : Type 0} {answers : O → Option (List Answer)} (look : V → Vol
         copy = made.copy ∙ sym (step_copy stepped.answer stepped.event step_is old.copy);
         own = allows_more entry new.copy (subst (AllowsCopy old.trace) (sym made.copy) (own_copy stepped.answer stepped.event step_is stepped.only made.to));
         both = λ runs copy which. allows_more entry copy (goes.both (made.runs runs) copy which);
+        space = space_step (look old.volume).capacities old.copy old.trace old.stage stepped.event goes.loading stepped.loads.space (fills_idle old.down old.stage old.changes old.covered stepped.answer stepped.event stepped.next);
+        loading = shown_step old.stage new.stage old.copy new.copy old.trace entry made.runs goes.loading stepped.loads.shows;
       }
 
 -- the entry of an opening answers no statement
@@ -517,6 +539,8 @@ goes_opened {V} {O} look answers desk opened copy counted room idle = record {
   begins = refl;
   full = subst (IsFullOnlyFrom (3221 * smaller_pages (look desk.volume).capacities) 0) (sym opened.trace) (full_opened opened.entry opened.is (3221 * smaller_pages (look desk.volume).capacities) 0, tt);
   log_full = subst (IsLogFullOnlyFrom (limit_of desk.ground.log.pages) 0) (sym opened.trace) (log_opened opened.entry opened.is (limit_of desk.ground.log.pages) 0, tt);
+  space = subst (AreForSpace (look desk.volume).capacities None) (sym opened.trace) (space_opened (look desk.volume).capacities opened.entry opened.is);
+  loading = subst (λ (o : Option Stage). ShowsLoading o desk.copy desk.trace) (sym idle) tt;
   device = subst (IsDeviceOnlyIf (Rose (look desk.volume).faults (look desk.volume).faults)) (sym opened.trace) (device_opened opened.entry opened.is (Rose (look desk.volume).faults (look desk.volume).faults), tt);
   down = λ down. absurd (cc (down, opened.up));
   flushes =
@@ -554,6 +578,8 @@ goes_dropped {V} {O} {answers} look first desk new lines same goes = subst (Goes
   begins = goes.begins;
   full = goes.full;
   log_full = goes.log_full;
+  space = goes.space;
+  loading = goes.loading;
   device = goes.device;
   down = goes.down;
   flushes = goes.flushes;

@@ -24,11 +24,12 @@ use Rattle.rg_stmt.specs.declared.event.Entry.{Entry}
 use Rattle.rg_stmt.specs.declared.line.Line.{Line}
 use Rattle.rg_run.specs.Full.{IsFullOnlyFrom, smaller_pages}
 use Rattle.rg_run.specs.LogFull.{IsLogFullOnlyFrom}
-use Rattle.rg_run.specs.Outside.{IfBoth, IsDeviceOnlyIf, IsEnd, MakesOnly, WritesOwn, end_of, log_at}
+use Rattle.rg_run.specs.Space.{AreForSpace}
+use Rattle.rg_run.specs.Outside.{IfBoth, IsEnd, MakesOnly, WritesOwn, end_of, log_at}
 use Rattle.rg_run.specs.Flush.{AreFlushesSince}
 use Rattle.rg_run.specs.Opening.{AreOpeningsSince}
 use Rattle.rg_run.specs.Parts.{Going, IsRun, StaysSound}
-use Rattle.rg_run.specs.Table.{AreFlushes, AreOpenings, Begins, Ends, IsLegalRun, IsOpening, KeepsSound}
+use Rattle.rg_run.specs.Table.{Begins, Ends, KeepsSound}
 use Rattle.rg_desk.specs.Stored.{IsStored}
 use Rattle.rg_model.specs.State.{Table}
 use Rattle.rg_record.specs.declared.record.Record.{Record}
@@ -101,6 +102,7 @@ module _ {V : Type 0} (told : V → Option Told) (faults : V → ℕ) (capacitie
       flushes = opens old.told new.told;
       full = tt;
       log_full = tt;
+      space = tt;
       device = tt;
       is_end = end_is cause refused.because;
       sound = tt;
@@ -202,6 +204,7 @@ module _ {V : Type 0} (told : V → Option Told) (faults : V → ℕ) (capacitie
               run_seen.made.flushes;
           full = subst (λ (c : Capacities). IsFullOnlyFrom (3221 * smaller_pages c) 0 trace) kept run_seen.made.full;
           log_full = subst (λ (c : Capacities). IsLogFullOnlyFrom (limit_of (log_pages c)) 0 trace) kept run_seen.made.log_full;
+          space = subst (λ (c : Capacities). AreForSpace c None trace) kept run_seen.made.space;
           device = device_more (Rose (look desk.volume).faults new.faults) (Rose old.faults new.faults) trace wider run_seen.made.device;
           is_end = end_out old new ended.calls opens.log.records le read opens.now.records now_same look desk lines operator_left trace end had kept made run_seen (λ failed. wider (run_seen.failed failed)) stays;
           sound = by_trace trace;

@@ -6,6 +6,7 @@ pub mod Opening
 pub mod Outside
 pub mod Played
 pub mod Parts
+pub mod Space
 pub mod Table
 pub mod Whole
 pub mod Judged

@@ -5,7 +5,7 @@
 --    one from the table that it stored as the volume read at the opening of the part.
 -- 3. Where the volume is known and read tidy then, an opening finds what process death leaves of
 --    the part before. So the whole trace is legal from that table.
-use Rattle.std.specs.Prelude.{◌≡◌, ◌≤◌, ◌*◌, ◌⊎◌, ◌++◌, ℕ, Bool, true, false, List, [], ◌∷◌, Option}
+use Rattle.std.specs.Prelude.{◌≡◌, ◌≤◌, ◌*◌, ◌⊎◌, ◌++◌, ℕ, Bool, true, false, List, [], ◌∷◌, Option, None}
 use Rattle.std.specs.List.{AllByRecursion}
 use Rattle.rg_base.specs.declared.control.Answer.{Answer}
 use Rattle.rg_desk.specs.Chronicle.{IsRecorded}
@@ -33,6 +33,7 @@ use Rattle.rg_run.specs.Asked.{HasAnswered, answers_in}
 use Rattle.rg_run.specs.Flush.{AreFlushesSince}
 use Rattle.rg_run.specs.Full.{IsFullOnlyFrom, smaller_pages}
 use Rattle.rg_run.specs.LogFull.{IsLogFullOnlyFrom}
+use Rattle.rg_run.specs.Space.{AreForSpace}
 use Rattle.rg_run.specs.Opening.{AreOpeningsSince, IsFoundThen, IsOpeningThen}
 use Rattle.rg_run.specs.Outside.{IsDeviceOnlyIf, WritesOwn}
 use Rattle.rg_run.specs.Played.{Goes, IsOpened, IsOpenedEntry, TraceOf, first_of}
@@ -115,6 +116,7 @@ pub record Made {V O : Type 0} (look : V → VolumeSeen) (first : DeskState V O)
   pub recorded : IsRecorded trace count
   pub full : IsFullOnlyFrom (3221 * smaller_pages now.capacities) 0 trace
   pub log_full : IsLogFullOnlyFrom (limit_of (log_pages now.capacities)) 0 trace
+  pub space : AreForSpace now.capacities None trace
   pub device : IsDeviceOnlyIf (Rose (look first.volume).faults now.faults) trace
   pub calls : EachCall (look first.volume).told now.told (WritesOwn trace)
   pub later : (look first.volume).faults ≤ now.faults

@@ -1,5 +1,6 @@
 -- What the run of a deck leaves.
-use Rattle.std.specs.Prelude.{◌≡◌, ◌≤◌, ◌*◌, ℕ, true, false, List, [], ◌∷◌, ◌++◌, Option, Some, None, is_some}
+use Rattle.std.specs.Prelude.{◌≡◌, ◌≤◌, ◌*◌, ℕ, true, false, List, [], ◌∷◌, ◌++◌, Option, Some, None}
+use Rattle.std.specs.Prelude.{IfSome, is_some}
 use Rattle.std.specs.List.{AllZip}
 use Rattle.rg_base.specs.Session.{IsSession}
 use Rattle.rg_base.specs.declared.control.Answer.{Answer}
@@ -14,7 +15,10 @@ use Rattle.rg_stmt.specs.Entries.{opened_entry, said_entry}
 use Rattle.rg_desk.specs.Chronicle.{system_entry}
 use Rattle.rg_desk.specs.Desk.{DeskState, IsCopy, IsLayout, old_records}
 use Rattle.rg_desk.specs.Desk.{is_reply}
+use Rattle.rg_course.specs.Loading.{loading_in, loading_of}
 use Rattle.rg_desk.specs.Volume.{IsCount, VolumeSeen}
+use Rattle.rg_fold.specs.declared.item.Stage.{Stage}
+use Rattle.rg_stage.specs.NumbersOf.{numbers_of}
 use Rattle.rg_outside.specs.Faults.{Rose}
 use Rattle.rg_desk.specs.Flushed.{WritesEither}
 use Rattle.rg_newest.specs.Tidy.{set_of}
@@ -27,6 +31,7 @@ use Rattle.rg_run.specs.Asked.{HasAnswered, answers_in}
 use Rattle.rg_run.specs.Flush.{AreFlushesSince, calls_of_last, copy_of_last}
 use Rattle.rg_run.specs.Full.{IsFullOnlyFrom, smaller_pages}
 use Rattle.rg_run.specs.LogFull.{IsLogFullOnlyFrom}
+use Rattle.rg_run.specs.Space.{AreForSpace}
 use Rattle.rg_run.specs.Outside.{IsDeviceOnlyIf, WritesOwn}
 
 -- each line is played; the session of a statement is one that there is
@@ -123,6 +128,13 @@ pub record StaysSince {V O : Type 0} (look : V → VolumeSeen) (first desk : Des
 abbrev pub AllowsCopy : List Entry → (copy : ℕ) → Type 0
 AllowsCopy entries copy = (call : Call) → WritesEither (set_of copy) call → WritesOwn entries call
 
+-- the numbers of a utility that has not switched show how far the new copy is filled, as the
+-- entries tell
+abbrev pub ShowsLoading : Option Stage → (copy : ℕ) → List Entry → Type 0
+ShowsLoading stage copy entries =
+    IfSome stage (λ s.
+    s.switched ≡ false → loading_in None entries ≡ loading_of copy (numbers_of s))
+
 -- the lines so far since a desk was opened
 pub record Goes {V O : Type 0}
     (look : V → VolumeSeen) (answers : O → Option (List Answer)) (first : DeskState V O)
@@ -132,6 +144,8 @@ pub record Goes {V O : Type 0}
   pub full :
       IsFullOnlyFrom (3221 * smaller_pages (look desk.volume).capacities) 0 desk.trace
   pub log_full : IsLogFullOnlyFrom (limit_of desk.ground.log.pages) 0 desk.trace
+  pub space : AreForSpace (look desk.volume).capacities None desk.trace
+  pub loading : ShowsLoading desk.stage desk.copy desk.trace
   pub device :
       IsDeviceOnlyIf (Rose (look first.volume).faults (look desk.volume).faults) desk.trace
   pub down : desk.down ≡ true → Rose (look first.volume).faults (look desk.volume).faults

@@ -6,8 +6,10 @@
 // 3. Where there is no memory for an entry, nothing of its line is done, and the run ends.
 // 4. The operator is asked for the steps of a running utility alone.
 // 5. The calls of the volume are counted from the opening on.
-// 6. A trace that is to be judged is judged at the end, from the table that the first opening found.
-ghost use Rattle.std.specs.Prelude.{◌≡◌, ◌≤◌, ◌*◌, List, [], ◌∷◌, ◌++◌, None, IfOk, IfErr, OnErr, OnOk, length};
+// 6. A trace that is to be judged is judged at the end, from the table that the first opening
+//    found.
+ghost use Rattle.std.specs.Prelude.{◌≡◌, ◌≤◌, ◌*◌, List, [], ◌∷◌, ◌++◌, None, IfOk, IfErr, OnErr};
+ghost use Rattle.std.specs.Prelude.{OnOk, length};
 ghost use Rattle.std.specs.List.{AllByRecursion};
 ghost use Rattle.rg_stmt.specs.declared.line.Line.{Line};
 ghost use Rattle.rg_desk.specs.Desk.{DeskState};
@@ -22,13 +24,15 @@ ghost use Rattle.rg_phase.specs.Made.{Works};
 ghost use Rattle.rg_run.specs.Asked.{HasAnswered, answers_in};
 ghost use Rattle.rg_run.specs.Full.{IsFullOnlyFrom, smaller_pages};
 ghost use Rattle.rg_run.specs.LogFull.{IsLogFullOnlyFrom};
+ghost use Rattle.rg_run.specs.Space.{AreForSpace};
 ghost use Rattle.rg_run.specs.declared.played.RunEnd.{RunEnd};
 ghost use Rattle.rg_run.specs.Judged.{JudgesRun, Settles};
 ghost use Rattle.rg_run.specs.Whole.{Whole};
 ghost use Rattle.rg_run.specs.Outside.{IsDeviceOnlyIf, IsEnd, MakesOnly, WritesOwn, end_of};
 ghost use Rattle.rg_run.specs.Parts.{Going, IsRun, LeavesRun};
 ghost use Rattle.rg_run.specs.Played.{Goes, IsPlayed};
-ghost use Rattle.rg_run.specs.Table.{AreFlushes, AreOpenings, Ends, IsLegalRun, IsOpening, KeepsSound};
+ghost use Rattle.rg_run.specs.Table.{AreFlushes, AreOpenings, Ends, IsLegalRun, IsOpening};
+ghost use Rattle.rg_run.specs.Table.{KeepsSound};
 
 use crate::played::{Judged, Played, RunEnd};
 use rg_base::no_memory::NoMemory;
@@ -73,6 +77,7 @@ pub fn run<V: Volume, O: Operator>(
         result.trace.items }
     ensures log_full { IsLogFullOnlyFrom (limit_of (log_pages (V.capacities volume))) 0
         result.trace.items }
+    ensures space { AreForSpace (V.capacities volume) None result.trace.items }
     ensures device { IsDeviceOnlyIf (Rose (V.faults volume) (V.faults result.volume))
         result.trace.items }
     ensures end { IsEnd (seen_volume V.told V.faults V.capacities volume)

@@ -4,4 +4,4 @@ use Rattle.reorgdb.proofs.top.reorg_alone.Goals as goal
 pub returns-clause-completes : goal.returns-clause-completes
 returns-clause-completes g c =
     let call = c.answer-status.ensures in
-    completes _ _ _ _ _ _ _ _ _ call.concludes call.legal call.opening call.openings call.flushes call.sound call.full call.log_full call.device call.only call.bounded
+    completes _ _ _ _ _ _ _ _ _ call.concludes call.traced call.bounded

@@ -5,7 +5,8 @@ use Rattle.rg_model.specs.Turn.{turn_at}
 use Rattle.rg_stage.specs.NumbersOf.{numbers_of}
 use Rattle.rg_tending.specs.Tending.{is_booked, is_plain}
 use Rattle.rg_phase.specs.Step.{is_device_stop}
-use Rattle.rg_phase.proofs.Stepping.{drain_booked, drain_quiet, plain_at}
+use Rattle.rg_phase.specs.Working.{fills}
+use Rattle.rg_phase.proofs.Stepping.{drain_booked, drain_quiet, drain_unfilled, plain_at}
 use Rattle.rg_phase.proofs.next.step_event.Goals as goal
 
 pub returns-in-Log-clause-booked : goal.returns-in-Log-clause-booked
@@ -13,6 +14,9 @@ returns-in-Log-clause-booked c = ap is_booked c.log_event.ensures.event
 
 pub returns-in-Log-clause-device : goal.returns-in-Log-clause-device
 returns-in-Log-clause-device c = ap is_device_stop c.log_event.ensures.event
+
+pub returns-in-Log-clause-unfilled : goal.returns-in-Log-clause-unfilled
+returns-in-Log-clause-unfilled c = ap fills c.log_event.ensures.event
 
 pub returns-in-Log-clause-next : goal.returns-in-Log-clause-next
 returns-in-Log-clause-next c =
@@ -27,6 +31,11 @@ returns-in-Wait-clause-device c =
     ap is_device_stop c.wait_event.ensures.event
     ∙ drain_quiet c.args.stage.now.options c.in-Wait.asked c.args.stage.now.asked c.args.stage.now.failed c.args.holder c.args.answer.now.now c.args.answer.now.estimate
 
+pub returns-in-Wait-clause-unfilled : goal.returns-in-Wait-clause-unfilled
+returns-in-Wait-clause-unfilled c =
+    ap fills c.wait_event.ensures.event
+    ∙ drain_unfilled c.args.stage.now.options c.in-Wait.asked c.args.stage.now.asked c.args.stage.now.failed c.args.holder c.args.answer.now.now c.args.answer.now.estimate
+
 pub returns-in-Wait-clause-next : goal.returns-in-Wait-clause-next
 returns-in-Wait-clause-next c =
     subst (λ (s : Step). is_plain (turn_at s c.args.all c.args.holder c.args.answer.now (numbers_of c.args.stage.now) c.args.stage.now.drain c.wait_event.result) ≡ true) c.in-Wait.ensures
@@ -37,6 +46,9 @@ returns-in-Last-clause-booked c = ap is_booked c.last_event.ensures.event
 
 pub returns-in-Last-clause-device : goal.returns-in-Last-clause-device
 returns-in-Last-clause-device c = ap is_device_stop c.last_event.ensures.event
+
+pub returns-in-Last-clause-unfilled : goal.returns-in-Last-clause-unfilled
+returns-in-Last-clause-unfilled c = ap fills c.last_event.ensures.event
 
 pub returns-in-Last-clause-next : goal.returns-in-Last-clause-next
 returns-in-Last-clause-next c =

@@ -4,6 +4,7 @@ use Rattle.rg_desk.specs.Volume.{seen_volume}
 use Rattle.rg_model.specs.Turn.{turn_of}
 use Rattle.rg_stage.specs.NumbersOf.{numbers_of}
 use Rattle.rg_tending.specs.Tending.{is_plain}
+use Rattle.rg_phase.proofs.Loading.{space_at, space_unfilled}
 use Rattle.rg_phase.proofs.Making.{acts_booked, writes_none}
 use Rattle.rg_phase.proofs.Steps.{next_runs, runs_some}
 use Rattle.rg_phase.proofs.step.end.Goals as goal
@@ -19,4 +20,4 @@ returns-clause-acts g c =
     subst (λ (n : ℕ). is_plain (turn_of n old.covered c.args.answer (numbers_of s) s.drain event) ≡ true) c.changes.ensures
     (subst (λ (o : Option Session). is_plain (turn_of c.changes.result o c.args.answer (numbers_of s) s.drain event) ≡ true) c.holder.ensures c.next_event-event.ensures.next) in
     acts_booked look old c.args.answer old c.book.new.self event (runs_some old s c.requires.stage) (writes_none look old) (next_runs old s c.args.answer event c.requires.up c.requires.stage is.booked next) is.booked
-    (λ stops. absurd (cc (stops, is.device))) c.book.ensures
+    (λ stops. absurd (cc (stops, is.device))) (space_at old.stage s _ event c.requires.stage (space_unfilled _ s event is.unfilled)) c.book.ensures

@@ -77,6 +77,9 @@ returns-in-Ok-clause-full g c = (played g c).full
 pub returns-in-Ok-clause-log_full : goal.returns-in-Ok-clause-log_full
 returns-in-Ok-clause-log_full g c = (played g c).log_full
 
+pub returns-in-Ok-clause-space : goal.returns-in-Ok-clause-space
+returns-in-Ok-clause-space g c = (played g c).space
+
 pub returns-in-Ok-clause-device : goal.returns-in-Ok-clause-device
 returns-in-Ok-clause-device g c = (played g c).device
 
@@ -112,6 +115,9 @@ returns-in-Err-clause-full g c = (not_opened g c).full
 
 pub returns-in-Err-clause-log_full : goal.returns-in-Err-clause-log_full
 returns-in-Err-clause-log_full g c = (not_opened g c).log_full
+
+pub returns-in-Err-clause-space : goal.returns-in-Err-clause-space
+returns-in-Err-clause-space g c = (not_opened g c).space
 
 pub returns-in-Err-clause-device : goal.returns-in-Err-clause-device
 returns-in-Err-clause-device g c = (not_opened g c).device

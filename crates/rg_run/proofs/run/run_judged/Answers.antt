@@ -1,19 +1,18 @@
-use Rattle.std.proofs.Common.{◌≡◌, List, [], IfOk, Result, sym, ◌∙◌, ap, subst}
+use Rattle.std.proofs.Common.{[], sym, ◌∙◌, ap, subst}
 use Rattle.std.specs.declared.vec.Vec.{Vec}
 use Rattle.std.specs.declared.alloc.Global.{Global}
 use Rattle.rg_desk.specs.Desk.{DeskState, old_records}
-use Rattle.rg_desk.specs.Tabled.{EndsWithTable}
 use Rattle.rg_desk.specs.Volume.{seen_volume}
 use Rattle.rg_outside.specs.Counts.{CountedCalls, counted}
 use Rattle.rg_restart.specs.Opening.{IsRefused}
 use Rattle.rg_stmt.specs.declared.event.Entry.{Entry}
-use Rattle.rg_run.specs.Judged.{JudgesRun, Settles}
+use Rattle.rg_run.specs.Judged.{JudgesRun}
 use Rattle.rg_run.specs.Parts.{Going, IsRun}
 use Rattle.rg_run.specs.Whole.{Whole}
 use Rattle.rg_run.specs.declared.played.RunEnd.{RunEnd}
 use Rattle.rg_run.proofs.Judging.{opened_table, verdict_settled, whole_settled}
 use Rattle.rg_run.proofs.Opening.{opened_first}
-use Rattle.rg_run.proofs.Wholly.{begins_out, begun_counted, begun_tidy, going_first, none_recorded, whole_refused, whole_run}
+use Rattle.rg_run.proofs.Wholly.{begins_out, going_first, whole_refused, whole_run}
 use Rattle.rg_run.proofs.run.run_judged.Given as given
 use Rattle.rg_run.proofs.run.run_judged.Goals as goal
 

@@ -1,4 +1,3 @@
-use Rattle.std.proofs.Common.{inr, refl, ap}
 use Rattle.rg_run.proofs.Judging.{settles_by}
 use Rattle.rg_run.proofs.run.settle.Goals as goal
 

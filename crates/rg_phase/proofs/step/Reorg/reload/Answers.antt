@@ -1,4 +1,9 @@
+use Rattle.std.proofs.Common.{◌≡◌, ℕ, subst}
 use Rattle.rg_desk.specs.Volume.{seen_volume}
+use Rattle.rg_image.specs.Rules.{copy_capacity}
+use Rattle.rg_switch.specs.Switched.{other_of}
+use Rattle.rg_phase.specs.Step.{HasSpace}
+use Rattle.rg_phase.proofs.Loading.{space_at}
 use Rattle.rg_phase.proofs.Making.{acts_booked, writes_none}
 use Rattle.rg_phase.proofs.Steps.{next_runs, runs_some}
 use Rattle.rg_phase.proofs.Stops.{reload_next}
@@ -9,7 +14,8 @@ book-requires-clause-next g c =
     let old = c.args.desk.now in
     let s = c.args.stage.now in
     let event = c.reload_event.result in
-    next_runs old s c.args.answer event c.requires.up c.requires.stage c.reload_event.ensures.booked (reload_next s c.args.answer c.requires.step event c.reload_event.ensures old.changes old.covered)
+    let is = c.reload_event.ensures.event in
+    next_runs old s c.args.answer event c.requires.up c.requires.stage is.booked (reload_next s c.args.answer c.requires.step event is old.changes old.covered)
 
 pub returns-clause-acts : goal.returns-clause-acts
 returns-clause-acts g c =
@@ -17,5 +23,8 @@ returns-clause-acts g c =
     let old = c.args.desk.now in
     let s = c.args.stage.now in
     let event = c.reload_event.result in
-    let next = next_runs old s c.args.answer event c.requires.up c.requires.stage c.reload_event.ensures.booked (reload_next s c.args.answer c.requires.step event c.reload_event.ensures old.changes old.covered) in
-    acts_booked look old c.args.answer old c.book.new.self event (runs_some old s c.requires.stage) (writes_none look old) next c.reload_event.ensures.booked (λ stops. absurd (cc (stops, c.reload_event.ensures.device))) c.book.ensures
+    let is = c.reload_event.ensures.event in
+    let next = next_runs old s c.args.answer event c.requires.up c.requires.stage is.booked (reload_next s c.args.answer c.requires.step event is old.changes old.covered) in
+    let capacity : c.other-other.result.1 ≡ copy_capacity (g.V.Volume.capacities old.volume) (other_of old.copy) = c.other-other.ensures.capacity in
+    acts_booked look old c.args.answer old c.book.new.self event (runs_some old s c.requires.stage) (writes_none look old) next is.booked (λ stops. absurd (cc (stops, is.device)))
+    (space_at old.stage s _ event c.requires.stage (subst (λ (n : ℕ). HasSpace n s event) capacity c.reload_event.ensures.space)) c.book.ensures

@@ -6,7 +6,7 @@ use Rattle.rg_outside.specs.Told.{AddsAnswer, HandsOver}
 use Rattle.rg_stmt.specs.declared.event.Event.TheVariants as events
 use Rattle.rg_phase.specs.Step.{NextMade, StepCalls}
 use Rattle.rg_phase.specs.Made.{Works}
-use Rattle.rg_phase.proofs.Making.{makes_refused}
+use Rattle.rg_phase.proofs.Making.{loads_asked, loads_refused, makes_refused}
 use Rattle.rg_phase.proofs.Receiving.{works_heard, works_on}
 use Rattle.rg_phase.proofs.Steps.{next_down, next_idle, same_asked, same_room}
 use Rattle.rg_phase.proofs.step.Reorg.step.Goals as goal
@@ -26,6 +26,7 @@ returns-then-down-clause-stepped g c =
       same = same_room old mid room c.requires.kept;
       operator = ap (λ d. d.operator) room;
       made = makes_refused look mid c.book.new.self events.StepDown refl tt refl c.book.ensures;
+      loads = loads_refused look old mid c.book.new.self events.StepDown (λ l. refl) (λ n s. tt) (ap (λ d. d.copy) room) (ap (λ d. d.stage) room) c.book.ensures.follows c.book.ensures.stays.copy;
       only = c.book.ensures.volume ∙ ap (λ d. d.volume) room;
     }
 
@@ -46,6 +47,7 @@ returns-in-None-clause-stepped g c =
       same = same_room old mid room c.requires.kept;
       operator = ap (λ d. d.operator) room;
       made = makes_refused look mid c.book-in-None.new.self events.Idle refl tt refl c.book-in-None.ensures;
+      loads = loads_refused look old mid c.book-in-None.new.self events.Idle (λ l. refl) (λ n s. tt) (ap (λ d. d.copy) room) (ap (λ d. d.stage) room) c.book-in-None.ensures.follows c.book-in-None.ensures.stays.copy;
       only = c.book-in-None.ensures.volume ∙ ap (λ d. d.volume) room;
     }
 
@@ -73,6 +75,7 @@ returns-clause-stepped g c =
             c.ask_operator-answer.ensures.handed,
       );
       made = acts.made;
+      loads = loads_asked look old asked c.act.new.desk answer acts.event same acts.loads;
       only = subst (λ d. StepCalls look d (Some answer) c.act.new.desk) same acts.only;
     }
 

@@ -5,10 +5,12 @@ use Rattle.rg_desk.specs.Volume.{seen_volume}
 use Rattle.rg_desk.proofs.Committing.{by_result}
 use Rattle.rg_stmt.specs.declared.event.Event.TheVariants as events
 use Rattle.rg_switch.specs.Switched.{other_of}
+use Rattle.rg_image.specs.Rules.{copy_capacity}
 use Rattle.rg_phase.specs.Step.{Acts}
-use Rattle.rg_phase.proofs.Making.{acts_fallen, acts_switched}
-use Rattle.rg_phase.proofs.Steps.{made_runs, runs_some}
-use Rattle.rg_phase.proofs.Stops.{switch_next}
+use Rattle.rg_phase.proofs.Loading.{space_at}
+use Rattle.rg_phase.proofs.Making.{acts_booked, acts_fallen, acts_switched, writes_none}
+use Rattle.rg_phase.proofs.Steps.{made_runs, next_runs, runs_some}
+use Rattle.rg_phase.proofs.Stops.{stop_next, switch_next}
 use Rattle.rg_phase.proofs.Switchable.{can_commit}
 use Rattle.rg_phase.proofs.step.Reorg.switch.Goals as goal
 
@@ -44,3 +46,19 @@ returns-in-Ok-clause-works g c =
     let new = c.commit_switch.new.self in
     by_result c.commit_switch.result (MadeSwitch look mid c.args.answer c.in-Ok.sides new) (MadeFall look mid c.args.answer new) (new.shadow ≡ None) c.commit_switch.ensures.ok c.commit_switch.ensures.err
     (λ made. made.stays.shadow) (λ made. made.stays.shadow)
+
+pub returns-in-Err-clause-acts : goal.returns-in-Err-clause-acts
+returns-in-Err-clause-acts g c =
+    let look = seen_volume g.V.Volume.told g.V.Volume.faults g.V.Volume.capacities in
+    let mid = c.sides.new.desk in
+    let new = c.book.new.self in
+    let s = c.args.stage.now in
+    let answer = c.args.answer in
+    let same = c.sides.ensures.same in
+    let up = ap (λ d. d.down) same ∙ c.requires.up in
+    let stage = ap (λ d. d.stage) same ∙ c.requires.stage in
+    let event = events.Stop reasons.NoMemory in
+    subst (λ d. Acts look d answer new) same
+    (acts_booked look mid answer mid new event (runs_some mid s stage) (writes_none look mid)
+    (next_runs mid s answer event up stage refl (stop_next s mid.changes mid.covered answer)) refl (λ is. absurd (cc (is)))
+    (space_at mid.stage s (copy_capacity (g.V.Volume.capacities mid.volume) (other_of mid.copy)) event stage tt) c.book.ensures)

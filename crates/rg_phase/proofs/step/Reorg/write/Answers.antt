@@ -1,0 +1,42 @@
+use Rattle.std.proofs.Common.{[], Some, Err, refl, ap, ◌∙◌, subst}
+use Rattle.rg_base.specs.declared.verdict.StopReason.TheVariants as reasons
+use Rattle.rg_desk.specs.Desk.{MadeStep}
+use Rattle.rg_desk.specs.Volume.{seen_volume}
+use Rattle.rg_stmt.specs.declared.event.Event.{Event}
+use Rattle.rg_stmt.specs.declared.event.Event.TheVariants as events
+use Rattle.rg_image.specs.Rules.{copy_capacity}
+use Rattle.rg_switch.specs.Switched.{other_of}
+use Rattle.rg_phase.proofs.Loading.{space_at}
+use Rattle.rg_phase.proofs.Making.{acts_booked}
+use Rattle.rg_phase.proofs.Steps.{next_runs, runs_some}
+use Rattle.rg_phase.proofs.Stops.{device_next, stop_next, written_next}
+use Rattle.rg_phase.proofs.step.Reorg.write.Goals.{in-Ok, in-Err-Device, in-Err-NoMemory}
+use Rattle.rg_phase.proofs.step.Reorg.write.Goals as goal
+
+pub returns-clause-acts : goal.returns-clause-acts
+returns-clause-acts g c =
+    let look = seen_volume g.V.Volume.told g.V.Volume.faults g.V.Volume.capacities in
+    let old = c.args.desk.now in
+    let mid = c.put.new.desk in
+    let new = c.book.new.self in
+    let s = c.args.stage.now in
+    let answer = c.args.answer in
+    let up = c.requires.up in
+    let stage = c.requires.stage in
+    elim c.match-put.branch [
+      | in-Ok w ↦
+          let event = events.Written w.in-Ok.pages in
+          acts_booked look old answer mid new event (runs_some old s stage) c.put.ensures.writes
+          (next_runs old s answer event up stage refl (written_next s answer c.args.granted c.requires.step old.changes w.in-Ok.pages old.covered)) refl (λ is. absurd (cc (is)))
+          (space_at old.stage s (copy_capacity (g.V.Volume.capacities old.volume) (other_of old.copy)) event stage tt) (subst (λ (e : Event). MadeStep look mid (Some answer) e [] new) w.event-is c.book.ensures)
+      | in-Err-Device w ↦
+          let event = events.Stop reasons.Device in
+          acts_booked look old answer mid new event (runs_some old s stage) c.put.ensures.writes
+          (next_runs old s answer event up stage refl (device_next s answer c.args.granted c.requires.step old.changes old.covered)) refl (λ is. c.put.ensures.device (w.in-Err-Device.is ∙ ap Err w.in-Err-Device.field-0-is))
+          (space_at old.stage s (copy_capacity (g.V.Volume.capacities old.volume) (other_of old.copy)) event stage tt) (subst (λ (e : Event). MadeStep look mid (Some answer) e [] new) w.event-is c.book.ensures)
+      | in-Err-NoMemory w ↦
+          let event = events.Stop reasons.NoMemory in
+          acts_booked look old answer mid new event (runs_some old s stage) c.put.ensures.writes
+          (next_runs old s answer event up stage refl (stop_next s old.changes old.covered answer)) refl (λ is. absurd (cc (is)))
+          (space_at old.stage s (copy_capacity (g.V.Volume.capacities old.volume) (other_of old.copy)) event stage tt) (subst (λ (e : Event). MadeStep look mid (Some answer) e [] new) w.event-is c.book.ensures)
+    ]
