@@ -32,7 +32,7 @@ use Rattle.rg_words.specs.Spelling.{Spells, command_word}
 use Rattle.rg_words.specs.declared.words.Words.{Words as Asked}
 use Rattle.rg_words.specs.declared.words.Words.TheVariants as asks
 use Rattle.rg_words.proofs.Once.{one_command}
-use Rattle.reorgdb.specs.Answer.{Seen, AsksDeck, IsPlay, IsJudge, IsGen, IsShow, IsCommand, ReadsDeck, Comes, Concludes, DealsWithBytes, DealsWithLines, EndsAtDeath, Finds, MakesTo, PlaysTo, ShowsTo, TakesDeck, TakesNothing, output_of}
+use Rattle.reorgdb.specs.Answer.{Seen, AsksDeck, IsPlay, IsJudge, IsGen, IsShow, IsCommand, ReadsDeck, Comes, Concludes, DealsWithBytes, DealsWithLines, EndsAtDeath, Finds, MakesTo, PlaysTo, ShowsTo, TakesDeck, NeedsNoDeck, output_of}
 use Rattle.reorgdb.specs.Causes.{IsSoundVolume, Plays, Judges, Sums, Shows, RefusesDeck, RefusesVolume, IsDue, IsDueDeck, GivesDue}
 use Rattle.reorgdb.specs.Telling.{TellsRun}
 use Rattle.reorgdb.specs.Traced.{Traced}
@@ -102,7 +102,7 @@ deck_or_show words deck show = by_told deck.0 deck.1
     by_told Verdict asked = judge_or_show words asked show
     by_told (Summary a b) asked = asked
 
-deck_or_nothing : (words : List (List ℕ)) → TakesDeck words → TakesNothing words → ⊥
+deck_or_nothing : (words : List (List ℕ)) → TakesDeck words → NeedsNoDeck words → ⊥
 deck_or_nothing words deck (inl made) = deck_or_gen words made.0 made.1 deck made.2
 deck_or_nothing words deck (inr show) = deck_or_show words deck show
 
@@ -482,7 +482,7 @@ module _ (words : List (List ℕ)) (source source_after sink sink_after : Seen) 
   Unread outcome = Contains (0 ∷ 4 ∷ 5 ∷ 6 ∷ 8 ∷ []) (status_of outcome)
 
   record TakesNone (outcome : Outcome) : Type 0 where
-    asked : TakesNothing words
+    asked : NeedsNoDeck words
     unread : source_after ≡ source
     status_is : Unread outcome
 
@@ -524,7 +524,7 @@ module _ (words : List (List ℕ)) (source source_after sink sink_after : Seen) 
       refused (inr (inr none)) = absurd (other (inr none.asked))
 
   -- what words that take nothing come to
-  only_none : TakesNothing words → (outcome : Outcome) (text : List ℕ) → Comes outcome words source source_after volume volume_after trace text → TakesNone outcome
+  only_none : NeedsNoDeck words → (outcome : Outcome) (text : List ℕ) → Comes outcome words source source_after volume volume_after trace text → TakesNone outcome
   only_none nothing outcome text comes = by_case outcome text comes (asked_for outcome text comes)
     where
       by_case : (outcome : Outcome) (text : List ℕ) → Comes outcome words source source_after volume volume_after trace text → (outcome ≡ Words) ⊎ (TakesDeck words ⊎ TakesNone outcome) → TakesNone outcome
@@ -533,10 +533,10 @@ module _ (words : List (List ℕ)) (source source_after sink sink_after : Seen) 
       by_case outcome text comes (inr (inl deck)) = absurd (deck_or_nothing words deck nothing)
       by_case outcome text comes (inr (inr none)) = none
 
-  left_unread : Concludes words source source_after sink sink_after volume volume_after status trace → TakesNothing words → source_after ≡ source
+  left_unread : Concludes words source source_after sink sink_after volume volume_after status trace → NeedsNoDeck words → source_after ≡ source
   left_unread a nothing = (only_none nothing a.outcome a.text a.comes).unread
 
-  none_status : Concludes words source source_after sink sink_after volume volume_after status trace → TakesNothing words → Contains (0 ∷ 4 ∷ 5 ∷ 6 ∷ 8 ∷ []) status
+  none_status : Concludes words source source_after sink sink_after volume volume_after status trace → NeedsNoDeck words → Contains (0 ∷ 4 ∷ 5 ∷ 6 ∷ 8 ∷ []) status
   none_status a nothing = elim a.delivered [
     | inl whole ↦ subst (Contains (0 ∷ 4 ∷ 5 ∷ 6 ∷ 8 ∷ [])) (sym whole.0) (only_none nothing a.outcome a.text a.comes).status_is
     | inr front ↦ elim front [ inl failed ↦ (1, omega arith, sym failed.0) | inr wanted ↦ (4, omega arith, sym wanted.0) ]

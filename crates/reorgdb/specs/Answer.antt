@@ -72,12 +72,12 @@ abbrev pub TakesDeck : List (List ℕ) → Type 0
 TakesDeck words = (told : Tells) × AsksDeck told words
 
 -- the words ask for one of the two that take nothing
-abbrev pub TakesNothing : List (List ℕ) → Type 0
-TakesNothing words = ((seed : ℕ) × (rows : ℕ) × IsGen seed rows words) ⊎ IsShow words
+abbrev pub NeedsNoDeck : List (List ℕ) → Type 0
+NeedsNoDeck words = ((seed : ℕ) × (rows : ℕ) × IsGen seed rows words) ⊎ IsShow words
 
 -- the words ask for one of these
 abbrev pub IsCommand : List (List ℕ) → Type 0
-IsCommand words = TakesDeck words ⊎ TakesNothing words
+IsCommand words = TakesDeck words ⊎ NeedsNoDeck words
 
 -- the bytes are no lines of the grammar
 abbrev pub IsNoDeck : List ℕ → Type 0

@@ -25,7 +25,7 @@ use Rattle.rg_stmt.specs.declared.line.Line.{Line}
 use Rattle.reorgdb.specs.Answer.{Seen, IsPlay, IsGen, IsShow, IsCommand, IsNoDeck, IsRefusedAt}
 use Rattle.reorgdb.specs.Answer.{ReadsDeck, ShowsLayout, TakesDeck, TellsUpToDeath}
 use Rattle.reorgdb.specs.Refusals.{status_of, deck_refusal}
-use Rattle.reorgdb.specs.Telling.{IsOfJudge, verdict_text}
+use Rattle.reorgdb.specs.Telling.{IsOfJudge, judge_text}
 use Rattle.reorgdb.specs.declared.outcome.Outcome.{Outcome}
 use Rattle.reorgdb.specs.declared.outcome.Outcome.TheVariants as outcomes
 use Rattle.reorgdb.specs.declared.telling.Tells.{Tells}
@@ -60,7 +60,7 @@ pub record Judges (source source_after sink sink_after : Seen)
   pub judged : IsOfJudge volume volume_after trace verdict
   pub shown :
       Appends sink.bytes sink_after.bytes
-      (print_text trace false (closes.Rows rows) ++ verdict_text verdict)
+      (print_text trace false (closes.Rows rows) ++ judge_text verdict)
 
 -- Status 0 of `gen`: the source was left as it was. The trace is that of the deck which is made of
 -- the seed and the number of rows, and the sink got the line that sums it up.

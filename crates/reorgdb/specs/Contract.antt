@@ -15,7 +15,7 @@ use Rattle.rg_run.specs.Full.{IsFullOnlyFrom, smaller_pages}
 use Rattle.rg_run.specs.LogFull.{IsLogFullOnlyFrom}
 use Rattle.rg_run.specs.Space.{AreForSpace}
 use Rattle.rg_stmt.specs.declared.event.Entry.{Entry}
-use Rattle.reorgdb.specs.Answer.{Seen, IsPlay, IsJudge, IsGen, IsShow, TakesNothing, IsCommand}
+use Rattle.reorgdb.specs.Answer.{Seen, IsPlay, IsJudge, IsGen, IsShow, NeedsNoDeck, IsCommand}
 use Rattle.reorgdb.specs.Answer.{Concludes}
 use Rattle.reorgdb.specs.Causes.{Plays, Judges, Sums, Shows, RefusesDeck, RefusesVolume, GivesDue}
 use Rattle.reorgdb.specs.Reading.{TakesAtMost, TakesTooMany}
@@ -81,8 +81,8 @@ pub record Completes (words : List (List ℕ)) (source source_after sink sink_af
   pub no_command : status ≡ 1 → IsCommand words → ⊥
   pub other_words : (IsCommand words → ⊥) → Contains (1 ∷ 4 ∷ 8 ∷ []) status
   -- `gen` and `layout` take nothing from the source, and have no other statuses.
-  pub unread : TakesNothing words → source_after ≡ source
-  pub statuses : TakesNothing words → Contains (0 ∷ 4 ∷ 5 ∷ 6 ∷ 8 ∷ []) status
+  pub unread : NeedsNoDeck words → source_after ≡ source
+  pub statuses : NeedsNoDeck words → Contains (0 ∷ 4 ∷ 5 ∷ 6 ∷ 8 ∷ []) status
   -- Status 2: the bytes were read to their end, and the output names the first line that is outside
   -- the grammar.
   pub deck : status ≡ 2 → RefusesDeck source source_after sink sink_after

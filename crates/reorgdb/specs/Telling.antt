@@ -16,14 +16,14 @@ use Rattle.reorgdb.specs.declared.telling.Tells.{Tells}
 use Rattle.reorgdb.specs.declared.telling.Tells.TheVariants.{Print, Verdict, Summary}
 
 -- the line of the judge
-abbrev pub verdict_text : Option ℕ → List ℕ
-verdict_text None = codes "JUDGE legal\n"
-verdict_text (Some entry) = codes "JUDGE entry " ++ decimal entry ++ codes "\n"
+abbrev pub judge_text : Option ℕ → List ℕ
+judge_text None = codes "JUDGE legal\n"
+judge_text (Some entry) = codes "JUDGE entry " ++ decimal entry ++ codes "\n"
 
 -- the text of a run that was played, by what the judge says of its trace
 abbrev pub run_text : Tells → List Entry → Close → Option ℕ → List ℕ
 run_text (Print full) trace close verdict = print_text trace full close
-run_text Verdict trace close verdict = print_text trace false close ++ verdict_text verdict
+run_text Verdict trace close verdict = print_text trace false close ++ judge_text verdict
 run_text (Summary seed rows) trace close verdict =
     summary_text seed rows trace (is_none verdict)
 

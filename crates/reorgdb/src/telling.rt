@@ -1,6 +1,6 @@
 // The text of a run. What it is made of is in specs/Telling.antt.
 ghost use Rattle.std.specs.Prelude.{◌≡◌, ◌++◌, IfOk, OnOk};
-ghost use Rattle.reorgdb.specs.Telling.{run_text, verdict_text};
+ghost use Rattle.reorgdb.specs.Telling.{run_text, judge_text};
 
 use rg_base::bytes::Bytes;
 use rg_base::no_memory::NoMemory;
@@ -54,7 +54,7 @@ fn judged_text(
 }
 
 fn push_verdict(out: &mut Vec<u8>, verdict: Option<usize>) -> Result<(), NoMemory>
-    ensures { OnOk result (out.new.items ≡ out.old.items ++ verdict_text verdict) }
+    ensures { OnOk result (out.new.items ≡ out.old.items ++ judge_text verdict) }
 {
     let written = match verdict {
         None => writeln!(out, "JUDGE legal"),

@@ -1,8 +1,9 @@
 -- What a new copy is of the table once it is caught up with all changes.
-use Rattle.std.proofs.Common.{◌≡◌, ℕ, suc, Bool, true, List, [], ◌∷◌, Option, length, take, refl, sym, ◌∙◌, ap}
+use Rattle.std.proofs.Common.{◌≡◌, ℕ, suc, Bool, true, List, [], ◌∷◌, Option, length, take, refl, sym, ◌∙◌, ap, arith}
 use Rattle.rg_base.specs.declared.options.Options.{Options}
 use Rattle.rg_base.specs.declared.place.Place.{Place}
 use Rattle.rg_base.specs.declared.row.Row.{Row}
+use Rattle.rg_claimed.specs.Claim.{claimed_all, nobody}
 use Rattle.rg_fold.specs.Fed.{Fed, Progress}
 use Rattle.rg_fold.specs.Fold.{changes, since_begin}
 use Rattle.rg_fold.specs.Last.{last_at}
@@ -50,6 +51,7 @@ still_packed options rows first s feed taken caught none =
       sources = λ place.
           caught.unmoved.rows place (ap (λ (k : ℕ). last_at place (take k (changes (since_begin feed)))) none) ∙ caught.loaded.sources place;
       pages = sym (slots_count s.pages) ∙ ap (λ (ps : List (List Slot)). length ps) slots ∙ slots_count first.pages ∙ caught.loaded.pages;
+      claims = omega (arith, caught.loaded.claims, ap (claimed_all nobody) slots);
     }
 
 -- the rows whose keys are quiet lie right

@@ -1,5 +1,5 @@
 -- A new copy is loaded, batches of changes are taken, indexes are made, and more is received.
-use Rattle.std.proofs.Common.{◌≡◌, ℕ, ◌+◌, ◌≤◌, zero, suc, List, [], ◌∷◌, ◌++◌, Option, Some, None, if◌then◌else◌, refl, sym, subst, ◌∙◌, ap, append_assoc, arith, drop, length, take}
+use Rattle.std.proofs.Common.{◌≡◌, ◌==◌, ℕ, ◌+◌, ◌≤◌, ◌*◌, ◌&&◌, ◌||◌, nat_le, zero, suc, Bool, List, [], ◌∷◌, ◌++◌, Option, Some, None, if◌then◌else◌, refl, sym, subst, ◌∙◌, ap, append_assoc, arith, drop, length, take}
 use Rattle.std.specs.List.{AllByRecursion}
 use Rattle.std.specs.List.Sorted.{IsPermutation}
 use Rattle.std.proofs.Math.Seq.{take-add}
@@ -10,9 +10,10 @@ use Rattle.rg_base.specs.declared.place.Place.{Place}
 use Rattle.rg_base.specs.declared.row.Row.{Row}
 use Rattle.rg_base.specs.declared.which.Which.{Which}
 use Rattle.rg_base.specs.declared.which.Which.TheVariants.{Key, Clus, Cat}
+use Rattle.rg_claimed.specs.Claim.{claimed_all, nobody}
 use Rattle.rg_fold.specs.Fold.{changes, copied_rows, fold_from, fold_to, since, since_begin, step_at, up_to}
 use Rattle.rg_fold.specs.Last.{last_at, later_of}
-use Rattle.rg_fold.specs.Lawful.{Lawful, kept}
+use Rattle.rg_fold.specs.Lawful.{Lawful, kept, passes_over}
 use Rattle.rg_fold.specs.declared.item.Item.{Item}
 use Rattle.rg_fold.specs.declared.item.Item.TheVariants.{Begin, PageCopy, Booked}
 use Rattle.rg_fold.specs.declared.item.Item.TheVariants as items
@@ -25,13 +26,19 @@ use Rattle.rg_home.specs.Slot.{Slot}
 use Rattle.rg_loaded.specs.Loaded.{IsPacked}
 use Rattle.rg_model.specs.Layout.{same_place}
 use Rattle.rg_page.specs.Content.{Content, slots_of}
+use Rattle.rg_reach.specs.Weighed.{weigh_changes, weigh_feed}
+use Rattle.rg_reach.proofs.Bounding.{first_kept}
+use Rattle.rg_reach.proofs.Weighing.{weigh_permuted}
 use Rattle.rg_reload.specs.Moved.{row_through}
 use Rattle.rg_shadow.specs.Pieces.{IsMapped}
 use Rattle.rg_shadow.specs.Shade.{Shade, home_rows, shade_slots, source_rows, target_of, with_stage}
 use Rattle.rg_shadow.specs.declared.drafts.IndexStage.{IndexStage}
-use Rattle.rg_translate.specs.Caught.{Unmoved}
+use Rattle.rg_shadow.specs.declared.fault.ShadowFault.TheVariants.{NoSpace}
+use Rattle.rg_translate.specs.Caught.{ClaimsMore, IsFullBy, Unmoved}
 use Rattle.rg_translate.specs.Laws.{AddsLater, IsLater}
 use Rattle.rg_translate.proofs.Making.{unmoved_none}
+use Rattle.rg_translate.proofs.Taking.{kept-append}
+use Rattle.rg_translate.proofs.Weighing.{weigh-append}
 use Rattle.rg_caught.specs.Caught.{IsCaughtUp}
 
 -- ---- the load
@@ -45,6 +52,7 @@ loaded options rows s feed lawful permuted packed mapped =
       mapped = mapped;
       unmoved = unmoved_none s [];
       caught = λ place. packed.sources place ∙ (same_rows copied rows permuted (copies_apart (since_begin feed) lawful)).1 place ∙ sym (load feed lawful place);
+      claims = omega arith;
       idle = λ none. refl;
     }
 
@@ -76,14 +84,24 @@ unmoved_both first old new xs ys one two = record {
 
 pub batch_taken : (options : Options) (rows : List (Place × Row)) (first old new : Shade) (feed : List Item) (taken n : ℕ) → IsCaughtUp options rows first old feed taken → IsMapped new.targets (home_rows new)
     → ((place : Place) → source_rows new place ≡ fold_to feed (taken + n) place) → Unmoved old new (take n (drop taken (changes (since_begin feed))))
+    → ClaimsMore old new (kept (since_begin feed) (take n (drop taken (changes (since_begin feed)))))
     → (kept (since_begin feed) (take n (drop taken (changes (since_begin feed)))) ≡ [] → new ≡ old) → IsCaughtUp options rows first new feed (taken + n)
-batch_taken options rows first old new feed taken n was mapped caught unmoved idle =
+batch_taken options rows first old new feed taken n was mapped caught unmoved claims idle =
     let all = changes (since_begin feed) in
     record {
       loaded = was.loaded;
       mapped = mapped;
       unmoved = subst (Unmoved first new) (sym (take-add taken n all)) (unmoved_both first old new (take taken all) (take n (drop taken all)) was.unmoved unmoved);
       caught = caught;
+      claims =
+          omega (
+            arith,
+            was.claims,
+            claims,
+            ap (λ cs. weigh_changes (kept (since_begin feed) cs)) (take-add taken n all),
+            ap weigh_changes (kept-append (since_begin feed) (take taken all) (take n (drop taken all))),
+            weigh-append (kept (since_begin feed) (take taken all)) (kept (since_begin feed) (take n (drop taken all))),
+          );
       idle = λ none.
           let some : n ≡ 0 = omega (arith, none) in
           ap (λ (s : Shade). shade_slots s) (idle (ap (λ (k : ℕ). kept (since_begin feed) (take k (drop taken all))) some)) ∙ was.idle (omega (arith, none));
@@ -98,6 +116,7 @@ stage_made options rows first s feed taken Key stage h = record {
   mapped = h.mapped;
   unmoved = record { rows = h.unmoved.rows; targets = h.unmoved.targets; lie = h.unmoved.lie };
   caught = h.caught;
+  claims = h.claims;
   idle = h.idle;
 }
 stage_made options rows first s feed taken Clus stage h = record {
@@ -105,6 +124,7 @@ stage_made options rows first s feed taken Clus stage h = record {
   mapped = h.mapped;
   unmoved = record { rows = h.unmoved.rows; targets = h.unmoved.targets; lie = h.unmoved.lie };
   caught = h.caught;
+  claims = h.claims;
   idle = h.idle;
 }
 stage_made options rows first s feed taken Cat stage h = record {
@@ -112,6 +132,7 @@ stage_made options rows first s feed taken Cat stage h = record {
   mapped = h.mapped;
   unmoved = record { rows = h.unmoved.rows; targets = h.unmoved.targets; lie = h.unmoved.lie };
   caught = h.caught;
+  claims = h.claims;
   idle = h.idle;
 }
 
@@ -144,6 +165,25 @@ same_so_far place row (items.Change c ∷ xs) more zero few later = same_so_far 
 same_so_far place row (items.Change c ∷ xs) more (suc k) few later = same_so_far place (step_at place (items.Change c) row) xs more k (omega (arith, few)) later
 same_so_far place row (Booked s ∷ xs) more k few later = same_so_far place row xs more k few later
 
+-- what is added passes nothing over
+later_passes : (xs more : List Item) (change : Change) → AllByRecursion IsLater more → passes_over (xs ++ more) change ≡ passes_over xs change
+later_passes [] [] change later = refl
+later_passes [] (Begin o n ∷ more) change later = absurd later.0
+later_passes [] (PageCopy n at rows ∷ more) change later = absurd later.0
+later_passes [] (items.Change c ∷ more) change later = later_passes [] more change later.1
+later_passes [] (Booked s ∷ more) change later = later_passes [] more change later.1
+later_passes (Begin o n ∷ xs) more change later = later_passes xs more change later
+later_passes (PageCopy n at rows ∷ xs) more change later =
+    ap (λ (b : Bool). (n == change.home.page && nat_le change.position.0 at.0) || b) (later_passes xs more change later)
+later_passes (items.Change c ∷ xs) more change later = later_passes xs more change later
+later_passes (Booked s ∷ xs) more change later = later_passes xs more change later
+
+later_kept : (xs more : List Item) (cs : List Change) → AllByRecursion IsLater more → kept (xs ++ more) cs ≡ kept xs cs
+later_kept xs more [] later = refl
+later_kept xs more (c ∷ cs) later =
+    ap (λ (b : Bool). if b then kept (xs ++ more) cs else c ∷ kept (xs ++ more) cs) (later_passes xs more c later)
+    ∙ ap (λ ds. if passes_over xs c then ds else c ∷ ds) (later_kept xs more cs later)
+
 pub more_received : (options : Options) (rows : List (Place × Row)) (first s : Shade) (feed more : List Item) (taken : ℕ) → AddsLater feed more → taken ≤ length (changes (since_begin feed))
     → IsCaughtUp options rows first s feed taken → IsCaughtUp options rows first s more taken
 more_received options rows first s feed more taken adds within h =
@@ -159,6 +199,14 @@ more_received options rows first s feed more taken adds within h =
       caught = λ place.
           h.caught place
           ∙ sym (ap (λ xs. fold_from place None (up_to xs taken)) since_is ∙ same_so_far place None (since_begin feed) adds.more taken within adds.later);
+      claims =
+          omega (
+            arith,
+            h.claims,
+            ap (λ cs. weigh_changes (kept (since_begin more) cs)) same,
+            ap (λ xs. weigh_changes (kept xs (take taken (changes (since_begin feed))))) since_is,
+            ap weigh_changes (later_kept (since_begin feed) adds.more (take taken (changes (since_begin feed))) adds.later),
+          );
       idle = h.idle;
     }
 
@@ -178,5 +226,30 @@ same_slots options rows first s feed taken pages same h =
         lie = λ source target none is. ap (λ (slots : List (List Slot)). lies_at target (slot_of slots target)) same ∙ h.unmoved.lie source target none is;
       };
       caught = λ place. ap (λ (slots : List (List Slot)). row_of slots place) same ∙ h.caught place;
+      claims = omega (arith, h.claims, ap (claimed_all nobody) same);
       idle = λ none. same ∙ h.idle none;
     }
+
+-- ---- what its pages claim
+
+pub caught_claims : (options : Options) (rows : List (Place × Row)) (first s : Shade) (feed : List Item) (taken : ℕ) → IsPermutation (copied_rows (since_begin feed)) rows → IsCaughtUp options rows first s feed taken
+    → claimed_all nobody (shade_slots s) ≤ weigh_feed feed
+caught_claims options rows first s feed taken permuted h =
+    omega (arith, h.claims, h.loaded.claims, weigh_permuted (copied_rows (since_begin feed)) rows permuted, first_kept (since_begin feed) taken (changes (since_begin feed)))
+
+pub full_sent : (options : Options) (rows : List (Place × Row)) (first s : Shade) (feed : List Item) (taken n : ℕ) → IsPermutation (copied_rows (since_begin feed)) rows → IsCaughtUp options rows first s feed taken
+    → IsFullBy s (kept (since_begin feed) (take n (drop taken (changes (since_begin feed))))) NoSpace → 3221 * s.capacity ≤ weigh_feed feed
+full_sent options rows first s feed taken n permuted h full =
+    let xs = since_begin feed in
+    let all = changes xs in
+    omega (
+      arith,
+      full,
+      h.claims,
+      h.loaded.claims,
+      weigh_permuted (copied_rows xs) rows permuted,
+      first_kept xs (taken + n) all,
+      ap (λ cs. weigh_changes (kept xs cs)) (take-add taken n all),
+      ap weigh_changes (kept-append xs (take taken all) (take n (drop taken all))),
+      weigh-append (kept xs (take taken all)) (kept xs (take n (drop taken all))),
+    )

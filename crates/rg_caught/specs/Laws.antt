@@ -7,17 +7,20 @@
 -- 3. While its indexes are sorted and built it stays so (`StagesAreCaughtUp`).
 -- 4. More changes and booked entries leave it so: they count only once they are taken
 --    (`MoreIsCaughtUp`). So do other pages that have the same slots (`SameSlotsAreCaughtUp`).
--- 5. Where all pages were copied and all changes are taken, the rows whose keys are quiet lie at
+-- 5. Its pages claim no more than what was sent weighs (`CaughtUpClaims`). A change has no room only
+--    where that is 3,221 bytes for each page that there may be (`FullIsSent`).
+-- 6. Where all pages were copied and all changes are taken, the rows whose keys are quiet lie at
 --    home, in clustering order (`CaughtUpIsQuiet`). The rows at its homes are the table. Where
 --    nothing has changed since the start, its layout is that of a packed copy of the table
 --    (`CaughtUpIsRight`).
-use Rattle.std.specs.Prelude.{◌≡◌, ◌+◌, ◌≤◌, ℕ, true, List, [], Option, drop, length, take}
+use Rattle.std.specs.Prelude.{◌≡◌, ◌+◌, ◌≤◌, ◌*◌, ℕ, true, List, [], Option, drop, length, take}
 use Rattle.std.specs.List.Sorted.{IsPermutation}
 use Rattle.rg_base.specs.declared.options.Options.{Options}
 use Rattle.rg_base.specs.declared.place.Place.{Place}
 use Rattle.rg_base.specs.declared.row.Row.{Row}
 use Rattle.rg_base.specs.declared.which.Which.{Which}
 use Rattle.rg_caught.specs.Caught.{IsCaughtUp}
+use Rattle.rg_claimed.specs.Claim.{claimed_all, nobody}
 use Rattle.rg_fold.specs.Fed.{Fed, Progress}
 use Rattle.rg_fold.specs.Fold.{changes, copied_rows, fold_to, since_begin}
 use Rattle.rg_fold.specs.Lawful.{Lawful, kept}
@@ -29,13 +32,15 @@ use Rattle.rg_model.specs.Quiet.{is_quiet}
 use Rattle.rg_model.specs.Right.{are_quiet_right, is_packed}
 use Rattle.rg_model.specs.State.{Table, row_of}
 use Rattle.rg_page.specs.Content.{Content, slots_of}
+use Rattle.rg_reach.specs.Weighed.{weigh_feed}
 use Rattle.rg_reload.specs.Order.{IsInOrder}
 use Rattle.rg_shadow.specs.Pieces.{IsMapped}
 use Rattle.rg_shadow.specs.Shade.{Shade, home_rows, shade_slots, source_rows, with_stage}
 use Rattle.rg_shadow.specs.declared.drafts.IndexStage.{IndexStage}
+use Rattle.rg_shadow.specs.declared.fault.ShadowFault.TheVariants.{NoSpace}
 use Rattle.rg_stmt.specs.declared.event.Entry.{Entry}
 use Rattle.rg_stmt.specs.declared.layout.Side.{Side}
-use Rattle.rg_translate.specs.Caught.{Unmoved}
+use Rattle.rg_translate.specs.Caught.{ClaimsMore, IsFullBy, Unmoved}
 use Rattle.rg_translate.specs.Laws.{AddsLater}
 
 abbrev pub LoadIsCaughtUp : Type 0
@@ -54,6 +59,8 @@ BatchIsCaughtUp =
     → IsMapped new.targets (home_rows new)
     → ((place : Place) → source_rows new place ≡ fold_to feed (taken + n) place)
     → Unmoved old new (take n (drop taken (changes (since_begin feed))))
+    → ClaimsMore old new
+    (kept (since_begin feed) (take n (drop taken (changes (since_begin feed)))))
     → (kept (since_begin feed) (take n (drop taken (changes (since_begin feed)))) ≡ [] → new ≡ old)
     → IsCaughtUp options rows first new feed (taken + n)
 
@@ -78,6 +85,26 @@ SameSlotsAreCaughtUp =
     (taken : ℕ) (pages : List Content)
     → slots_of pages ≡ shade_slots s → IsCaughtUp options rows first s feed taken
     → IsCaughtUp options rows first (record s { pages = pages }) feed taken
+
+-- `rows` are those of all copies, in any order
+abbrev pub CaughtUpClaims : Type 0
+CaughtUpClaims =
+    (options : Options) (rows : List (Place × Row)) (first s : Shade) (feed : List Item)
+    (taken : ℕ)
+    → IsPermutation (copied_rows (since_begin feed)) rows
+    → IsCaughtUp options rows first s feed taken
+    → claimed_all nobody (shade_slots s) ≤ weigh_feed feed
+
+-- one of the next n changes has no room, of which some may be passed over
+abbrev pub FullIsSent : Type 0
+FullIsSent =
+    (options : Options) (rows : List (Place × Row)) (first s : Shade) (feed : List Item)
+    (taken n : ℕ)
+    → IsPermutation (copied_rows (since_begin feed)) rows
+    → IsCaughtUp options rows first s feed taken
+    → IsFullBy s (kept (since_begin feed) (take n (drop taken (changes (since_begin feed)))))
+    NoSpace
+    → 3221 * s.capacity ≤ weigh_feed feed
 
 -- All pages were copied, and all changes are taken. `rows` are those of all copies, in the order of
 -- a new copy.

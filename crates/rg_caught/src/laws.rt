@@ -1,6 +1,6 @@
 //! Each function's contract is a law of the definitions. None of them runs anything.
-ghost use Rattle.rg_caught.specs.Laws.{BatchIsCaughtUp, CaughtUpIsQuiet, CaughtUpIsRight};
-ghost use Rattle.rg_caught.specs.Laws.{LoadIsCaughtUp};
+ghost use Rattle.rg_caught.specs.Laws.{BatchIsCaughtUp, CaughtUpClaims, CaughtUpIsQuiet, CaughtUpIsRight};
+ghost use Rattle.rg_caught.specs.Laws.{FullIsSent, LoadIsCaughtUp};
 ghost use Rattle.rg_caught.specs.Laws.{MoreIsCaughtUp, SameSlotsAreCaughtUp, StagesAreCaughtUp};
 
 /// A new copy is caught up once it is loaded.
@@ -22,6 +22,12 @@ pub fn stages_law()
 pub fn more_law()
     ensures more { MoreIsCaughtUp }
     ensures slots { SameSlotsAreCaughtUp }
+{}
+
+/// What its pages claim, and when a change has no room in it.
+pub fn claim_law()
+    ensures claims { CaughtUpClaims }
+    ensures full { FullIsSent }
 {}
 
 /// Once all pages were copied and all changes are taken, the new copy is right for the table.

@@ -1,11 +1,15 @@
 -- Full comes only where 3,221 bytes a page are claimed.
-use Rattle.std.proofs.Common.{◌≡◌, ◌==◌, ℕ, ◌+◌, ◌*◌, ◌<◌, ◌≤◌, Bool, true, false, zero, suc, not, nat_le, List, [], ◌∷◌, map, length, get_or, None, refl, if◌then◌else◌, arith}
+use Rattle.std.proofs.Common.{◌≡◌, ◌==◌, ℕ, ◌+◌, ◌*◌, ◌<◌, ◌≤◌, Bool, true, false, zero, suc, not, nat_le, List, [], ◌∷◌, map, length, get_or, Option, Some, None, refl, if◌then◌else◌, arith}
 use Rattle.std.specs.List.{list_any}
 use Rattle.std.proofs.lemmas.Bool.{leb-false}
 use Rattle.rg_home.specs.Slot.{Slot}
 use Rattle.rg_home.specs.Slot.{Free, Row, Pointer, Over, DeadRow, DeadPointer, DeadOver}
 use Rattle.rg_home.specs.Slots.{is_free, capacity_of, used}
-use Rattle.rg_home.specs.Plan.{swept, purged, free, takes, admits, new_area}
+use Rattle.rg_home.specs.Pages.{page_at, slot_of}
+use Rattle.rg_home.specs.Plan.{swept, purged, free, takes, admits, new_area, away, changed, fitting, from_over, planned_change, planned_put, to_new}
+use Rattle.rg_home.specs.declared.plan.Area.{Area}
+use Rattle.rg_home.specs.declared.plan.Fitting.{Fitting}
+use Rattle.rg_base.specs.declared.place.Place.{Place}
 use Rattle.rg_home.proofs.Offers.{used-trim}
 use Rattle.rg_home.proofs.Full.{full_means}
 use Rattle.rg_claimed.specs.Claim.{claim_of, claimed, claimed_all, Covers}
@@ -51,3 +55,36 @@ module _ (h : ℕ → Bool) (live : List ℕ) (covers : Covers h live) where
   full_bound b capacity pages small within e =
       let m = full_means live b capacity pages within e in
       omega (arith, m.0, full_pages b pages small m.1)
+
+-- a put or a change has no plan only where there is no new area
+module _ (live : List ℕ) (b capacity : ℕ) (pages : List (List Slot)) where
+  none_put : (area : Option Area) → planned_put live b pages area ≡ None → area ≡ None
+  none_put None e = refl
+  none_put (Some area) e = absurd (cc (e))
+
+  pub no_put : planned_put live b pages (new_area live b capacity pages) ≡ None → new_area live b capacity pages ≡ None
+  no_put e = none_put (new_area live b capacity pages) e
+
+  none_new : (home : Place) (area : Option Area) → to_new live b pages home area ≡ None → area ≡ None
+  none_new home None e = refl
+  none_new home (Some area) e = absurd (cc (e))
+
+  none_over : (home other : Place) (f : Option Fitting) → from_over live b capacity pages home other f ≡ None → new_area live b capacity pages ≡ None
+  none_over home other (Some f) e = absurd (cc (e))
+  none_over home other None e = none_new home (new_area live b capacity pages) e
+
+  none_away : (home : Place) (s : Slot) → away live b capacity pages home s ≡ None → new_area live b capacity pages ≡ None
+  none_away home (Pointer c other) e = none_over home other (fitting live b (capacity_of (slot_of pages other)) (page_at pages other.page)) e
+  none_away home Free e = none_new home (new_area live b capacity pages) e
+  none_away home (Row x y) e = none_new home (new_area live b capacity pages) e
+  none_away home (Over x y z) e = none_new home (new_area live b capacity pages) e
+  none_away home (DeadRow x y) e = none_new home (new_area live b capacity pages) e
+  none_away home (DeadPointer x y z) e = none_new home (new_area live b capacity pages) e
+  none_away home (DeadOver x y z) e = none_new home (new_area live b capacity pages) e
+
+  none_changed : (home : Place) (f : Option Fitting) → changed live b capacity pages home f ≡ None → new_area live b capacity pages ≡ None
+  none_changed home (Some f) e = absurd (cc (e))
+  none_changed home None e = none_away home (slot_of pages home) e
+
+  pub no_change : (home : Place) → planned_change live b capacity pages home ≡ None → new_area live b capacity pages ≡ None
+  no_change home e = none_changed home (fitting live b (capacity_of (slot_of pages home)) (page_at pages home.page)) e

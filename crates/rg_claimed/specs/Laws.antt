@@ -83,6 +83,15 @@ OpenedClaims =
     (holds : ℕ → Bool) (pages : List (List Slot)) → Sound pages
     → claimed_all holds pages ≤ 4064 * length pages
 
+-- a put or a change has no plan only where there is no new area
+abbrev pub PlansLackArea : Type 0
+PlansLackArea =
+    (live : List ℕ) (b capacity : ℕ) (pages : List (List Slot))
+    → (planned_put live b pages (new_area live b capacity pages) ≡ None
+    → new_area live b capacity pages ≡ None)
+    × ((home : Place) → planned_change live b capacity pages home ≡ None
+    → new_area live b capacity pages ≡ None)
+
 -- there is no new area only where 3,221 bytes are claimed for each page that the copy may have
 abbrev pub FullBound : Type 0
 FullBound =

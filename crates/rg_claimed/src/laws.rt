@@ -1,5 +1,5 @@
 //! Each function's contract is a law of the definitions. None of them runs anything.
-ghost use Rattle.rg_claimed.specs.Laws.{PutClaims, ChangeClaims, DropClaims, UndoClaims, PurgeClaims, FewerClaim, Holders, OpenedClaims, FullBound, FullTop, RowsClaim, ChangeWeighs, Switched};
+ghost use Rattle.rg_claimed.specs.Laws.{PutClaims, ChangeClaims, DropClaims, UndoClaims, PurgeClaims, FewerClaim, Holders, OpenedClaims, FullBound, FullTop, PlansLackArea, RowsClaim, ChangeWeighs, Switched};
 
 /// What a write, an undo or a purge adds to the bytes that are claimed.
 pub fn plans_law()
@@ -17,9 +17,10 @@ pub fn holders_law()
     ensures switched { Switched }
 {}
 
-/// When there can be no new area.
+/// When there can be no new area, and so no plan.
 pub fn full_law()
     ensures opened { OpenedClaims }
+    ensures lack { PlansLackArea }
     ensures bound { FullBound }
     ensures top { FullTop }
 {}

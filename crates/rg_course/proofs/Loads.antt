@@ -23,13 +23,13 @@ use Rattle.rg_model.specs.Same.{same_drain, same_reason, same_verdict, same_whic
 use Rattle.rg_model.specs.State.{Utility}
 use Rattle.rg_model.specs.Turn.{Turn, Runs, Switches, Stops, Falls, alter, build_turn, early_stop, end_turn, is_term, last_turn, log_turn, log_verdict, nth_which, reload_turn, sort_turn, space_stop, step_by_drain, step_of, switch_turn, term_turn, turn_at, turn_if, turn_of, unload_turn, verdict_turn, wait_turn, write_turn}
 use Rattle.rg_model.specs.Verdict.{drain_verdict, is_slow}
-use Rattle.rg_course.specs.Loading.{Loading, Shows, loading_after, loading_of}
+use Rattle.rg_course.specs.Loading.{Loading, ShowsFilled, loading_after, loading_of}
 
 module _ (copy : ℕ) (u : Utility) (event : Event) where
   abbrev LeadsIf : Option Turn → Type 0
-  LeadsIf turn = IfSome turn (Shows copy u event)
+  LeadsIf turn = IfSome turn (ShowsFilled copy u event)
 
-  leads_if : (b : Bool) (turn : Turn) → Shows copy u event turn → LeadsIf (turn_if b turn)
+  leads_if : (b : Bool) (turn : Turn) → ShowsFilled copy u event turn → LeadsIf (turn_if b turn)
   leads_if true turn leads = leads
   leads_if false turn leads = tt
 
@@ -76,7 +76,7 @@ module _ (copy : ℕ) (u : Utility) where
       go false = refl
   build_leads all drain event = early_leads copy u event
 
-  verdict_leads : (all now : ℕ) (slow : Bool) (next : Utility) (drain : DrainState) (verdict : Verdict) (event : Event) → loading_of copy next ≡ loading_after (loading_of copy u) event → Shows copy u event (verdict_turn all now slow next drain verdict)
+  verdict_leads : (all now : ℕ) (slow : Bool) (next : Utility) (drain : DrainState) (verdict : Verdict) (event : Event) → loading_of copy next ≡ loading_after (loading_of copy u) event → ShowsFilled copy u event (verdict_turn all now slow next drain verdict)
   verdict_leads all now slow next drain verdicts.More event at = at
   verdict_leads all now true next drain verdicts.Next event at = at
   verdict_leads all now false next drain verdicts.Next event at = at
@@ -183,5 +183,5 @@ module _ (copy all : ℕ) (blocker : Option Session) (answer : Answer) (event : 
       by_switched true = end_leads copy u event
       by_switched false = by_term (is_term answer.command)
 
-pub loading_goes_on : (copy all : ℕ) (blocker : Option Session) (answer : Answer) (u : Utility) (drain : DrainState) (event : Event) (turn : Turn) → turn_of all blocker answer u drain event ≡ Some turn → Shows copy u event turn
+pub loading_goes_on : (copy all : ℕ) (blocker : Option Session) (answer : Answer) (u : Utility) (drain : DrainState) (event : Event) (turn : Turn) → turn_of all blocker answer u drain event ≡ Some turn → ShowsFilled copy u event turn
 loading_goes_on copy all blocker answer u drain event turn is = subst (λ (o : Option Turn). LeadsIf copy u event o) is (turn_leads copy all blocker answer event u drain)

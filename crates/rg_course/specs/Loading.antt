@@ -42,15 +42,15 @@ loading_of copy u =
     else None
 
 -- the numbers that a turn leaves show what its event makes of it
-abbrev pub Shows : (copy : ℕ) → Utility → Event → Turn → Type 0
-Shows copy u event (Runs v later) = loading_of copy v ≡ loading_after (loading_of copy u) event
-Shows copy u event (Switches other sides v) =
+abbrev pub ShowsFilled : (copy : ℕ) → Utility → Event → Turn → Type 0
+ShowsFilled copy u event (Runs v later) = loading_of copy v ≡ loading_after (loading_of copy u) event
+ShowsFilled copy u event (Switches other sides v) =
     (now : ℕ) → loading_of now v ≡ loading_after (loading_of copy u) event
-Shows copy u event Stops = Unit {0}
-Shows copy u event Falls = Unit {0}
+ShowsFilled copy u event Stops = Unit {0}
+ShowsFilled copy u event Falls = Unit {0}
 
 abbrev pub LoadingGoesOn : Type 0
 LoadingGoesOn =
     (copy all : ℕ) (blocker : Option Session) (answer : Answer) (u : Utility) (drain : DrainState)
     (event : Event) (turn : Turn)
-    → turn_of all blocker answer u drain event ≡ Some turn → Shows copy u event turn
+    → turn_of all blocker answer u drain event ≡ Some turn → ShowsFilled copy u event turn

@@ -5,15 +5,12 @@ use Rattle.rg_base.specs.RowBytes.{row_size}
 use Rattle.rg_base.specs.declared.place.Place.{Place}
 use Rattle.rg_base.specs.declared.row.Row.{Row}
 use Rattle.rg_claimed.specs.Claim.{claimed_all, holding}
+use Rattle.rg_claimed.proofs.Full.{no_change, no_put}
 use Rattle.rg_claimed.proofs.Plans.{put_claims, change_claims, drop_claims}
-use Rattle.rg_home.specs.Pages.{page_at, row_or_empty, slot_of}
-use Rattle.rg_home.specs.Plan.{is_home, new_area, pages_after, planned_put, planned_change, planned_drop, changed, away, from_over, to_new, fitting}
+use Rattle.rg_home.specs.Pages.{row_or_empty, slot_of}
+use Rattle.rg_home.specs.Plan.{is_home, new_area, pages_after, planned_put, planned_change, planned_drop}
 use Rattle.rg_home.specs.Rows.{row_at}
 use Rattle.rg_home.specs.Slot.{Slot}
-use Rattle.rg_home.specs.Slot.{Free, Row as RowSlot, Pointer, Over, DeadRow, DeadPointer, DeadOver}
-use Rattle.rg_home.specs.Slots.{capacity_of}
-use Rattle.rg_home.specs.declared.plan.Area.{Area}
-use Rattle.rg_home.specs.declared.plan.Fitting.{Fitting}
 use Rattle.rg_home.specs.declared.plan.Plan.{Plan}
 use Rattle.rg_lawful.specs.Act.{LogState}
 use Rattle.rg_lawful.specs.Consistent.{IsConsistent}
@@ -104,36 +101,11 @@ module _ (limit : ℕ) (s : LogState) (good : IsConsistent limit s) (t : ℕ) (b
         },
       )
 
-  none_new : (b : ℕ) (area : Option Area) → planned_put units b s.pages area ≡ None → area ≡ None
-  none_new b None e = refl
-  none_new b (Some area) e = absurd (cc (e))
-
-  none_to_new : (b : ℕ) (home : Place) (area : Option Area) → to_new units b s.pages home area ≡ None → area ≡ None
-  none_to_new b home None e = refl
-  none_to_new b home (Some area) e = absurd (cc (e))
-
-  none_over : (b : ℕ) (home other : Place) (f : Option Fitting) → from_over units b limit s.pages home other f ≡ None → new_area units b limit s.pages ≡ None
-  none_over b home other (Some f) e = absurd (cc (e))
-  none_over b home other None e = none_to_new b home (new_area units b limit s.pages) e
-
-  none_away : (b : ℕ) (home : Place) (x : Slot) → away units b limit s.pages home x ≡ None → new_area units b limit s.pages ≡ None
-  none_away b home (Pointer c other) e = none_over b home other (fitting units b (capacity_of (slot_of s.pages other)) (page_at s.pages other.page)) e
-  none_away b home Free e = none_to_new b home (new_area units b limit s.pages) e
-  none_away b home (RowSlot x y) e = none_to_new b home (new_area units b limit s.pages) e
-  none_away b home (Over x y z) e = none_to_new b home (new_area units b limit s.pages) e
-  none_away b home (DeadRow x y) e = none_to_new b home (new_area units b limit s.pages) e
-  none_away b home (DeadPointer x y z) e = none_to_new b home (new_area units b limit s.pages) e
-  none_away b home (DeadOver x y z) e = none_to_new b home (new_area units b limit s.pages) e
-
-  none_changed : (b : ℕ) (home : Place) (f : Option Fitting) → changed units b limit s.pages home f ≡ None → new_area units b limit s.pages ≡ None
-  none_changed b home (Some f) e = absurd (cc (e))
-  none_changed b home None e = none_away b home (slot_of s.pages home) e
-
   full : (b : ℕ) → b ≤ 826 → new_area units b limit s.pages ≡ None → 3221 * limit ≤ claimed_all holds s.pages
   full b small none = full_claims limit s t b units begin are.only small good.few none
 
   pub full_put : (b : ℕ) → b ≤ 826 → planned_put units b s.pages (new_area units b limit s.pages) ≡ None → 3221 * limit ≤ claimed_all (holding s.live (suc s.top)) s.pages
-  full_put b small none = full b small (none_new b (new_area units b limit s.pages) none)
+  full_put b small none = full b small (no_put units b limit s.pages none)
 
   pub full_change : (b : ℕ) (home : Place) → b ≤ 826 → planned_change units b limit s.pages home ≡ None → 3221 * limit ≤ claimed_all (holding s.live (suc s.top)) s.pages
-  full_change b home small none = full b small (none_changed b home (fitting units b (capacity_of (slot_of s.pages home)) (page_at s.pages home.page)) none)
+  full_change b home small none = full b small (no_change units b limit s.pages home none)

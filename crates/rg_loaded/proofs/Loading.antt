@@ -32,9 +32,9 @@ use Rattle.rg_loaded.specs.Laws.{AreLoadedRows, IsRightCopy}
 use Rattle.rg_loaded.specs.Loaded.{IsPacked}
 
 pub packed_stays : (options : Options) (rows : List (Place × Row)) (which : Which) (stage : IndexStage) (s : Shade) → IsPacked options rows s → IsPacked options rows (with_stage which stage s)
-packed_stays options rows Key stage s h = record { packed = h.packed; sources = h.sources; pages = h.pages }
-packed_stays options rows Clus stage s h = record { packed = h.packed; sources = h.sources; pages = h.pages }
-packed_stays options rows Cat stage s h = record { packed = h.packed; sources = h.sources; pages = h.pages }
+packed_stays options rows Key stage s h = record { packed = h.packed; sources = h.sources; pages = h.pages; claims = h.claims }
+packed_stays options rows Clus stage s h = record { packed = h.packed; sources = h.sources; pages = h.pages; claims = h.claims }
+packed_stays options rows Cat stage s h = record { packed = h.packed; sources = h.sources; pages = h.pages; claims = h.claims }
 
 pub all_unsorted : (s : Shade) → s.keys ≡ Unsorted → s.cluses ≡ Unsorted → s.cats ≡ Unsorted → (which : Which) → stage_in which s ≡ Unsorted
 all_unsorted s keys cluses cats Key = keys

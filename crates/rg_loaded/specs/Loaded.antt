@@ -1,15 +1,18 @@
 -- A new copy as it was loaded.
 --
 -- 1. Its pages have exactly the packed rows, each at home in an area as long as it is. They are as
---    many as packing takes. The old place of each row leads to the row.
+--    many as packing takes, and claim no more than the rows weigh. The old place of each row leads
+--    to the row.
 -- 2. None of its indexes is made yet.
-use Rattle.std.specs.Prelude.{◌≡◌, List, length}
+use Rattle.std.specs.Prelude.{◌≡◌, ◌≤◌, List, length}
 use Rattle.rg_base.specs.declared.options.Options.{Options}
 use Rattle.rg_base.specs.declared.place.Place.{Place}
 use Rattle.rg_base.specs.declared.row.Row.{Row}
 use Rattle.rg_base.specs.declared.which.Which.{Which}
+use Rattle.rg_claimed.specs.Claim.{claimed_all, nobody}
 use Rattle.rg_fold.specs.Fold.{row_in}
 use Rattle.rg_moved.specs.Laws.{HasPacked, pages_packed}
+use Rattle.rg_reach.specs.Weighed.{weigh_rows}
 use Rattle.rg_reload.specs.Moved.{rows_in}
 use Rattle.rg_reload.specs.Reloading.{Reloading}
 use Rattle.rg_shadow.specs.Shade.{Shade, shade_slots, source_rows, stage_in}
@@ -20,6 +23,7 @@ pub record IsPacked (options : Options) (rows : List (Place × Row)) (s : Shade)
   pub packed : HasPacked options rows (shade_slots s)
   pub sources : (place : Place) → source_rows s place ≡ row_in rows place
   pub pages : length s.pages ≡ pages_packed options (rows_in rows)
+  pub claims : claimed_all nobody (shade_slots s) ≤ weigh_rows rows
 
 -- the new copy that a packer has come to
 pub record IsLoaded (p : Reloading) (s : Shade) : Type 0 where

@@ -1,11 +1,11 @@
 -- A new copy in the making, of the rows of all copies.
-use Rattle.std.proofs.Common.{◌≡◌, ◌≤◌, ◌+◌, min, ℕ, List, [], sym, ◌∙◌, ap, subst, arith}
+use Rattle.std.proofs.Common.{◌≡◌, ◌≤◌, ◌+◌, ◌*◌, min, ℕ, List, [], sym, ◌∙◌, ap, subst, arith}
 use Rattle.std.specs.List.Sorted.{IsPermutation}
 use Rattle.rg_base.specs.declared.options.Options.{Options}
 use Rattle.rg_base.specs.declared.place.Place.{Place}
 use Rattle.rg_base.specs.declared.row.Row.{Row}
 use Rattle.rg_caught.specs.Caught.{IsCaughtUp}
-use Rattle.rg_caught.proofs.Taking.{batch_taken, loaded}
+use Rattle.rg_caught.proofs.Taking.{batch_taken, full_sent, loaded}
 use Rattle.rg_feed.specs.Ends.{Received}
 use Rattle.rg_fold.specs.Fold.{fold_to, copied_rows, page_copies, since_begin}
 use Rattle.rg_fold.specs.Lawful.{AreApart, Lawful}
@@ -14,14 +14,17 @@ use Rattle.rg_fold.proofs.Loaded.{copies_apart}
 use Rattle.rg_loaded.specs.Loaded.{IsLoaded, IsPacked}
 use Rattle.rg_map.specs.Mapping.{Targets}
 use Rattle.rg_page.specs.Content.{Content}
+use Rattle.rg_reach.specs.Weighed.{weigh_feed}
 use Rattle.rg_reload.specs.Order.{IsInOrder}
 use Rattle.rg_reload.specs.Reloading.{Reloading}
 use Rattle.rg_shadow.specs.Pieces.{IsMapped}
 use Rattle.rg_shadow.specs.Shade.{Shade, home_rows}
+use Rattle.rg_shadow.specs.declared.fault.ShadowFault.{ShadowFault}
+use Rattle.rg_shadow.specs.declared.fault.ShadowFault.TheVariants.{NoMemory, NoSpace}
 use Rattle.rg_translate.specs.Backlog.{left, next_changes, to_make}
-use Rattle.rg_translate.specs.Caught.{Caught, Unmoved}
+use Rattle.rg_translate.specs.Caught.{Caught, ClaimsMore, IsFullBy, Unmoved}
 use Rattle.rg_translate.proofs.Replaying.{copied_rows-copies}
-use Rattle.rg_phase.specs.Drafted.{IsDraftOf, IsPackingOf, SameRows}
+use Rattle.rg_phase.specs.Drafted.{IsDraftOf, IsFullOf, IsPackingOf, SameRows}
 
 -- the rows of the copies that were received
 pub rows_apart : (items copies : List Item) (rows : List (Place × Row)) → Lawful (since_begin items) → copies ≡ page_copies (since_begin items) → rows ≡ copied_rows copies → AreApart rows
@@ -57,6 +60,7 @@ rows_made options rows first old new items taken h = record {
   mapped = h.mapped;
   unmoved = record { rows = h.unmoved.rows; targets = h.unmoved.targets; lie = h.unmoved.lie };
   caught = h.caught;
+  claims = h.claims;
   idle = h.idle;
 }
 
@@ -78,8 +82,9 @@ min_most m n = omega (arith)
 
 -- the next changes are made
 pub draft_taken : (options : Options) (old new : Shade) (inlet later : Received) (most n : ℕ) → IsDraftOf options old inlet.items inlet.taken → n ≡ min most (left inlet) → later.taken ≡ inlet.taken + n → later.items ≡ inlet.items → Caught new later
-    → Unmoved old new (next_changes (min most (left inlet)) inlet) → (to_make (min most (left inlet)) inlet ≡ [] → new ≡ old) → IsMapped new.targets (home_rows new) → IsDraftOf options new later.items later.taken
-draft_taken options old new inlet later most n h n_is taken items caught unmoved idle mapped =
+    → Unmoved old new (next_changes (min most (left inlet)) inlet) → ClaimsMore old new (to_make (min most (left inlet)) inlet) → (to_make (min most (left inlet)) inlet ≡ [] → new ≡ old) → IsMapped new.targets (home_rows new)
+    → IsDraftOf options new later.items later.taken
+draft_taken options old new inlet later most n h n_is taken items caught unmoved claims idle mapped =
     let k = min most (left inlet) in
     let taken_is : later.taken ≡ inlet.taken + k = taken ∙ ap (λ (m : ℕ). inlet.taken + m) n_is in
     subst (λ (xs : List Item). IsDraftOf options new xs later.taken) (sym items)
@@ -91,6 +96,13 @@ draft_taken options old new inlet later most n h n_is taken items caught unmoved
       order = h.order;
       caught = batch_taken options h.rows h.first old new inlet.items inlet.taken k h.caught mapped
           (λ place. caught place ∙ ap (λ (xs : List Item). fold_to xs later.taken place) items ∙ ap (λ (m : ℕ). fold_to inlet.items m place) taken_is)
-          unmoved idle;
+          unmoved claims idle;
       within = omega (arith, h.within, min_most most (left inlet));
     }))
+
+-- one of them has no room
+pub draft_full : (options : Options) (s : Shade) (inlet : Received) (most capacity : ℕ) (fault : ShadowFault) → IsDraftOf options s inlet.items inlet.taken → s.capacity ≡ capacity → IsFullBy s (to_make (min most (left inlet)) inlet) fault
+    → IsFullOf capacity (weigh_feed inlet.items) fault
+draft_full options s inlet most capacity NoSpace h same full =
+    subst (λ (n : ℕ). 3221 * n ≤ weigh_feed inlet.items) same (full_sent options h.rows h.first s inlet.items inlet.taken (min most (left inlet)) h.moved h.caught full)
+draft_full options s inlet most capacity NoMemory h same full = tt

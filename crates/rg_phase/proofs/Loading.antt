@@ -1,35 +1,72 @@
 -- The room of the other copy, and how far it is filled, over a step.
-use Rattle.std.proofs.Common.{◌≡◌, ℕ, Bool, true, false, Option, Some, None, IfSome, nat_lt, if◌then◌else◌, refl, sym, ◌∙◌, ap, subst, arith, inl, inr}
+use Rattle.std.proofs.Common.{◌≡◌, ◌≤◌, ◌<◌, ◌*◌, ℕ, Bool, true, false, not, Option, Some, None, IfSome, nat_lt, if◌then◌else◌, refl, sym, ◌∙◌, ap, subst, arith, inl, inr}
 use Rattle.std.proofs.lemmas.Bool.Decides.{nat_tests}
 use Rattle.std.specs.Option.{is_some}
+use Rattle.std.specs.Prelude.{IfErr}
+use Rattle.std.specs.declared.result.Result.{Result}
 use Rattle.rg_base.specs.declared.control.Answer.{Answer}
 use Rattle.rg_base.specs.declared.control.Command.{Command}
 use Rattle.rg_base.specs.declared.control.Command.TheVariants as commands
+use Rattle.rg_base.specs.declared.options.DrainFor.{DrainFor}
 use Rattle.rg_base.specs.declared.options.DrainState.{DrainState}
+use Rattle.rg_base.specs.declared.options.DrainState.TheVariants as drains
 use Rattle.rg_base.specs.declared.session.Session.{Session}
 use Rattle.rg_base.specs.declared.step.Step.{Step}
 use Rattle.rg_base.specs.declared.step.Step.TheVariants as steps
 use Rattle.rg_base.specs.declared.verdict.StopReason.TheVariants as reasons
-use Rattle.rg_course.specs.Loading.{Loading, Shows, loading_after, loading_of}
+use Rattle.rg_course.specs.Loading.{Loading, ShowsFilled, loading_after, loading_of}
 use Rattle.rg_course.proofs.Loads.{loading_goes_on}
 use Rattle.rg_fold.specs.declared.item.Stage.{Stage}
 use Rattle.rg_model.specs.State.{Utility}
 use Rattle.rg_model.specs.Turn.{Turn, Runs, Switches, Stops, Falls, alter, end_turn, is_term, step_by_drain, step_of, term_turn, turn_at, turn_of}
+use Rattle.rg_shadow.specs.declared.fault.ShadowFault.{ShadowFault}
 use Rattle.rg_stage.specs.Followed.{Followed}
 use Rattle.rg_stage.specs.NumbersOf.{numbers_of}
 use Rattle.rg_stmt.specs.declared.event.Event.{Event}
 use Rattle.rg_stmt.specs.declared.event.Event.TheVariants as events
 use Rattle.rg_tending.specs.Tending.{FollowsBy, is_plain}
-use Rattle.rg_phase.specs.Step.{HasSpace, NextMade}
-use Rattle.rg_phase.specs.Working.{IsEventOrStop, fills, takes}
+use Rattle.rg_phase.specs.Drafted.{IsFullOf}
+use Rattle.rg_phase.specs.Step.{HasPagesFor, NextMade}
+use Rattle.rg_phase.specs.Working.{IsEventOrStop, MakesStep, is_filling, takes}
 
 -- ---- room
 
 -- no page is filled
-pub space_unfilled : (capacity : ℕ) (s : Stage) (event : Event) → fills event ≡ false → HasSpace capacity s event
-space_unfilled capacity s (events.Reload page rows) is = absurd (cc (is))
-space_unfilled capacity s (events.Stop reasons.NoSpace) is = absurd (cc (is))
-space_unfilled capacity s event is = tt
+pub space_unfilled : (capacity weight : ℕ) (s : Stage) (event : Event) → is_filling event ≡ false → HasPagesFor capacity weight s event
+space_unfilled capacity weight s (events.Reload page rows) is = absurd (cc (is))
+space_unfilled capacity weight s (events.Stop reasons.NoSpace) is = absurd (cc (is))
+space_unfilled capacity weight s event is = tt
+
+-- RELOAD comes where rows are left to be reloaded
+
+rows_left : (u : Utility) (d : DrainState) → step_of u d ≡ steps.Reload → u.reloaded < u.unloaded
+rows_left u d is = grind (arith, nat_tests, go (nat_lt u.copied u.pages) (nat_lt u.reloaded u.unloaded) (nat_lt u.sorted 3) (nat_lt u.built 3) is)
+  where
+    under : (a b : Bool) (granted : DrainFor) → (if a then steps.Last else (if b then steps.Write granted else steps.Switch)) ≡ steps.Reload → ⊥
+    under true b granted is = absurd (cc (is))
+    under false true granted is = absurd (cc (is))
+    under false false granted is = absurd (cc (is))
+
+    by_drain : (d : DrainState) → step_by_drain u d ≡ steps.Reload → ⊥
+    by_drain drains.Free is = absurd (cc (is))
+    by_drain (drains.Asked asked) is = absurd (cc (is))
+    by_drain (drains.Granted granted) is = under (not u.last) (not u.written) granted is
+
+    go : (a b c e : Bool) → (if a then steps.Unload else (if b then steps.Reload else (if c then steps.Sort else (if e then steps.Build else step_by_drain u d)))) ≡ steps.Reload → b ≡ true
+    go true b c e is = absurd (cc (is))
+    go false true c e is = refl
+    go false false true e is = absurd (cc (is))
+    go false false false true is = absurd (cc (is))
+    go false false false false is = absurd (by_drain d is)
+
+reload_altered : (u : Utility) (command : Command) → ((alter u command).reloaded ≡ u.reloaded) × ((alter u command).unloaded ≡ u.unloaded)
+reload_altered u (commands.Alter a) = (refl, refl)
+reload_altered u command = (refl, refl)
+
+pub reload_left : (s : Stage) (answer : Answer) → MakesStep s answer steps.Reload → s.reloaded < s.unloaded
+reload_left s answer makes =
+    let same = reload_altered (numbers_of s) answer.command in
+    omega (arith, rows_left (alter (numbers_of s) answer.command) s.drain makes.step_is, same.0, same.1)
 
 -- changes are taken once the lists are sorted
 first_steps : (u : Utility) (d : DrainState) → u.sorted ≡ 0 → (step : Step) → step_of u d ≡ step → (P : Step → Type 0) → P steps.Unload → P steps.Reload → P steps.Sort → P step
@@ -76,18 +113,21 @@ module _ (all : ℕ) (blocker : Option Session) (answer : Answer) where
       by_term false event is plain = never_first u s.drain event is (altered (numbers_of s) answer.command ∙ none) plain
 
   -- the event that is no RELOAD, or the stop that stands in its place
-  pub space_or_stop : (capacity : ℕ) (s : Stage) (event result : Event) → fills event ≡ false → s.switched ≡ false → is_plain (turn_of all blocker answer (numbers_of s) s.drain event) ≡ true → IsEventOrStop event result → HasSpace capacity s result
-  space_or_stop capacity s event result unfilled unswitched plain (inl is) = subst (HasSpace capacity s) (sym is) (space_unfilled capacity s event unfilled)
-  space_or_stop capacity s event result unfilled unswitched plain (inr (inl is)) = subst (HasSpace capacity s) (sym is) tt
-  space_or_stop capacity s event result unfilled unswitched plain (inr (inr is)) = subst (HasSpace capacity s) (sym is.0) (unswitched, λ none. absurd (some_sorted s event is.1 unswitched plain none))
+  pub space_or_stop : (capacity weight : ℕ) (s : Stage) (event : Event) (made : Result Unit ShadowFault) (result : Event) → is_filling event ≡ false → s.switched ≡ false → is_plain (turn_of all blocker answer (numbers_of s) s.drain event) ≡ true
+      → IfErr made (IsFullOf capacity weight) → IsEventOrStop event made result → HasPagesFor capacity weight s result
+  space_or_stop capacity weight s event made result unfilled unswitched plain full (inl is) = subst (HasPagesFor capacity weight s) (sym is) (space_unfilled capacity weight s event unfilled)
+  space_or_stop capacity weight s event made result unfilled unswitched plain full (inr (inl is)) = subst (HasPagesFor capacity weight s) (sym is) tt
+  space_or_stop capacity weight s event made result unfilled unswitched plain full (inr (inr is)) =
+      let bound : 3221 * capacity ≤ weight = subst (λ (m : Result Unit ShadowFault). IfErr m (IsFullOf capacity weight)) is.2 full in
+      subst (HasPagesFor capacity weight s) (sym is.0) (unswitched, (λ none. absurd (some_sorted s event is.1 unswitched plain none)), λ loaded. bound)
 
 -- of the stage of a desk
-pub space_at : (o : Option Stage) (s : Stage) (capacity : ℕ) (event : Event) → o ≡ Some s → HasSpace capacity s event → IfSome o (λ s. HasSpace capacity s event)
-space_at o s capacity event is space = subst (λ (o : Option Stage). IfSome o (λ s. HasSpace capacity s event)) (sym is) space
+pub space_at : (o : Option Stage) (s : Stage) (capacity weight : ℕ) (event : Event) → o ≡ Some s → HasPagesFor capacity weight s event → IfSome o (λ s. HasPagesFor capacity weight s event)
+space_at o s capacity weight event is space = subst (λ (o : Option Stage). IfSome o (λ s. HasPagesFor capacity weight s event)) (sym is) space
 
-pub space_any : (o : Option Stage) (capacity : ℕ) (event : Event) → ((s : Stage) → HasSpace capacity s event) → IfSome o (λ s. HasSpace capacity s event)
-space_any None capacity event space = tt
-space_any (Some s) capacity event space = space s
+pub space_any : (o : Option Stage) (capacity weight : ℕ) (event : Event) → ((s : Stage) → HasPagesFor capacity weight s event) → IfSome o (λ s. HasPagesFor capacity weight s event)
+space_any None capacity weight event space = tt
+space_any (Some s) capacity weight event space = space s
 
 -- ---- how far it is filled
 
@@ -110,7 +150,7 @@ unswitched_before true on event turn t is followed = absurd (never_on event turn
 unswitched_before false on event turn t is followed = refl
 
 module _ (copy later : ℕ) (same : later ≡ copy) (event : Event) (s t : Stage) where
-  by_turn : (turn : Turn) → Shows copy (numbers_of s) event turn → Followed turn (Some t) → loading_of later (numbers_of t) ≡ loading_after (loading_of copy (numbers_of s)) event
+  by_turn : (turn : Turn) → ShowsFilled copy (numbers_of s) event turn → Followed turn (Some t) → loading_of later (numbers_of t) ≡ loading_after (loading_of copy (numbers_of s)) event
   by_turn (Runs numbers drain) shows followed = ap (λ (n : ℕ). loading_of n (numbers_of t)) same ∙ ap (loading_of copy) followed.0 ∙ shows
   by_turn (Switches other sides numbers) shows followed = ap (loading_of later) followed.0 ∙ shows later
   by_turn Stops shows followed = absurd followed

@@ -19,6 +19,7 @@ use Rattle.rg_outside.specs.Calls.{Call, FailedRead, FailedSync, FailedWrite, Re
 use Rattle.rg_outside.specs.Faults.{Rose}
 use Rattle.rg_outside.specs.Made.{WritesIn}
 use Rattle.rg_outside.proofs.Frame.{calls_weaken, no_calls}
+use Rattle.rg_reach.specs.Weighed.{weigh_feed}
 use Rattle.rg_stage.specs.NumbersOf.{numbers_of}
 use Rattle.rg_stmt.specs.declared.event.Entry.{Entry}
 use Rattle.rg_stmt.specs.declared.event.Event.{Event}
@@ -28,7 +29,7 @@ use Rattle.rg_switch.specs.Switched.{other_of}
 use Rattle.rg_tending.specs.Tending.{FollowsBy, NextBy, is_booked, is_plain, utility_entry}
 use Rattle.rg_course.specs.Loading.{Loading, loading_after}
 use Rattle.rg_image.specs.Rules.{copy_capacity}
-use Rattle.rg_phase.specs.Step.{Acts, HasSpace, IsSwitchFrom, Loads, Makes, NextMade, copy_left, is_device_stop, is_made}
+use Rattle.rg_phase.specs.Step.{Acts, HasPagesFor, IsSwitchFrom, Loads, Makes, NextMade, copy_left, is_device_stop, is_made}
 use Rattle.rg_phase.proofs.Loading.{shows_none, shows_same, shows_step, shows_switched, space_any}
 use Rattle.rg_phase.specs.Working.{Writes}
 
@@ -133,10 +134,10 @@ module _ {V O : Type 0} (look : V → VolumeSeen) where
   }
 
   -- it tells nothing of the new copy
-  pub loads_refused : (old mid new : DeskState V O) (event : Event) → ((l : Option Loading) → loading_after l event ≡ l) → ((capacity : ℕ) (s : Stage) → HasSpace capacity s event) → mid.copy ≡ old.copy → mid.stage ≡ old.stage → FollowsBy mid.down mid.stage mid.changes mid.covered None event new.stage
+  pub loads_refused : (old mid new : DeskState V O) (event : Event) → ((l : Option Loading) → loading_after l event ≡ l) → ((capacity weight : ℕ) (s : Stage) → HasPagesFor capacity weight s event) → mid.copy ≡ old.copy → mid.stage ≡ old.stage → FollowsBy mid.down mid.stage mid.changes mid.covered None event new.stage
       → new.copy ≡ mid.copy → Loads look old event new
   loads_refused old mid new event tells space copy stage follows same = record {
-    space = space_any old.stage (copy_capacity (look old.volume).capacities (other_of old.copy)) event (space (copy_capacity (look old.volume).capacities (other_of old.copy)));
+    space = space_any old.stage (copy_capacity (look old.volume).capacities (other_of old.copy)) (weigh_feed old.feed) event (space (copy_capacity (look old.volume).capacities (other_of old.copy)) (weigh_feed old.feed));
     shows = shows_same old.stage new.stage event old.copy new.copy (same ∙ copy) (stayed mid.down mid.stage follows ∙ stage) tells;
   }
     where
@@ -154,7 +155,7 @@ module _ {V O : Type 0} (look : V → VolumeSeen) where
   module _ (old : DeskState V O) (answer : Answer) where
     -- the event is as the other copy has room
     abbrev Space : Event → Type 0
-    Space event = IfSome old.stage (λ s. HasSpace (copy_capacity (look old.volume).capacities (other_of old.copy)) s event)
+    Space event = IfSome old.stage (λ s. HasPagesFor (copy_capacity (look old.volume).capacities (other_of old.copy)) (weigh_feed old.feed) s event)
 
     -- a step was made, after a new copy was written or not
     acts_made : (mid new : DeskState V O) (event : Event) (items : List Item) → is_some old.stage ≡ true → Writes look old mid → NextMade old.down old.stage old.changes old.covered (Some answer) event → copy_left old.copy event ≡ old.copy → IsSwitchFrom old.copy event
@@ -204,7 +205,7 @@ module _ {V O : Type 0} (look : V → VolumeSeen) where
     -- a page was copied
     pub acts_copied : (mid new : DeskState V O) (page rows : ℕ) → is_some old.stage ≡ true → Writes look old mid → NextMade old.down old.stage old.changes old.covered (Some answer) (events.Unload page rows) → MadeCopy look mid answer page rows new → Acts look old answer new
     acts_copied mid new page rows runs wrote next made =
-        acts_made mid new (events.Unload page rows) (PageCopy page made.position made.copied ∷ []) runs wrote next refl tt (λ is. absurd (cc (is))) (space_any old.stage (copy_capacity (look old.volume).capacities (other_of old.copy)) (events.Unload page rows) (λ s. tt)) made.made
+        acts_made mid new (events.Unload page rows) (PageCopy page made.position made.copied ∷ []) runs wrote next refl tt (λ is. absurd (cc (is))) (space_any old.stage (copy_capacity (look old.volume).capacities (other_of old.copy)) (weigh_feed old.feed) (events.Unload page rows) (λ s. tt)) made.made
 
     -- the copies were switched
     pub acts_switched : (new : DeskState V O) (sides : Sides) → is_some old.stage ≡ true → NextMade old.down old.stage old.changes old.covered (Some answer) (events.Switched (other_of old.copy) sides) → MadeSwitch look old answer sides new → Acts look old answer new
@@ -212,7 +213,7 @@ module _ {V O : Type 0} (look : V → VolumeSeen) where
       event = events.Switched (other_of old.copy) sides;
       next = next;
       loads = record {
-        space = space_any old.stage (copy_capacity (look old.volume).capacities (other_of old.copy)) (events.Switched (other_of old.copy) sides) (λ s. tt);
+        space = space_any old.stage (copy_capacity (look old.volume).capacities (other_of old.copy)) (weigh_feed old.feed) (events.Switched (other_of old.copy) sides) (λ s. tt);
         shows = shows_switched old.stage new.stage made.stage (events.Switched (other_of old.copy) sides) old.copy new.copy made.stage_is made.switched;
       };
       made = record {
@@ -243,7 +244,7 @@ module _ {V O : Type 0} (look : V → VolumeSeen) where
       event = events.Stop reasons.Device;
       next = next;
       loads = record {
-        space = space_any old.stage (copy_capacity (look old.volume).capacities (other_of old.copy)) (events.Stop reasons.Device) (λ s. tt);
+        space = space_any old.stage (copy_capacity (look old.volume).capacities (other_of old.copy)) (weigh_feed old.feed) (events.Stop reasons.Device) (λ s. tt);
         shows = shows_none old.stage new.stage (events.Stop reasons.Device) old.copy new.copy made.stage;
       };
       made = record {

@@ -18,7 +18,7 @@ use Rattle.rg_stmt.specs.declared.event.Event.{Event}
 use Rattle.rg_tending.specs.Tending.{is_booked, is_plain}
 use Rattle.rg_tending.proofs.Turning.{LeadsIf, Needs, at_leads}
 use Rattle.rg_phase.specs.Step.{is_device_stop}
-use Rattle.rg_phase.specs.Working.{fills}
+use Rattle.rg_phase.specs.Working.{is_filling}
 
 -- a turn of a step that is no switch is plain
 
@@ -59,16 +59,16 @@ drain_quiet options what asked failed blocker now estimate =
 
 -- nor was a page to be filled
 
-unfilled_test : (what : DrainFor) (failed : ℕ) (b : Bool) (one other : DrainVerdict) → fills (drain_event what failed one) ≡ false → fills (drain_event what failed other) ≡ false → fills (drain_event what failed (if b then one else other)) ≡ false
+unfilled_test : (what : DrainFor) (failed : ℕ) (b : Bool) (one other : DrainVerdict) → is_filling (drain_event what failed one) ≡ false → is_filling (drain_event what failed other) ≡ false → is_filling (drain_event what failed (if b then one else other)) ≡ false
 unfilled_test what failed true one other y n = y
 unfilled_test what failed false one other y n = n
 
-wait_unfilled : (options : Options) (what : DrainFor) (asked failed : ℕ) (blocker : Option Session) (now : ℕ) → fills (drain_event what failed (wait_verdict options asked failed blocker now)) ≡ false
+wait_unfilled : (options : Options) (what : DrainFor) (asked failed : ℕ) (blocker : Option Session) (now : ℕ) → is_filling (drain_event what failed (wait_verdict options asked failed blocker now)) ≡ false
 wait_unfilled options what asked failed None now = refl
 wait_unfilled options what asked failed (Some session) now =
     unfilled_test what failed (nat_le (asked + options.wait) now) (retry_verdict options failed) (waits.Wait session)
     (unfilled_test what failed (nat_lt options.retry (failed + 1)) (waits.Stop reasons.Drain) waits.GiveUp refl refl) refl
 
-pub drain_unfilled : (options : Options) (what : DrainFor) (asked failed : ℕ) (blocker : Option Session) (now estimate : ℕ) → fills (drain_event what failed (drain_verdict options asked failed blocker now estimate)) ≡ false
+pub drain_unfilled : (options : Options) (what : DrainFor) (asked failed : ℕ) (blocker : Option Session) (now estimate : ℕ) → is_filling (drain_event what failed (drain_verdict options asked failed blocker now estimate)) ≡ false
 drain_unfilled options what asked failed blocker now estimate =
     unfilled_test what failed (is_late options.deadline now estimate) (waits.Stop reasons.Deadline) (wait_verdict options asked failed blocker now) refl (wait_unfilled options what asked failed blocker now)

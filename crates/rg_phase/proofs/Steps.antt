@@ -1,6 +1,7 @@
 -- A step of a desk, put together from its calls.
 use Rattle.std.proofs.Common.{◌≡◌, ◌+◌, inl, inr, ℕ, Bool, true, false, Option, Some, None, refl, sym, ◌∙◌, ap, subst}
 use Rattle.std.specs.Option.{is_some}
+use Rattle.std.specs.declared.result.Result.{Result}
 use Rattle.rg_base.specs.declared.control.Answer.{Answer}
 use Rattle.rg_base.specs.declared.session.Session.{Session}
 use Rattle.rg_base.specs.declared.verdict.StopReason.TheVariants as reasons
@@ -8,6 +9,7 @@ use Rattle.rg_desk.specs.Desk.{DeskState, IsNextStep}
 use Rattle.rg_desk.specs.Volume.{VolumeSeen}
 use Rattle.rg_fold.specs.declared.item.Stage.{Stage}
 use Rattle.rg_model.specs.Turn.{Turn, turn_of}
+use Rattle.rg_shadow.specs.declared.fault.ShadowFault.{ShadowFault}
 use Rattle.rg_stage.specs.Bounded.{KeepsBounds}
 use Rattle.rg_stage.specs.Followed.{Followed}
 use Rattle.rg_stage.specs.NumbersOf.{numbers_of}
@@ -65,16 +67,16 @@ pub runs_some : {V O : Type 0} (desk : DeskState V O) (s : Stage) → desk.stage
 runs_some desk s stage = ap (λ (o : Option Stage). is_some o) stage
 
 -- the event, or the stop that stands in its place, is the next one
-pub or_stop_next : {V O : Type 0} (desk : DeskState V O) (s : Stage) (answer : Answer) (event result : Event) → desk.down ≡ false → desk.stage ≡ Some s → s.switched ≡ false
+pub or_stop_next : {V O : Type 0} (desk : DeskState V O) (s : Stage) (answer : Answer) (event : Event) (made : Result Unit ShadowFault) (result : Event) → desk.down ≡ false → desk.stage ≡ Some s → s.switched ≡ false
     → is_booked event ≡ true → is_device_stop event ≡ false → is_plain (turn_of desk.changes desk.covered answer (numbers_of s) s.drain event) ≡ true
-    → IsEventOrStop event result
+    → IsEventOrStop event made result
     → (is_booked result ≡ true) × (is_device_stop result ≡ false) × IsNextStep desk (Some answer) result
-or_stop_next desk s answer event result down stage unswitched booked quiet next (inl is) =
+or_stop_next desk s answer event made result down stage unswitched booked quiet next (inl is) =
     subst (λ (e : Event). (is_booked e ≡ true) × (is_device_stop e ≡ false) × IsNextStep desk (Some answer) e) (sym is) (booked, quiet, next_runs desk s answer event down stage booked next)
-or_stop_next desk s answer event result down stage unswitched booked quiet next (inr (inl is)) =
+or_stop_next desk s answer event made result down stage unswitched booked quiet next (inr (inl is)) =
     subst (λ (e : Event). (is_booked e ≡ true) × (is_device_stop e ≡ false) × IsNextStep desk (Some answer) e) (sym is)
     (refl, refl, next_runs desk s answer (events.Stop reasons.NoMemory) down stage refl (stop_next s desk.changes desk.covered answer))
-or_stop_next desk s answer event result down stage unswitched booked quiet next (inr (inr is)) =
+or_stop_next desk s answer event made result down stage unswitched booked quiet next (inr (inr is)) =
     subst (λ (e : Event). (is_booked e ≡ true) × (is_device_stop e ≡ false) × IsNextStep desk (Some answer) e) (sym is.0)
     (refl, refl, next_runs desk s answer (events.Stop reasons.NoSpace) down stage refl (space_next s desk.changes desk.covered answer event is.1 unswitched next))
 

@@ -2,7 +2,7 @@
 --
 -- 1. While it is packed the rows of the packer are those of all copies, and no change was taken.
 -- 2. Once it is loaded it was packed from these rows, and is caught up with the changes taken.
-use Rattle.std.specs.Prelude.{◌≡◌, ◌≤◌, ℕ, List, length}
+use Rattle.std.specs.Prelude.{◌≡◌, ◌≤◌, ◌*◌, ℕ, List, length}
 use Rattle.std.specs.List.Sorted.{IsPermutation}
 use Rattle.rg_base.specs.declared.options.Options.{Options}
 use Rattle.rg_base.specs.declared.place.Place.{Place}
@@ -15,6 +15,8 @@ use Rattle.rg_reload.specs.Order.{IsInOrder}
 use Rattle.rg_reload.specs.Reloading.{Reloading}
 use Rattle.rg_shadow.specs.Shade.{Shade, stage_in}
 use Rattle.rg_shadow.specs.declared.drafts.IndexStage.TheVariants.{Built}
+use Rattle.rg_shadow.specs.declared.fault.ShadowFault.{ShadowFault}
+use Rattle.rg_shadow.specs.declared.fault.ShadowFault.TheVariants.{NoMemory, NoSpace}
 
 -- a packer, by these options, of the rows of all copies among these items
 pub record IsPackingOf (options : Options) (p : Reloading) (items : List Item) (taken : ℕ)
@@ -49,3 +51,9 @@ pub record IsReady (copy capacity : ℕ) (shade : Shade) : Type 0 where
   pub copy_is : shade.copy ≡ copy
   pub capacity_is : shade.capacity ≡ capacity
   pub built : (which : Which) → stage_in which shade ≡ Built
+
+-- the copy had no room, and what was sent weighs 3,221 bytes for each page that it may have; or
+-- there was no memory
+abbrev pub IsFullOf : (capacity weight : ℕ) → ShadowFault → Type 0
+IsFullOf capacity weight NoSpace = 3221 * capacity ≤ weight
+IsFullOf capacity weight NoMemory = Unit {0}

@@ -10,8 +10,9 @@
 --    does the step bring the desk down.
 -- 6. RELOAD fills a page only where it, and the empty one that is due after it, are among those
 --    that the other copy may have. Before the first list is sorted, STOP NOSPACE stands in it only
---    where one of them is not.
-use Rattle.std.specs.Prelude.{◌≡◌, ◌⊎◌, ◌++◌, ◌≤◌, ◌<◌, ◌+◌, ℕ, Bool, true, false, List, []}
+--    where one of them is not. Once all rows are reloaded it stands only where what was sent weighs
+--    3,221 bytes for each page that the other copy may have.
+use Rattle.std.specs.Prelude.{◌≡◌, ◌⊎◌, ◌++◌, ◌≤◌, ◌<◌, ◌+◌, ◌*◌, ℕ, Bool, true, false, List, []}
 use Rattle.std.specs.Prelude.{◌∷◌, Option, Some, None, IfSome, is_some}
 use Rattle.rg_base.specs.declared.control.Answer.{Answer}
 use Rattle.rg_base.specs.declared.session.Session.{Session}
@@ -26,6 +27,7 @@ use Rattle.rg_model.specs.Packed.{page_count}
 use Rattle.rg_model.specs.Turn.{turn_of}
 use Rattle.rg_outside.specs.Faults.{Rose}
 use Rattle.rg_outside.specs.Told.{AddsAnswer, HandsOver}
+use Rattle.rg_reach.specs.Weighed.{weigh_feed}
 use Rattle.rg_stage.specs.NumbersOf.{numbers_of}
 use Rattle.rg_stmt.specs.declared.event.Event.{Event}
 use Rattle.rg_stmt.specs.declared.event.Event.TheVariants as events
@@ -109,21 +111,24 @@ StepCalls look old (Some answer) new =
     (is_some old.stage ≡ true)
     × CallsOwn (other_of old.copy) (look old.volume) (look new.volume)
 
--- this event of a utility at this stage is as the other copy has room, which may have so many pages
-abbrev pub HasSpace : (capacity : ℕ) → Stage → Event → Type 0
-HasSpace capacity s (events.Reload page rows) =
+-- This event of a utility at this stage is as the other copy has room, which may have so many
+-- pages. What was sent weighs so much.
+abbrev pub HasPagesFor : (capacity weight : ℕ) → Stage → Event → Type 0
+HasPagesFor capacity weight s (events.Reload page rows) =
     (s.switched ≡ false) × (page_count s.options.freepage (s.filled + 1) ≤ capacity)
-HasSpace capacity s (events.Stop reasons.NoSpace) =
+HasPagesFor capacity weight s (events.Stop reasons.NoSpace) =
     (s.switched ≡ false)
     × (s.sorted ≡ 0 → capacity < page_count s.options.freepage (s.filled + 1))
-HasSpace capacity s event = Unit {0}
+    × (s.unloaded ≤ s.reloaded → 3221 * capacity ≤ weight)
+HasPagesFor capacity weight s event = Unit {0}
 
 -- The same, where one runs. How far the new copy is filled is told by the event, up to the switch.
 pub record Loads {V O : Type 0} (look : V → VolumeSeen) (old : DeskState V O) (event : Event)
     (new : DeskState V O) : Type 0 where
   pub space :
       IfSome old.stage
-      (λ s. HasSpace (copy_capacity (look old.volume).capacities (other_of old.copy)) s event)
+      (λ s. HasPagesFor (copy_capacity (look old.volume).capacities (other_of old.copy))
+      (weigh_feed old.feed) s event)
   pub shows :
       IfSome old.stage (λ s. IfSome new.stage (λ t.
       t.switched ≡ false

@@ -1,5 +1,6 @@
 -- What a step makes before its entry.
-use Rattle.std.specs.Prelude.{◌≡◌, ◌⊎◌, ℕ, Bool, true, false, [], Option}
+use Rattle.std.specs.Prelude.{◌≡◌, ◌⊎◌, ℕ, Bool, true, false, [], Err, Option}
+use Rattle.std.specs.declared.result.Result.{Result}
 use Rattle.rg_base.specs.declared.control.Answer.{Answer}
 use Rattle.rg_base.specs.declared.session.Session.{Session}
 use Rattle.rg_base.specs.declared.step.Step.{Step}
@@ -17,6 +18,8 @@ use Rattle.rg_model.specs.Right.{are_quiet_right, is_packed}
 use Rattle.rg_model.specs.State.{Table, row_of}
 use Rattle.rg_model.specs.Turn.{alter, is_term, step_of, turn_at}
 use Rattle.rg_phase.specs.Step.{is_device_stop}
+use Rattle.rg_shadow.specs.declared.fault.ShadowFault.{ShadowFault}
+use Rattle.rg_shadow.specs.declared.fault.ShadowFault.TheVariants.{NoSpace}
 use Rattle.rg_stage.specs.NumbersOf.{numbers_of}
 use Rattle.rg_stmt.specs.declared.event.Event.{Event}
 use Rattle.rg_stmt.specs.declared.event.Event.TheVariants as events
@@ -65,10 +68,10 @@ pub record IsReloadEvent (stage : Stage) (event : Event) : Type 0 where
       ≡ true
 
 -- a page is filled with the event, or there is none for it
-abbrev pub fills : Event → Bool
-fills (events.Reload page rows) = true
-fills (events.Stop reasons.NoSpace) = true
-fills event = false
+abbrev pub is_filling : Event → Bool
+is_filling (events.Reload page rows) = true
+is_filling (events.Stop reasons.NoSpace) = true
+is_filling event = false
 
 -- changes are taken with the event
 abbrev pub takes : Event → Bool
@@ -76,9 +79,9 @@ takes (events.Log iteration took left verdict) = true
 takes (events.Last took left) = true
 takes event = false
 
--- an event, or the stop that stands in its place
-abbrev pub IsEventOrStop : (event result : Event) → Type 0
-IsEventOrStop event result =
+-- an event, or the stop that stands in its place: STOP NOSPACE where changes had no room
+abbrev pub IsEventOrStop : Event → Result Unit ShadowFault → (result : Event) → Type 0
+IsEventOrStop event made result =
     (result ≡ event)
     ⊎ ((result ≡ events.Stop reasons.NoMemory)
-    ⊎ ((result ≡ events.Stop reasons.NoSpace) × (takes event ≡ true)))
+    ⊎ ((result ≡ events.Stop reasons.NoSpace) × (takes event ≡ true) × (made ≡ Err NoSpace)))

@@ -5,10 +5,12 @@
 // 2. The rows are those of the copies of pages that were received. Changes that are received are
 //    made in it once it is loaded, in their order.
 // 3. Whoever writes it asks first whether it is ready.
-ghost use Rattle.std.specs.Prelude.{◌≡◌, true, length, IfOk, OnOk};
+ghost use Rattle.std.specs.Prelude.{◌≡◌, true, length, IfOk, IfErr, OnOk};
 ghost use Rattle.rg_fold.specs.Fold.{since_begin};
 ghost use Rattle.rg_fold.specs.Lawful.{Lawful};
-ghost use Rattle.rg_phase.specs.Drafted.{IsBuiltIn, IsDraftOf, IsPackingOf, IsReady, SameRows};
+ghost use Rattle.rg_phase.specs.Drafted.{IsBuiltIn, IsDraftOf, IsFullOf, IsPackingOf, IsReady};
+ghost use Rattle.rg_phase.specs.Drafted.{SameRows};
+ghost use Rattle.rg_reach.specs.Weighed.{weigh_feed};
 
 use rg_base::homes::Homes;
 use rg_base::no_memory::NoMemory;
@@ -151,8 +153,14 @@ impl Draft {
         }
     }
 
-    /// Makes the next changes that were received, exactly so many.
-    pub fn take(&mut self, alloc: Global, inlet: &mut FeedIn, count: u8) -> Result<(), ShadowFault>
+    /// Makes the next changes that were received, exactly so many. It may have `capacity` pages.
+    pub fn take(
+        &mut self,
+        alloc: Global,
+        inlet: &mut FeedIn,
+        count: u8,
+        capacity: u32,
+    ) -> Result<(), ShadowFault>
         requires lawful { Lawful (since_begin inlet.old.items) }
         requires draft { IsDraftOf self.old.options self.old.shadow inlet.old.items
             inlet.old.taken }
@@ -160,7 +168,11 @@ impl Draft {
         ensures items { inlet.new.items ≡ inlet.old.items }
         ensures draft { OnOk result (IsDraftOf self.new.options self.new.shadow inlet.new.items
             inlet.new.taken) }
+        ensures full { IfErr result (IsFullOf capacity (weigh_feed inlet.old.items)) }
     {
+        if self.capacity != capacity {
+            return Err(ShadowFault::NoMemory);
+        }
         let most = u32::from(count);
         let took = catch_up(alloc, &mut self.shadow, inlet, most)?;
         // That each source leads to a row of its own, as before.

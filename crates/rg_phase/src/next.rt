@@ -10,11 +10,11 @@
 //    became of it.
 // 6. A page is filled only where the other copy may have it, with the empty one that is due after
 //    it. Where it may not, the utility stops.
-ghost use Rattle.std.specs.Prelude.{◌≡◌, ◌≤◌, ◌<◌, ◌+◌, false, true, Ok, IfSome};
+ghost use Rattle.std.specs.Prelude.{ℕ, ◌≡◌, ◌≤◌, ◌<◌, ◌+◌, false, true, Ok, IfSome};
 ghost use Rattle.rg_model.specs.Turn.{step_of, turn_at, turn_of};
 ghost use Rattle.rg_model.specs.Packed.{page_count};
-ghost use Rattle.rg_phase.specs.Step.{HasSpace, is_device_stop};
-ghost use Rattle.rg_phase.specs.Working.{IsEventOrStop, IsReloadEvent, MakesStep, fills, takes};
+ghost use Rattle.rg_phase.specs.Step.{HasPagesFor, is_device_stop};
+ghost use Rattle.rg_phase.specs.Working.{IsEventOrStop, IsReloadEvent, MakesStep, is_filling, takes};
 ghost use Rattle.rg_stage.specs.NumbersOf.{numbers_of};
 ghost use Rattle.rg_tending.specs.Tending.{is_booked, is_plain};
 
@@ -40,7 +40,7 @@ fn step_event(stage: &Stage, all: u64, holder: Option<Session>, answer: &Answer)
     requires target { stage.now.target ≤ all }
     ensures booked { is_booked result ≡ true }
     ensures device { is_device_stop result ≡ false }
-    ensures unfilled { fills result ≡ false }
+    ensures unfilled { is_filling result ≡ false }
     ensures next { let u = numbers_of stage.entry.now in let drain = stage.entry.now.drain in
         is_plain (turn_at (step_of u drain) all holder answer.entry.now u drain result) ≡ true }
 {
@@ -63,7 +63,7 @@ pub fn next_event(stage: &Stage, all: u64, holder: Option<Session>, answer: &Ans
     requires target { stage.now.target ≤ all }
     ensures booked { is_booked result ≡ true }
     ensures device { is_device_stop result ≡ false }
-    ensures unfilled { fills result ≡ false }
+    ensures unfilled { is_filling result ≡ false }
     ensures next { is_plain (turn_of all holder answer.entry.now (numbers_of stage.entry.now)
         stage.entry.now.drain result) ≡ true }
 {
@@ -96,7 +96,7 @@ fn takes(event: &Event) -> bool
 /// The event, or a stop where what goes with it could not be made: STOP NOSPACE where the new copy
 /// has no room for a change, else STOP NOMEMORY.
 pub fn or_stop(event: Event, made: Result<(), ShadowFault>) -> Event
-    ensures { IsEventOrStop event result }
+    ensures { IsEventOrStop event made result }
 {
     match made {
         Ok(()) => event,
@@ -120,8 +120,9 @@ fn has_page(stage: &Stage, capacity: u32) -> Result<bool, NoMemory>
 fn page_event(stage: &Stage, capacity: u32, filled: &Filled) -> Event
     requires page { page_count stage.now.options.freepage (stage.now.filled + 1) ≤ capacity }
     requires unswitched { stage.now.switched ≡ false }
+    requires left { stage.now.reloaded < stage.now.unloaded }
     ensures event { IsReloadEvent stage.now result }
-    ensures space { HasSpace capacity stage.now result }
+    ensures space { (weight : ℕ) → HasPagesFor capacity weight stage.now result }
 {
     let Ok(next) = page_at(stage.options.freepage, u64::from(stage.filled) + 1) else {
         return Event::Stop(StopReason::NoMemory);
@@ -141,8 +142,9 @@ fn page_event(stage: &Stage, capacity: u32, filled: &Filled) -> Event
 /// copy may have no page more, else STOP NOMEMORY. The new copy may have `capacity` pages.
 pub fn reload_event(stage: &Stage, capacity: u32, made: Result<Filled, ReloadFault>) -> Event
     requires unswitched { stage.now.switched ≡ false }
+    requires left { stage.now.reloaded < stage.now.unloaded }
     ensures event { IsReloadEvent stage.now result }
-    ensures space { HasSpace capacity stage.now result }
+    ensures space { (weight : ℕ) → HasPagesFor capacity weight stage.now result }
 {
     match (made, has_page(stage, capacity)) {
         (Ok(filled), Ok(true)) => page_event(stage, capacity, &filled),

@@ -11,20 +11,24 @@
 //    made in it.
 // 6. It is written whole, with a sync at the end, before WRITTEN is said, once no change is left.
 //    The desk keeps it for the switch. At GIVEUP it is taken back.
-ghost use Rattle.std.specs.Prelude.{◌≡◌, ◌≤◌, List, false, Some, None, Err, OnErr, OnOk, IfOk, length};
+ghost use Rattle.std.specs.Prelude.{◌≡◌, ◌≤◌, List, false, Some, None, Err, OnErr, OnOk, IfErr, IfOk, length};
 ghost use Rattle.rg_base.specs.declared.options.DrainState.TheVariants.{Granted};
 ghost use Rattle.rg_base.specs.declared.step.Step.TheVariants as steps;
 ghost use Rattle.rg_desk.specs.Desk.{HasDrain, HasTaken, while_running};
 ghost use Rattle.rg_desk.specs.Volume.{seen_volume};
 ghost use Rattle.rg_fold.specs.Fold.{changes, since_begin};
 ghost use Rattle.rg_fold.specs.Lawful.{Lawful};
+ghost use Rattle.rg_image.specs.Rules.{copy_capacity};
 ghost use Rattle.rg_outside.specs.Faults.{Rose};
+ghost use Rattle.rg_phase.specs.Drafted.{IsFullOf};
 ghost use Rattle.rg_feed.specs.Ends.{Received};
 ghost use Rattle.rg_fold.specs.declared.item.Item.{Item};
 ghost use Rattle.rg_phase.specs.Made.{HasMade, Hears, KeepsWorks, Works};
 ghost use Rattle.rg_phase.specs.Step.{Acts, Stepped};
 ghost use Rattle.rg_phase.specs.Working.{AreSidesToSwitch, MakesStep, Writes};
 ghost use Rattle.rg_phase.specs.declared.made.Made.TheVariants.{Nothing};
+ghost use Rattle.rg_reach.specs.Weighed.{weigh_feed};
+ghost use Rattle.rg_switch.specs.Switched.{other_of};
 
 use crate::draft::{Draft, Packing};
 use crate::made::Made;
@@ -235,6 +239,9 @@ impl Reorg {
         ensures desk { desk.new ≡ record desk.old { shadow = desk.new.shadow } }
         ensures ring { inlet.new.ring ≡ inlet.old.ring }
         ensures works { Works self.new.made desk.new.shadow inlet.new desk.new.feed }
+        ensures full { IfErr result (IsFullOf
+            (copy_capacity (V.capacities desk.old.volume) (other_of desk.old.copy))
+            (weigh_feed desk.old.feed)) }
     {
         match event {
             Event::Sort(which) => {
@@ -246,8 +253,8 @@ impl Reorg {
                 self.build(*which)?;
                 Ok(())
             }
-            Event::Log { took, .. } => self.take(alloc, inlet, *took),
-            Event::Last { took, .. } => self.take(alloc, inlet, *took),
+            Event::Log { took, .. } => self.take(alloc, inlet, *took, desk.other().1),
+            Event::Last { took, .. } => self.take(alloc, inlet, *took, desk.other().1),
             Event::GiveUp(_) => {
                 self.take_back(desk);
                 Ok(())
@@ -358,13 +365,21 @@ impl Reorg {
         }
     }
 
-    // Makes the next changes in the new copy, exactly so many. It is dropped where that fails.
-    fn take(&mut self, alloc: Global, inlet: &mut FeedIn, count: u8) -> Result<(), ShadowFault>
+    // Makes the next changes in the new copy, exactly so many. It may have `capacity` pages, and is
+    // dropped where that fails.
+    fn take(
+        &mut self,
+        alloc: Global,
+        inlet: &mut FeedIn,
+        count: u8,
+        capacity: u32,
+    ) -> Result<(), ShadowFault>
         requires lawful { Lawful (since_begin inlet.old.items) }
         requires made { HasMade self.old.made inlet.old }
         ensures ring { inlet.new.ring ≡ inlet.old.ring }
         ensures items { inlet.new.items ≡ inlet.old.items }
         ensures works { KeepsWorks self.old.made inlet.old self.new.made inlet.new }
+        ensures full { IfErr result (IsFullOf capacity (weigh_feed inlet.old.items)) }
     {
         if count == 0 {
             return Ok(());
@@ -372,7 +387,7 @@ impl Reorg {
         match mem::replace(&mut self.made, Made::Nothing) {
             Made::Drafted(draft) => {
                 let mut draft = draft;
-                draft.take(alloc, inlet, count)?;
+                draft.take(alloc, inlet, count, capacity)?;
                 self.made = Made::Drafted(draft);
                 Ok(())
             }

@@ -517,7 +517,7 @@ module _ {V O : Type 0} {answers : O → Option (List Answer)} (look : V → Vol
         copy = made.copy ∙ sym (step_copy stepped.answer stepped.event step_is old.copy);
         own = allows_more entry new.copy (subst (AllowsCopy old.trace) (sym made.copy) (own_copy stepped.answer stepped.event step_is stepped.only made.to));
         both = λ runs copy which. allows_more entry copy (goes.both (made.runs runs) copy which);
-        space = space_step (look old.volume).capacities old.copy old.trace old.stage stepped.event goes.loading stepped.loads.space (fills_idle old.down old.stage old.changes old.covered stepped.answer stepped.event stepped.next);
+        space = space_step (look old.volume).capacities old.copy old.trace old.stage _ stepped.event goes.loading stepped.loads.space (fills_idle old.down old.stage old.changes old.covered stepped.answer stepped.event stepped.next);
         loading = shown_step old.stage new.stage old.copy new.copy old.trace entry made.runs goes.loading stepped.loads.shows;
       }
 

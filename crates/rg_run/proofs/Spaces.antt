@@ -12,8 +12,8 @@ use Rattle.rg_fold.specs.declared.item.Stage.{Stage}
 use Rattle.rg_image.specs.Rules.{copy_capacity}
 use Rattle.rg_log.specs.Kept.{Listed as ListedLog}
 use Rattle.rg_outside.specs.Capacities.{Capacities}
-use Rattle.rg_phase.specs.Step.{HasSpace, NextMade}
-use Rattle.rg_phase.specs.Working.{fills}
+use Rattle.rg_phase.specs.Step.{HasPagesFor, NextMade}
+use Rattle.rg_phase.specs.Working.{is_filling}
 use Rattle.rg_stage.specs.NumbersOf.{numbers_of}
 use Rattle.rg_stmt.specs.declared.event.Entry.{Entry}
 use Rattle.rg_stmt.specs.declared.event.Event.{Event}
@@ -145,7 +145,7 @@ shown_start down stage next options copy later pages log entries entry is same s
 
 -- ---- a step
 
-space_other : (capacities : Capacities) (event : Event) → fills event ≡ false → (now : Option Loading) → IsForSpace capacities now event
+space_other : (capacities : Capacities) (event : Event) → is_filling event ≡ false → (now : Option Loading) → IsForSpace capacities now event
 space_other capacities (events.Reload page rows) is now = absurd (cc (is))
 space_other capacities (events.Stop reasons.NoSpace) is now = absurd (cc (is))
 space_other capacities event is None = tt
@@ -155,27 +155,27 @@ sorted_none : (n : ℕ) → (n == 0) ≡ true → n ≡ 0
 sorted_none n is = grind (arith, nat_tests, is)
 
 module _ (capacities : Capacities) (copy : ℕ) (entries : List Entry) where
-  space_of : (s : Stage) (event : Event) → ShowsLoading (Some s) copy entries → HasSpace (copy_capacity capacities (other_of copy)) s event → IsForSpace capacities (loading_in None entries) event
-  space_of s (events.Reload page rows) shown space =
+  space_of : (s : Stage) (weight : ℕ) (event : Event) → ShowsLoading (Some s) copy entries → HasPagesFor (copy_capacity capacities (other_of copy)) weight s event → IsForSpace capacities (loading_in None entries) event
+  space_of s weight (events.Reload page rows) shown space =
       subst (λ (l : Option Loading). IsForSpace capacities l (events.Reload page rows)) (sym (shown space.0)) (go (s.sorted == 0))
     where
       go : (b : Bool) → IsForSpace capacities (if b then Some (record { copy = copy; freepage = s.options.freepage; filled = s.filled }) else None) (events.Reload page rows)
       go true = space.1
       go false = tt
-  space_of s (events.Stop reasons.NoSpace) shown space =
+  space_of s weight (events.Stop reasons.NoSpace) shown space =
       subst (λ (l : Option Loading). IsForSpace capacities l (events.Stop reasons.NoSpace)) (sym (shown space.0)) (go (s.sorted == 0) refl)
     where
       go : (b : Bool) → (s.sorted == 0) ≡ b → IsForSpace capacities (if b then Some (record { copy = copy; freepage = s.options.freepage; filled = s.filled }) else None) (events.Stop reasons.NoSpace)
       go true none = space.1 (sorted_none s.sorted none)
       go false none = tt
-  space_of s event shown space = space_other capacities event refl (loading_in None entries)
+  space_of s weight event shown space = space_other capacities event refl (loading_in None entries)
 
-  pub space_step : (stage : Option Stage) (event : Event) → ShowsLoading stage copy entries → IfSome stage (λ s. HasSpace (copy_capacity capacities (other_of copy)) s event) → (stage ≡ None → fills event ≡ false) → IsForSpace capacities (loading_in None entries) event
-  space_step None event shown space idle = space_other capacities event (idle refl) (loading_in None entries)
-  space_step (Some s) event shown space idle = space_of s event shown space
+  pub space_step : (stage : Option Stage) (weight : ℕ) (event : Event) → ShowsLoading stage copy entries → IfSome stage (λ s. HasPagesFor (copy_capacity capacities (other_of copy)) weight s event) → (stage ≡ None → is_filling event ≡ false) → IsForSpace capacities (loading_in None entries) event
+  space_step None weight event shown space idle = space_other capacities event (idle refl) (loading_in None entries)
+  space_step (Some s) weight event shown space idle = space_of s weight event shown space
 
 -- where no utility runs no page is filled
-pub fills_idle : (down : Bool) (stage : Option Stage) (changes : ℕ) (covered : Option Session) (answer : Option Answer) (event : Event) → NextMade down stage changes covered answer event → stage ≡ None → fills event ≡ false
+pub fills_idle : (down : Bool) (stage : Option Stage) (changes : ℕ) (covered : Option Session) (answer : Option Answer) (event : Event) → NextMade down stage changes covered answer event → stage ≡ None → is_filling event ≡ false
 fills_idle true stage changes covered None events.StepDown made none = refl
 fills_idle true stage changes covered None event made none = absurd made
 fills_idle true stage changes covered (Some answer) event made none = absurd made

@@ -1,10 +1,12 @@
 -- A plan of a change, once it is carried out and the mapping table follows.
-use Rattle.std.proofs.Common.{◌≡◌, List, Option, Some, None, sym, ◌∙◌, ap, subst}
+use Rattle.std.proofs.Common.{◌≡◌, ◌≤◌, ◌+◌, List, Option, Some, None, sym, ◌∙◌, ap, subst}
 use Rattle.std.proofs.Math.Nat.{le_refl}
 use Rattle.std.specs.Prelude.{IsSomeAnd}
 use Rattle.std.specs.FinMap as map
 use Rattle.rg_base.specs.declared.place.Place.{Place}
 use Rattle.rg_base.specs.declared.row.Row.{Row}
+use Rattle.rg_claimed.specs.Claim.{claimed_all, nobody}
+use Rattle.rg_claimed.specs.Weight.{weight}
 use Rattle.rg_fold.specs.Fed.{SetsRow}
 use Rattle.rg_home.specs.Able.{Proper}
 use Rattle.rg_home.specs.Pages.{row_or_empty, slot_of}
@@ -21,6 +23,7 @@ use Rattle.rg_shadow.specs.Pieces.{Carried, IsReady, IsWhole, SamePieces, rows_i
 use Rattle.rg_shadow.specs.Planned.{change_plan, drop_plan, put_plan, slots_in}
 use Rattle.rg_shadow.specs.Shade.{Applies, Shade, plan_at, plan_for}
 use Rattle.rg_shadow.specs.declared.pieces.Pieces.{Pieces}
+use Rattle.rg_shadow.proofs.Claiming.{plan_claims}
 use Rattle.rg_shadow.proofs.Keeping.{same_shade, still_built}
 use Rattle.rg_shadow.proofs.Moving.{Moves, applied, mapped, put_in, replaced, row_set, taken_out}
 
@@ -60,6 +63,9 @@ module _ (old mid car : Pieces) (plan : Plan) (source : Place) (same : SamePiece
     applies = subst (λ (s : Shade). Applies s source after (shade_of (record car { map = m }))) (same_shade old mid same)
         (applied (shade_of mid) (shade_of (record car { map = m })) source plan.home after moves (changes after ready carried) (record {
           pages = subst (λ (o : Option Plan). IsSomeAnd o (λ p. slots_in car.space ≡ pages_after 0 (row_or_empty after) (slots_in mid.space) p)) (sym is) carried.slots;
+          claims =
+              subst (λ (ps : List (List Slot)). claimed_all nobody ps ≤ claimed_all nobody (slots_in mid.space) + weight after) (sym carried.slots)
+              (plan_claims (shade_of mid) whole.proper source after plan whole.mapped is);
           positions = carried.positions;
           copy = carried.copy;
           capacity = carried.capacity;

@@ -1,5 +1,6 @@
 pub mod Holding
 pub mod Planning
+pub mod Claiming
 pub mod Unlogged
 pub mod Moving
 pub mod Keeping

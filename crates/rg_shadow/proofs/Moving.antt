@@ -1,10 +1,12 @@
 -- The row of one source comes, changes or goes.
-use Rattle.std.proofs.Common.{◌≡◌, Bool, true, false, cond, Option, Some, None, is_some, refl, sym, ◌∙◌, ap, subst}
+use Rattle.std.proofs.Common.{◌≡◌, ◌≤◌, ◌+◌, Bool, true, false, cond, Option, Some, None, is_some, refl, sym, ◌∙◌, ap, subst, arith}
 use Rattle.std.specs.Prelude.{IsSomeAnd}
 use Rattle.std.specs.FinMap as map
 use Rattle.rg_base.specs.declared.place.Place.{Place}
 use Rattle.rg_base.specs.declared.row.Row.{Row}
 use Rattle.rg_base.specs.declared.which.Which.{Which}
+use Rattle.rg_claimed.specs.Claim.{claimed_all, nobody}
+use Rattle.rg_claimed.specs.Weight.{weight}
 use Rattle.rg_fold.proofs.Places.{one_place, place_itself}
 use Rattle.rg_fold.specs.Fed.{SetsRow}
 use Rattle.rg_home.specs.Pages.{row_or_empty, slot_of}
@@ -122,6 +124,7 @@ row_set old new t after c = record { here = c.here; others = λ q h. c.others q 
 pub record Else (old new : Shade) (source : Place) (after : Option Row) : Type 0 where
   pub pages : IsSomeAnd (plan_for old source after) (λ plan.
       shade_slots new ≡ pages_after 0 (row_or_empty after) (shade_slots old) plan)
+  pub claims : claimed_all nobody (shade_slots new) ≤ claimed_all nobody (shade_slots old) + weight after
   pub positions : AreUnlogged old.pages → AreUnlogged new.pages
   pub copy : new.copy ≡ old.copy
   pub capacity : new.capacity ≡ old.capacity
@@ -137,6 +140,7 @@ applied old new source t after m changes rest = record {
   stays = λ x e f. m.target.here ∙ moved-is t after f ∙ ap (λ (p : Place). Some p) (sym (m.only x e));
   lie = λ q x h e. changes.lie x (sym (same_place-turned t x) ∙ apart_from old.targets new.targets (home_rows old) (home_rows new) source t after m q x h e);
   pages = rest.pages;
+  claims = rest.claims;
   positions = rest.positions;
   copy = rest.copy;
   capacity = rest.capacity;
@@ -151,6 +155,7 @@ nothing s source e = record {
   stays = λ x f g. absurd (none_some (target_of s source) x e f);
   lie = λ q x h f. refl;
   pages = subst (λ (o : Option Place). IsSomeAnd (plan_at s o None) (λ plan. shade_slots s ≡ pages_after 0 (row_or_empty None) (shade_slots s) plan)) (sym e) refl;
+  claims = omega arith;
   positions = λ unlogged. unlogged;
   copy = refl;
   capacity = refl;

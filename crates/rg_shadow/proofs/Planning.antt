@@ -24,7 +24,7 @@ use Rattle.rg_space.specs.Space.{capacity_in}
 use Rattle.rg_space.specs.declared.space.Space.{Space}
 use Rattle.rg_shadow.specs.Planned.{HasPages, change_plan, drop_plan, pages_in, put_plan, slots_in}
 
-of_some : {A : Type 0} (P : A → Type 0) (o : Option A) (x : A) → IfSome o P → o ≡ Some x → P x
+pub of_some : {A : Type 0} (P : A → Type 0) (o : Option A) (x : A) → IfSome o P → o ≡ Some x → P x
 of_some {A} P None x h e = absurd (cc (e))
 of_some {A} P (Some y) x h e = let same : y ≡ x = cc (e) in subst P same h
 

@@ -1,10 +1,12 @@
 -- Plans of a space that is in memory.
 --
--- 1. No unit is live in a new copy: every dead area may be purged, and its owner is 0.
-use Rattle.std.specs.Prelude.{◌≡◌, ◌≤◌, ℕ, List, [], Option, None, length}
+-- 1. No unit is live in a new copy: every dead area may be purged, and its owner is 0. So nobody
+--    holds one, and it claims no more than its header.
+use Rattle.std.specs.Prelude.{◌≡◌, ◌≤◌, ◌*◌, ℕ, List, [], Option, None, length}
 use Rattle.rg_base.specs.RowBytes.{row_size}
 use Rattle.rg_base.specs.declared.place.Place.{Place}
 use Rattle.rg_base.specs.declared.row.Row.{Row}
+use Rattle.rg_claimed.specs.Claim.{claimed_all, nobody}
 use Rattle.rg_home.specs.Pages.{slot_of}
 use Rattle.rg_home.specs.Plan.{new_area, planned_put, planned_change, planned_drop}
 use Rattle.rg_home.specs.Slot.{Slot}
@@ -77,3 +79,9 @@ drop_plan pages home = planned_drop pages home (slot_of pages home)
 abbrev pub IsRefusal : Option Plan → ShadowFault → Type 0
 IsRefusal plan NoSpace = plan ≡ None
 IsRefusal plan NoMemory = Unit {0}
+
+-- there is no plan, and these pages claim 3,221 bytes for each that there may be; or no memory
+abbrev pub IsFull : Option Plan → (capacity : ℕ) → List (List Slot) → ShadowFault → Type 0
+IsFull plan capacity pages NoSpace =
+    (plan ≡ None) × (3221 * capacity ≤ claimed_all nobody pages)
+IsFull plan capacity pages NoMemory = Unit {0}

@@ -7,12 +7,14 @@
 -- 3. The pages are those that the plans of puts, changes and drops leave, where no unit is live. No
 --    record of the log changes one of them: its position stays 0 until it is given another one, as
 --    it goes to a volume.
-use Rattle.std.specs.Prelude.{◌≡◌, ℕ, Bool, true, false, List, [], Option, Some, None, is_some, IsSomeAnd}
+use Rattle.std.specs.Prelude.{◌≡◌, ◌≤◌, ◌+◌, ℕ, Bool, true, false, List, [], Option, Some, None, is_some, IsSomeAnd}
 use Rattle.std.specs.FinMap as map
 use Rattle.rg_base.specs.declared.place.Place.{Place}
 use Rattle.rg_base.specs.declared.row.Row.{Row}
 use Rattle.rg_base.specs.declared.which.Which.{Which}
 use Rattle.rg_base.specs.declared.which.Which.TheVariants.{Key, Clus, Cat}
+use Rattle.rg_claimed.specs.Claim.{claimed_all, nobody}
+use Rattle.rg_claimed.specs.Weight.{weight}
 use Rattle.rg_fold.specs.Fed.{SetsRow}
 use Rattle.rg_home.specs.Pages.{row_or_empty, slot_of}
 use Rattle.rg_home.specs.Plan.{pages_after}
@@ -25,11 +27,10 @@ use Rattle.rg_model.specs.Layout.{is_right_side, same_place}
 use Rattle.rg_model.specs.State.{Table, row_of}
 use Rattle.rg_page.specs.Content.{Content, slots_of}
 use Rattle.rg_reload.specs.Moved.{row_through}
-use Rattle.rg_shadow.specs.Planned.{AreUnlogged, change_plan, drop_plan, put_plan}
+use Rattle.rg_shadow.specs.Planned.{AreUnlogged, IsFull, change_plan, drop_plan, put_plan}
 use Rattle.rg_shadow.specs.declared.drafts.IndexStage.{IndexStage}
 use Rattle.rg_shadow.specs.declared.drafts.IndexStage.TheVariants.{Unsorted, Sorted, Built}
 use Rattle.rg_shadow.specs.declared.fault.ShadowFault.{ShadowFault}
-use Rattle.rg_shadow.specs.declared.fault.ShadowFault.TheVariants.{NoSpace, NoMemory}
 use Rattle.rg_stmt.specs.declared.layout.Side.{Side}
 
 -- the copy, its capacity in pages, its pages, the targets, and how far each index is made
@@ -100,7 +101,7 @@ abbrev pub plan_for : Shade → Place → Option Row → Option Plan
 plan_for s source after = plan_at s (target_of s source) after
 
 -- The row of a source is this one, and all else is as it was. A source that keeps a row keeps its
--- target. What was built stays so.
+-- target. The pages claim at most the weight of the row more. What was built stays so.
 pub record Applies (old : Shade) (source : Place) (after : Option Row) (new : Shade) : Type 0 where
   pub rows : SetsRow (source_rows old) (source_rows new) source after
   pub targets : (other : Place) → same_place source other ≡ false
@@ -111,12 +112,16 @@ pub record Applies (old : Shade) (source : Place) (after : Option Row) (new : Sh
       → target_of old other ≡ Some target → lies_in new target ≡ lies_in old target
   pub pages : IsSomeAnd (plan_for old source after) (λ plan.
       shade_slots new ≡ pages_after 0 (row_or_empty after) (shade_slots old) plan)
+  pub claims :
+      claimed_all nobody (shade_slots new)
+      ≤ claimed_all nobody (shade_slots old) + weight after
   pub positions : AreUnlogged old.pages → AreUnlogged new.pages
   pub copy : new.copy ≡ old.copy
   pub capacity : new.capacity ≡ old.capacity
   pub built : (which : Which) → stage_in which old ≡ Built → stage_in which new ≡ Built
 
--- why it is not: there is no plan, so no room; or there is no memory
+-- Why it is not: there is no plan, so no room, and then the pages claim 3,221 bytes for each that
+-- there may be. Or there is no memory.
 abbrev pub Refuses : Shade → Place → Option Row → ShadowFault → Type 0
-Refuses s source after NoSpace = plan_for s source after ≡ None
-Refuses s source after NoMemory = Unit {0}
+Refuses s source after fault =
+    IsFull (plan_for s source after) s.capacity (shade_slots s) fault

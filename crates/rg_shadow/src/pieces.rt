@@ -16,7 +16,7 @@ ghost use Rattle.rg_page_bytes.specs.PageBytes.{page_bytes};
 ghost use Rattle.rg_space.specs.Space.{capacity_in};
 ghost use Rattle.rg_shadow.specs.Drafts.{HaveSpare};
 ghost use Rattle.rg_shadow.specs.Pieces.{Carried, IsReady, IsWhole, SamePieces, rows_in, shade_of};
-ghost use Rattle.rg_shadow.specs.Planned.{IsRefusal, change_plan, drop_plan, put_plan, slots_in};
+ghost use Rattle.rg_shadow.specs.Planned.{IsFull, change_plan, drop_plan, put_plan, slots_in};
 ghost use Rattle.rg_shadow.specs.Shade.{Applies, IsRightSideOf, Refuses, shade_slots, stage_in, with_stage};
 ghost use Rattle.rg_shadow.specs.declared.drafts.IndexStage.TheVariants.{Sorted, Built};
 
@@ -134,8 +134,9 @@ impl Pieces {
             put_plan row.now (capacity_in self.new.space) (slots_in self.new.space) ≡ Some plan) }
         ensures fresh { IfOk result (λ plan. rows_in self.new plan.home ≡ None) }
         ensures ready { IfOk result (IsReady self.new (Some row.now)) }
-        ensures refusal { IfErr result (IsRefusal
-            (put_plan row.now (capacity_in self.new.space) (slots_in self.new.space))) }
+        ensures refusal { IfErr result (IsFull
+            (put_plan row.now (capacity_in self.new.space) (slots_in self.new.space))
+            (capacity_in self.new.space) (slots_in self.new.space)) }
     {
         let _size = row.size();
         let plan = plan_put(&mut self.space, row)?;
@@ -154,8 +155,9 @@ impl Pieces {
             ≡ Some plan) }
         ensures home { IfOk result (λ plan. plan.home ≡ home) }
         ensures ready { IfOk result (IsReady self.new (Some row.now)) }
-        ensures refusal { IfErr result (IsRefusal
-            (change_plan row.now (capacity_in self.new.space) (slots_in self.new.space) home)) }
+        ensures refusal { IfErr result (IsFull
+            (change_plan row.now (capacity_in self.new.space) (slots_in self.new.space) home)
+            (capacity_in self.new.space) (slots_in self.new.space)) }
     {
         let _size = row.size();
         let plan = plan_change(&mut self.space, home, row)?;

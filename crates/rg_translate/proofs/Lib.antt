@@ -1,4 +1,5 @@
 pub mod Later
 pub mod Taking
 pub mod Making
+pub mod Weighing
 pub mod Replaying

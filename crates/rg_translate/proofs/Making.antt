@@ -189,7 +189,7 @@ idle_by old new batch net last idle none = idle (none_named net (λ place. last 
 
 -- changes whose homes rise are each the last one of its home
 
-none_later : (place : Place) (cs : List Change) → list_all (λ later. is_place_before place later) (map (λ (c : Change). c.home) cs) ≡ true → last_at place cs ≡ None
+pub none_later : (place : Place) (cs : List Change) → list_all (λ later. is_place_before place later) (map (λ (c : Change). c.home) cs) ≡ true → last_at place cs ≡ None
 none_later place [] e = refl
 none_later place (c ∷ cs) e =
     let parts = and_parts (is_place_before place c.home) (list_all (λ later. is_place_before place later) (map (λ (x : Change). x.home) cs)) e in

@@ -7,15 +7,19 @@
 --    row before and after the batch has the target that it had.
 -- 3. Only a change that is made can be refused: the last one of its home.
 -- 4. Pages that no record has changed stay so.
-use Rattle.std.specs.Prelude.{◌≡◌, ◌⊎◌, ◌+◌, ℕ, true, List, Some, None, is_some, Contains}
+-- 5. A change claims at most the weight of its row more of the pages. Only where the pages claim
+--    3,221 bytes for each that there may be a change is refused for want of space.
+use Rattle.std.specs.Prelude.{◌≡◌, ◌⊎◌, ◌≤◌, ◌+◌, ◌*◌, ℕ, true, List, Some, None, is_some, Contains}
 use Rattle.rg_base.specs.declared.change.Change.{Change}
 use Rattle.rg_base.specs.declared.place.Place.{Place}
 use Rattle.rg_base.specs.declared.which.Which.{Which}
+use Rattle.rg_claimed.specs.Claim.{claimed_all, nobody}
 use Rattle.rg_feed.specs.Ends.{Received}
 use Rattle.rg_fold.specs.Fold.{fold_to}
 use Rattle.rg_fold.specs.Last.{last_at}
+use Rattle.rg_reach.specs.Weighed.{weigh_changes}
 use Rattle.rg_shadow.specs.Planned.{AreUnlogged}
-use Rattle.rg_shadow.specs.Shade.{Refuses, Shade, lies_in, source_rows, stage_in, target_of}
+use Rattle.rg_shadow.specs.Shade.{Refuses, Shade, lies_in, shade_slots, source_rows, stage_in, target_of}
 use Rattle.rg_shadow.specs.declared.drafts.IndexStage.TheVariants.{Built}
 use Rattle.rg_shadow.specs.declared.fault.ShadowFault.{ShadowFault}
 use Rattle.rg_shadow.specs.declared.fault.ShadowFault.TheVariants.{NoMemory, NoSpace}
@@ -66,3 +70,15 @@ IsRefusedLast shadow cs NoMemory = Unit {0}
 abbrev pub StopsAt : ShadowFault → (n before after : ℕ) → Type 0
 StopsAt NoSpace n before after = after ≡ before + n
 StopsAt NoMemory n before after = (after ≡ before) ⊎ (after ≡ before + n)
+
+-- the pages claim at most the weight of these changes more
+abbrev pub ClaimsMore : Shade → Shade → List Change → Type 0
+ClaimsMore old new cs =
+    claimed_all nobody (shade_slots new) ≤ claimed_all nobody (shade_slots old) + weigh_changes cs
+
+-- one of these changes is refused for want of space only where with them the pages may claim 3,221
+-- bytes for each that there may be
+abbrev pub IsFullBy : Shade → List Change → ShadowFault → Type 0
+IsFullBy s cs NoSpace =
+    3221 * s.capacity ≤ claimed_all nobody (shade_slots s) + weigh_changes cs
+IsFullBy s cs NoMemory = Unit {0}

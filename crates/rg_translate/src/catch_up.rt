@@ -15,7 +15,8 @@ ghost use Rattle.std.specs.Prelude.{◌≡◌, ◌+◌, [], min, OnOk, IfOk, IfE
 ghost use Rattle.rg_fold.specs.Fold.{since_begin};
 ghost use Rattle.rg_fold.specs.Lawful.{Lawful};
 ghost use Rattle.rg_translate.specs.Backlog.{SameItems, left, next_changes, to_make};
-ghost use Rattle.rg_translate.specs.Caught.{Caught, IsRefusedLast, KeepTargets, SameCopy, StopsAt, Unmoved};
+ghost use Rattle.rg_translate.specs.Caught.{Caught, ClaimsMore, IsFullBy, IsRefusedLast};
+ghost use Rattle.rg_translate.specs.Caught.{KeepTargets, SameCopy, StopsAt, Unmoved};
 
 use crate::batch::{next_count, take_batch};
 use crate::make::make_changes;
@@ -52,6 +53,11 @@ pub fn catch_up(
     // The refused change is the last of its home that is not passed over; the copy is as it was
     // before that one.
     ensures refused { IfErr result (IsRefusedLast shadow.new
+        (to_make (min most (left inlet.old)) inlet.old)) }
+    ensures claims { OnOk result (ClaimsMore shadow.old shadow.new
+        (to_make (min most (left inlet.old)) inlet.old)) }
+    // A change has no room only where the pages, with the rows of all of them, claim so much.
+    ensures full { IfErr result (IsFullBy shadow.old
         (to_make (min most (left inlet.old)) inlet.old)) }
     ensures stops { IfErr result (λ fault. StopsAt fault (min most (left inlet.old))
         inlet.old.taken inlet.new.taken) }

@@ -8,7 +8,7 @@ ghost use Rattle.rg_base.specs.declared.place.Place.{Place};
 ghost use Rattle.rg_fold.specs.Last.{applied_at};
 ghost use Rattle.rg_model.specs.Layout.{are_rising};
 ghost use Rattle.rg_shadow.specs.Shade.{source_rows};
-ghost use Rattle.rg_translate.specs.Caught.{IsRefusedOf, KeepTargets, SameCopy, Unmoved};
+ghost use Rattle.rg_translate.specs.Caught.{ClaimsMore, IsFullBy, IsRefusedOf, KeepTargets, SameCopy, Unmoved};
 
 use rg_base::change::Change;
 use rg_shadow::fault::ShadowFault;
@@ -24,6 +24,8 @@ pub fn make_changes(shadow: &mut Shadow, changes: &[Change]) -> Result<(), Shado
     ensures copy { SameCopy shadow.old shadow.new }
     ensures idle { changes.now ≡ [] → shadow.new ≡ shadow.old }
     ensures refused { IfErr result (IsRefusedOf shadow.new changes.now) }
+    ensures claims { OnOk result (ClaimsMore shadow.old shadow.new changes.now) }
+    ensures full { IfErr result (IsFullBy shadow.old changes.now) }
 {
     for change in changes {
         shadow.apply(change.home, change.after.as_ref())?;

@@ -1,6 +1,6 @@
 use Rattle.std.proofs.Common.{suc}
 use Rattle.rg_claimed.proofs.Pages.{claimed_all-used}
-use Rattle.rg_claimed.proofs.Full.{full_bound}
+use Rattle.rg_claimed.proofs.Full.{full_bound, no_change, no_put}
 use Rattle.rg_claimed.proofs.Bound.{full_top}
 use Rattle.rg_claimed.proofs.laws.full_law.Goals as goal
 
@@ -12,3 +12,6 @@ returns-clause-bound c holds live b capacity pages covers small within none = fu
 
 pub returns-clause-top : goal.returns-clause-top
 returns-clause-top c holds live opening more small b capacity pages covers row least within claims none = full_top holds live covers opening more small capacity b pages row least within claims none
+
+pub returns-clause-lack : goal.returns-clause-lack
+returns-clause-lack c live b capacity pages = (no_put live b capacity pages, no_change live b capacity pages)

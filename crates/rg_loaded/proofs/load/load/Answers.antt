@@ -1,11 +1,12 @@
 use Rattle.std.proofs.Common.{◌≡◌, ◌∙◌, List, length, ap}
 use Rattle.rg_base.specs.declared.place.Place.{Place}
 use Rattle.rg_fold.specs.Fold.{row_in}
-use Rattle.rg_home.specs.Pages.{slot_of}
+use Rattle.rg_home.specs.Pages.{page_at, slot_of}
 use Rattle.rg_home.specs.Rows.{row_at}
 use Rattle.rg_page.specs.Content.{Content, slots_of}
 use Rattle.rg_reload.specs.Moved.{row_through, target_in}
-use Rattle.rg_shadow.specs.Shade.{home_rows, source_rows}
+use Rattle.rg_shadow.specs.Shade.{home_rows, shade_slots, source_rows}
+use Rattle.rg_loaded.proofs.Claiming.{packed_claims}
 use Rattle.rg_loaded.proofs.Loading.{all_unsorted}
 use Rattle.rg_loaded.proofs.load.load.Goals as goal
 
@@ -26,6 +27,9 @@ returns c =
         packed = λ place. ap (λ (pages : List Content). slot_of (slots_of pages) place) made.pages ∙ filled.slots place;
         sources = same;
         pages = ap (λ (pages : List Content). length pages) made.pages ∙ filled.pages;
+        claims =
+            packed_claims packer.options packer.rows (shade_slots shadow)
+            (λ n. ap (λ (pages : List Content). page_at (slots_of pages) n) made.pages ∙ filled.space.rows_are.slots n);
       };
       unsorted = all_unsorted shadow made.keys made.cluses made.cats;
     }

@@ -5,7 +5,7 @@ use Rattle.rg_model.specs.Turn.{turn_at}
 use Rattle.rg_stage.specs.NumbersOf.{numbers_of}
 use Rattle.rg_tending.specs.Tending.{is_booked, is_plain}
 use Rattle.rg_phase.specs.Step.{is_device_stop}
-use Rattle.rg_phase.specs.Working.{fills}
+use Rattle.rg_phase.specs.Working.{is_filling}
 use Rattle.rg_phase.proofs.Stepping.{drain_booked, drain_quiet, drain_unfilled, plain_at}
 use Rattle.rg_phase.proofs.next.step_event.Goals as goal
 
@@ -16,7 +16,7 @@ pub returns-in-Log-clause-device : goal.returns-in-Log-clause-device
 returns-in-Log-clause-device c = ap is_device_stop c.log_event.ensures.event
 
 pub returns-in-Log-clause-unfilled : goal.returns-in-Log-clause-unfilled
-returns-in-Log-clause-unfilled c = ap fills c.log_event.ensures.event
+returns-in-Log-clause-unfilled c = ap is_filling c.log_event.ensures.event
 
 pub returns-in-Log-clause-next : goal.returns-in-Log-clause-next
 returns-in-Log-clause-next c =
@@ -33,7 +33,7 @@ returns-in-Wait-clause-device c =
 
 pub returns-in-Wait-clause-unfilled : goal.returns-in-Wait-clause-unfilled
 returns-in-Wait-clause-unfilled c =
-    ap fills c.wait_event.ensures.event
+    ap is_filling c.wait_event.ensures.event
     ∙ drain_unfilled c.args.stage.now.options c.in-Wait.asked c.args.stage.now.asked c.args.stage.now.failed c.args.holder c.args.answer.now.now c.args.answer.now.estimate
 
 pub returns-in-Wait-clause-next : goal.returns-in-Wait-clause-next
@@ -48,7 +48,7 @@ pub returns-in-Last-clause-device : goal.returns-in-Last-clause-device
 returns-in-Last-clause-device c = ap is_device_stop c.last_event.ensures.event
 
 pub returns-in-Last-clause-unfilled : goal.returns-in-Last-clause-unfilled
-returns-in-Last-clause-unfilled c = ap fills c.last_event.ensures.event
+returns-in-Last-clause-unfilled c = ap is_filling c.last_event.ensures.event
 
 pub returns-in-Last-clause-next : goal.returns-in-Last-clause-next
 returns-in-Last-clause-next c =

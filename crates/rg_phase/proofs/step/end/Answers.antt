@@ -20,4 +20,4 @@ returns-clause-acts g c =
     subst (λ (n : ℕ). is_plain (turn_of n old.covered c.args.answer (numbers_of s) s.drain event) ≡ true) c.changes.ensures
     (subst (λ (o : Option Session). is_plain (turn_of c.changes.result o c.args.answer (numbers_of s) s.drain event) ≡ true) c.holder.ensures c.next_event-event.ensures.next) in
     acts_booked look old c.args.answer old c.book.new.self event (runs_some old s c.requires.stage) (writes_none look old) (next_runs old s c.args.answer event c.requires.up c.requires.stage is.booked next) is.booked
-    (λ stops. absurd (cc (stops, is.device))) (space_at old.stage s _ event c.requires.stage (space_unfilled _ s event is.unfilled)) c.book.ensures
+    (λ stops. absurd (cc (stops, is.device))) (space_at old.stage s _ _ event c.requires.stage (space_unfilled _ _ s event is.unfilled)) c.book.ensures

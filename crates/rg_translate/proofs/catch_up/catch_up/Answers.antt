@@ -7,8 +7,9 @@ use Rattle.rg_fold.specs.Last.{applied_at, last_at}
 use Rattle.rg_model.specs.Layout.{are_rising}
 use Rattle.rg_shadow.specs.Shade.{Shade, source_rows}
 use Rattle.rg_translate.specs.Backlog.{next_changes, to_make}
-use Rattle.rg_translate.specs.Caught.{IsRefusedLast, IsRefusedOf, Unmoved}
+use Rattle.rg_translate.specs.Caught.{ClaimsMore, IsFullBy, IsRefusedLast, IsRefusedOf, Unmoved}
 use Rattle.rg_translate.proofs.Making.{caught_up, idle_by, refused_by, unmoved_by}
+use Rattle.rg_translate.proofs.Weighing.{net_claims, net_full}
 use Rattle.rg_translate.proofs.catch_up.catch_up.Goals as goal
 
 unmoved : (old new : Shade) (inlet : Received) (n m : ℕ) (batch net made : List Change) → n ≡ m → batch ≡ to_make n inlet → made ≡ net → ((place : Place) → last_at place net ≡ last_at place batch)
@@ -68,3 +69,21 @@ returns-in-Err-clause-refused c =
     (subst (λ (cs : List Change). IsRefusedLast c.make_changes.new.shadow cs c.in-Err.fault) batch
     (refused_by c.make_changes.new.shadow c.as_slice.result.now c.in_ok-changes.changes.items c.in-Err.fault c.in_ok-changes.ensures.homes c.in_ok-changes.ensures.last
     (subst (λ (cs : List Change). IsRefusedOf c.make_changes.new.shadow cs c.in-Err.fault) c.as_slice-2.ensures.value c.in-Err.ensures.refused)))
+
+pub returns-clause-claims : goal.returns-clause-claims
+returns-clause-claims c =
+    let inlet = c.args.inlet.now in
+    let batch : c.as_slice.result.now ≡ to_make c.next_count-count.result inlet = c.as_slice.ensures.value ∙ c.in_ok-batch.ensures.batch in
+    subst (λ (n : ℕ). ClaimsMore c.args.shadow.now c.make_changes.new.shadow (to_make n inlet)) c.next_count-count.ensures.count
+    (subst (λ (cs : List Change). ClaimsMore c.args.shadow.now c.make_changes.new.shadow cs) batch
+    (net_claims c.args.shadow.now c.make_changes.new.shadow c.in_ok-changes.changes.items c.as_slice.result.now c.in_ok-changes.ensures.homes c.in_ok-changes.ensures.last
+    (subst (λ (cs : List Change). ClaimsMore c.args.shadow.now c.make_changes.new.shadow cs) c.as_slice-2.ensures.value c.in-Ok.ensures.claims)))
+
+pub returns-in-Err-clause-full : goal.returns-in-Err-clause-full
+returns-in-Err-clause-full c =
+    let inlet = c.args.inlet.now in
+    let batch : c.as_slice.result.now ≡ to_make c.next_count-count.result inlet = c.as_slice.ensures.value ∙ c.in_ok-batch.ensures.batch in
+    subst (λ (n : ℕ). IsFullBy c.args.shadow.now (to_make n inlet) c.in-Err.fault) c.next_count-count.ensures.count
+    (subst (λ (cs : List Change). IsFullBy c.args.shadow.now cs c.in-Err.fault) batch
+    (net_full c.args.shadow.now c.in_ok-changes.changes.items c.as_slice.result.now c.in-Err.fault c.in_ok-changes.ensures.homes c.in_ok-changes.ensures.last
+    (subst (λ (cs : List Change). IsFullBy c.args.shadow.now cs c.in-Err.fault) c.as_slice-2.ensures.value c.in-Err.ensures.full)))

@@ -1,13 +1,17 @@
 use Rattle.std.proofs.Common.{◌≡◌, ℕ, subst}
 use Rattle.rg_desk.specs.Volume.{seen_volume}
 use Rattle.rg_image.specs.Rules.{copy_capacity}
+use Rattle.rg_reach.specs.Weighed.{weigh_feed}
 use Rattle.rg_switch.specs.Switched.{other_of}
-use Rattle.rg_phase.specs.Step.{HasSpace}
-use Rattle.rg_phase.proofs.Loading.{space_at}
+use Rattle.rg_phase.specs.Step.{HasPagesFor}
+use Rattle.rg_phase.proofs.Loading.{reload_left, space_at}
 use Rattle.rg_phase.proofs.Making.{acts_booked, writes_none}
 use Rattle.rg_phase.proofs.Steps.{next_runs, runs_some}
 use Rattle.rg_phase.proofs.Stops.{reload_next}
 use Rattle.rg_phase.proofs.step.Reorg.reload.Goals as goal
+
+pub reload_event-requires-clause-left : goal.reload_event-requires-clause-left
+reload_event-requires-clause-left g c = reload_left c.args.stage.now c.args.answer c.requires.step
 
 pub book-requires-clause-next : goal.book-requires-clause-next
 book-requires-clause-next g c =
@@ -27,4 +31,4 @@ returns-clause-acts g c =
     let next = next_runs old s c.args.answer event c.requires.up c.requires.stage is.booked (reload_next s c.args.answer c.requires.step event is old.changes old.covered) in
     let capacity : c.other-other.result.1 ≡ copy_capacity (g.V.Volume.capacities old.volume) (other_of old.copy) = c.other-other.ensures.capacity in
     acts_booked look old c.args.answer old c.book.new.self event (runs_some old s c.requires.stage) (writes_none look old) next is.booked (λ stops. absurd (cc (stops, is.device)))
-    (space_at old.stage s _ event c.requires.stage (subst (λ (n : ℕ). HasSpace n s event) capacity c.reload_event.ensures.space)) c.book.ensures
+    (space_at old.stage s _ (weigh_feed old.feed) event c.requires.stage (subst (λ (n : ℕ). HasPagesFor n (weigh_feed old.feed) s event) capacity (c.reload_event.ensures.space (weigh_feed old.feed)))) c.book.ensures

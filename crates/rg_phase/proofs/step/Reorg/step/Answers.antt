@@ -26,7 +26,7 @@ returns-then-down-clause-stepped g c =
       same = same_room old mid room c.requires.kept;
       operator = ap (λ d. d.operator) room;
       made = makes_refused look mid c.book.new.self events.StepDown refl tt refl c.book.ensures;
-      loads = loads_refused look old mid c.book.new.self events.StepDown (λ l. refl) (λ n s. tt) (ap (λ d. d.copy) room) (ap (λ d. d.stage) room) c.book.ensures.follows c.book.ensures.stays.copy;
+      loads = loads_refused look old mid c.book.new.self events.StepDown (λ l. refl) (λ n w s. tt) (ap (λ d. d.copy) room) (ap (λ d. d.stage) room) c.book.ensures.follows c.book.ensures.stays.copy;
       only = c.book.ensures.volume ∙ ap (λ d. d.volume) room;
     }
 
@@ -47,7 +47,7 @@ returns-in-None-clause-stepped g c =
       same = same_room old mid room c.requires.kept;
       operator = ap (λ d. d.operator) room;
       made = makes_refused look mid c.book-in-None.new.self events.Idle refl tt refl c.book-in-None.ensures;
-      loads = loads_refused look old mid c.book-in-None.new.self events.Idle (λ l. refl) (λ n s. tt) (ap (λ d. d.copy) room) (ap (λ d. d.stage) room) c.book-in-None.ensures.follows c.book-in-None.ensures.stays.copy;
+      loads = loads_refused look old mid c.book-in-None.new.self events.Idle (λ l. refl) (λ n w s. tt) (ap (λ d. d.copy) room) (ap (λ d. d.stage) room) c.book-in-None.ensures.follows c.book-in-None.ensures.stays.copy;
       only = c.book-in-None.ensures.volume ∙ ap (λ d. d.volume) room;
     }
 

@@ -13,6 +13,7 @@ use Rattle.rg_phase.proofs.Steps.{made_runs, next_runs, runs_some}
 use Rattle.rg_phase.proofs.Stops.{stop_next, switch_next}
 use Rattle.rg_phase.proofs.Switchable.{can_commit}
 use Rattle.rg_phase.proofs.step.Reorg.switch.Goals as goal
+use Rattle.rg_reach.specs.Weighed.{weigh_feed}
 
 pub commit_switch-requires-clause-can : goal.commit_switch-requires-clause-can
 commit_switch-requires-clause-can g c =
@@ -61,4 +62,4 @@ returns-in-Err-clause-acts g c =
     subst (λ d. Acts look d answer new) same
     (acts_booked look mid answer mid new event (runs_some mid s stage) (writes_none look mid)
     (next_runs mid s answer event up stage refl (stop_next s mid.changes mid.covered answer)) refl (λ is. absurd (cc (is)))
-    (space_at mid.stage s (copy_capacity (g.V.Volume.capacities mid.volume) (other_of mid.copy)) event stage tt) c.book.ensures)
+    (space_at mid.stage s (copy_capacity (g.V.Volume.capacities mid.volume) (other_of mid.copy)) (weigh_feed mid.feed) event stage tt) c.book.ensures)

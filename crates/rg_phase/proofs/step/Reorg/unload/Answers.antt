@@ -9,6 +9,7 @@ use Rattle.rg_phase.proofs.Making.{acts_booked, acts_copied, plain_some, writes_
 use Rattle.rg_phase.proofs.Steps.{made_runs, next_runs, runs_some}
 use Rattle.rg_phase.proofs.Stops.{stop_next, unload_next}
 use Rattle.rg_phase.proofs.step.Reorg.unload.Goals as goal
+use Rattle.rg_reach.specs.Weighed.{weigh_feed}
 
 pub feed_page-requires-clause-can : goal.feed_page-requires-clause-can
 feed_page-requires-clause-can g c = record {
@@ -41,4 +42,4 @@ returns-in-Err-clause-acts g c =
     let event = events.Stop reasons.NoMemory in
     acts_booked look old answer mid c.book.new.self event (runs_some old s c.requires.stage) (writes_forgotten look old mid (c.in-Err.ensures.err ∙ c.forget.ensures.desk))
     (next_runs old s answer event c.requires.up c.requires.stage refl (stop_next s old.changes old.covered answer)) refl (λ is. absurd (cc (is)))
-    (space_at old.stage s (copy_capacity (g.V.Volume.capacities old.volume) (other_of old.copy)) event c.requires.stage tt) c.book.ensures
+    (space_at old.stage s (copy_capacity (g.V.Volume.capacities old.volume) (other_of old.copy)) (weigh_feed old.feed) event c.requires.stage tt) c.book.ensures
