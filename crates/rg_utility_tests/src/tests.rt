@@ -12,7 +12,7 @@ use rg_outside::operator::Operator;
 use rg_print::print::{Close, print};
 use rg_run::played::{Played, RunEnd};
 use rg_run::run::run;
-use std::alloc::Global;
+use std::alloc::{AllocError, Global};
 use std::process::Abort;
 use std::test::Fail;
 
@@ -25,11 +25,12 @@ const WIDE_LOG: u32 = 64;
 // The calls of the volume are as many as these decks make.
 const NEVER: Option<u64> = None;
 
-// Plays a deck over an empty table, whose log has so many pages, and whose calls all fail after so
-// many. The operator has the answers of these lines.
-fn played(
+// Plays a deck over an empty table, whose log has so many pages and each copy so many, and whose
+// calls all fail after so many. The operator has the answers of these lines.
+fn played_over(
     alloc: Global,
     log: u32,
+    pages: u32,
     stop: Option<u64>,
     deck: &[u8],
     operator: &[u8],
@@ -44,8 +45,19 @@ fn played(
         return Err("the operator has a line that is no answer".into());
     };
     let operator = ScriptOperator::new(alloc, answers.as_slice())?;
-    let volume = MemVolume::new(alloc, log, 8, 8, CALLS, CALLS, &[], stop)?;
+    let volume = MemVolume::new(alloc, log, pages, pages, CALLS, CALLS, &[], stop)?;
     Ok(run(alloc, volume, operator, lines))
+}
+
+// The same over copies of eight pages.
+fn played(
+    alloc: Global,
+    log: u32,
+    stop: Option<u64>,
+    deck: &[u8],
+    operator: &[u8],
+) -> Result<Played<MemVolume, ScriptOperator>, Fail> {
+    played_over(alloc, log, 8, stop, deck, operator)
 }
 
 // The run of a deck has this print, with layouts in brief, after the line of the opening, and is
@@ -333,6 +345,56 @@ fn stops_without_space(rt: HostRuntime) -> Result<(), Fail> {
             8 U UNLOAD page=1 rows=5\n9 U RELOAD page=1 rows=1\n10 U RELOAD page=3 rows=1\n\
             11 U RELOAD page=5 rows=1\n12 U RELOAD page=7 rows=1\n13 U STOP NOSPACE\n14 U IDLE\n\
             15 1 ROW 5 5 1 a\nEND entries=16 rows=5\n",
+    )
+}
+
+// Adds a line that ends with a text of so many letters.
+fn push_line(deck: &mut Vec<u8>, front: &[u8], letters: u32) -> Result<(), AllocError> {
+    deck.extend_from_slice(front)?;
+    for _ in 0..letters {
+        deck.push(b'x')?;
+    }
+    deck.push(b'\n')?;
+    Ok(())
+}
+
+// A row grows where it lies in the old copy, which has room beside it. In clustering order its page
+// of the new copy is nearly full, and so is the other one: LOG finds no room for it.
+#[test]
+fn stops_without_space_for_a_change(rt: HostRuntime) -> Result<(), Fail> {
+    let alloc = rt.alloc();
+    let mut deck = Vec::new(alloc);
+    for (front, letters) in [
+        (b"1 INSERT 1 1 1 ".as_slice(), 800),
+        (b"1 INSERT 2 2 1 ".as_slice(), 800),
+        (b"1 INSERT 3 3 1 ".as_slice(), 800),
+        (b"1 INSERT 4 4 1 ".as_slice(), 800),
+        (b"1 INSERT 5 7 1 ".as_slice(), 800),
+        (b"1 INSERT 6 8 1 ".as_slice(), 800),
+        (b"1 INSERT 7 9 1 ".as_slice(), 800),
+        (b"1 INSERT 8 10 1 ".as_slice(), 800),
+        (b"1 INSERT 9 6 1 ".as_slice(), 300),
+        (b"1 INSERT 10 11 1 ".as_slice(), 300),
+        (b"1 INSERT 11 5 1 ".as_slice(), 1),
+    ] {
+        push_line(&mut deck, front, letters)?;
+    }
+    deck.extend_from_slice(b"1 COMMIT\nREORG TABLESPACE SHRLEVEL CHANGE PCTFREE 0\nU\nU\n")?;
+    push_line(&mut deck, b"1 UPDATE 11 5 1 ", 600)?;
+    deck.extend_from_slice(b"1 COMMIT\nU\nU\nU\nU\nU\nU\nU\nU\nU\nU\nL\n")?;
+    let played = played_over(alloc, WIDE_LOG, 2, NEVER, deck.as_slice(), b"")?;
+    expect_print(
+        &rt,
+        alloc,
+        &played,
+        false,
+        deck.as_slice(),
+        b"1 1 OK\n2 1 OK\n3 1 OK\n4 1 OK\n5 1 OK\n6 1 OK\n7 1 OK\n8 1 OK\n9 1 OK\n10 1 OK\n\
+            11 1 OK\n12 1 OK\n13 U STARTED copy=1 pages=2\n14 U UNLOAD page=1 rows=6\n\
+            15 U UNLOAD page=2 rows=5\n16 1 OK\n17 1 OK\n18 U RELOAD page=1 rows=6\n\
+            19 U RELOAD page=2 rows=5\n20 U SORT KEY\n21 U SORT CLUS\n22 U SORT CAT\n\
+            23 U BUILD KEY\n24 U BUILD CLUS\n25 U BUILD CAT\n26 U STOP NOSPACE\n27 U IDLE\n\
+            28 - LAYOUT copy=1\n  NOW pages=2 rows=11 over=0\nEND entries=29 rows=11\n",
     )
 }
 
