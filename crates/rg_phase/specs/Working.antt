@@ -1,5 +1,5 @@
 -- What a step makes before its entry.
-use Rattle.std.specs.Prelude.{◌≡◌, ◌⊎◌, ℕ, Bool, true, false, [], Err, Option}
+use Rattle.std.specs.Prelude.{◌≡◌, ◌⊎◌, ◌+◌, ℕ, Bool, true, false, [], Err, Option}
 use Rattle.std.specs.declared.result.Result.{Result}
 use Rattle.rg_base.specs.declared.control.Answer.{Answer}
 use Rattle.rg_base.specs.declared.session.Session.{Session}
@@ -78,6 +78,12 @@ abbrev pub takes : Event → Bool
 takes (events.Log iteration took left verdict) = true
 takes (events.Last took left) = true
 takes event = false
+
+-- as many changes are taken as the event tells
+abbrev pub TakesAsTold : Event → (before after : ℕ) → Type 0
+TakesAsTold (events.Log iteration took left verdict) before after = after ≡ before + took
+TakesAsTold (events.Last took left) before after = after ≡ before + took
+TakesAsTold event before after = Unit {0}
 
 -- an event, or the stop that stands in its place: STOP NOSPACE where changes had no room
 abbrev pub IsEventOrStop : Event → Result Unit ShadowFault → (result : Event) → Type 0

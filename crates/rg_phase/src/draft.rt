@@ -5,7 +5,7 @@
 // 2. The rows are those of the copies of pages that were received. Changes that are received are
 //    made in it once it is loaded, in their order.
 // 3. Whoever writes it asks first whether it is ready.
-ghost use Rattle.std.specs.Prelude.{◌≡◌, true, length, IfOk, IfErr, OnOk};
+ghost use Rattle.std.specs.Prelude.{◌≡◌, ◌+◌, true, length, IfOk, IfErr, OnOk};
 ghost use Rattle.rg_fold.specs.Fold.{since_begin};
 ghost use Rattle.rg_fold.specs.Lawful.{Lawful};
 ghost use Rattle.rg_phase.specs.Drafted.{IsBuiltIn, IsDraftOf, IsFullOf, IsPackingOf, IsReady};
@@ -168,6 +168,7 @@ impl Draft {
         ensures items { inlet.new.items ≡ inlet.old.items }
         ensures draft { OnOk result (IsDraftOf self.new.options self.new.shadow inlet.new.items
             inlet.new.taken) }
+        ensures taken { OnOk result (inlet.new.taken ≡ inlet.old.taken + count) }
         ensures full { IfErr result (IsFullOf capacity (weigh_feed inlet.old.items)) }
     {
         if self.capacity != capacity {

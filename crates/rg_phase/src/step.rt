@@ -11,7 +11,7 @@
 //    made in it.
 // 6. It is written whole, with a sync at the end, before WRITTEN is said, once no change is left.
 //    The desk keeps it for the switch. At GIVEUP it is taken back.
-ghost use Rattle.std.specs.Prelude.{◌≡◌, ◌≤◌, List, false, Some, None, Err, OnErr, OnOk, IfErr, IfOk, length};
+ghost use Rattle.std.specs.Prelude.{◌≡◌, ◌≤◌, ◌+◌, List, false, Some, None, Err, OnErr, OnOk, IfErr, IfOk, length};
 ghost use Rattle.rg_base.specs.declared.options.DrainState.TheVariants.{Granted};
 ghost use Rattle.rg_base.specs.declared.step.Step.TheVariants as steps;
 ghost use Rattle.rg_desk.specs.Desk.{HasDrain, HasTaken, while_running};
@@ -25,7 +25,7 @@ ghost use Rattle.rg_feed.specs.Ends.{Received};
 ghost use Rattle.rg_fold.specs.declared.item.Item.{Item};
 ghost use Rattle.rg_phase.specs.Made.{HasMade, Hears, KeepsWorks, Works};
 ghost use Rattle.rg_phase.specs.Step.{Acts, Stepped};
-ghost use Rattle.rg_phase.specs.Working.{AreSidesToSwitch, MakesStep, Writes};
+ghost use Rattle.rg_phase.specs.Working.{AreSidesToSwitch, MakesStep, TakesAsTold, Writes};
 ghost use Rattle.rg_phase.specs.declared.made.Made.TheVariants.{Nothing};
 ghost use Rattle.rg_reach.specs.Weighed.{weigh_feed};
 ghost use Rattle.rg_switch.specs.Switched.{other_of};
@@ -239,6 +239,7 @@ impl Reorg {
         ensures desk { desk.new ≡ record desk.old { shadow = desk.new.shadow } }
         ensures ring { inlet.new.ring ≡ inlet.old.ring }
         ensures works { Works self.new.made desk.new.shadow inlet.new desk.new.feed }
+        ensures taken { OnOk result (TakesAsTold event.now inlet.old.taken inlet.new.taken) }
         ensures full { IfErr result (IsFullOf
             (copy_capacity (V.capacities desk.old.volume) (other_of desk.old.copy))
             (weigh_feed desk.old.feed)) }
@@ -379,6 +380,7 @@ impl Reorg {
         ensures ring { inlet.new.ring ≡ inlet.old.ring }
         ensures items { inlet.new.items ≡ inlet.old.items }
         ensures works { KeepsWorks self.old.made inlet.old self.new.made inlet.new }
+        ensures taken { OnOk result (inlet.new.taken ≡ inlet.old.taken + count) }
         ensures full { IfErr result (IsFullOf capacity (weigh_feed inlet.old.items)) }
     {
         if count == 0 {
