@@ -7,8 +7,8 @@
 -- 3. While its indexes are sorted and built it stays so (`StagesAreCaughtUp`).
 -- 4. More changes and booked entries leave it so: they count only once they are taken
 --    (`MoreIsCaughtUp`). So do other pages that have the same slots (`SameSlotsAreCaughtUp`).
--- 5. Its pages claim no more than what was sent weighs (`CaughtUpClaims`). A change has no room only
---    where that is 3,221 bytes for each page that there may be (`FullIsSent`).
+-- 5. Its pages claim no more than what was sent weighs (`CaughtUpClaims`). A change has no room
+--    only where that is 3,221 bytes for each page that there may be (`FullIsSent`).
 -- 6. Where all pages were copied and all changes are taken, the rows whose keys are quiet lie at
 --    home, in clustering order (`CaughtUpIsQuiet`). The rows at its homes are the table. Where
 --    nothing has changed since the start, its layout is that of a packed copy of the table

@@ -43,7 +43,8 @@ loading_of copy u =
 
 -- the numbers that a turn leaves show what its event makes of it
 abbrev pub ShowsFilled : (copy : ℕ) → Utility → Event → Turn → Type 0
-ShowsFilled copy u event (Runs v later) = loading_of copy v ≡ loading_after (loading_of copy u) event
+ShowsFilled copy u event (Runs v later) =
+    loading_of copy v ≡ loading_after (loading_of copy u) event
 ShowsFilled copy u event (Switches other sides v) =
     (now : ℕ) → loading_of now v ≡ loading_after (loading_of copy u) event
 ShowsFilled copy u event Stops = Unit {0}

@@ -1,7 +1,7 @@
 -- What is sent keeps the bound on what a new copy may have to take.
 --
--- 1. At the start it is the weight of all rows (`StartReaches`), and so at most what the pages claim
---    (`ClaimsReach`).
+-- 1. At the start it is the weight of all rows (`StartReaches`), and so at most what the pages
+--    claim (`ClaimsReach`).
 -- 2. The changes of a statement add at most their rows (`ChangesReach`). The copy of the next page
 --    adds nothing (`CopyReaches`), and nor does an entry that changes no row (`StillReaches`).
 -- 3. Once all pages are copied, what was sent weighs no more (`AllReach`), in whatever order the
