@@ -153,7 +153,10 @@ impl Draft {
         }
     }
 
-    /// Makes the next changes that were received, exactly so many. It may have `capacity` pages.
+    /// Makes the next changes that were received, exactly so many, where it may have `capacity`
+    /// pages. NoSpace is returned only where it has no room for one of them. NoMemory is returned
+    /// where memory runs out, where fewer were received, or where it was made for another number of
+    /// pages.
     pub fn take(
         &mut self,
         alloc: Global,

@@ -9,7 +9,7 @@ use Rattle.rg_fold.specs.Lawful.{InOrder, Lawful, kept, passes_over}
 use Rattle.rg_fold.specs.declared.item.Item.{Item}
 use Rattle.rg_fold.specs.declared.item.Item.TheVariants.{Begin, PageCopy, Booked}
 use Rattle.rg_fold.specs.declared.item.Item.TheVariants as items
-use Rattle.rg_reach.specs.Reach.{AreInTurn, Reaches, brought, copied_to, is_settled}
+use Rattle.rg_reach.specs.Reach.{AreInTurn, Reaches, weight_brought, copied_to, is_settled}
 use Rattle.rg_reach.specs.Weighed.{weigh_changes, weigh_feed, weigh_rows}
 use Rattle.rg_reach.proofs.Weighing.{weigh_rows-append}
 use Rattle.rg_sent.specs.Keeps.{Rows}
@@ -54,7 +54,7 @@ module _ (pages : ℕ) where
 
   brings_all : (whole : List Item) (copied : ℕ) (feed : List Item) → ((change : Change) → passes_over feed change ≡ true → passes_over whole change ≡ true)
       → Lawful feed → AreInTurn copied feed → pages ≤ copied_to copied feed
-      → weigh_rows (copied_rows feed) + weigh_changes (kept whole (changes feed)) ≤ brought pages copied feed
+      → weigh_rows (copied_rows feed) + weigh_changes (kept whole (changes feed)) ≤ weight_brought pages copied feed
   brings_all whole copied [] passes lawful turn all = omega arith
   brings_all whole copied (Begin o n ∷ feed) passes lawful turn all = absurd lawful.0
   brings_all whole copied (Booked s ∷ feed) passes lawful turn all = brings_all whole copied feed passes lawful.2 turn all
@@ -69,8 +69,8 @@ module _ (pages : ℕ) where
       go (passes_over whole change) refl (is_settled pages copied change.home.page) refl (brings_all whole copied feed passes lawful.2 turn all)
     where
       go : (b : Bool) → passes_over whole change ≡ b → (d : Bool) → is_settled pages copied change.home.page ≡ d
-          → weigh_rows (copied_rows feed) + weigh_changes (kept whole (changes feed)) ≤ brought pages copied feed
-          → weigh_rows (copied_rows feed) + weigh_changes (if b then kept whole (changes feed) else change ∷ kept whole (changes feed)) ≤ (if d then weight change.after else 0) + brought pages copied feed
+          → weigh_rows (copied_rows feed) + weigh_changes (kept whole (changes feed)) ≤ weight_brought pages copied feed
+          → weigh_rows (copied_rows feed) + weigh_changes (if b then kept whole (changes feed) else change ∷ kept whole (changes feed)) ≤ (if d then weight change.after else 0) + weight_brought pages copied feed
       go true e d f rest = omega (arith, rest)
       go false e true f rest = omega (arith, rest)
       go false e false f rest =

@@ -14,19 +14,19 @@ use Rattle.rg_fold.specs.declared.item.Item.{Item}
 use Rattle.rg_fold.specs.declared.item.Item.TheVariants.{Begin, PageCopy, Booked}
 use Rattle.rg_fold.specs.declared.item.Item.TheVariants as items
 use Rattle.rg_fold.proofs.Folds.{since-append}
-use Rattle.rg_reach.specs.Reach.{AreInTurn, Reaches, brought, copied_to, is_settled}
+use Rattle.rg_reach.specs.Reach.{AreInTurn, Reaches, weight_brought, copied_to, is_settled}
 use Rattle.rg_reach.specs.Weighed.{weigh_changes, weigh_pages, weigh_rows}
 use Rattle.rg_reach.proofs.Weighing.{copy_weighs, pages_same, pages_split, set_elsewhere, set_weighs}
 use Rattle.rg_sent.specs.Keeps.{MovesRows, Rows, sent_changes}
 
 -- items, one after another
 
-brought-append : (pages copied : ℕ) (xs ys : List Item) → brought pages copied (xs ++ ys) ≡ brought pages copied xs + brought pages (copied_to copied xs) ys
-brought-append pages copied [] ys = omega arith
-brought-append pages copied (Begin o n ∷ xs) ys = brought-append pages copied xs ys
-brought-append pages copied (PageCopy page at rows ∷ xs) ys = omega (arith, brought-append pages page xs ys)
-brought-append pages copied (items.Change c ∷ xs) ys = omega (arith, brought-append pages copied xs ys)
-brought-append pages copied (Booked s ∷ xs) ys = brought-append pages copied xs ys
+weight_brought-append : (pages copied : ℕ) (xs ys : List Item) → weight_brought pages copied (xs ++ ys) ≡ weight_brought pages copied xs + weight_brought pages (copied_to copied xs) ys
+weight_brought-append pages copied [] ys = omega arith
+weight_brought-append pages copied (Begin o n ∷ xs) ys = weight_brought-append pages copied xs ys
+weight_brought-append pages copied (PageCopy page at rows ∷ xs) ys = omega (arith, weight_brought-append pages page xs ys)
+weight_brought-append pages copied (items.Change c ∷ xs) ys = omega (arith, weight_brought-append pages copied xs ys)
+weight_brought-append pages copied (Booked s ∷ xs) ys = weight_brought-append pages copied xs ys
 
 copied_to-append : (copied : ℕ) (xs ys : List Item) → copied_to copied (xs ++ ys) ≡ copied_to (copied_to copied xs) ys
 copied_to-append copied [] ys = refl
@@ -58,7 +58,7 @@ start_reaches rows pages most options feed small =
       all = omega arith;
       turn = subst (AreInTurn 0) (sym none) tt;
       to = ap (copied_to 0) none;
-      within = omega (arith, small, ap (brought pages 0) none);
+      within = omega (arith, small, ap (weight_brought pages 0) none);
     }
 
 -- rows that are the same
@@ -71,19 +71,19 @@ module _ (rows mid : Rows) (pages copied most : ℕ) (feed : List Item) (change 
   is_since : since_begin (feed ++ items.Change change ∷ []) ≡ since_begin feed ++ items.Change change ∷ []
   is_since = since-append [] feed (items.Change change ∷ [])
 
-  brings : brought pages 0 (since_begin (feed ++ items.Change change ∷ []))
-      ≡ brought pages 0 (since_begin feed) + ((if is_settled pages copied change.home.page then weight change.after else 0) + 0)
+  brings : weight_brought pages 0 (since_begin (feed ++ items.Change change ∷ []))
+      ≡ weight_brought pages 0 (since_begin feed) + ((if is_settled pages copied change.home.page then weight change.after else 0) + 0)
   brings =
-      ap (brought pages 0) is_since ∙ brought-append pages 0 (since_begin feed) (items.Change change ∷ [])
-      ∙ ap (λ (c : ℕ). brought pages 0 (since_begin feed) + ((if is_settled pages c change.home.page then weight change.after else 0) + 0)) r.to
+      ap (weight_brought pages 0) is_since ∙ weight_brought-append pages 0 (since_begin feed) (items.Change change ∷ [])
+      ∙ ap (λ (c : ℕ). weight_brought pages 0 (since_begin feed) + ((if is_settled pages c change.home.page then weight change.after else 0) + 0)) r.to
 
   far : (change.home.page ≤ copied) ⊎ (pages + 1 ≤ change.home.page) → (change.home.page < copied + 1) ⊎ (copied + 1 + r.left ≤ change.home.page)
   far (inl low) = inl (omega (arith, low))
   far (inr high) = inr (omega (arith, high, r.all))
 
   within : (b : Bool) → is_settled pages copied change.home.page ≡ b
-      → brought pages 0 (since_begin (feed ++ items.Change change ∷ [])) ≡ brought pages 0 (since_begin feed) + ((if b then weight change.after else 0) + 0)
-      → brought pages 0 (since_begin (feed ++ items.Change change ∷ [])) + weigh_pages mid (copied + 1) r.left ≤ most + weight change.after
+      → weight_brought pages 0 (since_begin (feed ++ items.Change change ∷ [])) ≡ weight_brought pages 0 (since_begin feed) + ((if b then weight change.after else 0) + 0)
+      → weight_brought pages 0 (since_begin (feed ++ items.Change change ∷ [])) + weigh_pages mid (copied + 1) r.left ≤ most + weight change.after
   within true e is =
       omega (arith, is, r.within, set_elsewhere rows mid change.home change.after sets (copied + 1) r.left (far (settled_far pages copied change.home.page e)))
   within false e is = omega (arith, is, r.within, set_weighs rows mid change.home change.after sets (copied + 1) r.left)
@@ -114,7 +114,7 @@ module _ (rows : Rows) (pages copied most : ℕ) (feed : List Item) (position : 
   copy_since : since_begin (feed ++ PageCopy (copied + 1) position listed ∷ []) ≡ since_begin feed ++ PageCopy (copied + 1) position listed ∷ []
   copy_since = since-append [] feed (PageCopy (copied + 1) position listed ∷ [])
 
-  with_left : (left : ℕ) → copied + left ≡ pages → brought pages 0 (since_begin feed) + weigh_pages rows (copied + 1) left ≤ most → copied < pages
+  with_left : (left : ℕ) → copied + left ≡ pages → weight_brought pages 0 (since_begin feed) + weigh_pages rows (copied + 1) left ≤ most → copied < pages
       → weigh_rows listed ≤ weigh_pages rows (copied + 1) 1 → Reaches rows pages (copied + 1) most (feed ++ PageCopy (copied + 1) position listed ∷ [])
   with_left zero all within more weighs = absurd (omega (arith, all, more))
   with_left (suc left) all within more weighs = record {
@@ -130,7 +130,7 @@ module _ (rows : Rows) (pages copied most : ℕ) (feed : List Item) (position : 
           within,
           weighs,
           pages_split rows (copied + 1) left,
-          ap (brought pages 0) copy_since ∙ brought-append pages 0 (since_begin feed) (PageCopy (copied + 1) position listed ∷ []),
+          ap (weight_brought pages 0) copy_since ∙ weight_brought-append pages 0 (since_begin feed) (PageCopy (copied + 1) position listed ∷ []),
         );
   }
 

@@ -5,7 +5,7 @@
 -- 2. The changes of a statement add at most their rows (`ChangesReach`). The copy of the next page
 --    adds nothing (`CopyReaches`), and nor does an entry that changes no row (`StillReaches`).
 -- 3. Once all pages are copied, what was sent weighs no more (`AllReach`), in whatever order the
---    rows are loaded (`OrderIsFree`).
+--    rows are loaded (`OrderWeighsNothing`).
 use Rattle.std.specs.Prelude.{◌≡◌, ◌≤◌, ◌<◌, ◌+◌, ◌++◌, ℕ, Bool, List, [], ◌∷◌, Option, None, length}
 use Rattle.std.specs.List.Sorted.{IsPermutation}
 use Rattle.rg_base.specs.declared.change.Change.{Change}
@@ -60,8 +60,8 @@ StillReaches =
     → most ≤ more → Reaches new pages copied more feed
 
 -- rows in another order
-abbrev pub OrderIsFree : Type 0
-OrderIsFree =
+abbrev pub OrderWeighsNothing : Type 0
+OrderWeighsNothing =
     (rows sorted : List (Place × Row)) → IsPermutation rows sorted
     → weigh_rows sorted ≡ weigh_rows rows
 

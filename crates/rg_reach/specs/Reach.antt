@@ -20,15 +20,15 @@ abbrev pub is_settled : (pages copied page : ℕ) → Bool
 is_settled pages copied page = nat_le page copied || nat_le (pages + 1) page
 
 -- what these items bring, of a table with so many pages at the start, so many of them copied before
-abbrev pub brought : (pages copied : ℕ) → List Item → ℕ
-brought pages copied [] = 0
-brought pages copied (Begin options _ ∷ feed) = brought pages copied feed
-brought pages copied (PageCopy page position rows ∷ feed) =
-    weigh_rows rows + brought pages page feed
-brought pages copied (items.Change change ∷ feed) =
+abbrev pub weight_brought : (pages copied : ℕ) → List Item → ℕ
+weight_brought pages copied [] = 0
+weight_brought pages copied (Begin options _ ∷ feed) = weight_brought pages copied feed
+weight_brought pages copied (PageCopy page position rows ∷ feed) =
+    weigh_rows rows + weight_brought pages page feed
+weight_brought pages copied (items.Change change ∷ feed) =
     (if is_settled pages copied change.home.page then weight change.after else 0)
-    + brought pages copied feed
-brought pages copied (Booked stage ∷ feed) = brought pages copied feed
+    + weight_brought pages copied feed
+weight_brought pages copied (Booked stage ∷ feed) = weight_brought pages copied feed
 
 -- the last page that is copied after these items
 abbrev pub copied_to : (copied : ℕ) → List Item → ℕ
@@ -51,4 +51,4 @@ pub record Reaches
   pub turn : AreInTurn 0 (since_begin feed)
   pub to : copied_to 0 (since_begin feed) ≡ copied
   pub within :
-      brought pages 0 (since_begin feed) + weigh_pages rows (copied + 1) left ≤ most
+      weight_brought pages 0 (since_begin feed) + weigh_pages rows (copied + 1) left ≤ most

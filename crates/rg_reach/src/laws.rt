@@ -6,7 +6,7 @@
 //! 3. Once all pages are copied, the copies and the changes that are made weigh no more than the
 //!    bound (`bound_law`).
 ghost use Rattle.rg_reach.specs.Laws.{AllReach, ChangesReach, ClaimsReach, CopyReaches};
-ghost use Rattle.rg_reach.specs.Laws.{OrderIsFree, StartReaches, StillReaches};
+ghost use Rattle.rg_reach.specs.Laws.{OrderWeighsNothing, StartReaches, StillReaches};
 
 /// The start of a utility.
 pub fn begin_law()
@@ -24,5 +24,5 @@ pub fn send_law()
 /// What the new copy is made of.
 pub fn bound_law()
     ensures all { AllReach }
-    ensures order { OrderIsFree }
+    ensures order { OrderWeighsNothing }
 {}
