@@ -1,12 +1,11 @@
 -- The contract of a call follows from what it comes to.
-use Rattle.std.proofs.Common.{Bool, ◌≡◌, ◌≢◌, ◌<◌, ◌≤◌, ◌+◌, ◌*◌, ◌⊎◌, inl, inr, ℕ, zero, suc, ◌-◌, ◌^◌, slice_index_or, List, [], ◌∷◌, ◌++◌, Option, Some, None, length, refl, sym, ◌∙◌, ap, subst, arith, append-nil, length-append}
+use Rattle.std.proofs.Common.{Bool, ◌≡◌, ◌≢◌, ◌<◌, ◌≤◌, ◌+◌, ◌⊎◌, inl, inr, ℕ, zero, suc, ◌-◌, ◌^◌, slice_index_or, List, [], ◌∷◌, ◌++◌, Option, Some, None, length, refl, sym, ◌∙◌, ap, subst, arith, append-nil, length-append}
 use Rattle.std.specs.List.{AllByRecursion, Contains}
 use Rattle.std.specs.Io.KnownBytes.{Consumes, Appends, IsAtEnd}
 use Rattle.rg_base.specs.declared.set.Set.{Set}
 use Rattle.rg_deck.specs.declared.read.TheConstants.{DECK_LIMIT}
 use Rattle.rg_outside.specs.Faults.{Rose}
 use Rattle.rg_outside.specs.Capacities.{Capacities}
-use Rattle.rg_run.specs.Full.{smaller_pages}
 use Rattle.rg_run.specs.Outside.{IfBoth, IfCounted, IsEnd, MadeSince, WasUntidy}
 use Rattle.rg_deck.specs.Grammar.{Lines}
 use Rattle.rg_deck.specs.declared.read.Admits.TheVariants.{Every}
@@ -16,7 +15,7 @@ use Rattle.rg_run.specs.Played.{TraceOf}
 use Rattle.rg_run.specs.Table.{EndsWhole}
 use Rattle.rg_run.specs.declared.played.RunEnd.TheVariants as ends
 use Rattle.rg_log.proofs.Ready.{quiet_reads}
-use Rattle.rg_run.proofs.Fullness.{full_less}
+use Rattle.rg_run.proofs.Fullness.{run_less}
 use Rattle.rg_restart.specs.Sound.{IsDamage}
 use Rattle.rg_restart.proofs.Exact.{sound_breaks_none}
 use Rattle.rg_log.specs.Open.{IsQuiet}
@@ -704,7 +703,7 @@ module _ (words : List (List ℕ)) (source source_after sink sink_after : Seen) 
     openings = traced.openings;
     flushes = traced.flushes;
     sound = traced.sound;
-    full = full_less (3200 * smaller_pages volume.capacities) (3221 * smaller_pages volume.capacities) 0 trace (omega arith) traced.full;
+    full = run_less 3200 3221 volume volume_after trace (omega arith) traced.full;
     log_full = traced.log_full;
     space = traced.space;
     device = traced.device;

@@ -2,16 +2,16 @@
 -- by what is known of the source, the sink and the volume before and after the call, and by the
 -- status and the trace that it leaves. Out of memory is the one answer that may come at any time:
 -- status 8 may stand in place of any other.
-use Rattle.std.specs.Prelude.{ℕ, ◌≡◌, ◌+◌, ◌*◌, List, [], ◌∷◌, None}
+use Rattle.std.specs.Prelude.{ℕ, ◌≡◌, ◌+◌, List, [], ◌∷◌, None}
 use Rattle.std.specs.List.{Contains}
 use Rattle.rg_deck.specs.declared.read.TheConstants.{DECK_LIMIT}
 use Rattle.rg_outside.specs.Faults.{Rose}
 use Rattle.rg_desk.specs.Volume.{VolumeSeen}
 use Rattle.rg_run.specs.Outside.{IsDeviceOnlyIf, MakesOnly, WritesOwn}
-use Rattle.rg_run.specs.Table.{AreFlushes, AreOpenings, IsLegalRun, IsOpening, KeepsSound}
+use Rattle.rg_run.specs.Table.{AreFlushes, AreOpenings, IsAllowedRun, IsLegalRun, IsOpening}
+use Rattle.rg_run.specs.Table.{KeepsSound}
 use Rattle.rg_image.specs.Rules.{limit_of}
 use Rattle.rg_log.specs.Kept.{log_pages}
-use Rattle.rg_run.specs.Full.{IsFullOnlyFrom, smaller_pages}
 use Rattle.rg_run.specs.LogFull.{IsLogFullOnlyFrom}
 use Rattle.rg_run.specs.Space.{AreForSpace}
 use Rattle.rg_stmt.specs.declared.event.Entry.{Entry}
@@ -38,9 +38,10 @@ pub record Completes (words : List (List ℕ)) (source source_after sink sink_af
   -- A flush that says that a page was written has written that page to the set of the current copy,
   -- by its last call. One that says CLEAN has made no call.
   pub flushes : AreFlushes volume volume_after trace
-  -- FULL is answered only where the pages of the last opening or switch and what was written since
-  -- reach 3,200 bytes for each page of the smaller copy.
-  pub full : IsFullOnlyFrom (3200 * smaller_pages volume.capacities) 0 trace
+  -- From these tables, FULL is answered, and STOP NOSPACE comes once a list is sorted, only where
+  -- 4,064 bytes for each page of the last opening, and 18 and its bytes for each row that was
+  -- written since or put back while a utility ran, reach 3,200 for each page of the smaller copy.
+  pub full : IsAllowedRun 3200 volume volume_after trace
   -- LOGFULL is answered only where the bytes that the last opening found, with 4,264 for each write
   -- since and 28 for each start of a utility, and with those of one more, are more than the log may
   -- have: 2,270 for each of its pages but one.

@@ -8,3 +8,4 @@ pub mod Quieted
 pub mod Turning
 pub mod Granting
 pub mod Caught
+pub mod Loaded

@@ -5,7 +5,9 @@
 -- 2. Counting ends when the first list is sorted, or when the process dies. From then on no page is
 --    filled.
 -- 3. The numbers of the utility show the same, and do so after each step (`LoadingGoesOn`).
-use Rattle.std.specs.Prelude.{ℕ, ◌≡◌, ◌+◌, ◌==◌, List, [], ◌∷◌, Option, Some, None, if◌then◌else◌}
+-- 4. Once a list is sorted all pages are copied and all rows reloaded. It stays so with each step
+--    (`LoadedGoesOn`).
+use Rattle.std.specs.Prelude.{ℕ, ◌≡◌, ◌≤◌, ◌+◌, ◌==◌, List, [], ◌∷◌, Option, Some, None, if◌then◌else◌}
 use Rattle.rg_base.specs.declared.control.Answer.{Answer}
 use Rattle.rg_base.specs.declared.options.DrainState.{DrainState}
 use Rattle.rg_base.specs.declared.session.Session.{Session}
@@ -55,3 +57,20 @@ LoadingGoesOn =
     (copy all : ℕ) (blocker : Option Session) (answer : Answer) (u : Utility) (drain : DrainState)
     (event : Event) (turn : Turn)
     → turn_of all blocker answer u drain event ≡ Some turn → ShowsFilled copy u event turn
+
+-- all pages are copied and all rows reloaded, once a list is sorted
+abbrev pub IsLoaded : Utility → Type 0
+IsLoaded u = 1 ≤ u.sorted → (u.pages ≤ u.copied) × (u.unloaded ≤ u.reloaded)
+
+-- the numbers that a turn leaves, if any
+abbrev pub IsLoadedAfter : Turn → Type 0
+IsLoadedAfter (Runs v later) = IsLoaded v
+IsLoadedAfter (Switches other sides v) = IsLoaded v
+IsLoadedAfter Stops = Unit {0}
+IsLoadedAfter Falls = Unit {0}
+
+abbrev pub LoadedGoesOn : Type 0
+LoadedGoesOn =
+    (all : ℕ) (blocker : Option Session) (answer : Answer) (u : Utility) (drain : DrainState)
+    (event : Event) (turn : Turn)
+    → IsLoaded u → turn_of all blocker answer u drain event ≡ Some turn → IsLoadedAfter turn

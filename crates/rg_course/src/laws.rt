@@ -1,6 +1,6 @@
 //! Each function's contract is a law of the definitions. None of them runs anything.
 ghost use Rattle.rg_course.specs.Course.{EndsInTime};
-ghost use Rattle.rg_course.specs.Loading.{LoadingGoesOn};
+ghost use Rattle.rg_course.specs.Loading.{LoadedGoesOn, LoadingGoesOn};
 ghost use Rattle.rg_course.specs.Switching.{CaughtUpAtSwitch};
 
 /// A utility that nothing hinders ends after as many steps as its pages, its RELOAD steps and
@@ -16,7 +16,9 @@ pub fn switching_law()
     ensures { CaughtUpAtSwitch }
 {}
 
-/// How many pages of the new copy are filled is told by the entries.
+/// How many pages of the new copy are filled is told by the entries. Once a list is sorted all rows
+/// are reloaded.
 pub fn loading_law()
-    ensures { LoadingGoesOn }
+    ensures filled { LoadingGoesOn }
+    ensures loaded { LoadedGoesOn }
 {}

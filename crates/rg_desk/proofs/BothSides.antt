@@ -1,6 +1,7 @@
 -- The layouts of both copies, once a new copy was written, are right for the table.
 use Rattle.std.proofs.Common.{◌≡◌, ℕ, true, false, List, Option, Some, None, IfSome, length, take, refl, sym, ◌∙◌, ap, subst}
 use Rattle.std.proofs.Math.Seq.{take-length}
+use Rattle.rg_account.specs.Account.{allowed_of}
 use Rattle.rg_base.specs.declared.options.DrainState.TheVariants.{Granted}
 use Rattle.rg_base.specs.declared.place.Place.{Place}
 use Rattle.rg_base.specs.declared.position.Position.{Position}
@@ -20,7 +21,7 @@ use Rattle.rg_stmt.specs.declared.layout.Side.{Side}
 use Rattle.rg_stmt.specs.declared.layout.Sides.{Sides}
 use Rattle.rg_tally.specs.Changed.{ChangeCount}
 use Rattle.rg_tending.specs.Tending.{Tends}
-use Rattle.rg_desk.specs.Chronicle.{ChronicleState, allowed_by}
+use Rattle.rg_desk.specs.Chronicle.{ChronicleState}
 use Rattle.rg_desk.specs.Desk.{AreSides, DeskState, HasCurrent, HasDrain, IsDesk, IsNewSide}
 use Rattle.rg_desk.specs.Engine.{slots_in}
 use Rattle.rg_desk.specs.Prepared.{IsSideOfKept, KeepsPrepared, PreparedSeen, prepared_seen}
@@ -64,7 +65,7 @@ module _ (d : Engine) (c : ChronicleState) (origin : Origin) (copy : ℕ) (marks
   granted = sym (desk.shown refl).by.drain ∙ (state_shows d c origin copy false marks seen desk (Some drained.stage) count tends_some).1 ∙ drained.drain
 
   stored_rows : IsTable (row_at (slot_of (slots_in d))) (stored d.log.records)
-  stored_rows = rows_stored desk.state (allowed_by 0 c.trace) d (desk.shown refl) (claims_are d c origin copy marks seen desk d) kept drained.granted granted
+  stored_rows = rows_stored desk.state (allowed_of desk.start c.trace) d (desk.shown refl) (claims_are d c origin copy marks seen desk d) kept drained.granted granted
 
   right_new : (o : Option Prepared) → KeepsPrepared o d.log.records copy seen → IsSideOfKept o sides.new → Some current.shadow ≡ prepared_seen o → (t : Table) → IsTable (row_at (slot_of (slots_in d))) (row_of t) → is_right_side t sides.new ≡ true
   right_new None keeps is same t rows = absurd is
@@ -89,5 +90,5 @@ module _ (d : Engine) (c : ChronicleState) (origin : Origin) (copy : ℕ) (marks
     new = subst (λ (o : Option PreparedSeen). IfSome o (IsNewSide sides.new)) (sym shadow_is) (new_side_of p sides.new new);
     right = λ t is.
         let rows = subst (λ ps. IsTable (row_at (slot_of ps)) (row_of t)) pages_are is in
-        (old desk.state (allowed_by 0 c.trace) (desk.shown refl) t rows, right_new p prepared new (sym current.shadow_is ∙ shadow_is) t rows);
+        (old desk.state (allowed_of desk.start c.trace) (desk.shown refl) t rows, right_new p prepared new (sym current.shadow_is ∙ shadow_is) t rows);
   }

@@ -54,7 +54,8 @@ use Rattle.rg_desk.proofs.Ended.{keys_ended, units_ended}
 use Rattle.rg_desk.proofs.Logged.{bytes_committed}
 use Rattle.rg_desk.proofs.Settled.{shows_more}
 use Rattle.rg_desk.proofs.Keys.{same_or_not}
-use Rattle.rg_desk.proofs.Moving.{ended_others, ended_own, idle_end_moves, record_moves}
+use Rattle.rg_account.specs.Found.{rows_found}
+use Rattle.rg_desk.proofs.Moving.{ended_found, ended_others, ended_own, idle_end_moves, record_moves}
 use Rattle.rg_desk.proofs.Reopens.{appended_clean, appended_parts, clean_in, clean_of}
 use Rattle.rg_desk.proofs.Sessions.{left_consistent}
 use Rattle.rg_desk.proofs.Trails.{trail_other}
@@ -286,13 +287,16 @@ module _ (st : State) (allowed : ℕ) (d new : Engine) (session : Session) (show
   -- no row is moved
 
   idle_moves : unit_at d.units session.0 ≡ None → Moves d session stmts.Commit Done new
-  idle_moves none = idle_end_moves d session stmts.Commit new place none (ap (λ sp. slots_in (record d { space = sp })) space) (no_record none) units refl refl refl
+  idle_moves none = idle_end_moves d session stmts.Commit new place none (ap (λ sp. slots_in (record d { space = sp })) space) (no_record none) units (λ t. refl) refl refl refl
 
   ended_moves : (unit : OpenUnit) → unit_at d.units session.0 ≡ Some unit → Moves d session stmts.Commit Done new
   ended_moves unit has =
       record_moves st allowed d shows session stmts.Commit Done new (commit_record (length d.log.records + 1) unit ∷ []) (one_record unit has) (one_runs unit has) (commit_next unit has) slots (λ past write. (tt, tt)) (λ ws are. refl) refl
       (ap (λ (us : List (Option OpenUnit)). writes_in (unit_at us session.0)) units ∙ ended_own d.units session.0 place)
-      (λ n apart. ap (λ (us : List (Option OpenUnit)). writes_in (unit_at us n)) units ∙ ended_others d.units session.0 n apart)
+      (λ n apart. ap (λ (us : List (Option OpenUnit)). unit_at us n) units ∙ ended_others d.units session.0 n apart)
+      (λ t table.
+      let one = shows.by.units.each session.0 unit has in
+      ended_found d session new unit (own_of unit.tran.0 s.writes) place has (one.walks, one.count) units (rows_found t stmts.Commit Done) (λ found. refl))
 
   pub commit_goes : KeepsNewest d new → Goes st allowed d session stmts.Commit Done new
   commit_goes newest = record {

@@ -4,12 +4,13 @@
 --    is right (`right_switch`).
 -- 2. The stage follows the entry (`switched_goes`). Where the device refused it, the utility is over
 --    (`fallen_goes`).
-use Rattle.std.proofs.Common.{◌≡◌, ◌==◌, ◌++◌, ◌+◌, if◌then◌else◌, ℕ, zero, suc, Bool, true, false, List, [], ◌∷◌, length, take, Option, Some, None, Result, Ok, Err, OnOk, OnErr, nat_cmp, refl, sym, ◌∙◌, ap, subst}
+use Rattle.std.proofs.Common.{◌≡◌, ◌==◌, ◌≤◌, ◌++◌, ◌+◌, if◌then◌else◌, ℕ, zero, suc, Bool, true, false, List, [], ◌∷◌, length, take, Option, Some, None, Result, Ok, Err, OnOk, OnErr, nat_cmp, refl, sym, ◌∙◌, ap, subst}
 use Rattle.std.proofs.Math.Dec.{eqb-suc-zero}
 use Rattle.std.proofs.lemmas.List.{take-append-le}
 use Rattle.std.specs.Cmp.Derive.{both_true}
 use Rattle.std.specs.FinMap as fin
 use Rattle.std.specs.FinMap.{len-empty}
+use Rattle.rg_account.specs.Account.{allowed_of}
 use Rattle.rg_base.specs.declared.session.Class.{Class}
 use Rattle.rg_base.specs.declared.control.Answer.{Answer}
 use Rattle.rg_base.specs.declared.options.DrainFor.TheVariants.{All}
@@ -31,6 +32,10 @@ use Rattle.rg_model.specs.Right.{are_quiet_right, is_packed, is_right_switch}
 use Rattle.rg_model.specs.State.{Claims, Utility, row_of}
 use Rattle.rg_model.specs.Turn.{Turn, Switches, alter, step_of, turn_of}
 use Rattle.rg_record.specs.declared.record.Record.{Record}
+use Rattle.rg_claimed.specs.Claim.{claimed_all, nobody}
+use Rattle.rg_desk.specs.Stored.{IsStored}
+use Rattle.rg_desk.specs.Units.{unit_at}
+use Rattle.rg_shadow.specs.Shade.{shade_slots}
 use Rattle.rg_stage.specs.Bounded.{KeepsBounds}
 use Rattle.rg_stage.specs.Followed.{Followed}
 use Rattle.rg_stage.specs.NumbersOf.{numbers_of}
@@ -41,8 +46,8 @@ use Rattle.rg_stmt.specs.declared.layout.Sides.{Sides}
 use Rattle.rg_switch.specs.Switched.{other_of, switch_to}
 use Rattle.rg_tally.specs.Changed.{ChangeCount}
 use Rattle.rg_tending.specs.Tending.{Tends, behind, utility_entry}
-use Rattle.rg_desk.specs.Chronicle.{ChronicleState, IsRecorded, allowed_by}
-use Rattle.rg_desk.specs.Desk.{CanCommit, DeskState, IsDesk}
+use Rattle.rg_desk.specs.Chronicle.{ChronicleState, IsRecorded}
+use Rattle.rg_desk.specs.Desk.{CanCommit, DeskState, IsDesk, old_records}
 use Rattle.rg_desk.specs.Engine.{slots_in}
 use Rattle.rg_desk.specs.OnVolume.{SoundThroughout}
 use Rattle.rg_desk.specs.Prepared.{IsPrepared, PreparedSeen}
@@ -55,6 +60,7 @@ use Rattle.rg_desk.specs.declared.prepared.Prepared.{Prepared}
 use Rattle.rg_desk.proofs.DeskSwitch.{at_switch, drain_is, aside_is, fell_on, switched_on}
 use Rattle.rg_desk.proofs.DeskUtility.{GoesOn}
 use Rattle.rg_desk.proofs.Sessions.{left_consistent}
+use Rattle.rg_desk.proofs.Switching.{no_units}
 use Rattle.rg_desk.proofs.Turning.{turn_sound}
 
 -- a result says one of these
@@ -83,7 +89,8 @@ module _ (d : Engine) (c : ChronicleState) (origin : Origin) (copy : ℕ) (marks
     (p : Prepared) (is : IsPrepared p d.log.records copy seen)
     (V O : Type 0) (view : DeskState V O) (can : CanCommit view answer sides) (stage_is : view.stage ≡ Some s)
     (shadow_is : view.shadow ≡ Some (record { shade = p.shadow; records = p.records }))
-    (records_are : view.ground.log.records ≡ d.log.records) (pages_are : view.ground.pages ≡ slots_in d) (trace_is : view.trace ≡ c.trace) where
+    (records_are : view.ground.log.records ≡ d.log.records) (pages_are : view.ground.pages ≡ slots_in d) (trace_is : view.trace ≡ c.trace)
+    (old_is : old_records view ≡ take origin.records d.log.records) where
   s_is : can.stage ≡ s
   s_is = some_same can.stage s (sym can.stage_is ∙ stage_is)
 
@@ -105,13 +112,20 @@ module _ (d : Engine) (c : ChronicleState) (origin : Origin) (copy : ℕ) (marks
   as_kept : sides.new.pages ≡ length p.shadow.pages
   as_kept = can.as_kept ∙ ap (λ (x : PreparedSeen). length x.shade.pages) p_is
 
+  -- the new copy's pages claim no more than the entries have allowed
+  claims_fit : claimed_all nobody (shade_slots p.shadow) ≤ allowed_of desk.start c.trace
+  claims_fit =
+      subst (λ (es : List Entry). claimed_all nobody (shade_slots p.shadow) ≤ allowed_of desk.start es) trace_is
+      (subst (λ (x : PreparedSeen). claimed_all nobody (shade_slots x.shade) ≤ allowed_of desk.start view.trace) p_is
+      (can.claims desk.start (subst (λ (rs : List Record). IsStored rs desk.start) (sym old_is) desk.starts)))
+
   rows_are : IsTable (row_at (slot_of view.ground.pages)) (row_of desk.state.table)
   rows_are =
       let shows = desk.shown refl in
       let left = left_by shows.first d in
       subst (λ (ps : List (List Slot)). IsTable (row_at (slot_of ps)) (row_of desk.state.table)) (sym (pages_are ∙ shows.by.slots))
       (table_same (row_at (slot_of left.pages)) (row_at (slot_of left.pages)) left.now (row_of desk.state.table) (λ q. refl) (λ k. shows.by.table k)
-      (left_consistent desk.state (allowed_by 0 c.trace) d shows).table)
+      (left_consistent desk.state (allowed_of desk.start c.trace) d shows).table)
 
   pub drain_all : d.claims.drain ≡ Granted All
   drain_all = drain_is d c origin copy marks seen desk s count tends answer unswitched can.no_term step
@@ -130,6 +144,9 @@ module _ (d : Engine) (c : ChronicleState) (origin : Origin) (copy : ℕ) (marks
         (λ none.
         subst (λ (x : Stage). is_packed x.options desk.state.table sides.new ≡ true) s_is
         (can.packed (subst (λ (es : List Entry). changes (behind [] es) ≡ 0) (sym trace_is) none) desk.state.table rows_are))))))
+
+    pub none_open : (n : ℕ) → unit_at d.units n ≡ None
+    none_open = no_units d c origin copy marks seen desk p is current shade kept drain_all aside_all
 
     module _ (calls : ℕ) (seen_after : VolumeSeen) (new : ChronicleState) (at : new.calls ≡ calls) (counted : IsCount seen_after calls) (recorded : IsRecorded new.trace new.calls) where
       event : (to : ℕ) → Event
@@ -153,7 +170,7 @@ module _ (d : Engine) (c : ChronicleState) (origin : Origin) (copy : ℕ) (marks
       base next turns None followed keeps trace = absurd followed
       base next turns (Some t) followed keeps trace =
           switched_on d c origin copy marks seen desk s count tends answer unswitched can.no_term step p is current shade kept turns.mid seen_after turns.logs calls new at counted recorded
-          next turns.takes turns.forced sides t as_written as_kept right_switch followed keeps trace
+          next turns.takes turns.forced sides t as_written as_kept claims_fit right_switch followed keeps trace
 
       pub switched_goes : (to : ℕ) → to ≡ other_of copy → (next : Engine) → Turns to p.shadow seen seen_after d next
           → (all : ℕ) → all ≡ count.since → (o : Option Stage)

@@ -1,5 +1,5 @@
 -- The copy of a page.
-use Rattle.std.proofs.Common.{◌≡◌, ◌==◌, ◌≤◌, ◌+◌, ◌*◌, ◌++◌, ℕ, suc, zero, Bool, true, false, List, [], ◌∷◌, Option, Some, None, if◌then◌else◌, length, refl, sym, ◌∙◌, ap, subst, arith, length-append}
+use Rattle.std.proofs.Common.{◌≡◌, ◌==◌, ◌≤◌, ◌+◌, ◌*◌, ℕ, suc, zero, Bool, List, [], ◌∷◌, Option, Some, None, if◌then◌else◌, length, refl, sym, ◌∙◌, ap, subst, arith, length-append}
 use Rattle.rg_base.specs.declared.place.Place.{Place}
 use Rattle.rg_base.specs.declared.position.Position.{Position}
 use Rattle.rg_base.specs.declared.row.Row.{Row}
@@ -8,8 +8,9 @@ use Rattle.rg_fold.specs.Lawful.{IsWell}
 use Rattle.rg_fold.specs.declared.item.Item.{Item}
 use Rattle.rg_fold.specs.declared.item.Item.TheVariants.{PageCopy}
 use Rattle.rg_home.specs.Pages.{page_at, slot_of}
-use Rattle.rg_home.specs.Rows.{row_at}
-use Rattle.rg_home.specs.Slot.{Slot}
+use Rattle.rg_home.specs.Rows.{home_row, row_at}
+use Rattle.rg_home.specs.Slot.{Free, Slot}
+use Rattle.rg_home.specs.Slots.{slot_at}
 use Rattle.rg_home.proofs.Slots.{used-length}
 use Rattle.rg_lawful.proofs.Tables.{eqb-refl}
 use Rattle.rg_page.specs.Content.{Content, slots_of}
@@ -31,12 +32,25 @@ few_rows at n i (suc count) =
     omega (arith, length-append (home_with (place_on n i) (row_at at (place_on n i))) (rows_from at n (i + 1) count), one_row (place_on n i) (row_at at (place_on n i)), few_rows at n (i + 1) count)
 
 -- a page has 225 slots at most
-few_homes : (d : Engine) → IsShown d → (page : ℕ) → length (homes_on (slots_in d) page) ≤ 225
-few_homes d shown page =
+page_fits : (d : Engine) → IsShown d → (page : ℕ) → 18 * length (page_at (slots_in d) page) ≤ 4064
+page_fits d shown page =
     let shows = shown.shows in
     let good = left_consistent shown.state shown.allowed d shows in
-    let fits = subst (λ (ps : List (List Slot)). (n : ℕ) → 18 * length (page_at ps n) ≤ 4064) (sym shows.by.slots) (λ n. let fits = good.ready.proper.sound.fits n in omega (arith, used-length (page_at (left_by shows.first d).pages n), fits)) in
-    omega (arith, few_rows (slot_of (slots_in d)) page 0 (length (page_at (slots_in d) page)), fits page)
+    let fits = good.ready.proper.sound.fits page in
+    subst (λ (ps : List (List Slot)). 18 * length (page_at ps page) ≤ 4064) (sym shows.by.slots) (omega (arith, used-length (page_at (left_by shows.first d).pages page), fits))
+
+few_homes : (d : Engine) → IsShown d → (page : ℕ) → length (homes_on (slots_in d) page) ≤ 225
+few_homes d shown page = omega (arith, few_rows (slot_of (slots_in d)) page 0 (length (page_at (slots_in d) page)), page_fits d shown page)
+
+slot_past : (slots : List Slot) (i : ℕ) → length slots ≤ i → slot_at slots i ≡ Free
+slot_past [] zero past = refl
+slot_past [] (suc i) past = refl
+slot_past (x ∷ slots) zero past = absurd (omega (arith, past))
+slot_past (x ∷ slots) (suc i) past = slot_past slots i (omega (arith, past))
+
+pub none_high : (d : Engine) → IsShown d → (place : Place) → 225 ≤ place.slot → row_at (slot_of (slots_in d)) place ≡ None
+none_high d shown place high =
+    ap (λ (s : Slot). home_row (slot_of (slots_in d)) s) (slot_past (page_at (slots_in d) place.page) place.slot (omega (arith, high, page_fits d shown place.page)))
 
 homes_are : (d : Engine) (after : List Content) (page : ℕ) (item : Item) (position : Position) → item ≡ PageCopy page position (homes_on (slots_of after) page) → after ≡ (seen_in d).pages → item ≡ PageCopy page position (homes_on (slots_in d) page)
 homes_are d after page item position is same = is ∙ ap (λ (ps : List Content). PageCopy page position (homes_on (slots_of ps) page)) same

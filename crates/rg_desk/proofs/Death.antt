@@ -4,6 +4,7 @@ use Rattle.std.specs.FinMap as fin
 use Rattle.std.specs.List.{Contains}
 use Rattle.std.proofs.lemmas.Bool.Decides.{nat_tests}
 use Rattle.std.proofs.lemmas.List.{take-append-le}
+use Rattle.rg_account.specs.Account.{allowed_of}
 use Rattle.rg_base.specs.declared.position.Position.{Position}
 use Rattle.rg_base.specs.declared.session.Session.{Session}
 use Rattle.rg_claim.specs.declared.claims.Claims.{Claims}
@@ -14,7 +15,7 @@ use Rattle.rg_model.specs.Possible.{tables_left}
 use Rattle.rg_model.specs.State.{State}
 use Rattle.rg_model.proofs.Members.{only_one}
 use Rattle.rg_record.specs.declared.record.Record.{Record}
-use Rattle.rg_desk.specs.Chronicle.{ChronicleState, allowed_by}
+use Rattle.rg_desk.specs.Chronicle.{ChronicleState}
 use Rattle.rg_desk.specs.Desk.{IsDesk}
 use Rattle.rg_desk.specs.Ended.{commit_record, records_committed}
 use Rattle.rg_desk.specs.Left.{LeavesState, StoresLeft, in_doubt}
@@ -101,5 +102,5 @@ module _ (st : State) (allowed : ℕ) (d : Engine) (session : Session) (shows : 
 
 -- a desk, whether it is up or down
 pub desk_left : (d : Engine) (c : ChronicleState) (origin : Origin) (copy : ℕ) (down : Bool) (marks : List (Option Position)) (seen : VolumeSeen) (desk : IsDesk d c origin copy down marks seen) → LeavesState desk.state d.log
-desk_left d c origin copy false marks seen desk = shown_left desk.state (allowed_by 0 c.trace) d (desk.shown refl)
+desk_left d c origin copy false marks seen desk = shown_left desk.state (allowed_of desk.start c.trace) d (desk.shown refl)
 desk_left d c origin copy true marks seen desk = desk.left refl

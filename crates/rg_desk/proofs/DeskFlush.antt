@@ -1,5 +1,6 @@
 -- The entry of a flush.
 use Rattle.std.proofs.Common.{◌≡◌, ◌≤◌, ◌++◌, ℕ, Bool, true, false, not, List, [], ◌∷◌, Option, Some, None, refl, sym, ◌∙◌, ap, subst, arith}
+use Rattle.rg_account.specs.Account.{allowed_of}
 use Rattle.rg_base.specs.declared.position.Position.{Position}
 use Rattle.rg_model.specs.Possible.{next_state}
 use Rattle.rg_model.specs.Said.{if_allowed}
@@ -11,7 +12,7 @@ use Rattle.rg_stmt.specs.declared.event.Event.{Event}
 use Rattle.rg_stmt.specs.declared.event.Event.TheVariants.{Clean, Flush, FlushDevice, FlushNoMemory}
 use Rattle.rg_log.specs.Kept.{Listed, log_pages}
 use Rattle.rg_newest.specs.Tidy.{set_of}
-use Rattle.rg_desk.specs.Chronicle.{ChronicleState, IsRecorded, allowed_by, system_entry}
+use Rattle.rg_desk.specs.Chronicle.{ChronicleState, IsRecorded, system_entry}
 use Rattle.rg_desk.specs.Desk.{IsDesk}
 use Rattle.rg_desk.specs.Engine.{seen_in}
 use Rattle.rg_desk.specs.Flushed.{CallsOwn, FlushIs, IsFlush, TellsFlush, WritesEither}
@@ -60,7 +61,7 @@ desk_flushed d c origin copy true marks seen desk event calls next later seen_af
 desk_flushed d c origin copy false marks seen desk event calls next later seen_after new f trace at counted recorded =
     let pages : next.log.pages ≡ d.log.pages = ap (λ (l : Listed). l.pages) f.forces.log in
     desk_quiet d c origin copy false marks seen desk event calls next later seen_after new f.forces.log
-    (λ up. f.forces.shows desk.state (allowed_by 0 c.trace) (desk.shown refl)) (λ down. absurd (cc (down)))
+    (λ up. f.forces.shows desk.state (allowed_of desk.start c.trace) (desk.shown refl)) (λ down. absurd (cc (down)))
     (is_system copy (seen_in d).pages marks later seen seen_after event f.is) (allowed desk.state desk.down_is copy (seen_in d).pages marks later seen seen_after event f.is)
     (pages ∙ desk.pages ∙ ap (λ x. log_pages x) (sym f.calls.capacities))
     (on_calls (WritesEither (set_of copy)) seen.told seen_after.told d.log next.log c.calls f.calls.only desk.counted pages f.leaves desk.leaves)

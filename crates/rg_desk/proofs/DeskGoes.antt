@@ -1,13 +1,17 @@
 -- A desk goes on by one entry, and its trace is legal.
 use Rattle.std.proofs.Common.{◌≡◌, ◌≢◌, ◌==◌, ◌&&◌, ◌||◌, not, ◌≤◌, ◌<◌, ◌+◌, ◌-◌, ◌*◌, ◌^◌, inl, inr, ℕ, suc, Bool, true, false, cond, List, [], ◌∷◌, ◌++◌, length, take, Option, Some, None, refl, sym, ◌∙◌, ap, subst, arith, length-append}
+use Rattle.std.proofs.lemmas.Cmp.{nat_cmp_total}
 use Rattle.std.proofs.lemmas.List.{take-append-le}
 use Rattle.std.proofs.Math.Seq.{take-length}
 use Rattle.std.specs.FinMap as map
-use Rattle.std.specs.FinMap.{get-empty, get-entries, len-entries}
+use Rattle.std.specs.FinMap.{get-empty, get-entries, len-entries, nat_cmp-IsAntisymmetric, same_map}
 use Rattle.std.specs.Option.{is_some}
 use Rattle.std.specs.Ordering.{nat_cmp, eq_by_cmp}
 use Rattle.std.specs.List.{AllByRecursion, Contains}
+use Rattle.rg_account.specs.Account.{Account, account_after, account_of, account_said, allowed_of, first_state, no_account, state_by}
+use Rattle.rg_account.proofs.Accounts.{account_push, state_push}
 use Rattle.rg_base.specs.declared.lock.Lock.{Lock}
+use Rattle.rg_claimed.specs.Claim.{claimed_all, holding}
 use Rattle.rg_base.specs.declared.position.Position.{Position}
 use Rattle.rg_base.specs.declared.row.Row.{Row}
 use Rattle.rg_base.specs.declared.session.Session.{Session}
@@ -47,7 +51,7 @@ use Rattle.rg_desk.specs.Steps.{more_allowed, more_logged}
 use Rattle.rg_desk.specs.Stored.{Grows, IsStored}
 use Rattle.rg_desk.specs.Volume.{CallsLog, HasCalls, IsCount, LeavesIfTidy, VolumeSeen}
 use Rattle.rg_desk.specs.Bytes.{taken_of}
-use Rattle.rg_desk.specs.Chronicle.{ChronicleState, IsEntry, IsRecorded, allowed_after, allowed_by, logged_after, logged_by, system_entry}
+use Rattle.rg_desk.specs.Chronicle.{ChronicleState, IsEntry, IsRecorded, logged_after, logged_by, system_entry}
 use Rattle.rg_desk.specs.Desk.{AreKeys, IsAmong, IsBegun, IsCopy, IsDesk, IsLayout, is_reply}
 use Rattle.rg_desk.specs.Engine.{ground_of}
 use Rattle.rg_desk.specs.Left.{LeavesState}
@@ -63,7 +67,7 @@ use Rattle.rg_space.specs.Space.{capacity_in}
 use Rattle.rg_version.specs.Versions.{Epoch}
 use Rattle.rg_desk.specs.Count.{IsShownFew}
 use Rattle.rg_desk.specs.Room.{Ground, SaysLog, SaysRoom}
-use Rattle.rg_desk.specs.Shows.{IsShown, Shows}
+use Rattle.rg_desk.specs.Shows.{IsShown, Shows, left_by}
 use Rattle.rg_desk.specs.Wrote.{SameEngine}
 use Rattle.rg_desk.specs.declared.engine.Engine.{Engine}
 use Rattle.rg_desk.specs.declared.origin.Origin.{Origin}
@@ -76,9 +80,70 @@ use Rattle.rg_desk.proofs.Reopens.{parts_further, same_clean}
 use Rattle.rg_desk.proofs.Same.{same_shows}
 use Rattle.rg_desk.proofs.Settled.{grows_same}
 
-pub allowed-push : (allowed : ℕ) (entries : List Entry) (entry : Entry) → allowed_by allowed (entries ++ entry ∷ []) ≡ allowed_after (allowed_by allowed entries) entry.event
-allowed-push allowed [] entry = refl
-allowed-push allowed (e ∷ entries) entry = allowed-push (allowed_after allowed e.event) entries entry
+-- what the entries have allowed, by one entry more
+
+pub account-push : (start : Table) (entries : List Entry) (st : State) (entry : Entry) → state_by [] (first_state start) entries ≡ st → account_of start (entries ++ entry ∷ []) ≡ account_after st (account_of start entries) entry.actor entry.event
+account-push start entries st entry told =
+    account_push [] (first_state start) no_account entries entry ∙ ap (λ (x : State). account_after x (account_of start entries) entry.actor entry.event) told
+
+pub allowed-push : (start : Table) (entries : List Entry) (st : State) (entry : Entry) → state_by [] (first_state start) entries ≡ st → allowed_of start (entries ++ entry ∷ []) ≡ (account_after st (account_of start entries) entry.actor entry.event).allowed
+allowed-push start entries st entry told = ap (λ (a : Account). a.allowed) (account-push start entries st entry told)
+
+-- a statement allows what it writes, at least
+more_said : (st : State) (a : Account) (session : ℕ) (stmt : Stmt) (reply : Reply) → a.allowed + more_allowed stmt reply ≤ (account_said st a session stmt reply).allowed
+more_said st a session (Insert row) Done = omega arith
+more_said st a session (Update row) Done = omega arith
+more_said st a session stmt Done = omega arith
+more_said st a session stmt (Victim owner) = omega arith
+more_said st a session stmt reply = omega arith
+
+-- the pages claim no more where more is allowed
+pub shows_within : (st : State) (allowed most : ℕ) (d : Engine) (shows : Shows st allowed d) → claimed_all (holding (left_by shows.first d).live (suc (left_by shows.first d).top)) (left_by shows.first d).pages ≤ most → Shows st most d
+shows_within st allowed most d shows small =
+    let by = shows.by in
+    record {
+      first = shows.first;
+      begun = shows.begun;
+      within = shows.within;
+      stores = shows.stores;
+      settled = shows.settled;
+      runs = shows.runs;
+      by = record {
+        up = by.up;
+        sure = by.sure;
+        copy = by.copy;
+        table = by.table;
+        locks = by.locks;
+        claims = by.claims;
+        drain = by.drain;
+        pages = by.pages;
+        slots = by.slots;
+        indexes = by.indexes;
+        keys = by.keys;
+        places = by.places;
+        units = by.units;
+        top = by.top;
+        owed = by.owed;
+        claimed = small;
+      };
+      trails = shows.trails;
+    }
+
+-- a layout or a flush allows nothing
+pub system_keeps : (st : State) (a : Account) (event : Event) → IsSystem event → account_after st a actors.System event ≡ a
+system_keeps st a (Layout shown side) is = refl
+system_keeps st a LayoutNoMemory is = refl
+system_keeps st a LayoutDown is = refl
+system_keeps st a (Flush page) is = refl
+system_keeps st a Clean is = refl
+system_keeps st a FlushDevice is = refl
+system_keeps st a FlushDown is = refl
+system_keeps st a FlushNoMemory is = refl
+system_keeps st a event is = absurd is
+
+-- the table that records store is one
+pub start_is : (records : List Record) (one other : Table) → IsStored records one → IsStored records other → one ≡ other
+start_is records one other here there = same_map nat_cmp_total nat_cmp-IsAntisymmetric one other (λ k. here k ∙ sym (there k))
 
 pub logged-push : (logged : ℕ) (entries : List Entry) (entry : Entry) → logged_by logged (entries ++ entry ∷ []) ≡ logged_after (logged_by logged entries) entry.event
 logged-push logged [] entry = refl
@@ -167,13 +232,14 @@ module _ (d : Engine) (c : ChronicleState) (origin : Origin) (copy : ℕ) (down 
     state = desk.state;
     begun = subst (IsBegun origin.copy (row_count desk.start)) (sym trace) desk.begun;
     run = subst (λ (es : List Entry). Run [] (at_rest desk.start origin.copy) es desk.state) (sym trace) desk.run;
+    told = ap (state_by [] (first_state desk.start)) trace ∙ desk.told;
     is_first = desk.is_first;
     is_copy = desk.is_copy;
     copy_is = desk.copy_is;
     down_is = desk.down_is;
     counted = subst (HasCalls seen) (sym calls) desk.counted;
     recorded = subst (IsRecorded mid.trace) (sym calls) (subst (λ (es : List Entry). IsRecorded es c.calls) (sym trace) desk.recorded);
-    shown = λ up. subst (λ (es : List Entry). Shows desk.state (allowed_by 0 es) d) (sym trace) (desk.shown up);
+    shown = λ up. subst (λ (es : List Entry). Shows desk.state (allowed_of desk.start es) d) (sym trace) (desk.shown up);
     left = desk.left;
     logged = subst (λ (es : List Entry). taken_of d.log ≤ logged_by 0 es) (sym trace) desk.logged;
     pages = desk.pages;
@@ -189,7 +255,7 @@ module _ (d : Engine) (c : ChronicleState) (origin : Origin) (copy : ℕ) (down 
 
   -- while it is up it shows a state
   pub desk_shown : down ≡ false → IsShown d
-  desk_shown up = record { state = desk.state; allowed = allowed_by 0 c.trace; shows = desk.shown up }
+  desk_shown up = record { state = desk.state; allowed = allowed_of desk.start c.trace; shows = desk.shown up }
 
   -- the records that the log had when it was opened stay the first ones
   pub old_same : (next : Engine) → Grows d.log next.log → take origin.records next.log.records ≡ take origin.records d.log.records
@@ -198,12 +264,14 @@ module _ (d : Engine) (c : ChronicleState) (origin : Origin) (copy : ℕ) (down 
   -- the entry of a statement
   desk_on : (session : Session) (stmt : Stmt) (reply : Reply) (calls : ℕ) (after : State) (next : Engine) (down_after : Bool) (seen_after : VolumeSeen) (new : ChronicleState) (keys : List ℕ)
       → AreKeys keys after → length keys ≤ length desk.keys + 1 → Says desk.state session stmt reply after → after.copy ≡ copy → after.down ≡ down_after
-      → (down_after ≡ false → Shows after (allowed_by 0 c.trace + more_allowed stmt reply) next) → (down_after ≡ true → LeavesState after next.log)
+      → (down_after ≡ false → Shows after (allowed_of desk.start c.trace + more_allowed stmt reply) next) → (down_after ≡ true → LeavesState after next.log)
       → taken_of next.log ≤ taken_of d.log + more_logged stmt reply → next.log.pages ≡ log_pages seen_after.capacities
       → Grows d.log next.log → LeavesIfTidy seen_after next.log → (down_after ≡ false → IsOnVolume copy next.log next.space marks seen_after) → (down_after ≡ true → RestsOn after seen_after) → (down_after ≡ false → CleanIfTidy seen_after next)
       → new.trace ≡ c.trace ++ said_entry session stmt reply calls ∷ [] → new.calls ≡ calls → IsCount seen_after calls → IsRecorded new.trace new.calls → IsDesk next new origin copy down_after marks seen_after
   desk_on session stmt reply calls after next down_after seen_after new keys among more says copy_is down_is shown left logged pages grows leaves is_on rests clean trace at counted recorded =
       let entry = said_entry session stmt reply calls in
+      let allowed_on : allowed_of desk.start new.trace ≡ (account_said desk.state (account_of desk.start c.trace) session.0 stmt reply).allowed =
+      ap (allowed_of desk.start) trace ∙ allowed-push desk.start c.trace desk.state entry desk.told in
       let longer = ap (λ (es : List Entry). length es) trace ∙ length-append c.trace (entry ∷ []) in
       let few = desk.few in
       let within = desk.within in
@@ -216,13 +284,17 @@ module _ (d : Engine) (c : ChronicleState) (origin : Origin) (copy : ℕ) (down 
         begun = subst (IsBegun origin.copy (row_count desk.start)) (sym trace) (begun-push origin.copy (row_count desk.start) c.trace entry desk.begun);
         run = subst (λ (es : List Entry). Run [] (at_rest desk.start origin.copy) es after) (sym trace)
             (Run-push [] (at_rest desk.start origin.copy) desk.state after c.trace entry desk.run says);
+        told = ap (state_by [] (first_state desk.start)) trace ∙ state_push [] (first_state desk.start) desk.state after c.trace entry desk.told refl says;
         is_first = desk.is_first;
         is_copy = desk.is_copy;
         copy_is = copy_is;
         down_is = down_is;
         counted = count_is seen_after calls new.calls counted at;
         recorded = recorded;
-        shown = λ up. subst (λ (n : ℕ). Shows after n next) (sym (ap (allowed_by 0) trace ∙ allowed-push 0 c.trace entry)) (shown up);
+        shown = λ up.
+            let had = shown up in
+            shows_within after (allowed_of desk.start c.trace + more_allowed stmt reply) (allowed_of desk.start new.trace) next had
+            (omega (arith, had.by.claimed, more_said desk.state (account_of desk.start c.trace) session.0 stmt reply, allowed_on));
         left = left;
         logged = omega (arith, ap (logged_by 0) trace, logged-push 0 c.trace entry, logged, desk.logged);
         pages = pages;
@@ -238,7 +310,7 @@ module _ (d : Engine) (c : ChronicleState) (origin : Origin) (copy : ℕ) (down 
 
   -- the entry of an event that changes nothing but how much of the log is forced, and marks
   pub desk_quiet : (event : Event) (calls : ℕ) (next : Engine) (later : List (Option Position)) (seen_after : VolumeSeen) (new : ChronicleState)
-      → next.log ≡ record d.log { forced = next.log.forced } → (down ≡ false → Shows desk.state (allowed_by 0 c.trace) next) → (down ≡ true → LeavesState desk.state next.log)
+      → next.log ≡ record d.log { forced = next.log.forced } → (down ≡ false → Shows desk.state (allowed_of desk.start c.trace) next) → (down ≡ true → LeavesState desk.state next.log)
       → IsSystem event → next_state [] None actors.System event desk.state ≡ Some desk.state
       → next.log.pages ≡ log_pages seen_after.capacities → LeavesIfTidy seen_after next.log → (down ≡ false → IsOnVolume copy next.log next.space later seen_after) → (down ≡ true → RestsOn desk.state seen_after) → (down ≡ false → CleanIfTidy seen_after next)
       → new.trace ≡ c.trace ++ system_entry event calls ∷ [] → new.calls ≡ calls → IsCount seen_after calls → IsRecorded new.trace new.calls → IsDesk next new origin copy down later seen_after
@@ -254,13 +326,14 @@ module _ (d : Engine) (c : ChronicleState) (origin : Origin) (copy : ℕ) (down 
         state = desk.state;
         begun = subst (IsBegun origin.copy (row_count desk.start)) (sym trace) (begun-push origin.copy (row_count desk.start) c.trace entry desk.begun);
         run = subst (λ (es : List Entry). Run [] (at_rest desk.start origin.copy) es desk.state) (sym trace) (pushed event is allows);
+        told = ap (state_by [] (first_state desk.start)) trace ∙ state_on event is allows;
         is_first = desk.is_first;
         is_copy = desk.is_copy;
         copy_is = desk.copy_is;
         down_is = desk.down_is;
         counted = count_is seen_after calls new.calls counted at;
         recorded = recorded;
-        shown = λ up. subst (λ (n : ℕ). Shows desk.state n next) (sym (ap (allowed_by 0) trace ∙ allowed-push 0 c.trace entry ∙ none_allowed event is (allowed_by 0 c.trace))) (shown up);
+        shown = λ up. subst (λ (n : ℕ). Shows desk.state n next) (sym (ap (allowed_of desk.start) trace ∙ allowed-push desk.start c.trace desk.state entry desk.told ∙ ap (λ (a : Account). a.allowed) (system_keeps desk.state (account_of desk.start c.trace) event is))) (shown up);
         left = left;
         logged = omega (arith, ap (logged_by 0) trace, logged-push 0 c.trace entry, none_logged event is (logged_by 0 c.trace), ap (λ (l : LogList). taken_of l) log, desk.logged);
         pages = pages;
@@ -274,16 +347,16 @@ module _ (d : Engine) (c : ChronicleState) (origin : Origin) (copy : ℕ) (down 
         few_rows = desk.few_rows;
       }
     where
-      none_allowed : (event : Event) → IsSystem event → (n : ℕ) → allowed_after n event ≡ n
-      none_allowed (Layout shown side) is n = refl
-      none_allowed LayoutNoMemory is n = refl
-      none_allowed LayoutDown is n = refl
-      none_allowed (Flush page) is n = refl
-      none_allowed Clean is n = refl
-      none_allowed FlushDevice is n = refl
-      none_allowed FlushDown is n = refl
-      none_allowed FlushNoMemory is n = refl
-      none_allowed event is n = absurd is
+      state_on : (event : Event) → IsSystem event → next_state [] None actors.System event desk.state ≡ Some desk.state → state_by [] (first_state desk.start) (c.trace ++ system_entry event calls ∷ []) ≡ desk.state
+      state_on (Layout shown side) is allows = state_push [] (first_state desk.start) desk.state desk.state c.trace (system_entry (Layout shown side) calls) desk.told refl allows
+      state_on LayoutNoMemory is allows = state_push [] (first_state desk.start) desk.state desk.state c.trace (system_entry LayoutNoMemory calls) desk.told refl allows
+      state_on LayoutDown is allows = state_push [] (first_state desk.start) desk.state desk.state c.trace (system_entry LayoutDown calls) desk.told refl allows
+      state_on (Flush page) is allows = state_push [] (first_state desk.start) desk.state desk.state c.trace (system_entry (Flush page) calls) desk.told refl allows
+      state_on Clean is allows = state_push [] (first_state desk.start) desk.state desk.state c.trace (system_entry Clean calls) desk.told refl allows
+      state_on FlushDevice is allows = state_push [] (first_state desk.start) desk.state desk.state c.trace (system_entry FlushDevice calls) desk.told refl allows
+      state_on FlushDown is allows = state_push [] (first_state desk.start) desk.state desk.state c.trace (system_entry FlushDown calls) desk.told refl allows
+      state_on FlushNoMemory is allows = state_push [] (first_state desk.start) desk.state desk.state c.trace (system_entry FlushNoMemory calls) desk.told refl allows
+      state_on event is allows = absurd is
 
       none_logged : (event : Event) → IsSystem event → (n : ℕ) → logged_after n event ≡ n
       none_logged (Layout shown side) is n = refl
@@ -314,7 +387,7 @@ module _ (d : Engine) (c : ChronicleState) (origin : Origin) (copy : ℕ) (down 
   desk_same event calls next new same is allows trace at counted recorded =
       let log = same.log in
       desk_quiet event calls next marks seen new (log ∙ ap (λ (n : ℕ). let l : LogList = record d.log { forced = n } in l) (sym (ap (λ (l : LogList). l.forced) log)))
-      (λ up. same_shows desk.state (allowed_by 0 c.trace) d next same (desk.shown up)) (λ down. subst (LeavesState desk.state) (sym log) (desk.left down)) (is_system event is) allows
+      (λ up. same_shows desk.state (allowed_of desk.start c.trace) d next same (desk.shown up)) (λ down. subst (LeavesState desk.state) (sym log) (desk.left down)) (is_system event is) allows
       (ap (λ (l : LogList). l.pages) log ∙ desk.pages) (subst (LeavesIfTidy seen) (sym log) desk.leaves)
       (λ up. let on = desk.is_on up in record { epoch = on.epoch; is_on = on_same on.epoch copy d next marks seen same on.is_on }) desk.rests
       (λ up. told_weaken (λ t. WasAllTidy seen.capacities t → IsCleanIn d) (λ t. WasAllTidy seen.capacities t → IsCleanIn next) seen.told (λ t h tidy. same_clean d next same (h tidy)) (desk.clean up)) trace at counted recorded
@@ -364,7 +437,7 @@ module _ (d : Engine) (c : ChronicleState) (origin : Origin) (copy : ℕ) (down 
       let committed = few_committed desk.keys desk.state desk.among in
       let few = desk.few in
       let few_rows = desk.few_rows in
-      record { state = desk.state; allowed = allowed_by 0 c.trace; shows = desk.shown up; few = omega (arith, committed, few, bound, few_rows) }
+      record { state = desk.state; allowed = allowed_of desk.start c.trace; shows = desk.shown up; few = omega (arith, committed, few, bound, few_rows) }
 
 -- what a desk that is up leaves can be opened again, if the volume read tidy
 pub desk_reopens : (d : Engine) (c : ChronicleState) (origin : Origin) (copy : ℕ) (marks : List (Option Position)) (seen : VolumeSeen) (desk : IsDesk d c origin copy false marks seen) → PartsReopen seen.capacities (desk.is_on refl).epoch d.log → IsCleanIn d → Reopens seen.capacities (desk.is_on refl).epoch d
@@ -400,7 +473,7 @@ desk_replied d c origin copy true marks seen desk session stmt reply calls next 
     (λ up. absurd (cc (up, replies.2)))
     trace at counted recorded
 desk_replied d c origin copy false marks seen desk session stmt reply calls next down_after seen_after new replies entries set trace at counted recorded =
-    let answered = replies.0 desk.state (allowed_by 0 c.trace) (desk.shown refl) in
+    let answered = replies.0 desk.state (allowed_of desk.start c.trace) (desk.shown refl) in
     let asks = replies.1 in
     let e : Epoch = (desk.is_on refl).epoch in
     let on : IsOn e copy d.log d.space marks seen = (desk.is_on refl).is_on in
@@ -436,7 +509,7 @@ desk_rests d c origin copy false marks seen desk entries set =
     on_rests on.epoch copy d.log d.space marks seen on.is_on desk.pages entries set desk.state desk.copy_is desk.leaves c.calls desk.counted
 
 -- what the entry of a statement says
-pub record Replied (d : Engine) (c : ChronicleState) (down : Bool) (seen : VolumeSeen) (session : Session) (stmt : Stmt) (reply : Reply) (next : Engine) (after : Bool) (seen_after : VolumeSeen) : Type 0 where
+pub record Replied (d : Engine) (c : ChronicleState) (origin : Origin) (down : Bool) (seen : VolumeSeen) (session : Session) (stmt : Stmt) (reply : Reply) (next : Engine) (after : Bool) (seen_after : VolumeSeen) : Type 0 where
   pub is : is_reply stmt reply ≡ true
   pub was_down : down ≡ true → reply ≡ Down
   pub was_up : down ≡ false → reply ≡ Down → ⊥
@@ -445,7 +518,7 @@ pub record Replied (d : Engine) (c : ChronicleState) (down : Bool) (seen : Volum
   pub quiet : forces d.units session stmt ≡ false → seen_after ≡ seen
   pub forced : forces d.units session stmt ≡ true → reply ≡ Done → next.log.forced ≡ length next.log.records
   pub room : SaysRoom (ground_of d) session.0 stmt reply
-  pub full : IfFull reply (allowed_by 0 c.trace) (capacity_in d.space)
+  pub full : (start : Table) → IsStored (take origin.records d.log.records) start → IfFull reply (allowed_of start c.trace) (capacity_in d.space)
   pub log : SaysLog (ground_of d) session.0 stmt reply
   pub log_full : IfLogFull reply (logged_by 0 c.trace) d.log.pages
   pub capacity : capacity_in next.space ≡ capacity_in d.space
@@ -461,7 +534,7 @@ not_down : (stmt : Stmt) (reply : Reply) → is_answer stmt reply ≡ true → r
 not_down stmt reply e is = absurd (cc (ap (is_answer stmt) (sym is), e))
 
 pub replied : (d : Engine) (c : ChronicleState) (origin : Origin) (copy : ℕ) (down : Bool) (marks : List (Option Position)) (seen : VolumeSeen) (desk : IsDesk d c origin copy down marks seen) (session : Session) (stmt : Stmt) (reply : Reply) (next : Engine) (after : Bool) (seen_after : VolumeSeen)
-    → Replies down d session stmt reply next after seen seen_after → Replied d c down seen session stmt reply next after seen_after
+    → Replies down d session stmt reply next after seen seen_after → Replied d c origin down seen session stmt reply next after seen_after
 replied d c origin copy true marks seen desk session stmt reply next after seen_after replies = record {
   is = subst (λ (r : Reply). is_reply stmt r ≡ true) (sym replies.0) refl;
   was_down = λ e. replies.0;
@@ -471,7 +544,7 @@ replied d c origin copy true marks seen desk session stmt reply next after seen_
   quiet = λ e. replies.3;
   forced = λ force e. absurd (cc (replies.0, e));
   room = subst (λ (r : Reply). SaysRoom (ground_of d) session.0 stmt r) (sym replies.0) tt;
-  full = subst (λ (r : Reply). IfFull r (allowed_by 0 c.trace) (capacity_in d.space)) (sym replies.0) tt;
+  full = λ start stored. subst (λ (r : Reply). IfFull r (allowed_of start c.trace) (capacity_in d.space)) (sym replies.0) tt;
   log = subst (λ (r : Reply). SaysLog (ground_of d) session.0 stmt r) (sym replies.0) tt;
   log_full = subst (λ (r : Reply). IfLogFull r (logged_by 0 c.trace) d.log.pages) (sym replies.0) tt;
   capacity = ap (λ (x : Engine). capacity_in x.space) replies.1;
@@ -480,7 +553,7 @@ replied d c origin copy true marks seen desk session stmt reply next after seen_
   calls = subst (CallsLog seen) (sym replies.3) (same_calls seen);
 }
 replied d c origin copy false marks seen desk session stmt reply next after seen_after replies =
-    let answered = replies.0 desk.state (allowed_by 0 c.trace) (desk.shown refl) in
+    let answered = replies.0 desk.state (allowed_of desk.start c.trace) (desk.shown refl) in
     record {
       is = reply_so stmt reply answered.is;
       was_down = λ e. absurd (cc (e));
@@ -490,7 +563,7 @@ replied d c origin copy false marks seen desk session stmt reply next after seen
       quiet = replies.1.none;
       forced = replies.1.forced;
       room = answered.room;
-      full = answered.full;
+      full = λ start stored. subst (λ (t : Table). IfFull reply (allowed_of t c.trace) (capacity_in d.space)) (start_is (take origin.records d.log.records) desk.start start desk.starts stored) answered.full;
       log = answered.log;
       log_full = log_full_so (ground_of d) session.0 stmt reply (logged_by 0 c.trace) answered.log desk.logged;
       capacity = answered.capacity;
@@ -543,13 +616,14 @@ desk_opened d c records copy pages used calls marks seen start is_copy shown sta
       state = at_rest start copy;
       begun = subst (IsBegun copy (row_count start)) (sym trace) (pages, used, refl);
       run = subst (λ (st : State). Run [] (at_rest start copy) c.trace st) is (subst (λ (es : List Entry). Run [] (at_rest start copy) es first) (sym trace) run);
+      told = ap (state_by [] (first_state start)) trace;
       is_first = is_copy;
       is_copy = is_copy;
       copy_is = refl;
       down_is = refl;
       counted = count_is seen calls c.calls counted at;
       recorded = recorded;
-      shown = λ up. subst (λ (es : List Entry). Shows (at_rest start copy) (allowed_by 0 es) d) (sym trace) shown;
+      shown = λ up. subst (λ (es : List Entry). Shows (at_rest start copy) (allowed_of start es) d) (sym trace) shown;
       left = λ down. absurd (cc (down));
       logged = subst (λ (es : List Entry). taken_of d.log ≤ logged_by 0 es) (sym trace) taken;
       pages = log_pages_are;

@@ -2,12 +2,14 @@
 --
 -- 1. Where the Switch record was forced, the desk has the new copy (`switched_on`).
 -- 2. Where it was not, the desk is down, and either copy may be current (`fell_on`).
-use Rattle.std.proofs.Common.{◌≡◌, ◌≤◌, ◌<◌, ◌+◌, ◌-◌, ◌*◌, ◌⊎◌, if◌then◌else◌, inl, inr, ℕ, Bool, true, false, List, [], ◌∷◌, ◌++◌, length, take, Option, Some, None, refl, sym, ◌∙◌, ap, subst, arith, length-append}
+use Rattle.std.proofs.Common.{◌≡◌, ◌≤◌, ◌<◌, ◌+◌, ◌-◌, ◌*◌, ◌⊎◌, if◌then◌else◌, inl, inr, ℕ, suc, Bool, true, false, List, [], ◌∷◌, ◌++◌, length, take, Option, Some, None, refl, sym, ◌∙◌, ap, subst, arith, length-append}
 use Rattle.std.proofs.Math.Seq.{take-length}
 use Rattle.std.proofs.lemmas.Bool.{cases_lt}
 use Rattle.std.proofs.lemmas.List.{take-append-le, take_all}
 use Rattle.std.specs.FinMap as map
 use Rattle.std.specs.List.{Contains}
+use Rattle.rg_account.specs.Account.{allowed_of, first_state, state_by}
+use Rattle.rg_account.proofs.Accounts.{state_push}
 use Rattle.rg_base.specs.declared.control.Answer.{Answer}
 use Rattle.rg_base.specs.declared.options.DrainFor.TheVariants.{All}
 use Rattle.rg_base.specs.declared.options.DrainState.TheVariants.{Granted}
@@ -17,7 +19,16 @@ use Rattle.rg_base.specs.declared.step.Step.{Step}
 use Rattle.rg_base.specs.declared.step.Step.TheVariants as steps
 use Rattle.rg_base.specs.declared.verdict.StopReason.TheVariants as reasons
 use Rattle.rg_claim.specs.Drains.{GrantIsKept}
+use Rattle.rg_claimed.specs.Claim.{OwnerIsZero, claimed_all, holding, nobody}
+use Rattle.rg_claimed.proofs.Owners as owners
+use Rattle.rg_claimed.proofs.Pages.{claimed_all-fewer}
 use Rattle.rg_fold.specs.declared.item.Stage.{Stage}
+use Rattle.rg_home.specs.Pages.{slot_of}
+use Rattle.rg_home.specs.Slot.{DeadOver, DeadPointer, DeadRow, Free, Over, Pointer, Row, Slot}
+use Rattle.rg_lawful.specs.Act.{LogState}
+use Rattle.rg_lawful.specs.Lawful.{OwnerBelow}
+use Rattle.rg_page.specs.Content.{Content, slots_of}
+use Rattle.rg_shadow.specs.Shade.{shade_slots}
 use Rattle.rg_image.specs.Meaning.{stored}
 use Rattle.rg_log.specs.Kept.{Listed, log_pages}
 use Rattle.rg_model.proofs.Members.{only_one}
@@ -50,11 +61,11 @@ use Rattle.rg_tending.proofs.Switching.{switch_under_all}
 use Rattle.rg_tending.proofs.Tended.{tends_booked}
 use Rattle.rg_tending.specs.Tending.{Tends, aside_for, behind, utility_entry}
 use Rattle.rg_desk.specs.Bytes.{taken_of}
-use Rattle.rg_desk.specs.Chronicle.{ChronicleState, IsRecorded, allowed_by, logged_by}
+use Rattle.rg_desk.specs.Chronicle.{ChronicleState, IsRecorded, logged_by}
 use Rattle.rg_desk.specs.Desk.{IsBegun, IsDesk}
 use Rattle.rg_desk.specs.Left.{LeavesState}
 use Rattle.rg_desk.specs.Prepared.{IsPrepared}
-use Rattle.rg_desk.specs.Shows.{Shows}
+use Rattle.rg_desk.specs.Shows.{Shows, left_by}
 use Rattle.rg_desk.specs.Stored.{IsStored}
 use Rattle.rg_desk.specs.Turned.{IsShade, LogsSwitch, Takes}
 use Rattle.rg_desk.specs.Utility.{SameButUtility}
@@ -62,14 +73,24 @@ use Rattle.rg_desk.specs.Volume.{IsCount, LeavesIfTidy, VolumeSeen}
 use Rattle.rg_desk.specs.declared.engine.Engine.{Engine}
 use Rattle.rg_desk.specs.declared.origin.Origin.{Origin}
 use Rattle.rg_desk.specs.declared.prepared.Prepared.{Prepared}
-use Rattle.rg_desk.proofs.DeskGoes.{allowed-push, begun-push, count_is, logged-push}
+use Rattle.rg_desk.proofs.DeskGoes.{allowed-push, begun-push, count_is, logged-push, shows_within}
 use Rattle.rg_desk.proofs.DeskUtility.{GoesOn, behind_is, booked_allows, state_shows}
 use Rattle.rg_desk.proofs.Drained.{no_locks}
 use Rattle.rg_desk.proofs.Exits.{part_stored}
 use Rattle.rg_desk.proofs.Switching.{claimed, other_copy}
-use Rattle.rg_desk.proofs.Turned.{next_log, none_claims, turned_clean, turned_on, turned_shows}
+use Rattle.rg_desk.proofs.Turned.{next_log, none_claims, none_open, turned_clean, turned_on, turned_shows}
 use Rattle.rg_desk.proofs.Turning.{leaves_then, turn_rests}
 use Rattle.rg_desk.proofs.UtilityShows.{utility_shows}
+
+-- an owner that is no transaction's
+zero_owner : (s : Slot) → OwnerBelow 0 s → OwnerIsZero s
+zero_owner (DeadRow capacity owner) low = omega (arith, low)
+zero_owner (DeadPointer capacity other owner) low = omega (arith, low)
+zero_owner (DeadOver capacity home owner) low = omega (arith, low)
+zero_owner Free low = tt
+zero_owner (Row capacity row) low = tt
+zero_owner (Pointer capacity other) low = tt
+zero_owner (Over capacity row home) low = tt
 
 -- ---- the turn of a step at the switch
 
@@ -135,7 +156,7 @@ module _ (d : Engine) (c : ChronicleState) (origin : Origin) (copy : ℕ) (marks
     -- ---- the switch
 
     module _ (next : Engine) (takes : Takes mid p.shadow next) (forced : mid.log.forced ≡ length mid.log.records) (sides : Sides) (t : Stage)
-        (as_written : sides.new.pages ≡ s.shadow) (as_kept : sides.new.pages ≡ length p.shadow.pages) (right : is_right_switch past desk.state s.options sides ≡ true)
+        (as_written : sides.new.pages ≡ s.shadow) (as_kept : sides.new.pages ≡ length p.shadow.pages) (claims : claimed_all nobody (shade_slots p.shadow) ≤ allowed_of desk.start c.trace) (right : is_right_switch past desk.state s.options sides ≡ true)
         (followed : Followed (Switches (other_of copy) sides (record (alter (numbers_of s) answer.command) { switched = true })) (Some t)) (keeps : KeepsBounds count.since s (Some t))
         (trace : new.trace ≡ c.trace ++ utility_entry (events.Switched (other_of copy) sides) (Some answer) calls ∷ []) where
       abbrev event : Event
@@ -155,7 +176,7 @@ module _ (d : Engine) (c : ChronicleState) (origin : Origin) (copy : ℕ) (marks
       same : SameButUtility (at_rest desk.state.table (other_of copy)) (booked).after
       same = record {
         table = booked.table;
-        locks = booked.locks ∙ no_locks desk.state (allowed_by 0 c.trace) d (desk.shown refl) (claimed d c origin copy marks seen desk p is current shade kept drain_is aside_is) kept All drain_is;
+        locks = booked.locks ∙ no_locks desk.state (allowed_of desk.start c.trace) d (desk.shown refl) (claimed d c origin copy marks seen desk p is current shade kept drain_is aside_is) kept All drain_is;
         claims = booked.claims ∙ (desk.shown refl).by.claims ∙ none_claims d c origin copy marks seen desk p is current shade kept drain_is aside_is mid seen_after logs next takes forced;
         down = booked.down ∙ desk.down_is;
         doubt = booked.doubt ∙ (desk.shown refl).by.sure;
@@ -176,6 +197,17 @@ module _ (d : Engine) (c : ChronicleState) (origin : Origin) (copy : ℕ) (marks
           utility_shows (at_rest desk.state.table (other_of copy)) (booked).after (4064 * length p.shadow.pages) next
           (turned_shows d c origin copy marks seen desk p is current shade kept drain_is aside_is mid seen_after logs next takes forced) same drain_now
 
+      -- its pages claim what those of the copy did
+      shows_fit : Shows (booked).after (allowed_of desk.start c.trace) next
+      shows_fit =
+          let left : LogState = left_by shows_now.first next in
+          let slots : left.pages ≡ shade_slots p.shadow = sym shows_now.by.slots ∙ ap (λ (ps : List Content). slots_of ps) takes.pages in
+          let idle = none_open d c origin copy marks seen desk p is current shade kept drain_is aside_is mid seen_after logs next takes forced in
+          let fewer = claimed_all-fewer (holding [] (suc left.top)) (holding left.live (suc left.top)) (owners.ends [] left.live (suc left.top) (λ u live. let has = shows_now.by.units.all u live in absurd (cc (has.has, idle has.session)))) left.pages in
+          let same = owners.switched (suc left.top) (omega arith) (shade_slots p.shadow) (λ k i. zero_owner (slot_of (shade_slots p.shadow) (record { page = suc k; slot = i })) (shade.below (record { page = suc k; slot = i }))) in
+          shows_within (booked).after (4064 * length p.shadow.pages) (allowed_of desk.start c.trace) next shows_now
+          (omega (arith, fewer, ap (λ (ps : List (List Slot)). claimed_all (holding [] (suc left.top)) ps) slots, same, claims))
+
       abbrev entry : Entry
       entry = utility_entry (events.Switched (other_of copy) sides) (Some answer) calls
 
@@ -193,6 +225,7 @@ module _ (d : Engine) (c : ChronicleState) (origin : Origin) (copy : ℕ) (marks
                 (Run-push [] (at_rest desk.start origin.copy) desk.state (booked).after c.trace entry desk.run
                 (subst (λ (before : List Entry). Allows before (Some answer) actors.Utility event desk.state (booked).after) (behind_is [] c.trace)
                 (booked_allows past answer event desk.state (booked).after booked.allowed)));
+            told = ap (state_by [] (first_state desk.start)) trace ∙ state_push [] (first_state desk.start) desk.state (booked).after c.trace entry desk.told refl booked.allowed;
             is_first = desk.is_first;
             is_copy = other_copy copy desk.is_copy;
             copy_is = booked.copy_is;
@@ -200,8 +233,7 @@ module _ (d : Engine) (c : ChronicleState) (origin : Origin) (copy : ℕ) (marks
             counted = count_is seen_after calls new.calls counted at;
             recorded = recorded;
             shown = λ up.
-                subst (λ (n : ℕ). Shows (booked).after n next)
-                (sym (ap (allowed_by 0) trace ∙ allowed-push 0 c.trace entry ∙ ap (λ (n : ℕ). 4064 * n) as_kept)) shows_now;
+                subst (λ (n : ℕ). Shows (booked).after n next) (sym (ap (allowed_of desk.start) trace ∙ allowed-push desk.start c.trace desk.state entry desk.told)) shows_fit;
             left = λ down. absurd (cc (down));
             logged = omega (arith, ap (logged_by 0) trace, logged-push 0 c.trace entry, ap (λ (l : Listed). taken_of l) log_is, logs.taken, desk.logged);
             pages = ap (λ (l : Listed). l.pages) log_is ∙ set_after;
@@ -260,9 +292,9 @@ module _ (d : Engine) (c : ChronicleState) (origin : Origin) (copy : ℕ) (marks
           go : (length rs < n) ⊎ (n ≤ length rs) → IsStored (take n (switched rs (other_of copy) p.shadow.pages)) (committed_table desk.state)
           go (inr few) =
               subst (λ (xs : List Record). IsStored xs (committed_table desk.state)) (sym (take-append-le n rs (switch_to (length rs + 1) (other_of copy) (length p.shadow.pages) ∷ []) few))
-              (part_stored desk.state (allowed_by 0 c.trace) d (desk.shown refl) n from few)
+              (part_stored desk.state (allowed_of desk.start c.trace) d (desk.shown refl) n from few)
           go (inl more) = λ k.
-              part_stored desk.state (allowed_by 0 c.trace) d (desk.shown refl) (length rs) (desk.shown refl).settled.within (omega arith) k
+              part_stored desk.state (allowed_of desk.start c.trace) d (desk.shown refl) (length rs) (desk.shown refl).settled.within (omega arith) k
               ∙ ap (λ (xs : List Record). stored xs k) (take-length rs)
               ∙ sym (switch_stores rs (other_of copy) p.shadow.pages k)
               ∙ ap (λ (xs : List Record). stored xs k) (sym (take_all n (switched rs (other_of copy) p.shadow.pages) (omega (arith, more, longer_by_one))))
@@ -297,6 +329,7 @@ module _ (d : Engine) (c : ChronicleState) (origin : Origin) (copy : ℕ) (marks
                 (Run-push [] (at_rest desk.start origin.copy) desk.state (fallen).after c.trace fall_entry desk.run
                 (subst (λ (before : List Entry). Allows before (Some answer) actors.Utility (events.Stop reasons.Device) desk.state (fallen).after) (behind_is [] c.trace)
                 (booked_allows past answer (events.Stop reasons.Device) desk.state (fallen).after fallen.allowed)));
+            told = ap (state_by [] (first_state desk.start)) trace ∙ state_push [] (first_state desk.start) desk.state (fallen).after c.trace fall_entry desk.told refl fallen.allowed;
             is_first = desk.is_first;
             is_copy = desk.is_copy;
             copy_is = fallen.copy_is ∙ desk.copy_is;

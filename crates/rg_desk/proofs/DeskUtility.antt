@@ -2,6 +2,9 @@
 use Rattle.std.proofs.Common.{◌≡◌, ◌≤◌, ◌+◌, ◌==◌, ◌&&◌, ◌||◌, not, if◌then◌else◌, ℕ, Bool, true, false, List, [], ◌∷◌, ◌++◌, length, take, Option, Some, None, refl, sym, ◌∙◌, ap, subst, arith, length-append}
 use Rattle.std.specs.FinMap as map
 use Rattle.std.specs.Option.{is_some}
+use Rattle.rg_account.specs.Account.{allowed_of, first_state, state_by}
+use Rattle.rg_account.specs.Laws.{opens}
+use Rattle.rg_account.proofs.Accounts.{state_push}
 use Rattle.rg_base.specs.declared.control.Answer.{Answer}
 use Rattle.rg_base.specs.declared.position.Position.{Position}
 use Rattle.rg_model.proofs.RunPush.{Run-push, behind as pushed_behind}
@@ -39,7 +42,7 @@ use Rattle.rg_tending.proofs.Tended.{tends_booked, tends_refused, tends_started}
 use Rattle.rg_version.specs.Versions.{Epoch}
 use Rattle.rg_desk.specs.Bytes.{taken_of}
 use Rattle.rg_desk.specs.Engine.{ground_of, seen_in}
-use Rattle.rg_desk.specs.Chronicle.{ChronicleState, IsRecorded, allowed_after, allowed_by, logged_after, logged_by}
+use Rattle.rg_desk.specs.Chronicle.{ChronicleState, IsRecorded, logged_after, logged_by}
 use Rattle.rg_desk.specs.Desk.{IsBegun, IsDesk, IfStartLogFull, IsLayout, IsStart, is_started, started_count}
 use Rattle.rg_desk.specs.Flushed.{FlushIs}
 use Rattle.rg_page.specs.Content.{Content}
@@ -84,11 +87,11 @@ module _ (d : Engine) (c : ChronicleState) (origin : Origin) (copy : ℕ) (down 
   -- the entry of an event of the utility that touches no row and no record
   pub desk_utility : (event : Event) (answer : Option Answer) (calls : ℕ) (after : State) (next : Engine) (new : ChronicleState)
       → next.space ≡ d.space → next.log ≡ record d.log { reserved = next.log.reserved }
-      → taken_of next.log ≤ logged_after (logged_by 0 c.trace) event → ((n : ℕ) → allowed_after n event ≡ n)
+      → taken_of next.log ≤ logged_after (logged_by 0 c.trace) event → opens event ≡ false
       → Allows (behind [] c.trace) answer actors.Utility event desk.state after → SameButUtility desk.state after → after.copy ≡ desk.state.copy
-      → (down ≡ false → Shows after (allowed_by 0 c.trace) next) → (down ≡ true → after ≡ desk.state) → (IsCleanIn d → IsCleanIn next)
+      → (down ≡ false → Shows after (allowed_of desk.start c.trace) next) → (down ≡ true → after ≡ desk.state) → (IsCleanIn d → IsCleanIn next)
       → new.trace ≡ c.trace ++ utility_entry event answer calls ∷ [] → new.calls ≡ calls → IsCount seen calls → IsRecorded new.trace new.calls → IsDesk next new origin copy down marks seen
-  desk_utility event answer calls after next new space log taken none allows same copy_same shown down_same clean trace at counted recorded =
+  desk_utility event answer calls after next new space log taken other allows same copy_same shown down_same clean trace at counted recorded =
       let entry : Entry = utility_entry event answer calls in
       let longer = ap (λ (es : List Entry). length es) trace ∙ length-append c.trace (entry ∷ []) in
       let few = desk.few in
@@ -102,13 +105,14 @@ module _ (d : Engine) (c : ChronicleState) (origin : Origin) (copy : ℕ) (down 
         run = subst (λ (es : List Entry). Run [] (at_rest desk.start origin.copy) es after) (sym trace)
             (Run-push [] (at_rest desk.start origin.copy) desk.state after c.trace entry desk.run
             (subst (λ (past : List Entry). Allows past answer actors.Utility event desk.state after) (behind_is [] c.trace) allows));
+        told = ap (state_by [] (first_state desk.start)) trace ∙ state_push [] (first_state desk.start) desk.state after c.trace entry desk.told other allows;
         is_first = desk.is_first;
         is_copy = desk.is_copy;
         copy_is = copy_same ∙ desk.copy_is;
         down_is = same.down ∙ desk.down_is;
         counted = count_is seen calls new.calls counted at;
         recorded = recorded;
-        shown = λ up. subst (λ (n : ℕ). Shows after n next) (sym (ap (allowed_by 0) trace ∙ allowed-push 0 c.trace entry ∙ none (allowed_by 0 c.trace))) (shown up);
+        shown = λ up. subst (λ (n : ℕ). Shows after n next) (sym (ap (allowed_of desk.start) trace ∙ allowed-push desk.start c.trace desk.state entry desk.told)) (shown up);
         left = λ is. subst (LeavesState after) (sym log) (left_reserved desk.state after d.log next.log.reserved (down_same is) (desk.left is));
         logged = omega (arith, ap (logged_by 0) trace, logged-push 0 c.trace entry, taken);
         pages = ap (λ (l : Listed). l.pages) log ∙ desk.pages;
@@ -139,11 +143,11 @@ module _ (d : Engine) (c : ChronicleState) (origin : Origin) (copy : ℕ) (down 
   same_state = record { table = refl; locks = refl; claims = refl; down = refl; doubt = refl; copydoubt = refl }
 
   -- an entry that leaves the state and the engine as they are
-  pub desk_refused : (event : Event) (calls : ℕ) (new : ChronicleState) → ((n : ℕ) → logged_after n event ≡ n) → ((n : ℕ) → allowed_after n event ≡ n)
+  pub desk_refused : (event : Event) (calls : ℕ) (new : ChronicleState) → ((n : ℕ) → logged_after n event ≡ n) → opens event ≡ false
       → Allows (behind [] c.trace) None actors.Utility event desk.state desk.state
       → new.trace ≡ c.trace ++ utility_entry event None calls ∷ [] → new.calls ≡ calls → IsCount seen calls → IsRecorded new.trace new.calls → IsDesk d new origin copy down marks seen
-  desk_refused event calls new logged none allows trace at counted recorded =
-      desk_utility event None calls desk.state d new refl refl (omega (arith, logged (logged_by 0 c.trace), desk.logged)) none allows same_state refl desk.shown (λ is. refl) (λ clean. clean) trace at counted recorded
+  desk_refused event calls new logged other allows trace at counted recorded =
+      desk_utility event None calls desk.state d new refl refl (omega (arith, logged (logged_by 0 c.trace), desk.logged)) other allows same_state refl desk.shown (λ is. refl) (λ clean. clean) trace at counted recorded
 
 -- what an entry that changes nothing needs of the state
 down_allows : (past : List Entry) (st : State) → st.down ≡ true → (Allows past None actors.Utility events.StartDown st st) × (Allows past None actors.Utility events.StepDown st st)
@@ -182,11 +186,11 @@ module _ (c : ChronicleState) (origin : Origin) (copy : ℕ) (marks : List (Opti
     (at : new.calls ≡ calls) (counted : IsCount seen calls) (recorded : IsRecorded new.trace new.calls) where
   -- it was refused
   refused_on : (d : Engine) (down : Bool) (stage : Option Stage) (event : Event) (desk : IsDesk d c origin copy down marks seen) → Tends c.trace stage count d.set_aside
-      → ((n : ℕ) → logged_after n event ≡ n) → ((n : ℕ) → allowed_after n event ≡ n) → Allows (behind [] c.trace) None actors.Utility event desk.state desk.state
+      → ((n : ℕ) → logged_after n event ≡ n) → opens event ≡ false → Allows (behind [] c.trace) None actors.Utility event desk.state desk.state
       → Tends (c.trace ++ utility_entry event None calls ∷ []) stage count d.set_aside
       → new.trace ≡ c.trace ++ utility_entry event None calls ∷ [] → GoesOn d new origin copy down marks seen stage count
-  refused_on d down stage event desk tends logged none allows after trace = (
-    desk_refused d c origin copy down marks seen desk event calls new logged none allows trace at counted recorded,
+  refused_on d down stage event desk tends logged other allows after trace = (
+    desk_refused d c origin copy down marks seen desk event calls new logged other allows trace at counted recorded,
     subst (λ (es : List Entry). Tends es stage count d.set_aside) (sym trace) after,
   )
 
@@ -197,25 +201,25 @@ module _ (c : ChronicleState) (origin : Origin) (copy : ℕ) (marks : List (Opti
       subst (λ (e : Event). GoesOn after new origin copy true marks seen next (started_count (is_started e) count)) (sym is.0)
       (subst (λ (x : Engine). GoesOn x new origin copy true marks seen next count) (sym is.2)
       (subst (λ (s : Option Stage). GoesOn d new origin copy true marks seen s count) (sym is.1)
-      (refused_on d true stage events.StartDown desk tends (λ n. refl) (λ n. refl) down (tends_refused c.trace stage count d.set_aside events.StartDown calls tt tends)
+      (refused_on d true stage events.StartDown desk tends (λ n. refl) refl down (tends_refused c.trace stage count d.set_aside events.StartDown calls tt tends)
       (trace ∙ ap (λ (e : Event). c.trace ++ utility_entry e None calls ∷ []) is.0))))
   start_on options d false (Some s) event next after desk tends is trace =
       let active = active_allows (behind [] c.trace) desk.state (numbers_of s) desk.down_is (state_shows d c origin copy false marks seen desk (Some s) count tends).0 in
       subst (λ (e : Event). GoesOn after new origin copy false marks seen next (started_count (is_started e) count)) (sym is.0)
       (subst (λ (x : Engine). GoesOn x new origin copy false marks seen next count) (sym is.2)
       (subst (λ (t : Option Stage). GoesOn d new origin copy false marks seen t count) (sym is.1)
-      (refused_on d false (Some s) events.Active desk tends (λ n. refl) (λ n. refl) active (tends_refused c.trace (Some s) count d.set_aside events.Active calls tt tends)
+      (refused_on d false (Some s) events.Active desk tends (λ n. refl) refl active (tends_refused c.trace (Some s) count d.set_aside events.Active calls tt tends)
       (trace ∙ ap (λ (e : Event). c.trace ++ utility_entry e None calls ∷ []) is.0))))
   start_on options d false None (events.StartLogFull need left) next after desk tends is trace =
       let none = (none_allows (behind [] c.trace) desk.state desk.down_is (state_shows d c origin copy false marks seen desk None count tends).0 need left).0 in
       subst (λ (x : Engine). GoesOn x new origin copy false marks seen next count) (sym is.4)
       (subst (λ (t : Option Stage). GoesOn d new origin copy false marks seen t count) (sym is.3)
-      (refused_on d false None (events.StartLogFull need left) desk tends (λ n. refl) (λ n. refl) none (tends_refused c.trace None count d.set_aside (events.StartLogFull need left) calls tt tends) trace))
+      (refused_on d false None (events.StartLogFull need left) desk tends (λ n. refl) refl none (tends_refused c.trace None count d.set_aside (events.StartLogFull need left) calls tt tends) trace))
   start_on options d false None events.StartNoMemory next after desk tends is trace =
       let none = (none_allows (behind [] c.trace) desk.state desk.down_is (state_shows d c origin copy false marks seen desk None count tends).0 0 0).1 in
       subst (λ (x : Engine). GoesOn x new origin copy false marks seen next count) (sym is.1)
       (subst (λ (t : Option Stage). GoesOn d new origin copy false marks seen t count) (sym is.0)
-      (refused_on d false None events.StartNoMemory desk tends (λ n. refl) (λ n. refl) none (tends_refused c.trace None count d.set_aside events.StartNoMemory calls tt tends) trace))
+      (refused_on d false None events.StartNoMemory desk tends (λ n. refl) refl none (tends_refused c.trace None count d.set_aside events.StartNoMemory calls tt tends) trace))
   start_on options d false None (events.Started given of_copy pages) None after desk tends is trace = absurd is.3
   start_on options d false None (events.Started given of_copy pages) (Some s) after desk tends is trace =
       let shows = state_shows d c origin copy false marks seen desk None count tends in
@@ -225,9 +229,9 @@ module _ (c : ChronicleState) (origin : Origin) (copy : ℕ) (marks : List (Opti
       let log : after.log ≡ record d.log { reserved = after.log.reserved } = ap (λ (x : Engine). x.log) holds.same in
       let bytes = ap (λ (l : Listed). taken_of l) log in (
         desk_utility d c origin copy false marks seen desk (events.Started given of_copy pages) None calls state after new (ap (λ (x : Engine). x.space) holds.same) log
-            (omega (arith, bytes, holds.reserved, desk.logged)) (λ n. refl)
+            (omega (arith, bytes, holds.reserved, desk.logged)) refl
             (start_allows (behind [] c.trace) desk.state given of_copy pages desk.down_is shows.0 (desk.copy_is ∙ sym is.1)) same refl
-            (λ up. utility_shows desk.state state (allowed_by 0 c.trace) after (holds.shows desk.state (allowed_by 0 c.trace) (desk.shown up)) same
+            (λ up. utility_shows desk.state state (allowed_of desk.start c.trace) after (holds.shows desk.state (allowed_of desk.start c.trace) (desk.shown up)) same
             ((desk.shown up).by.drain ∙ ap (λ (x : Engine). x.claims.drain) (sym holds.same)))
             (λ is. absurd (cc (is))) holds.clean trace at counted recorded,
         subst (λ (es : List Entry). Tends es (Some s) (record count { since = 0 }) after.set_aside) (sym trace)
@@ -304,18 +308,22 @@ ground_same d after space log units top =
     let at_log : ground_of (record after { space = d.space; units = d.units; top = d.top }) ≡ ground_of (record after { space = d.space; units = d.units; top = d.top; log = record d.log { reserved = after.log.reserved } }) = ap (λ (l : Listed). ground_of (record after { space = d.space; units = d.units; top = d.top; log = l })) log in
     at_space ∙ at_units ∙ at_top ∙ at_log
 
-pub booked_logged : (event : Event) (n : ℕ) → is_booked event ≡ true → (logged_after n event ≡ n) × (allowed_after n event ≡ n)
+pub booked_logged : (event : Event) (n : ℕ) → is_booked event ≡ true → logged_after n event ≡ n
 booked_logged (events.Started options copy pages) n is = absurd (cc (is))
 booked_logged (events.Opened copy rows pages used) n is = absurd (cc (is))
 booked_logged (events.Said stmt reply) n is = absurd (cc (is))
 booked_logged (events.Switched copy sides) n is = absurd (cc (is))
-booked_logged event n is = (refl, refl)
+booked_logged event n is = refl
+
+pub booked_late : (event : Event) → is_booked event ≡ true → opens event ≡ false
+booked_late (events.Opened copy rows pages used) is = absurd (cc (is))
+booked_late event is = refl
 
 pub booked_allows : (past : List Entry) (answer : Answer) (event : Event) (st new : State) → next_state past (Some answer) actors.Utility event st ≡ Some new → Allows past (Some answer) actors.Utility event st new
 booked_allows past answer event st new e = e
 
 module _ (d : Engine) (c : ChronicleState) (origin : Origin) (copy : ℕ) (marks : List (Option Position)) (seen : VolumeSeen) (desk : IsDesk d c origin copy false marks seen) (s : Stage) (count : ChangeCount) (tends : Tends c.trace (Some s) count d.set_aside)
-    (answer : Answer) (event : Event) (next : Option Stage) (after : Engine) (is : is_plain (turn_of count.since (least_holder d.claims.drain d.claims.claims) answer (numbers_of s) s.drain event) ≡ true) (quiet : (n : ℕ) → (logged_after n event ≡ n) × (allowed_after n event ≡ n)) (steps : StepsOn d s count.since answer event next after) where
+    (answer : Answer) (event : Event) (next : Option Stage) (after : Engine) (is : is_plain (turn_of count.since (least_holder d.claims.drain d.claims.claims) answer (numbers_of s) s.drain event) ≡ true) (quiet : (n : ℕ) → logged_after n event ≡ n) (other : opens event ≡ false) (steps : StepsOn d s count.since answer event next after) where
   abbrev past : List Entry
   past = behind [] c.trace
 
@@ -355,9 +363,9 @@ module _ (d : Engine) (c : ChronicleState) (origin : Origin) (copy : ℕ) (marks
   pub step_on : (calls : ℕ) (new : ChronicleState) → new.trace ≡ c.trace ++ utility_entry event (Some answer) calls ∷ [] → new.calls ≡ calls → IsCount seen calls → IsRecorded new.trace new.calls → GoesOn after new origin copy false marks seen next count
   step_on calls new trace at counted recorded = (
     desk_utility d c origin copy false marks seen desk event (Some answer) calls (booked).after after new steps.engine.space steps.engine.log
-        (omega (arith, (quiet (logged_by 0 c.trace)).0, steps.engine.taken, desk.logged)) (λ n. (quiet n).1)
+        (omega (arith, quiet (logged_by 0 c.trace), steps.engine.taken, desk.logged)) other
         (booked_allows past answer event desk.state (booked).after booked.allowed) same booked.copy_is
-        (λ up. steps.engine.shows desk.state (booked).after (allowed_by 0 c.trace) (desk.shown up) same booked.drain)
+        (λ up. steps.engine.shows desk.state (booked).after (allowed_of desk.start c.trace) (desk.shown up) same booked.drain)
         (λ is. absurd (cc (is))) steps.engine.clean trace at counted recorded,
     subst (λ (es : List Entry). Tends es next count after.set_aside) (sym trace)
         (subst (λ (n : ℕ). Tends (c.trace ++ utility_entry event (Some answer) calls ∷ []) next count n) (sym steps.engine.aside_is)
@@ -370,11 +378,11 @@ pub idle_on : (d : Engine) (c : ChronicleState) (origin : Origin) (copy : ℕ) (
     → NextBy down stage count.since covered None event
     → (calls : ℕ) (new : ChronicleState) → new.trace ≡ c.trace ++ utility_entry event None calls ∷ [] → new.calls ≡ calls → IsCount seen calls → IsRecorded new.trace new.calls → GoesOn d new origin copy down marks seen stage count
 idle_on d c origin copy true marks seen desk stage count tends covered events.StepDown is calls new trace at counted recorded =
-    refused_on c origin copy marks seen count calls new at counted recorded d true stage events.StepDown desk tends (λ n. refl) (λ n. refl) (down_allows (behind [] c.trace) desk.state desk.down_is).1 (tends_refused c.trace stage count d.set_aside events.StepDown calls tt tends) trace
+    refused_on c origin copy marks seen count calls new at counted recorded d true stage events.StepDown desk tends (λ n. refl) refl (down_allows (behind [] c.trace) desk.state desk.down_is).1 (tends_refused c.trace stage count d.set_aside events.StepDown calls tt tends) trace
 idle_on d c origin copy true marks seen desk stage count tends covered event is calls new trace at counted recorded = absurd is
 idle_on d c origin copy false marks seen desk (Some s) count tends covered event is calls new trace at counted recorded = absurd is
 idle_on d c origin copy false marks seen desk None count tends covered events.Idle is calls new trace at counted recorded =
-    refused_on c origin copy marks seen count calls new at counted recorded d false None events.Idle desk tends (λ n. refl) (λ n. refl) (none_allows (behind [] c.trace) desk.state desk.down_is (state_shows d c origin copy false marks seen desk None count tends).0 0 0).2 (tends_refused c.trace None count d.set_aside events.Idle calls tt tends) trace
+    refused_on c origin copy marks seen count calls new at counted recorded d false None events.Idle desk tends (λ n. refl) refl (none_allows (behind [] c.trace) desk.state desk.down_is (state_shows d c origin copy false marks seen desk None count tends).0 0 0).2 (tends_refused c.trace None count d.set_aside events.Idle calls tt tends) trace
 idle_on d c origin copy false marks seen desk None count tends covered event is calls new trace at counted recorded = absurd is
 
 -- a step without an answer leaves the stage as it was

@@ -179,6 +179,7 @@ module _ (d : Engine) (c : ChronicleState) (origin : Origin) (copy : ℕ) (marks
     state = desk.state;
     begun = desk.begun;
     run = desk.run;
+    told = desk.told;
     is_first = desk.is_first;
     is_copy = desk.is_copy;
     copy_is = desk.copy_is;

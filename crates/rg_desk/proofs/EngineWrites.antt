@@ -27,7 +27,9 @@ use Rattle.rg_space.specs.Carries.{Carries}
 use Rattle.rg_space.specs.Space.{capacity_in}
 use Rattle.rg_log.specs.Kept.{Listed}
 use Rattle.rg_desk.specs.Engine.{slots_in}
-use Rattle.rg_desk.specs.Moves.{Moves, rows_made}
+use Rattle.rg_account.specs.Found.{rows_found, rows_made}
+use Rattle.rg_lawful.specs.Table.{IsTable}
+use Rattle.rg_desk.specs.Moves.{Moves}
 use Rattle.rg_desk.specs.Newest.{KeepsNewest}
 use Rattle.rg_desk.specs.Planned.{change_plan, drop_plan, put_plan, units_with}
 use Rattle.rg_desk.specs.Reopens.{IsCleanIn, KeepsParts}
@@ -122,7 +124,8 @@ module _ (st : State) (allowed : ℕ) (d : Engine) (shows : Shows st allowed d) 
 
   -- the rows are moved by it
   pub plan_moves : (more key : ℕ) (after : Option Row) (plan : Plan) (new : Engine) → Plans more after plan → key_of plan.before after ≡ key → holder d.locks session key ≡ None → session.0 < 256
-      → Wrote d session unit plan key after new → (stmt : Stmt) → may_want_log stmt ≡ true → names_key key stmt ≡ true → ((found : List (Option Row)) → rows_made stmt Done found ≡ after ∷ []) → Moves d session stmt Done new
+      → Wrote d session unit plan key after new → (stmt : Stmt) → may_want_log stmt ≡ true → names_key key stmt ≡ true → ((found : List (Option Row)) → rows_made stmt Done found ≡ after ∷ [])
+      → ((table : ℕ → Option Row) → IsTable (row_at (slot_of (slots_in d))) table → (found : List (Option Row)) → rows_found table stmt Done found ≡ plan.before ∷ found) → Moves d session stmt Done new
   plan_moves more key after plan new plans of_key alone low wrote =
       written_moves st allowed more d new session unit plan key after shows wrote low own alone plans.lawful of_key
       (subst (λ (ps : List (List Slot)). Carries t 0 limit ps after plan) (sym shows.by.slots) plans.carries) plans.within

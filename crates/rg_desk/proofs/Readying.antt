@@ -1,5 +1,5 @@
 -- The rows of the changes that a statement makes.
-use Rattle.std.proofs.Common.{◌≡◌, ◌≤◌, ◌<◌, ◌+◌, ◌++◌, ℕ, Bool, true, false, List, [], ◌∷◌, Option, Some, None, length, drop, refl, sym, ◌∙◌, ap, subst, arith, append-nil, append_assoc}
+use Rattle.std.proofs.Common.{◌≡◌, ◌≤◌, ◌<◌, ◌+◌, ◌++◌, ℕ, Bool, true, false, List, [], ◌∷◌, Option, Some, None, length, drop, refl, sym, ◌∙◌, ap, arith, append-nil, append_assoc}
 use Rattle.std.proofs.Math.Seq.{drop-append_seam, drop-length}
 use Rattle.rg_base.specs.declared.change.Change.{Change}
 use Rattle.rg_base.specs.declared.row.Row.{Row}
@@ -17,7 +17,8 @@ use Rattle.rg_stmt.specs.declared.stmt.Stmt.{Stmt}
 use Rattle.rg_stmt.specs.declared.stmt.Stmt.TheVariants.{Commit}
 use Rattle.rg_model.specs.Said.{may_want_memory}
 use Rattle.rg_desk.specs.Answers.{is_answer, is_device}
-use Rattle.rg_desk.specs.Moves.{AreOwn, Moves, rows_before, rows_made}
+use Rattle.rg_account.specs.Found.{rows_made}
+use Rattle.rg_desk.specs.Moves.{AreOwn, Moves, rows_before}
 use Rattle.rg_desk.specs.RecordList.{record_at}
 use Rattle.rg_desk.specs.Sends.{before_in, is_ok}
 use Rattle.rg_desk.specs.Shows.{Shows, left_by}

@@ -229,7 +229,7 @@ module _ (st : State) (allowed : ℕ) (d : Engine) (session : Session) (shows : 
         shows = subst (λ (x : State). Shows x (allowed + 0) new) state_is
             (idle_shows st allowed d new session shows low ended.space ended.indexes ended.top ended.locks ended.claims ended.units (ap (λ (l : Listed). l.records) ended.log ∙ ap (records_committed d.log.records) (sym none)) (omega (arith, ap owed_to none, ap (λ (l : Listed). l.reserved) ended.log)) ended.opened ended.set_aside (subst IsSettled (sym ended.log) shows.settled) (grows_same d.log new.log ended.log) none);
         left = tt;
-        moves = idle_end_moves d session Rollback new (omega (arith, low, shows.by.places)) none (ap (λ sp. slots_in (record d { space = sp })) ended.space) (ap (λ (l : Listed). l.records) ended.log) ended.units refl refl refl;
+        moves = idle_end_moves d session Rollback new (omega (arith, low, shows.by.places)) none (ap (λ sp. slots_in (record d { space = sp })) ended.space) (ap (λ (l : Listed). l.records) ended.log) ended.units (λ t. refl) refl refl refl;
         capacity = ap (λ sp. capacity_in sp) ended.space;
       }
     where

@@ -47,7 +47,8 @@ use Rattle.rg_desk.specs.Units.{owed, owed_to, unit_at, writes_in}
 use Rattle.rg_desk.specs.declared.engine.Engine.{Engine}
 use Rattle.rg_desk.specs.declared.units.OpenUnit.{OpenUnit}
 use Rattle.rg_desk.proofs.Ended.{keys_ended, units_ended}
-use Rattle.rg_desk.proofs.Moving.{AllLoud, ended_others, ended_own, record_moves, walked_rows}
+use Rattle.rg_account.specs.Found.{rows_found}
+use Rattle.rg_desk.proofs.Moving.{AllLoud, ended_found, ended_others, ended_own, record_moves, walked_rows}
 use Rattle.rg_desk.proofs.Rolled.{rolled_back, undos_claim, undos_leave}
 use Rattle.rg_desk.proofs.Reopens.{appended_clean, appended_parts}
 use Rattle.rg_desk.proofs.Sessions.{left_consistent}
@@ -146,7 +147,10 @@ module _ (st : State) (allowed : ℕ) (d new : Engine) (session : Session) (show
         (λ ws are. rows ∙ own_rows ws (subst (λ (o : Option OpenUnit). AreOwn d.log.records o ws) has are))
         (made ∙ sym (ap writes_in has))
         (ap (λ (us : List (Option OpenUnit)). writes_in (unit_at us session.0)) units ∙ ended_own d.units session.0 place)
-        (λ n apart. ap (λ (us : List (Option OpenUnit)). writes_in (unit_at us n)) units ∙ ended_others d.units session.0 n apart);
+        (λ n apart. ap (λ (us : List (Option OpenUnit)). unit_at us n) units ∙ ended_others d.units session.0 n apart)
+        (λ table_rows table.
+        let one = shows.by.units.each session.0 unit has in
+        ended_found d session new unit (own_of t s.writes) place has (one.walks, one.count) units (rows_found table_rows stmts.Rollback Done) (λ found. refl));
     capacity = capacity;
   }
     where

@@ -3,6 +3,7 @@ use Rattle.std.proofs.Common.{◌≡◌, ◌≤◌, ◌+◌, ◌++◌, inl, inr,
 use Rattle.std.proofs.lemmas.Bool.Decides.{nat_tests}
 use Rattle.std.proofs.lemmas.List.{take-append-le}
 use Rattle.std.proofs.Math.Seq.{take-length}
+use Rattle.rg_account.specs.Account.{allowed_of}
 use Rattle.rg_base.specs.declared.position.Position.{Position}
 use Rattle.rg_base.specs.declared.session.Session.{Session}
 use Rattle.rg_base.specs.declared.set.Set.TheVariants.{Log}
@@ -30,7 +31,7 @@ use Rattle.rg_stmt.specs.declared.stmt.Reply.TheVariants.{Device}
 use Rattle.rg_stmt.specs.declared.stmt.Stmt.{Stmt}
 use Rattle.rg_stmt.specs.declared.stmt.Stmt.TheVariants.{Commit}
 use Rattle.rg_desk.specs.Answers.{Replies, forces, state_left}
-use Rattle.rg_desk.specs.Chronicle.{ChronicleState, allowed_by}
+use Rattle.rg_desk.specs.Chronicle.{ChronicleState}
 use Rattle.rg_desk.specs.Desk.{IsDesk}
 use Rattle.rg_desk.specs.Flushed.{TellsFlush, WritesEither}
 use Rattle.rg_desk.specs.Left.{LeavesState, StoresDuring, StoresLeft}
@@ -161,16 +162,16 @@ replied_rows d c origin copy false marks seen desk session stmt reply next down_
   where
     by_force : (b : Bool) → forces d.units session stmt ≡ b → StoredThroughout seen seen_after d.log.pages (StoresDuring b desk.state session)
     by_force false e =
-        let answered = replies.0 desk.state (allowed_by 0 c.trace) (desk.shown refl) in
+        let answered = replies.0 desk.state (allowed_of desk.start c.trace) (desk.shown refl) in
         subst (λ (v : VolumeSeen). StoredThroughout seen v d.log.pages (StoresLeft desk.state)) (sym (replies.1.none e))
         (still_rows d c origin copy false marks seen desk (StoresLeft desk.state)
         (front_entries d.log.records answered.grows.more (subst AreEntries answered.grows.records entries))
         (front_set d.log.records answered.grows.more d.log.pages (subst (λ (k : ℕ). 1 ≤ length (d.log.records ++ answered.grows.more) → (end_of start (d.log.records ++ answered.grows.more)).page ≤ k) answered.grows.pages (subst (λ (rs : List Record). 1 ≤ length rs → (end_of start rs).page ≤ next.log.pages) answered.grows.records set)))
         (λ rs h. h))
     by_force true e =
-        let answered = replies.0 desk.state (allowed_by 0 c.trace) (desk.shown refl) in
+        let answered = replies.0 desk.state (allowed_of desk.start c.trace) (desk.shown refl) in
         let after : answered.after ≡ state_left desk.state session Commit reply = answered.is_after ∙ ap (λ (s : Stmt). state_left desk.state session s reply) (forces_commit d.units session stmt e) in
         stored_through (WritesIn Log) (StoresDuring true desk.state session) d.log next.log seen seen_after c.calls replies.1.calls.only desk.counted entries set answered.grows.pages desk.leaves replies.1.through
-        (commit_during desk.state (allowed_by 0 c.trace) (allowed_by 0 c.trace + more_allowed stmt reply) d next session (desk.shown refl) answered.grows.more answered.grows.records (replies.1.one e) reply
-        (subst (λ (st : State). IfUp reply (Shows st (allowed_by 0 c.trace + more_allowed stmt reply) next)) after answered.shows)
+        (commit_during desk.state (allowed_of desk.start c.trace) (allowed_of desk.start c.trace + more_allowed stmt reply) d next session (desk.shown refl) answered.grows.more answered.grows.records (replies.1.one e) reply
+        (subst (λ (st : State). IfUp reply (Shows st (allowed_of desk.start c.trace + more_allowed stmt reply) next)) after answered.shows)
         (subst (λ (st : State). IfDevice reply (LeavesState st (record next.log { forced = d.log.forced }))) after answered.left))

@@ -1,5 +1,6 @@
 -- What a crash leaves at each moment of a desk's calls is sound.
 use Rattle.std.proofs.Common.{◌≤◌, ℕ, Bool, true, false, List, length, Option, refl, sym, subst, arith}
+use Rattle.rg_account.specs.Account.{allowed_of}
 use Rattle.rg_base.specs.declared.position.Position.{Position}
 use Rattle.rg_base.specs.declared.session.Session.{Session}
 use Rattle.rg_base.specs.declared.set.Set.TheVariants.{Log}
@@ -14,7 +15,7 @@ use Rattle.rg_stmt.specs.declared.stmt.Reply.{Reply}
 use Rattle.rg_stmt.specs.declared.stmt.Stmt.{Stmt}
 use Rattle.rg_version.specs.Versions.{Epoch}
 use Rattle.rg_desk.specs.Answers.{Replies}
-use Rattle.rg_desk.specs.Chronicle.{ChronicleState, allowed_by}
+use Rattle.rg_desk.specs.Chronicle.{ChronicleState}
 use Rattle.rg_desk.specs.Desk.{IsDesk}
 use Rattle.rg_desk.specs.Flushed.{TellsFlush}
 use Rattle.rg_desk.specs.OnVolume.{IsOn, PartsIfTidy, SoundThroughout, WasAllTidy}
@@ -37,7 +38,7 @@ replied_sound d c origin copy true marks seen desk session stmt reply next down_
     subst (SoundThroughout seen) (sym replies.3)
     (desk_sound d c origin copy true marks seen desk (subst (λ (x : Engine). AreEntries x.log.records) replies.1 entries) (subst (λ (x : Engine). 1 ≤ length x.log.records → (end_of start x.log.records).page ≤ x.log.pages) replies.1 set))
 replied_sound d c origin copy false marks seen desk session stmt reply next down_after seen_after replies entries set =
-    let answered = replies.0 desk.state (allowed_by 0 c.trace) (desk.shown refl) in
+    let answered = replies.0 desk.state (allowed_of desk.start c.trace) (desk.shown refl) in
     let asks = replies.1 in
     let e : Epoch = (desk.is_on refl).epoch in
     let on = (desk.is_on refl).is_on in

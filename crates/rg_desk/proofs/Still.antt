@@ -1,10 +1,11 @@
 -- A desk stays as it is where its engine shows the same.
 use Rattle.std.proofs.Common.{◌≤◌, ℕ, Bool, List, take, length, Option, sym, ◌∙◌, ap, subst}
+use Rattle.rg_account.specs.Account.{allowed_of}
 use Rattle.rg_base.specs.declared.position.Position.{Position}
 use Rattle.rg_log.specs.Kept.{Listed}
 use Rattle.rg_outside.proofs.Every.{told_weaken}
 use Rattle.rg_desk.specs.Bytes.{taken_of}
-use Rattle.rg_desk.specs.Chronicle.{ChronicleState, allowed_by, logged_by}
+use Rattle.rg_desk.specs.Chronicle.{ChronicleState, logged_by}
 use Rattle.rg_desk.specs.Desk.{IsDesk}
 use Rattle.rg_desk.specs.Left.{LeavesState}
 use Rattle.rg_desk.specs.OnVolume.{WasAllTidy}
@@ -26,13 +27,14 @@ desk_still d c origin copy down marks seen desk next same = record {
   state = desk.state;
   begun = desk.begun;
   run = desk.run;
+  told = desk.told;
   is_first = desk.is_first;
   is_copy = desk.is_copy;
   copy_is = desk.copy_is;
   down_is = desk.down_is;
   counted = desk.counted;
   recorded = desk.recorded;
-  shown = λ up. same_shows desk.state (allowed_by 0 c.trace) d next same (desk.shown up);
+  shown = λ up. same_shows desk.state (allowed_of desk.start c.trace) d next same (desk.shown up);
   left = λ is. subst (LeavesState desk.state) (sym same.log) (desk.left is);
   logged = subst (λ (l : Listed). taken_of l ≤ logged_by 0 c.trace) (sym same.log) desk.logged;
   pages = ap (λ (l : Listed). l.pages) same.log ∙ desk.pages;

@@ -6,6 +6,7 @@
 --    table begins anew on it.
 use Rattle.std.proofs.Common.{◌≡◌, ◌+◌, inl, inr, ℕ, false, List, [], length, take, Option, None, refl, sym, ◌∙◌, ap, subst, arith}
 use Rattle.std.proofs.Math.Seq.{take-length}
+use Rattle.rg_account.specs.Account.{allowed_of}
 use Rattle.rg_anew.proofs.Anew.{new_can_switch, owed_closed, switch_begins}
 use Rattle.rg_anew.specs.Anew.{BeginsAnew, IsNewCopy, anew_on}
 use Rattle.rg_base.specs.declared.options.DrainFor.TheVariants.{All}
@@ -32,7 +33,7 @@ use Rattle.rg_switch.specs.Laws.{IsTurned}
 use Rattle.rg_switch.specs.Switched.{CanSwitch, next_epoch, other_of, switch_to, switched}
 use Rattle.rg_unlocked.proofs.Claiming.{claimed_begins, claimed_run}
 use Rattle.rg_unlocked.specs.Unlocked.{AreClaimed}
-use Rattle.rg_desk.specs.Chronicle.{ChronicleState, allowed_by}
+use Rattle.rg_desk.specs.Chronicle.{ChronicleState}
 use Rattle.rg_desk.specs.Desk.{IsCopy, IsDesk}
 use Rattle.rg_desk.specs.Prepared.{IsPrepared}
 use Rattle.rg_desk.specs.Shows.{Shows}
@@ -85,7 +86,7 @@ module _ (d : Engine) (c : ChronicleState) (origin : Origin) (copy : ℕ) (marks
   abbrev st : State
   st = desk.state
 
-  shows : Shows desk.state (allowed_by 0 c.trace) d
+  shows : Shows desk.state (allowed_of desk.start c.trace) d
   shows = desk.shown refl
 
   pub claimed : AreClaimed desk.state
@@ -101,7 +102,7 @@ module _ (d : Engine) (c : ChronicleState) (origin : Origin) (copy : ℕ) (marks
   current_is = steady.copy ∙ (desk.is_on refl).is_on.copy_is
 
   closed : (t : ℕ) → IsOpen t rs → ⊥
-  closed = all_closed desk.state (allowed_by 0 c.trace) d shows claimed kept All granted
+  closed = all_closed desk.state (allowed_of desk.start c.trace) d shows claimed kept All granted
 
   owes : log_owed rs ≡ 0
   owes = owed_closed rs closed
@@ -113,7 +114,7 @@ module _ (d : Engine) (c : ChronicleState) (origin : Origin) (copy : ℕ) (marks
   units_owe = omega (arith, shows.by.owed, reserved, set_aside)
 
   pub no_units : (n : ℕ) → unit_at d.units n ≡ None
-  no_units = no_unit desk.state (allowed_by 0 c.trace) d shows claimed kept All granted
+  no_units = no_unit desk.state (allowed_of desk.start c.trace) d shows claimed kept All granted
 
   module _ (mid : Engine) (seen_after : VolumeSeen) (logs : LogsSwitch (other_of copy) (length p.shadow.pages) seen seen_after d mid) where
     abbrev later : List Record

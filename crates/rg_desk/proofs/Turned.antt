@@ -2,6 +2,7 @@
 use Rattle.std.proofs.Common.{◌≡◌, ◌≤◌, ◌<◌, ◌+◌, ◌*◌, ◌==◌, if◌then◌else◌, ℕ, suc, Bool, true, false, List, [], ◌∷◌, length, take, Option, Some, None, refl, sym, ◌∙◌, ap, subst, arith, length-append}
 use Rattle.std.proofs.lemmas.List.{take_all}
 use Rattle.std.specs.FinMap as fin
+use Rattle.rg_account.specs.Account.{allowed_of}
 use Rattle.rg_anew.specs.Anew.{BeginsAnew, anew_on}
 use Rattle.rg_anew.specs.Writing.{HasFirst}
 use Rattle.rg_base.specs.declared.options.DrainFor.TheVariants.{All}
@@ -46,7 +47,7 @@ use Rattle.rg_switch.specs.Laws.{IsTurned}
 use Rattle.rg_switch.specs.Switched.{next_epoch, other_of, switch_to, switched}
 use Rattle.rg_version.specs.Versions.{Epoch, Spells, version}
 use Rattle.rg_desk.specs.Bytes.{taken_of}
-use Rattle.rg_desk.specs.Chronicle.{ChronicleState, allowed_by}
+use Rattle.rg_desk.specs.Chronicle.{ChronicleState}
 use Rattle.rg_desk.specs.Desk.{CanShow, IsDesk}
 use Rattle.rg_desk.specs.Engine.{slots_in}
 use Rattle.rg_desk.specs.OnVolume.{AreMarks, BeganAt, CleanIfTidy, HasCopies, IsMark, IsOn, WasAllTidy, mark_at}
@@ -120,7 +121,7 @@ module _ (d : Engine) (c : ChronicleState) (origin : Origin) (copy : ℕ) (marks
   units_same : next.units ≡ d.units
   units_same = ap (λ (x : Engine). x.units) takes.same ∙ ap (λ (x : Engine). x.units) logs.same
 
-  none_open : (n : ℕ) → unit_at next.units n ≡ None
+  pub none_open : (n : ℕ) → unit_at next.units n ≡ None
   none_open n = ap (λ (us : List (Option OpenUnit)). unit_at us n) units_same ∙ no_units d c origin copy marks seen desk p is current shade kept granted set_aside n
 
   top_same : next.top ≡ greatest_tran rs
@@ -179,7 +180,7 @@ module _ (d : Engine) (c : ChronicleState) (origin : Origin) (copy : ℕ) (marks
   starts : IsStored next.log.records desk.state.table
   starts k =
       (desk.shown refl).by.table k
-      ∙ sym (now_is desk.state (allowed_by 0 c.trace) d (desk.shown refl) (claimed d c origin copy marks seen desk p is current shade kept granted set_aside) kept All granted k)
+      ∙ sym (now_is desk.state (allowed_of desk.start c.trace) d (desk.shown refl) (claimed d c origin copy marks seen desk p is current shade kept granted set_aside) kept All granted k)
       ∙ sym (switch_stores rs (other_of copy) pages k)
       ∙ ap (λ (xs : List Record). stored xs k) (sym next_records)
 
@@ -187,7 +188,7 @@ module _ (d : Engine) (c : ChronicleState) (origin : Origin) (copy : ℕ) (marks
   locks_none =
       ap (λ (x : Engine). x.locks) takes.same ∙ ap (λ (x : Engine). x.locks) logs.same
       ∙ sym (desk.shown refl).by.locks
-      ∙ no_locks desk.state (allowed_by 0 c.trace) d (desk.shown refl) (claimed d c origin copy marks seen desk p is current shade kept granted set_aside) kept All granted
+      ∙ no_locks desk.state (allowed_of desk.start c.trace) d (desk.shown refl) (claimed d c origin copy marks seen desk p is current shade kept granted set_aside) kept All granted
 
   pub turned_shows : Shows (at_rest desk.state.table (other_of copy)) (4064 * length p.shadow.pages) next
   turned_shows =

@@ -30,7 +30,9 @@ use Rattle.rg_desk.specs.Bytes.{most_needed, taken_of}
 use Rattle.rg_desk.specs.Engine.{ground_of, slots_in}
 use Rattle.rg_desk.specs.Planned.{IsRefusal, change_plan, drop_plan, put_plan, refused}
 use Rattle.rg_desk.specs.Shows.{Shows, left_by}
-use Rattle.rg_desk.specs.Moves.{Moves, rows_made}
+use Rattle.rg_account.specs.Found.{rows_found, rows_made}
+use Rattle.rg_lawful.specs.Table.{IsTable}
+use Rattle.rg_desk.specs.Moves.{Moves}
 use Rattle.rg_desk.specs.Newest.{KeepsNewest}
 use Rattle.rg_desk.specs.Room.{IfNeeds}
 use Rattle.rg_desk.specs.Steps.{Goes, IsUnitOf}
@@ -87,6 +89,15 @@ module _ (st : State) (allowed : ℕ) (d : Engine) (shows : Shows st allowed d) 
 
   put : (row : Row) (plan : Plan) → row_of st.table row.key ≡ None → holder d.locks session row.key ≡ None → row_size row ≤ 826 → Some plan ≡ put_plan unit.tran.0 (row_size row) mid → PlansMid (18 + row_size row) (Some row) plan
   put row plan absent alone small is = (engine_put st allowed mid shows_mid session unit own_mid row plan absent (alone_mid row.key alone) small is).1
+
+  put_before : (row : Row) (plan : Plan) → row_of st.table row.key ≡ None → holder d.locks session row.key ≡ None → row_size row ≤ 826 → Some plan ≡ put_plan unit.tran.0 (row_size row) mid → plan.before ≡ None
+  put_before row plan absent alone small is = (engine_put st allowed mid shows_mid session unit own_mid row plan absent (alone_mid row.key alone) small is).0
+
+  change_before : (home : Place) (old row : Row) (plan : Plan) → row_at (slot_of (slots_in d)) home ≡ Some old → is_home (slot_of (slots_in d) home) ≡ true → holder d.locks session row.key ≡ None → row.key ≡ old.key → row_size row ≤ 826
+      → Some plan ≡ change_plan unit.tran.0 (row_size row) home mid → plan.before ≡ Some old
+  change_before home old row plan there is_there alone key small is =
+      (engine_change st allowed mid shows_mid session unit own_mid home old row plan (there_mid home old there) (home_mid home is_there)
+      (subst (λ (k : ℕ). holder mid.locks session k ≡ None) key (alone_mid row.key alone)) key small is).0
 
   change : (home : Place) (old row : Row) (plan : Plan) → row_at (slot_of (slots_in d)) home ≡ Some old → is_home (slot_of (slots_in d) home) ≡ true → holder d.locks session row.key ≡ None → row.key ≡ old.key → row_size row ≤ 826
       → Some plan ≡ change_plan unit.tran.0 (row_size row) home mid → PlansMid (18 + row_size row) (Some row) plan
@@ -167,16 +178,17 @@ module _ (st : State) (allowed : ℕ) (d : Engine) (shows : Shows st allowed d) 
   wrote_clean : (more key : ℕ) (after : Option Row) (plan : Plan) (new : Engine) → PlansMid more after plan → key_of plan.before after ≡ key → holder mid.locks session key ≡ None → session.0 < 256 → Wrote mid session unit plan key after new → IsCleanIn d → IsCleanIn new
   wrote_clean more key after plan new plans of_key alone low w = λ clean. plan_clean st allowed mid shows_mid session unit own_mid more key after plan new plans of_key alone low w (same_clean d mid same clean)
 
-  wrote_moves : (more key : ℕ) (after : Option Row) (plan : Plan) (new : Engine) → PlansMid more after plan → key_of plan.before after ≡ key → holder mid.locks session key ≡ None → session.0 < 256 → Wrote mid session unit plan key after new → (stmt : Stmt) → may_want_log stmt ≡ true → names_key key stmt ≡ true → ((found : List (Option Row)) → rows_made stmt Done found ≡ after ∷ []) → Moves d session stmt Done new
-  wrote_moves more key after plan new plans of_key alone low w stmt may names rows =
-      moves_since d mid session stmt Done new same (plan_moves st allowed mid shows_mid session unit own_mid more key after plan new plans of_key alone low w stmt may names rows)
+  wrote_moves : (more key : ℕ) (after : Option Row) (plan : Plan) (new : Engine) → PlansMid more after plan → key_of plan.before after ≡ key → holder mid.locks session key ≡ None → session.0 < 256 → Wrote mid session unit plan key after new → (stmt : Stmt) → may_want_log stmt ≡ true → names_key key stmt ≡ true → ((found : List (Option Row)) → rows_made stmt Done found ≡ after ∷ [])
+      → ((table : ℕ → Option Row) → IsTable (row_at (slot_of (slots_in mid))) table → (found : List (Option Row)) → rows_found table stmt Done found ≡ plan.before ∷ found) → Moves d session stmt Done new
+  wrote_moves more key after plan new plans of_key alone low w stmt may names rows finds =
+      moves_since d mid session stmt Done new same (plan_moves st allowed mid shows_mid session unit own_mid more key after plan new plans of_key alone low w stmt may names rows finds)
 
   pub put_goes : (row : Row) (plan : Plan) (reply : Reply) (new : Engine) → session.0 < 256 → row_of st.table row.key ≡ None → holder d.locks session row.key ≡ None → row_size row ≤ 826 → Some plan ≡ put_plan unit.tran.0 (row_size row) mid
       → plain_reply st session (Insert row) ≡ Done → Writes mid session unit plan row.key (Some row) reply new → Goes st allowed d session (Insert row) reply new
   put_goes row plan Done new low absent alone small is done w =
       let plans = put row plan absent alone small is in
       let shown = plan_shows st allowed mid shows_mid session unit own_mid (18 + row_size row) row.key (Some row) plan new plans refl (alone_mid row.key alone) low w in
-      record { says = sym done; room = put_room st allowed d shows session unit is_unit mid same row (Some plan) true is refl; log = put_needs st allowed d shows session unit is_unit mid same row plan (λ n. n ≤ left_of d.log) is (within _ w.prepared.room); logged = wrote_logged row.key (Some row) plan new w; opened = wrote_opened row.key (Some row) plan new w; set_aside = wrote_held row.key (Some row) plan new w; grows = wrote_grows row.key (Some row) plan new w; forced = λ e. wrote_forced row.key (Some row) plan new w; newest = wrote_newest (18 + row_size row) row.key (Some row) plan new plans w; parts = wrote_parts (18 + row_size row) row.key (Some row) plan new plans refl (alone_mid row.key alone) low w; clean = wrote_clean (18 + row_size row) row.key (Some row) plan new plans refl (alone_mid row.key alone) low w; left = tt; shows = shown; moves = wrote_moves (18 + row_size row) row.key (Some row) plan new plans refl (alone_mid row.key alone) low w (Insert row) refl (eqb-refl row.key) (λ found. refl); capacity = wrote (Insert row) (18 + row_size row) row.key (Some row) plan new done shown w }
+      record { says = sym done; room = put_room st allowed d shows session unit is_unit mid same row (Some plan) true is refl; log = put_needs st allowed d shows session unit is_unit mid same row plan (λ n. n ≤ left_of d.log) is (within _ w.prepared.room); logged = wrote_logged row.key (Some row) plan new w; opened = wrote_opened row.key (Some row) plan new w; set_aside = wrote_held row.key (Some row) plan new w; grows = wrote_grows row.key (Some row) plan new w; forced = λ e. wrote_forced row.key (Some row) plan new w; newest = wrote_newest (18 + row_size row) row.key (Some row) plan new plans w; parts = wrote_parts (18 + row_size row) row.key (Some row) plan new plans refl (alone_mid row.key alone) low w; clean = wrote_clean (18 + row_size row) row.key (Some row) plan new plans refl (alone_mid row.key alone) low w; left = tt; shows = shown; moves = wrote_moves (18 + row_size row) row.key (Some row) plan new plans refl (alone_mid row.key alone) low w (Insert row) refl (eqb-refl row.key) (λ found. refl) (λ table is_table found. ap (λ (r : Option Row). r ∷ found) (sym (put_before row plan absent alone small is))); capacity = wrote (Insert row) (18 + row_size row) row.key (Some row) plan new done shown w }
   put_goes row plan (LogFull need left) new low absent alone small is done w =
       log_full (Insert row) _ need left new refl done w (put_needs st allowed d shows session unit is_unit mid same row plan (λ n. need ≡ n) is w.0)
   put_goes row plan NoMemory new low absent alone small is done w = go_wanting st allowed d shows session (Insert row) new refl (same_same d mid new same w)
@@ -188,7 +200,7 @@ module _ (st : State) (allowed : ℕ) (d : Engine) (shows : Shows st allowed d) 
   change_goes home old row plan Done new low there is_there alone key small is done w =
       let plans = change home old row plan there is_there alone key small is in
       let shown = plan_shows st allowed mid shows_mid session unit own_mid (18 + row_size row) row.key (Some row) plan new plans refl (alone_mid row.key alone) low w in
-      record { says = sym done; room = change_room st allowed d shows session unit is_unit mid same home old row (Some plan) true there key is refl; log = change_needs st allowed d shows session unit is_unit mid same home old row plan (λ n. n ≤ left_of d.log) there key is (within _ w.prepared.room); logged = wrote_logged row.key (Some row) plan new w; opened = wrote_opened row.key (Some row) plan new w; set_aside = wrote_held row.key (Some row) plan new w; grows = wrote_grows row.key (Some row) plan new w; forced = λ e. wrote_forced row.key (Some row) plan new w; newest = wrote_newest (18 + row_size row) row.key (Some row) plan new plans w; parts = wrote_parts (18 + row_size row) row.key (Some row) plan new plans refl (alone_mid row.key alone) low w; clean = wrote_clean (18 + row_size row) row.key (Some row) plan new plans refl (alone_mid row.key alone) low w; left = tt; shows = shown; moves = wrote_moves (18 + row_size row) row.key (Some row) plan new plans refl (alone_mid row.key alone) low w (Update row) refl (eqb-refl row.key) (λ found. refl); capacity = wrote (Update row) (18 + row_size row) row.key (Some row) plan new done shown w }
+      record { says = sym done; room = change_room st allowed d shows session unit is_unit mid same home old row (Some plan) true there key is refl; log = change_needs st allowed d shows session unit is_unit mid same home old row plan (λ n. n ≤ left_of d.log) there key is (within _ w.prepared.room); logged = wrote_logged row.key (Some row) plan new w; opened = wrote_opened row.key (Some row) plan new w; set_aside = wrote_held row.key (Some row) plan new w; grows = wrote_grows row.key (Some row) plan new w; forced = λ e. wrote_forced row.key (Some row) plan new w; newest = wrote_newest (18 + row_size row) row.key (Some row) plan new plans w; parts = wrote_parts (18 + row_size row) row.key (Some row) plan new plans refl (alone_mid row.key alone) low w; clean = wrote_clean (18 + row_size row) row.key (Some row) plan new plans refl (alone_mid row.key alone) low w; left = tt; shows = shown; moves = wrote_moves (18 + row_size row) row.key (Some row) plan new plans refl (alone_mid row.key alone) low w (Update row) refl (eqb-refl row.key) (λ found. refl) (λ table is_table found. ap (λ (r : Option Row). r ∷ found) (ap table key ∙ is_table.there home old (there_mid home old there) ∙ sym (change_before home old row plan there is_there alone key small is))); capacity = wrote (Update row) (18 + row_size row) row.key (Some row) plan new done shown w }
   change_goes home old row plan (LogFull need left) new low there is_there alone key small is done w =
       log_full (Update row) _ need left new refl done w (change_needs st allowed d shows session unit is_unit mid same home old row plan (λ n. need ≡ n) there key is w.0)
   change_goes home old row plan NoMemory new low there is_there alone key small is done w = go_wanting st allowed d shows session (Update row) new refl (same_same d mid new same w)
@@ -201,7 +213,7 @@ module _ (st : State) (allowed : ℕ) (d : Engine) (shows : Shows st allowed d) 
       let plans = drop home old plan there is_there (subst (λ (k : ℕ). holder d.locks session k ≡ None) (sym of_key) alone) is in
       let same_key : key_of plan.before None ≡ key = ap (λ (x : Option Row). key_of x None) plans.0 ∙ of_key in
       let shown = plan_shows st allowed mid shows_mid session unit own_mid 0 key None plan new plans.1 same_key (alone_mid key alone) low w in
-      record { says = sym done; room = tt; log = drop_needs st allowed d shows session unit is_unit mid same home old key plan (λ n. n ≤ left_of d.log) there of_key is (within _ w.prepared.room); logged = wrote_logged key None plan new w; opened = wrote_opened key None plan new w; set_aside = wrote_held key None plan new w; grows = wrote_grows key None plan new w; forced = λ e. wrote_forced key None plan new w; newest = wrote_newest 0 key None plan new plans.1 w; parts = wrote_parts 0 key None plan new plans.1 same_key (alone_mid key alone) low w; clean = wrote_clean 0 key None plan new plans.1 same_key (alone_mid key alone) low w; left = tt; shows = shown; moves = wrote_moves 0 key None plan new plans.1 same_key (alone_mid key alone) low w (Delete key) refl (eqb-refl key) (λ found. refl); capacity = wrote (Delete key) 0 key None plan new done shown w }
+      record { says = sym done; room = tt; log = drop_needs st allowed d shows session unit is_unit mid same home old key plan (λ n. n ≤ left_of d.log) there of_key is (within _ w.prepared.room); logged = wrote_logged key None plan new w; opened = wrote_opened key None plan new w; set_aside = wrote_held key None plan new w; grows = wrote_grows key None plan new w; forced = λ e. wrote_forced key None plan new w; newest = wrote_newest 0 key None plan new plans.1 w; parts = wrote_parts 0 key None plan new plans.1 same_key (alone_mid key alone) low w; clean = wrote_clean 0 key None plan new plans.1 same_key (alone_mid key alone) low w; left = tt; shows = shown; moves = wrote_moves 0 key None plan new plans.1 same_key (alone_mid key alone) low w (Delete key) refl (eqb-refl key) (λ found. refl) (λ table is_table found. ap (λ (r : Option Row). r ∷ found) (ap table (sym of_key) ∙ is_table.there home old (there_mid home old there) ∙ sym plans.0)); capacity = wrote (Delete key) 0 key None plan new done shown w }
   drop_goes home old key plan (LogFull need left) new low there is_there alone of_key is done w =
       log_full (Delete key) _ need left new refl done w (drop_needs st allowed d shows session unit is_unit mid same home old key plan (λ n. need ≡ n) there of_key is w.0)
   drop_goes home old key plan NoMemory new low there is_there alone of_key is done w = go_wanting st allowed d shows session (Delete key) new refl (same_same d mid new same w)

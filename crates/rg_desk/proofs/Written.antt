@@ -32,7 +32,8 @@ use Rattle.rg_lawful.specs.Consistent.{IsConsistent}
 use Rattle.rg_lawful.specs.DeskLaws.{DeskWrites, purge_acts}
 use Rattle.rg_lawful.specs.Lawful.{Runs}
 use Rattle.rg_lawful.specs.Records.{acts_of}
-use Rattle.rg_lawful.specs.Write.{Write, key_of, write_of}
+use Rattle.rg_lawful.specs.Write.{Write, key_of, own_of, write_of}
+use Rattle.rg_lawful.proofs.Own.{own_more}
 use Rattle.rg_follow.specs.Next.{AreNext}
 use Rattle.rg_image.specs.Pack.{log_bytes}
 use Rattle.rg_image.specs.Rules.{limit_of}
@@ -43,7 +44,9 @@ use Rattle.rg_desk.specs.Engine.{HasPages, slots_in}
 use Rattle.rg_space.specs.Memory.{list_seen}
 use Rattle.rg_desk.specs.Shows.{KeyShown, Shows, ShowsBy, UnitsShown, left_by}
 use Rattle.rg_desk.specs.Stored.{IsQuiet, IsSettled}
-use Rattle.rg_desk.specs.Moves.{Moves, rows_before, rows_made}
+use Rattle.rg_account.specs.Found.{rows_found, rows_made}
+use Rattle.rg_lawful.specs.Table.{IsTable}
+use Rattle.rg_desk.specs.Moves.{AreOwn, HaveFound, Moves, rows_before}
 use Rattle.rg_desk.specs.Reopens.{IsCleanIn, KeepsParts}
 use Rattle.rg_desk.specs.Trails.{Trails}
 use Rattle.rg_desk.specs.Units.{owed, owed_to, unit_at, writes_in}
@@ -55,7 +58,7 @@ use Rattle.rg_desk.specs.declared.units.OpenUnit.{OpenUnit}
 use Rattle.rg_desk.proofs.Appended.{acts_wrote, more_wrote, quiet_wrote, wrote_more}
 use Rattle.rg_desk.proofs.Keys.{set_table}
 use Rattle.rg_desk.proofs.KeysWritten.{IsOwnUnit, keys_written}
-use Rattle.rg_desk.proofs.Moving.{record_moves, writing_after, writing_made, wrote_loud, wrote_one, wrote_rows}
+use Rattle.rg_desk.proofs.Moving.{record_moves, walked_rows, writing_after, writing_made, wrote_loud, wrote_one, wrote_rows}
 use Rattle.rg_desk.proofs.Purged.{key_purged, units_purged, walks_cleared}
 use Rattle.rg_desk.proofs.Reopens.{appended_clean, appended_parts}
 use Rattle.rg_desk.proofs.Sessions.{left_consistent}
@@ -288,9 +291,30 @@ module _ (st : State) (allowed more : ℕ) (old new : Engine) (session : Session
   pub written_clean : claimed_all (holding s_written.live (suc s_written.top)) s_written.pages ≤ allowed + more → IsCleanIn old → IsCleanIn new
   written_clean bound = appended_clean st allowed old shows entries runs write_next (write_key st session key after) (allowed + more) new (subst (ShowsBy (write_key st session key after) (allowed + more) new) (sym left) (by bound))
 
+  -- the unit's writes have found the row that was there, too
+  written_found : (changed : List (Option Row) → List (Option Row)) → ((found : List (Option Row)) → changed found ≡ plan.before ∷ found)
+      → (vs : List Write) → AreOwn new.log.records (unit_at new.units session.0) vs → HaveFound old.log.records (unit_at old.units session.0) changed vs
+  written_found changed is vs mine =
+      let next : OpenUnit = unit_wrote old.log.records unit plan in
+      let ws : List Write = own_of unit.tran.0 s.writes in
+      let has : unit_at new.units session.0 ≡ Some next = ap (λ (us : List (Option OpenUnit)). unit_at us session.0) units ∙ set_here old.units session.0 (Some next) place in
+      let one = units_after.each session.0 next has in
+      let of : AreOwn new.log.records (Some next) vs = subst (λ (o : Option OpenUnit). AreOwn new.log.records o vs) has mine in (
+        ws,
+        before own,
+        walked_rows new.log.records next.tran.0 next.last.0 vs (own_of next.tran.0 s_written.writes) of.0 one.walks ∙ ap rows_before (own_more w s.writes) ∙ sym (is (rows_before ws)),
+      )
+    where
+      before : IsUnitFor old.units s session.0 unit → AreOwn old.log.records (unit_at old.units session.0) (own_of unit.tran.0 s.writes)
+      before (inl e) =
+          let one = shows.by.units.each session.0 unit e in
+          subst (λ (o : Option OpenUnit). AreOwn old.log.records o (own_of unit.tran.0 s.writes)) (sym e) (one.walks, one.count)
+      before (inr h) = subst (λ (o : Option OpenUnit). AreOwn old.log.records o (own_of unit.tran.0 s.writes)) (sym h.0) h.1.none
+
   -- the rows are moved by the record of the write
-  pub written_moves : (stmt : Stmt) → may_want_log stmt ≡ true → names_key key stmt ≡ true → ((found : List (Option Row)) → rows_made stmt Done found ≡ after ∷ []) → Moves old session stmt Done new
-  written_moves stmt may names rows =
+  pub written_moves : (stmt : Stmt) → may_want_log stmt ≡ true → names_key key stmt ≡ true → ((found : List (Option Row)) → rows_made stmt Done found ≡ after ∷ [])
+      → ((table : ℕ → Option Row) → IsTable (row_at (slot_of (slots_in old))) table → (found : List (Option Row)) → rows_found table stmt Done found ≡ plan.before ∷ found) → Moves old session stmt Done new
+  written_moves stmt may names rows finds =
       record_moves st allowed old shows session stmt Done new entries appended runs write_next (slots ∙ ap (λ (x : LogState). x.pages) (sym left))
       (λ past write. wrote_loud past old.log.records unit plan.purge w (ap (λ (k : ℕ). is_quiet k past) of_key ∙ write may key names))
       (λ ws are. wrote_rows old.log.records unit plan.purge w ∙ sym (rows (rows_before ws)))
@@ -299,7 +323,8 @@ module _ (st : State) (allowed more : ℕ) (old new : Engine) (session : Session
       ∙ ap writes_in (set_here old.units session.0 (Some (unit_wrote old.log.records unit plan)) place)
       ∙ ap (λ (n : ℕ). n + 1) (sym (writes_before own))
       ∙ sym (writing_after stmt (writes_in (unit_at old.units session.0)) may))
-      (λ n apart. ap (λ (us : List (Option OpenUnit)). writes_in (unit_at us n)) units ∙ ap writes_in (set_there old.units session.0 n (Some (unit_wrote old.log.records unit plan)) apart))
+      (λ n apart. ap (λ (us : List (Option OpenUnit)). unit_at us n) units ∙ set_there old.units session.0 n (Some (unit_wrote old.log.records unit plan)) apart)
+      (λ table is. written_found (rows_found table stmt Done) (finds table is))
     where
       writes_before : IsUnitFor old.units s session.0 unit → writes_in (unit_at old.units session.0) ≡ unit.writes
       writes_before (inl e) = ap writes_in e

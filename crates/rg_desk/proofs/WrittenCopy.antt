@@ -6,6 +6,7 @@
 --    that is not committed (`is_prepared`).
 use Rattle.std.proofs.Common.{◌≡◌, ◌≤◌, ◌+◌, ◌⊎◌, inl, inr, ℕ, false, List, [], length, take, Option, Some, None, refl, sym, ◌∙◌, ap, subst, arith}
 use Rattle.std.proofs.Math.Seq.{take-length}
+use Rattle.rg_account.specs.Account.{allowed_of}
 use Rattle.rg_anew.specs.Writing.{ArePagesOf, WritesCopy}
 use Rattle.rg_base.specs.declared.options.DrainFor.{DrainFor}
 use Rattle.rg_base.specs.declared.options.DrainState.TheVariants.{Granted}
@@ -45,7 +46,7 @@ use Rattle.rg_written.specs.Stamped.{stamped_all}
 use Rattle.rg_written.specs.Written.{ReadsCopy}
 use Rattle.rg_written.proofs.Stamping.{ArePagesOf-stamped_all, content_at-stamped_all, length-stamped_first, slots_of-stamped_first}
 use Rattle.rg_desk.specs.Bytes.{taken_of}
-use Rattle.rg_desk.specs.Chronicle.{ChronicleState, allowed_by}
+use Rattle.rg_desk.specs.Chronicle.{ChronicleState}
 use Rattle.rg_desk.specs.Desk.{IsDesk}
 use Rattle.rg_desk.specs.Engine.{slots_in}
 use Rattle.rg_desk.specs.Flushed.{FitsSet, ForcesLog, WritesEither}
@@ -103,13 +104,14 @@ module _ (d : Engine) (c : ChronicleState) (origin : Origin) (copy : ℕ) (marks
           state = desk.state;
           begun = desk.begun;
           run = desk.run;
+          told = desk.told;
           is_first = desk.is_first;
           is_copy = desk.is_copy;
           copy_is = desk.copy_is;
           down_is = desk.down_is;
           counted = has_more (WritesIn Log) before.told mid.told c.calls f.calls.only desk.counted;
           recorded = desk.recorded;
-          shown = λ up. forces.shows desk.state (allowed_by 0 c.trace) (desk.shown up);
+          shown = λ up. forces.shows desk.state (allowed_of desk.start c.trace) (desk.shown up);
           left = λ down. absurd (cc (down));
           logged = omega (arith, ap (λ (l : Listed). taken_of l) log_is, desk.logged);
           pages = ap (λ (l : Listed). l.pages) log_is ∙ desk.pages ∙ ap (λ (k : Capacities). log_pages k) (sym f.calls.capacities);
@@ -239,7 +241,7 @@ module _ (d : Engine) (c : ChronicleState) (origin : Origin) (copy : ℕ) (marks
             subst (λ (s : Shade). IsTable (row_at (slot_of (shade_slots s))) (stored (take p.records next.log.records))) (sym shadow_is)
             (subst (λ (ps : List (List Slot)). IsTable (row_at (slot_of ps)) (stored (take p.records next.log.records))) (sym (slots_of-stamped_first at (length shade.pages) shade.pages))
             (subst (λ (rs : List Record). IsTable (row_at (slot_of (shade_slots shade))) (stored rs)) (sym (ap (λ (n : ℕ). take n next.log.records) count_is ∙ front))
-            (rows (stored d.log.records) (rows_stored desk.state (allowed_by 0 c.trace) d (desk.shown refl) claims kept what granted))));
+            (rows (stored d.log.records) (rows_stored desk.state (allowed_of desk.start c.trace) d (desk.shown refl) claims kept what granted))));
         marked = λ q one.
             subst (λ (s : Shade). IsMarkOf s.pages q (mark_at p.marks.items q)) (sym shadow_is)
             (subst (λ (ms : List (Option Position)). IsMarkOf pages q (mark_at ms q)) (sym marks_are) (mark_of q one (mark_at later q) (marked q one)));

@@ -6,15 +6,15 @@
 --    be.
 -- 3. The entries of earlier openings are kept before those from the opening on, and the two rules
 --    above hold of all of them.
-use Rattle.std.specs.Prelude.{◌≡◌, ◌≤◌, ◌<◌, ◌+◌, ◌*◌, ◌^◌, ℕ, List, [], ◌∷◌, is_some, length}
+use Rattle.std.specs.Prelude.{◌≡◌, ◌≤◌, ◌<◌, ◌+◌, ◌^◌, ℕ, List, [], ◌∷◌, is_some, length}
 use Rattle.std.specs.List.{AllByRecursion}
 use Rattle.std.specs.List.Sorted.{IsNonDecreasingBy}
 use Rattle.rg_model.specs.Legal.{IsActor, asks}
 use Rattle.rg_stmt.specs.declared.event.Entry.{Entry}
 use Rattle.rg_stmt.specs.declared.event.Event.{Event}
-use Rattle.rg_stmt.specs.declared.event.Event.TheVariants.{Opened, Said, Started, Switched}
+use Rattle.rg_stmt.specs.declared.event.Event.TheVariants.{Opened, Said, Started}
 pub use Rattle.rg_tending.specs.Tending.{system_entry}
-use Rattle.rg_desk.specs.Steps.{more_allowed, more_logged}
+use Rattle.rg_desk.specs.Steps.{more_logged}
 
 -- the entries of earlier openings, those from the opening on, for how many more there is room, and
 -- the calls at the last one
@@ -36,14 +36,6 @@ pub record IsRecorded (trace : List Entry) (calls : ℕ) : Type 0 where
   pub each : AllByRecursion IsEntry trace
   pub few : length trace < 2 ^ 63
 
--- An opening allows 4,064 bytes for each page that it finds, and a switch for each page of the new
--- copy. A statement allows what it writes.
-abbrev pub allowed_after : (allowed : ℕ) → Event → ℕ
-allowed_after allowed (Opened copy rows pages used) = 4064 * pages
-allowed_after allowed (Said stmt reply) = allowed + more_allowed stmt reply
-allowed_after allowed (Switched copy sides) = 4064 * sides.new.pages
-allowed_after allowed event = allowed
-
 -- An opening finds so many bytes of the log taken, and a statement takes or reserves more. A
 -- utility that starts holds 28.
 abbrev pub logged_after : (logged : ℕ) → Event → ℕ
@@ -56,8 +48,3 @@ logged_after logged event = logged
 abbrev pub logged_by : (logged : ℕ) → List Entry → ℕ
 logged_by logged [] = logged
 logged_by logged (entry ∷ entries) = logged_by (logged_after logged entry.event) entries
-
--- how many bytes the entries have allowed, from so many on
-abbrev pub allowed_by : (allowed : ℕ) → List Entry → ℕ
-allowed_by allowed [] = allowed
-allowed_by allowed (entry ∷ entries) = allowed_by (allowed_after allowed entry.event) entries

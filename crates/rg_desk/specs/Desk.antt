@@ -3,7 +3,8 @@
 -- 1. Its trace begins with the opening of the table that the log stored then. It leads to a state,
 --    and that is the one that the engine shows. The entries of earlier openings are no part
 --    of it: they are kept as they were.
--- 2. The writes of the trace have allowed the bytes that the engine's pages claim.
+-- 2. The entries of the trace have allowed the bytes that the engine's pages claim, by the state
+--    that they lead to.
 -- 3. An entry has the number of the volume's calls up to it.
 -- 4. The log has no more bytes taken or reserved than the entries say.
 -- 5. It is down if and only if its state is, and then nothing is known of its engine but the log's
@@ -17,6 +18,8 @@
 --    records cover. Then whatever it leaves can be opened, and dead areas have numbers that were
 --    drawn.
 use Rattle.std.specs.Prelude.{◌≡◌, ◌≤◌, ◌<◌, ◌+◌, ◌-◌, ◌*◌, ◌^◌, ◌⊎◌, ◌||◌, ◌++◌, if◌then◌else◌, ℕ, suc, Bool, true, false, List, [], ◌∷◌, Option, Some, None, IfSome, length, take}
+use Rattle.rg_account.specs.Account.{allowed_of, first_state, state_by}
+use Rattle.rg_account.specs.Reaching.{ReachesBy}
 use Rattle.rg_base.specs.declared.control.Answer.{Answer}
 use Rattle.rg_base.specs.declared.options.DrainFor.{DrainFor}
 use Rattle.rg_base.specs.declared.options.DrainState.TheVariants.{Granted}
@@ -36,7 +39,7 @@ use Rattle.rg_model.specs.Legal.{Legal}
 use Rattle.rg_model.specs.Run.{Run}
 use Rattle.rg_model.specs.State.{State, Table, at_rest, is_present, row_count, row_of}
 use Rattle.rg_outside.specs.Moments.{EachImage, HoldsThroughout, IfTold}
-use Rattle.rg_claimed.specs.Claim.{claimed_all, holding}
+use Rattle.rg_claimed.specs.Claim.{claimed_all, holding, nobody}
 use Rattle.rg_feed.specs.Ring.{Ring}
 use Rattle.rg_fold.specs.declared.item.Item.{Item}
 use Rattle.rg_fold.specs.declared.item.Item.TheVariants.{PageCopy}
@@ -79,7 +82,7 @@ use Rattle.rg_desk.specs.Bytes.{taken_of}
 use Rattle.rg_desk.specs.Flushed.{CallsOwn, FlushIs}
 use Rattle.rg_desk.specs.Left.{LeavesState, StoresDuring, StoresLeft}
 use Rattle.rg_desk.specs.OnVolume.{CleanIfTidy, IsOnVolume, LeavesCopies, RestsOn, SoundThroughout}
-use Rattle.rg_desk.specs.Chronicle.{ChronicleState, IsRecorded, allowed_by, logged_by, system_entry}
+use Rattle.rg_desk.specs.Chronicle.{ChronicleState, IsRecorded, logged_by, system_entry}
 use Rattle.rg_desk.specs.Prepared.{PreparedSeen}
 use Rattle.rg_desk.specs.Room.{Ground, SaysLog, SaysRoom}
 use Rattle.rg_desk.specs.Sends.{begin_items}
@@ -124,13 +127,14 @@ pub record IsDesk (d : Engine) (c : ChronicleState) (origin : Origin) (copy : �
   pub state : State
   pub begun : IsBegun origin.copy (row_count start) c.trace
   pub run : Run [] (at_rest start origin.copy) c.trace state
+  pub told : state_by [] (first_state start) c.trace ≡ state
   pub is_first : IsCopy origin.copy
   pub is_copy : IsCopy copy
   pub copy_is : state.copy ≡ copy
   pub down_is : state.down ≡ down
   pub counted : HasCalls seen c.calls
   pub recorded : IsRecorded c.trace c.calls
-  pub shown : down ≡ false → Shows state (allowed_by 0 c.trace) d
+  pub shown : down ≡ false → Shows state (allowed_of start c.trace) d
   pub left : down ≡ true → LeavesState state d.log
   pub logged : taken_of d.log ≤ logged_by 0 c.trace
   pub pages : d.log.pages ≡ log_pages seen.capacities
@@ -315,7 +319,9 @@ pub record MadeSaid {V O : Type 0}
       forces old.ground.units session stmt ≡ true → reply ≡ Done
       → new.ground.log.forced ≡ length new.ground.log.records
   pub room : SaysRoom old.ground session.0 stmt reply
-  pub full : IfFull reply (allowed_by 0 old.trace) old.ground.capacity
+  pub full :
+      (start : Table) → IsStored (old_records old) start
+      → IfFull reply (allowed_of start old.trace) old.ground.capacity
   pub log : SaysLog old.ground session.0 stmt reply
   pub log_full : IfLogFull reply (logged_by 0 old.trace) old.ground.log.pages
   pub sound : SoundThroughout (look old.volume) (look new.volume)
@@ -468,13 +474,18 @@ pub record MadeStep {V O : Type 0} (look : V → VolumeSeen) (old : DeskState V 
 -- What the items that a desk has sent are to its utility. They are in order. Until the copies are
 -- switched they lead to the rows of the table, at each place of a page that was copied or that the
 -- table did not have at the start. As many pages are copied as the stage says, and as many rows.
--- The changes are counted as the entries tell.
+-- The changes are counted as the entries tell. Until then a new copy may have to take no more than
+-- they have allowed.
 pub record FeedIs {V O : Type 0} (desk : DeskState V O) : Type 0 where
   pub counted : desk.changes ≡ changes (behind [] desk.trace)
   pub copies : AreCopies desk.stage desk.feed
   pub keeps :
       KeepsFeed (row_at (slot_of desk.ground.pages)) (behind [] desk.trace) desk.stage
       desk.changes (length desk.ground.log.records) desk.feed
+  pub reaches :
+      (start : Table) → IsStored (old_records desk) start
+      → ReachesBy (row_at (slot_of desk.ground.pages)) desk.stage
+      (allowed_of start desk.trace) desk.feed
 
 -- The next event of the utility that runs is UNLOAD of this page, however many rows the page has.
 pub record CanFeed {V O : Type 0} (desk : DeskState V O) (page : ℕ) (answer : Answer) : Type 0
@@ -564,9 +575,9 @@ shade_kept None = None
 shade_kept (Some p) = Some p.shade
 
 -- The step of the utility is its switch, by the operator's answer, and a new copy is kept that was
--- written since the last record. These are the layouts of the copies: they are right for the table,
--- the quiet rows lie at home in clustering order, and the new copy is packed where nothing has
--- changed since the utility started.
+-- written since the last record. Its pages claim no more than the entries have allowed. These are
+-- the layouts of the copies: they are right for the table, the quiet rows lie at home in clustering
+-- order, and the new copy is packed where nothing has changed since the utility started.
 pub record CanCommit {V O : Type 0} (desk : DeskState V O) (answer : Answer) (sides : Sides)
     : Type 0 where
   pub stage : Stage
@@ -577,6 +588,9 @@ pub record CanCommit {V O : Type 0} (desk : DeskState V O) (answer : Answer) (si
   pub shadow : PreparedSeen
   pub shadow_is : desk.shadow ≡ Some shadow
   pub current : shadow.records ≡ length desk.ground.log.records
+  pub claims :
+      (start : Table) → IsStored (old_records desk) start
+      → claimed_all nobody (shade_slots shadow.shade) ≤ allowed_of start desk.trace
   pub as_written : sides.new.pages ≡ stage.shadow
   pub as_kept : sides.new.pages ≡ length shadow.shade.pages
   pub right :

@@ -8,9 +8,12 @@
 --    that the unit's writes found, the latest first, where they are undone.
 -- 4. They are as many as the statement makes. The writes of open units are counted on as the
 --    statement's answer says.
+-- 5. The writes of the session's unit have found the row of the table that the statement names,
+--    too, or none where the unit has ended. Those of other units have found what they had.
 use Rattle.std.specs.Prelude.{◌≡◌, ◌++◌, ℕ, true, false, List, [], ◌∷◌, Option, Some, None, length}
 use Rattle.std.specs.FinMap as fin
 use Rattle.std.specs.List.{AllByRecursion}
+use Rattle.rg_account.specs.Found.{rows_found, rows_made}
 use Rattle.rg_base.specs.declared.lock.Lock.{Lock}
 use Rattle.rg_base.specs.declared.session.Session.{Session}
 use Rattle.rg_base.specs.declared.row.Row.{Row}
@@ -18,15 +21,14 @@ use Rattle.rg_lawful.specs.Write.{Write}
 use Rattle.rg_changed.specs.Changed.{changes_in, rows_after}
 use Rattle.rg_home.specs.Pages.{slot_of}
 use Rattle.rg_home.specs.Rows.{row_at}
+use Rattle.rg_lawful.specs.Table.{IsTable}
 use Rattle.rg_model.specs.Changes.{is_write, writes_after}
 use Rattle.rg_model.specs.Quiet.{is_quiet, names_key}
 use Rattle.rg_record.specs.declared.record.Record.{Record}
 use Rattle.rg_sent.specs.Keeps.{AreAbove, IsLoud, MovesRows}
 use Rattle.rg_stmt.specs.declared.event.Entry.{Entry}
 use Rattle.rg_stmt.specs.declared.stmt.Reply.{Reply}
-use Rattle.rg_stmt.specs.declared.stmt.Reply.TheVariants.{Done}
 use Rattle.rg_stmt.specs.declared.stmt.Stmt.{Stmt}
-use Rattle.rg_stmt.specs.declared.stmt.Stmt.TheVariants.{Delete, Insert, Rollback, Update}
 use Rattle.rg_tally.specs.Changed.{made_by}
 use Rattle.rg_desk.specs.Engine.{slots_in}
 use Rattle.rg_desk.specs.Units.{unit_at, writes_in}
@@ -56,13 +58,11 @@ AreOwn records None ws = ws ≡ []
 AreOwn records (Some unit) ws =
     Walks records unit.tran.0 unit.last.0 ws × (length ws ≡ unit.writes)
 
--- the rows that a statement makes, of a unit whose writes found these
-abbrev pub rows_made : Stmt → Reply → List (Option Row) → List (Option Row)
-rows_made (Insert row) Done found = Some row ∷ []
-rows_made (Update row) Done found = Some row ∷ []
-rows_made (Delete key) Done found = None ∷ []
-rows_made Rollback Done found = found
-rows_made stmt reply found = []
+-- these writes of a unit have found what some writes of it before have, changed so
+abbrev pub HaveFound :
+    List Record → Option OpenUnit → (List (Option Row) → List (Option Row)) → List Write → Type 0
+HaveFound records unit changed vs =
+    (ws : List Write) × AreOwn records unit ws × (rows_before vs ≡ changed (rows_before ws))
 
 pub record Moves (old : Engine) (session : Session) (stmt : Stmt) (reply : Reply) (new : Engine)
     : Type 0 where
@@ -87,3 +87,11 @@ pub record Moves (old : Engine) (session : Session) (stmt : Stmt) (reply : Reply
   pub others :
       (n : ℕ) → (n ≡ session.0 → ⊥)
       → writes_in (unit_at new.units n) ≡ writes_in (unit_at old.units n)
+  pub finds :
+      (t : ℕ → Option Row) → IsTable (row_at (slot_of (slots_in old))) t → (vs : List Write)
+      → AreOwn new.log.records (unit_at new.units session.0) vs
+      → HaveFound old.log.records (unit_at old.units session.0) (rows_found t stmt reply) vs
+  pub keeps :
+      (n : ℕ) → (n ≡ session.0 → ⊥) → (vs : List Write)
+      → AreOwn new.log.records (unit_at new.units n) vs
+      → HaveFound old.log.records (unit_at old.units n) (λ found. found) vs

@@ -176,7 +176,8 @@ impl<V: Counts, O> Model for Desk<V, O> {
         × Tends d.chronicle.trace d.stage d.changes d.engine.set_aside
         × KeepsPrepared d.shadow d.engine.log.records d.copy
         (seen_volume V.told V.faults V.capacities d.volume)
-        × KeepsItems d.engine d.chronicle.trace d.down d.stage d.changes (sent_items d.outlet) };
+        × KeepsItems d.engine d.origin d.chronicle.trace d.down d.stage d.changes
+        (sent_items d.outlet) };
 }
 
 // The entry of an event that the system makes, after so many calls.

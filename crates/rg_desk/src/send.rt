@@ -9,7 +9,8 @@
 ghost use Rattle.std.specs.Prelude.{◌≡◌, ◌++◌, ◌∷◌, [], ◌≤◌, true, false, drop, List, length, IfOk, OnErr};
 ghost use Rattle.std.specs.Option.{option_copied};
 ghost use Rattle.rg_changed.specs.Changed.{changes_in, rows_after};
-ghost use Rattle.rg_desk.specs.Moves.{AreOwn, rows_before, rows_made};
+ghost use Rattle.rg_account.specs.Found.{rows_made};
+ghost use Rattle.rg_desk.specs.Moves.{AreOwn, rows_before};
 ghost use Rattle.rg_desk.specs.Sends.{before_in, is_ok};
 ghost use Rattle.rg_desk.specs.Shows.{IsShown};
 ghost use Rattle.rg_desk.specs.Steps.{is_commit};

@@ -14,7 +14,8 @@ use Rattle.rg_base.specs.declared.session.Session.{Session}
 use Rattle.rg_base.specs.declared.step.Step.{Step}
 use Rattle.rg_base.specs.declared.step.Step.TheVariants as steps
 use Rattle.rg_base.specs.declared.verdict.StopReason.TheVariants as reasons
-use Rattle.rg_course.specs.Loading.{Loading, ShowsFilled, loading_after, loading_of}
+use Rattle.rg_course.specs.Loading.{IsLoaded, IsLoadedAfter, Loading, ShowsFilled, loading_after, loading_of}
+use Rattle.rg_course.proofs.Loaded.{loaded_goes_on}
 use Rattle.rg_course.proofs.Loads.{loading_goes_on}
 use Rattle.rg_fold.specs.declared.item.Stage.{Stage}
 use Rattle.rg_model.specs.State.{Utility}
@@ -156,10 +157,16 @@ module _ (copy later : ℕ) (same : later ≡ copy) (event : Event) (s t : Stage
   by_turn Stops shows followed = absurd followed
   by_turn Falls shows followed = absurd followed
 
+  loaded_by : (turn : Turn) → IsLoadedAfter turn → Followed turn (Some t) → IsLoaded (numbers_of t)
+  loaded_by (Runs numbers drain) loaded followed = subst IsLoaded (sym followed.0) loaded
+  loaded_by (Switches other sides numbers) loaded followed = subst IsLoaded (sym followed.0) loaded
+  loaded_by Stops loaded followed = absurd followed
+  loaded_by Falls loaded followed = absurd followed
+
 -- where the utility goes on, and has not switched, its numbers show what the event tells
 abbrev pub IsShown : Option Stage → Option Stage → (copy later : ℕ) → Event → Type 0
 IsShown stage next copy later event =
-    IfSome stage (λ s. IfSome next (λ t. t.switched ≡ false → (s.switched ≡ false) × (loading_of later (numbers_of t) ≡ loading_after (loading_of copy (numbers_of s)) event)))
+    IfSome stage (λ s. IfSome next (λ t. t.switched ≡ false → (s.switched ≡ false) × (loading_of later (numbers_of t) ≡ loading_after (loading_of copy (numbers_of s)) event) × (IsLoaded (numbers_of s) → IsLoaded (numbers_of t))))
 
 pub shows_step : (down : Bool) (stage next : Option Stage) (changes : ℕ) (covered : Option Session) (answer : Answer) (event : Event) (copy later : ℕ) → later ≡ copy → NextMade down stage changes covered (Some answer) event → FollowsBy down stage changes covered (Some answer) event next → IsShown stage next copy later event
 shows_step true stage next changes covered answer event copy later same made follows = absurd made
@@ -171,6 +178,7 @@ shows_step false (Some s) (Some t) changes covered answer event copy later same 
     λ unswitched. (
       unswitched_before s.switched _ event has.0 t has.1 followed,
       by_turn copy later same event s t has.0 (loading_goes_on copy changes covered answer (numbers_of s) s.drain event has.0 has.1) followed,
+      λ loaded. loaded_by copy later same event s t has.0 (loaded_goes_on changes covered answer (numbers_of s) s.drain event has.0 loaded has.1) followed,
     )
 
 -- the stage is as it was, and the event tells nothing
@@ -179,7 +187,7 @@ shows_same stage next event copy later same is tells = subst (λ (o : Option Sta
   where
     of_stage : (o : Option Stage) → IsShown o o copy later event
     of_stage None = tt
-    of_stage (Some s) = λ unswitched. (unswitched, ap (λ (n : ℕ). loading_of n (numbers_of s)) same ∙ sym (tells (loading_of copy (numbers_of s))))
+    of_stage (Some s) = λ unswitched. (unswitched, ap (λ (n : ℕ). loading_of n (numbers_of s)) same ∙ sym (tells (loading_of copy (numbers_of s))), λ loaded. loaded)
 
 -- after the switch nothing is asked, nor where no utility runs
 pub shows_switched : (stage next : Option Stage) (t : Stage) (event : Event) (copy later : ℕ) → next ≡ Some t → t.switched ≡ true → IsShown stage next copy later event

@@ -1,5 +1,5 @@
 -- A new copy that is caught up with all changes may be written, and then switched to.
-use Rattle.std.proofs.Common.{◌≡◌, ◌==◌, ◌&&◌, ◌+◌, ◌-◌, ◌*◌, ◌/◌, nat_le, ℕ, Bool, false, List, [], ◌∷◌, Option, Some, IfSome, if◌then◌else◌, length, filter, map, refl, sym, ◌∙◌, ap, subst}
+use Rattle.std.proofs.Common.{◌≡◌, ◌==◌, ◌&&◌, ◌+◌, ◌-◌, ◌*◌, ◌/◌, nat_le, ℕ, Bool, false, List, [], ◌∷◌, Option, Some, IfSome, if◌then◌else◌, length, filter, map, refl, sym, ◌∙◌, ap, subst, arith}
 use Rattle.rg_base.specs.declared.control.Answer.{Answer}
 use Rattle.rg_base.specs.declared.options.Options.{Options}
 use Rattle.rg_base.specs.declared.row.Row.{Row}
@@ -7,7 +7,10 @@ use Rattle.rg_base.specs.declared.step.Step.TheVariants as steps
 use Rattle.rg_caught.specs.Laws.{AreAllTaken}
 use Rattle.rg_caught.proofs.Lying.{rows_now}
 use Rattle.rg_caught.proofs.Right.{caught_quiet, caught_right}
-use Rattle.rg_caught.proofs.Taking.{same_slots}
+use Rattle.rg_account.specs.Account.{allowed_of}
+use Rattle.rg_account.specs.Reaching.{ReachesBy}
+use Rattle.rg_account.proofs.Reached.{feed_is_allowed}
+use Rattle.rg_caught.proofs.Taking.{caught_claims, same_slots}
 use Rattle.rg_desk.specs.Desk.{AreSides, CanCommit, CanPrepare, DeskState, HasCurrent, HasDrain, IsNewSide}
 use Rattle.rg_desk.specs.Prepared.{PreparedSeen}
 use Rattle.rg_desk.specs.Volume.{VolumeSeen}
@@ -119,6 +122,14 @@ sides_right desk inlet s options sides hears stage unswitched copied written non
   current = current;
   are = are;
   as_written = as_written;
+  claims = λ start stored.
+      omega (
+        arith,
+        caught_claims options draft.rows draft.first current.shadow.shade desk.feed inlet.taken draft.moved draft.caught,
+        feed_is_allowed (row_at (slot_of desk.ground.pages)) s (allowed_of start desk.trace) desk.feed
+            (subst (λ (o : Option Stage). ReachesBy (row_at (slot_of desk.ground.pages)) o (allowed_of start desk.trace) desk.feed) stage (hears.feed.reaches start stored))
+            unswitched (omega (arith, copied)) hears.feed.keeps.ordered.lawful,
+      );
   quiet = caught_quiet (row_at (slot_of desk.ground.pages)) (progress_of s desk.changes) desk.feed options draft.rows draft.first current.shadow.shade inlet.taken (behind [] desk.trace) sides.new fed done draft.caught new.1;
   packed = λ unchanged t is.
       sym (packed_same options s.options pctfree freepage t sides.new)
@@ -150,6 +161,7 @@ can_commit {V} {O} desk s answer sides stage_is makes are = record {
   shadow = are.current.shadow;
   shadow_is = are.current.shadow_is;
   current = are.current.current;
+  claims = are.claims;
   as_written = are.as_written;
   as_kept = (subst (λ (o : Option PreparedSeen). IfSome o (IsNewSide sides.new)) are.current.shadow_is are.are.new).0;
   right = are.are.right;

@@ -11,14 +11,15 @@
 -- 6. RELOAD fills a page only where it, and the empty one that is due after it, are among those
 --    that the other copy may have. Before the first list is sorted, STOP NOSPACE stands in it only
 --    where one of them is not. Once all rows are reloaded it stands only where what was sent weighs
---    3,221 bytes for each page that the other copy may have.
+--    3,221 bytes for each page that the other copy may have. What that is to the utility is told of
+--    the desk before.
 use Rattle.std.specs.Prelude.{◌≡◌, ◌⊎◌, ◌++◌, ◌≤◌, ◌<◌, ◌+◌, ◌*◌, ℕ, Bool, true, false, List, []}
 use Rattle.std.specs.Prelude.{◌∷◌, Option, Some, None, IfSome, is_some}
 use Rattle.rg_base.specs.declared.control.Answer.{Answer}
 use Rattle.rg_base.specs.declared.session.Session.{Session}
 use Rattle.rg_base.specs.declared.verdict.StopReason.TheVariants as reasons
-use Rattle.rg_course.specs.Loading.{loading_after, loading_of}
-use Rattle.rg_desk.specs.Desk.{DeskState, left_to_take, old_records}
+use Rattle.rg_course.specs.Loading.{IsLoaded, loading_after, loading_of}
+use Rattle.rg_desk.specs.Desk.{DeskState, FeedIs, left_to_take, old_records}
 use Rattle.rg_desk.specs.Flushed.{CallsOwn}
 use Rattle.rg_desk.specs.Volume.{IsCount, VolumeSeen}
 use Rattle.rg_fold.specs.declared.item.Stage.{Stage}
@@ -123,6 +124,7 @@ HasPagesFor capacity weight s (events.Stop reasons.NoSpace) =
 HasPagesFor capacity weight s event = Unit {0}
 
 -- The same, where one runs. How far the new copy is filled is told by the event, up to the switch.
+-- All rows are reloaded once a list is sorted, if they were before.
 pub record Loads {V O : Type 0} (look : V → VolumeSeen) (old : DeskState V O) (event : Event)
     (new : DeskState V O) : Type 0 where
   pub space :
@@ -134,7 +136,8 @@ pub record Loads {V O : Type 0} (look : V → VolumeSeen) (old : DeskState V O) 
       t.switched ≡ false
       → (s.switched ≡ false)
       × (loading_of new.copy (numbers_of t)
-      ≡ loading_after (loading_of old.copy (numbers_of s)) event)))
+      ≡ loading_after (loading_of old.copy (numbers_of s)) event)
+      × (IsLoaded (numbers_of s) → IsLoaded (numbers_of t))))
 
 -- a utility runs, and the operator has given this answer
 pub record Acts {V O : Type 0} (look : V → VolumeSeen) (old : DeskState V O) (answer : Answer)
@@ -157,3 +160,4 @@ pub record Stepped {V O : Type 0} (look : V → VolumeSeen) (answers : O → Opt
   pub made : Makes look asked answer event new
   pub loads : Loads look old event new
   pub only : StepCalls look old answer new
+  pub feed : old.down ≡ false → FeedIs old

@@ -1,13 +1,16 @@
 -- What a step makes before its entry.
-use Rattle.std.specs.Prelude.{◌≡◌, ◌⊎◌, ◌+◌, ℕ, Bool, true, false, [], Err, Option}
+use Rattle.std.specs.Prelude.{◌≡◌, ◌⊎◌, ◌≤◌, ◌+◌, ℕ, Bool, true, false, [], Err, Option}
 use Rattle.std.specs.declared.result.Result.{Result}
+use Rattle.rg_account.specs.Account.{allowed_of}
 use Rattle.rg_base.specs.declared.control.Answer.{Answer}
 use Rattle.rg_base.specs.declared.session.Session.{Session}
 use Rattle.rg_base.specs.declared.step.Step.{Step}
 use Rattle.rg_base.specs.declared.step.Step.TheVariants as steps
 use Rattle.rg_base.specs.declared.verdict.StopReason.TheVariants as reasons
-use Rattle.rg_desk.specs.Desk.{AreSides, DeskState, HasCurrent}
+use Rattle.rg_claimed.specs.Claim.{claimed_all, nobody}
+use Rattle.rg_desk.specs.Desk.{AreSides, DeskState, HasCurrent, old_records}
 use Rattle.rg_desk.specs.Flushed.{CallsOwn}
+use Rattle.rg_desk.specs.Stored.{IsStored}
 use Rattle.rg_desk.specs.Volume.{VolumeSeen}
 use Rattle.rg_fold.specs.declared.item.Stage.{Stage}
 use Rattle.rg_home.specs.Pages.{slot_of}
@@ -18,6 +21,7 @@ use Rattle.rg_model.specs.Right.{are_quiet_right, is_packed}
 use Rattle.rg_model.specs.State.{Table, row_of}
 use Rattle.rg_model.specs.Turn.{alter, is_term, step_of, turn_at}
 use Rattle.rg_phase.specs.Step.{is_device_stop}
+use Rattle.rg_shadow.specs.Shade.{shade_slots}
 use Rattle.rg_shadow.specs.declared.fault.ShadowFault.{ShadowFault}
 use Rattle.rg_shadow.specs.declared.fault.ShadowFault.TheVariants.{NoSpace}
 use Rattle.rg_stage.specs.NumbersOf.{numbers_of}
@@ -42,13 +46,16 @@ pub record Writes {V O : Type 0} (look : V → VolumeSeen) (old new : DeskState 
   pub calls : CallsOwn (other_of old.copy) (look old.volume) (look new.volume)
 
 -- The layouts of both copies. The new one was written since the last record, and has as many pages
--- as the utility has counted. Its quiet rows lie at home, in clustering order, and it is packed
--- where nothing has changed since the start.
+-- as the utility has counted, which claim no more than the entries have allowed. Its quiet rows lie
+-- at home, in clustering order, and it is packed where nothing has changed since the start.
 pub record AreSidesToSwitch {V O : Type 0} (desk : DeskState V O) (stage : Stage) (sides : Sides)
     : Type 0 where
   pub current : HasCurrent desk
   pub are : AreSides desk sides
   pub as_written : sides.new.pages ≡ stage.shadow
+  pub claims :
+      (start : Table) → IsStored (old_records desk) start
+      → claimed_all nobody (shade_slots current.shadow.shade) ≤ allowed_of start desk.trace
   pub quiet : are_quiet_right (behind [] desk.trace) sides.new.spots ≡ true
   pub packed :
       changes (behind [] desk.trace) ≡ 0

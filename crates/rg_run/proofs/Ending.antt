@@ -1,5 +1,5 @@
 -- What a run over a counted volume says of the volume below.
-use Rattle.std.proofs.Common.{◌≡◌, ◌≤◌, inr, ℕ, Bool, true, false, List, [], ◌∷◌, Option, ◌++◌, Some, length, sym, ◌∙◌, ap, subst, append-nil}
+use Rattle.std.proofs.Common.{◌≡◌, ◌≤◌, ◌*◌, inr, ℕ, Bool, true, false, List, [], ◌∷◌, Option, ◌++◌, Some, length, sym, ◌∙◌, ap, subst, append-nil}
 use Rattle.rg_base.specs.declared.control.Answer.{Answer}
 use Rattle.rg_desk.specs.Desk.{DeskState, LegalFrom, old_records}
 use Rattle.rg_desk.specs.OnVolume.{IsTidyVolume, WasAllTidy}
@@ -21,9 +21,11 @@ use Rattle.rg_stmt.specs.declared.event.Entry.{Entry}
 use Rattle.rg_stmt.specs.declared.line.Line.{Line}
 use Rattle.rg_run.specs.Opening.{IsFoundThen, IsOpeningOf}
 use Rattle.rg_run.specs.Outside.{IfBoth, IsEnd, WasUntidy, WritesOwn, log_at}
-use Rattle.rg_run.specs.Parts.{AreParts, IfTidy, IsAtDeath, IsFailed, IsFound, IsRun, IsUndamaged, LastPart, Made, RunEnds, RunsFrom, StaysSound}
+use Rattle.rg_model.specs.Legal.{Legal}
+use Rattle.rg_run.specs.Full.{smaller_pages}
+use Rattle.rg_run.specs.Parts.{AreParts, IfTidy, IsAtDeath, IsFailed, IsFound, IsPart, IsRun, IsUndamaged, LastPart, Made, RunEnds, RunsFrom, StaysSound}
 use Rattle.rg_run.specs.Played.{TraceOf, first_of}
-use Rattle.rg_run.specs.Table.{Begins, Ends, EndsAt, EndsAtDown, EndsAtOpening, EndsWhole, Finds, IfBegunTidy, IsLegalRun, IsOpening, OpensLog}
+use Rattle.rg_run.specs.Table.{Begins, Ends, EndsAt, EndsAtDown, EndsAtOpening, EndsWhole, Finds, IfBegunTidy, IsAllowedRun, IsLegalRun, IsOpening, OpensLog}
 use Rattle.rg_run.specs.declared.played.RunEnd.{RunEnd}
 use Rattle.rg_run.specs.declared.played.RunEnd.TheVariants.{Whole, Down, Damaged, DeviceAtOpening, NoMemory}
 use Rattle.rg_run.proofs.Between.{both_and, both_weaken, since_out, stored_out, tidy_out}
@@ -74,19 +76,31 @@ module _ (old new : VolumeSeen) (n : ℕ) (rs : List Record) (le : IfTold new.to
     runs_from : (last : State) (records : List Record) → records ≡ rs → RunsFrom now trace last → RunsFrom records trace last
     runs_from last records is runs = record { start = runs.start; starts = starts_out records is runs.start runs.starts; copy = runs.copy; run = runs.run }
 
+    -- the parts, from the tables that the openings found
+    parts_out : (J : Table → List Entry → Type 0) → ((start : Table) (part : List Entry) → IsPart (3221 * smaller_pages counted_seen.capacities) start part → J start part) → AreParts (Begins old new) (Finds old new) J trace
+    parts_out J h =
+        parts_more (IsStored (old_records first)) (Begins old new) (IsFound counted_seen) (Finds old new) (IsPart (3221 * smaller_pages counted_seen.capacities)) J trace (λ start starts. begins start (subst (λ (xs : List Record). IsStored xs start) first_is starts)) found h run.made.parts
+      where
+        found : (entry : Entry) (start : Table) → IsFound counted_seen entry start → Finds old new entry start
+        found entry start is =
+            since_out (WritesOwn trace) (λ begun t. IsFoundThen (log_pages old.capacities) begun t entry start) n old.told new.told (λ begun count t so. so) le calls
+            (subst (λ (c : Capacities). IfTold (counted new.told n) (λ t. IsFoundThen (log_pages c) t.start t entry start)) kept is)
+
+    pub allowed_out : IsAllowedRun 3221 old new trace
+    allowed_out = by_trace trace (parts_out (IsPart (3221 * smaller_pages old.capacities)) (λ start part is. subst (λ (c : Capacities). IsPart (3221 * smaller_pages c) start part) kept is))
+      where
+        by_trace : (es : List Entry) → AreParts (Begins old new) (Finds old new) (IsPart (3221 * smaller_pages old.capacities)) es → IsAllowedRun 3221 old new es
+        by_trace [] parts = tt
+        by_trace (e ∷ es) parts = parts
+
     pub legal_out : IsLegalRun old new trace
     legal_out = by_trace trace parts whole
       where
         made : Made look first run.front trace counted_seen
         made = run.made
 
-        found : (entry : Entry) (start : Table) → IsFound counted_seen entry start → Finds old new entry start
-        found entry start is =
-            since_out (WritesOwn trace) (λ begun t. IsFoundThen (log_pages old.capacities) begun t entry start) n old.told new.told (λ begun count t so. so) le calls
-            (subst (λ (c : Capacities). IfTold (counted new.told n) (λ t. IsFoundThen (log_pages c) t.start t entry start)) kept is)
-
-        parts : AreParts (Begins old new) (Finds old new) trace
-        parts = parts_more (IsStored (old_records first)) (Begins old new) (IsFound counted_seen) (Finds old new) trace (λ start starts. begins start (subst (λ (xs : List Record). IsStored xs start) first_is starts)) found made.parts
+        parts : AreParts (Begins old new) (Finds old new) Legal trace
+        parts = parts_out Legal (λ start part is. is.0)
 
         whole : IfBegunTidy old new (λ records. LegalFrom records trace)
         whole =
@@ -94,7 +108,7 @@ module _ (old new : VolumeSeen) (n : ℕ) (rs : List Record) (le : IfTold new.to
             (tidy_weaken counted_seen ((last : State) × RunsFrom (old_records first) trace last) (LegalFrom (old_records first) trace)
             (λ runs. legal_whole (old_records first) trace run.front made.count runs.0 made.entries made.known made.recorded runs.1) made.tidy)
 
-        by_trace : (es : List Entry) → AreParts (Begins old new) (Finds old new) es → IfBegunTidy old new (λ records. LegalFrom records es) → IsLegalRun old new es
+        by_trace : (es : List Entry) → AreParts (Begins old new) (Finds old new) Legal es → IfBegunTidy old new (λ records. LegalFrom records es) → IsLegalRun old new es
         by_trace [] parts whole = tt
         by_trace (e ∷ es) parts whole = (parts, whole)
 

@@ -29,16 +29,16 @@ use Rattle.rg_record.specs.declared.record.Record.{Record}
 use Rattle.rg_stmt.specs.declared.event.Entry.{Entry}
 use Rattle.rg_stmt.specs.declared.line.Line.{Line}
 use Rattle.rg_run.specs.Flush.{AreFlushesSince}
-use Rattle.rg_run.specs.Full.{IsFullOnlyFrom, smaller_pages}
+use Rattle.rg_run.specs.Full.{smaller_pages}
 use Rattle.rg_run.specs.LogFull.{IsLogFullOnlyFrom}
 use Rattle.rg_run.specs.Space.{AreForSpace}
 use Rattle.rg_run.proofs.Spaces.{space_join}
 use Rattle.rg_run.specs.Opening.{AreOpeningsSince, IfOpened, IsOpeningThen}
 use Rattle.rg_run.specs.Outside.{IsDeviceOnlyIf, WritesOwn}
-use Rattle.rg_run.specs.Parts.{Again, AreParts, Came, Follows, Going, IfTidy, IsFound, IsKnown, Made, PartRun, RunsFrom}
+use Rattle.rg_run.specs.Parts.{Again, AreParts, Came, Follows, Going, IfTidy, IsFound, IsKnown, Made, PartRun, RunsFrom, IsPart}
 use Rattle.rg_run.specs.Parts.AreParts.{Next, One}
 use Rattle.rg_run.specs.Played.{Goes, TraceOf, first_of}
-use Rattle.rg_run.proofs.Joins.{device_join, first_join, full_join, log_join, own_left, own_right, run_again, trace_join}
+use Rattle.rg_run.proofs.Joins.{device_join, first_join, log_join, own_left, own_right, run_again, trace_join}
 use Rattle.rg_run.proofs.Flushes.{flushes_join, flushes_on}
 use Rattle.rg_run.proofs.Openings.{all_join, found_by, found_on, openings_on, part_opened, parts_more}
 use Rattle.rg_run.proofs.Plays.{device_more, rose_earlier, rose_later}
@@ -168,11 +168,12 @@ made_on look first lines trace now later made n has calls le same = record {
   entries = made.entries;
   begins = made.begins;
   known = made.known;
-  parts = parts_more (IsStored (old_records first)) (IsStored (old_records first)) (IsFound now) (IsFound later) trace (λ start starts. starts) (λ entry start found. found_on (WritesOwn trace) now later entry start calls same found) made.parts;
+  parts =
+      parts_more (IsStored (old_records first)) (IsStored (old_records first)) (IsFound now) (IsFound later) (IsPart (3221 * smaller_pages now.capacities)) (IsPart (3221 * smaller_pages later.capacities)) trace (λ start starts. starts)
+      (λ entry start found. found_on (WritesOwn trace) now later entry start calls same found) (λ start part is. subst (λ (c : Capacities). IsPart (3221 * smaller_pages c) start part) (sym same) is) made.parts;
   tidy = tidy_on (WritesOwn trace) ((last : State) × RunsFrom (old_records first) trace last) now later n calls has same made.tidy;
   count = made.count;
   recorded = made.recorded;
-  full = subst (λ (c : Capacities). IsFullOnlyFrom (3221 * smaller_pages c) 0 trace) (sym same) made.full;
   log_full = subst (λ (c : Capacities). IsLogFullOnlyFrom (limit_of (log_pages c)) 0 trace) (sym same) made.log_full;
   space = subst (λ (c : Capacities). AreForSpace c None trace) (sym same) made.space;
   device = device_more (Rose (look first.volume).faults now.faults) (Rose (look first.volume).faults later.faults) trace (rose_later (look first.volume).faults now.faults later.faults le) made.device;
@@ -219,9 +220,6 @@ module _ {V O : Type 0} {answers : O → Option (List Answer)} (look : V → Vol
       subst (λ (c : Capacities). IfTold now.told (λ t. AreOpeningsSince (log_pages c) t.start t trace)) (sym same_capacities)
       (openings_on (WritesOwn desk.trace) (log_pages (look base.volume).capacities) (look base.volume).told now.told trace part_calls all)
 
-  part_full : IsFullOnlyFrom (3221 * smaller_pages now.capacities) 0 desk.trace
-  part_full = goes.full
-
   part_log : IsLogFullOnlyFrom (limit_of (log_pages now.capacities)) 0 desk.trace
   part_log = subst (λ (n : ℕ). IsLogFullOnlyFrom (limit_of n) 0 desk.trace) (goes.stays.log_pages ∙ going.log_room ∙ ap log_pages (sym same_capacities)) goes.log_full
 
@@ -260,6 +258,10 @@ module _ {V O : Type 0} {answers : O → Option (List Answer)} (look : V → Vol
     starts_base : IsStored (old_records base) legal.0
     starts_base = subst (λ (rs : List Record). IsStored rs legal.0) goes.stays.old_same legal.1
 
+    -- the entries of the part have allowed what they had to
+    is_part : IsPart (3221 * smaller_pages now.capacities) legal.0 desk.trace
+    is_part = (legal.2, goes.full legal.0 legal.1)
+
     starts_first : base ≡ first → IsStored (old_records first) legal.0
     starts_first is = subst (λ (b : DeskState V O). IsStored (old_records b) legal.0) is starts_base
 
@@ -275,11 +277,10 @@ module _ {V O : Type 0} {answers : O → Option (List Answer)} (look : V → Vol
           entries = subst (TraceOf lines) only (subst (λ (ls : List Line). TraceOf ls desk.trace) (sym same) goes.entries);
           begins = ap first_of (sym only) ∙ goes.begins ∙ ap (λ (b : DeskState V O). first_of b.trace) is;
           known = subst IsKnown only (known_of legal.0 desk.trace going.back goes.entries legal.2);
-          parts = subst (AreParts (IsStored (old_records first)) (IsFound now)) only (One desk.trace legal.0 (starts_first is) legal.2);
+          parts = subst (AreParts (IsStored (old_records first)) (IsFound now) (IsPart (3221 * smaller_pages now.capacities))) only (One desk.trace legal.0 (starts_first is) is_part);
           tidy = tidy_now;
           count = count;
           recorded = recorded;
-          full = subst (IsFullOnlyFrom (3221 * smaller_pages now.capacities) 0) only part_full;
           log_full = subst (IsLogFullOnlyFrom (limit_of (log_pages now.capacities)) 0) only part_log;
           space = subst (AreForSpace now.capacities None) only goes.space;
           device = subst (λ (v : VolumeSeen). IsDeviceOnlyIf (Rose v.faults now.faults) trace) volume (subst (IsDeviceOnlyIf (Rose (look base.volume).faults now.faults)) only goes.device);
@@ -300,13 +301,10 @@ module _ {V O : Type 0} {answers : O → Option (List Answer)} (look : V → Vol
           entries = subst (λ (ls : List Line). TraceOf ls trace) (sym again.joined) (trace_join again.front going.back base.older desk.trace past.entries goes.entries);
           begins = first_join again.front base.older desk.trace past.entries ∙ past.begins;
           known = known_join base.older past.known;
-          parts = Next base.older desk.trace legal.0 parts_before (found_by (IsFound now) desk.trace going.opened.entry legal.0 begun (found_now going.opened.entry legal.0 (going.found legal.0 starts_base))) legal.2;
+          parts = Next base.older desk.trace legal.0 parts_before (found_by (IsFound now) desk.trace going.opened.entry legal.0 begun (found_now going.opened.entry legal.0 (going.found legal.0 starts_base))) is_part;
           tidy = tidy_now;
           count = count;
           recorded = recorded;
-          full =
-              full_join (3221 * smaller_pages now.capacities) 0 going.back base.older desk.trace
-              (subst (λ (c : Capacities). IsFullOnlyFrom (3221 * smaller_pages c) 0 base.older) (sym same_capacities) past.full) goes.entries part_full;
           log_full =
               log_join (limit_of (log_pages now.capacities)) 0 going.back base.older desk.trace
               (subst (λ (c : Capacities). IsLogFullOnlyFrom (limit_of (log_pages c)) 0 base.older) (sym same_capacities) past.log_full) goes.entries part_log;
@@ -328,8 +326,10 @@ module _ {V O : Type 0} {answers : O → Option (List Answer)} (look : V → Vol
         found_now : (entry : Entry) (start : Table) → IsFound (look base.volume) entry start → IsFound now entry start
         found_now entry start found = found_on (WritesOwn desk.trace) (look base.volume) now entry start part_calls same_capacities found
 
-        parts_before : AreParts (IsStored (old_records first)) (IsFound now) base.older
-        parts_before = parts_more (IsStored (old_records first)) (IsStored (old_records first)) (IsFound (look base.volume)) (IsFound now) base.older (λ start starts. starts) found_now again.made.parts
+        parts_before : AreParts (IsStored (old_records first)) (IsFound now) (IsPart (3221 * smaller_pages now.capacities)) base.older
+        parts_before =
+            parts_more (IsStored (old_records first)) (IsStored (old_records first)) (IsFound (look base.volume)) (IsFound now) (IsPart (3221 * smaller_pages (look base.volume).capacities)) (IsPart (3221 * smaller_pages now.capacities)) base.older
+            (λ start starts. starts) found_now (λ start part is. subst (λ (c : Capacities). IsPart (3221 * smaller_pages c) start part) (sym same_capacities) is) again.made.parts
 
         flushes_joined : IfTold now.told (λ t. AreFlushesSince t.start t trace)
         flushes_joined =

@@ -2,7 +2,7 @@
 use Rattle.std.proofs.Common.{◌≡◌, ◌==◌, ◌||◌, inl, inr, ℕ, zero, suc, Bool, true, false, List, [], ◌∷◌, ◌++◌, Some, refl, sym, ◌∙◌, ap, subst, arith}
 use Rattle.std.specs.List.{AllZip, Contains}
 use Rattle.std.proofs.lemmas.Bool.{eqb-true}
-use Rattle.rg_desk.specs.Chronicle.{allowed_after, logged_after}
+use Rattle.rg_desk.specs.Chronicle.{logged_after}
 use Rattle.rg_desk.specs.Flushed.{WritesEither}
 use Rattle.rg_log.specs.Open.{IsQuiet}
 use Rattle.rg_model.specs.Committed.{committed_table}
@@ -19,7 +19,6 @@ use Rattle.rg_stmt.specs.declared.event.Event.TheVariants as events
 use Rattle.rg_stmt.specs.declared.line.Line.{Line}
 use Rattle.rg_stmt.specs.declared.line.Line.TheVariants.{Death}
 use Rattle.rg_run.proofs.Pasts.{IfRuns, SameSince, SameUnits, goes_alike, units_more, units_opened}
-use Rattle.rg_run.specs.Full.{IsFullFrom, IsFullOnlyFrom}
 use Rattle.rg_run.specs.LogFull.{IsLogFullFrom, IsLogFullOnlyFrom}
 use Rattle.rg_run.specs.Outside.{IsDeviceOnlyIf, WritesOf, WritesOwn}
 use Rattle.rg_run.specs.Played.{EntryOf, IsOpenedEntry, TraceOf, first_of}
@@ -53,18 +52,6 @@ opened_event : (e : Entry) (is : IsOpenedEntry e) → e.event ≡ events.Opened 
 opened_event e is = ap (λ (x : Entry). x.event) is.is
 
 -- what was counted before an opening does not count after it
-full_from : (least allowed : ℕ) (lines : List Line) (part : List Entry) → TraceOf lines part → IsFullOnlyFrom least 0 part → IsFullOnlyFrom least allowed part
-full_from least allowed lines [] of all = absurd of
-full_from least allowed lines (e ∷ es) of all =
-    let is = opened_event e of.0 in (
-      subst (λ (x : Event). IsFullFrom least allowed x) (sym is) tt,
-      subst (λ (n : ℕ). IsFullOnlyFrom least n es) (ap (allowed_after 0) is ∙ sym (ap (allowed_after allowed) is)) all.1,
-    )
-
-pub full_join : (least allowed : ℕ) (lines : List Line) (older part : List Entry) → IsFullOnlyFrom least allowed older → TraceOf lines part → IsFullOnlyFrom least 0 part → IsFullOnlyFrom least allowed (older ++ part)
-full_join least allowed lines [] part all of more = full_from least allowed lines part of more
-full_join least allowed lines (e ∷ es) part all of more = (all.0, full_join least (allowed_after allowed e.event) lines es part all.1 of more)
-
 log_from : (limit logged : ℕ) (lines : List Line) (part : List Entry) → TraceOf lines part → IsLogFullOnlyFrom limit 0 part → IsLogFullOnlyFrom limit logged part
 log_from limit logged lines [] of all = absurd of
 log_from limit logged lines (e ∷ es) of all =

@@ -113,9 +113,10 @@ found_by Found [] entry start first found = absurd (cc (first))
 found_by Found (e ∷ es) entry start first found = subst (λ (x : Entry). Found x start) (cc (sym first)) found
 
 -- the same parts, by other facts of the tables
-pub parts_more : (P Q : Table → Type 0) (F G : Entry → Table → Type 0) (trace : List Entry) → ((start : Table) → P start → Q start) → ((entry : Entry) (start : Table) → F entry start → G entry start) → AreParts P F trace → AreParts Q G trace
-parts_more P Q F G trace f g (One part start first legal) = One part start (f start first) legal
-parts_more P Q F G trace f g (Next before part start parts found legal) = Next before part start (parts_more P Q F G before f g parts) (by_part part found) legal
+pub parts_more : (P Q : Table → Type 0) (F G : Entry → Table → Type 0) (I J : Table → List Entry → Type 0) (trace : List Entry) → ((start : Table) → P start → Q start) → ((entry : Entry) (start : Table) → F entry start → G entry start) → ((start : Table) (part : List Entry) → I start part → J start part)
+    → AreParts P F I trace → AreParts Q G J trace
+parts_more P Q F G I J trace f g h (One part start first is) = One part start (f start first) (h start part is)
+parts_more P Q F G I J trace f g h (Next before part start parts found is) = Next before part start (parts_more P Q F G I J before f g h parts) (by_part part found) (h start part is)
   where
     by_part : (part : List Entry) → IsFoundBy F part start → IsFoundBy G part start
     by_part [] found = absurd found

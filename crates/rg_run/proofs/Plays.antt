@@ -1,5 +1,5 @@
 -- A run goes on by one line.
-use Rattle.std.proofs.Common.{◌≡◌, ◌==◌, ◌≤◌, ◌⊎◌, inl, inr, ◌||◌, ◌*◌, ℕ, Bool, true, false, List, [], ◌∷◌, ◌++◌, Option, Some, None, if◌then◌else◌, length, refl, sym, ◌∙◌, ap, subst, arith}
+use Rattle.std.proofs.Common.{◌≡◌, ◌==◌, ◌≤◌, ◌⊎◌, inl, inr, ◌||◌, ◌*◌, ℕ, Bool, true, false, List, [], ◌∷◌, ◌++◌, Option, Some, None, if◌then◌else◌, length, refl, sym, ◌∙◌, ap, subst, arith, IfSome}
 use Rattle.std.specs.Prelude.{Result, Ok, Err, IfOk}
 use Rattle.std.specs.List.{AllZip}
 use Rattle.std.specs.Option.{is_some}
@@ -9,7 +9,7 @@ use Rattle.rg_base.specs.declared.session.Session.{Session}
 use Rattle.rg_base.specs.declared.verdict.StopReason.TheVariants as reasons
 use Rattle.rg_fold.specs.declared.item.Stage.{Stage}
 use Rattle.rg_log.specs.Kept.{Listed as ListedLog}
-use Rattle.rg_phase.specs.Step.{IsSwitchFrom, Makes, NextMade, StepCalls, Stepped, copy_left, is_device_stop}
+use Rattle.rg_phase.specs.Step.{HasPagesFor, IsSwitchFrom, Makes, NextMade, StepCalls, Stepped, copy_left, is_device_stop}
 use Rattle.rg_tending.specs.Tending.{utility_entry}
 use Rattle.rg_base.specs.declared.position.Position.{Position}
 use Rattle.rg_page.specs.Content.{Content}
@@ -25,8 +25,13 @@ use Rattle.rg_stmt.specs.declared.stmt.Stmt.{Stmt}
 use Rattle.rg_stmt.specs.Entries.{said_entry}
 use Rattle.rg_switch.specs.Switched.{other_of}
 use Rattle.rg_image.specs.Rules.{copy_capacity, limit_of}
-use Rattle.rg_desk.specs.Answers.{IfFull, IfLogFull, is_device}
-use Rattle.rg_desk.specs.Chronicle.{allowed_after, allowed_by, logged_after, logged_by, system_entry}
+use Rattle.rg_desk.specs.Answers.{IfLogFull, is_device}
+use Rattle.rg_account.specs.Account.{allowed_of}
+use Rattle.rg_model.specs.State.{Table}
+use Rattle.rg_reach.specs.Weighed.{weigh_feed}
+use Rattle.rg_desk.specs.Stored.{IsStored}
+use Rattle.rg_record.specs.declared.record.Record.{Record}
+use Rattle.rg_desk.specs.Chronicle.{logged_after, logged_by, system_entry}
 use Rattle.rg_desk.specs.Desk.{DeskState, IfStartLogFull, IsCopy, IsLayout, IsStart, MadeFlush, MadeLayout, MadeSaid, MadeStart, Stays, is_started, left_to_take, old_records}
 use Rattle.rg_desk.specs.Flushed.{FlushIs, WritesEither}
 use Rattle.rg_desk.specs.Volume.{IsCount, VolumeSeen}
@@ -38,13 +43,13 @@ use Rattle.rg_outside.proofs.Every.{told_both, told_weaken}
 use Rattle.rg_outside.proofs.Frame.{calls_join, calls_weaken, no_calls}
 use Rattle.rg_run.specs.Asked.{HasAnswered, answer_before, answers_in}
 use Rattle.rg_run.specs.Flush.{AreFlushesSince, IsFlushThen, calls_of_last, copy_after, copy_of_last}
-use Rattle.rg_run.specs.Full.{IsFullFrom, IsFullOnlyFrom, smaller_pages}
+use Rattle.rg_run.specs.Full.{AreAllowed, IsAllowedAt, smaller_pages}
 use Rattle.rg_run.specs.LogFull.{IsLogFullFrom, IsLogFullOnlyFrom}
 use Rattle.rg_run.specs.Outside.{IsDeviceIf, IsDeviceOnlyIf, WritesOwn}
 use Rattle.rg_run.specs.Played.{AllowsCopy, EntryOf, Goes, IsFlushed, IsOpened, IsOpenedEntry, IsStartEvent, IsStepEvent, ShowsLoading, StaysSince, TraceOf, first_of}
 use Rattle.rg_course.specs.Loading.{Loading, loading_after, loading_in}
 use Rattle.rg_run.specs.Space.{AreForSpace, IsForSpace}
-use Rattle.rg_run.proofs.Fullness.{full_one, smaller_least}
+use Rattle.rg_run.proofs.Fullness.{allowed_flush, allowed_layout, allowed_on, allowed_opened, allowed_said, allowed_start, allowed_step, is_space_stop, smaller_least, space_allowed}
 use Rattle.rg_run.proofs.Spaces.{fills_idle, flush_none, layout_none, shown_start, shown_step, shown_still, space_on, space_opened, space_said, space_start, space_step}
 use Rattle.rg_run.proofs.Joins.{own_left, own_part, own_right}
 use Rattle.rg_run.proofs.Asking.{answered_all, answered_once, same_unasked, unasked}
@@ -63,26 +68,6 @@ first_push lines (e ∷ entries) entry of = refl
 trace_push : (lines : List Line) (trace : List Entry) (line : Line) (entry : Entry) → TraceOf lines trace → EntryOf line entry → TraceOf (lines ++ line ∷ []) (trace ++ entry ∷ [])
 trace_push lines [] line entry of one = absurd of
 trace_push lines (e ∷ entries) line entry of one = (of.0, entries_push lines entries line entry of.1 one)
-
-full_push : (least allowed : ℕ) (entries : List Entry) (entry : Entry) → IsFullOnlyFrom least allowed entries → IsFullFrom least (allowed_by allowed entries) entry.event → IsFullOnlyFrom least allowed (entries ++ entry ∷ [])
-full_push least allowed [] entry all one = (one, tt)
-full_push least allowed (e ∷ entries) entry all one = (all.0, full_push least (allowed_after allowed e.event) entries entry all.1 one)
-
-full_said : (session : Session) (stmt : Stmt) (reply : Reply) (allowed capacity : ℕ) → IfFull reply allowed capacity → IsFullFrom (3221 * capacity) allowed (said_entry session stmt reply 0).event
-full_said session stmt Done allowed capacity is = tt
-full_said session stmt (Found row) allowed capacity is = tt
-full_said session stmt (Listed rows) allowed capacity is = tt
-full_said session stmt (Keyed keys) allowed capacity is = tt
-full_said session stmt Absent allowed capacity is = tt
-full_said session stmt Duplicate allowed capacity is = tt
-full_said session stmt (Held owner) allowed capacity is = tt
-full_said session stmt (Victim owner) allowed capacity is = tt
-full_said session stmt Drained allowed capacity is = tt
-full_said session stmt (Full need) allowed capacity is = is
-full_said session stmt (LogFull need left) allowed capacity is = tt
-full_said session stmt Device allowed capacity is = tt
-full_said session stmt Down allowed capacity is = tt
-full_said session stmt NoMemory allowed capacity is = tt
 
 log_push : (limit logged : ℕ) (entries : List Entry) (entry : Entry) → IsLogFullOnlyFrom limit logged entries → IsLogFullFrom limit (logged_by logged entries) entry.event → IsLogFullOnlyFrom limit logged (entries ++ entry ∷ [])
 log_push limit logged [] entry all one = (one, tt)
@@ -110,12 +95,6 @@ log_layout copy LayoutNoMemory limit logged is = tt
 log_layout copy LayoutDown limit logged is = tt
 log_layout copy event limit logged is = absurd is
 
-full_layout : (copy : ℕ) (event : Event) (least allowed : ℕ) → IsLayout copy event → IsFullFrom least allowed event
-full_layout copy (Layout shown side) least allowed is = tt
-full_layout copy LayoutNoMemory least allowed is = tt
-full_layout copy LayoutDown least allowed is = tt
-full_layout copy event least allowed is = absurd is
-
 device_layout : (P : Type 0) (copy : ℕ) (event : Event) → IsLayout copy event → IsDeviceIf P event
 device_layout P copy (Layout shown side) is = tt
 device_layout P copy LayoutNoMemory is = tt
@@ -129,14 +108,6 @@ log_flush FlushDevice limit logged is = tt
 log_flush FlushDown limit logged is = tt
 log_flush FlushNoMemory limit logged is = tt
 log_flush event limit logged is = absurd is
-
-full_flush : (event : Event) (least allowed : ℕ) → IsFlushed event → IsFullFrom least allowed event
-full_flush (EventFlush page) least allowed is = tt
-full_flush Clean least allowed is = tt
-full_flush FlushDevice least allowed is = tt
-full_flush FlushDown least allowed is = tt
-full_flush FlushNoMemory least allowed is = tt
-full_flush event least allowed is = absurd is
 
 -- what a flush answers that is up, or down
 flushed_so : (down : Bool) (copy : ℕ) (contents : List Content) (marks later : List (Option Position)) (old new : VolumeSeen) (event : Event) → FlushIs down copy contents marks later old new event → IsFlushed event
@@ -165,10 +136,6 @@ start_so false None options copy pages log (events.StartLogFull need left) next 
 start_so false None options copy pages log events.StartNoMemory next is = tt
 start_so false None options copy pages log event next is = absurd is
 
-full_start : (options : Options) (event : Event) (least allowed : ℕ) → IsStartEvent options event → IsFullFrom least allowed event
-full_start options (EventSaid stmt reply) least allowed is = absurd is
-full_start options event least allowed is = tt
-
 log_start : (options : Options) (event : Event) (logged pages : ℕ) → IsStartEvent options event → IfStartLogFull event logged pages → IsLogFullFrom (limit_of pages) logged event
 log_start options (EventSaid stmt reply) logged pages is full = absurd is
 log_start options (events.StartLogFull need left) logged pages is full = full
@@ -189,11 +156,6 @@ step_so false None changes covered None event is = absurd is
 step_so false None changes covered (Some answer) event is = absurd is
 step_so false (Some s) changes covered None event is = absurd is
 step_so false (Some s) changes covered (Some answer) event is = is.0
-
-full_step : (answer : Option Answer) (event : Event) (least allowed : ℕ) → IsStepEvent answer event → IsFullFrom least allowed event
-full_step None (EventSaid stmt reply) least allowed is = absurd is
-full_step (Some answer) (EventSaid stmt reply) least allowed is = absurd (cc (is))
-full_step answer event least allowed is = tt
 
 log_step : (answer : Option Answer) (event : Event) (limit logged : ℕ) → IsStepEvent answer event → IsLogFullFrom limit logged event
 log_step None (EventSaid stmt reply) limit logged is = absurd is
@@ -306,15 +268,16 @@ module _ {V O : Type 0} {answers : O → Option (List Answer)} (look : V → Vol
   abbrev least : ℕ
   least = 3221 * smaller_pages (look old.volume).capacities
 
-  on : (line : Line) (entry : Entry) → new.trace ≡ old.trace ++ entry ∷ [] → EntryOf line entry → IsFullFrom least (allowed_by 0 old.trace) entry.event → IsLogFullFrom (limit_of old.ground.log.pages) (logged_by 0 old.trace) entry.event
+  on : (line : Line) (entry : Entry) → new.trace ≡ old.trace ++ entry ∷ [] → EntryOf line entry → ((start : Table) → IsStored (old_records old) start → IsAllowedAt least (allowed_of start old.trace) entry.event (loading_in None old.trace)) → IsLogFullFrom (limit_of old.ground.log.pages) (logged_by 0 old.trace) entry.event
       → IsDeviceIf (Rose (look first.volume).faults (look new.volume).faults) entry.event → (new.down ≡ true → Rose (look first.volume).faults (look new.volume).faults)
       → IfTold (look new.volume).told (λ t. IsFlushThen (copy_of_last 0 old.trace) t.start (calls_of_last 0 old.trace) entry.calls t entry.event) → IsCount (look new.volume) entry.calls → HasAnswered (answers old.operator) (answer_before entry.answer []) (answers new.operator) → Moves look old new entry → Goes look answers first (lines ++ line ∷ []) new
   on line entry made of full log device down flush counted asked moves = record {
     entries = subst (TraceOf (lines ++ line ∷ [])) (sym made) (trace_push lines old.trace line entry goes.entries of);
     begins = ap first_of made ∙ first_push lines old.trace entry goes.entries ∙ goes.begins;
-    full =
-        subst (λ (c : Capacities). IsFullOnlyFrom (3221 * smaller_pages c) 0 new.trace) (sym moves.capacities)
-        (subst (IsFullOnlyFrom least 0) (sym made) (full_push least 0 old.trace entry goes.full full));
+    full = λ start stored.
+        let was = subst (λ (rs : List Record). IsStored rs start) moves.old_same stored in
+        subst (λ (c : Capacities). AreAllowed (3221 * smaller_pages c) start new.trace) (sym moves.capacities)
+        (subst (AreAllowed least start) (sym made) (allowed_on least start old.trace entry (goes.full start was) (full start was)));
     log_full =
         subst (λ (n : ℕ). IsLogFullOnlyFrom (limit_of n) 0 new.trace) (sym moves.log_pages)
         (subst (IsLogFullOnlyFrom (limit_of old.ground.log.pages) 0) (sym made) (log_push (limit_of old.ground.log.pages) 0 old.trace entry goes.log_full log));
@@ -376,13 +339,13 @@ module _ {V O : Type 0} {answers : O → Option (List Answer)} (look : V → Vol
   both_still : (entry : Entry) → new.stage ≡ old.stage → is_some new.stage ≡ true → (copy : ℕ) → IsCopy copy → AllowsCopy (old.trace ++ entry ∷ []) copy
   both_still entry same runs copy is = allows_more entry copy (goes.both (ap (λ (o : Option Stage). is_some o) (sym same) ∙ runs) copy is)
 
-  full_least : (allowed : ℕ) (event : Event) → IsFullFrom (3221 * old.ground.capacity) allowed event → IsFullFrom least allowed event
-  full_least allowed event full = let room = goes.room in full_one least (3221 * old.ground.capacity) allowed event (omega (arith, room)) full
+  least_room : least ≤ 3221 * old.ground.capacity
+  least_room = let room = goes.room in omega (arith, room)
 
   pub goes_said : (session : Session) (stmt : Stmt) → MadeSaid look old session stmt new → Goes look answers first (lines ++ Said session stmt ∷ []) new
   goes_said session stmt said =
       let entry = said_entry session stmt said.reply said.calls in
-      on (Said session stmt) entry said.made (said.reply, refl, said.is) (full_least (allowed_by 0 old.trace) entry.event (full_said session stmt said.reply (allowed_by 0 old.trace) old.ground.capacity said.full)) (log_said session stmt said.reply (logged_by 0 old.trace) old.ground.log.pages said.log_full)
+      on (Said session stmt) entry said.made (said.reply, refl, said.is) (λ start stored. allowed_said stmt said.reply least (allowed_of start old.trace) old.ground.capacity (loading_in None old.trace) least_room (said.full start stored)) (log_said session stmt said.reply (logged_by 0 old.trace) old.ground.log.pages said.log_full)
       (device_said (Rose (look first.volume).faults (look new.volume).faults) session stmt said.reply (λ is. rises (said.device is)))
       (λ down. by_old old.down refl (sym said.down ∙ down)) (told_all (look new.volume).told (λ t. Unit {0}) (λ t. tt)) said.counted (same_unasked answers old.operator new.operator said.utility.operator)
       (moves_of entry said.stays (λ k. refl) (both_still entry said.utility.stage) (space_said (look old.volume).capacities stmt said.reply (loading_in None old.trace)) (loading_still entry said.utility.stage said.stays.copy (λ now. refl)))
@@ -394,7 +357,7 @@ module _ {V O : Type 0} {answers : O → Option (List Answer)} (look : V → Vol
   pub goes_shown : MadeLayout look old new → Goes look answers first (lines ++ Show ∷ []) new
   goes_shown shown =
       let entry = system_entry shown.event shown.calls in
-      on Show entry shown.made (old.copy, shown.event, refl, shown.is) (full_layout old.copy shown.event least (allowed_by 0 old.trace) shown.is) (log_layout old.copy shown.event (limit_of old.ground.log.pages) (logged_by 0 old.trace) shown.is)
+      on Show entry shown.made (old.copy, shown.event, refl, shown.is) (λ start stored. allowed_layout old.copy shown.event least (allowed_of start old.trace) (loading_in None old.trace) shown.is) (log_layout old.copy shown.event (limit_of old.ground.log.pages) (logged_by 0 old.trace) shown.is)
       (device_layout (Rose (look first.volume).faults (look new.volume).faults) old.copy shown.event shown.is) (λ down. risen shown.stays.calls.later (goes.down (sym shown.down ∙ down)))
       (told_all (look new.volume).told (λ t. IsFlushThen (copy_of_last 0 old.trace) t.start (calls_of_last 0 old.trace) shown.calls t shown.event) (λ t. layout_tells old.copy shown.event shown.is (copy_of_last 0 old.trace) t.start (calls_of_last 0 old.trace) shown.calls t))
       shown.counted (same_unasked answers old.operator new.operator shown.utility.operator) (moves_of entry shown.stays (layout_keeps old.copy shown.event shown.is) (both_still entry shown.utility.stage)
@@ -404,7 +367,7 @@ module _ {V O : Type 0} {answers : O → Option (List Answer)} (look : V → Vol
   goes_flushed made =
       let is = flushed_so old.down old.copy old.contents old.marks new.marks (look old.volume) (look new.volume) made.event made.is in
       let entry = system_entry made.event made.calls in
-      on Flush entry made.made (made.event, refl, is) (full_flush made.event least (allowed_by 0 old.trace) is) (log_flush made.event (limit_of old.ground.log.pages) (logged_by 0 old.trace) is)
+      on Flush entry made.made (made.event, refl, is) (λ start stored. allowed_flush made.event least (allowed_of start old.trace) (loading_in None old.trace) is) (log_flush made.event (limit_of old.ground.log.pages) (logged_by 0 old.trace) is)
       (device_flush (Rose (look first.volume).faults (look new.volume).faults) old.down old.copy old.contents old.marks new.marks (look old.volume) (look new.volume) made.event rises made.is)
       (λ down. risen made.stays.calls.later (goes.down (sym made.down ∙ down)))
       (subst (λ (k : ℕ). IfTold (look new.volume).told (λ t. IsFlushThen k t.start (calls_of_last 0 old.trace) made.calls t made.event)) (sym goes.copy_is)
@@ -433,7 +396,7 @@ module _ {V O : Type 0} {answers : O → Option (List Answer)} (look : V → Vol
   goes_started options started made =
       let is = start_so old.down old.stage options old.copy (length old.contents) old.ground.log made.event new.stage made.is in
       let entry = utility_entry made.event None made.calls in
-      on (Reorg options) entry made.made (made.event, refl, is) (full_start options made.event least (allowed_by 0 old.trace) is)
+      on (Reorg options) entry made.made (made.event, refl, is) (λ start stored. allowed_start options made.event least (allowed_of start old.trace) (loading_in None old.trace) is)
       (log_start options made.event (logged_by 0 old.trace) old.ground.log.pages is made.log_full) (device_start (Rose (look first.volume).faults (look new.volume).faults) options made.event is)
       (λ down. risen made.stays.calls.later (goes.down (sym made.down ∙ down)))
       (told_all (look new.volume).told (λ t. IsFlushThen (copy_of_last 0 old.trace) t.start (calls_of_last 0 old.trace) made.calls t made.event) (λ t. start_tells options made.event is (copy_of_last 0 old.trace) t.start (calls_of_last 0 old.trace) made.calls t))
@@ -452,7 +415,7 @@ module _ {V O : Type 0} {answers : O → Option (List Answer)} (look : V → Vol
       let answer = stepped.answer in
       let event = stepped.event in
       let is = step_so old.down old.stage old.changes old.covered answer event stepped.next in
-      on Step entry made.made (answer, event, refl, is) (full_step answer event least (allowed_by 0 old.trace) is)
+      on Step entry made.made (answer, event, refl, is) (λ start stored. allowed_step answer event least (allowed_of start old.trace) (loading_in None old.trace) is (stops start stored))
       (log_step answer event (limit_of old.ground.log.pages) (logged_by 0 old.trace) is) (device_step (Rose (look first.volume).faults (look new.volume).faults) answer event (λ at. rises (made.device at)) is)
       (λ down. by_down (made.down down))
       (told_all (look new.volume).told (λ t. IsFlushThen (copy_of_last 0 old.trace) t.start (calls_of_last 0 old.trace) made.calls t event) (λ t. step_tells answer event is (copy_of_last 0 old.trace) t.start (calls_of_last 0 old.trace) made.calls t))
@@ -482,6 +445,24 @@ module _ {V O : Type 0} {answers : O → Option (List Answer)} (look : V → Vol
         later = calls.1.later;
         capacities = calls.1.capacities;
       }
+
+      -- STOP NOSPACE comes only where so many bytes were allowed
+      stops_at : (down : Bool) (stage : Option Stage) (answer : Option Answer) (event : Event) → old.down ≡ down → old.stage ≡ stage → NextMade down stage old.changes old.covered answer event → ShowsLoading stage old.copy old.trace
+          → IfSome stage (λ s. HasPagesFor (copy_capacity (look old.volume).capacities (other_of old.copy)) (weigh_feed old.feed) s event) → is_space_stop event ≡ true → loading_in None old.trace ≡ None → (start : Table) → IsStored (old_records old) start → least ≤ allowed_of start old.trace
+      stops_at true stage None events.StepDown down runs next shown space is none start stored = absurd (cc (is))
+      stops_at true stage None event down runs next shown space is none start stored = absurd next
+      stops_at true stage (Some a) event down runs next shown space is none start stored = absurd next
+      stops_at false None None events.Idle down runs next shown space is none start stored = absurd (cc (is))
+      stops_at false None None event down runs next shown space is none start stored = absurd next
+      stops_at false None (Some a) event down runs next shown space is none start stored = absurd next
+      stops_at false (Some s) None event down runs next shown space is none start stored = absurd next
+      stops_at false (Some s) (Some a) (Stop reasons.NoSpace) down runs next shown space is none start stored =
+          let low = smaller_least (look old.volume).capacities (other_of old.copy) in
+          omega (arith, low, space_allowed old s (copy_capacity (look old.volume).capacities (other_of old.copy)) start (stepped.feed down) runs shown space none stored)
+      stops_at false (Some s) (Some a) event down runs next shown space is none start stored = absurd (cc (is))
+
+      stops : (start : Table) → IsStored (old_records old) start → is_space_stop stepped.event ≡ true → loading_in None old.trace ≡ None → least ≤ allowed_of start old.trace
+      stops start stored is none = stops_at old.down old.stage stepped.answer stepped.event refl refl stepped.next goes.loading stepped.loads.space is none start stored
 
       calls : CallsWithin look old new
       calls = calls_of stepped.answer stepped.only
@@ -521,10 +502,6 @@ module _ {V O : Type 0} {answers : O → Option (List Answer)} (look : V → Vol
         loading = shown_step old.stage new.stage old.copy new.copy old.trace entry made.runs goes.loading stepped.loads.shows;
       }
 
--- the entry of an opening answers no statement
-full_opened : (entry : Entry) → IsOpenedEntry entry → (least allowed : ℕ) → IsFullFrom least allowed entry.event
-full_opened entry is least allowed = subst (λ (e : Entry). IsFullFrom least allowed e.event) (sym is.is) tt
-
 log_opened : (entry : Entry) → IsOpenedEntry entry → (limit logged : ℕ) → IsLogFullFrom limit logged entry.event
 log_opened entry is limit logged = subst (λ (e : Entry). IsLogFullFrom limit logged e.event) (sym is.is) tt
 
@@ -537,7 +514,7 @@ pub goes_opened : {V O : Type 0} (look : V → VolumeSeen) (answers : O → Opti
 goes_opened {V} {O} look answers desk opened copy counted room idle = record {
   entries = subst (TraceOf []) (sym opened.trace) (opened.is, tt);
   begins = refl;
-  full = subst (IsFullOnlyFrom (3221 * smaller_pages (look desk.volume).capacities) 0) (sym opened.trace) (full_opened opened.entry opened.is (3221 * smaller_pages (look desk.volume).capacities) 0, tt);
+  full = λ start stored. subst (AreAllowed (3221 * smaller_pages (look desk.volume).capacities) start) (sym opened.trace) (allowed_opened opened.entry opened.is (3221 * smaller_pages (look desk.volume).capacities) start);
   log_full = subst (IsLogFullOnlyFrom (limit_of desk.ground.log.pages) 0) (sym opened.trace) (log_opened opened.entry opened.is (limit_of desk.ground.log.pages) 0, tt);
   space = subst (AreForSpace (look desk.volume).capacities None) (sym opened.trace) (space_opened (look desk.volume).capacities opened.entry opened.is);
   loading = subst (λ (o : Option Stage). ShowsLoading o desk.copy desk.trace) (sym idle) tt;

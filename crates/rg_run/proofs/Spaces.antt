@@ -5,12 +5,13 @@ use Rattle.rg_base.specs.declared.control.Answer.{Answer}
 use Rattle.rg_base.specs.declared.options.Options.{Options}
 use Rattle.rg_base.specs.declared.session.Session.{Session}
 use Rattle.rg_base.specs.declared.verdict.StopReason.TheVariants as reasons
-use Rattle.rg_course.specs.Loading.{Loading, loading_after, loading_in, loading_of}
+use Rattle.rg_course.specs.Loading.{IsLoaded, Loading, loading_after, loading_in, loading_of}
 use Rattle.rg_desk.specs.Desk.{IsLayout, IsStart}
 use Rattle.rg_desk.specs.Utility.{IsNew}
 use Rattle.rg_fold.specs.declared.item.Stage.{Stage}
 use Rattle.rg_image.specs.Rules.{copy_capacity}
 use Rattle.rg_log.specs.Kept.{Listed as ListedLog}
+use Rattle.rg_model.specs.State.{Utility}
 use Rattle.rg_outside.specs.Capacities.{Capacities}
 use Rattle.rg_phase.specs.Step.{HasPagesFor, NextMade}
 use Rattle.rg_phase.specs.Working.{is_filling}
@@ -100,7 +101,7 @@ shown_still stage next copy later entries entry is same tells shown =
   where
     of_stage : (o : Option Stage) → ShowsLoading o copy entries → ShowsLoading o copy (entries ++ entry ∷ [])
     of_stage None shown = tt
-    of_stage (Some s) shown = λ unswitched. loading_push None entries entry ∙ tells ∙ shown unswitched
+    of_stage (Some s) shown = λ unswitched. (loading_push None entries entry ∙ tells ∙ (shown unswitched).0, (shown unswitched).1)
 
 -- a start
 pub space_start : (options : Options) (event : Event) → IsStartEvent options event → (capacities : Capacities) (now : Option Loading) → IsForSpace capacities now event
@@ -128,12 +129,14 @@ shown_start down stage next options copy later pages log entries entry is same s
       where
         shown_new : (o : Option Stage) → IsNew options pages o → ShowsLoading o later (entries ++ entry ∷ [])
         shown_new None new = absurd new
-        shown_new (Some s) new = λ unswitched.
-            loading_push None entries entry
-            ∙ ap (loading_after (loading_in None entries)) at
-            ∙ ap (λ (o : Options). Some (record { copy = of_copy; freepage = o.freepage; filled = 0 })) with_options
-            ∙ ap (λ (n : ℕ). Some (record { copy = n; freepage = options.freepage; filled = 0 })) (on_copy ∙ sym same)
-            ∙ ap (loading_of later) (sym new.0)
+        shown_new (Some s) new = λ unswitched. (
+          loading_push None entries entry
+              ∙ ap (loading_after (loading_in None entries)) at
+              ∙ ap (λ (o : Options). Some (record { copy = of_copy; freepage = o.freepage; filled = 0 })) with_options
+              ∙ ap (λ (n : ℕ). Some (record { copy = n; freepage = options.freepage; filled = 0 })) (on_copy ∙ sym same)
+              ∙ ap (loading_of later) (sym new.0),
+          λ sorted. absurd (omega (arith, sorted, ap (λ (u : Utility). u.sorted) new.0)),
+        )
 
     by_event : (down : Bool) (stage : Option Stage) (event : Event) → entry.event ≡ event → IsStart down stage options copy pages log event next → ShowsLoading stage copy entries → ShowsLoading next later (entries ++ entry ∷ [])
     by_event true stage event at is shown = unstarted stage event at is.1 (λ l. ap (loading_after l) is.0) shown
@@ -157,13 +160,13 @@ sorted_none n is = grind (arith, nat_tests, is)
 module _ (capacities : Capacities) (copy : ℕ) (entries : List Entry) where
   space_of : (s : Stage) (weight : ℕ) (event : Event) → ShowsLoading (Some s) copy entries → HasPagesFor (copy_capacity capacities (other_of copy)) weight s event → IsForSpace capacities (loading_in None entries) event
   space_of s weight (events.Reload page rows) shown space =
-      subst (λ (l : Option Loading). IsForSpace capacities l (events.Reload page rows)) (sym (shown space.0)) (go (s.sorted == 0))
+      subst (λ (l : Option Loading). IsForSpace capacities l (events.Reload page rows)) (sym (shown space.0).0) (go (s.sorted == 0))
     where
       go : (b : Bool) → IsForSpace capacities (if b then Some (record { copy = copy; freepage = s.options.freepage; filled = s.filled }) else None) (events.Reload page rows)
       go true = space.1
       go false = tt
   space_of s weight (events.Stop reasons.NoSpace) shown space =
-      subst (λ (l : Option Loading). IsForSpace capacities l (events.Stop reasons.NoSpace)) (sym (shown space.0)) (go (s.sorted == 0) refl)
+      subst (λ (l : Option Loading). IsForSpace capacities l (events.Stop reasons.NoSpace)) (sym (shown space.0).0) (go (s.sorted == 0) refl)
     where
       go : (b : Bool) → (s.sorted == 0) ≡ b → IsForSpace capacities (if b then Some (record { copy = copy; freepage = s.options.freepage; filled = s.filled }) else None) (events.Stop reasons.NoSpace)
       go true none = space.1 (sorted_none s.sorted none)
@@ -185,10 +188,10 @@ fills_idle false (Some s) changes covered answer event made none = absurd (cc (n
 
 -- the numbers show what the step tells
 pub shown_step : (stage next : Option Stage) (copy later : ℕ) (entries : List Entry) (entry : Entry) → (is_some next ≡ true → is_some stage ≡ true) → ShowsLoading stage copy entries
-    → IfSome stage (λ s. IfSome next (λ t. t.switched ≡ false → (s.switched ≡ false) × (loading_of later (numbers_of t) ≡ loading_after (loading_of copy (numbers_of s)) entry.event)))
+    → IfSome stage (λ s. IfSome next (λ t. t.switched ≡ false → (s.switched ≡ false) × (loading_of later (numbers_of t) ≡ loading_after (loading_of copy (numbers_of s)) entry.event) × (IsLoaded (numbers_of s) → IsLoaded (numbers_of t))))
     → ShowsLoading next later (entries ++ entry ∷ [])
 shown_step stage None copy later entries entry runs shown loads = tt
 shown_step None (Some t) copy later entries entry runs shown loads = absurd (cc (runs refl))
 shown_step (Some s) (Some t) copy later entries entry runs shown loads = λ unswitched.
     let is = loads unswitched in
-    loading_push None entries entry ∙ ap (λ (l : Option Loading). loading_after l entry.event) (shown is.0) ∙ sym is.1
+    (loading_push None entries entry ∙ ap (λ (l : Option Loading). loading_after l entry.event) (shown is.0).0 ∙ sym is.1, is.2 (shown is.0).1)

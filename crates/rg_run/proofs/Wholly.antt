@@ -1,5 +1,5 @@
 -- A run over a counted volume, and the same of the volume below.
-use Rattle.std.proofs.Common.{◌≡◌, ◌≤◌, ◌+◌, ◌-◌, ◌*◌, inl, ℕ, List, [], ◌∷◌, Option, None, Some, length, drop, refl, sym, ◌∙◌, ap, subst, arith}
+use Rattle.std.proofs.Common.{◌≡◌, ◌≤◌, ◌+◌, ◌-◌, inl, ℕ, List, [], ◌∷◌, Option, None, Some, length, drop, refl, sym, ◌∙◌, ap, subst, arith}
 use Rattle.rg_base.specs.declared.control.Answer.{Answer}
 use Rattle.rg_desk.specs.Desk.{DeskState, old_records}
 use Rattle.rg_desk.specs.OnVolume.{GoesOnTidy, IsSoundTidy, IsTidyVolume, WasAllTidy}
@@ -22,7 +22,7 @@ use Rattle.rg_sound.specs.Pages.{copy_of}
 use Rattle.rg_restart.specs.Sound.{IsDamage}
 use Rattle.rg_stmt.specs.declared.event.Entry.{Entry}
 use Rattle.rg_stmt.specs.declared.line.Line.{Line}
-use Rattle.rg_run.specs.Full.{IsFullOnlyFrom, smaller_pages}
+use Rattle.rg_run.specs.Full.{smaller_pages}
 use Rattle.rg_run.specs.LogFull.{IsLogFullOnlyFrom}
 use Rattle.rg_run.specs.Space.{AreForSpace}
 use Rattle.rg_run.specs.Outside.{IfBoth, IsEnd, MakesOnly, WritesOwn, end_of, log_at}
@@ -40,7 +40,7 @@ use Rattle.rg_run.proofs.Between.{both_weaken, read_out, since_out, sound_out}
 use Rattle.rg_run.proofs.Flushes.{recounted}
 use Rattle.rg_run.specs.Asked.{HasAnswered, answers_in}
 use Rattle.rg_run.proofs.Asking.{unasked}
-use Rattle.rg_run.proofs.Ending.{end_out, ends_out, legal_out, opening_out}
+use Rattle.rg_run.proofs.Ending.{allowed_out, end_out, ends_out, legal_out, opening_out}
 use Rattle.rg_run.proofs.Fullness.{smaller_least}
 use Rattle.rg_run.proofs.Joins.{own_quiet}
 use Rattle.rg_run.proofs.Opening.{copy_first, counted_first, entry_first, entry_zero, found_first, old_first, opened_first, opening_first, opening_then, pages_first, read_first_log, stores_first}
@@ -202,7 +202,7 @@ module _ {V : Type 0} (told : V → Option Told) (faults : V → ℕ) (capacitie
           flushes =
               since_out (WritesOwn trace) (λ start t. AreFlushesSince start t trace) ended.calls old.told new.told (λ start count t all. recounted 0 start 0 count t trace all) le made
               run_seen.made.flushes;
-          full = subst (λ (c : Capacities). IsFullOnlyFrom (3221 * smaller_pages c) 0 trace) kept run_seen.made.full;
+          full = allowed_out old new ended.calls opens.log.records le read opens.now.records now_same look desk lines operator_left trace end had kept made run_seen;
           log_full = subst (λ (c : Capacities). IsLogFullOnlyFrom (limit_of (log_pages c)) 0 trace) kept run_seen.made.log_full;
           space = subst (λ (c : Capacities). AreForSpace c None trace) kept run_seen.made.space;
           device = device_more (Rose (look desk.volume).faults new.faults) (Rose old.faults new.faults) trace wider run_seen.made.device;

@@ -31,7 +31,7 @@ use Rattle.rg_stmt.specs.declared.line.Line.{Line}
 use Rattle.rg_stmt.specs.declared.line.Line.TheVariants.{Death}
 use Rattle.rg_run.specs.Asked.{HasAnswered, answers_in}
 use Rattle.rg_run.specs.Flush.{AreFlushesSince}
-use Rattle.rg_run.specs.Full.{IsFullOnlyFrom, smaller_pages}
+use Rattle.rg_run.specs.Full.{AreAllowed, smaller_pages}
 use Rattle.rg_run.specs.LogFull.{IsLogFullOnlyFrom}
 use Rattle.rg_run.specs.Space.{AreForSpace}
 use Rattle.rg_run.specs.Opening.{AreOpeningsSince, IsFoundThen, IsOpeningThen}
@@ -45,14 +45,18 @@ abbrev pub IsFoundBy : (Found : Entry → Table → Type 0) → List Entry → T
 IsFoundBy Found [] start = ⊥
 IsFoundBy Found (entry ∷ entries) start = Found entry start
 
--- parts of a trace: the first is legal from one of these tables, each later one from the table that
+-- parts of a trace: the first is so from one of these tables, each later one from the table that
 -- its first entry found
 pub data AreParts (First : Table → Type 0) (Found : Entry → Table → Type 0)
-    : List Entry → Type 0 where
-  One : (part : List Entry) (start : Table) → First start → Legal start part
-      → AreParts First Found part
-  Next : (before part : List Entry) (start : Table) → AreParts First Found before
-      → IsFoundBy Found part start → Legal start part → AreParts First Found (before ++ part)
+    (IsSo : Table → List Entry → Type 0) : List Entry → Type 0 where
+  One : (part : List Entry) (start : Table) → First start → IsSo start part
+      → AreParts First Found IsSo part
+  Next : (before part : List Entry) (start : Table) → AreParts First Found IsSo before
+      → IsFoundBy Found part start → IsSo start part → AreParts First Found IsSo (before ++ part)
+
+-- a part is legal, and its entries have allowed so many bytes before each FULL
+abbrev pub IsPart : (least : ℕ) → Table → List Entry → Type 0
+IsPart least start part = Legal start part × AreAllowed least start part
 
 -- the table is the one that the log stored as the volume read at the entry of an opening
 abbrev pub IsFound : VolumeSeen → Entry → Table → Type 0
@@ -110,11 +114,12 @@ pub record Made {V O : Type 0} (look : V → VolumeSeen) (first : DeskState V O)
   pub entries : TraceOf lines trace
   pub begins : first_of trace ≡ first_of first.trace
   pub known : IsKnown trace
-  pub parts : AreParts (IsStored (old_records first)) (IsFound now) trace
+  pub parts :
+      AreParts (IsStored (old_records first)) (IsFound now)
+      (IsPart (3221 * smaller_pages now.capacities)) trace
   pub tidy : IfTidy now ((last : State) × RunsFrom (old_records first) trace last)
   pub count : ℕ
   pub recorded : IsRecorded trace count
-  pub full : IsFullOnlyFrom (3221 * smaller_pages now.capacities) 0 trace
   pub log_full : IsLogFullOnlyFrom (limit_of (log_pages now.capacities)) 0 trace
   pub space : AreForSpace now.capacities None trace
   pub device : IsDeviceOnlyIf (Rose (look first.volume).faults now.faults) trace

@@ -15,8 +15,10 @@ use Rattle.rg_stmt.specs.Entries.{opened_entry, said_entry}
 use Rattle.rg_desk.specs.Chronicle.{system_entry}
 use Rattle.rg_desk.specs.Desk.{DeskState, IsCopy, IsLayout, old_records}
 use Rattle.rg_desk.specs.Desk.{is_reply}
-use Rattle.rg_course.specs.Loading.{loading_in, loading_of}
+use Rattle.rg_course.specs.Loading.{IsLoaded, loading_in, loading_of}
+use Rattle.rg_desk.specs.Stored.{IsStored}
 use Rattle.rg_desk.specs.Volume.{IsCount, VolumeSeen}
+use Rattle.rg_model.specs.State.{Table}
 use Rattle.rg_fold.specs.declared.item.Stage.{Stage}
 use Rattle.rg_stage.specs.NumbersOf.{numbers_of}
 use Rattle.rg_outside.specs.Faults.{Rose}
@@ -29,7 +31,7 @@ use Rattle.rg_phase.specs.Step.{is_made}
 use Rattle.rg_tending.specs.Tending.{utility_entry}
 use Rattle.rg_run.specs.Asked.{HasAnswered, answers_in}
 use Rattle.rg_run.specs.Flush.{AreFlushesSince, calls_of_last, copy_of_last}
-use Rattle.rg_run.specs.Full.{IsFullOnlyFrom, smaller_pages}
+use Rattle.rg_run.specs.Full.{AreAllowed, smaller_pages}
 use Rattle.rg_run.specs.LogFull.{IsLogFullOnlyFrom}
 use Rattle.rg_run.specs.Space.{AreForSpace}
 use Rattle.rg_run.specs.Outside.{IsDeviceOnlyIf, WritesOwn}
@@ -128,12 +130,13 @@ pub record StaysSince {V O : Type 0} (look : V → VolumeSeen) (first desk : Des
 abbrev pub AllowsCopy : List Entry → (copy : ℕ) → Type 0
 AllowsCopy entries copy = (call : Call) → WritesEither (set_of copy) call → WritesOwn entries call
 
--- the numbers of a utility that has not switched show how far the new copy is filled, as the
--- entries tell
+-- The numbers of a utility that has not switched show how far the new copy is filled, as the
+-- entries tell. All rows are reloaded once a list is sorted.
 abbrev pub ShowsLoading : Option Stage → (copy : ℕ) → List Entry → Type 0
 ShowsLoading stage copy entries =
     IfSome stage (λ s.
-    s.switched ≡ false → loading_in None entries ≡ loading_of copy (numbers_of s))
+    s.switched ≡ false
+    → (loading_in None entries ≡ loading_of copy (numbers_of s)) × IsLoaded (numbers_of s))
 
 -- the lines so far since a desk was opened
 pub record Goes {V O : Type 0}
@@ -142,7 +145,8 @@ pub record Goes {V O : Type 0}
   pub entries : TraceOf lines desk.trace
   pub begins : first_of desk.trace ≡ first_of first.trace
   pub full :
-      IsFullOnlyFrom (3221 * smaller_pages (look desk.volume).capacities) 0 desk.trace
+      (start : Table) → IsStored (old_records desk) start
+      → AreAllowed (3221 * smaller_pages (look desk.volume).capacities) start desk.trace
   pub log_full : IsLogFullOnlyFrom (limit_of desk.ground.log.pages) 0 desk.trace
   pub space : AreForSpace (look desk.volume).capacities None desk.trace
   pub loading : ShowsLoading desk.stage desk.copy desk.trace

@@ -5,7 +5,8 @@
 -- 2. So has each later opening, of the log as the volume read at its entry's number of calls.
 -- 3. If the volume read tidy when the run began, the whole trace is legal from that table, over the
 --    deaths of its process. Else this holds of the part before the first death, and each later part
---    is legal from the table that the log stored as the volume read at its opening.
+--    is legal from the table that the log stored as the volume read at its opening. From these
+--    tables FULL and STOP NOSPACE come only where the entries have allowed so many bytes.
 -- 4. A run that ends up leaves a volume that stores the committed rows of its last state, whatever
 --    a crash leaves then, if the log read tidy when the run began.
 -- 5. If the volume read tidy when the run began, whatever a crash leaves of it at the end is sound
@@ -13,7 +14,7 @@
 -- 6. The entry of a flush has the page that its last call wrote. Where the entry says that no page
 --    was to be written, it made no call.
 -- 7. All of this is said of a known volume while its calls can be counted.
-use Rattle.std.specs.Prelude.{◌≡◌, ◌⊎◌, ◌++◌, ℕ, Bool, true, false, List, [], ◌∷◌, length}
+use Rattle.std.specs.Prelude.{◌≡◌, ◌⊎◌, ◌*◌, ◌++◌, ℕ, Bool, true, false, List, [], ◌∷◌, length}
 use Rattle.rg_desk.specs.Desk.{LegalFrom}
 use Rattle.rg_desk.specs.OnVolume.{IsSoundTidy, IsTidyVolume}
 use Rattle.rg_desk.specs.Stored.{IsStored}
@@ -22,6 +23,7 @@ use Rattle.rg_image.specs.Log.{log_of}
 use Rattle.rg_image.specs.Rules.{IsTidyLog}
 use Rattle.rg_log.specs.Kept.{log_pages}
 use Rattle.rg_model.specs.Committed.{committed_table}
+use Rattle.rg_model.specs.Legal.{Legal}
 use Rattle.rg_model.specs.Run.{Run}
 use Rattle.rg_model.specs.State.{State, Table, at_rest, row_count}
 use Rattle.rg_outside.specs.Calls.{read_of}
@@ -33,7 +35,8 @@ use Rattle.rg_run.specs.Flush.{AreFlushesSince}
 use Rattle.rg_run.specs.Opening.{AreOpeningsSince, IsFoundThen, IsOpeningOf}
 use Rattle.rg_run.specs.Outside.{IfBoth, log_at}
 use Rattle.rg_stmt.specs.declared.line.Line.TheVariants.{Death}
-use Rattle.rg_run.specs.Parts.{AreParts, DiesIn, RunsFrom}
+use Rattle.rg_run.specs.Full.{smaller_pages}
+use Rattle.rg_run.specs.Parts.{AreParts, DiesIn, IsPart, RunsFrom}
 use Rattle.rg_run.specs.Played.{TraceOf, TraceOfFront}
 use Rattle.rg_run.specs.declared.played.RunEnd.{RunEnd}
 use Rattle.rg_run.specs.declared.played.RunEnd.TheVariants.{Whole, Down, Damaged, DeviceAtOpening, NoMemory}
@@ -61,8 +64,16 @@ Finds old new entry table =
 abbrev pub IsLegalRun : (old new : VolumeSeen) → List Entry → Type 0
 IsLegalRun old new [] = Unit {0}
 IsLegalRun old new (entry ∷ entries) =
-    AreParts (Begins old new) (Finds old new) (entry ∷ entries)
+    AreParts (Begins old new) (Finds old new) Legal (entry ∷ entries)
     × IfBegunTidy old new (λ records. LegalFrom records (entry ∷ entries))
+
+-- From these tables, the entries of each part have allowed so many bytes for each page of the
+-- smaller copy before a FULL, and before a STOP NOSPACE once a list is sorted.
+abbrev pub IsAllowedRun : (per_page : ℕ) → (old new : VolumeSeen) → List Entry → Type 0
+IsAllowedRun per_page old new [] = Unit {0}
+IsAllowedRun per_page old new (entry ∷ entries) =
+    AreParts (Begins old new) (Finds old new) (IsPart (per_page * smaller_pages old.capacities))
+    (entry ∷ entries)
 
 -- entry 0 is that of the opening of this log, if there is an entry
 abbrev pub OpensLog : List Record → List Entry → Type 0

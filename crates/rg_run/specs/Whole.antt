@@ -1,16 +1,16 @@
 -- All that is said of a run, by what is known of its volume before and after it.
-use Rattle.std.specs.Prelude.{◌≤◌, ◌*◌, List, None}
+use Rattle.std.specs.Prelude.{◌≤◌, List, None}
 use Rattle.rg_desk.specs.Volume.{VolumeSeen}
 use Rattle.rg_image.specs.Rules.{limit_of}
 use Rattle.rg_log.specs.Kept.{log_pages}
 use Rattle.rg_outside.specs.Faults.{Rose}
 use Rattle.rg_stmt.specs.declared.event.Entry.{Entry}
 use Rattle.rg_stmt.specs.declared.line.Line.{Line}
-use Rattle.rg_run.specs.Full.{IsFullOnlyFrom, smaller_pages}
 use Rattle.rg_run.specs.LogFull.{IsLogFullOnlyFrom}
 use Rattle.rg_run.specs.Space.{AreForSpace}
 use Rattle.rg_run.specs.Outside.{IsDeviceOnlyIf, IsEnd, MakesOnly, WritesOwn}
-use Rattle.rg_run.specs.Table.{AreFlushes, AreOpenings, Ends, IsLegalRun, IsOpening, KeepsSound}
+use Rattle.rg_run.specs.Table.{AreFlushes, AreOpenings, Ends, IsAllowedRun, IsLegalRun}
+use Rattle.rg_run.specs.Table.{IsOpening, KeepsSound}
 use Rattle.rg_run.specs.declared.played.RunEnd.{RunEnd}
 
 pub record Whole
@@ -20,7 +20,7 @@ pub record Whole
   pub opening : IsOpening old new trace
   pub openings : AreOpenings old new trace
   pub flushes : AreFlushes old new trace
-  pub full : IsFullOnlyFrom (3221 * smaller_pages old.capacities) 0 trace
+  pub full : IsAllowedRun 3221 old new trace
   pub log_full : IsLogFullOnlyFrom (limit_of (log_pages old.capacities)) 0 trace
   pub space : AreForSpace old.capacities None trace
   pub device : IsDeviceOnlyIf (Rose old.faults new.faults) trace

@@ -8,7 +8,7 @@
 // 5. The calls of the volume are counted from the opening on.
 // 6. A trace that is to be judged is judged at the end, from the table that the first opening
 //    found.
-ghost use Rattle.std.specs.Prelude.{◌≡◌, ◌≤◌, ◌*◌, List, [], ◌∷◌, ◌++◌, None, IfOk, IfErr, OnErr};
+ghost use Rattle.std.specs.Prelude.{◌≡◌, ◌≤◌, List, [], ◌∷◌, ◌++◌, None, IfOk, IfErr, OnErr};
 ghost use Rattle.std.specs.Prelude.{OnOk, length};
 ghost use Rattle.std.specs.List.{AllByRecursion};
 ghost use Rattle.rg_stmt.specs.declared.line.Line.{Line};
@@ -22,7 +22,6 @@ ghost use Rattle.rg_image.specs.Rules.{limit_of};
 ghost use Rattle.rg_log.specs.Kept.{log_pages};
 ghost use Rattle.rg_phase.specs.Made.{Works};
 ghost use Rattle.rg_run.specs.Asked.{HasAnswered, answers_in};
-ghost use Rattle.rg_run.specs.Full.{IsFullOnlyFrom, smaller_pages};
 ghost use Rattle.rg_run.specs.LogFull.{IsLogFullOnlyFrom};
 ghost use Rattle.rg_run.specs.Space.{AreForSpace};
 ghost use Rattle.rg_run.specs.declared.played.RunEnd.{RunEnd};
@@ -31,8 +30,8 @@ ghost use Rattle.rg_run.specs.Whole.{Whole};
 ghost use Rattle.rg_run.specs.Outside.{IsDeviceOnlyIf, IsEnd, MakesOnly, WritesOwn, end_of};
 ghost use Rattle.rg_run.specs.Parts.{Going, IsRun, LeavesRun};
 ghost use Rattle.rg_run.specs.Played.{Goes, IsPlayed};
-ghost use Rattle.rg_run.specs.Table.{AreFlushes, AreOpenings, Ends, IsLegalRun, IsOpening};
-ghost use Rattle.rg_run.specs.Table.{KeepsSound};
+ghost use Rattle.rg_run.specs.Table.{AreFlushes, AreOpenings, Ends, IsAllowedRun, IsLegalRun};
+ghost use Rattle.rg_run.specs.Table.{IsOpening, KeepsSound};
 
 use crate::played::{Judged, Played, RunEnd};
 use rg_base::no_memory::NoMemory;
@@ -73,8 +72,10 @@ pub fn run<V: Volume, O: Operator>(
         (seen_volume V.told V.faults V.capacities result.volume) result.trace.items }
     ensures flushes { AreFlushes (seen_volume V.told V.faults V.capacities volume)
         (seen_volume V.told V.faults V.capacities result.volume) result.trace.items }
-    ensures full { IsFullOnlyFrom (3221 * smaller_pages (V.capacities volume)) 0
-        result.trace.items }
+    // FULL comes, and STOP NOSPACE once a list is sorted, only where the entries have allowed 3,221
+    // bytes for each page of the smaller copy.
+    ensures full { IsAllowedRun 3221 (seen_volume V.told V.faults V.capacities volume)
+        (seen_volume V.told V.faults V.capacities result.volume) result.trace.items }
     ensures log_full { IsLogFullOnlyFrom (limit_of (log_pages (V.capacities volume))) 0
         result.trace.items }
     ensures space { AreForSpace (V.capacities volume) None result.trace.items }

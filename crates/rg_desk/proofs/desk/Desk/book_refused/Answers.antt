@@ -29,7 +29,7 @@ invariant_of-self g c =
       on.1,
       subst (λ (o : Option Prepared). KeepsPrepared o inside.engine.log.records inside.copy (look inside.volume)) (sym c.keep_while_running.ensures)
           (prepared_while inside.stage inside.shadow inside.engine.log.records inside.copy (look inside.volume) c.self.invariant.2),
-      idle_items inside.engine inside.chronicle.trace inside.down inside.stage inside.changes.since (least_holder inside.engine.claims.drain inside.engine.claims.claims) c.args.event c.calls_now-calls.result inside.changes (sent_items inside.outlet)
+      idle_items inside.engine inside.origin inside.chronicle.trace inside.down inside.stage inside.changes.since (least_holder inside.engine.claims.drain inside.engine.claims.claims) c.args.event c.calls_now-calls.result inside.changes (sent_items inside.outlet)
           c.self.invariant.3 next c.push.new.self.trace (c.push.ensures.trace ∙ ap (λ (e : Entry). inside.chronicle.trace ++ e ∷ []) c.utility.ensures),
     )
 

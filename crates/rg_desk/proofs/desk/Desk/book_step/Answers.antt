@@ -1,4 +1,5 @@
 use Rattle.std.proofs.Common.{◌≡◌, ◌+◌, ℕ, Bool, false, List, [], ◌∷◌, ◌++◌, Option, Some, take, refl, sym, ◌∙◌, ap, subst, append-nil}
+use Rattle.rg_account.specs.Account.{allowed_of}
 use Rattle.rg_fold.specs.declared.item.Stage.{Stage}
 use Rattle.rg_log.specs.Kept.{Listed}
 use Rattle.rg_model.specs.Claims.{least_holder}
@@ -6,14 +7,13 @@ use Rattle.rg_space.specs.Memory.{list_seen}
 use Rattle.rg_space.specs.Space.{capacity_in, frames_of}
 use Rattle.rg_stmt.specs.declared.event.Entry.{Entry}
 use Rattle.rg_tending.specs.Tending.{FollowsBy, NextBy, Tends, aside_for, utility_entry}
-use Rattle.rg_desk.specs.Chronicle.{allowed_by}
 use Rattle.rg_desk.specs.Desk.{IsDesk, old_records, while_running}
 use Rattle.rg_desk.specs.Flushed.{CallsOwn}
 use Rattle.rg_desk.specs.Prepared.{KeepsPrepared, prepared_seen}
 use Rattle.rg_desk.specs.Room.{Ground}
 use Rattle.rg_desk.specs.Utility.{StepsOn}
 use Rattle.rg_desk.specs.Volume.{seen_volume}
-use Rattle.rg_desk.proofs.DeskUtility.{booked_logged, ground_same, step_on}
+use Rattle.rg_desk.proofs.DeskUtility.{booked_late, booked_logged, ground_same, step_on}
 use Rattle.rg_desk.specs.declared.prepared.Prepared.{Prepared}
 use Rattle.rg_desk.proofs.Flushing.{own_same}
 use Rattle.rg_desk.proofs.Preparing.{prepared_same, prepared_while, seen_while}
@@ -27,7 +27,7 @@ step_utility-self-inside-requires-clause-shown g c =
     let desk = c.self.invariant.0 in
     record {
       state = desk.state;
-      allowed = allowed_by 0 c.self.inside.chronicle.trace;
+      allowed = allowed_of desk.start c.self.inside.chronicle.trace;
       shows = desk.shown (ap (λ d. d.down) c.self.view_is ∙ c.requires.up);
     }
 
@@ -45,7 +45,7 @@ invariant_of-self g c =
     (subst (λ (b : Bool). IsDesk inside.engine inside.chronicle inside.origin inside.copy b inside.marks.items seen) up c.self.invariant.0)
     s inside.changes (subst (λ (o : Option Stage). Tends inside.chronicle.trace o inside.changes inside.engine.set_aside) stage_is c.self.invariant.1)
     c.args.answer c.args.event next after
-    by.1 (λ n. booked_logged c.args.event n by.0)
+    by.1 (λ n. booked_logged c.args.event n by.0) (booked_late c.args.event by.0)
     (subst (λ (n : ℕ). StepsOn inside.engine s n c.args.answer c.args.event next after) c.since.ensures c.step_utility-self-inside.ensures)
     c.calls_now-calls.result c.push.new.self
     (c.push.ensures.trace ∙ ap (λ (e : Entry). inside.chronicle.trace ++ e ∷ []) c.utility.ensures)
@@ -57,13 +57,13 @@ invariant_of-self g c =
     (prepared_same inside.shadow inside.engine.log.records after.log.records inside.copy seen (ap (λ (l : Listed). l.records) c.step_utility-self-inside.ensures.engine.log) c.self.invariant.2)) in
     let covered = least_holder inside.engine.claims.drain inside.engine.claims.claims in
     let steps = subst (λ (n : ℕ). StepsOn inside.engine s n c.args.answer c.args.event next after) c.since.ensures c.step_utility-self-inside.ensures in
-    let had = subst (λ (b : Bool). KeepsItems inside.engine inside.chronicle.trace b (Some s) inside.changes (sent_items inside.outlet)) up
-    (subst (λ (o : Option Stage). KeepsItems inside.engine inside.chronicle.trace inside.down o inside.changes (sent_items inside.outlet)) stage_is c.self.invariant.3) in (
+    let had = subst (λ (b : Bool). KeepsItems inside.engine inside.origin inside.chronicle.trace b (Some s) inside.changes (sent_items inside.outlet)) up
+    (subst (λ (o : Option Stage). KeepsItems inside.engine inside.origin inside.chronicle.trace inside.down o inside.changes (sent_items inside.outlet)) stage_is c.self.invariant.3) in (
       subst (λ (b : Bool). IsDesk after c.push.new.self inside.origin inside.copy b inside.marks.items seen) (sym up) on.0,
       on.1,
       kept,
-      subst (λ (b : Bool). KeepsItems after c.push.new.self.trace b next inside.changes (sent_items inside.outlet)) (sym up)
-          (booked_items inside.engine after inside.chronicle.trace s next c.args.answer c.args.event covered c.calls_now-calls.result inside.changes (sent_items inside.outlet) had steps by
+      subst (λ (b : Bool). KeepsItems after inside.origin c.push.new.self.trace b next inside.changes (sent_items inside.outlet)) (sym up)
+          (booked_items inside.engine after inside.origin inside.chronicle.trace s next c.args.answer c.args.event covered c.calls_now-calls.result inside.changes (sent_items inside.outlet) had steps by
           c.push.new.self.trace (c.push.ensures.trace ∙ ap (λ (e : Entry). inside.chronicle.trace ++ e ∷ []) c.utility.ensures)),
     )
 

@@ -20,7 +20,7 @@ use Rattle.rg_desk.specs.Turned.{LogsSwitch, Turns}
 use Rattle.rg_desk.specs.Volume.{CallsLog, seen_volume}
 use Rattle.rg_desk.specs.declared.engine.Engine.{Engine}
 use Rattle.rg_desk.specs.declared.prepared.Prepared.{Prepared}
-use Rattle.rg_desk.proofs.Committing.{by_result, fallen_goes, has_stage, old_on, sound_on, stage_of, switched_goes}
+use Rattle.rg_desk.proofs.Committing.{by_result, fallen_goes, has_stage, none_open, old_on, sound_on, stage_of, switched_goes}
 use Rattle.rg_desk.proofs.DeskGoes.{calls_on}
 use Rattle.rg_feed.specs.Ends.{sent_items}
 use Rattle.rg_desk.specs.Sends.{KeepsItems}
@@ -90,17 +90,17 @@ invariant_of-self g c =
     let at = c.push.ensures.calls ∙ ap (λ (e : Entry). e.calls) c.utility.ensures in
     let trace = c.push.ensures.trace ∙ ap (λ (e : Entry). inside.chronicle.trace ++ e ∷ []) c.utility.ensures in
     let after = look c.turn-turned.new.volume in
-    let had = subst (λ (b : Bool). KeepsItems inside.engine inside.chronicle.trace b (Some s) inside.changes (sent_items inside.outlet)) up
-    (subst (λ (o : Option Stage). KeepsItems inside.engine inside.chronicle.trace inside.down o inside.changes (sent_items inside.outlet)) c.in-Some-Some.is-0 c.self.invariant.3) in
+    let had = subst (λ (b : Bool). KeepsItems inside.engine inside.origin inside.chronicle.trace b (Some s) inside.changes (sent_items inside.outlet)) up
+    (subst (λ (o : Option Stage). KeepsItems inside.engine inside.origin inside.chronicle.trace inside.down o inside.changes (sent_items inside.outlet)) c.in-Some-Some.is-0 c.self.invariant.3) in
     let followed = has_stage inside.engine inside.chronicle inside.origin inside.copy inside.marks.items seen desk s inside.changes tends c.args.answer c.args.sides p is
     g.row.V.Denot g.row.O.Denot c.args.self.now c.requires.can stage_is kept_is
-    (sym (ap (λ d. d.ground.log.records) c.self.view_is)) (sym (ap (λ d. d.ground.pages) c.self.view_is)) (sym (ap (λ d. d.trace) c.self.view_is))
+    (sym (ap (λ d. d.ground.log.records) c.self.view_is)) (sym (ap (λ d. d.ground.pages) c.self.view_is)) (sym (ap (λ d. d.trace) c.self.view_is)) (sym (ap (λ d. old_records d) c.self.view_is))
     c.turn-turned.ensures.shade c.turn-turned.ensures.grant
     calls after c.push.new.self at c.calls_now-calls.ensures.counted c.push.ensures.recorded
     c.since.result c.other_of-copy.result c.next_stage-self-inside.result c.next_stage-self-inside.ensures.followed in
     let on = switched_goes inside.engine inside.chronicle inside.origin inside.copy inside.marks.items seen desk s inside.changes tends c.args.answer c.args.sides p is
     g.row.V.Denot g.row.O.Denot c.args.self.now c.requires.can stage_is kept_is
-    (sym (ap (λ d. d.ground.log.records) c.self.view_is)) (sym (ap (λ d. d.ground.pages) c.self.view_is)) (sym (ap (λ d. d.trace) c.self.view_is))
+    (sym (ap (λ d. d.ground.log.records) c.self.view_is)) (sym (ap (λ d. d.ground.pages) c.self.view_is)) (sym (ap (λ d. d.trace) c.self.view_is)) (sym (ap (λ d. old_records d) c.self.view_is))
     c.turn-turned.ensures.shade c.turn-turned.ensures.grant
     calls after c.push.new.self at c.calls_now-calls.ensures.counted c.push.ensures.recorded
     c.other_of-copy.result c.other_of-copy.ensures.is c.turn-turned.new.engine c.in-Ok.ensures.ok c.since.result c.since.ensures c.next_stage-self-inside.result
@@ -108,9 +108,13 @@ invariant_of-self g c =
       subst (λ (b : Bool). IsDesk c.turn-turned.new.engine c.push.new.self inside.origin c.other_of-copy.result b p.marks.items after) (sym up) on.0,
       on.1,
       subst (λ (o : Option Prepared). KeepsPrepared o c.turn-turned.new.engine.log.records c.other_of-copy.result after) (sym c.take.ensures.after) tt,
-      subst (λ (b : Bool). KeepsItems c.turn-turned.new.engine c.push.new.self.trace b c.next_stage-self-inside.result inside.changes (sent_items inside.outlet)) (sym up)
-          (switched_items inside.engine c.turn-turned.new.engine inside.chronicle.trace c.push.new.self.trace s c.next_stage-self-inside.result c.other_of-copy.result c.args.sides c.args.answer.command inside.changes (sent_items inside.outlet) had
-          followed (turns_more c.other_of-copy.result p.shadow seen after inside.engine c.turn-turned.new.engine c.in-Ok.ensures.ok) (turns_units c.other_of-copy.result p.shadow seen after inside.engine c.turn-turned.new.engine c.in-Ok.ensures.ok)),
+      subst (λ (b : Bool). KeepsItems c.turn-turned.new.engine inside.origin c.push.new.self.trace b c.next_stage-self-inside.result inside.changes (sent_items inside.outlet)) (sym up)
+          (switched_items inside.engine c.turn-turned.new.engine inside.origin inside.chronicle.trace c.push.new.self.trace s c.next_stage-self-inside.result c.other_of-copy.result c.args.sides c.args.answer.command inside.changes (sent_items inside.outlet) had
+          followed (turns_more c.other_of-copy.result p.shadow seen after inside.engine c.turn-turned.new.engine c.in-Ok.ensures.ok) (turns_units c.other_of-copy.result p.shadow seen after inside.engine c.turn-turned.new.engine c.in-Ok.ensures.ok)
+          (none_open inside.engine inside.chronicle inside.origin inside.copy inside.marks.items seen desk s inside.changes tends c.args.answer c.args.sides p is
+          g.row.V.Denot g.row.O.Denot c.args.self.now c.requires.can stage_is kept_is
+          (sym (ap (λ d. d.ground.log.records) c.self.view_is)) (sym (ap (λ d. d.ground.pages) c.self.view_is)) (sym (ap (λ d. d.trace) c.self.view_is)) (sym (ap (λ d. old_records d) c.self.view_is))
+          c.turn-turned.ensures.shade c.turn-turned.ensures.grant)),
     )
 
 pub invariant_of-self-in-Err-1 : goal.invariant_of-self-in-Err-1
@@ -133,7 +137,7 @@ invariant_of-self-in-Err-1 g c =
     let after = look c.turn-turned.new.volume in
     let on = fallen_goes inside.engine inside.chronicle inside.origin inside.copy inside.marks.items seen desk s inside.changes tends c.args.answer c.args.sides p is
     g.row.V.Denot g.row.O.Denot c.args.self.now c.requires.can stage_is kept_is
-    (sym (ap (λ d. d.ground.log.records) c.self.view_is)) (sym (ap (λ d. d.ground.pages) c.self.view_is)) (sym (ap (λ d. d.trace) c.self.view_is))
+    (sym (ap (λ d. d.ground.log.records) c.self.view_is)) (sym (ap (λ d. d.ground.pages) c.self.view_is)) (sym (ap (λ d. d.trace) c.self.view_is)) (sym (ap (λ d. old_records d) c.self.view_is))
     c.turn-turned.ensures.shade c.turn-turned.ensures.grant
     calls after c.push-in-Err.new.self at c.calls_now-calls.ensures.counted c.push-in-Err.ensures.recorded
     c.other_of-copy.result c.other_of-copy.ensures.is c.turn-turned.new.engine c.in-Err.ensures.err trace in
@@ -164,17 +168,17 @@ returns-in-Ok-clause-ok g c =
     let pages = ap (λ (l : Listed). l.pages) log_is ∙ logs.pages_same in
     let sound = sound_on inside.engine inside.chronicle inside.origin inside.copy inside.marks.items seen desk s inside.changes tends c.args.answer c.args.sides p is
     g.row.V.Denot g.row.O.Denot c.args.self.now c.requires.can stage_is kept_is
-    (sym (ap (λ d. d.ground.log.records) c.self.view_is)) (sym (ap (λ d. d.ground.pages) c.self.view_is)) (sym (ap (λ d. d.trace) c.self.view_is))
+    (sym (ap (λ d. d.ground.log.records) c.self.view_is)) (sym (ap (λ d. d.ground.pages) c.self.view_is)) (sym (ap (λ d. d.trace) c.self.view_is)) (sym (ap (λ d. old_records d) c.self.view_is))
     c.turn-turned.ensures.shade c.turn-turned.ensures.grant
     c.other_of-copy.result c.other_of-copy.ensures.is c.in-Ok.ensures.ok.mid after logs in
     let old = ap (λ (l : Listed). take inside.origin.records l.records) log_is ∙ old_on inside.engine inside.chronicle inside.origin inside.copy inside.marks.items seen desk s inside.changes tends c.args.answer c.args.sides p is
     g.row.V.Denot g.row.O.Denot c.args.self.now c.requires.can stage_is kept_is
-    (sym (ap (λ d. d.ground.log.records) c.self.view_is)) (sym (ap (λ d. d.ground.pages) c.self.view_is)) (sym (ap (λ d. d.trace) c.self.view_is))
+    (sym (ap (λ d. d.ground.log.records) c.self.view_is)) (sym (ap (λ d. d.ground.pages) c.self.view_is)) (sym (ap (λ d. d.trace) c.self.view_is)) (sym (ap (λ d. old_records d) c.self.view_is))
     c.turn-turned.ensures.shade c.turn-turned.ensures.grant
     c.other_of-copy.result c.other_of-copy.ensures.is c.in-Ok.ensures.ok.mid after logs in
     let followed = has_stage inside.engine inside.chronicle inside.origin inside.copy inside.marks.items seen desk s inside.changes tends c.args.answer c.args.sides p is
     g.row.V.Denot g.row.O.Denot c.args.self.now c.requires.can stage_is kept_is
-    (sym (ap (λ d. d.ground.log.records) c.self.view_is)) (sym (ap (λ d. d.ground.pages) c.self.view_is)) (sym (ap (λ d. d.trace) c.self.view_is))
+    (sym (ap (λ d. d.ground.log.records) c.self.view_is)) (sym (ap (λ d. d.ground.pages) c.self.view_is)) (sym (ap (λ d. d.trace) c.self.view_is)) (sym (ap (λ d. old_records d) c.self.view_is))
     c.turn-turned.ensures.shade c.turn-turned.ensures.grant
     calls after c.push.new.self at c.calls_now-calls.ensures.counted c.push.ensures.recorded
     c.since.result c.other_of-copy.result c.next_stage-self-inside.result c.next_stage-self-inside.ensures.followed in
@@ -234,12 +238,12 @@ returns-in-Err-clause-err g c =
     let pages = logs.pages_same in
     let sound = sound_on inside.engine inside.chronicle inside.origin inside.copy inside.marks.items seen desk s inside.changes tends c.args.answer c.args.sides p is
     g.row.V.Denot g.row.O.Denot c.args.self.now c.requires.can stage_is kept_is
-    (sym (ap (λ d. d.ground.log.records) c.self.view_is)) (sym (ap (λ d. d.ground.pages) c.self.view_is)) (sym (ap (λ d. d.trace) c.self.view_is))
+    (sym (ap (λ d. d.ground.log.records) c.self.view_is)) (sym (ap (λ d. d.ground.pages) c.self.view_is)) (sym (ap (λ d. d.trace) c.self.view_is)) (sym (ap (λ d. old_records d) c.self.view_is))
     c.turn-turned.ensures.shade c.turn-turned.ensures.grant
     c.other_of-copy.result c.other_of-copy.ensures.is c.turn-turned.new.engine after logs in
     let old = old_on inside.engine inside.chronicle inside.origin inside.copy inside.marks.items seen desk s inside.changes tends c.args.answer c.args.sides p is
     g.row.V.Denot g.row.O.Denot c.args.self.now c.requires.can stage_is kept_is
-    (sym (ap (λ d. d.ground.log.records) c.self.view_is)) (sym (ap (λ d. d.ground.pages) c.self.view_is)) (sym (ap (λ d. d.trace) c.self.view_is))
+    (sym (ap (λ d. d.ground.log.records) c.self.view_is)) (sym (ap (λ d. d.ground.pages) c.self.view_is)) (sym (ap (λ d. d.trace) c.self.view_is)) (sym (ap (λ d. old_records d) c.self.view_is))
     c.turn-turned.ensures.shade c.turn-turned.ensures.grant
     c.other_of-copy.result c.other_of-copy.ensures.is c.turn-turned.new.engine after logs in
     record {

@@ -1,5 +1,5 @@
 use Rattle.std.proofs.Common.{◌∙◌, ap, subst}
-use Rattle.rg_desk.specs.Chronicle.{allowed_by}
+use Rattle.rg_account.specs.Account.{allowed_of}
 use Rattle.rg_desk.specs.Desk.{EndsWithRows, old_records}
 use Rattle.rg_desk.specs.Volume.{seen_volume}
 use Rattle.rg_desk.proofs.DeskGoes.{desk_few}
@@ -17,6 +17,6 @@ returns g c =
     (record {
       last = desk.state;
       ends = record { start = desk.start; starts = desk.starts; run = desk.run; down_is = desk.down_is ∙ up };
-      rows_are = c.committed_rows.ensures desk.state (allowed_by 0 c.self.inside.chronicle.trace) (desk.shown up);
-      stored = ends_stored desk.state (allowed_by 0 c.self.inside.chronicle.trace) c.self.inside.engine (seen_volume g.V.Volume.told g.V.Volume.faults g.V.Volume.capacities c.self.inside.volume) (desk.shown up) c.records.ensures.entries c.records.ensures.set desk.leaves;
+      rows_are = c.committed_rows.ensures desk.state (allowed_of desk.start c.self.inside.chronicle.trace) (desk.shown up);
+      stored = ends_stored desk.state (allowed_of desk.start c.self.inside.chronicle.trace) c.self.inside.engine (seen_volume g.V.Volume.told g.V.Volume.faults g.V.Volume.capacities c.self.inside.volume) (desk.shown up) c.records.ensures.entries c.records.ensures.set desk.leaves;
     })

@@ -1,11 +1,14 @@
 use Rattle.std.proofs.Common.{◌≡◌, ◌≤◌, ◌||◌, ℕ, Bool, true, false, List, [], ◌∷◌, ◌++◌, drop, length, sym, ◌∙◌, ap, subst}
+use Rattle.rg_account.specs.Account.{allowed_of}
 use Rattle.rg_outside.specs.Faults.{Rose}
 use Rattle.rg_stmt.specs.Entries.{said_entry}
 use Rattle.rg_stmt.specs.declared.event.Entry.{Entry}
 use Rattle.rg_stmt.specs.declared.stmt.Reply.TheVariants.{Device, Done}
 use Rattle.rg_desk.specs.Answers.{IfFull, IfLogFull, forces, is_device}
-use Rattle.rg_desk.specs.Chronicle.{allowed_by, logged_by}
+use Rattle.rg_desk.specs.Chronicle.{logged_by}
 use Rattle.rg_desk.specs.Room.{SaysLog, SaysRoom}
+use Rattle.rg_desk.specs.Stored.{IsStored}
+use Rattle.rg_model.specs.State.{Table}
 use Rattle.rg_desk.specs.Flushed.{CallsOwn}
 use Rattle.rg_desk.specs.OnVolume.{SoundThroughout}
 use Rattle.rg_desk.specs.Volume.{seen_volume}
@@ -48,7 +51,7 @@ invariant_of-self-2 g c =
       prepared_same inside.shadow (inside.engine.log.records ++ said.grows.more) _ inside.copy _ said.grows.records
           (prepared_on inside.shadow inside.engine.log.records said.grows.more inside.copy _ _ inside.chronicle.calls (own_calls inside.copy _ _ said.calls).only said.calls.capacities c.self.invariant.0.counted c.self.invariant.2),
       said_items inside.engine inside.chronicle inside.origin inside.copy inside.down inside.marks.items _ c.self.invariant.0 inside.stage inside.changes c.count.new.self c.args.session c.args.stmt c.reply_to-reply.result c.calls_now-calls.result
-          c.reply_to-reply.new.engine c.reply_to-reply.new.down _ (sent_items inside.outlet) (sent_items c.reply_to-reply.new.outlet) c.requires c.reply_to-reply.ensures.replies c.self.invariant.3 tends.counted
+          c.reply_to-reply.new.engine c.reply_to-reply.new.down _ (sent_items inside.outlet) (sent_items c.reply_to-reply.new.outlet) c.requires c.reply_to-reply.ensures.replies c.self.invariant.3 tends tends.counted
           (c.count.ensures.counted (behind [] inside.chronicle.trace) c.calls_now-calls.result tends.counted)
           (λ up. c.reply_to-reply.ensures.sent up ∙ ap (λ (b : Bool). sent_items inside.outlet ++ items_made b (changes_in (drop (length inside.engine.log.records) c.reply_to-reply.new.engine.log.records))) c.is_some-runs.ensures)
           c.push.new.self.trace (trace ∙ ap (λ (es : List Entry). es ++ entry ∷ []) c.make_room.ensures.trace),
@@ -81,7 +84,7 @@ returns-clause-made g c =
       quiet = subst (λ d. forces d.ground.units session stmt ≡ false → seen_volume g.V.Volume.told g.V.Volume.faults g.V.Volume.capacities volume ≡ seen_volume g.V.Volume.told g.V.Volume.faults g.V.Volume.capacities d.volume) c.self.view_is said.quiet;
       forced = subst (λ d. forces d.ground.units session stmt ≡ true → reply ≡ Done → c.reply_to-reply.new.engine.log.forced ≡ length c.reply_to-reply.new.engine.log.records) c.self.view_is said.forced;
       room = subst (λ d. SaysRoom d.ground session.0 stmt reply) c.self.view_is said.room;
-      full = subst (λ d. IfFull reply (allowed_by 0 d.trace) d.ground.capacity) c.self.view_is said.full;
+      full = subst (λ d. (start : Table) → IsStored (old_records d) start → IfFull reply (allowed_of start d.trace) d.ground.capacity) c.self.view_is said.full;
       log = subst (λ d. SaysLog d.ground session.0 stmt reply) c.self.view_is said.log;
       log_full = subst (λ d. IfLogFull reply (logged_by 0 d.trace) d.ground.log.pages) c.self.view_is said.log_full;
       sound = subst (λ d. SoundThroughout (seen_volume g.V.Volume.told g.V.Volume.faults g.V.Volume.capacities d.volume) (seen_volume g.V.Volume.told g.V.Volume.faults g.V.Volume.capacities volume)) c.self.view_is

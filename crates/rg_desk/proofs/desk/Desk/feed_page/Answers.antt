@@ -1,4 +1,5 @@
-use Rattle.std.proofs.Common.{◌≡◌, ◌≤◌, ◌+◌, ◌++◌, ℕ, Bool, true, false, List, [], ◌∷◌, Option, Some, length, take, refl, sym, ◌∙◌, ap, subst}
+use Rattle.std.proofs.Common.{◌≡◌, ◌+◌, ◌++◌, ℕ, Bool, true, false, List, [], ◌∷◌, Option, Some, length, take, refl, sym, ◌∙◌, ap, subst}
+use Rattle.rg_account.specs.Account.{allowed_of}
 use Rattle.rg_feed.specs.Ends.{sent_items}
 use Rattle.rg_fold.specs.declared.item.Item.{Item}
 use Rattle.rg_fold.specs.declared.item.Item.TheVariants.{PageCopy}
@@ -12,7 +13,6 @@ use Rattle.rg_stage.specs.NumbersOf.{numbers_of}
 use Rattle.rg_stmt.specs.declared.event.Entry.{Entry}
 use Rattle.rg_stmt.specs.declared.event.Event.TheVariants.{Unload}
 use Rattle.rg_tending.specs.Tending.{FollowsBy, Tends, aside_for, is_plain, utility_entry}
-use Rattle.rg_desk.specs.Chronicle.{allowed_by}
 use Rattle.rg_desk.specs.Desk.{IsDesk, old_records, while_running}
 use Rattle.rg_desk.specs.Flushed.{CallsOwn}
 use Rattle.rg_desk.specs.Prepared.{KeepsPrepared, prepared_seen}
@@ -23,6 +23,7 @@ use Rattle.rg_desk.specs.Volume.{seen_volume}
 use Rattle.rg_desk.specs.declared.prepared.Prepared.{Prepared}
 use Rattle.rg_desk.proofs.DeskUtility.{ground_same, step_on}
 use Rattle.rg_desk.proofs.Feeding.{copy_items, engine_rows, ground_still, next_plain, same_items}
+use Rattle.rg_desk.proofs.CopyOf.{none_high}
 use Rattle.rg_desk.proofs.Flushing.{own_same}
 use Rattle.rg_desk.proofs.Preparing.{prepared_same, prepared_while, seen_while}
 use Rattle.rg_desk.proofs.Same.{same_shows}
@@ -35,7 +36,7 @@ copy_page-requires g c =
     record {
       shown = record {
         state = desk.state;
-        allowed = allowed_by 0 c.self.inside.chronicle.trace;
+        allowed = allowed_of desk.start c.self.inside.chronicle.trace;
         shows = desk.shown (ap (λ d. d.down) c.self.view_is ∙ c.requires.up);
       };
     }
@@ -49,8 +50,8 @@ invariant_of-self-in_err-item g c =
       desk_still inside.engine inside.chronicle inside.origin inside.copy inside.down inside.marks.items seen c.self.invariant.0 mid same,
       subst (λ (n : ℕ). Tends inside.chronicle.trace inside.stage inside.changes n) (sym same.set_aside) c.self.invariant.1,
       prepared_same inside.shadow inside.engine.log.records mid.log.records inside.copy seen (ap (λ (l : Listed). l.records) same.log) c.self.invariant.2,
-      subst (λ (xs : List Item). KeepsItems mid inside.chronicle.trace inside.down inside.stage inside.changes xs) (sym c.reserve.ensures.same.items)
-          (same_items inside.engine mid inside.chronicle.trace inside.down inside.stage inside.changes (sent_items inside.outlet) (engine_rows inside.engine mid same) c.self.invariant.3),
+      subst (λ (xs : List Item). KeepsItems mid inside.origin inside.chronicle.trace inside.down inside.stage inside.changes xs) (sym c.reserve.ensures.same.items)
+          (same_items inside.engine mid inside.origin inside.chronicle.trace inside.down inside.stage inside.changes (sent_items inside.outlet) (engine_rows inside.engine mid same) c.self.invariant.3),
     )
 
 pub step_utility-self-inside-requires-clause-shown : goal.step_utility-self-inside-requires-clause-shown
@@ -58,8 +59,8 @@ step_utility-self-inside-requires-clause-shown g c =
     let desk = c.self.invariant.0 in
     record {
       state = desk.state;
-      allowed = allowed_by 0 c.self.inside.chronicle.trace;
-      shows = same_shows desk.state (allowed_by 0 c.self.inside.chronicle.trace) c.self.inside.engine c.copy_page.new.self c.copy_page.ensures.same (desk.shown (ap (λ d. d.down) c.self.view_is ∙ c.requires.up));
+      allowed = allowed_of desk.start c.self.inside.chronicle.trace;
+      shows = same_shows desk.state (allowed_of desk.start c.self.inside.chronicle.trace) c.self.inside.engine c.copy_page.new.self c.copy_page.ensures.same (desk.shown (ap (λ d. d.down) c.self.view_is ∙ c.requires.up));
     }
 
 pub step_utility-self-inside-requires-clause-next : goal.step_utility-self-inside-requires-clause-next
@@ -96,21 +97,23 @@ invariant_of-self-2 g c =
     (next_plain g.row.V.Denot g.row.O.Denot c.args.self.now c.args.page c.args.answer c.requires.can s stage_is rows copy.few)) in
     let calls = c.calls_now-calls.result in
     let trace = c.push.ensures.trace ∙ ap (λ (e : Entry). inside.chronicle.trace ++ e ∷ []) c.utility.ensures in
-    let on = step_on mid inside.chronicle inside.origin inside.copy inside.marks.items seen desk s inside.changes tends c.args.answer (Unload c.args.page rows) next after plain (λ n. (refl, refl)) steps
+    let on = step_on mid inside.chronicle inside.origin inside.copy inside.marks.items seen desk s inside.changes tends c.args.answer (Unload c.args.page rows) next after plain (λ n. refl) refl steps
     calls c.push.new.self trace (c.push.ensures.calls ∙ ap (λ (e : Entry). e.calls) c.utility.ensures) c.calls_now-calls.ensures.counted c.push.ensures.recorded in
     let records : after.log.records ≡ inside.engine.log.records = ap (λ (l : Listed). l.records) steps.engine.log ∙ ap (λ (l : Listed). l.records) same.log in
-    let had = subst (λ (b : Bool). KeepsItems inside.engine inside.chronicle.trace b (Some s) inside.changes (sent_items inside.outlet)) up
-    (subst (λ (o : Option Stage). KeepsItems inside.engine inside.chronicle.trace inside.down o inside.changes (sent_items inside.outlet)) c.in-Some.is c.self.invariant.3) in
+    let had = subst (λ (b : Bool). KeepsItems inside.engine inside.origin inside.chronicle.trace b (Some s) inside.changes (sent_items inside.outlet)) up
+    (subst (λ (o : Option Stage). KeepsItems inside.engine inside.origin inside.chronicle.trace inside.down o inside.changes (sent_items inside.outlet)) c.in-Some.is c.self.invariant.3) in
+    let first = c.self.invariant.0 in
+    let high = none_high inside.engine (record { state = first.state; allowed = allowed_of first.start inside.chronicle.trace; shows = first.shown up }) in
     let sent = c.send.ensures.items ∙ ap (λ (xs : List Item). xs ++ c.in_ok-item.item ∷ []) c.reserve.ensures.same.items in (
       subst (λ (b : Bool). IsDesk after c.push.new.self inside.origin inside.copy b inside.marks.items seen) (sym up) on.0,
       on.1,
       subst (λ (o : Option Prepared). KeepsPrepared o after.log.records inside.copy seen) (sym c.keep_while_running.ensures)
           (prepared_while next inside.shadow after.log.records inside.copy seen
           (prepared_same inside.shadow inside.engine.log.records after.log.records inside.copy seen records c.self.invariant.2)),
-      subst (λ (xs : List Item). KeepsItems after c.push.new.self.trace inside.down next inside.changes xs) (sym sent)
-          (subst (λ (b : Bool). KeepsItems after c.push.new.self.trace b next inside.changes (sent_items inside.outlet ++ c.in_ok-item.item ∷ [])) (sym up)
-          (copy_items inside.engine mid after inside.chronicle.trace s next c.args.answer c.args.page rows c.in_ok-item.item (least_holder mid.claims.drain mid.claims.claims) calls inside.changes (sent_items inside.outlet) had
-          (engine_rows inside.engine mid same) copy steps plain c.push.new.self.trace trace)),
+      subst (λ (xs : List Item). KeepsItems after inside.origin c.push.new.self.trace inside.down next inside.changes xs) (sym sent)
+          (subst (λ (b : Bool). KeepsItems after inside.origin c.push.new.self.trace b next inside.changes (sent_items inside.outlet ++ c.in_ok-item.item ∷ [])) (sym up)
+          (copy_items inside.engine mid after inside.origin inside.chronicle.trace s next c.args.answer c.args.page rows c.in_ok-item.item (least_holder mid.claims.drain mid.claims.claims) calls inside.changes (sent_items inside.outlet) had
+          (engine_rows inside.engine mid same) copy steps plain (length inside.chronicle.trace) tends.within.bounded high c.push.new.self.trace trace)),
     )
 
 pub returns-clause-made : goal.returns-clause-made

@@ -17,6 +17,7 @@ use Rattle.rg_desk.proofs.DeskUtility.{flush_system}
 use Rattle.rg_desk.proofs.Preparing.{prepared_on, prepared_same}
 use Rattle.rg_feed.specs.Ends.{sent_items}
 use Rattle.rg_page.specs.Content.{slots_of}
+use Rattle.rg_desk.proofs.DeskGoes.{system_keeps}
 use Rattle.rg_desk.proofs.Feeding.{passed, stays_copied, system_other}
 use Rattle.rg_desk.proofs.desk.Desk.flush_one.Goals as goal
 
@@ -40,9 +41,10 @@ invariant_of-self-2 g c =
           (flush_system inside.down inside.copy _ inside.marks.items c.tell_flush-event.new.marks.items (look inside.volume) (look c.tell_flush-event.new.volume) event told.is) c.self.invariant.1)),
       prepared_same inside.shadow (inside.engine.log.records ++ []) _ inside.copy _ (ap (λ (l : Listed). l.records) told.log ∙ sym (append-nil inside.engine.log.records))
           (prepared_on inside.shadow inside.engine.log.records [] inside.copy _ _ inside.chronicle.calls told.calls.only told.calls.capacities c.self.invariant.0.counted c.self.invariant.2),
-      passed inside.engine c.tell_flush-event.new.engine inside.chronicle.trace entry inside.down inside.stage inside.stage inside.changes (sent_items inside.outlet) c.self.invariant.3
+      passed inside.engine c.tell_flush-event.new.engine inside.origin inside.chronicle.trace entry inside.down inside.stage inside.stage inside.changes (sent_items inside.outlet) c.self.invariant.3
           (λ up. record { slots = ap slots_of told.contents; records = ap (λ (l : Listed). l.records) told.log; units = told.units }) (stays_copied inside.stage)
           (system_other event (flush_system inside.down inside.copy _ inside.marks.items c.tell_flush-event.new.marks.items (look inside.volume) (look c.tell_flush-event.new.volume) event told.is))
+          (λ st a. system_keeps st a event (flush_system inside.down inside.copy _ inside.marks.items c.tell_flush-event.new.marks.items (look inside.volume) (look c.tell_flush-event.new.volume) event told.is))
           c.push.new.self.trace (trace ∙ ap (λ (es : List Entry). es ++ entry ∷ []) c.make_room.ensures.trace),
     )
 

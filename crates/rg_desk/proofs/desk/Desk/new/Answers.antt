@@ -53,7 +53,7 @@ invariant_of-desk g c =
           (subst (λ (n : ℕ). Tends (opened_entry found.copy (row_count b.start) (length (space_pages found.space)) (log_bytes found.log.records) c.calls_now-now.result ∷ []) None no_changes n) (sym b.set_aside)
           (tends_opened found.copy (row_count b.start) (length (space_pages found.space)) (log_bytes found.log.records) c.calls_now-now.result))),
       tt,
-      opened_items found c.calls_now-now.result c.in-Ok.engine c.begin.new.chronicle c.in-Ok.changes (sent_items c.in-Ok.outlet) b c.in-Ok.ensures.changes c.in-Ok.ensures.sent,
+      opened_items found c.calls_now-now.result c.in-Ok.engine c.begin.new.chronicle (record { records = _; copy = found.copy }) c.in-Ok.changes (sent_items c.in-Ok.outlet) b c.in-Ok.ensures.changes c.in-Ok.ensures.sent,
     )
 
 pub returns-in-Ok-clause-opens : goal.returns-in-Ok-clause-opens

@@ -53,7 +53,7 @@ invariant_of-self g c =
       subst (λ (b : Bool). IsDesk next inside.chronicle inside.origin inside.copy b inside.marks.items now) (sym up) on,
       tends,
       subst (λ (o : Option Prepared). KeepsPrepared o next.log.records inside.copy now) (sym c.keep.ensures) kept,
-      same_items inside.engine next inside.chronicle.trace inside.down inside.stage inside.changes (sent_items inside.outlet)
+      same_items inside.engine next inside.origin inside.chronicle.trace inside.down inside.stage inside.changes (sent_items inside.outlet)
           (record { slots = ap (λ (x : Engine). slots_in x) w.forces.same; records = ap (λ (x : Engine). x.log.records) w.forces.same; units = ap (λ (x : Engine). x.units) w.forces.same }) c.self.invariant.3,
     )
 
@@ -74,7 +74,7 @@ invariant_of-self-in-Err g c =
       subst (λ (b : Bool). IsDesk next inside.chronicle inside.origin inside.copy b inside.marks.items now) (sym up) on,
       tends,
       subst (λ (o : Option Prepared). KeepsPrepared o next.log.records inside.copy now) (sym c.forget.ensures) tt,
-      same_items inside.engine next inside.chronicle.trace inside.down inside.stage inside.changes (sent_items inside.outlet)
+      same_items inside.engine next inside.origin inside.chronicle.trace inside.down inside.stage inside.changes (sent_items inside.outlet)
           (record { slots = ap (λ (x : Engine). slots_in x) w.forces.same; records = ap (λ (x : Engine). x.log.records) w.forces.same; units = ap (λ (x : Engine). x.units) w.forces.same }) c.self.invariant.3,
     )
 

@@ -1,13 +1,15 @@
 use Rattle.std.proofs.Common.{ℕ, List, [], ◌∷◌, ◌++◌, sym, ◌∙◌, ap, subst}
+use Rattle.rg_account.specs.Account.{allowed_of}
 use Rattle.rg_log.specs.Kept.{Listed}
 use Rattle.rg_stmt.specs.declared.event.Entry.{Entry}
 use Rattle.rg_tending.specs.Tending.{Tends}
 use Rattle.rg_tending.proofs.Tended.{tends_system}
-use Rattle.rg_desk.specs.Chronicle.{allowed_by, system_entry}
+use Rattle.rg_desk.specs.Chronicle.{system_entry}
 use Rattle.rg_desk.proofs.DeskUtility.{layout_system}
 use Rattle.rg_desk.proofs.DeskGoes.{desk_room, desk_same}
 use Rattle.rg_desk.proofs.Preparing.{prepared_same}
 use Rattle.rg_feed.specs.Ends.{sent_items}
+use Rattle.rg_desk.proofs.DeskGoes.{system_keeps}
 use Rattle.rg_desk.proofs.Feeding.{engine_rows, passed, stays_copied, system_other}
 use Rattle.rg_desk.proofs.desk.Desk.show.Goals as goal
 
@@ -24,7 +26,7 @@ invariant_of-self-2 g c =
     let entry : Entry = system_entry event calls in
     let trace = c.push.ensures.trace ∙ ap (λ (e : Entry). c.make_room.new.self.trace ++ e ∷ []) c.system.ensures in (
       desk_same inside.engine c.make_room.new.self inside.origin inside.copy inside.down _ _ room c.tell_layout-event.result c.calls_now-calls.result c.tell_layout-event.new.engine c.push.new.self
-          told.same told.is (told.right room.state (allowed_by 0 c.make_room.new.self.trace) room.shown room.down_is room.copy_is)
+          told.same told.is (told.right room.state (allowed_of room.start c.make_room.new.self.trace) room.shown room.down_is room.copy_is)
           trace
           (c.push.ensures.calls ∙ ap (λ (e : Entry). e.calls) c.system.ensures)
           c.calls_now-calls.ensures.counted c.push.ensures.recorded,
@@ -32,7 +34,7 @@ invariant_of-self-2 g c =
           (subst (λ (n : ℕ). Tends (inside.chronicle.trace ++ entry ∷ []) inside.stage inside.changes n) (sym told.same.set_aside)
           (tends_system inside.chronicle.trace inside.stage inside.changes inside.engine.set_aside event calls (layout_system inside.copy event told.is) c.self.invariant.1)),
       prepared_same inside.shadow inside.engine.log.records _ inside.copy _ (ap (λ (l : Listed). l.records) told.same.log) c.self.invariant.2,
-      passed inside.engine c.tell_layout-event.new.engine inside.chronicle.trace entry inside.down inside.stage inside.stage inside.changes (sent_items inside.outlet) c.self.invariant.3
-          (λ up. engine_rows inside.engine c.tell_layout-event.new.engine told.same) (stays_copied inside.stage) (system_other event (layout_system inside.copy event told.is))
+      passed inside.engine c.tell_layout-event.new.engine inside.origin inside.chronicle.trace entry inside.down inside.stage inside.stage inside.changes (sent_items inside.outlet) c.self.invariant.3
+          (λ up. engine_rows inside.engine c.tell_layout-event.new.engine told.same) (stays_copied inside.stage) (system_other event (layout_system inside.copy event told.is)) (λ st a. system_keeps st a event (layout_system inside.copy event told.is))
           c.push.new.self.trace (trace ∙ ap (λ (es : List Entry). es ++ entry ∷ []) c.make_room.ensures.trace),
     )

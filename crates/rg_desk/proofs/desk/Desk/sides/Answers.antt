@@ -20,7 +20,7 @@ invariant_of-self g c =
       desk_still inside.engine inside.chronicle inside.origin inside.copy inside.down inside.marks.items seen c.self.invariant.0 c.side.new.self same,
       subst (λ (n : ℕ). Tends inside.chronicle.trace inside.stage inside.changes n) (sym same.set_aside) c.self.invariant.1,
       prepared_same inside.shadow inside.engine.log.records c.side.new.self.log.records inside.copy seen (ap (λ (l : Listed). l.records) same.log) c.self.invariant.2,
-      same_items inside.engine c.side.new.self inside.chronicle.trace inside.down inside.stage inside.changes (sent_items inside.outlet) (engine_rows inside.engine c.side.new.self same) c.self.invariant.3,
+      same_items inside.engine c.side.new.self inside.origin inside.chronicle.trace inside.down inside.stage inside.changes (sent_items inside.outlet) (engine_rows inside.engine c.side.new.self same) c.self.invariant.3,
     )
 
 pub invariant_of-self-in_err-new : goal.invariant_of-self-in_err-new
@@ -32,7 +32,7 @@ invariant_of-self-in_err-new g c =
       subst (λ (n : ℕ). Tends inside.chronicle.trace inside.stage inside.changes n) (sym same.set_aside) c.self.invariant.1,
       subst (λ (o : Option Prepared). KeepsPrepared o c.side.new.self.log.records inside.copy seen) (sym c.new_side.ensures.same)
           (prepared_same inside.shadow inside.engine.log.records c.side.new.self.log.records inside.copy seen (ap (λ (l : Listed). l.records) same.log) c.self.invariant.2),
-      same_items inside.engine c.side.new.self inside.chronicle.trace inside.down inside.stage inside.changes (sent_items inside.outlet) (engine_rows inside.engine c.side.new.self same) c.self.invariant.3,
+      same_items inside.engine c.side.new.self inside.origin inside.chronicle.trace inside.down inside.stage inside.changes (sent_items inside.outlet) (engine_rows inside.engine c.side.new.self same) c.self.invariant.3,
     )
 
 pub invariant_of-self-2 : goal.invariant_of-self-2
@@ -44,7 +44,7 @@ invariant_of-self-2 g c =
       subst (λ (n : ℕ). Tends inside.chronicle.trace inside.stage inside.changes n) (sym same.set_aside) c.self.invariant.1,
       subst (λ (o : Option Prepared). KeepsPrepared o c.side.new.self.log.records inside.copy seen) (sym c.new_side.ensures.same)
           (prepared_same inside.shadow inside.engine.log.records c.side.new.self.log.records inside.copy seen (ap (λ (l : Listed). l.records) same.log) c.self.invariant.2),
-      same_items inside.engine c.side.new.self inside.chronicle.trace inside.down inside.stage inside.changes (sent_items inside.outlet) (engine_rows inside.engine c.side.new.self same) c.self.invariant.3,
+      same_items inside.engine c.side.new.self inside.origin inside.chronicle.trace inside.down inside.stage inside.changes (sent_items inside.outlet) (engine_rows inside.engine c.side.new.self same) c.self.invariant.3,
     )
 
 pub returns-clause-sides : goal.returns-clause-sides

@@ -42,11 +42,11 @@ invariant_of-self-2 g c =
           (sym (changes ∙ ap (λ (b : Bool). started_count b inside.changes) c.is_started-started.ensures)) on.1,
       prepared_same inside.shadow inside.engine.log.records _ inside.copy _
           (ap (λ (x : Engine). x.log.records) (start_aside inside.down inside.stage c.args.options inside.copy inside.engine event next after c.start_utility-event.ensures)) c.self.invariant.2,
-      subst (λ (count : ChangeCount). KeepsItems after c.push.new.self.trace inside.down next count (sent_items c.send_start.new.outlet))
+      subst (λ (count : ChangeCount). KeepsItems after inside.origin c.push.new.self.trace inside.down next count (sent_items c.send_start.new.outlet))
           (sym (changes ∙ ap (λ (b : Bool). started_count b inside.changes) c.is_started-started.ensures))
-          (subst (λ (xs : List Item). KeepsItems after c.push.new.self.trace inside.down next (started_count (is_started event) inside.changes) xs)
+          (subst (λ (xs : List Item). KeepsItems after inside.origin c.push.new.self.trace inside.down next (started_count (is_started event) inside.changes) xs)
           (sym (c.send_start.ensures.items ∙ ap (λ (xs : List Item). xs ++ begin_items event) c.in_ok-reserve.ensures.same.items))
-          (started_items inside.engine after inside.chronicle.trace inside.down inside.stage next c.args.options inside.copy event c.calls_now-calls.result inside.changes (sent_items inside.outlet) c.self.invariant.3
+          (started_items inside.engine after inside.chronicle inside.origin inside.copy inside.marks.items seen inside.down c.self.invariant.0 inside.stage next c.args.options inside.copy event c.calls_now-calls.result inside.changes (sent_items inside.outlet) c.self.invariant.3
           c.start_utility-event.ensures c.push.new.self.trace
           (c.push.ensures.trace ∙ ap (λ (e : Entry). mid.trace ++ e ∷ []) c.utility.ensures ∙ ap (λ (es : List Entry). es ++ utility_entry event None c.calls_now-calls.result ∷ []) c.make_room.ensures.trace))),
     )

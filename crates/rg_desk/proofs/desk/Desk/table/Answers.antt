@@ -1,8 +1,8 @@
-use Rattle.std.proofs.Common.{ℕ, Bool, IfOk, sym, ◌∙◌, ap, subst}
+use Rattle.std.proofs.Common.{ℕ, IfOk, sym, ◌∙◌, ap, subst}
+use Rattle.rg_account.specs.Account.{allowed_of}
 use Rattle.rg_log.specs.Kept.{Listed}
 use Rattle.rg_tending.specs.Tending.{Tends}
 use Rattle.rg_feed.specs.Ends.{sent_items}
-use Rattle.rg_desk.specs.Chronicle.{allowed_by}
 use Rattle.rg_desk.specs.Desk.{old_records}
 use Rattle.rg_desk.specs.Tabled.{EndsWithTable}
 use Rattle.rg_desk.specs.Volume.{seen_volume}
@@ -16,7 +16,7 @@ pub table-requires : goal.table-requires
 table-requires g c =
     let desk = c.self.invariant.0 in
     let up = ap (λ d. d.down) c.self.view_is ∙ c.requires.up in
-    record { shown = record { state = desk.state; allowed = allowed_by 0 c.self.inside.chronicle.trace; shows = desk.shown up } }
+    record { shown = record { state = desk.state; allowed = allowed_of desk.start c.self.inside.chronicle.trace; shows = desk.shown up } }
 
 pub invariant_of-self : goal.invariant_of-self
 invariant_of-self g c =
@@ -26,7 +26,7 @@ invariant_of-self g c =
       desk_still inside.engine inside.chronicle inside.origin inside.copy inside.down inside.marks.items seen c.self.invariant.0 c.table.new.self same,
       subst (λ (n : ℕ). Tends inside.chronicle.trace inside.stage inside.changes n) (sym same.set_aside) c.self.invariant.1,
       prepared_same inside.shadow inside.engine.log.records c.table.new.self.log.records inside.copy seen (ap (λ (l : Listed). l.records) same.log) c.self.invariant.2,
-      same_items inside.engine c.table.new.self inside.chronicle.trace inside.down inside.stage inside.changes (sent_items inside.outlet) (engine_rows inside.engine c.table.new.self same) c.self.invariant.3,
+      same_items inside.engine c.table.new.self inside.origin inside.chronicle.trace inside.down inside.stage inside.changes (sent_items inside.outlet) (engine_rows inside.engine c.table.new.self same) c.self.invariant.3,
     )
 
 pub returns-clause-table : goal.returns-clause-table
@@ -34,4 +34,4 @@ returns-clause-table g c =
     let desk = c.self.invariant.0 in
     let up = ap (λ d. d.down) c.self.view_is ∙ c.requires.up in
     subst (λ d. IfOk c.table.result (EndsWithTable (old_records d) d.first_copy d.trace)) c.self.view_is
-    (ends_with _ _ _ c.self.inside.engine desk.state (allowed_by 0 c.self.inside.chronicle.trace) (record { start = desk.start; starts = desk.starts; run = desk.run; down_is = desk.down_is ∙ up }) (desk.shown up) c.table.result c.table.ensures.table)
+    (ends_with _ _ _ c.self.inside.engine desk.state (allowed_of desk.start c.self.inside.chronicle.trace) (record { start = desk.start; starts = desk.starts; run = desk.run; down_is = desk.down_is ∙ up }) (desk.shown up) c.table.result c.table.ensures.table)

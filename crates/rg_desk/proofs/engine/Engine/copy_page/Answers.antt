@@ -1,4 +1,4 @@
-use Rattle.std.proofs.Common.{◌≡◌, ℕ, true, List, Option, None, if◌then◌else◌, length, refl, sym, ◌∙◌, ap}
+use Rattle.std.proofs.Common.{length, refl, ap}
 use Rattle.rg_desk.proofs.CopyOf.{copy_few, copy_is}
 use Rattle.rg_desk.proofs.engine.Engine.copy_page.Goals as goal
 

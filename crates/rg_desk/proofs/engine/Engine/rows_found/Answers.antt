@@ -1,4 +1,4 @@
-use Rattle.std.proofs.Common.{◌+◌, List, [], ◌∷◌, ◌++◌, Option, sym, ◌∙◌, ap, subst, arith}
+use Rattle.std.proofs.Common.{◌+◌, List, [], ◌∷◌, ◌++◌, Option, sym, ◌∙◌, subst, arith}
 use Rattle.rg_base.specs.declared.row.Row.{Row}
 use Rattle.rg_desk.proofs.Readying.{Found, back_is, before_is, found_ends, found_next, no_other}
 use Rattle.rg_desk.proofs.engine.Engine.rows_found.Goals as goal

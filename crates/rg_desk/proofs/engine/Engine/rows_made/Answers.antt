@@ -1,4 +1,4 @@
-use Rattle.std.proofs.Common.{sym, ◌∙◌}
+use Rattle.std.proofs.Common.{sym}
 use Rattle.rg_desk.proofs.UndoBegins.{has_writes}
 use Rattle.rg_desk.proofs.engine.Engine.rows_made.Goals as goal
 

@@ -28,6 +28,7 @@ returns-then-down-clause-stepped g c =
       made = makes_refused look mid c.book.new.self events.StepDown refl tt refl c.book.ensures;
       loads = loads_refused look old mid c.book.new.self events.StepDown (λ l. refl) (λ n w s. tt) (ap (λ d. d.copy) room) (ap (λ d. d.stage) room) c.book.ensures.follows c.book.ensures.stays.copy;
       only = c.book.ensures.volume ∙ ap (λ d. d.volume) room;
+      feed = c.hand_over.ensures.feed;
     }
 
 pub returns-in-None-clause-stepped : goal.returns-in-None-clause-stepped
@@ -49,6 +50,7 @@ returns-in-None-clause-stepped g c =
       made = makes_refused look mid c.book-in-None.new.self events.Idle refl tt refl c.book-in-None.ensures;
       loads = loads_refused look old mid c.book-in-None.new.self events.Idle (λ l. refl) (λ n w s. tt) (ap (λ d. d.copy) room) (ap (λ d. d.stage) room) c.book-in-None.ensures.follows c.book-in-None.ensures.stays.copy;
       only = c.book-in-None.ensures.volume ∙ ap (λ d. d.volume) room;
+      feed = c.hand_over.ensures.feed;
     }
 
 pub returns-clause-stepped : goal.returns-clause-stepped
@@ -77,6 +79,7 @@ returns-clause-stepped g c =
       made = acts.made;
       loads = loads_asked look old asked c.act.new.desk answer acts.event same acts.loads;
       only = subst (λ d. StepCalls look d (Some answer) c.act.new.desk) same acts.only;
+      feed = c.hand_over.ensures.feed;
     }
 
 pub returns-then-down-clause-works : goal.returns-then-down-clause-works

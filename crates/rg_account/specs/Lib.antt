@@ -1,0 +1,4 @@
+pub mod Account
+pub mod Found
+pub mod Reaching
+pub mod Laws
