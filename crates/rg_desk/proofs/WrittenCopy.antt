@@ -212,7 +212,7 @@ module _ (d : Engine) (c : ChronicleState) (origin : Origin) (copy : ℕ) (marks
       long = length-stamped_first at (length shade.pages) shade.pages
 
       mark_of : (q : ℕ) → 1 ≤ q → (m : Option Position) → IsMarkAt (length shade.pages) at q m → IsMarkOf pages q m
-      mark_of q one None is = tt
+      mark_of q one None is = omega (arith, is, long)
       mark_of q one (Some r) is = (omega (arith, is.0, long), is.1 ∙ ap (λ (x : Content). x.position) (sym (content_at-stamped_all at shade.pages q one is.0)))
 
       old_pages : IfTold wrote.writes.mid.told (λ t. WasAllTidy wrote.writes.mid.capacities t → EachImage (AreOldPages wrote.writes.mid.capacities (other_of copy) next.log.forced) t)

@@ -81,7 +81,7 @@ use Rattle.rg_desk.specs.Answers.{IfFull, IfLogFull, forces, is_answer, is_devic
 use Rattle.rg_desk.specs.Bytes.{taken_of}
 use Rattle.rg_desk.specs.Flushed.{CallsOwn, FlushIs}
 use Rattle.rg_desk.specs.Left.{LeavesState, StoresDuring, StoresLeft}
-use Rattle.rg_desk.specs.OnVolume.{CleanIfTidy, IsOnVolume, LeavesCopies, RestsOn, SoundThroughout}
+use Rattle.rg_desk.specs.OnVolume.{AreClean, CleanIfTidy, IsOnVolume, LeavesCopies, RestsOn, SoundThroughout}
 use Rattle.rg_desk.specs.Chronicle.{ChronicleState, IsRecorded, logged_by, system_entry}
 use Rattle.rg_desk.specs.Prepared.{PreparedSeen}
 use Rattle.rg_desk.specs.Room.{Ground, SaysLog, SaysRoom}
@@ -626,7 +626,8 @@ HasCopy desk p =
     × (desk.ground.log.forced ≡ length desk.ground.log.records)
 
 -- A switch has one entry more, with the operator's answer and the number of calls up to it. The
--- desk has the new copy from then on. All records are forced.
+-- desk has the new copy from then on, and no page of it is still to be written. All records are
+-- forced.
 pub record MadeSwitch {V O : Type 0} (look : V → VolumeSeen) (old : DeskState V O)
     (answer : Answer) (sides : Sides) (new : DeskState V O) : Type 0 where
   pub calls : ℕ
@@ -643,6 +644,7 @@ pub record MadeSwitch {V O : Type 0} (look : V → VolumeSeen) (old : DeskState 
       new.ground.capacity ≡ copy_capacity (look old.volume).capacities (other_of old.copy)
   pub down : new.down ≡ false
   pub taken : IfSome old.shadow (HasCopy new)
+  pub clean : AreClean new.contents new.marks
   pub stays : StaysOpened look old new
 
 -- A switch that failed has one entry more, too. A call has failed, and the desk is down.

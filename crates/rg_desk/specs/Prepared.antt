@@ -5,7 +5,7 @@
 --    that is what their marks say. Where the volume read tidy when the count began, whatever a
 --    crash leaves of the set has them.
 -- 3. While the log has no more records, the copy has the rows of the table.
-use Rattle.std.specs.Prelude.{◌≡◌, ◌≤◌, ◌⊎◌, ℕ, List, Option, Some, None, length, take}
+use Rattle.std.specs.Prelude.{◌≡◌, ◌≤◌, ◌<◌, ◌⊎◌, ℕ, List, Option, Some, None, length, take}
 use Rattle.rg_anew.specs.Writing.{HasFirst, WritesCopy}
 use Rattle.rg_base.specs.declared.position.Position.{Position}
 use Rattle.rg_base.specs.declared.which.Which.{Which}
@@ -40,9 +40,9 @@ abbrev pub prepared_seen : Option Prepared → Option PreparedSeen
 prepared_seen None = None
 prepared_seen (Some p) = Some (record { shade = p.shadow; records = p.records })
 
--- what a mark says of page p of these
+-- what a mark says of page p of these; each of them has one
 abbrev pub IsMarkOf : List Content → (p : ℕ) → Option Position → Type 0
-IsMarkOf pages p None = Unit {0}
+IsMarkOf pages p None = length pages < p
 IsMarkOf pages p (Some q) = (p ≤ length pages) × (q.0 ≡ (content_at pages p).position)
 
 -- a new copy that was written when the log had some first of these records, while this copy is
@@ -85,9 +85,9 @@ IsSideOfKept (Some p) side =
     (side.pages ≡ length p.shadow.pages) × (side.spots ≡ spots_of (shade_slots p.shadow))
     × IsRightSideOf p.shadow side
 
--- a mark that says of one of so many pages that it was written with this position
+-- a mark that says of one of so many pages that it was written with this position; each has one
 abbrev pub IsMarkAt : (count at p : ℕ) → Option Position → Type 0
-IsMarkAt count at p None = Unit {0}
+IsMarkAt count at p None = count < p
 IsMarkAt count at p (Some q) = (p ≤ count) × (q.0 ≡ at)
 
 -- so is each of these marks

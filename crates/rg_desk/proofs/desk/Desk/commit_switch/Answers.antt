@@ -14,7 +14,9 @@ use Rattle.rg_switch.specs.Switched.{other_of}
 use Rattle.rg_tending.specs.Tending.{Tends, utility_entry}
 use Rattle.rg_desk.specs.Desk.{IsDesk, old_records}
 use Rattle.rg_desk.specs.Engine.{seen_in}
-use Rattle.rg_desk.specs.OnVolume.{SoundThroughout}
+use Rattle.rg_page.specs.Content.{Content}
+use Rattle.rg_desk.specs.OnVolume.{AreClean, SoundThroughout}
+use Rattle.rg_desk.proofs.Marks.{all_clean}
 use Rattle.rg_desk.specs.Prepared.{IsPrepared, KeepsPrepared, PreparedSeen, prepared_seen}
 use Rattle.rg_desk.specs.Turned.{LogsSwitch, Turns}
 use Rattle.rg_desk.specs.Volume.{CallsLog, seen_volume}
@@ -198,6 +200,7 @@ returns-in-Ok-clause-ok g c =
       down = up;
       taken = subst (λ (o : Option PreparedSeen). IfSome o (λ x. ((seen_in c.turn-turned.new.engine).pages ≡ x.shade.pages) × (capacity_in c.turn-turned.new.engine.space ≡ x.shade.capacity) × (c.turn-turned.new.engine.log.forced ≡ length c.turn-turned.new.engine.log.records))) (sym kept_is)
           (takes.pages, takes.capacity, ap (λ (l : Listed). l.forced) log_is ∙ c.in-Ok.ensures.ok.forced ∙ ap (λ (l : Listed). length l.records) (sym log_is));
+      clean = subst (λ (ps : List Content). AreClean ps p.marks.items) (sym takes.pages) (all_clean p.shadow.pages p.marks.items is.marked);
       stays = record {
         older = c.push.ensures.older ∙ ap (λ d. d.older) c.self.view_is;
         log_pages = pages ∙ ap (λ d. d.ground.log.pages) c.self.view_is;
