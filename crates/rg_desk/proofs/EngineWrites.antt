@@ -91,7 +91,7 @@ module _ (st : State) (allowed : ℕ) (d : Engine) (shows : Shows st allowed d) 
       (mine st allowed d shows session unit own old.key alone)
       (is ∙ ap (λ (ps : List (List Slot)). planned_drop ps home (slot_of ps home)) shows.by.slots)
 
-  -- there is no plan only where the writes so far have allowed 3,221 bytes a page
+  -- there is no plan only where the entries so far have allowed 3,221 bytes a page
   pub engine_full_put : (b : ℕ) → b ≤ 826 → put_plan unit.tran.0 b d ≡ None → 3221 * capacity_in d.space ≤ allowed
   engine_full_put b small none =
       let full = full_put limit s good t (begins st allowed d shows session unit own) (units_with t d) (are_live st allowed d shows session unit own) b small

@@ -70,7 +70,7 @@ abbrev pub is_answer : Stmt → Reply → Bool
 is_answer stmt Drained = needs_claim stmt
 is_answer stmt reply = is_served stmt reply
 
--- FULL comes only where the writes so far have allowed 3,221 bytes for each page of the copy
+-- FULL comes only where the entries so far have allowed 3,221 bytes for each page of the copy
 abbrev pub IfFull : Reply → (allowed capacity : ℕ) → Type 0
 IfFull (Full need) allowed capacity = 3221 * capacity ≤ allowed
 IfFull reply allowed capacity = Unit {0}

@@ -296,11 +296,11 @@ is_reply stmt reply = is_answer stmt reply
 -- A statement has one entry more, with the number of calls up to it. It is answered DOWN if and
 -- only if the desk is down. The volume is called only for the COMMIT of a unit that has written: at
 -- OK all records are forced, and DEVICE, which brings the desk down, comes only where a call
--- failed. FULL stands in it exactly where there is no plan of the write, and then the writes before
--- have allowed so many bytes. LOGFULL stands in it exactly where the log has less left than the
--- write needs, and then the writes before have taken nearly all of it. What a crash leaves at each
--- moment of it is sound, and stores a table that process death leaves of the state before it. A
--- COMMIT that calls the volume may be in then, or not.
+-- failed. FULL stands in it exactly where there is no plan of the write, and then the entries
+-- before have allowed so many bytes. LOGFULL stands in it exactly where the log has less left than
+-- the write needs, and then the writes before have taken nearly all of it. What a crash leaves at
+-- each moment of it is sound, and stores a table that process death leaves of the state before it.
+-- A COMMIT that calls the volume may be in then, or not.
 pub record MadeSaid {V O : Type 0}
     (look : V → VolumeSeen) (old : DeskState V O) (session : Session) (stmt : Stmt)
     (new : DeskState V O) : Type 0 where

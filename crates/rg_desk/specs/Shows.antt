@@ -8,7 +8,7 @@
 --    one transaction. Every live unit is some session's.
 -- 4. The log has reserved what the open units are owed, what is set aside for the utility, and
 --    nothing else.
--- 5. The pages claim no more bytes than the writes so far have allowed.
+-- 5. The pages claim no more bytes than the entries so far have allowed.
 -- 6. The log stores the committed rows, and what is forced of it stores no others.
 -- 7. Its records tell of the open units, and it has room for all that it has reserved.
 use Rattle.std.specs.Prelude.{◌≡◌, ◌≤◌, ◌+◌, ℕ, suc, false, List, [], Option, Some, None, length, take, drop}
@@ -72,7 +72,7 @@ pub record UnitsShown (records : List Record) (s : LogState) (units : List (Opti
       → unit_at units n ≡ Some other → one.tran.0 ≡ other.tran.0 → m ≡ n
   pub all : (t : ℕ) → IsLive s.live t → HasSession units t
 
--- the engine shows the state by what its records leave, and the writes so far have allowed so many
+-- the engine shows the state by what its records leave, and the entries so far have allowed so many
 -- bytes
 pub record ShowsBy (st : State) (allowed : ℕ) (d : Engine) (s : LogState) : Type 0 where
   pub up : st.down ≡ false

@@ -1,9 +1,9 @@
 -- What a statement answers and leaves, but for its claim.
 --
 -- 1. The reply is the plain table's, or NOMEMORY, FULL or LOGFULL in its place. FULL is returned if
---    and only if there is no plan of the write, and then the writes so far have allowed 3,221 bytes
---    for each page of the copy. LOGFULL is returned if and only if the log has less left than the
---    write needs.
+--    and only if there is no plan of the write, and then the entries so far have allowed 3,221
+--    bytes for each page of the copy. LOGFULL is returned if and only if the log has less left than
+--    the write needs.
 -- 2. DEVICE is returned only for the COMMIT of a session that has locks. The engine is down from
 --    then on, and nothing is said of it but what its log stores: the committed rows, with those of
 --    the COMMIT or without.
