@@ -1,6 +1,7 @@
 pub mod Stepping
 pub mod Steps
 pub mod Loading
+pub mod Told
 pub mod Making
 pub mod Stops
 pub mod Drafting

@@ -116,8 +116,8 @@ module _ (all : ℕ) (blocker : Option Session) (answer : Answer) where
   -- the event that is no RELOAD, or the stop that stands in its place
   pub space_or_stop : (capacity weight : ℕ) (s : Stage) (event : Event) (made : Result Unit ShadowFault) (result : Event) → is_filling event ≡ false → s.switched ≡ false → is_plain (turn_of all blocker answer (numbers_of s) s.drain event) ≡ true
       → IfErr made (IsFullOf capacity weight) → IsEventOrStop event made result → HasPagesFor capacity weight s result
-  space_or_stop capacity weight s event made result unfilled unswitched plain full (inl is) = subst (HasPagesFor capacity weight s) (sym is) (space_unfilled capacity weight s event unfilled)
-  space_or_stop capacity weight s event made result unfilled unswitched plain full (inr (inl is)) = subst (HasPagesFor capacity weight s) (sym is) tt
+  space_or_stop capacity weight s event made result unfilled unswitched plain full (inl is) = subst (HasPagesFor capacity weight s) (sym is.0) (space_unfilled capacity weight s event unfilled)
+  space_or_stop capacity weight s event made result unfilled unswitched plain full (inr (inl is)) = subst (HasPagesFor capacity weight s) (sym is.0) tt
   space_or_stop capacity weight s event made result unfilled unswitched plain full (inr (inr is)) =
       let bound : 3221 * capacity ≤ weight = subst (λ (m : Result Unit ShadowFault). IfErr m (IsFullOf capacity weight)) is.2 full in
       subst (HasPagesFor capacity weight s) (sym is.0) (unswitched, (λ none. absurd (some_sorted s event is.1 unswitched plain none)), λ loaded. bound)

@@ -29,6 +29,8 @@ use Rattle.rg_switch.specs.Switched.{other_of}
 use Rattle.rg_tending.specs.Tending.{FollowsBy, NextBy, is_booked, is_plain, utility_entry}
 use Rattle.rg_course.specs.Loading.{Loading, loading_after}
 use Rattle.rg_image.specs.Rules.{copy_capacity}
+use Rattle.rg_phase.specs.Made.{IsAsMade}
+use Rattle.rg_phase.specs.declared.made.Made.{Made}
 use Rattle.rg_phase.specs.Step.{Acts, HasPagesFor, IsSwitchFrom, Loads, Makes, NextMade, copy_left, is_device_stop, is_made}
 use Rattle.rg_phase.proofs.Loading.{shows_none, shows_same, shows_step, shows_switched, space_any}
 use Rattle.rg_phase.specs.Working.{Writes}
@@ -152,16 +154,17 @@ module _ {V O : Type 0} (look : V → VolumeSeen) where
       let moved : Loads look (record old { spare = asked.spare; kept = Some answer; operator = asked.operator }) event new = subst (λ (d : DeskState V O). Loads look d event new) same loads in
       record { space = moved.space; shows = moved.shows }
 
-  module _ (old : DeskState V O) (answer : Answer) where
+  module _ (old : DeskState V O) (answer : Answer) (made_of : Made) (taken : ℕ) where
     -- the event is as the other copy has room
     abbrev Space : Event → Type 0
     Space event = IfSome old.stage (λ s. HasPagesFor (copy_capacity (look old.volume).capacities (other_of old.copy)) (weigh_feed old.feed) s event)
 
     -- a step was made, after a new copy was written or not
     acts_made : (mid new : DeskState V O) (event : Event) (items : List Item) → is_some old.stage ≡ true → Writes look old mid → NextMade old.down old.stage old.changes old.covered (Some answer) event → copy_left old.copy event ≡ old.copy → IsSwitchFrom old.copy event
-        → (is_device_stop event ≡ true → Rose (look old.volume).faults (look mid.volume).faults) → Space event → MadeStep look mid (Some answer) event items new → Acts look old answer new
-    acts_made mid new event items runs wrote next left from device space made = record {
+        → (is_device_stop event ≡ true → Rose (look old.volume).faults (look mid.volume).faults) → Space event → IsAsMade made_of old.stage taken event → MadeStep look mid (Some answer) event items new → Acts look old answer made_of taken new
+    acts_made mid new event items runs wrote next left from device space told made = record {
       event = event;
+      told = told;
       next = next;
       loads = record {
         space = space;
@@ -198,19 +201,20 @@ module _ {V O : Type 0} (look : V → VolumeSeen) where
 
     -- it was booked
     pub acts_booked : (mid new : DeskState V O) (event : Event) → is_some old.stage ≡ true → Writes look old mid → IsNextStep old (Some answer) event → is_booked event ≡ true
-        → (is_device_stop event ≡ true → Rose (look old.volume).faults (look mid.volume).faults) → Space event → MadeStep look mid (Some answer) event [] new → Acts look old answer new
-    acts_booked mid new event runs wrote next booked device space made =
-        acts_made mid new event [] runs wrote (next_booked old.down old.stage old.changes old.covered answer event next) (booked_left old.copy event booked) (booked_from old.copy event booked) device space made
+        → (is_device_stop event ≡ true → Rose (look old.volume).faults (look mid.volume).faults) → Space event → IsAsMade made_of old.stage taken event → MadeStep look mid (Some answer) event [] new → Acts look old answer made_of taken new
+    acts_booked mid new event runs wrote next booked device space told made =
+        acts_made mid new event [] runs wrote (next_booked old.down old.stage old.changes old.covered answer event next) (booked_left old.copy event booked) (booked_from old.copy event booked) device space told made
 
     -- a page was copied
-    pub acts_copied : (mid new : DeskState V O) (page rows : ℕ) → is_some old.stage ≡ true → Writes look old mid → NextMade old.down old.stage old.changes old.covered (Some answer) (events.Unload page rows) → MadeCopy look mid answer page rows new → Acts look old answer new
+    pub acts_copied : (mid new : DeskState V O) (page rows : ℕ) → is_some old.stage ≡ true → Writes look old mid → NextMade old.down old.stage old.changes old.covered (Some answer) (events.Unload page rows) → MadeCopy look mid answer page rows new → Acts look old answer made_of taken new
     acts_copied mid new page rows runs wrote next made =
-        acts_made mid new (events.Unload page rows) (PageCopy page made.position made.copied ∷ []) runs wrote next refl tt (λ is. absurd (cc (is))) (space_any old.stage (copy_capacity (look old.volume).capacities (other_of old.copy)) (weigh_feed old.feed) (events.Unload page rows) (λ s. tt)) made.made
+        acts_made mid new (events.Unload page rows) (PageCopy page made.position made.copied ∷ []) runs wrote next refl tt (λ is. absurd (cc (is))) (space_any old.stage (copy_capacity (look old.volume).capacities (other_of old.copy)) (weigh_feed old.feed) (events.Unload page rows) (λ s. tt)) tt made.made
 
     -- the copies were switched
-    pub acts_switched : (new : DeskState V O) (sides : Sides) → is_some old.stage ≡ true → NextMade old.down old.stage old.changes old.covered (Some answer) (events.Switched (other_of old.copy) sides) → MadeSwitch look old answer sides new → Acts look old answer new
+    pub acts_switched : (new : DeskState V O) (sides : Sides) → is_some old.stage ≡ true → NextMade old.down old.stage old.changes old.covered (Some answer) (events.Switched (other_of old.copy) sides) → MadeSwitch look old answer sides new → Acts look old answer made_of taken new
     acts_switched new sides runs next made = record {
       event = events.Switched (other_of old.copy) sides;
+      told = tt;
       next = next;
       loads = record {
         space = space_any old.stage (copy_capacity (look old.volume).capacities (other_of old.copy)) (weigh_feed old.feed) (events.Switched (other_of old.copy) sides) (λ s. tt);
@@ -239,9 +243,10 @@ module _ {V O : Type 0} (look : V → VolumeSeen) where
     }
 
     -- the record of the switch could not be forced
-    pub acts_fallen : (new : DeskState V O) → is_some old.stage ≡ true → NextMade old.down old.stage old.changes old.covered (Some answer) (events.Stop reasons.Device) → MadeFall look old answer new → Acts look old answer new
+    pub acts_fallen : (new : DeskState V O) → is_some old.stage ≡ true → NextMade old.down old.stage old.changes old.covered (Some answer) (events.Stop reasons.Device) → MadeFall look old answer new → Acts look old answer made_of taken new
     acts_fallen new runs next made = record {
       event = events.Stop reasons.Device;
+      told = tt;
       next = next;
       loads = record {
         space = space_any old.stage (copy_capacity (look old.volume).capacities (other_of old.copy)) (weigh_feed old.feed) (events.Stop reasons.Device) (λ s. tt);

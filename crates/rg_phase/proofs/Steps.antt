@@ -72,9 +72,9 @@ pub or_stop_next : {V O : Type 0} (desk : DeskState V O) (s : Stage) (answer : A
     → IsEventOrStop event made result
     → (is_booked result ≡ true) × (is_device_stop result ≡ false) × IsNextStep desk (Some answer) result
 or_stop_next desk s answer event made result down stage unswitched booked quiet next (inl is) =
-    subst (λ (e : Event). (is_booked e ≡ true) × (is_device_stop e ≡ false) × IsNextStep desk (Some answer) e) (sym is) (booked, quiet, next_runs desk s answer event down stage booked next)
+    subst (λ (e : Event). (is_booked e ≡ true) × (is_device_stop e ≡ false) × IsNextStep desk (Some answer) e) (sym is.0) (booked, quiet, next_runs desk s answer event down stage booked next)
 or_stop_next desk s answer event made result down stage unswitched booked quiet next (inr (inl is)) =
-    subst (λ (e : Event). (is_booked e ≡ true) × (is_device_stop e ≡ false) × IsNextStep desk (Some answer) e) (sym is)
+    subst (λ (e : Event). (is_booked e ≡ true) × (is_device_stop e ≡ false) × IsNextStep desk (Some answer) e) (sym is.0)
     (refl, refl, next_runs desk s answer (events.Stop reasons.NoMemory) down stage refl (stop_next s desk.changes desk.covered answer))
 or_stop_next desk s answer event made result down stage unswitched booked quiet next (inr (inr is)) =
     subst (λ (e : Event). (is_booked e ≡ true) × (is_device_stop e ≡ false) × IsNextStep desk (Some answer) e) (sym is.0)

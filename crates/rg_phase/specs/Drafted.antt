@@ -12,7 +12,9 @@ use Rattle.rg_caught.specs.Caught.{IsCaughtUp}
 use Rattle.rg_fold.specs.Fold.{changes, copied_rows, since_begin}
 use Rattle.rg_fold.specs.declared.item.Item.{Item}
 use Rattle.rg_reload.specs.Order.{IsInOrder}
-use Rattle.rg_reload.specs.Reloading.{Reloading}
+use Rattle.rg_reload.specs.Reloading.{LacksPage, Reloading}
+use Rattle.rg_reload.specs.declared.fault.ReloadFault.{ReloadFault}
+use Rattle.rg_reload.specs.declared.fault.ReloadFault.TheVariants as reloads
 use Rattle.rg_shadow.specs.Shade.{Shade, stage_in}
 use Rattle.rg_shadow.specs.declared.drafts.IndexStage.TheVariants.{Built}
 use Rattle.rg_shadow.specs.declared.fault.ShadowFault.{ShadowFault}
@@ -42,15 +44,16 @@ pub record SameRows (old new : Shade) : Type 0 where
   pub pages : new.pages ≡ old.pages
   pub targets : new.targets ≡ old.targets
 
--- this index is built
-abbrev pub IsBuiltIn : Which → Shade → Type 0
-IsBuiltIn which shade = stage_in which shade ≡ Built
-
 -- it is this copy, of so many pages at most, and its indexes are built
 pub record IsReady (copy capacity : ℕ) (shade : Shade) : Type 0 where
   pub copy_is : shade.copy ≡ copy
   pub capacity_is : shade.capacity ≡ capacity
   pub built : (which : Which) → stage_in which shade ≡ Built
+
+-- there is no page for the next rows, where it was refused so
+abbrev pub LacksPageIfFull : Reloading → ReloadFault → Type 0
+LacksPageIfFull p (reloads.NoSpace pages) = LacksPage p
+LacksPageIfFull p reloads.NoMemory = Unit {0}
 
 -- the copy had no room, and what was sent weighs 3,221 bytes for each page that it may have; or
 -- there was no memory

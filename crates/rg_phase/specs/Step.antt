@@ -28,6 +28,8 @@ use Rattle.rg_model.specs.Packed.{page_count}
 use Rattle.rg_model.specs.Turn.{turn_of}
 use Rattle.rg_outside.specs.Faults.{Rose}
 use Rattle.rg_outside.specs.Told.{AddsAnswer, HandsOver}
+use Rattle.rg_phase.specs.Made.{IsAsMade}
+use Rattle.rg_phase.specs.declared.made.Made.{Made}
 use Rattle.rg_reach.specs.Weighed.{weigh_feed}
 use Rattle.rg_stage.specs.NumbersOf.{numbers_of}
 use Rattle.rg_stmt.specs.declared.event.Event.{Event}
@@ -139,19 +141,23 @@ pub record Loads {V O : Type 0} (look : V → VolumeSeen) (old : DeskState V O) 
       ≡ loading_after (loading_of old.copy (numbers_of s)) event)
       × (IsLoaded (numbers_of s) → IsLoaded (numbers_of t))))
 
--- a utility runs, and the operator has given this answer
+-- A utility runs, and the operator has given this answer. This is made of the new copy, with so
+-- many changes.
 pub record Acts {V O : Type 0} (look : V → VolumeSeen) (old : DeskState V O) (answer : Answer)
-    (new : DeskState V O) : Type 0 where
+    (made_of : Made) (taken : ℕ) (new : DeskState V O) : Type 0 where
   pub event : Event
+  pub told : IsAsMade made_of old.stage taken event
   pub next : NextMade old.down old.stage old.changes old.covered (Some answer) event
   pub made : Makes look old (Some answer) event new
   pub loads : Loads look old event new
   pub only : StepCalls look old (Some answer) new
 
 pub record Stepped {V O : Type 0} (look : V → VolumeSeen) (answers : O → Option (List Answer))
-    (last : O → Option ℕ) (old new : DeskState V O) : Type 0 where
+    (last : O → Option ℕ) (old : DeskState V O) (made_of : Made) (taken : ℕ)
+    (new : DeskState V O) : Type 0 where
   pub answer : Option Answer
   pub event : Event
+  pub told : IsAsMade made_of old.stage taken event
   pub next : NextMade old.down old.stage old.changes old.covered answer event
   pub asked : DeskState V O
   pub same :

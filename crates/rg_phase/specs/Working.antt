@@ -1,5 +1,5 @@
 -- What a step makes before its entry.
-use Rattle.std.specs.Prelude.{◌≡◌, ◌⊎◌, ◌≤◌, ◌+◌, ℕ, Bool, true, false, [], Err, Option}
+use Rattle.std.specs.Prelude.{◌≡◌, ◌⊎◌, ◌≤◌, ℕ, Bool, true, false, [], Ok, Err, Option, is_err}
 use Rattle.std.specs.declared.result.Result.{Result}
 use Rattle.rg_account.specs.Account.{allowed_of}
 use Rattle.rg_base.specs.declared.control.Answer.{Answer}
@@ -21,6 +21,8 @@ use Rattle.rg_model.specs.Right.{are_quiet_right, is_packed}
 use Rattle.rg_model.specs.State.{Table, row_of}
 use Rattle.rg_model.specs.Turn.{alter, is_term, step_of, turn_at}
 use Rattle.rg_phase.specs.Step.{is_device_stop}
+use Rattle.rg_reload.specs.declared.fault.ReloadFault.{ReloadFault}
+use Rattle.rg_reload.specs.declared.packer.Filled.{Filled}
 use Rattle.rg_shadow.specs.Shade.{shade_slots}
 use Rattle.rg_shadow.specs.declared.fault.ShadowFault.{ShadowFault}
 use Rattle.rg_shadow.specs.declared.fault.ShadowFault.TheVariants.{NoSpace}
@@ -36,6 +38,10 @@ pub record MakesStep (stage : Stage) (answer : Answer) (step : Step) : Type 0 wh
   pub unswitched : stage.switched ≡ false
   pub no_term : is_term answer.command ≡ false
   pub step_is : step_of (alter (numbers_of stage) answer.command) stage.drain ≡ step
+
+-- the utility has switched, or the operator ends it
+abbrev pub IsOver : Stage → Answer → Type 0
+IsOver stage answer = (stage.switched ≡ true) ⊎ (is_term answer.command ≡ true)
 
 -- a new copy was written, or was not: all that callers see but that is as it was
 pub record Writes {V O : Type 0} (look : V → VolumeSeen) (old new : DeskState V O) : Type 0 where
@@ -86,15 +92,17 @@ takes (events.Log iteration took left verdict) = true
 takes (events.Last took left) = true
 takes event = false
 
--- as many changes are taken as the event tells
-abbrev pub TakesAsTold : Event → (before after : ℕ) → Type 0
-TakesAsTold (events.Log iteration took left verdict) before after = after ≡ before + took
-TakesAsTold (events.Last took left) before after = after ≡ before + took
-TakesAsTold event before after = Unit {0}
+-- RELOAD of the page that was filled, or a stop
+abbrev pub IsPageOf : Result Filled ReloadFault → Event → Type 0
+IsPageOf (Ok filled) (events.Reload page rows) = (page ≡ filled.page) × (rows ≡ filled.rows)
+IsPageOf (Err fault) (events.Reload page rows) = ⊥
+IsPageOf made (events.Stop reason) = Unit {0}
+IsPageOf made event = ⊥
 
--- an event, or the stop that stands in its place: STOP NOSPACE where changes had no room
+-- an event whose work was made, or the stop that stands in its place where it was not: STOP NOSPACE
+-- where changes had no room
 abbrev pub IsEventOrStop : Event → Result Unit ShadowFault → (result : Event) → Type 0
 IsEventOrStop event made result =
-    (result ≡ event)
-    ⊎ ((result ≡ events.Stop reasons.NoMemory)
+    ((result ≡ event) × (is_err made ≡ false))
+    ⊎ (((result ≡ events.Stop reasons.NoMemory) × (is_err made ≡ true))
     ⊎ ((result ≡ events.Stop reasons.NoSpace) × (takes event ≡ true) × (made ≡ Err NoSpace)))

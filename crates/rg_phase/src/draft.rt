@@ -8,9 +8,12 @@
 ghost use Rattle.std.specs.Prelude.{◌≡◌, ◌+◌, true, length, IfOk, IfErr, OnOk};
 ghost use Rattle.rg_fold.specs.Fold.{since_begin};
 ghost use Rattle.rg_fold.specs.Lawful.{Lawful};
-ghost use Rattle.rg_phase.specs.Drafted.{IsBuiltIn, IsDraftOf, IsFullOf, IsPackingOf, IsReady};
-ghost use Rattle.rg_phase.specs.Drafted.{SameRows};
+ghost use Rattle.rg_phase.specs.Drafted.{IsDraftOf, IsFullOf, IsPackingOf, IsReady};
+ghost use Rattle.rg_phase.specs.Drafted.{LacksPageIfFull, SameRows};
 ghost use Rattle.rg_reach.specs.Weighed.{weigh_feed};
+ghost use Rattle.rg_reload.specs.Reloading.{Fills};
+ghost use Rattle.rg_shadow.specs.Shade.{is_built_stage, stage_in, with_stage};
+ghost use Rattle.rg_shadow.specs.declared.drafts.IndexStage.TheVariants.{Sorted, Built};
 
 use rg_base::homes::Homes;
 use rg_base::no_memory::NoMemory;
@@ -63,8 +66,11 @@ impl Packing {
     ) -> Result<Packing, NoMemory>
         requires lawful { Lawful (since_begin inlet.now.items) }
         requires none { inlet.now.taken ≡ 0 }
-        ensures { IfOk result (λ p. IsPackingOf p.options p.packer inlet.now.items
+        ensures packing { IfOk result (λ p. IsPackingOf p.options p.packer inlet.now.items
             inlet.now.taken) }
+        ensures options { IfOk result (λ p. p.options ≡ options.now) }
+        ensures copy { IfOk result (λ p. p.packer.copy ≡ copy) }
+        ensures capacity { IfOk result (λ p. p.packer.capacity ≡ capacity) }
     {
         let rows = rows_of(alloc, inlet.copies())?;
         let packer = Packer::new(alloc, copy, rows, options, capacity)?;
@@ -81,6 +87,9 @@ impl Packing {
         ensures rows { self.new.packer.rows ≡ self.old.packer.rows }
         ensures by { self.new.packer.options ≡ self.old.packer.options }
         ensures options { self.new.options ≡ self.old.options }
+        ensures filled { IfOk result (λ filled.
+            Fills self.old.packer filled self.new.packer) }
+        ensures full { IfErr result (LacksPageIfFull self.old.packer) }
     {
         match self.packer.next_page()? {
             Some(filled) => Ok(filled),
@@ -92,8 +101,11 @@ impl Packing {
     pub fn load(self, alloc: Global, inlet: &FeedIn) -> Result<Draft, NoMemory>
         requires lawful { Lawful (since_begin inlet.now.items) }
         requires packing { IsPackingOf self.options self.packer inlet.now.items inlet.now.taken }
-        ensures { IfOk result (λ d. IsDraftOf d.options d.shadow inlet.now.items
+        ensures draft { IfOk result (λ d. IsDraftOf d.options d.shadow inlet.now.items
             inlet.now.taken) }
+        ensures options { IfOk result (λ d. d.options ≡ self.options) }
+        ensures copy { IfOk result (λ d. d.shadow.copy ≡ self.packer.copy) }
+        ensures capacity { IfOk result (λ d. d.shadow.capacity ≡ self.packer.capacity) }
     {
         let Packing {
             packer,
@@ -138,6 +150,7 @@ impl Draft {
     pub fn sort(&mut self, which: Which) -> Result<(), NoMemory>
         ensures rows { SameRows self.old.shadow self.new.shadow }
         ensures options { self.new.options ≡ self.old.options }
+        ensures ok { OnOk result (self.new.shadow ≡ with_stage which Sorted self.old.shadow) }
     {
         self.shadow.sort(which)
     }
@@ -146,6 +159,7 @@ impl Draft {
     pub fn build(&mut self, which: Which) -> Result<(), NoMemory>
         ensures rows { SameRows self.old.shadow self.new.shadow }
         ensures options { self.new.options ≡ self.old.options }
+        ensures ok { OnOk result (self.new.shadow ≡ with_stage which Built self.old.shadow) }
     {
         match self.shadow.stage(which) {
             IndexStage::Sorted => self.shadow.build(which),
@@ -190,7 +204,7 @@ impl Draft {
 
     // Whether this index is built.
     fn has(&self, which: Which) -> bool
-        ensures { result ≡ true → IsBuiltIn which self.now.shadow }
+        ensures { result ≡ is_built_stage (stage_in which self.now.shadow) }
     {
         matches!(self.shadow.stage(which), IndexStage::Built)
     }

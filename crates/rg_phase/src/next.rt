@@ -10,11 +10,12 @@
 //    became of it.
 // 6. A page is filled only where the other copy may have it, with the empty one that is due after
 //    it. Where it may not, the utility stops.
-ghost use Rattle.std.specs.Prelude.{ℕ, ◌≡◌, ◌≤◌, ◌<◌, ◌+◌, false, true, Ok, IfSome};
+ghost use Rattle.std.specs.Prelude.{ℕ, ◌≡◌, ◌≤◌, ◌<◌, ◌+◌, false, true, Ok, IfSome, IsNone};
 ghost use Rattle.rg_model.specs.Turn.{step_of, turn_at, turn_of};
 ghost use Rattle.rg_model.specs.Packed.{page_count};
 ghost use Rattle.rg_phase.specs.Step.{HasPagesFor, is_device_stop};
-ghost use Rattle.rg_phase.specs.Working.{IsEventOrStop, IsReloadEvent, MakesStep, is_filling, takes};
+ghost use Rattle.rg_phase.specs.Working.{IsEventOrStop, IsOver, IsPageOf, IsReloadEvent, MakesStep};
+ghost use Rattle.rg_phase.specs.Working.{is_filling, takes};
 ghost use Rattle.rg_stage.specs.NumbersOf.{numbers_of};
 ghost use Rattle.rg_tending.specs.Tending.{is_booked, is_plain};
 
@@ -78,7 +79,8 @@ pub fn next_event(stage: &Stage, all: u64, holder: Option<Session>, answer: &Ans
 
 /// The step that a utility makes, or none where it has switched or the operator ends it.
 pub fn step_now(stage: &Stage, answer: &Answer) -> Option<Step>
-    ensures { IfSome result (MakesStep stage.entry.now answer.entry.now) }
+    ensures step { IfSome result (MakesStep stage.entry.now answer.entry.now) }
+    ensures none { IsNone result → IsOver stage.entry.now answer.entry.now }
 {
     if stage.switched || is_terminated(&answer.command) {
         return None;
@@ -123,6 +125,7 @@ fn page_event(stage: &Stage, capacity: u32, filled: &Filled) -> Event
     requires left { stage.now.reloaded < stage.now.unloaded }
     ensures event { IsReloadEvent stage.now result }
     ensures space { (weight : ℕ) → HasPagesFor capacity weight stage.now result }
+    ensures told { IsPageOf (Ok filled.now) result }
 {
     let Ok(next) = page_at(stage.options.freepage, u64::from(stage.filled) + 1) else {
         return Event::Stop(StopReason::NoMemory);
@@ -145,6 +148,7 @@ pub fn reload_event(stage: &Stage, capacity: u32, made: Result<Filled, ReloadFau
     requires left { stage.now.reloaded < stage.now.unloaded }
     ensures event { IsReloadEvent stage.now result }
     ensures space { (weight : ℕ) → HasPagesFor capacity weight stage.now result }
+    ensures told { IsPageOf made result }
 {
     match (made, has_page(stage, capacity)) {
         (Ok(filled), Ok(true)) => page_event(stage, capacity, &filled),

@@ -8,10 +8,12 @@
 //    why the utility stops.
 // 5. Pages are copied first. With RELOAD the rows of all copies are packed, in clustering order.
 //    Before the first list is sorted the new copy is loaded. In LOG and LAST the next changes are
-//    made in it.
+//    made in it, after those that the stage counts.
 // 6. It is written whole, with a sync at the end, before WRITTEN is said, once no change is left.
 //    The desk keeps it for the switch. At GIVEUP it is taken back.
-ghost use Rattle.std.specs.Prelude.{◌≡◌, ◌≤◌, ◌+◌, List, false, Some, None, Err, OnErr, OnOk, IfErr, IfOk, length};
+// 7. An entry tells what was made: RELOAD the rows of its page, SORT and BUILD their index, LOG and
+//    LAST how many changes.
+ghost use Rattle.std.specs.Prelude.{◌≡◌, ◌≤◌, ◌+◌, ℕ, List, false, Some, None, Err, OnErr, OnOk, IfErr, IfOk, length};
 ghost use Rattle.rg_base.specs.declared.options.DrainState.TheVariants.{Granted};
 ghost use Rattle.rg_base.specs.declared.step.Step.TheVariants as steps;
 ghost use Rattle.rg_desk.specs.Desk.{HasDrain, HasTaken, while_running};
@@ -23,11 +25,13 @@ ghost use Rattle.rg_outside.specs.Faults.{Rose};
 ghost use Rattle.rg_phase.specs.Drafted.{IsFullOf};
 ghost use Rattle.rg_feed.specs.Ends.{Received};
 ghost use Rattle.rg_fold.specs.declared.item.Item.{Item};
-ghost use Rattle.rg_phase.specs.Made.{HasMade, Hears, KeepsWorks, Works};
+ghost use Rattle.rg_phase.specs.Made.{HasMade, Hears, IsAsMade, IsAt, IsFilled, KeepsWorks, Works};
+ghost use Rattle.rg_phase.specs.declared.made.Made.{Made};
 ghost use Rattle.rg_phase.specs.Step.{Acts, Stepped};
-ghost use Rattle.rg_phase.specs.Working.{AreSidesToSwitch, MakesStep, TakesAsTold, Writes};
+ghost use Rattle.rg_phase.specs.Working.{AreSidesToSwitch, IsOver, MakesStep, Writes, is_filling};
 ghost use Rattle.rg_phase.specs.declared.made.Made.TheVariants.{Nothing};
 ghost use Rattle.rg_reach.specs.Weighed.{weigh_feed};
+ghost use Rattle.rg_shadow.specs.declared.drafts.IndexStage.TheVariants.{Sorted, Built};
 ghost use Rattle.rg_switch.specs.Switched.{other_of};
 
 use crate::draft::{Draft, Packing};
@@ -93,7 +97,7 @@ impl Reorg {
         requires ring { desk.old.ring ≡ inlet.old.ring }
         requires works { Works self.old.made desk.old.shadow inlet.old desk.old.feed }
         ensures stepped { OnOk result (Stepped (seen_volume V.told V.faults V.capacities)
-            O.answers O.last desk.old desk.new) }
+            O.answers O.last desk.old self.new.made inlet.new.taken desk.new) }
         ensures ring { desk.new.ring ≡ inlet.new.ring }
         ensures works { Works self.new.made desk.new.shadow inlet.new desk.new.feed }
         ensures err { OnErr result (desk.new ≡ desk.old) }
@@ -133,7 +137,8 @@ impl Reorg {
         requires room { 1 ≤ desk.old.spare }
         requires hears { Hears desk.old inlet.old }
         requires works { Works self.old.made desk.old.shadow inlet.old desk.old.feed }
-        ensures acts { Acts (seen_volume V.told V.faults V.capacities) desk.old answer desk.new }
+        ensures acts { Acts (seen_volume V.told V.faults V.capacities) desk.old answer
+            self.new.made inlet.new.taken desk.new }
         ensures ring { inlet.new.ring ≡ inlet.old.ring }
         ensures works { Works self.new.made desk.new.shadow inlet.new desk.new.feed }
     {
@@ -159,7 +164,8 @@ impl Reorg {
         requires step { MakesStep stage.now answer steps.Unload }
         requires kept { desk.old.kept ≡ Some answer }
         requires room { 1 ≤ desk.old.spare }
-        ensures acts { Acts (seen_volume V.told V.faults V.capacities) desk.old answer desk.new }
+        ensures acts { (taken : ℕ) → Acts (seen_volume V.told V.faults V.capacities) desk.old
+            answer self.new.made taken desk.new }
         ensures made { self.new.made ≡ Nothing }
         ensures shadow { desk.new.shadow ≡ None }
     {
@@ -187,7 +193,8 @@ impl Reorg {
         requires room { 1 ≤ desk.old.spare }
         requires hears { Hears desk.old inlet.old }
         requires works { Works self.old.made desk.old.shadow inlet.old desk.old.feed }
-        ensures acts { Acts (seen_volume V.told V.faults V.capacities) desk.old answer desk.new }
+        ensures acts { Acts (seen_volume V.told V.faults V.capacities) desk.old answer
+            self.new.made inlet.new.taken desk.new }
         ensures inlet { inlet.new ≡ inlet.old }
         ensures works { Works self.new.made desk.new.shadow inlet.new desk.new.feed }
     {
@@ -213,7 +220,8 @@ impl Reorg {
         requires room { 1 ≤ desk.old.spare }
         requires hears { Hears desk.old inlet.old }
         requires works { Works self.old.made desk.old.shadow inlet.old desk.old.feed }
-        ensures acts { Acts (seen_volume V.told V.faults V.capacities) desk.old answer desk.new }
+        ensures acts { Acts (seen_volume V.told V.faults V.capacities) desk.old answer
+            self.new.made inlet.new.taken desk.new }
         ensures ring { inlet.new.ring ≡ inlet.old.ring }
         ensures works { Works self.new.made desk.new.shadow inlet.new desk.new.feed }
     {
@@ -234,12 +242,14 @@ impl Reorg {
     ) -> Result<(), ShadowFault>
         requires stage { desk.old.stage ≡ Some stage.now }
         requires unswitched { stage.now.switched ≡ false }
+        requires unfilled { is_filling event.now ≡ false }
         requires hears { Hears desk.old inlet.old }
         requires works { Works self.old.made desk.old.shadow inlet.old desk.old.feed }
         ensures desk { desk.new ≡ record desk.old { shadow = desk.new.shadow } }
         ensures ring { inlet.new.ring ≡ inlet.old.ring }
         ensures works { Works self.new.made desk.new.shadow inlet.new desk.new.feed }
-        ensures taken { OnOk result (TakesAsTold event.now inlet.old.taken inlet.new.taken) }
+        ensures told { OnOk result (IsAsMade self.new.made (Some stage.now) inlet.new.taken
+            event.now) }
         ensures full { IfErr result (IsFullOf
             (copy_capacity (V.capacities desk.old.volume) (other_of desk.old.copy))
             (weigh_feed desk.old.feed)) }
@@ -254,8 +264,10 @@ impl Reorg {
                 self.build(*which)?;
                 Ok(())
             }
-            Event::Log { took, .. } => self.take(alloc, inlet, *took, desk.other().1),
-            Event::Last { took, .. } => self.take(alloc, inlet, *took, desk.other().1),
+            Event::Log { took, .. } | Event::Last { took, .. } => {
+                let (all, other) = (desk.changes(), desk.other());
+                self.take(alloc, inlet, stage, other, all, *took)
+            }
             Event::GiveUp(_) => {
                 self.take_back(desk);
                 Ok(())
@@ -305,7 +317,9 @@ impl Reorg {
     ) -> Result<Filled, ReloadFault>
         requires lawful { Lawful (since_begin inlet.now.items) }
         requires counted { length (changes (since_begin inlet.now.items)) ≡ all }
-        ensures { KeepsWorks self.old.made inlet.now self.new.made inlet.now }
+        ensures works { KeepsWorks self.old.made inlet.now self.new.made inlet.now }
+        ensures filled { IfOk result
+            (λ filled. IsFilled self.new.made filled.page filled.rows) }
     {
         self.pack(alloc, inlet, stage, other, all)?;
         match &mut self.made {
@@ -346,7 +360,8 @@ impl Reorg {
         requires lawful { Lawful (since_begin inlet.now.items) }
         requires counted { length (changes (since_begin inlet.now.items)) ≡ all }
         requires made { HasMade self.old.made inlet.now }
-        ensures { KeepsWorks self.old.made inlet.now self.new.made inlet.now }
+        ensures works { KeepsWorks self.old.made inlet.now self.new.made inlet.now }
+        ensures sorted { OnOk result (IsAt which Sorted self.new.made) }
     {
         self.pack(alloc, inlet, stage, other, all)?;
         self.load(alloc, inlet)?;
@@ -358,7 +373,9 @@ impl Reorg {
 
     // Builds an index of the new copy.
     fn build(&mut self, which: Which) -> Result<(), NoMemory>
-        ensures { (inlet : Received) → KeepsWorks self.old.made inlet self.new.made inlet }
+        ensures works { (inlet : Received)
+            → KeepsWorks self.old.made inlet self.new.made inlet }
+        ensures built { OnOk result (IsAt which Built self.new.made) }
     {
         match &mut self.made {
             Made::Drafted(draft) => draft.build(which),
@@ -366,30 +383,37 @@ impl Reorg {
         }
     }
 
-    // Makes the next changes in the new copy, exactly so many. It may have `capacity` pages, and is
-    // dropped where that fails.
+    // Makes the next changes in the new copy, exactly so many, beyond those that the stage counts.
+    // It may have `other.1` pages, and is dropped where that fails.
     fn take(
         &mut self,
         alloc: Global,
         inlet: &mut FeedIn,
+        stage: &Stage,
+        other: (u8, u32),
+        all: u64,
         count: u8,
-        capacity: u32,
     ) -> Result<(), ShadowFault>
         requires lawful { Lawful (since_begin inlet.old.items) }
+        requires counted { length (changes (since_begin inlet.old.items)) ≡ all }
         requires made { HasMade self.old.made inlet.old }
         ensures ring { inlet.new.ring ≡ inlet.old.ring }
         ensures items { inlet.new.items ≡ inlet.old.items }
         ensures works { KeepsWorks self.old.made inlet.old self.new.made inlet.new }
-        ensures taken { OnOk result (inlet.new.taken ≡ inlet.old.taken + count) }
-        ensures full { IfErr result (IsFullOf capacity (weigh_feed inlet.old.items)) }
+        ensures taken { OnOk result (inlet.new.taken ≡ stage.now.done + count) }
+        ensures full { IfErr result (IsFullOf other.1 (weigh_feed inlet.old.items)) }
     {
+        let left = inlet.backlog() as u64;
+        if all.saturating_sub(left) != stage.done {
+            return Err(ShadowFault::NoMemory);
+        }
         if count == 0 {
             return Ok(());
         }
         match mem::replace(&mut self.made, Made::Nothing) {
             Made::Drafted(draft) => {
                 let mut draft = draft;
-                draft.take(alloc, inlet, count, capacity)?;
+                draft.take(alloc, inlet, count, other.1)?;
                 self.made = Made::Drafted(draft);
                 Ok(())
             }
@@ -436,7 +460,8 @@ impl Reorg {
         requires room { 1 ≤ desk.old.spare }
         requires hears { Hears desk.old inlet.now }
         requires works { Works self.old.made desk.old.shadow inlet.now desk.old.feed }
-        ensures acts { Acts (seen_volume V.told V.faults V.capacities) desk.old answer desk.new }
+        ensures acts { Acts (seen_volume V.told V.faults V.capacities) desk.old answer
+            self.new.made inlet.now.taken desk.new }
         ensures works { Works self.new.made desk.new.shadow inlet.now desk.new.feed }
     {
         let event = match self.put(alloc, desk, inlet, stage, granted) {
@@ -503,7 +528,8 @@ impl Reorg {
         requires room { 1 ≤ desk.old.spare }
         requires hears { Hears desk.old inlet.now }
         requires works { Works self.old.made desk.old.shadow inlet.now desk.old.feed }
-        ensures acts { Acts (seen_volume V.told V.faults V.capacities) desk.old answer desk.new }
+        ensures acts { Acts (seen_volume V.told V.faults V.capacities) desk.old answer
+            self.new.made inlet.now.taken desk.new }
         ensures works { Works self.new.made desk.new.shadow inlet.now desk.new.feed }
     {
         match self.sides(desk, inlet, stage) {
@@ -555,9 +581,11 @@ fn end<V: Counts, O: Operator>(desk: &mut Desk<V, O>, stage: &Stage, answer: Ans
     requires up { desk.old.down ≡ false }
     requires stage { desk.old.stage ≡ Some stage.now }
     requires taken { HasTaken desk.old.changes stage.now }
+    requires over { IsOver stage.now answer }
     requires kept { desk.old.kept ≡ Some answer }
     requires room { 1 ≤ desk.old.spare }
-    ensures acts { Acts (seen_volume V.told V.faults V.capacities) desk.old answer desk.new }
+    ensures acts { (made : Made) (taken : ℕ)
+        → Acts (seen_volume V.told V.faults V.capacities) desk.old answer made taken desk.new }
     ensures feed { desk.new.feed ≡ desk.old.feed }
     ensures shadow { desk.new.shadow ≡ while_running desk.new.stage desk.old.shadow }
 {

@@ -9,6 +9,7 @@ use Rattle.rg_base.specs.declared.session.Session.{Session}
 use Rattle.rg_base.specs.declared.verdict.StopReason.TheVariants as reasons
 use Rattle.rg_fold.specs.declared.item.Stage.{Stage}
 use Rattle.rg_log.specs.Kept.{Listed as ListedLog}
+use Rattle.rg_phase.specs.declared.made.Made.{Made}
 use Rattle.rg_phase.specs.Step.{HasPagesFor, IsSwitchFrom, Makes, NextMade, StepCalls, Stepped, copy_left, is_device_stop}
 use Rattle.rg_tending.specs.Tending.{utility_entry}
 use Rattle.rg_base.specs.declared.position.Position.{Position}
@@ -410,8 +411,8 @@ module _ {V O : Type 0} {answers : O → Option (List Answer)} (look : V → Vol
       by_start copy which (inl ran) = allows_more (utility_entry made.event None made.calls) copy (goes.both ran copy which)
       by_start copy which (inr started) = start_allows made.event made.calls started copy which
 
-  pub goes_stepped : (last : O → Option ℕ) → Stepped look answers last old new → Goes look answers first (lines ++ Step ∷ []) new
-  goes_stepped last stepped =
+  pub goes_stepped : (last : O → Option ℕ) (made_of : Made) (taken : ℕ) → Stepped look answers last old made_of taken new → Goes look answers first (lines ++ Step ∷ []) new
+  goes_stepped last made_of taken stepped =
       let answer = stepped.answer in
       let event = stepped.event in
       let is = step_so old.down old.stage old.changes old.covered answer event stepped.next in

@@ -46,7 +46,7 @@ returns-in-Ok-step-clause-goes g c = λ first lines going.
     let look = seen_volume g.V.Volume.told g.V.Volume.faults g.V.Volume.capacities in
     let answers = g.O.Operator.answers in
     subst (λ (line : Line). Going look answers first (lines ++ line ∷ []) c.step.new.desk) (sym c.in-Step.is)
-    (going_on look first c.args.desk c.step.new.desk lines _ tt (λ base back goes. goes_stepped look base c.args.desk c.step.new.desk back goes g.O.Operator.last c.in-Ok-step.ensures.stepped) going)
+    (going_on look first c.args.desk c.step.new.desk lines _ tt (λ base back goes. goes_stepped look base c.args.desk c.step.new.desk back goes g.O.Operator.last _ _ c.in-Ok-step.ensures.stepped) going)
 
 pub returns-in-Ok-step-clause-kept : goal.returns-in-Ok-step-clause-kept
 returns-in-Ok-step-clause-kept g c = c.in-Ok-step.ensures.stepped.made.kept

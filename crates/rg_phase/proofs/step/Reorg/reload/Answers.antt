@@ -8,6 +8,7 @@ use Rattle.rg_phase.proofs.Loading.{reload_left, space_at}
 use Rattle.rg_phase.proofs.Making.{acts_booked, writes_none}
 use Rattle.rg_phase.proofs.Steps.{next_runs, runs_some}
 use Rattle.rg_phase.proofs.Stops.{reload_next}
+use Rattle.rg_phase.proofs.Told.{told_page}
 use Rattle.rg_phase.proofs.step.Reorg.reload.Goals as goal
 
 pub reload_event-requires-clause-left : goal.reload_event-requires-clause-left
@@ -30,5 +31,6 @@ returns-clause-acts g c =
     let is = c.reload_event.ensures.event in
     let next = next_runs old s c.args.answer event c.requires.up c.requires.stage is.booked (reload_next s c.args.answer c.requires.step event is old.changes old.covered) in
     let capacity : c.other-other.result.1 ≡ copy_capacity (g.V.Volume.capacities old.volume) (other_of old.copy) = c.other-other.ensures.capacity in
-    acts_booked look old c.args.answer old c.book.new.self event (runs_some old s c.requires.stage) (writes_none look old) next is.booked (λ stops. absurd (cc (stops, is.device)))
-    (space_at old.stage s _ (weigh_feed old.feed) event c.requires.stage (subst (λ (n : ℕ). HasPagesFor n (weigh_feed old.feed) s event) capacity (c.reload_event.ensures.space (weigh_feed old.feed)))) c.book.ensures
+    acts_booked look old c.args.answer c.fill-filled.new.self.made c.args.inlet.now.taken old c.book.new.self event (runs_some old s c.requires.stage) (writes_none look old) next is.booked (λ stops. absurd (cc (stops, is.device)))
+    (space_at old.stage s _ (weigh_feed old.feed) event c.requires.stage (subst (λ (n : ℕ). HasPagesFor n (weigh_feed old.feed) s event) capacity (c.reload_event.ensures.space (weigh_feed old.feed))))
+    (told_page c.fill-filled.new.self.made old.stage c.args.inlet.now.taken c.fill-filled.result event c.fill-filled.ensures.filled c.reload_event.ensures.told) c.book.ensures

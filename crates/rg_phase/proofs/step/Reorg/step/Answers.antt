@@ -5,7 +5,7 @@ use Rattle.rg_fold.specs.declared.item.Stage.{Stage}
 use Rattle.rg_outside.specs.Told.{AddsAnswer, HandsOver}
 use Rattle.rg_stmt.specs.declared.event.Event.TheVariants as events
 use Rattle.rg_phase.specs.Step.{NextMade, StepCalls}
-use Rattle.rg_phase.specs.Made.{Works}
+use Rattle.rg_phase.specs.Made.{IsAsMade, Works}
 use Rattle.rg_phase.proofs.Making.{loads_asked, loads_refused, makes_refused}
 use Rattle.rg_phase.proofs.Receiving.{works_heard, works_on}
 use Rattle.rg_phase.proofs.Steps.{next_down, next_idle, same_asked, same_room}
@@ -21,6 +21,7 @@ returns-then-down-clause-stepped g c =
     record {
       answer = None;
       event = events.StepDown;
+      told = tt;
       next = next_down old (sym (ap (λ d. d.down) room) ∙ sym c.down.ensures.is ∙ c.if-down.true);
       asked = mid;
       same = same_room old mid room c.requires.kept;
@@ -41,6 +42,7 @@ returns-in-None-clause-stepped g c =
     record {
       answer = None;
       event = events.Idle;
+      told = tt;
       next =
           next_idle old (sym (ap (λ d. d.down) room) ∙ sym c.down.ensures.is ∙ c.if-down.false)
           (sym (ap (λ d. d.stage) room) ∙ sym c.stage.ensures.stage ∙ c.in-None.is);
@@ -66,6 +68,7 @@ returns-clause-stepped g c =
     record {
       answer = Some answer;
       event = acts.event;
+      told = subst (λ d. IsAsMade c.act.new.self.made d.stage c.act.new.inlet.taken acts.event) same acts.told;
       next = subst (λ d. NextMade d.down d.stage d.changes d.covered (Some answer) acts.event) same acts.next;
       asked = asked;
       same = same;

@@ -7,6 +7,7 @@ use Rattle.rg_stmt.specs.declared.event.Event.TheVariants as events
 use Rattle.rg_switch.specs.Switched.{other_of}
 use Rattle.rg_image.specs.Rules.{copy_capacity}
 use Rattle.rg_phase.specs.Step.{Acts}
+use Rattle.rg_phase.specs.declared.made.Made.TheVariants.{Nothing}
 use Rattle.rg_phase.proofs.Loading.{space_at}
 use Rattle.rg_phase.proofs.Making.{acts_booked, acts_fallen, acts_switched, writes_none}
 use Rattle.rg_phase.proofs.Steps.{made_runs, next_runs, runs_some}
@@ -31,13 +32,13 @@ returns-in-Ok-clause-acts g c =
     let same = c.in-Ok.ensures.same in
     let up = ap (λ d. d.down) same ∙ c.requires.up in
     let stage = ap (λ d. d.stage) same ∙ c.requires.stage in
-    subst (λ d. Acts look d answer new) same
-    (by_result c.commit_switch.result (MadeSwitch look mid answer sides new) (MadeFall look mid answer new) (Acts look mid answer new) c.commit_switch.ensures.ok c.commit_switch.ensures.err
+    subst (λ d. Acts look d answer Nothing c.args.inlet.now.taken new) same
+    (by_result c.commit_switch.result (MadeSwitch look mid answer sides new) (MadeFall look mid answer new) (Acts look mid answer Nothing c.args.inlet.now.taken new) c.commit_switch.ensures.ok c.commit_switch.ensures.err
     (λ made.
-    acts_switched look mid answer new sides (runs_some mid s stage)
+    acts_switched look mid answer Nothing c.args.inlet.now.taken new sides (runs_some mid s stage)
     (made_runs mid s answer (events.Switched (other_of mid.copy) sides) up stage refl (switch_next s answer c.requires.step mid.changes mid.covered (events.Switched (other_of mid.copy) sides) refl)) made)
     (λ made.
-    acts_fallen look mid answer new (runs_some mid s stage)
+    acts_fallen look mid answer Nothing c.args.inlet.now.taken new (runs_some mid s stage)
     (made_runs mid s answer (events.Stop reasons.Device) up stage refl (switch_next s answer c.requires.step mid.changes mid.covered (events.Stop reasons.Device) refl)) made))
 
 pub returns-in-Ok-clause-works : goal.returns-in-Ok-clause-works
@@ -59,7 +60,7 @@ returns-in-Err-clause-acts g c =
     let up = ap (λ d. d.down) same ∙ c.requires.up in
     let stage = ap (λ d. d.stage) same ∙ c.requires.stage in
     let event = events.Stop reasons.NoMemory in
-    subst (λ d. Acts look d answer new) same
-    (acts_booked look mid answer mid new event (runs_some mid s stage) (writes_none look mid)
+    subst (λ d. Acts look d answer c.args.self.now.made c.args.inlet.now.taken new) same
+    (acts_booked look mid answer c.args.self.now.made c.args.inlet.now.taken mid new event (runs_some mid s stage) (writes_none look mid)
     (next_runs mid s answer event up stage refl (stop_next s mid.changes mid.covered answer)) refl (λ is. absurd (cc (is)))
-    (space_at mid.stage s (copy_capacity (g.V.Volume.capacities mid.volume) (other_of mid.copy)) (weigh_feed mid.feed) event stage tt) c.book.ensures)
+    (space_at mid.stage s (copy_capacity (g.V.Volume.capacities mid.volume) (other_of mid.copy)) (weigh_feed mid.feed) event stage tt) tt c.book.ensures)

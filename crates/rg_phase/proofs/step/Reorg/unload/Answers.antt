@@ -29,7 +29,8 @@ returns-in-Ok-clause-acts g c =
     let rows = c.in-Ok.field-0 in
     let made = c.in-Ok.ensures.made in
     let plain = unload_next s answer c.requires.step page c.next_page-page.ensures rows made.few old.changes old.covered in
-    acts_copied look old answer mid c.feed_page.new.self page rows (runs_some old s c.requires.stage) (writes_forgotten look old mid c.forget.ensures.desk)
+    λ taken.
+    acts_copied look old answer c.forget.new.self.made taken mid c.feed_page.new.self page rows (runs_some old s c.requires.stage) (writes_forgotten look old mid c.forget.ensures.desk)
     (made_runs old s answer (events.Unload page rows) c.requires.up c.requires.stage refl (plain_some _ plain)) made
 
 pub returns-in-Err-clause-acts : goal.returns-in-Err-clause-acts
@@ -40,6 +41,7 @@ returns-in-Err-clause-acts g c =
     let s = c.args.stage.now in
     let answer = c.args.answer in
     let event = events.Stop reasons.NoMemory in
-    acts_booked look old answer mid c.book.new.self event (runs_some old s c.requires.stage) (writes_forgotten look old mid (c.in-Err.ensures.err ∙ c.forget.ensures.desk))
+    λ taken.
+    acts_booked look old answer c.forget.new.self.made taken mid c.book.new.self event (runs_some old s c.requires.stage) (writes_forgotten look old mid (c.in-Err.ensures.err ∙ c.forget.ensures.desk))
     (next_runs old s answer event c.requires.up c.requires.stage refl (stop_next s old.changes old.covered answer)) refl (λ is. absurd (cc (is)))
-    (space_at old.stage s (copy_capacity (g.V.Volume.capacities old.volume) (other_of old.copy)) (weigh_feed old.feed) event c.requires.stage tt) c.book.ensures
+    (space_at old.stage s (copy_capacity (g.V.Volume.capacities old.volume) (other_of old.copy)) (weigh_feed old.feed) event c.requires.stage tt) tt c.book.ensures

@@ -8,6 +8,7 @@ use Rattle.rg_phase.proofs.Loading.{space_at, space_or_stop}
 use Rattle.rg_phase.proofs.Making.{acts_booked, writes_shadow}
 use Rattle.rg_phase.proofs.Receiving.{works_on}
 use Rattle.rg_phase.proofs.Steps.{next_same, or_stop_next, runs_some}
+use Rattle.rg_phase.proofs.Told.{told_or_stop}
 use Rattle.rg_phase.proofs.step.Reorg.work.Goals as goal
 
 pub book-requires-clause-next : goal.book-requires-clause-next
@@ -32,9 +33,10 @@ returns-clause-acts g c =
     subst (λ (n : ℕ). is_plain (turn_of n old.covered c.args.answer (numbers_of s) s.drain event) ≡ true) c.changes.ensures
     (subst (λ (o : Option Session). is_plain (turn_of c.changes.result o c.args.answer (numbers_of s) s.drain event) ≡ true) c.holder.ensures c.next_event-event.ensures.next) in
     let goes = or_stop_next old s c.args.answer event _ c.or_stop.result c.requires.up c.requires.stage c.requires.unswitched c.next_event-event.ensures.booked c.next_event-event.ensures.device next c.or_stop.ensures in
-    acts_booked look old c.args.answer c.make-made.new.desk c.book.new.self c.or_stop.result (runs_some old s c.requires.stage) (writes_shadow look old c.make-made.new.desk c.make-made.ensures.desk) goes.2 goes.0
+    acts_booked look old c.args.answer c.make-made.new.self.made c.make-made.new.inlet.taken c.make-made.new.desk c.book.new.self c.or_stop.result (runs_some old s c.requires.stage) (writes_shadow look old c.make-made.new.desk c.make-made.ensures.desk) goes.2 goes.0
     (λ is. absurd (cc (is, goes.1)))
     (space_at old.stage s _ _ c.or_stop.result c.requires.stage (space_or_stop old.changes old.covered c.args.answer _ _ s event _ c.or_stop.result c.next_event-event.ensures.unfilled c.requires.unswitched next c.make-made.ensures.full c.or_stop.ensures))
+    (told_or_stop c.make-made.new.self.made old.stage s c.make-made.new.inlet.taken event _ c.or_stop.result c.requires.stage c.make-made.ensures.told c.or_stop.ensures)
     c.book.ensures
 
 pub returns-clause-works : goal.returns-clause-works
