@@ -181,8 +181,8 @@ made_on look first lines trace now later made n has calls le same = record {
   later = omega (arith, made.later, le);
   capacities = same ∙ made.capacities;
   openings =
-      subst (λ (c : Capacities). IfTold later.told (λ t. AreOpeningsSince (log_pages c) t.start t trace)) (sym same)
-      (openings_on (WritesOwn trace) (log_pages now.capacities) now.told later.told trace calls made.openings);
+      subst (λ (c : Capacities). IfTold later.told (λ t. AreOpeningsSince c t.start t trace)) (sym same)
+      (openings_on (WritesOwn trace) now.capacities now.told later.told trace calls made.openings);
   flushes = flushes_on (WritesOwn trace) now.told later.told 0 0 trace calls made.flushes;
 }
 
@@ -207,18 +207,18 @@ module _ {V O : Type 0} {answers : O → Option (List Answer)} (look : V → Vol
   begun = goes.begins ∙ ap first_of going.opened.trace
 
   -- the one opening of the part, as it was then
-  base_opening : IfTold (look base.volume).told (λ t. AreOpeningsSince (log_pages (look base.volume).capacities) t.start t desk.trace)
+  base_opening : IfTold (look base.volume).told (λ t. AreOpeningsSince (look base.volume).capacities t.start t desk.trace)
   base_opening =
-      told_weaken (λ t. IsOpeningThen (log_pages (look base.volume).capacities) t.start t going.opened.entry) (λ t. AreOpeningsSince (log_pages (look base.volume).capacities) t.start t desk.trace) (look base.volume).told
+      told_weaken (λ t. IsOpeningThen (look base.volume).capacities t.start t going.opened.entry) (λ t. AreOpeningsSince (look base.volume).capacities t.start t desk.trace) (look base.volume).told
       (λ t opening.
-      part_opened (IsOpeningThen (log_pages (look base.volume).capacities) t.start t) going.back desk.trace going.opened.entry goes.entries begun going.alive opening)
+      part_opened (IsOpeningThen (look base.volume).capacities t.start t) going.back desk.trace going.opened.entry goes.entries begun going.alive opening)
       going.opening
 
   -- openings up to then stay so
-  openings_now : (trace : List Entry) → IfTold (look base.volume).told (λ t. AreOpeningsSince (log_pages (look base.volume).capacities) t.start t trace) → IfTold now.told (λ t. AreOpeningsSince (log_pages now.capacities) t.start t trace)
+  openings_now : (trace : List Entry) → IfTold (look base.volume).told (λ t. AreOpeningsSince (look base.volume).capacities t.start t trace) → IfTold now.told (λ t. AreOpeningsSince now.capacities t.start t trace)
   openings_now trace all =
-      subst (λ (c : Capacities). IfTold now.told (λ t. AreOpeningsSince (log_pages c) t.start t trace)) (sym same_capacities)
-      (openings_on (WritesOwn desk.trace) (log_pages (look base.volume).capacities) (look base.volume).told now.told trace part_calls all)
+      subst (λ (c : Capacities). IfTold now.told (λ t. AreOpeningsSince c t.start t trace)) (sym same_capacities)
+      (openings_on (WritesOwn desk.trace) (look base.volume).capacities (look base.volume).told now.told trace part_calls all)
 
   part_log : IsLogFullOnlyFrom (limit_of (log_pages now.capacities)) 0 desk.trace
   part_log = subst (λ (n : ℕ). IsLogFullOnlyFrom (limit_of n) 0 desk.trace) (goes.stays.log_pages ∙ going.log_room ∙ ap log_pages (sym same_capacities)) goes.log_full
@@ -287,7 +287,7 @@ module _ {V O : Type 0} {answers : O → Option (List Answer)} (look : V → Vol
           calls = subst (λ (v : VolumeSeen). EachCall v.told now.told (WritesOwn trace)) volume (subst (λ (es : List Entry). EachCall (look base.volume).told now.told (WritesOwn es)) only part_calls);
           later = subst (λ (v : VolumeSeen). v.faults ≤ now.faults) volume goes.stays.later;
           capacities = same_capacities ∙ ap (λ (v : VolumeSeen). v.capacities) volume;
-          openings = openings_now trace (subst (λ (es : List Entry). IfTold (look base.volume).told (λ t. AreOpeningsSince (log_pages (look base.volume).capacities) t.start t es)) only base_opening);
+          openings = openings_now trace (subst (λ (es : List Entry). IfTold (look base.volume).told (λ t. AreOpeningsSince (look base.volume).capacities t.start t es)) only base_opening);
           flushes = subst (λ (es : List Entry). IfTold now.told (λ t. AreFlushesSince t.start t es)) only goes.flushes;
         }
 
@@ -338,12 +338,12 @@ module _ {V O : Type 0} {answers : O → Option (List Answer)} (look : V → Vol
             (told_both (λ t. AreFlushesSince t.start t base.older) (λ t. AreFlushesSince t.start t desk.trace) now.told
             (flushes_on (WritesOwn desk.trace) (look base.volume).told now.told 0 0 base.older part_calls again.made.flushes) goes.flushes)
 
-        openings_joined : IfTold (look base.volume).told (λ t. AreOpeningsSince (log_pages (look base.volume).capacities) t.start t trace)
+        openings_joined : IfTold (look base.volume).told (λ t. AreOpeningsSince (look base.volume).capacities t.start t trace)
         openings_joined =
-            let pages = log_pages (look base.volume).capacities in
-            told_weaken (λ t. AreOpeningsSince pages t.start t base.older × AreOpeningsSince pages t.start t desk.trace) (λ t. AreOpeningsSince pages t.start t trace) (look base.volume).told
-            (λ t both. all_join (λ entry. IfOpened (IsOpeningThen pages t.start t entry) entry.event) base.older desk.trace both.0 both.1)
-            (told_both (λ t. AreOpeningsSince pages t.start t base.older) (λ t. AreOpeningsSince pages t.start t desk.trace) (look base.volume).told again.made.openings base_opening)
+            let capacities = (look base.volume).capacities in
+            told_weaken (λ t. AreOpeningsSince capacities t.start t base.older × AreOpeningsSince capacities t.start t desk.trace) (λ t. AreOpeningsSince capacities t.start t trace) (look base.volume).told
+            (λ t both. all_join (λ entry. IfOpened (IsOpeningThen capacities t.start t entry) entry.event) base.older desk.trace both.0 both.1)
+            (told_both (λ t. AreOpeningsSince capacities t.start t base.older) (λ t. AreOpeningsSince capacities t.start t desk.trace) (look base.volume).told again.made.openings base_opening)
 
         known_join : (older : List Entry) → IsKnown older → IsKnown (older ++ desk.trace)
         known_join [] known = absurd known

@@ -19,7 +19,7 @@ use Rattle.rg_outside.proofs.Run.{moment_now}
 use Rattle.rg_record.specs.declared.record.Record.{Record}
 use Rattle.rg_restart.specs.Opening.{OpensStored}
 use Rattle.rg_sound.specs.Pages.{copy_of}
-use Rattle.rg_sound.specs.Sound.{IsSoundBy}
+use Rattle.rg_sound.specs.Sound.{IsSound, IsSoundBy}
 use Rattle.rg_restart.proofs.Beginning.{stored_more}
 use Rattle.rg_stmt.specs.Entries.{opened_entry}
 use Rattle.rg_stmt.specs.declared.event.Entry.{Entry}
@@ -93,10 +93,25 @@ module _ {V O : Type 0} (look : V → VolumeSeen) (old : VolumeSeen) (operator :
           let log : log_of pages (read_at t (t.start + opens.opens.calls)) ≡ opens.log.records = ap (log_of pages) now ∙ log_is_read pages (read_of t.first t.calls) opens.log.records has in
           (omega (arith, is), subst P (sym log) p)
 
+  -- it read sound then
+  sound_then : IfTold (look desk.volume).told (λ t. ReadSo (IsSound (look desk.volume).capacities) t.start opens.opens.calls t)
+  sound_then =
+      let capacities = (look desk.volume).capacities in
+      told_weaken (λ t. (length t.calls ≡ t.start + opens.opens.calls) × IsSoundBy capacities (read_of t.first t.calls) opens.log.records opens.base) (λ t. ReadSo (IsSound capacities) t.start opens.opens.calls t) (look desk.volume).told
+      (λ t both.
+      let now : read_at t (t.start + opens.opens.calls) ≡ read_of t.first t.calls = ap (read_at t) (sym both.0) ∙ ap (λ (u : Told). read_of u.first u.calls) (moment_now t) in
+      (omega (arith, both.0), subst (IsSound capacities) (sym now) (opens.log.records, opens.base, both.1)))
+      (told_both (λ t. length t.calls ≡ t.start + opens.opens.calls) (λ t. IsSoundBy capacities (read_of t.first t.calls) opens.log.records opens.base) (look desk.volume).told opens.opens.counted opens.sound)
+
   -- the entry is that of the log as it reads now
-  pub opening_then : IfTold (look desk.volume).told (λ t. IsOpeningThen (log_pages (look desk.volume).capacities) t.start t opened_first.entry)
+  pub opening_then : IfTold (look desk.volume).told (λ t. IsOpeningThen (look desk.volume).capacities t.start t opened_first.entry)
   unfolding opened_first
-  opening_then = reads_then (λ rs. IsOpeningOf rs entry_zero) opening_first
+  opening_then =
+      let capacities = (look desk.volume).capacities in
+      let calls = opens.opens.calls in
+      told_weaken (λ t. ReadSo (λ i. IsOpeningOf (log_of (log_pages capacities) i) entry_zero) t.start calls t × ReadSo (IsSound capacities) t.start calls t) (λ t. IsOpeningThen capacities t.start t entry_zero) (look desk.volume).told
+      (λ t both. (both.0.0, (both.0.1, both.1.1)))
+      (told_both (λ t. ReadSo (λ i. IsOpeningOf (log_of (log_pages capacities) i) entry_zero) t.start calls t) (λ t. ReadSo (IsSound capacities) t.start calls t) (look desk.volume).told (reads_then (λ rs. IsOpeningOf rs entry_zero) opening_first) sound_then)
 
   -- the table is the one that this log stores
   pub found_first : (start : Table) → IsStored (old_records desk) start → IsFound (look desk.volume) opened_first.entry start

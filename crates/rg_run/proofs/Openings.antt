@@ -12,6 +12,7 @@ use Rattle.rg_model.specs.State.{Table}
 use Rattle.rg_outside.specs.Calls.{Call, Image, Told, read_of}
 use Rattle.rg_outside.specs.Capacities.{Capacities}
 use Rattle.rg_outside.specs.Moments.{EachCall, IfTold, read_at}
+use Rattle.rg_sound.specs.Sound.{IsSound}
 use Rattle.rg_stmt.specs.declared.event.Entry.{Entry}
 use Rattle.rg_stmt.specs.declared.event.Event.{Event}
 use Rattle.rg_stmt.specs.declared.event.Event.TheVariants as events
@@ -123,12 +124,12 @@ parts_more P Q F G I J trace f g h (Next before part start parts found is) = Nex
     by_part (e ∷ es) found = g e start found
 
 -- openings stay so over more calls
-pub openings_on : (Kind : Call → Type 0) (pages : ℕ) (old new : Option Told) (trace : List Entry) → EachCall old new Kind → IfTold old (λ t. AreOpeningsSince pages t.start t trace) → IfTold new (λ t. AreOpeningsSince pages t.start t trace)
-openings_on Kind pages old None trace made all = tt
-openings_on Kind pages None (Some after) trace made all = absurd (cc (made.2))
-openings_on Kind pages (Some before) (Some after) trace made all =
+pub openings_on : (Kind : Call → Type 0) (capacities : Capacities) (old new : Option Told) (trace : List Entry) → EachCall old new Kind → IfTold old (λ t. AreOpeningsSince capacities t.start t trace) → IfTold new (λ t. AreOpeningsSince capacities t.start t trace)
+openings_on Kind capacities old None trace made all = tt
+openings_on Kind capacities None (Some after) trace made all = absurd (cc (made.2))
+openings_on Kind capacities (Some before) (Some after) trace made all =
     let was : before ≡ made.0 = cc (made.2) in
     let is : after ≡ record before { calls = made.1 ++ before.calls } = made.3 ∙ ap (λ (t : Told). let u : Told = record t { calls = made.1 ++ t.calls } in u) (sym was) in
-    subst (λ (t : Told). AreOpeningsSince pages t.start t trace) (sym is)
-    (all_weaken (λ entry. IfOpened (IsOpeningThen pages before.start before entry) entry.event) (λ entry. IfOpened (IsOpeningThen pages before.start (record before { calls = made.1 ++ before.calls }) entry) entry.event) trace
-    (λ entry opened. opened_more (IsOpeningThen pages before.start before entry) (IsOpeningThen pages before.start (record before { calls = made.1 ++ before.calls }) entry) entry.event (read_on (λ i. IsOpeningOf (log_of pages i) entry) before.start entry.calls before made.1) opened) all)
+    subst (λ (t : Told). AreOpeningsSince capacities t.start t trace) (sym is)
+    (all_weaken (λ entry. IfOpened (IsOpeningThen capacities before.start before entry) entry.event) (λ entry. IfOpened (IsOpeningThen capacities before.start (record before { calls = made.1 ++ before.calls }) entry) entry.event) trace
+    (λ entry opened. opened_more (IsOpeningThen capacities before.start before entry) (IsOpeningThen capacities before.start (record before { calls = made.1 ++ before.calls }) entry) entry.event (read_on (λ i. IsOpeningOf (log_of (log_pages capacities) i) entry × IsSound capacities i) before.start entry.calls before made.1) opened) all)

@@ -197,8 +197,8 @@ module _ {V : Type 0} (told : V → Option Told) (faults : V → ℕ) (capacitie
               opening_out old new ended.calls opens.log.records le read opens.now.records now_same trace (entry_zero look (look begun) operator desk opens)
               (run.made.begins ∙ entry_first look (look begun) operator desk opens) (opening_first look (look begun) operator desk opens);
           openings =
-              since_out (WritesOwn trace) (λ start t. AreOpeningsSince (log_pages old.capacities) start t trace) ended.calls old.told new.told (λ start count t all. all) le made
-              (subst (λ (c : Capacities). IfTold (counted new.told ended.calls) (λ t. AreOpeningsSince (log_pages c) t.start t trace)) kept run_seen.made.openings);
+              since_out (WritesOwn trace) (λ start t. AreOpeningsSince old.capacities start t trace) ended.calls old.told new.told (λ start count t all. all) le made
+              (subst (λ (c : Capacities). IfTold (counted new.told ended.calls) (λ t. AreOpeningsSince c t.start t trace)) kept run_seen.made.openings);
           flushes =
               since_out (WritesOwn trace) (λ start t. AreFlushesSince start t trace) ended.calls old.told new.told (λ start count t all. recounted 0 start 0 count t trace all) le made
               run_seen.made.flushes;

@@ -6,10 +6,13 @@ use Rattle.rg_image.specs.Log.{log_of}
 use Rattle.rg_image.specs.Meaning.{current_of}
 use Rattle.rg_image.specs.Pack.{log_bytes}
 use Rattle.rg_image.specs.Rules.{owed}
+use Rattle.rg_log.specs.Kept.{log_pages}
 use Rattle.rg_model.specs.State.{Table, row_count}
 use Rattle.rg_outside.specs.Calls.{Image, Told}
+use Rattle.rg_outside.specs.Capacities.{Capacities}
 use Rattle.rg_outside.specs.Moments.{read_at}
 use Rattle.rg_record.specs.declared.record.Record.{Record}
+use Rattle.rg_sound.specs.Sound.{IsSound}
 use Rattle.rg_stmt.specs.Entries.{opened_entry}
 use Rattle.rg_stmt.specs.declared.event.Entry.{Entry}
 use Rattle.rg_stmt.specs.declared.event.Event.{Event}
@@ -37,17 +40,19 @@ IfOpened P event = Unit {0}
 abbrev pub ReadSo : (P : Image → Type 0) → (start calls : ℕ) → Told → Type 0
 ReadSo P start calls t = (start + calls ≤ length t.calls) × P (read_at t (start + calls))
 
--- the entry is that of the opening of the log as the volume read after the calls of the entry
-abbrev pub IsOpeningThen : (pages start : ℕ) → Told → Entry → Type 0
-IsOpeningThen pages start t entry =
-    ReadSo (λ i. IsOpeningOf (log_of pages i) entry) start entry.calls t
+-- the entry is that of the opening of the log as the volume read after the calls of the entry, and
+-- then it read sound
+abbrev pub IsOpeningThen : Capacities → (start : ℕ) → Told → Entry → Type 0
+IsOpeningThen capacities start t entry =
+    ReadSo (λ i. IsOpeningOf (log_of (log_pages capacities) i) entry × IsSound capacities i) start
+    entry.calls t
 
 -- the table is the one that the log stored as the volume read then
 abbrev pub IsFoundThen : (pages start : ℕ) → Told → Entry → Table → Type 0
 IsFoundThen pages start t entry table =
     ReadSo (λ i. IsStored (log_of pages i) table) start entry.calls t
 
--- each opening among the entries is that of the log as the volume read then
-abbrev pub AreOpeningsSince : (pages start : ℕ) → Told → List Entry → Type 0
-AreOpeningsSince pages start t trace =
-    AllByRecursion (λ entry. IfOpened (IsOpeningThen pages start t entry) entry.event) trace
+-- each opening among the entries is that of the log as the volume read then, and it read sound
+abbrev pub AreOpeningsSince : Capacities → (start : ℕ) → Told → List Entry → Type 0
+AreOpeningsSince capacities start t trace =
+    AllByRecursion (λ entry. IfOpened (IsOpeningThen capacities start t entry) entry.event) trace

@@ -127,7 +127,7 @@ pub record Made {V O : Type 0} (look : V → VolumeSeen) (first : DeskState V O)
   pub later : (look first.volume).faults ≤ now.faults
   pub capacities : now.capacities ≡ (look first.volume).capacities
   pub openings :
-      IfTold now.told (λ t. AreOpeningsSince (log_pages now.capacities) t.start t trace)
+      IfTold now.told (λ t. AreOpeningsSince now.capacities t.start t trace)
   pub flushes : IfTold now.told (λ t. AreFlushesSince t.start t trace)
 
 -- the entries of a desk are legal and lead to a last state, and all of them can be those of a trace
@@ -167,7 +167,7 @@ pub record Going {V O : Type 0} (look : V → VolumeSeen) (answers : O → Optio
   pub opened : IsOpened base
   pub opening :
       IfTold (look base.volume).told
-      (λ t. IsOpeningThen (log_pages (look base.volume).capacities) t.start t opened.entry)
+      (λ t. IsOpeningThen (look base.volume).capacities t.start t opened.entry)
   pub found :
       (start : Table) → IsStored (old_records base) start
       → IsFound (look base.volume) opened.entry start

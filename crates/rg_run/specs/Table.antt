@@ -2,7 +2,8 @@
 --
 -- 1. The table at the opening is the one that the log stored as it read when the run began, and
 --    entry 0 has its copy, its pages, its rows, and the bytes of the log that are used.
--- 2. So has each later opening, of the log as the volume read at its entry's number of calls.
+-- 2. So has each later opening, of the log as the volume read at its entry's number of calls. At
+--    each opening it read sound.
 -- 3. If the volume read tidy when the run began, the whole trace is legal from that table, over the
 --    deaths of its process. Else this holds of the part before the first death, and each later part
 --    is legal from the table that the log stored as the volume read at its opening. From these
@@ -90,7 +91,7 @@ IsOpening old new trace =
 abbrev pub AreOpenings : (old new : VolumeSeen) → List Entry → Type 0
 AreOpenings old new trace =
     IfBoth old.told new.told (λ before t.
-    AreOpeningsSince (log_pages old.capacities) (length before.calls) t trace)
+    AreOpeningsSince old.capacities (length before.calls) t trace)
 
 -- each flush tells of the calls that it made
 abbrev pub AreFlushes : (old new : VolumeSeen) → List Entry → Type 0
