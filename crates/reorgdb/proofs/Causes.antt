@@ -32,12 +32,12 @@ use Rattle.rg_words.specs.declared.words.Words.{Words as Asked}
 use Rattle.rg_words.specs.declared.words.Words.TheVariants as asks
 use Rattle.rg_words.proofs.Once.{one_command}
 use Rattle.reorgdb.specs.Answer.{Seen, AsksDeck, IsPlay, IsJudge, IsGen, IsShow, IsCommand, ReadsDeck, Comes, Concludes, DealsWithBytes, DealsWithLines, EndsAtDeath, Finds, MakesTo, PlaysTo, ShowsTo, TakesDeck, NeedsNoDeck, output_of}
-use Rattle.reorgdb.specs.Causes.{IsSoundVolume, Plays, Judges, Sums, Shows, RefusesDeck, RefusesVolume, IsDue, IsDueDeck, GivesDue}
+use Rattle.reorgdb.specs.Causes.{IsSoundVolume, Plays, Judges, Sums, Shows, RefusesDeck, RefusesVolume, FailsVolume, IsDue, IsDueDeck, GivesDue}
 use Rattle.reorgdb.specs.Telling.{TellsRun}
 use Rattle.reorgdb.specs.Traced.{Traced}
 use Rattle.reorgdb.specs.Contract.{Completes}
 use Rattle.reorgdb.specs.Reading.{TakesAtMost, TakesTooMany}
-use Rattle.reorgdb.specs.Refusals.{status_of}
+use Rattle.reorgdb.specs.Refusals.{status_of, fixed_text}
 use Rattle.reorgdb.specs.declared.outcome.Outcome.{Outcome}
 use Rattle.reorgdb.specs.declared.outcome.Outcome.TheVariants.{Played, Down, Shown, Words, Deck, Source, Damaged, Device, Long, NoMemory}
 use Rattle.reorgdb.specs.declared.telling.Tells.{Tells}
@@ -426,12 +426,36 @@ module _ (words : List (List ℕ)) (source source_after sink sink_after : Seen) 
   no_volume : Concludes words source source_after sink sink_after volume volume_after status trace → status ≡ 5 → RefusesVolume sink sink_after volume volume_after trace
   no_volume a is = damaged_of a.outcome a.text is (by_status (λ e. omega arith) (λ e. omega arith) a)
 
-  failed_of : (outcome : Outcome) (text : List ℕ) → status ≡ 6 → OfStatus outcome text → Rose volume.faults volume_after.faults
-  failed_of Down text is of = of.finds
-  failed_of Device text is of = of.finds
+  -- what lines come to whose run the device ended
+  fails_lines : (tells : Tells) (lines : List Line) (text : List ℕ) → OfStatus Down text → DealsWithLines tells volume volume_after lines Down trace text → FailsVolume sink sink_after volume volume_after trace
+  fails_lines tells lines text of deals = record { rose = of.finds; text = text; tells = inr (tells, lines, deals); shown = of.shown }
+
+  fails_deck : (text : List ℕ) → OfStatus Down text → PlaysTo Down words source source_after volume volume_after trace text → FailsVolume sink sink_after volume volume_after trace
+  fails_deck text of comes =
+      let (asked, bytes, read, deals) = comes in
+      fails_lines asked.0 deals.0 text of deals.2
+
+  -- the first opening failed
+  fails_first : (text : List ℕ) → OfStatus Device text → trace ≡ [] → FailsVolume sink sink_after volume volume_after trace
+  fails_first text of none = record { rose = of.finds; text = fixed_text Device; tells = inl (none, refl); shown = of.shown }
+
+  fails_unplayed : (text : List ℕ) → OfStatus Device text → PlaysTo Device words source source_after volume volume_after trace text → FailsVolume sink sink_after volume volume_after trace
+  fails_unplayed text of comes =
+      let (asked, bytes, read, deals) = comes in
+      fails_first text of deals.2
+
+  failed_of : (outcome : Outcome) (text : List ℕ) → status ≡ 6 → OfStatus outcome text → FailsVolume sink sink_after volume volume_after trace
+  failed_of Down text is of = elim of.comes [
+    | inl played ↦ fails_deck text of played
+    | inr other ↦ elim other [ inl made ↦ fails_lines (Summary made.0 made.1) (deck_of made.0 made.1) text of made.4 | inr shown ↦ absurd shown ]
+  ]
+  failed_of Device text is of = elim of.comes [
+    | inl played ↦ fails_unplayed text of played
+    | inr other ↦ elim other [ inl made ↦ fails_first text of made.4 | inr shown ↦ fails_first text of shown.2 ]
+  ]
   failed_of outcome text is of = absurd (omega (arith, of.is, is))
 
-  volume_fails : Concludes words source source_after sink sink_after volume volume_after status trace → status ≡ 6 → Rose volume.faults volume_after.faults
+  volume_fails : Concludes words source source_after sink sink_after volume volume_after status trace → status ≡ 6 → FailsVolume sink sink_after volume volume_after trace
   volume_fails a is = failed_of a.outcome a.text is (by_status (λ e. omega arith) (λ e. omega arith) a)
 
   -- a refusal before the opening calls no volume
@@ -721,7 +745,7 @@ module _ (words : List (List ℕ)) (source source_after sink sink_after : Seen) 
     sink_failed = no_sink concludes;
     no_call = uncalled concludes;
     damaged = no_volume concludes;
-    volume_failed = volume_fails concludes;
+    failed = volume_fails concludes;
     long = too_long concludes;
     due = gives_due concludes;
     bounded = bounded;

@@ -23,8 +23,8 @@ use Rattle.rg_run.specs.Table.{EndsWhole}
 use Rattle.rg_stmt.specs.declared.event.Entry.{Entry}
 use Rattle.rg_stmt.specs.declared.line.Line.{Line}
 use Rattle.reorgdb.specs.Answer.{Seen, IsPlay, IsGen, IsShow, IsCommand, IsNoDeck, IsRefusedAt}
-use Rattle.reorgdb.specs.Answer.{ReadsDeck, ShowsLayout, TakesDeck, TellsUpToDeath}
-use Rattle.reorgdb.specs.Refusals.{status_of, deck_refusal}
+use Rattle.reorgdb.specs.Answer.{ReadsDeck, ShowsLayout, TakesDeck, TellsDown, TellsUpToDeath}
+use Rattle.reorgdb.specs.Refusals.{status_of, fixed_text, deck_refusal}
 use Rattle.reorgdb.specs.Telling.{IsOfJudge, judge_text}
 use Rattle.reorgdb.specs.declared.outcome.Outcome.{Outcome}
 use Rattle.reorgdb.specs.declared.outcome.Outcome.TheVariants as outcomes
@@ -108,6 +108,21 @@ pub record RefusesVolume (sink sink_after : Seen) (volume volume_after : VolumeS
       ((trace ≡ []) × (text ≡ damaged_text set page))
       ⊎ ((tells : Tells) × (lines : List Line)
       × TellsUpToDeath tells volume volume_after lines trace (closes.Damaged set page) text)
+  pub shown : Appends sink.bytes sink_after.bytes text
+
+-- Status 6: a call of the volume failed. It failed in the first opening, and then no line was played
+-- and no layout shown, and the sink got that. Or it failed in a COMMIT or a switch, and the last
+-- state is down; or in the opening after a death of the process, and the trace is that of the lines
+-- before. Then the sink got what was to be told of the trace, with DOWN at the end.
+pub record FailsVolume (sink sink_after : Seen) (volume volume_after : VolumeSeen)
+    (trace : List Entry) : Type 0 where
+  pub rose : Rose volume.faults volume_after.faults
+  pub text : List ℕ
+  pub tells :
+      ((trace ≡ []) × (text ≡ fixed_text outcomes.Device))
+      ⊎ ((tells : Tells) × (lines : List Line)
+      × (TellsDown tells volume volume_after lines trace text
+      ⊎ TellsUpToDeath tells volume volume_after lines trace closes.Down text))
   pub shown : Appends sink.bytes sink_after.bytes text
 
 -- A volume that reports its calls, as many as can be counted, that read sound, and of which no call

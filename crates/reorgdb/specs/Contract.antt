@@ -17,7 +17,8 @@ use Rattle.rg_run.specs.Space.{AreForSpace}
 use Rattle.rg_stmt.specs.declared.event.Entry.{Entry}
 use Rattle.reorgdb.specs.Answer.{Seen, IsPlay, IsJudge, IsGen, IsShow, NeedsNoDeck, IsCommand}
 use Rattle.reorgdb.specs.Answer.{Concludes}
-use Rattle.reorgdb.specs.Causes.{Plays, Judges, Sums, Shows, RefusesDeck, RefusesVolume, GivesDue}
+use Rattle.reorgdb.specs.Causes.{Plays, Judges, Sums, Shows, RefusesDeck, RefusesVolume}
+use Rattle.reorgdb.specs.Causes.{FailsVolume, GivesDue}
 use Rattle.reorgdb.specs.Reading.{TakesAtMost, TakesTooMany}
 
 pub record Completes (words : List (List ℕ)) (source source_after sink sink_after : Seen)
@@ -33,7 +34,7 @@ pub record Completes (words : List (List ℕ)) (source source_after sink sink_af
   pub legal : IsLegalRun volume volume_after trace
   -- Entry 0 has the copy, the rows and the pages of the log as it read when the call began.
   pub opening : IsOpening volume volume_after trace
-  -- So has the entry of each later opening, of the log as the volume read then.
+  -- So has the entry of each opening, of the log as the volume read then; and then it read sound.
   pub openings : AreOpenings volume volume_after trace
   -- A flush that says that a page was written has written that page to the set of the current copy,
   -- by its last call. One that says CLEAN has made no call.
@@ -95,8 +96,8 @@ pub record Completes (words : List (List ℕ)) (source source_after sink sink_af
   -- the process.
   pub damaged : status ≡ 5 → RefusesVolume sink sink_after volume volume_after trace
   -- Status 6 is returned only if a call of the volume failed: in an opening, in a COMMIT, or in the
-  -- step that switches to the new copy.
-  pub volume_failed : status ≡ 6 → Rose volume.faults volume_after.faults
+  -- step that switches to the new copy. The print of what was played says DOWN at its end.
+  pub failed : status ≡ 6 → FailsVolume sink sink_after volume volume_after trace
   -- Status 7: one byte more than the limit was read.
   pub long : status ≡ 7 → TakesTooMany source.bytes source_after.bytes
   -- Where nothing fails, the status is the one that is due, or 8. For a deck the source reports its
