@@ -110,10 +110,9 @@ pub record RefusesVolume (sink sink_after : Seen) (volume volume_after : VolumeS
       × TellsUpToDeath tells volume volume_after lines trace (closes.Damaged set page) text)
   pub shown : Appends sink.bytes sink_after.bytes text
 
--- Status 6: a call of the volume failed. It failed in the first opening, and then no line was played
--- and no layout shown, and the sink got that. Or it failed in a COMMIT or a switch, and the last
--- state is down; or in the opening after a death of the process, and the trace is that of the lines
--- before. Then the sink got what was to be told of the trace, with DOWN at the end.
+-- Status 6: a call of the volume failed. No line was played and no layout shown, and the sink got
+-- the refusal. Or the last state is down, or the trace is that of the lines before a death of the
+-- process; then the sink got what was to be told of the trace, with DOWN at the end.
 pub record FailsVolume (sink sink_after : Seen) (volume volume_after : VolumeSeen)
     (trace : List Entry) : Type 0 where
   pub rose : Rose volume.faults volume_after.faults

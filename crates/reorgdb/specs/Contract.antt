@@ -95,8 +95,8 @@ pub record Completes (words : List (List ℕ)) (source source_after sink sink_af
   -- Status 5: a page of the volume breaks a rule. A volume that read tidy has none after a death of
   -- the process.
   pub damaged : status ≡ 5 → RefusesVolume sink sink_after volume volume_after trace
-  -- Status 6 is returned only if a call of the volume failed: in an opening, in a COMMIT, or in the
-  -- step that switches to the new copy. The print of what was played says DOWN at its end.
+  -- Status 6 is returned only if a call of the volume failed. The print of what was played says
+  -- DOWN at its end.
   pub failed : status ≡ 6 → FailsVolume sink sink_after volume volume_after trace
   -- Status 7: one byte more than the limit was read.
   pub long : status ≡ 7 → TakesTooMany source.bytes source_after.bytes
