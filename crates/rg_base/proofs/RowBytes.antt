@@ -119,6 +119,19 @@ drop_24 row =
     sym (drop-drop 8 16 (row_bytes row)) ∙ ap (drop 8) (drop_16 row)
     ∙ drop_at (field 8 row.cat) _ 8 (length-field 8 row.cat)
 
+-- bytes that spell a row have its fields, and the length of its text
+pub spelled_parts : (bytes : List ℕ) → row_bytes (row_of bytes) ≡ bytes → (26 ≤ length bytes) × (field 2 (length (drop 26 bytes)) ≡ take 2 (drop 24 bytes))
+unfolding row_of
+spelled_parts bytes spelled =
+    let text : List ℕ = drop 26 bytes in
+    let head : take 2 (drop 24 bytes) ≡ field 2 (length text) =
+    ap (λ (xs : List ℕ). take 2 (drop 24 xs)) (sym spelled) ∙ ap (take 2) (drop_24 (row_of bytes)) ∙ take_at (field 2 (length text)) text 2 (length-field 2 (length text)) in
+    (omega (arith, ap (λ (xs : List ℕ). length xs) spelled, length-row_bytes (row_of bytes)), sym head)
+
+pub spelled_text : (bytes : List ℕ) → IsText (row_of bytes).text → IsText (drop 26 bytes)
+unfolding row_of
+spelled_text bytes text = text
+
 drop_26 : (row : Row) → drop 26 (row_bytes row) ≡ row.text
 drop_26 row =
     sym (drop-drop 2 24 (row_bytes row)) ∙ ap (drop 2) (drop_24 row)

@@ -6,6 +6,7 @@
 // 3. Writing into room that is there takes no memory.
 ghost use Rattle.std.specs.Prelude.{◌≡◌, ◌≤◌, ◌<◌, ◌^◌, ◌++◌, IfOk, IfErr, length, take, drop, slice_index};
 ghost use Rattle.std.specs.List.{AllByRecursion};
+ghost use Rattle.rg_base.specs.Field.{field};
 ghost use Rattle.rg_base.specs.Text.{IsLetter, IsText};
 ghost use Rattle.rg_base.specs.RowBytes.{row_bytes, row_of, row_size, RowFaultIs};
 
@@ -111,9 +112,33 @@ pub fn read_row(alloc: Global, bytes: &[u8]) -> Result<Row, RowFault>
             at: (ROW_HEAD + at) as u16,
         });
     }
+    match row_from(alloc, bytes) {
+        Ok(row) => Ok(row),
+        Err(_) => Err(RowFault::NoMemory),
+    }
+}
+
+/// The row that these bytes spell, which are known to spell one. So its letters are not looked at.
+pub fn read_spelled(alloc: Global, bytes: &[u8]) -> Result<Row, NoMemory>
+    requires spelled { row_bytes (row_of bytes.now) ≡ bytes.now }
+    requires text { IsText (row_of bytes.now).text }
+    ensures { IfOk result (λ row. row ≡ row_of bytes.now) }
+{
+    row_from(alloc, bytes)
+}
+
+// The row that bytes show, which have its fields, the length of the text that follows, and a text.
+fn row_from(alloc: Global, bytes: &[u8]) -> Result<Row, NoMemory>
+    requires long { 26 ≤ length bytes.now }
+    requires length { field 2 (length (drop 26 bytes.now)) ≡ take 2 (drop 24 bytes.now) }
+    requires text { IsText (drop 26 bytes.now) }
+    ensures row { IfOk result (λ row. row_bytes row ≡ bytes.now) }
+    ensures shown { IfOk result (λ row. row ≡ row_of bytes.now) }
+{
+    let (_, text) = bytes.split_at(ROW_HEAD);
     let text = match text.to_vec(alloc) {
         Ok(text) => text,
-        Err(_) => return Err(RowFault::NoMemory),
+        Err(_) => return Err(NoMemory),
     };
     Ok(Row {
         key: get_u64(bytes, 0),
@@ -121,21 +146,6 @@ pub fn read_row(alloc: Global, bytes: &[u8]) -> Result<Row, RowFault>
         cat: get_u64(bytes, 16),
         text: Text::new(text),
     })
-}
-
-/// The row that these bytes spell, which are known to spell one.
-pub fn read_spelled(alloc: Global, bytes: &[u8]) -> Result<Row, NoMemory>
-    requires spelled { row_bytes (row_of bytes.now) ≡ bytes.now }
-    requires text { IsText (row_of bytes.now).text }
-    ensures { IfOk result (λ row. row ≡ row_of bytes.now) }
-{
-    match read_row(alloc, bytes) {
-        Ok(row) => Ok(row),
-        Err(RowFault::NoMemory) => Err(NoMemory),
-        Err(RowFault::Short) => unreachable!(),
-        Err(RowFault::Length) => unreachable!(),
-        Err(RowFault::Byte { .. }) => unreachable!(),
-    }
 }
 
 // How many bytes of a text come before the first that no text may have.

@@ -1,4 +1,4 @@
-use Rattle.std.proofs.Common.{rules, arith}
+use Rattle.std.proofs.Common.{rules}
 use Rattle.rg_base.proofs.Fields.{field_of_4, small_drop, small_take}
 use Rattle.rg_base.proofs.field.get_u32.Goals as goal
 

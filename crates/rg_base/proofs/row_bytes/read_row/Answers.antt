@@ -1,6 +1,6 @@
-use Rattle.std.proofs.Common.{◌≡◌, ◌-◌, ℕ, List, length, rules, arith, sym, ap, ◌∙◌, drop, take, subst, ◌<◌}
+use Rattle.std.proofs.Common.{◌≡◌, ◌-◌, ℕ, List, length, rules, arith, sym, ap, ◌∙◌, drop, subst, ◌<◌}
 use Rattle.rg_base.specs.Field.{field}
-use Rattle.rg_base.proofs.RowBytes.{row_made, row_shown, first_other, other_length}
+use Rattle.rg_base.proofs.RowBytes.{first_other, other_length}
 use Rattle.rg_base.proofs.row_bytes.read_row.Goals as goal
 
 pub returns-then-get_u16-text-clause-fault : goal.returns-then-get_u16-text-clause-fault
@@ -27,15 +27,7 @@ returns-then-at-text-clause-fault c =
           (rw (← e) (c.count_letters-at.ensures.other c.if-at-text.true)),
     )
 
-pub returns-clause-row : goal.returns-clause-row
-returns-clause-row c =
-    let text : c.new.result ≡ drop 26 c.args.bytes.now = search rules in
-    let length_field : field 2 (length c.new.result) ≡ take 2 (drop 24 c.args.bytes.now) =
-    ap (λ (xs : List ℕ). field 2 (length xs)) (text ∙ sym c.split_at.ensures.back)
-    ∙ ap (field 2) (sym c.if-get_u16-text.false) ∙ c.get_u16.ensures in
-    row_made _ c.args.bytes.now (omega arith) c.get_u64.ensures c.get_u64-2.ensures
-    c.get_u64-3.ensures length_field text
-
-pub returns-clause-shown : goal.returns-clause-shown
-returns-clause-shown c =
-    row_shown _ c.args.bytes.now (search rules) (search rules) (search rules) (returns-clause-row c)
+pub row_from-requires-clause-length : goal.row_from-requires-clause-length
+row_from-requires-clause-length c =
+    ap (λ (xs : List ℕ). field 2 (length xs)) (sym c.split_at.ensures.back)
+    ∙ ap (field 2) (sym c.if-get_u16-text.false) ∙ c.get_u16.ensures
