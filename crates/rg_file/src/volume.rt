@@ -119,6 +119,8 @@ impl<F: Read + Write + Seek + OpenFile> Volume for FileVolume<F> {
 
     ghost told_capacities = { λ _. tt };
 
+    ghost told_faults = { λ _. tt };
+
     ghost whole_pages = { λ _. tt };
 }
 

@@ -1,3 +1,4 @@
+pub mod Failed
 pub mod Listed
 pub mod Script
 pub mod Shown

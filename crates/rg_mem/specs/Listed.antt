@@ -1,6 +1,6 @@
 -- The calls that a volume in memory keeps, as it tells them.
-use Rattle.std.specs.Prelude.{ℕ, ◌+◌, ◌-◌, ◌%◌, List, [], Option, Some, None, length}
-use Rattle.std.specs.Prelude.{slice_index_or, map, replicate, reverse}
+use Rattle.std.specs.Prelude.{ℕ, ◌+◌, ◌-◌, ◌%◌, Bool, true, false, List, [], Option, Some, None}
+use Rattle.std.specs.Prelude.{count_by, length, slice_index_or, map, replicate, reverse}
 use Rattle.rg_base.specs.declared.set.Set.{Set}
 use Rattle.rg_base.specs.declared.set.Set.TheVariants.{Log, First, Second}
 use Rattle.rg_outside.specs.Capacities.{Capacities}
@@ -23,6 +23,19 @@ call_of writes noted.FailedSync = FailedSync
 -- the calls, the newest first
 abbrev pub calls_of : List (List ℕ) → List Noted → List Call
 calls_of writes calls = reverse (map (call_of writes) calls)
+
+-- whether it failed
+abbrev pub is_failed_note : Noted → Bool
+is_failed_note noted.Read = false
+is_failed_note (noted.Wrote set page at) = false
+is_failed_note noted.Synced = false
+is_failed_note noted.FailedRead = true
+is_failed_note (noted.FailedWrite set page at reads) = true
+is_failed_note noted.FailedSync = true
+
+-- how many failed
+abbrev pub failed_in : List Noted → ℕ
+failed_in calls = count_by is_failed_note calls
 
 -- how many writes have to be there for this call
 abbrev pub writes_needed : Noted → ℕ

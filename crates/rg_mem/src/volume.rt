@@ -1,10 +1,11 @@
 ghost use Rattle.std.specs.Bool.{OnTrue, OnFalse};
 ghost use Rattle.std.specs.Prelude.{◌≡◌, ◌==◌, find, ℕ, ◌≤◌, ◌<◌, ◌^◌, ◌+◌, ◌-◌, []};
-ghost use Rattle.std.specs.Prelude.{slice_index_or, ◌∷◌, ◌++◌, length, All, IfOk, OnOk, OnErr};
+ghost use Rattle.std.specs.Prelude.{slice_index_or, ◌∷◌, ◌++◌, length, is_some, All, IfOk, OnOk, OnErr};
 ghost use Rattle.std.specs.Prelude.{is_err};
-ghost use Rattle.std.specs.Prelude.{IsTrue, vec_len, vec_capacity, if◌then◌else◌, ◌↔◌};
+ghost use Rattle.std.specs.Prelude.{IsTrue, min, vec_len, vec_capacity, if◌then◌else◌, ◌↔◌};
 ghost use Rattle.rg_mem.specs.Tally.{count_after};
-ghost use Rattle.rg_mem.specs.Listed.{writes_needed, noted_write, zero_page, pick_at};
+ghost use Rattle.rg_mem.specs.Listed.{failed_in, is_failed_note, writes_needed, noted_write, zero_page};
+ghost use Rattle.rg_mem.specs.Listed.{pick_at};
 
 use crate::noted::Noted;
 use rg_base::no_memory::NoMemory;
@@ -42,6 +43,7 @@ pub struct MemVolume {
     ghost whole_second: { All (λ page. length page ≡ 4096) second.items },
     ghost whole_writes: { All (λ page. length page ≡ 4096) writes.items },
     ghost there: { All (λ call. writes_needed call ≤ length writes.items) calls.items },
+    ghost failed: { faults ≡ min (past + failed_in calls.items) (2 ^ 64 - 1) },
     ghost small_log: { length log.items < 2 ^ 32 },
     ghost small_first: { length first.items < 2 ^ 32 },
     ghost small_second: { length second.items < 2 ^ 32 },
@@ -345,8 +347,12 @@ impl MemVolume {
             (told_of self.new) }
         ensures capacities { capacities_of self.new ≡ capacities_of self.old }
         ensures keeps { KeepsAs self.old self.new }
-        ensures faults { self.new.faults ≡ self.old.faults }
+        ensures faults { self.new.faults
+            ≡ (if is_failed_note call then count_after self.old.faults else self.old.faults) }
     {
+        if call.is_failed() {
+            self.faults = self.faults.saturating_add(1);
+        }
         self.calls.push_reserved(call);
     }
 
@@ -359,9 +365,13 @@ impl MemVolume {
             (told_of self.new) }
         ensures capacities { capacities_of self.new ≡ capacities_of self.old }
         ensures keeps { KeepsAs self.old self.new }
-        ensures faults { self.new.faults ≡ self.old.faults }
+        ensures faults { self.new.faults
+            ≡ (if is_some fault then count_after self.old.faults else self.old.faults) }
     {
         let at = self.writes.len();
+        if fault.is_some() {
+            self.faults = self.faults.saturating_add(1);
+        }
         self.writes.push_reserved(*from);
         self.calls.push_reserved(noted_write(set, page, at, fault));
     }
@@ -375,21 +385,10 @@ impl MemVolume {
         ensures count { self.new.faults ≡ count_after self.old.faults }
         ensures rose { Rose self.old.faults self.new.faults }
     {
-        self.raise();
+        self.faults = self.faults.saturating_add(1);
         if self.past < u64::MAX {
             self.past += 1;
         }
-    }
-
-    fn raise(&mut self)
-        ensures told { told_of self.new ≡ told_of self.old }
-        ensures capacities { capacities_of self.new ≡ capacities_of self.old }
-        ensures keeps { KeepsAs self.old self.new }
-        ensures later { self.old.faults ≤ self.new.faults }
-        ensures count { self.new.faults ≡ count_after self.old.faults }
-        ensures rose { Rose self.old.faults self.new.faults }
-    {
-        self.faults = self.faults.saturating_add(1);
     }
 }
 
@@ -400,6 +399,7 @@ impl Volume for MemVolume {
     ghost use Rattle.rg_outside.specs.Made.{Made, MadeRead, MadeWrite, MadeSync};
     ghost use Rattle.rg_outside.specs.Moments.{IfTold};
     ghost use Rattle.rg_mem.specs.Shown.{capacities_of, told_of, own_capacities, next_read};
+    ghost use Rattle.rg_mem.specs.Failed.{own_faults};
     ghost use Rattle.rg_mem.specs.Whole.{own_pages};
     ghost use Rattle.rg_mem.specs.Shown.{next_write, next_sync, fails, write_fails, KeepsAs};
 
@@ -437,7 +437,6 @@ impl Volume for MemVolume {
         }
         if self.fault().is_some() {
             self.note(Noted::FailedRead);
-            self.raise();
             return Err(Failed);
         }
         *into = *self.content(set, page);
@@ -464,7 +463,6 @@ impl Volume for MemVolume {
         let fault = self.fault();
         self.note_write(set, page, from, fault);
         if fault.is_some() {
-            self.raise();
             return Err(Failed);
         }
         Ok(())
@@ -486,7 +484,6 @@ impl Volume for MemVolume {
         }
         if self.fault().is_some() {
             self.note(Noted::FailedSync);
-            self.raise();
             return Err(Failed);
         }
         self.note(Noted::Synced);
@@ -494,6 +491,8 @@ impl Volume for MemVolume {
     }
 
     ghost told_capacities = { own_capacities };
+
+    ghost told_faults = { own_faults };
 
     ghost whole_pages = { own_pages };
 }

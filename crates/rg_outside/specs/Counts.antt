@@ -3,6 +3,7 @@ use Rattle.std.specs.Prelude.{ℕ, ◌≡◌, ◌-◌, ◌^◌, nat_lt, Bool, tr
 use Rattle.std.specs.Prelude.{length}
 use Rattle.rg_outside.specs.Calls.{Told}
 use Rattle.rg_outside.specs.Capacities.{Capacities}
+use Rattle.rg_outside.specs.Made.{CountsFailed}
 use Rattle.rg_outside.specs.Moments.{IfTold, HasWholePages}
 
 -- the volume, and the calls since the count began
@@ -35,3 +36,8 @@ counted_capacities told capacities n own = told_counted (λ t. t.capacities ≡ 
 pub counted_pages :
     (told : Option Told) (n : ℕ) → IfTold told HasWholePages → IfTold (counted told n) HasWholePages
 counted_pages told n whole = told_counted HasWholePages told n whole
+
+pub counted_faults :
+    (told : Option Told) (faults n : ℕ) → IfTold told (CountsFailed faults)
+    → IfTold (counted told n) (CountsFailed faults)
+counted_faults told faults n own = told_counted (CountsFailed faults) told n own

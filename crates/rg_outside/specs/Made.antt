@@ -69,6 +69,10 @@ WritesIn set (Wrote s p b) = s ≡ set
 WritesIn set (FailedWrite s p b reads) = s ≡ set
 WritesIn set call = Unit {0}
 
+-- the faults of a known volume are its calls that failed, while its calls can be counted
+abbrev pub CountsFailed : (faults : ℕ) → Told → Type 0
+CountsFailed faults t = length t.calls < 2 ^ 64 - 1 → faults ≡ faults_of t.calls
+
 -- A call failed meanwhile. Over a known volume it shows in the list; the count of faults says
 -- nothing more once it stands at its type's end.
 abbrev pub FaultShows : Option Told → Option Told → Type 0

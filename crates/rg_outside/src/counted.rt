@@ -58,7 +58,7 @@ impl<V: Volume> Counted<V> {
 }
 
 impl<V: Volume> Volume for Counted<V> {
-    ghost use Rattle.rg_outside.specs.Counts.{counted, counted_capacities, counted_pages};
+    ghost use Rattle.rg_outside.specs.Counts.{counted, counted_capacities, counted_faults, counted_pages};
 
     ghost capacities = { λ c. V.capacities c.volume };
 
@@ -87,6 +87,9 @@ impl<V: Volume> Volume for Counted<V> {
 
     ghost told_capacities = { λ c. counted_capacities
         (V.told c.volume) (V.capacities c.volume) c.calls (V.told_capacities c.volume) };
+
+    ghost told_faults = { λ c. counted_faults
+        (V.told c.volume) (V.faults c.volume) c.calls (V.told_faults c.volume) };
 
     ghost whole_pages = { λ c. counted_pages (V.told c.volume) c.calls (V.whole_pages c.volume) };
 }

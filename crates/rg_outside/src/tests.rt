@@ -137,6 +137,8 @@ impl Volume for Slate {
 
     ghost told_capacities = { λ _. tt };
 
+    ghost told_faults = { λ _. tt };
+
     ghost whole_pages = { λ _. tt };
 }
 

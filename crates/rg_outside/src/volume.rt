@@ -2,7 +2,7 @@ ghost use Rattle.std.specs.Prelude.{◌≡◌, ◌≤◌, ℕ, Option, OnOk, OnE
 ghost use Rattle.rg_outside.specs.Calls.{Told, read_of};
 ghost use Rattle.rg_outside.specs.Capacities.{Capacities, capacity_of, IsPage};
 ghost use Rattle.rg_outside.specs.Faults.{HasCause};
-ghost use Rattle.rg_outside.specs.Made.{MadeRead, MadeWrite, MadeSync};
+ghost use Rattle.rg_outside.specs.Made.{CountsFailed, MadeRead, MadeWrite, MadeSync};
 ghost use Rattle.rg_outside.specs.Moments.{IfTold, HasWholePages};
 
 use crate::source::Failed;
@@ -55,6 +55,9 @@ pub trait Volume {
     /// A known volume reports its own capacities.
     ghost told_capacities: { (volume : Self) →
         IfTold (told volume) (λ t. t.capacities ≡ capacities volume) };
+
+    /// The faults of a known volume are its calls that failed, while its calls can be counted.
+    ghost told_faults: { (volume : Self) → IfTold (told volume) (CountsFailed (faults volume)) };
 
     /// The pages of a known volume have 4,096 bytes.
     ghost whole_pages: { (volume : Self) → IfTold (told volume) HasWholePages };

@@ -6,7 +6,7 @@ use Rattle.rg_mem.proofs.Noting.{told_if}
 use Rattle.rg_mem.proofs.volume.MemVolumeVolume.read.Goals as goal
 
 pub returns-then-is_some-clause-made : goal.returns-then-is_some-clause-made
-returns-then-is_some-clause-made c = (FailedRead, tt, rw c.raise.ensures.told c.note.ensures.made)
+returns-then-is_some-clause-made c = (FailedRead, tt, c.note.ensures.made)
 
 pub returns-clause-content : goal.returns-clause-content
 returns-clause-content c =

@@ -2,4 +2,4 @@ use Rattle.rg_outside.specs.Calls.{FailedSync}
 use Rattle.rg_mem.proofs.volume.MemVolumeVolume.sync.Goals as goal
 
 pub returns-then-is_some-clause-made : goal.returns-then-is_some-clause-made
-returns-then-is_some-clause-made c = (FailedSync, tt, rw c.raise.ensures.told c.note.ensures.made)
+returns-then-is_some-clause-made c = (FailedSync, tt, c.note.ensures.made)

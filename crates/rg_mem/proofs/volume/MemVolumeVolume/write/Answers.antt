@@ -7,7 +7,7 @@ pub returns-then-is_some-clause-made : goal.returns-then-is_some-clause-made
 returns-then-is_some-clause-made c = (
   write_call c.args.set c.args.page c.args.from.now c.fault-fault.result,
   write_failed c.fault-fault.result (record {}) c.args.set c.args.page c.args.from.now (sym c.is_some.ensures ∙ c.if-is_some.true),
-  rw c.raise.ensures.told c.note_write.ensures.made,
+  c.note_write.ensures.made,
 )
 
 pub returns-clause-made : goal.returns-clause-made
