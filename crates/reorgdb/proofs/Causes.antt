@@ -725,7 +725,7 @@ module _ (words : List (List ℕ)) (source source_after sink sink_after : Seen) 
     legal = traced.legal;
     opening = traced.opening;
     openings = traced.openings;
-    flushes = traced.flushes;
+    fit = traced.fit;
     sound = traced.sound;
     full = run_less 3200 3221 volume volume_after trace (omega arith) traced.full;
     log_full = traced.log_full;

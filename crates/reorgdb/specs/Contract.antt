@@ -8,7 +8,7 @@ use Rattle.rg_deck.specs.declared.read.TheConstants.{DECK_LIMIT}
 use Rattle.rg_outside.specs.Faults.{Rose}
 use Rattle.rg_desk.specs.Volume.{VolumeSeen}
 use Rattle.rg_run.specs.Outside.{IsDeviceOnlyIf, MakesOnly, WritesOwn}
-use Rattle.rg_run.specs.Table.{AreFlushes, AreOpenings, IsAllowedRun, IsLegalRun, IsOpening}
+use Rattle.rg_run.specs.Table.{FitCalls, AreOpenings, IsAllowedRun, IsLegalRun, IsOpening}
 use Rattle.rg_run.specs.Table.{KeepsSound}
 use Rattle.rg_image.specs.Rules.{limit_of}
 use Rattle.rg_log.specs.Kept.{log_pages}
@@ -37,8 +37,9 @@ pub record Completes (words : List (List ℕ)) (source source_after sink sink_af
   -- So has the entry of each opening, of the log as the volume read then; and then it read sound.
   pub openings : AreOpenings volume volume_after trace
   -- A flush that says that a page was written has written that page to the set of the current copy,
-  -- by its last call. One that says CLEAN has made no call.
-  pub flushes : AreFlushes volume volume_after trace
+  -- by its last call. One that says CLEAN has made no call. Where an entry says DEVICE, a call has
+  -- failed that was made since the entry before.
+  pub fit : FitCalls volume volume_after trace
   -- From these tables, FULL is answered, and STOP NOSPACE comes once a list is sorted, only where
   -- 4,064 bytes for each page of the last opening, and 18 and its bytes for each row that was
   -- written since or put back while a utility ran, reach 3,200 for each page of the smaller copy.

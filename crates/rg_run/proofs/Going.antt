@@ -28,7 +28,7 @@ use Rattle.rg_outside.proofs.Frame.{calls_join, calls_weaken}
 use Rattle.rg_record.specs.declared.record.Record.{Record}
 use Rattle.rg_stmt.specs.declared.event.Entry.{Entry}
 use Rattle.rg_stmt.specs.declared.line.Line.{Line}
-use Rattle.rg_run.specs.Flush.{AreFlushesSince}
+use Rattle.rg_run.specs.Fit.{FitSince}
 use Rattle.rg_run.specs.Full.{smaller_pages}
 use Rattle.rg_run.specs.LogFull.{IsLogFullOnlyFrom}
 use Rattle.rg_run.specs.Space.{AreForSpace}
@@ -39,7 +39,7 @@ use Rattle.rg_run.specs.Parts.{Again, AreParts, Came, Follows, Going, IfTidy, Is
 use Rattle.rg_run.specs.Parts.AreParts.{Next, One}
 use Rattle.rg_run.specs.Played.{Goes, TraceOf, first_of}
 use Rattle.rg_run.proofs.Joins.{device_join, first_join, log_join, own_left, own_right, run_again, trace_join}
-use Rattle.rg_run.proofs.Flushes.{flushes_join, flushes_on}
+use Rattle.rg_run.proofs.Fits.{fit_join, fit_on}
 use Rattle.rg_run.proofs.Openings.{all_join, found_by, found_on, openings_on, part_opened, parts_more}
 use Rattle.rg_run.proofs.Plays.{device_more, rose_earlier, rose_later}
 
@@ -183,7 +183,7 @@ made_on look first lines trace now later made n has calls le same = record {
   openings =
       subst (λ (c : Capacities). IfTold later.told (λ t. AreOpeningsSince c t.start t trace)) (sym same)
       (openings_on (WritesOwn trace) now.capacities now.told later.told trace calls made.openings);
-  flushes = flushes_on (WritesOwn trace) now.told later.told 0 0 trace calls made.flushes;
+  fit = fit_on (WritesOwn trace) now.told later.told 0 0 trace calls made.fit;
 }
 
 module _ {V O : Type 0} {answers : O → Option (List Answer)} (look : V → VolumeSeen) (first desk : DeskState V O) (lines : List Line) (going : Going look answers first lines desk) where
@@ -288,7 +288,7 @@ module _ {V O : Type 0} {answers : O → Option (List Answer)} (look : V → Vol
           later = subst (λ (v : VolumeSeen). v.faults ≤ now.faults) volume goes.stays.later;
           capacities = same_capacities ∙ ap (λ (v : VolumeSeen). v.capacities) volume;
           openings = openings_now trace (subst (λ (es : List Entry). IfTold (look base.volume).told (λ t. AreOpeningsSince (look base.volume).capacities t.start t es)) only base_opening);
-          flushes = subst (λ (es : List Entry). IfTold now.told (λ t. AreFlushesSince t.start t es)) only goes.flushes;
+          fit = subst (λ (es : List Entry). IfTold now.told (λ t. FitSince t.start t es)) only goes.fit;
         }
 
     made_again : Again look first base lines going.back → Made look first lines trace now
@@ -320,7 +320,7 @@ module _ {V O : Type 0} {answers : O → Option (List Answer)} (look : V → Vol
           later = omega (arith, past.later, goes.stays.later);
           capacities = same_capacities ∙ past.capacities;
           openings = openings_now trace openings_joined;
-          flushes = flushes_joined;
+          fit = fit_joined;
         }
       where
         found_now : (entry : Entry) (start : Table) → IsFound (look base.volume) entry start → IsFound now entry start
@@ -331,12 +331,12 @@ module _ {V O : Type 0} {answers : O → Option (List Answer)} (look : V → Vol
             parts_more (IsStored (old_records first)) (IsStored (old_records first)) (IsFound (look base.volume)) (IsFound now) (IsPart (3221 * smaller_pages (look base.volume).capacities)) (IsPart (3221 * smaller_pages now.capacities)) base.older
             (λ start starts. starts) found_now (λ start part is. subst (λ (c : Capacities). IsPart (3221 * smaller_pages c) start part) (sym same_capacities) is) again.made.parts
 
-        flushes_joined : IfTold now.told (λ t. AreFlushesSince t.start t trace)
-        flushes_joined =
-            told_weaken (λ t. AreFlushesSince t.start t base.older × AreFlushesSince t.start t desk.trace) (λ t. AreFlushesSince t.start t trace) now.told
-            (λ t both. flushes_join t.start t 0 0 going.back base.older desk.trace goes.entries both.0 both.1)
-            (told_both (λ t. AreFlushesSince t.start t base.older) (λ t. AreFlushesSince t.start t desk.trace) now.told
-            (flushes_on (WritesOwn desk.trace) (look base.volume).told now.told 0 0 base.older part_calls again.made.flushes) goes.flushes)
+        fit_joined : IfTold now.told (λ t. FitSince t.start t trace)
+        fit_joined =
+            told_weaken (λ t. FitSince t.start t base.older × FitSince t.start t desk.trace) (λ t. FitSince t.start t trace) now.told
+            (λ t both. fit_join t.start t 0 0 going.back base.older desk.trace goes.entries both.0 both.1)
+            (told_both (λ t. FitSince t.start t base.older) (λ t. FitSince t.start t desk.trace) now.told
+            (fit_on (WritesOwn desk.trace) (look base.volume).told now.told 0 0 base.older part_calls again.made.fit) goes.fit)
 
         openings_joined : IfTold (look base.volume).told (λ t. AreOpeningsSince (look base.volume).capacities t.start t trace)
         openings_joined =

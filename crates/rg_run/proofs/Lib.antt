@@ -2,7 +2,7 @@ pub mod Fullness
 pub mod Pasts
 pub mod Joins
 pub mod Spaces
-pub mod Flushes
+pub mod Fits
 pub mod Asking
 pub mod Plays
 pub mod Working

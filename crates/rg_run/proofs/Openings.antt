@@ -19,7 +19,7 @@ use Rattle.rg_stmt.specs.declared.event.Event.TheVariants as events
 use Rattle.rg_stmt.specs.declared.line.Line.{Line}
 use Rattle.rg_stmt.specs.declared.line.Line.TheVariants.{Death, Flush, Reorg, Said, Show, Step}
 use Rattle.rg_run.specs.Opening.{AreOpeningsSince, IfOpened, IsFoundThen, IsOpeningOf, IsOpeningThen, ReadSo}
-use Rattle.rg_run.proofs.Flushes.{calls_then}
+use Rattle.rg_run.proofs.Fits.{calls_then}
 use Rattle.rg_run.specs.Parts.{AreParts, IsAlive, IsFound, IsFoundBy}
 use Rattle.rg_run.specs.Parts.AreParts.{Next, One}
 use Rattle.rg_run.specs.Played.{EntryOf, IsFlushed, IsStartEvent, IsStepEvent, TraceOf, first_of}

@@ -43,7 +43,9 @@ use Rattle.rg_outside.specs.Moments.{EachCall, IfTold}
 use Rattle.rg_outside.proofs.Every.{told_both, told_weaken}
 use Rattle.rg_outside.proofs.Frame.{calls_join, calls_weaken, no_calls}
 use Rattle.rg_run.specs.Asked.{HasAnswered, answer_before, answers_in}
-use Rattle.rg_run.specs.Flush.{AreFlushesSince, IsFlushThen, calls_of_last, copy_after, copy_of_last}
+use Rattle.rg_outside.specs.Calls.{Call}
+use Rattle.rg_outside.specs.Made.{CountsFailed}
+use Rattle.rg_run.specs.Fit.{FitSince, FailedThen, FitsThen, calls_of_last, copy_after, copy_of_last}
 use Rattle.rg_run.specs.Full.{AreAllowed, IsAllowedAt, smaller_pages}
 use Rattle.rg_run.specs.LogFull.{IsLogFullFrom, IsLogFullOnlyFrom}
 use Rattle.rg_run.specs.Outside.{IsDeviceIf, IsDeviceOnlyIf, WritesOwn}
@@ -54,7 +56,7 @@ use Rattle.rg_run.proofs.Fullness.{allowed_flush, allowed_layout, allowed_on, al
 use Rattle.rg_run.proofs.Spaces.{fills_idle, flush_none, layout_none, shown_start, shown_step, shown_still, space_on, space_opened, space_said, space_start, space_step}
 use Rattle.rg_run.proofs.Joins.{own_left, own_part, own_right}
 use Rattle.rg_run.proofs.Asking.{answered_all, answered_once, same_unasked, unasked}
-use Rattle.rg_run.proofs.Flushes.{calls_push, copy_push, flush_then, flushed_keeps, flushes_on, flushes_push, layout_keeps, layout_tells, opened_alone, start_keeps, start_tells, step_copy, step_tells, told_all}
+use Rattle.rg_run.proofs.Fits.{calls_push, copy_push, failed_then, flush_then, flushed_keeps, fit_on, fit_push, layout_keeps, layout_tells, opened_alone, said_tells, start_keeps, start_tells, step_copy, step_tells, told_all}
 
 entries_push : (lines : List Line) (entries : List Entry) (line : Line) (entry : Entry) → AllZip EntryOf lines entries → EntryOf line entry → AllZip EntryOf (lines ++ line ∷ []) (entries ++ entry ∷ [])
 entries_push [] [] line entry all of = (of, tt)
@@ -243,7 +245,7 @@ record Moves {V O : Type 0} (look : V → VolumeSeen) (old new : DeskState V O) 
   pub space : IsForSpace (look old.volume).capacities (loading_in None old.trace) entry.event
   pub loading : ShowsLoading new.stage new.copy (old.trace ++ entry ∷ [])
 
-module _ {V O : Type 0} {answers : O → Option (List Answer)} (look : V → VolumeSeen) (first old new : DeskState V O) (lines : List Line) (goes : Goes look answers first lines old) where
+module _ {V O : Type 0} {answers : O → Option (List Answer)} (look : V → VolumeSeen) (law : (v : V) → IfTold (look v).told (CountsFailed (look v).faults)) (first old new : DeskState V O) (lines : List Line) (goes : Goes look answers first lines old) where
   stays_on : (entry : Entry) → new.trace ≡ old.trace ++ entry ∷ [] → Moves look old new entry → StaysSince look first new
   stays_on entry made moves = record {
     older = moves.older ∙ goes.stays.older;
@@ -266,12 +268,16 @@ module _ {V O : Type 0} {answers : O → Option (List Answer)} (look : V → Vol
   rises : Rose (look old.volume).faults (look new.volume).faults → Rose (look first.volume).faults (look new.volume).faults
   rises rose = rose_earlier (look first.volume).faults (look old.volume).faults (look new.volume).faults goes.stays.later rose
 
+  -- a call that was made since the entry before has failed
+  failed_now : (Kind : Call → Type 0) (calls : ℕ) → EachCall (look old.volume).told (look new.volume).told Kind → IsCount (look new.volume) calls → Rose (look old.volume).faults (look new.volume).faults → IfTold (look new.volume).told (λ t. FailedThen t.start (calls_of_last 0 old.trace) calls t)
+  failed_now Kind calls made counted rose = failed_then Kind (look old.volume) (look new.volume) (calls_of_last 0 old.trace) calls made goes.counted counted (law old.volume) (law new.volume) rose
+
   abbrev least : ℕ
   least = 3221 * smaller_pages (look old.volume).capacities
 
   on : (line : Line) (entry : Entry) → new.trace ≡ old.trace ++ entry ∷ [] → EntryOf line entry → ((start : Table) → IsStored (old_records old) start → IsAllowedAt least (allowed_of start old.trace) entry.event (loading_in None old.trace)) → IsLogFullFrom (limit_of old.ground.log.pages) (logged_by 0 old.trace) entry.event
       → IsDeviceIf (Rose (look first.volume).faults (look new.volume).faults) entry.event → (new.down ≡ true → Rose (look first.volume).faults (look new.volume).faults)
-      → IfTold (look new.volume).told (λ t. IsFlushThen (copy_of_last 0 old.trace) t.start (calls_of_last 0 old.trace) entry.calls t entry.event) → IsCount (look new.volume) entry.calls → HasAnswered (answers old.operator) (answer_before entry.answer []) (answers new.operator) → Moves look old new entry → Goes look answers first (lines ++ line ∷ []) new
+      → IfTold (look new.volume).told (λ t. FitsThen (copy_of_last 0 old.trace) t.start (calls_of_last 0 old.trace) entry.calls t entry.event) → IsCount (look new.volume) entry.calls → HasAnswered (answers old.operator) (answer_before entry.answer []) (answers new.operator) → Moves look old new entry → Goes look answers first (lines ++ line ∷ []) new
   on line entry made of full log device down flush counted asked moves = record {
     entries = subst (TraceOf (lines ++ line ∷ [])) (sym made) (trace_push lines old.trace line entry goes.entries of);
     begins = ap first_of made ∙ first_push lines old.trace entry goes.entries ∙ goes.begins;
@@ -291,12 +297,12 @@ module _ {V O : Type 0} {answers : O → Option (List Answer)} (look : V → Vol
         (device_push (Rose (look first.volume).faults (look new.volume).faults) old.trace entry
         (device_more (Rose (look first.volume).faults (look old.volume).faults) (Rose (look first.volume).faults (look new.volume).faults) old.trace (risen moves.later) goes.device) device);
     down = down;
-    flushes =
-        subst (λ (es : List Entry). IfTold (look new.volume).told (λ t. AreFlushesSince t.start t es)) (sym made)
-        (told_weaken (λ t. AreFlushesSince t.start t old.trace × IsFlushThen (copy_of_last 0 old.trace) t.start (calls_of_last 0 old.trace) entry.calls t entry.event) (λ t. AreFlushesSince t.start t (old.trace ++ entry ∷ [])) (look new.volume).told
-        (λ t both. flushes_push 0 t.start 0 t old.trace entry both.0 both.1)
-        (told_both (λ t. AreFlushesSince t.start t old.trace) (λ t. IsFlushThen (copy_of_last 0 old.trace) t.start (calls_of_last 0 old.trace) entry.calls t entry.event) (look new.volume).told
-        (flushes_on (WritesOwn old.trace) (look old.volume).told (look new.volume).told 0 0 old.trace moves.only goes.flushes) flush));
+    fit =
+        subst (λ (es : List Entry). IfTold (look new.volume).told (λ t. FitSince t.start t es)) (sym made)
+        (told_weaken (λ t. FitSince t.start t old.trace × FitsThen (copy_of_last 0 old.trace) t.start (calls_of_last 0 old.trace) entry.calls t entry.event) (λ t. FitSince t.start t (old.trace ++ entry ∷ [])) (look new.volume).told
+        (λ t both. fit_push 0 t.start 0 t old.trace entry both.0 both.1)
+        (told_both (λ t. FitSince t.start t old.trace) (λ t. FitsThen (copy_of_last 0 old.trace) t.start (calls_of_last 0 old.trace) entry.calls t entry.event) (look new.volume).told
+        (fit_on (WritesOwn old.trace) (look old.volume).told (look new.volume).told 0 0 old.trace moves.only goes.fit) flush));
     copy_is = ap (copy_of_last 0) made ∙ copy_push 0 old.trace entry ∙ ap (λ (n : ℕ). copy_after n entry.event) goes.copy_is ∙ sym moves.copy;
     counted = subst (IsCount (look new.volume)) (sym (ap (calls_of_last 0) made ∙ calls_push 0 old.trace entry)) counted;
     asked =
@@ -348,7 +354,7 @@ module _ {V O : Type 0} {answers : O → Option (List Answer)} (look : V → Vol
       let entry = said_entry session stmt said.reply said.calls in
       on (Said session stmt) entry said.made (said.reply, refl, said.is) (λ start stored. allowed_said stmt said.reply least (allowed_of start old.trace) old.ground.capacity (loading_in None old.trace) least_room (said.full start stored)) (log_said session stmt said.reply (logged_by 0 old.trace) old.ground.log.pages said.log_full)
       (device_said (Rose (look first.volume).faults (look new.volume).faults) session stmt said.reply (λ is. rises (said.device is)))
-      (λ down. by_old old.down refl (sym said.down ∙ down)) (told_all (look new.volume).told (λ t. Unit {0}) (λ t. tt)) said.counted (same_unasked answers old.operator new.operator said.utility.operator)
+      (λ down. by_old old.down refl (sym said.down ∙ down)) (said_tells stmt said.reply (look new.volume).told (copy_of_last 0 old.trace) (calls_of_last 0 old.trace) said.calls (λ is. failed_now (WritesEither (set_of old.copy)) said.calls said.stays.calls.only said.counted (said.device is))) said.counted (same_unasked answers old.operator new.operator said.utility.operator)
       (moves_of entry said.stays (λ k. refl) (both_still entry said.utility.stage) (space_said (look old.volume).capacities stmt said.reply (loading_in None old.trace)) (loading_still entry said.utility.stage said.stays.copy (λ now. refl)))
     where
       by_old : (b : Bool) → old.down ≡ b → (b || is_device said.reply) ≡ true → Rose (look first.volume).faults (look new.volume).faults
@@ -360,7 +366,7 @@ module _ {V O : Type 0} {answers : O → Option (List Answer)} (look : V → Vol
       let entry = system_entry shown.event shown.calls in
       on Show entry shown.made (old.copy, shown.event, refl, shown.is) (λ start stored. allowed_layout old.copy shown.event least (allowed_of start old.trace) (loading_in None old.trace) shown.is) (log_layout old.copy shown.event (limit_of old.ground.log.pages) (logged_by 0 old.trace) shown.is)
       (device_layout (Rose (look first.volume).faults (look new.volume).faults) old.copy shown.event shown.is) (λ down. risen shown.stays.calls.later (goes.down (sym shown.down ∙ down)))
-      (told_all (look new.volume).told (λ t. IsFlushThen (copy_of_last 0 old.trace) t.start (calls_of_last 0 old.trace) shown.calls t shown.event) (λ t. layout_tells old.copy shown.event shown.is (copy_of_last 0 old.trace) t.start (calls_of_last 0 old.trace) shown.calls t))
+      (told_all (look new.volume).told (λ t. FitsThen (copy_of_last 0 old.trace) t.start (calls_of_last 0 old.trace) shown.calls t shown.event) (λ t. layout_tells old.copy shown.event shown.is (copy_of_last 0 old.trace) t.start (calls_of_last 0 old.trace) shown.calls t))
       shown.counted (same_unasked answers old.operator new.operator shown.utility.operator) (moves_of entry shown.stays (layout_keeps old.copy shown.event shown.is) (both_still entry shown.utility.stage)
       ((layout_none old.copy shown.event shown.is).space (look old.volume).capacities (loading_in None old.trace)) (loading_still entry shown.utility.stage shown.stays.copy (layout_none old.copy shown.event shown.is).same))
 
@@ -371,8 +377,8 @@ module _ {V O : Type 0} {answers : O → Option (List Answer)} (look : V → Vol
       on Flush entry made.made (made.event, refl, is) (λ start stored. allowed_flush made.event least (allowed_of start old.trace) (loading_in None old.trace) is) (log_flush made.event (limit_of old.ground.log.pages) (logged_by 0 old.trace) is)
       (device_flush (Rose (look first.volume).faults (look new.volume).faults) old.down old.copy old.contents old.marks new.marks (look old.volume) (look new.volume) made.event rises made.is)
       (λ down. risen made.stays.calls.later (goes.down (sym made.down ∙ down)))
-      (subst (λ (k : ℕ). IfTold (look new.volume).told (λ t. IsFlushThen k t.start (calls_of_last 0 old.trace) made.calls t made.event)) (sym goes.copy_is)
-      (flush_then (WritesEither (set_of old.copy)) old.down old.copy old.contents old.marks new.marks (look old.volume) (look new.volume) (calls_of_last 0 old.trace) made.calls made.event made.stays.calls.only goes.counted made.counted made.is))
+      (subst (λ (k : ℕ). IfTold (look new.volume).told (λ t. FitsThen k t.start (calls_of_last 0 old.trace) made.calls t made.event)) (sym goes.copy_is)
+      (flush_then (WritesEither (set_of old.copy)) old.down old.copy old.contents old.marks new.marks (look old.volume) (look new.volume) (calls_of_last 0 old.trace) made.calls made.event made.stays.calls.only goes.counted made.counted (λ rose. failed_now (WritesEither (set_of old.copy)) made.calls made.stays.calls.only made.counted rose) made.is))
       made.counted (same_unasked answers old.operator new.operator made.utility.operator) (moves_of entry made.stays (flushed_keeps made.event is) (both_still entry made.utility.stage)
       ((flush_none made.event is).space (look old.volume).capacities (loading_in None old.trace)) (loading_still entry made.utility.stage made.stays.copy (flush_none made.event is).same))
 
@@ -400,7 +406,7 @@ module _ {V O : Type 0} {answers : O → Option (List Answer)} (look : V → Vol
       on (Reorg options) entry made.made (made.event, refl, is) (λ start stored. allowed_start options made.event least (allowed_of start old.trace) (loading_in None old.trace) is)
       (log_start options made.event (logged_by 0 old.trace) old.ground.log.pages is made.log_full) (device_start (Rose (look first.volume).faults (look new.volume).faults) options made.event is)
       (λ down. risen made.stays.calls.later (goes.down (sym made.down ∙ down)))
-      (told_all (look new.volume).told (λ t. IsFlushThen (copy_of_last 0 old.trace) t.start (calls_of_last 0 old.trace) made.calls t made.event) (λ t. start_tells options made.event is (copy_of_last 0 old.trace) t.start (calls_of_last 0 old.trace) made.calls t))
+      (told_all (look new.volume).told (λ t. FitsThen (copy_of_last 0 old.trace) t.start (calls_of_last 0 old.trace) made.calls t made.event) (λ t. start_tells options made.event is (copy_of_last 0 old.trace) t.start (calls_of_last 0 old.trace) made.calls t))
       made.counted (same_unasked answers old.operator new.operator made.operator)
       (moves_of entry made.stays (start_keeps options made.event is)
       (λ runs copy which. by_start copy which (started_runs old.down old.stage new.stage options old.copy (length old.contents) old.ground.log made.event made.is runs))
@@ -419,7 +425,7 @@ module _ {V O : Type 0} {answers : O → Option (List Answer)} (look : V → Vol
       on Step entry made.made (answer, event, refl, is) (λ start stored. allowed_step answer event least (allowed_of start old.trace) (loading_in None old.trace) is (stops start stored))
       (log_step answer event (limit_of old.ground.log.pages) (logged_by 0 old.trace) is) (device_step (Rose (look first.volume).faults (look new.volume).faults) answer event (λ at. rises (made.device at)) is)
       (λ down. by_down (made.down down))
-      (told_all (look new.volume).told (λ t. IsFlushThen (copy_of_last 0 old.trace) t.start (calls_of_last 0 old.trace) made.calls t event) (λ t. step_tells answer event is (copy_of_last 0 old.trace) t.start (calls_of_last 0 old.trace) made.calls t))
+      (step_tells answer event is (look new.volume).told (copy_of_last 0 old.trace) (calls_of_last 0 old.trace) made.calls (λ at. failed_now (WritesOwn old.trace) made.calls calls.only made.counted (made.device at)))
       made.counted
       (subst (λ (o : O). HasAnswered (answers old.operator) (answer_before answer []) (answers o)) (sym made.operator)
       (answered_once answers last (left_to_take old) old.operator stepped.asked.operator answer stepped.operator))
@@ -521,9 +527,9 @@ goes_opened {V} {O} look answers desk opened copy counted room idle = record {
   loading = subst (λ (o : Option Stage). ShowsLoading o desk.copy desk.trace) (sym idle) tt;
   device = subst (IsDeviceOnlyIf (Rose (look desk.volume).faults (look desk.volume).faults)) (sym opened.trace) (device_opened opened.entry opened.is (Rose (look desk.volume).faults (look desk.volume).faults), tt);
   down = λ down. absurd (cc (down, opened.up));
-  flushes =
-      subst (λ (es : List Entry). IfTold (look desk.volume).told (λ t. AreFlushesSince t.start t es)) (sym opened.trace)
-      (told_all (look desk.volume).told (λ t. AreFlushesSince t.start t (opened.entry ∷ [])) (λ t. opened_alone 0 t.start 0 t opened.entry opened.is));
+  fit =
+      subst (λ (es : List Entry). IfTold (look desk.volume).told (λ t. FitSince t.start t es)) (sym opened.trace)
+      (told_all (look desk.volume).told (λ t. FitSince t.start t (opened.entry ∷ [])) (λ t. opened_alone 0 t.start 0 t opened.entry opened.is));
   copy_is = ap (copy_of_last 0) opened.trace ∙ ap (λ (e : Entry). copy_after 0 e.event) opened.is.is ∙ copy;
   counted = subst (IsCount (look desk.volume)) (sym (ap (calls_of_last 0) opened.trace)) counted;
   asked =
@@ -560,7 +566,7 @@ goes_dropped {V} {O} {answers} look first desk new lines same goes = subst (Goes
   loading = goes.loading;
   device = goes.device;
   down = goes.down;
-  flushes = goes.flushes;
+  fit = goes.fit;
   copy_is = goes.copy_is;
   counted = goes.counted;
   asked = goes.asked;

@@ -26,7 +26,7 @@ use Rattle.rg_run.specs.Full.{smaller_pages}
 use Rattle.rg_run.specs.LogFull.{IsLogFullOnlyFrom}
 use Rattle.rg_run.specs.Space.{AreForSpace}
 use Rattle.rg_run.specs.Outside.{IfBoth, IsEnd, MakesOnly, WritesOwn, end_of, log_at}
-use Rattle.rg_run.specs.Flush.{AreFlushesSince}
+use Rattle.rg_run.specs.Fit.{FitSince}
 use Rattle.rg_run.specs.Opening.{AreOpeningsSince}
 use Rattle.rg_run.specs.Parts.{Going, IsRun, StaysSound}
 use Rattle.rg_run.specs.Table.{Begins, Ends, KeepsSound}
@@ -37,7 +37,7 @@ use Rattle.rg_run.specs.Whole.{Whole}
 use Rattle.rg_run.specs.declared.played.RunEnd.{RunEnd}
 use Rattle.rg_run.proofs.Again.{count_has}
 use Rattle.rg_run.proofs.Between.{both_weaken, read_out, since_out, sound_out}
-use Rattle.rg_run.proofs.Flushes.{recounted}
+use Rattle.rg_run.proofs.Fits.{recounted}
 use Rattle.rg_run.specs.Asked.{HasAnswered, answers_in}
 use Rattle.rg_run.proofs.Asking.{unasked}
 use Rattle.rg_run.proofs.Ending.{allowed_out, end_out, ends_out, legal_out, opening_out}
@@ -99,7 +99,7 @@ module _ {V : Type 0} (told : V → Option Told) (faults : V → ℕ) (capacitie
       legal = tt;
       opening = opens old.told new.told;
       openings = opens old.told new.told;
-      flushes = opens old.told new.told;
+      fit = opens old.told new.told;
       full = tt;
       log_full = tt;
       space = tt;
@@ -199,9 +199,9 @@ module _ {V : Type 0} (told : V → Option Told) (faults : V → ℕ) (capacitie
           openings =
               since_out (WritesOwn trace) (λ start t. AreOpeningsSince old.capacities start t trace) ended.calls old.told new.told (λ start count t all. all) le made
               (subst (λ (c : Capacities). IfTold (counted new.told ended.calls) (λ t. AreOpeningsSince c t.start t trace)) kept run_seen.made.openings);
-          flushes =
-              since_out (WritesOwn trace) (λ start t. AreFlushesSince start t trace) ended.calls old.told new.told (λ start count t all. recounted 0 start 0 count t trace all) le made
-              run_seen.made.flushes;
+          fit =
+              since_out (WritesOwn trace) (λ start t. FitSince start t trace) ended.calls old.told new.told (λ start count t all. recounted 0 start 0 count t trace all) le made
+              run_seen.made.fit;
           full = allowed_out old new ended.calls opens.log.records le read opens.now.records now_same look desk lines operator_left trace end had kept made run_seen;
           log_full = subst (λ (c : Capacities). IsLogFullOnlyFrom (limit_of (log_pages c)) 0 trace) kept run_seen.made.log_full;
           space = subst (λ (c : Capacities). AreForSpace c None trace) kept run_seen.made.space;

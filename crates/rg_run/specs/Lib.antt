@@ -1,5 +1,5 @@
 pub mod Asked
-pub mod Flush
+pub mod Fit
 pub mod Full
 pub mod LogFull
 pub mod Opening

@@ -30,7 +30,7 @@ use Rattle.rg_stmt.specs.declared.event.Entry.{Entry}
 use Rattle.rg_stmt.specs.declared.line.Line.{Line}
 use Rattle.rg_stmt.specs.declared.line.Line.TheVariants.{Death}
 use Rattle.rg_run.specs.Asked.{HasAnswered, answers_in}
-use Rattle.rg_run.specs.Flush.{AreFlushesSince}
+use Rattle.rg_run.specs.Fit.{FitSince}
 use Rattle.rg_run.specs.Full.{AreAllowed, smaller_pages}
 use Rattle.rg_run.specs.LogFull.{IsLogFullOnlyFrom}
 use Rattle.rg_run.specs.Space.{AreForSpace}
@@ -128,7 +128,7 @@ pub record Made {V O : Type 0} (look : V → VolumeSeen) (first : DeskState V O)
   pub capacities : now.capacities ≡ (look first.volume).capacities
   pub openings :
       IfTold now.told (λ t. AreOpeningsSince now.capacities t.start t trace)
-  pub flushes : IfTold now.told (λ t. AreFlushesSince t.start t trace)
+  pub fit : IfTold now.told (λ t. FitSince t.start t trace)
 
 -- the entries of a desk are legal and lead to a last state, and all of them can be those of a trace
 pub record LeavesRun {V O : Type 0} (desk : DeskState V O) (trace : List Entry) : Type 0 where

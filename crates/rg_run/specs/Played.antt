@@ -30,7 +30,7 @@ use Rattle.rg_image.specs.Rules.{limit_of}
 use Rattle.rg_phase.specs.Step.{is_made}
 use Rattle.rg_tending.specs.Tending.{utility_entry}
 use Rattle.rg_run.specs.Asked.{HasAnswered, answers_in}
-use Rattle.rg_run.specs.Flush.{AreFlushesSince, calls_of_last, copy_of_last}
+use Rattle.rg_run.specs.Fit.{FitSince, calls_of_last, copy_of_last}
 use Rattle.rg_run.specs.Full.{AreAllowed, smaller_pages}
 use Rattle.rg_run.specs.LogFull.{IsLogFullOnlyFrom}
 use Rattle.rg_run.specs.Space.{AreForSpace}
@@ -153,8 +153,8 @@ pub record Goes {V O : Type 0}
   pub device :
       IsDeviceOnlyIf (Rose (look first.volume).faults (look desk.volume).faults) desk.trace
   pub down : desk.down ≡ true → Rose (look first.volume).faults (look desk.volume).faults
-  pub flushes :
-      IfTold (look desk.volume).told (λ t. AreFlushesSince t.start t desk.trace)
+  pub fit :
+      IfTold (look desk.volume).told (λ t. FitSince t.start t desk.trace)
   pub copy_is : copy_of_last 0 desk.trace ≡ desk.copy
   pub counted : IsCount (look desk.volume) (calls_of_last 0 desk.trace)
   pub asked :

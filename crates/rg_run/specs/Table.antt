@@ -13,7 +13,8 @@
 -- 5. If the volume read tidy when the run began, whatever a crash leaves of it at the end is sound
 --    and tidy, once an opening has succeeded.
 -- 6. The entry of a flush has the page that its last call wrote. Where the entry says that no page
---    was to be written, it made no call.
+--    was to be written, it made no call. Where an entry says DEVICE, a call has failed that was made
+--    since the entry before.
 -- 7. All of this is said of a known volume while its calls can be counted.
 use Rattle.std.specs.Prelude.{◌≡◌, ◌⊎◌, ◌*◌, ◌++◌, ℕ, Bool, true, false, List, [], ◌∷◌, length}
 use Rattle.rg_desk.specs.Desk.{LegalFrom}
@@ -32,7 +33,7 @@ use Rattle.rg_outside.specs.Moments.{EachImage}
 use Rattle.rg_record.specs.declared.record.Record.{Record}
 use Rattle.rg_stmt.specs.declared.event.Entry.{Entry}
 use Rattle.rg_stmt.specs.declared.line.Line.{Line}
-use Rattle.rg_run.specs.Flush.{AreFlushesSince}
+use Rattle.rg_run.specs.Fit.{FitSince}
 use Rattle.rg_run.specs.Opening.{AreOpeningsSince, IsFoundThen, IsOpeningOf}
 use Rattle.rg_run.specs.Outside.{IfBoth, log_at}
 use Rattle.rg_stmt.specs.declared.line.Line.TheVariants.{Death}
@@ -93,10 +94,10 @@ AreOpenings old new trace =
     IfBoth old.told new.told (λ before t.
     AreOpeningsSince old.capacities (length before.calls) t trace)
 
--- each flush tells of the calls that it made
-abbrev pub AreFlushes : (old new : VolumeSeen) → List Entry → Type 0
-AreFlushes old new trace =
-    IfBoth old.told new.told (λ before t. AreFlushesSince (length before.calls) t trace)
+-- each entry fits the calls that were made for it
+abbrev pub FitCalls : (old new : VolumeSeen) → List Entry → Type 0
+FitCalls old new trace =
+    IfBoth old.told new.told (λ before t. FitSince (length before.calls) t trace)
 
 -- The last part leads to this state, which is up or down. If the process does not die in these
 -- lines, the trace has no other part, and it does so from that table. If the volume read tidy, the

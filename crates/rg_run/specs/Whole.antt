@@ -9,7 +9,7 @@ use Rattle.rg_stmt.specs.declared.line.Line.{Line}
 use Rattle.rg_run.specs.LogFull.{IsLogFullOnlyFrom}
 use Rattle.rg_run.specs.Space.{AreForSpace}
 use Rattle.rg_run.specs.Outside.{IsDeviceOnlyIf, IsEnd, MakesOnly, WritesOwn}
-use Rattle.rg_run.specs.Table.{AreFlushes, AreOpenings, Ends, IsAllowedRun, IsLegalRun}
+use Rattle.rg_run.specs.Table.{FitCalls, AreOpenings, Ends, IsAllowedRun, IsLegalRun}
 use Rattle.rg_run.specs.Table.{IsOpening, KeepsSound}
 use Rattle.rg_run.specs.declared.played.RunEnd.{RunEnd}
 
@@ -19,7 +19,7 @@ pub record Whole
   pub legal : IsLegalRun old new trace
   pub opening : IsOpening old new trace
   pub openings : AreOpenings old new trace
-  pub flushes : AreFlushes old new trace
+  pub fit : FitCalls old new trace
   pub full : IsAllowedRun 3221 old new trace
   pub log_full : IsLogFullOnlyFrom (limit_of (log_pages old.capacities)) 0 trace
   pub space : AreForSpace old.capacities None trace

@@ -30,7 +30,7 @@ ghost use Rattle.rg_run.specs.Whole.{Whole};
 ghost use Rattle.rg_run.specs.Outside.{IsDeviceOnlyIf, IsEnd, MakesOnly, WritesOwn, end_of};
 ghost use Rattle.rg_run.specs.Parts.{Going, IsRun, LeavesRun};
 ghost use Rattle.rg_run.specs.Played.{Goes, IsPlayed};
-ghost use Rattle.rg_run.specs.Table.{AreFlushes, AreOpenings, Ends, IsAllowedRun, IsLegalRun};
+ghost use Rattle.rg_run.specs.Table.{FitCalls, AreOpenings, Ends, IsAllowedRun, IsLegalRun};
 ghost use Rattle.rg_run.specs.Table.{IsOpening, KeepsSound};
 
 use crate::played::{Judged, Played, RunEnd};
@@ -70,7 +70,7 @@ pub fn run<V: Volume, O: Operator>(
         (seen_volume V.told V.faults V.capacities result.volume) result.trace.items }
     ensures openings { AreOpenings (seen_volume V.told V.faults V.capacities volume)
         (seen_volume V.told V.faults V.capacities result.volume) result.trace.items }
-    ensures flushes { AreFlushes (seen_volume V.told V.faults V.capacities volume)
+    ensures fit { FitCalls (seen_volume V.told V.faults V.capacities volume)
         (seen_volume V.told V.faults V.capacities result.volume) result.trace.items }
     // FULL comes, and STOP NOSPACE once a list is sorted, only where the entries have allowed 3,221
     // bytes for each page of the smaller copy.

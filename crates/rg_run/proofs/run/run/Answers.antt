@@ -68,8 +68,8 @@ returns-in-Ok-clause-opening g c = (played g c).opening
 pub returns-in-Ok-clause-openings : goal.returns-in-Ok-clause-openings
 returns-in-Ok-clause-openings g c = (played g c).openings
 
-pub returns-in-Ok-clause-flushes : goal.returns-in-Ok-clause-flushes
-returns-in-Ok-clause-flushes g c = (played g c).flushes
+pub returns-in-Ok-clause-fit : goal.returns-in-Ok-clause-fit
+returns-in-Ok-clause-fit g c = (played g c).fit
 
 pub returns-in-Ok-clause-full : goal.returns-in-Ok-clause-full
 returns-in-Ok-clause-full g c = (played g c).full
@@ -107,8 +107,8 @@ returns-in-Err-clause-opening g c = (not_opened g c).opening
 pub returns-in-Err-clause-openings : goal.returns-in-Err-clause-openings
 returns-in-Err-clause-openings g c = (not_opened g c).openings
 
-pub returns-in-Err-clause-flushes : goal.returns-in-Err-clause-flushes
-returns-in-Err-clause-flushes g c = (not_opened g c).flushes
+pub returns-in-Err-clause-fit : goal.returns-in-Err-clause-fit
+returns-in-Err-clause-fit g c = (not_opened g c).fit
 
 pub returns-in-Err-clause-full : goal.returns-in-Err-clause-full
 returns-in-Err-clause-full g c = (not_opened g c).full
