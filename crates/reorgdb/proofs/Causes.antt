@@ -437,7 +437,7 @@ module _ (words : List (List ℕ)) (source source_after sink sink_after : Seen) 
 
   -- the first opening failed
   fails_first : (text : List ℕ) → OfStatus Device text → trace ≡ [] → FailsVolume sink sink_after volume volume_after trace
-  fails_first text of none = record { rose = of.finds; text = fixed_text Device; tells = inl (none, refl); shown = of.shown }
+  fails_first text of none = record { rose = of.finds.0; text = fixed_text Device; tells = inl (none, refl, of.finds.1); shown = of.shown }
 
   fails_unplayed : (text : List ℕ) → OfStatus Device text → PlaysTo Device words source source_after volume volume_after trace text → FailsVolume sink sink_after volume volume_after trace
   fails_unplayed text of comes =

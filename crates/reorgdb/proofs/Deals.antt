@@ -15,6 +15,7 @@ use Rattle.rg_desk.specs.Volume.{VolumeSeen}
 use Rattle.rg_gen.specs.Deck.{IsOfSessions, deck_of}
 use Rattle.rg_gen.proofs.Sessions.{each_of_sessions}
 use Rattle.rg_run.specs.Judged.{JudgesRun}
+use Rattle.rg_run.specs.Outside.{IsEnd}
 use Rattle.rg_run.specs.Played.{IsPlayed, TraceOf, TraceOfFront}
 use Rattle.rg_base.specs.declared.set.Set.{Set}
 use Rattle.rg_run.specs.Table.{Ends, EndsAtOpening}
@@ -87,12 +88,13 @@ front_at lines trace dies = (dies.front, Death ∷ dies.rest, dies.joined, dies.
 
 pub tells_stopped : (tells : Tells) (volume volume_after : VolumeSeen) (lines : List Line) (trace read shown : List Entry) (end : RunEnd) (verdict : Option ℕ) (made : Result Bytes WantsMemory) (outcome : Outcome) (text : List ℕ)
     → end ≡ run_ends.DeviceAtOpening → trace ≢ [] → read ≡ trace → shown ≡ trace → IfOk made (λ p. p ≡ run_text tells read closes.Down verdict) → IfOk made (λ p. (outcome ≡ Down) × (text ≡ p)) → OnErr made (outcome ≡ NoMemory)
-    → Ends volume volume_after lines trace end → (end ≢ run_ends.NoMemory → IsTold tells volume volume_after trace verdict) → DealsWithLines tells volume volume_after lines outcome shown text
-tells_stopped tells volume volume_after lines trace read shown end verdict (Ok made) outcome text is some read_is same printed came none ends told =
+    → Ends volume volume_after lines trace end → IsEnd volume volume_after trace end → (end ≢ run_ends.NoMemory → IsTold tells volume volume_after trace verdict) → DealsWithLines tells volume volume_after lines outcome shown text
+tells_stopped tells volume volume_after lines trace read shown end verdict (Ok made) outcome text is some read_is same printed came none ends is_end told =
     let at : Ends volume volume_after lines trace run_ends.DeviceAtOpening = subst (Ends volume volume_after lines trace) is ends in
     let run : TellsRun tells volume volume_after trace closes.Down text = tells_run tells volume volume_after trace read closes.Down end verdict made text (λ e. cc (e, is)) told read_is came.1 printed in
-    rw (came.0, same) (inr (at_death lines trace at some, run))
-tells_stopped tells volume volume_after lines trace read shown end verdict (Err e) outcome text is some read_is same printed came none ends told =
+    let failed : IsEnd volume volume_after trace run_ends.DeviceAtOpening = subst (IsEnd volume volume_after trace) is is_end in
+    rw (came.0, same) (inr ((at_death lines trace at some, run), failed.1))
+tells_stopped tells volume volume_after lines trace read shown end verdict (Err e) outcome text is some read_is same printed came none ends is_end told =
     let at : Ends volume volume_after lines trace run_ends.DeviceAtOpening = subst (Ends volume volume_after lines trace) is ends in
     rw (none, same) (inr (front_at lines trace (at_death lines trace at some)))
 

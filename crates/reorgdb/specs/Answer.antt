@@ -12,7 +12,7 @@ use Rattle.rg_print.specs.Print.{damaged_text, print_layout_text}
 use Rattle.rg_print.specs.declared.print.Close.{Close}
 use Rattle.rg_print.specs.declared.print.Close.TheVariants as closes
 use Rattle.rg_desk.specs.Volume.{VolumeSeen}
-use Rattle.rg_run.specs.Outside.{IsEnd}
+use Rattle.rg_run.specs.Outside.{FailsAfter, IsEnd}
 use Rattle.rg_run.specs.Played.{TraceOf, TraceOfFront}
 use Rattle.rg_run.specs.Table.{Begins, EndsAtDown, EndsWhole}
 use Rattle.rg_run.specs.declared.played.RunEnd.TheVariants as ends
@@ -164,7 +164,8 @@ DealsWithLines tells volume volume_after lines Played trace text =
     TellsWhole tells volume volume_after lines trace text
 DealsWithLines tells volume volume_after lines Down trace text =
     TellsDown tells volume volume_after lines trace text
-    ⊎ TellsUpToDeath tells volume volume_after lines trace closes.Down text
+    ⊎ (TellsUpToDeath tells volume volume_after lines trace closes.Down text
+    × FailsAfter volume volume_after trace)
 DealsWithLines tells volume volume_after lines (Damaged set page) trace text =
     ((trace ≡ []) × (text ≡ damaged_text set page))
     ⊎ TellsUpToDeath tells volume volume_after lines trace (closes.Damaged set page) text

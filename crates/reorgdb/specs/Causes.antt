@@ -15,7 +15,7 @@ use Rattle.rg_desk.specs.Volume.{VolumeSeen}
 use Rattle.rg_base.specs.declared.set.Set.{Set}
 use Rattle.rg_outside.specs.Calls.{Told, read_of}
 use Rattle.rg_sound.specs.Sound.{IsSound}
-use Rattle.rg_run.specs.Outside.{IsEnd}
+use Rattle.rg_run.specs.Outside.{FailsAfter, IsEnd}
 use Rattle.rg_run.specs.declared.played.RunEnd.TheVariants as ends
 use Rattle.rg_run.specs.Played.{TraceOf}
 use Rattle.rg_run.specs.Parts.{DiesIn}
@@ -112,16 +112,18 @@ pub record RefusesVolume (sink sink_after : Seen) (volume volume_after : VolumeS
 
 -- Status 6: a call of the volume failed. No line was played and no layout shown, and the sink got
 -- the refusal. Or the last state is down, or the trace is that of the lines before a death of the
--- process; then the sink got what was to be told of the trace, with DOWN at the end.
+-- process; then the sink got what was to be told of the trace, with DOWN at the end. Where it was
+-- an opening that failed, a call failed after the last entry.
 pub record FailsVolume (sink sink_after : Seen) (volume volume_after : VolumeSeen)
     (trace : List Entry) : Type 0 where
   pub rose : Rose volume.faults volume_after.faults
   pub text : List ℕ
   pub tells :
-      ((trace ≡ []) × (text ≡ fixed_text outcomes.Device))
+      ((trace ≡ []) × (text ≡ fixed_text outcomes.Device) × FailsAfter volume volume_after trace)
       ⊎ ((tells : Tells) × (lines : List Line)
       × (TellsDown tells volume volume_after lines trace text
-      ⊎ TellsUpToDeath tells volume volume_after lines trace closes.Down text))
+      ⊎ (TellsUpToDeath tells volume volume_after lines trace closes.Down text
+      × FailsAfter volume volume_after trace)))
   pub shown : Appends sink.bytes sink_after.bytes text
 
 -- A volume that reports its calls, as many as can be counted, that read sound, and of which no call

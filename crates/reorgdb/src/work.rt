@@ -360,6 +360,7 @@ fn refuse_line<V, O>(alloc: Global, line: u32, volume: V, operator: O) -> Work<V
 fn tell_run<V, O>(alloc: Global, tells: Tells, judged: Judged<V, O>) -> Work<V, O>
     ensures deals { (before after : VolumeSeen) (lines : List Line)
         → Ends before after lines judged.played.trace.items judged.played.end
+        → IsEnd before after judged.played.trace.items judged.played.end
         → (judged.played.end ≢ RunEnd.NoMemory
         → IsTold tells before after judged.played.trace.items judged.verdict)
         → DealsWithLines tells before after lines result.outcome result.trace.items result.text }

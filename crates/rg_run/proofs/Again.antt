@@ -39,7 +39,10 @@ use Rattle.rg_stmt.specs.declared.line.Line.TheVariants.{Death}
 use Rattle.rg_run.specs.Asked.{HasAnswered, answers_in}
 use Rattle.rg_run.specs.Full.{smaller_pages}
 use Rattle.rg_run.specs.Outside.{WritesOwn, end_of}
-use Rattle.rg_run.specs.Parts.{Came, DiesIn, EndsUp, Follows, Going, IfTidy, IsAlive, IsFailed, IsRun, IsUndamaged, LastPart, LeavesRun, Made, PartRun, RunEnds, RunsFrom, StaysSound}
+use Rattle.rg_outside.specs.Made.{CountsFailed}
+use Rattle.rg_run.specs.Fit.{FailedSince, calls_of_last}
+use Rattle.rg_run.proofs.Fits.{calls_of_part, failed_after}
+use Rattle.rg_run.specs.Parts.{Came, DiesIn, EndsUp, Follows, Going, IfAtOpening, IfTidy, IsAlive, IsFailed, IsRun, IsUndamaged, LastPart, LeavesRun, Made, PartRun, RunEnds, RunsFrom, StaysSound}
 use Rattle.rg_run.specs.Played.{Goes, TraceOf}
 use Rattle.rg_run.specs.declared.played.RunEnd.{RunEnd}
 use Rattle.rg_run.specs.declared.played.RunEnd.TheVariants as ends
@@ -170,7 +173,7 @@ module _ {V O : Type 0} {answers : O → Option (List Answer)} (look : V → Vol
         (subst LeavesSoundIfTidy (sym seen_is) sound)
 
     pub ends_wanting : (rest : List Line) → IsRun look answers first (lines ++ rest) seen operator trace ends.NoMemory
-    ends_wanting rest = record { front = lines; rest = rest; joined = refl; made = made_seen; ends = tt; failed = λ none. absurd none; sound = stays ends.NoMemory tt; asked = asked_left trace operator is operator_is }
+    ends_wanting rest = record { front = lines; rest = rest; joined = refl; made = made_seen; ends = tt; failed = λ none. absurd none; after = tt; sound = stays ends.NoMemory tt; asked = asked_left trace operator is operator_is }
 
     pub ends_down : desk.down ≡ true → EndsDown (old_records desk) desk.first_copy desk.trace → IsRun look answers first lines seen operator trace ends.Down
     ends_down down end = record {
@@ -185,6 +188,7 @@ module _ {V O : Type 0} {answers : O → Option (List Answer)} (look : V → Vol
             (subst (λ (es : List Entry). LastPart (old_records first) now lines es true end.0) (sym is) (last_part true end.0 end.1)),
       );
       failed = λ so. subst (λ (v : VolumeSeen). Rose (look first.volume).faults v.faults) (sym seen_is) (by_came going.came);
+      after = tt;
       sound = stays ends.Down tt;
       asked = asked_left trace operator is operator_is;
     }
@@ -215,6 +219,7 @@ module _ {V O : Type 0} {answers : O → Option (List Answer)} (look : V → Vol
             })),
       );
       failed = λ none. absurd none;
+      after = tt;
       sound = stays (ends.Whole rows) tt;
       asked = asked_left trace operator is operator_is;
     }
@@ -236,14 +241,15 @@ module _ {V O : Type 0} {answers : O → Option (List Answer)} (look : V → Vol
     made_quiet later quiet le same =
         made_on look first lines all now later made_all count has (calls_weaken IsQuiet (WritesOwn all) now.told later.told (own_quiet all) quiet) le same
 
-    pub refused_again : (later : VolumeSeen) (cause : OpenCause) (operator : O) (trace : List Entry) (rest : List Line) → operator ≡ desk.operator → trace ≡ all → LeavesSoundIfTidy now → IsRefused now later cause → IsRun look answers first (lines ++ Death ∷ rest) later operator trace (end_of cause)
-    refused_again later cause operator trace rest operator_is is sound refused = record {
+    pub refused_again : (later : VolumeSeen) (cause : OpenCause) (operator : O) (trace : List Entry) (rest : List Line) → operator ≡ desk.operator → trace ≡ all → LeavesSoundIfTidy now → IfTold now.told (CountsFailed now.faults) → IfTold later.told (CountsFailed later.faults) → IsRefused now later cause → IsRun look answers first (lines ++ Death ∷ rest) later operator trace (end_of cause)
+    refused_again later cause operator trace rest operator_is is sound law law_later refused = record {
       front = lines;
       rest = Death ∷ rest;
       joined = refl;
       made = made;
       ends = by_cause cause refused.because;
       failed = failed cause refused.because;
+      after = after cause refused.because;
       sound =
           subst (λ (c : Capacities). IfTold later.told (λ t. WasAllTidy c t → StaysSound c t (end_of cause))) (sym refused.calls.capacities)
           (quiet_sound now.capacities now.told later.told count (end_of cause) refused.calls.only has sound
@@ -274,6 +280,16 @@ module _ {V O : Type 0} {answers : O → Option (List Answer)} (look : V → Vol
         failed (causes.Damaged set page) because none = absurd none
         failed causes.Device because so = rose_earlier (look first.volume).faults now.faults later.faults made_all.later because
         failed causes.NoMemory because none = absurd none
+
+        calls_are : calls_of_last 0 trace ≡ calls_of_last 0 desk.trace
+        calls_are = ap (calls_of_last 0) is ∙ calls_of_part 0 going.back desk.older desk.trace going.goes.entries
+
+        after : (cause : OpenCause) → IsCause now later cause → IfAtOpening (end_of cause) (IfTold later.told (λ t. FailedSince t.start (calls_of_last 0 trace) t))
+        after (causes.Damaged set page) because = tt
+        after causes.Device because =
+            subst (λ (n : ℕ). IfTold later.told (λ t. FailedSince t.start n t)) (sym calls_are)
+            (failed_after IsQuiet now later (calls_of_last 0 desk.trace) refused.calls.only going.goes.counted law law_later because)
+        after causes.NoMemory because = tt
 
     module _ (operator : O) (operator_is : operator ≡ desk.operator) (next : DeskState V O) (opens : OpensStored look now operator next) (older_is : next.older ≡ all) where
       abbrev rs : List Record

@@ -23,7 +23,8 @@ use Rattle.rg_run.specs.Opening.{IsFoundThen, IsOpeningOf}
 use Rattle.rg_run.specs.Outside.{IfBoth, IsEnd, WasUntidy, WritesOwn, log_at}
 use Rattle.rg_model.specs.Legal.{Legal}
 use Rattle.rg_run.specs.Full.{smaller_pages}
-use Rattle.rg_run.specs.Parts.{AreParts, IfTidy, IsAtDeath, IsFailed, IsFound, IsPart, IsRun, IsUndamaged, LastPart, Made, RunEnds, RunsFrom, StaysSound}
+use Rattle.rg_run.specs.Fit.{FailedSince, calls_of_last}
+use Rattle.rg_run.specs.Parts.{AreParts, IfAtOpening, IfTidy, IsAtDeath, IsFailed, IsFound, IsPart, IsRun, IsUndamaged, LastPart, Made, RunEnds, RunsFrom, StaysSound}
 use Rattle.rg_run.specs.Played.{TraceOf, first_of}
 use Rattle.rg_run.specs.Table.{Begins, Ends, EndsAt, EndsAtDown, EndsAtOpening, EndsWhole, Finds, IfBegunTidy, IsAllowedRun, IsLegalRun, IsOpening, OpensLog}
 use Rattle.rg_run.specs.declared.played.RunEnd.{RunEnd}
@@ -161,21 +162,24 @@ module _ (old new : VolumeSeen) (n : ℕ) (rs : List Record) (le : IfTold new.to
     end_out rose stays =
         by_end end run.ends rose
         (both_weaken (λ before t. IsTidyVolume old.capacities (read_of before.first before.calls) → StaysSound new.capacities t end) (λ before t. IsTidyVolume old.capacities (read_of before.first before.calls) → IsUndamaged end) old.told new.told
-        (λ before t keeps tidy. (keeps tidy).undamaged) stays)
+        (λ before t keeps tidy. (keeps tidy).undamaged) stays) run.after
       where
         untidy : (es : List Entry) → IfBoth old.told new.told (λ before t. IsTidyVolume old.capacities (read_of before.first before.calls) → ⊥) → WasUntidy old new es
         untidy [] not = tt
         untidy (e ∷ es) not = not
 
         by_end : (e : RunEnd) → RunEnds (old_records first) (log_pages counted_seen.capacities) counted_seen run.front run.rest trace e → (IsFailed e → Rose old.faults new.faults)
-            → IfBoth old.told new.told (λ before t. IsTidyVolume old.capacities (read_of before.first before.calls) → IsUndamaged e) → IsEnd old new trace e
-        by_end (Whole rows) ends rose not = tt
-        by_end Down ends rose not = rose tt
-        by_end (Damaged set page) ends rose not = (
+            → IfBoth old.told new.told (λ before t. IsTidyVolume old.capacities (read_of before.first before.calls) → IsUndamaged e) → IfAtOpening e (IfTold (counted new.told n) (λ t. FailedSince t.start (calls_of_last 0 trace) t)) → IsEnd old new trace e
+        by_end (Whole rows) ends rose not after = tt
+        by_end Down ends rose not after = rose tt
+        by_end (Damaged set page) ends rose not after = (
           uncounted_told (λ t. IsDamage new.capacities (read_of t.first t.calls) set page) (λ t. IsDamage new.capacities (read_of t.first t.calls) set page) new.told n le (λ t is. is) ends.1,
           uncounted_only (WritesOwn trace) old.told new.told n le calls,
           kept,
           untidy trace not,
         )
-        by_end DeviceAtOpening ends rose not = rose tt
-        by_end NoMemory ends rose not = tt
+        by_end DeviceAtOpening ends rose not after = (
+          rose tt,
+          since_out (WritesOwn trace) (λ start t. FailedSince start (calls_of_last 0 trace) t) n old.told new.told (λ start counted t is. is) le calls after,
+        )
+        by_end NoMemory ends rose not after = tt

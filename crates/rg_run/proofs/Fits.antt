@@ -25,7 +25,7 @@ use Rattle.rg_stmt.specs.declared.line.Line.{Line}
 use Rattle.rg_stmt.specs.declared.stmt.Reply.{Reply}
 use Rattle.rg_stmt.specs.declared.stmt.Reply.TheVariants.{Device}
 use Rattle.rg_stmt.specs.declared.stmt.Stmt.{Stmt}
-use Rattle.rg_run.specs.Fit.{FitFrom, FitSince, FailedThen, FitsThen, WroteThen, calls_of_last, copy_after, copy_of_last}
+use Rattle.rg_run.specs.Fit.{FailedSince, FailedThen, FitFrom, FitSince, FitsThen, WroteThen, calls_of_last, copy_after, copy_of_last}
 use Rattle.rg_run.specs.Played.{IsFlushed, IsOpenedEntry, IsStartEvent, IsStepEvent, TraceOf}
 
 -- what holds of every known volume
@@ -201,13 +201,27 @@ wrote_then Kind copy page since calls x (Some o) (Some t) made was now wrote =
 -- ---- a call that failed
 
 -- the faults have risen, and so have the calls that failed
-pub failed_then : (Kind : Call → Type 0) (old new : VolumeSeen) (since calls : ℕ) → EachCall old.told new.told Kind → IsCount old since → IsCount new calls → IfTold old.told (CountsFailed old.faults) → IfTold new.told (CountsFailed new.faults) → Rose old.faults new.faults
-    → IfTold new.told (λ t. FailedThen t.start since calls t)
-failed_then Kind old new since calls made was now law later rose = go old.told new.told made was now law later
+rose_told : (old new : VolumeSeen) (since : ℕ) (o t : Told) (fresh : List Call) → t ≡ record o { calls = fresh ++ o.calls } → length o.calls ≡ o.start + since → CountsFailed old.faults o → CountsFailed new.faults t → Rose old.faults new.faults → FailedSince t.start since t
+rose_told old new since o t fresh whole was law later rose = λ few.
+    let start : t.start ≡ o.start = ap (λ (u : Told). u.start) whole in
+    let longer : length t.calls ≡ length fresh + length o.calls = ap (λ (u : Told). length u.calls) whole ∙ length-append fresh o.calls in
+    let before : faults_at t (t.start + since) ≡ faults_of o.calls =
+    ap (λ (u : Told). faults_at u (t.start + since)) whole
+    ∙ ap faults_of (calls_then o fresh (t.start + since) (omega (arith, start, was)))
+    ∙ ap (λ (n : ℕ). faults_of (drop n o.calls)) (none (length o.calls) (t.start + since) (omega (arith, start, was))) in
+    let most = count_by-le-length is_failed t.calls in
+    let a : old.faults ≡ faults_of o.calls = law (omega (arith, few, longer)) in
+    let b : new.faults ≡ faults_of t.calls = later few in
+    let c : old.faults < new.faults = rose (omega (arith, b, most, few)) in
+    omega (arith, before, a, b, c)
   where
     none : (n k : ℕ) → n ≡ k → n - k ≡ 0
     none n k e = omega (arith, e)
 
+pub failed_then : (Kind : Call → Type 0) (old new : VolumeSeen) (since calls : ℕ) → EachCall old.told new.told Kind → IsCount old since → IsCount new calls → IfTold old.told (CountsFailed old.faults) → IfTold new.told (CountsFailed new.faults) → Rose old.faults new.faults
+    → IfTold new.told (λ t. FailedThen t.start since calls t)
+failed_then Kind old new since calls made was now law later rose = go old.told new.told made was now law later
+  where
     go : (a b : Option Told) → EachCall a b Kind → IfTold a (λ t. length t.calls ≡ t.start + since) → IfTold b (λ t. length t.calls ≡ t.start + calls) → IfTold a (CountsFailed old.faults) → IfTold b (CountsFailed new.faults) → IfTold b (λ t. FailedThen t.start since calls t)
     go a None made was now law later = tt
     go None (Some t) made was now law later = absurd (cc (made.2))
@@ -218,20 +232,28 @@ failed_then Kind old new since calls made was now law later rose = go old.told n
         let longer : length t.calls ≡ length made.1 + length o.calls = ap (λ (u : Told). length u.calls) whole ∙ length-append made.1 o.calls in
         let all : length t.calls - (t.start + calls) ≡ 0 = omega (arith, now) in
         let here : faults_at t (t.start + calls) ≡ faults_of t.calls = ap (λ (n : ℕ). faults_of (drop n t.calls)) all in
-        let before : faults_at t (t.start + since) ≡ faults_of o.calls =
-        ap (λ (u : Told). faults_at u (t.start + since)) whole
-        ∙ ap faults_of (calls_then o made.1 (t.start + since) (omega (arith, start, was)))
-        ∙ ap (λ (n : ℕ). faults_of (drop n o.calls)) (none (length o.calls) (t.start + since) (omega (arith, start, was))) in
-        let most = count_by-le-length is_failed t.calls in
         record {
           high = omega (arith, now);
           since = omega (arith, start, was, now, longer);
-          failed = λ few.
-              let a : old.faults ≡ faults_of o.calls = law (omega (arith, few, longer)) in
-              let b : new.faults ≡ faults_of t.calls = later few in
-              let c : old.faults < new.faults = rose (omega (arith, b, most, few)) in
-              omega (arith, here, before, a, b, c);
+          failed = λ few. let risen = rose_told old new since o t made.1 whole was law later rose few in omega (arith, here, risen);
         }
+
+-- the same up to now
+pub failed_after : (Kind : Call → Type 0) (old new : VolumeSeen) (since : ℕ) → EachCall old.told new.told Kind → IsCount old since → IfTold old.told (CountsFailed old.faults) → IfTold new.told (CountsFailed new.faults) → Rose old.faults new.faults → IfTold new.told (λ t. FailedSince t.start since t)
+failed_after Kind old new since made was law later rose = go old.told new.told made was law later
+  where
+    go : (a b : Option Told) → EachCall a b Kind → IfTold a (λ t. length t.calls ≡ t.start + since) → IfTold a (CountsFailed old.faults) → IfTold b (CountsFailed new.faults) → IfTold b (λ t. FailedSince t.start since t)
+    go a None made was law later = tt
+    go None (Some t) made was law later = absurd (cc (made.2))
+    go (Some o) (Some t) made was law later =
+        let is : o ≡ made.0 = cc (made.2) in
+        rose_told old new since o t made.1 (made.3 ∙ ap (λ (u : Told). let w : Told = record u { calls = made.1 ++ u.calls } in w) (sym is)) was law later rose
+
+-- the calls up to the last entry are those up to the last of the last part
+pub calls_of_part : (calls : ℕ) (lines : List Line) (older part : List Entry) → TraceOf lines part → calls_of_last calls (older ++ part) ≡ calls_of_last 0 part
+calls_of_part calls lines [] [] of = absurd of
+calls_of_part calls lines [] (e ∷ es) of = refl
+calls_of_part calls lines (o ∷ older) part of = calls_of_part o.calls lines older part of
 
 -- what its event tells, by what it did
 pub flush_then : (Kind : Call → Type 0) (down : Bool) (copy : ℕ) (contents : List Content) (marks later : List (Option Position)) (old new : VolumeSeen) (since calls : ℕ) (event : Event) → EachCall old.told new.told Kind → IsCount old since → IsCount new calls

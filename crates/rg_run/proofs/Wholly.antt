@@ -4,7 +4,7 @@ use Rattle.rg_base.specs.declared.control.Answer.{Answer}
 use Rattle.rg_desk.specs.Desk.{DeskState, old_records}
 use Rattle.rg_desk.specs.OnVolume.{GoesOnTidy, IsSoundTidy, IsTidyVolume, WasAllTidy}
 use Rattle.rg_desk.specs.Chronicle.{IsRecorded}
-use Rattle.rg_desk.specs.Volume.{HasCalls, VolumeSeen, WasTidy, seen_volume}
+use Rattle.rg_desk.specs.Volume.{HasCalls, IsCount, VolumeSeen, WasTidy, seen_volume}
 use Rattle.rg_desk.specs.declared.desk.OpenCause.{OpenCause}
 use Rattle.rg_desk.specs.declared.desk.OpenCause.TheVariants as causes
 use Rattle.rg_image.specs.Meaning.{stored}
@@ -13,7 +13,7 @@ use Rattle.rg_log.specs.Kept.{log_pages}
 use Rattle.rg_log.specs.Open.{IsQuiet}
 use Rattle.rg_outside.specs.Calls.{Told, read_of}
 use Rattle.rg_outside.specs.Capacities.{Capacities}
-use Rattle.rg_outside.specs.Counts.{CountedCalls, counted}
+use Rattle.rg_outside.specs.Counts.{CountedCalls, counted, told_counted}
 use Rattle.rg_outside.specs.Faults.{Rose}
 use Rattle.rg_outside.specs.Moments.{EachCall, EachImage, IfTold}
 use Rattle.rg_outside.proofs.Frame.{calls_join, calls_weaken}
@@ -26,7 +26,7 @@ use Rattle.rg_run.specs.Full.{smaller_pages}
 use Rattle.rg_run.specs.LogFull.{IsLogFullOnlyFrom}
 use Rattle.rg_run.specs.Space.{AreForSpace}
 use Rattle.rg_run.specs.Outside.{IfBoth, IsEnd, MakesOnly, WritesOwn, end_of, log_at}
-use Rattle.rg_run.specs.Fit.{FitSince}
+use Rattle.rg_run.specs.Fit.{FailedSince, FitSince}
 use Rattle.rg_run.specs.Opening.{AreOpeningsSince}
 use Rattle.rg_run.specs.Parts.{Going, IsRun, StaysSound}
 use Rattle.rg_run.specs.Table.{Begins, Ends, KeepsSound}
@@ -37,7 +37,8 @@ use Rattle.rg_run.specs.Whole.{Whole}
 use Rattle.rg_run.specs.declared.played.RunEnd.{RunEnd}
 use Rattle.rg_run.proofs.Again.{count_has}
 use Rattle.rg_run.proofs.Between.{both_weaken, read_out, since_out, sound_out}
-use Rattle.rg_run.proofs.Fits.{recounted}
+use Rattle.rg_outside.specs.Made.{CountsFailed}
+use Rattle.rg_run.proofs.Fits.{failed_after, recounted}
 use Rattle.rg_run.specs.Asked.{HasAnswered, answers_in}
 use Rattle.rg_run.proofs.Asking.{unasked}
 use Rattle.rg_run.proofs.Ending.{allowed_out, end_out, ends_out, legal_out, opening_out}
@@ -92,9 +93,9 @@ module _ {V : Type 0} (told : V → Option Told) (faults : V → ℕ) (capacitie
     begun_capacities = ap (λ (x : CountedCalls V). capacities x.volume) begins
 
     -- a run whose opening was refused
-    pub whole_refused : (n : ℕ) → IfTold new.told (λ t. n ≤ length t.calls) → (lines : List Line) (trace : List Entry) (cause : OpenCause) → trace ≡ [] → IsRefused (look begun) (record { told = counted new.told n; faults = new.faults; capacities = new.capacities }) cause
+    pub whole_refused : (law : (v : V) → IfTold (told v) (CountsFailed (faults v))) (n : ℕ) → IfTold new.told (λ t. n ≤ length t.calls) → (lines : List Line) (trace : List Entry) (cause : OpenCause) → trace ≡ [] → IsRefused (look begun) (record { told = counted new.told n; faults = new.faults; capacities = new.capacities }) cause
         → Whole old new lines trace (end_of cause)
-    whole_refused n le lines trace cause none refused = subst (λ (es : List Entry). Whole old new lines es (end_of cause)) (sym none) (record {
+    whole_refused law n le lines trace cause none refused = subst (λ (es : List Entry). Whole old new lines es (end_of cause)) (sym none) (record {
       ends = by_end cause;
       legal = tt;
       opening = opens old.told new.told;
@@ -125,6 +126,10 @@ module _ {V : Type 0} (told : V → Option Told) (faults : V → ℕ) (capacitie
         kept : new.capacities ≡ old.capacities
         kept = refused.calls.capacities ∙ begun_capacities
 
+        none_yet : (o : Option Told) → IfTold (counted o 0) (λ t. length t.calls ≡ t.start + 0)
+        none_yet None = tt
+        none_yet (Some t) = omega arith
+
         end_is : (cause : OpenCause) → IsCause (look begun) (record { told = counted new.told n; faults = new.faults; capacities = new.capacities }) cause → IsEnd old new [] (end_of cause)
         end_is (causes.Damaged set page) because = (
           uncounted_told (λ t. IsDamage new.capacities (read_of t.first t.calls) set page) (λ t. IsDamage new.capacities (read_of t.first t.calls) set page) new.told n le (λ t is. is) because,
@@ -132,7 +137,13 @@ module _ {V : Type 0} (told : V → Option Told) (faults : V → ℕ) (capacitie
           kept,
           tt,
         )
-        end_is causes.Device because = subst (λ (k : ℕ). Rose k new.faults) begun_faults because
+        end_is causes.Device because = (
+          subst (λ (k : ℕ). Rose k new.faults) begun_faults because,
+          since_out IsQuiet (λ start t. FailedSince start 0 t) n old.told new.told (λ start count t is. is) le (subst (λ (x : CountedCalls V). EachCall (look x).told (counted new.told n) IsQuiet) begins refused.calls.only)
+              (failed_after IsQuiet (look begun) (record { told = counted new.told n; faults = new.faults; capacities = new.capacities }) 0 refused.calls.only (subst (λ (x : CountedCalls V). IsCount (look x) 0) (sym begins) (none_yet (told volume)))
+              (subst (λ (x : CountedCalls V). IfTold (look x).told (CountsFailed (look x).faults)) (sym begins) (told_counted (CountsFailed (faults volume)) (told volume) 0 (law volume)))
+              (told_counted (CountsFailed (faults below)) (told below) n (law below)) because),
+        )
         end_is causes.NoMemory because = tt
 
     module _ (ended : CountedCalls V) (ends : below ≡ ended.volume) (le : IfTold (told below) (λ t. ended.calls ≤ length t.calls)) {O : Type 0} (operator : O) (desk : DeskState (CountedCalls V) O) (opens : OpensStored look (look begun) operator desk) where

@@ -9,7 +9,7 @@
 use Rattle.std.specs.Prelude.{◌≡◌, ◌≤◌, ◌<◌, ◌+◌, ◌-◌, ◌^◌, ℕ, List, [], ◌∷◌, length}
 use Rattle.rg_base.specs.declared.verdict.StopReason.TheVariants as reasons
 use Rattle.rg_newest.specs.Tidy.{set_of}
-use Rattle.rg_outside.specs.Calls.{Call, Told, Wrote}
+use Rattle.rg_outside.specs.Calls.{Call, Told, Wrote, faults_of}
 use Rattle.rg_outside.specs.Moments.{faults_at, moment}
 use Rattle.rg_stmt.specs.declared.event.Entry.{Entry}
 use Rattle.rg_stmt.specs.declared.event.Event.{Event}
@@ -39,6 +39,11 @@ pub record FailedThen (start before calls : ℕ) (t : Told) : Type 0 where
   pub since : before ≤ calls
   pub failed :
       length t.calls < 2 ^ 64 - 1 → faults_at t (start + before) < faults_at t (start + calls)
+
+-- while the calls can be counted, one has failed that was made after so many since the count began
+abbrev pub FailedSince : (start calls : ℕ) → Told → Type 0
+FailedSince start calls t =
+    length t.calls < 2 ^ 64 - 1 → faults_at t (start + calls) < faults_of t.calls
 
 -- what an event tells
 abbrev pub FitsThen : (copy start before calls : ℕ) → Told → Event → Type 0

@@ -4,8 +4,9 @@
 --    device brought about.
 -- 2. An opening writes nothing. After it no page is written but those of the log and of the copy
 --    that was opened, and after the start of a utility those of both copies.
--- 3. If the volume read tidy when a run began, no opening finds damage but the first one.
--- 4. What is said of a known volume's contents holds while its calls are fewer than 2 ^ 64 - 1, for
+-- 3. Where the device brought about the end at an opening, a call failed after the last entry.
+-- 4. If the volume read tidy when a run began, no opening finds damage but the first one.
+-- 5. What is said of a known volume's contents holds while its calls are fewer than 2 ^ 64 - 1, for
 --    so many can be counted.
 use Rattle.std.specs.Prelude.{◌≡◌, ◌⊎◌, ◌<◌, ◌-◌, ◌^◌, ◌++◌, ℕ, List, [], ◌∷◌, Option, Some, length}
 use Rattle.std.specs.List.{AllByRecursion}
@@ -24,6 +25,7 @@ use Rattle.rg_record.specs.declared.record.Record.{Record}
 use Rattle.rg_outside.specs.Faults.{Rose}
 use Rattle.rg_outside.specs.Moments.{IfTold}
 use Rattle.rg_restart.specs.Sound.{IsDamage}
+use Rattle.rg_run.specs.Fit.{FailedSince, calls_of_last}
 use Rattle.rg_run.specs.declared.played.RunEnd.{RunEnd}
 use Rattle.rg_run.specs.declared.played.RunEnd.TheVariants.{Whole, Down, Damaged, DeviceAtOpening, NoMemory}
 use Rattle.rg_stmt.specs.declared.event.Entry.{Entry}
@@ -94,6 +96,12 @@ WasUntidy old new (entry ∷ entries) =
     IfBoth old.told new.told (λ before t.
     IsTidyVolume old.capacities (read_of before.first before.calls) → ⊥)
 
+-- a call has failed that was made after the last entry
+abbrev pub FailsAfter : (old new : VolumeSeen) → List Entry → Type 0
+FailsAfter old new trace =
+    IfBoth old.told new.told
+    (λ before t. FailedSince (length before.calls) (calls_of_last 0 trace) t)
+
 -- Why a run with this trace ended so: a page breaks a rule of a sound volume, or a call of the
 -- volume failed.
 abbrev pub IsEnd : (old new : VolumeSeen) → List Entry → RunEnd → Type 0
@@ -103,5 +111,5 @@ IsEnd old new trace (Damaged set page) =
     IfCounted new.told (λ t. IsDamage new.capacities (read_of t.first t.calls) set page)
     × MakesOnly (WritesOwn trace) old.told new.told × (new.capacities ≡ old.capacities)
     × WasUntidy old new trace
-IsEnd old new trace DeviceAtOpening = Rose old.faults new.faults
+IsEnd old new trace DeviceAtOpening = Rose old.faults new.faults × FailsAfter old new trace
 IsEnd old new trace NoMemory = Unit {0}

@@ -30,7 +30,7 @@ use Rattle.rg_stmt.specs.declared.event.Entry.{Entry}
 use Rattle.rg_stmt.specs.declared.line.Line.{Line}
 use Rattle.rg_stmt.specs.declared.line.Line.TheVariants.{Death}
 use Rattle.rg_run.specs.Asked.{HasAnswered, answers_in}
-use Rattle.rg_run.specs.Fit.{FitSince}
+use Rattle.rg_run.specs.Fit.{FailedSince, FitSince, calls_of_last}
 use Rattle.rg_run.specs.Full.{AreAllowed, smaller_pages}
 use Rattle.rg_run.specs.LogFull.{IsLogFullOnlyFrom}
 use Rattle.rg_run.specs.Space.{AreForSpace}
@@ -234,6 +234,11 @@ IsFailed (Damaged set page) = ⊥
 IsFailed DeviceAtOpening = Unit {0}
 IsFailed NoMemory = ⊥
 
+-- where an opening ended it that the device brought about, this holds
+abbrev pub IfAtOpening : RunEnd → Type 0 → Type 0
+IfAtOpening DeviceAtOpening P = P
+IfAtOpening end P = Unit {0}
+
 -- what a run leaves whose first desk was this one
 pub record IsRun {V O : Type 0}
     (look : V → VolumeSeen) (answers : O → Option (List Answer)) (first : DeskState V O)
@@ -245,6 +250,8 @@ pub record IsRun {V O : Type 0}
   pub made : Made look first front trace seen
   pub ends : RunEnds (old_records first) (log_pages seen.capacities) seen front rest trace end
   pub failed : IsFailed end → Rose (look first.volume).faults seen.faults
+  pub after :
+      IfAtOpening end (IfTold seen.told (λ t. FailedSince t.start (calls_of_last 0 trace) t))
   pub sound :
       IfTold seen.told (λ t. WasAllTidy seen.capacities t → StaysSound seen.capacities t end)
   pub asked : HasAnswered (answers first.operator) (answers_in trace) (answers operator)

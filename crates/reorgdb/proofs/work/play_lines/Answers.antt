@@ -11,7 +11,7 @@ returns-clause-deals g c =
     let ran = c.run_lines.result in
     let made = c.tell_run.result in
     subst (λ (v : g.row.V.Denot). DealsWithLines c.args.tells (look c.args.volume) (look v) c.args.lines.items made.outcome made.trace.items made.text) (sym c.tell_run.ensures.volume)
-    (c.tell_run.ensures.deals (look c.args.volume) (look ran.played.volume) c.args.lines.items c.run_lines.ensures.whole.ends c.run_lines.ensures.told)
+    (c.tell_run.ensures.deals (look c.args.volume) (look ran.played.volume) c.args.lines.items c.run_lines.ensures.whole.ends c.run_lines.ensures.whole.is_end c.run_lines.ensures.told)
 
 pub returns-clause-traced : goal.returns-clause-traced
 returns-clause-traced g c =
