@@ -599,7 +599,7 @@ module _ (words : List (List ℕ)) (source source_after sink sink_after : Seen) 
       let (refused, none, printed) = deals in
       absurd (refused.1 is_due.5 (subst (λ b. Lines b is_due.5) (sym (all_read read is_due.1 is_due.2 reads)) is_due.6))
   deck_due Down text is_due sure comes finds = absurd (is_due.4.sure finds)
-  deck_due Device text is_due sure comes finds = absurd (is_due.4.sure finds)
+  deck_due Device text is_due sure comes finds = absurd (is_due.4.sure finds.0)
   deck_due (Damaged set page) text is_due sure comes finds =
       let (asked, read, reads, deals) = comes in
       let (lines, spelled, at) = deals in
@@ -641,7 +641,7 @@ module _ (words : List (List ℕ)) (source source_after sink sink_after : Seen) 
   made_lines_due seed rows NoMemory text sound deals finds = inr refl
   made_lines_due seed rows Played text sound deals finds = inl refl
   made_lines_due seed rows Down text sound deals finds = absurd (sound.sure finds)
-  made_lines_due seed rows Device text sound deals finds = absurd (sound.sure finds)
+  made_lines_due seed rows Device text sound deals finds = absurd (sound.sure finds.0)
   made_lines_due seed rows (Damaged set page) text sound (inl first) finds = absurd (not_first set page sound finds first.0)
   made_lines_due seed rows (Damaged set page) text sound (inr dies) finds = absurd (not_made seed rows trace dies.0)
   made_lines_due seed rows outcome text sound deals finds = absurd deals
@@ -675,7 +675,7 @@ module _ (words : List (List ℕ)) (source source_after sink sink_after : Seen) 
   shown_due outcome Long text is_due show comes finds = absurd (deck_or_show words is_due.0 show)
   shown_due Shown Shown text is_due show comes finds = inl refl
   shown_due (Damaged set page) Shown text is_due show comes finds = absurd (not_first set page is_due.1 finds comes.2)
-  shown_due Device Shown text is_due show comes finds = absurd (is_due.1.sure finds)
+  shown_due Device Shown text is_due show comes finds = absurd (is_due.1.sure finds.0)
   shown_due outcome Shown text is_due show comes finds = absurd comes
 
   -- the words of a layout's outcomes
@@ -728,6 +728,7 @@ module _ (words : List (List ℕ)) (source source_after sink sink_after : Seen) 
     fit = traced.fit;
     sound = traced.sound;
     full = run_less 3200 3221 volume volume_after trace (omega arith) traced.full;
+    course = traced.course;
     log_full = traced.log_full;
     space = traced.space;
     device = traced.device;

@@ -9,7 +9,7 @@ use Rattle.rg_outside.specs.Faults.{Rose}
 use Rattle.rg_desk.specs.Volume.{VolumeSeen}
 use Rattle.rg_run.specs.Outside.{IsDeviceOnlyIf, MakesOnly, WritesOwn}
 use Rattle.rg_run.specs.Table.{FitCalls, AreOpenings, IsAllowedRun, IsLegalRun, IsOpening}
-use Rattle.rg_run.specs.Table.{KeepsSound}
+use Rattle.rg_run.specs.Table.{IsRunOnCourse, KeepsSound}
 use Rattle.rg_image.specs.Rules.{limit_of}
 use Rattle.rg_log.specs.Kept.{log_pages}
 use Rattle.rg_run.specs.LogFull.{IsLogFullOnlyFrom}
@@ -44,6 +44,10 @@ pub record Completes (words : List (List ℕ)) (source source_after sink sink_af
   -- 4,064 bytes for each page of the last opening, and 18 and its bytes for each row that was
   -- written since or put back while a utility ran, reach 3,200 for each page of the smaller copy.
   pub full : IsAllowedRun 3200 volume volume_after trace
+  -- From the grant of a drain up to the switch no page is copied or filled, and as many LAST are
+  -- made as take the changes that were left at the grant, 64 in each. A utility that nothing
+  -- hinders ends after as many steps as its pages, its RELOAD steps and thirteen more.
+  pub course : IsRunOnCourse volume volume_after trace
   -- LOGFULL is answered only where the bytes that the last opening found, with 4,264 for each write
   -- since and 28 for each start of a utility, and with those of one more, are more than the log may
   -- have: 2,270 for each of its pages but one.

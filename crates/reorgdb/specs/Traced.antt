@@ -9,7 +9,7 @@ use Rattle.rg_run.specs.LogFull.{IsLogFullOnlyFrom}
 use Rattle.rg_run.specs.Space.{AreForSpace}
 use Rattle.rg_run.specs.Outside.{IsDeviceOnlyIf, MakesOnly, WritesOwn}
 use Rattle.rg_run.specs.Table.{FitCalls, AreOpenings, IsAllowedRun, IsLegalRun, IsOpening}
-use Rattle.rg_run.specs.Table.{KeepsSound}
+use Rattle.rg_run.specs.Table.{IsRunOnCourse, KeepsSound}
 use Rattle.rg_stmt.specs.declared.event.Entry.{Entry}
 
 pub record Traced (old new : VolumeSeen) (trace : List Entry) : Type 0 where
@@ -18,6 +18,7 @@ pub record Traced (old new : VolumeSeen) (trace : List Entry) : Type 0 where
   pub openings : AreOpenings old new trace
   pub fit : FitCalls old new trace
   pub full : IsAllowedRun 3221 old new trace
+  pub course : IsRunOnCourse old new trace
   pub log_full : IsLogFullOnlyFrom (limit_of (log_pages old.capacities)) 0 trace
   pub space : AreForSpace old.capacities None trace
   pub device : IsDeviceOnlyIf (Rose old.faults new.faults) trace

@@ -414,7 +414,9 @@ fn print_shown<V, O>(alloc: Global, played: Played<V, O>) -> Work<V, O>
         → Ends before after (Line.Show ∷ []) played.trace.items played.end → IsShow words
         → ShowsTo result.outcome words source source before after result.trace.items
         result.text }
-    ensures finds { (before after : VolumeSeen) → IsEnd before after played.trace.items played.end
+    ensures finds { (before after : VolumeSeen)
+        → Ends before after (Line.Show ∷ []) played.trace.items played.end
+        → IsEnd before after played.trace.items played.end
         → Finds result.outcome before after result.trace.items }
     ensures trace { result.trace.items ≡ played.trace.items }
     ensures volume { result.volume ≡ played.volume }

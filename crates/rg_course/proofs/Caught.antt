@@ -1,5 +1,5 @@
 -- From the grant of a drain to the switch.
-use Rattle.std.proofs.Common.{◌≡◌, ◌+◌, ◌-◌, ◌==◌, ◌&&◌, ℕ, Bool, true, false, not, List, [], ◌∷◌, Option, Some, None, is_some, if◌then◌else◌, refl, sym, ◌∙◌, ap, subst, arith}
+use Rattle.std.proofs.Common.{◌≡◌, ◌+◌, ◌-◌, ◌==◌, ◌&&◌, ℕ, Bool, true, false, not, List, [], ◌∷◌, ◌++◌, Option, Some, None, is_some, if◌then◌else◌, refl, sym, ◌∙◌, ap, subst, arith}
 use Rattle.std.specs.FinMap as map
 use Rattle.std.specs.List.{AllByRecursion}
 use Rattle.rg_base.specs.declared.control.Answer.{Answer}
@@ -23,9 +23,10 @@ use Rattle.rg_model.specs.Said.{if_allowed}
 use Rattle.rg_model.specs.State.{State, Table, Utility, at_rest}
 use Rattle.rg_model.specs.Turn.{Turn, Runs, Switches, Stops, Falls, turn_of}
 use Rattle.rg_model.specs.Utility.{start_utility, state_by_turn, state_of_turn, state_stepped}
-use Rattle.rg_course.specs.Switching.{IsCaughtUp, goes_on, last_count, lasts_after, lasts_for, lasts_in, loads}
+use Rattle.rg_course.specs.Switching.{AreCaughtUp, IsCaughtUp, goes_on, last_count, lasts_for, lasts_in, left_after, loads, over_in, taken_in}
 use Rattle.rg_tending.specs.Tending.{behind}
 use Rattle.rg_course.proofs.Granting.{GrantIf, turn_grants}
+use Rattle.rg_course.proofs.Told.{run_parts, run_tells, tells_at_first}
 use Rattle.rg_course.proofs.Quieted.{Leaves, NoWriter, said_quiet}
 use Rattle.rg_course.proofs.Turning.{IsOnWay, IsTurning, Takes, Asks, Taken, Leads, LeadsIf, way_leads}
 use Rattle.rg_course.proofs.Writers.{AreWriters, writers_after, writers_at_rest}
@@ -44,6 +45,15 @@ allowed_was false st new e = absurd (cc e)
 both : (a b : Bool) → (a && b) ≡ true → (a ≡ true) × (b ≡ true)
 both true b e = (refl, e)
 both false b e = absurd (cc e)
+
+-- how many LAST follow a grant, where the trace has made so many changes
+abbrev lasts_after : (all : ℕ) → Utility → ℕ
+lasts_after all u = if u.last then 0 else lasts_for (all - u.done)
+
+-- what lies between the grant and the switch, by the numbers at the grant
+record IsCaught (all : ℕ) (u : Utility) (entries : List Entry) : Type 0 where
+  none_loaded : AllByRecursion (λ entry. loads entry.event ≡ false) entries
+  lasts : lasts_in entries ≡ lasts_after all u
 
 -- ---- the state under the drain
 
@@ -283,11 +293,11 @@ module _ (past : List Entry) (st new : State) (u : Utility) (at : st.utility ≡
       by_actor actors.System by e = absurd (cc e)
       by_actor actors.Utility by e = by_down st.down by (ap (state_after_step past granted.answer (events.Granted d) st) (sym at) ∙ e)
 
-pub caught_up_at_switch : (table : Table) (first : ℕ) (before entries : List Entry) (granted switched : Entry) (drain : DrainFor) (copy : ℕ) (sides : Sides) (st mid new : State) (u : Utility)
+caught_at_switch : (table : Table) (first : ℕ) (before entries : List Entry) (granted switched : Entry) (drain : DrainFor) (copy : ℕ) (sides : Sides) (st mid new : State) (u : Utility)
     → Run [] (at_rest table first) before st → st.utility ≡ Some u → granted.event ≡ events.Granted drain → AllByRecursion (λ entry. goes_on entry.event ≡ true) entries
     → Run (behind [] before) st (granted ∷ entries) mid → switched.event ≡ events.Switched copy sides → Run (behind (granted ∷ behind [] before) entries) mid (switched ∷ []) new
-    → IsCaughtUp (changes (behind [] before)) u entries
-caught_up_at_switch table first before entries granted switched drain copy sides st mid new u run utility event goes way switch last =
+    → IsCaught (changes (behind [] before)) u entries
+caught_at_switch table first before entries granted switched drain copy sides st mid new u run utility event goes way switch last =
     let past : List Entry = behind [] before in
     let grant = grant_begins past st way.0 u utility (writers_run [] before (at_rest table first) st (writers_at_rest table first) run) drain granted event way.1 in
     let made = between (changes past) (granted ∷ past) entries way.0 mid grant.0 (lasts_after (changes past) u) grant.1 goes way.2 in
@@ -296,3 +306,30 @@ caught_up_at_switch table first before entries granted switched drain copy sides
     (subst (λ (e : Event). Allows (behind (granted ∷ past) entries) switched.answer switched.actor e mid last.0) switch last.1) in
     let fewer : lasts_after (changes past) u ≡ lasts_in entries + made.m = made.fewer in
     record { none_loaded = made.none_loaded; lasts = omega arith }
+
+-- a drain is granted to a utility that runs
+granted_runs : (past : List Entry) (st new : State) (d : DrainFor) (answer : Option Answer) (actor : Actor) → Allows past answer actor (events.Granted d) st new → (u : Utility) × (st.utility ≡ Some u)
+granted_runs past st new d answer (actors.Session session) e = absurd (cc e)
+granted_runs past st new d answer actors.System e = absurd (cc e)
+granted_runs past st new d answer actors.Utility e = by_utility st.utility refl e
+  where
+    by_utility : (o : Option Utility) → st.utility ≡ o → state_after_step past answer (events.Granted d) st o ≡ Some new → (u : Utility) × (st.utility ≡ Some u)
+    by_utility None at e = absurd (cc e)
+    by_utility (Some u) at e = (u, at)
+
+pub caught_up_at_switch : (table : Table) (copy : ℕ) (trace : List Entry) (last : State) → Run [] (at_rest table copy) trace last → AreCaughtUp trace
+caught_up_at_switch table first trace final run before entries rest granted switched drain copy sides joined event goes switch =
+    let whole : Run [] (at_rest table first) (before ++ (granted ∷ entries ++ switched ∷ rest)) final = subst (λ (es : List Entry). Run [] (at_rest table first) es final) joined run in
+    let start = run_parts [] before (granted ∷ entries ++ switched ∷ rest) (at_rest table first) final whole in
+    let end = run_parts (behind [] before) (granted ∷ entries) (switched ∷ rest) start.mid final start.back in
+    let runs = granted_runs (behind [] before) start.mid end.front.0 drain granted.answer granted.actor (subst (λ (e : Event). Allows (behind [] before) granted.answer granted.actor e start.mid end.front.0) event end.front.1) in
+    let u : Utility = runs.0 in
+    let is = caught_at_switch table first before entries granted switched drain copy sides start.mid end.mid end.back.0 u start.front runs.1 event goes end.front switch (end.back.0, end.back.1, refl) in
+    let tells = run_tells [] before (at_rest table first) start.mid 0 false (tells_at_first table first) start.front u runs.1 in
+    record {
+      none_loaded = is.none_loaded;
+      lasts =
+          is.lasts
+          ∙ ap (λ (b : Bool). if b then 0 else lasts_for (changes (behind [] before) - u.done)) tells.1
+          ∙ ap (λ (n : ℕ). if over_in false before then 0 else lasts_for (changes (behind [] before) - n)) tells.0;
+    }

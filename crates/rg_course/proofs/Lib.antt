@@ -7,5 +7,8 @@ pub mod Writers
 pub mod Quieted
 pub mod Turning
 pub mod Granting
+pub mod Taken
+pub mod Told
 pub mod Caught
 pub mod Loaded
+pub mod OnCourse

@@ -10,6 +10,7 @@ use Rattle.rg_base.specs.declared.options.DrainFor.TheVariants as what
 use Rattle.rg_base.specs.declared.options.DrainState.{DrainState}
 use Rattle.rg_base.specs.declared.options.DrainState.TheVariants as drains
 use Rattle.rg_base.specs.declared.options.Options.{Options}
+use Rattle.rg_base.specs.declared.session.Session.{Session}
 use Rattle.rg_base.specs.declared.step.Step.{Step}
 use Rattle.rg_base.specs.declared.step.Step.TheVariants as steps
 use Rattle.rg_base.specs.declared.verdict.DrainVerdict.{DrainVerdict}
@@ -23,7 +24,7 @@ use Rattle.rg_model.specs.Turn.{Turn, Runs, Switches, Stops, Falls, build_turn, 
 use Rattle.rg_model.specs.Verdict.{drain_verdict, is_late, is_short, is_slow, iteration_verdict, may_drain, slow_verdict}
 use Rattle.rg_stmt.specs.declared.event.Event.{Event}
 use Rattle.rg_stmt.specs.declared.event.Event.TheVariants as events
-use Rattle.rg_course.specs.Course.{calm, is_stop, step_count}
+use Rattle.rg_course.specs.Course.{calm, is_hindered, step_count}
 use Rattle.rg_course.proofs.Phases.{IsBuilt, IsCalm, IsEarly, Late, Waits, Takes, Writes, WaitsForAll, ToSwitch, Phase, Early, Drained, Ends, tail, tail_left}
 
 module _ (most n : ℕ) (event : Event) where
@@ -55,18 +56,18 @@ test a b e = grind (arith, nat_tests)
 below : (a b : ℕ) → nat_lt a b ≡ true → a < b
 below a b e = grind (arith, nat_tests)
 
-early_leads : (most n : ℕ) (event : Event) → is_stop event ≡ false → LeadsIf most n event (early_stop event)
+early_leads : (most n : ℕ) (event : Event) → is_hindered event ≡ false → LeadsIf most n event (early_stop event)
 early_leads most n (events.Stop reason) e = absurd (cc e)
 early_leads most n event e = tt
 
-space_leads : (most n : ℕ) (event : Event) → is_stop event ≡ false → LeadsIf most n event (space_stop event)
+space_leads : (most n : ℕ) (event : Event) → is_hindered event ≡ false → LeadsIf most n event (space_stop event)
 space_leads most n (events.Stop reason) e = absurd (cc e)
 space_leads most n event e = tt
 
 -- ---- before the drain
 
 module _ (most n : ℕ) (u : Utility) (steady : IsCalm most u) (early : IsEarly u n) where
-  unload_leads : (event : Event) → is_stop event ≡ false → nat_lt u.copied u.pages ≡ true → LeadsIf most n event (unload_turn u drains.Free event)
+  unload_leads : (event : Event) → is_hindered event ≡ false → nat_lt u.copied u.pages ≡ true → LeadsIf most n event (unload_turn u drains.Free event)
   unload_leads (events.Unload page rows) e more =
       leads_if most n (events.Unload page rows) _ _ (λ is.
       let next : page ≡ u.copied + 1 = equal page (u.copied + 1) (both (page == u.copied + 1) (nat_le rows 225) is).0 in
@@ -79,7 +80,7 @@ module _ (most n : ℕ) (u : Utility) (steady : IsCalm most u) (early : IsEarly 
       ))
   unload_leads event e more = early_leads most n event e
 
-  reload_leads : (event : Event) → is_stop event ≡ false → LeadsIf most n event (reload_turn u drains.Free event)
+  reload_leads : (event : Event) → is_hindered event ≡ false → LeadsIf most n event (reload_turn u drains.Free event)
   reload_leads (events.Reload page rows) e =
       leads_if most n (events.Reload page rows) _ _ (λ is. (
         n,
@@ -89,7 +90,7 @@ module _ (most n : ℕ) (u : Utility) (steady : IsCalm most u) (early : IsEarly 
       ))
   reload_leads event e = space_leads most n event e
 
-  sort_leads : (event : Event) → is_stop event ≡ false → nat_lt u.sorted 3 ≡ true → LeadsIf most n event (sort_turn u drains.Free event)
+  sort_leads : (event : Event) → is_hindered event ≡ false → nat_lt u.sorted 3 ≡ true → LeadsIf most n event (sort_turn u drains.Free event)
   sort_leads (events.Sort which) e more =
       leads_if most n (events.Sort which) _ _ (λ is.
       let left : n + (u.copied + (u.sorted + u.built)) ≡ u.pages + (6 + tail u.options.drain) = early.left in
@@ -101,7 +102,7 @@ module _ (most n : ℕ) (u : Utility) (steady : IsCalm most u) (early : IsEarly 
       ))
   sort_leads event e more = early_leads most n event e
 
-  build_leads : (event : Event) → is_stop event ≡ false → nat_lt u.built 3 ≡ true → LeadsIf most n event (build_turn 0 u drains.Free event)
+  build_leads : (event : Event) → is_hindered event ≡ false → nat_lt u.built 3 ≡ true → LeadsIf most n event (build_turn 0 u drains.Free event)
   build_leads (events.Build which) e more =
       leads_if most n (events.Build which) _ _ (λ is. built (u.built == 2) refl)
     where
@@ -173,7 +174,7 @@ none_taken took a b e zero_is = equal took (min 64 (a - b)) e ∙ ap (λ (x : �
     none b = ap (λ (x : ℕ). min 64 x) (nothing b)
 
 module _ (most n : ℕ) (u : Utility) (steady : IsCalm most u) (built : IsBuilt u) (unswitched : u.switched ≡ false) where
-  log_leads : (event : Event) → is_stop event ≡ false → IsEarly u n → LeadsIf most n event (log_turn 0 calm u drains.Free event)
+  log_leads : (event : Event) → is_hindered event ≡ false → IsEarly u n → LeadsIf most n event (log_turn 0 calm u drains.Free event)
   log_leads (events.Log iteration took left verdict) e early =
       leads_if most n (events.Log iteration took left verdict) _ _ (λ is.
       let next : Utility = record u { done = u.done + took } in
@@ -206,11 +207,11 @@ module _ (most n : ℕ) (u : Utility) (steady : IsCalm most u) (built : IsBuilt 
   log_leads event e early = space_leads most n event e
 
   -- under a drain that was asked, nobody is in its way
-  granted_leads : (d : DrainFor) (event : Event) → is_stop event ≡ false → ((named : DrainFor) → event ≡ events.Granted named → Leads most n event (Runs u (drains.Granted d))) → LeadsIf most n event (wait_turn 0 calm u (drains.Asked d) d waits.Granted event)
+  granted_leads : (d : DrainFor) (event : Event) → is_hindered event ≡ false → ((named : DrainFor) → event ≡ events.Granted named → Leads most n event (Runs u (drains.Granted d))) → LeadsIf most n event (wait_turn 0 calm u (drains.Asked d) d waits.Granted event)
   granted_leads d (events.Granted named) e leads = leads_if most n (events.Granted named) _ _ (λ is. leads named refl)
   granted_leads d event e leads = early_leads most n event e
 
-  last_leads : (d : DrainFor) (event : Event) → is_stop event ≡ false → u.written ≡ false → n + 2 ≡ tail d → LeadsIf most n event (last_turn 0 u (drains.Granted d) event)
+  last_leads : (d : DrainFor) (event : Event) → is_hindered event ≡ false → u.written ≡ false → n + 2 ≡ tail d → LeadsIf most n event (last_turn 0 u (drains.Granted d) event)
   last_leads d (events.Last took left) e unwritten at =
       leads_if most n (events.Last took left) _ _ (λ is.
       let two = both (took == min 64 (0 - u.done)) (left == 0 - (u.done + took)) is in
@@ -228,7 +229,7 @@ module _ (most n : ℕ) (u : Utility) (steady : IsCalm most u) (built : IsBuilt 
       ))
   last_leads d event e unwritten at = space_leads most n event e
 
-  write_leads : (d : DrainFor) (event : Event) → is_stop event ≡ false → u.last ≡ true → n + 3 ≡ tail d → LeadsIf most n event (write_turn calm u (drains.Granted d) d event)
+  write_leads : (d : DrainFor) (event : Event) → is_hindered event ≡ false → u.last ≡ true → n + 3 ≡ tail d → LeadsIf most n event (write_turn calm u (drains.Granted d) d event)
   write_leads what.Writers (events.Written pages) e last at = (
     3,
     omega arith,
@@ -245,23 +246,28 @@ module _ (most n : ℕ) (u : Utility) (steady : IsCalm most u) (built : IsBuilt 
   )
   write_leads d event e last at = early_leads most n event e
 
-  switch_leads : (event : Event) → is_stop event ≡ false → n ≡ 2 → LeadsIf most n event (switch_turn u event)
+  switch_leads : (event : Event) → is_hindered event ≡ false → n ≡ 2 → LeadsIf most n event (switch_turn u event)
   switch_leads (events.Switched copy sides) e at = (1, omega arith, λ later. Ends refl refl)
   switch_leads (events.Stop reason) e at = absurd (cc e)
   switch_leads event e at = early_leads most n event e
 
-end_leads : (most n : ℕ) (event : Event) → is_stop event ≡ false → n ≡ 1 → LeadsIf most n event (end_turn event)
+end_leads : (most n : ℕ) (event : Event) → is_hindered event ≡ false → n ≡ 1 → LeadsIf most n event (end_turn event)
 end_leads most n events.Ended e at = (at, refl)
 end_leads most n event e at = early_leads most n event e
 
 -- ---- by the stage
 
-grants : (options : Options) (asked failed : ℕ) → drain_verdict options asked failed None 0 0 ≡ waits.Granted
-grants options asked failed = ap (λ (b : Bool). if b then waits.Stop reasons.Deadline else waits.Granted) (never_late options.deadline)
+-- whoever holds a claim, a step that nothing hinders is a grant
+any_verdict : (most n : ℕ) (u : Utility) (drain : DrainState) (d : DrainFor) (verdict : DrainVerdict) (event : Event) → is_hindered event ≡ false → LeadsIf most n event (wait_turn 0 calm u drain d waits.Granted event) → LeadsIf most n event (wait_turn 0 calm u drain d verdict event)
+any_verdict most n u drain d waits.Granted event e leads = leads
+any_verdict most n u drain d (waits.Wait session) (events.Wait named) e leads = absurd (cc e)
+any_verdict most n u drain d waits.GiveUp (events.GiveUp count) e leads = absurd (cc e)
+any_verdict most n u drain d (waits.Stop reason) (events.Stop named) e leads = absurd (cc e)
+any_verdict most n u drain d verdict event e leads = early_leads most n event e
 
-module _ (most n : ℕ) (u : Utility) (event : Event) (goes_on : is_stop event ≡ false) where
+module _ (most n : ℕ) (holder : Option Session) (u : Utility) (event : Event) (goes_on : is_hindered event ≡ false) where
   abbrev TurnAt : Step → DrainState → Type 0
-  TurnAt step drain = LeadsIf most n event (turn_at step 0 None calm u drain event)
+  TurnAt step drain = LeadsIf most n event (turn_at step 0 holder calm u drain event)
 
   early_at : IsCalm most u → IsEarly u n → TurnAt (step_of u drains.Free) drains.Free
   early_at steady early = go (nat_lt u.copied u.pages) (nat_lt u.reloaded u.unloaded) (nat_lt u.sorted 3) (nat_lt u.built 3) refl refl refl refl
@@ -291,7 +297,7 @@ module _ (most n : ℕ) (u : Utility) (event : Event) (goes_on : is_stop event �
       (subst (λ (b : Bool). TurnAt (if not last then steps.Last else (if not b then steps.Write d else steps.Switch)) (drains.Granted d)) (sym is_written) turn)
 
   waited_at : (d : DrainFor) → LeadsIf most n event (wait_turn 0 calm u (drains.Asked d) d waits.Granted event) → TurnAt (steps.Wait d) (drains.Asked d)
-  waited_at d leads = subst (λ (v : DrainVerdict). LeadsIf most n event (wait_turn 0 calm u (drains.Asked d) d v event)) (sym (grants u.options u.asked u.failed)) leads
+  waited_at d leads = any_verdict most n u (drains.Asked d) d (drain_verdict u.options u.asked u.failed holder 0 0) event goes_on leads
 
   late_at : (drain : DrainState) → IsCalm most u → IsBuilt u → u.switched ≡ false → Late u drain n → TurnAt (step_by_drain u drain) drain
   late_at drain steady built unswitched (Waits d is last written at) =
@@ -317,12 +323,12 @@ module _ (most n : ℕ) (u : Utility) (event : Event) (goes_on : is_stop event �
       subst (λ (x : DrainState). TurnAt (step_by_drain u x) x) (sym is)
       (granted_at what.All true true last written (switch_leads most n u steady built unswitched event goes_on at))
 
-  by_switched : (drain : DrainState) (b : Bool) → (b ≡ true → n ≡ 1) → (b ≡ false → TurnAt (step_of u drain) drain) → LeadsIf most n event (if b then end_turn event else turn_at (step_of u drain) 0 None calm u drain event)
+  by_switched : (drain : DrainState) (b : Bool) → (b ≡ true → n ≡ 1) → (b ≡ false → TurnAt (step_of u drain) drain) → LeadsIf most n event (if b then end_turn event else turn_at (step_of u drain) 0 holder calm u drain event)
   by_switched drain true ends turns = end_leads most n event goes_on (ends refl)
   by_switched drain false ends turns = turns refl
 
   -- each calm step leads to fewer steps, or to ENDED
-  pub phase_leads : (drain : DrainState) → Phase most u drain n → LeadsIf most n event (turn_of 0 None calm u drain event)
+  pub phase_leads : (drain : DrainState) → Phase most u drain n → LeadsIf most n event (turn_of 0 holder calm u drain event)
   phase_leads drain (Early steady free early) =
       by_switched drain u.switched (λ is. absurd (cc (is, early.switched))) (λ is. subst (λ (d : DrainState). TurnAt (step_of u d) d) (sym free) (early_at steady early))
   phase_leads drain (Drained steady built unswitched late) =

@@ -1,3 +1,4 @@
 pub mod Course
 pub mod Loading
+pub mod OnCourse
 pub mod Switching

@@ -1,14 +1,15 @@
--- What lies between the grant of a drain and the switch.
+-- What lies between the grant of a drain and the switch, by the entries alone.
 --
 -- 1. From a grant up to the switch no page is copied and none is filled: the new copy that is
 --    switched to is the one that was caught up before.
--- 2. The changes that were not taken at the grant are taken by LAST, 64 in each, and one LAST is
---    made at least. After the second grant, that of the drain of all under DRAIN WRITERS, there is
---    none.
--- 3. All this where the drain is not given up, and neither the utility nor the process ends in
+-- 2. LOG and LAST tell how many changes they take. Those that are made and not taken are left. The
+--    LAST that leaves none is the last one, until a drain is given up.
+-- 3. The changes that are left at the grant are taken by LAST, 64 in each, and one LAST is made at
+--    least. After the second grant, that of the drain of all under DRAIN WRITERS, there is none.
+-- 4. All this where the drain is not given up, and neither the utility nor the process ends in
 --    between.
-use Rattle.std.specs.Prelude.{ℕ, ◌≡◌, ◌+◌, ◌-◌, ◌/◌, Bool, true, false, List, [], ◌∷◌, Some}
-use Rattle.std.specs.Prelude.{if◌then◌else◌}
+use Rattle.std.specs.Prelude.{ℕ, ◌≡◌, ◌+◌, ◌-◌, ◌/◌, ◌==◌, ◌++◌, Bool, true, false, List, []}
+use Rattle.std.specs.Prelude.{◌∷◌, if◌then◌else◌}
 use Rattle.std.specs.List.{AllByRecursion}
 use Rattle.rg_base.specs.declared.options.DrainFor.{DrainFor}
 use Rattle.rg_stmt.specs.declared.event.Entry.{Entry}
@@ -17,7 +18,7 @@ use Rattle.rg_stmt.specs.declared.event.Event.TheVariants as events
 use Rattle.rg_stmt.specs.declared.layout.Sides.{Sides}
 use Rattle.rg_model.specs.Changes.{changes}
 use Rattle.rg_model.specs.Run.{Run}
-use Rattle.rg_model.specs.State.{State, Table, Utility, at_rest}
+use Rattle.rg_model.specs.State.{State, Table, at_rest}
 use Rattle.rg_tending.specs.Tending.{behind}
 
 -- the drain is not given up, and neither the utility nor the process ends; the switch is not made
@@ -46,22 +47,50 @@ lasts_in (entry ∷ entries) = last_count entry.event + lasts_in entries
 abbrev pub lasts_for : ℕ → ℕ
 lasts_for left = 1 + (left - 1) / 64
 
--- how many follow the grant of a drain, where the trace has made so many changes
-abbrev pub lasts_after : (all : ℕ) → Utility → ℕ
-lasts_after all u = if u.last then 0 else lasts_for (all - u.done)
+-- how many changes a utility has taken
+abbrev pub taken_after : ℕ → Event → ℕ
+taken_after taken (events.Started options copy pages) = 0
+taken_after taken (events.Log iteration took left verdict) = taken + took
+taken_after taken (events.Last took left) = taken + took
+taken_after taken event = taken
 
-pub record IsCaughtUp (all : ℕ) (u : Utility) (entries : List Entry) : Type 0 where
+abbrev pub taken_in : ℕ → List Entry → ℕ
+taken_in taken [] = taken
+taken_in taken (entry ∷ entries) = taken_in (taken_after taken entry.event) entries
+
+-- how many are left after these entries
+abbrev pub left_after : List Entry → ℕ
+left_after entries = changes (behind [] entries) - taken_in 0 entries
+
+-- whether the last LAST was made
+abbrev pub over_after : Bool → Event → Bool
+over_after over (events.Started options copy pages) = false
+over_after over (events.GiveUp count) = false
+over_after over (events.Last took left) = left == 0
+over_after over event = over
+
+abbrev pub over_in : Bool → List Entry → Bool
+over_in over [] = over
+over_in over (entry ∷ entries) = over_in (over_after over entry.event) entries
+
+-- what lies between a grant after these entries and the switch
+pub record IsCaughtUp (before entries : List Entry) : Type 0 where
   pub none_loaded : AllByRecursion (λ entry. loads entry.event ≡ false) entries
-  pub lasts : lasts_in entries ≡ lasts_after all u
+  pub lasts :
+      lasts_in entries ≡ (if over_in false before then 0 else lasts_for (left_after before))
+
+-- so it is at each switch of a trace
+abbrev pub AreCaughtUp : List Entry → Type 0
+AreCaughtUp trace =
+    (before entries rest : List Entry) (granted switched : Entry) (drain : DrainFor) (copy : ℕ)
+    (sides : Sides)
+    → trace ≡ before ++ (granted ∷ entries ++ switched ∷ rest)
+    → granted.event ≡ events.Granted drain
+    → AllByRecursion (λ entry. goes_on entry.event ≡ true) entries
+    → switched.event ≡ events.Switched copy sides
+    → IsCaughtUp before entries
 
 abbrev pub CaughtUpAtSwitch : Type 0
 CaughtUpAtSwitch =
-    (table : Table) (first : ℕ) (before entries : List Entry) (granted switched : Entry)
-    (drain : DrainFor) (copy : ℕ) (sides : Sides) (st mid new : State) (u : Utility)
-    → Run [] (at_rest table first) before st → st.utility ≡ Some u
-    → granted.event ≡ events.Granted drain
-    → AllByRecursion (λ entry. goes_on entry.event ≡ true) entries
-    → Run (behind [] before) st (granted ∷ entries) mid
-    → switched.event ≡ events.Switched copy sides
-    → Run (behind (granted ∷ behind [] before) entries) mid (switched ∷ []) new
-    → IsCaughtUp (changes (behind [] before)) u entries
+    (table : Table) (copy : ℕ) (trace : List Entry) (last : State)
+    → Run [] (at_rest table copy) trace last → AreCaughtUp trace

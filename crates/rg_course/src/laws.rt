@@ -11,7 +11,7 @@ pub fn course_law()
 {}
 
 /// Between a grant and the switch nothing is loaded, and each LAST takes 64 of the changes that
-/// were not taken.
+/// were left.
 pub fn switching_law()
     ensures { CaughtUpAtSwitch }
 {}

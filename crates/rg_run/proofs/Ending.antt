@@ -24,9 +24,10 @@ use Rattle.rg_run.specs.Outside.{IfBoth, IsEnd, WasUntidy, WritesOwn, log_at}
 use Rattle.rg_model.specs.Legal.{Legal}
 use Rattle.rg_run.specs.Full.{smaller_pages}
 use Rattle.rg_run.specs.Fit.{FailedSince, calls_of_last}
+use Rattle.rg_course.specs.OnCourse.{IsOnCourse}
 use Rattle.rg_run.specs.Parts.{AreParts, IfAtOpening, IfTidy, IsAtDeath, IsFailed, IsFound, IsPart, IsRun, IsUndamaged, LastPart, Made, RunEnds, RunsFrom, StaysSound}
 use Rattle.rg_run.specs.Played.{TraceOf, first_of}
-use Rattle.rg_run.specs.Table.{Begins, Ends, EndsAt, EndsAtDown, EndsAtOpening, EndsWhole, Finds, IfBegunTidy, IsAllowedRun, IsLegalRun, IsOpening, OpensLog}
+use Rattle.rg_run.specs.Table.{Begins, Ends, EndsAt, EndsAtDown, EndsAtOpening, EndsWhole, Finds, IfBegunTidy, IsAllowedRun, IsLegalRun, IsOpening, IsRunOnCourse, OpensLog}
 use Rattle.rg_run.specs.declared.played.RunEnd.{RunEnd}
 use Rattle.rg_run.specs.declared.played.RunEnd.TheVariants.{Whole, Down, Damaged, DeviceAtOpening, NoMemory}
 use Rattle.rg_run.proofs.Between.{both_and, both_weaken, since_out, stored_out, tidy_out}
@@ -91,6 +92,13 @@ module _ (old new : VolumeSeen) (n : ℕ) (rs : List Record) (le : IfTold new.to
     allowed_out = by_trace trace (parts_out (IsPart (3221 * smaller_pages old.capacities)) (λ start part is. subst (λ (c : Capacities). IsPart (3221 * smaller_pages c) start part) kept is))
       where
         by_trace : (es : List Entry) → AreParts (Begins old new) (Finds old new) (IsPart (3221 * smaller_pages old.capacities)) es → IsAllowedRun 3221 old new es
+        by_trace [] parts = tt
+        by_trace (e ∷ es) parts = parts
+
+    pub course_out : IsRunOnCourse old new trace
+    course_out = by_trace trace (parts_out (λ start part. IsOnCourse part) (λ start part is. is.2))
+      where
+        by_trace : (es : List Entry) → AreParts (Begins old new) (Finds old new) (λ start part. IsOnCourse part) es → IsRunOnCourse old new es
         by_trace [] parts = tt
         by_trace (e ∷ es) parts = parts
 

@@ -59,7 +59,7 @@ all_less less more loading past st a (e ∷ entries) le all = (
 )
 
 part_less : (less more : ℕ) (start : Table) (part : List Entry) → less ≤ more → IsPart more start part → IsPart less start part
-part_less less more start part le is = (is.0, all_less less more None [] (first_state start) no_account part le is.1)
+part_less less more start part le is = (is.0, all_less less more None [] (first_state start) no_account part le is.1, is.2)
 
 pub run_less : (less more : ℕ) (old new : VolumeSeen) (trace : List Entry) → less * smaller_pages old.capacities ≤ more * smaller_pages old.capacities → IsAllowedRun more old new trace → IsAllowedRun less old new trace
 run_less less more old new [] le all = tt

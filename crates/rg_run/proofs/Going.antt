@@ -35,6 +35,7 @@ use Rattle.rg_run.specs.Space.{AreForSpace}
 use Rattle.rg_run.proofs.Spaces.{space_join}
 use Rattle.rg_run.specs.Opening.{AreOpeningsSince, IfOpened, IsOpeningThen}
 use Rattle.rg_run.specs.Outside.{IsDeviceOnlyIf, WritesOwn}
+use Rattle.rg_course.proofs.OnCourse.{on_course}
 use Rattle.rg_run.specs.Parts.{Again, AreParts, Came, Follows, Going, IfTidy, IsFound, IsKnown, Made, PartRun, RunsFrom, IsPart}
 use Rattle.rg_run.specs.Parts.AreParts.{Next, One}
 use Rattle.rg_run.specs.Played.{Goes, TraceOf, first_of}
@@ -260,7 +261,7 @@ module _ {V O : Type 0} {answers : O → Option (List Answer)} (look : V → Vol
 
     -- the entries of the part have allowed what they had to
     is_part : IsPart (3221 * smaller_pages now.capacities) legal.0 desk.trace
-    is_part = (legal.2, goes.full legal.0 legal.1)
+    is_part = (legal.2, goes.full legal.0 legal.1, on_course part.start desk.first_copy desk.trace last part.run)
 
     starts_first : base ≡ first → IsStored (old_records first) legal.0
     starts_first is = subst (λ (b : DeskState V O). IsStored (old_records b) legal.0) is starts_base

@@ -50,6 +50,7 @@ whole_wanting old new lines trace end whole = record {
   openings = whole.openings;
   fit = whole.fit;
   full = whole.full;
+  course = whole.course;
   log_full = whole.log_full;
   space = whole.space;
   device = whole.device;

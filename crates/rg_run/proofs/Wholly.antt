@@ -41,7 +41,7 @@ use Rattle.rg_outside.specs.Made.{CountsFailed}
 use Rattle.rg_run.proofs.Fits.{failed_after, recounted}
 use Rattle.rg_run.specs.Asked.{HasAnswered, answers_in}
 use Rattle.rg_run.proofs.Asking.{unasked}
-use Rattle.rg_run.proofs.Ending.{allowed_out, end_out, ends_out, legal_out, opening_out}
+use Rattle.rg_run.proofs.Ending.{allowed_out, course_out, end_out, ends_out, legal_out, opening_out}
 use Rattle.rg_run.proofs.Fullness.{smaller_least}
 use Rattle.rg_run.proofs.Joins.{own_quiet}
 use Rattle.rg_run.proofs.Opening.{copy_first, counted_first, entry_first, entry_zero, found_first, old_first, opened_first, opening_first, opening_then, pages_first, read_first_log, stores_first}
@@ -102,6 +102,7 @@ module _ {V : Type 0} (told : V → Option Told) (faults : V → ℕ) (capacitie
       openings = opens old.told new.told;
       fit = opens old.told new.told;
       full = tt;
+      course = tt;
       log_full = tt;
       space = tt;
       device = tt;
@@ -214,6 +215,7 @@ module _ {V : Type 0} (told : V → Option Told) (faults : V → ℕ) (capacitie
               since_out (WritesOwn trace) (λ start t. FitSince start t trace) ended.calls old.told new.told (λ start count t all. recounted 0 start 0 count t trace all) le made
               run_seen.made.fit;
           full = allowed_out old new ended.calls opens.log.records le read opens.now.records now_same look desk lines operator_left trace end had kept made run_seen;
+          course = course_out old new ended.calls opens.log.records le read opens.now.records now_same look desk lines operator_left trace end had kept made run_seen;
           log_full = subst (λ (c : Capacities). IsLogFullOnlyFrom (limit_of (log_pages c)) 0 trace) kept run_seen.made.log_full;
           space = subst (λ (c : Capacities). AreForSpace c None trace) kept run_seen.made.space;
           device = device_more (Rose (look desk.volume).faults new.faults) (Rose old.faults new.faults) trace wider run_seen.made.device;

@@ -8,6 +8,7 @@
 use Rattle.std.specs.Prelude.{◌≡◌, ◌≤◌, ◌*◌, ◌⊎◌, ◌++◌, ℕ, Bool, true, false, List, [], ◌∷◌, Option, None}
 use Rattle.std.specs.List.{AllByRecursion}
 use Rattle.rg_base.specs.declared.control.Answer.{Answer}
+use Rattle.rg_course.specs.OnCourse.{IsOnCourse}
 use Rattle.rg_desk.specs.Chronicle.{IsRecorded}
 use Rattle.rg_desk.specs.Desk.{DeskState, IsCopy, LegalFrom, old_records}
 use Rattle.rg_desk.specs.OnVolume.{IsSoundTidy, WasAllTidy}
@@ -54,9 +55,10 @@ pub data AreParts (First : Table → Type 0) (Found : Entry → Table → Type 0
   Next : (before part : List Entry) (start : Table) → AreParts First Found IsSo before
       → IsFoundBy Found part start → IsSo start part → AreParts First Found IsSo (before ++ part)
 
--- a part is legal, and its entries have allowed so many bytes before each FULL
+-- A part is legal, its entries have allowed so many bytes before each FULL, and its utilities are
+-- on course.
 abbrev pub IsPart : (least : ℕ) → Table → List Entry → Type 0
-IsPart least start part = Legal start part × AreAllowed least start part
+IsPart least start part = Legal start part × AreAllowed least start part × IsOnCourse part
 
 -- the table is the one that the log stored as the volume read at the entry of an opening
 abbrev pub IsFound : VolumeSeen → Entry → Table → Type 0

@@ -15,8 +15,10 @@
 -- 6. The entry of a flush has the page that its last call wrote. Where the entry says that no page
 --    was to be written, it made no call. Where an entry says DEVICE, a call has failed that was made
 --    since the entry before.
--- 7. All of this is said of a known volume while its calls can be counted.
+-- 7. In each part a utility is caught up at its switch, and one that nothing hinders ends in time.
+-- 8. All of this is said of a known volume while its calls can be counted.
 use Rattle.std.specs.Prelude.{◌≡◌, ◌⊎◌, ◌*◌, ◌++◌, ℕ, Bool, true, false, List, [], ◌∷◌, length}
+use Rattle.rg_course.specs.OnCourse.{IsOnCourse}
 use Rattle.rg_desk.specs.Desk.{LegalFrom}
 use Rattle.rg_desk.specs.OnVolume.{IsSoundTidy, IsTidyVolume}
 use Rattle.rg_desk.specs.Stored.{IsStored}
@@ -76,6 +78,12 @@ IsAllowedRun per_page old new [] = Unit {0}
 IsAllowedRun per_page old new (entry ∷ entries) =
     AreParts (Begins old new) (Finds old new) (IsPart (per_page * smaller_pages old.capacities))
     (entry ∷ entries)
+
+-- in each part utilities are caught up at their switches, and end in time
+abbrev pub IsRunOnCourse : (old new : VolumeSeen) → List Entry → Type 0
+IsRunOnCourse old new [] = Unit {0}
+IsRunOnCourse old new (entry ∷ entries) =
+    AreParts (Begins old new) (Finds old new) (λ start part. IsOnCourse part) (entry ∷ entries)
 
 -- entry 0 is that of the opening of this log, if there is an entry
 abbrev pub OpensLog : List Record → List Entry → Type 0

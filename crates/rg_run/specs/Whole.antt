@@ -10,7 +10,7 @@ use Rattle.rg_run.specs.LogFull.{IsLogFullOnlyFrom}
 use Rattle.rg_run.specs.Space.{AreForSpace}
 use Rattle.rg_run.specs.Outside.{IsDeviceOnlyIf, IsEnd, MakesOnly, WritesOwn}
 use Rattle.rg_run.specs.Table.{FitCalls, AreOpenings, Ends, IsAllowedRun, IsLegalRun}
-use Rattle.rg_run.specs.Table.{IsOpening, KeepsSound}
+use Rattle.rg_run.specs.Table.{IsOpening, IsRunOnCourse, KeepsSound}
 use Rattle.rg_run.specs.declared.played.RunEnd.{RunEnd}
 
 pub record Whole
@@ -21,6 +21,7 @@ pub record Whole
   pub openings : AreOpenings old new trace
   pub fit : FitCalls old new trace
   pub full : IsAllowedRun 3221 old new trace
+  pub course : IsRunOnCourse old new trace
   pub log_full : IsLogFullOnlyFrom (limit_of (log_pages old.capacities)) 0 trace
   pub space : AreForSpace old.capacities None trace
   pub device : IsDeviceOnlyIf (Rose old.faults new.faults) trace

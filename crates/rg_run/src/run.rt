@@ -31,7 +31,7 @@ ghost use Rattle.rg_run.specs.Outside.{IsDeviceOnlyIf, IsEnd, MakesOnly, WritesO
 ghost use Rattle.rg_run.specs.Parts.{Going, IsRun, LeavesRun};
 ghost use Rattle.rg_run.specs.Played.{Goes, IsPlayed};
 ghost use Rattle.rg_run.specs.Table.{FitCalls, AreOpenings, Ends, IsAllowedRun, IsLegalRun};
-ghost use Rattle.rg_run.specs.Table.{IsOpening, KeepsSound};
+ghost use Rattle.rg_run.specs.Table.{IsOpening, IsRunOnCourse, KeepsSound};
 
 use crate::played::{Judged, Played, RunEnd};
 use rg_base::no_memory::NoMemory;
@@ -75,6 +75,9 @@ pub fn run<V: Volume, O: Operator>(
     // FULL comes, and STOP NOSPACE once a list is sorted, only where the entries have allowed 3,221
     // bytes for each page of the smaller copy.
     ensures full { IsAllowedRun 3221 (seen_volume V.told V.faults V.capacities volume)
+        (seen_volume V.told V.faults V.capacities result.volume) result.trace.items }
+    // Each part of the trace tells how a utility is caught up at its switch, and when it ends.
+    ensures course { IsRunOnCourse (seen_volume V.told V.faults V.capacities volume)
         (seen_volume V.told V.faults V.capacities result.volume) result.trace.items }
     ensures log_full { IsLogFullOnlyFrom (limit_of (log_pages (V.capacities volume))) 0
         result.trace.items }

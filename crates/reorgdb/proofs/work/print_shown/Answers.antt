@@ -1,4 +1,5 @@
-use Rattle.std.proofs.Common.{ap, inl, inr}
+use Rattle.std.proofs.Common.{ap, inl, inr, subst}
+use Rattle.rg_run.specs.Outside.{IsEnd}
 use Rattle.reorgdb.proofs.Shown.{never_down, shows_damaged, shows_device, shows_whole}
 use Rattle.reorgdb.proofs.work.print_shown.Goals as goal
 
@@ -13,6 +14,14 @@ returns-in-DeviceAtOpening-clause-shows g c = λ before after words source ends 
     let made = c.with_trace-in-DeviceAtOpening in
     elim c.in-DeviceAtOpening.is [
       | inl is ↦ shows_device before after words source c.args.played.trace.items made.result.trace.items c.args.played.end made.result.outcome made.result.text is (ap (λ trace. trace.items) made.ensures.trace) made.ensures.outcome ends show
+      | inr is ↦ absurd (never_down before after c.args.played.trace.items c.args.played.end is ends)
+    ]
+
+pub returns-in-DeviceAtOpening-clause-finds : goal.returns-in-DeviceAtOpening-clause-finds
+returns-in-DeviceAtOpening-clause-finds g c = λ before after ends is_end.
+    let made = c.with_trace-in-DeviceAtOpening in
+    elim c.in-DeviceAtOpening.is [
+      | inl is ↦ rw (made.ensures.outcome, ap (λ trace. trace.items) made.ensures.trace) (subst (IsEnd before after c.args.played.trace.items) is is_end)
       | inr is ↦ absurd (never_down before after c.args.played.trace.items c.args.played.end is ends)
     ]
 

@@ -15,6 +15,7 @@ returns-in-Print-clause-whole g c =
       openings = run.openings;
       fit = run.fit;
       full = run.full;
+      course = run.course;
       log_full = run.log_full;
       space = run.space;
       device = run.device;

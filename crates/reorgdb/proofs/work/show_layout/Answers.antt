@@ -1,5 +1,6 @@
 use Rattle.std.proofs.Common.{◌≡◌, ◌++◌, List, [], ◌∷◌, sym, subst}
 use Rattle.rg_desk.specs.Volume.{seen_volume}
+use Rattle.rg_run.specs.Outside.{IsEnd}
 use Rattle.rg_run.specs.Table.{Ends}
 use Rattle.rg_run.specs.Whole.{Whole}
 use Rattle.rg_stmt.specs.declared.line.Line.{Line}
@@ -16,6 +17,16 @@ returns-in-Ok-clause-shows g c = λ words source show.
     c.print_shown.ensures.shows (look c.args.volume) (look c.print_shown.result.volume) words source
     (subst (λ (v : g.row.V.Denot). Ends (look c.args.volume) (look v) (Show ∷ []) c.run.result.trace.items c.run.result.end) (sym c.print_shown.ensures.volume) ends) show
 
+pub returns-in-Ok-clause-finds : goal.returns-in-Ok-clause-finds
+returns-in-Ok-clause-finds g c =
+    let look = seen_volume g.V.Volume.told g.V.Volume.faults g.V.Volume.capacities in
+    let run = c.run.result in
+    let lines : c.push.new.self.items ≡ Show ∷ [] = subst (λ (ls : List Line). c.push.new.self.items ≡ ls ++ Show ∷ []) c.new-lines.ensures.items c.in-Ok.ensures.items in
+    let ends = subst (λ (ls : List Line). Ends (look c.args.volume) (look run.volume) ls run.trace.items run.end) lines c.run.ensures.ends in
+    c.print_shown.ensures.finds (look c.args.volume) (look c.print_shown.result.volume)
+    (subst (λ (v : g.row.V.Denot). Ends (look c.args.volume) (look v) (Show ∷ []) run.trace.items run.end) (sym c.print_shown.ensures.volume) ends)
+    (subst (λ (v : g.row.V.Denot). IsEnd (look c.args.volume) (look v) run.trace.items run.end) (sym c.print_shown.ensures.volume) c.run.ensures.end)
+
 pub returns-in-Ok-clause-traced : goal.returns-in-Ok-clause-traced
 returns-in-Ok-clause-traced g c =
     let look = seen_volume g.V.Volume.told g.V.Volume.faults g.V.Volume.capacities in
@@ -27,6 +38,7 @@ returns-in-Ok-clause-traced g c =
       openings = run.openings;
       fit = run.fit;
       full = run.full;
+      course = run.course;
       log_full = run.log_full;
       space = run.space;
       device = run.device;

@@ -18,21 +18,21 @@ returns-in-Ok-clause-goes g c = λ first lines going.
     let look = seen_volume g.V.Volume.told g.V.Volume.faults g.V.Volume.capacities in
     let answers = g.O.Operator.answers in
     subst (λ (line : Line). Going look answers first (lines ++ line ∷ []) c.exec.new.self) (sym c.in-Said.is)
-    (going_on look first c.args.desk c.exec.new.self lines _ tt (λ base back goes. goes_said look g.V.Volume.told_faults base c.args.desk c.exec.new.self back goes c.in-Said.session c.in-Said.stmt c.in-Ok.ensures.made) going)
+    (going_on look first c.args.desk c.exec.new.self lines _ tt (λ base back goes. goes_said look g.met.V.Volume.told_faults base c.args.desk c.exec.new.self back goes c.in-Said.session c.in-Said.stmt c.in-Ok.ensures.made) going)
 
 pub returns-in-Ok-show-clause-goes : goal.returns-in-Ok-show-clause-goes
 returns-in-Ok-show-clause-goes g c = λ first lines going.
     let look = seen_volume g.V.Volume.told g.V.Volume.faults g.V.Volume.capacities in
     let answers = g.O.Operator.answers in
     subst (λ (line : Line). Going look answers first (lines ++ line ∷ []) c.show.new.self) (sym c.in-Show.is)
-    (going_on look first c.args.desk c.show.new.self lines _ tt (λ base back goes. goes_shown look g.V.Volume.told_faults base c.args.desk c.show.new.self back goes c.in-Ok-show.ensures.made) going)
+    (going_on look first c.args.desk c.show.new.self lines _ tt (λ base back goes. goes_shown look g.met.V.Volume.told_faults base c.args.desk c.show.new.self back goes c.in-Ok-show.ensures.made) going)
 
 pub returns-in-Ok-flush_one-clause-goes : goal.returns-in-Ok-flush_one-clause-goes
 returns-in-Ok-flush_one-clause-goes g c = λ first lines going.
     let look = seen_volume g.V.Volume.told g.V.Volume.faults g.V.Volume.capacities in
     let answers = g.O.Operator.answers in
     subst (λ (line : Line). Going look answers first (lines ++ line ∷ []) c.flush_one.new.self) (sym c.in-Flush.is)
-    (going_on look first c.args.desk c.flush_one.new.self lines _ tt (λ base back goes. goes_flushed look g.V.Volume.told_faults base c.args.desk c.flush_one.new.self back goes c.in-Ok-flush_one.ensures.made) going)
+    (going_on look first c.args.desk c.flush_one.new.self lines _ tt (λ base back goes. goes_flushed look g.met.V.Volume.told_faults base c.args.desk c.flush_one.new.self back goes c.in-Ok-flush_one.ensures.made) going)
 
 pub returns-in-Ok-start-clause-goes : goal.returns-in-Ok-start-clause-goes
 returns-in-Ok-start-clause-goes g c = λ first lines going.
@@ -46,7 +46,7 @@ returns-in-Ok-step-clause-goes g c = λ first lines going.
     let look = seen_volume g.V.Volume.told g.V.Volume.faults g.V.Volume.capacities in
     let answers = g.O.Operator.answers in
     subst (λ (line : Line). Going look answers first (lines ++ line ∷ []) c.step.new.desk) (sym c.in-Step.is)
-    (going_on look first c.args.desk c.step.new.desk lines _ tt (λ base back goes. goes_stepped look g.V.Volume.told_faults base c.args.desk c.step.new.desk back goes g.O.Operator.last _ _ c.in-Ok-step.ensures.stepped) going)
+    (going_on look first c.args.desk c.step.new.desk lines _ tt (λ base back goes. goes_stepped look g.met.V.Volume.told_faults base c.args.desk c.step.new.desk back goes g.O.Operator.last _ _ c.in-Ok-step.ensures.stepped) going)
 
 pub returns-in-Ok-step-clause-kept : goal.returns-in-Ok-step-clause-kept
 returns-in-Ok-step-clause-kept g c = c.in-Ok-step.ensures.stepped.made.kept

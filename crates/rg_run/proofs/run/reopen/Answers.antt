@@ -40,5 +40,5 @@ returns-in-Err-clause-ends g c = λ first lines rest going.
     (refused_again look first c.args.desk lines going parts.left parts.legal count
     (subst (λ (es : List Entry). IsRecorded es count) parts.trace parts.recorded) parts.counted
     seen c.in-Err.fault.cause c.refused.result.operator c.refused.result.trace.items rest
-    (left.operator ∙ c.in-Err.ensures.operator ∙ parts.operator) (left.trace ∙ c.in-Err.ensures.trace ∙ parts.trace) parts.sound (g.V.Volume.told_faults c.args.desk.volume) (g.V.Volume.told_faults c.in-Err.fault.volume)
+    (left.operator ∙ c.in-Err.ensures.operator ∙ parts.operator) (left.trace ∙ c.in-Err.ensures.trace ∙ parts.trace) parts.sound (g.met.V.Volume.told_faults c.args.desk.volume) (g.met.V.Volume.told_faults c.in-Err.fault.volume)
     (subst (λ v. IsRefused (look v) seen c.in-Err.fault.cause) parts.volume c.in-Err.ensures.refused)))

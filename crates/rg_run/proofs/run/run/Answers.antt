@@ -51,7 +51,7 @@ not_opened g c =
     let n = c.refused.result.volume.calls in
     let counted_look = seen_volume (λ (x : CountedCalls g.row.V.Denot). counted (g.V.Volume.told x.volume) x.calls) (λ x. g.V.Volume.faults x.volume) (λ x. g.V.Volume.capacities x.volume) in
     subst (λ (end : RunEnd). Whole (look c.args.volume) (look below) c.args.lines.items c.uncounted-in-Err.result.trace.items end) (sym (left.end ∙ c.refused.ensures.end))
-    (whole_refused g.V.Volume.told g.V.Volume.faults g.V.Volume.capacities c.args.volume below c.new.result c.new.ensures g.V.Volume.told_faults n left.counted c.args.lines.items c.uncounted-in-Err.result.trace.items fault.cause
+    (whole_refused g.V.Volume.told g.V.Volume.faults g.V.Volume.capacities c.args.volume below c.new.result c.new.ensures g.met.V.Volume.told_faults n left.counted c.args.lines.items c.uncounted-in-Err.result.trace.items fault.cause
     (ap (λ (v : Vec Entry Global). v.items) left.trace ∙ c.refused.ensures.trace ∙ c.in-Err.ensures.trace ∙ c.new-2.ensures.items)
     (subst (λ (v : g.row.V.Denot). IsRefused (counted_look c.new.result) (record { told = counted (g.V.Volume.told v) n; faults = g.V.Volume.faults v; capacities = g.V.Volume.capacities v }) fault.cause) (sym left.volume)
     (subst (λ (x : CountedCalls g.row.V.Denot). IsRefused (counted_look c.new.result) (counted_look x) fault.cause) (sym c.refused.ensures.volume) c.in-Err.ensures.refused)))
@@ -73,6 +73,9 @@ returns-in-Ok-clause-fit g c = (played g c).fit
 
 pub returns-in-Ok-clause-full : goal.returns-in-Ok-clause-full
 returns-in-Ok-clause-full g c = (played g c).full
+
+pub returns-in-Ok-clause-course : goal.returns-in-Ok-clause-course
+returns-in-Ok-clause-course g c = (played g c).course
 
 pub returns-in-Ok-clause-log_full : goal.returns-in-Ok-clause-log_full
 returns-in-Ok-clause-log_full g c = (played g c).log_full
@@ -112,6 +115,9 @@ returns-in-Err-clause-fit g c = (not_opened g c).fit
 
 pub returns-in-Err-clause-full : goal.returns-in-Err-clause-full
 returns-in-Err-clause-full g c = (not_opened g c).full
+
+pub returns-in-Err-clause-course : goal.returns-in-Err-clause-course
+returns-in-Err-clause-course g c = (not_opened g c).course
 
 pub returns-in-Err-clause-log_full : goal.returns-in-Err-clause-log_full
 returns-in-Err-clause-log_full g c = (not_opened g c).log_full
