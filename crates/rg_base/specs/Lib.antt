@@ -5,4 +5,5 @@ pub mod Retained
 pub mod RowBytes
 pub mod Session
 pub mod Text
+pub mod Values
 pub mod Words

@@ -46,6 +46,8 @@ mod tests;
 pub mod text;
 /// The numbers of transactions.
 pub mod tran;
+/// The values of a row.
+pub mod values;
 /// What the utility decides.
 pub mod verdict;
 /// The indexes of the table.

@@ -9,12 +9,14 @@ ghost use Rattle.std.specs.List.{AllByRecursion};
 ghost use Rattle.rg_base.specs.Field.{field};
 ghost use Rattle.rg_base.specs.Text.{IsLetter, IsText};
 ghost use Rattle.rg_base.specs.RowBytes.{row_bytes, row_of, row_size, RowFaultIs};
+ghost use Rattle.rg_base.specs.Values.{values_of};
 
 use crate::bytes::Bytes;
 use crate::field::{get_u16, get_u64, put_bytes, put_u16, put_u64};
 use crate::no_memory::NoMemory;
 use crate::row::Row;
 use crate::text::{TEXT_LIMIT, Text};
+use crate::values::Values;
 use std::alloc::Global;
 
 /// The bytes of a row before its text.
@@ -125,6 +127,18 @@ pub fn read_spelled(alloc: Global, bytes: &[u8]) -> Result<Row, NoMemory>
     ensures { IfOk result (λ row. row ≡ row_of bytes.now) }
 {
     row_from(alloc, bytes)
+}
+
+/// The values of the row that these bytes spell, which are known to spell one. Its text is not
+/// copied, so it takes no memory.
+pub fn read_values(bytes: &[u8]) -> Values
+    requires { row_bytes (row_of bytes.now) ≡ bytes.now }
+    ensures { result ≡ values_of (row_of bytes.now) }
+{
+    let key = get_u64(bytes, 0);
+    let clus = get_u64(bytes, 8);
+    let cat = get_u64(bytes, 16);
+    Values { key, clus, cat }
 }
 
 // The row that bytes show, which have its fields, the length of the text that follows, and a text.

@@ -1,6 +1,6 @@
 // The spots of rows on pages.
 //
-// 1. A row is read from where it lies. Its spot stands at its home.
+// 1. A row is read from where it lies, but not its text. Its spot stands at its home.
 // 2. All pages are let go before each slot, so that two idle frames are enough. Frames may then
 //    give a page up between two slots. The spots are those of one state of the pages where frames
 //    are sure.
@@ -14,7 +14,7 @@ ghost use Rattle.rg_layout.specs.Spots.{spot_at, spots_on, spots_of};
 use rg_base::place::Place;
 use rg_page::frames::Frames;
 use rg_space::fault::SpaceFault;
-use rg_space::read::{AtHome, home_of, is_there};
+use rg_space::read::{ValuesAt, is_there, values_at};
 use rg_stmt::layout::{Spot, Spots};
 use std::alloc::Global;
 
@@ -40,12 +40,7 @@ fn slot_count_of<F: Frames>(frames: &mut F, number: u32) -> Result<u16, SpaceFau
 }
 
 // Adds the spot of the row whose home is at this place, if there is one.
-fn add_spot<F: Frames>(
-    frames: &mut F,
-    alloc: Global,
-    home: Place,
-    spots: &mut Vec<Spot>,
-) -> Result<(), SpaceFault>
+fn add_spot<F: Frames>(frames: &mut F, home: Place, spots: &mut Vec<Spot>) -> Result<(), SpaceFault>
     requires { 2 ≤ (F.seen frames.old).idle }
     ensures added { OnOk result (spots.new.items ≡ spots.old.items
         ++ spot_at (slot_in (F.seen frames.new)) home) }
@@ -57,14 +52,14 @@ fn add_spot<F: Frames>(
         (F.seen frames.old).forced frames.old frames.new }
 {
     frames.let_go();
-    let AtHome { other, row } = home_of(frames, alloc, home)?;
-    match row {
+    let ValuesAt { other, values } = values_at(frames, home)?;
+    match values {
         None => Ok(()),
-        Some(row) => {
+        Some(values) => {
             let spot = Spot {
                 place: home,
-                key: row.key,
-                clus: row.clus,
+                key: values.key,
+                clus: values.clus,
                 over: other,
             };
             match spots.push(spot) {
@@ -76,12 +71,7 @@ fn add_spot<F: Frames>(
 }
 
 // Adds the spots of a page, by rising slot.
-fn add_spots<F: Frames>(
-    frames: &mut F,
-    alloc: Global,
-    page: u32,
-    spots: &mut Vec<Spot>,
-) -> Result<(), SpaceFault>
+fn add_spots<F: Frames>(frames: &mut F, page: u32, spots: &mut Vec<Spot>) -> Result<(), SpaceFault>
     requires { 2 ≤ (F.seen frames.old).idle }
     ensures added { OnOk result ((F.seen frames.new).sure ≡ true → spots.new.items
         ≡ spots.old.items ++ spots_on (slots_of (F.seen frames.new).pages) page) }
@@ -96,7 +86,7 @@ fn add_spots<F: Frames>(
     let count = slot_count_of(frames, page)?;
     let mut slot = 0;
     while slot < count {
-        add_spot(frames, alloc, Place { page, slot }, spots)?;
+        add_spot(frames, Place { page, slot }, spots)?;
         slot += 1;
     }
     Ok(())
@@ -118,7 +108,7 @@ pub fn all_spots<F: Frames>(frames: &mut F, alloc: Global) -> Result<Spots, Spac
     let mut spots = Vec::new(alloc);
     let mut n = 0;
     while n < count {
-        add_spots(frames, alloc, n + 1, &mut spots)?;
+        add_spots(frames, n + 1, &mut spots)?;
         n += 1;
     }
     Ok(Spots::new(spots))

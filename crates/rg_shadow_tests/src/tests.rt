@@ -108,6 +108,52 @@ fn builds_each_index(rt: HostRuntime) -> Result<(), Fail> {
     Ok(())
 }
 
+// So many rows in the slots of page 1, each with a `clus` above that of the one before it, and a key
+// below.
+fn falling_rows(alloc: Global, count: u16) -> Result<Homes, NoMemory>
+    requires { count ≤ 225 }
+    ensures { IfOk result AreApart }
+{
+    let mut rows = Vec::new(alloc);
+    for slot in 0..count {
+        let place = Place { page: 1, slot };
+        rows.push((place, row(alloc, slot as u64, 225 - slot as u64)?))?;
+    }
+    Ok(Homes::new(rows))
+}
+
+// A page takes one row where nearly all of it is to stay free. The runs of 200 pages are more than
+// are merged at a time.
+#[test]
+fn merges_the_runs_of_200_pages(rt: HostRuntime) -> Result<(), Fail> {
+    let alloc = rt.alloc();
+    let options = Options {
+        pctfree: 99,
+        ..OPTIONS
+    };
+    let mut packer = Packer::new(alloc, 2, falling_rows(alloc, 200)?, &options, 200)?;
+    for _page in 0..200 {
+        assert!(rt; matches!(packer.next_page(), Ok(Some(_))));
+    }
+    assert!(rt; matches!(packer.next_page(), Ok(None)));
+    let (space, pairs) = packer.finish();
+    let mut shadow = Shadow::load(alloc, space, pairs)?;
+    shadow.sort(Which::Key)?;
+    shadow.build(Which::Key)?;
+    let Some(tree) = shadow.index(Which::Key) else {
+        assert!(rt; false);
+        return Ok(());
+    };
+    let listing = tree.listing()?;
+    let entries = listing.as_slice();
+    assert_eq!(rt; entries.len(), 200);
+    // The row of key 225 lies on page 1, and so on.
+    for i in 0..200 {
+        assert_eq!(rt; entries[i], (26 + i as u64, place(200 - i as u32, 0)));
+    }
+    Ok(())
+}
+
 // Makes the row of a source one of this key, or none, and adds what the index by key lists then.
 fn change(
     alloc: Global,

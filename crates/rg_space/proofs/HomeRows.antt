@@ -1,10 +1,12 @@
 -- The rows of a page, one slot after the other.
-use Rattle.std.proofs.Common.{◌≡◌, ℕ, zero, suc, ◌+◌, List, ◌++◌, sym, ap, ◌∙◌, arith, append_assoc, append-nil}
+use Rattle.std.proofs.Common.{◌≡◌, ℕ, zero, suc, ◌+◌, List, ◌++◌, map, refl, sym, ap, ◌∙◌, arith, append_assoc, append-nil}
+use Rattle.std.proofs.lemmas.List.{map-append}
 use Rattle.rg_base.specs.declared.place.Place.{Place}
 use Rattle.rg_base.specs.declared.row.Row.{Row as TableRow}
 use Rattle.rg_home.specs.Rows.{row_at}
 use Rattle.rg_home.specs.Slot.{Slot}
-use Rattle.rg_space.specs.Homes.{place_on, home_with, rows_from}
+use Rattle.rg_base.specs.declared.values.Values.{Values}
+use Rattle.rg_space.specs.Homes.{homed_values, place_on, home_with, rows_from}
 
 abbrev one : (Place → Slot) → (n i : ℕ) → List (Place × TableRow)
 one at n i = home_with (place_on n i) (row_at at (place_on n i))
@@ -33,3 +35,10 @@ row_added at n i rows after so_far is =
 
     next : (i : ℕ) → suc i ≡ i + 1
     next i = omega arith
+
+-- the values of slot i's row added to those of the rows before it
+pub values_added : (at : Place → Slot) (n i : ℕ) (values after : List (Place × Values)) → values ≡ map homed_values (rows_from at n 0 i) → after ≡ values ++ map homed_values (one at n i) → after ≡ map homed_values (rows_from at n 0 (i + 1))
+values_added at n i values after so_far is =
+    is ∙ ap (λ (vs : List (Place × Values)). vs ++ map homed_values (one at n i)) so_far
+    ∙ sym (map-append homed_values (rows_from at n 0 i) (one at n i))
+    ∙ ap (map homed_values) (row_added at n i (rows_from at n 0 i) (rows_from at n 0 i ++ one at n i) refl refl)

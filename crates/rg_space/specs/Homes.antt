@@ -1,7 +1,10 @@
 -- The rows whose homes are on a page.
 use Rattle.std.specs.Prelude.{ℕ, ◌+◌, zero, suc, List, [], ◌∷◌, ◌++◌, Option, Some, None, length}
+use Rattle.std.specs.Prelude.{map}
+use Rattle.rg_base.specs.Values.{values_of}
 use Rattle.rg_base.specs.declared.place.Place.{Place}
 use Rattle.rg_base.specs.declared.row.Row.{Row}
+use Rattle.rg_base.specs.declared.values.Values.{Values}
 use Rattle.rg_home.specs.Pages.{page_at, slot_of}
 use Rattle.rg_home.specs.Rows.{row_at}
 use Rattle.rg_home.specs.Slot.{Slot}
@@ -24,3 +27,11 @@ rows_from at n i (suc count) =
 -- the rows whose homes are on page n, by rising slot, each with the place of its home
 abbrev pub homes_on : List (List Slot) → (n : ℕ) → List (Place × Row)
 homes_on pages n = rows_from (slot_of pages) n 0 (length (page_at pages n))
+
+-- a row's values with the place of its home
+abbrev pub homed_values : Place × Row → Place × Values
+homed_values homed = (homed.0, values_of homed.1)
+
+-- the values of the rows whose homes are on page n, by rising slot
+abbrev pub values_on : List (List Slot) → (n : ℕ) → List (Place × Values)
+values_on pages n = map homed_values (homes_on pages n)

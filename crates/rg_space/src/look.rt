@@ -3,12 +3,13 @@
 ghost use Rattle.std.specs.Prelude.{◌≡◌, IfOk};
 ghost use Rattle.rg_home.specs.Plan.{pointed_to};
 ghost use Rattle.rg_home.specs.Slots.{slot_at};
-ghost use Rattle.rg_space.specs.Glimpse.{IsGlimpse};
+ghost use Rattle.rg_space.specs.Glimpse.{IsGlimpse, IsValuesGlimpse};
 
 use rg_base::no_memory::NoMemory;
 use rg_base::place::Place;
 use rg_base::row::Row;
-use rg_base::row_bytes::read_spelled;
+use rg_base::row_bytes::{read_spelled, read_values};
+use rg_base::values::Values;
 use rg_page::page::Page;
 use rg_page::slot::Slot;
 use std::alloc::Global;
@@ -61,6 +62,35 @@ pub fn look_at(alloc: Global, page: &Page, i: u16) -> Result<Glimpse, NoMemory>
             moved: None,
         }),
     }
+}
+
+/// The same without the texts of rows.
+#[derive(Clone, Copy, Debug)]
+pub struct ValuesGlimpse {
+    pub other: Option<Place>,
+    pub values: Option<Values>,
+    pub moved: Option<Values>,
+}
+
+/// What slot i of a page says of a row, without its text. It takes no memory.
+pub fn look_at_values(page: &Page, i: u16) -> ValuesGlimpse
+    ensures { IsValuesGlimpse result (slot_at page.now.slots i) }
+{
+    let mut seen = ValuesGlimpse {
+        other: None,
+        values: None,
+        moved: None,
+    };
+    if i >= page.slot_count() {
+        return seen;
+    }
+    match page.slot(i) {
+        Slot::Row { bytes, .. } => seen.values = Some(read_values(bytes)),
+        Slot::Over { bytes, .. } => seen.moved = Some(read_values(bytes)),
+        Slot::Pointer { other, .. } => seen.other = Some(other),
+        _ => {}
+    }
+    seen
 }
 
 /// The place that slot i of a page points to, if it is a Pointer.

@@ -3,14 +3,15 @@
 ghost use Rattle.std.specs.Prelude.{◌≡◌, ◌≤◌, ◌<◌, ◌+◌, ◌↔◌, IsTrue, true, length, IfOk, IfErr, OnOk, OnErr};
 ghost use Rattle.rg_home.specs.Plan.{pointed_to};
 ghost use Rattle.rg_page.specs.Content.{Content};
-ghost use Rattle.rg_space.specs.Glimpse.{IsGlimpse};
+ghost use Rattle.rg_space.specs.Glimpse.{IsGlimpse, IsValuesGlimpse};
 ghost use Rattle.rg_space.specs.Took.{Took, slot_in, HasRisen, IsRisen, IsHeldAt};
-ghost use Rattle.rg_space.specs.AtHome.{IsAtHome};
+ghost use Rattle.rg_space.specs.AtHome.{AreValuesAt, IsAtHome};
 
 use crate::fault::SpaceFault;
-use crate::look::{Glimpse, look_at, pointer_at};
+use crate::look::{Glimpse, ValuesGlimpse, look_at, look_at_values, pointer_at};
 use rg_base::place::Place;
 use rg_base::row::Row;
+use rg_base::values::Values;
 use rg_page::frames::Frames;
 use std::alloc::Global;
 
@@ -88,6 +89,70 @@ pub fn home_of<F: Frames>(frames: &mut F, alloc: Global, home: Place) -> Result<
     Ok(AtHome {
         other: Some(other),
         row: over.moved,
+    })
+}
+
+// What the slot at a place says of a row, without its text. Its page is held from then on.
+fn glimpse_values<F: Frames>(frames: &mut F, place: Place) -> Result<ValuesGlimpse, SpaceFault>
+    requires low { 1 ≤ place.page }
+    requires high { place.page ≤ length (F.seen frames.old).pages }
+    requires spare { 1 ≤ (F.seen frames.old).spare }
+    ensures seen { IfOk result (λ seen. IsValuesGlimpse seen (slot_in (F.seen frames.new) place)) }
+    ensures held { OnOk result ((F.seen frames.new).held place.page ≡ true) }
+    ensures took { Took 1 (F.seen frames.old) (F.seen frames.new) }
+    ensures reserved { (F.seen frames.new).reserved ≡ (F.seen frames.old).reserved }
+    ensures device { IfErr result (λ fault. IsRisen fault (F.seen frames.old) (F.seen frames.new)) }
+    ensures gave { F.gave (F.seen frames.old).pages
+        (F.seen frames.old).forced frames.old frames.new }
+{
+    match frames.with_page(place.page) {
+        Ok(page) => Ok(look_at_values(page, place.slot)),
+        Err(_) => Err(SpaceFault::Device),
+    }
+}
+
+/// What a home shows but for the text of its row: the Over area that it points to, and the row's
+/// values, wherever it lies.
+#[derive(Clone, Copy, Debug)]
+pub struct ValuesAt {
+    pub other: Option<Place>,
+    pub values: Option<Values>,
+}
+
+/// What the home at this place shows, without the text of its row. It takes no memory. Its page,
+/// and that of its Over area, are held from then on.
+pub fn values_at<F: Frames>(frames: &mut F, home: Place) -> Result<ValuesAt, SpaceFault>
+    requires spare { 2 ≤ (F.seen frames.old).spare }
+    ensures seen { IfOk result (AreValuesAt (F.seen frames.new) home) }
+    ensures took { Took 2 (F.seen frames.old) (F.seen frames.new) }
+    ensures reserved { (F.seen frames.new).reserved ≡ (F.seen frames.old).reserved }
+    ensures device { IfErr result (λ fault. IsRisen fault (F.seen frames.old) (F.seen frames.new)) }
+    ensures gave { F.gave (F.seen frames.old).pages
+        (F.seen frames.old).forced frames.old frames.new }
+{
+    if !is_there(frames, home.page) {
+        return Ok(ValuesAt {
+            other: None,
+            values: None,
+        });
+    }
+    let seen = glimpse_values(frames, home)?;
+    let Some(other) = seen.other else {
+        return Ok(ValuesAt {
+            other: None,
+            values: seen.values,
+        });
+    };
+    if !is_there(frames, other.page) {
+        return Ok(ValuesAt {
+            other: Some(other),
+            values: None,
+        });
+    }
+    let over = glimpse_values(frames, other)?;
+    Ok(ValuesAt {
+        other: Some(other),
+        values: over.moved,
     })
 }
 

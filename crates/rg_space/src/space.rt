@@ -20,7 +20,7 @@ ghost use Rattle.rg_base.specs.declared.part.Part.{Part};
 ghost use Rattle.rg_page.specs.Seen.{Reads, Held, Failed, LetGo, WasSet, set_content};
 ghost use Rattle.rg_record.specs.Applied.{parts_of};
 ghost use Rattle.rg_space.specs.Carries.{AllThere};
-ghost use Rattle.rg_space.specs.Homes.{homes_on};
+ghost use Rattle.rg_space.specs.Homes.{homes_on, values_on};
 ghost use Rattle.rg_home.specs.Rows.{row_at};
 ghost use Rattle.rg_home.specs.Undo.{over_before, undo_parts};
 ghost use Rattle.rg_space.specs.Applied.{IsApplicable, AreApplicable, AllHeld, Within, Writes, grown, wrote_part, wrote_all};
@@ -29,7 +29,7 @@ ghost use Rattle.rg_space.specs.Ready.{IsReady, AllReady, IsAtHand, HasCause, Ca
 ghost use Rattle.rg_space.specs.Space.{Agree, InStep, frames_of, index_of, capacity_in, undos_in, with_frames};
 
 use crate::fault::SpaceFault;
-use crate::homes::homes_of;
+use crate::homes::{homes_of, values_of};
 use crate::index::Index;
 use crate::moves::{PartsRoom, over_before, size_of};
 use crate::read::{hold_at, home_of, is_there, pointer_of};
@@ -41,6 +41,7 @@ use rg_base::place::Place;
 use rg_base::position::Position;
 use rg_base::row::Row;
 use rg_base::tran::Tran;
+use rg_base::values::Values;
 use rg_home::plan::Plan;
 use rg_page::frames::{Device, FrameFault, Frames};
 use rg_page::header::Header;
@@ -156,6 +157,35 @@ impl<F: Frames> Space<F> {
         let rows = homes_of(&mut self.frames, self.alloc, page);
         self.frames.let_go();
         rows
+    }
+
+    /// The values of these rows, in their order. All pages are let go, before each row and at the
+    /// end.
+    pub fn home_values(&mut self, page: u32) -> Result<Vec<(Place, Values)>, SpaceFault>
+        requires spare { 2 ≤ (F.seen (frames_of self.old)).spare }
+        requires step { InStep (F.seen (frames_of self.old)) (index_of self.old)
+            (capacity_in self.old) }
+        // Where frames are not sure, the page may have changed between two of its rows.
+        ensures values { IfOk result (λ values. (F.seen (frames_of self.new)).sure ≡ true
+            → values.items ≡ values_on (slots_of (F.seen (frames_of self.new)).pages) page) }
+        ensures step { InStep (F.seen (frames_of self.new)) (index_of self.new)
+            (capacity_in self.new) }
+        ensures capacity { capacity_in self.new ≡ capacity_in self.old }
+        ensures undos { undos_in self.new ≡ undos_in self.old }
+        ensures summaries { index_of self.new ≡ index_of self.old }
+        ensures reserved { (F.seen (frames_of self.new)).reserved
+            ≡ (F.seen (frames_of self.old)).reserved }
+        ensures reads { Reads (F.seen (frames_of self.old)) (F.seen (frames_of self.new)) }
+        ensures idle { (F.seen (frames_of self.old)).idle ≤ (F.seen (frames_of self.new)).idle }
+        ensures spare { (F.seen (frames_of self.new)).spare ≡ (F.seen (frames_of self.new)).idle }
+        ensures cause { IfErr result (λ fault. HasRisen fault (F.seen (frames_of self.old))
+            (F.seen (frames_of self.new))) }
+        ensures gave { F.gave (F.seen (frames_of self.old)).pages
+            (F.seen (frames_of self.old)).forced (frames_of self.old) (frames_of self.new) }
+    {
+        let values = values_of(&mut self.frames, self.alloc, page);
+        self.frames.let_go();
+        values
     }
 
     /// How many pages there are.
