@@ -1,3 +1,4 @@
+// The calls that a volume in memory keeps. Each that failed is kept as a failed one.
 ghost use Rattle.std.specs.Prelude.{◌≡◌};
 ghost use Rattle.rg_mem.specs.Listed.{is_failed_note};
 

@@ -1,3 +1,9 @@
+// The volume, as all layers see it.
+//
+// 1. A call fails only where the count of faults rises. The faults of a known volume are its calls
+//    that failed.
+// 2. A read gives what the calls so far have left. A write may leave the old content or the new one
+//    after a crash, until a sync succeeds.
 ghost use Rattle.std.specs.Prelude.{◌≡◌, ◌≤◌, ℕ, Option, OnOk, OnErr};
 ghost use Rattle.rg_outside.specs.Calls.{Told, read_of};
 ghost use Rattle.rg_outside.specs.Capacities.{Capacities, capacity_of, IsPage};

@@ -13,8 +13,8 @@
 --    where one of them is not. Once all rows are reloaded it stands only where what was sent weighs
 --    3,221 bytes for each page that the other copy may have. What that is to the utility is told of
 --    the desk before.
--- 7. The event tells what is made of the new copy: the rows of a page, a list, an index, or how many
---    changes.
+-- 7. The event tells what is made of the new copy: the rows of a page, a list, an index, or how
+--    many changes.
 use Rattle.std.specs.Prelude.{◌≡◌, ◌⊎◌, ◌++◌, ◌≤◌, ◌<◌, ◌+◌, ◌*◌, ℕ, Bool, true, false, List, []}
 use Rattle.std.specs.Prelude.{◌∷◌, Option, Some, None, IfSome, is_some}
 use Rattle.rg_base.specs.declared.control.Answer.{Answer}

@@ -13,8 +13,8 @@
 -- 5. If the volume read tidy when the run began, whatever a crash leaves of it at the end is sound
 --    and tidy, once an opening has succeeded.
 -- 6. The entry of a flush has the page that its last call wrote. Where the entry says that no page
---    was to be written, it made no call. Where an entry says DEVICE, a call has failed that was made
---    since the entry before.
+--    was to be written, it made no call. Where an entry says DEVICE, a call has failed since the
+--    entry before.
 -- 7. In each part a utility is caught up at its switch, and one that nothing hinders ends in time.
 -- 8. All of this is said of a known volume while its calls can be counted.
 use Rattle.std.specs.Prelude.{◌≡◌, ◌⊎◌, ◌*◌, ◌++◌, ℕ, Bool, true, false, List, [], ◌∷◌, length}

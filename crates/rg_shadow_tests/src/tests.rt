@@ -108,8 +108,8 @@ fn builds_each_index(rt: HostRuntime) -> Result<(), Fail> {
     Ok(())
 }
 
-// So many rows in the slots of page 1, each with a `clus` above that of the one before it, and a key
-// below.
+// So many rows in the slots of page 1. Each has a greater `clus` than the one before it, and a
+// smaller key.
 fn falling_rows(alloc: Global, count: u16) -> Result<Homes, NoMemory>
     requires { count ≤ 225 }
     ensures { IfOk result AreApart }
