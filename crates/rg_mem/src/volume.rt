@@ -1,7 +1,7 @@
 // A volume in memory.
 //
-// 1. It keeps each call in the order of the calls, with the bytes of each write, in room that it takes
-//    when it is made. A call past that room is refused whole, and so is each later one.
+// 1. It keeps each call in the order of the calls, with the bytes of each write, in room that it
+//    takes when it is made. A call past that room is refused whole, and so is each later one.
 // 2. Its faults are the calls that failed, those past its room included.
 // 3. A failed write leaves the old content or the new one, as it was told. A failed sync makes
 //    nothing durable.
