@@ -122,7 +122,7 @@ impl Tree {
     pub fn listing(&self) -> Result<Listing, NoMemory>
         ensures { IfOk result (λ listing. listing ≡ ⟦<Tree as Index>⟧.entries self.now) }
     {
-        let mut found = Vec::new(self.alloc);
+        let mut found = Vec::with_capacity(self.alloc, self.len)?;
         collect_all(&self.root, &mut found)?;
         Ok(Listing::new(found))
     }

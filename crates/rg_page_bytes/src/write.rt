@@ -17,12 +17,15 @@ pub struct Fields<'a> {
     pub row: &'a [u8],
 }
 
-/// Adds so many zeros.
+/// Adds so many zeros. Most areas are as long as their rows, and take none.
 pub fn add_zeros(page: &mut Buffer, count: usize)
     requires { length page.old + count ≤ 4096 }
     ensures bytes { page.new ≡ page.old ++ replicate count 0 }
     ensures len { length page.new ≡ length page.old + count }
 {
+    if count == 0 {
+        return;
+    }
     let zeros = [0; PAGE_SIZE];
     page.add(&zeros[..count]);
 }

@@ -84,7 +84,10 @@ pub fn homes_of<F: Frames>(frames: &mut F, alloc: Global, page: u32) -> Result<H
         (F.seen frames.old).forced frames.old frames.new }
 {
     let count = slot_count_of(frames, page)?;
-    let mut rows = Vec::new(alloc);
+    let mut rows = match Vec::with_capacity(alloc, count as usize) {
+        Ok(rows) => rows,
+        Err(_) => return Err(SpaceFault::NoMemory),
+    };
     let mut slot = 0;
     while slot < count {
         add_home(frames, alloc, Place { page, slot }, &mut rows)?;
@@ -139,7 +142,10 @@ pub fn values_of<F: Frames>(
         (F.seen frames.old).forced frames.old frames.new }
 {
     let count = slot_count_of(frames, page)?;
-    let mut values = Vec::new(alloc);
+    let mut values = match Vec::with_capacity(alloc, count as usize) {
+        Ok(values) => values,
+        Err(_) => return Err(SpaceFault::NoMemory),
+    };
     let mut slot = 0;
     while slot < count {
         add_values(frames, Place { page, slot }, &mut values)?;
