@@ -10,3 +10,4 @@ pub mod Making
 pub mod Contents
 pub mod Filling
 pub mod Refusing
+pub mod Packing

@@ -27,7 +27,7 @@ whole_made (Op.DeadRow c) owner after takes shown = refl
 whole_made (Op.DeadPointer c o) owner after takes shown = refl
 whole_made (Op.DeadOver c h) owner after takes shown = refl
 
-spelled : (c : ℕ) (row : TableRow) → row_size row ≤ c → IsShown (Some row) → Spells c (row_bytes row)
+pub spelled : (c : ℕ) (row : TableRow) → row_size row ≤ c → IsShown (Some row) → Spells c (row_bytes row)
 spelled c row within shown = record {
   spelled = ap row_bytes shown.0;
   text = subst (λ (r : TableRow). IsText r.text) (sym shown.0) shown.1;

@@ -9,3 +9,4 @@ pub mod Changed
 pub mod Seen
 pub mod Listed
 pub mod Reading
+pub mod Packed

@@ -3,8 +3,10 @@
 // 1. The buffer has the 4,064 bytes that a page's slots may take, from the start on, so nothing
 //    here takes memory later.
 // 2. A row's bytes are replaced in place: only the bytes behind them move.
-ghost use Rattle.std.specs.Prelude.{◌≡◌, ◌≤◌, ◌<◌, ◌+◌, ◌-◌, ◌∷◌, ◌++◌, [], IfOk, length, take, slice_index_or, set, vec_len, vec_capacity};
+ghost use Rattle.std.specs.Prelude.{◌≡◌, ◌≤◌, ◌<◌, ◌+◌, ◌-◌, ◌∷◌, ◌++◌, [], IfOk, Some, length, take, slice_index_or, set, vec_len, vec_capacity};
 ghost use Rattle.std.specs.Option.{option_copied};
+ghost use Rattle.rg_base.specs.RowBytes.{row_bytes, row_size};
+ghost use Rattle.rg_page.specs.Changed.{IsShown};
 ghost use Rattle.rg_page.specs.Stretches.{filled_by, total, bytes_of, size_of, IsPut};
 
 use rg_base::no_memory::NoMemory;
@@ -85,6 +87,19 @@ impl Areas {
         ensures { self.new ≡ self.old ++ [] ∷ [] }
     {
         push_within(&mut self.lengths, 0);
+    }
+
+    /// Adds the bytes of a row at the end.
+    pub fn push_row(&mut self, row: &Row)
+        requires few { length self.old < 225 }
+        requires fits { filled_by self.old + row_size row.now ≤ 4064 }
+        ensures areas { self.new ≡ self.old ++ row_bytes row.now ∷ [] }
+        ensures shown { IsShown (Some row.now) }
+    {
+        let size = row.size();
+        row.write_into(&mut self.bytes[self.filled..]);
+        self.filled += size as usize;
+        push_within(&mut self.lengths, size);
     }
 
     /// Leaves the first n stretches alone.

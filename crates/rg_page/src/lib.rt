@@ -13,6 +13,8 @@ pub mod list;
 pub mod offers;
 /// A page.
 pub mod page;
+/// A page of given rows.
+pub mod packed;
 /// Reading a page.
 pub mod read;
 /// What lies in a slot.

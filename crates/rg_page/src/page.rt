@@ -14,7 +14,7 @@ ghost use Rattle.rg_home.specs.Plan.{room};
 ghost use Rattle.rg_home.specs.Slots.{slot_at, placed, used, Fits, IsTrimmed};
 ghost use Rattle.rg_page.specs.Bare.{bare, nowhere, numbers_of};
 ghost use Rattle.rg_page.specs.Changed.{changed, other_of, brought, IsLeft, IsShown};
-ghost use Rattle.rg_page.specs.Laid.{whole_slot, IsArea};
+ghost use Rattle.rg_page.specs.Laid.{laid, whole_slot, IsArea, IsLaid};
 ghost use Rattle.rg_page.specs.Stretches.{filled_by, bytes_of, size_of};
 ghost use Rattle.rg_page.specs.Content.{empty};
 ghost use Rattle.rg_page.specs.Shown.{shown, IsHeld, IsSpelled};
@@ -82,6 +82,32 @@ impl Page {
             others: Vec::with_capacity(alloc, 226)?,
             areas: Areas::new(alloc)?,
         })
+    }
+
+    /// The page with position 0 whose slots have these headers, places and bytes.
+    pub(crate) fn of(
+        copy: u8,
+        number: u32,
+        summary: Summary,
+        others: Vec<Place>,
+        areas: Areas,
+    ) -> Page
+        requires { IsLaid summary others areas }
+        ensures { result ≡ record {
+          copy = copy;
+          number = number;
+          position = 0;
+          slots = laid summary others.items areas;
+        } }
+    {
+        Page {
+            copy,
+            number,
+            position: 0,
+            summary,
+            others,
+            areas,
+        }
     }
 
     /// The copy that it is of, 1 or 2.
@@ -230,8 +256,8 @@ fn put_place(others: &mut Vec<Place>, at: usize, left: usize, other: Place)
     push_within(others, other);
 }
 
-// Adds no places until there are this many.
-fn pad_places(others: &mut Vec<Place>, count: usize)
+/// Adds no places until there are this many.
+pub(crate) fn pad_places(others: &mut Vec<Place>, count: usize)
     requires past { vec_len others.old ≤ count }
     requires room { count ≤ vec_capacity others.old }
     ensures count { vec_len others.new ≡ count }

@@ -107,6 +107,22 @@ impl Summary {
         })
     }
 
+    /// The summary of these headers.
+    pub(crate) fn of(headers: Vec<Header>) -> Summary
+        requires fits { Fits headers.items }
+        requires trimmed { IsTrimmed headers.items }
+        requires room { 226 ≤ vec_capacity headers }
+        ensures { result ≡ headers.items }
+    {
+        let taken = sum(&headers);
+        let most = ceiling_of(&headers);
+        Summary {
+            headers,
+            taken,
+            most,
+        }
+    }
+
     pub fn len(&self) -> u16
         ensures count { result ≡ length self.now }
         ensures fits { Fits self.now }

@@ -1,14 +1,14 @@
 -- Which rows a page takes, and its slots.
 use Rattle.std.proofs.Common.{◌≡◌, ℕ, zero, suc, ◌+◌, ◌-◌, ◌≤◌, ◌<◌, Bool, List, [], ◌∷◌, ◌++◌, if◌then◌else◌, length, take, drop, get_or, refl, ap, ◌∙◌, arith}
 use Rattle.std.proofs.lemmas.Bool.{le-leb}
-use Rattle.rg_base.specs.RowBytes.{row_size}
 use Rattle.rg_base.specs.declared.options.Options.{Options}
 use Rattle.rg_base.specs.declared.place.Place.{Place}
 use Rattle.rg_base.specs.declared.row.Row.{Row as TableRow}
-use Rattle.rg_home.proofs.Slots.{put-end, trim-full, used-append}
+use Rattle.rg_home.proofs.Slots.{used-append}
 use Rattle.rg_home.specs.Slot.{Slot}
-use Rattle.rg_home.specs.Slots.{placed, trim, used}
+use Rattle.rg_home.specs.Slots.{used}
 use Rattle.rg_model.specs.Packed.{area_of, free_part}
+use Rattle.rg_page.specs.Packed.{packed_slots}
 use Rattle.rg_reload.specs.Moved.{more_taken}
 use Rattle.rg_reload.specs.Pages.{row_slot, row_slots}
 
@@ -34,22 +34,11 @@ used-take k rows d h =
     ap used (row_slots-take k rows d h) ∙ used-append (row_slots (take k rows)) (row_slot (get_or rows k d).1 ∷ [])
     ∙ omega arith
 
--- the first slots take no more than all
-pub used-least : (k : ℕ) (rows : List (Place × TableRow)) → used (row_slots (take k rows)) ≤ used (row_slots rows)
-used-least zero [] = omega arith
-used-least (suc k) [] = omega arith
-used-least zero (x ∷ rows) = omega arith
-used-least (suc k) (x ∷ rows) = omega (arith, used-least k rows)
-
 pub length-row_slots : (rows : List (Place × TableRow)) → length (row_slots rows) ≡ length rows
 length-row_slots [] = refl
 length-row_slots (x ∷ rows) = ap suc (length-row_slots rows)
 
--- a Row slot set at the end
-pub placed-end : (slots : List Slot) (row : TableRow) → placed slots (length slots) (row_slot row) ≡ slots ++ row_slot row ∷ []
-placed-end slots row = ap trim (put-end slots (length slots) (row_slot row) refl) ∙ trim-full slots (row_slot row) refl
-
--- the slot that a page's next row takes
-pub used-next : (k : ℕ) (rows : List (Place × TableRow)) (d : Place × TableRow) → k < length rows
-    → used (row_slots (take k rows)) + (18 + row_size (get_or rows k d).1) ≤ used (row_slots rows)
-used-next k rows d h = omega (arith, used-take k rows d h, used-least (suc k) rows)
+-- as a page of given rows has them
+pub row_slots-packed : (rows : List (Place × TableRow)) → packed_slots rows ≡ row_slots rows
+row_slots-packed [] = refl
+row_slots-packed (x ∷ rows) = ap (λ (s : List Slot). row_slot x.1 ∷ s) (row_slots-packed rows)

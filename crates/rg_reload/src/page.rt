@@ -4,19 +4,15 @@
 //    after the row's header and bytes.
 // 2. Slots are numbered in order. Each area is as long as its row.
 ghost use Rattle.std.specs.Prelude.{◌≡◌, ◌≤◌, ◌<◌, ◌++◌, IfOk, length, take, vec_len, vec_capacity, ◌+◌};
-ghost use Rattle.rg_base.specs.RowBytes.{row_size};
-ghost use Rattle.rg_home.specs.Slots.{Fits, placed, used};
+ghost use Rattle.rg_home.specs.Slots.{Fits};
 ghost use Rattle.rg_model.specs.Packed.{area_of, free_part};
 ghost use Rattle.rg_reload.specs.Moved.{moved_on, page_taken, pairs_of};
-ghost use Rattle.rg_reload.specs.Pages.{page_of, row_slot, row_slots};
+ghost use Rattle.rg_reload.specs.Pages.{page_of, row_slots};
 
 use rg_base::no_memory::NoMemory;
 use rg_base::options::Options;
-use rg_base::part::{Part, SlotOp};
 use rg_base::place::Place;
-use rg_base::position::Position;
 use rg_base::row::Row;
-use rg_base::tran::Tran;
 use rg_page::areas::push_within;
 use rg_page::page::Page;
 use std::alloc::Global;
@@ -61,28 +57,6 @@ pub fn count_taken(options: &Options, rows: &[(Place, Row)]) -> usize
     count
 }
 
-// Adds a row to a page.
-fn add_row(page: &mut Page, number: u32, row: &Row)
-    requires number { page.old.number ≡ number }
-    requires fits { used page.old.slots + (18 + row_size row.now) ≤ 4064 }
-    ensures { page.new ≡ record page.old {
-      position = 0;
-      slots = placed page.old.slots (length page.old.slots) (row_slot row.now);
-    } }
-{
-    let part = Part {
-        page: number,
-        slot: page.slot_count(),
-        op: SlotOp::Row {
-            capacity: row.size(),
-        },
-    };
-    match page.apply(&part, Tran(0), Some(row), Position(0)) {
-        Ok(()) => {}
-        Err(_) => unreachable!(),
-    }
-}
-
 /// The page with these rows, in slots from 0 on.
 pub fn page_with(
     alloc: Global,
@@ -93,11 +67,7 @@ pub fn page_with(
     requires { Fits (row_slots rows.now) }
     ensures { IfOk result (λ page. page ≡ page_of copy number (row_slots rows.now)) }
 {
-    let mut page = Page::new(alloc, copy, number)?;
-    for homed in rows {
-        add_row(&mut page, number, &homed.1);
-    }
-    Ok(page)
+    Page::of_rows(alloc, copy, number, rows)
 }
 
 /// Adds the old and new places of rows that are on this page, in slots from 0 on. It takes no
