@@ -21,6 +21,7 @@ use Rattle.rg_space.specs.Carries.{cleared}
 use Rattle.rg_space.specs.Space.{capacity_in}
 use Rattle.rg_shadow.specs.Pieces.{Carried, IsReady, IsWhole, SamePieces, rows_in, shade_of}
 use Rattle.rg_shadow.specs.Planned.{change_plan, drop_plan, put_plan, slots_in}
+use Rattle.rg_shadow.specs.Valued.{AreKeptValues}
 use Rattle.rg_shadow.specs.Shade.{Applies, Shade, plan_at, plan_for}
 use Rattle.rg_shadow.specs.declared.pieces.Pieces.{Pieces}
 use Rattle.rg_shadow.proofs.Claiming.{plan_claims}
@@ -59,6 +60,7 @@ module _ (old mid car : Pieces) (plan : Plan) (source : Place) (same : SamePiece
       below = below after ready carried;
       mapped = mapped mid.map.targets m.targets (rows_in mid) (rows_in car) source plan.home after moves whole.mapped;
       kept = carried.kept;
+      values = subst (AreKeptValues (slots_in car.space)) (sym carried.values) tt;
     };
     applies = subst (λ (s : Shade). Applies s source after (shade_of (record car { map = m }))) (same_shade old mid same)
         (applied (shade_of mid) (shade_of (record car { map = m })) source plan.home after moves (changes after ready carried) (record {

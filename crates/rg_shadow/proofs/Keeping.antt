@@ -26,6 +26,7 @@ use Rattle.rg_shadow.specs.Drafts.{AreKept, AreKeptAt, BuildsOne, HaveSpare, IsK
 use Rattle.rg_shadow.specs.Pieces.{IsMapped, IsReady, IsWhole, SamePieces, rows_in, shade_of}
 use Rattle.rg_shadow.specs.Planned.{HasPages, SameSpace, seen_in, slots_in}
 use Rattle.rg_shadow.specs.Shade.{stage_in}
+use Rattle.rg_shadow.specs.Valued.{AreKeptValues}
 use Rattle.rg_shadow.specs.declared.drafts.Drafts.{Drafts}
 use Rattle.rg_shadow.specs.declared.drafts.IndexDraft.{IndexDraft}
 use Rattle.rg_shadow.specs.declared.drafts.IndexDraft.TheVariants as draft
@@ -90,6 +91,7 @@ pub record SameSlots (old new : Pieces) : Type 0 where
   pub slots : slots_in new.space ≡ slots_in old.space
   pub targets : new.map.targets ≡ old.map.targets
   pub drafts : SameDrafts old.drafts new.drafts
+  pub values : new.values ≡ old.values
 
 pub whole_slots : (old new : Pieces) → SameSlots old new → HasPages new.space → IsWhole old → IsWhole new
 whole_slots old new same has was = record {
@@ -100,11 +102,13 @@ whole_slots old new same has was = record {
       (subst (λ (ps : List (List Slot)). IsMapped old.map.targets (λ place. row_at (slot_of ps) place)) (sym same.slots) was.mapped);
   kept = kept_same (rows_in new) old.drafts new.drafts same.drafts
       (subst (λ (ps : List (List Slot)). AreKept (λ place. row_at (slot_of ps) place) old.drafts) (sym same.slots) was.kept);
+  values = subst (AreKeptValues (slots_in new.space)) (sym same.values)
+      (subst (λ (ps : List (List Slot)). AreKeptValues ps old.values) (sym same.slots) was.values);
 }
 
 pub whole_same : (old new : Pieces) → SamePieces old new → HasPages new.space → IsWhole old → IsWhole new
 whole_same old new same has was =
-    whole_slots old new (record { slots = ap slots_of same.space.pages; targets = same.targets; drafts = same.drafts }) has was
+    whole_slots old new (record { slots = ap slots_of same.space.pages; targets = same.targets; drafts = same.drafts; values = same.values }) has was
 
 pub same_drafts : (x : Drafts) → SameDrafts x x
 same_drafts x = record {
@@ -115,7 +119,7 @@ same_drafts x = record {
 
 -- a plan was made
 pub planned_whole : (p : Pieces) (space : Space ListFrames) → SameSpace p.space space → HasPages space → IsWhole p → IsWhole (record p { space = space })
-planned_whole p space same has was = whole_same p (record p { space = space }) (record { space = same; targets = refl; drafts = same_drafts p.drafts }) has was
+planned_whole p space same has was = whole_same p (record p { space = space }) (record { space = same; targets = refl; drafts = same_drafts p.drafts; values = refl }) has was
 
 pub slots_same : (old new : Space ListFrames) → SameSpace old new → slots_in new ≡ slots_in old
 slots_same old new same = ap slots_of same.pages
@@ -147,5 +151,6 @@ built_whole p which drafts (Ok x) ok err was = record {
   below = was.below;
   mapped = was.mapped;
   kept = subst (AreKept (rows_in p)) (sym ok.is) (one_more which (rows_in p) p.drafts ok.tree was.kept (ok.kept (rows_in p)));
+  values = was.values;
 }
 built_whole p which drafts (Err e) ok err was = subst (λ (x : Drafts). IsWhole (record p { drafts = x })) (sym err) was

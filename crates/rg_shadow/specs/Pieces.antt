@@ -6,7 +6,8 @@
 -- 3. No two sources have one target. Each target is the home of a row, and each home of a row is a
 --    target.
 -- 4. What is made of each index lists the rows at their homes.
-use Rattle.std.specs.Prelude.{◌≡◌, ◌≤◌, true, Option, Some, is_some}
+-- 5. Values that were read are those of the rows as they are: a change forgets them.
+use Rattle.std.specs.Prelude.{◌≡◌, ◌≤◌, true, None, Option, Some, is_some}
 use Rattle.std.specs.FinMap as map
 use Rattle.rg_base.specs.declared.place.Place.{Place}
 use Rattle.rg_base.specs.declared.row.Row.{Row}
@@ -20,6 +21,7 @@ use Rattle.rg_map.specs.Mapping.{IsOneToOne, IsTarget, Targets}
 use Rattle.rg_shadow.specs.Drafts.{AreKept, HaveSpare, KeepBuilt, SameDrafts, stage_of}
 use Rattle.rg_shadow.specs.Planned.{AreUnlogged, HasPages, SameSpace, pages_in, seen_in, slots_in}
 use Rattle.rg_shadow.specs.Shade.{Shade}
+use Rattle.rg_shadow.specs.Valued.{AreKeptValues}
 use Rattle.rg_shadow.specs.declared.pieces.Pieces.{Pieces}
 use Rattle.rg_space.specs.Carries.{Carries}
 use Rattle.rg_space.specs.Ready.{IsAtHand}
@@ -54,12 +56,14 @@ pub record IsWhole (p : Pieces) : Type 0 where
   pub below : AllBelow 0 (slot_of (slots_in p.space))
   pub mapped : IsMapped p.map.targets (rows_in p)
   pub kept : AreKept (rows_in p) p.drafts
+  pub values : AreKeptValues (slots_in p.space) p.values
 
 -- all is the same, but for room
 pub record SamePieces (old new : Pieces) : Type 0 where
   pub space : SameSpace old.space new.space
   pub targets : new.map.targets ≡ old.map.targets
   pub drafts : SameDrafts old.drafts new.drafts
+  pub values : new.values ≡ old.values
 
 -- a plan can be carried out, and all that it needs is there
 pub record IsReady (p : Pieces) (after : Option Row) (plan : Plan) : Type 0 where
@@ -78,3 +82,4 @@ pub record Carried (old : Pieces) (plan : Plan) (after : Option Row) (new : Piec
   pub map_is : new.map ≡ old.map
   pub kept : AreKept (rows_in new) new.drafts
   pub built : KeepBuilt old.drafts new.drafts
+  pub values : new.values ≡ None

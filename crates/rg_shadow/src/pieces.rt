@@ -5,6 +5,8 @@
 // 2. The row of a source is changed at its target. A row that comes gets a target, and one that
 //    goes gives it up. No other source is touched.
 // 3. To spell a page, or to lay all of them out, changes no slot, no target and no index.
+// 4. The values of all rows are read once, for the first list that is sorted. A change forgets
+//    them.
 ghost use Rattle.std.specs.Prelude.{◌≡◌, ◌≤◌, Some, None, IfOk, IfErr, OnOk, OnErr, is_some, length, true};
 ghost use Rattle.std.specs.FinMap as map;
 ghost use Rattle.std.specs.Option.{option_copied};
@@ -23,12 +25,13 @@ ghost use Rattle.rg_shadow.specs.declared.drafts.IndexStage.TheVariants.{Sorted,
 use crate::drafts::Drafts;
 use crate::fault::ShadowFault;
 use crate::plans::{carry_out, plan_change, plan_drop, plan_put};
-use crate::sort::sorted_list;
+use crate::sort::{read_pages, sorted_list};
 use crate::spell::spell;
 use rg_base::no_memory::NoMemory;
 use rg_base::place::Place;
 use rg_base::position::Position;
 use rg_base::row::Row;
+use rg_base::values::Values;
 use rg_base::which::Which;
 use rg_home::plan::Plan;
 use rg_layout::side::side_of;
@@ -47,6 +50,8 @@ pub struct Pieces {
     pub space: Space<ListFrames>,
     pub map: MapTable,
     pub drafts: Drafts,
+    // The values of the rows of each page, once they were read.
+    pub values: Option<Vec<Vec<(Place, Values)>>>,
 }
 
 impl Pieces {
@@ -58,8 +63,26 @@ impl Pieces {
             (shade_of self.new ≡ with_stage which Sorted (shade_of self.old)) }
         ensures err { OnErr result (shade_of self.new ≡ shade_of self.old) }
     {
-        let list = sorted_list(self.alloc, which, &mut self.space)?;
+        self.read_values()?;
+        let list = match &self.values {
+            Some(pages) => sorted_list(self.alloc, which, pages.as_slice())?,
+            None => return Err(NoMemory),
+        };
         self.drafts.put_list(which, list);
+        Ok(())
+    }
+
+    // Reads the values of all rows, unless they were read.
+    fn read_values(&mut self) -> Result<(), NoMemory>
+        requires { IsWhole self.old }
+        ensures whole { IsWhole self.new }
+        ensures same { shade_of self.new ≡ shade_of self.old }
+    {
+        if self.values.is_some() {
+            return Ok(());
+        }
+        let pages = read_pages(self.alloc, &mut self.space)?;
+        self.values = Some(pages);
         Ok(())
     }
 
@@ -186,6 +209,7 @@ impl Pieces {
         requires ready { IsReady self.old (option_copied after) plan.now }
         ensures { Carried self.old plan.now (option_copied after.entry) self.new }
     {
+        self.values = None;
         self.drafts.follow(plan.home, plan.before.as_ref(), after);
         carry_out(&mut self.space, plan, after);
     }

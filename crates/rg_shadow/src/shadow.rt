@@ -98,6 +98,7 @@ impl Shadow {
                 space,
                 map,
                 drafts: Drafts::new(),
+                values: None,
             },
         })
     }

@@ -24,4 +24,5 @@ returns c =
       kept = c.follow.ensures.kept _ _ c.requires.whole.kept (sym c.requires.ready.carries.writes.before ∙ sym c.as_ref.ensures.value)
           (listed_row (slot_of (slots_in old.space)) (slot_of (slots_in sp)) plan.home after changes);
       built = c.follow.ensures.built;
+      values = refl;
     }

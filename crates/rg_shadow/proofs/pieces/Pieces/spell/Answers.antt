@@ -11,5 +11,6 @@ returns-clause-whole c =
       slots = stamped_slots old.space c.spell.new.space c.args.number c.args.at.0 c.requires.low c.spell.ensures.stamps;
       targets = refl;
       drafts = same_drafts old.drafts;
+      values = refl;
     })
     c.spell.ensures.has c.requires.whole
