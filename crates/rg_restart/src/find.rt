@@ -25,15 +25,18 @@ ghost use Rattle.rg_space.specs.Memory.{space_pages};
 ghost use Rattle.rg_restart.specs.Closed.{IsInStep};
 ghost use Rattle.rg_restart.specs.Data.{AreBase};
 ghost use Rattle.rg_restart.specs.Found.{Finds, IsClosed, IsGrown, MayFind, Refuses, SamePages, StoresFew};
+ghost use Rattle.rg_shadow.specs.Valued.{AreReadFrom};
 ghost use Rattle.rg_sound.specs.Pages.{BreaksFit, BreaksRows, BreaksRule, BreaksSlots, IsMatched, copy_of, count_of, page_of, set_of};
 
 use crate::close::close_units;
 use crate::data::ReadPages;
 use crate::stored::stored_rows;
 use rg_base::no_memory::NoMemory;
+use rg_base::place::Place;
 use rg_base::position::Position;
 use rg_base::set::Set;
 use rg_base::tran::Tran;
+use rg_base::values::Values;
 use rg_base::which::Which;
 use rg_btree::tree::{Tree, build};
 use rg_chain::chain::Chain;
@@ -45,7 +48,7 @@ use rg_indexes::indexes::Indexes;
 use rg_log::log::Log;
 use rg_page::list::ListFrames;
 use rg_rebuilt::rebuilt::{Rebuilt, rebuild};
-use rg_shadow::sort::sorted_list;
+use rg_shadow::sort::{read_pages, sorted_list};
 use rg_space::space::Space;
 use rg_tested::stored::{Standing, not_stored};
 use rg_tested::twice::twice;
@@ -163,27 +166,32 @@ fn match_stored(
     }
 }
 
-// The index of the rows by one of their values.
-fn index_of(alloc: Global, which: Which, space: &mut Space<ListFrames>) -> Result<Tree, NoMemory>
-    requires { IsInStep space.old }
-    ensures same { OnOk result (SamePages space.old space.new) }
-    ensures listing { IfOk result (λ index.
-        IsListingOf which (row_at (slot_of (space_pages space.new))) (entries_of index)) }
+// The index of the rows by one of their values, which are these of each page.
+fn index_of(
+    alloc: Global,
+    which: Which,
+    _space: &Space<ListFrames>,
+    pages: &[Vec<(Place, Values)>],
+) -> Result<Tree, NoMemory>
+    requires { AreReadFrom (space_pages _space.now) pages.now }
+    ensures { IfOk result (λ index.
+        IsListingOf which (row_at (slot_of (space_pages _space.now))) (entries_of index)) }
 {
-    let list = sorted_list(alloc, which, space)?;
+    let list = sorted_list(alloc, which, pages)?;
     build(alloc, list.as_slice())
 }
 
-// The indexes of the rows.
+// The indexes of the rows, whose values are read once.
 fn indexes_of(alloc: Global, space: &mut Space<ListFrames>) -> Result<Indexes, NoMemory>
     requires { IsInStep space.old }
     ensures same { OnOk result (SamePages space.old space.new) }
     ensures listings { IfOk result (AreListings (row_at (slot_of (space_pages space.new)))) }
 {
+    let pages = read_pages(alloc, space)?;
     Ok(Indexes {
-        keys: index_of(alloc, Which::Key, space)?,
-        cluses: index_of(alloc, Which::Clus, space)?,
-        cats: index_of(alloc, Which::Cat, space)?,
+        keys: index_of(alloc, Which::Key, space, pages.as_slice())?,
+        cluses: index_of(alloc, Which::Clus, space, pages.as_slice())?,
+        cats: index_of(alloc, Which::Cat, space, pages.as_slice())?,
     })
 }
 
