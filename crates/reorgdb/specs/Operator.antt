@@ -7,8 +7,8 @@ use Rattle.rg_file.specs.declared.reading.FileFault.TheVariants as files
 use Rattle.rg_mem.specs.Script.{Script}
 use Rattle.rg_opts.specs.Operator.{IsOperatorFile, RefusesFile}
 use Rattle.rg_opts.specs.declared.operator.OperatorFault.TheVariants as faults
-use Rattle.reorgdb.specs.declared.edge.OperatorRefusal.{OperatorRefusal}
-use Rattle.reorgdb.specs.declared.edge.OperatorRefusal.TheVariants.{Line, File, NoMemory}
+use Rattle.reorgdb.specs.declared.edge.Refusal.{Refusal}
+use Rattle.reorgdb.specs.declared.edge.Refusal.TheVariants as refusals
 
 -- the operator has the answers of these bytes, and was not asked yet
 abbrev pub IsScriptOf : List ℕ → Script → Type 0
@@ -16,18 +16,20 @@ IsScriptOf bytes operator =
     IsOperatorFile bytes operator.lines × (operator.asks ≡ 0) × (operator.left ≡ 0)
 
 -- why there is no operator of these bytes; that memory ran out says nothing of them
-abbrev pub RefusesScript : List ℕ → OperatorRefusal → Type 0
-RefusesScript bytes (Line line) = RefusesFile bytes (faults.Line line)
-RefusesScript bytes File = ⊥
-RefusesScript bytes NoMemory = Unit {0}
+abbrev pub RefusesScript : List ℕ → Refusal → Type 0
+RefusesScript bytes (refusals.OperatorLine line) = RefusesFile bytes (faults.Line line)
+RefusesScript bytes refusals.OperatorFile = ⊥
+RefusesScript bytes refusals.VolumeBusy = ⊥
+RefusesScript bytes (refusals.VolumeShort length) = ⊥
+RefusesScript bytes refusals.NoMemory = Unit {0}
 
 -- What is chosen by what was found. Where there is no file no operator of one is, and `main` takes
 -- that of the clock.
 abbrev pub Chooses :
-    Result (Option (Vec ℕ Global)) FileFault → Result (Option Script) OperatorRefusal → Type 0
+    Result (Option (Vec ℕ Global)) FileFault → Result (Option Script) Refusal → Type 0
 Chooses (Ok None) chosen = chosen ≡ Ok None
 Chooses (Ok (Some bytes)) (Ok None) = ⊥
 Chooses (Ok (Some bytes)) (Ok (Some operator)) = IsScriptOf bytes.items operator
 Chooses (Ok (Some bytes)) (Err refusal) = RefusesScript bytes.items refusal
-Chooses (Err files.Failed) chosen = chosen ≡ Err File
-Chooses (Err files.NoMemory) chosen = chosen ≡ Err NoMemory
+Chooses (Err files.Failed) chosen = chosen ≡ Err refusals.OperatorFile
+Chooses (Err files.NoMemory) chosen = chosen ≡ Err refusals.NoMemory

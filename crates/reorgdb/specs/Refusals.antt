@@ -1,8 +1,10 @@
 -- The statuses and the texts of refusals.
-use Rattle.std.specs.Prelude.{ℕ, List, ◌++◌, codes}
+use Rattle.std.specs.Prelude.{ℕ, ◌≤◌, ◌⊎◌, List, ◌++◌, codes}
 use Rattle.std.specs.Fmt.{decimal}
-use Rattle.reorgdb.specs.declared.edge.OperatorRefusal.{OperatorRefusal}
-use Rattle.reorgdb.specs.declared.edge.OperatorRefusal.TheVariants as operators
+use Rattle.rg_file.specs.declared.folder.VolumeRefusal.{VolumeRefusal}
+use Rattle.rg_file.specs.declared.folder.VolumeRefusal.TheVariants as volumes
+use Rattle.reorgdb.specs.declared.edge.Refusal.{Refusal}
+use Rattle.reorgdb.specs.declared.edge.Refusal.TheVariants as refusals
 use Rattle.reorgdb.specs.declared.outcome.Outcome.{Outcome}
 use Rattle.reorgdb.specs.declared.outcome.Outcome.TheVariants as outcomes
 
@@ -35,15 +37,29 @@ fixed_text outcomes.NoMemory = codes ""
 abbrev pub deck_refusal : ℕ → List ℕ
 deck_refusal line = codes "REFUSED deck line " ++ decimal line ++ codes "\n"
 
--- the status where there is no operator
-abbrev pub operator_status : OperatorRefusal → ℕ
-operator_status (operators.Line line) = 11
-operator_status operators.File = 12
-operator_status operators.NoMemory = 8
+-- the status where the call is not made
+abbrev pub refusal_status : Refusal → ℕ
+refusal_status (refusals.OperatorLine line) = 11
+refusal_status refusals.OperatorFile = 12
+refusal_status refusals.VolumeBusy = 15
+refusal_status (refusals.VolumeShort length) = 16
+refusal_status refusals.NoMemory = 8
 
 -- and the whole output
-abbrev pub operator_refusal : OperatorRefusal → List ℕ
-operator_refusal (operators.Line line) =
+abbrev pub refusal_text : Refusal → List ℕ
+refusal_text (refusals.OperatorLine line) =
     codes "REFUSED operator line " ++ decimal line ++ codes "\n"
-operator_refusal operators.File = codes "REFUSED operator\n"
-operator_refusal operators.NoMemory = codes ""
+refusal_text refusals.OperatorFile = codes "REFUSED operator\n"
+refusal_text refusals.VolumeBusy = codes "REFUSED volume busy\n"
+refusal_text (refusals.VolumeShort length) = codes "REFUSED volume short\n"
+refusal_text refusals.NoMemory = codes ""
+
+-- a volume that is not opened is refused for the same reason
+abbrev pub volume_refusal : VolumeRefusal → Refusal
+volume_refusal volumes.Busy = refusals.VolumeBusy
+volume_refusal (volumes.Short length) = refusals.VolumeShort length
+
+-- a status of which a line on standard error says why
+abbrev pub HasLine : ℕ → Type 0
+HasLine status =
+    ((3 ≤ status) × (status ≤ 6)) ⊎ (((11 ≤ status) × (status ≤ 12)) ⊎ ((15 ≤ status) × (status ≤ 16)))

@@ -1,74 +1,113 @@
-// What `main` settles before the call: the operator.
-// (1) The operator is the one of the file `operator.txt`, and where there is no such file that of
+// What `main` settles before the call, in this order.
+// (1) The standard descriptors that are closed are taken, before any other file is opened.
+// (2) The operator is the one of the file `operator.txt`, and where there is no such file that of
 //     the clock.
-// (2) Where the file is refused, or there is no memory for it, the call is not made.
-// (3) A refusal is given to the sink as the output of a call is. The texts and the statuses are in
+// (3) The volume is opened, where no other program works on it and it was not cut short. Nothing is
+//     made: that is for the first write of the call.
+// (4) Where one of these is refused, or there is no memory for it, the call is not made, and the
+//     volume is as it was.
+// (5) A refusal is given to the sink as the output of a call is. The texts and the statuses are in
 //     specs/Refusals.antt.
 ghost use Rattle.std.specs.Prelude.{◌≡◌, IfOk, IfErr};
 ghost use Rattle.reorgdb.specs.Giving.{GivesOutput};
 ghost use Rattle.reorgdb.specs.Operator.{Chooses, IsScriptOf, RefusesScript};
-ghost use Rattle.reorgdb.specs.Refusals.{operator_refusal, operator_status};
+ghost use Rattle.reorgdb.specs.Refusals.{volume_refusal, refusal_status, refusal_text};
 
 use crate::giving::give_output;
 use rg_base::bytes::Bytes;
 use rg_base::no_memory::NoMemory;
-use rg_file::reading::FileFault;
+use rg_file::descriptors::HeldDescriptors;
+use rg_file::faults::Faults;
+use rg_file::folder::{Folder, VolumeRefusal, lost_volume, open_volume};
+use rg_file::reading::{FileFault, read_file};
+use rg_file::volume::FileVolume;
 use rg_mem::script::ScriptOperator;
-use rg_opts::operator::{OperatorFault, read_operator};
+use rg_opts::operator::{OPERATOR_LIMIT, OperatorFault, read_operator};
 use rg_outside::sink::Sink;
 use std::alloc::Global;
-use std::io::Write;
+use std::fs::{File, Files};
+use std::io::{self, Write};
 
-/// Why there is no operator.
+/// The operator's file.
+pub const OPERATOR: &str = "operator.txt";
+
+/// The volume's file.
+pub const VOLUME: &str = "reorgdb.vol";
+
+/// Why the call is not made.
 #[derive(Clone, Copy, Debug, PartialEq, Eq)]
-pub enum OperatorRefusal {
+pub enum Refusal {
     /// Line `line` of the operator's file, counted from 1, is the first that is no answer. It is 0
     /// where the file is too long. Status 11.
-    Line { line: u32 },
+    OperatorLine { line: u32 },
     /// The operator's file is there, but it could not be opened or read. Status 12.
-    File,
+    OperatorFile,
+    /// Another program works on the volume. Status 15.
+    VolumeBusy,
+    /// The volume's file has `length` bytes, but fewer than a volume has. Status 16.
+    VolumeShort { length: u64 },
     /// Out of memory. Status 8.
     NoMemory,
 }
 
-impl OperatorRefusal {
+impl Refusal {
     pub fn status(self) -> u8
-        ensures { result ≡ operator_status self }
+        ensures { result ≡ refusal_status self }
     {
         match self {
-            OperatorRefusal::Line { .. } => 11,
-            OperatorRefusal::File => 12,
-            OperatorRefusal::NoMemory => 8,
+            Refusal::OperatorLine { .. } => 11,
+            Refusal::OperatorFile => 12,
+            Refusal::VolumeBusy => 15,
+            Refusal::VolumeShort { .. } => 16,
+            Refusal::NoMemory => 8,
         }
     }
 
     /// The whole output.
     pub fn text(self, alloc: Global) -> Result<Bytes, NoMemory>
-        ensures { IfOk result (λ text. text ≡ operator_refusal self) }
+        ensures { IfOk result (λ text. text ≡ refusal_text self) }
     {
-        match self {
-            OperatorRefusal::Line { line } => line_refusal(alloc, line),
-            OperatorRefusal::File => Ok(Bytes::new(b"REFUSED operator\n".to_vec(alloc)?)),
-            OperatorRefusal::NoMemory => Ok(Bytes::new(Vec::new(alloc))),
+        let mut out = Vec::new(alloc);
+        let written = match self {
+            Refusal::OperatorLine { line } => writeln!(out, "REFUSED operator line {line}"),
+            Refusal::OperatorFile => writeln!(out, "REFUSED operator"),
+            Refusal::VolumeBusy => writeln!(out, "REFUSED volume busy"),
+            Refusal::VolumeShort { .. } => writeln!(out, "REFUSED volume short"),
+            Refusal::NoMemory => Ok(()),
+        };
+        match written {
+            Ok(()) => Ok(Bytes::new(out)),
+            Err(_) => Err(NoMemory),
         }
     }
 }
 
-fn line_refusal(alloc: Global, line: u32) -> Result<Bytes, NoMemory>
-    ensures { IfOk result (λ text. text ≡ operator_refusal (OperatorRefusal.Line line)) }
-{
-    let mut out = Vec::new(alloc);
-    match writeln!(out, "REFUSED operator line {line}") {
-        Ok(()) => Ok(Bytes::new(out)),
-        Err(_) => Err(NoMemory),
-    }
+/// What the call is made with. There is no operator where that of the clock is to be taken.
+#[derive(Drop)]
+pub struct Start<R> {
+    pub operator: Option<ScriptOperator>,
+    pub volume: FileVolume<Folder<'static, R>, File>,
+}
+
+/// Settles what comes before the call. What fails in reading the operator's file is counted in
+/// `faults`.
+pub fn settle<R: Files<File = File> + Drop>(
+    rt: R,
+    alloc: Global,
+    held: &io::Result<HeldDescriptors>,
+    faults: &mut Faults,
+) -> Result<Start<R>, Refusal> {
+    let found = read_file(&rt, alloc, OPERATOR, OPERATOR_LIMIT + 1, faults);
+    let operator = script(alloc, found)?;
+    let volume = volume(rt, held)?;
+    Ok(Start { operator, volume })
 }
 
 /// The operator of what was found of the operator's file, and none where the file is missing.
 pub fn script(
     alloc: Global,
     found: Result<Option<Vec<u8>>, FileFault>,
-) -> Result<Option<ScriptOperator>, OperatorRefusal>
+) -> Result<Option<ScriptOperator>, Refusal>
     ensures { Chooses found result }
 {
     match found {
@@ -77,30 +116,54 @@ pub fn script(
             Ok(operator) => Ok(Some(operator)),
             Err(refusal) => Err(refusal),
         },
-        Err(FileFault::Failed) => Err(OperatorRefusal::File),
-        Err(FileFault::NoMemory) => Err(OperatorRefusal::NoMemory),
+        Err(FileFault::Failed) => Err(Refusal::OperatorFile),
+        Err(FileFault::NoMemory) => Err(Refusal::NoMemory),
     }
 }
 
 // The operator over the answers of these bytes.
-fn read_script(alloc: Global, bytes: &[u8]) -> Result<ScriptOperator, OperatorRefusal>
+fn read_script(alloc: Global, bytes: &[u8]) -> Result<ScriptOperator, Refusal>
     ensures script { IfOk result (IsScriptOf bytes.now) }
     ensures refusal { IfErr result (RefusesScript bytes.now) }
 {
     let answers = match read_operator(alloc, bytes) {
         Ok(answers) => answers,
-        Err(OperatorFault::Line { number }) => return Err(OperatorRefusal::Line { line: number }),
-        Err(OperatorFault::NoMemory) => return Err(OperatorRefusal::NoMemory),
+        Err(OperatorFault::Line { number }) => return Err(Refusal::OperatorLine { line: number }),
+        Err(OperatorFault::NoMemory) => return Err(Refusal::NoMemory),
     };
     match ScriptOperator::new(alloc, &answers) {
         Ok(operator) => Ok(operator),
-        Err(_) => Err(OperatorRefusal::NoMemory),
+        Err(_) => Err(Refusal::NoMemory),
+    }
+}
+
+// The volume in the folder that the program runs in. Where the standard descriptors could not be
+// taken nothing of it is opened, since printing might write into it: each call of it fails.
+fn volume<R: Files<File = File> + Drop>(
+    rt: R,
+    held: &io::Result<HeldDescriptors>,
+) -> Result<FileVolume<Folder<'static, R>, File>, Refusal> {
+    match held {
+        Ok(_) => match open_volume(rt, ".", VOLUME) {
+            Ok(volume) => Ok(volume),
+            Err(refusal) => Err(refuse_volume(refusal)),
+        },
+        Err(error) => Ok(lost_volume(rt, VOLUME, *error)),
+    }
+}
+
+fn refuse_volume(refusal: VolumeRefusal) -> Refusal
+    ensures { result ≡ volume_refusal refusal }
+{
+    match refusal {
+        VolumeRefusal::Busy => Refusal::VolumeBusy,
+        VolumeRefusal::Short { length } => Refusal::VolumeShort { length },
     }
 }
 
 /// Gives a refusal to the sink, and returns the status.
-pub fn refuse<K: Sink>(alloc: Global, sink: &mut K, refusal: OperatorRefusal) -> u8
-    ensures { GivesOutput (operator_status refusal) (operator_refusal refusal)
+pub fn refuse<K: Sink>(alloc: Global, sink: &mut K, refusal: Refusal) -> u8
+    ensures { GivesOutput (refusal_status refusal) (refusal_text refusal)
         (K.contents sink.old) (K.contents sink.new) (K.faults sink.old) (K.faults sink.new)
         result }
 {

@@ -2,20 +2,22 @@
 //! `reorgdb.vol`, and prints every reply, or sums them up; or prints the layout of that volume.
 #![tactic(auto)]
 
-use edge::{refuse, script};
+use cause::{Cause, Errors};
+use edge::{Start, refuse, settle};
+use rg_file::descriptors::HeldDescriptors;
+use rg_file::faults::Faults;
 use rg_file::operator::ClockOperator;
-use rg_file::reading::read_file;
 use rg_file::sink::OutputSink;
 use rg_file::source::InputSource;
-use rg_file::volume::FileVolume;
-use rg_opts::operator::OPERATOR_LIMIT;
 use rg_outside::operator::Operator;
 use std::process::ExitCode;
 use std::rt::Env;
 use std::{env, io};
 use top::reorg_main;
 
-/// The operator, and the refusals where there is none.
+/// Why the program ended.
+mod cause;
+/// What is settled before the call.
 mod edge;
 /// Giving the output to the sink.
 mod giving;
@@ -42,34 +44,46 @@ fn words<R: Env + AllocGlobal>(rt: &R) -> io::Result<Vec<String>> {
     }
 }
 
-// The operator comes first, and then the words. Out of memory before the call ends with status 8,
-// as it does within.
+// What comes before the call is in `edge.rt`, and what is said of its end in `cause.rt`. Out of
+// memory before the call ends with status 8, as it does within.
 fn main(rt: HostRuntime) -> ExitCode {
     let alloc = rt.alloc();
+    // Before any other file is opened, and to the end.
+    let held = HeldDescriptors::take(&rt);
+    let mut source = InputSource::new(rt.stdin());
     let mut sink = OutputSink::new(rt.stdout());
-    let found = read_file(&rt, alloc, "operator.txt", OPERATOR_LIMIT + 1);
-    let operator: Box<dyn Operator + Send> = match script(alloc, found) {
-        Ok(Some(operator)) => match Box::new(alloc, operator) {
-            Ok(operator) => operator,
-            Err(_) => return ExitCode::from(8),
-        },
-        Ok(None) => match Box::new(alloc, ClockOperator::new(rt)) {
-            Ok(operator) => operator,
-            Err(_) => return ExitCode::from(8),
-        },
-        Err(refusal) => return ExitCode::from(refuse(alloc, &mut sink, refusal)),
+    let mut faults = Faults::none();
+    let (status, refusal, volume) = match settle(rt, alloc, &held, &mut faults) {
+        Ok(Start { operator, volume }) => {
+            let operator: Box<dyn Operator + Send> = match operator {
+                Some(operator) => match Box::new(alloc, operator) {
+                    Ok(operator) => operator,
+                    Err(_) => return ExitCode::from(8),
+                },
+                None => match Box::new(alloc, ClockOperator::new(rt)) {
+                    Ok(operator) => operator,
+                    Err(_) => return ExitCode::from(8),
+                },
+            };
+            let Ok(words) = words(&rt) else {
+                return ExitCode::from(8);
+            };
+            let finished = reorg_main(&rt, alloc, &words, &mut source, &mut sink, volume, operator);
+            (finished.status, None, finished.volume.last_error())
+        }
+        Err(refusal) => (refuse(alloc, &mut sink, refusal), Some(refusal), None),
     };
-    let Ok(words) = words(&rt) else {
-        return ExitCode::from(8);
+    let errors = Errors {
+        operator: faults.last(),
+        source: source.last_error(),
+        sink: sink.last_error(),
+        volume,
     };
-    let finished = reorg_main(
-        &rt,
-        alloc,
-        &words,
-        &mut InputSource::new(rt.stdin()),
-        &mut sink,
-        FileVolume::new(&rt, "reorgdb.vol"),
-        operator,
-    );
-    ExitCode::from(finished.status)
+    if let Some(cause) = Cause::find(status, refusal, errors) {
+        if let Ok(line) = cause.line(alloc) {
+            // Where it fails there is nobody left to say it to.
+            let _ = eprintln!(rt; "{line}");
+        }
+    }
+    ExitCode::from(status)
 }

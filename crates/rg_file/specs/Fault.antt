@@ -10,3 +10,8 @@ abbrev pub Explains : Option (List ℕ) → Option (List ℕ) → ℕ → ℕ �
 Explains before after faults_before faults_after Failed = Rose faults_before faults_after
 Explains before after faults_before faults_after NoMemory =
     Keeps before after × (faults_after ≡ faults_before)
+
+-- the same of a file that is not given, so that nothing is said of its bytes
+abbrev pub IsCounted : ℕ → ℕ → FileFault → Type 0
+IsCounted faults_before faults_after Failed = Rose faults_before faults_after
+IsCounted faults_before faults_after NoMemory = faults_after ≡ faults_before

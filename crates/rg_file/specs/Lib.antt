@@ -2,3 +2,4 @@ pub mod Calls
 pub mod Clock
 pub mod Fault
 pub mod Pages
+pub mod State

@@ -1,5 +1,5 @@
 -- Where the pages of the sets stand in the file.
-use Rattle.std.specs.Prelude.{ℕ, ◌≡◌, ◌+◌, ◌-◌, ◌*◌, List, ◌++◌, take, replicate}
+use Rattle.std.specs.Prelude.{ℕ, ◌≡◌, ◌<◌, ◌+◌, ◌-◌, ◌*◌, List, ◌++◌, take, replicate}
 use Rattle.std.specs.Prelude.{Option, IfSome, Result, Ok}
 use Rattle.std.specs.Io.KnownBytes.{Appends, Keeps}
 use Rattle.std.specs.Io.Seek.{MovesTo}
@@ -16,6 +16,12 @@ abbrev pub pages_before : Set → ℕ
 pages_before Log = 0
 pages_before First = file_capacities.log
 pages_before Second = file_capacities.log + file_capacities.first
+
+-- a file that was cut: it has bytes, and fewer than all pages
+abbrev pub IsShort : ℕ → Type 0
+IsShort len =
+    (0 < len)
+    × (len < (file_capacities.log + file_capacities.first + file_capacities.second) * 4096)
 
 -- a seek that succeeded
 abbrev pub went : Result (Unit {0}) (Unit {0})

@@ -10,6 +10,7 @@ ghost use Rattle.std.specs.Io.Seek.{MovesTo};
 ghost use Rattle.rg_outside.specs.Faults.{HasCause, Rose};
 ghost use Rattle.rg_file.specs.Calls.{raised, TakesNothing};
 
+use crate::faults::Faults;
 use rg_outside::source::Failed;
 use std::fs::OpenFile;
 use std::io::{Error, ErrorKind, Read, Seek, SeekFrom, Write};
@@ -24,23 +25,14 @@ enum Fault {
     Other,
 }
 
-/// Counts one fault more.
-pub fn raise(faults: &mut u64)
-    ensures raised { faults.new ≡ raised faults.old }
-    ensures later { faults.old ≤ faults.new }
-    ensures rose { Rose faults.old faults.new }
-{
-    *faults = faults.saturating_add(1);
-}
-
 // Counts an error as a fault.
-fn count_error(error: Error, faults: &mut u64) -> Fault
+fn count_error(error: Error, faults: &mut Faults) -> Fault
     ensures kind { (result ≡ Fault.Interrupted) ↔ (error_kind error ≡ ErrorKind.Interrupted) }
     ensures raised { faults.new ≡ raised faults.old }
     ensures later { faults.old ≤ faults.new }
     ensures rose { Rose faults.old faults.new }
 {
-    raise(faults);
+    faults.raise(error);
     if error.kind() == ErrorKind::Interrupted {
         Fault::Interrupted
     } else {
@@ -48,7 +40,7 @@ fn count_error(error: Error, faults: &mut u64) -> Fault
     }
 }
 
-fn read_once<R: Read>(reader: &mut R, into: &mut [u8], faults: &mut u64) -> Result<usize, Fault>
+fn read_once<R: Read>(reader: &mut R, into: &mut [u8], faults: &mut Faults) -> Result<usize, Fault>
     ensures count { IfOk result (λ n. n ≤ length into.old) }
     ensures taken { IfOk result
         (λ n. Consumes (R.remaining reader.old) (R.remaining reader.new) (take n into.new)) }
@@ -69,7 +61,7 @@ fn read_once<R: Read>(reader: &mut R, into: &mut [u8], faults: &mut u64) -> Resu
 pub fn read_through<R: Read>(
     reader: &mut R,
     into: &mut [u8],
-    faults: &mut u64,
+    faults: &mut Faults,
 ) -> Result<usize, Failed>
     ensures count { IfOk result (λ n. n ≤ length into.old) }
     ensures taken { IfOk result
@@ -94,7 +86,7 @@ pub fn read_through<R: Read>(
 }
 
 /// Reads until `into` is full or the reader at its end, and returns how many bytes that were.
-pub fn fill<R: Read>(reader: &mut R, into: &mut [u8], faults: &mut u64) -> Result<usize, Failed>
+pub fn fill<R: Read>(reader: &mut R, into: &mut [u8], faults: &mut Faults) -> Result<usize, Failed>
     ensures count { IfOk result (λ n. n ≤ length into.old) }
     ensures taken { IfOk result
         (λ n. Consumes (R.remaining reader.old) (R.remaining reader.new) (take n into.new)) }
@@ -111,7 +103,7 @@ pub fn fill<R: Read>(reader: &mut R, into: &mut [u8], faults: &mut u64) -> Resul
     Ok(at)
 }
 
-fn write_once<W: Write>(writer: &mut W, from: &[u8], faults: &mut u64) -> Result<usize, Fault>
+fn write_once<W: Write>(writer: &mut W, from: &[u8], faults: &mut Faults) -> Result<usize, Fault>
     ensures count { IfOk result (λ n. n ≤ length from.now) }
     ensures kept { IfOk result
         (λ n. Appends (W.contents writer.old) (W.contents writer.new) (take n from.now)) }
@@ -128,7 +120,7 @@ fn write_once<W: Write>(writer: &mut W, from: &[u8], faults: &mut u64) -> Result
     match writer.write(from) {
         Ok(n) => {
             if n == 0 && !from.is_empty() {
-                raise(faults);
+                faults.raise(ErrorKind::WriteZero.into());
             }
             Ok(n)
         }
@@ -140,7 +132,7 @@ fn write_once<W: Write>(writer: &mut W, from: &[u8], faults: &mut u64) -> Result
 pub fn write_through<W: Write>(
     writer: &mut W,
     from: &[u8],
-    faults: &mut u64,
+    faults: &mut Faults,
 ) -> Result<usize, Failed>
     ensures count { IfOk result (λ n. n ≤ length from.now) }
     ensures kept { IfOk result
@@ -164,7 +156,7 @@ pub fn write_through<W: Write>(
     }
 }
 
-fn seek_once<F: Seek>(file: &mut F, to: u64, faults: &mut u64) -> Result<(), Fault>
+fn seek_once<F: Seek>(file: &mut F, to: u64, faults: &mut Faults) -> Result<(), Fault>
     ensures moved { MovesTo (F.stream_position file.old) (F.stream_position file.new) to result }
     ensures bytes { Keeps (F.stream_bytes file.old) (F.stream_bytes file.new) }
     ensures same_count { OnOk result (faults.new ≡ faults.old) }
@@ -178,7 +170,7 @@ fn seek_once<F: Seek>(file: &mut F, to: u64, faults: &mut u64) -> Result<(), Fau
 }
 
 /// Goes to a place of the file, and tries again after an interruption.
-pub fn seek_through<F: Seek>(file: &mut F, to: u64, faults: &mut u64) -> Result<(), Failed>
+pub fn seek_through<F: Seek>(file: &mut F, to: u64, faults: &mut Faults) -> Result<(), Failed>
     ensures moved { MovesTo (F.stream_position file.old) (F.stream_position file.new) to result }
     ensures bytes { Keeps (F.stream_bytes file.old) (F.stream_bytes file.new) }
     ensures cause { HasCause faults.old faults.new result }
@@ -197,7 +189,7 @@ pub fn seek_through<F: Seek>(file: &mut F, to: u64, faults: &mut u64) -> Result<
     }
 }
 
-fn sync_once<F: OpenFile>(file: &F, faults: &mut u64) -> Result<(), Fault>
+fn sync_once<F: OpenFile>(file: &F, faults: &mut Faults) -> Result<(), Fault>
     ensures same_count { OnOk result (faults.new ≡ faults.old) }
     ensures raised { OnErr result (faults.new ≡ raised faults.old) }
     ensures cause { HasCause faults.old faults.new result }
@@ -209,7 +201,7 @@ fn sync_once<F: OpenFile>(file: &F, faults: &mut u64) -> Result<(), Fault>
 }
 
 /// Brings the file to the device, its length too, and tries again after an interruption.
-pub fn sync_through<F: OpenFile>(file: &F, faults: &mut u64) -> Result<(), Failed>
+pub fn sync_through<F: OpenFile>(file: &F, faults: &mut Faults) -> Result<(), Failed>
     ensures cause { HasCause faults.old faults.new result }
     ensures tries { faults.new ≤ faults.old + TRIES }
 {

@@ -6,7 +6,8 @@ use std::io::{self, Cursor, ErrorKind, Read, Seek, SeekFrom, Write};
 use std::test::Fail;
 
 /// A file in memory. A call moves at most `most` bytes. The first calls end with the errors that
-/// are listed. A sync that is not among them succeeds.
+/// are listed. A sync that is not among them succeeds, and so does a change of the length, which
+/// changes nothing.
 #[derive(Drop)]
 pub struct Faulty<'a> {
     errors: &'a [ErrorKind],
@@ -81,11 +82,11 @@ impl OpenFile for Faulty<'_> {
         Err(ErrorKind::Unsupported.into())
     }
 
+    // Neither this nor a sync takes an error off the list.
     fn set_len(&self, _size: u64) -> io::Result<()> {
-        Err(ErrorKind::Unsupported.into())
+        self.sync_all()
     }
 
-    // A sync takes no error off the list.
     fn sync_all(&self) -> io::Result<()> {
         match self.errors.first() {
             Some(kind) => Err((*kind).into()),

@@ -8,9 +8,11 @@
 ghost use Rattle.std.specs.Prelude.{◌≡◌, ◌<◌, ◌≤◌, ◌↔◌, IsNone, IsOk, IfOk, IfErr, IfSome, length};
 ghost use Rattle.std.specs.IoError.{error_kind};
 ghost use Rattle.std.specs.Io.KnownBytes.{Consumes, IsAtEnd};
-ghost use Rattle.rg_file.specs.Fault.{Explains};
+ghost use Rattle.rg_outside.specs.Faults.{HasCause};
+ghost use Rattle.rg_file.specs.Fault.{Explains, IsCounted};
 
 use crate::calls::fill;
+use crate::faults::Faults;
 use std::alloc::{AllocError, Global};
 use std::fs::{File, Files};
 use std::io::{Error, ErrorKind, Read};
@@ -29,33 +31,37 @@ pub enum FileFault {
 
 /// The first bytes of the file of this name, at most `most` of them: fewer where the file has
 /// fewer. None where there is no such file. Memory for `most` bytes is taken at once, whatever the
-/// length of the file.
+/// length of the file. Each call of the system that failed is counted in `faults`.
 pub fn read_file<R: Files>(
     rt: &R,
     alloc: Global,
     name: &str,
     most: usize,
+    faults: &mut Faults,
 ) -> Result<Option<Vec<u8>>, FileFault>
-    ensures { IfOk result (λ found. IfSome found (λ bytes. length bytes.items ≤ most)) }
+    ensures short { IfOk result (λ found. IfSome found (λ bytes. length bytes.items ≤ most)) }
+    ensures fault { IfErr result (IsCounted faults.old faults.new) }
 {
     match File::open(rt, name) {
-        Ok(mut file) => match read_front(alloc, &mut file, most, &mut 0) {
+        Ok(mut file) => match read_front(alloc, &mut file, most, faults) {
             Ok(bytes) => Ok(Some(bytes)),
             Err(fault) => Err(fault),
         },
-        Err(error) => absent_or_failed(error),
+        Err(error) => absent_or_failed(error, faults),
     }
 }
 
 // What an error of opening a file comes to.
-fn absent_or_failed(error: Error) -> Result<Option<Vec<u8>>, FileFault>
+fn absent_or_failed(error: Error, faults: &mut Faults) -> Result<Option<Vec<u8>>, FileFault>
     ensures absent { IsOk result ↔ (error_kind error ≡ ErrorKind.NotFound) }
     ensures none { IfOk result (λ found. IsNone found) }
     ensures failed { IfErr result (λ fault. fault ≡ FileFault.Failed) }
+    ensures cause { HasCause faults.old faults.new result }
 {
     if error.kind() == ErrorKind::NotFound {
         Ok(None)
     } else {
+        faults.raise(error);
         Err(FileFault::Failed)
     }
 }
@@ -65,7 +71,7 @@ fn read_front<R: Read>(
     alloc: Global,
     reader: &mut R,
     most: usize,
-    faults: &mut u64,
+    faults: &mut Faults,
 ) -> Result<Vec<u8>, FileFault>
     ensures short { IfOk result (λ bytes. length bytes.items ≤ most) }
     ensures read { IfOk result

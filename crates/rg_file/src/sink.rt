@@ -4,8 +4,9 @@ ghost use Rattle.std.specs.Io.KnownBytes.{Appends, Keeps};
 ghost use Rattle.rg_outside.specs.Faults.{HasGiveCause};
 
 use crate::calls::write_through;
+use crate::faults::Faults;
 use rg_outside::sink::{GiveFault, Sink};
-use std::io::Write;
+use std::io::{Error, Write};
 
 #[cfg(test)]
 mod tests;
@@ -16,7 +17,7 @@ mod tests;
 #[derive(Drop)]
 pub struct OutputSink<W> {
     writer: W,
-    faults: u64,
+    faults: Faults,
 }
 
 impl<W: Write> OutputSink<W> {
@@ -24,7 +25,15 @@ impl<W: Write> OutputSink<W> {
     pub fn new(writer: W) -> Self
         ensures { result ≡ record { writer = writer; faults = 0 } }
     {
-        OutputSink { writer, faults: 0 }
+        OutputSink {
+            writer,
+            faults: Faults::none(),
+        }
+    }
+
+    /// The error of the last write that failed.
+    pub fn last_error(&self) -> Option<Error> {
+        self.faults.last()
     }
 }
 

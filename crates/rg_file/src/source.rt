@@ -2,8 +2,9 @@
 ghost use Rattle.std.specs.Prelude.{◌≡◌};
 
 use crate::calls::read_through;
+use crate::faults::Faults;
 use rg_outside::source::{Failed, Source};
-use std::io::Read;
+use std::io::{Error, Read};
 
 #[cfg(test)]
 mod tests;
@@ -14,7 +15,7 @@ mod tests;
 #[derive(Drop)]
 pub struct InputSource<R> {
     reader: R,
-    faults: u64,
+    faults: Faults,
 }
 
 impl<R: Read> InputSource<R> {
@@ -22,7 +23,15 @@ impl<R: Read> InputSource<R> {
     pub fn new(reader: R) -> Self
         ensures { result ≡ record { reader = reader; faults = 0 } }
     {
-        InputSource { reader, faults: 0 }
+        InputSource {
+            reader,
+            faults: Faults::none(),
+        }
+    }
+
+    /// The error of the last read that failed.
+    pub fn last_error(&self) -> Option<Error> {
+        self.faults.last()
     }
 }
 

@@ -1,6 +1,6 @@
 use super::outside::BytesSink;
 use super::{ALL, NEVER, whole};
-use crate::edge::{OperatorRefusal, refuse, script};
+use crate::edge::{Refusal, refuse, script};
 use rg_base::control::{Answer, Command};
 use rg_file::reading::FileFault;
 use rg_outside::operator::Operator;
@@ -64,7 +64,7 @@ fn refuses_operators(rt: HostRuntime) -> Result<(), Fail> {
         let Err(refusal) = script(rt.alloc(), found) else {
             return Err("the file is no operator's".into());
         };
-        assert_eq!(rt; refusal, OperatorRefusal::Line { line });
+        assert_eq!(rt; refusal, Refusal::OperatorLine { line });
         let mut sink = whole(rt.alloc(), ALL);
         assert_eq!(rt; refuse(rt.alloc(), &mut sink, refusal), 11);
         assert_eq!(rt; sink.held(), output);
@@ -80,7 +80,7 @@ fn bounds_the_file(rt: HostRuntime) -> Result<(), Fail> {
         let Err(refusal) = script(rt.alloc(), found) else {
             return Err("the file is no operator's".into());
         };
-        assert_eq!(rt; refusal, OperatorRefusal::Line { line });
+        assert_eq!(rt; refusal, Refusal::OperatorLine { line });
     }
     Ok(())
 }
@@ -104,7 +104,7 @@ fn refuses_what_was_not_read(rt: HostRuntime) -> Result<(), Fail> {
 // A sink that fails has status 4, and one that is out of memory 8. It has a prefix of the text.
 #[test]
 fn refuses_to_a_sink_that_fails(rt: HostRuntime) {
-    let line = OperatorRefusal::Line { line: 20 };
+    let line = Refusal::OperatorLine { line: 20 };
     for (refusal, most, fails_at, fault, status, held) in [
         (
             line,
@@ -116,8 +116,8 @@ fn refuses_to_a_sink_that_fails(rt: HostRuntime) {
         ),
         (line, 7, 3, GiveFault::Failed, 4, b"REFUSED operat"),
         (line, 0, NEVER, GiveFault::Failed, 4, b""),
-        (OperatorRefusal::File, ALL, 1, GiveFault::NoMemory, 8, b""),
-        (OperatorRefusal::NoMemory, ALL, 1, GiveFault::Failed, 8, b""),
+        (Refusal::OperatorFile, ALL, 1, GiveFault::NoMemory, 8, b""),
+        (Refusal::NoMemory, ALL, 1, GiveFault::Failed, 8, b""),
     ] {
         let mut sink = BytesSink::new(rt.alloc(), most, fails_at, fault);
         assert_eq!(rt;

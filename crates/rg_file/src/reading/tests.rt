@@ -1,4 +1,5 @@
 use super::{FileFault, read_file, read_front};
+use crate::faults::Faults;
 use crate::faulty::{Faulty, name_of};
 use std::fs;
 use std::io::ErrorKind;
@@ -31,14 +32,14 @@ fn reads_what_the_reader_gives(rt: HostRuntime) -> Result<(), Fail> {
         (&[], 9, usize::MAX, Err(FileFault::NoMemory), 0, 0),
     ] {
         let mut reader = Faulty::new(errors, piece, b"abcde".to_vec(rt.alloc())?);
-        let mut counted = 0;
+        let mut counted = Faults::none();
         let came = read_front(rt.alloc(), &mut reader, most, &mut counted);
         match (&came, read) {
             (Ok(bytes), Ok(wanted)) => assert_eq!(rt; bytes.as_slice(), wanted),
             (Err(fault), Err(wanted)) => assert_eq!(rt; *fault, wanted),
             _ => assert!(rt; false, "at {errors:?}, {piece} and {most}"),
         }
-        assert_eq!(rt; (reader.calls, counted), (calls, faults));
+        assert_eq!(rt; (reader.calls, counted.count()), (calls, faults));
     }
     Ok(())
 }
@@ -55,7 +56,8 @@ fn reads_real_files(rt: HostRuntime) -> Result<(), Fail> {
         (b"abcde", 4, b"abcd"),
     ] {
         fs::write(&rt, &name, bytes)?;
-        let found = read_file(&rt, rt.alloc(), &name, most);
+        let mut faults = Faults::none();
+        let found = read_file(&rt, rt.alloc(), &name, most, &mut faults);
         assert_eq!(rt;
             found,
             Ok(Some(read.to_vec(rt.alloc())?)),
@@ -63,7 +65,9 @@ fn reads_real_files(rt: HostRuntime) -> Result<(), Fail> {
         );
     }
     fs::remove_file(&rt, &name)?;
-    assert_eq!(rt; read_file(&rt, rt.alloc(), &name, 9), Ok(None));
+    let mut faults = Faults::none();
+    assert_eq!(rt; read_file(&rt, rt.alloc(), &name, 9, &mut faults), Ok(None));
+    assert_eq!(rt; faults.count(), 0);
     Ok(())
 }
 
@@ -74,11 +78,22 @@ fn fails_where_there_is_no_file_to_read(rt: HostRuntime) -> Result<(), Fail> {
     let name = name_of(&rt, "no-folder")?;
     fs::write(&rt, &name, b"abc")?;
     let below = format!(in rt.alloc(); "{name}/below")?;
-    for name in ["/", below.as_str()] {
-        let found = read_file(&rt, rt.alloc(), name, 9);
+    for (name, kind) in [
+        ("/", ErrorKind::IsADirectory),
+        (below.as_str(), ErrorKind::NotADirectory),
+    ] {
+        let mut faults = Faults::none();
+        let found = read_file(&rt, rt.alloc(), name, 9, &mut faults);
         assert_eq!(rt; found, Err(FileFault::Failed), "at {name}");
+        let error = faults.last().ok_or("the error is kept")?;
+        assert_eq!(rt; (faults.count(), error.kind()), (1, kind), "at {name}");
     }
     fs::remove_file(&rt, &name)?;
-    assert_eq!(rt; read_file(&rt, rt.alloc(), &below, 9), Ok(None));
+    let mut faults = Faults::none();
+    assert_eq!(rt;
+        read_file(&rt, rt.alloc(), &below, 9, &mut faults),
+        Ok(None)
+    );
+    assert_eq!(rt; faults.count(), 0);
     Ok(())
 }

@@ -32,18 +32,19 @@ fn takes_what_the_reader_gives(rt: HostRuntime) -> Result<(), Fail> {
         let came = [take(&mut source, &mut into), take(&mut source, &mut into)];
         assert_eq!(rt; came, taken);
         assert_eq!(rt; source.reader.calls, calls);
-        assert_eq!(rt; source.faults, faults);
+        assert_eq!(rt; source.faults.count(), faults);
     }
     Ok(())
 }
 
+// It is the one that ended the call, and not an interruption before it.
 #[test]
-fn count_stands_still_at_its_end(rt: HostRuntime) {
+fn keeps_the_last_error(rt: HostRuntime) -> Result<(), Fail> {
     let reader = Faulty::empty(rt.alloc(), &[INTERRUPTED, OTHER], 9);
-    let mut source = InputSource {
-        reader,
-        faults: u64::MAX - 1,
-    };
+    let mut source = InputSource::new(reader);
+    assert!(rt; source.last_error().is_none());
     assert_eq!(rt; source.take(&mut [0; 8]), Err(Failed));
-    assert_eq!(rt; source.faults, u64::MAX);
+    let error = source.last_error().ok_or("a call has failed")?;
+    assert_eq!(rt; error.kind(), OTHER);
+    Ok(())
 }
