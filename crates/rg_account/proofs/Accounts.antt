@@ -16,7 +16,7 @@ use Rattle.rg_stmt.specs.declared.stmt.Reply.{Reply}
 use Rattle.rg_stmt.specs.declared.stmt.Reply.TheVariants.{Done, Victim}
 use Rattle.rg_stmt.specs.declared.stmt.Stmt.{Stmt}
 use Rattle.rg_stmt.specs.declared.stmt.Stmt.TheVariants.{Commit, Delete, Insert, Rollback, Update}
-use Rattle.rg_tending.specs.Tending.{behind}
+use Rattle.rg_model.specs.Run.{behind}
 use Rattle.rg_account.specs.Account.{Account, account_after, account_by, account_said, found_with, found_without, state_after, state_by, state_or, sent_again}
 use Rattle.rg_account.specs.Found.{rows_found, rows_made, weigh_each}
 use Rattle.rg_account.specs.Laws.{opens}

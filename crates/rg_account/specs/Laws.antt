@@ -34,7 +34,7 @@ use Rattle.rg_stmt.specs.declared.event.Event.{Event}
 use Rattle.rg_stmt.specs.declared.event.Event.TheVariants.{Opened}
 use Rattle.rg_stmt.specs.declared.stmt.Reply.{Reply}
 use Rattle.rg_stmt.specs.declared.stmt.Stmt.{Stmt}
-use Rattle.rg_tending.specs.Tending.{behind}
+use Rattle.rg_model.specs.Run.{behind}
 use Rattle.rg_account.specs.Account.{Account, account_after, account_by, account_said, state_by}
 use Rattle.rg_account.specs.Found.{rows_found, rows_made, weigh_each}
 use Rattle.rg_account.specs.Reaching.{ReachesBy}

@@ -13,11 +13,11 @@ use Rattle.rg_image.specs.Rules.{IsOpen, copy_capacity, greatest_tran, owed}
 use Rattle.rg_keyed.proofs.Stores.{opening_stores, stored_by_key}
 use Rattle.rg_keyed.specs.Keyed.{TransBelow, keyed_acts}
 use Rattle.rg_lawful.proofs.Opens.{consistent_tested}
-use Rattle.rg_lawful.proofs.Tables.{table_same}
+use Rattle.rg_home.proofs.Tables.{table_same}
 use Rattle.rg_lawful.proofs.Testing.{tested_consistent}
 use Rattle.rg_lawful.specs.Act.{LogState}
 use Rattle.rg_lawful.specs.Consistent.{IsClean, IsConsistent}
-use Rattle.rg_lawful.specs.Lawful.{AllBelow}
+use Rattle.rg_home.specs.Owners.{AllBelow}
 use Rattle.rg_lawful.specs.Stored.{stored_at}
 use Rattle.rg_lawful.specs.Tested.{Tested}
 use Rattle.rg_lawful.specs.Write.{Write, written_of}

@@ -16,10 +16,11 @@ use Rattle.rg_image.specs.Rules.{ArePositions, HasSpace, IsOpen, copy_capacity, 
 use Rattle.rg_keyed.specs.Keyed.{keyed_acts}
 use Rattle.rg_lawful.specs.Act.{LogState, state}
 use Rattle.rg_lawful.specs.Consistent.{IsClean, IsConsistent, stored_of}
-use Rattle.rg_lawful.specs.Lawful.{AllBelow, Runs}
+use Rattle.rg_home.specs.Owners.{AllBelow}
+use Rattle.rg_lawful.specs.Lawful.{Runs}
 use Rattle.rg_lawful.specs.Records.{acts_of}
 use Rattle.rg_lawful.specs.Stored.{stored_at}
-use Rattle.rg_lawful.specs.Table.{IsTable}
+use Rattle.rg_home.specs.Table.{IsTable}
 use Rattle.rg_lawful.specs.Tested.{opened}
 use Rattle.rg_log.specs.Kept.{log_pages}
 use Rattle.rg_outside.specs.Capacities.{Capacities}

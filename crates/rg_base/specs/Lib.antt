@@ -1,3 +1,4 @@
+pub mod Copies
 pub mod Field
 pub mod First
 pub mod Number

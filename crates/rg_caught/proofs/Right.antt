@@ -13,7 +13,7 @@ use Rattle.rg_home.specs.Slot.{Slot}
 use Rattle.rg_layout.specs.Spots.{places_to, spots_of}
 use Rattle.rg_layout.proofs.OnSpots.{every_spot, homes_rise, rising_from}
 use Rattle.rg_layout.proofs.Places.{all_rise}
-use Rattle.rg_lawful.specs.Table.{IsTable}
+use Rattle.rg_home.specs.Table.{IsTable}
 use Rattle.rg_loaded.specs.Loaded.{IsPacked}
 use Rattle.rg_loaded.proofs.Loading.{packed_right}
 use Rattle.rg_model.specs.Layout.{homes}

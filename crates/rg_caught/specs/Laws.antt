@@ -26,7 +26,7 @@ use Rattle.rg_fold.specs.Fold.{changes, copied_rows, fold_to, since_begin}
 use Rattle.rg_fold.specs.Lawful.{Lawful, kept}
 use Rattle.rg_fold.specs.declared.item.Item.{Item}
 use Rattle.rg_layout.specs.Spots.{spots_of}
-use Rattle.rg_lawful.specs.Table.{IsTable}
+use Rattle.rg_home.specs.Table.{IsTable}
 use Rattle.rg_loaded.specs.Loaded.{IsPacked}
 use Rattle.rg_model.specs.Quiet.{is_quiet}
 use Rattle.rg_model.specs.Right.{are_quiet_right, is_packed}

@@ -24,7 +24,7 @@ use Rattle.rg_model.specs.State.{State, Table, Utility, at_rest}
 use Rattle.rg_model.specs.Turn.{Turn, Runs, Switches, Stops, Falls, turn_of}
 use Rattle.rg_model.specs.Utility.{start_utility, state_by_turn, state_of_turn, state_stepped}
 use Rattle.rg_course.specs.Switching.{AreCaughtUp, IsCaughtUp, goes_on, last_count, lasts_for, lasts_in, left_after, loads, over_in, taken_in}
-use Rattle.rg_tending.specs.Tending.{behind}
+use Rattle.rg_model.specs.Run.{behind}
 use Rattle.rg_course.proofs.Granting.{GrantIf, turn_grants}
 use Rattle.rg_course.proofs.Told.{run_parts, run_tells, tells_at_first}
 use Rattle.rg_course.proofs.Quieted.{Leaves, NoWriter, said_quiet}

@@ -21,7 +21,7 @@ use Rattle.rg_model.specs.Possible.{next_state, state_after_step}
 use Rattle.rg_model.specs.Run.{Allows, Run}
 use Rattle.rg_model.specs.Said.{if_allowed}
 use Rattle.rg_model.specs.State.{State, Table, Utility, at_rest}
-use Rattle.rg_tending.specs.Tending.{behind}
+use Rattle.rg_model.specs.Run.{behind}
 use Rattle.rg_course.proofs.Resting.{IsRest, rests, rests_at_first}
 use Rattle.rg_model.specs.Turn.{Turn, Runs, Switches, Stops, Falls, alter, end_turn, is_term, step_of, term_turn, turn_at, turn_of, wait_turn}
 use Rattle.rg_model.specs.Verdict.{drain_verdict}

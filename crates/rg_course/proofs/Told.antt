@@ -14,7 +14,7 @@ use Rattle.rg_model.specs.Said.{if_allowed}
 use Rattle.rg_model.specs.State.{State, Table, Utility, at_rest}
 use Rattle.rg_model.specs.Turn.{Turn, Runs, Switches, Stops, Falls, turn_of}
 use Rattle.rg_model.specs.Utility.{new_utility, start_utility, state_by_turn, state_stepped, stop_utility}
-use Rattle.rg_tending.specs.Tending.{behind}
+use Rattle.rg_model.specs.Run.{behind}
 use Rattle.rg_tending.proofs.Keeping.{said_keeps}
 use Rattle.rg_course.specs.Switching.{over_after, over_in, taken_after, taken_in}
 use Rattle.rg_course.proofs.Taken.{Shows, ShowsTaken, turn_leads}

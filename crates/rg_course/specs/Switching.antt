@@ -19,7 +19,7 @@ use Rattle.rg_stmt.specs.declared.layout.Sides.{Sides}
 use Rattle.rg_model.specs.Changes.{changes}
 use Rattle.rg_model.specs.Run.{Run}
 use Rattle.rg_model.specs.State.{State, Table, at_rest}
-use Rattle.rg_tending.specs.Tending.{behind}
+use Rattle.rg_model.specs.Run.{behind}
 
 -- the drain is not given up, and neither the utility nor the process ends; the switch is not made
 abbrev pub goes_on : Event → Bool

@@ -11,8 +11,8 @@ use Rattle.rg_fold.specs.declared.item.Stage.{Stage}
 use Rattle.rg_home.specs.Pages.{slot_of}
 use Rattle.rg_home.specs.Rows.{row_at}
 use Rattle.rg_image.specs.Meaning.{stored}
-use Rattle.rg_lawful.proofs.Tables.{table_same}
-use Rattle.rg_lawful.specs.Table.{IsTable}
+use Rattle.rg_home.proofs.Tables.{table_same}
+use Rattle.rg_home.specs.Table.{IsTable}
 use Rattle.rg_model.specs.Layout.{is_right_side}
 use Rattle.rg_model.specs.State.{State, Table, row_of}
 use Rattle.rg_record.specs.declared.record.Record.{Record}

@@ -25,8 +25,8 @@ use Rattle.rg_fold.specs.declared.item.Stage.{Stage}
 use Rattle.rg_home.specs.Pages.{slot_of}
 use Rattle.rg_home.specs.Rows.{row_at}
 use Rattle.rg_home.specs.Slot.{Slot}
-use Rattle.rg_lawful.proofs.Tables.{table_same}
-use Rattle.rg_lawful.specs.Table.{IsTable}
+use Rattle.rg_home.proofs.Tables.{table_same}
+use Rattle.rg_home.specs.Table.{IsTable}
 use Rattle.rg_model.specs.Changes.{changes}
 use Rattle.rg_model.specs.Right.{are_quiet_right, is_packed, is_right_switch}
 use Rattle.rg_model.specs.State.{Claims, Utility, row_of}
@@ -43,9 +43,11 @@ use Rattle.rg_stmt.specs.declared.event.Entry.{Entry}
 use Rattle.rg_stmt.specs.declared.event.Event.{Event}
 use Rattle.rg_stmt.specs.declared.event.Event.TheVariants as events
 use Rattle.rg_stmt.specs.declared.layout.Sides.{Sides}
-use Rattle.rg_switch.specs.Switched.{other_of, switch_to}
+use Rattle.rg_base.specs.Copies.{other_of}
+use Rattle.rg_switch.specs.Switched.{switch_to}
 use Rattle.rg_tally.specs.Changed.{ChangeCount}
-use Rattle.rg_tending.specs.Tending.{Tends, behind, utility_entry}
+use Rattle.rg_tending.specs.Tending.{Tends, utility_entry}
+use Rattle.rg_model.specs.Run.{behind}
 use Rattle.rg_desk.specs.Chronicle.{ChronicleState, IsRecorded}
 use Rattle.rg_desk.specs.Desk.{CanCommit, DeskState, IsDesk, old_records}
 use Rattle.rg_desk.specs.Engine.{slots_in}

@@ -14,7 +14,8 @@ use Rattle.rg_record.specs.declared.record.Record.{Record}
 use Rattle.rg_version.specs.Versions.{Epoch, IsOnVolume as IsOnPage}
 use Rattle.rg_version.proofs.OnVolume.{stays_there}
 use Rattle.rg_newest.specs.Tidy.{set_of}
-use Rattle.rg_switch.specs.Switched.{IsOldPage, other_of}
+use Rattle.rg_switch.specs.Switched.{IsOldPage}
+use Rattle.rg_base.specs.Copies.{other_of}
 use Rattle.rg_desk.specs.OnVolume.{HasCopies}
 
 -- ---- three sets

@@ -52,7 +52,8 @@ use Rattle.rg_desk.specs.Stored.{Grows, IsStored}
 use Rattle.rg_desk.specs.Volume.{CallsLog, HasCalls, IsCount, LeavesIfTidy, VolumeSeen}
 use Rattle.rg_desk.specs.Bytes.{taken_of}
 use Rattle.rg_desk.specs.Chronicle.{ChronicleState, IsEntry, IsRecorded, logged_after, logged_by, system_entry}
-use Rattle.rg_desk.specs.Desk.{AreKeys, IsAmong, IsBegun, IsCopy, IsDesk, IsLayout, is_reply}
+use Rattle.rg_desk.specs.Desk.{AreKeys, IsAmong, IsBegun, IsDesk, IsLayout, is_reply}
+use Rattle.rg_base.specs.Copies.{IsCopy}
 use Rattle.rg_desk.specs.Engine.{ground_of}
 use Rattle.rg_desk.specs.Left.{LeavesState}
 use Rattle.rg_desk.specs.OnVolume.{CleanIfTidy, IsOn, IsOnVolume, RestsOn, WasAllTidy}

@@ -26,7 +26,7 @@ use Rattle.rg_fold.specs.declared.item.Stage.{Stage}
 use Rattle.rg_home.specs.Pages.{slot_of}
 use Rattle.rg_home.specs.Slot.{DeadOver, DeadPointer, DeadRow, Free, Over, Pointer, Row, Slot}
 use Rattle.rg_lawful.specs.Act.{LogState}
-use Rattle.rg_lawful.specs.Lawful.{OwnerBelow}
+use Rattle.rg_home.specs.Owners.{OwnerBelow}
 use Rattle.rg_page.specs.Content.{Content, slots_of}
 use Rattle.rg_shadow.specs.Shade.{shade_slots}
 use Rattle.rg_image.specs.Meaning.{stored}
@@ -54,12 +54,14 @@ use Rattle.rg_stmt.specs.declared.event.Event.{Event}
 use Rattle.rg_stmt.specs.declared.event.Event.TheVariants as events
 use Rattle.rg_stmt.specs.declared.layout.Sides.{Sides}
 use Rattle.rg_switch.proofs.Switching.{switch_stores}
-use Rattle.rg_switch.specs.Switched.{next_epoch, other_of, switch_to, switched}
+use Rattle.rg_switch.specs.Switched.{next_epoch, switch_to, switched}
+use Rattle.rg_base.specs.Copies.{other_of}
 use Rattle.rg_tally.specs.Changed.{ChangeCount}
 use Rattle.rg_tending.proofs.Kept.{kept_on}
 use Rattle.rg_tending.proofs.Switching.{switch_under_all}
 use Rattle.rg_tending.proofs.Tended.{tends_booked}
-use Rattle.rg_tending.specs.Tending.{Tends, aside_for, behind, utility_entry}
+use Rattle.rg_tending.specs.Tending.{Tends, aside_for, utility_entry}
+use Rattle.rg_model.specs.Run.{behind}
 use Rattle.rg_desk.specs.Bytes.{taken_of}
 use Rattle.rg_desk.specs.Chronicle.{ChronicleState, IsRecorded, logged_by}
 use Rattle.rg_desk.specs.Desk.{IsBegun, IsDesk}

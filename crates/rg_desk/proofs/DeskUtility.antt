@@ -35,7 +35,9 @@ use Rattle.rg_stage.specs.NumbersOf.{numbers_of}
 use Rattle.rg_stage.proofs.Booking.{entry_allowed}
 use Rattle.rg_stmt.specs.declared.event.Event.TheVariants as events
 use Rattle.rg_tally.specs.Changed.{ChangeCount}
-use Rattle.rg_tending.specs.Tending.{FollowsBy, IsSystem, NextBy, Tends, aside_for, behind, is_booked, is_plain, utility_entry}
+use Rattle.rg_tending.specs.Tending.{FollowsBy, IsSystem, NextBy, Tends, aside_for, is_booked}
+use Rattle.rg_tending.specs.Tending.{is_plain, utility_entry}
+use Rattle.rg_model.specs.Run.{behind}
 use Rattle.rg_tending.proofs.Kept.{kept_on}
 use Rattle.rg_tending.proofs.Switching.{plain_neither, plain_turn}
 use Rattle.rg_tending.proofs.Tended.{tends_booked, tends_refused, tends_started}
@@ -43,7 +45,8 @@ use Rattle.rg_version.specs.Versions.{Epoch}
 use Rattle.rg_desk.specs.Bytes.{taken_of}
 use Rattle.rg_desk.specs.Engine.{ground_of, seen_in}
 use Rattle.rg_desk.specs.Chronicle.{ChronicleState, IsRecorded, logged_after, logged_by}
-use Rattle.rg_desk.specs.Desk.{IsBegun, IsDesk, IfStartLogFull, IsLayout, IsStart, is_started, started_count}
+use Rattle.rg_desk.specs.Desk.{IsBegun, IsDesk, IfStartLogFull, IsLayout, IsStart, started_count}
+use Rattle.rg_model.specs.Utility.{starts_utility}
 use Rattle.rg_desk.specs.Flushed.{FlushIs}
 use Rattle.rg_page.specs.Content.{Content}
 use Rattle.rg_desk.proofs.UtilityShows.{utility_shows}
@@ -195,17 +198,17 @@ module _ (c : ChronicleState) (origin : Origin) (copy : ℕ) (marks : List (Opti
   )
 
   pub start_on : (options : Options) (d : Engine) (down : Bool) (stage : Option Stage) (event : Event) (next : Option Stage) (after : Engine) → IsDesk d c origin copy down marks seen → Tends c.trace stage count d.set_aside → StartIs down stage options copy d event next after
-      → new.trace ≡ c.trace ++ utility_entry event None calls ∷ [] → GoesOn after new origin copy down marks seen next (started_count (is_started event) count)
+      → new.trace ≡ c.trace ++ utility_entry event None calls ∷ [] → GoesOn after new origin copy down marks seen next (started_count (starts_utility event) count)
   start_on options d true stage event next after desk tends is trace =
       let down : Allows (behind [] c.trace) None actors.Utility events.StartDown desk.state desk.state = (down_allows (behind [] c.trace) desk.state desk.down_is).0 in
-      subst (λ (e : Event). GoesOn after new origin copy true marks seen next (started_count (is_started e) count)) (sym is.0)
+      subst (λ (e : Event). GoesOn after new origin copy true marks seen next (started_count (starts_utility e) count)) (sym is.0)
       (subst (λ (x : Engine). GoesOn x new origin copy true marks seen next count) (sym is.2)
       (subst (λ (s : Option Stage). GoesOn d new origin copy true marks seen s count) (sym is.1)
       (refused_on d true stage events.StartDown desk tends (λ n. refl) refl down (tends_refused c.trace stage count d.set_aside events.StartDown calls tt tends)
       (trace ∙ ap (λ (e : Event). c.trace ++ utility_entry e None calls ∷ []) is.0))))
   start_on options d false (Some s) event next after desk tends is trace =
       let active = active_allows (behind [] c.trace) desk.state (numbers_of s) desk.down_is (state_shows d c origin copy false marks seen desk (Some s) count tends).0 in
-      subst (λ (e : Event). GoesOn after new origin copy false marks seen next (started_count (is_started e) count)) (sym is.0)
+      subst (λ (e : Event). GoesOn after new origin copy false marks seen next (started_count (starts_utility e) count)) (sym is.0)
       (subst (λ (x : Engine). GoesOn x new origin copy false marks seen next count) (sym is.2)
       (subst (λ (t : Option Stage). GoesOn d new origin copy false marks seen t count) (sym is.1)
       (refused_on d false (Some s) events.Active desk tends (λ n. refl) refl active (tends_refused c.trace (Some s) count d.set_aside events.Active calls tt tends)

@@ -18,9 +18,10 @@ use Rattle.rg_home.specs.Rows.{row_at}
 use Rattle.rg_home.specs.Slot.{Slot}
 use Rattle.rg_image.specs.Meaning.{stored}
 use Rattle.rg_image.specs.Rules.{IsOpen}
-use Rattle.rg_lawful.proofs.Tables.{eqb-refl, table_same}
+use Rattle.rg_lawful.proofs.Tables.{eqb-refl}
+use Rattle.rg_home.proofs.Tables.{table_same}
 use Rattle.rg_lawful.specs.Act.{LogState}
-use Rattle.rg_lawful.specs.Table.{IsTable}
+use Rattle.rg_home.specs.Table.{IsTable}
 use Rattle.rg_lawful.specs.Write.{NoneHit, Write, at_key, gone_back, own_of}
 use Rattle.rg_model.specs.Claims.{has_class, is_covered}
 use Rattle.rg_model.specs.State.{Claims, Locks, State}

@@ -27,7 +27,8 @@ use Rattle.rg_page.specs.declared.list.ListFrames.{ListFrames}
 use Rattle.rg_record.specs.declared.record.Record.{Record}
 use Rattle.rg_space.specs.Space.{capacity_in}
 use Rattle.rg_space.specs.declared.space.Space.{Space}
-use Rattle.rg_switch.specs.Switched.{IsOldPage, other_of}
+use Rattle.rg_switch.specs.Switched.{IsOldPage}
+use Rattle.rg_base.specs.Copies.{other_of}
 use Rattle.rg_version.specs.Versions.{Epoch, IsOnVolume as IsOnPage}
 use Rattle.rg_desk.specs.Chronicle.{ChronicleState}
 use Rattle.rg_desk.specs.Desk.{IsDesk}

@@ -28,7 +28,7 @@ use Rattle.rg_space.specs.Space.{capacity_in}
 use Rattle.rg_log.specs.Kept.{Listed}
 use Rattle.rg_desk.specs.Engine.{slots_in}
 use Rattle.rg_account.specs.Found.{rows_found, rows_made}
-use Rattle.rg_lawful.specs.Table.{IsTable}
+use Rattle.rg_home.specs.Table.{IsTable}
 use Rattle.rg_desk.specs.Moves.{Moves}
 use Rattle.rg_desk.specs.Newest.{KeepsNewest}
 use Rattle.rg_desk.specs.Planned.{change_plan, drop_plan, put_plan, units_with}

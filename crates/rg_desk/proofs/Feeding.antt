@@ -32,12 +32,12 @@ use Rattle.rg_home.specs.Slot.{Free}
 use Rattle.rg_home.specs.Slots.{slot_at}
 use Rattle.rg_image.specs.Pack.{log_bytes}
 use Rattle.rg_lawful.proofs.Parts.{page_past}
-use Rattle.rg_lawful.proofs.Tables.{table_same}
+use Rattle.rg_home.proofs.Tables.{table_same}
 use Rattle.rg_lawful.specs.Act.{LogState}
-use Rattle.rg_lawful.specs.Table.{IsTable}
+use Rattle.rg_home.specs.Table.{IsTable}
 use Rattle.rg_lawful.specs.Write.{Write}
 use Rattle.rg_log.specs.Kept.{Listed}
-use Rattle.rg_loud.specs.Laws.{starts_utility}
+use Rattle.rg_model.specs.Utility.{starts_utility}
 use Rattle.rg_loud.proofs.Louder.{quiet_in_run, said_loud}
 use Rattle.rg_model.specs.State.{Locks, State, Table, Utility, row_count, row_of}
 use Rattle.rg_reach.proofs.Bringing.{copy_reaches}
@@ -69,7 +69,9 @@ use Rattle.rg_stmt.specs.declared.stmt.Reply.{Reply}
 use Rattle.rg_stmt.specs.declared.stmt.Stmt.{Stmt}
 use Rattle.rg_switch.specs.Switched.{switch_to}
 use Rattle.rg_tally.specs.Changed.{ChangeCount, IsCounted, no_changes}
-use Rattle.rg_tending.specs.Tending.{IsRefusedEvent, IsSystem, NextBy, behind, is_booked, is_plain, utility_entry, Tends}
+use Rattle.rg_tending.specs.Tending.{IsRefusedEvent, IsSystem, NextBy, is_booked, is_plain}
+use Rattle.rg_tending.specs.Tending.{utility_entry, Tends}
+use Rattle.rg_model.specs.Run.{behind}
 use Rattle.rg_tending.proofs.Keeping.{behind_push}
 use Rattle.rg_tending.proofs.Switching.{plain_turn}
 use Rattle.rg_tending.proofs.Tended.{tends_opened}
@@ -77,7 +79,7 @@ use Rattle.rg_desk.specs.Answers.{Replies}
 use Rattle.rg_desk.specs.Aside.{PutsAside}
 use Rattle.rg_desk.specs.Begun.{Begun}
 use Rattle.rg_desk.specs.Chronicle.{ChronicleState}
-use Rattle.rg_desk.specs.Desk.{CanFeed, DeskState, IsDesk, is_started, started_count}
+use Rattle.rg_desk.specs.Desk.{CanFeed, DeskState, IsDesk, started_count}
 use Rattle.rg_desk.specs.Engine.{ground_of, seen_in, slots_in}
 use Rattle.rg_desk.specs.Moves.{AreOwn, Moves, rows_before}
 use Rattle.rg_desk.specs.Room.{Ground}
@@ -277,7 +279,7 @@ said_items d c origin copy false marks seen desk stage count counted session stm
 -- ---- a control statement
 
 -- what is refused starts nothing, and sends nothing
-refused_still : (event : Event) → IsRefusedEvent event → (is_started event ≡ false) × (begin_items event ≡ []) × (starts_utility event ≡ false)
+refused_still : (event : Event) → IsRefusedEvent event → (starts_utility event ≡ false) × (begin_items event ≡ []) × (starts_utility event ≡ false)
 refused_still events.Active is = (refl, refl, refl)
 refused_still (events.StartLogFull need left) is = (refl, refl, refl)
 refused_still events.StartDown is = (refl, refl, refl)
@@ -289,11 +291,11 @@ refused_still event is = absurd is
 
 -- a control statement or a step that is refused
 pub refused_items : (d next : Engine) (origin : Origin) (trace : List Entry) (down : Bool) (stage later : Option Stage) (count : ChangeCount) (feed : List Item) (event : Event) (calls : ℕ) → KeepsItems d origin trace down stage count feed → next ≡ d → later ≡ stage → IsRefusedEvent event
-    → (entries : List Entry) → entries ≡ trace ++ utility_entry event None calls ∷ [] → KeepsItems next origin entries down later (started_count (is_started event) count) (feed ++ begin_items event)
+    → (entries : List Entry) → entries ≡ trace ++ utility_entry event None calls ∷ [] → KeepsItems next origin entries down later (started_count (starts_utility event) count) (feed ++ begin_items event)
 refused_items d next origin trace down stage later count feed event calls keeps same still is entries entries_are =
     let none = refused_still event is in
-    subst (λ (e : Engine). KeepsItems e origin entries down later (started_count (is_started event) count) (feed ++ begin_items event)) (sym same)
-    (subst (λ (o : Option Stage). KeepsItems d origin entries down o (started_count (is_started event) count) (feed ++ begin_items event)) (sym still)
+    subst (λ (e : Engine). KeepsItems e origin entries down later (started_count (starts_utility event) count) (feed ++ begin_items event)) (sym same)
+    (subst (λ (o : Option Stage). KeepsItems d origin entries down o (started_count (starts_utility event) count) (feed ++ begin_items event)) (sym still)
     (subst (λ (b : Bool). KeepsItems d origin entries down stage (started_count b count) (feed ++ begin_items event)) (sym none.0)
     (subst (λ (xs : List Item). KeepsItems d origin entries down stage count (feed ++ xs)) (sym none.1)
     (subst (λ (xs : List Item). KeepsItems d origin entries down stage count xs) (sym (append-nil feed))
@@ -350,7 +352,7 @@ begun_items d next c origin at marks seen desk old options given copy pages (Som
     ))
 
 pub started_items : (d next : Engine) (c : ChronicleState) (origin : Origin) (at : ℕ) (marks : List (Option Position)) (seen : VolumeSeen) (down : Bool) (desk : IsDesk d c origin at down marks seen) (old stage : Option Stage) (options : Options) (copy : ℕ) (event : Event) (calls : ℕ) (count : ChangeCount) (feed : List Item) → KeepsItems d origin c.trace down old count feed
-    → StartIs down old options copy d event stage next → (entries : List Entry) → entries ≡ c.trace ++ utility_entry event None calls ∷ [] → KeepsItems next origin entries down stage (started_count (is_started event) count) (feed ++ begin_items event)
+    → StartIs down old options copy d event stage next → (entries : List Entry) → entries ≡ c.trace ++ utility_entry event None calls ∷ [] → KeepsItems next origin entries down stage (started_count (starts_utility event) count) (feed ++ begin_items event)
 started_items d next c origin at marks seen true desk old stage options copy event calls count feed keeps is entries entries_are = λ up. absurd (cc (up))
 started_items d next c origin at marks seen false desk (Some s) stage options copy event calls count feed keeps is entries entries_are =
     refused_items d next origin c.trace false (Some s) stage count feed event calls keeps is.2 is.1 (subst IsRefusedEvent (sym is.0) tt) entries entries_are

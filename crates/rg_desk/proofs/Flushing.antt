@@ -37,7 +37,7 @@ use Rattle.rg_desk.specs.Reopens.{IsCleanIn, PartsReopen}
 use Rattle.rg_desk.specs.Units.{trans_of}
 use Rattle.rg_home.specs.Pages.{slot_of}
 use Rattle.rg_home.specs.Slot.{Slot}
-use Rattle.rg_lawful.specs.Lawful.{AllBelow}
+use Rattle.rg_home.specs.Owners.{AllBelow}
 use Rattle.rg_ready.specs.Dead.{DeadNames}
 use Rattle.rg_outside.specs.Capacities.{Capacities}
 use Rattle.rg_sound.specs.Reopens.{CanReopen, HasLowOwners}

@@ -17,7 +17,7 @@ use Rattle.rg_home.specs.Slot.{Slot}
 use Rattle.rg_lawful.specs.Act.{LogState, state}
 use Rattle.rg_lawful.specs.Lawful.{Runs}
 use Rattle.rg_lawful.specs.Records.{acts_of}
-use Rattle.rg_lawful.specs.Table.{IsTable}
+use Rattle.rg_home.specs.Table.{IsTable}
 use Rattle.rg_lawful.specs.Write.{NoneHit, Write, at_key, key_of, own_of}
 use Rattle.rg_log.specs.Kept.{Listed}
 use Rattle.rg_model.specs.Changes.{is_rollback, is_unit_end, is_write, writes_after}

@@ -8,7 +8,7 @@ use Rattle.rg_home.specs.Pages.{slot_of}
 use Rattle.rg_home.specs.Rows.{row_at}
 use Rattle.rg_image.specs.Meaning.{stored}
 use Rattle.rg_image.specs.Rules.{copy_capacity}
-use Rattle.rg_lawful.specs.Table.{IsTable}
+use Rattle.rg_home.specs.Table.{IsTable}
 use Rattle.rg_newest.specs.Tidy.{set_of}
 use Rattle.rg_outside.specs.Calls.{Call, FailedRead, FailedSync, FailedWrite, Image, Read, Refused, Synced, Told, Wrote, effect_of, is_same_page, read_of}
 use Rattle.rg_outside.specs.Capacities.{Capacities}
@@ -19,7 +19,8 @@ use Rattle.rg_outside.proofs.Run.{at_last}
 use Rattle.rg_page.specs.Content.{Content, content_at}
 use Rattle.rg_record.specs.declared.record.Record.{Record}
 use Rattle.rg_shadow.specs.Shade.{shade_slots}
-use Rattle.rg_switch.specs.Switched.{HasNewCopy, IsOldPage, other_of}
+use Rattle.rg_switch.specs.Switched.{HasNewCopy, IsOldPage}
+use Rattle.rg_base.specs.Copies.{other_of}
 use Rattle.rg_version.specs.Versions.{Spells}
 use Rattle.rg_fold.specs.declared.item.Stage.{Stage}
 use Rattle.rg_desk.specs.Desk.{while_running}

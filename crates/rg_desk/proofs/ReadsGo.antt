@@ -19,7 +19,7 @@ use Rattle.rg_indexes.proofs.Found.{keys-found}
 use Rattle.rg_indexes.proofs.Tabled.{count-keyed, rows-between}
 use Rattle.rg_layout.specs.Right.{IsRightFor}
 use Rattle.rg_lawful.specs.Act.{LogState}
-use Rattle.rg_lawful.specs.Table.{IsTable}
+use Rattle.rg_home.specs.Table.{IsTable}
 use Rattle.rg_lock.specs.First.{IsFirstHeld}
 use Rattle.rg_model.specs.Held.{find_holder, has_cat, holder, is_held_with_cat, is_others, scan_holder}
 use Rattle.rg_model.specs.Layout.{is_right_side}

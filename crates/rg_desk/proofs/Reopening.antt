@@ -32,7 +32,8 @@ use Rattle.rg_sound.proofs.Imaged.{image_sound}
 use Rattle.rg_sound.proofs.LogPages.{left_entries, left_pages, left_positions}
 use Rattle.rg_sound.proofs.Owners.{image_owners}
 use Rattle.rg_sound.proofs.Switched.{pages_front}
-use Rattle.rg_switch.specs.Switched.{AreOldPages, other_of}
+use Rattle.rg_switch.specs.Switched.{AreOldPages}
+use Rattle.rg_base.specs.Copies.{other_of}
 use Rattle.rg_desk.specs.OnVolume.{GoesOnTidy, HasCopies, HasTidyOthers, HasTidyOwners, IsFooted, IsOn, IsSoundTidy, IsTidyVolume, LeavesCopies, LeavesSoundIfTidy, RestsOn, WasAllTidy}
 use Rattle.rg_desk.specs.Reopens.{PartsReopen}
 use Rattle.rg_model.specs.Possible.{is_copy_left}

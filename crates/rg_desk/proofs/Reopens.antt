@@ -14,7 +14,8 @@ use Rattle.rg_home.specs.Slots.{slot_at}
 use Rattle.rg_image.specs.Rules.{copy_capacity, greatest_tran}
 use Rattle.rg_lawful.specs.Act.{LogState, state}
 use Rattle.rg_lawful.specs.Consistent.{IsClean}
-use Rattle.rg_lawful.specs.Lawful.{AllBelow, OwnerBelow, Runs}
+use Rattle.rg_home.specs.Owners.{AllBelow, OwnerBelow}
+use Rattle.rg_lawful.specs.Lawful.{Runs}
 use Rattle.rg_lawful.specs.Records.{acts_of}
 use Rattle.rg_lawful.proofs.Runs.{runs_clean}
 use Rattle.rg_log.specs.Kept.{Listed}

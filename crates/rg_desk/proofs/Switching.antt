@@ -20,8 +20,8 @@ use Rattle.rg_home.specs.Rows.{row_at}
 use Rattle.rg_home.specs.Slot.{Slot, Free, Row, Pointer, Over, DeadRow, DeadPointer, DeadOver}
 use Rattle.rg_image.specs.Meaning.{current_of, stored}
 use Rattle.rg_image.specs.Rules.{HasSpace, IsOpen, copy_capacity, greatest_tran, owed as log_owed}
-use Rattle.rg_lawful.specs.Lawful.{AllBelow, OwnerBelow}
-use Rattle.rg_lawful.specs.Table.{IsTable}
+use Rattle.rg_home.specs.Owners.{AllBelow, OwnerBelow}
+use Rattle.rg_home.specs.Table.{IsTable}
 use Rattle.rg_log.specs.Kept.{log_pages}
 use Rattle.rg_model.specs.State.{State, at_rest}
 use Rattle.rg_newest.specs.Steady.{IsSteady}
@@ -30,11 +30,12 @@ use Rattle.rg_record.specs.declared.record.Record.{Record}
 use Rattle.rg_shadow.specs.Shade.{shade_slots}
 use Rattle.rg_switch.proofs.Switching.{switch_turns}
 use Rattle.rg_switch.specs.Laws.{IsTurned}
-use Rattle.rg_switch.specs.Switched.{CanSwitch, next_epoch, other_of, switch_to, switched}
+use Rattle.rg_switch.specs.Switched.{CanSwitch, next_epoch, switch_to, switched}
+use Rattle.rg_base.specs.Copies.{IsCopy, other_of}
 use Rattle.rg_unlocked.proofs.Claiming.{claimed_begins, claimed_run}
 use Rattle.rg_unlocked.specs.Unlocked.{AreClaimed}
 use Rattle.rg_desk.specs.Chronicle.{ChronicleState}
-use Rattle.rg_desk.specs.Desk.{IsCopy, IsDesk}
+use Rattle.rg_desk.specs.Desk.{IsDesk}
 use Rattle.rg_desk.specs.Prepared.{IsPrepared}
 use Rattle.rg_desk.specs.Shows.{Shows}
 use Rattle.rg_desk.specs.Turned.{IsShade, LogsSwitch}

@@ -17,7 +17,7 @@ use Rattle.rg_indexes.specs.Listed.{keyed_rows, with_value}
 use Rattle.rg_indexes.specs.Listings.{entries_of}
 use Rattle.rg_index.specs.RisingPart.{IsRising-rising_part}
 use Rattle.rg_lawful.specs.Act.{LogState}
-use Rattle.rg_lawful.specs.Table.{IsTable}
+use Rattle.rg_home.specs.Table.{IsTable}
 use Rattle.rg_model.specs.State.{State, Table, row_of}
 use Rattle.rg_record.specs.declared.record.Record.{Record}
 use Rattle.rg_stmt.specs.declared.event.Entry.{Entry}

@@ -23,7 +23,7 @@ use Rattle.rg_follow.specs.Tells.{Tells}
 use Rattle.rg_image.specs.Rules.{ArePositions, copy_capacity, greatest_tran, limit_of, owed as log_owed, used_pages}
 use Rattle.rg_indexes.specs.Listings.{AreListings}
 use Rattle.rg_lawful.specs.Consistent.{IsConsistent}
-use Rattle.rg_lawful.specs.Lawful.{AllBelow}
+use Rattle.rg_home.specs.Owners.{AllBelow}
 use Rattle.rg_log.specs.Kept.{Listed, log_pages}
 use Rattle.rg_model.specs.State.{Claims, at_rest}
 use Rattle.rg_newest.specs.Newest.{AreNewest}
@@ -44,7 +44,8 @@ use Rattle.rg_space.specs.Space.{capacity_in, frames_of}
 use Rattle.rg_switch.proofs.Switching.{switch_stores}
 use Rattle.rg_sound.specs.Reopens.{CanReopen, HasLowOwners}
 use Rattle.rg_switch.specs.Laws.{IsTurned}
-use Rattle.rg_switch.specs.Switched.{next_epoch, other_of, switch_to, switched}
+use Rattle.rg_switch.specs.Switched.{next_epoch, switch_to, switched}
+use Rattle.rg_base.specs.Copies.{other_of}
 use Rattle.rg_version.specs.Versions.{Epoch, Spells, version}
 use Rattle.rg_desk.specs.Bytes.{taken_of}
 use Rattle.rg_desk.specs.Chronicle.{ChronicleState}

@@ -40,7 +40,9 @@ use Rattle.rg_sound.specs.Reopens.{CanReopen, HasLowOwners}
 use Rattle.rg_space.specs.Space.{capacity_in}
 use Rattle.rg_switch.proofs.Switching.{switch_left, switch_owners, switch_reopens}
 use Rattle.rg_switch.specs.Laws.{IsLeftSwitched, IsTurned}
-use Rattle.rg_switch.specs.Switched.{AreOldPages, CanSwitch, HasNewCopy, next_epoch, other_of, switch_to, switched}
+use Rattle.rg_switch.specs.Switched.{AreOldPages, CanSwitch, HasNewCopy, next_epoch, switch_to}
+use Rattle.rg_switch.specs.Switched.{switched}
+use Rattle.rg_base.specs.Copies.{other_of}
 use Rattle.rg_anew.specs.Anew.{anew_on}
 use Rattle.rg_version.specs.OnImage.{HasPages}
 use Rattle.rg_version.specs.Versions.{Epoch}

@@ -31,7 +31,7 @@ use Rattle.rg_desk.specs.Engine.{ground_of, slots_in}
 use Rattle.rg_desk.specs.Planned.{IsRefusal, change_plan, drop_plan, put_plan, refused}
 use Rattle.rg_desk.specs.Shows.{Shows, left_by}
 use Rattle.rg_account.specs.Found.{rows_found, rows_made}
-use Rattle.rg_lawful.specs.Table.{IsTable}
+use Rattle.rg_home.specs.Table.{IsTable}
 use Rattle.rg_desk.specs.Moves.{Moves}
 use Rattle.rg_desk.specs.Newest.{KeepsNewest}
 use Rattle.rg_desk.specs.Room.{IfNeeds}

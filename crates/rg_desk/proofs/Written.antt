@@ -45,7 +45,7 @@ use Rattle.rg_space.specs.Memory.{list_seen}
 use Rattle.rg_desk.specs.Shows.{KeyShown, Shows, ShowsBy, UnitsShown, left_by}
 use Rattle.rg_desk.specs.Stored.{IsQuiet, IsSettled}
 use Rattle.rg_account.specs.Found.{rows_found, rows_made}
-use Rattle.rg_lawful.specs.Table.{IsTable}
+use Rattle.rg_home.specs.Table.{IsTable}
 use Rattle.rg_desk.specs.Moves.{AreOwn, HaveFound, Moves, rows_before}
 use Rattle.rg_desk.specs.Reopens.{IsCleanIn, KeepsParts}
 use Rattle.rg_desk.specs.Trails.{Trails}

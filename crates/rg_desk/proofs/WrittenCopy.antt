@@ -22,7 +22,7 @@ use Rattle.rg_image.specs.Kept.{AreEntries}
 use Rattle.rg_image.specs.Pack.{end_of, start}
 use Rattle.rg_image.specs.Meaning.{stored}
 use Rattle.rg_image.specs.Rules.{copy_capacity}
-use Rattle.rg_lawful.specs.Table.{IsTable}
+use Rattle.rg_home.specs.Table.{IsTable}
 use Rattle.rg_log.specs.Kept.{Listed, log_pages}
 use Rattle.rg_newest.specs.Tidy.{set_of}
 use Rattle.rg_model.specs.State.{at_rest}
@@ -39,7 +39,8 @@ use Rattle.rg_shadow.specs.Planned.{AreNumbered, AreOfCopy}
 use Rattle.rg_shadow.specs.Shade.{Shade, shade_slots, stage_in}
 use Rattle.rg_shadow.specs.declared.drafts.IndexStage.TheVariants.{Built}
 use Rattle.rg_base.specs.declared.row.Row.{Row}
-use Rattle.rg_switch.specs.Switched.{AreOldPages, HasNewCopy, IsPageOfCopy, other_of}
+use Rattle.rg_switch.specs.Switched.{AreOldPages, HasNewCopy, IsPageOfCopy}
+use Rattle.rg_base.specs.Copies.{other_of}
 use Rattle.rg_unlocked.proofs.Claiming.{claimed_begins, claimed_run}
 use Rattle.rg_unlocked.specs.Unlocked.{AreClaimed}
 use Rattle.rg_written.specs.Stamped.{stamped_all}

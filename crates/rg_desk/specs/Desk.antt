@@ -67,7 +67,7 @@ use Rattle.rg_base.specs.declared.step.Step.TheVariants as steps
 use Rattle.rg_base.specs.declared.verdict.StopReason.TheVariants as reasons
 use Rattle.rg_home.specs.Pages.{slot_of}
 use Rattle.rg_home.specs.Rows.{row_at}
-use Rattle.rg_lawful.specs.Table.{IsTable}
+use Rattle.rg_home.specs.Table.{IsTable}
 use Rattle.rg_model.specs.Changes.{changes}
 use Rattle.rg_model.specs.Layout.{is_right_side}
 use Rattle.rg_model.specs.Right.{are_quiet_right, is_packed}
@@ -76,7 +76,6 @@ use Rattle.rg_stage.specs.NumbersOf.{numbers_of}
 use Rattle.rg_layout.specs.Spots.{spots_of}
 use Rattle.rg_stmt.specs.declared.layout.Side.{Side}
 use Rattle.rg_stmt.specs.declared.layout.Sides.{Sides}
-use Rattle.rg_switch.specs.Switched.{other_of}
 use Rattle.rg_desk.specs.Answers.{IfFull, IfLogFull, forces, is_answer, is_device}
 use Rattle.rg_desk.specs.Bytes.{taken_of}
 use Rattle.rg_desk.specs.Flushed.{CallsOwn, FlushIs}
@@ -95,11 +94,10 @@ use Rattle.rg_desk.specs.declared.origin.Origin.{Origin}
 use Rattle.rg_sending.specs.Sending.{AddsChanges, AreCopies}
 use Rattle.rg_sent.specs.Keeps.{KeepsFeed}
 use Rattle.rg_tally.specs.Changed.{ChangeCount}
-use Rattle.rg_tending.specs.Tending.{FollowsBy, NextBy, aside_for, behind, is_plain, utility_entry}
-
--- a number that a copy has
-abbrev pub IsCopy : (copy : ℕ) → Type 0
-IsCopy copy = (copy ≡ 1) ⊎ (copy ≡ 2)
+use Rattle.rg_tending.specs.Tending.{FollowsBy, NextBy, aside_for, is_plain, utility_entry}
+use Rattle.rg_model.specs.Run.{behind}
+use Rattle.rg_model.specs.Utility.{starts_utility}
+use Rattle.rg_base.specs.Copies.{IsCopy, other_of}
 
 -- a trace begins with the opening of this copy, of so many rows
 abbrev pub IsBegun : (copy rows : ℕ) → List Entry → Type 0
@@ -390,10 +388,6 @@ IsStart false None options copy pages log (events.StartLogFull need left) next =
 IsStart false None options copy pages log events.StartNoMemory next = next ≡ None
 IsStart false None options copy pages log event next = ⊥
 
-abbrev pub is_started : Event → Bool
-is_started (events.Started options copy pages) = true
-is_started event = false
-
 -- changes are counted from a start on
 abbrev pub started_count : Bool → ChangeCount → ChangeCount
 started_count true count = record count { since = 0 }
@@ -415,7 +409,7 @@ pub record MadeStart {V O : Type 0} (look : V → VolumeSeen) (old : DeskState V
   pub is :
       IsStart old.down old.stage options old.copy (length old.contents) old.ground.log event
       new.stage
-  pub started_is : started ≡ is_started event
+  pub started_is : started ≡ starts_utility event
   pub log_full : IfStartLogFull event (logged_by 0 old.trace) old.ground.log.pages
   pub changes : new.changes ≡ (if started then 0 else old.changes)
   pub feed : new.feed ≡ old.feed ++ begin_items event

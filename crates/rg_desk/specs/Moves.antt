@@ -21,7 +21,7 @@ use Rattle.rg_lawful.specs.Write.{Write}
 use Rattle.rg_changed.specs.Changed.{changes_in, rows_after}
 use Rattle.rg_home.specs.Pages.{slot_of}
 use Rattle.rg_home.specs.Rows.{row_at}
-use Rattle.rg_lawful.specs.Table.{IsTable}
+use Rattle.rg_home.specs.Table.{IsTable}
 use Rattle.rg_model.specs.Changes.{is_write, writes_after}
 use Rattle.rg_model.specs.Quiet.{is_quiet, names_key}
 use Rattle.rg_record.specs.declared.record.Record.{Record}

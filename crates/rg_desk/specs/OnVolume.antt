@@ -35,7 +35,8 @@ use Rattle.rg_version.specs.OnImage.{HasPages}
 use Rattle.rg_sound.specs.Reopens.{AreTidyOwners}
 use Rattle.rg_sound.specs.Sound.{IsSound}
 use Rattle.rg_version.specs.Versions.{Epoch, IsBegun, Spells, version}
-use Rattle.rg_switch.specs.Switched.{AreOldPages, other_of}
+use Rattle.rg_switch.specs.Switched.{AreOldPages}
+use Rattle.rg_base.specs.Copies.{other_of}
 use Rattle.rg_newest.specs.Steady.{IsSteady}
 use Rattle.rg_newest.specs.Tidy.{AreTidyPages, set_of, switched_pages}
 use Rattle.rg_desk.specs.Newest.{HasNewest}

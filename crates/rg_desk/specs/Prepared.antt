@@ -13,7 +13,7 @@ use Rattle.rg_home.specs.Pages.{slot_of}
 use Rattle.rg_home.specs.Rows.{row_at}
 use Rattle.rg_image.specs.Meaning.{stored}
 use Rattle.rg_image.specs.Rules.{copy_capacity}
-use Rattle.rg_lawful.specs.Table.{IsTable}
+use Rattle.rg_home.specs.Table.{IsTable}
 use Rattle.rg_outside.specs.Calls.{read_of}
 use Rattle.rg_outside.specs.Moments.{EachCall, EachImage, IfTold}
 use Rattle.rg_page.specs.Content.{Content, content_at}
@@ -22,7 +22,8 @@ use Rattle.rg_layout.specs.Spots.{spots_of}
 use Rattle.rg_shadow.specs.Shade.{IsRightSideOf, Shade, shade_slots, stage_in}
 use Rattle.rg_shadow.specs.declared.drafts.IndexStage.TheVariants.{Built}
 use Rattle.rg_stmt.specs.declared.layout.Side.{Side}
-use Rattle.rg_switch.specs.Switched.{HasNewCopy, IsPageOfCopy, other_of}
+use Rattle.rg_switch.specs.Switched.{HasNewCopy, IsPageOfCopy}
+use Rattle.rg_base.specs.Copies.{other_of}
 use Rattle.rg_written.specs.Stamped.{stamped_all}
 use Rattle.rg_written.specs.Written.{LeavesCopy, ReadsCopy}
 use Rattle.rg_desk.specs.Flushed.{ForcesLog}

@@ -7,7 +7,7 @@
 use Rattle.std.specs.Prelude.{◌≡◌, ◌≤◌, ℕ, length, take}
 use Rattle.rg_home.specs.Pages.{slot_of}
 use Rattle.rg_image.specs.Rules.{copy_capacity}
-use Rattle.rg_lawful.specs.Lawful.{AllBelow}
+use Rattle.rg_home.specs.Owners.{AllBelow}
 use Rattle.rg_log.specs.Kept.{Listed, log_pages}
 use Rattle.rg_outside.specs.Capacities.{Capacities}
 use Rattle.rg_ready.specs.Dead.{DeadNames}

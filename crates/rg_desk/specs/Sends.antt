@@ -30,7 +30,7 @@ use Rattle.rg_stmt.specs.declared.event.Event.TheVariants.{Started}
 use Rattle.rg_stmt.specs.declared.stmt.Reply.{Reply}
 use Rattle.rg_stmt.specs.declared.stmt.Reply.TheVariants.{Done}
 use Rattle.rg_tally.specs.Changed.{ChangeCount}
-use Rattle.rg_tending.specs.Tending.{behind}
+use Rattle.rg_model.specs.Run.{behind}
 use Rattle.rg_desk.specs.Engine.{slots_in}
 use Rattle.rg_desk.specs.Moves.{AreOwn, rows_before}
 use Rattle.rg_desk.specs.Stored.{IsStored}

@@ -12,7 +12,7 @@ use Rattle.rg_image.specs.Kept.{AreEntries}
 use Rattle.rg_image.specs.Log.{SpellsFrom}
 use Rattle.rg_image.specs.Pack.{end_of, start}
 use Rattle.rg_indexes.specs.Listings.{AreListings}
-use Rattle.rg_lawful.specs.Lawful.{AllBelow}
+use Rattle.rg_home.specs.Owners.{AllBelow}
 use Rattle.rg_outside.specs.Moments.{EachImage, HoldsThroughout}
 use Rattle.rg_shadow.specs.Shade.{Shade, home_rows, shade_slots}
 use Rattle.rg_space.specs.Memory.{list_seen}

@@ -2,7 +2,7 @@
 ghost use Rattle.std.specs.Prelude.{◌≡◌, ℕ, true, IfOk};
 ghost use Rattle.rg_home.specs.Pages.{slot_of};
 ghost use Rattle.rg_home.specs.Rows.{row_at};
-ghost use Rattle.rg_lawful.specs.Table.{IsTable};
+ghost use Rattle.rg_home.specs.Table.{IsTable};
 ghost use Rattle.rg_model.specs.Layout.{is_right_side};
 ghost use Rattle.rg_model.specs.State.{State, Table, row_of};
 ghost use Rattle.rg_desk.specs.Engine.{HasPages, slots_in};

@@ -8,11 +8,10 @@ ghost use Rattle.std.specs.Prelude.{◌≡◌, ◌≤◌, ◌⊎◌, OnErr, OnOk
 ghost use Rattle.rg_claim.specs.Drains.{GrantIsKept};
 ghost use Rattle.rg_log.specs.Kept.{log_pages};
 ghost use Rattle.rg_outside.specs.Faults.{Rose};
-ghost use Rattle.rg_desk.specs.Desk.{IsCopy};
+ghost use Rattle.rg_base.specs.Copies.{IsCopy, other_of};
 ghost use Rattle.rg_desk.specs.Turned.{IsShade, LogsSwitch, Takes, Turns};
 ghost use Rattle.rg_desk.specs.Volume.{seen_volume};
 ghost use Rattle.rg_shadow.specs.declared.drafts.IndexStage.TheVariants.{Built};
-ghost use Rattle.rg_switch.specs.Switched.{other_of};
 
 use crate::engine::Engine;
 use crate::records::{append, next_position};

@@ -12,7 +12,8 @@ ghost use Rattle.rg_stage.specs.Booked.{drain_kept};
 ghost use Rattle.rg_stage.specs.Bounded.{SomeBounded};
 ghost use Rattle.rg_stage.specs.NumbersOf.{numbers_of};
 ghost use Rattle.rg_tending.specs.Tending.{MayDrain, aside_for, is_plain};
-ghost use Rattle.rg_desk.specs.Desk.{is_started, started_count};
+ghost use Rattle.rg_model.specs.Utility.{starts_utility};
+ghost use Rattle.rg_desk.specs.Desk.{started_count};
 ghost use Rattle.rg_desk.specs.Shows.{IsShown};
 ghost use Rattle.rg_desk.specs.Utility.{StartIs, StepsOn};
 
@@ -59,7 +60,7 @@ pub fn start_utility(
 
 /// Whether the event says that a utility started.
 pub fn is_started(event: &Event) -> bool
-    ensures { result ≡ is_started event.now }
+    ensures { result ≡ starts_utility event.now }
 {
     matches!(event, Event::Started { .. })
 }

@@ -21,3 +21,5 @@ pub mod Takes
 pub mod First
 pub mod Whole
 pub mod Lies
+pub mod Tables
+pub mod Owners

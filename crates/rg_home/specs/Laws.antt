@@ -3,8 +3,8 @@
 -- 1. A plan, carried out, changes the row of its home alone, and no other row moves. A purge, which
 --    may come first, changes no row and moves none.
 -- 2. The parts of a plan fit their pages, and each part that brings a row has an area that holds
---    it. So the pages stay proper. Drops need no space; undo needs none either, which rg_ready
---    shows.
+--    it. So the pages stay proper. Drops need no space; undo needs none either, as the laws on it
+--    show.
 -- 3. A new area goes to the first page that admits it, there to the lowest free slot. There is none
 --    exactly where the copy has all its pages and none of them admits.
 use Rattle.std.specs.Prelude.{◌≡◌, ℕ, ◌+◌, ◌≤◌, ◌<◌, ◌↔◌, true, false, not, List, [], length, Option, Some, None, IfSome, if◌then◌else◌}

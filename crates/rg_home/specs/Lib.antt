@@ -1,7 +1,9 @@
 pub mod Slot
 pub mod Slots
 pub mod Rows
+pub mod Table
 pub mod Pages
+pub mod Owners
 pub mod Plan
 pub mod Written
 pub mod Undo

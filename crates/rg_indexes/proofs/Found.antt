@@ -19,7 +19,7 @@ use Rattle.rg_index.proofs.Order.{same_is}
 use Rattle.rg_indexes.proofs.Counts.{count, count-same, count-other, count-above, Ascend, same_counts, sorted_ascend}
 use Rattle.rg_indexes.proofs.Members.{IsRowOf, each_row}
 use Rattle.rg_indexes.specs.Listed.{listed_rows, listed_keys}
-use Rattle.rg_lawful.specs.Table.{IsTable}
+use Rattle.rg_home.specs.Table.{IsTable}
 use Rattle.rg_model.specs.Layout.{same_entry, same_place}
 use Rattle.rg_model.specs.Plain.{keys_with_cat}
 use Rattle.rg_model.specs.State.{Table, row_of, entries_of}

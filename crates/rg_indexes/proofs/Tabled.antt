@@ -16,7 +16,7 @@ use Rattle.rg_index.specs.Entries.{Each, IsRising, has_entry, is_within, entries
 use Rattle.rg_index.specs.Listed.{IsListingOf, has_value}
 use Rattle.rg_indexes.proofs.Members.{IsRowOf, each_row, row_there, same_value, not_itself}
 use Rattle.rg_indexes.specs.Listed.{with_value, keyed_rows, listed_rows}
-use Rattle.rg_lawful.specs.Table.{IsTable}
+use Rattle.rg_home.specs.Table.{IsTable}
 use Rattle.rg_model.specs.Layout.{same_place, is_entry_before}
 use Rattle.rg_model.specs.Plain.{rows_between}
 use Rattle.rg_model.specs.State.{Table, row_of, entries_of, row_count}

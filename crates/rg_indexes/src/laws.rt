@@ -4,7 +4,7 @@ ghost use Rattle.std.specs.Ordering.{nat_cmp};
 ghost use Rattle.rg_base.specs.declared.place.Place.{Place};
 ghost use Rattle.rg_base.specs.declared.row.Row.{Row};
 ghost use Rattle.rg_index.specs.Entries.{entries_within, has_entry};
-ghost use Rattle.rg_lawful.specs.Table.{IsTable};
+ghost use Rattle.rg_home.specs.Table.{IsTable};
 ghost use Rattle.rg_model.specs.Plain.{keys_with_cat, rows_between};
 ghost use Rattle.rg_model.specs.State.{Table, row_of, row_count, entries_of as table_entries};
 ghost use Rattle.rg_indexes.specs.Listed.{keyed_rows, listed_keys, listed_rows};

@@ -12,14 +12,14 @@ use Rattle.rg_ready.specs.Needed.{NeededInTurn}
 use Rattle.rg_ready.proofs.Needed.{all_in_turn}
 use Rattle.rg_ready.proofs.Next.{undoable_any}
 use Rattle.rg_lawful.specs.Write.{Write, at_home, at_key, Either, Back, gone_back, HitBy, OneOwner, latest_if, latest_of, less_if, less_of, kept_if, kept_of, written_of, AllOfKey}
-use Rattle.rg_lawful.specs.Table.{IsTable}
+use Rattle.rg_home.specs.Table.{IsTable}
 use Rattle.rg_lawful.specs.Act.{Act, LogState, others, not_of, state, Purge, Change, Undo, Commit, RollBack, Switch, nothing}
 use Rattle.rg_lawful.specs.Lawful.{Runs}
 use Rattle.rg_lawful.specs.Consistent.{IsConsistent}
 use Rattle.rg_lawful.specs.Stored.{has_commit, last_of, stored_at}
 use Rattle.rg_lawful.specs.Closing.{IsClosing, Closes, all_others, LiveInTurn, in_order}
 use Rattle.rg_lawful.proofs.Hits.{back_kept, one_kept, key_kept}
-use Rattle.rg_lawful.proofs.Tables.{table_same}
+use Rattle.rg_home.proofs.Tables.{table_same}
 use Rattle.rg_lawful.proofs.Agrees.{last_same}
 use Rattle.rg_lawful.proofs.Prefixes.{prefix_consistent, prefix_stored, inserts}
 

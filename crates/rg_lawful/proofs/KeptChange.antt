@@ -14,13 +14,14 @@ use Rattle.rg_ready.proofs.Next.{row_changed}
 use Rattle.rg_ready.proofs.Ready.{ready_begun}
 use Rattle.rg_lawful.specs.Write.{Write, at_home, at_key, Either, Back, HitBy, written_of}
 use Rattle.rg_lawful.specs.Act.{LogState, set_at, step, Change}
-use Rattle.rg_lawful.specs.Lawful.{OwnerBelow, MayWrite}
+use Rattle.rg_home.specs.Owners.{OwnerBelow}
+use Rattle.rg_lawful.specs.Lawful.{MayWrite}
 use Rattle.rg_lawful.specs.Consistent.{base_of, IsConsistent}
 use Rattle.rg_lawful.proofs.Tables.{table_set}
 use Rattle.rg_lawful.proofs.Maps.{home_hit}
 use Rattle.rg_home.proofs.Whole.{applied_within}
 use Rattle.rg_lawful.proofs.Makes.{makes_ready}
-use Rattle.rg_lawful.proofs.Parts.{applied_below, all_raised}
+use Rattle.rg_home.proofs.Owners.{applied_below, all_raised}
 use Rattle.rg_lawful.proofs.Kept.{Kept, own_base}
 use Rattle.rg_lawful.proofs.Live.{live_same, live_more, live_known, live_other}
 

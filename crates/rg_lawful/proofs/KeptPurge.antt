@@ -16,9 +16,10 @@ use Rattle.rg_lawful.specs.Write.{at_home, Back, written_of}
 use Rattle.rg_lawful.specs.Act.{LogState, step, Purge}
 use Rattle.rg_lawful.specs.Lawful.{MayPurge}
 use Rattle.rg_lawful.specs.Consistent.{base_of, IsConsistent}
-use Rattle.rg_lawful.proofs.Tables.{table_same}
+use Rattle.rg_home.proofs.Tables.{table_same}
 use Rattle.rg_home.proofs.Whole.{applied_within}
-use Rattle.rg_lawful.proofs.Parts.{applied_below, ends_fewer, can_purged, page_past}
+use Rattle.rg_home.proofs.Owners.{applied_below}
+use Rattle.rg_lawful.proofs.Parts.{ends_fewer, can_purged, page_past}
 use Rattle.rg_lawful.proofs.Kept.{Kept}
 
 module _ (limit : ℕ) (s : LogState) (g : IsConsistent limit s) where

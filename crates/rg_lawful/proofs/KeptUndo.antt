@@ -20,7 +20,7 @@ use Rattle.rg_lawful.specs.Consistent.{base_of, IsConsistent}
 use Rattle.rg_lawful.proofs.Hits.{some_is, latest_owner, back_less, back_latest, one_less, key_less, latest_key}
 use Rattle.rg_lawful.proofs.Tables.{eqb-refl, table_set}
 use Rattle.rg_lawful.proofs.Maps.{map_latest, map_less}
-use Rattle.rg_lawful.proofs.Parts.{applied_below}
+use Rattle.rg_home.proofs.Owners.{applied_below}
 use Rattle.rg_lawful.proofs.Kept.{Kept, own_base}
 
 module _ (limit : ℕ) (s : LogState) (g : IsConsistent limit s) where

@@ -6,13 +6,13 @@ use Rattle.rg_home.specs.Slot.{Slot}
 use Rattle.rg_home.specs.Written.{Written}
 use Rattle.rg_home.specs.Able.{IsLive}
 use Rattle.rg_lawful.specs.Write.{Write, at_key, kept_of, gone_back}
-use Rattle.rg_lawful.specs.Table.{IsTable}
+use Rattle.rg_home.specs.Table.{IsTable}
 use Rattle.rg_lawful.specs.Act.{Act, LogState, state, Purge, Change, Undo, Commit, RollBack, Switch}
 use Rattle.rg_lawful.specs.Lawful.{Runs}
 use Rattle.rg_lawful.specs.Consistent.{base_of, stored_of, IsConsistent}
 use Rattle.rg_lawful.specs.Stored.{has_commit, last_of, stored_at, MayCount, AgreesWith}
 use Rattle.rg_lawful.specs.Tested.{Tested, opened, units_of, TakeInAll, LogBelow}
-use Rattle.rg_lawful.proofs.Tables.{table_same}
+use Rattle.rg_home.proofs.Tables.{table_same}
 use Rattle.rg_lawful.proofs.Keeps.{keeps}
 use Rattle.rg_lawful.proofs.Agrees.{agrees_keeps, kept_all}
 use Rattle.rg_lawful.proofs.Prefixes.{stored_table}

@@ -20,7 +20,8 @@ use Rattle.rg_lawful.specs.Stored.{stored_at}
 use Rattle.rg_lawful.specs.Closing.{in_order}
 use Rattle.rg_lawful.specs.Tested.{all_of, OwnersBelow, Tested, units_of, TakeInAll}
 use Rattle.rg_lawful.proofs.Hits.{one_kept}
-use Rattle.rg_lawful.proofs.Tables.{gone_taken, table_same}
+use Rattle.rg_lawful.proofs.Tables.{gone_taken}
+use Rattle.rg_home.proofs.Tables.{table_same}
 use Rattle.rg_lawful.proofs.Prefixes.{prefix_consistent, prefix_stored, stored_table}
 use Rattle.rg_lawful.proofs.Closing.{needed_order, none_gone}
 

@@ -14,13 +14,15 @@ use Rattle.rg_ready.proofs.Begin.{proper_empty, ready_alone}
 use Rattle.rg_ready.proofs.Needed.{all_in_turn}
 use Rattle.rg_ready.proofs.Ready.{can_only}
 use Rattle.rg_lawful.specs.Write.{Write, at_home, at_key, Either, Back, gone_back, kept_of, written_of, NotBoth, AllOfKey}
-use Rattle.rg_lawful.specs.Table.{IsTable}
+use Rattle.rg_home.specs.Table.{IsTable}
 use Rattle.rg_lawful.specs.Act.{Act, LogState, state, nothing}
-use Rattle.rg_lawful.specs.Lawful.{OwnerBelow, Runs}
+use Rattle.rg_home.specs.Owners.{OwnerBelow}
+use Rattle.rg_lawful.specs.Lawful.{Runs}
 use Rattle.rg_lawful.specs.Consistent.{base_of, stored_of, IsConsistent, IsClean}
 use Rattle.rg_lawful.specs.Stored.{has_commit, last_of, stored_at, MayCount, AgreesWith}
 use Rattle.rg_lawful.proofs.Hits.{back_kept, key_kept}
-use Rattle.rg_lawful.proofs.Tables.{table_back, gone_taken, table_same}
+use Rattle.rg_lawful.proofs.Tables.{table_back, gone_taken}
+use Rattle.rg_home.proofs.Tables.{table_same}
 use Rattle.rg_lawful.proofs.Maps.{map_only}
 use Rattle.rg_lawful.proofs.Keeps.{keeps}
 use Rattle.rg_lawful.proofs.Agrees.{agrees_keeps, kept_all}

@@ -7,7 +7,7 @@ use Rattle.rg_home.specs.Rows.{same_place}
 use Rattle.rg_home.proofs.Place.{same_place-true, same_place-refl}
 use Rattle.rg_home.specs.Undo.{taken_back}
 use Rattle.rg_lawful.specs.Write.{Write, at_home, at_key, Either, Back, gone_back, written_of, IsOf, AllOfKey}
-use Rattle.rg_lawful.specs.Table.{IsTable}
+use Rattle.rg_home.specs.Table.{IsTable}
 use Rattle.rg_lawful.proofs.Hits.{back_first}
 
 pub eqb-refl : (n : ℕ) → (n == n) ≡ true
@@ -103,13 +103,3 @@ table_back (w ∷ ws) rows keys tab hs ks of =
 pub gone_taken : (p : Place) (ws : List Write) (x : Option TableRow) → gone_back (at_home p) ws x ≡ taken_back (written_of ws) p x
 gone_taken p [] x = refl
 gone_taken p (w ∷ ws) x = gone_taken p ws (if same_place p w.written.home then w.written.before else x)
-
-pub table_same : (rows rows2 : Place → Option TableRow) (keys keys2 : ℕ → Option TableRow) → ((p : Place) → rows2 p ≡ rows p) → ((k : ℕ) → keys2 k ≡ keys k) → IsTable rows keys → IsTable rows2 keys2
-table_same rows rows2 keys keys2 is are tab = record {
-  there = λ p r e. are r.key ∙ tab.there p r (sym (is p) ∙ e);
-  placed = λ k r e. moved (tab.placed k r (sym (are k) ∙ e));
-  once = λ p q r s e f. tab.once p q r s (sym (is p) ∙ e) (sym (is q) ∙ f);
-}
-  where
-    moved : {k : ℕ} {r : TableRow} → (r.key ≡ k) × (p : Place) × (rows p ≡ Some r) → (r.key ≡ k) × (p : Place) × (rows2 p ≡ Some r)
-    moved h = (h.0, h.1, is h.1 ∙ h.2)

@@ -12,11 +12,11 @@ use Rattle.rg_ready.specs.Dead.{DeadNamed}
 use Rattle.rg_ready.specs.Needed.{NeededInTurn}
 use Rattle.rg_ready.proofs.Needed.{in_turn_all}
 use Rattle.rg_ready.proofs.Next.{undo_fits, undo_proper, undo_length}
-use Rattle.rg_lawful.specs.Lawful.{AllBelow}
+use Rattle.rg_home.specs.Owners.{AllBelow}
 use Rattle.rg_lawful.specs.Consistent.{IsConsistent, IsClean}
-use Rattle.rg_lawful.specs.Table.{IsTable}
+use Rattle.rg_home.specs.Table.{IsTable}
 use Rattle.rg_lawful.specs.Tested.{all_of, OwnersBelow, Tested, UnitsCan, opened}
-use Rattle.rg_lawful.proofs.Parts.{applied_below}
+use Rattle.rg_home.proofs.Owners.{applied_below}
 
 -- a list of undos that are needed in turn
 

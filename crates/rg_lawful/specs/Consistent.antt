@@ -18,9 +18,9 @@ use Rattle.rg_home.specs.Undo.{taken_back}
 use Rattle.rg_ready.specs.Ready.{Ready}
 use Rattle.rg_ready.specs.Dead.{DeadNames}
 use Rattle.rg_lawful.specs.Write.{at_home, at_key, Back, gone_back, OneOwner, AllOfKey, written_of}
-use Rattle.rg_lawful.specs.Table.{IsTable}
+use Rattle.rg_home.specs.Table.{IsTable}
 use Rattle.rg_lawful.specs.Act.{LogState, is_in}
-use Rattle.rg_lawful.specs.Lawful.{AllBelow}
+use Rattle.rg_home.specs.Owners.{AllBelow}
 
 -- the committed row of each place
 abbrev pub base_of : LogState → Place → Option TableRow

@@ -15,7 +15,6 @@ use Rattle.rg_base.specs.declared.place.Place.{Place}
 use Rattle.rg_base.specs.declared.row.Row.{Row as TableRow}
 use Rattle.rg_base.specs.declared.part.Part.{Part}
 use Rattle.rg_home.specs.Slot.{Slot}
-use Rattle.rg_home.specs.Slot.{Free, Row, Pointer, Over, DeadRow, DeadPointer, DeadOver}
 use Rattle.rg_home.specs.Rows.{row_at, ChangesHome}
 use Rattle.rg_home.specs.Pages.{slot_of, applied, row_or_empty, FitsAll, TakesAll}
 use Rattle.rg_home.specs.Plan.{purge_of}
@@ -25,23 +24,10 @@ use Rattle.rg_home.specs.Undo.{planned_undo}
 use Rattle.rg_ready.specs.Areas.{KeepsAreas}
 use Rattle.rg_ready.specs.Dead.{DeadNames}
 use Rattle.rg_lawful.specs.Write.{Write, at_key, HitBy, latest_of, written_of, OfKey}
-use Rattle.rg_lawful.specs.Table.{IsTable}
+use Rattle.rg_home.specs.Table.{IsTable}
 use Rattle.rg_lawful.specs.Act.{Act, LogState, is_in, state}
 use Rattle.rg_lawful.specs.Act.{Purge, Change, Undo, Commit, RollBack, Switch}
-
--- a dead area has no owner above this number
-abbrev pub OwnerBelow : ℕ → Slot → Type 0
-OwnerBelow top (DeadRow capacity owner) = owner ≤ top
-OwnerBelow top (DeadPointer capacity other owner) = owner ≤ top
-OwnerBelow top (DeadOver capacity home owner) = owner ≤ top
-OwnerBelow top Free = Unit {0}
-OwnerBelow top (Row capacity row) = Unit {0}
-OwnerBelow top (Pointer capacity other) = Unit {0}
-OwnerBelow top (Over capacity row home) = Unit {0}
-
--- no dead area has
-abbrev pub AllBelow : ℕ → (Place → Slot) → Type 0
-AllBelow top at = (p : Place) → OwnerBelow top (at p)
+use Rattle.rg_home.specs.Owners.{AllBelow}
 
 -- the pages after the parts of a write
 abbrev pub pages_with : List (List Slot) → Written → Option TableRow → List (List Slot)

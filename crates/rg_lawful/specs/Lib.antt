@@ -1,5 +1,4 @@
 pub mod Write
-pub mod Table
 pub mod Act
 pub mod Lawful
 pub mod Consistent

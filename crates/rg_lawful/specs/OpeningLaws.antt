@@ -16,9 +16,10 @@ use Rattle.rg_home.specs.Rows.{row_at}
 use Rattle.rg_home.specs.Pages.{page_at, slot_of, applied, FitsAll}
 use Rattle.rg_home.specs.Written.{Written}
 use Rattle.rg_home.specs.Undo.{undone_all}
-use Rattle.rg_lawful.specs.Table.{IsTable}
+use Rattle.rg_home.specs.Table.{IsTable}
 use Rattle.rg_lawful.specs.Act.{Act, nothing, state}
-use Rattle.rg_lawful.specs.Lawful.{AllBelow, Runs}
+use Rattle.rg_home.specs.Owners.{AllBelow}
+use Rattle.rg_lawful.specs.Lawful.{Runs}
 use Rattle.rg_lawful.specs.Consistent.{base_of, stored_of, IsConsistent, IsClean}
 use Rattle.rg_lawful.specs.Stored.{has_commit, last_of, stored_at, MayCount}
 use Rattle.rg_lawful.specs.Write.{at_key, kept_of, gone_back}

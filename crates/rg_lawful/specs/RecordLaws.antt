@@ -10,7 +10,7 @@ use Rattle.std.specs.Prelude.{◌≡◌, ◌||◌, ◌++◌, not, ℕ, Bool, tru
 use Rattle.rg_record.specs.declared.record.Record.{Record}
 use Rattle.rg_home.specs.Slot.{Slot}
 use Rattle.rg_lawful.specs.Write.{at_key, kept_of, gone_back}
-use Rattle.rg_lawful.specs.Table.{IsTable}
+use Rattle.rg_home.specs.Table.{IsTable}
 use Rattle.rg_lawful.specs.Act.{Act, LogState, nothing, state, step}
 use Rattle.rg_lawful.specs.Lawful.{Lawful, Runs, ActFits}
 use Rattle.rg_lawful.specs.Consistent.{base_of, stored_of, IsConsistent, IsClean}

@@ -16,7 +16,7 @@ use Rattle.rg_home.specs.Able.{Proper, AllUndoable}
 use Rattle.rg_home.specs.Undo.{undone_all}
 use Rattle.rg_ready.specs.Needed.{NeededInTurn}
 use Rattle.rg_lawful.specs.Write.{Write, kept_of, own_of, written_of}
-use Rattle.rg_lawful.specs.Table.{IsTable}
+use Rattle.rg_home.specs.Table.{IsTable}
 use Rattle.rg_lawful.specs.Act.{Act, LogState, not_of}
 use Rattle.rg_lawful.specs.Act.{Purge, Change, Undo, Commit, RollBack, Switch}
 

@@ -28,7 +28,7 @@ use Rattle.rg_layout.proofs.OnSpots.{is_over, place_itself, spots, row_spot, eve
 use Rattle.rg_layout.proofs.Places.{Rise, IsWithin, all_rise, is_among, is_slot}
 use Rattle.rg_layout.specs.Right.{IsRightFor}
 use Rattle.rg_layout.specs.Spots.{places_to, spot_of, spots_of}
-use Rattle.rg_lawful.specs.Table.{IsTable}
+use Rattle.rg_home.specs.Table.{IsTable}
 use Rattle.rg_model.specs.Layout as layout
 use Rattle.rg_model.specs.Layout.{same_place, is_place_before, homes, overs, is_on_page, has_clus, are_spots_of, listing, is_listing, same_entry, is_right_side}
 use Rattle.rg_model.specs.Same.{same_list}

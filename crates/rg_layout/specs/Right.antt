@@ -5,7 +5,7 @@ use Rattle.rg_home.specs.Rows.{row_at, Tied}
 use Rattle.rg_home.specs.Slot.{Slot}
 use Rattle.rg_indexes.specs.Listings.{AreListings}
 use Rattle.rg_indexes.specs.declared.indexes.Indexes.{Indexes}
-use Rattle.rg_lawful.specs.Table.{IsTable}
+use Rattle.rg_home.specs.Table.{IsTable}
 use Rattle.rg_model.specs.Layout.{is_right_side}
 use Rattle.rg_model.specs.State.{Table, row_of}
 use Rattle.rg_stmt.specs.declared.layout.Side.{Side}

@@ -9,8 +9,8 @@ use Rattle.rg_fold.specs.Fed.{Fed, Progress}
 use Rattle.rg_fold.specs.Fold.{row_in}
 use Rattle.rg_fold.specs.declared.item.Item.{Item}
 use Rattle.rg_layout.specs.Spots.{spots_of}
-use Rattle.rg_lawful.specs.Table.{IsTable}
-use Rattle.rg_lawful.proofs.Tables.{table_same}
+use Rattle.rg_home.specs.Table.{IsTable}
+use Rattle.rg_home.proofs.Tables.{table_same}
 use Rattle.rg_model.specs.Packed.{spots_from}
 use Rattle.rg_model.specs.Right.{are_quiet_right}
 use Rattle.rg_model.specs.State.{Table, row_of}

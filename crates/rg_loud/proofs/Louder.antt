@@ -15,8 +15,9 @@ use Rattle.rg_stmt.specs.declared.event.Event.{Event}
 use Rattle.rg_stmt.specs.declared.event.Event.TheVariants as events
 use Rattle.rg_stmt.specs.declared.stmt.Reply.{Reply}
 use Rattle.rg_stmt.specs.declared.stmt.Stmt.{Stmt}
-use Rattle.rg_tending.specs.Tending.{behind}
-use Rattle.rg_loud.specs.Laws.{IsLoudAfter, starts_utility}
+use Rattle.rg_model.specs.Run.{behind}
+use Rattle.rg_loud.specs.Laws.{IsLoudAfter}
+use Rattle.rg_model.specs.Utility.{starts_utility}
 
 -- ---- traces
 

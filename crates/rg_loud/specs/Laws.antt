@@ -5,7 +5,7 @@
 -- 2. No entry but the start of a utility makes a key quiet (`EntryHushesNone`).
 -- 3. After a statement no key is quiet that was locked before it, nor the one that it wrote
 --    (`SaidIsLoud`).
-use Rattle.std.specs.Prelude.{◌≡◌, ℕ, Bool, true, false, List, [], ◌∷◌, Some}
+use Rattle.std.specs.Prelude.{◌≡◌, ℕ, true, false, List, [], ◌∷◌, Some}
 use Rattle.std.specs.FinMap as map
 use Rattle.rg_base.specs.declared.lock.Lock.{Lock}
 use Rattle.rg_base.specs.declared.session.Session.{Session}
@@ -17,21 +17,17 @@ use Rattle.rg_quiet.specs.Told.{LocksTold, QuietFree}
 use Rattle.rg_sent.specs.Laws.{NoneHushed}
 use Rattle.rg_stmt.specs.declared.event.Actor.TheVariants as actors
 use Rattle.rg_stmt.specs.declared.event.Entry.{Entry}
-use Rattle.rg_stmt.specs.declared.event.Event.{Event}
 use Rattle.rg_stmt.specs.declared.event.Event.TheVariants as events
 use Rattle.rg_stmt.specs.declared.stmt.Reply.{Reply}
 use Rattle.rg_stmt.specs.declared.stmt.Stmt.{Stmt}
-use Rattle.rg_tending.specs.Tending.{behind}
+use Rattle.rg_model.specs.Run.{behind}
+use Rattle.rg_model.specs.Utility.{starts_utility}
 
 abbrev pub QuietInRun : Type 0
 QuietInRun =
     (table : Table) (copy : ℕ) (trace : List Entry) (st : State)
     → Run [] (at_rest table copy) trace st
     → LocksTold (behind [] trace) st × QuietFree (behind [] trace) st
-
-abbrev pub starts_utility : Event → Bool
-starts_utility (events.Started options copy pages) = true
-starts_utility event = false
 
 abbrev pub EntryHushesNone : Type 0
 EntryHushesNone =

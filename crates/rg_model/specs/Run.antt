@@ -64,3 +64,8 @@ Run past st [] new = new ≡ st
 Run past st (entry ∷ entries) new =
     (mid : State) × Allows past entry.answer entry.actor entry.event st mid
     × Run (entry ∷ past) mid entries new
+
+-- these entries behind others, the newest first
+abbrev pub behind : List Entry → List Entry → List Entry
+behind past [] = past
+behind past (entry ∷ entries) = behind (entry ∷ past) entries

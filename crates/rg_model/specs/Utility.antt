@@ -1,5 +1,5 @@
 -- The states that a utility's start and its steps leave.
-use Rattle.std.specs.Prelude.{ℕ, ◌==◌, ◌&&◌, ◌-◌, true, false, List, Option, Some, None}
+use Rattle.std.specs.Prelude.{ℕ, ◌==◌, ◌&&◌, ◌-◌, Bool, true, false, List, Option, Some, None}
 use Rattle.rg_base.specs.declared.control.Answer.{Answer}
 use Rattle.rg_base.specs.declared.options.DrainState.TheVariants.{Free}
 use Rattle.rg_base.specs.declared.options.Options.{Options}
@@ -11,6 +11,7 @@ use Rattle.rg_model.specs.Right.{is_right_switch}
 use Rattle.rg_model.specs.Said.{if_allowed}
 use Rattle.rg_model.specs.State.{State, Utility}
 use Rattle.rg_model.specs.Turn.{Turn, Runs, Switches, Stops, Falls, turn_of}
+use Rattle.rg_stmt.specs.declared.event.Event.TheVariants as events
 
 -- a utility that has done nothing
 abbrev pub new_utility : Options → (pages : ℕ) → Utility
@@ -66,3 +67,8 @@ state_stepped past None event st u = None
 state_stepped past (Some answer) event st u =
     state_by_turn past st u
     (turn_of (changes past) (least_holder st.drain st.claims) answer u st.drain event)
+
+-- a utility starts
+abbrev pub starts_utility : Event → Bool
+starts_utility (events.Started options copy pages) = true
+starts_utility event = false

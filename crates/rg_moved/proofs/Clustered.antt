@@ -13,7 +13,7 @@ use Rattle.rg_base.specs.declared.row.Row.{Row}
 use Rattle.rg_fold.specs.Fold.{row_in}
 use Rattle.rg_fold.specs.Lawful.{AreApart}
 use Rattle.rg_layout.proofs.OnSpots.{place_is, place_itself}
-use Rattle.rg_lawful.specs.Table.{IsTable}
+use Rattle.rg_home.specs.Table.{IsTable}
 use Rattle.rg_model.specs.Layout.{same_place}
 use Rattle.rg_model.specs.Packed.{clustered_rows}
 use Rattle.rg_model.specs.State.{Table, entries_of, row_of}

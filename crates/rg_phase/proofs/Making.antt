@@ -25,7 +25,7 @@ use Rattle.rg_stmt.specs.declared.event.Entry.{Entry}
 use Rattle.rg_stmt.specs.declared.event.Event.{Event}
 use Rattle.rg_stmt.specs.declared.event.Event.TheVariants as events
 use Rattle.rg_stmt.specs.declared.layout.Sides.{Sides}
-use Rattle.rg_switch.specs.Switched.{other_of}
+use Rattle.rg_base.specs.Copies.{other_of}
 use Rattle.rg_tending.specs.Tending.{FollowsBy, NextBy, is_booked, is_plain, utility_entry}
 use Rattle.rg_course.specs.Loading.{Loading, loading_after}
 use Rattle.rg_image.specs.Rules.{copy_capacity}

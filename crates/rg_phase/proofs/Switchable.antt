@@ -33,8 +33,8 @@ use Rattle.rg_shadow.specs.Shade.{Shade}
 use Rattle.rg_stmt.specs.declared.layout.Side.{Side}
 use Rattle.rg_stmt.specs.declared.layout.Sides.{Sides}
 use Rattle.rg_stmt.specs.declared.layout.Spot.{Spot}
-use Rattle.rg_switch.specs.Switched.{other_of}
-use Rattle.rg_tending.specs.Tending.{behind}
+use Rattle.rg_base.specs.Copies.{other_of}
+use Rattle.rg_model.specs.Run.{behind}
 use Rattle.rg_written.specs.Stamped.{stamped_all}
 use Rattle.rg_written.proofs.Stamping.{slots_of-stamped_first}
 use Rattle.rg_phase.specs.Drafted.{IsDraftOf, IsReady}

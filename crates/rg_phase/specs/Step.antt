@@ -36,7 +36,7 @@ use Rattle.rg_reach.specs.Weighed.{weigh_feed}
 use Rattle.rg_stage.specs.NumbersOf.{numbers_of}
 use Rattle.rg_stmt.specs.declared.event.Event.{Event}
 use Rattle.rg_stmt.specs.declared.event.Event.TheVariants as events
-use Rattle.rg_switch.specs.Switched.{other_of}
+use Rattle.rg_base.specs.Copies.{other_of}
 use Rattle.rg_tending.specs.Tending.{is_booked, utility_entry}
 
 -- STOP DEVICE

@@ -15,7 +15,7 @@ use Rattle.rg_desk.specs.Volume.{VolumeSeen}
 use Rattle.rg_fold.specs.declared.item.Stage.{Stage}
 use Rattle.rg_home.specs.Pages.{slot_of}
 use Rattle.rg_home.specs.Rows.{row_at}
-use Rattle.rg_lawful.specs.Table.{IsTable}
+use Rattle.rg_home.specs.Table.{IsTable}
 use Rattle.rg_model.specs.Changes.{changes}
 use Rattle.rg_model.specs.Right.{are_quiet_right, is_packed}
 use Rattle.rg_model.specs.State.{Table, row_of}
@@ -30,8 +30,9 @@ use Rattle.rg_stage.specs.NumbersOf.{numbers_of}
 use Rattle.rg_stmt.specs.declared.event.Event.{Event}
 use Rattle.rg_stmt.specs.declared.event.Event.TheVariants as events
 use Rattle.rg_stmt.specs.declared.layout.Sides.{Sides}
-use Rattle.rg_switch.specs.Switched.{other_of}
-use Rattle.rg_tending.specs.Tending.{behind, is_booked, is_plain}
+use Rattle.rg_base.specs.Copies.{other_of}
+use Rattle.rg_model.specs.Run.{behind}
+use Rattle.rg_tending.specs.Tending.{is_booked, is_plain}
 
 -- the operator lets the utility make this step
 pub record MakesStep (stage : Stage) (answer : Answer) (step : Step) : Type 0 where

@@ -32,7 +32,7 @@ ghost use Rattle.rg_phase.specs.Working.{AreSidesToSwitch, IsOver, MakesStep, Wr
 ghost use Rattle.rg_phase.specs.declared.made.Made.TheVariants.{Nothing};
 ghost use Rattle.rg_reach.specs.Weighed.{weigh_feed};
 ghost use Rattle.rg_shadow.specs.declared.drafts.IndexStage.TheVariants.{Sorted, Built};
-ghost use Rattle.rg_switch.specs.Switched.{other_of};
+ghost use Rattle.rg_base.specs.Copies.{other_of};
 
 use crate::draft::{Draft, Packing};
 use crate::made::Made;

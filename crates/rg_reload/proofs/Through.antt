@@ -13,7 +13,7 @@ use Rattle.rg_home.specs.Pages.{slot_of}
 use Rattle.rg_home.specs.Rows.{Tied, TiesAt, home_row, row_at}
 use Rattle.rg_home.specs.Slot.{Slot}
 use Rattle.rg_home.specs.Slots.{IsTrimmed, slot_at, trim}
-use Rattle.rg_lawful.specs.Lawful.{AllBelow, OwnerBelow}
+use Rattle.rg_home.specs.Owners.{AllBelow, OwnerBelow}
 use Rattle.rg_model.specs.Layout.{same_place}
 use Rattle.rg_model.specs.Packed.{area_of, free_part, page_at}
 use Rattle.rg_page.specs.Content.{Content, slots_of}

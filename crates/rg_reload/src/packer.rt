@@ -11,7 +11,7 @@ ghost use Rattle.rg_fold.specs.Fold.{row_in};
 ghost use Rattle.rg_fold.specs.Lawful.{AreApart};
 ghost use Rattle.rg_home.specs.Able.{Proper};
 ghost use Rattle.rg_home.specs.Rows.{row_at};
-ghost use Rattle.rg_lawful.specs.Lawful.{AllBelow};
+ghost use Rattle.rg_home.specs.Owners.{AllBelow};
 ghost use Rattle.rg_model.specs.Layout.{are_rising};
 ghost use Rattle.rg_model.specs.Packed.{page_count, spots_from};
 ghost use Rattle.rg_page.specs.Content.{slots_of};

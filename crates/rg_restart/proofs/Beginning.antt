@@ -16,7 +16,7 @@ use Rattle.rg_keyed.specs.Keyed.{AllTakeBack, TransBelow, keyed_acts}
 use Rattle.rg_keyed.proofs.Stores.{opening_stores, stored_by_key, undos_add_none}
 use Rattle.rg_lawful.specs.Act.{LogState}
 use Rattle.rg_lawful.specs.Stored.{stored_at}
-use Rattle.rg_lawful.specs.Table.{IsTable}
+use Rattle.rg_home.specs.Table.{IsTable}
 use Rattle.rg_lawful.specs.Tested.{OwnersBelow, Tested, all_of, opened}
 use Rattle.rg_lawful.proofs.Testing.{tested_consistent}
 use Rattle.rg_log.specs.Kept.{Listed}

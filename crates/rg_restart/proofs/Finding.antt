@@ -16,7 +16,7 @@ use Rattle.rg_image.specs.Kept.{AreEntries}
 use Rattle.rg_image.specs.Meaning.{Current, stored}
 use Rattle.rg_image.specs.Rules.{greatest_tran, owed}
 use Rattle.rg_indexes.specs.Listings.{AreListings}
-use Rattle.rg_lawful.specs.Table.{IsTable}
+use Rattle.rg_home.specs.Table.{IsTable}
 use Rattle.rg_lawful.specs.Tested.{OwnersBelow, all_of}
 use Rattle.rg_log.specs.Kept.{Listed}
 use Rattle.rg_page.specs.Bare.{bare}
@@ -38,7 +38,8 @@ use Rattle.rg_unended.proofs.Opens.{listed_is}
 use Rattle.rg_anew.proofs.Anew.{trans_below}
 use Rattle.rg_newest.specs.Newest.{AreNewest}
 use Rattle.rg_newest.specs.Tidy.{opened_epoch}
-use Rattle.rg_desk.specs.Desk.{CanBegin, IsCopy}
+use Rattle.rg_desk.specs.Desk.{CanBegin}
+use Rattle.rg_base.specs.Copies.{IsCopy}
 use Rattle.rg_desk.specs.Newest.{HasNewest}
 use Rattle.rg_space.specs.Memory.{list_seen, space_pages}
 use Rattle.rg_desk.specs.declared.found.Found.{Found}

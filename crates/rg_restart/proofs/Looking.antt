@@ -16,7 +16,7 @@ use Rattle.rg_image.specs.Pack.{log_bytes}
 use Rattle.rg_image.specs.Rules.{ArePositions, BreaksChain, BreaksLogPages, BreaksSpace, HasLogPages, HasSpace, IsChain, copy_capacity, limit_of, owed}
 use Rattle.rg_image.proofs.Grow.{spells_more}
 use Rattle.rg_image.proofs.Sound.{chain_positions}
-use Rattle.rg_lawful.specs.Lawful.{AllBelow}
+use Rattle.rg_home.specs.Owners.{AllBelow}
 use Rattle.rg_log.specs.Kept.{LeavesLog, Listed, log_pages}
 use Rattle.rg_log.specs.Open.{IsCertain, IsLogFault, IsQuiet, ReadsTidy}
 use Rattle.rg_log.specs.declared.fault.LogFault.{LogFault}

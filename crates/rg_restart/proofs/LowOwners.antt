@@ -10,7 +10,7 @@ use Rattle.rg_home.specs.Pages.{slot_of}
 use Rattle.rg_home.specs.Slot.{Slot}
 use Rattle.rg_home.specs.Slots.{slot_at}
 use Rattle.rg_image.specs.Rules.{greatest_tran}
-use Rattle.rg_lawful.specs.Lawful.{AllBelow, OwnerBelow}
+use Rattle.rg_home.specs.Owners.{AllBelow, OwnerBelow}
 use Rattle.rg_newest.specs.Newest.{AreNewest}
 use Rattle.rg_newest.specs.Tidy.{opened_epoch}
 use Rattle.rg_newest.proofs.InMemory.{past_in, there_in}

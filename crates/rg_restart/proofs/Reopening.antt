@@ -16,7 +16,7 @@ use Rattle.rg_home.specs.Pages.{slot_of}
 use Rattle.rg_image.specs.Kept.{AreEntries}
 use Rattle.rg_image.specs.Pack.{log_bytes}
 use Rattle.rg_image.specs.Rules.{ArePositions, HasSpace, greatest_tran, limit_of, owed}
-use Rattle.rg_lawful.specs.Lawful.{AllBelow}
+use Rattle.rg_home.specs.Owners.{AllBelow}
 use Rattle.rg_log.specs.Kept.{Listed, log_pages}
 use Rattle.rg_newest.specs.Newest.{AreNewest, page_in}
 use Rattle.rg_newest.specs.Tidy.{opened_epoch, switched_at, switched_pages}

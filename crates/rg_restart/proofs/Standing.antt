@@ -37,7 +37,8 @@ use Rattle.rg_desk.specs.OnVolume.{HasCopies, IsMark, IsOn, IsTidyVolume, WasAll
 use Rattle.rg_desk.specs.Reopens.{PartsReopen}
 use Rattle.rg_desk.specs.Volume.{VolumeSeen}
 use Rattle.rg_desk.proofs.Copies.{copies_more}
-use Rattle.rg_switch.specs.Switched.{AreOldPages, IsOldPage, other_of}
+use Rattle.rg_switch.specs.Switched.{AreOldPages, IsOldPage}
+use Rattle.rg_base.specs.Copies.{other_of}
 use Rattle.rg_restart.specs.declared.data.LastSwitch.{LastSwitch}
 use Rattle.rg_restart.specs.Data.{IsMarked, IsTaken, MarksPages, mark_if, switch_of}
 use Rattle.rg_restart.specs.Found.{ReopensFrom}

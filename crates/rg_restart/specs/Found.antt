@@ -28,7 +28,8 @@ use Rattle.rg_rebuilt.specs.Rebuilt.{CanRebuild}
 use Rattle.rg_record.specs.declared.record.Record.{Record}
 use Rattle.rg_space.specs.Space.{capacity_in, frames_of}
 use Rattle.rg_space.specs.declared.space.Space.{Space}
-use Rattle.rg_desk.specs.Desk.{CanBegin, IsCopy}
+use Rattle.rg_desk.specs.Desk.{CanBegin}
+use Rattle.rg_base.specs.Copies.{IsCopy}
 use Rattle.rg_space.specs.Memory.{list_seen, space_pages}
 use Rattle.rg_newest.specs.Tidy.{opened_epoch, switched_pages}
 use Rattle.rg_desk.specs.Newest.{HasNewest}

@@ -7,7 +7,8 @@ use Rattle.std.proofs.lemmas.Bool.{eqb-true}
 use Rattle.std.specs.Cmp.{nat_cmp_total}
 use Rattle.std.specs.Option.{is_some}
 use Rattle.rg_desk.specs.Chronicle.{IsEntry, IsRecorded}
-use Rattle.rg_desk.specs.Desk.{DeskState, IsCopy, LegalFrom, old_records}
+use Rattle.rg_desk.specs.Desk.{DeskState, LegalFrom, old_records}
+use Rattle.rg_base.specs.Copies.{IsCopy}
 use Rattle.rg_desk.specs.OnVolume.{IsTidyVolume, WasAllTidy}
 use Rattle.rg_desk.specs.Stored.{IsStored}
 use Rattle.rg_desk.specs.Volume.{HasCalls, VolumeSeen}

@@ -24,7 +24,7 @@ use Rattle.rg_stmt.specs.declared.stmt.Reply.{Reply}
 use Rattle.rg_stmt.specs.declared.stmt.Reply.TheVariants.{Done, Found, Listed, Keyed, Absent, Duplicate, Held, Victim, Drained, Full, LogFull, Device, Down, NoMemory}
 use Rattle.rg_stmt.specs.declared.stmt.Stmt.{Stmt}
 use Rattle.rg_stmt.specs.Entries.{said_entry}
-use Rattle.rg_switch.specs.Switched.{other_of}
+use Rattle.rg_base.specs.Copies.{IsCopy, other_of}
 use Rattle.rg_image.specs.Rules.{copy_capacity, limit_of}
 use Rattle.rg_desk.specs.Answers.{IfLogFull, is_device}
 use Rattle.rg_account.specs.Account.{allowed_of}
@@ -33,7 +33,9 @@ use Rattle.rg_reach.specs.Weighed.{weigh_feed}
 use Rattle.rg_desk.specs.Stored.{IsStored}
 use Rattle.rg_record.specs.declared.record.Record.{Record}
 use Rattle.rg_desk.specs.Chronicle.{logged_after, logged_by, system_entry}
-use Rattle.rg_desk.specs.Desk.{DeskState, IfStartLogFull, IsCopy, IsLayout, IsStart, MadeFlush, MadeLayout, MadeSaid, MadeStart, Stays, is_started, left_to_take, old_records}
+use Rattle.rg_desk.specs.Desk.{DeskState, IfStartLogFull, IsLayout, IsStart, MadeFlush}
+use Rattle.rg_desk.specs.Desk.{MadeLayout, MadeSaid, MadeStart, Stays, left_to_take, old_records}
+use Rattle.rg_model.specs.Utility.{starts_utility}
 use Rattle.rg_desk.specs.Flushed.{FlushIs, WritesEither}
 use Rattle.rg_desk.specs.Volume.{IsCount, VolumeSeen}
 use Rattle.rg_newest.specs.Tidy.{set_of}
@@ -383,7 +385,7 @@ module _ {V O : Type 0} {answers : O → Option (List Answer)} (look : V → Vol
       ((flush_none made.event is).space (look old.volume).capacities (loading_in None old.trace)) (loading_still entry made.utility.stage made.stays.copy (flush_none made.event is).same))
 
   -- where a utility runs, it ran before, or it started
-  started_runs : (down : Bool) (stage next : Option Stage) (options : Options) (copy pages : ℕ) (log : ListedLog) (event : Event) → IsStart down stage options copy pages log event next → is_some next ≡ true → (is_some stage ≡ true) ⊎ (is_started event ≡ true)
+  started_runs : (down : Bool) (stage next : Option Stage) (options : Options) (copy pages : ℕ) (log : ListedLog) (event : Event) → IsStart down stage options copy pages log event next → is_some next ≡ true → (is_some stage ≡ true) ⊎ (starts_utility event ≡ true)
   started_runs true stage next options copy pages log event is runs = inl (ap (λ (o : Option Stage). is_some o) (sym is.1) ∙ runs)
   started_runs false (Some s) next options copy pages log event is runs = inl refl
   started_runs false None next options copy pages log (events.Started given of_copy of_pages) is runs = inr refl
@@ -392,7 +394,7 @@ module _ {V O : Type 0} {answers : O → Option (List Answer)} (look : V → Vol
   started_runs false None next options copy pages log event is runs = absurd is
 
   -- the start of a utility allows both copies
-  start_allows : (event : Event) (calls : ℕ) → is_started event ≡ true → (copy : ℕ) → IsCopy copy → AllowsCopy (old.trace ++ utility_entry event None calls ∷ []) copy
+  start_allows : (event : Event) (calls : ℕ) → starts_utility event ≡ true → (copy : ℕ) → IsCopy copy → AllowsCopy (old.trace ++ utility_entry event None calls ∷ []) copy
   start_allows (events.Started options of_copy pages) calls is copy (inl one) call writes =
       own_right old.trace (utility_entry (events.Started options of_copy pages) None calls ∷ []) call (inl (inl (subst (λ (n : ℕ). WritesEither (set_of n) call) one writes)))
   start_allows (events.Started options of_copy pages) calls is copy (inr two) call writes =
@@ -413,7 +415,7 @@ module _ {V O : Type 0} {answers : O → Option (List Answer)} (look : V → Vol
       (space_start options made.event is (look old.volume).capacities (loading_in None old.trace))
       (shown_start old.down old.stage new.stage options old.copy new.copy (length old.contents) old.ground.log old.trace entry made.is made.stays.copy goes.loading))
     where
-      by_start : (copy : ℕ) → IsCopy copy → (is_some old.stage ≡ true) ⊎ (is_started made.event ≡ true) → AllowsCopy (old.trace ++ utility_entry made.event None made.calls ∷ []) copy
+      by_start : (copy : ℕ) → IsCopy copy → (is_some old.stage ≡ true) ⊎ (starts_utility made.event ≡ true) → AllowsCopy (old.trace ++ utility_entry made.event None made.calls ∷ []) copy
       by_start copy which (inl ran) = allows_more (utility_entry made.event None made.calls) copy (goes.both ran copy which)
       by_start copy which (inr started) = start_allows made.event made.calls started copy which
 

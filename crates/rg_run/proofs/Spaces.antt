@@ -22,7 +22,7 @@ use Rattle.rg_stmt.specs.declared.event.Event.TheVariants as events
 use Rattle.rg_stmt.specs.declared.line.Line.{Line}
 use Rattle.rg_stmt.specs.declared.stmt.Reply.{Reply}
 use Rattle.rg_stmt.specs.declared.stmt.Stmt.{Stmt}
-use Rattle.rg_switch.specs.Switched.{other_of}
+use Rattle.rg_base.specs.Copies.{other_of}
 use Rattle.rg_run.specs.Played.{IsFlushed, IsOpenedEntry, IsStartEvent, ShowsLoading, TraceOf}
 use Rattle.rg_run.specs.Space.{AreForSpace, IsForSpace}
 

@@ -10,7 +10,8 @@ use Rattle.std.specs.List.{AllByRecursion}
 use Rattle.rg_base.specs.declared.control.Answer.{Answer}
 use Rattle.rg_course.specs.OnCourse.{IsOnCourse}
 use Rattle.rg_desk.specs.Chronicle.{IsRecorded}
-use Rattle.rg_desk.specs.Desk.{DeskState, IsCopy, LegalFrom, old_records}
+use Rattle.rg_desk.specs.Desk.{DeskState, LegalFrom, old_records}
+use Rattle.rg_base.specs.Copies.{IsCopy}
 use Rattle.rg_desk.specs.OnVolume.{IsSoundTidy, WasAllTidy}
 use Rattle.rg_desk.specs.Stored.{IsStored}
 use Rattle.rg_desk.specs.Volume.{HasCalls, VolumeSeen, WasTidy}

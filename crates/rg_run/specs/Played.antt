@@ -13,7 +13,8 @@ use Rattle.rg_stmt.specs.declared.line.Line.TheVariants.{Said, Reorg, Step, Flus
 use Rattle.rg_stmt.specs.declared.stmt.Reply.{Reply}
 use Rattle.rg_stmt.specs.Entries.{opened_entry, said_entry}
 use Rattle.rg_desk.specs.Chronicle.{system_entry}
-use Rattle.rg_desk.specs.Desk.{DeskState, IsCopy, IsLayout, old_records}
+use Rattle.rg_desk.specs.Desk.{DeskState, IsLayout, old_records}
+use Rattle.rg_base.specs.Copies.{IsCopy}
 use Rattle.rg_desk.specs.Desk.{is_reply}
 use Rattle.rg_course.specs.Loading.{IsLoaded, loading_in, loading_of}
 use Rattle.rg_desk.specs.Stored.{IsStored}

@@ -13,7 +13,7 @@ use Rattle.rg_outside.specs.Capacities.{Capacities}
 use Rattle.rg_stmt.specs.declared.event.Entry.{Entry}
 use Rattle.rg_stmt.specs.declared.event.Event.{Event}
 use Rattle.rg_stmt.specs.declared.event.Event.TheVariants.{Reload, Stop}
-use Rattle.rg_switch.specs.Switched.{other_of}
+use Rattle.rg_base.specs.Copies.{other_of}
 
 -- how many pages there are once the next one is filled
 abbrev pub next_count : Loading → ℕ

@@ -16,7 +16,7 @@ use Rattle.rg_fold.specs.declared.item.Item.TheVariants as items
 use Rattle.rg_fold.proofs.Feeding.{later_ordered}
 use Rattle.rg_fold.proofs.Folds.{page_copies-append, since-append}
 use Rattle.rg_lawful.proofs.Tables.{eqb-refl}
-use Rattle.rg_loud.specs.Laws.{starts_utility}
+use Rattle.rg_model.specs.Utility.{starts_utility}
 use Rattle.rg_loud.proofs.Louder.{none_hushed}
 use Rattle.rg_model.specs.Changes.{changes, unit_writes, writes_after}
 use Rattle.rg_sending.specs.Sending.{AreCopies, CopiesOne, HasMoved, KeepsSent, SameCopies, items_made}

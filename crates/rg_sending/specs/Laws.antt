@@ -19,7 +19,7 @@ use Rattle.rg_fold.specs.Lawful.{AreRowsOf}
 use Rattle.rg_fold.specs.declared.item.Item.{Item}
 use Rattle.rg_fold.specs.declared.item.Item.TheVariants.{Begin, PageCopy}
 use Rattle.rg_fold.specs.declared.item.Stage.{Stage}
-use Rattle.rg_loud.specs.Laws.{starts_utility}
+use Rattle.rg_model.specs.Utility.{starts_utility}
 use Rattle.rg_model.specs.Turn.{Turn, turn_of}
 use Rattle.rg_sending.specs.Sending.{CopiesOne, HasMoved, KeepsSent, SameCopies, items_made}
 use Rattle.rg_sent.specs.Keeps.{Rows}

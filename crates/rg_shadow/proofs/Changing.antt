@@ -14,8 +14,8 @@ use Rattle.rg_home.specs.Plan.{pages_after}
 use Rattle.rg_home.specs.Rows.{ChangesHome}
 use Rattle.rg_home.specs.Slot.{Slot}
 use Rattle.rg_home.specs.declared.plan.Plan.{Plan}
-use Rattle.rg_lawful.specs.Lawful.{AllBelow}
-use Rattle.rg_lawful.proofs.Parts.{applied_below}
+use Rattle.rg_home.specs.Owners.{AllBelow}
+use Rattle.rg_home.proofs.Owners.{applied_below}
 use Rattle.rg_map.specs.Mapping.{Mapping, Targets}
 use Rattle.rg_space.specs.Carries.{cleared}
 use Rattle.rg_space.specs.Space.{capacity_in}

@@ -13,7 +13,7 @@ use Rattle.rg_home.specs.Pages.{slot_of}
 use Rattle.rg_home.specs.Rows.{ChangesHome, row_at}
 use Rattle.rg_home.specs.Slot.{Slot}
 use Rattle.rg_index.specs.Listed.{SetsRow, has_value}
-use Rattle.rg_lawful.specs.Lawful.{AllBelow}
+use Rattle.rg_home.specs.Owners.{AllBelow}
 use Rattle.rg_map.specs.Mapping.{Targets}
 use Rattle.rg_home.specs.declared.plan.Plan.{Plan}
 use Rattle.rg_page.specs.Content.{slots_of}

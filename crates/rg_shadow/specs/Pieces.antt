@@ -16,7 +16,7 @@ use Rattle.rg_home.specs.Pages.{row_or_empty, slot_of}
 use Rattle.rg_home.specs.Plan.{pages_after}
 use Rattle.rg_home.specs.Rows.{row_at}
 use Rattle.rg_home.specs.declared.plan.Plan.{Plan}
-use Rattle.rg_lawful.specs.Lawful.{AllBelow}
+use Rattle.rg_home.specs.Owners.{AllBelow}
 use Rattle.rg_map.specs.Mapping.{IsOneToOne, IsTarget, Targets}
 use Rattle.rg_shadow.specs.Drafts.{AreKept, HaveSpare, KeepBuilt, SameDrafts, stage_of}
 use Rattle.rg_shadow.specs.Planned.{AreUnlogged, HasPages, SameSpace, pages_in, seen_in, slots_in}

@@ -17,7 +17,7 @@ ghost use Rattle.rg_home.specs.Pages.{slot_of};
 ghost use Rattle.rg_home.specs.Rows.{row_at};
 ghost use Rattle.rg_index.specs.Listed.{IsListingOf};
 ghost use Rattle.rg_indexes.specs.Listings.{AreListings, entries_of};
-ghost use Rattle.rg_lawful.specs.Lawful.{AllBelow};
+ghost use Rattle.rg_home.specs.Owners.{AllBelow};
 ghost use Rattle.rg_layout.specs.Spots.{spots_of};
 ghost use Rattle.rg_page.specs.Content.{content_at};
 ghost use Rattle.rg_page.specs.Listed.{stamped};

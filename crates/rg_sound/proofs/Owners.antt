@@ -16,7 +16,7 @@ use Rattle.rg_home.specs.Pages.{made, row_or_empty}
 use Rattle.rg_home.specs.Slots.{slot_at}
 use Rattle.rg_home.proofs.Slots.{slot_at-placed_other, slot_at-placed_same}
 use Rattle.rg_image.specs.Rules.{greatest_tran}
-use Rattle.rg_lawful.specs.Lawful.{OwnerBelow}
+use Rattle.rg_home.specs.Owners.{OwnerBelow}
 use Rattle.rg_newest.specs.OpenLaws.{IsTakenPage}
 use Rattle.rg_newest.specs.Tidy.{set_of}
 use Rattle.rg_outside.specs.Calls.{Image}

@@ -11,7 +11,7 @@ use Rattle.std.specs.Prelude.{◌≡◌, ◌≤◌, ℕ, List, drop, length}
 use Rattle.rg_home.specs.Slots.{slot_at}
 use Rattle.rg_image.specs.Rules.{HasSpace, IsChain, greatest_tran}
 use Rattle.rg_lawful.specs.Act.{LogState}
-use Rattle.rg_lawful.specs.Lawful.{OwnerBelow}
+use Rattle.rg_home.specs.Owners.{OwnerBelow}
 use Rattle.rg_log.specs.Kept.{log_pages}
 use Rattle.rg_newest.specs.Newest.{AreNewest}
 use Rattle.rg_outside.specs.Calls.{Image}

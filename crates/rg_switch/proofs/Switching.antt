@@ -18,7 +18,7 @@ use Rattle.rg_image.specs.Rules.{ArePositions, IsChain, IsChained, IsOpen, copy_
 use Rattle.rg_keyed.proofs.Stores.{stored_by_key}
 use Rattle.rg_keyed.specs.Keyed.{keyed_acts, keyed_of}
 use Rattle.rg_lawful.specs.Act.{Act, LogState}
-use Rattle.rg_lawful.specs.Lawful.{OwnerBelow}
+use Rattle.rg_home.specs.Owners.{OwnerBelow}
 use Rattle.rg_lawful.specs.Stored.{stored_at}
 use Rattle.rg_log.specs.Kept.{log_pages}
 use Rattle.rg_newest.proofs.Flush.{version_early}

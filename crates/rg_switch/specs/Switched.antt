@@ -5,7 +5,7 @@
 -- 2. The pages were written to the copy's set before. Past them stand old pages, of which none has
 --    a position that the log did not have before the Switch.
 -- 3. The copy begins with these pages just as an opening of that log has it begin (`opened_epoch`).
-use Rattle.std.specs.Prelude.{◌≡◌, ◌≢◌, ◌≤◌, ◌<◌, ◌+◌, ◌==◌, ◌++◌, ℕ, if◌then◌else◌, List, [], ◌∷◌, length}
+use Rattle.std.specs.Prelude.{◌≡◌, ◌≢◌, ◌≤◌, ◌<◌, ◌+◌, ◌++◌, ℕ, List, [], ◌∷◌, length}
 use Rattle.rg_image.specs.Meaning.{current_of, stored}
 use Rattle.rg_image.specs.Rules.{ArePositions, HasSpace, IsOpen, copy_capacity, greatest_tran}
 use Rattle.rg_lawful.specs.Act.{LogState}
@@ -18,10 +18,6 @@ use Rattle.rg_page.specs.Content.{Content, content_at, slots_of}
 use Rattle.rg_record.specs.declared.record.Kind.TheVariants.{Switch}
 use Rattle.rg_record.specs.declared.record.Record.{Record}
 use Rattle.rg_version.specs.Versions.{Epoch, Spells}
-
--- the other one of the two copies
-abbrev pub other_of : (copy : ℕ) → ℕ
-other_of copy = if copy == 1 then 2 else 1
 
 -- the record that turns to this copy, of so many pages
 abbrev pub switch_to : (position copy pages : ℕ) → Record

@@ -26,7 +26,8 @@ use Rattle.rg_stmt.specs.declared.stmt.Reply.{Reply}
 use Rattle.rg_stmt.specs.declared.stmt.Reply.TheVariants as replies
 use Rattle.rg_stmt.specs.declared.stmt.Stmt.{Stmt}
 use Rattle.rg_stmt.specs.declared.stmt.Stmt.TheVariants.{Insert, Update, Delete, Select, Scan, Find, Commit, Rollback}
-use Rattle.rg_tending.specs.Tending.{IsRefusedEvent, IsSystem, behind}
+use Rattle.rg_tending.specs.Tending.{IsRefusedEvent, IsSystem}
+use Rattle.rg_model.specs.Run.{behind}
 
 -- ---- the last entry
 

@@ -26,7 +26,9 @@ use Rattle.rg_stmt.specs.declared.event.Event.TheVariants as events
 use Rattle.rg_stmt.specs.declared.stmt.Reply.{Reply}
 use Rattle.rg_stmt.specs.declared.stmt.Stmt.{Stmt}
 use Rattle.rg_tally.specs.Changed.{ChangeCount, IsCounted, no_changes, writes_at}
-use Rattle.rg_tending.specs.Tending.{IsRefusedEvent, IsSystem, IsKeptStage, Tends, behind, aside_for, system_entry, utility_entry}
+use Rattle.rg_tending.specs.Tending.{IsRefusedEvent, IsSystem, IsKeptStage, Tends, aside_for}
+use Rattle.rg_tending.specs.Tending.{system_entry, utility_entry}
+use Rattle.rg_model.specs.Run.{behind}
 use Rattle.rg_tending.proofs.Keeping.{allowed_is, behind_push, refused_is, refused_plain, run_pop, said_keeps, step_next, system_changes, system_keeps, system_writes, turn_plain, utility_changes, utility_writes}
 
 length_push : (trace : List Entry) (entry : Entry) → length (trace ++ entry ∷ []) ≡ length trace + 1

@@ -33,7 +33,8 @@ use Rattle.rg_stmt.specs.declared.event.Event.TheVariants.{Started}
 use Rattle.rg_stmt.specs.declared.stmt.Reply.{Reply}
 use Rattle.rg_stmt.specs.declared.stmt.Stmt.{Stmt}
 use Rattle.rg_tally.specs.Changed.{ChangeCount, IsCounted, no_changes}
-use Rattle.rg_tending.specs.Tending.{IsKeptStage, IsRefusedEvent, IsSystem, MayDrain, Tends, behind}
+use Rattle.rg_tending.specs.Tending.{IsKeptStage, IsRefusedEvent, IsSystem, MayDrain, Tends}
+use Rattle.rg_model.specs.Run.{behind}
 use Rattle.rg_tending.specs.Tending.{aside_for, is_plain, system_entry, utility_entry}
 
 abbrev pub SaidTends : Type 0

@@ -7,7 +7,8 @@
 --    granted, until the copies are switched. From then on no drain is in force.
 -- 4. From a utility's start to its switch, 28 bytes of the log are set aside for the record of the
 --    switch. That record takes them.
-use Rattle.std.specs.Prelude.{◌≡◌, ◌⊎◌, ℕ, Bool, true, false, List, [], ◌∷◌, Option, Some, None, if◌then◌else◌, length}
+use Rattle.std.specs.Prelude.{◌≡◌, ◌⊎◌, ℕ, Bool, true, false, List, [], Option, Some, None}
+use Rattle.std.specs.Prelude.{if◌then◌else◌, length}
 use Rattle.std.specs.Coded.{Unit-prop}
 use Rattle.rg_base.specs.declared.control.Answer.{Answer}
 use Rattle.rg_base.specs.declared.options.DrainFor.TheVariants as what
@@ -27,11 +28,7 @@ use Rattle.rg_stmt.specs.declared.event.Entry.{Entry}
 use Rattle.rg_stmt.specs.declared.event.Event.{Event}
 use Rattle.rg_stmt.specs.declared.event.Event.TheVariants as events
 use Rattle.rg_tally.specs.Changed.{ChangeCount, IsCounted}
-
--- these entries behind others, the newest first
-abbrev pub behind : List Entry → List Entry → List Entry
-behind past [] = past
-behind past (entry ∷ entries) = behind (entry ∷ past) entries
+use Rattle.rg_model.specs.Run.{behind}
 
 -- the bytes of the log that are set aside for a utility: those of the record of its switch
 abbrev pub aside_for : Option Stage → ℕ

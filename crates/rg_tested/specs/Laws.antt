@@ -13,7 +13,7 @@ use Rattle.rg_home.specs.Rows.{Tied}
 use Rattle.rg_home.specs.Slot.{Slot}
 use Rattle.rg_home.specs.Undo.{undone_all}
 use Rattle.rg_home.specs.Written.{Written}
-use Rattle.rg_lawful.specs.Table.{IsTable}
+use Rattle.rg_home.specs.Table.{IsTable}
 use Rattle.rg_ready.specs.Dead.{DeadNames}
 use Rattle.rg_ready.specs.Needed.{NeededInTurn}
 use Rattle.rg_tested.specs.Keys.{IsAlone}

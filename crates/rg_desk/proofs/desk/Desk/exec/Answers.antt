@@ -18,7 +18,8 @@ use Rattle.rg_desk.proofs.DeskGoes.{desk_replied, desk_room, desk_shown, old_sam
 use Rattle.rg_desk.proofs.Flushing.{own_calls}
 use Rattle.rg_desk.proofs.Rows.{replied_rows}
 use Rattle.rg_desk.proofs.Sounding.{replied_sound}
-use Rattle.rg_tending.specs.Tending.{Tends, behind}
+use Rattle.rg_tending.specs.Tending.{Tends}
+use Rattle.rg_model.specs.Run.{behind}
 use Rattle.rg_tending.proofs.Tended.{tends_said}
 use Rattle.rg_desk.proofs.Preparing.{prepared_on, prepared_same}
 use Rattle.rg_feed.specs.Ends.{sent_items}

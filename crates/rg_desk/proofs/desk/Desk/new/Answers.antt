@@ -2,7 +2,7 @@ use Rattle.std.proofs.Common.{ℕ, List, [], ◌∷◌, Option, None, length, re
 use Rattle.rg_base.specs.declared.position.Position.{Position}
 use Rattle.rg_image.specs.Pack.{log_bytes}
 use Rattle.rg_home.specs.Pages.{slot_of}
-use Rattle.rg_lawful.specs.Lawful.{AllBelow}
+use Rattle.rg_home.specs.Owners.{AllBelow}
 use Rattle.rg_log.specs.Kept.{Listed}
 use Rattle.rg_outside.proofs.Every.{told_weaken}
 use Rattle.rg_record.specs.declared.record.Record.{Record}

@@ -5,9 +5,9 @@ use Rattle.rg_base.specs.declared.row.Row.{Row}
 use Rattle.rg_home.specs.Pages.{slot_of}
 use Rattle.rg_home.specs.Rows.{row_at}
 use Rattle.rg_image.specs.Rules.{copy_capacity}
-use Rattle.rg_lawful.specs.Table.{IsTable}
+use Rattle.rg_home.specs.Table.{IsTable}
 use Rattle.rg_shadow.specs.Shade.{Shade, shade_slots}
-use Rattle.rg_switch.specs.Switched.{other_of}
+use Rattle.rg_base.specs.Copies.{other_of}
 use Rattle.rg_tending.specs.Tending.{Tends}
 use Rattle.rg_written.specs.Stamped.{stamped_all}
 use Rattle.rg_desk.specs.Desk.{DeskState, IsDesk, written_seen}

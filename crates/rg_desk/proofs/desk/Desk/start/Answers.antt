@@ -6,7 +6,8 @@ use Rattle.rg_stmt.specs.declared.event.Entry.{Entry}
 use Rattle.rg_tally.specs.Changed.{ChangeCount}
 use Rattle.rg_tending.specs.Tending.{Tends, aside_for, utility_entry}
 use Rattle.rg_desk.specs.Chronicle.{logged_by}
-use Rattle.rg_desk.specs.Desk.{IfStartLogFull, IsStart, is_started, old_records, started_count}
+use Rattle.rg_desk.specs.Desk.{IfStartLogFull, IsStart, old_records, started_count}
+use Rattle.rg_model.specs.Utility.{starts_utility}
 use Rattle.rg_desk.specs.Engine.{ground_of}
 use Rattle.rg_desk.specs.Flushed.{CallsOwn}
 use Rattle.rg_desk.specs.Room.{Ground}
@@ -44,7 +45,7 @@ invariant_of-self-2 g c =
           (ap (λ (x : Engine). x.log.records) (start_aside inside.down inside.stage c.args.options inside.copy inside.engine event next after c.start_utility-event.ensures)) c.self.invariant.2,
       subst (λ (count : ChangeCount). KeepsItems after inside.origin c.push.new.self.trace inside.down next count (sent_items c.send_start.new.outlet))
           (sym (changes ∙ ap (λ (b : Bool). started_count b inside.changes) c.is_started-started.ensures))
-          (subst (λ (xs : List Item). KeepsItems after inside.origin c.push.new.self.trace inside.down next (started_count (is_started event) inside.changes) xs)
+          (subst (λ (xs : List Item). KeepsItems after inside.origin c.push.new.self.trace inside.down next (started_count (starts_utility event) inside.changes) xs)
           (sym (c.send_start.ensures.items ∙ ap (λ (xs : List Item). xs ++ begin_items event) c.in_ok-reserve.ensures.same.items))
           (started_items inside.engine after inside.chronicle inside.origin inside.copy inside.marks.items seen inside.down c.self.invariant.0 inside.stage next c.args.options inside.copy event c.calls_now-calls.result inside.changes (sent_items inside.outlet) c.self.invariant.3
           c.start_utility-event.ensures c.push.new.self.trace

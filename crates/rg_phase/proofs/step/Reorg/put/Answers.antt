@@ -4,7 +4,7 @@ use Rattle.rg_desk.specs.Prepared.{PreparedSeen}
 use Rattle.rg_desk.specs.Volume.{seen_volume}
 use Rattle.rg_image.specs.Rules.{copy_capacity}
 use Rattle.rg_shadow.specs.Shade.{Shade}
-use Rattle.rg_switch.specs.Switched.{other_of}
+use Rattle.rg_base.specs.Copies.{other_of}
 use Rattle.rg_phase.specs.Drafted.{IsDraftOf, IsReady}
 use Rattle.rg_phase.specs.Made.{HasMade, IsWrittenOf}
 use Rattle.rg_phase.specs.declared.made.Made.{Made}

@@ -4,7 +4,7 @@ use Rattle.rg_desk.specs.Desk.{CanCommit, MadeFall, MadeSwitch}
 use Rattle.rg_desk.specs.Volume.{seen_volume}
 use Rattle.rg_desk.proofs.Committing.{by_result}
 use Rattle.rg_stmt.specs.declared.event.Event.TheVariants as events
-use Rattle.rg_switch.specs.Switched.{other_of}
+use Rattle.rg_base.specs.Copies.{other_of}
 use Rattle.rg_image.specs.Rules.{copy_capacity}
 use Rattle.rg_phase.specs.Step.{Acts}
 use Rattle.rg_phase.specs.declared.made.Made.TheVariants.{Nothing}

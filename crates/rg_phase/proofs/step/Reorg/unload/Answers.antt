@@ -3,7 +3,7 @@ use Rattle.rg_base.specs.declared.verdict.StopReason.TheVariants as reasons
 use Rattle.rg_desk.specs.Volume.{seen_volume}
 use Rattle.rg_image.specs.Rules.{copy_capacity}
 use Rattle.rg_stmt.specs.declared.event.Event.TheVariants as events
-use Rattle.rg_switch.specs.Switched.{other_of}
+use Rattle.rg_base.specs.Copies.{other_of}
 use Rattle.rg_phase.proofs.Loading.{space_at}
 use Rattle.rg_phase.proofs.Making.{acts_booked, acts_copied, plain_some, writes_forgotten}
 use Rattle.rg_phase.proofs.Steps.{made_runs, next_runs, runs_some}

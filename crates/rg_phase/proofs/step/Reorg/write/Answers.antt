@@ -5,7 +5,7 @@ use Rattle.rg_desk.specs.Volume.{seen_volume}
 use Rattle.rg_stmt.specs.declared.event.Event.{Event}
 use Rattle.rg_stmt.specs.declared.event.Event.TheVariants as events
 use Rattle.rg_image.specs.Rules.{copy_capacity}
-use Rattle.rg_switch.specs.Switched.{other_of}
+use Rattle.rg_base.specs.Copies.{other_of}
 use Rattle.rg_phase.proofs.Loading.{space_at}
 use Rattle.rg_phase.proofs.Making.{acts_booked}
 use Rattle.rg_phase.proofs.Steps.{next_runs, runs_some}
