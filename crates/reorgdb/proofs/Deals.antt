@@ -11,7 +11,7 @@ use Rattle.rg_stmt.specs.declared.line.Line.{Line}
 use Rattle.rg_stmt.specs.declared.line.Line.TheVariants.{Death, Flush, Reorg, Said, Show, Step}
 use Rattle.rg_deck.specs.Grammar.{IsAdmitted, Lines}
 use Rattle.rg_deck.specs.declared.read.Admits.TheVariants.{Every}
-use Rattle.rg_desk.specs.Volume.{VolumeSeen}
+use Rattle.rg_engine.specs.Volume.{VolumeSeen}
 use Rattle.rg_gen.specs.Deck.{IsOfSessions, deck_of}
 use Rattle.rg_gen.proofs.Sessions.{each_of_sessions}
 use Rattle.rg_run.specs.Judged.{JudgesRun}

@@ -5,8 +5,8 @@ use Rattle.std.specs.List.{Contains}
 use Rattle.rg_base.specs.declared.bytes.Bytes.{Bytes}
 use Rattle.rg_base.specs.declared.no_memory.NoMemory.{NoMemory as WantsMemory}
 use Rattle.rg_desk.specs.Chronicle.{system_entry}
-use Rattle.rg_desk.specs.Desk.{IsLayout}
-use Rattle.rg_desk.specs.Volume.{VolumeSeen}
+use Rattle.rg_engine.specs.Layouts.{IsLayout}
+use Rattle.rg_engine.specs.Volume.{VolumeSeen}
 use Rattle.rg_model.specs.Committed.{committed_table}
 use Rattle.rg_model.specs.Layout.{is_right_side}
 use Rattle.rg_model.specs.Possible.{next_state}

@@ -1,6 +1,6 @@
 -- What holds of the trace of a call: that of its run, or none.
 use Rattle.std.proofs.Common.{◌≡◌, List, [], Option, Some, None, refl, sym, subst}
-use Rattle.rg_desk.specs.Volume.{VolumeSeen}
+use Rattle.rg_engine.specs.Volume.{VolumeSeen}
 use Rattle.rg_outside.specs.Calls.{Told}
 use Rattle.rg_outside.specs.Moments.{IfTold}
 use Rattle.rg_stmt.specs.declared.event.Entry.{Entry}

@@ -10,8 +10,8 @@ use Rattle.rg_gen.specs.Summary.{summary_text}
 use Rattle.rg_outside.specs.Faults.{Rose}
 use Rattle.rg_print.specs.Print.{damaged_text, print_text}
 use Rattle.rg_print.specs.declared.print.Close.TheVariants as closes
-use Rattle.rg_desk.specs.OnVolume.{IsTidyVolume}
-use Rattle.rg_desk.specs.Volume.{VolumeSeen}
+use Rattle.rg_engine.specs.OnVolume.{IsTidyVolume}
+use Rattle.rg_engine.specs.Volume.{VolumeSeen}
 use Rattle.rg_base.specs.declared.set.Set.{Set}
 use Rattle.rg_outside.specs.Calls.{Told, read_of}
 use Rattle.rg_sound.specs.Sound.{IsSound}

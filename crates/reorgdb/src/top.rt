@@ -3,7 +3,7 @@ ghost use Rattle.std.specs.Prelude.{◌+◌, map, string_bytes};
 ghost use Rattle.reorgdb.specs.Answer.{seen, Concludes, Delivers, output_of};
 ghost use Rattle.reorgdb.specs.Contract.{Completes};
 ghost use Rattle.rg_run.specs.Asked.{HasAnswered, answers_in};
-ghost use Rattle.rg_desk.specs.Volume.{seen_volume};
+ghost use Rattle.rg_engine.specs.Volume.{seen_volume};
 ghost use Rattle.reorgdb.specs.Reading.{TakesAtMost};
 ghost use Rattle.reorgdb.specs.Traced.{Traced};
 

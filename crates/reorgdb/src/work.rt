@@ -11,7 +11,7 @@ ghost use Rattle.std.specs.Prelude.{ℕ, ◌≡◌, ◌≢◌, ◌≤◌, ◌+�
 ghost use Rattle.std.specs.Prelude.{OnErr, string_bytes};
 ghost use Rattle.std.specs.List.{AllByRecursion};
 ghost use Rattle.rg_stmt.specs.declared.line.Line.{Line};
-ghost use Rattle.rg_desk.specs.Volume.{VolumeSeen, seen_volume};
+ghost use Rattle.rg_engine.specs.Volume.{VolumeSeen, seen_volume};
 ghost use Rattle.rg_gen.specs.Deck.{deck_of};
 ghost use Rattle.rg_run.specs.Asked.{HasAnswered, answers_in};
 ghost use Rattle.rg_run.specs.Outside.{IsEnd};

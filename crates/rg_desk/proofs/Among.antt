@@ -19,7 +19,7 @@ use Rattle.rg_stmt.specs.declared.stmt.Reply.{Reply}
 use Rattle.rg_stmt.specs.declared.stmt.Reply.TheVariants.{Device}
 use Rattle.rg_stmt.specs.declared.stmt.Stmt.{Stmt}
 use Rattle.rg_stmt.specs.declared.stmt.Stmt.TheVariants.{Insert, Update, Delete, Select, Scan, Find, Commit, Rollback}
-use Rattle.rg_desk.specs.Answers.{state_left}
+use Rattle.rg_engine.specs.Answers.{state_left}
 use Rattle.rg_desk.specs.Desk.{AreKeys, IsAmong}
 
 -- ---- a table has no more rows than its keys are among

@@ -23,15 +23,15 @@ use Rattle.rg_tally.specs.Changed.{ChangeCount}
 use Rattle.rg_tending.specs.Tending.{Tends}
 use Rattle.rg_desk.specs.Chronicle.{ChronicleState}
 use Rattle.rg_desk.specs.Desk.{AreSides, DeskState, HasCurrent, HasDrain, IsDesk, IsNewSide}
-use Rattle.rg_desk.specs.Engine.{slots_in}
-use Rattle.rg_desk.specs.Prepared.{IsSideOfKept, KeepsPrepared, PreparedSeen, prepared_seen}
-use Rattle.rg_desk.specs.Shows.{Shows}
-use Rattle.rg_desk.specs.Volume.{VolumeSeen}
-use Rattle.rg_desk.specs.declared.engine.Engine.{Engine}
-use Rattle.rg_desk.specs.declared.origin.Origin.{Origin}
-use Rattle.rg_desk.specs.declared.prepared.Prepared.{Prepared}
+use Rattle.rg_engine.specs.Engine.{slots_in}
+use Rattle.rg_engine.specs.Prepared.{IsSideOfKept, KeepsPrepared, PreparedSeen, prepared_seen}
+use Rattle.rg_engine.specs.Shows.{Shows}
+use Rattle.rg_engine.specs.Volume.{VolumeSeen}
+use Rattle.rg_engine.specs.declared.engine.Engine.{Engine}
+use Rattle.rg_engine.specs.declared.origin.Origin.{Origin}
+use Rattle.rg_engine.specs.declared.prepared.Prepared.{Prepared}
 use Rattle.rg_desk.proofs.DeskUtility.{state_shows}
-use Rattle.rg_desk.proofs.Drained.{rows_stored}
+use Rattle.rg_engine.proofs.Drained.{rows_stored}
 use Rattle.rg_desk.proofs.WrittenCopy.{claims_are}
 
 -- rows at homes are one table

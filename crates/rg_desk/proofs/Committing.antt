@@ -33,8 +33,8 @@ use Rattle.rg_model.specs.State.{Claims, Utility, row_of}
 use Rattle.rg_model.specs.Turn.{Turn, Switches, alter, step_of, turn_of}
 use Rattle.rg_record.specs.declared.record.Record.{Record}
 use Rattle.rg_claimed.specs.Claim.{claimed_all, nobody}
-use Rattle.rg_desk.specs.Stored.{IsStored}
-use Rattle.rg_desk.specs.Units.{unit_at}
+use Rattle.rg_engine.specs.Stored.{IsStored}
+use Rattle.rg_engine.specs.Units.{unit_at}
 use Rattle.rg_shadow.specs.Shade.{shade_slots}
 use Rattle.rg_stage.specs.Bounded.{KeepsBounds}
 use Rattle.rg_stage.specs.Followed.{Followed}
@@ -50,18 +50,18 @@ use Rattle.rg_tending.specs.Tending.{Tends, utility_entry}
 use Rattle.rg_model.specs.Run.{behind}
 use Rattle.rg_desk.specs.Chronicle.{ChronicleState, IsRecorded}
 use Rattle.rg_desk.specs.Desk.{CanCommit, DeskState, IsDesk, old_records}
-use Rattle.rg_desk.specs.Engine.{slots_in}
-use Rattle.rg_desk.specs.OnVolume.{SoundThroughout}
-use Rattle.rg_desk.specs.Prepared.{IsPrepared, PreparedSeen}
-use Rattle.rg_desk.specs.Shows.{left_by}
-use Rattle.rg_desk.specs.Turned.{IsShade, LogsSwitch, Turns}
-use Rattle.rg_desk.specs.Volume.{IsCount, VolumeSeen}
-use Rattle.rg_desk.specs.declared.engine.Engine.{Engine}
-use Rattle.rg_desk.specs.declared.origin.Origin.{Origin}
-use Rattle.rg_desk.specs.declared.prepared.Prepared.{Prepared}
+use Rattle.rg_engine.specs.Engine.{slots_in}
+use Rattle.rg_engine.specs.OnVolume.{SoundThroughout}
+use Rattle.rg_engine.specs.Prepared.{IsPrepared, PreparedSeen}
+use Rattle.rg_engine.specs.Shows.{left_by}
+use Rattle.rg_engine.specs.Turned.{IsShade, LogsSwitch, Turns}
+use Rattle.rg_engine.specs.Volume.{IsCount, VolumeSeen}
+use Rattle.rg_engine.specs.declared.engine.Engine.{Engine}
+use Rattle.rg_engine.specs.declared.origin.Origin.{Origin}
+use Rattle.rg_engine.specs.declared.prepared.Prepared.{Prepared}
 use Rattle.rg_desk.proofs.DeskSwitch.{at_switch, drain_is, aside_is, fell_on, switched_on}
 use Rattle.rg_desk.proofs.DeskUtility.{GoesOn}
-use Rattle.rg_desk.proofs.Sessions.{left_consistent}
+use Rattle.rg_engine.proofs.Sessions.{left_consistent}
 use Rattle.rg_desk.proofs.Switching.{no_units}
 use Rattle.rg_desk.proofs.Turning.{turn_sound}
 

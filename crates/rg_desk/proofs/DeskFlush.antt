@@ -14,19 +14,19 @@ use Rattle.rg_log.specs.Kept.{Listed, log_pages}
 use Rattle.rg_newest.specs.Tidy.{set_of}
 use Rattle.rg_desk.specs.Chronicle.{ChronicleState, IsRecorded, system_entry}
 use Rattle.rg_desk.specs.Desk.{IsDesk}
-use Rattle.rg_desk.specs.Engine.{seen_in}
-use Rattle.rg_desk.specs.Flushed.{CallsOwn, FlushIs, IsFlush, TellsFlush, WritesEither}
-use Rattle.rg_desk.specs.Left.{LeavesState}
-use Rattle.rg_desk.specs.OnVolume.{RestsOn}
-use Rattle.rg_desk.specs.Volume.{IsCount, LeavesIfTidy, VolumeSeen}
-use Rattle.rg_desk.specs.declared.engine.Engine.{Engine}
-use Rattle.rg_desk.specs.declared.origin.Origin.{Origin}
+use Rattle.rg_engine.specs.Engine.{seen_in}
+use Rattle.rg_engine.specs.Flushed.{CallsOwn, FlushIs, IsFlush, TellsFlush, WritesEither}
+use Rattle.rg_engine.specs.Left.{LeavesState}
+use Rattle.rg_engine.specs.OnVolume.{RestsOn}
+use Rattle.rg_engine.specs.Volume.{IsCount, LeavesIfTidy, VolumeSeen}
+use Rattle.rg_engine.specs.declared.engine.Engine.{Engine}
+use Rattle.rg_engine.specs.declared.origin.Origin.{Origin}
 use Rattle.rg_tending.specs.Tending.{IsSystem}
 use Rattle.rg_desk.proofs.DeskGoes.{desk_quiet}
-use Rattle.rg_desk.proofs.Flushing.{forces_clean, own_same}
-use Rattle.rg_desk.proofs.OnVolume.{tidy_then}
-use Rattle.rg_desk.specs.Reopens.{IsCleanIn}
-use Rattle.rg_desk.proofs.Leaving.{on_calls}
+use Rattle.rg_engine.proofs.Flushing.{forces_clean, own_same}
+use Rattle.rg_engine.proofs.OnVolume.{tidy_then}
+use Rattle.rg_engine.specs.Reopens.{IsCleanIn}
+use Rattle.rg_engine.proofs.Leaving.{on_calls}
 
 -- a flush of a desk that is up is allowed
 is_system : (copy : ℕ) (contents : List Content) (marks later : List (Option Position)) (old new : VolumeSeen) (event : Event) → IsFlush copy contents marks later old new event → IsSystem event

@@ -1,5 +1,7 @@
 -- A desk goes on by one entry, and its trace is legal.
-use Rattle.std.proofs.Common.{◌≡◌, ◌≢◌, ◌==◌, ◌&&◌, ◌||◌, not, ◌≤◌, ◌<◌, ◌+◌, ◌-◌, ◌*◌, ◌^◌, inl, inr, ℕ, suc, Bool, true, false, cond, List, [], ◌∷◌, ◌++◌, length, take, Option, Some, None, refl, sym, ◌∙◌, ap, subst, arith, length-append}
+use Rattle.std.proofs.Common.{◌≡◌, ◌≢◌, ◌==◌, ◌&&◌, ◌||◌, ◌≤◌, ◌<◌, ◌+◌, ◌-◌, ◌*◌, ◌^◌, inl, inr, ℕ}
+use Rattle.std.proofs.Common.{suc, Bool, true, false, cond, List, [], ◌∷◌, ◌++◌, length, take}
+use Rattle.std.proofs.Common.{Option, Some, None, refl, sym, ◌∙◌, ap, subst, arith, length-append}
 use Rattle.std.proofs.lemmas.Cmp.{nat_cmp_total}
 use Rattle.std.proofs.lemmas.List.{take-append-le}
 use Rattle.std.proofs.Math.Seq.{take-length}
@@ -17,16 +19,14 @@ use Rattle.rg_base.specs.declared.row.Row.{Row}
 use Rattle.rg_base.specs.declared.session.Session.{Session}
 use Rattle.rg_model.specs.Claims.{claim_classes, classes_needed}
 use Rattle.rg_model.specs.Committed.{committed_table}
-use Rattle.rg_model.specs.Layout.{is_right_side}
 use Rattle.rg_model.specs.Legal.{Legal, IsActor, asks}
 use Rattle.rg_model.specs.Plain.{after, after_answer, is_done}
-use Rattle.rg_model.specs.Possible.{next_state, possible, state_shown, states_before}
+use Rattle.rg_model.specs.Possible.{next_state, possible, states_before}
 use Rattle.rg_model.specs.Run.{Run, Says}
 use Rattle.rg_base.specs.declared.set.Set.TheVariants.{Log}
 use Rattle.rg_outside.specs.Calls.{Told}
 use Rattle.rg_outside.specs.Made.{WritesIn}
 use Rattle.rg_outside.specs.Moments.{IfTold}
-use Rattle.rg_model.specs.Said.{if_allowed}
 use Rattle.rg_model.specs.State.{State, Table, at_rest, row_count}
 use Rattle.rg_model.proofs.Members.{only_one}
 use Rattle.rg_model.proofs.Overlay.{committed-at_rest, key_of}
@@ -40,46 +40,47 @@ use Rattle.rg_stmt.specs.declared.event.Actor.TheVariants as actors
 use Rattle.rg_stmt.specs.declared.event.Entry.{Entry}
 use Rattle.rg_stmt.specs.declared.event.Event.{Event}
 use Rattle.rg_stmt.specs.declared.event.Event.TheVariants.{Clean, Flush, FlushDevice, FlushDown, FlushNoMemory, Layout, LayoutDown, LayoutNoMemory}
-use Rattle.rg_stmt.specs.declared.layout.Side.{Side}
 use Rattle.rg_stmt.specs.declared.stmt.Reply.{Reply}
 use Rattle.rg_stmt.specs.declared.stmt.Reply.TheVariants.{Done, Found, Listed, Keyed, Absent, Duplicate, Held, Victim, Drained, Full, LogFull, Device, Down, NoMemory}
 use Rattle.rg_stmt.specs.declared.stmt.Stmt.{Stmt}
 use Rattle.rg_stmt.specs.declared.stmt.Stmt.TheVariants.{Insert, Update, Delete, Select, Scan, Find, Commit, Rollback}
 use Rattle.rg_log.specs.Kept.{Listed as LogList, log_pages}
-use Rattle.rg_desk.specs.Answers.{IfFull, IfLogFull, Replies, forces, is_answer, is_device, state_left}
-use Rattle.rg_desk.specs.Steps.{more_allowed, more_logged}
-use Rattle.rg_desk.specs.Stored.{Grows, IsStored}
-use Rattle.rg_desk.specs.Volume.{CallsLog, HasCalls, IsCount, LeavesIfTidy, VolumeSeen}
-use Rattle.rg_desk.specs.Bytes.{taken_of}
+use Rattle.rg_engine.specs.Answers.{IfFull, IfLogFull, Replies, forces, is_answer, is_device}
+use Rattle.rg_engine.specs.Answers.{state_left}
+use Rattle.rg_engine.specs.Steps.{more_allowed, more_logged}
+use Rattle.rg_engine.specs.Stored.{Grows, IsStored}
+use Rattle.rg_engine.specs.Volume.{CallsLog, HasCalls, IsCount, LeavesIfTidy, VolumeSeen}
+use Rattle.rg_engine.specs.Bytes.{taken_of}
 use Rattle.rg_desk.specs.Chronicle.{ChronicleState, IsEntry, IsRecorded, logged_after, logged_by, system_entry}
-use Rattle.rg_desk.specs.Desk.{AreKeys, IsAmong, IsBegun, IsDesk, IsLayout, is_reply}
+use Rattle.rg_desk.specs.Desk.{AreKeys, IsAmong, IsBegun, IsDesk, is_reply}
+use Rattle.rg_engine.specs.Layouts.{IsLayout}
 use Rattle.rg_base.specs.Copies.{IsCopy}
-use Rattle.rg_desk.specs.Engine.{ground_of}
-use Rattle.rg_desk.specs.Left.{LeavesState}
-use Rattle.rg_desk.specs.OnVolume.{CleanIfTidy, IsOn, IsOnVolume, RestsOn, WasAllTidy}
+use Rattle.rg_engine.specs.Engine.{ground_of}
+use Rattle.rg_engine.specs.Left.{LeavesState}
+use Rattle.rg_engine.specs.OnVolume.{CleanIfTidy, IsOn, IsOnVolume, RestsOn, WasAllTidy}
 use Rattle.rg_image.specs.Kept.{AreEntries}
 use Rattle.rg_image.specs.Pack.{end_of, start}
 use Rattle.rg_image.specs.Rules.{copy_capacity}
 use Rattle.rg_outside.proofs.Every.{told_weaken}
 use Rattle.rg_outside.specs.Capacities.{Capacities}
-use Rattle.rg_desk.specs.Reopens.{IsCleanIn, PartsReopen, Reopens}
+use Rattle.rg_engine.specs.Reopens.{IsCleanIn, PartsReopen, Reopens}
 use Rattle.rg_outside.specs.Faults.{Rose}
 use Rattle.rg_space.specs.Space.{capacity_in}
 use Rattle.rg_version.specs.Versions.{Epoch}
-use Rattle.rg_desk.specs.Count.{IsShownFew}
-use Rattle.rg_desk.specs.Room.{Ground, SaysLog, SaysRoom}
-use Rattle.rg_desk.specs.Shows.{IsShown, Shows, left_by}
-use Rattle.rg_desk.specs.Wrote.{SameEngine}
-use Rattle.rg_desk.specs.declared.engine.Engine.{Engine}
-use Rattle.rg_desk.specs.declared.origin.Origin.{Origin}
+use Rattle.rg_engine.specs.Count.{IsShownFew}
+use Rattle.rg_engine.specs.Room.{Ground, SaysLog, SaysRoom}
+use Rattle.rg_engine.specs.Shows.{IsShown, Shows, left_by}
+use Rattle.rg_engine.specs.Wrote.{SameEngine}
+use Rattle.rg_engine.specs.declared.engine.Engine.{Engine}
+use Rattle.rg_engine.specs.declared.origin.Origin.{Origin}
 use Rattle.rg_desk.proofs.Among.{few_committed, few_with, keys_left, keys_with}
-use Rattle.rg_desk.proofs.Answering.{down_if, same_calls, up_if}
-use Rattle.rg_desk.proofs.Leaving.{has_more, leaves_on}
-use Rattle.rg_desk.proofs.OnVolume.{both_tidy, on_more, on_same, tidy_then}
-use Rattle.rg_desk.proofs.Reopening.{on_rests}
-use Rattle.rg_desk.proofs.Reopens.{parts_further, same_clean}
-use Rattle.rg_desk.proofs.Same.{same_shows}
-use Rattle.rg_desk.proofs.Settled.{grows_same}
+use Rattle.rg_engine.proofs.Answering.{down_if, same_calls, up_if}
+use Rattle.rg_engine.proofs.Leaving.{has_more, leaves_on}
+use Rattle.rg_engine.proofs.OnVolume.{both_tidy, on_more, on_same, tidy_then}
+use Rattle.rg_engine.proofs.Reopening.{on_rests}
+use Rattle.rg_engine.proofs.Reopens.{parts_further, same_clean}
+use Rattle.rg_engine.proofs.Same.{same_shows}
+use Rattle.rg_engine.proofs.Settled.{grows_same}
 
 -- what the entries have allowed, by one entry more
 
@@ -185,10 +186,6 @@ copy_after st session stmt reply = by_done stmt (is_done reply)
     by_done (Find cat) true = refl
     by_done Commit true = refl
     by_done Rollback true = refl
-
--- a layout of the copy that is right for the table changes nothing
-pub shown_so : (st : State) (copy : ℕ) (side : Side) → st.down ≡ false → st.copy ≡ copy → is_right_side st.table side ≡ true → state_shown st copy side ≡ Some st
-shown_so st copy side up same right = ap (λ (b : Bool). if_allowed b st) (ap (λ (b : Bool). not b && ((copy == st.copy) && is_right_side st.table side)) up ∙ ap (λ (n : ℕ). (copy == n) && is_right_side st.table side) same ∙ ap (λ (b : Bool). b && is_right_side st.table side) (eqb-refl copy) ∙ right)
 
 -- a reply leaves the engine down if it is the device's, and up else
 down_left : (st : State) (session : Session) (stmt : Stmt) (reply : Reply) → st.down ≡ false → (state_left st session stmt reply).down ≡ is_device reply

@@ -62,27 +62,27 @@ use Rattle.rg_tending.proofs.Switching.{switch_under_all}
 use Rattle.rg_tending.proofs.Tended.{tends_booked}
 use Rattle.rg_tending.specs.Tending.{Tends, aside_for, utility_entry}
 use Rattle.rg_model.specs.Run.{behind}
-use Rattle.rg_desk.specs.Bytes.{taken_of}
+use Rattle.rg_engine.specs.Bytes.{taken_of}
 use Rattle.rg_desk.specs.Chronicle.{ChronicleState, IsRecorded, logged_by}
 use Rattle.rg_desk.specs.Desk.{IsBegun, IsDesk}
-use Rattle.rg_desk.specs.Left.{LeavesState}
-use Rattle.rg_desk.specs.Prepared.{IsPrepared}
-use Rattle.rg_desk.specs.Shows.{Shows, left_by}
-use Rattle.rg_desk.specs.Stored.{IsStored}
-use Rattle.rg_desk.specs.Turned.{IsShade, LogsSwitch, Takes}
-use Rattle.rg_desk.specs.Utility.{SameButUtility}
-use Rattle.rg_desk.specs.Volume.{IsCount, LeavesIfTidy, VolumeSeen}
-use Rattle.rg_desk.specs.declared.engine.Engine.{Engine}
-use Rattle.rg_desk.specs.declared.origin.Origin.{Origin}
-use Rattle.rg_desk.specs.declared.prepared.Prepared.{Prepared}
+use Rattle.rg_engine.specs.Left.{LeavesState}
+use Rattle.rg_engine.specs.Prepared.{IsPrepared}
+use Rattle.rg_engine.specs.Shows.{Shows, left_by}
+use Rattle.rg_engine.specs.Stored.{IsStored}
+use Rattle.rg_engine.specs.Turned.{IsShade, LogsSwitch, Takes}
+use Rattle.rg_engine.specs.Utility.{SameButUtility}
+use Rattle.rg_engine.specs.Volume.{IsCount, LeavesIfTidy, VolumeSeen}
+use Rattle.rg_engine.specs.declared.engine.Engine.{Engine}
+use Rattle.rg_engine.specs.declared.origin.Origin.{Origin}
+use Rattle.rg_engine.specs.declared.prepared.Prepared.{Prepared}
 use Rattle.rg_desk.proofs.DeskGoes.{allowed-push, begun-push, count_is, logged-push, shows_within}
 use Rattle.rg_desk.proofs.DeskUtility.{GoesOn, behind_is, booked_allows, state_shows}
-use Rattle.rg_desk.proofs.Drained.{no_locks}
-use Rattle.rg_desk.proofs.Exits.{part_stored}
+use Rattle.rg_engine.proofs.Drained.{no_locks}
+use Rattle.rg_engine.proofs.Exits.{part_stored}
 use Rattle.rg_desk.proofs.Switching.{claimed, other_copy}
 use Rattle.rg_desk.proofs.Turned.{next_log, none_claims, none_open, turned_clean, turned_on, turned_shows}
 use Rattle.rg_desk.proofs.Turning.{leaves_then, turn_rests}
-use Rattle.rg_desk.proofs.UtilityShows.{utility_shows}
+use Rattle.rg_engine.proofs.UtilityShows.{utility_shows}
 
 -- an owner that is no transaction's
 zero_owner : (s : Slot) → OwnerBelow 0 s → OwnerIsZero s

@@ -42,24 +42,26 @@ use Rattle.rg_tending.proofs.Kept.{kept_on}
 use Rattle.rg_tending.proofs.Switching.{plain_neither, plain_turn}
 use Rattle.rg_tending.proofs.Tended.{tends_booked, tends_refused, tends_started}
 use Rattle.rg_version.specs.Versions.{Epoch}
-use Rattle.rg_desk.specs.Bytes.{taken_of}
-use Rattle.rg_desk.specs.Engine.{ground_of, seen_in}
+use Rattle.rg_engine.specs.Bytes.{taken_of}
+use Rattle.rg_engine.specs.Engine.{ground_of, seen_in}
 use Rattle.rg_desk.specs.Chronicle.{ChronicleState, IsRecorded, logged_after, logged_by}
-use Rattle.rg_desk.specs.Desk.{IsBegun, IsDesk, IfStartLogFull, IsLayout, IsStart, started_count}
+use Rattle.rg_desk.specs.Desk.{IsBegun, IsDesk, IfStartLogFull, IsStart}
+use Rattle.rg_engine.specs.Layouts.{IsLayout}
+use Rattle.rg_engine.specs.Utility.{started_count}
 use Rattle.rg_model.specs.Utility.{starts_utility}
-use Rattle.rg_desk.specs.Flushed.{FlushIs}
+use Rattle.rg_engine.specs.Flushed.{FlushIs}
 use Rattle.rg_page.specs.Content.{Content}
-use Rattle.rg_desk.proofs.UtilityShows.{utility_shows}
-use Rattle.rg_desk.specs.Left.{LeavesState}
-use Rattle.rg_desk.specs.OnVolume.{IsOn, RestsOn, WasAllTidy}
-use Rattle.rg_desk.specs.Reopens.{IsCleanIn, PartsReopen}
-use Rattle.rg_desk.specs.Shows.{Shows}
-use Rattle.rg_desk.specs.Stored.{IsStored}
-use Rattle.rg_desk.specs.declared.units.OpenUnit.{OpenUnit}
-use Rattle.rg_desk.specs.Utility.{IsNew, SameButUtility, StartIs, StepsOn}
-use Rattle.rg_desk.specs.Volume.{IsCount, LeavesIfTidy, VolumeSeen}
-use Rattle.rg_desk.specs.declared.engine.Engine.{Engine}
-use Rattle.rg_desk.specs.declared.origin.Origin.{Origin}
+use Rattle.rg_engine.proofs.UtilityShows.{utility_shows}
+use Rattle.rg_engine.specs.Left.{LeavesState}
+use Rattle.rg_engine.specs.OnVolume.{IsOn, RestsOn, WasAllTidy}
+use Rattle.rg_engine.specs.Reopens.{IsCleanIn, PartsReopen}
+use Rattle.rg_engine.specs.Shows.{Shows}
+use Rattle.rg_engine.specs.Stored.{IsStored}
+use Rattle.rg_engine.specs.declared.units.OpenUnit.{OpenUnit}
+use Rattle.rg_engine.specs.Utility.{IsNew, SameButUtility, StartIs, StepsOn}
+use Rattle.rg_engine.specs.Volume.{IsCount, LeavesIfTidy, VolumeSeen}
+use Rattle.rg_engine.specs.declared.engine.Engine.{Engine}
+use Rattle.rg_engine.specs.declared.origin.Origin.{Origin}
 use Rattle.rg_desk.proofs.DeskGoes.{allowed-push, begun-push, count_is, logged-push}
 
 -- the two ways to turn a trace are one

@@ -32,16 +32,17 @@ use Rattle.rg_base.specs.Copies.{other_of}
 use Rattle.rg_version.specs.Versions.{Epoch, IsOnVolume as IsOnPage}
 use Rattle.rg_desk.specs.Chronicle.{ChronicleState}
 use Rattle.rg_desk.specs.Desk.{IsDesk}
-use Rattle.rg_desk.specs.OnVolume.{HasCopies, IsMark, IsOn, IsSoundTidy, PartsIfTidy, SoundThroughout, WasAllTidy, mark_at}
-use Rattle.rg_desk.specs.Reopens.{IsCleanIn, PartsReopen}
-use Rattle.rg_desk.specs.Volume.{HasCalls, LeavesIfTidy, VolumeSeen, WasTidy}
-use Rattle.rg_desk.specs.declared.engine.Engine.{Engine}
-use Rattle.rg_desk.specs.declared.origin.Origin.{Origin}
-use Rattle.rg_desk.proofs.Copies.{copies_apart, copy_apart, put_apart, put_here}
-use Rattle.rg_desk.proofs.Leaving.{has_more, on_calls}
-use Rattle.rg_desk.proofs.OnVolume.{both_tidy, put_log, reads_on, tidy_on, tidy_then}
-use Rattle.rg_desk.proofs.Reopening.{footed, sound_left}
-use Rattle.rg_desk.proofs.Throughout.{each_moment, told_then}
+use Rattle.rg_engine.specs.OnVolume.{HasCopies, IsMark, IsOn, IsSoundTidy, PartsIfTidy}
+use Rattle.rg_engine.specs.OnVolume.{SoundThroughout, WasAllTidy, mark_at}
+use Rattle.rg_engine.specs.Reopens.{IsCleanIn, PartsReopen}
+use Rattle.rg_engine.specs.Volume.{HasCalls, LeavesIfTidy, VolumeSeen, WasTidy}
+use Rattle.rg_engine.specs.declared.engine.Engine.{Engine}
+use Rattle.rg_engine.specs.declared.origin.Origin.{Origin}
+use Rattle.rg_engine.proofs.Copies.{copies_apart, copy_apart, put_apart, put_here}
+use Rattle.rg_engine.proofs.Leaving.{has_more, on_calls}
+use Rattle.rg_engine.proofs.OnVolume.{both_tidy, put_log, reads_on, tidy_on, tidy_then}
+use Rattle.rg_engine.proofs.Reopening.{footed, sound_left}
+use Rattle.rg_engine.proofs.Throughout.{each_moment, told_then}
 
 module _ (copy : ℕ) (pages : List Content) where
   -- a call that writes one of the pages to the other set, or nothing

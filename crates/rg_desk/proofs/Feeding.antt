@@ -75,32 +75,33 @@ use Rattle.rg_model.specs.Run.{behind}
 use Rattle.rg_tending.proofs.Keeping.{behind_push}
 use Rattle.rg_tending.proofs.Switching.{plain_turn}
 use Rattle.rg_tending.proofs.Tended.{tends_opened}
-use Rattle.rg_desk.specs.Answers.{Replies}
-use Rattle.rg_desk.specs.Aside.{PutsAside}
+use Rattle.rg_engine.specs.Answers.{Replies}
+use Rattle.rg_engine.specs.Aside.{PutsAside}
 use Rattle.rg_desk.specs.Begun.{Begun}
 use Rattle.rg_desk.specs.Chronicle.{ChronicleState}
-use Rattle.rg_desk.specs.Desk.{CanFeed, DeskState, IsDesk, started_count}
-use Rattle.rg_desk.specs.Engine.{ground_of, seen_in, slots_in}
-use Rattle.rg_desk.specs.Moves.{AreOwn, Moves, rows_before}
-use Rattle.rg_desk.specs.Room.{Ground}
-use Rattle.rg_desk.specs.Sends.{IsCopyOf, KeepsAccount, KeepsFound, KeepsItems, begin_items}
-use Rattle.rg_desk.specs.Shows.{Shows, left_by}
-use Rattle.rg_desk.specs.Stored.{Grows, IsStored}
-use Rattle.rg_desk.specs.Turned.{Turns}
-use Rattle.rg_desk.specs.Units.{unit_at, writes_in}
-use Rattle.rg_desk.specs.Utility.{IsNew, StartIs, StepsOn}
-use Rattle.rg_desk.specs.Volume.{VolumeSeen}
-use Rattle.rg_desk.specs.Wrote.{SameEngine}
-use Rattle.rg_desk.specs.declared.engine.Engine.{Engine}
-use Rattle.rg_desk.specs.declared.found.Found.{Found}
-use Rattle.rg_desk.specs.declared.origin.Origin.{Origin}
-use Rattle.rg_desk.specs.declared.units.OpenUnit.{OpenUnit}
-use Rattle.rg_desk.proofs.Answering.{up_if}
+use Rattle.rg_desk.specs.Desk.{CanFeed, DeskState, IsDesk}
+use Rattle.rg_engine.specs.Utility.{started_count}
+use Rattle.rg_engine.specs.Engine.{ground_of, seen_in, slots_in}
+use Rattle.rg_engine.specs.Moves.{AreOwn, Moves, rows_before}
+use Rattle.rg_engine.specs.Room.{Ground}
+use Rattle.rg_engine.specs.Sends.{IsCopyOf, KeepsAccount, KeepsFound, KeepsItems, begin_items}
+use Rattle.rg_engine.specs.Shows.{Shows, left_by}
+use Rattle.rg_engine.specs.Stored.{Grows, IsStored}
+use Rattle.rg_engine.specs.Turned.{Turns}
+use Rattle.rg_engine.specs.Units.{unit_at, writes_in}
+use Rattle.rg_engine.specs.Utility.{IsNew, StartIs, StepsOn}
+use Rattle.rg_engine.specs.Volume.{VolumeSeen}
+use Rattle.rg_engine.specs.Wrote.{SameEngine}
+use Rattle.rg_engine.specs.declared.engine.Engine.{Engine}
+use Rattle.rg_engine.specs.declared.found.Found.{Found}
+use Rattle.rg_engine.specs.declared.origin.Origin.{Origin}
+use Rattle.rg_engine.specs.declared.units.OpenUnit.{OpenUnit}
+use Rattle.rg_engine.proofs.Answering.{up_if}
 use Rattle.rg_desk.proofs.DeskGoes.{account-push, old_same, start_is}
 use Rattle.rg_desk.proofs.DeskUtility.{state_shows}
-use Rattle.rg_desk.proofs.Keys.{same_or_not}
-use Rattle.rg_desk.proofs.Readying.{own_writes}
-use Rattle.rg_desk.proofs.Sessions.{left_consistent}
+use Rattle.rg_engine.proofs.Keys.{same_or_not}
+use Rattle.rg_engine.proofs.Readying.{own_writes}
+use Rattle.rg_engine.proofs.Sessions.{left_consistent}
 
 -- the engine has the same rows, records and units
 pub record SameRows (d next : Engine) : Type 0 where

@@ -30,22 +30,23 @@ use Rattle.rg_stmt.specs.declared.stmt.Reply.{Reply}
 use Rattle.rg_stmt.specs.declared.stmt.Reply.TheVariants.{Device}
 use Rattle.rg_stmt.specs.declared.stmt.Stmt.{Stmt}
 use Rattle.rg_stmt.specs.declared.stmt.Stmt.TheVariants.{Commit}
-use Rattle.rg_desk.specs.Answers.{Replies, forces, state_left}
+use Rattle.rg_engine.specs.Answers.{Replies, forces, state_left}
 use Rattle.rg_desk.specs.Chronicle.{ChronicleState}
 use Rattle.rg_desk.specs.Desk.{IsDesk}
-use Rattle.rg_desk.specs.Flushed.{TellsFlush, WritesEither}
-use Rattle.rg_desk.specs.Left.{LeavesState, StoresDuring, StoresLeft}
-use Rattle.rg_desk.specs.Shows.{Shows}
-use Rattle.rg_desk.specs.Steps.{IfDevice, IfUp, more_allowed}
-use Rattle.rg_desk.specs.Stored.{IsStored}
-use Rattle.rg_desk.specs.Volume.{HasCalls, Leaves, LeavesIfTidy, VolumeSeen, WasTidy}
-use Rattle.rg_desk.specs.declared.engine.Engine.{Engine}
-use Rattle.rg_desk.specs.declared.origin.Origin.{Origin}
-use Rattle.rg_desk.specs.declared.units.OpenUnit.{OpenUnit}
-use Rattle.rg_desk.proofs.Death.{desk_left, shown_left}
-use Rattle.rg_desk.proofs.Exits.{part_stored}
-use Rattle.rg_desk.proofs.Leaving.{on_tidy}
-use Rattle.rg_desk.proofs.Throughout.{each_moment}
+use Rattle.rg_engine.specs.Flushed.{TellsFlush, WritesEither}
+use Rattle.rg_engine.specs.Left.{LeavesState, StoresDuring, StoresLeft}
+use Rattle.rg_engine.specs.Shows.{Shows}
+use Rattle.rg_engine.specs.Steps.{IfDevice, IfUp, more_allowed}
+use Rattle.rg_engine.specs.Stored.{IsStored}
+use Rattle.rg_engine.specs.Volume.{HasCalls, Leaves, LeavesIfTidy, VolumeSeen, WasTidy}
+use Rattle.rg_engine.specs.declared.engine.Engine.{Engine}
+use Rattle.rg_engine.specs.declared.origin.Origin.{Origin}
+use Rattle.rg_engine.specs.declared.units.OpenUnit.{OpenUnit}
+use Rattle.rg_desk.proofs.Death.{desk_left}
+use Rattle.rg_engine.proofs.Refused.{shown_left}
+use Rattle.rg_engine.proofs.Exits.{part_stored}
+use Rattle.rg_engine.proofs.Leaving.{on_tidy}
+use Rattle.rg_engine.proofs.Throughout.{each_moment}
 
 -- where the log read tidy, an image has this at each moment from the old volume to the new one
 abbrev StoredThroughout : (old new : VolumeSeen) (pages : ℕ) → (List Record → Type 0) → Type 0

@@ -14,18 +14,18 @@ use Rattle.rg_stmt.specs.declared.event.Event.{Event}
 use Rattle.rg_stmt.specs.declared.stmt.Reply.{Reply}
 use Rattle.rg_stmt.specs.declared.stmt.Stmt.{Stmt}
 use Rattle.rg_version.specs.Versions.{Epoch}
-use Rattle.rg_desk.specs.Answers.{Replies}
+use Rattle.rg_engine.specs.Answers.{Replies}
 use Rattle.rg_desk.specs.Chronicle.{ChronicleState}
 use Rattle.rg_desk.specs.Desk.{IsDesk}
-use Rattle.rg_desk.specs.Flushed.{TellsFlush}
-use Rattle.rg_desk.specs.OnVolume.{IsOn, PartsIfTidy, SoundThroughout, WasAllTidy}
-use Rattle.rg_desk.specs.Reopens.{IsCleanIn, PartsReopen}
-use Rattle.rg_desk.specs.Volume.{VolumeSeen}
-use Rattle.rg_desk.specs.declared.engine.Engine.{Engine}
-use Rattle.rg_desk.specs.declared.origin.Origin.{Origin}
+use Rattle.rg_engine.specs.Flushed.{TellsFlush}
+use Rattle.rg_engine.specs.OnVolume.{IsOn, PartsIfTidy, SoundThroughout, WasAllTidy}
+use Rattle.rg_engine.specs.Reopens.{IsCleanIn, PartsReopen}
+use Rattle.rg_engine.specs.Volume.{VolumeSeen}
+use Rattle.rg_engine.specs.declared.engine.Engine.{Engine}
+use Rattle.rg_engine.specs.declared.origin.Origin.{Origin}
 use Rattle.rg_desk.proofs.DeskGoes.{desk_reopens, desk_rests}
-use Rattle.rg_desk.proofs.OnVolume.{both_tidy, on_more, tidy_then}
-use Rattle.rg_desk.proofs.Throughout.{log_sound, sound_begins}
+use Rattle.rg_engine.proofs.OnVolume.{both_tidy, on_more, tidy_then}
+use Rattle.rg_engine.proofs.Throughout.{log_sound, sound_begins}
 
 -- of a desk that makes no call
 desk_sound : (d : Engine) (c : ChronicleState) (origin : Origin) (copy : ℕ) (down : Bool) (marks : List (Option Position)) (seen : VolumeSeen) (desk : IsDesk d c origin copy down marks seen) → AreEntries d.log.records → (1 ≤ length d.log.records → (end_of start d.log.records).page ≤ d.log.pages) → SoundThroughout seen seen

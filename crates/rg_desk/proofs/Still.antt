@@ -4,20 +4,20 @@ use Rattle.rg_account.specs.Account.{allowed_of}
 use Rattle.rg_base.specs.declared.position.Position.{Position}
 use Rattle.rg_log.specs.Kept.{Listed}
 use Rattle.rg_outside.proofs.Every.{told_weaken}
-use Rattle.rg_desk.specs.Bytes.{taken_of}
+use Rattle.rg_engine.specs.Bytes.{taken_of}
 use Rattle.rg_desk.specs.Chronicle.{ChronicleState, logged_by}
 use Rattle.rg_desk.specs.Desk.{IsDesk}
-use Rattle.rg_desk.specs.Left.{LeavesState}
-use Rattle.rg_desk.specs.OnVolume.{WasAllTidy}
-use Rattle.rg_desk.specs.Reopens.{IsCleanIn}
-use Rattle.rg_desk.specs.Stored.{IsStored}
-use Rattle.rg_desk.specs.Volume.{LeavesIfTidy, VolumeSeen}
-use Rattle.rg_desk.specs.Wrote.{SameEngine}
-use Rattle.rg_desk.specs.declared.engine.Engine.{Engine}
-use Rattle.rg_desk.specs.declared.origin.Origin.{Origin}
-use Rattle.rg_desk.proofs.OnVolume.{on_same}
-use Rattle.rg_desk.proofs.Reopens.{same_clean}
-use Rattle.rg_desk.proofs.Same.{same_shows}
+use Rattle.rg_engine.specs.Left.{LeavesState}
+use Rattle.rg_engine.specs.OnVolume.{WasAllTidy}
+use Rattle.rg_engine.specs.Reopens.{IsCleanIn}
+use Rattle.rg_engine.specs.Stored.{IsStored}
+use Rattle.rg_engine.specs.Volume.{LeavesIfTidy, VolumeSeen}
+use Rattle.rg_engine.specs.Wrote.{SameEngine}
+use Rattle.rg_engine.specs.declared.engine.Engine.{Engine}
+use Rattle.rg_engine.specs.declared.origin.Origin.{Origin}
+use Rattle.rg_engine.proofs.OnVolume.{on_same}
+use Rattle.rg_engine.proofs.Reopens.{same_clean}
+use Rattle.rg_engine.proofs.Same.{same_shows}
 
 pub desk_still : (d : Engine) (c : ChronicleState) (origin : Origin) (copy : ℕ) (down : Bool) (marks : List (Option Position)) (seen : VolumeSeen) → IsDesk d c origin copy down marks seen → (next : Engine) → SameEngine d next → IsDesk next c origin copy down marks seen
 desk_still d c origin copy down marks seen desk next same = record {

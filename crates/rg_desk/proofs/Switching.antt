@@ -36,15 +36,15 @@ use Rattle.rg_unlocked.proofs.Claiming.{claimed_begins, claimed_run}
 use Rattle.rg_unlocked.specs.Unlocked.{AreClaimed}
 use Rattle.rg_desk.specs.Chronicle.{ChronicleState}
 use Rattle.rg_desk.specs.Desk.{IsDesk}
-use Rattle.rg_desk.specs.Prepared.{IsPrepared}
-use Rattle.rg_desk.specs.Shows.{Shows}
-use Rattle.rg_desk.specs.Turned.{IsShade, LogsSwitch}
-use Rattle.rg_desk.specs.Units.{owed, unit_at}
-use Rattle.rg_desk.specs.Volume.{VolumeSeen}
-use Rattle.rg_desk.specs.declared.engine.Engine.{Engine}
-use Rattle.rg_desk.specs.declared.origin.Origin.{Origin}
-use Rattle.rg_desk.specs.declared.prepared.Prepared.{Prepared}
-use Rattle.rg_desk.proofs.Drained.{all_closed, no_unit}
+use Rattle.rg_engine.specs.Prepared.{IsPrepared}
+use Rattle.rg_engine.specs.Shows.{Shows}
+use Rattle.rg_engine.specs.Turned.{IsShade, LogsSwitch}
+use Rattle.rg_engine.specs.Units.{owed, unit_at}
+use Rattle.rg_engine.specs.Volume.{VolumeSeen}
+use Rattle.rg_engine.specs.declared.engine.Engine.{Engine}
+use Rattle.rg_engine.specs.declared.origin.Origin.{Origin}
+use Rattle.rg_engine.specs.declared.prepared.Prepared.{Prepared}
+use Rattle.rg_engine.proofs.Drained.{all_closed, no_unit}
 
 -- ---- the two copies
 

@@ -47,31 +47,33 @@ use Rattle.rg_switch.specs.Laws.{IsTurned}
 use Rattle.rg_switch.specs.Switched.{next_epoch, switch_to, switched}
 use Rattle.rg_base.specs.Copies.{other_of}
 use Rattle.rg_version.specs.Versions.{Epoch, Spells, version}
-use Rattle.rg_desk.specs.Bytes.{taken_of}
+use Rattle.rg_engine.specs.Bytes.{taken_of}
 use Rattle.rg_desk.specs.Chronicle.{ChronicleState}
-use Rattle.rg_desk.specs.Desk.{CanShow, IsDesk}
-use Rattle.rg_desk.specs.Engine.{slots_in}
-use Rattle.rg_desk.specs.OnVolume.{AreMarks, BeganAt, CleanIfTidy, HasCopies, IsMark, IsOn, WasAllTidy, mark_at}
-use Rattle.rg_desk.specs.Prepared.{IsMarkOf, IsPrepared}
-use Rattle.rg_desk.specs.Reopens.{IsCleanIn, PartsReopen}
-use Rattle.rg_desk.specs.Shows.{Shows}
-use Rattle.rg_desk.specs.Stored.{IsStored, StoresCommitted}
-use Rattle.rg_desk.specs.Turned.{IsShade, LogsSwitch, Takes}
-use Rattle.rg_desk.specs.Units.{owed, trans_of, unit_at}
-use Rattle.rg_desk.specs.Volume.{VolumeSeen, WasTidy}
-use Rattle.rg_desk.specs.declared.engine.Engine.{Engine}
-use Rattle.rg_desk.specs.declared.origin.Origin.{Origin}
-use Rattle.rg_desk.specs.declared.prepared.Prepared.{Prepared}
-use Rattle.rg_desk.specs.declared.units.OpenUnit.{OpenUnit}
-use Rattle.rg_desk.proofs.Begins.{begin_shows}
-use Rattle.rg_desk.proofs.Drained.{no_locks, now_is}
-use Rattle.rg_desk.proofs.Flushing.{in_log}
-use Rattle.rg_desk.proofs.Members.{trans_only}
-use Rattle.rg_desk.proofs.Preparing.{first_on}
-use Rattle.rg_desk.proofs.Reopens.{idle_names}
-use Rattle.rg_desk.proofs.Settled.{all_settled}
+use Rattle.rg_engine.specs.Begins.{CanShow}
+use Rattle.rg_desk.specs.Desk.{IsDesk}
+use Rattle.rg_engine.specs.Engine.{slots_in}
+use Rattle.rg_engine.specs.OnVolume.{AreMarks, BeganAt, CleanIfTidy, HasCopies, IsMark, IsOn}
+use Rattle.rg_engine.specs.OnVolume.{WasAllTidy, mark_at}
+use Rattle.rg_engine.specs.Prepared.{IsMarkOf, IsPrepared}
+use Rattle.rg_engine.specs.Reopens.{IsCleanIn, PartsReopen}
+use Rattle.rg_engine.specs.Shows.{Shows}
+use Rattle.rg_engine.specs.Stored.{IsStored, StoresCommitted}
+use Rattle.rg_engine.specs.Turned.{IsShade, LogsSwitch, Takes}
+use Rattle.rg_engine.specs.Units.{owed, trans_of, unit_at}
+use Rattle.rg_engine.specs.Volume.{VolumeSeen, WasTidy}
+use Rattle.rg_engine.specs.declared.engine.Engine.{Engine}
+use Rattle.rg_engine.specs.declared.origin.Origin.{Origin}
+use Rattle.rg_engine.specs.declared.prepared.Prepared.{Prepared}
+use Rattle.rg_engine.specs.declared.units.OpenUnit.{OpenUnit}
+use Rattle.rg_engine.proofs.Begins.{begin_shows}
+use Rattle.rg_engine.proofs.Drained.{no_locks, now_is}
+use Rattle.rg_engine.proofs.Flushing.{in_log}
+use Rattle.rg_engine.proofs.Members.{trans_only}
+use Rattle.rg_engine.proofs.Preparing.{first_on}
+use Rattle.rg_engine.proofs.Reopens.{idle_names}
+use Rattle.rg_engine.proofs.Settled.{all_settled}
 use Rattle.rg_desk.proofs.Switching.{below_up, begins_anew, claimed, is_turned, no_units, none_reserved, units_owe}
-use Rattle.rg_desk.proofs.Throughout.{told_then}
+use Rattle.rg_engine.proofs.Throughout.{told_then}
 use Rattle.rg_desk.proofs.Turning.{HasBoth, both_now, copies_new, foot_new, leaves_then, parts_new, parts_then}
 
 copy_within : (capacities : Capacities) (copy : ℕ) → copy_capacity capacities copy ≤ capacity_of capacities (set_of copy)

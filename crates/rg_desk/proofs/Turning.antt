@@ -48,25 +48,27 @@ use Rattle.rg_version.specs.OnImage.{HasPages}
 use Rattle.rg_version.specs.Versions.{Epoch}
 use Rattle.rg_desk.specs.Chronicle.{ChronicleState}
 use Rattle.rg_desk.specs.Desk.{IsDesk}
-use Rattle.rg_desk.specs.OnVolume.{BeganAt, GoesOnTidy, HasCopies, IsFooted, IsOn, IsSoundTidy, IsTidyVolume, LeavesCopies, LeavesSoundIfTidy, RestsOn, SoundThroughout, WasAllTidy}
-use Rattle.rg_desk.specs.Prepared.{IsPrepared}
-use Rattle.rg_desk.specs.Reopens.{PartsReopen}
-use Rattle.rg_desk.specs.Turned.{IsShade, LogsSwitch}
-use Rattle.rg_desk.specs.Volume.{Leaves, LeavesIfTidy, VolumeSeen, WasTidy}
-use Rattle.rg_desk.specs.declared.engine.Engine.{Engine}
-use Rattle.rg_desk.specs.declared.origin.Origin.{Origin}
-use Rattle.rg_desk.specs.declared.prepared.Prepared.{Prepared}
-use Rattle.rg_desk.proofs.Copies.{copies_through}
+use Rattle.rg_engine.specs.OnVolume.{BeganAt, GoesOnTidy, HasCopies, IsFooted, IsOn, IsSoundTidy}
+use Rattle.rg_engine.specs.OnVolume.{IsTidyVolume, LeavesCopies, LeavesSoundIfTidy, RestsOn}
+use Rattle.rg_engine.specs.OnVolume.{SoundThroughout, WasAllTidy}
+use Rattle.rg_engine.specs.Prepared.{IsPrepared}
+use Rattle.rg_engine.specs.Reopens.{PartsReopen}
+use Rattle.rg_engine.specs.Turned.{IsShade, LogsSwitch}
+use Rattle.rg_engine.specs.Volume.{Leaves, LeavesIfTidy, VolumeSeen, WasTidy}
+use Rattle.rg_engine.specs.declared.engine.Engine.{Engine}
+use Rattle.rg_engine.specs.declared.origin.Origin.{Origin}
+use Rattle.rg_engine.specs.declared.prepared.Prepared.{Prepared}
+use Rattle.rg_engine.proofs.Copies.{copies_through}
 use Rattle.rg_desk.proofs.DeskGoes.{calls_on}
-use Rattle.rg_desk.proofs.Exits.{on_images}
-use Rattle.rg_desk.proofs.Flushing.{in_log}
-use Rattle.rg_desk.proofs.Leaving.{leaves_on}
-use Rattle.rg_desk.proofs.OnVolume.{tidy_on, tidy_then}
-use Rattle.rg_desk.proofs.Preparing.{copy_through}
-use Rattle.rg_desk.proofs.Reopening.{footed, sound_left}
+use Rattle.rg_engine.proofs.Exits.{on_images}
+use Rattle.rg_engine.proofs.Flushing.{in_log}
+use Rattle.rg_engine.proofs.Leaving.{leaves_on}
+use Rattle.rg_engine.proofs.OnVolume.{tidy_on, tidy_then}
+use Rattle.rg_engine.proofs.Preparing.{copy_through}
+use Rattle.rg_engine.proofs.Reopening.{footed, sound_left}
 use Rattle.rg_desk.proofs.Rows.{front_entries, front_set}
 use Rattle.rg_desk.proofs.Switching.{can_switch, front, is_turned, other_back}
-use Rattle.rg_desk.proofs.Throughout.{each_moment, told_then}
+use Rattle.rg_engine.proofs.Throughout.{each_moment, told_then}
 
 -- an image with some of the records, and the pages of both copies
 pub record HasBoth (capacities : Capacities) (copy capacity : ℕ) (e : Epoch) (rs : List Record) (pages : List Content) (set forced : ℕ) (i : Image) : Type 0 where

@@ -46,26 +46,27 @@ use Rattle.rg_unlocked.specs.Unlocked.{AreClaimed}
 use Rattle.rg_written.specs.Stamped.{stamped_all}
 use Rattle.rg_written.specs.Written.{ReadsCopy}
 use Rattle.rg_written.proofs.Stamping.{ArePagesOf-stamped_all, content_at-stamped_all, length-stamped_first, slots_of-stamped_first}
-use Rattle.rg_desk.specs.Bytes.{taken_of}
+use Rattle.rg_engine.specs.Bytes.{taken_of}
 use Rattle.rg_desk.specs.Chronicle.{ChronicleState}
 use Rattle.rg_desk.specs.Desk.{IsDesk}
-use Rattle.rg_desk.specs.Engine.{slots_in}
-use Rattle.rg_desk.specs.Flushed.{FitsSet, ForcesLog, WritesEither}
-use Rattle.rg_desk.specs.OnVolume.{IsSoundTidy, SoundThroughout, WasAllTidy, mark_at}
-use Rattle.rg_desk.specs.Prepared.{AreMarksAt, IsMarkAt, IsMarkOf, IsPrepared, WritesShadow, WroteShadow}
-use Rattle.rg_desk.specs.Reopens.{IsCleanIn}
-use Rattle.rg_desk.specs.Stored.{IsStored}
-use Rattle.rg_desk.specs.Volume.{HasCalls, VolumeSeen}
-use Rattle.rg_desk.specs.declared.engine.Engine.{Engine}
-use Rattle.rg_desk.specs.declared.origin.Origin.{Origin}
-use Rattle.rg_desk.specs.declared.prepared.Prepared.{Prepared}
-use Rattle.rg_desk.proofs.Drained.{rows_stored}
+use Rattle.rg_engine.specs.Engine.{slots_in}
+use Rattle.rg_engine.specs.Flushed.{FitsSet, ForcesLog, WritesEither}
+use Rattle.rg_engine.specs.OnVolume.{IsSoundTidy, SoundThroughout, WasAllTidy, mark_at}
+use Rattle.rg_engine.specs.Prepared.{AreMarksAt, IsMarkAt, IsMarkOf, IsPrepared, WritesShadow}
+use Rattle.rg_engine.specs.Prepared.{WroteShadow}
+use Rattle.rg_engine.specs.Reopens.{IsCleanIn}
+use Rattle.rg_engine.specs.Stored.{IsStored}
+use Rattle.rg_engine.specs.Volume.{HasCalls, VolumeSeen}
+use Rattle.rg_engine.specs.declared.engine.Engine.{Engine}
+use Rattle.rg_engine.specs.declared.origin.Origin.{Origin}
+use Rattle.rg_engine.specs.declared.prepared.Prepared.{Prepared}
+use Rattle.rg_engine.proofs.Drained.{rows_stored}
 use Rattle.rg_desk.proofs.Elsewhere.{desk_elsewhere, other_sound}
-use Rattle.rg_desk.proofs.Flushing.{force_sound, forces_clean, on_now, only_forces}
-use Rattle.rg_desk.proofs.Leaving.{has_more, leaves_on}
-use Rattle.rg_desk.proofs.OnVolume.{tidy_on, tidy_then}
-use Rattle.rg_desk.proofs.Same.{same_engine}
-use Rattle.rg_desk.proofs.Throughout.{told_then}
+use Rattle.rg_engine.proofs.Flushing.{force_sound, forces_clean, on_now, only_forces}
+use Rattle.rg_engine.proofs.Leaving.{has_more, leaves_on}
+use Rattle.rg_engine.proofs.OnVolume.{tidy_on, tidy_then}
+use Rattle.rg_engine.proofs.Same.{same_engine}
+use Rattle.rg_engine.proofs.Throughout.{told_then}
 
 no_fewer : (told : Option Told) (n : ℕ) → IfTold told (λ t. t.start + n ≤ length t.calls) → IfTold told (λ t. t.start + 0 ≤ length t.calls)
 no_fewer None n h = tt

@@ -5,11 +5,11 @@ use Rattle.rg_model.specs.State.{Table, at_rest, row_count}
 use Rattle.rg_stmt.specs.Entries.{opened_entry}
 use Rattle.rg_desk.specs.Chronicle.{ChronicleState, IsRecorded}
 use Rattle.rg_space.specs.Memory.{space_pages}
-use Rattle.rg_desk.specs.Shows.{Shows}
-use Rattle.rg_desk.specs.Stored.{IsStored}
-use Rattle.rg_desk.specs.Units.{unit_at}
-use Rattle.rg_desk.specs.declared.found.Found.{Found}
-use Rattle.rg_desk.specs.declared.engine.Engine.{Engine}
+use Rattle.rg_engine.specs.Shows.{Shows}
+use Rattle.rg_engine.specs.Stored.{IsStored}
+use Rattle.rg_engine.specs.Units.{unit_at}
+use Rattle.rg_engine.specs.declared.found.Found.{Found}
+use Rattle.rg_engine.specs.declared.engine.Engine.{Engine}
 
 -- the engine shows the table that the log stores, and there is one entry: that of the opening
 pub record Begun (found : Found) (calls : ℕ) (d : Engine) (c : ChronicleState) : Type 0 where

@@ -14,7 +14,7 @@ use Rattle.rg_stmt.specs.declared.event.Entry.{Entry}
 use Rattle.rg_stmt.specs.declared.event.Event.{Event}
 use Rattle.rg_stmt.specs.declared.event.Event.TheVariants.{Opened, Said, Started}
 pub use Rattle.rg_tending.specs.Tending.{system_entry}
-use Rattle.rg_desk.specs.Steps.{more_logged}
+use Rattle.rg_engine.specs.Steps.{more_logged}
 
 -- the entries of earlier openings, those from the opening on, for how many more there is room, and
 -- the calls at the last one

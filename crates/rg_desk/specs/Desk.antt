@@ -17,7 +17,8 @@
 --    Where the volume read tidy when the count began, a crash leaves versions that the forced
 --    records cover. Then whatever it leaves can be opened, and dead areas have numbers that were
 --    drawn.
-use Rattle.std.specs.Prelude.{◌≡◌, ◌≤◌, ◌<◌, ◌+◌, ◌-◌, ◌*◌, ◌^◌, ◌⊎◌, ◌||◌, ◌++◌, if◌then◌else◌, ℕ, suc, Bool, true, false, List, [], ◌∷◌, Option, Some, None, IfSome, length, take}
+use Rattle.std.specs.Prelude.{◌≡◌, ◌≤◌, ◌<◌, ◌+◌, ◌-◌, ◌^◌, ◌⊎◌, ◌||◌, ◌++◌, if◌then◌else◌, ℕ, Bool}
+use Rattle.std.specs.Prelude.{true, false, List, [], ◌∷◌, Option, Some, None, IfSome, length, take}
 use Rattle.rg_account.specs.Account.{allowed_of, first_state, state_by}
 use Rattle.rg_account.specs.Reaching.{ReachesBy}
 use Rattle.rg_base.specs.declared.control.Answer.{Answer}
@@ -39,25 +40,21 @@ use Rattle.rg_model.specs.Legal.{Legal}
 use Rattle.rg_model.specs.Run.{Run}
 use Rattle.rg_model.specs.State.{State, Table, at_rest, is_present, row_count, row_of}
 use Rattle.rg_outside.specs.Moments.{EachImage, HoldsThroughout, IfTold}
-use Rattle.rg_claimed.specs.Claim.{claimed_all, holding, nobody}
+use Rattle.rg_claimed.specs.Claim.{claimed_all, nobody}
 use Rattle.rg_feed.specs.Ring.{Ring}
 use Rattle.rg_fold.specs.declared.item.Item.{Item}
 use Rattle.rg_fold.specs.declared.item.Item.TheVariants.{PageCopy}
 use Rattle.rg_fold.specs.declared.item.Stage.{Stage}
-use Rattle.rg_follow.specs.Tells.{Tells}
 use Rattle.rg_home.specs.Slot.{Slot}
 use Rattle.rg_image.specs.Log.{log_of}
 use Rattle.rg_image.specs.Pack.{log_bytes}
-use Rattle.rg_image.specs.Rules.{HasSpace, limit_of, owed}
-use Rattle.rg_lawful.specs.Act.{LogState}
-use Rattle.rg_lawful.specs.Consistent.{IsConsistent}
+use Rattle.rg_image.specs.Rules.{limit_of}
 use Rattle.rg_page.specs.Content.{Content}
 use Rattle.rg_record.specs.declared.record.Record.{Record}
 use Rattle.rg_stmt.specs.Entries.{opened_entry, said_entry}
 use Rattle.rg_stmt.specs.declared.event.Entry.{Entry}
 use Rattle.rg_stmt.specs.declared.event.Event.{Event}
 use Rattle.rg_stmt.specs.declared.event.Event.TheVariants as events
-use Rattle.rg_stmt.specs.declared.event.Event.TheVariants.{Layout, LayoutDown, LayoutNoMemory}
 use Rattle.rg_stmt.specs.declared.stmt.Reply.{Reply}
 use Rattle.rg_stmt.specs.declared.stmt.Reply.TheVariants.{Device, Done, Down}
 use Rattle.rg_stmt.specs.declared.stmt.Stmt.{Stmt}
@@ -76,28 +73,31 @@ use Rattle.rg_stage.specs.NumbersOf.{numbers_of}
 use Rattle.rg_layout.specs.Spots.{spots_of}
 use Rattle.rg_stmt.specs.declared.layout.Side.{Side}
 use Rattle.rg_stmt.specs.declared.layout.Sides.{Sides}
-use Rattle.rg_desk.specs.Answers.{IfFull, IfLogFull, forces, is_answer, is_device}
-use Rattle.rg_desk.specs.Bytes.{taken_of}
-use Rattle.rg_desk.specs.Flushed.{CallsOwn, FlushIs}
-use Rattle.rg_desk.specs.Left.{LeavesState, StoresDuring, StoresLeft}
-use Rattle.rg_desk.specs.OnVolume.{AreClean, CleanIfTidy, IsOnVolume, LeavesCopies, RestsOn, SoundThroughout}
+use Rattle.rg_engine.specs.Answers.{IfFull, IfLogFull, forces, is_answer, is_device}
+use Rattle.rg_engine.specs.Bytes.{taken_of}
+use Rattle.rg_engine.specs.Flushed.{CallsOwn, FlushIs}
+use Rattle.rg_engine.specs.Left.{LeavesState, StoresDuring, StoresLeft}
+use Rattle.rg_engine.specs.OnVolume.{AreClean, CleanIfTidy, IsOnVolume, LeavesCopies, RestsOn}
+use Rattle.rg_engine.specs.OnVolume.{SoundThroughout}
 use Rattle.rg_desk.specs.Chronicle.{ChronicleState, IsRecorded, logged_by, system_entry}
-use Rattle.rg_desk.specs.Prepared.{PreparedSeen}
-use Rattle.rg_desk.specs.Room.{Ground, SaysLog, SaysRoom}
-use Rattle.rg_desk.specs.Sends.{begin_items}
-use Rattle.rg_desk.specs.Shows.{Shows}
-use Rattle.rg_desk.specs.Stored.{IsSettled, IsStored, StoresCommitted}
-use Rattle.rg_desk.specs.Utility.{IsNew}
-use Rattle.rg_desk.specs.Volume.{CallsLog, HasCalls, IsCount, LeavesIfTidy, VolumeSeen, WasTidy}
-use Rattle.rg_desk.specs.declared.engine.Engine.{Engine}
-use Rattle.rg_desk.specs.declared.origin.Origin.{Origin}
+use Rattle.rg_engine.specs.Prepared.{PreparedSeen}
+use Rattle.rg_engine.specs.Room.{Ground, SaysLog, SaysRoom}
+use Rattle.rg_engine.specs.Sends.{begin_items}
+use Rattle.rg_engine.specs.Shows.{Shows}
+use Rattle.rg_engine.specs.Stored.{IsStored}
+use Rattle.rg_engine.specs.Utility.{IsNew}
+use Rattle.rg_engine.specs.Volume.{CallsLog, HasCalls, IsCount, LeavesIfTidy, VolumeSeen, WasTidy}
+use Rattle.rg_engine.specs.declared.engine.Engine.{Engine}
+use Rattle.rg_engine.specs.declared.origin.Origin.{Origin}
 use Rattle.rg_sending.specs.Sending.{AddsChanges, AreCopies}
 use Rattle.rg_sent.specs.Keeps.{KeepsFeed}
-use Rattle.rg_tally.specs.Changed.{ChangeCount}
 use Rattle.rg_tending.specs.Tending.{FollowsBy, NextBy, aside_for, is_plain, utility_entry}
 use Rattle.rg_model.specs.Run.{behind}
 use Rattle.rg_model.specs.Utility.{starts_utility}
 use Rattle.rg_base.specs.Copies.{IsCopy, other_of}
+use Rattle.rg_engine.specs.Layouts.{IsLayout}
+use Rattle.rg_engine.specs.Prepared.{while_running}
+use Rattle.rg_engine.specs.Tabled.{EndsIn}
 
 -- a trace begins with the opening of this copy, of so many rows
 abbrev pub IsBegun : (copy rows : ℕ) → List Entry → Type 0
@@ -175,45 +175,6 @@ pub record DeskState (V O : Type 0) : Type 0 where
 -- the records that the log had when it was opened
 abbrev pub old_records : {V O : Type 0} → DeskState V O → List Record
 old_records desk = take desk.opened desk.ground.log.records
-
--- Pages and a log that a desk may begin with: all units of the log have ended, the rows that are
--- there are the stored ones and fewer than 2^32, the pages claim no more bytes than pages have, and
--- the records tell the state and are within the limit.
-pub record CanBegin (capacity : ℕ) (pages : List (List Slot)) (log : Listed) (top : ℕ) : Type 0
-  where
-    pub first : LogState
-    pub good : IsConsistent capacity first
-    pub stores : StoresCommitted capacity first log.records
-    pub settled : IsSettled log
-    pub pages_are : first.pages ≡ pages
-    pub live : first.live ≡ []
-    pub writes : first.writes ≡ []
-    pub top_is : first.top ≡ top
-    pub idle : log.reserved ≡ 0
-    pub claimed : claimed_all (holding [] (suc top)) pages ≤ 4064 * length pages
-    pub start : Table
-    pub starts : IsStored log.records start
-    pub few : row_count start < 2 ^ 32
-    pub tells : Tells log.records first
-    pub owes : owed log.records ≡ 0
-    pub space : HasSpace log.pages log.records
-
--- the same of pages and a log, but for the stored table
-pub record CanShow (capacity : ℕ) (pages : List (List Slot)) (log : Listed) (top : ℕ) : Type 0
-  where
-    pub first : LogState
-    pub good : IsConsistent capacity first
-    pub stores : StoresCommitted capacity first log.records
-    pub settled : IsSettled log
-    pub pages_are : first.pages ≡ pages
-    pub live : first.live ≡ []
-    pub writes : first.writes ≡ []
-    pub top_is : first.top ≡ top
-    pub idle : log.reserved ≡ 0
-    pub claimed : claimed_all (holding [] (suc top)) pages ≤ 4064 * length pages
-    pub tells : Tells log.records first
-    pub owes : owed log.records ≡ 0
-    pub space : HasSpace log.pages log.records
 
 -- a desk that was opened over a volume, with this log and these pages
 pub record Opens {V O : Type 0}
@@ -330,13 +291,6 @@ pub record MadeSaid {V O : Type 0}
   pub later : old.changes ≤ new.changes
   pub stays : Stays look old new
 
--- a layout of this copy, or the desk was down, or there was no memory for one
-abbrev pub IsLayout : (copy : ℕ) → Event → Type 0
-IsLayout copy (Layout shown side) = shown ≡ copy
-IsLayout copy LayoutNoMemory = Unit {0}
-IsLayout copy LayoutDown = Unit {0}
-IsLayout copy event = ⊥
-
 -- a layout has one entry more, and calls no volume
 pub record MadeLayout {V O : Type 0} (look : V → VolumeSeen) (old new : DeskState V O) : Type 0
   where
@@ -388,11 +342,6 @@ IsStart false None options copy pages log (events.StartLogFull need left) next =
 IsStart false None options copy pages log events.StartNoMemory next = next ≡ None
 IsStart false None options copy pages log event next = ⊥
 
--- changes are counted from a start on
-abbrev pub started_count : Bool → ChangeCount → ChangeCount
-started_count true count = record count { since = 0 }
-started_count false count = count
-
 -- LOGFULL comes only where what the log has taken so far, and 28 bytes more, are more than the
 -- limit of a log of so many pages
 abbrev pub IfStartLogFull : Event → (logged pages : ℕ) → Type 0
@@ -439,11 +388,6 @@ pub record HasTaken (changes : ℕ) (s : Stage) : Type 0 where
 abbrev pub IsNextStep : {V O : Type 0} → DeskState V O → Option Answer → Event → Type 0
 IsNextStep desk answer event =
     NextBy desk.down desk.stage desk.changes desk.covered answer event
-
--- a new copy that was written is kept while a utility runs
-abbrev pub while_running : {A : Type 0} → Option Stage → Option A → Option A
-while_running None shadow = None
-while_running (Some s) shadow = shadow
 
 -- A step has one entry more, with the operator's answer and the number of calls up to it. It calls
 -- no volume. The stage follows the event. These items were sent.
@@ -563,11 +507,6 @@ pub record AreSides {V O : Type 0} (desk : DeskState V O) (sides : Sides) : Type
       (t : Table) → IsTable (row_at (slot_of desk.ground.pages)) (row_of t)
       → (is_right_side t sides.old ≡ true) × (is_right_side t sides.new ≡ true)
 
--- the new copy that is kept
-abbrev pub shade_kept : Option PreparedSeen → Option Shade
-shade_kept None = None
-shade_kept (Some p) = Some p.shade
-
 -- The step of the utility is its switch, by the operator's answer, and a new copy is kept that was
 -- written since the last record. Its pages claim no more than the entries have allowed. These are
 -- the layouts of the copies: they are right for the table, the quiet rows lie at home in clustering
@@ -659,16 +598,6 @@ pub record MadeFall {V O : Type 0} (look : V → VolumeSeen) (old : DeskState V 
 -- the trace is legal from the table that these records store
 abbrev pub LegalFrom : List Record → List Entry → Type 0
 LegalFrom old trace = (start : Table) × IsStored old start × Legal start trace
-
--- It leads from that table, in this copy, to a last state that is up or down. Nothing is in doubt
--- on the way, so no other state can be the last.
-pub record EndsIn
-    (old : List Record) (copy : ℕ) (trace : List Entry) (down : Bool) (last : State) : Type 0
-  where
-    pub start : Table
-    pub starts : IsStored old start
-    pub run : Run [] (at_rest start copy) trace last
-    pub down_is : last.down ≡ down
 
 -- it leads to a state that is down
 abbrev pub EndsDown : List Record → (copy : ℕ) → List Entry → Type 0

@@ -21,33 +21,37 @@ ghost use Rattle.rg_base.specs.Session.{IsSession};
 ghost use Rattle.rg_model.specs.Possible.{next_state};
 ghost use Rattle.rg_model.specs.State.{State};
 ghost use Rattle.rg_stmt.specs.declared.event.Actor.TheVariants as actors;
-ghost use Rattle.rg_desk.specs.Answers.{Replies};
+ghost use Rattle.rg_engine.specs.Answers.{Replies};
 ghost use Rattle.rg_log.specs.Kept.{log_pages};
 ghost use Rattle.rg_changed.specs.Changed.{changes_in};
 ghost use Rattle.rg_desk.specs.Chronicle.{IsRecorded, system_entry};
 ghost use Rattle.rg_desk.specs.Begun.{Begun};
-ghost use Rattle.rg_desk.specs.Desk.{CanBegin, EndsDown, EndsWithRows, IsLayout};
+ghost use Rattle.rg_engine.specs.Begins.{CanBegin};
+ghost use Rattle.rg_desk.specs.Desk.{EndsDown, EndsWithRows};
+ghost use Rattle.rg_engine.specs.Layouts.{IsLayout};
 ghost use Rattle.rg_base.specs.Copies.{IsCopy, other_of};
 ghost use Rattle.rg_desk.specs.Desk.{LeavesTable, LegalFrom, MadeFlush, MadeLayout, MadeSaid};
 ghost use Rattle.rg_desk.specs.Desk.{AreSides, CanCommit, CanPrepare, HasCurrent, HasDrain};
-ghost use Rattle.rg_desk.specs.Desk.{IsOtherCopy, MadeFall, MadeSwitch, Prepares, shade_kept};
+ghost use Rattle.rg_desk.specs.Desk.{IsOtherCopy, MadeFall, MadeSwitch, Prepares};
+ghost use Rattle.rg_engine.specs.Prepared.{shade_kept};
 ghost use Rattle.rg_desk.specs.Desk.{written_seen};
-ghost use Rattle.rg_desk.specs.Tabled.{EndsWithTable};
+ghost use Rattle.rg_engine.specs.Tabled.{EndsWithTable};
 ghost use Rattle.rg_image.specs.Rules.{copy_capacity};
 ghost use Rattle.rg_outside.specs.Faults.{Rose};
-ghost use Rattle.rg_desk.specs.Desk.{Opens, old_records, while_running};
-ghost use Rattle.rg_desk.specs.Flushed.{TellsFlush};
-ghost use Rattle.rg_desk.specs.OnVolume.{GoesOnTidy, IsOnVolume};
-ghost use Rattle.rg_desk.specs.OnVolume.{LeavesSoundIfTidy, WasAllTidy};
+ghost use Rattle.rg_desk.specs.Desk.{Opens, old_records};
+ghost use Rattle.rg_engine.specs.Prepared.{while_running};
+ghost use Rattle.rg_engine.specs.Flushed.{TellsFlush};
+ghost use Rattle.rg_engine.specs.OnVolume.{GoesOnTidy, IsOnVolume};
+ghost use Rattle.rg_engine.specs.OnVolume.{LeavesSoundIfTidy, WasAllTidy};
 ghost use Rattle.rg_home.specs.Owners.{AllBelow};
 ghost use Rattle.rg_outside.specs.Moments.{IfTold};
 ghost use Rattle.rg_space.specs.Memory.{list_seen, space_pages};
-ghost use Rattle.rg_desk.specs.Engine.{HasPages, ground_of};
-ghost use Rattle.rg_desk.specs.Shows.{IsShown, Shows};
-ghost use Rattle.rg_desk.specs.Volume.{HasCalls, IsCount, LeavesIfTidy, seen_volume};
-ghost use Rattle.rg_desk.specs.Wrote.{SameEngine};
+ghost use Rattle.rg_engine.specs.Engine.{HasPages, ground_of};
+ghost use Rattle.rg_engine.specs.Shows.{IsShown, Shows};
+ghost use Rattle.rg_engine.specs.Volume.{HasCalls, IsCount, LeavesIfTidy, seen_volume};
+ghost use Rattle.rg_engine.specs.Wrote.{SameEngine};
 ghost use Rattle.rg_desk.specs.Desk.{CanFeed, FeedIs, MadeCopy};
-ghost use Rattle.rg_desk.specs.Sends.{begin_items};
+ghost use Rattle.rg_engine.specs.Sends.{begin_items};
 ghost use Rattle.rg_feed.specs.Ends.{Grew, SameReceived, sent_items};
 ghost use Rattle.rg_sending.specs.Sending.{AddsChanges, items_made};
 ghost use Rattle.rg_desk.specs.Desk.{HasTaken, IsNextStep, MadeStart, MadeStep, left_to_take};
@@ -56,12 +60,6 @@ ghost use Rattle.rg_tally.specs.Changed.{no_changes};
 ghost use Rattle.rg_tending.specs.Tending.{NextBy, utility_entry};
 
 use crate::chronicle::Chronicle;
-use crate::engine::Engine;
-use crate::found::Found;
-use crate::origin::Origin;
-use crate::prepared::{PrepareCause, Prepared, forget, keep, new_side, prepare, take};
-use crate::switch::{Old, other_of, turn};
-use crate::utility::{count_from, is_started, start_utility};
 use rg_base::control::Answer;
 use rg_base::no_memory::NoMemory;
 use rg_base::options::Options;
@@ -71,6 +69,12 @@ use rg_base::set::Set;
 use rg_base::table::Table;
 use rg_base::verdict::StopReason;
 use rg_chain::names::copy_pages;
+use rg_engine::engine::Engine;
+use rg_engine::found::Found;
+use rg_engine::origin::Origin;
+use rg_engine::prepared::{PrepareCause, Prepared, forget, keep, new_side, prepare, take};
+use rg_engine::switch::{Old, other_of, turn};
+use rg_engine::utility::{count_from, is_started, start_utility};
 use rg_feed::ends::feed;
 use rg_feed::hand_over::hand_over;
 use rg_feed::inlet::FeedIn;
@@ -134,13 +138,13 @@ pub struct Desk<V: Counts, O> {
 
 impl<V: Counts, O> Model for Desk<V, O> {
     ghost use Rattle.rg_desk.specs.Desk.{DeskState, IsDesk};
-    ghost use Rattle.rg_desk.specs.Engine.{ground_of, seen_in};
-    ghost use Rattle.rg_desk.specs.Prepared.{KeepsPrepared, prepared_seen};
-    ghost use Rattle.rg_desk.specs.Sends.{KeepsItems};
+    ghost use Rattle.rg_engine.specs.Engine.{ground_of, seen_in};
+    ghost use Rattle.rg_engine.specs.Prepared.{KeepsPrepared, prepared_seen};
+    ghost use Rattle.rg_engine.specs.Sends.{KeepsItems};
     ghost use Rattle.rg_feed.specs.Ends.{sent_items};
     ghost use Rattle.rg_model.specs.Claims.{least_holder};
     ghost use Rattle.rg_tending.specs.Tending.{Tends};
-    ghost use Rattle.rg_desk.specs.Volume.{seen_volume};
+    ghost use Rattle.rg_engine.specs.Volume.{seen_volume};
 
     ghost Value = { DeskState V O };
 
@@ -301,26 +305,6 @@ fn send_start(outlet: &mut FeedOut, event: &Event)
             pages: *pages,
         }),
         _ => {}
-    }
-}
-
-impl Engine {
-    // Makes frames spare for a statement or a layout, before it touches a page. All frames of a
-    // list are in memory, and so are always spare: there is nothing to let go.
-    fn make_spare(&self) {}
-
-    // The event of a layout.
-    fn layout(&mut self, copy: u8) -> Event
-        requires pages { HasPages self.old }
-        ensures same { SameEngine self.old self.new }
-        ensures is { IsLayout copy result }
-        ensures right { (st : State) (allowed : ℕ) → Shows st allowed self.old → st.copy ≡ copy
-            → next_state [] None actors.System result st ≡ Some st }
-    {
-        match self.side() {
-            Ok(side) => Event::Layout { copy, side },
-            Err(_) => Event::LayoutNoMemory,
-        }
     }
 }
 

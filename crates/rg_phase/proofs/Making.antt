@@ -6,10 +6,10 @@ use Rattle.rg_base.specs.declared.session.Session.{Session}
 use Rattle.rg_base.specs.declared.set.Set.TheVariants.{Log}
 use Rattle.rg_base.specs.declared.verdict.StopReason.TheVariants as reasons
 use Rattle.rg_desk.specs.Desk.{DeskState, IsNextStep, MadeCopy, MadeFall, MadeStep, MadeSwitch, Prepares}
-use Rattle.rg_desk.specs.Flushed.{CallsOwn, WritesEither}
-use Rattle.rg_desk.specs.Prepared.{PreparedSeen}
-use Rattle.rg_desk.specs.Room.{Ground}
-use Rattle.rg_desk.specs.Volume.{CallsLog, VolumeSeen}
+use Rattle.rg_engine.specs.Flushed.{CallsOwn, WritesEither}
+use Rattle.rg_engine.specs.Prepared.{PreparedSeen}
+use Rattle.rg_engine.specs.Room.{Ground}
+use Rattle.rg_engine.specs.Volume.{CallsLog, VolumeSeen}
 use Rattle.rg_fold.specs.declared.item.Item.{Item}
 use Rattle.rg_fold.specs.declared.item.Item.TheVariants.{PageCopy}
 use Rattle.rg_fold.specs.declared.item.Stage.{Stage}

@@ -8,8 +8,8 @@ use Rattle.rg_base.specs.declared.options.Options.{Options}
 use Rattle.rg_base.specs.declared.place.Place.{Place}
 use Rattle.rg_base.specs.declared.row.Row.{Row}
 use Rattle.rg_caught.proofs.Taking.{more_received}
-use Rattle.rg_desk.specs.Desk.{while_running}
-use Rattle.rg_desk.specs.Prepared.{PreparedSeen}
+use Rattle.rg_engine.specs.Prepared.{while_running}
+use Rattle.rg_engine.specs.Prepared.{PreparedSeen}
 use Rattle.rg_feed.specs.Ends.{Grew, Received, still_taken}
 use Rattle.rg_fold.specs.Fold.{changes, copied_rows, since_begin}
 use Rattle.rg_fold.specs.declared.item.Item.{Item}

@@ -12,8 +12,8 @@ use Rattle.rg_account.specs.Reaching.{ReachesBy}
 use Rattle.rg_account.proofs.Reached.{feed_is_allowed}
 use Rattle.rg_caught.proofs.Taking.{caught_claims, same_slots}
 use Rattle.rg_desk.specs.Desk.{AreSides, CanCommit, CanPrepare, DeskState, HasCurrent, HasDrain, IsNewSide}
-use Rattle.rg_desk.specs.Prepared.{PreparedSeen}
-use Rattle.rg_desk.specs.Volume.{VolumeSeen}
+use Rattle.rg_engine.specs.Prepared.{PreparedSeen}
+use Rattle.rg_engine.specs.Volume.{VolumeSeen}
 use Rattle.rg_feed.specs.Ends.{Received}
 use Rattle.rg_fold.specs.Fed.{Fed, Progress}
 use Rattle.rg_fold.specs.Fold.{changes, since_begin}

@@ -6,7 +6,7 @@ use Rattle.std.specs.Prelude.{◌≡◌, ◌+◌, ℕ, List, Option, None, IfSom
 use Rattle.rg_base.specs.declared.options.Options.{Options}
 use Rattle.rg_base.specs.declared.which.Which.{Which}
 use Rattle.rg_desk.specs.Desk.{DeskState, FeedIs}
-use Rattle.rg_desk.specs.Prepared.{PreparedSeen}
+use Rattle.rg_engine.specs.Prepared.{PreparedSeen}
 use Rattle.rg_feed.specs.Ends.{Received}
 use Rattle.rg_fold.specs.declared.item.Item.{Item}
 use Rattle.rg_fold.specs.declared.item.Stage.{Stage}

@@ -9,9 +9,9 @@ use Rattle.rg_base.specs.declared.step.Step.TheVariants as steps
 use Rattle.rg_base.specs.declared.verdict.StopReason.TheVariants as reasons
 use Rattle.rg_claimed.specs.Claim.{claimed_all, nobody}
 use Rattle.rg_desk.specs.Desk.{AreSides, DeskState, HasCurrent, old_records}
-use Rattle.rg_desk.specs.Flushed.{CallsOwn}
-use Rattle.rg_desk.specs.Stored.{IsStored}
-use Rattle.rg_desk.specs.Volume.{VolumeSeen}
+use Rattle.rg_engine.specs.Flushed.{CallsOwn}
+use Rattle.rg_engine.specs.Stored.{IsStored}
+use Rattle.rg_engine.specs.Volume.{VolumeSeen}
 use Rattle.rg_fold.specs.declared.item.Stage.{Stage}
 use Rattle.rg_home.specs.Pages.{slot_of}
 use Rattle.rg_home.specs.Rows.{row_at}

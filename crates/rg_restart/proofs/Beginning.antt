@@ -22,10 +22,10 @@ use Rattle.rg_lawful.proofs.Testing.{tested_consistent}
 use Rattle.rg_log.specs.Kept.{Listed}
 use Rattle.rg_ready.specs.Needed.{NeededInTurn}
 use Rattle.rg_record.specs.declared.record.Record.{Record}
-use Rattle.rg_desk.specs.Desk.{CanBegin}
+use Rattle.rg_engine.specs.Begins.{CanBegin}
 use Rattle.rg_sound.specs.ClosingLaws.{IsClosedLog}
 use Rattle.rg_sound.specs.Pages.{count_of}
-use Rattle.rg_desk.specs.Stored.{IsSettled}
+use Rattle.rg_engine.specs.Stored.{IsSettled}
 use Rattle.rg_restart.specs.Found.{StoresFew}
 
 -- records that take back add nothing to what is stored

@@ -25,10 +25,10 @@ use Rattle.rg_tested.specs.Breach.{BreaksOf}
 use Rattle.rg_undo.specs.Undoing.{written_of}
 use Rattle.rg_undo.specs.Unit.{undo_records, writes_of}
 use Rattle.rg_unended.specs.Unended.{left_of, owed_for}
-use Rattle.rg_desk.specs.Bytes.{kind_bytes, taken_of}
+use Rattle.rg_engine.specs.Bytes.{kind_bytes, taken_of}
 use Rattle.rg_space.specs.Memory.{list_seen, space_pages}
-use Rattle.rg_desk.specs.Newest.{StayNewest}
-use Rattle.rg_desk.specs.Undoing.{is_undo}
+use Rattle.rg_engine.specs.Newest.{StayNewest}
+use Rattle.rg_engine.specs.Undoing.{is_undo}
 use Rattle.rg_image.specs.Rules.{last_position, of_tran}
 use Rattle.rg_sound.specs.Closing.{all_closed, closed_by, end_back, rolled_back}
 use Rattle.rg_sound.specs.Left.{IsLacking, lefts_of, writes_left}

@@ -38,11 +38,11 @@ use Rattle.rg_unended.proofs.Opens.{listed_is}
 use Rattle.rg_anew.proofs.Anew.{trans_below}
 use Rattle.rg_newest.specs.Newest.{AreNewest}
 use Rattle.rg_newest.specs.Tidy.{opened_epoch}
-use Rattle.rg_desk.specs.Desk.{CanBegin}
+use Rattle.rg_engine.specs.Begins.{CanBegin}
 use Rattle.rg_base.specs.Copies.{IsCopy}
-use Rattle.rg_desk.specs.Newest.{HasNewest}
+use Rattle.rg_engine.specs.Newest.{HasNewest}
 use Rattle.rg_space.specs.Memory.{list_seen, space_pages}
-use Rattle.rg_desk.specs.declared.found.Found.{Found}
+use Rattle.rg_engine.specs.declared.found.Found.{Found}
 use Rattle.rg_sound.specs.Left.{writes_left}
 use Rattle.rg_sound.specs.Reopens.{CanReopen}
 use Rattle.rg_restart.specs.Closed.{AllAtMost, ClosedAll, IsInStep, TookBack}

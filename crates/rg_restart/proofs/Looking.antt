@@ -5,11 +5,11 @@ use Rattle.rg_base.specs.declared.set.Set.{Set}
 use Rattle.rg_base.specs.declared.set.Set.TheVariants.{Log}
 use Rattle.rg_chain.specs.Kept.{IsKept}
 use Rattle.rg_chain.specs.Running.{Running}
-use Rattle.rg_desk.specs.OnVolume.{IsOn, WasAllTidy}
-use Rattle.rg_desk.specs.Volume.{LeavesIfTidy, VolumeSeen, WasTidy}
+use Rattle.rg_engine.specs.OnVolume.{IsOn, WasAllTidy}
+use Rattle.rg_engine.specs.Volume.{LeavesIfTidy, VolumeSeen, WasTidy}
 use Rattle.rg_desk.specs.declared.desk.OpenCause.{OpenCause}
 use Rattle.rg_desk.specs.declared.desk.OpenCause.TheVariants.{Damaged, Device, NoMemory}
-use Rattle.rg_desk.specs.declared.found.Found.{Found}
+use Rattle.rg_engine.specs.declared.found.Found.{Found}
 use Rattle.rg_home.specs.Pages.{slot_of}
 use Rattle.rg_image.specs.Log.{SpellsFrom}
 use Rattle.rg_image.specs.Pack.{log_bytes}

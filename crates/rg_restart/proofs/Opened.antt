@@ -5,8 +5,8 @@ use Rattle.std.proofs.Math.Seq.{take-length}
 use Rattle.std.proofs.lemmas.Bool.Decides.{nat_tests}
 use Rattle.rg_base.specs.declared.position.Position.{Position}
 use Rattle.rg_desk.specs.Desk.{DeskState, Opens}
-use Rattle.rg_desk.specs.Volume.{VolumeSeen}
-use Rattle.rg_desk.specs.declared.found.Found.{Found}
+use Rattle.rg_engine.specs.Volume.{VolumeSeen}
+use Rattle.rg_engine.specs.declared.found.Found.{Found}
 use Rattle.rg_image.specs.Rules.{copy_capacity}
 use Rattle.rg_log.specs.Kept.{Listed}
 use Rattle.rg_newest.specs.Newest.{page_in}

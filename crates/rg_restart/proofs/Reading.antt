@@ -23,7 +23,7 @@ use Rattle.rg_page_bytes.specs.declared.fault.PageFault.{PageFault}
 use Rattle.rg_page_bytes.specs.declared.fault.PageFault.TheVariants.{NotAPage, NoMemory}
 use Rattle.rg_page_bytes.proofs.ReadBack.{one_spelling}
 use Rattle.rg_version.specs.Versions.{taken_if, taken_past}
-use Rattle.rg_desk.specs.OnVolume.{mark_at}
+use Rattle.rg_engine.specs.OnVolume.{mark_at}
 use Rattle.rg_restart.specs.declared.data.LastSwitch.{LastSwitch}
 use Rattle.rg_restart.specs.Data.{AreBase, AreTakenAsIs, BreaksData, IsDataPage, IsFirstBroken, IsMarked, IsTaken, IsTakenAsIs, IsUntaken, MarksPages, TakesPages}
 

@@ -11,7 +11,7 @@ use Rattle.std.proofs.lemmas.List.{get_or-map, length-map, take-append-le, take_
 use Rattle.std.specs.List.{AllByRecursion}
 use Rattle.rg_base.specs.declared.position.Position.{Position}
 use Rattle.rg_chain.specs.Running.{Running}
-use Rattle.rg_desk.specs.declared.found.Found.{Found}
+use Rattle.rg_engine.specs.declared.found.Found.{Found}
 use Rattle.rg_home.specs.Pages.{slot_of}
 use Rattle.rg_image.specs.Kept.{AreEntries}
 use Rattle.rg_image.specs.Pack.{log_bytes}

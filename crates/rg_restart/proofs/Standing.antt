@@ -32,11 +32,11 @@ use Rattle.rg_newest.specs.Tidy.{AreSpare, opened_epoch, set_of}
 use Rattle.rg_newest.proofs.Opening.{opening_marks, opening_stands}
 use Rattle.rg_newest.proofs.Steady.{opened_past}
 use Rattle.rg_newest.proofs.Switching.{has_switched}
-use Rattle.rg_desk.specs.Newest.{HasNewest}
-use Rattle.rg_desk.specs.OnVolume.{HasCopies, IsMark, IsOn, IsTidyVolume, WasAllTidy, mark_at}
-use Rattle.rg_desk.specs.Reopens.{PartsReopen}
-use Rattle.rg_desk.specs.Volume.{VolumeSeen}
-use Rattle.rg_desk.proofs.Copies.{copies_more}
+use Rattle.rg_engine.specs.Newest.{HasNewest}
+use Rattle.rg_engine.specs.OnVolume.{HasCopies, IsMark, IsOn, IsTidyVolume, WasAllTidy, mark_at}
+use Rattle.rg_engine.specs.Reopens.{PartsReopen}
+use Rattle.rg_engine.specs.Volume.{VolumeSeen}
+use Rattle.rg_engine.proofs.Copies.{copies_more}
 use Rattle.rg_switch.specs.Switched.{AreOldPages, IsOldPage}
 use Rattle.rg_base.specs.Copies.{other_of}
 use Rattle.rg_restart.specs.declared.data.LastSwitch.{LastSwitch}

@@ -28,9 +28,9 @@ use Rattle.rg_newest.proofs.InMemory.{past_in, there_in}
 use Rattle.rg_newest.proofs.Records.{each_newest, rebuilt_newest}
 use Rattle.rg_newest.proofs.Steady.{steady_more, steady_opened}
 use Rattle.rg_newest.proofs.Switching.{has_switched}
-use Rattle.rg_desk.specs.Newest.{HasNewest, StayNewest}
-use Rattle.rg_desk.specs.Undoing.{is_undo}
-use Rattle.rg_desk.proofs.NewestKept.{end_stays, newest_same}
+use Rattle.rg_engine.specs.Newest.{HasNewest, StayNewest}
+use Rattle.rg_engine.specs.Undoing.{is_undo}
+use Rattle.rg_engine.proofs.NewestKept.{end_stays, newest_same}
 use Rattle.rg_sound.specs.Closing.{rolled_back}
 use Rattle.rg_restart.specs.Closed.{AreUndosFrom}
 use Rattle.rg_restart.specs.Data.{AreBase}

@@ -8,10 +8,10 @@ use Rattle.rg_outside.specs.Capacities.{Capacities}
 use Rattle.rg_outside.specs.Moments.{EachCall, EachImage, IfTold, read_at}
 use Rattle.rg_image.specs.Log.{SpellsFrom}
 use Rattle.rg_outside.proofs.Every.{told_weaken}
-use Rattle.rg_desk.specs.OnVolume.{IsTidyVolume, WasAllTidy}
-use Rattle.rg_desk.specs.Volume.{Leaves, LeavesIfTidy, VolumeSeen, WasTidy}
-use Rattle.rg_desk.proofs.Leaving.{began}
-use Rattle.rg_desk.proofs.OnVolume.{tidy_on}
+use Rattle.rg_engine.specs.OnVolume.{IsTidyVolume, WasAllTidy}
+use Rattle.rg_engine.specs.Volume.{Leaves, LeavesIfTidy, VolumeSeen, WasTidy}
+use Rattle.rg_engine.proofs.Leaving.{began}
+use Rattle.rg_engine.proofs.OnVolume.{tidy_on}
 use Rattle.rg_restart.specs.Opening.{GoesOnTidy}
 use Rattle.rg_restart.proofs.Reading.{quiet_image}
 

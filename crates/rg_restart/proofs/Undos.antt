@@ -13,8 +13,8 @@ use Rattle.rg_record.specs.declared.record.Kind.TheVariants.{Change, Undo, Commi
 use Rattle.rg_record.specs.declared.record.Record.{Record}
 use Rattle.rg_undo.specs.Undoing.{written_in, written_of}
 use Rattle.rg_undo.specs.Unit.{undo_records, writes_of}
-use Rattle.rg_desk.specs.Undoing.{is_undo}
-use Rattle.rg_desk.proofs.Spelled.{undo_few}
+use Rattle.rg_engine.specs.Undoing.{is_undo}
+use Rattle.rg_engine.proofs.Spelled.{undo_few}
 use Rattle.rg_restart.specs.Closed.{AreUndosFrom}
 
 pub takes_undo : (kind : Kind) → is_undo kind ≡ true → TakesBack kind

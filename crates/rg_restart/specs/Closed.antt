@@ -22,8 +22,8 @@ use Rattle.rg_space.specs.declared.space.Space.{Space}
 use Rattle.rg_undo.specs.Unit.{writes_of}
 use Rattle.rg_unended.specs.Unended.{left_of, owed_for}
 use Rattle.rg_space.specs.Memory.{list_seen, space_pages}
-use Rattle.rg_desk.specs.Newest.{StayNewest}
-use Rattle.rg_desk.specs.Undoing.{is_undo}
+use Rattle.rg_engine.specs.Newest.{StayNewest}
+use Rattle.rg_engine.specs.Undoing.{is_undo}
 use Rattle.rg_sound.specs.Closing.{all_closed, closed_by}
 use Rattle.rg_sound.specs.Left.{IsLacking, lefts_of, writes_left}
 

@@ -9,7 +9,7 @@ use Rattle.std.specs.Prelude.{◌≡◌, ◌≤◌, ◌<◌, ◌&&◌, nat_lt, �
 use Rattle.std.specs.List.{AllByRecursion}
 use Rattle.rg_base.specs.declared.position.Position.{Position}
 use Rattle.rg_base.specs.declared.set.Set.{Set}
-use Rattle.rg_desk.specs.OnVolume.{mark_at}
+use Rattle.rg_engine.specs.OnVolume.{mark_at}
 use Rattle.rg_desk.specs.declared.desk.OpenCause.{OpenCause}
 use Rattle.rg_desk.specs.declared.desk.OpenCause.TheVariants.{Damaged, Device, NoMemory}
 use Rattle.rg_outside.specs.Calls.{Image, Told, read_of}

@@ -28,15 +28,15 @@ use Rattle.rg_rebuilt.specs.Rebuilt.{CanRebuild}
 use Rattle.rg_record.specs.declared.record.Record.{Record}
 use Rattle.rg_space.specs.Space.{capacity_in, frames_of}
 use Rattle.rg_space.specs.declared.space.Space.{Space}
-use Rattle.rg_desk.specs.Desk.{CanBegin}
+use Rattle.rg_engine.specs.Begins.{CanBegin}
 use Rattle.rg_base.specs.Copies.{IsCopy}
 use Rattle.rg_space.specs.Memory.{list_seen, space_pages}
 use Rattle.rg_newest.specs.Tidy.{opened_epoch, switched_pages}
-use Rattle.rg_desk.specs.Newest.{HasNewest}
-use Rattle.rg_desk.specs.Stored.{IsStored}
+use Rattle.rg_engine.specs.Newest.{HasNewest}
+use Rattle.rg_engine.specs.Stored.{IsStored}
 use Rattle.rg_desk.specs.declared.desk.OpenCause.{OpenCause}
 use Rattle.rg_desk.specs.declared.desk.OpenCause.TheVariants.{Damaged, Device, NoMemory}
-use Rattle.rg_desk.specs.declared.found.Found.{Found}
+use Rattle.rg_engine.specs.declared.found.Found.{Found}
 use Rattle.rg_unended.specs.Unended.{open_in}
 use Rattle.rg_restart.specs.Closed.{IsInStep, TookBack}
 use Rattle.rg_sound.specs.Closing.{closed_log}

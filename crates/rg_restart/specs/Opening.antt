@@ -12,12 +12,12 @@ use Rattle.std.specs.Prelude.{◌≡◌, ◌≤◌, ◌⊎◌, ℕ, false, List,
 use Rattle.std.specs.List.{AllByRecursion}
 use Rattle.rg_base.specs.declared.set.Set.TheVariants.{Log}
 use Rattle.rg_desk.specs.Desk.{DeskState, Opens}
-use Rattle.rg_desk.specs.OnVolume.{IsOnVolume, WasAllTidy}
-pub use Rattle.rg_desk.specs.OnVolume.{GoesOnTidy}
-use Rattle.rg_desk.specs.Volume.{LeavesIfTidy, VolumeSeen}
+use Rattle.rg_engine.specs.OnVolume.{IsOnVolume, WasAllTidy}
+pub use Rattle.rg_engine.specs.OnVolume.{GoesOnTidy}
+use Rattle.rg_engine.specs.Volume.{LeavesIfTidy, VolumeSeen}
 use Rattle.rg_desk.specs.declared.desk.OpenCause.{OpenCause}
 use Rattle.rg_desk.specs.declared.desk.OpenCause.TheVariants.{Damaged, Device, NoMemory}
-use Rattle.rg_desk.specs.declared.found.Found.{Found}
+use Rattle.rg_engine.specs.declared.found.Found.{Found}
 use Rattle.rg_home.specs.Pages.{slot_of}
 use Rattle.rg_home.specs.Slot.{Slot}
 use Rattle.rg_image.specs.Rules.{BreaksChain, BreaksSpace, IsChain, copy_capacity, owed}

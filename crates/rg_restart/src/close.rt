@@ -24,7 +24,7 @@ use rg_base::position::Position;
 use rg_base::tran::Tran;
 use rg_chain::chain::Chain;
 use rg_chain::unit::Unit;
-use rg_desk::records::{append, next_position};
+use rg_engine::records::{append, next_position};
 use rg_log::fault::ReserveFault;
 use rg_log::log::Log;
 use rg_page::list::ListFrames;

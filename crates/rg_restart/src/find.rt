@@ -8,7 +8,7 @@
 // 4. No call of a volume is made. After a refusal all that was found is to be dropped.
 ghost use Rattle.std.specs.Prelude.{◌≡◌, ◌≤◌, ◌+◌, ◌==◌, ℕ, length, take, if◌then◌else◌, IfOk, IfErr, OnOk, None};
 ghost use Rattle.rg_base.specs.declared.set.Set.TheVariants.{Log as LogSet};
-ghost use Rattle.rg_desk.specs.Newest.{StayNewest};
+ghost use Rattle.rg_engine.specs.Newest.{StayNewest};
 ghost use Rattle.rg_home.specs.Able.{Proper};
 ghost use Rattle.rg_home.specs.Pages.{slot_of};
 ghost use Rattle.rg_home.specs.Rows.{row_at};
@@ -41,8 +41,8 @@ use rg_base::which::Which;
 use rg_btree::tree::{Tree, build};
 use rg_chain::chain::Chain;
 use rg_desk::desk::OpenCause;
-use rg_desk::flush::set_of;
-use rg_desk::found::Found;
+use rg_engine::flush::set_of;
+use rg_engine::found::Found;
 use rg_image::sizes::last_page;
 use rg_indexes::indexes::Indexes;
 use rg_log::log::Log;

@@ -3,11 +3,13 @@ use Rattle.std.proofs.Common.{◌≡◌, ◌≤◌, ◌+◌, ◌⊎◌, inl, inr
 use Rattle.rg_base.specs.declared.control.Answer.{Answer}
 use Rattle.std.specs.List.{Contains}
 use Rattle.rg_desk.specs.Chronicle.{IsRecorded}
-use Rattle.rg_desk.specs.Desk.{DeskState, EndsDown, EndsIn, EndsWithRows, LeavesTable, LegalFrom, old_records}
-use Rattle.rg_desk.specs.Left.{StoresLeft}
-use Rattle.rg_desk.specs.OnVolume.{IsSoundTidy, LeavesSoundIfTidy, WasAllTidy}
-use Rattle.rg_desk.specs.Stored.{IsStored}
-use Rattle.rg_desk.specs.Volume.{HasCalls, VolumeSeen, WasTidy}
+use Rattle.rg_desk.specs.Desk.{DeskState, EndsDown, EndsWithRows, LeavesTable, LegalFrom}
+use Rattle.rg_desk.specs.Desk.{old_records}
+use Rattle.rg_engine.specs.Tabled.{EndsIn}
+use Rattle.rg_engine.specs.Left.{StoresLeft}
+use Rattle.rg_engine.specs.OnVolume.{IsSoundTidy, LeavesSoundIfTidy, WasAllTidy}
+use Rattle.rg_engine.specs.Stored.{IsStored}
+use Rattle.rg_engine.specs.Volume.{HasCalls, VolumeSeen, WasTidy}
 use Rattle.rg_desk.specs.declared.desk.OpenCause.{OpenCause}
 use Rattle.rg_desk.specs.declared.desk.OpenCause.TheVariants as causes
 use Rattle.rg_image.specs.Log.{log_of}

@@ -3,8 +3,8 @@ use Rattle.std.proofs.Common.{◌≡◌, ◌≤◌, ◌+◌, ◌-◌, ◌++◌, 
 use Rattle.std.specs.List.{AllByRecursion}
 use Rattle.std.proofs.Math.Seq.{drop-append_seam}
 use Rattle.rg_log.proofs.Ready.{quiet_reads}
-use Rattle.rg_desk.specs.OnVolume.{IsTidyVolume, WasAllTidy}
-use Rattle.rg_desk.specs.Volume.{WasTidy}
+use Rattle.rg_engine.specs.OnVolume.{IsTidyVolume, WasAllTidy}
+use Rattle.rg_engine.specs.Volume.{WasTidy}
 use Rattle.rg_image.specs.Log.{log_of}
 use Rattle.rg_image.specs.Rules.{HasLogPages, IsTidyLog}
 use Rattle.rg_image.proofs.Rules.{log_is_read}

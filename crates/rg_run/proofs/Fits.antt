@@ -6,9 +6,9 @@ use Rattle.rg_base.specs.declared.control.Answer.{Answer}
 use Rattle.rg_base.specs.declared.options.Options.{Options}
 use Rattle.rg_base.specs.declared.position.Position.{Position}
 use Rattle.rg_base.specs.declared.verdict.StopReason.TheVariants as reasons
-use Rattle.rg_desk.specs.Desk.{IsLayout}
-use Rattle.rg_desk.specs.Flushed.{FlushIs, WrotePage}
-use Rattle.rg_desk.specs.Volume.{IsCount, VolumeSeen}
+use Rattle.rg_engine.specs.Layouts.{IsLayout}
+use Rattle.rg_engine.specs.Flushed.{FlushIs, WrotePage}
+use Rattle.rg_engine.specs.Volume.{IsCount, VolumeSeen}
 use Rattle.rg_newest.specs.Tidy.{set_of}
 use Rattle.rg_outside.specs.Calls.{Call, Told, faults_of, is_failed}
 use Rattle.rg_outside.specs.Faults.{Rose}

@@ -8,10 +8,11 @@ use Rattle.rg_base.specs.declared.control.Answer.{Answer}
 use Rattle.rg_base.specs.declared.options.Options.{Options}
 use Rattle.rg_base.specs.declared.verdict.StopReason.TheVariants as reasons
 use Rattle.rg_course.specs.Loading.{Loading, loading_after, loading_in}
-use Rattle.rg_desk.specs.Answers.{IfFull}
-use Rattle.rg_desk.specs.Desk.{DeskState, FeedIs, IsLayout, old_records}
-use Rattle.rg_desk.specs.Stored.{IsStored}
-use Rattle.rg_desk.specs.Volume.{VolumeSeen}
+use Rattle.rg_engine.specs.Answers.{IfFull}
+use Rattle.rg_desk.specs.Desk.{DeskState, FeedIs, old_records}
+use Rattle.rg_engine.specs.Layouts.{IsLayout}
+use Rattle.rg_engine.specs.Stored.{IsStored}
+use Rattle.rg_engine.specs.Volume.{VolumeSeen}
 use Rattle.rg_fold.specs.declared.item.Stage.{Stage}
 use Rattle.rg_home.specs.Pages.{slot_of}
 use Rattle.rg_home.specs.Rows.{row_at}

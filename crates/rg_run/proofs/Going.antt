@@ -9,10 +9,10 @@ use Rattle.std.specs.Option.{is_some}
 use Rattle.rg_desk.specs.Chronicle.{IsEntry, IsRecorded}
 use Rattle.rg_desk.specs.Desk.{DeskState, LegalFrom, old_records}
 use Rattle.rg_base.specs.Copies.{IsCopy}
-use Rattle.rg_desk.specs.OnVolume.{IsTidyVolume, WasAllTidy}
-use Rattle.rg_desk.specs.Stored.{IsStored}
-use Rattle.rg_desk.specs.Volume.{HasCalls, VolumeSeen}
-use Rattle.rg_desk.proofs.Leaving.{began}
+use Rattle.rg_engine.specs.OnVolume.{IsTidyVolume, WasAllTidy}
+use Rattle.rg_engine.specs.Stored.{IsStored}
+use Rattle.rg_engine.specs.Volume.{HasCalls, VolumeSeen}
+use Rattle.rg_engine.proofs.Leaving.{began}
 use Rattle.rg_image.specs.Rules.{limit_of}
 use Rattle.rg_log.specs.Kept.{log_pages}
 use Rattle.rg_model.specs.Legal.{IsActor, Legal, asks}

@@ -3,7 +3,7 @@ use Rattle.std.proofs.Common.{◌≡◌, ◌==◌, ◌||◌, inl, inr, ℕ, zero
 use Rattle.std.specs.List.{AllZip, Contains}
 use Rattle.std.proofs.lemmas.Bool.{eqb-true}
 use Rattle.rg_desk.specs.Chronicle.{logged_after}
-use Rattle.rg_desk.specs.Flushed.{WritesEither}
+use Rattle.rg_engine.specs.Flushed.{WritesEither}
 use Rattle.rg_log.specs.Open.{IsQuiet}
 use Rattle.rg_model.specs.Committed.{committed_table}
 use Rattle.rg_model.specs.Possible.{is_copy_left}

@@ -4,10 +4,10 @@ use Rattle.std.specs.FinMap.{nat_cmp-IsAntisymmetric, same_map}
 use Rattle.std.proofs.lemmas.Cmp.{nat_cmp_total}
 use Rattle.rg_base.specs.declared.no_memory.NoMemory.{NoMemory as WantsMemory}
 use Rattle.rg_desk.specs.Desk.{LegalFrom}
-use Rattle.rg_desk.specs.OnVolume.{IsTidyVolume}
-use Rattle.rg_desk.specs.Stored.{IsStored}
-use Rattle.rg_desk.specs.Tabled.{EndsWithTable}
-use Rattle.rg_desk.specs.Volume.{VolumeSeen}
+use Rattle.rg_engine.specs.OnVolume.{IsTidyVolume}
+use Rattle.rg_engine.specs.Stored.{IsStored}
+use Rattle.rg_engine.specs.Tabled.{EndsWithTable}
+use Rattle.rg_engine.specs.Volume.{VolumeSeen}
 use Rattle.rg_judge.specs.Refused.{IsFirstRefused, IsJudged}
 use Rattle.rg_judge.proofs.Exactly.{legal-take}
 use Rattle.rg_log.specs.Kept.{log_pages}

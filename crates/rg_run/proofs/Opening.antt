@@ -2,8 +2,8 @@
 use Rattle.std.proofs.Common.{◌≡◌, ◌+◌, ℕ, List, Some, length, take, refl, sym, ◌∙◌, ap, subst, arith}
 use Rattle.std.proofs.Math.Seq.{take-length}
 use Rattle.rg_desk.specs.Desk.{DeskState, old_records}
-use Rattle.rg_desk.specs.Stored.{IsStored}
-use Rattle.rg_desk.specs.Volume.{IsCount, VolumeSeen}
+use Rattle.rg_engine.specs.Stored.{IsStored}
+use Rattle.rg_engine.specs.Volume.{IsCount, VolumeSeen}
 use Rattle.rg_image.specs.Log.{log_of}
 use Rattle.rg_image.specs.Meaning.{stored}
 use Rattle.rg_image.specs.Pack.{log_bytes}

@@ -10,7 +10,7 @@ use Rattle.std.specs.List.{list_all}
 use Rattle.rg_base.specs.declared.control.Answer.{Answer}
 use Rattle.rg_base.specs.declared.options.DrainState.TheVariants.{Free}
 use Rattle.rg_base.specs.declared.options.Options.{Options}
-use Rattle.rg_desk.specs.Desk.{IsLayout}
+use Rattle.rg_engine.specs.Layouts.{IsLayout}
 use Rattle.rg_model.specs.Changes.{changes, changes_after, changes_of, is_rollback, is_unit_end, is_write, unit_writes, unit_writes_after}
 use Rattle.rg_model.specs.Claims.{least_holder}
 use Rattle.rg_model.specs.Layout.{is_right_side}

@@ -26,18 +26,19 @@ use Rattle.rg_stmt.specs.declared.stmt.Stmt.{Stmt}
 use Rattle.rg_stmt.specs.Entries.{said_entry}
 use Rattle.rg_base.specs.Copies.{IsCopy, other_of}
 use Rattle.rg_image.specs.Rules.{copy_capacity, limit_of}
-use Rattle.rg_desk.specs.Answers.{IfLogFull, is_device}
+use Rattle.rg_engine.specs.Answers.{IfLogFull, is_device}
 use Rattle.rg_account.specs.Account.{allowed_of}
 use Rattle.rg_model.specs.State.{Table}
 use Rattle.rg_reach.specs.Weighed.{weigh_feed}
-use Rattle.rg_desk.specs.Stored.{IsStored}
+use Rattle.rg_engine.specs.Stored.{IsStored}
 use Rattle.rg_record.specs.declared.record.Record.{Record}
 use Rattle.rg_desk.specs.Chronicle.{logged_after, logged_by, system_entry}
-use Rattle.rg_desk.specs.Desk.{DeskState, IfStartLogFull, IsLayout, IsStart, MadeFlush}
+use Rattle.rg_desk.specs.Desk.{DeskState, IfStartLogFull, IsStart, MadeFlush}
+use Rattle.rg_engine.specs.Layouts.{IsLayout}
 use Rattle.rg_desk.specs.Desk.{MadeLayout, MadeSaid, MadeStart, Stays, left_to_take, old_records}
 use Rattle.rg_model.specs.Utility.{starts_utility}
-use Rattle.rg_desk.specs.Flushed.{FlushIs, WritesEither}
-use Rattle.rg_desk.specs.Volume.{IsCount, VolumeSeen}
+use Rattle.rg_engine.specs.Flushed.{FlushIs, WritesEither}
+use Rattle.rg_engine.specs.Volume.{IsCount, VolumeSeen}
 use Rattle.rg_newest.specs.Tidy.{set_of}
 use Rattle.rg_outside.specs.Capacities.{Capacities}
 use Rattle.rg_outside.specs.Faults.{Rose}

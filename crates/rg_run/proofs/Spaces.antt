@@ -6,8 +6,9 @@ use Rattle.rg_base.specs.declared.options.Options.{Options}
 use Rattle.rg_base.specs.declared.session.Session.{Session}
 use Rattle.rg_base.specs.declared.verdict.StopReason.TheVariants as reasons
 use Rattle.rg_course.specs.Loading.{IsLoaded, Loading, loading_after, loading_in, loading_of}
-use Rattle.rg_desk.specs.Desk.{IsLayout, IsStart}
-use Rattle.rg_desk.specs.Utility.{IsNew}
+use Rattle.rg_engine.specs.Layouts.{IsLayout}
+use Rattle.rg_desk.specs.Desk.{IsStart}
+use Rattle.rg_engine.specs.Utility.{IsNew}
 use Rattle.rg_fold.specs.declared.item.Stage.{Stage}
 use Rattle.rg_image.specs.Rules.{copy_capacity}
 use Rattle.rg_log.specs.Kept.{Listed as ListedLog}

@@ -5,7 +5,7 @@ use Rattle.rg_outside.specs.Calls.{Call, Told, Wrote, FailedWrite}
 use Rattle.rg_outside.specs.Counts.{CountedCalls, counted, counted_if}
 use Rattle.rg_log.specs.Open.{IsQuiet}
 use Rattle.rg_base.specs.declared.set.Set.{Set}
-use Rattle.rg_desk.specs.Flushed.{WritesEither}
+use Rattle.rg_engine.specs.Flushed.{WritesEither}
 use Rattle.rg_outside.specs.Moments.{EachCall, IfTold}
 use Rattle.rg_run.specs.Outside.{IfCounted, MadeSince, MakesOnly}
 

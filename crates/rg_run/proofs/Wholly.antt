@@ -2,9 +2,9 @@
 use Rattle.std.proofs.Common.{◌≡◌, ◌≤◌, ◌+◌, ◌-◌, inl, ℕ, List, [], ◌∷◌, Option, None, Some, length, drop, refl, sym, ◌∙◌, ap, subst, arith}
 use Rattle.rg_base.specs.declared.control.Answer.{Answer}
 use Rattle.rg_desk.specs.Desk.{DeskState, old_records}
-use Rattle.rg_desk.specs.OnVolume.{GoesOnTidy, IsSoundTidy, IsTidyVolume, WasAllTidy}
+use Rattle.rg_engine.specs.OnVolume.{GoesOnTidy, IsSoundTidy, IsTidyVolume, WasAllTidy}
 use Rattle.rg_desk.specs.Chronicle.{IsRecorded}
-use Rattle.rg_desk.specs.Volume.{HasCalls, IsCount, VolumeSeen, WasTidy, seen_volume}
+use Rattle.rg_engine.specs.Volume.{HasCalls, IsCount, VolumeSeen, WasTidy, seen_volume}
 use Rattle.rg_desk.specs.declared.desk.OpenCause.{OpenCause}
 use Rattle.rg_desk.specs.declared.desk.OpenCause.TheVariants as causes
 use Rattle.rg_image.specs.Meaning.{stored}
@@ -30,7 +30,7 @@ use Rattle.rg_run.specs.Fit.{FailedSince, FitSince}
 use Rattle.rg_run.specs.Opening.{AreOpeningsSince}
 use Rattle.rg_run.specs.Parts.{Going, IsRun, StaysSound}
 use Rattle.rg_run.specs.Table.{Begins, Ends, KeepsSound}
-use Rattle.rg_desk.specs.Stored.{IsStored}
+use Rattle.rg_engine.specs.Stored.{IsStored}
 use Rattle.rg_model.specs.State.{Table}
 use Rattle.rg_record.specs.declared.record.Record.{Record}
 use Rattle.rg_run.specs.Whole.{Whole}

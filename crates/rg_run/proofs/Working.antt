@@ -2,8 +2,8 @@
 use Rattle.std.proofs.Common.{◌≡◌, ◌++◌, false, List, [], Option, None, refl, sym, ◌∙◌, ap, subst, append-nil}
 use Rattle.rg_desk.specs.Desk.{DeskState, SameUtility}
 use Rattle.rg_model.specs.Utility.{starts_utility}
-use Rattle.rg_desk.specs.Prepared.{PreparedSeen}
-use Rattle.rg_desk.specs.Sends.{begin_items}
+use Rattle.rg_engine.specs.Prepared.{PreparedSeen}
+use Rattle.rg_engine.specs.Sends.{begin_items}
 use Rattle.rg_feed.specs.Ends.{Received}
 use Rattle.rg_fold.specs.declared.item.Item.{Item}
 use Rattle.rg_phase.specs.Made.{Works}

@@ -1,6 +1,6 @@
 -- When LOGFULL is answered.
 use Rattle.std.specs.Prelude.{◌<◌, ◌+◌, ℕ, List, [], ◌∷◌}
-use Rattle.rg_desk.specs.Bytes.{most_needed}
+use Rattle.rg_engine.specs.Bytes.{most_needed}
 use Rattle.rg_desk.specs.Chronicle.{logged_after}
 use Rattle.rg_stmt.specs.declared.event.Entry.{Entry}
 use Rattle.rg_stmt.specs.declared.event.Event.{Event}

@@ -1,7 +1,7 @@
 -- The entries of openings, and the log that each of them tells of.
 use Rattle.std.specs.Prelude.{◌≡◌, ◌≤◌, ◌+◌, ℕ, List, length}
 use Rattle.std.specs.List.{AllByRecursion}
-use Rattle.rg_desk.specs.Stored.{IsStored}
+use Rattle.rg_engine.specs.Stored.{IsStored}
 use Rattle.rg_image.specs.Log.{log_of}
 use Rattle.rg_image.specs.Meaning.{current_of}
 use Rattle.rg_image.specs.Pack.{log_bytes}

@@ -12,9 +12,9 @@ use Rattle.std.specs.Prelude.{◌≡◌, ◌⊎◌, ◌<◌, ◌-◌, ◌^◌, �
 use Rattle.std.specs.List.{AllByRecursion}
 use Rattle.rg_base.specs.declared.set.Set.TheVariants.{First, Second}
 use Rattle.rg_base.specs.declared.verdict.StopReason.TheVariants as reasons
-use Rattle.rg_desk.specs.Flushed.{WritesEither}
-use Rattle.rg_desk.specs.OnVolume.{IsTidyVolume}
-use Rattle.rg_desk.specs.Volume.{VolumeSeen}
+use Rattle.rg_engine.specs.Flushed.{WritesEither}
+use Rattle.rg_engine.specs.OnVolume.{IsTidyVolume}
+use Rattle.rg_engine.specs.Volume.{VolumeSeen}
 use Rattle.rg_desk.specs.declared.desk.OpenCause.{OpenCause}
 use Rattle.rg_desk.specs.declared.desk.OpenCause.TheVariants as causes
 use Rattle.rg_log.specs.Open.{IsQuiet}

@@ -12,9 +12,9 @@ use Rattle.rg_course.specs.OnCourse.{IsOnCourse}
 use Rattle.rg_desk.specs.Chronicle.{IsRecorded}
 use Rattle.rg_desk.specs.Desk.{DeskState, LegalFrom, old_records}
 use Rattle.rg_base.specs.Copies.{IsCopy}
-use Rattle.rg_desk.specs.OnVolume.{IsSoundTidy, WasAllTidy}
-use Rattle.rg_desk.specs.Stored.{IsStored}
-use Rattle.rg_desk.specs.Volume.{HasCalls, VolumeSeen, WasTidy}
+use Rattle.rg_engine.specs.OnVolume.{IsSoundTidy, WasAllTidy}
+use Rattle.rg_engine.specs.Stored.{IsStored}
+use Rattle.rg_engine.specs.Volume.{HasCalls, VolumeSeen, WasTidy}
 use Rattle.rg_image.specs.Log.{log_of}
 use Rattle.rg_image.specs.Rules.{limit_of}
 use Rattle.rg_log.specs.Kept.{log_pages}

@@ -13,17 +13,18 @@ use Rattle.rg_stmt.specs.declared.line.Line.TheVariants.{Said, Reorg, Step, Flus
 use Rattle.rg_stmt.specs.declared.stmt.Reply.{Reply}
 use Rattle.rg_stmt.specs.Entries.{opened_entry, said_entry}
 use Rattle.rg_desk.specs.Chronicle.{system_entry}
-use Rattle.rg_desk.specs.Desk.{DeskState, IsLayout, old_records}
+use Rattle.rg_desk.specs.Desk.{DeskState, old_records}
+use Rattle.rg_engine.specs.Layouts.{IsLayout}
 use Rattle.rg_base.specs.Copies.{IsCopy}
 use Rattle.rg_desk.specs.Desk.{is_reply}
 use Rattle.rg_course.specs.Loading.{IsLoaded, loading_in, loading_of}
-use Rattle.rg_desk.specs.Stored.{IsStored}
-use Rattle.rg_desk.specs.Volume.{IsCount, VolumeSeen}
+use Rattle.rg_engine.specs.Stored.{IsStored}
+use Rattle.rg_engine.specs.Volume.{IsCount, VolumeSeen}
 use Rattle.rg_model.specs.State.{Table}
 use Rattle.rg_fold.specs.declared.item.Stage.{Stage}
 use Rattle.rg_stage.specs.NumbersOf.{numbers_of}
 use Rattle.rg_outside.specs.Faults.{Rose}
-use Rattle.rg_desk.specs.Flushed.{WritesEither}
+use Rattle.rg_engine.specs.Flushed.{WritesEither}
 use Rattle.rg_newest.specs.Tidy.{set_of}
 use Rattle.rg_outside.specs.Calls.{Call}
 use Rattle.rg_outside.specs.Moments.{EachCall, IfTold}

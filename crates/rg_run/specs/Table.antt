@@ -20,9 +20,9 @@
 use Rattle.std.specs.Prelude.{◌≡◌, ◌⊎◌, ◌*◌, ◌++◌, ℕ, Bool, true, false, List, [], ◌∷◌, length}
 use Rattle.rg_course.specs.OnCourse.{IsOnCourse}
 use Rattle.rg_desk.specs.Desk.{LegalFrom}
-use Rattle.rg_desk.specs.OnVolume.{IsSoundTidy, IsTidyVolume}
-use Rattle.rg_desk.specs.Stored.{IsStored}
-use Rattle.rg_desk.specs.Volume.{VolumeSeen}
+use Rattle.rg_engine.specs.OnVolume.{IsSoundTidy, IsTidyVolume}
+use Rattle.rg_engine.specs.Stored.{IsStored}
+use Rattle.rg_engine.specs.Volume.{VolumeSeen}
 use Rattle.rg_image.specs.Log.{log_of}
 use Rattle.rg_image.specs.Rules.{IsTidyLog}
 use Rattle.rg_log.specs.Kept.{log_pages}

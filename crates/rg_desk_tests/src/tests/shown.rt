@@ -6,8 +6,8 @@ use rg_base::no_memory::NoMemory;
 use rg_base::session::Session;
 use rg_base::set::Set;
 use rg_desk::desk::reply_to;
-use rg_desk::engine::Engine;
-use rg_desk::found::Found;
+use rg_engine::engine::Engine;
+use rg_engine::found::Found;
 use rg_feed::ends::feed;
 use rg_feed::hand_over::hand_over;
 use rg_feed::inlet::FeedIn;
@@ -34,7 +34,7 @@ impl Model for ShownEngine {
     ghost use Rattle.std.specs.Prelude.{◌≡◌, ℕ, false};
     ghost use Rattle.rg_log.specs.Kept.{log_pages};
     ghost use Rattle.rg_mem.specs.Shown.{capacities_of};
-    ghost use Rattle.rg_desk.specs.Shows.{IsShown};
+    ghost use Rattle.rg_engine.specs.Shows.{IsShown};
 
     ghost Value = { ℕ };
 

@@ -1,5 +1,5 @@
 use Rattle.std.proofs.Common.{Result, OnErr, map, string_bytes, refl, subst}
-use Rattle.rg_desk.specs.Volume.{seen_volume}
+use Rattle.rg_engine.specs.Volume.{seen_volume}
 use Rattle.rg_words.specs.Spelling.{IsAdmitted, Spells}
 use Rattle.rg_words.specs.declared.words.Admits.TheVariants.{Gen as UpToGen}
 use Rattle.rg_words.specs.declared.words.Words.{Words}

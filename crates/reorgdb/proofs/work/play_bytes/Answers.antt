@@ -1,4 +1,4 @@
-use Rattle.rg_desk.specs.Volume.{seen_volume}
+use Rattle.rg_engine.specs.Volume.{seen_volume}
 use Rattle.reorgdb.proofs.Asked.{none_asked}
 use Rattle.reorgdb.proofs.Deals.{DealsWithBytes-lines, all_played}
 use Rattle.reorgdb.proofs.Traces.{none_traced}

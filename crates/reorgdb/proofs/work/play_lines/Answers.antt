@@ -1,5 +1,5 @@
 use Rattle.std.proofs.Common.{sym, subst}
-use Rattle.rg_desk.specs.Volume.{seen_volume}
+use Rattle.rg_engine.specs.Volume.{seen_volume}
 use Rattle.reorgdb.specs.Answer.{DealsWithLines, Finds}
 use Rattle.reorgdb.proofs.Asked.{run_asked}
 use Rattle.reorgdb.proofs.Traces.{run_traced}

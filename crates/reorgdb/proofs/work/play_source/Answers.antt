@@ -1,5 +1,5 @@
 use Rattle.std.proofs.Common.{ℕ, List, subst}
-use Rattle.rg_desk.specs.Volume.{seen_volume}
+use Rattle.rg_engine.specs.Volume.{seen_volume}
 use Rattle.reorgdb.specs.Answer.{DealsWithBytes, seen}
 use Rattle.reorgdb.proofs.Asked.{none_asked}
 use Rattle.reorgdb.proofs.Deals.{plays_read}

@@ -1,5 +1,5 @@
 use Rattle.std.proofs.Common.{None, subst, sym}
-use Rattle.rg_desk.specs.Volume.{seen_volume}
+use Rattle.rg_engine.specs.Volume.{seen_volume}
 use Rattle.reorgdb.specs.Telling.{IsTold}
 use Rattle.reorgdb.specs.declared.telling.Tells.{Tells}
 use Rattle.reorgdb.proofs.Deals.{judged_run}

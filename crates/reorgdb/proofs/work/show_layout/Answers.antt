@@ -1,5 +1,5 @@
 use Rattle.std.proofs.Common.{◌≡◌, ◌++◌, List, [], ◌∷◌, sym, subst}
-use Rattle.rg_desk.specs.Volume.{seen_volume}
+use Rattle.rg_engine.specs.Volume.{seen_volume}
 use Rattle.rg_run.specs.Outside.{IsEnd}
 use Rattle.rg_run.specs.Table.{Ends}
 use Rattle.rg_run.specs.Whole.{Whole}

@@ -5,7 +5,7 @@ use Rattle.rg_stmt.specs.declared.event.Entry.{Entry}
 use Rattle.rg_space.specs.Space.{frames_of}
 use Rattle.rg_space.proofs.Whole.{slots_count}
 use Rattle.rg_space.specs.Memory.{space_pages}
-use Rattle.rg_desk.proofs.Begins.{none_locked}
+use Rattle.rg_engine.proofs.Begins.{none_locked}
 use Rattle.rg_desk.proofs.desk.begin.Goals as goal
 
 pub unlocked_rows-rows-requires : goal.unlocked_rows-rows-requires

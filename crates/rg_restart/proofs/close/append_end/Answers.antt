@@ -1,6 +1,6 @@
 use Rattle.std.proofs.Common.{[], ◌∷◌, arith}
 use Rattle.rg_record.specs.declared.record.Kind.TheVariants.{RolledBack}
-use Rattle.rg_desk.proofs.Spelled.{rolled_bytes}
+use Rattle.rg_engine.proofs.Spelled.{rolled_bytes}
 use Rattle.rg_restart.proofs.close.append_end.Goals as goal
 
 pub append-requires-clause-room : goal.append-requires-clause-room

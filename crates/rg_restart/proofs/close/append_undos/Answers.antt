@@ -1,7 +1,7 @@
 use Rattle.std.proofs.Common.{◌≡◌, ◌≤◌, ◌+◌, ◌*◌, ◌++◌, ℕ, List, [], ◌∷◌, length, sym, ◌∙◌, ap, subst, arith, append_assoc, append-nil, length-append}
 use Rattle.std.specs.Vec.Iter.{into_iter_items}
 use Rattle.rg_record.specs.declared.record.Record.{Record}
-use Rattle.rg_desk.proofs.Spelled.{undo_high}
+use Rattle.rg_engine.proofs.Spelled.{undo_high}
 use Rattle.rg_restart.specs.Closed.{AreUndosFrom, TookBack}
 use Rattle.rg_restart.proofs.Closing.{one_undo, took_join, took_most, took_none}
 use Rattle.rg_restart.proofs.close.append_undos.Goals as goal

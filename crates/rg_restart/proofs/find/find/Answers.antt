@@ -2,7 +2,7 @@ use Rattle.std.proofs.Common.{◌≡◌, ℕ, List, length, take, refl, sym, ◌
 use Rattle.std.proofs.lemmas.List.{length-map, take-append-le}
 use Rattle.std.proofs.lemmas.Result.{err_from_is_err_and}
 use Rattle.std.proofs.Math.Seq.{take-length}
-use Rattle.rg_desk.specs.Newest.{HasNewest}
+use Rattle.rg_engine.specs.Newest.{HasNewest}
 use Rattle.rg_home.specs.Slot.{Slot}
 use Rattle.rg_newest.specs.Tidy.{opened_epoch}
 use Rattle.rg_page.specs.Content.{Content}

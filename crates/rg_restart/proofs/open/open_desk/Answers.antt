@@ -3,9 +3,9 @@ use Rattle.rg_log.specs.Open.{IsQuiet}
 use Rattle.rg_space.specs.Memory.{list_seen, space_pages}
 use Rattle.rg_space.specs.Space.{capacity_in, frames_of}
 use Rattle.rg_desk.specs.Desk.{Opens}
-use Rattle.rg_desk.specs.Volume.{seen_volume}
+use Rattle.rg_engine.specs.Volume.{seen_volume}
 use Rattle.rg_restart.specs.Opening.{OpensStored}
-use Rattle.rg_desk.proofs.Leaving.{has_more}
+use Rattle.rg_engine.proofs.Leaving.{has_more}
 use Rattle.rg_restart.proofs.Opened.{ok_both, opens_stored}
 use Rattle.rg_restart.proofs.open.open_desk.Goals as goal
 

@@ -1,7 +1,7 @@
 use Rattle.std.proofs.Common.{◌≡◌, ◌+◌, ℕ, List, [], ◌∷◌, ◌++◌, length, sym, ◌∙◌, ap, subst, arith, append_assoc, append-nil}
 use Rattle.std.specs.List.{AllByRecursion}
 use Rattle.rg_stmt.specs.declared.line.Line.{Line}
-use Rattle.rg_desk.specs.Volume.{seen_volume}
+use Rattle.rg_engine.specs.Volume.{seen_volume}
 use Rattle.rg_run.specs.Parts.{IsRun}
 use Rattle.rg_run.specs.Played.{IsPlayed}
 use Rattle.rg_run.specs.declared.played.RunEnd.{RunEnd}

@@ -1,7 +1,7 @@
 use Rattle.std.proofs.Common.{[], ◌∷◌, ◌++◌, List, sym, ap, subst}
 use Rattle.std.specs.Prelude.{IfErr, IfOk}
 use Rattle.rg_desk.specs.Desk.{DeskState}
-use Rattle.rg_desk.specs.Volume.{seen_volume}
+use Rattle.rg_engine.specs.Volume.{seen_volume}
 use Rattle.rg_stmt.specs.declared.line.Line.{Line}
 use Rattle.rg_stmt.specs.declared.line.Line.TheVariants.{Death}
 use Rattle.rg_phase.specs.Made.{Works}

@@ -1,6 +1,6 @@
 use Rattle.std.proofs.Common.{◌++◌, ◌∷◌, List, sym, ◌∙◌, subst}
 use Rattle.rg_desk.specs.Chronicle.{IsRecorded}
-use Rattle.rg_desk.specs.Volume.{seen_volume}
+use Rattle.rg_engine.specs.Volume.{seen_volume}
 use Rattle.rg_restart.specs.Opening.{IsRefused, OpensStored}
 use Rattle.rg_stmt.specs.declared.event.Entry.{Entry}
 use Rattle.rg_run.specs.Parts.{IsRun}

@@ -1,7 +1,7 @@
 use Rattle.std.proofs.Common.{List, sym, ◌∙◌, ap, subst}
 use Rattle.std.specs.declared.vec.Vec.{Vec}
 use Rattle.std.specs.declared.alloc.Global.{Global}
-use Rattle.rg_desk.specs.Volume.{seen_volume}
+use Rattle.rg_engine.specs.Volume.{seen_volume}
 use Rattle.rg_outside.specs.Counts.{CountedCalls, counted}
 use Rattle.rg_restart.specs.Opening.{IsRefused}
 use Rattle.rg_stmt.specs.declared.event.Entry.{Entry}

@@ -1,4 +1,4 @@
-use Rattle.rg_desk.specs.Volume.{seen_volume}
+use Rattle.rg_engine.specs.Volume.{seen_volume}
 use Rattle.rg_run.proofs.Plays.{goes_dropped, goes_started}
 use Rattle.rg_run.proofs.run.start.Goals as goal
 

@@ -2,15 +2,16 @@ use Rattle.std.proofs.Common.{◌≡◌, ◌+◌, List, [], ◌∷◌, ◌++◌,
 use Rattle.rg_model.specs.Claims.{least_holder}
 use Rattle.rg_stmt.specs.declared.event.Entry.{Entry}
 use Rattle.rg_tending.specs.Tending.{FollowsBy, aside_for, utility_entry}
-use Rattle.rg_desk.specs.Desk.{IsNextStep, old_records, while_running}
-use Rattle.rg_desk.specs.Flushed.{CallsOwn}
-use Rattle.rg_desk.specs.Prepared.{KeepsPrepared, prepared_seen}
-use Rattle.rg_desk.specs.Room.{Ground}
-use Rattle.rg_desk.specs.Volume.{seen_volume}
+use Rattle.rg_desk.specs.Desk.{IsNextStep, old_records}
+use Rattle.rg_engine.specs.Prepared.{while_running}
+use Rattle.rg_engine.specs.Flushed.{CallsOwn}
+use Rattle.rg_engine.specs.Prepared.{KeepsPrepared, prepared_seen}
+use Rattle.rg_engine.specs.Room.{Ground}
+use Rattle.rg_engine.specs.Volume.{seen_volume}
 use Rattle.rg_desk.proofs.DeskUtility.{idle_follows, idle_on}
-use Rattle.rg_desk.specs.declared.prepared.Prepared.{Prepared}
-use Rattle.rg_desk.proofs.Flushing.{own_same}
-use Rattle.rg_desk.proofs.Preparing.{prepared_while, seen_while}
+use Rattle.rg_engine.specs.declared.prepared.Prepared.{Prepared}
+use Rattle.rg_engine.proofs.Flushing.{own_same}
+use Rattle.rg_engine.proofs.Preparing.{prepared_while, seen_while}
 use Rattle.rg_feed.specs.Ends.{sent_items}
 use Rattle.rg_desk.proofs.Feeding.{idle_items}
 use Rattle.rg_desk.proofs.desk.Desk.book_refused.Goals as goal

@@ -7,18 +7,19 @@ use Rattle.rg_space.specs.Memory.{list_seen}
 use Rattle.rg_space.specs.Space.{capacity_in, frames_of}
 use Rattle.rg_stmt.specs.declared.event.Entry.{Entry}
 use Rattle.rg_tending.specs.Tending.{FollowsBy, NextBy, Tends, aside_for, utility_entry}
-use Rattle.rg_desk.specs.Desk.{IsDesk, old_records, while_running}
-use Rattle.rg_desk.specs.Flushed.{CallsOwn}
-use Rattle.rg_desk.specs.Prepared.{KeepsPrepared, prepared_seen}
-use Rattle.rg_desk.specs.Room.{Ground}
-use Rattle.rg_desk.specs.Utility.{StepsOn}
-use Rattle.rg_desk.specs.Volume.{seen_volume}
+use Rattle.rg_desk.specs.Desk.{IsDesk, old_records}
+use Rattle.rg_engine.specs.Prepared.{while_running}
+use Rattle.rg_engine.specs.Flushed.{CallsOwn}
+use Rattle.rg_engine.specs.Prepared.{KeepsPrepared, prepared_seen}
+use Rattle.rg_engine.specs.Room.{Ground}
+use Rattle.rg_engine.specs.Utility.{StepsOn}
+use Rattle.rg_engine.specs.Volume.{seen_volume}
 use Rattle.rg_desk.proofs.DeskUtility.{booked_late, booked_logged, ground_same, step_on}
-use Rattle.rg_desk.specs.declared.prepared.Prepared.{Prepared}
-use Rattle.rg_desk.proofs.Flushing.{own_same}
-use Rattle.rg_desk.proofs.Preparing.{prepared_same, prepared_while, seen_while}
+use Rattle.rg_engine.specs.declared.prepared.Prepared.{Prepared}
+use Rattle.rg_engine.proofs.Flushing.{own_same}
+use Rattle.rg_engine.proofs.Preparing.{prepared_same, prepared_while, seen_while}
 use Rattle.rg_feed.specs.Ends.{sent_items}
-use Rattle.rg_desk.specs.Sends.{KeepsItems}
+use Rattle.rg_engine.specs.Sends.{KeepsItems}
 use Rattle.rg_desk.proofs.Feeding.{booked_items}
 use Rattle.rg_desk.proofs.desk.Desk.book_step.Goals as goal
 

@@ -13,19 +13,19 @@ use Rattle.rg_stmt.specs.declared.event.Event.TheVariants as events
 use Rattle.rg_base.specs.Copies.{other_of}
 use Rattle.rg_tending.specs.Tending.{Tends, utility_entry}
 use Rattle.rg_desk.specs.Desk.{IsDesk, old_records}
-use Rattle.rg_desk.specs.Engine.{seen_in}
+use Rattle.rg_engine.specs.Engine.{seen_in}
 use Rattle.rg_page.specs.Content.{Content}
-use Rattle.rg_desk.specs.OnVolume.{AreClean, SoundThroughout}
-use Rattle.rg_desk.proofs.Marks.{all_clean}
-use Rattle.rg_desk.specs.Prepared.{IsPrepared, KeepsPrepared, PreparedSeen, prepared_seen}
-use Rattle.rg_desk.specs.Turned.{LogsSwitch, Turns}
-use Rattle.rg_desk.specs.Volume.{CallsLog, seen_volume}
-use Rattle.rg_desk.specs.declared.engine.Engine.{Engine}
-use Rattle.rg_desk.specs.declared.prepared.Prepared.{Prepared}
+use Rattle.rg_engine.specs.OnVolume.{AreClean, SoundThroughout}
+use Rattle.rg_engine.proofs.Marks.{all_clean}
+use Rattle.rg_engine.specs.Prepared.{IsPrepared, KeepsPrepared, PreparedSeen, prepared_seen}
+use Rattle.rg_engine.specs.Turned.{LogsSwitch, Turns}
+use Rattle.rg_engine.specs.Volume.{CallsLog, seen_volume}
+use Rattle.rg_engine.specs.declared.engine.Engine.{Engine}
+use Rattle.rg_engine.specs.declared.prepared.Prepared.{Prepared}
 use Rattle.rg_desk.proofs.Committing.{by_result, fallen_goes, has_stage, none_open, old_on, sound_on, stage_of, switched_goes}
 use Rattle.rg_desk.proofs.DeskGoes.{calls_on}
 use Rattle.rg_feed.specs.Ends.{sent_items}
-use Rattle.rg_desk.specs.Sends.{KeepsItems}
+use Rattle.rg_engine.specs.Sends.{KeepsItems}
 use Rattle.rg_desk.proofs.Feeding.{switched_items, turns_more, turns_units}
 use Rattle.rg_desk.proofs.desk.Desk.commit_switch.Goals as goal
 

@@ -1,9 +1,9 @@
 use Rattle.std.proofs.Common.{◌∙◌, ap, subst}
 use Rattle.rg_account.specs.Account.{allowed_of}
 use Rattle.rg_desk.specs.Desk.{EndsWithRows, old_records}
-use Rattle.rg_desk.specs.Volume.{seen_volume}
+use Rattle.rg_engine.specs.Volume.{seen_volume}
 use Rattle.rg_desk.proofs.DeskGoes.{desk_few}
-use Rattle.rg_desk.proofs.Exits.{ends_stored}
+use Rattle.rg_engine.proofs.Exits.{ends_stored}
 use Rattle.rg_desk.proofs.desk.Desk.committed_rows.Goals as goal
 
 pub committed_rows-requires : goal.committed_rows-requires

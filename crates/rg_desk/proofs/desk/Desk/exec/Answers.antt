@@ -4,24 +4,24 @@ use Rattle.rg_outside.specs.Faults.{Rose}
 use Rattle.rg_stmt.specs.Entries.{said_entry}
 use Rattle.rg_stmt.specs.declared.event.Entry.{Entry}
 use Rattle.rg_stmt.specs.declared.stmt.Reply.TheVariants.{Device, Done}
-use Rattle.rg_desk.specs.Answers.{IfFull, IfLogFull, forces, is_device}
+use Rattle.rg_engine.specs.Answers.{IfFull, IfLogFull, forces, is_device}
 use Rattle.rg_desk.specs.Chronicle.{logged_by}
-use Rattle.rg_desk.specs.Room.{SaysLog, SaysRoom}
-use Rattle.rg_desk.specs.Stored.{IsStored}
+use Rattle.rg_engine.specs.Room.{SaysLog, SaysRoom}
+use Rattle.rg_engine.specs.Stored.{IsStored}
 use Rattle.rg_model.specs.State.{Table}
-use Rattle.rg_desk.specs.Flushed.{CallsOwn}
-use Rattle.rg_desk.specs.OnVolume.{SoundThroughout}
-use Rattle.rg_desk.specs.Volume.{seen_volume}
+use Rattle.rg_engine.specs.Flushed.{CallsOwn}
+use Rattle.rg_engine.specs.OnVolume.{SoundThroughout}
+use Rattle.rg_engine.specs.Volume.{seen_volume}
 use Rattle.rg_desk.specs.Desk.{KeepsRows, old_records}
-use Rattle.rg_desk.specs.Left.{StoresDuring}
+use Rattle.rg_engine.specs.Left.{StoresDuring}
 use Rattle.rg_desk.proofs.DeskGoes.{desk_replied, desk_room, desk_shown, old_same, replied}
-use Rattle.rg_desk.proofs.Flushing.{own_calls}
+use Rattle.rg_engine.proofs.Flushing.{own_calls}
 use Rattle.rg_desk.proofs.Rows.{replied_rows}
 use Rattle.rg_desk.proofs.Sounding.{replied_sound}
 use Rattle.rg_tending.specs.Tending.{Tends}
 use Rattle.rg_model.specs.Run.{behind}
 use Rattle.rg_tending.proofs.Tended.{tends_said}
-use Rattle.rg_desk.proofs.Preparing.{prepared_on, prepared_same}
+use Rattle.rg_engine.proofs.Preparing.{prepared_on, prepared_same}
 use Rattle.rg_feed.specs.Ends.{sent_items}
 use Rattle.rg_changed.specs.Changed.{changes_in}
 use Rattle.rg_sending.specs.Sending.{items_made}

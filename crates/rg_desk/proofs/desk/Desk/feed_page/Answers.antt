@@ -13,20 +13,21 @@ use Rattle.rg_stage.specs.NumbersOf.{numbers_of}
 use Rattle.rg_stmt.specs.declared.event.Entry.{Entry}
 use Rattle.rg_stmt.specs.declared.event.Event.TheVariants.{Unload}
 use Rattle.rg_tending.specs.Tending.{FollowsBy, Tends, aside_for, is_plain, utility_entry}
-use Rattle.rg_desk.specs.Desk.{IsDesk, old_records, while_running}
-use Rattle.rg_desk.specs.Flushed.{CallsOwn}
-use Rattle.rg_desk.specs.Prepared.{KeepsPrepared, prepared_seen}
-use Rattle.rg_desk.specs.Room.{Ground}
-use Rattle.rg_desk.specs.Sends.{KeepsItems}
-use Rattle.rg_desk.specs.Utility.{StepsOn}
-use Rattle.rg_desk.specs.Volume.{seen_volume}
-use Rattle.rg_desk.specs.declared.prepared.Prepared.{Prepared}
+use Rattle.rg_desk.specs.Desk.{IsDesk, old_records}
+use Rattle.rg_engine.specs.Prepared.{while_running}
+use Rattle.rg_engine.specs.Flushed.{CallsOwn}
+use Rattle.rg_engine.specs.Prepared.{KeepsPrepared, prepared_seen}
+use Rattle.rg_engine.specs.Room.{Ground}
+use Rattle.rg_engine.specs.Sends.{KeepsItems}
+use Rattle.rg_engine.specs.Utility.{StepsOn}
+use Rattle.rg_engine.specs.Volume.{seen_volume}
+use Rattle.rg_engine.specs.declared.prepared.Prepared.{Prepared}
 use Rattle.rg_desk.proofs.DeskUtility.{ground_same, step_on}
 use Rattle.rg_desk.proofs.Feeding.{copy_items, engine_rows, ground_still, next_plain, same_items}
-use Rattle.rg_desk.proofs.CopyOf.{none_high}
-use Rattle.rg_desk.proofs.Flushing.{own_same}
-use Rattle.rg_desk.proofs.Preparing.{prepared_same, prepared_while, seen_while}
-use Rattle.rg_desk.proofs.Same.{same_shows}
+use Rattle.rg_engine.proofs.CopyOf.{none_high}
+use Rattle.rg_engine.proofs.Flushing.{own_same}
+use Rattle.rg_engine.proofs.Preparing.{prepared_same, prepared_while, seen_while}
+use Rattle.rg_engine.proofs.Same.{same_shows}
 use Rattle.rg_desk.proofs.Still.{desk_still}
 use Rattle.rg_desk.proofs.desk.Desk.feed_page.Goals as goal
 

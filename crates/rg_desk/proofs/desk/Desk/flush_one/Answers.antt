@@ -3,10 +3,10 @@ use Rattle.rg_log.specs.Kept.{Listed}
 use Rattle.rg_stmt.specs.declared.event.Entry.{Entry}
 use Rattle.rg_desk.specs.Chronicle.{system_entry}
 use Rattle.rg_desk.specs.Desk.{KeepsRows, old_records}
-use Rattle.rg_desk.specs.Flushed.{CallsOwn, FlushIs}
-use Rattle.rg_desk.specs.Left.{StoresLeft}
-use Rattle.rg_desk.specs.OnVolume.{SoundThroughout}
-use Rattle.rg_desk.specs.Volume.{seen_volume}
+use Rattle.rg_engine.specs.Flushed.{CallsOwn, FlushIs}
+use Rattle.rg_engine.specs.Left.{StoresLeft}
+use Rattle.rg_engine.specs.OnVolume.{SoundThroughout}
+use Rattle.rg_engine.specs.Volume.{seen_volume}
 use Rattle.rg_desk.proofs.DeskFlush.{desk_flushed, flush_told}
 use Rattle.rg_desk.proofs.DeskGoes.{desk_room}
 use Rattle.rg_desk.proofs.Rows.{flushed_rows}
@@ -14,7 +14,7 @@ use Rattle.rg_desk.proofs.Sounding.{flushed_sound}
 use Rattle.rg_tending.specs.Tending.{Tends}
 use Rattle.rg_tending.proofs.Tended.{tends_system}
 use Rattle.rg_desk.proofs.DeskUtility.{flush_system}
-use Rattle.rg_desk.proofs.Preparing.{prepared_on, prepared_same}
+use Rattle.rg_engine.proofs.Preparing.{prepared_on, prepared_same}
 use Rattle.rg_feed.specs.Ends.{sent_items}
 use Rattle.rg_page.specs.Content.{slots_of}
 use Rattle.rg_desk.proofs.DeskGoes.{system_keeps}

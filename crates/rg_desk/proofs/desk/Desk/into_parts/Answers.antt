@@ -1,11 +1,11 @@
 use Rattle.std.proofs.Common.{subst}
 use Rattle.rg_desk.specs.Desk.{LeavesTable, LegalFrom, old_records}
-use Rattle.rg_desk.specs.Left.{StoresLeft}
-use Rattle.rg_desk.specs.OnVolume.{GoesOnTidy, LeavesSoundIfTidy}
-use Rattle.rg_desk.specs.Volume.{seen_volume}
+use Rattle.rg_engine.specs.Left.{StoresLeft}
+use Rattle.rg_engine.specs.OnVolume.{GoesOnTidy, LeavesSoundIfTidy}
+use Rattle.rg_engine.specs.Volume.{seen_volume}
 use Rattle.rg_desk.proofs.Death.{desk_left}
 use Rattle.rg_desk.proofs.DeskGoes.{desk_legal, desk_rests}
-use Rattle.rg_desk.proofs.Exits.{on_images}
+use Rattle.rg_engine.proofs.Exits.{on_images}
 use Rattle.rg_desk.proofs.desk.Desk.into_parts.Goals as goal
 
 pub returns-clause-legal : goal.returns-clause-legal

@@ -2,7 +2,7 @@ use Rattle.std.proofs.Common.{◌≡◌, ◌==◌, ℕ, true, List, Option, Some
 use Rattle.std.proofs.lemmas.Bool.{eqb-true}
 use Rattle.std.proofs.lemmas.Bool.Decides.{nat_tests}
 use Rattle.rg_record.specs.declared.record.Record.{Record}
-use Rattle.rg_desk.specs.Prepared.{PreparedSeen, prepared_seen}
+use Rattle.rg_engine.specs.Prepared.{PreparedSeen, prepared_seen}
 use Rattle.rg_desk.proofs.desk.Desk.is_current.Goals as goal
 
 same_test : (m n : ℕ) → m ≡ n → (m == n) ≡ true

@@ -3,7 +3,7 @@ use Rattle.rg_stmt.specs.declared.event.Entry.{Entry}
 use Rattle.rg_tending.specs.Tending.{Tends}
 use Rattle.rg_desk.proofs.DeskGoes.{desk_room}
 use Rattle.rg_feed.specs.Ends.{sent_items}
-use Rattle.rg_desk.specs.Sends.{KeepsItems}
+use Rattle.rg_engine.specs.Sends.{KeepsItems}
 use Rattle.rg_desk.proofs.desk.Desk.make_room.Goals as goal
 
 pub invariant_of-self : goal.invariant_of-self

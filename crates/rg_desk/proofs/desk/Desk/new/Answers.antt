@@ -7,17 +7,17 @@ use Rattle.rg_log.specs.Kept.{Listed}
 use Rattle.rg_outside.proofs.Every.{told_weaken}
 use Rattle.rg_record.specs.declared.record.Record.{Record}
 use Rattle.rg_space.specs.Space.{capacity_in, frames_of}
-use Rattle.rg_desk.specs.Bytes.{taken_of}
+use Rattle.rg_engine.specs.Bytes.{taken_of}
 use Rattle.rg_space.specs.Memory.{list_seen, space_pages}
-use Rattle.rg_desk.specs.Engine.{slots_in}
-use Rattle.rg_desk.specs.OnVolume.{IsOnVolume, WasAllTidy}
-use Rattle.rg_desk.specs.Reopens.{IsCleanIn}
-use Rattle.rg_desk.specs.Units.{trans_of}
-use Rattle.rg_desk.specs.Stored.{IsStored}
-use Rattle.rg_desk.specs.Volume.{LeavesIfTidy, seen_volume}
+use Rattle.rg_engine.specs.Engine.{slots_in}
+use Rattle.rg_engine.specs.OnVolume.{IsOnVolume, WasAllTidy}
+use Rattle.rg_engine.specs.Reopens.{IsCleanIn}
+use Rattle.rg_engine.specs.Units.{trans_of}
+use Rattle.rg_engine.specs.Stored.{IsStored}
+use Rattle.rg_engine.specs.Volume.{LeavesIfTidy, seen_volume}
 use Rattle.rg_desk.proofs.DeskGoes.{desk_opened}
-use Rattle.rg_desk.proofs.Members.{trans_only}
-use Rattle.rg_desk.proofs.Reopens.{idle_names}
+use Rattle.rg_engine.proofs.Members.{trans_only}
+use Rattle.rg_engine.proofs.Reopens.{idle_names}
 use Rattle.rg_model.specs.State.{row_count}
 use Rattle.rg_stmt.specs.Entries.{opened_entry}
 use Rattle.rg_stmt.specs.declared.event.Entry.{Entry}

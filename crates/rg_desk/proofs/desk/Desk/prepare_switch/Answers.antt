@@ -11,15 +11,16 @@ use Rattle.rg_base.specs.Copies.{other_of}
 use Rattle.rg_tending.specs.Tending.{Tends}
 use Rattle.rg_written.specs.Stamped.{stamped_all}
 use Rattle.rg_desk.specs.Desk.{DeskState, IsDesk, written_seen}
-use Rattle.rg_desk.specs.Engine.{ground_of, seen_in, slots_in}
-use Rattle.rg_desk.specs.Flushed.{CallsOwn}
-use Rattle.rg_desk.specs.OnVolume.{SoundThroughout}
-use Rattle.rg_desk.specs.Room.{Ground}
+use Rattle.rg_engine.specs.Engine.{ground_of, seen_in, slots_in}
+use Rattle.rg_engine.specs.Flushed.{CallsOwn}
+use Rattle.rg_engine.specs.OnVolume.{SoundThroughout}
+use Rattle.rg_engine.specs.Room.{Ground}
 use Rattle.rg_model.specs.Claims.{least_holder}
-use Rattle.rg_desk.specs.Prepared.{IsWritten, KeepsPrepared, PreparedSeen, WritesShadow, prepared_seen}
-use Rattle.rg_desk.specs.Volume.{seen_volume}
-use Rattle.rg_desk.specs.declared.engine.Engine.{Engine}
-use Rattle.rg_desk.specs.declared.prepared.Prepared.{Prepared}
+use Rattle.rg_engine.specs.Prepared.{IsWritten, KeepsPrepared, PreparedSeen, WritesShadow}
+use Rattle.rg_engine.specs.Prepared.{prepared_seen}
+use Rattle.rg_engine.specs.Volume.{seen_volume}
+use Rattle.rg_engine.specs.declared.engine.Engine.{Engine}
+use Rattle.rg_engine.specs.declared.prepared.Prepared.{Prepared}
 use Rattle.rg_desk.proofs.DeskUtility.{state_shows}
 use Rattle.rg_desk.proofs.WrittenCopy.{claims_are, desk_writes, is_prepared, writes_capacities, writes_later, writes_only, writes_sound}
 use Rattle.rg_feed.specs.Ends.{sent_items}

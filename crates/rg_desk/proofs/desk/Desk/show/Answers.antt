@@ -7,7 +7,7 @@ use Rattle.rg_tending.proofs.Tended.{tends_system}
 use Rattle.rg_desk.specs.Chronicle.{system_entry}
 use Rattle.rg_desk.proofs.DeskUtility.{layout_system}
 use Rattle.rg_desk.proofs.DeskGoes.{desk_room, desk_same}
-use Rattle.rg_desk.proofs.Preparing.{prepared_same}
+use Rattle.rg_engine.proofs.Preparing.{prepared_same}
 use Rattle.rg_feed.specs.Ends.{sent_items}
 use Rattle.rg_desk.proofs.DeskGoes.{system_keeps}
 use Rattle.rg_desk.proofs.Feeding.{engine_rows, passed, stays_copied, system_other}

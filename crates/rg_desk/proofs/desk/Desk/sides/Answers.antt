@@ -2,11 +2,11 @@ use Rattle.std.proofs.Common.{ℕ, Bool, Option, sym, ◌∙◌, ap, subst}
 use Rattle.rg_log.specs.Kept.{Listed}
 use Rattle.rg_tending.specs.Tending.{Tends}
 use Rattle.rg_desk.specs.Desk.{IsDesk}
-use Rattle.rg_desk.specs.Prepared.{KeepsPrepared}
-use Rattle.rg_desk.specs.Volume.{seen_volume}
-use Rattle.rg_desk.specs.declared.prepared.Prepared.{Prepared}
+use Rattle.rg_engine.specs.Prepared.{KeepsPrepared}
+use Rattle.rg_engine.specs.Volume.{seen_volume}
+use Rattle.rg_engine.specs.declared.prepared.Prepared.{Prepared}
 use Rattle.rg_desk.proofs.BothSides.{both_sides}
-use Rattle.rg_desk.proofs.Preparing.{prepared_same}
+use Rattle.rg_engine.proofs.Preparing.{prepared_same}
 use Rattle.rg_desk.proofs.Still.{desk_still}
 use Rattle.rg_feed.specs.Ends.{sent_items}
 use Rattle.rg_desk.proofs.Feeding.{engine_rows, same_items}

@@ -6,19 +6,20 @@ use Rattle.rg_stmt.specs.declared.event.Entry.{Entry}
 use Rattle.rg_tally.specs.Changed.{ChangeCount}
 use Rattle.rg_tending.specs.Tending.{Tends, aside_for, utility_entry}
 use Rattle.rg_desk.specs.Chronicle.{logged_by}
-use Rattle.rg_desk.specs.Desk.{IfStartLogFull, IsStart, old_records, started_count}
+use Rattle.rg_desk.specs.Desk.{IfStartLogFull, IsStart, old_records}
+use Rattle.rg_engine.specs.Utility.{started_count}
 use Rattle.rg_model.specs.Utility.{starts_utility}
-use Rattle.rg_desk.specs.Engine.{ground_of}
-use Rattle.rg_desk.specs.Flushed.{CallsOwn}
-use Rattle.rg_desk.specs.Room.{Ground}
-use Rattle.rg_desk.specs.Volume.{seen_volume}
-use Rattle.rg_desk.specs.declared.engine.Engine.{Engine}
+use Rattle.rg_engine.specs.Engine.{ground_of}
+use Rattle.rg_engine.specs.Flushed.{CallsOwn}
+use Rattle.rg_engine.specs.Room.{Ground}
+use Rattle.rg_engine.specs.Volume.{seen_volume}
+use Rattle.rg_engine.specs.declared.engine.Engine.{Engine}
 use Rattle.rg_desk.proofs.DeskGoes.{desk_room}
 use Rattle.rg_desk.proofs.DeskUtility.{count_since, start_aside, start_full, start_made, start_on, start_reserved}
-use Rattle.rg_desk.proofs.Flushing.{own_same}
-use Rattle.rg_desk.proofs.Preparing.{prepared_same}
+use Rattle.rg_engine.proofs.Flushing.{own_same}
+use Rattle.rg_engine.proofs.Preparing.{prepared_same}
 use Rattle.rg_feed.specs.Ends.{sent_items}
-use Rattle.rg_desk.specs.Sends.{KeepsItems, begin_items}
+use Rattle.rg_engine.specs.Sends.{KeepsItems, begin_items}
 use Rattle.rg_fold.specs.declared.item.Item.{Item}
 use Rattle.rg_desk.proofs.Feeding.{started_items}
 use Rattle.rg_desk.proofs.desk.Desk.start.Goals as goal

@@ -4,12 +4,12 @@ use Rattle.rg_log.specs.Kept.{Listed}
 use Rattle.rg_tending.specs.Tending.{Tends}
 use Rattle.rg_feed.specs.Ends.{sent_items}
 use Rattle.rg_desk.specs.Desk.{old_records}
-use Rattle.rg_desk.specs.Tabled.{EndsWithTable}
-use Rattle.rg_desk.specs.Volume.{seen_volume}
+use Rattle.rg_engine.specs.Tabled.{EndsWithTable}
+use Rattle.rg_engine.specs.Volume.{seen_volume}
 use Rattle.rg_desk.proofs.Feeding.{engine_rows, same_items}
-use Rattle.rg_desk.proofs.Preparing.{prepared_same}
+use Rattle.rg_engine.proofs.Preparing.{prepared_same}
 use Rattle.rg_desk.proofs.Still.{desk_still}
-use Rattle.rg_desk.proofs.TableRows.{ends_with}
+use Rattle.rg_engine.proofs.TableRows.{ends_with}
 use Rattle.rg_desk.proofs.desk.Desk.table.Goals as goal
 
 pub table-requires : goal.table-requires

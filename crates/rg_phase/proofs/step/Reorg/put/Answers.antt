@@ -1,7 +1,7 @@
 use Rattle.std.proofs.Common.{ℕ, length, Option, sym, ◌∙◌, ap, subst, arith}
 use Rattle.rg_desk.specs.Desk.{CanPrepare}
-use Rattle.rg_desk.specs.Prepared.{PreparedSeen}
-use Rattle.rg_desk.specs.Volume.{seen_volume}
+use Rattle.rg_engine.specs.Prepared.{PreparedSeen}
+use Rattle.rg_engine.specs.Volume.{seen_volume}
 use Rattle.rg_image.specs.Rules.{copy_capacity}
 use Rattle.rg_shadow.specs.Shade.{Shade}
 use Rattle.rg_base.specs.Copies.{other_of}

@@ -1,5 +1,5 @@
 use Rattle.std.proofs.Common.{◌≡◌, ℕ, subst}
-use Rattle.rg_desk.specs.Volume.{seen_volume}
+use Rattle.rg_engine.specs.Volume.{seen_volume}
 use Rattle.rg_image.specs.Rules.{copy_capacity}
 use Rattle.rg_reach.specs.Weighed.{weigh_feed}
 use Rattle.rg_base.specs.Copies.{other_of}

@@ -1,6 +1,7 @@
 use Rattle.std.proofs.Common.{◌≡◌, ℕ, Option, Some, None, refl, sym, ◌∙◌, ap, append-nil, subst}
-use Rattle.rg_desk.specs.Desk.{DeskState, left_by_stage, while_running}
-use Rattle.rg_desk.specs.Volume.{seen_volume}
+use Rattle.rg_desk.specs.Desk.{DeskState, left_by_stage}
+use Rattle.rg_engine.specs.Prepared.{while_running}
+use Rattle.rg_engine.specs.Volume.{seen_volume}
 use Rattle.rg_fold.specs.declared.item.Stage.{Stage}
 use Rattle.rg_outside.specs.Told.{AddsAnswer, HandsOver}
 use Rattle.rg_stmt.specs.declared.event.Event.TheVariants as events

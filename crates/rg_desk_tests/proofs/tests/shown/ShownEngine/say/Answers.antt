@@ -1,5 +1,5 @@
 use Rattle.std.proofs.Common.{◌∙◌}
-use Rattle.rg_desk.proofs.Answering.{replies_pages, replies_shown}
+use Rattle.rg_engine.proofs.Answering.{replies_pages, replies_shown}
 use Rattle.rg_desk_tests.proofs.tests.shown.ShownEngine.say.Goals as goal
 
 pub invariant_of-self : goal.invariant_of-self

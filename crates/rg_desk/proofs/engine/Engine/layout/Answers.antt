@@ -1,5 +1,0 @@
-use Rattle.rg_desk.proofs.DeskGoes.{shown_so}
-use Rattle.rg_desk.proofs.engine.Engine.layout.Goals as goal
-
-pub returns-in-Ok-clause-right : goal.returns-in-Ok-clause-right
-returns-in-Ok-clause-right c = λ st allowed shows one. shown_so st c.args.copy c.in-Ok.side shows.by.up one (c.in-Ok.ensures.right st allowed shows)
