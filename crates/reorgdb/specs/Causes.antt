@@ -14,7 +14,7 @@ use Rattle.rg_engine.specs.OnVolume.{IsTidyVolume}
 use Rattle.rg_engine.specs.Volume.{VolumeSeen}
 use Rattle.rg_base.specs.declared.set.Set.{Set}
 use Rattle.rg_outside.specs.Calls.{Told, read_of}
-use Rattle.rg_sound.specs.Sound.{IsSound}
+use Rattle.rg_laws_crash.specs.SoundVolume.Sound.{IsSound}
 use Rattle.rg_run.specs.Outside.{FailsAfter, IsEnd}
 use Rattle.rg_run.specs.declared.played.RunEnd.TheVariants as ends
 use Rattle.rg_run.specs.Played.{TraceOf}

@@ -1,3 +1,4 @@
+pub mod IndexesLemmas
 pub mod Below
 pub mod Choice
 pub mod Chosen

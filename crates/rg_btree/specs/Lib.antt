@@ -1,3 +1,4 @@
+pub mod Indexes
 pub mod Child
 pub mod Moved
 pub mod Short

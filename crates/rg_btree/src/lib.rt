@@ -1,4 +1,4 @@
-//! An index in a B-tree.
+//! An index in a B-tree, and the three indexes of a table.
 #![tactic(auto)]
 
 // Adding an entry below a node.
@@ -9,6 +9,8 @@ mod pool;
 mod remove;
 // Moves between vectors with room.
 mod room;
+/// The three indexes of a table: by key, by `clus` and by `cat`, kept in step with its rows.
+pub mod indexes;
 #[cfg(test)]
 mod tests;
 // The root of a tree.

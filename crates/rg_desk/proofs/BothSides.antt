@@ -1,13 +1,13 @@
 -- The layouts of both copies, once a new copy was written, are right for the table.
 use Rattle.std.proofs.Common.{◌≡◌, ℕ, true, false, List, Option, Some, None, IfSome, length, take, refl, sym, ◌∙◌, ap, subst}
 use Rattle.std.proofs.Math.Seq.{take-length}
-use Rattle.rg_account.specs.Account.{allowed_of}
+use Rattle.rg_laws_utility.specs.ByteAccount.Account.{allowed_of}
 use Rattle.rg_base.specs.declared.options.DrainState.TheVariants.{Granted}
 use Rattle.rg_base.specs.declared.place.Place.{Place}
 use Rattle.rg_base.specs.declared.position.Position.{Position}
 use Rattle.rg_base.specs.declared.row.Row.{Row}
 use Rattle.rg_claim.specs.Drains.{GrantIsKept}
-use Rattle.rg_fold.specs.declared.item.Stage.{Stage}
+use Rattle.rg_feed.specs.declared.fold.item.Stage.{Stage}
 use Rattle.rg_home.specs.Pages.{slot_of}
 use Rattle.rg_home.specs.Rows.{row_at}
 use Rattle.rg_image.specs.Meaning.{stored}
@@ -19,8 +19,8 @@ use Rattle.rg_record.specs.declared.record.Record.{Record}
 use Rattle.rg_shadow.specs.Shade.{shade_slots}
 use Rattle.rg_stmt.specs.declared.layout.Side.{Side}
 use Rattle.rg_stmt.specs.declared.layout.Sides.{Sides}
-use Rattle.rg_tally.specs.Changed.{ChangeCount}
-use Rattle.rg_tending.specs.Tending.{Tends}
+use Rattle.rg_rules.specs.Tally.Changed.{ChangeCount}
+use Rattle.rg_laws_utility.specs.TraceStage.Tending.{Tends}
 use Rattle.rg_desk.specs.Chronicle.{ChronicleState}
 use Rattle.rg_desk.specs.Desk.{AreSides, DeskState, HasCurrent, HasDrain, IsDesk, IsNewSide}
 use Rattle.rg_engine.specs.Engine.{slots_in}

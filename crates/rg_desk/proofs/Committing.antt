@@ -10,7 +10,7 @@ use Rattle.std.proofs.lemmas.List.{take-append-le}
 use Rattle.std.specs.Cmp.Derive.{both_true}
 use Rattle.std.specs.FinMap as fin
 use Rattle.std.specs.FinMap.{len-empty}
-use Rattle.rg_account.specs.Account.{allowed_of}
+use Rattle.rg_laws_utility.specs.ByteAccount.Account.{allowed_of}
 use Rattle.rg_base.specs.declared.session.Class.{Class}
 use Rattle.rg_base.specs.declared.control.Answer.{Answer}
 use Rattle.rg_base.specs.declared.options.DrainFor.TheVariants.{All}
@@ -21,7 +21,7 @@ use Rattle.rg_base.specs.declared.step.Step.TheVariants as steps
 use Rattle.rg_base.specs.declared.verdict.StopReason.TheVariants as reasons
 use Rattle.rg_claim.proofs.Grants.{no_claim_under_all}
 use Rattle.rg_claim.specs.Drains.{GrantIsKept}
-use Rattle.rg_fold.specs.declared.item.Stage.{Stage}
+use Rattle.rg_feed.specs.declared.fold.item.Stage.{Stage}
 use Rattle.rg_home.specs.Pages.{slot_of}
 use Rattle.rg_home.specs.Rows.{row_at}
 use Rattle.rg_home.specs.Slot.{Slot}
@@ -32,21 +32,21 @@ use Rattle.rg_model.specs.Right.{are_quiet_right, is_packed, is_right_switch}
 use Rattle.rg_model.specs.State.{Claims, Utility, row_of}
 use Rattle.rg_model.specs.Turn.{Turn, Switches, alter, step_of, turn_of}
 use Rattle.rg_record.specs.declared.record.Record.{Record}
-use Rattle.rg_claimed.specs.Claim.{claimed_all, nobody}
+use Rattle.rg_laws_pages.specs.ByteClaims.Claim.{claimed_all, nobody}
 use Rattle.rg_engine.specs.Stored.{IsStored}
 use Rattle.rg_engine.specs.Units.{unit_at}
 use Rattle.rg_shadow.specs.Shade.{shade_slots}
-use Rattle.rg_stage.specs.Bounded.{KeepsBounds}
-use Rattle.rg_stage.specs.Followed.{Followed}
-use Rattle.rg_stage.specs.NumbersOf.{numbers_of}
+use Rattle.rg_rules.specs.Stage.Bounded.{KeepsBounds}
+use Rattle.rg_rules.specs.Stage.Followed.{Followed}
+use Rattle.rg_rules.specs.Stage.NumbersOf.{numbers_of}
 use Rattle.rg_stmt.specs.declared.event.Entry.{Entry}
 use Rattle.rg_stmt.specs.declared.event.Event.{Event}
 use Rattle.rg_stmt.specs.declared.event.Event.TheVariants as events
 use Rattle.rg_stmt.specs.declared.layout.Sides.{Sides}
 use Rattle.rg_base.specs.Copies.{other_of}
-use Rattle.rg_switch.specs.Switched.{switch_to}
-use Rattle.rg_tally.specs.Changed.{ChangeCount}
-use Rattle.rg_tending.specs.Tending.{Tends, utility_entry}
+use Rattle.rg_laws_crash.specs.SwitchRecord.Switched.{switch_to}
+use Rattle.rg_rules.specs.Tally.Changed.{ChangeCount}
+use Rattle.rg_laws_utility.specs.TraceStage.Tending.{Tends, utility_entry}
 use Rattle.rg_model.specs.Run.{behind}
 use Rattle.rg_desk.specs.Chronicle.{ChronicleState, IsRecorded}
 use Rattle.rg_desk.specs.Desk.{CanCommit, DeskState, IsDesk, old_records}

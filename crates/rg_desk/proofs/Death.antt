@@ -1,6 +1,6 @@
 -- What the log stores is what process death leaves of a desk's state.
 use Rattle.std.proofs.Common.{ℕ, Bool, true, false, List, Option, refl}
-use Rattle.rg_account.specs.Account.{allowed_of}
+use Rattle.rg_laws_utility.specs.ByteAccount.Account.{allowed_of}
 use Rattle.rg_base.specs.declared.position.Position.{Position}
 use Rattle.rg_desk.specs.Chronicle.{ChronicleState}
 use Rattle.rg_desk.specs.Desk.{IsDesk}

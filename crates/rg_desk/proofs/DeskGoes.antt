@@ -10,10 +10,12 @@ use Rattle.std.specs.FinMap.{get-empty, get-entries, len-entries, nat_cmp-IsAnti
 use Rattle.std.specs.Option.{is_some}
 use Rattle.std.specs.Ordering.{nat_cmp, eq_by_cmp}
 use Rattle.std.specs.List.{AllByRecursion, Contains}
-use Rattle.rg_account.specs.Account.{Account, account_after, account_of, account_said, allowed_of, first_state, no_account, state_by}
-use Rattle.rg_account.proofs.Accounts.{account_push, state_push}
+use Rattle.rg_laws_utility.specs.ByteAccount.Account.{Account, account_after, account_of}
+use Rattle.rg_laws_utility.specs.ByteAccount.Account.{account_said, allowed_of, first_state}
+use Rattle.rg_laws_utility.specs.ByteAccount.Account.{no_account, state_by}
+use Rattle.rg_laws_utility.proofs.ByteAccountLemmas.Accounts.{account_push, state_push}
 use Rattle.rg_base.specs.declared.lock.Lock.{Lock}
-use Rattle.rg_claimed.specs.Claim.{claimed_all, holding}
+use Rattle.rg_laws_pages.specs.ByteClaims.Claim.{claimed_all, holding}
 use Rattle.rg_base.specs.declared.position.Position.{Position}
 use Rattle.rg_base.specs.declared.row.Row.{Row}
 use Rattle.rg_base.specs.declared.session.Session.{Session}
@@ -33,9 +35,9 @@ use Rattle.rg_model.proofs.Overlay.{committed-at_rest, key_of}
 use Rattle.rg_model.proofs.RunPossible.{run_possible_start}
 use Rattle.rg_model.proofs.RunPush.{Run-push}
 use Rattle.rg_stmt.specs.Entries.{opened_entry, said_entry}
-use Rattle.rg_tending.specs.Tending.{IsSystem}
+use Rattle.rg_laws_utility.specs.TraceStage.Tending.{IsSystem}
 use Rattle.rg_record.specs.declared.record.Record.{Record}
-use Rattle.rg_lawful.proofs.Tables.{eqb-refl}
+use Rattle.rg_laws_log.proofs.LogStateLemmas.Tables.{eqb-refl}
 use Rattle.rg_stmt.specs.declared.event.Actor.TheVariants as actors
 use Rattle.rg_stmt.specs.declared.event.Entry.{Entry}
 use Rattle.rg_stmt.specs.declared.event.Event.{Event}
@@ -66,7 +68,7 @@ use Rattle.rg_outside.specs.Capacities.{Capacities}
 use Rattle.rg_engine.specs.Reopens.{IsCleanIn, PartsReopen, Reopens}
 use Rattle.rg_outside.specs.Faults.{Rose}
 use Rattle.rg_space.specs.Space.{capacity_in}
-use Rattle.rg_version.specs.Versions.{Epoch}
+use Rattle.rg_laws_crash.specs.PageVersions.Versions.{Epoch}
 use Rattle.rg_engine.specs.Count.{IsShownFew}
 use Rattle.rg_engine.specs.Room.{Ground, SaysLog, SaysRoom}
 use Rattle.rg_engine.specs.Shows.{IsShown, Shows, left_by}

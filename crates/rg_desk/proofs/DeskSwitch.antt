@@ -8,8 +8,8 @@ use Rattle.std.proofs.lemmas.Bool.{cases_lt}
 use Rattle.std.proofs.lemmas.List.{take-append-le, take_all}
 use Rattle.std.specs.FinMap as map
 use Rattle.std.specs.List.{Contains}
-use Rattle.rg_account.specs.Account.{allowed_of, first_state, state_by}
-use Rattle.rg_account.proofs.Accounts.{state_push}
+use Rattle.rg_laws_utility.specs.ByteAccount.Account.{allowed_of, first_state, state_by}
+use Rattle.rg_laws_utility.proofs.ByteAccountLemmas.Accounts.{state_push}
 use Rattle.rg_base.specs.declared.control.Answer.{Answer}
 use Rattle.rg_base.specs.declared.options.DrainFor.TheVariants.{All}
 use Rattle.rg_base.specs.declared.options.DrainState.TheVariants.{Granted}
@@ -19,13 +19,13 @@ use Rattle.rg_base.specs.declared.step.Step.{Step}
 use Rattle.rg_base.specs.declared.step.Step.TheVariants as steps
 use Rattle.rg_base.specs.declared.verdict.StopReason.TheVariants as reasons
 use Rattle.rg_claim.specs.Drains.{GrantIsKept}
-use Rattle.rg_claimed.specs.Claim.{OwnerIsZero, claimed_all, holding, nobody}
-use Rattle.rg_claimed.proofs.Owners as owners
-use Rattle.rg_claimed.proofs.Pages.{claimed_all-fewer}
-use Rattle.rg_fold.specs.declared.item.Stage.{Stage}
+use Rattle.rg_laws_pages.specs.ByteClaims.Claim.{OwnerIsZero, claimed_all, holding, nobody}
+use Rattle.rg_laws_pages.proofs.ByteClaimsLemmas.Owners as owners
+use Rattle.rg_laws_pages.proofs.ByteClaimsLemmas.Pages.{claimed_all-fewer}
+use Rattle.rg_feed.specs.declared.fold.item.Stage.{Stage}
 use Rattle.rg_home.specs.Pages.{slot_of}
 use Rattle.rg_home.specs.Slot.{DeadOver, DeadPointer, DeadRow, Free, Over, Pointer, Row, Slot}
-use Rattle.rg_lawful.specs.Act.{LogState}
+use Rattle.rg_laws_log.specs.LogState.Act.{LogState}
 use Rattle.rg_home.specs.Owners.{OwnerBelow}
 use Rattle.rg_page.specs.Content.{Content, slots_of}
 use Rattle.rg_shadow.specs.Shade.{shade_slots}
@@ -43,24 +43,24 @@ use Rattle.rg_model.specs.State.{Locks, Table, Utility, at_rest, is_present, row
 use Rattle.rg_model.specs.Turn.{Turn, Switches, Falls, alter, end_turn, is_term, step_of, switch_turn, term_turn, turn_at, turn_of}
 use Rattle.rg_outside.specs.Capacities.{Capacities}
 use Rattle.rg_record.specs.declared.record.Record.{Record}
-use Rattle.rg_stage.proofs.Booking.{entry_allowed, switch_allowed}
-use Rattle.rg_stage.specs.Booked.{Booked, drain_kept, utility_kept}
-use Rattle.rg_stage.specs.Bounded.{KeepsBounds}
-use Rattle.rg_stage.specs.Followed.{Followed}
-use Rattle.rg_stage.specs.NumbersOf.{numbers_of}
+use Rattle.rg_rules.proofs.StageLemmas.Booking.{entry_allowed, switch_allowed}
+use Rattle.rg_rules.specs.Stage.Booked.{Booked, drain_kept, utility_kept}
+use Rattle.rg_rules.specs.Stage.Bounded.{KeepsBounds}
+use Rattle.rg_rules.specs.Stage.Followed.{Followed}
+use Rattle.rg_rules.specs.Stage.NumbersOf.{numbers_of}
 use Rattle.rg_stmt.specs.declared.event.Actor.TheVariants as actors
 use Rattle.rg_stmt.specs.declared.event.Entry.{Entry}
 use Rattle.rg_stmt.specs.declared.event.Event.{Event}
 use Rattle.rg_stmt.specs.declared.event.Event.TheVariants as events
 use Rattle.rg_stmt.specs.declared.layout.Sides.{Sides}
-use Rattle.rg_switch.proofs.Switching.{switch_stores}
-use Rattle.rg_switch.specs.Switched.{next_epoch, switch_to, switched}
+use Rattle.rg_laws_crash.proofs.SwitchRecordLemmas.Switching.{switch_stores}
+use Rattle.rg_laws_crash.specs.SwitchRecord.Switched.{next_epoch, switch_to, switched}
 use Rattle.rg_base.specs.Copies.{other_of}
-use Rattle.rg_tally.specs.Changed.{ChangeCount}
-use Rattle.rg_tending.proofs.Kept.{kept_on}
-use Rattle.rg_tending.proofs.Switching.{switch_under_all}
-use Rattle.rg_tending.proofs.Tended.{tends_booked}
-use Rattle.rg_tending.specs.Tending.{Tends, aside_for, utility_entry}
+use Rattle.rg_rules.specs.Tally.Changed.{ChangeCount}
+use Rattle.rg_laws_utility.proofs.TraceStageLemmas.Kept.{kept_on}
+use Rattle.rg_laws_utility.proofs.TraceStageLemmas.Switching.{switch_under_all}
+use Rattle.rg_laws_utility.proofs.TraceStageLemmas.Tended.{tends_booked}
+use Rattle.rg_laws_utility.specs.TraceStage.Tending.{Tends, aside_for, utility_entry}
 use Rattle.rg_model.specs.Run.{behind}
 use Rattle.rg_engine.specs.Bytes.{taken_of}
 use Rattle.rg_desk.specs.Chronicle.{ChronicleState, IsRecorded, logged_by}

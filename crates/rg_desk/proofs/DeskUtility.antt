@@ -2,9 +2,9 @@
 use Rattle.std.proofs.Common.{◌≡◌, ◌≤◌, ◌+◌, ◌==◌, ◌&&◌, ◌||◌, not, if◌then◌else◌, ℕ, Bool, true, false, List, [], ◌∷◌, ◌++◌, length, take, Option, Some, None, refl, sym, ◌∙◌, ap, subst, arith, length-append}
 use Rattle.std.specs.FinMap as map
 use Rattle.std.specs.Option.{is_some}
-use Rattle.rg_account.specs.Account.{allowed_of, first_state, state_by}
-use Rattle.rg_account.specs.Laws.{opens}
-use Rattle.rg_account.proofs.Accounts.{state_push}
+use Rattle.rg_laws_utility.specs.ByteAccount.Account.{allowed_of, first_state, state_by}
+use Rattle.rg_laws_utility.specs.ByteAccount.Laws.{opens}
+use Rattle.rg_laws_utility.proofs.ByteAccountLemmas.Accounts.{state_push}
 use Rattle.rg_base.specs.declared.control.Answer.{Answer}
 use Rattle.rg_base.specs.declared.position.Position.{Position}
 use Rattle.rg_model.proofs.RunPush.{Run-push, behind as pushed_behind}
@@ -27,21 +27,23 @@ use Rattle.rg_model.specs.Utility.{new_utility, start_utility}
 use Rattle.rg_base.specs.declared.options.DrainState.{DrainState}
 use Rattle.rg_base.specs.declared.options.Options.{Options}
 use Rattle.rg_base.specs.declared.session.Session.{Session}
-use Rattle.rg_fold.specs.declared.item.Stage.{Stage}
-use Rattle.rg_lawful.proofs.Tables.{eqb-refl}
-use Rattle.rg_stage.specs.Booked.{Booked, drain_kept, is_fall, is_switch_turn, utility_kept}
-use Rattle.rg_stage.specs.Followed.{Followed}
-use Rattle.rg_stage.specs.NumbersOf.{numbers_of}
-use Rattle.rg_stage.proofs.Booking.{entry_allowed}
+use Rattle.rg_feed.specs.declared.fold.item.Stage.{Stage}
+use Rattle.rg_laws_log.proofs.LogStateLemmas.Tables.{eqb-refl}
+use Rattle.rg_rules.specs.Stage.Booked.{Booked, drain_kept, is_fall, is_switch_turn, utility_kept}
+use Rattle.rg_rules.specs.Stage.Followed.{Followed}
+use Rattle.rg_rules.specs.Stage.NumbersOf.{numbers_of}
+use Rattle.rg_rules.proofs.StageLemmas.Booking.{entry_allowed}
 use Rattle.rg_stmt.specs.declared.event.Event.TheVariants as events
-use Rattle.rg_tally.specs.Changed.{ChangeCount}
-use Rattle.rg_tending.specs.Tending.{FollowsBy, IsSystem, NextBy, Tends, aside_for, is_booked}
-use Rattle.rg_tending.specs.Tending.{is_plain, utility_entry}
+use Rattle.rg_rules.specs.Tally.Changed.{ChangeCount}
+use Rattle.rg_laws_utility.specs.TraceStage.Tending.{FollowsBy, IsSystem, NextBy, Tends, aside_for}
+use Rattle.rg_laws_utility.specs.TraceStage.Tending.{is_booked}
+use Rattle.rg_laws_utility.specs.TraceStage.Tending.{is_plain, utility_entry}
 use Rattle.rg_model.specs.Run.{behind}
-use Rattle.rg_tending.proofs.Kept.{kept_on}
-use Rattle.rg_tending.proofs.Switching.{plain_neither, plain_turn}
-use Rattle.rg_tending.proofs.Tended.{tends_booked, tends_refused, tends_started}
-use Rattle.rg_version.specs.Versions.{Epoch}
+use Rattle.rg_laws_utility.proofs.TraceStageLemmas.Kept.{kept_on}
+use Rattle.rg_laws_utility.proofs.TraceStageLemmas.Switching.{plain_neither, plain_turn}
+use Rattle.rg_laws_utility.proofs.TraceStageLemmas.Tended.{tends_booked, tends_refused}
+use Rattle.rg_laws_utility.proofs.TraceStageLemmas.Tended.{tends_started}
+use Rattle.rg_laws_crash.specs.PageVersions.Versions.{Epoch}
 use Rattle.rg_engine.specs.Bytes.{taken_of}
 use Rattle.rg_engine.specs.Engine.{ground_of, seen_in}
 use Rattle.rg_desk.specs.Chronicle.{ChronicleState, IsRecorded, logged_after, logged_by}

@@ -6,7 +6,7 @@
 -- 2. The set of the current copy reads as before, so the marks go on to say how (`on_elsewhere`).
 -- 3. The desk stays as it was (`desk_elsewhere`).
 use Rattle.std.proofs.Common.{◌≡◌, ◌≤◌, ℕ, false, List, length, Option, Some, refl, sym, ◌∙◌, ap, subst}
-use Rattle.rg_anew.specs.Writing.{ArePagesOf, IsWriteOf, WritesCopy}
+use Rattle.rg_laws_crash.specs.NewCopy.Writing.{ArePagesOf, IsWriteOf, WritesCopy}
 use Rattle.rg_base.specs.declared.position.Position.{Position}
 use Rattle.rg_base.specs.declared.set.Set.{Set}
 use Rattle.rg_image.specs.Kept.{AreEntries}
@@ -14,7 +14,7 @@ use Rattle.rg_image.specs.Log.{SpellsFrom}
 use Rattle.rg_image.specs.Pack.{end_of, start}
 use Rattle.rg_image.specs.Rules.{copy_capacity}
 use Rattle.rg_log.specs.Kept.{LeavesLog, Listed, log_pages}
-use Rattle.rg_newest.specs.Tidy.{set_of}
+use Rattle.rg_laws_crash.specs.NewestPages.Tidy.{set_of}
 use Rattle.rg_outside.specs.Calls.{Call, FailedRead, FailedSync, FailedWrite, Image, Read, Refused, Synced, Told, Wrote, effect_of}
 use Rattle.rg_outside.specs.Capacities.{Capacities, capacity_of}
 use Rattle.rg_outside.specs.Made.{WritesIn}
@@ -27,9 +27,9 @@ use Rattle.rg_page.specs.declared.list.ListFrames.{ListFrames}
 use Rattle.rg_record.specs.declared.record.Record.{Record}
 use Rattle.rg_space.specs.Space.{capacity_in}
 use Rattle.rg_space.specs.declared.space.Space.{Space}
-use Rattle.rg_switch.specs.Switched.{IsOldPage}
+use Rattle.rg_laws_crash.specs.SwitchRecord.Switched.{IsOldPage}
 use Rattle.rg_base.specs.Copies.{other_of}
-use Rattle.rg_version.specs.Versions.{Epoch, IsOnVolume as IsOnPage}
+use Rattle.rg_laws_crash.specs.PageVersions.Versions.{Epoch, IsOnVolume as IsOnPage}
 use Rattle.rg_desk.specs.Chronicle.{ChronicleState}
 use Rattle.rg_desk.specs.Desk.{IsDesk}
 use Rattle.rg_engine.specs.OnVolume.{HasCopies, IsMark, IsOn, IsSoundTidy, PartsIfTidy}

@@ -2,11 +2,15 @@
 use Rattle.std.proofs.Common.{◌≡◌, ◌≤◌, ◌+◌, ◌++◌, ◌⊎◌, inl, inr, IfSome, ℕ, suc, zero, Bool, true, false, List, [], ◌∷◌, Option, Some, None, is_some, length, drop, take, refl, sym, ◌∙◌, ap, subst, arith, append-nil, length-append}
 use Rattle.std.proofs.Math.Seq.{drop-append_seam}
 use Rattle.std.specs.FinMap as fin
-use Rattle.rg_account.specs.Account.{Account, account_after, account_of, account_said, allowed_of, first_state, no_account, state_by}
-use Rattle.rg_account.specs.Found.{weigh_each}
-use Rattle.rg_account.specs.Reaching.{ReachesBy}
-use Rattle.rg_account.proofs.Accounts.{account_push, found_elsewhere, found_goes}
-use Rattle.rg_account.proofs.Reached.{begin_reaches, entry_reaches, said_reaches}
+use Rattle.rg_laws_utility.specs.ByteAccount.Account.{Account, account_after, account_of}
+use Rattle.rg_laws_utility.specs.ByteAccount.Account.{account_said, allowed_of, first_state}
+use Rattle.rg_laws_utility.specs.ByteAccount.Account.{no_account, state_by}
+use Rattle.rg_laws_utility.specs.ByteAccount.Found.{weigh_each}
+use Rattle.rg_laws_utility.specs.ByteAccount.Reaching.{ReachesBy}
+use Rattle.rg_laws_utility.proofs.ByteAccountLemmas.Accounts.{account_push, found_elsewhere}
+use Rattle.rg_laws_utility.proofs.ByteAccountLemmas.Accounts.{found_goes}
+use Rattle.rg_laws_utility.proofs.ByteAccountLemmas.Reached.{begin_reaches, entry_reaches}
+use Rattle.rg_laws_utility.proofs.ByteAccountLemmas.Reached.{said_reaches}
 use Rattle.rg_base.specs.Session.{IsSession}
 use Rattle.rg_base.specs.declared.control.Answer.{Answer}
 use Rattle.rg_base.specs.declared.control.Command.{Command}
@@ -16,14 +20,14 @@ use Rattle.rg_base.specs.declared.position.Position.{Position}
 use Rattle.rg_base.specs.declared.row.Row.{Row}
 use Rattle.rg_base.specs.declared.session.Session.{Session}
 use Rattle.rg_base.specs.declared.change.Change.{Change}
-use Rattle.rg_changed.specs.Changed.{changes_in, rows_after}
-use Rattle.rg_claimed.specs.Claim.{claimed_all, holding}
-use Rattle.rg_claimed.specs.Weight.{weight}
-use Rattle.rg_fold.specs.Fold.{row_in}
-use Rattle.rg_fold.specs.Lawful.{AreRowsOf}
-use Rattle.rg_fold.specs.declared.item.Item.{Item}
-use Rattle.rg_fold.specs.declared.item.Item.TheVariants.{Begin, PageCopy}
-use Rattle.rg_fold.specs.declared.item.Stage.{Stage}
+use Rattle.rg_laws_utility.specs.RecordChanges.Changed.{changes_in, rows_after}
+use Rattle.rg_laws_pages.specs.ByteClaims.Claim.{claimed_all, holding}
+use Rattle.rg_laws_pages.specs.ByteClaims.Weight.{weight}
+use Rattle.rg_feed.specs.Fold.Fold.{row_in}
+use Rattle.rg_feed.specs.Fold.Lawful.{AreRowsOf}
+use Rattle.rg_feed.specs.declared.fold.item.Item.{Item}
+use Rattle.rg_feed.specs.declared.fold.item.Item.TheVariants.{Begin, PageCopy}
+use Rattle.rg_feed.specs.declared.fold.item.Stage.{Stage}
 use Rattle.rg_home.specs.Able.{Proper}
 use Rattle.rg_home.specs.Pages.{page_at, slot_of}
 use Rattle.rg_home.specs.Rows.{home_row, row_at}
@@ -31,35 +35,37 @@ use Rattle.rg_home.specs.Slot.{Slot}
 use Rattle.rg_home.specs.Slot.{Free}
 use Rattle.rg_home.specs.Slots.{slot_at}
 use Rattle.rg_image.specs.Pack.{log_bytes}
-use Rattle.rg_lawful.proofs.Parts.{page_past}
+use Rattle.rg_laws_log.proofs.LogStateLemmas.Parts.{page_past}
 use Rattle.rg_home.proofs.Tables.{table_same}
-use Rattle.rg_lawful.specs.Act.{LogState}
+use Rattle.rg_laws_log.specs.LogState.Act.{LogState}
 use Rattle.rg_home.specs.Table.{IsTable}
-use Rattle.rg_lawful.specs.Write.{Write}
+use Rattle.rg_laws_log.specs.LogState.Write.{Write}
 use Rattle.rg_log.specs.Kept.{Listed}
 use Rattle.rg_model.specs.Utility.{starts_utility}
-use Rattle.rg_loud.proofs.Louder.{quiet_in_run, said_loud}
+use Rattle.rg_laws_utility.proofs.QuietKeysLemmas.Louder.{quiet_in_run, said_loud}
 use Rattle.rg_model.specs.State.{Locks, State, Table, Utility, row_count, row_of}
-use Rattle.rg_reach.proofs.Bringing.{copy_reaches}
-use Rattle.rg_reach.specs.Reach.{Reaches}
-use Rattle.rg_reach.specs.Weighed.{weigh_changes}
-use Rattle.rg_sent.specs.Keeps.{Rows}
+use Rattle.rg_laws_utility.proofs.CopyWeightLemmas.Bringing.{copy_reaches}
+use Rattle.rg_laws_utility.specs.CopyWeight.Reach.{Reaches}
+use Rattle.rg_laws_utility.specs.CopyWeight.Weighed.{weigh_changes}
+use Rattle.rg_feed.specs.SentItems.Keeps.{Rows}
 use Rattle.rg_model.specs.Turn.{Switches, alter, turn_of}
 use Rattle.rg_page.specs.Content.{slots_of}
 use Rattle.rg_page.specs.declared.list.ListFrames.{ListFrames}
 use Rattle.rg_record.specs.declared.record.Record.{Record}
-use Rattle.rg_sending.specs.Sending.{CopiesOne, KeepsSent, SameCopies, items_made}
-use Rattle.rg_sending.proofs.Keeping.{copy_kept, entry_kept, opening_begins, said_kept, start_kept, switch_kept}
-use Rattle.rg_sending.proofs.Turning.{alter_copied, alter_unloaded, booked_copies_none, unload_copies}
+use Rattle.rg_engine.specs.ChangeFeed.Sending.{CopiesOne, KeepsSent, SameCopies, items_made}
+use Rattle.rg_engine.proofs.ChangeFeedLemmas.Keeping.{copy_kept, entry_kept, opening_begins}
+use Rattle.rg_engine.proofs.ChangeFeedLemmas.Keeping.{said_kept, start_kept, switch_kept}
+use Rattle.rg_engine.proofs.ChangeFeedLemmas.Turning.{alter_copied, alter_unloaded}
+use Rattle.rg_engine.proofs.ChangeFeedLemmas.Turning.{booked_copies_none, unload_copies}
 use Rattle.rg_shadow.specs.Shade.{Shade}
 use Rattle.rg_space.proofs.Whole.{slots_count}
 use Rattle.rg_space.specs.Memory.{list_seen, space_pages}
 use Rattle.rg_space.specs.Space.{capacity_in, frames_of}
 use Rattle.rg_space.specs.declared.space.Space.{Space}
-use Rattle.rg_stage.specs.Booked.{utility_kept}
-use Rattle.rg_stage.specs.Bounded.{Bounded}
-use Rattle.rg_stage.specs.Followed.{Followed}
-use Rattle.rg_stage.specs.NumbersOf.{numbers_of}
+use Rattle.rg_rules.specs.Stage.Booked.{utility_kept}
+use Rattle.rg_rules.specs.Stage.Bounded.{Bounded}
+use Rattle.rg_rules.specs.Stage.Followed.{Followed}
+use Rattle.rg_rules.specs.Stage.NumbersOf.{numbers_of}
 use Rattle.rg_stmt.specs.Entries.{opened_entry, said_entry}
 use Rattle.rg_stmt.specs.declared.event.Entry.{Entry}
 use Rattle.rg_stmt.specs.declared.event.Event.{Event}
@@ -67,14 +73,15 @@ use Rattle.rg_stmt.specs.declared.event.Event.TheVariants as events
 use Rattle.rg_stmt.specs.declared.layout.Sides.{Sides}
 use Rattle.rg_stmt.specs.declared.stmt.Reply.{Reply}
 use Rattle.rg_stmt.specs.declared.stmt.Stmt.{Stmt}
-use Rattle.rg_switch.specs.Switched.{switch_to}
-use Rattle.rg_tally.specs.Changed.{ChangeCount, IsCounted, no_changes}
-use Rattle.rg_tending.specs.Tending.{IsRefusedEvent, IsSystem, NextBy, is_booked, is_plain}
-use Rattle.rg_tending.specs.Tending.{utility_entry, Tends}
+use Rattle.rg_laws_crash.specs.SwitchRecord.Switched.{switch_to}
+use Rattle.rg_rules.specs.Tally.Changed.{ChangeCount, IsCounted, no_changes}
+use Rattle.rg_laws_utility.specs.TraceStage.Tending.{IsRefusedEvent, IsSystem, NextBy, is_booked}
+use Rattle.rg_laws_utility.specs.TraceStage.Tending.{is_plain}
+use Rattle.rg_laws_utility.specs.TraceStage.Tending.{utility_entry, Tends}
 use Rattle.rg_model.specs.Run.{behind}
-use Rattle.rg_tending.proofs.Keeping.{behind_push}
-use Rattle.rg_tending.proofs.Switching.{plain_turn}
-use Rattle.rg_tending.proofs.Tended.{tends_opened}
+use Rattle.rg_laws_utility.proofs.TraceStageLemmas.Keeping.{behind_push}
+use Rattle.rg_laws_utility.proofs.TraceStageLemmas.Switching.{plain_turn}
+use Rattle.rg_laws_utility.proofs.TraceStageLemmas.Tended.{tends_opened}
 use Rattle.rg_engine.specs.Answers.{Replies}
 use Rattle.rg_engine.specs.Aside.{PutsAside}
 use Rattle.rg_desk.specs.Begun.{Begun}

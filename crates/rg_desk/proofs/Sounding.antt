@@ -1,6 +1,6 @@
 -- What a crash leaves at each moment of a desk's calls is sound.
 use Rattle.std.proofs.Common.{◌≤◌, ℕ, Bool, true, false, List, length, Option, refl, sym, subst, arith}
-use Rattle.rg_account.specs.Account.{allowed_of}
+use Rattle.rg_laws_utility.specs.ByteAccount.Account.{allowed_of}
 use Rattle.rg_base.specs.declared.position.Position.{Position}
 use Rattle.rg_base.specs.declared.session.Session.{Session}
 use Rattle.rg_base.specs.declared.set.Set.TheVariants.{Log}
@@ -13,7 +13,7 @@ use Rattle.rg_outside.specs.Moments.{IfTold}
 use Rattle.rg_stmt.specs.declared.event.Event.{Event}
 use Rattle.rg_stmt.specs.declared.stmt.Reply.{Reply}
 use Rattle.rg_stmt.specs.declared.stmt.Stmt.{Stmt}
-use Rattle.rg_version.specs.Versions.{Epoch}
+use Rattle.rg_laws_crash.specs.PageVersions.Versions.{Epoch}
 use Rattle.rg_engine.specs.Answers.{Replies}
 use Rattle.rg_desk.specs.Chronicle.{ChronicleState}
 use Rattle.rg_desk.specs.Desk.{IsDesk}

@@ -1,6 +1,6 @@
 -- A desk stays as it is where its engine shows the same.
 use Rattle.std.proofs.Common.{◌≤◌, ℕ, Bool, List, take, length, Option, sym, ◌∙◌, ap, subst}
-use Rattle.rg_account.specs.Account.{allowed_of}
+use Rattle.rg_laws_utility.specs.ByteAccount.Account.{allowed_of}
 use Rattle.rg_base.specs.declared.position.Position.{Position}
 use Rattle.rg_log.specs.Kept.{Listed}
 use Rattle.rg_outside.proofs.Every.{told_weaken}

@@ -6,15 +6,15 @@
 --    table begins anew on it.
 use Rattle.std.proofs.Common.{◌≡◌, ◌+◌, inl, inr, ℕ, false, List, [], length, take, Option, None, refl, sym, ◌∙◌, ap, subst, arith}
 use Rattle.std.proofs.Math.Seq.{take-length}
-use Rattle.rg_account.specs.Account.{allowed_of}
-use Rattle.rg_anew.proofs.Anew.{new_can_switch, owed_closed, switch_begins}
-use Rattle.rg_anew.specs.Anew.{BeginsAnew, IsNewCopy, anew_on}
+use Rattle.rg_laws_utility.specs.ByteAccount.Account.{allowed_of}
+use Rattle.rg_laws_crash.proofs.NewCopyLemmas.Anew.{new_can_switch, owed_closed, switch_begins}
+use Rattle.rg_laws_crash.specs.NewCopy.Anew.{BeginsAnew, IsNewCopy, anew_on}
 use Rattle.rg_base.specs.declared.options.DrainFor.TheVariants.{All}
 use Rattle.rg_base.specs.declared.options.DrainState.TheVariants.{Granted}
 use Rattle.rg_base.specs.declared.place.Place.{Place}
 use Rattle.rg_base.specs.declared.position.Position.{Position}
 use Rattle.rg_claim.specs.Drains.{GrantIsKept}
-use Rattle.rg_follow.proofs.Appended.{owed_none}
+use Rattle.rg_laws_crash.proofs.LogChainLemmas.Appended.{owed_none}
 use Rattle.rg_home.specs.Pages.{slot_of}
 use Rattle.rg_home.specs.Rows.{row_at}
 use Rattle.rg_home.specs.Slot.{Slot, Free, Row, Pointer, Over, DeadRow, DeadPointer, DeadOver}
@@ -24,16 +24,16 @@ use Rattle.rg_home.specs.Owners.{AllBelow, OwnerBelow}
 use Rattle.rg_home.specs.Table.{IsTable}
 use Rattle.rg_log.specs.Kept.{log_pages}
 use Rattle.rg_model.specs.State.{State, at_rest}
-use Rattle.rg_newest.specs.Steady.{IsSteady}
+use Rattle.rg_laws_crash.specs.NewestPages.Steady.{IsSteady}
 use Rattle.rg_page.specs.Content.{Content}
 use Rattle.rg_record.specs.declared.record.Record.{Record}
 use Rattle.rg_shadow.specs.Shade.{shade_slots}
-use Rattle.rg_switch.proofs.Switching.{switch_turns}
-use Rattle.rg_switch.specs.Laws.{IsTurned}
-use Rattle.rg_switch.specs.Switched.{CanSwitch, next_epoch, switch_to, switched}
+use Rattle.rg_laws_crash.proofs.SwitchRecordLemmas.Switching.{switch_turns}
+use Rattle.rg_laws_crash.specs.SwitchRecord.Laws.{IsTurned}
+use Rattle.rg_laws_crash.specs.SwitchRecord.Switched.{CanSwitch, next_epoch, switch_to, switched}
 use Rattle.rg_base.specs.Copies.{IsCopy, other_of}
-use Rattle.rg_unlocked.proofs.Claiming.{claimed_begins, claimed_run}
-use Rattle.rg_unlocked.specs.Unlocked.{AreClaimed}
+use Rattle.rg_laws_utility.proofs.LockClaimsLemmas.Claiming.{claimed_begins, claimed_run}
+use Rattle.rg_laws_utility.specs.LockClaims.Unlocked.{AreClaimed}
 use Rattle.rg_desk.specs.Chronicle.{ChronicleState}
 use Rattle.rg_desk.specs.Desk.{IsDesk}
 use Rattle.rg_engine.specs.Prepared.{IsPrepared}

@@ -2,9 +2,9 @@
 use Rattle.std.proofs.Common.{◌≡◌, ◌≤◌, ◌<◌, ◌+◌, ◌*◌, ◌==◌, if◌then◌else◌, ℕ, suc, Bool, true, false, List, [], ◌∷◌, length, take, Option, Some, None, refl, sym, ◌∙◌, ap, subst, arith, length-append}
 use Rattle.std.proofs.lemmas.List.{take_all}
 use Rattle.std.specs.FinMap as fin
-use Rattle.rg_account.specs.Account.{allowed_of}
-use Rattle.rg_anew.specs.Anew.{BeginsAnew, anew_on}
-use Rattle.rg_anew.specs.Writing.{HasFirst}
+use Rattle.rg_laws_utility.specs.ByteAccount.Account.{allowed_of}
+use Rattle.rg_laws_crash.specs.NewCopy.Anew.{BeginsAnew, anew_on}
+use Rattle.rg_laws_crash.specs.NewCopy.Writing.{HasFirst}
 use Rattle.rg_base.specs.declared.options.DrainFor.TheVariants.{All}
 use Rattle.rg_base.specs.declared.options.DrainState.TheVariants.{Free, Granted}
 use Rattle.rg_base.specs.declared.position.Position.{Position}
@@ -12,23 +12,23 @@ use Rattle.rg_base.specs.declared.set.Set.TheVariants.{First, Second, Log}
 use Rattle.rg_claim.proofs.Grants.{no_claim_under_all}
 use Rattle.rg_claim.specs.ClaimState.{ClaimState, no_claims}
 use Rattle.rg_claim.specs.Drains.{GrantIsKept}
-use Rattle.rg_claimed.proofs.Pages.{claimed_all-used}
-use Rattle.rg_claimed.specs.Claim.{claimed_all, holding}
+use Rattle.rg_laws_pages.proofs.ByteClaimsLemmas.Pages.{claimed_all-used}
+use Rattle.rg_laws_pages.specs.ByteClaims.Claim.{claimed_all, holding}
 use Rattle.rg_home.specs.Pages.{slot_of}
 use Rattle.rg_home.specs.Rows.{row_at}
 use Rattle.rg_home.specs.Slot.{Slot}
 use Rattle.rg_image.specs.Log.{Spells as LogSpells, SpellsFrom}
 use Rattle.rg_image.specs.Meaning.{current_of, stored}
-use Rattle.rg_follow.specs.Tells.{Tells}
+use Rattle.rg_laws_crash.specs.LogChain.Tells.{Tells}
 use Rattle.rg_image.specs.Rules.{ArePositions, copy_capacity, greatest_tran, limit_of, owed as log_owed, used_pages}
-use Rattle.rg_indexes.specs.Listings.{AreListings}
-use Rattle.rg_lawful.specs.Consistent.{IsConsistent}
+use Rattle.rg_btree.specs.Indexes.Listings.{AreListings}
+use Rattle.rg_laws_log.specs.LogState.Consistent.{IsConsistent}
 use Rattle.rg_home.specs.Owners.{AllBelow}
 use Rattle.rg_log.specs.Kept.{Listed, log_pages}
 use Rattle.rg_model.specs.State.{Claims, at_rest}
-use Rattle.rg_newest.specs.Newest.{AreNewest}
-use Rattle.rg_newest.specs.Steady.{IsSteady}
-use Rattle.rg_newest.specs.Tidy.{set_of, switched_pages}
+use Rattle.rg_laws_crash.specs.NewestPages.Newest.{AreNewest}
+use Rattle.rg_laws_crash.specs.NewestPages.Steady.{IsSteady}
+use Rattle.rg_laws_crash.specs.NewestPages.Tidy.{set_of, switched_pages}
 use Rattle.rg_outside.proofs.Every.{told_weaken}
 use Rattle.rg_outside.proofs.Frame.{calls_weaken}
 use Rattle.rg_outside.proofs.Run.{at_last}
@@ -41,12 +41,12 @@ use Rattle.rg_record.specs.declared.record.Record.{Record}
 use Rattle.rg_shadow.specs.Shade.{shade_slots}
 use Rattle.rg_space.specs.Memory.{list_seen}
 use Rattle.rg_space.specs.Space.{capacity_in, frames_of}
-use Rattle.rg_switch.proofs.Switching.{switch_stores}
-use Rattle.rg_sound.specs.Reopens.{CanReopen, HasLowOwners}
-use Rattle.rg_switch.specs.Laws.{IsTurned}
-use Rattle.rg_switch.specs.Switched.{next_epoch, switch_to, switched}
+use Rattle.rg_laws_crash.proofs.SwitchRecordLemmas.Switching.{switch_stores}
+use Rattle.rg_laws_crash.specs.SoundVolume.Reopens.{CanReopen, HasLowOwners}
+use Rattle.rg_laws_crash.specs.SwitchRecord.Laws.{IsTurned}
+use Rattle.rg_laws_crash.specs.SwitchRecord.Switched.{next_epoch, switch_to, switched}
 use Rattle.rg_base.specs.Copies.{other_of}
-use Rattle.rg_version.specs.Versions.{Epoch, Spells, version}
+use Rattle.rg_laws_crash.specs.PageVersions.Versions.{Epoch, Spells, version}
 use Rattle.rg_engine.specs.Bytes.{taken_of}
 use Rattle.rg_desk.specs.Chronicle.{ChronicleState}
 use Rattle.rg_engine.specs.Begins.{CanShow}

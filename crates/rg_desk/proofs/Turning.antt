@@ -9,7 +9,7 @@ use Rattle.std.proofs.Common.{◌≡◌, ◌≤◌, ◌<◌, ◌+◌, ◌-◌, �
 use Rattle.std.proofs.Math.Seq.{take-length}
 use Rattle.std.proofs.lemmas.Bool.{cases_lt}
 use Rattle.std.proofs.lemmas.List.{take-append-le, take_all}
-use Rattle.rg_anew.proofs.Forcing.{versions_old}
+use Rattle.rg_laws_crash.proofs.NewCopyLemmas.Forcing.{versions_old}
 use Rattle.rg_base.specs.declared.options.DrainFor.TheVariants.{All}
 use Rattle.rg_base.specs.declared.options.DrainState.TheVariants.{Granted}
 use Rattle.rg_base.specs.declared.position.Position.{Position}
@@ -20,13 +20,13 @@ use Rattle.rg_image.specs.Log.{Spells, SpellsFrom, log_of}
 use Rattle.rg_image.specs.Meaning.{current_of}
 use Rattle.rg_image.specs.Pack.{end_of, start}
 use Rattle.rg_image.specs.Rules.{ArePositions, IsChain, IsTidyLog, copy_capacity, greatest_tran}
-use Rattle.rg_lawful.proofs.Tables.{eqb-refl}
+use Rattle.rg_laws_log.proofs.LogStateLemmas.Tables.{eqb-refl}
 use Rattle.rg_log.proofs.Present.{log_tidy}
 use Rattle.rg_log.specs.Kept.{Listed, log_pages}
 use Rattle.rg_model.specs.Possible.{is_copy_left}
 use Rattle.rg_model.specs.State.{State}
-use Rattle.rg_newest.proofs.Steady.{steady_front}
-use Rattle.rg_newest.specs.Tidy.{set_of}
+use Rattle.rg_laws_crash.proofs.NewestPagesLemmas.Steady.{steady_front}
+use Rattle.rg_laws_crash.specs.NewestPages.Tidy.{set_of}
 use Rattle.rg_outside.proofs.Every.{read_image, told_weaken}
 use Rattle.rg_outside.proofs.Frame.{both_throughout, calls_weaken}
 use Rattle.rg_outside.proofs.Run.{at_last, weaken}
@@ -36,16 +36,18 @@ use Rattle.rg_outside.specs.Made.{WritesIn}
 use Rattle.rg_outside.specs.Moments.{EachImage, HoldsThroughout, IfTold}
 use Rattle.rg_page.specs.Content.{Content, empty}
 use Rattle.rg_record.specs.declared.record.Record.{Record}
-use Rattle.rg_sound.specs.Reopens.{CanReopen, HasLowOwners}
+use Rattle.rg_laws_crash.specs.SoundVolume.Reopens.{CanReopen, HasLowOwners}
 use Rattle.rg_space.specs.Space.{capacity_in}
-use Rattle.rg_switch.proofs.Switching.{switch_left, switch_owners, switch_reopens}
-use Rattle.rg_switch.specs.Laws.{IsLeftSwitched, IsTurned}
-use Rattle.rg_switch.specs.Switched.{AreOldPages, CanSwitch, HasNewCopy, next_epoch, switch_to}
-use Rattle.rg_switch.specs.Switched.{switched}
+use Rattle.rg_laws_crash.proofs.SwitchRecordLemmas.Switching.{switch_left, switch_owners}
+use Rattle.rg_laws_crash.proofs.SwitchRecordLemmas.Switching.{switch_reopens}
+use Rattle.rg_laws_crash.specs.SwitchRecord.Laws.{IsLeftSwitched, IsTurned}
+use Rattle.rg_laws_crash.specs.SwitchRecord.Switched.{AreOldPages, CanSwitch, HasNewCopy}
+use Rattle.rg_laws_crash.specs.SwitchRecord.Switched.{next_epoch, switch_to}
+use Rattle.rg_laws_crash.specs.SwitchRecord.Switched.{switched}
 use Rattle.rg_base.specs.Copies.{other_of}
-use Rattle.rg_anew.specs.Anew.{anew_on}
-use Rattle.rg_version.specs.OnImage.{HasPages}
-use Rattle.rg_version.specs.Versions.{Epoch}
+use Rattle.rg_laws_crash.specs.NewCopy.Anew.{anew_on}
+use Rattle.rg_laws_crash.specs.PageVersions.OnImage.{HasPages}
+use Rattle.rg_laws_crash.specs.PageVersions.Versions.{Epoch}
 use Rattle.rg_desk.specs.Chronicle.{ChronicleState}
 use Rattle.rg_desk.specs.Desk.{IsDesk}
 use Rattle.rg_engine.specs.OnVolume.{BeganAt, GoesOnTidy, HasCopies, IsFooted, IsOn, IsSoundTidy}

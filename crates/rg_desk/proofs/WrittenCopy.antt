@@ -6,8 +6,8 @@
 --    that is not committed (`is_prepared`).
 use Rattle.std.proofs.Common.{◌≡◌, ◌≤◌, ◌+◌, ◌⊎◌, inl, inr, ℕ, false, List, [], length, take, Option, Some, None, refl, sym, ◌∙◌, ap, subst, arith}
 use Rattle.std.proofs.Math.Seq.{take-length}
-use Rattle.rg_account.specs.Account.{allowed_of}
-use Rattle.rg_anew.specs.Writing.{ArePagesOf, WritesCopy}
+use Rattle.rg_laws_utility.specs.ByteAccount.Account.{allowed_of}
+use Rattle.rg_laws_crash.specs.NewCopy.Writing.{ArePagesOf, WritesCopy}
 use Rattle.rg_base.specs.declared.options.DrainFor.{DrainFor}
 use Rattle.rg_base.specs.declared.options.DrainState.TheVariants.{Granted}
 use Rattle.rg_base.specs.declared.position.Position.{Position}
@@ -24,7 +24,7 @@ use Rattle.rg_image.specs.Meaning.{stored}
 use Rattle.rg_image.specs.Rules.{copy_capacity}
 use Rattle.rg_home.specs.Table.{IsTable}
 use Rattle.rg_log.specs.Kept.{Listed, log_pages}
-use Rattle.rg_newest.specs.Tidy.{set_of}
+use Rattle.rg_laws_crash.specs.NewestPages.Tidy.{set_of}
 use Rattle.rg_model.specs.State.{at_rest}
 use Rattle.rg_outside.specs.Calls.{Call, FailedRead, FailedSync, FailedWrite, Read, Refused, Synced, Told, Wrote}
 use Rattle.rg_outside.specs.Capacities.{Capacities}
@@ -39,13 +39,15 @@ use Rattle.rg_shadow.specs.Planned.{AreNumbered, AreOfCopy}
 use Rattle.rg_shadow.specs.Shade.{Shade, shade_slots, stage_in}
 use Rattle.rg_shadow.specs.declared.drafts.IndexStage.TheVariants.{Built}
 use Rattle.rg_base.specs.declared.row.Row.{Row}
-use Rattle.rg_switch.specs.Switched.{AreOldPages, HasNewCopy, IsPageOfCopy}
+use Rattle.rg_laws_crash.specs.SwitchRecord.Switched.{AreOldPages, HasNewCopy, IsPageOfCopy}
 use Rattle.rg_base.specs.Copies.{other_of}
-use Rattle.rg_unlocked.proofs.Claiming.{claimed_begins, claimed_run}
-use Rattle.rg_unlocked.specs.Unlocked.{AreClaimed}
-use Rattle.rg_written.specs.Stamped.{stamped_all}
-use Rattle.rg_written.specs.Written.{ReadsCopy}
-use Rattle.rg_written.proofs.Stamping.{ArePagesOf-stamped_all, content_at-stamped_all, length-stamped_first, slots_of-stamped_first}
+use Rattle.rg_laws_utility.proofs.LockClaimsLemmas.Claiming.{claimed_begins, claimed_run}
+use Rattle.rg_laws_utility.specs.LockClaims.Unlocked.{AreClaimed}
+use Rattle.rg_engine.specs.CopyPages.Stamped.{stamped_all}
+use Rattle.rg_engine.specs.CopyPages.Written.{ReadsCopy}
+use Rattle.rg_engine.proofs.CopyPagesLemmas.Stamping.{ArePagesOf-stamped_all}
+use Rattle.rg_engine.proofs.CopyPagesLemmas.Stamping.{content_at-stamped_all, length-stamped_first}
+use Rattle.rg_engine.proofs.CopyPagesLemmas.Stamping.{slots_of-stamped_first}
 use Rattle.rg_engine.specs.Bytes.{taken_of}
 use Rattle.rg_desk.specs.Chronicle.{ChronicleState}
 use Rattle.rg_desk.specs.Desk.{IsDesk}

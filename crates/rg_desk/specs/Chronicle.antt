@@ -13,7 +13,7 @@ use Rattle.rg_model.specs.Legal.{IsActor, asks}
 use Rattle.rg_stmt.specs.declared.event.Entry.{Entry}
 use Rattle.rg_stmt.specs.declared.event.Event.{Event}
 use Rattle.rg_stmt.specs.declared.event.Event.TheVariants.{Opened, Said, Started}
-pub use Rattle.rg_tending.specs.Tending.{system_entry}
+pub use Rattle.rg_laws_utility.specs.TraceStage.Tending.{system_entry}
 use Rattle.rg_engine.specs.Steps.{more_logged}
 
 -- the entries of earlier openings, those from the opening on, for how many more there is room, and

@@ -19,8 +19,8 @@
 --    drawn.
 use Rattle.std.specs.Prelude.{◌≡◌, ◌≤◌, ◌<◌, ◌+◌, ◌-◌, ◌^◌, ◌⊎◌, ◌||◌, ◌++◌, if◌then◌else◌, ℕ, Bool}
 use Rattle.std.specs.Prelude.{true, false, List, [], ◌∷◌, Option, Some, None, IfSome, length, take}
-use Rattle.rg_account.specs.Account.{allowed_of, first_state, state_by}
-use Rattle.rg_account.specs.Reaching.{ReachesBy}
+use Rattle.rg_laws_utility.specs.ByteAccount.Account.{allowed_of, first_state, state_by}
+use Rattle.rg_laws_utility.specs.ByteAccount.Reaching.{ReachesBy}
 use Rattle.rg_base.specs.declared.control.Answer.{Answer}
 use Rattle.rg_base.specs.declared.options.DrainFor.{DrainFor}
 use Rattle.rg_base.specs.declared.options.DrainState.TheVariants.{Granted}
@@ -31,7 +31,7 @@ use Rattle.rg_base.specs.declared.which.Which.{Which}
 use Rattle.rg_image.specs.Rules.{copy_capacity}
 use Rattle.rg_shadow.specs.Shade.{Shade, shade_slots, stage_in}
 use Rattle.rg_shadow.specs.declared.drafts.IndexStage.TheVariants.{Built}
-use Rattle.rg_written.specs.Stamped.{stamped_all}
+use Rattle.rg_engine.specs.CopyPages.Stamped.{stamped_all}
 use Rattle.rg_base.specs.declared.position.Position.{Position}
 use Rattle.std.specs.FinMap as map
 use Rattle.rg_base.specs.declared.session.Session.{Session}
@@ -40,11 +40,11 @@ use Rattle.rg_model.specs.Legal.{Legal}
 use Rattle.rg_model.specs.Run.{Run}
 use Rattle.rg_model.specs.State.{State, Table, at_rest, is_present, row_count, row_of}
 use Rattle.rg_outside.specs.Moments.{EachImage, HoldsThroughout, IfTold}
-use Rattle.rg_claimed.specs.Claim.{claimed_all, nobody}
+use Rattle.rg_laws_pages.specs.ByteClaims.Claim.{claimed_all, nobody}
 use Rattle.rg_feed.specs.Ring.{Ring}
-use Rattle.rg_fold.specs.declared.item.Item.{Item}
-use Rattle.rg_fold.specs.declared.item.Item.TheVariants.{PageCopy}
-use Rattle.rg_fold.specs.declared.item.Stage.{Stage}
+use Rattle.rg_feed.specs.declared.fold.item.Item.{Item}
+use Rattle.rg_feed.specs.declared.fold.item.Item.TheVariants.{PageCopy}
+use Rattle.rg_feed.specs.declared.fold.item.Stage.{Stage}
 use Rattle.rg_home.specs.Slot.{Slot}
 use Rattle.rg_image.specs.Log.{log_of}
 use Rattle.rg_image.specs.Pack.{log_bytes}
@@ -69,7 +69,7 @@ use Rattle.rg_model.specs.Changes.{changes}
 use Rattle.rg_model.specs.Layout.{is_right_side}
 use Rattle.rg_model.specs.Right.{are_quiet_right, is_packed}
 use Rattle.rg_model.specs.Turn.{alter, is_term, step_of, turn_of}
-use Rattle.rg_stage.specs.NumbersOf.{numbers_of}
+use Rattle.rg_rules.specs.Stage.NumbersOf.{numbers_of}
 use Rattle.rg_layout.specs.Spots.{spots_of}
 use Rattle.rg_stmt.specs.declared.layout.Side.{Side}
 use Rattle.rg_stmt.specs.declared.layout.Sides.{Sides}
@@ -89,9 +89,10 @@ use Rattle.rg_engine.specs.Utility.{IsNew}
 use Rattle.rg_engine.specs.Volume.{CallsLog, HasCalls, IsCount, LeavesIfTidy, VolumeSeen, WasTidy}
 use Rattle.rg_engine.specs.declared.engine.Engine.{Engine}
 use Rattle.rg_engine.specs.declared.origin.Origin.{Origin}
-use Rattle.rg_sending.specs.Sending.{AddsChanges, AreCopies}
-use Rattle.rg_sent.specs.Keeps.{KeepsFeed}
-use Rattle.rg_tending.specs.Tending.{FollowsBy, NextBy, aside_for, is_plain, utility_entry}
+use Rattle.rg_engine.specs.ChangeFeed.Sending.{AddsChanges, AreCopies}
+use Rattle.rg_feed.specs.SentItems.Keeps.{KeepsFeed}
+use Rattle.rg_laws_utility.specs.TraceStage.Tending.{FollowsBy, NextBy, aside_for, is_plain}
+use Rattle.rg_laws_utility.specs.TraceStage.Tending.{utility_entry}
 use Rattle.rg_model.specs.Run.{behind}
 use Rattle.rg_model.specs.Utility.{starts_utility}
 use Rattle.rg_base.specs.Copies.{IsCopy, other_of}

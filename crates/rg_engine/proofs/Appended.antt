@@ -6,10 +6,10 @@ use Rattle.rg_base.specs.declared.row.Row.{Row}
 use Rattle.rg_base.specs.declared.part.Part.{Part}
 use Rattle.rg_home.specs.declared.plan.Plan.{Plan}
 use Rattle.rg_record.specs.declared.record.Record.{Record}
-use Rattle.rg_lawful.specs.Act.{Change}
-use Rattle.rg_lawful.specs.DeskLaws.{purge_acts}
-use Rattle.rg_lawful.specs.Records.{act_of, acts_of}
-use Rattle.rg_lawful.specs.Write.{Write, write_of}
+use Rattle.rg_laws_log.specs.LogState.Act.{Change}
+use Rattle.rg_laws_log.specs.LogState.DeskLaws.{purge_acts}
+use Rattle.rg_laws_log.specs.LogState.Records.{act_of, acts_of}
+use Rattle.rg_laws_log.specs.LogState.Write.{Write, write_of}
 use Rattle.rg_engine.specs.Stored.{IsQuiet}
 use Rattle.rg_engine.specs.Walks.{change_record}
 use Rattle.rg_engine.specs.Wrote.{purge_record, records_cleared, records_wrote}

@@ -10,7 +10,7 @@ use Rattle.rg_base.specs.declared.which.Which.{Which}
 use Rattle.rg_base.specs.declared.which.Which.TheVariants.{Key, Clus, Cat}
 use Rattle.rg_claim.specs.ClaimState.{no_claims}
 use Rattle.rg_claim.specs.declared.claims.Claims.{Claims}
-use Rattle.rg_claimed.specs.Claim.{claimed_all, holding}
+use Rattle.rg_laws_pages.specs.ByteClaims.Claim.{claimed_all, holding}
 use Rattle.rg_home.specs.Able.{IsLive}
 use Rattle.rg_home.specs.Pages.{page_at, slot_of}
 use Rattle.rg_home.specs.Rows.{home_row, row_at}
@@ -18,16 +18,16 @@ use Rattle.rg_home.specs.Slot.{Slot}
 use Rattle.rg_home.specs.Slots.{slot_at}
 use Rattle.rg_image.specs.Meaning.{stored}
 use Rattle.rg_index.specs.Listed.{IsListingOf, has_value}
-use Rattle.rg_indexes.specs.Listings.{AreListings, entries_of}
-use Rattle.rg_indexes.specs.declared.indexes.Indexes.{Indexes}
+use Rattle.rg_btree.specs.Indexes.Listings.{AreListings, entries_of}
+use Rattle.rg_btree.specs.declared.indexes.indexes.Indexes.{Indexes}
 use Rattle.rg_model.specs.State.{Locks, Table, at_rest, row_of}
 use Rattle.rg_record.specs.declared.record.Record.{Record}
-use Rattle.rg_lawful.specs.Act.{Act, nothing, state}
-use Rattle.rg_lawful.specs.Lawful.{Runs}
-use Rattle.rg_lawful.specs.Records.{acts_of}
-use Rattle.rg_lawful.specs.Write.{NoneHit, Write, at_key, gone_back}
-use Rattle.rg_lawful.proofs.Prefixes.{nothing_consistent}
-use Rattle.rg_keyed.proofs.Stores.{log_stores}
+use Rattle.rg_laws_log.specs.LogState.Act.{Act, nothing, state}
+use Rattle.rg_laws_log.specs.LogState.Lawful.{Runs}
+use Rattle.rg_laws_log.specs.LogState.Records.{acts_of}
+use Rattle.rg_laws_log.specs.LogState.Write.{NoneHit, Write, at_key, gone_back}
+use Rattle.rg_laws_log.proofs.LogStateLemmas.Prefixes.{nothing_consistent}
+use Rattle.rg_laws_log.proofs.StoredRowsLemmas.Stores.{log_stores}
 use Rattle.rg_log.specs.Kept.{Listed}
 use Rattle.rg_space.specs.Space.{capacity_in}
 use Rattle.rg_engine.specs.Count.{locked_present, present_in}
@@ -35,7 +35,7 @@ use Rattle.rg_engine.specs.Begins.{CanBegin, CanShow}
 use Rattle.rg_engine.specs.Engine.{HasPages, slots_in}
 use Rattle.rg_engine.specs.Shows.{KeyShown, Shows, ShowsBy, since}
 use Rattle.rg_engine.specs.Trails.{Trails}
-use Rattle.rg_follow.specs.Tells.{Tells}
+use Rattle.rg_laws_crash.specs.LogChain.Tells.{Tells}
 use Rattle.rg_image.specs.Rules.{HasSpace, owed as log_owed}
 use Rattle.rg_engine.specs.Stored.{IsStored, StoresCommitted}
 use Rattle.rg_engine.specs.Units.{owed, unit_at}

@@ -7,18 +7,18 @@ use Rattle.rg_home.specs.Able.{IsLive}
 use Rattle.rg_home.specs.Pages.{row_or_empty}
 use Rattle.rg_home.specs.Plan.{new_area, pages_after}
 use Rattle.rg_home.specs.declared.plan.Plan.{Plan}
-use Rattle.rg_claimed.specs.Claim.{Covers, Fewer, claimed_all, holding}
-use Rattle.rg_claimed.proofs.Full.{full_bound}
-use Rattle.rg_claimed.proofs.Owners.{covers, begins, ends}
-use Rattle.rg_claimed.proofs.Pages.{claimed_all-fewer}
-use Rattle.rg_lawful.specs.Act.{LogState, step}
-use Rattle.rg_lawful.specs.Act.{Change, Purge}
-use Rattle.rg_lawful.specs.Consistent.{IsConsistent}
-use Rattle.rg_lawful.specs.DeskLaws.{DeskWrites}
-use Rattle.rg_lawful.specs.Lawful.{MayBegin}
-use Rattle.rg_lawful.specs.Write.{Write, write_of}
-use Rattle.rg_lawful.proofs.Live.{live_known, live_other}
-use Rattle.rg_lawful.proofs.Units.{top_known, top_drawn}
+use Rattle.rg_laws_pages.specs.ByteClaims.Claim.{Covers, Fewer, claimed_all, holding}
+use Rattle.rg_laws_pages.proofs.ByteClaimsLemmas.Full.{full_bound}
+use Rattle.rg_laws_pages.proofs.ByteClaimsLemmas.Owners.{covers, begins, ends}
+use Rattle.rg_laws_pages.proofs.ByteClaimsLemmas.Pages.{claimed_all-fewer}
+use Rattle.rg_laws_log.specs.LogState.Act.{LogState, step}
+use Rattle.rg_laws_log.specs.LogState.Act.{Change, Purge}
+use Rattle.rg_laws_log.specs.LogState.Consistent.{IsConsistent}
+use Rattle.rg_laws_log.specs.LogState.DeskLaws.{DeskWrites}
+use Rattle.rg_laws_log.specs.LogState.Lawful.{MayBegin}
+use Rattle.rg_laws_log.specs.LogState.Write.{Write, write_of}
+use Rattle.rg_laws_log.proofs.LogStateLemmas.Live.{live_known, live_other}
+use Rattle.rg_laws_log.proofs.LogStateLemmas.Units.{top_known, top_drawn}
 use Rattle.rg_engine.proofs.Keys.{same_or_not}
 
 -- the holders after a write hold no more than those before

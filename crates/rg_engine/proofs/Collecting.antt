@@ -1,7 +1,7 @@
 -- The Changes of a unit, found one after another.
 use Rattle.std.proofs.Common.{◌≡◌, ◌≤◌, ◌<◌, ◌+◌, ℕ, List, [], ◌∷◌, ◌++◌, Some, None, length, refl, sym, ◌∙◌, ap, subst, arith}
 use Rattle.rg_record.specs.declared.record.Record.{Record}
-use Rattle.rg_lawful.specs.Write.{Write}
+use Rattle.rg_laws_log.specs.LogState.Write.{Write}
 use Rattle.rg_engine.specs.RecordList.{record_at}
 use Rattle.rg_engine.specs.Undoing.{AreChain, ChainTo, Collected, change_in}
 use Rattle.rg_engine.specs.Walks.{Walks, change_record}

@@ -6,37 +6,37 @@ use Rattle.std.proofs.lemmas.List.{length-set, set-get_or}
 use Rattle.rg_base.specs.declared.lock.Lock.{Lock}
 use Rattle.rg_base.specs.declared.session.Session.{Session}
 use Rattle.rg_claim.specs.declared.claims.Claims.{Claims}
-use Rattle.rg_claimed.specs.Claim.{claimed_all, holding}
-use Rattle.rg_claimed.proofs.Owners.{ends}
-use Rattle.rg_claimed.proofs.Pages.{claimed_all-fewer}
+use Rattle.rg_laws_pages.specs.ByteClaims.Claim.{claimed_all, holding}
+use Rattle.rg_laws_pages.proofs.ByteClaimsLemmas.Owners.{ends}
+use Rattle.rg_laws_pages.proofs.ByteClaimsLemmas.Pages.{claimed_all-fewer}
 use Rattle.rg_home.specs.Pages.{slot_of}
 use Rattle.rg_home.specs.Rows.{row_at}
-use Rattle.rg_indexes.specs.Listings.{AreListings}
-use Rattle.rg_indexes.specs.declared.indexes.Indexes.{Indexes}
+use Rattle.rg_btree.specs.Indexes.Listings.{AreListings}
+use Rattle.rg_btree.specs.declared.indexes.indexes.Indexes.{Indexes}
 use Rattle.rg_model.specs.Committed.{locks_without}
 use Rattle.rg_model.specs.Held.{is_others}
 use Rattle.rg_model.specs.Plain.{after_commit}
 use Rattle.rg_model.specs.State.{Locks, State}
 use Rattle.rg_model.proofs.Ends.{without-none}
 use Rattle.rg_record.specs.declared.record.Record.{Record}
-use Rattle.rg_lawful.specs.Act.{LogState, others, step}
-use Rattle.rg_lawful.specs.Act.{Commit}
-use Rattle.rg_lawful.proofs.Live.{live_was}
-use Rattle.rg_lawful.proofs.Units.{stored_other}
+use Rattle.rg_laws_log.specs.LogState.Act.{LogState, others, step}
+use Rattle.rg_laws_log.specs.LogState.Act.{Commit}
+use Rattle.rg_laws_log.proofs.LogStateLemmas.Live.{live_was}
+use Rattle.rg_laws_log.proofs.LogStateLemmas.Units.{stored_other}
 use Rattle.rg_space.specs.Space.{Agree, InStep, capacity_in, frames_of, index_of}
 use Rattle.rg_stmt.specs.declared.stmt.Reply.TheVariants.{Done}
 use Rattle.rg_stmt.specs.declared.stmt.Stmt.TheVariants as stmts
-use Rattle.rg_follow.specs.Next.{AreNext}
-use Rattle.rg_follow.specs.Tells.{Tells}
-use Rattle.rg_follow.proofs.Owing.{owes}
-use Rattle.rg_follow.proofs.Telling.{records_tell}
+use Rattle.rg_laws_crash.specs.LogChain.Next.{AreNext}
+use Rattle.rg_laws_crash.specs.LogChain.Tells.{Tells}
+use Rattle.rg_laws_crash.proofs.LogChainLemmas.Owing.{owes}
+use Rattle.rg_laws_crash.proofs.LogChainLemmas.Telling.{records_tell}
 use Rattle.rg_image.specs.Pack.{log_bytes}
 use Rattle.rg_image.specs.Rules.{HasSpace, IsOfTran, IsOpen, owed as owed_by}
-use Rattle.rg_lawful.specs.Lawful.{Runs}
-use Rattle.rg_lawful.specs.Records.{acts_of}
-use Rattle.rg_lawful.specs.Write.{own_of}
-use Rattle.rg_lawful.proofs.Own.{own_ended_other}
-use Rattle.rg_unended.specs.Unended.{left_of}
+use Rattle.rg_laws_log.specs.LogState.Lawful.{Runs}
+use Rattle.rg_laws_log.specs.LogState.Records.{acts_of}
+use Rattle.rg_laws_log.specs.LogState.Write.{own_of}
+use Rattle.rg_laws_log.proofs.LogStateLemmas.Own.{own_ended_other}
+use Rattle.rg_check.specs.OpenUnits.Unended.{left_of}
 use Rattle.rg_engine.specs.Ended.{HasEnded, commit_record, records_committed}
 use Rattle.rg_engine.specs.Engine.{HasPages, slots_in}
 use Rattle.rg_engine.specs.Newest.{KeepsNewest}
@@ -54,7 +54,7 @@ use Rattle.rg_engine.proofs.Ended.{keys_ended, units_ended}
 use Rattle.rg_engine.proofs.Logged.{bytes_committed}
 use Rattle.rg_engine.proofs.Settled.{shows_more}
 use Rattle.rg_engine.proofs.Keys.{same_or_not}
-use Rattle.rg_account.specs.Found.{rows_found}
+use Rattle.rg_laws_utility.specs.ByteAccount.Found.{rows_found}
 use Rattle.rg_engine.proofs.Moving.{ended_found, ended_others, ended_own, idle_end_moves}
 use Rattle.rg_engine.proofs.Moving.{record_moves}
 use Rattle.rg_engine.proofs.Reopens.{appended_clean, appended_parts, clean_in, clean_of}

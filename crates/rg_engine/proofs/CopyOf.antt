@@ -3,16 +3,16 @@ use Rattle.std.proofs.Common.{◌≡◌, ◌==◌, ◌≤◌, ◌+◌, ◌*◌, 
 use Rattle.rg_base.specs.declared.place.Place.{Place}
 use Rattle.rg_base.specs.declared.position.Position.{Position}
 use Rattle.rg_base.specs.declared.row.Row.{Row}
-use Rattle.rg_fold.specs.Fold.{row_in, step_at}
-use Rattle.rg_fold.specs.Lawful.{IsWell}
-use Rattle.rg_fold.specs.declared.item.Item.{Item}
-use Rattle.rg_fold.specs.declared.item.Item.TheVariants.{PageCopy}
+use Rattle.rg_feed.specs.Fold.Fold.{row_in, step_at}
+use Rattle.rg_feed.specs.Fold.Lawful.{IsWell}
+use Rattle.rg_feed.specs.declared.fold.item.Item.{Item}
+use Rattle.rg_feed.specs.declared.fold.item.Item.TheVariants.{PageCopy}
 use Rattle.rg_home.specs.Pages.{page_at, slot_of}
 use Rattle.rg_home.specs.Rows.{home_row, row_at}
 use Rattle.rg_home.specs.Slot.{Free, Slot}
 use Rattle.rg_home.specs.Slots.{slot_at}
 use Rattle.rg_home.proofs.Slots.{used-length}
-use Rattle.rg_lawful.proofs.Tables.{eqb-refl}
+use Rattle.rg_laws_log.proofs.LogStateLemmas.Tables.{eqb-refl}
 use Rattle.rg_page.specs.Content.{Content, slots_of}
 use Rattle.rg_space.specs.Homes.{home_with, homes_on, place_on, rows_from}
 use Rattle.rg_engine.specs.Engine.{seen_in, slots_in}

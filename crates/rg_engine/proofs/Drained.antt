@@ -18,15 +18,15 @@ use Rattle.rg_home.specs.Rows.{row_at}
 use Rattle.rg_home.specs.Slot.{Slot}
 use Rattle.rg_image.specs.Meaning.{stored}
 use Rattle.rg_image.specs.Rules.{IsOpen}
-use Rattle.rg_lawful.proofs.Tables.{eqb-refl}
+use Rattle.rg_laws_log.proofs.LogStateLemmas.Tables.{eqb-refl}
 use Rattle.rg_home.proofs.Tables.{table_same}
-use Rattle.rg_lawful.specs.Act.{LogState}
+use Rattle.rg_laws_log.specs.LogState.Act.{LogState}
 use Rattle.rg_home.specs.Table.{IsTable}
-use Rattle.rg_lawful.specs.Write.{NoneHit, Write, at_key, gone_back, own_of}
+use Rattle.rg_laws_log.specs.LogState.Write.{NoneHit, Write, at_key, gone_back, own_of}
 use Rattle.rg_model.specs.Claims.{has_class, is_covered}
 use Rattle.rg_model.specs.State.{Claims, Locks, State}
-use Rattle.rg_unlocked.proofs.Claiming.{none_locked}
-use Rattle.rg_unlocked.specs.Unlocked.{AreClaimed}
+use Rattle.rg_laws_utility.proofs.LockClaimsLemmas.Claiming.{none_locked}
+use Rattle.rg_laws_utility.specs.LockClaims.Unlocked.{AreClaimed}
 use Rattle.rg_engine.specs.Engine.{slots_in}
 use Rattle.rg_engine.specs.Shows.{KeyShown, Shows, left_by}
 use Rattle.rg_engine.specs.Units.{unit_at}

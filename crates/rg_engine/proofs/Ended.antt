@@ -10,12 +10,12 @@ use Rattle.rg_model.specs.Held.{is_others}
 use Rattle.rg_model.specs.State.{Locks}
 use Rattle.rg_model.proofs.Overlay.{get-without}
 use Rattle.rg_record.specs.declared.record.Record.{Record}
-use Rattle.rg_lawful.specs.Act.{LogState, not_of, others}
-use Rattle.rg_lawful.specs.Write.{HitBy, NoneHit, at_key, kept_of, own_of}
-use Rattle.rg_lawful.proofs.Free.{free_apart, free_ended, free_kept}
-use Rattle.rg_lawful.proofs.Hits.{hit_kept}
-use Rattle.rg_lawful.proofs.Live.{live_apart, live_stays, live_was}
-use Rattle.rg_lawful.proofs.Own.{own_ended_other}
+use Rattle.rg_laws_log.specs.LogState.Act.{LogState, not_of, others}
+use Rattle.rg_laws_log.specs.LogState.Write.{HitBy, NoneHit, at_key, kept_of, own_of}
+use Rattle.rg_laws_log.proofs.LogStateLemmas.Free.{free_apart, free_ended, free_kept}
+use Rattle.rg_laws_log.proofs.LogStateLemmas.Hits.{hit_kept}
+use Rattle.rg_laws_log.proofs.LogStateLemmas.Live.{live_apart, live_stays, live_was}
+use Rattle.rg_laws_log.proofs.LogStateLemmas.Own.{own_ended_other}
 use Rattle.rg_engine.specs.Ended.{HasEnded}
 use Rattle.rg_engine.specs.Shows.{HasSession, IsLocked, KeyShown, UnitShown, UnitsShown}
 use Rattle.rg_engine.specs.Units.{unit_at}

@@ -12,7 +12,7 @@ use Rattle.rg_home.specs.Rows.{row_at}
 use Rattle.rg_home.specs.Slot.{Slot}
 use Rattle.rg_home.specs.declared.plan.Plan.{Plan}
 use Rattle.rg_index.specs.Listed.{has_value}
-use Rattle.rg_indexes.specs.Listings.{AreListedAt}
+use Rattle.rg_btree.specs.Indexes.Listings.{AreListedAt}
 use Rattle.rg_model.specs.Held.{holder}
 use Rattle.rg_model.specs.Plain.{write_key}
 use Rattle.rg_model.specs.Quiet.{names_key}
@@ -20,14 +20,14 @@ use Rattle.rg_model.specs.Said.{may_want_log}
 use Rattle.rg_model.specs.State.{State, row_of}
 use Rattle.rg_stmt.specs.declared.stmt.Reply.TheVariants.{Done}
 use Rattle.rg_stmt.specs.declared.stmt.Stmt.{Stmt}
-use Rattle.rg_lawful.specs.Act.{LogState}
-use Rattle.rg_lawful.specs.Consistent.{IsConsistent}
-use Rattle.rg_lawful.specs.Write.{key_of}
+use Rattle.rg_laws_log.specs.LogState.Act.{LogState}
+use Rattle.rg_laws_log.specs.LogState.Consistent.{IsConsistent}
+use Rattle.rg_laws_log.specs.LogState.Write.{key_of}
 use Rattle.rg_space.specs.Carries.{Carries}
 use Rattle.rg_space.specs.Space.{capacity_in}
 use Rattle.rg_log.specs.Kept.{Listed}
 use Rattle.rg_engine.specs.Engine.{slots_in}
-use Rattle.rg_account.specs.Found.{rows_found, rows_made}
+use Rattle.rg_laws_utility.specs.ByteAccount.Found.{rows_found, rows_made}
 use Rattle.rg_home.specs.Table.{IsTable}
 use Rattle.rg_engine.specs.Moves.{Moves}
 use Rattle.rg_engine.specs.Newest.{KeepsNewest}

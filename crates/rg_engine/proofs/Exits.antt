@@ -7,10 +7,10 @@ use Rattle.rg_image.specs.Log.{SpellsFrom, log_of}
 use Rattle.rg_image.specs.Pack.{end_of, start}
 use Rattle.rg_image.proofs.Decode.{some_log}
 use Rattle.rg_image.proofs.Entries.{all_fit, are_values}
-use Rattle.rg_lawful.specs.Act.{LogState}
-use Rattle.rg_lawful.specs.Consistent.{stored_of}
-use Rattle.rg_lawful.specs.Write.{at_key}
-use Rattle.rg_lawful.proofs.Free.{free_back}
+use Rattle.rg_laws_log.specs.LogState.Act.{LogState}
+use Rattle.rg_laws_log.specs.LogState.Consistent.{stored_of}
+use Rattle.rg_laws_log.specs.LogState.Write.{at_key}
+use Rattle.rg_laws_log.proofs.LogStateLemmas.Free.{free_back}
 use Rattle.rg_log.specs.Kept.{Listed}
 use Rattle.rg_model.specs.Committed.{committed_table}
 use Rattle.rg_model.specs.State.{Locks, State, row_of}

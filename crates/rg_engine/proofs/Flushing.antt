@@ -21,13 +21,13 @@ use Rattle.rg_outside.proofs.Frame.{calls_weaken, no_calls, one_call}
 use Rattle.rg_outside.proofs.Run.{begins}
 use Rattle.rg_outside.proofs.Single.{wrote_here}
 use Rattle.rg_page.specs.Content.{Content, content_at, slots_of}
-use Rattle.rg_page_bytes.specs.PageBytes.{page_bytes}
+use Rattle.rg_page.specs.Bytes.PageBytes.{page_bytes}
 use Rattle.rg_record.specs.declared.record.Record.{Record}
 use Rattle.rg_space.specs.Memory.{list_seen}
 use Rattle.rg_space.specs.Space.{capacity_in, frames_of}
 use Rattle.rg_stmt.specs.declared.event.Event.TheVariants.{Clean, Flush, FlushDevice, FlushNoMemory}
-use Rattle.rg_version.specs.Versions.{Epoch, Spells}
-use Rattle.rg_newest.specs.Tidy.{set_of}
+use Rattle.rg_laws_crash.specs.PageVersions.Versions.{Epoch, Spells}
+use Rattle.rg_laws_crash.specs.NewestPages.Tidy.{set_of}
 use Rattle.rg_engine.specs.Engine.{seen_in}
 use Rattle.rg_engine.specs.Flushed.{CallsOwn, FitsSet, Flushes, ForcesLog, OnlyForces, ReadsAll}
 use Rattle.rg_engine.specs.Flushed.{WritesEither, WrotePage}
@@ -40,9 +40,9 @@ use Rattle.rg_engine.specs.Units.{trans_of}
 use Rattle.rg_home.specs.Pages.{slot_of}
 use Rattle.rg_home.specs.Slot.{Slot}
 use Rattle.rg_home.specs.Owners.{AllBelow}
-use Rattle.rg_ready.specs.Dead.{DeadNames}
+use Rattle.rg_laws_pages.specs.UndoRoom.Dead.{DeadNames}
 use Rattle.rg_outside.specs.Capacities.{Capacities}
-use Rattle.rg_sound.specs.Reopens.{CanReopen, HasLowOwners}
+use Rattle.rg_laws_crash.specs.SoundVolume.Reopens.{CanReopen, HasLowOwners}
 use Rattle.rg_engine.specs.Shows.{Shows}
 use Rattle.rg_engine.specs.Volume.{CallsLog, HasCalls, Leaves, LeavesIfTidy, VolumeSeen}
 use Rattle.rg_engine.specs.Wrote.{SameEngine}

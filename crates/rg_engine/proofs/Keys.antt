@@ -10,8 +10,8 @@ use Rattle.rg_base.specs.declared.row.Row.{Row}
 use Rattle.rg_model.specs.Committed.{set_to}
 use Rattle.rg_model.specs.State.{Table}
 use Rattle.rg_model.proofs.Overlay.{get-set_to, key_of}
-use Rattle.rg_lawful.specs.Act.{set_at}
-use Rattle.rg_lawful.proofs.Tables.{eqb-refl}
+use Rattle.rg_laws_log.specs.LogState.Act.{set_at}
+use Rattle.rg_laws_log.proofs.LogStateLemmas.Tables.{eqb-refl}
 
 pub same_or_not : (q key : ℕ) → (q ≡ key) ⊎ (q ≡ key → ⊥)
 same_or_not q key = go (q == key) refl

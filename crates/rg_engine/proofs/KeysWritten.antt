@@ -10,14 +10,14 @@ use Rattle.rg_base.specs.declared.session.Session.{Session}
 use Rattle.rg_lock.specs.Taken.{take_key}
 use Rattle.rg_model.specs.Held.{holder, other_owner, owner_of}
 use Rattle.rg_model.specs.State.{Locks}
-use Rattle.rg_lawful.specs.Act.{LogState, step}
-use Rattle.rg_lawful.specs.Act.{Change}
-use Rattle.rg_lawful.specs.Consistent.{stored_of}
-use Rattle.rg_lawful.specs.Lawful.{MayWrite}
-use Rattle.rg_lawful.specs.Write.{Write, HitBy, at_key}
-use Rattle.rg_lawful.proofs.Free.{free_any, free_back}
-use Rattle.rg_lawful.proofs.Own.{eqb-not}
-use Rattle.rg_lawful.proofs.Units.{stored_change}
+use Rattle.rg_laws_log.specs.LogState.Act.{LogState, step}
+use Rattle.rg_laws_log.specs.LogState.Act.{Change}
+use Rattle.rg_laws_log.specs.LogState.Consistent.{stored_of}
+use Rattle.rg_laws_log.specs.LogState.Lawful.{MayWrite}
+use Rattle.rg_laws_log.specs.LogState.Write.{Write, HitBy, at_key}
+use Rattle.rg_laws_log.proofs.LogStateLemmas.Free.{free_any, free_back}
+use Rattle.rg_laws_log.proofs.LogStateLemmas.Own.{eqb-not}
+use Rattle.rg_laws_log.proofs.LogStateLemmas.Units.{stored_change}
 use Rattle.rg_engine.specs.Shows.{IsLocked, KeyShown}
 use Rattle.rg_engine.specs.Units.{unit_at}
 use Rattle.rg_engine.specs.declared.units.OpenUnit.{OpenUnit}

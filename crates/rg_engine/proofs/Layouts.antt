@@ -4,7 +4,7 @@ use Rattle.rg_model.specs.Layout.{is_right_side}
 use Rattle.rg_model.specs.Possible.{state_shown}
 use Rattle.rg_model.specs.Said.{if_allowed}
 use Rattle.rg_model.specs.State.{State}
-use Rattle.rg_lawful.proofs.Tables.{eqb-refl}
+use Rattle.rg_laws_log.proofs.LogStateLemmas.Tables.{eqb-refl}
 use Rattle.rg_stmt.specs.declared.layout.Side.{Side}
 
 -- a layout of the copy that is right for the table changes nothing

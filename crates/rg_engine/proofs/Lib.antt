@@ -1,3 +1,5 @@
+pub mod CopyPagesLemmas
+pub mod ChangeFeedLemmas
 pub mod Spelled
 pub mod Logged
 pub mod UnitLists

@@ -9,8 +9,8 @@ use Rattle.std.proofs.lemmas.Bool.{eqb-true}
 use Rattle.rg_base.specs.declared.lock.Lock.{Lock}
 use Rattle.rg_base.specs.declared.session.Session.{Session}
 use Rattle.rg_image.specs.Pack.{log_bytes}
-use Rattle.rg_lawful.specs.Write.{HitBy, NoneHit, Write, at_key, kept_if, own_of}
-use Rattle.rg_lawful.proofs.Tables.{eqb-refl}
+use Rattle.rg_laws_log.specs.LogState.Write.{HitBy, NoneHit, Write, at_key, kept_if, own_of}
+use Rattle.rg_laws_log.proofs.LogStateLemmas.Tables.{eqb-refl}
 use Rattle.rg_model.specs.Said.{has_locks}
 use Rattle.rg_model.specs.State.{Locks, State}
 use Rattle.rg_space.specs.Space.{capacity_in}

@@ -5,7 +5,7 @@ use Rattle.rg_base.specs.declared.row.Row.{Row}
 use Rattle.rg_home.specs.declared.plan.Plan.{Plan}
 use Rattle.rg_image.specs.Pack.{log_bytes}
 use Rattle.rg_record.specs.declared.record.Record.{Record}
-use Rattle.rg_lawful.specs.Write.{write_of}
+use Rattle.rg_laws_log.specs.LogState.Write.{write_of}
 use Rattle.rg_engine.specs.Bytes.{kind_bytes, plan_bytes, purge_bytes}
 use Rattle.rg_engine.specs.Ended.{commit_record, records_committed}
 use Rattle.rg_engine.specs.Units.{owed_to}

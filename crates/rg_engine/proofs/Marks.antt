@@ -2,7 +2,7 @@
 use Rattle.std.proofs.Common.{◌≡◌, ◌==◌, ◌≤◌, ◌<◌, ◌++◌, ◌+◌, ℕ, zero, suc, true, List, [], ◌∷◌, Option, Some, None, length, slice_index_or, refl, sym, ◌∙◌, ap, subst, arith, ◌⊎◌, inl, inr}
 use Rattle.rg_base.proofs.Walk.{place}
 use Rattle.rg_base.specs.declared.position.Position.{Position}
-use Rattle.rg_lawful.proofs.Tables.{eqb-refl}
+use Rattle.rg_laws_log.proofs.LogStateLemmas.Tables.{eqb-refl}
 use Rattle.rg_page.specs.Content.{Content, content_at}
 use Rattle.rg_engine.specs.Prepared.{AreMarksAt, IsMarkAt, IsMarkOf}
 use Rattle.rg_engine.specs.OnVolume.{AllCleanBefore, AreClean, is_clean, is_clean_at, mark_at}

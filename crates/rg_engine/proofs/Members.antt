@@ -1,7 +1,7 @@
 -- Which numbers open units have.
 use Rattle.std.proofs.Common.{◌≡◌, ℕ, zero, suc, List, [], ◌∷◌, Option, Some, None, refl, sym, subst, ◌⊎◌, inl, inr}
 use Rattle.rg_home.specs.Able.{IsLive}
-use Rattle.rg_lawful.proofs.Live.{live_same, live_more, live_other}
+use Rattle.rg_laws_log.proofs.LogStateLemmas.Live.{live_same, live_more, live_other}
 use Rattle.rg_engine.specs.Shows.{HasSession}
 use Rattle.rg_engine.specs.Units.{trans_of, unit_at}
 use Rattle.rg_engine.specs.declared.units.OpenUnit.{OpenUnit}

@@ -6,19 +6,19 @@ use Rattle.rg_base.specs.declared.lock.Lock.{Lock}
 use Rattle.rg_base.specs.declared.part.Part.{Part}
 use Rattle.rg_base.specs.declared.row.Row.{Row}
 use Rattle.rg_base.specs.declared.session.Session.{Session}
-use Rattle.rg_changed.specs.Changed.{changes_in, rows_after}
-use Rattle.rg_changed.specs.Laws.{AreNumbered, WritesLoud}
-use Rattle.rg_changed.proofs.Keying.{changes_loud}
-use Rattle.rg_changed.proofs.Moving.{changes_above, changes_move}
-use Rattle.rg_follow.specs.Next.{AreNext}
+use Rattle.rg_laws_utility.specs.RecordChanges.Changed.{changes_in, rows_after}
+use Rattle.rg_laws_utility.specs.RecordChanges.Laws.{AreNumbered, WritesLoud}
+use Rattle.rg_laws_utility.proofs.RecordChangesLemmas.Keying.{changes_loud}
+use Rattle.rg_laws_utility.proofs.RecordChangesLemmas.Moving.{changes_above, changes_move}
+use Rattle.rg_laws_crash.specs.LogChain.Next.{AreNext}
 use Rattle.rg_home.specs.Pages.{slot_of}
 use Rattle.rg_home.specs.Rows.{row_at}
 use Rattle.rg_home.specs.Slot.{Slot}
-use Rattle.rg_lawful.specs.Act.{LogState, state}
-use Rattle.rg_lawful.specs.Lawful.{Runs}
-use Rattle.rg_lawful.specs.Records.{acts_of}
+use Rattle.rg_laws_log.specs.LogState.Act.{LogState, state}
+use Rattle.rg_laws_log.specs.LogState.Lawful.{Runs}
+use Rattle.rg_laws_log.specs.LogState.Records.{acts_of}
 use Rattle.rg_home.specs.Table.{IsTable}
-use Rattle.rg_lawful.specs.Write.{NoneHit, Write, at_key, key_of, own_of}
+use Rattle.rg_laws_log.specs.LogState.Write.{NoneHit, Write, at_key, key_of, own_of}
 use Rattle.rg_log.specs.Kept.{Listed}
 use Rattle.rg_model.specs.Changes.{is_rollback, is_unit_end, is_write, writes_after}
 use Rattle.rg_model.specs.Quiet.{is_quiet}
@@ -27,16 +27,16 @@ use Rattle.rg_model.specs.State.{Locks, State}
 use Rattle.rg_record.specs.declared.record.Kind.{Kind}
 use Rattle.rg_record.specs.declared.record.Kind.TheVariants as kind
 use Rattle.rg_record.specs.declared.record.Record.{Record}
-use Rattle.rg_sent.specs.Keeps.{AreAbove, MovesRows}
+use Rattle.rg_feed.specs.SentItems.Keeps.{AreAbove, MovesRows}
 use Rattle.rg_space.specs.Space.{capacity_in}
 use Rattle.rg_stmt.specs.declared.event.Entry.{Entry}
 use Rattle.rg_stmt.specs.declared.stmt.Reply.{Reply}
 use Rattle.rg_stmt.specs.declared.stmt.Reply.TheVariants.{Done, Victim}
 use Rattle.rg_stmt.specs.declared.stmt.Stmt.{Stmt}
 use Rattle.rg_stmt.specs.declared.stmt.Stmt.TheVariants.{Commit, Delete, Insert, Rollback, Update}
-use Rattle.rg_tally.specs.Changed.{made_by}
+use Rattle.rg_rules.specs.Tally.Changed.{made_by}
 use Rattle.rg_engine.specs.Engine.{slots_in}
-use Rattle.rg_account.specs.Found.{rows_found, rows_made}
+use Rattle.rg_laws_utility.specs.ByteAccount.Found.{rows_found, rows_made}
 use Rattle.rg_engine.specs.Moves.{AreOwn, HaveFound, LocksAreLoud, Moves, WriteIsLoud, rows_before}
 use Rattle.rg_engine.specs.Shows.{KeyShown, Shows, left_by}
 use Rattle.rg_engine.specs.Units.{unit_at, writes_in}

@@ -10,11 +10,11 @@ use Rattle.rg_space.specs.Ready.{record_wrote}
 use Rattle.rg_space.specs.Space.{frames_of}
 use Rattle.rg_space.specs.declared.space.Space.{Space}
 use Rattle.rg_space.specs.Memory.{list_seen}
-use Rattle.rg_version.specs.Versions.{Epoch}
-use Rattle.rg_newest.specs.Newest.{AllNear, AreNewest, IsNewest, page_in}
-use Rattle.rg_newest.specs.Steady.{IsSteady}
-use Rattle.rg_newest.proofs.Records.{end_newest, record_newest}
-use Rattle.rg_newest.proofs.Steady.{steady_more}
+use Rattle.rg_laws_crash.specs.PageVersions.Versions.{Epoch}
+use Rattle.rg_laws_crash.specs.NewestPages.Newest.{AllNear, AreNewest, IsNewest, page_in}
+use Rattle.rg_laws_crash.specs.NewestPages.Steady.{IsSteady}
+use Rattle.rg_laws_crash.proofs.NewestPagesLemmas.Records.{end_newest, record_newest}
+use Rattle.rg_laws_crash.proofs.NewestPagesLemmas.Steady.{steady_more}
 use Rattle.rg_image.specs.Rules.{ArePositions}
 use Rattle.rg_image.proofs.Sound.{more_positions}
 use Rattle.rg_log.specs.Kept.{Listed}

@@ -23,12 +23,14 @@ use Rattle.rg_record.specs.declared.record.Record.{Record}
 use Rattle.rg_space.specs.Memory.{list_seen}
 use Rattle.rg_space.specs.Space.{capacity_in, frames_of}
 use Rattle.rg_space.specs.declared.space.Space.{Space}
-use Rattle.rg_version.specs.Versions.{Epoch, IsOnVolume as IsOnPage, Spells, version}
-use Rattle.rg_version.proofs.Redo.{version_more}
-use Rattle.rg_newest.specs.Newest.{IsNewest}
-use Rattle.rg_newest.specs.Tidy.{set_of, switched_pages}
-use Rattle.rg_newest.proofs.Flush.{clean_newest, newest_written, written_version}
-use Rattle.rg_newest.proofs.InMemory.{there_in}
+use Rattle.rg_laws_crash.specs.PageVersions.Versions.{Epoch, IsOnVolume as IsOnPage, Spells}
+use Rattle.rg_laws_crash.specs.PageVersions.Versions.{version}
+use Rattle.rg_laws_crash.proofs.PageVersionsLemmas.Redo.{version_more}
+use Rattle.rg_laws_crash.specs.NewestPages.Newest.{IsNewest}
+use Rattle.rg_laws_crash.specs.NewestPages.Tidy.{set_of, switched_pages}
+use Rattle.rg_laws_crash.proofs.NewestPagesLemmas.Flush.{clean_newest, newest_written}
+use Rattle.rg_laws_crash.proofs.NewestPagesLemmas.Flush.{written_version}
+use Rattle.rg_laws_crash.proofs.NewestPagesLemmas.InMemory.{there_in}
 use Rattle.rg_engine.specs.Newest.{HasNewest}
 use Rattle.rg_engine.specs.OnVolume.{AreMarks, BeganAt, HasCopies, IsMark, IsOn, IsTidyVolume}
 use Rattle.rg_engine.specs.OnVolume.{PartsIfTidy, WasAllTidy, is_clean, is_clean_at, mark_at}

@@ -5,7 +5,7 @@ use Rattle.std.specs.List.{AllByRecursion}
 use Rattle.rg_base.specs.declared.part.Part.{Part}
 use Rattle.rg_image.specs.Meaning.{raised}
 use Rattle.rg_image.specs.Rules.{PartIn, PlaceIn}
-use Rattle.rg_newest.specs.Newest.{AllNear}
+use Rattle.rg_laws_crash.specs.NewestPages.Newest.{AllNear}
 use Rattle.rg_space.specs.Carries.{AllFree, AllThere}
 
 -- ---- parts

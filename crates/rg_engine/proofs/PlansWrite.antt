@@ -4,22 +4,22 @@ use Rattle.std.specs.Prelude.{IfSome}
 use Rattle.rg_base.specs.RowBytes.{row_size}
 use Rattle.rg_base.specs.declared.place.Place.{Place}
 use Rattle.rg_base.specs.declared.row.Row.{Row}
-use Rattle.rg_claimed.specs.Claim.{claimed_all, holding}
-use Rattle.rg_claimed.proofs.Full.{no_change, no_put}
-use Rattle.rg_claimed.proofs.Plans.{put_claims, change_claims, drop_claims}
+use Rattle.rg_laws_pages.specs.ByteClaims.Claim.{claimed_all, holding}
+use Rattle.rg_laws_pages.proofs.ByteClaimsLemmas.Full.{no_change, no_put}
+use Rattle.rg_laws_pages.proofs.ByteClaimsLemmas.Plans.{put_claims, change_claims, drop_claims}
 use Rattle.rg_home.specs.Pages.{row_or_empty, slot_of}
 use Rattle.rg_home.specs.Plan.{is_home, new_area, pages_after, planned_put, planned_change, planned_drop}
 use Rattle.rg_home.specs.Rows.{row_at}
 use Rattle.rg_home.specs.Slot.{Slot}
 use Rattle.rg_home.specs.declared.plan.Plan.{Plan}
-use Rattle.rg_lawful.specs.Act.{LogState}
-use Rattle.rg_lawful.specs.Consistent.{IsConsistent}
-use Rattle.rg_lawful.specs.DeskLaws.{AreLiveWith, DeskWrites}
-use Rattle.rg_lawful.specs.Lawful.{MayBegin}
-use Rattle.rg_lawful.specs.Write.{HitBy, at_key}
-use Rattle.rg_lawful.proofs.Desk.{desk_put, desk_change, desk_drop}
-use Rattle.rg_within.specs.Within.{IsWithin}
-use Rattle.rg_within.proofs.Within.{change_within, drop_within, put_within}
+use Rattle.rg_laws_log.specs.LogState.Act.{LogState}
+use Rattle.rg_laws_log.specs.LogState.Consistent.{IsConsistent}
+use Rattle.rg_laws_log.specs.LogState.DeskLaws.{AreLiveWith, DeskWrites}
+use Rattle.rg_laws_log.specs.LogState.Lawful.{MayBegin}
+use Rattle.rg_laws_log.specs.LogState.Write.{HitBy, at_key}
+use Rattle.rg_laws_log.proofs.LogStateLemmas.Desk.{desk_put, desk_change, desk_drop}
+use Rattle.rg_laws_log.specs.PageBounds.Within.{IsWithin}
+use Rattle.rg_laws_log.proofs.PageBoundsLemmas.Within.{change_within, drop_within, put_within}
 use Rattle.rg_home.proofs.ChangeFits.{drop_itself}
 use Rattle.rg_space.specs.Carries.{Carries}
 use Rattle.rg_space.proofs.Carried.{put_carries, change_carries, drop_carries}

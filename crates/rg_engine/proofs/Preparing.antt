@@ -2,14 +2,14 @@
 use Rattle.std.proofs.Common.{◌≡◌, ◌≢◌, ◌<◌, ◌++◌, inl, inr, ℕ, Bool, true, false, if◌then◌else◌, List, [], ◌∷◌, length, take, Option, Some, None, refl, sym, ◌∙◌, ap, subst, arith, length-append}
 use Rattle.std.proofs.lemmas.List.{take-append-le}
 use Rattle.std.specs.List.{AllByRecursion}
-use Rattle.rg_anew.specs.Writing.{HasFirst}
+use Rattle.rg_laws_crash.specs.NewCopy.Writing.{HasFirst}
 use Rattle.rg_base.specs.declared.set.Set.{Set}
 use Rattle.rg_home.specs.Pages.{slot_of}
 use Rattle.rg_home.specs.Rows.{row_at}
 use Rattle.rg_image.specs.Meaning.{stored}
 use Rattle.rg_image.specs.Rules.{copy_capacity}
 use Rattle.rg_home.specs.Table.{IsTable}
-use Rattle.rg_newest.specs.Tidy.{set_of}
+use Rattle.rg_laws_crash.specs.NewestPages.Tidy.{set_of}
 use Rattle.rg_outside.specs.Calls.{Call, FailedRead, FailedSync, FailedWrite, Image, Read, Refused, Synced, Told, Wrote, effect_of, is_same_page, read_of}
 use Rattle.rg_outside.specs.Capacities.{Capacities}
 use Rattle.rg_outside.specs.Moments.{EachCall, EachImage, HoldsThroughout, IfTold, put}
@@ -19,10 +19,10 @@ use Rattle.rg_outside.proofs.Run.{at_last}
 use Rattle.rg_page.specs.Content.{Content, content_at}
 use Rattle.rg_record.specs.declared.record.Record.{Record}
 use Rattle.rg_shadow.specs.Shade.{shade_slots}
-use Rattle.rg_switch.specs.Switched.{HasNewCopy, IsOldPage}
+use Rattle.rg_laws_crash.specs.SwitchRecord.Switched.{HasNewCopy, IsOldPage}
 use Rattle.rg_base.specs.Copies.{other_of}
-use Rattle.rg_version.specs.Versions.{Spells}
-use Rattle.rg_fold.specs.declared.item.Stage.{Stage}
+use Rattle.rg_laws_crash.specs.PageVersions.Versions.{Spells}
+use Rattle.rg_feed.specs.declared.fold.item.Stage.{Stage}
 use Rattle.rg_engine.specs.Prepared.{while_running}
 use Rattle.rg_engine.specs.Flushed.{WritesEither}
 use Rattle.rg_engine.specs.OnVolume.{WasAllTidy}

@@ -3,9 +3,9 @@ use Rattle.std.proofs.Common.{◌∷◌, [], ◌+◌, ℕ, List, Option, Some, N
 use Rattle.rg_base.specs.declared.lock.Lock.{Lock}
 use Rattle.rg_base.specs.declared.part.Part.{Part}
 use Rattle.rg_record.specs.declared.record.Record.{Record}
-use Rattle.rg_lawful.specs.Act.{LogState, step}
-use Rattle.rg_lawful.specs.Act.{Purge}
-use Rattle.rg_lawful.specs.Write.{Write}
+use Rattle.rg_laws_log.specs.LogState.Act.{LogState, step}
+use Rattle.rg_laws_log.specs.LogState.Act.{Purge}
+use Rattle.rg_laws_log.specs.LogState.Write.{Write}
 use Rattle.rg_engine.specs.Shows.{KeyShown, UnitsShown}
 use Rattle.rg_engine.specs.Walks.{Walks}
 use Rattle.rg_engine.specs.Wrote.{purge_record, records_cleared}

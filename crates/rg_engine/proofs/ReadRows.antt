@@ -6,7 +6,7 @@ use Rattle.std.proofs.lemmas.List.{append-nil, map-append}
 use Rattle.std.proofs.lemmas.List.Elements.{filter_map-append}
 use Rattle.rg_base.specs.declared.place.Place.{Place}
 use Rattle.rg_base.specs.declared.row.Row.{Row}
-use Rattle.rg_indexes.specs.Listed.{listed_keys, listed_rows}
+use Rattle.rg_btree.specs.Indexes.Listed.{listed_keys, listed_rows}
 
 -- one entry more
 listed_more : (rows : Place → Option Row) (es : List (ℕ × Place)) (i : ℕ) (d : ℕ × Place) → i < length es

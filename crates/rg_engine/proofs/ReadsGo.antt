@@ -12,13 +12,13 @@ use Rattle.rg_home.specs.Slot.{Slot}
 use Rattle.rg_base.specs.declared.which.Which.TheVariants.{Cat}
 use Rattle.rg_index.specs.Entries.{entries_within, has_entry}
 use Rattle.rg_index.specs.Listed.{has_value}
-use Rattle.rg_indexes.specs.Listed.{listed_keys, listed_rows}
-use Rattle.rg_indexes.specs.Listings.{entries_of}
+use Rattle.rg_btree.specs.Indexes.Listed.{listed_keys, listed_rows}
+use Rattle.rg_btree.specs.Indexes.Listings.{entries_of}
 use Rattle.rg_index.specs.RisingPart.{IsRising-rising_part}
-use Rattle.rg_indexes.proofs.Found.{keys-found}
-use Rattle.rg_indexes.proofs.Tabled.{count-keyed, rows-between}
+use Rattle.rg_btree.proofs.IndexesLemmas.Found.{keys-found}
+use Rattle.rg_btree.proofs.IndexesLemmas.Tabled.{count-keyed, rows-between}
 use Rattle.rg_layout.specs.Right.{IsRightFor}
-use Rattle.rg_lawful.specs.Act.{LogState}
+use Rattle.rg_laws_log.specs.LogState.Act.{LogState}
 use Rattle.rg_home.specs.Table.{IsTable}
 use Rattle.rg_lock.specs.First.{IsFirstHeld}
 use Rattle.rg_model.specs.Held.{find_holder, has_cat, holder, is_held_with_cat, is_others, scan_holder}

@@ -4,20 +4,20 @@ use Rattle.std.proofs.Math.Seq.{drop-append_seam, drop-length}
 use Rattle.rg_base.specs.declared.change.Change.{Change}
 use Rattle.rg_base.specs.declared.row.Row.{Row}
 use Rattle.rg_base.specs.declared.session.Session.{Session}
-use Rattle.rg_changed.specs.Changed.{changes_in, rows_after}
-use Rattle.rg_fold.specs.declared.item.Item.{Item}
-use Rattle.rg_lawful.specs.Write.{Write, own_of}
+use Rattle.rg_laws_utility.specs.RecordChanges.Changed.{changes_in, rows_after}
+use Rattle.rg_feed.specs.declared.fold.item.Item.{Item}
+use Rattle.rg_laws_log.specs.LogState.Write.{Write, own_of}
 use Rattle.rg_model.specs.Plain.{is_done}
 use Rattle.rg_model.specs.State.{State}
 use Rattle.rg_record.specs.declared.record.Record.{Record}
-use Rattle.rg_sending.specs.Sending.{items_made}
+use Rattle.rg_engine.specs.ChangeFeed.Sending.{items_made}
 use Rattle.rg_stmt.specs.declared.stmt.Reply.{Reply}
 use Rattle.rg_stmt.specs.declared.stmt.Reply.TheVariants.{Device, Done, Victim}
 use Rattle.rg_stmt.specs.declared.stmt.Stmt.{Stmt}
 use Rattle.rg_stmt.specs.declared.stmt.Stmt.TheVariants.{Commit}
 use Rattle.rg_model.specs.Said.{may_want_memory}
 use Rattle.rg_engine.specs.Answers.{is_answer, is_device}
-use Rattle.rg_account.specs.Found.{rows_made}
+use Rattle.rg_laws_utility.specs.ByteAccount.Found.{rows_made}
 use Rattle.rg_engine.specs.Moves.{AreOwn, Moves, rows_before}
 use Rattle.rg_engine.specs.RecordList.{record_at}
 use Rattle.rg_engine.specs.Sends.{before_in, is_ok}

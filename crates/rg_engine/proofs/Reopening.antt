@@ -9,7 +9,7 @@ use Rattle.rg_image.specs.Log.{Spells, SpellsFrom, log_of}
 use Rattle.rg_image.specs.Meaning.{current_of}
 use Rattle.rg_image.specs.Pack.{end_of, start}
 use Rattle.rg_image.specs.Rules.{IsTidyLog, copy_capacity}
-use Rattle.rg_lawful.proofs.Tables.{eqb-refl}
+use Rattle.rg_laws_log.proofs.LogStateLemmas.Tables.{eqb-refl}
 use Rattle.rg_log.specs.Kept.{Listed, log_pages}
 use Rattle.rg_log.specs.Present.{HasPart}
 use Rattle.rg_log.proofs.Present.{log_part, log_tidy}
@@ -21,18 +21,19 @@ use Rattle.rg_page.specs.declared.list.ListFrames.{ListFrames}
 use Rattle.rg_record.specs.declared.record.Record.{Record}
 use Rattle.rg_space.specs.Space.{capacity_in}
 use Rattle.rg_space.specs.declared.space.Space.{Space}
-use Rattle.rg_version.specs.OnImage.{HasPages}
-use Rattle.rg_version.specs.Versions.{Epoch}
-use Rattle.rg_newest.specs.Steady.{IsSteady}
-use Rattle.rg_newest.specs.Tidy.{AreSpare, AreTidyPages, set_of}
-use Rattle.rg_newest.proofs.Steady.{steady_front, tidy_goes_on}
-use Rattle.rg_sound.specs.Laws.{IsLeft}
-use Rattle.rg_sound.specs.Reopens.{AreTidyOwners}
-use Rattle.rg_sound.proofs.Imaged.{image_sound}
-use Rattle.rg_sound.proofs.LogPages.{left_entries, left_pages, left_positions}
-use Rattle.rg_sound.proofs.Owners.{image_owners}
-use Rattle.rg_sound.proofs.Switched.{pages_front}
-use Rattle.rg_switch.specs.Switched.{AreOldPages}
+use Rattle.rg_laws_crash.specs.PageVersions.OnImage.{HasPages}
+use Rattle.rg_laws_crash.specs.PageVersions.Versions.{Epoch}
+use Rattle.rg_laws_crash.specs.NewestPages.Steady.{IsSteady}
+use Rattle.rg_laws_crash.specs.NewestPages.Tidy.{AreSpare, AreTidyPages, set_of}
+use Rattle.rg_laws_crash.proofs.NewestPagesLemmas.Steady.{steady_front, tidy_goes_on}
+use Rattle.rg_laws_crash.specs.SoundVolume.Laws.{IsLeft}
+use Rattle.rg_laws_crash.specs.SoundVolume.Reopens.{AreTidyOwners}
+use Rattle.rg_laws_crash.proofs.SoundVolumeLemmas.Imaged.{image_sound}
+use Rattle.rg_laws_crash.proofs.SoundVolumeLemmas.LogPages.{left_entries, left_pages}
+use Rattle.rg_laws_crash.proofs.SoundVolumeLemmas.LogPages.{left_positions}
+use Rattle.rg_laws_crash.proofs.SoundVolumeLemmas.Owners.{image_owners}
+use Rattle.rg_laws_crash.proofs.SoundVolumeLemmas.Switched.{pages_front}
+use Rattle.rg_laws_crash.specs.SwitchRecord.Switched.{AreOldPages}
 use Rattle.rg_base.specs.Copies.{other_of}
 use Rattle.rg_engine.specs.OnVolume.{GoesOnTidy, HasCopies, HasTidyOthers, HasTidyOwners, IsFooted}
 use Rattle.rg_engine.specs.OnVolume.{IsOn, IsSoundTidy, IsTidyVolume, LeavesCopies}

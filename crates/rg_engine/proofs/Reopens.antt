@@ -5,31 +5,31 @@ use Rattle.std.proofs.lemmas.Bool.Decides.{nat_tests}
 use Rattle.std.proofs.lemmas.List.{take-append-le, take_all}
 use Rattle.std.proofs.Math.Seq.{take-append-add}
 use Rattle.rg_base.specs.declared.place.Place.{Place}
-use Rattle.rg_follow.specs.Next.{AreNext}
+use Rattle.rg_laws_crash.specs.LogChain.Next.{AreNext}
 use Rattle.rg_home.specs.Able.{IsLive}
 use Rattle.rg_home.specs.Pages.{slot_of}
 use Rattle.rg_home.specs.Slot.{Slot}
 use Rattle.rg_home.specs.Slot.{Free, Row, Pointer, Over, DeadRow, DeadPointer, DeadOver}
 use Rattle.rg_home.specs.Slots.{slot_at}
 use Rattle.rg_image.specs.Rules.{copy_capacity, greatest_tran}
-use Rattle.rg_lawful.specs.Act.{LogState, state}
-use Rattle.rg_lawful.specs.Consistent.{IsClean}
+use Rattle.rg_laws_log.specs.LogState.Act.{LogState, state}
+use Rattle.rg_laws_log.specs.LogState.Consistent.{IsClean}
 use Rattle.rg_home.specs.Owners.{AllBelow, OwnerBelow}
-use Rattle.rg_lawful.specs.Lawful.{Runs}
-use Rattle.rg_lawful.specs.Records.{acts_of}
-use Rattle.rg_lawful.proofs.Runs.{runs_clean}
+use Rattle.rg_laws_log.specs.LogState.Lawful.{Runs}
+use Rattle.rg_laws_log.specs.LogState.Records.{acts_of}
+use Rattle.rg_laws_log.proofs.LogStateLemmas.Runs.{runs_clean}
 use Rattle.rg_log.specs.Kept.{Listed}
 use Rattle.rg_model.specs.State.{State}
 use Rattle.rg_outside.specs.Capacities.{Capacities}
 use Rattle.rg_space.proofs.Whole.{slots_count}
-use Rattle.rg_ready.specs.Dead.{DeadNamed, DeadNames}
+use Rattle.rg_laws_pages.specs.UndoRoom.Dead.{DeadNamed, DeadNames}
 use Rattle.rg_record.specs.declared.record.Record.{Record}
-use Rattle.rg_sound.specs.Laws.{AreAppended}
-use Rattle.rg_sound.specs.Reopens.{CanReopen, HasLowOwners, Stands}
-use Rattle.rg_sound.proofs.Appending.{appended_reopens, runs_front}
+use Rattle.rg_laws_crash.specs.SoundVolume.Laws.{AreAppended}
+use Rattle.rg_laws_crash.specs.SoundVolume.Reopens.{CanReopen, HasLowOwners, Stands}
+use Rattle.rg_laws_crash.proofs.SoundVolumeLemmas.Appending.{appended_reopens, runs_front}
 use Rattle.rg_space.specs.Memory.{list_seen}
 use Rattle.rg_space.specs.Space.{capacity_in, frames_of}
-use Rattle.rg_version.specs.Versions.{Epoch}
+use Rattle.rg_laws_crash.specs.PageVersions.Versions.{Epoch}
 use Rattle.rg_engine.specs.Engine.{slots_in}
 use Rattle.rg_engine.specs.Reopens.{IsCleanIn, KeepsParts, PartsReopen, Reopens}
 use Rattle.rg_engine.specs.Shows.{Shows, ShowsBy, left_by}

@@ -6,30 +6,30 @@ use Rattle.std.proofs.lemmas.List.{append_assoc}
 use Rattle.rg_base.specs.declared.lock.Lock.{Lock}
 use Rattle.rg_base.specs.declared.session.Session.{Session}
 use Rattle.rg_claim.specs.declared.claims.Claims.{Claims}
-use Rattle.rg_follow.specs.Next.{AreNext, IsNext}
-use Rattle.rg_follow.specs.Tells.{Tells}
-use Rattle.rg_follow.proofs.Owing.{owes}
-use Rattle.rg_follow.proofs.Telling.{records_tell}
+use Rattle.rg_laws_crash.specs.LogChain.Next.{AreNext, IsNext}
+use Rattle.rg_laws_crash.specs.LogChain.Tells.{Tells}
+use Rattle.rg_laws_crash.proofs.LogChainLemmas.Owing.{owes}
+use Rattle.rg_laws_crash.proofs.LogChainLemmas.Telling.{records_tell}
 use Rattle.rg_image.specs.Rules.{HasSpace, IsOpen, limit_of, owed}
 use Rattle.rg_home.specs.Able.{IsLive}
 use Rattle.rg_home.specs.Pages.{slot_of}
 use Rattle.rg_home.specs.Rows.{row_at}
-use Rattle.rg_indexes.specs.Listings.{AreListings}
-use Rattle.rg_indexes.specs.declared.indexes.Indexes.{Indexes}
+use Rattle.rg_btree.specs.Indexes.Listings.{AreListings}
+use Rattle.rg_btree.specs.declared.indexes.indexes.Indexes.{Indexes}
 use Rattle.rg_model.specs.Committed.{locks_without, own_locks, put_back}
 use Rattle.rg_model.specs.Held.{is_others}
 use Rattle.rg_model.specs.Plain.{after_commit, after_rollback}
 use Rattle.rg_model.specs.State.{Locks, State, Table}
 use Rattle.rg_model.proofs.Ends.{put_own-none}
 use Rattle.rg_record.specs.declared.record.Record.{Record}
-use Rattle.rg_lawful.specs.Act.{Act, LogState, state}
-use Rattle.rg_lawful.specs.Act.{RollBack}
-use Rattle.rg_lawful.specs.Closing.{AreUndos}
-use Rattle.rg_lawful.specs.Consistent.{IsConsistent}
-use Rattle.rg_lawful.specs.Lawful.{Runs}
-use Rattle.rg_lawful.specs.Records.{acts_of}
-use Rattle.rg_lawful.specs.Write.{Write, first_write, own_of}
-use Rattle.rg_lawful.proofs.Own.{own_ended_other, own_first}
+use Rattle.rg_laws_log.specs.LogState.Act.{Act, LogState, state}
+use Rattle.rg_laws_log.specs.LogState.Act.{RollBack}
+use Rattle.rg_laws_log.specs.LogState.Closing.{AreUndos}
+use Rattle.rg_laws_log.specs.LogState.Consistent.{IsConsistent}
+use Rattle.rg_laws_log.specs.LogState.Lawful.{Runs}
+use Rattle.rg_laws_log.specs.LogState.Records.{acts_of}
+use Rattle.rg_laws_log.specs.LogState.Write.{Write, first_write, own_of}
+use Rattle.rg_laws_log.proofs.LogStateLemmas.Own.{own_ended_other, own_first}
 use Rattle.rg_space.specs.Space.{Agree, InStep, capacity_in, frames_of, index_of}
 use Rattle.rg_stmt.specs.declared.stmt.Reply.TheVariants.{Done}
 use Rattle.rg_stmt.specs.declared.stmt.Stmt.TheVariants.{Rollback}

@@ -1,19 +1,19 @@
 -- How a rollback moves the rows: by its undos, one for each write.
 use Rattle.std.proofs.Common.{◌≡◌, ◌+◌, ◌++◌, ℕ, List, [], ◌∷◌, Option, length, refl, sym, ◌∙◌, ap, subst, arith, append-nil, length-append}
-use Rattle.rg_changed.specs.Changed.{changes_at, changes_in, rows_after}
-use Rattle.rg_changed.specs.Laws.{WritesLoud}
-use Rattle.rg_changed.specs.Laws.{told_before, told_by}
-use Rattle.rg_changed.proofs.Counting.{undos_counted, undos_told}
+use Rattle.rg_laws_utility.specs.RecordChanges.Changed.{changes_at, changes_in, rows_after}
+use Rattle.rg_laws_utility.specs.RecordChanges.Laws.{WritesLoud}
+use Rattle.rg_laws_utility.specs.RecordChanges.Laws.{told_before, told_by}
+use Rattle.rg_laws_utility.proofs.RecordChangesLemmas.Counting.{undos_counted, undos_told}
 use Rattle.rg_base.specs.declared.change.Change.{Change}
 use Rattle.rg_base.specs.declared.place.Place.{Place}
 use Rattle.rg_base.specs.declared.row.Row.{Row}
 use Rattle.rg_engine.specs.Moves.{rows_before}
-use Rattle.rg_follow.proofs.Telling.{acts_first}
-use Rattle.rg_lawful.specs.Act.{LogState, state}
-use Rattle.rg_lawful.specs.Closing.{AreUndos}
-use Rattle.rg_lawful.specs.Lawful.{Runs}
-use Rattle.rg_lawful.specs.Records.{act_of, act_of_kind, acts_of}
-use Rattle.rg_lawful.specs.Write.{Write, own_of}
+use Rattle.rg_laws_crash.proofs.LogChainLemmas.Telling.{acts_first}
+use Rattle.rg_laws_log.specs.LogState.Act.{LogState, state}
+use Rattle.rg_laws_log.specs.LogState.Closing.{AreUndos}
+use Rattle.rg_laws_log.specs.LogState.Lawful.{Runs}
+use Rattle.rg_laws_log.specs.LogState.Records.{act_of, act_of_kind, acts_of}
+use Rattle.rg_laws_log.specs.LogState.Write.{Write, own_of}
 use Rattle.rg_record.specs.declared.record.Kind.{Kind}
 use Rattle.rg_record.specs.declared.record.Kind.TheVariants as kind
 use Rattle.rg_record.specs.declared.record.Record.{Record}

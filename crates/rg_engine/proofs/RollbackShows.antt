@@ -6,13 +6,13 @@ use Rattle.std.proofs.lemmas.List.{length-set}
 use Rattle.rg_base.specs.declared.lock.Lock.{Lock}
 use Rattle.rg_base.specs.declared.session.Session.{Session}
 use Rattle.rg_claim.specs.declared.claims.Claims.{Claims}
-use Rattle.rg_claimed.specs.Claim.{claimed_all, holding}
-use Rattle.rg_claimed.proofs.Owners.{covers, ends}
-use Rattle.rg_claimed.proofs.Pages.{claimed_all-fewer}
-use Rattle.rg_follow.specs.Next.{AreNext}
+use Rattle.rg_laws_pages.specs.ByteClaims.Claim.{claimed_all, holding}
+use Rattle.rg_laws_pages.proofs.ByteClaimsLemmas.Owners.{covers, ends}
+use Rattle.rg_laws_pages.proofs.ByteClaimsLemmas.Pages.{claimed_all-fewer}
+use Rattle.rg_laws_crash.specs.LogChain.Next.{AreNext}
 use Rattle.rg_home.specs.Pages.{slot_of}
 use Rattle.rg_home.specs.Rows.{row_at}
-use Rattle.rg_indexes.specs.Listings.{AreListings}
+use Rattle.rg_btree.specs.Indexes.Listings.{AreListings}
 use Rattle.rg_model.specs.Committed.{locks_without, own_locks, put_back}
 use Rattle.rg_model.specs.Held.{is_others}
 use Rattle.rg_model.specs.Plain.{after_rollback}
@@ -20,21 +20,21 @@ use Rattle.rg_model.specs.State.{Locks, State, row_of}
 use Rattle.rg_model.proofs.Ends.{get-put_own}
 use Rattle.rg_model.proofs.Overlay.{kept_or}
 use Rattle.rg_record.specs.declared.record.Record.{Record}
-use Rattle.rg_lawful.specs.Act.{Act, LogState, others, state}
-use Rattle.rg_lawful.specs.Act.{RollBack}
-use Rattle.rg_lawful.specs.Closing.{AreUndos}
-use Rattle.rg_lawful.specs.Consistent.{IsConsistent, stored_of}
-use Rattle.rg_lawful.specs.Lawful.{Runs}
-use Rattle.rg_lawful.specs.Records.{acts_of}
-use Rattle.rg_lawful.specs.Write.{Write, HitBy, NoneHit, at_key, own_of}
-use Rattle.rg_lawful.proofs.Free.{free_apart, free_kept}
-use Rattle.rg_lawful.proofs.Live.{live_was}
-use Rattle.rg_lawful.proofs.Rolls.{rollback_rows}
+use Rattle.rg_laws_log.specs.LogState.Act.{Act, LogState, others, state}
+use Rattle.rg_laws_log.specs.LogState.Act.{RollBack}
+use Rattle.rg_laws_log.specs.LogState.Closing.{AreUndos}
+use Rattle.rg_laws_log.specs.LogState.Consistent.{IsConsistent, stored_of}
+use Rattle.rg_laws_log.specs.LogState.Lawful.{Runs}
+use Rattle.rg_laws_log.specs.LogState.Records.{acts_of}
+use Rattle.rg_laws_log.specs.LogState.Write.{Write, HitBy, NoneHit, at_key, own_of}
+use Rattle.rg_laws_log.proofs.LogStateLemmas.Free.{free_apart, free_kept}
+use Rattle.rg_laws_log.proofs.LogStateLemmas.Live.{live_was}
+use Rattle.rg_laws_log.proofs.LogStateLemmas.Rolls.{rollback_rows}
 use Rattle.rg_space.specs.Space.{capacity_in}
 use Rattle.rg_stmt.specs.declared.stmt.Reply.TheVariants.{Done}
 use Rattle.rg_stmt.specs.declared.stmt.Stmt.TheVariants as stmts
 use Rattle.rg_stmt.specs.declared.event.Entry.{Entry}
-use Rattle.rg_changed.specs.Changed.{changes_in, rows_after}
+use Rattle.rg_laws_utility.specs.RecordChanges.Changed.{changes_in, rows_after}
 use Rattle.rg_engine.specs.Bytes.{taken_of}
 use Rattle.rg_engine.specs.Engine.{HasPages, slots_in}
 use Rattle.rg_engine.specs.Moves.{AreOwn, rows_before}
@@ -47,7 +47,7 @@ use Rattle.rg_engine.specs.Units.{owed, owed_to, unit_at, writes_in}
 use Rattle.rg_engine.specs.declared.engine.Engine.{Engine}
 use Rattle.rg_engine.specs.declared.units.OpenUnit.{OpenUnit}
 use Rattle.rg_engine.proofs.Ended.{keys_ended, units_ended}
-use Rattle.rg_account.specs.Found.{rows_found}
+use Rattle.rg_laws_utility.specs.ByteAccount.Found.{rows_found}
 use Rattle.rg_engine.proofs.Moving.{AllLoud, ended_found, ended_others, ended_own, record_moves}
 use Rattle.rg_engine.proofs.Moving.{walked_rows}
 use Rattle.rg_engine.proofs.Rolled.{rolled_back, undos_claim, undos_leave}

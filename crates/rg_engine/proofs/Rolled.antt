@@ -1,22 +1,23 @@
 -- The state that a whole rollback leaves.
 use Rattle.std.proofs.Common.{◌≡◌, ◌==◌, ◌≤◌, ℕ, Bool, true, false, not, List, [], ◌∷◌, Some, refl, ◌∙◌, ap, subst, arith}
 use Rattle.rg_base.specs.declared.place.Place.{Place}
-use Rattle.rg_claimed.specs.Claim.{claimed_all}
-use Rattle.rg_claimed.proofs.Undo.{undo_claims}
+use Rattle.rg_laws_pages.specs.ByteClaims.Claim.{claimed_all}
+use Rattle.rg_laws_pages.proofs.ByteClaimsLemmas.Undo.{undo_claims}
 use Rattle.rg_home.specs.Able.{CanUndo, Undoable}
 use Rattle.rg_home.specs.Pages.{slot_of}
 use Rattle.rg_home.specs.Slot.{Slot}
 use Rattle.rg_home.specs.Undo.{undone}
-use Rattle.rg_lawful.specs.Act.{Act, LogState, is_in, not_of, others, state, step}
-use Rattle.rg_lawful.specs.Act.{Purge, Change, Undo, Commit, RollBack, Switch}
-use Rattle.rg_lawful.specs.Closing.{AreUndos}
-use Rattle.rg_lawful.specs.Consistent.{IsConsistent}
-use Rattle.rg_lawful.specs.Lawful.{MayUndo, Runs}
-use Rattle.rg_lawful.specs.Write.{Write, kept_if, kept_of, latest_if, latest_of, less_if, less_of, written_of}
-use Rattle.rg_lawful.proofs.Hits.{latest_owner, some_is}
-use Rattle.rg_lawful.proofs.Live.{in_others}
-use Rattle.rg_lawful.proofs.Rolls.{rollback_rows, undo_leaves}
-use Rattle.rg_lawful.proofs.Runs.{runs_consistent}
+use Rattle.rg_laws_log.specs.LogState.Act.{Act, LogState, is_in, not_of, others, state, step}
+use Rattle.rg_laws_log.specs.LogState.Act.{Purge, Change, Undo, Commit, RollBack, Switch}
+use Rattle.rg_laws_log.specs.LogState.Closing.{AreUndos}
+use Rattle.rg_laws_log.specs.LogState.Consistent.{IsConsistent}
+use Rattle.rg_laws_log.specs.LogState.Lawful.{MayUndo, Runs}
+use Rattle.rg_laws_log.specs.LogState.Write.{Write, kept_if, kept_of, latest_if, latest_of, less_if}
+use Rattle.rg_laws_log.specs.LogState.Write.{less_of, written_of}
+use Rattle.rg_laws_log.proofs.LogStateLemmas.Hits.{latest_owner, some_is}
+use Rattle.rg_laws_log.proofs.LogStateLemmas.Live.{in_others}
+use Rattle.rg_laws_log.proofs.LogStateLemmas.Rolls.{rollback_rows, undo_leaves}
+use Rattle.rg_laws_log.proofs.LogStateLemmas.Runs.{runs_consistent}
 use Rattle.rg_engine.specs.Ended.{HasEnded}
 
 -- other units' writes are not touched

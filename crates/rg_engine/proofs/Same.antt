@@ -7,7 +7,7 @@ use Rattle.rg_home.specs.Slot.{Slot}
 use Rattle.rg_home.specs.Rows.{row_at}
 use Rattle.rg_model.specs.State.{Locks, State}
 use Rattle.rg_record.specs.declared.record.Record.{Record}
-use Rattle.rg_lawful.specs.Act.{LogState}
+use Rattle.rg_laws_log.specs.LogState.Act.{LogState}
 use Rattle.rg_log.specs.Kept.{Listed}
 use Rattle.rg_engine.specs.Engine.{slots_in}
 use Rattle.rg_engine.specs.Shows.{KeyShown, Shows, UnitsShown, left_by}

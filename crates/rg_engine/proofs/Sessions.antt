@@ -6,14 +6,14 @@ use Rattle.rg_base.specs.declared.session.Session.{Session}
 use Rattle.rg_home.specs.Able.{IsLive}
 use Rattle.rg_model.specs.Held.{holder, other_owner}
 use Rattle.rg_model.specs.State.{State}
-use Rattle.rg_lawful.specs.Act.{LogState}
-use Rattle.rg_lawful.specs.Consistent.{IsConsistent}
-use Rattle.rg_lawful.specs.DeskLaws.{AreLiveWith}
-use Rattle.rg_lawful.specs.Lawful.{MayBegin}
-use Rattle.rg_lawful.specs.Write.{HitBy, at_key}
-use Rattle.rg_lawful.proofs.Free.{free_any}
-use Rattle.rg_lawful.proofs.Live.{live_same, live_more, live_other}
-use Rattle.rg_lawful.proofs.Runs.{runs_consistent}
+use Rattle.rg_laws_log.specs.LogState.Act.{LogState}
+use Rattle.rg_laws_log.specs.LogState.Consistent.{IsConsistent}
+use Rattle.rg_laws_log.specs.LogState.DeskLaws.{AreLiveWith}
+use Rattle.rg_laws_log.specs.LogState.Lawful.{MayBegin}
+use Rattle.rg_laws_log.specs.LogState.Write.{HitBy, at_key}
+use Rattle.rg_laws_log.proofs.LogStateLemmas.Free.{free_any}
+use Rattle.rg_laws_log.proofs.LogStateLemmas.Live.{live_same, live_more, live_other}
+use Rattle.rg_laws_log.proofs.LogStateLemmas.Runs.{runs_consistent}
 use Rattle.rg_space.specs.Space.{capacity_in}
 use Rattle.rg_engine.specs.Shows.{KeyShown, Shows, left_by, since}
 use Rattle.rg_engine.specs.Units.{trans_of, unit_at}

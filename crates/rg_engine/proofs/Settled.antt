@@ -6,14 +6,15 @@ use Rattle.std.proofs.Math.Seq.{take-append-add}
 use Rattle.rg_image.specs.Meaning.{stored}
 use Rattle.rg_model.specs.State.{State}
 use Rattle.rg_record.specs.declared.record.Record.{Record}
-use Rattle.rg_lawful.specs.Act.{Act, LogState, state}
-use Rattle.rg_lawful.specs.Act.{Purge, Change, Undo, Commit, RollBack, Switch}
-use Rattle.rg_lawful.specs.Closing.{AreUndos}
-use Rattle.rg_lawful.specs.Consistent.{IsConsistent, stored_of}
-use Rattle.rg_lawful.specs.Lawful.{Runs}
-use Rattle.rg_lawful.specs.Records.{act_of, acts_of}
-use Rattle.rg_lawful.proofs.Runs.{runs_consistent, runs_joined, runs_shorter, state_joined}
-use Rattle.rg_lawful.proofs.Units.{stored_change, stored_rolled, stored_undo}
+use Rattle.rg_laws_log.specs.LogState.Act.{Act, LogState, state}
+use Rattle.rg_laws_log.specs.LogState.Act.{Purge, Change, Undo, Commit, RollBack, Switch}
+use Rattle.rg_laws_log.specs.LogState.Closing.{AreUndos}
+use Rattle.rg_laws_log.specs.LogState.Consistent.{IsConsistent, stored_of}
+use Rattle.rg_laws_log.specs.LogState.Lawful.{Runs}
+use Rattle.rg_laws_log.specs.LogState.Records.{act_of, acts_of}
+use Rattle.rg_laws_log.proofs.LogStateLemmas.Runs.{runs_consistent, runs_joined, runs_shorter}
+use Rattle.rg_laws_log.proofs.LogStateLemmas.Runs.{state_joined}
+use Rattle.rg_laws_log.proofs.LogStateLemmas.Units.{stored_change, stored_rolled, stored_undo}
 use Rattle.rg_log.specs.Kept.{Listed}
 use Rattle.rg_space.specs.Space.{capacity_in}
 use Rattle.rg_engine.specs.Shows.{Shows, ShowsBy, left_by, since}

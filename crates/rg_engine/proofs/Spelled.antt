@@ -20,7 +20,7 @@ use Rattle.rg_home.specs.declared.plan.Area.{Area}
 use Rattle.rg_home.specs.declared.plan.Fitting.{Fitting}
 use Rattle.rg_home.specs.declared.plan.Plan.{Plan}
 use Rattle.rg_home.proofs.Slots.{used-length}
-use Rattle.rg_lawful.proofs.Tables.{eqb-refl}
+use Rattle.rg_laws_log.proofs.LogStateLemmas.Tables.{eqb-refl}
 use Rattle.rg_image.specs.Pack.{size_of}
 use Rattle.rg_record.specs.Fits.{Fits}
 use Rattle.rg_record.specs.Spelled.{AreFrees, IsFew, IsRecord, frees_on, greatest, is_free}

@@ -14,7 +14,7 @@ use Rattle.rg_home.specs.Slot.{Slot}
 use Rattle.rg_home.specs.Slot.{Free, Row as RowSlot, Pointer, Over, DeadRow, DeadPointer, DeadOver}
 use Rattle.rg_index.specs.Entries.{has_entry}
 use Rattle.rg_index.specs.Listed.{has_value}
-use Rattle.rg_indexes.specs.Listings.{entries_of}
+use Rattle.rg_btree.specs.Indexes.Listings.{entries_of}
 use Rattle.rg_model.specs.Held.{holder}
 use Rattle.rg_model.specs.Plain.{change_reply, insert_reply, is_done, plain_reply, row_reply, unless_held}
 use Rattle.rg_model.specs.Said.{may_want_log, may_want_memory, may_want_room}
@@ -22,9 +22,9 @@ use Rattle.rg_model.specs.State.{Locks, State, row_of}
 use Rattle.rg_stmt.specs.declared.stmt.Reply.TheVariants.{Absent, Done, Duplicate, Full, Held, LogFull, NoMemory}
 use Rattle.rg_stmt.specs.declared.stmt.Stmt.{Stmt}
 use Rattle.rg_stmt.specs.declared.stmt.Stmt.TheVariants.{Delete, Insert, Select, Update}
-use Rattle.rg_lawful.specs.Act.{LogState, is_in}
-use Rattle.rg_lawful.proofs.Own.{own_live}
-use Rattle.rg_lawful.proofs.Tables.{eqb-refl}
+use Rattle.rg_laws_log.specs.LogState.Act.{LogState, is_in}
+use Rattle.rg_laws_log.proofs.LogStateLemmas.Own.{own_live}
+use Rattle.rg_laws_log.proofs.LogStateLemmas.Tables.{eqb-refl}
 use Rattle.rg_space.specs.Space.{capacity_in}
 use Rattle.rg_engine.specs.Bytes.{taken_of}
 use Rattle.rg_engine.specs.Engine.{ground_of, slots_in}

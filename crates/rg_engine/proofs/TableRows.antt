@@ -12,11 +12,11 @@ use Rattle.rg_base.specs.declared.row.Row.{Row}
 use Rattle.rg_home.specs.Pages.{slot_of}
 use Rattle.rg_home.specs.Rows.{row_at}
 use Rattle.rg_home.specs.Slot.{Slot}
-use Rattle.rg_indexes.proofs.Tabled.{entries-keyed}
-use Rattle.rg_indexes.specs.Listed.{keyed_rows, with_value}
-use Rattle.rg_indexes.specs.Listings.{entries_of}
+use Rattle.rg_btree.proofs.IndexesLemmas.Tabled.{entries-keyed}
+use Rattle.rg_btree.specs.Indexes.Listed.{keyed_rows, with_value}
+use Rattle.rg_btree.specs.Indexes.Listings.{entries_of}
 use Rattle.rg_index.specs.RisingPart.{IsRising-rising_part}
-use Rattle.rg_lawful.specs.Act.{LogState}
+use Rattle.rg_laws_log.specs.LogState.Act.{LogState}
 use Rattle.rg_home.specs.Table.{IsTable}
 use Rattle.rg_model.specs.State.{State, Table, row_of}
 use Rattle.rg_record.specs.declared.record.Record.{Record}

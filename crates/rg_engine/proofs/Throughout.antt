@@ -17,7 +17,7 @@ use Rattle.rg_page.specs.declared.list.ListFrames.{ListFrames}
 use Rattle.rg_record.specs.declared.record.Record.{Record}
 use Rattle.rg_space.specs.Space.{capacity_in}
 use Rattle.rg_space.specs.declared.space.Space.{Space}
-use Rattle.rg_version.specs.Versions.{Epoch}
+use Rattle.rg_laws_crash.specs.PageVersions.Versions.{Epoch}
 use Rattle.rg_engine.specs.OnVolume.{HasCopies, IsOn, IsSoundTidy, LeavesSoundIfTidy}
 use Rattle.rg_engine.specs.OnVolume.{SoundThroughout, WasAllTidy}
 use Rattle.rg_engine.specs.Reopens.{PartsReopen}

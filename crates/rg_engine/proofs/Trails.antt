@@ -1,16 +1,17 @@
 -- What appended records leave of the trail of each open unit.
 use Rattle.std.proofs.Common.{◌≡◌, ◌≢◌, ◌≤◌, ◌+◌, ℕ, List, [], ◌∷◌, ◌++◌, Option, Some, length, refl, sym, ◌∙◌, ap, subst, inl, inr, arith}
 use Rattle.rg_base.specs.declared.part.Part.{Part}
-use Rattle.rg_follow.specs.Tells.{Tells}
-use Rattle.rg_follow.proofs.Appended.{last_other, last_own, left_none, left_other, left_own}
-use Rattle.rg_chain.proofs.Records.{none_above}
+use Rattle.rg_laws_crash.specs.LogChain.Tells.{Tells}
+use Rattle.rg_laws_crash.proofs.LogChainLemmas.Appended.{last_other, last_own, left_none}
+use Rattle.rg_laws_crash.proofs.LogChainLemmas.Appended.{left_other, left_own}
+use Rattle.rg_check.proofs.ChainLemmas.Records.{none_above}
 use Rattle.rg_image.specs.Rules.{IsOpen, last_position, of_tran}
-use Rattle.rg_lawful.specs.Act.{LogState, step}
-use Rattle.rg_lawful.specs.Act.{Change}
-use Rattle.rg_lawful.specs.Write.{Write, own_of}
-use Rattle.rg_lawful.proofs.Own.{own_more}
+use Rattle.rg_laws_log.specs.LogState.Act.{LogState, step}
+use Rattle.rg_laws_log.specs.LogState.Act.{Change}
+use Rattle.rg_laws_log.specs.LogState.Write.{Write, own_of}
+use Rattle.rg_laws_log.proofs.LogStateLemmas.Own.{own_more}
 use Rattle.rg_record.specs.declared.record.Record.{Record}
-use Rattle.rg_unended.specs.Unended.{left_of}
+use Rattle.rg_check.specs.OpenUnits.Unended.{left_of}
 use Rattle.rg_engine.specs.Shows.{UnitsShown}
 use Rattle.rg_engine.specs.Trails.{IsTrail}
 use Rattle.rg_engine.specs.Undoing.{AreChain}

@@ -4,32 +4,33 @@ use Rattle.std.specs.List.{AllByRecursion}
 use Rattle.std.proofs.lemmas.Bool.{ne_eqb}
 use Rattle.rg_base.specs.declared.part.Part.{Part}
 use Rattle.rg_base.specs.declared.row.Row.{Row}
-use Rattle.rg_chain.proofs.Records.{greatest_more, none_above}
-use Rattle.rg_follow.specs.Next.{AreNext, IsNext}
-use Rattle.rg_follow.specs.Tells.{Tells}
-use Rattle.rg_follow.proofs.Appended.{bytes_more, count_more, ended_none, ended_other, of_other, owed_none}
-use Rattle.rg_follow.proofs.Owing.{owes}
-use Rattle.rg_follow.proofs.Telling.{records_tell}
+use Rattle.rg_check.proofs.ChainLemmas.Records.{greatest_more, none_above}
+use Rattle.rg_laws_crash.specs.LogChain.Next.{AreNext, IsNext}
+use Rattle.rg_laws_crash.specs.LogChain.Tells.{Tells}
+use Rattle.rg_laws_crash.proofs.LogChainLemmas.Appended.{bytes_more, count_more, ended_none}
+use Rattle.rg_laws_crash.proofs.LogChainLemmas.Appended.{ended_other, of_other, owed_none}
+use Rattle.rg_laws_crash.proofs.LogChainLemmas.Owing.{owes}
+use Rattle.rg_laws_crash.proofs.LogChainLemmas.Telling.{records_tell}
 use Rattle.rg_home.specs.declared.plan.Plan.{Plan}
 use Rattle.rg_image.specs.Meaning.{current_of}
 use Rattle.rg_image.specs.Pack.{log_bytes}
 use Rattle.rg_image.specs.Rules.{HasSpace, IsOfTran, IsOpen, PartIn, greatest_tran, is_ended, limit_of, of_tran, owed}
-use Rattle.rg_lawful.specs.Act.{LogState, state, step}
-use Rattle.rg_lawful.specs.Act.{Change, Purge}
-use Rattle.rg_lawful.specs.Consistent.{IsConsistent}
-use Rattle.rg_lawful.specs.DeskLaws.{DeskWrites}
-use Rattle.rg_lawful.specs.Lawful.{Runs}
-use Rattle.rg_lawful.specs.Records.{acts_of}
-use Rattle.rg_lawful.specs.Write.{Write, write_of}
-use Rattle.rg_lawful.proofs.Own.{own_other}
+use Rattle.rg_laws_log.specs.LogState.Act.{LogState, state, step}
+use Rattle.rg_laws_log.specs.LogState.Act.{Change, Purge}
+use Rattle.rg_laws_log.specs.LogState.Consistent.{IsConsistent}
+use Rattle.rg_laws_log.specs.LogState.DeskLaws.{DeskWrites}
+use Rattle.rg_laws_log.specs.LogState.Lawful.{Runs}
+use Rattle.rg_laws_log.specs.LogState.Records.{acts_of}
+use Rattle.rg_laws_log.specs.LogState.Write.{Write, write_of}
+use Rattle.rg_laws_log.proofs.LogStateLemmas.Own.{own_other}
 use Rattle.rg_log.specs.Kept.{Listed}
-use Rattle.rg_newest.specs.Newest.{AllNear}
-use Rattle.rg_newest.proofs.Near.{there_near}
+use Rattle.rg_laws_crash.specs.NewestPages.Newest.{AllNear}
+use Rattle.rg_laws_crash.proofs.NewestPagesLemmas.Near.{there_near}
 use Rattle.rg_record.specs.declared.record.Kind.TheVariants.{Purge as PurgeKind}
 use Rattle.rg_record.specs.declared.record.Record.{Record}
 use Rattle.rg_space.specs.Applied.{AllNext}
 use Rattle.rg_space.specs.Carries.{AllFree, AllThere, PlanNext}
-use Rattle.rg_within.specs.Within.{IsWithin}
+use Rattle.rg_laws_log.specs.PageBounds.Within.{IsWithin}
 use Rattle.rg_engine.specs.Bytes.{end_bytes}
 use Rattle.rg_engine.specs.Shows.{UnitsShown}
 use Rattle.rg_engine.specs.Trails.{IsTrail, Trails}
@@ -208,7 +209,7 @@ module _ (limit : ℕ) (log now : Listed) (set_aside : ℕ) (units : List (Optio
       more_next limit log.pages rs unit plan.purge w
       (purge_next limit log.pages rs plan.purge (omega (arith, count, good.few)) purge_there there.frees base_space) change_next
 
-  acts : acts_of [] entries ≡ Change w ∷ Rattle.rg_lawful.specs.DeskLaws.purge_acts plan.purge
+  acts : acts_of [] entries ≡ Change w ∷ Rattle.rg_laws_log.specs.LogState.DeskLaws.purge_acts plan.purge
   acts = acts_wrote rs unit plan after
 
   tells : Tells now.records s_after

@@ -3,16 +3,16 @@ use Rattle.std.proofs.Common.{◌≡◌, ◌≤◌, ◌<◌, ◌+◌, ◌*◌, �
 use Rattle.std.specs.Prelude.{slice_index_or}
 use Rattle.std.proofs.lemmas.List.{append-nil}
 use Rattle.rg_image.specs.Rules.{last_position, of_tran, owed}
-use Rattle.rg_unended.specs.Unended.{left_of}
+use Rattle.rg_check.specs.OpenUnits.Unended.{left_of}
 use Rattle.rg_home.specs.Pages.{slot_of}
 use Rattle.rg_home.specs.Rows.{row_at}
-use Rattle.rg_indexes.specs.Listings.{HasSpare, SameEntries}
+use Rattle.rg_btree.specs.Indexes.Listings.{HasSpare, SameEntries}
 use Rattle.rg_model.specs.State.{State}
 use Rattle.rg_page.specs.Content.{slots_of}
 use Rattle.rg_page.specs.declared.list.ListFrames.{ListFrames}
 use Rattle.rg_record.specs.declared.record.Record.{Record}
-use Rattle.rg_lawful.specs.Act.{LogState, state}
-use Rattle.rg_lawful.specs.Write.{Write, own_of}
+use Rattle.rg_laws_log.specs.LogState.Act.{LogState, state}
+use Rattle.rg_laws_log.specs.LogState.Write.{Write, own_of}
 use Rattle.rg_space.specs.Indexed.{Indexed}
 use Rattle.rg_space.specs.Space.{Agree, InStep, capacity_in, frames_of, index_of, undos_in}
 use Rattle.rg_undo.specs.Undoing.{is_change}

@@ -12,7 +12,7 @@ use Rattle.rg_space.specs.Ready.{record_wrote}
 use Rattle.rg_space.specs.Space.{frames_of}
 use Rattle.rg_space.specs.declared.space.Space.{Space}
 use Rattle.rg_undo.specs.Undoing.{UndidChange, undo_record}
-use Rattle.rg_newest.proofs.Near.{there_near}
+use Rattle.rg_laws_crash.proofs.NewestPagesLemmas.Near.{there_near}
 use Rattle.rg_engine.specs.Newest.{StayNewest}
 use Rattle.rg_engine.proofs.NewestKept.{record_stays}
 

@@ -12,32 +12,33 @@ use Rattle.rg_home.specs.Slot.{Slot}
 use Rattle.rg_home.specs.Undo.{planned_undo, undone}
 use Rattle.rg_home.specs.Written.{Written}
 use Rattle.rg_home.proofs.Place.{same_place-refl}
-use Rattle.rg_follow.specs.Next.{IsFirstBack, IsNext}
-use Rattle.rg_follow.specs.Tells.{Tells}
-use Rattle.rg_follow.proofs.Appended.{last_own, left_own}
-use Rattle.rg_follow.proofs.Owing.{owes}
-use Rattle.rg_follow.proofs.Telling.{undo_live}
+use Rattle.rg_laws_crash.specs.LogChain.Next.{IsFirstBack, IsNext}
+use Rattle.rg_laws_crash.specs.LogChain.Tells.{Tells}
+use Rattle.rg_laws_crash.proofs.LogChainLemmas.Appended.{last_own, left_own}
+use Rattle.rg_laws_crash.proofs.LogChainLemmas.Owing.{owes}
+use Rattle.rg_laws_crash.proofs.LogChainLemmas.Telling.{undo_live}
 use Rattle.rg_image.specs.Meaning.{current_of}
 use Rattle.rg_image.specs.Rules.{IsOpen, PartIn, HasSpace, last_position, of_tran, owed}
-use Rattle.rg_newest.specs.Newest.{AllNear}
-use Rattle.rg_unended.specs.Unended.{left_of}
-use Rattle.rg_within.specs.Within.{IsWithin}
-use Rattle.rg_within.proofs.Within.{undo_within}
-use Rattle.rg_ready.proofs.Next.{undo_does}
+use Rattle.rg_laws_crash.specs.NewestPages.Newest.{AllNear}
+use Rattle.rg_check.specs.OpenUnits.Unended.{left_of}
+use Rattle.rg_laws_log.specs.PageBounds.Within.{IsWithin}
+use Rattle.rg_laws_log.proofs.PageBoundsLemmas.Within.{undo_within}
+use Rattle.rg_laws_pages.proofs.UndoRoomLemmas.Next.{undo_does}
 use Rattle.rg_index.specs.Listed.{has_value}
-use Rattle.rg_indexes.specs.Listings.{HasSpare}
+use Rattle.rg_btree.specs.Indexes.Listings.{HasSpare}
 use Rattle.rg_record.specs.declared.record.Record.{Record}
-use Rattle.rg_lawful.specs.Act.{Act, LogState, state, step}
-use Rattle.rg_lawful.specs.Act.{Undo}
-use Rattle.rg_lawful.specs.Consistent.{IsConsistent}
-use Rattle.rg_lawful.specs.Lawful.{MayUndo}
-use Rattle.rg_lawful.specs.Records.{act_of, acts_of}
-use Rattle.rg_lawful.specs.Write.{Write, at_home, first_write, latest_of, less_of, own_of}
-use Rattle.rg_lawful.proofs.Hits.{back_latest, latest_owner}
-use Rattle.rg_lawful.proofs.KeptUndo.{latest_undoable}
-use Rattle.rg_lawful.proofs.Own.{own_first, own_less}
-use Rattle.rg_lawful.proofs.Rolls.{undo_leaves}
-use Rattle.rg_lawful.proofs.Runs.{runs_consistent}
+use Rattle.rg_laws_log.specs.LogState.Act.{Act, LogState, state, step}
+use Rattle.rg_laws_log.specs.LogState.Act.{Undo}
+use Rattle.rg_laws_log.specs.LogState.Consistent.{IsConsistent}
+use Rattle.rg_laws_log.specs.LogState.Lawful.{MayUndo}
+use Rattle.rg_laws_log.specs.LogState.Records.{act_of, acts_of}
+use Rattle.rg_laws_log.specs.LogState.Write.{Write, at_home, first_write, latest_of, less_of}
+use Rattle.rg_laws_log.specs.LogState.Write.{own_of}
+use Rattle.rg_laws_log.proofs.LogStateLemmas.Hits.{back_latest, latest_owner}
+use Rattle.rg_laws_log.proofs.LogStateLemmas.KeptUndo.{latest_undoable}
+use Rattle.rg_laws_log.proofs.LogStateLemmas.Own.{own_first, own_less}
+use Rattle.rg_laws_log.proofs.LogStateLemmas.Rolls.{undo_leaves}
+use Rattle.rg_laws_log.proofs.LogStateLemmas.Runs.{runs_consistent}
 use Rattle.rg_space.specs.Space.{capacity_in}
 use Rattle.rg_undo.specs.Undoing.{later_of, undo_record, written_of}
 use Rattle.rg_engine.specs.Engine.{slots_in}

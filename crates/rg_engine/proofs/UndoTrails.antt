@@ -11,18 +11,18 @@ use Rattle.rg_image.specs.Rules.{IsOfTran, IsOpen, last_position, of_tran}
 use Rattle.rg_record.specs.declared.record.Kind.{Kind}
 use Rattle.rg_record.specs.declared.record.Kind.TheVariants as kind
 use Rattle.rg_record.specs.declared.record.Record.{Record}
-use Rattle.rg_follow.specs.Next.{AreNext, IsNext}
-use Rattle.rg_follow.specs.Tells.{Tells}
-use Rattle.rg_follow.proofs.Telling.{acts_first, push_append, records_tell}
-use Rattle.rg_lawful.specs.Act.{Act, LogState, state}
-use Rattle.rg_lawful.specs.Act.{Purge, Change, Undo, Commit, RollBack, Switch}
-use Rattle.rg_lawful.specs.Closing.{AreUndos}
-use Rattle.rg_lawful.specs.Consistent.{IsConsistent}
-use Rattle.rg_lawful.specs.Lawful.{Runs}
-use Rattle.rg_lawful.specs.Records.{act_of, act_of_kind, acts_of}
-use Rattle.rg_lawful.specs.Write.{Write, own_of}
+use Rattle.rg_laws_crash.specs.LogChain.Next.{AreNext, IsNext}
+use Rattle.rg_laws_crash.specs.LogChain.Tells.{Tells}
+use Rattle.rg_laws_crash.proofs.LogChainLemmas.Telling.{acts_first, push_append, records_tell}
+use Rattle.rg_laws_log.specs.LogState.Act.{Act, LogState, state}
+use Rattle.rg_laws_log.specs.LogState.Act.{Purge, Change, Undo, Commit, RollBack, Switch}
+use Rattle.rg_laws_log.specs.LogState.Closing.{AreUndos}
+use Rattle.rg_laws_log.specs.LogState.Consistent.{IsConsistent}
+use Rattle.rg_laws_log.specs.LogState.Lawful.{Runs}
+use Rattle.rg_laws_log.specs.LogState.Records.{act_of, act_of_kind, acts_of}
+use Rattle.rg_laws_log.specs.LogState.Write.{Write, own_of}
 use Rattle.rg_space.specs.Space.{capacity_in}
-use Rattle.rg_unended.specs.Unended.{left_of}
+use Rattle.rg_check.specs.OpenUnits.Unended.{left_of}
 use Rattle.rg_engine.specs.Trails.{IsTrail, Trails}
 use Rattle.rg_engine.specs.Undoing.{AreChain}
 use Rattle.rg_engine.specs.Undone.{IsUndoing}

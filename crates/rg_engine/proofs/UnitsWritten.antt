@@ -2,11 +2,11 @@
 use Rattle.std.proofs.Common.{◌≡◌, ◌<◌, ◌≤◌, ◌+◌, ℕ, suc, false, List, [], ◌∷◌, ◌++◌, Option, Some, None, length, set, sym, ◌∙◌, ap, subst, ◌⊎◌, inl, inr, arith}
 use Rattle.rg_home.specs.Able.{IsLive}
 use Rattle.rg_record.specs.declared.record.Record.{Record}
-use Rattle.rg_lawful.specs.Act.{LogState, is_in, step}
-use Rattle.rg_lawful.specs.Act.{Change}
-use Rattle.rg_lawful.specs.Write.{Write, own_of}
-use Rattle.rg_lawful.proofs.Live.{live_same, live_more, live_other}
-use Rattle.rg_lawful.proofs.Own.{own_more, own_other}
+use Rattle.rg_laws_log.specs.LogState.Act.{LogState, is_in, step}
+use Rattle.rg_laws_log.specs.LogState.Act.{Change}
+use Rattle.rg_laws_log.specs.LogState.Write.{Write, own_of}
+use Rattle.rg_laws_log.proofs.LogStateLemmas.Live.{live_same, live_more, live_other}
+use Rattle.rg_laws_log.proofs.LogStateLemmas.Own.{own_more, own_other}
 use Rattle.rg_engine.specs.Shows.{HasSession, UnitShown, UnitsShown}
 use Rattle.rg_engine.specs.Units.{unit_at}
 use Rattle.rg_engine.specs.Walks.{Walks, change_record}

@@ -5,7 +5,7 @@ use Rattle.rg_base.specs.declared.place.Place.{Place}
 use Rattle.rg_base.specs.declared.row.Row.{Row}
 use Rattle.rg_record.specs.declared.record.Kind.TheVariants.{Change}
 use Rattle.rg_record.specs.declared.record.Record.{Record}
-use Rattle.rg_lawful.specs.Write.{Write}
+use Rattle.rg_laws_log.specs.LogState.Write.{Write}
 use Rattle.rg_engine.specs.Walks.{change_record}
 
 -- it says what the write says

@@ -4,18 +4,18 @@ use Rattle.std.specs.Option.{is_some}
 use Rattle.rg_base.specs.declared.control.Answer.{Answer}
 use Rattle.rg_base.specs.declared.options.DrainState.{DrainState}
 use Rattle.rg_base.specs.declared.session.Session.{Session}
-use Rattle.rg_fold.specs.declared.item.Stage.{Stage}
+use Rattle.rg_feed.specs.declared.fold.item.Stage.{Stage}
 use Rattle.rg_log.specs.Kept.{Listed}
 use Rattle.rg_model.specs.State.{State, Table, Utility, row_of}
 use Rattle.rg_model.specs.Turn.{Turn, Runs, Switches, Stops, Falls, turn_of}
 use Rattle.rg_outside.specs.Capacities.{Capacities}
-use Rattle.rg_stage.specs.Booked.{drain_kept}
-use Rattle.rg_stage.specs.Followed.{Followed}
-use Rattle.rg_stage.specs.NumbersOf.{numbers_of}
+use Rattle.rg_rules.specs.Stage.Booked.{drain_kept}
+use Rattle.rg_rules.specs.Stage.Followed.{Followed}
+use Rattle.rg_rules.specs.Stage.NumbersOf.{numbers_of}
 use Rattle.rg_stmt.specs.declared.event.Event.{Event}
-use Rattle.rg_tending.specs.Tending.{aside_for, is_plain}
-use Rattle.rg_tending.proofs.Switching.{goes_unswitched}
-use Rattle.rg_version.specs.Versions.{Epoch}
+use Rattle.rg_laws_utility.specs.TraceStage.Tending.{aside_for, is_plain}
+use Rattle.rg_laws_utility.proofs.TraceStageLemmas.Switching.{goes_unswitched}
+use Rattle.rg_laws_crash.specs.PageVersions.Versions.{Epoch}
 use Rattle.rg_engine.specs.Bytes.{taken_of}
 use Rattle.rg_engine.specs.Aside.{PutsAside}
 use Rattle.rg_engine.specs.Reopens.{IsCleanIn, Reopens}

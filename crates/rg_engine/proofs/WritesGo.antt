@@ -9,7 +9,7 @@ use Rattle.rg_home.specs.Plan.{is_home}
 use Rattle.rg_home.specs.Rows.{row_at}
 use Rattle.rg_home.specs.Slot.{Slot}
 use Rattle.rg_home.specs.declared.plan.Plan.{Plan}
-use Rattle.rg_indexes.specs.Listings.{AreListedAt}
+use Rattle.rg_btree.specs.Indexes.Listings.{AreListedAt}
 use Rattle.rg_model.specs.Held.{holder}
 use Rattle.rg_model.specs.Plain.{is_done, plain_reply, write_key}
 use Rattle.rg_model.specs.Quiet.{names_key}
@@ -19,8 +19,8 @@ use Rattle.rg_stmt.specs.declared.stmt.Reply.{Reply}
 use Rattle.rg_stmt.specs.declared.stmt.Reply.TheVariants.{Done, Full, LogFull, NoMemory}
 use Rattle.rg_stmt.specs.declared.stmt.Stmt.{Stmt}
 use Rattle.rg_stmt.specs.declared.stmt.Stmt.TheVariants.{Insert, Update, Delete}
-use Rattle.rg_lawful.specs.Write.{key_of, write_of}
-use Rattle.rg_lawful.proofs.Tables.{eqb-refl}
+use Rattle.rg_laws_log.specs.LogState.Write.{key_of, write_of}
+use Rattle.rg_laws_log.proofs.LogStateLemmas.Tables.{eqb-refl}
 use Rattle.rg_space.specs.Space.{capacity_in}
 use Rattle.rg_space.specs.declared.fault.SpaceFault.{SpaceFault}
 use Rattle.rg_space.specs.declared.fault.SpaceFault.TheVariants as faults
@@ -30,7 +30,7 @@ use Rattle.rg_engine.specs.Bytes.{most_needed, taken_of}
 use Rattle.rg_engine.specs.Engine.{ground_of, slots_in}
 use Rattle.rg_engine.specs.Planned.{IsRefusal, change_plan, drop_plan, put_plan, refused}
 use Rattle.rg_engine.specs.Shows.{Shows, left_by}
-use Rattle.rg_account.specs.Found.{rows_found, rows_made}
+use Rattle.rg_laws_utility.specs.ByteAccount.Found.{rows_found, rows_made}
 use Rattle.rg_home.specs.Table.{IsTable}
 use Rattle.rg_engine.specs.Moves.{Moves}
 use Rattle.rg_engine.specs.Newest.{KeepsNewest}

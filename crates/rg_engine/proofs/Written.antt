@@ -8,15 +8,15 @@ use Rattle.rg_base.specs.declared.row.Row.{Row}
 use Rattle.rg_base.specs.declared.session.Session.{Session}
 use Rattle.rg_base.specs.declared.which.Which.TheVariants.{Key, Clus, Cat}
 use Rattle.rg_claim.specs.declared.claims.Claims.{Claims}
-use Rattle.rg_claimed.specs.Claim.{claimed_all, holding}
+use Rattle.rg_laws_pages.specs.ByteClaims.Claim.{claimed_all, holding}
 use Rattle.rg_home.specs.Pages.{applied, row_or_empty, slot_of}
 use Rattle.rg_home.specs.Plan.{pages_after}
 use Rattle.rg_home.specs.Rows.{ChangesHome, row_at}
 use Rattle.rg_home.specs.Slot.{Slot}
 use Rattle.rg_home.specs.declared.plan.Plan.{Plan}
 use Rattle.rg_index.specs.Listed.{IsListingOf, SetsRow}
-use Rattle.rg_indexes.specs.Listings.{AreListings, SameEntries}
-use Rattle.rg_indexes.specs.declared.indexes.Indexes.{Indexes}
+use Rattle.rg_btree.specs.Indexes.Listings.{AreListings, SameEntries}
+use Rattle.rg_btree.specs.declared.indexes.indexes.Indexes.{Indexes}
 use Rattle.rg_lock.specs.Taken.{take_key}
 use Rattle.rg_model.specs.Held.{holder}
 use Rattle.rg_model.specs.Plain.{lock_key, write_key}
@@ -26,25 +26,25 @@ use Rattle.rg_stmt.specs.declared.stmt.Reply.TheVariants.{Done}
 use Rattle.rg_stmt.specs.declared.stmt.Stmt.{Stmt}
 use Rattle.rg_model.specs.State.{Locks, State, row_of}
 use Rattle.rg_record.specs.declared.record.Record.{Record}
-use Rattle.rg_lawful.specs.Act.{LogState, state, step}
-use Rattle.rg_lawful.specs.Act.{Change, Purge}
-use Rattle.rg_lawful.specs.Consistent.{IsConsistent}
-use Rattle.rg_lawful.specs.DeskLaws.{DeskWrites, purge_acts}
-use Rattle.rg_lawful.specs.Lawful.{Runs}
-use Rattle.rg_lawful.specs.Records.{acts_of}
-use Rattle.rg_lawful.specs.Write.{Write, key_of, own_of, write_of}
-use Rattle.rg_lawful.proofs.Own.{own_more}
-use Rattle.rg_follow.specs.Next.{AreNext}
+use Rattle.rg_laws_log.specs.LogState.Act.{LogState, state, step}
+use Rattle.rg_laws_log.specs.LogState.Act.{Change, Purge}
+use Rattle.rg_laws_log.specs.LogState.Consistent.{IsConsistent}
+use Rattle.rg_laws_log.specs.LogState.DeskLaws.{DeskWrites, purge_acts}
+use Rattle.rg_laws_log.specs.LogState.Lawful.{Runs}
+use Rattle.rg_laws_log.specs.LogState.Records.{acts_of}
+use Rattle.rg_laws_log.specs.LogState.Write.{Write, key_of, own_of, write_of}
+use Rattle.rg_laws_log.proofs.LogStateLemmas.Own.{own_more}
+use Rattle.rg_laws_crash.specs.LogChain.Next.{AreNext}
 use Rattle.rg_image.specs.Pack.{log_bytes}
 use Rattle.rg_image.specs.Rules.{limit_of}
-use Rattle.rg_within.specs.Within.{IsWithin}
+use Rattle.rg_laws_log.specs.PageBounds.Within.{IsWithin}
 use Rattle.rg_space.specs.Carries.{Carries, PlanNext, cleared}
 use Rattle.rg_space.specs.Space.{Agree, InStep, capacity_in, frames_of, index_of}
 use Rattle.rg_engine.specs.Engine.{HasPages, slots_in}
 use Rattle.rg_space.specs.Memory.{list_seen}
 use Rattle.rg_engine.specs.Shows.{KeyShown, Shows, ShowsBy, UnitsShown, left_by}
 use Rattle.rg_engine.specs.Stored.{IsQuiet, IsSettled}
-use Rattle.rg_account.specs.Found.{rows_found, rows_made}
+use Rattle.rg_laws_utility.specs.ByteAccount.Found.{rows_found, rows_made}
 use Rattle.rg_home.specs.Table.{IsTable}
 use Rattle.rg_engine.specs.Moves.{AreOwn, HaveFound, Moves, rows_before}
 use Rattle.rg_engine.specs.Reopens.{IsCleanIn, KeepsParts}

@@ -1,12 +1,12 @@
 -- What a table over pages can be begun with.
 use Rattle.std.specs.Prelude.{◌≡◌, ◌≤◌, ◌<◌, ◌*◌, ◌^◌, ℕ, suc, List, [], length}
 use Rattle.rg_model.specs.State.{Table, row_count}
-use Rattle.rg_claimed.specs.Claim.{claimed_all, holding}
-use Rattle.rg_follow.specs.Tells.{Tells}
+use Rattle.rg_laws_pages.specs.ByteClaims.Claim.{claimed_all, holding}
+use Rattle.rg_laws_crash.specs.LogChain.Tells.{Tells}
 use Rattle.rg_home.specs.Slot.{Slot}
 use Rattle.rg_image.specs.Rules.{HasSpace, owed}
-use Rattle.rg_lawful.specs.Act.{LogState}
-use Rattle.rg_lawful.specs.Consistent.{IsConsistent}
+use Rattle.rg_laws_log.specs.LogState.Act.{LogState}
+use Rattle.rg_laws_log.specs.LogState.Consistent.{IsConsistent}
 use Rattle.rg_log.specs.Kept.{Listed}
 use Rattle.rg_engine.specs.Stored.{IsSettled, IsStored, StoresCommitted}
 

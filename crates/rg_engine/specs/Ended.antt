@@ -8,9 +8,9 @@ use Rattle.rg_base.specs.declared.session.Session.{Session}
 use Rattle.rg_model.specs.Committed.{locks_without}
 use Rattle.rg_record.specs.declared.record.Kind.TheVariants.{Commit, RolledBack}
 use Rattle.rg_record.specs.declared.record.Record.{Record}
-use Rattle.rg_lawful.specs.Act.{LogState, is_in, not_of, others}
-use Rattle.rg_lawful.specs.Consistent.{stored_of}
-use Rattle.rg_lawful.specs.Write.{NoneHit, at_key, kept_of, own_of}
+use Rattle.rg_laws_log.specs.LogState.Act.{LogState, is_in, not_of, others}
+use Rattle.rg_laws_log.specs.LogState.Consistent.{stored_of}
+use Rattle.rg_laws_log.specs.LogState.Write.{NoneHit, at_key, kept_of, own_of}
 use Rattle.rg_engine.specs.Bytes.{taken_of}
 use Rattle.rg_engine.specs.Newest.{KeepsNewest}
 use Rattle.rg_engine.specs.Stored.{SameBase}

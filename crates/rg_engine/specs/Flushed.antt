@@ -20,12 +20,12 @@ use Rattle.rg_image.specs.Pack.{end_of, start}
 use Rattle.rg_log.specs.Kept.{Listed, log_pages}
 use Rattle.rg_model.specs.State.{State}
 use Rattle.rg_page.specs.Content.{Content, content_at}
-use Rattle.rg_page_bytes.specs.PageBytes.{page_bytes}
+use Rattle.rg_page.specs.Bytes.PageBytes.{page_bytes}
 use Rattle.rg_space.specs.Space.{capacity_in}
 use Rattle.rg_stmt.specs.declared.event.Event.{Event}
 use Rattle.rg_stmt.specs.declared.event.Event.TheVariants.{Clean, Flush, FlushDevice, FlushDown, FlushNoMemory}
-use Rattle.rg_version.specs.Versions.{Spells}
-use Rattle.rg_newest.specs.Tidy.{set_of}
+use Rattle.rg_laws_crash.specs.PageVersions.Versions.{Spells}
+use Rattle.rg_laws_crash.specs.NewestPages.Tidy.{set_of}
 use Rattle.rg_engine.specs.Engine.{seen_in}
 use Rattle.rg_engine.specs.OnVolume.{AreClean, IsLeastDirty, IsOnVolume, SoundThroughout, mark_at}
 use Rattle.rg_engine.specs.Shows.{Shows}

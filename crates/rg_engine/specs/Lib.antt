@@ -1,3 +1,5 @@
+pub mod CopyPages
+pub mod ChangeFeed
 pub mod Units
 pub mod Bytes
 pub mod RecordList

@@ -13,23 +13,23 @@
 use Rattle.std.specs.Prelude.{◌≡◌, ◌++◌, ℕ, true, false, List, [], ◌∷◌, Option, Some, None, length}
 use Rattle.std.specs.FinMap as fin
 use Rattle.std.specs.List.{AllByRecursion}
-use Rattle.rg_account.specs.Found.{rows_found, rows_made}
+use Rattle.rg_laws_utility.specs.ByteAccount.Found.{rows_found, rows_made}
 use Rattle.rg_base.specs.declared.lock.Lock.{Lock}
 use Rattle.rg_base.specs.declared.session.Session.{Session}
 use Rattle.rg_base.specs.declared.row.Row.{Row}
-use Rattle.rg_lawful.specs.Write.{Write}
-use Rattle.rg_changed.specs.Changed.{changes_in, rows_after}
+use Rattle.rg_laws_log.specs.LogState.Write.{Write}
+use Rattle.rg_laws_utility.specs.RecordChanges.Changed.{changes_in, rows_after}
 use Rattle.rg_home.specs.Pages.{slot_of}
 use Rattle.rg_home.specs.Rows.{row_at}
 use Rattle.rg_home.specs.Table.{IsTable}
 use Rattle.rg_model.specs.Changes.{is_write, writes_after}
 use Rattle.rg_model.specs.Quiet.{is_quiet, names_key}
 use Rattle.rg_record.specs.declared.record.Record.{Record}
-use Rattle.rg_sent.specs.Keeps.{AreAbove, IsLoud, MovesRows}
+use Rattle.rg_feed.specs.SentItems.Keeps.{AreAbove, IsLoud, MovesRows}
 use Rattle.rg_stmt.specs.declared.event.Entry.{Entry}
 use Rattle.rg_stmt.specs.declared.stmt.Reply.{Reply}
 use Rattle.rg_stmt.specs.declared.stmt.Stmt.{Stmt}
-use Rattle.rg_tally.specs.Changed.{made_by}
+use Rattle.rg_rules.specs.Tally.Changed.{made_by}
 use Rattle.rg_engine.specs.Engine.{slots_in}
 use Rattle.rg_engine.specs.Units.{unit_at, writes_in}
 use Rattle.rg_engine.specs.Walks.{Walks}

@@ -11,9 +11,9 @@ use Rattle.rg_record.specs.declared.record.Record.{Record}
 use Rattle.rg_space.specs.Memory.{list_seen}
 use Rattle.rg_space.specs.Space.{frames_of}
 use Rattle.rg_space.specs.declared.space.Space.{Space}
-use Rattle.rg_version.specs.Versions.{Epoch}
-use Rattle.rg_newest.specs.Newest.{AreNewest}
-use Rattle.rg_newest.specs.Steady.{IsSteady}
+use Rattle.rg_laws_crash.specs.PageVersions.Versions.{Epoch}
+use Rattle.rg_laws_crash.specs.NewestPages.Newest.{AreNewest}
+use Rattle.rg_laws_crash.specs.NewestPages.Steady.{IsSteady}
 use Rattle.rg_engine.specs.declared.engine.Engine.{Engine}
 
 -- the pages of a space are the newest versions of a log with these records

@@ -31,14 +31,14 @@ use Rattle.rg_page.specs.declared.list.ListFrames.{ListFrames}
 use Rattle.rg_record.specs.declared.record.Record.{Record}
 use Rattle.rg_space.specs.Space.{capacity_in}
 use Rattle.rg_space.specs.declared.space.Space.{Space}
-use Rattle.rg_version.specs.OnImage.{HasPages}
-use Rattle.rg_sound.specs.Reopens.{AreTidyOwners}
-use Rattle.rg_sound.specs.Sound.{IsSound}
-use Rattle.rg_version.specs.Versions.{Epoch, IsBegun, Spells, version}
-use Rattle.rg_switch.specs.Switched.{AreOldPages}
+use Rattle.rg_laws_crash.specs.PageVersions.OnImage.{HasPages}
+use Rattle.rg_laws_crash.specs.SoundVolume.Reopens.{AreTidyOwners}
+use Rattle.rg_laws_crash.specs.SoundVolume.Sound.{IsSound}
+use Rattle.rg_laws_crash.specs.PageVersions.Versions.{Epoch, IsBegun, Spells, version}
+use Rattle.rg_laws_crash.specs.SwitchRecord.Switched.{AreOldPages}
 use Rattle.rg_base.specs.Copies.{other_of}
-use Rattle.rg_newest.specs.Steady.{IsSteady}
-use Rattle.rg_newest.specs.Tidy.{AreTidyPages, set_of, switched_pages}
+use Rattle.rg_laws_crash.specs.NewestPages.Steady.{IsSteady}
+use Rattle.rg_laws_crash.specs.NewestPages.Tidy.{AreTidyPages, set_of, switched_pages}
 use Rattle.rg_engine.specs.Newest.{HasNewest}
 use Rattle.rg_engine.specs.Reopens.{IsCleanIn, PartsReopen}
 use Rattle.rg_engine.specs.Volume.{VolumeSeen, WasTidy}

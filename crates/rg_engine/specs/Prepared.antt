@@ -6,7 +6,7 @@
 --    crash leaves of the set has them.
 -- 3. While the log has no more records, the copy has the rows of the table.
 use Rattle.std.specs.Prelude.{◌≡◌, ◌≤◌, ◌<◌, ◌⊎◌, ℕ, List, Option, Some, None, length, take}
-use Rattle.rg_anew.specs.Writing.{HasFirst, WritesCopy}
+use Rattle.rg_laws_crash.specs.NewCopy.Writing.{HasFirst, WritesCopy}
 use Rattle.rg_base.specs.declared.position.Position.{Position}
 use Rattle.rg_base.specs.declared.which.Which.{Which}
 use Rattle.rg_home.specs.Pages.{slot_of}
@@ -22,16 +22,16 @@ use Rattle.rg_layout.specs.Spots.{spots_of}
 use Rattle.rg_shadow.specs.Shade.{IsRightSideOf, Shade, shade_slots, stage_in}
 use Rattle.rg_shadow.specs.declared.drafts.IndexStage.TheVariants.{Built}
 use Rattle.rg_stmt.specs.declared.layout.Side.{Side}
-use Rattle.rg_switch.specs.Switched.{HasNewCopy, IsPageOfCopy}
+use Rattle.rg_laws_crash.specs.SwitchRecord.Switched.{HasNewCopy, IsPageOfCopy}
 use Rattle.rg_base.specs.Copies.{other_of}
-use Rattle.rg_written.specs.Stamped.{stamped_all}
-use Rattle.rg_written.specs.Written.{LeavesCopy, ReadsCopy}
+use Rattle.rg_engine.specs.CopyPages.Stamped.{stamped_all}
+use Rattle.rg_engine.specs.CopyPages.Written.{LeavesCopy, ReadsCopy}
 use Rattle.rg_engine.specs.Flushed.{ForcesLog}
 use Rattle.rg_engine.specs.declared.engine.Engine.{Engine}
 use Rattle.rg_engine.specs.OnVolume.{WasAllTidy, mark_at}
 use Rattle.rg_engine.specs.Volume.{VolumeSeen}
 use Rattle.rg_engine.specs.declared.prepared.Prepared.{Prepared}
-use Rattle.rg_fold.specs.declared.item.Stage.{Stage}
+use Rattle.rg_feed.specs.declared.fold.item.Stage.{Stage}
 use Rattle.rg_engine.specs.Answers.{forces}
 
 -- what callers see of it: the copy, and how many records the log had when it was written

@@ -4,7 +4,7 @@ use Rattle.rg_base.specs.declared.place.Place.{Place}
 use Rattle.rg_base.specs.declared.row.Row.{Row}
 use Rattle.rg_home.specs.Pages.{slot_of}
 use Rattle.rg_home.specs.Rows.{row_at}
-use Rattle.rg_indexes.specs.Listed.{listed_rows}
+use Rattle.rg_btree.specs.Indexes.Listed.{listed_rows}
 use Rattle.rg_engine.specs.Engine.{slots_in}
 use Rattle.rg_engine.specs.Wrote.{SameEngine}
 use Rattle.rg_engine.specs.declared.engine.Engine.{Engine}

@@ -10,10 +10,10 @@ use Rattle.rg_image.specs.Rules.{copy_capacity}
 use Rattle.rg_home.specs.Owners.{AllBelow}
 use Rattle.rg_log.specs.Kept.{Listed, log_pages}
 use Rattle.rg_outside.specs.Capacities.{Capacities}
-use Rattle.rg_ready.specs.Dead.{DeadNames}
-use Rattle.rg_sound.specs.Reopens.{CanReopen, HasLowOwners}
+use Rattle.rg_laws_pages.specs.UndoRoom.Dead.{DeadNames}
+use Rattle.rg_laws_crash.specs.SoundVolume.Reopens.{CanReopen, HasLowOwners}
 use Rattle.rg_space.specs.Space.{capacity_in}
-use Rattle.rg_version.specs.Versions.{Epoch}
+use Rattle.rg_laws_crash.specs.PageVersions.Versions.{Epoch}
 use Rattle.rg_engine.specs.Engine.{slots_in}
 use Rattle.rg_engine.specs.Newest.{HasNewest}
 use Rattle.rg_engine.specs.Units.{trans_of}

@@ -5,31 +5,31 @@
 -- 2. The rows that the writes of an open unit have found weigh no more than the entries count.
 --    Until the copies are switched, a new copy may have to take no more than they have allowed.
 use Rattle.std.specs.Prelude.{◌≡◌, ◌≤◌, ℕ, Bool, true, false, List, [], ◌∷◌, Option, Some, None, length, take}
-use Rattle.rg_account.specs.Account.{account_of, allowed_of}
-use Rattle.rg_account.specs.Found.{weigh_each}
-use Rattle.rg_account.specs.Reaching.{ReachesBy}
+use Rattle.rg_laws_utility.specs.ByteAccount.Account.{account_of, allowed_of}
+use Rattle.rg_laws_utility.specs.ByteAccount.Found.{weigh_each}
+use Rattle.rg_laws_utility.specs.ByteAccount.Reaching.{ReachesBy}
 use Rattle.rg_base.specs.declared.place.Place.{Place}
 use Rattle.rg_base.specs.declared.row.Row.{Row}
-use Rattle.rg_fold.specs.Fold.{row_in}
-use Rattle.rg_fold.specs.Lawful.{AreRowsOf}
-use Rattle.rg_fold.specs.declared.item.Item.{Item}
-use Rattle.rg_fold.specs.declared.item.Item.TheVariants.{Begin, PageCopy}
-use Rattle.rg_fold.specs.declared.item.Stage.{Stage}
+use Rattle.rg_feed.specs.Fold.Fold.{row_in}
+use Rattle.rg_feed.specs.Fold.Lawful.{AreRowsOf}
+use Rattle.rg_feed.specs.declared.fold.item.Item.{Item}
+use Rattle.rg_feed.specs.declared.fold.item.Item.TheVariants.{Begin, PageCopy}
+use Rattle.rg_feed.specs.declared.fold.item.Stage.{Stage}
 use Rattle.rg_home.specs.Pages.{slot_of}
 use Rattle.rg_home.specs.Rows.{row_at}
 use Rattle.rg_home.specs.Slot.{Slot}
-use Rattle.rg_lawful.specs.Write.{Write}
+use Rattle.rg_laws_log.specs.LogState.Write.{Write}
 use Rattle.rg_model.specs.State.{Table}
 use Rattle.rg_record.specs.declared.record.Kind.{Kind}
 use Rattle.rg_record.specs.declared.record.Kind.TheVariants as kind
 use Rattle.rg_record.specs.declared.record.Record.{Record}
-use Rattle.rg_sending.specs.Sending.{KeepsSent}
+use Rattle.rg_engine.specs.ChangeFeed.Sending.{KeepsSent}
 use Rattle.rg_stmt.specs.declared.event.Entry.{Entry}
 use Rattle.rg_stmt.specs.declared.event.Event.{Event}
 use Rattle.rg_stmt.specs.declared.event.Event.TheVariants.{Started}
 use Rattle.rg_stmt.specs.declared.stmt.Reply.{Reply}
 use Rattle.rg_stmt.specs.declared.stmt.Reply.TheVariants.{Done}
-use Rattle.rg_tally.specs.Changed.{ChangeCount}
+use Rattle.rg_rules.specs.Tally.Changed.{ChangeCount}
 use Rattle.rg_model.specs.Run.{behind}
 use Rattle.rg_engine.specs.Engine.{slots_in}
 use Rattle.rg_engine.specs.Moves.{AreOwn, rows_before}

@@ -16,14 +16,14 @@ use Rattle.rg_base.specs.declared.lock.Lock.{Lock}
 use Rattle.rg_home.specs.Able.{IsLive}
 use Rattle.rg_home.specs.Pages.{slot_of}
 use Rattle.rg_home.specs.Rows.{row_at}
-use Rattle.rg_claimed.specs.Claim.{claimed_all, holding}
-use Rattle.rg_indexes.specs.Listings.{AreListings}
+use Rattle.rg_laws_pages.specs.ByteClaims.Claim.{claimed_all, holding}
+use Rattle.rg_btree.specs.Indexes.Listings.{AreListings}
 use Rattle.rg_record.specs.declared.record.Record.{Record}
-use Rattle.rg_lawful.specs.Act.{Act, LogState, is_in, state}
-use Rattle.rg_lawful.specs.Consistent.{IsConsistent, stored_of}
-use Rattle.rg_lawful.specs.Lawful.{Runs}
-use Rattle.rg_lawful.specs.Records.{acts_of}
-use Rattle.rg_lawful.specs.Write.{HitBy, NoneHit, at_key, own_of}
+use Rattle.rg_laws_log.specs.LogState.Act.{Act, LogState, is_in, state}
+use Rattle.rg_laws_log.specs.LogState.Consistent.{IsConsistent, stored_of}
+use Rattle.rg_laws_log.specs.LogState.Lawful.{Runs}
+use Rattle.rg_laws_log.specs.LogState.Records.{acts_of}
+use Rattle.rg_laws_log.specs.LogState.Write.{HitBy, NoneHit, at_key, own_of}
 use Rattle.rg_model.specs.State.{State, row_of}
 use Rattle.std.specs.FinMap as fin
 use Rattle.rg_space.specs.Space.{capacity_in}

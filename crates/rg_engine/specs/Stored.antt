@@ -7,11 +7,11 @@
 -- 3. A record that is no Commit leaves what is stored as it is.
 use Rattle.std.specs.Prelude.{◌≡◌, ◌≤◌, ◌++◌, ℕ, List, [], ◌∷◌, length, take}
 use Rattle.rg_image.specs.Meaning.{stored}
-use Rattle.rg_lawful.specs.Act.{Act, LogState, state}
-use Rattle.rg_lawful.specs.Act.{Purge, Change, Undo, Commit, RollBack, Switch}
-use Rattle.rg_lawful.specs.Consistent.{stored_of}
-use Rattle.rg_lawful.specs.Lawful.{Runs}
-use Rattle.rg_lawful.specs.Records.{acts_of}
+use Rattle.rg_laws_log.specs.LogState.Act.{Act, LogState, state}
+use Rattle.rg_laws_log.specs.LogState.Act.{Purge, Change, Undo, Commit, RollBack, Switch}
+use Rattle.rg_laws_log.specs.LogState.Consistent.{stored_of}
+use Rattle.rg_laws_log.specs.LogState.Lawful.{Runs}
+use Rattle.rg_laws_log.specs.LogState.Records.{acts_of}
 use Rattle.rg_log.specs.Kept.{Listed}
 use Rattle.rg_model.specs.State.{Table, row_of}
 use Rattle.rg_record.specs.declared.record.Record.{Record}

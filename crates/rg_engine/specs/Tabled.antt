@@ -4,7 +4,7 @@ use Rattle.std.specs.FinMap as map
 use Rattle.rg_base.specs.declared.place.Place.{Place}
 use Rattle.rg_home.specs.Pages.{slot_of}
 use Rattle.rg_home.specs.Rows.{row_at}
-use Rattle.rg_indexes.specs.Listed.{keyed_rows}
+use Rattle.rg_btree.specs.Indexes.Listed.{keyed_rows}
 use Rattle.rg_model.specs.State.{State, Table}
 use Rattle.rg_record.specs.declared.record.Record.{Record}
 use Rattle.rg_stmt.specs.declared.event.Entry.{Entry}

@@ -5,13 +5,13 @@
 -- 2. What is reserved is what ending all open transactions takes and what is set aside for the
 --    utility, and nothing else. The log has room for it.
 use Rattle.std.specs.Prelude.{◌≡◌, ◌≤◌, ◌+◌, ℕ, List, Option, Some}
-use Rattle.rg_follow.specs.Tells.{Tells}
+use Rattle.rg_laws_crash.specs.LogChain.Tells.{Tells}
 use Rattle.rg_image.specs.Rules.{last_position, limit_of, of_tran, owed}
-use Rattle.rg_lawful.specs.Act.{LogState}
-use Rattle.rg_lawful.specs.Write.{own_of}
+use Rattle.rg_laws_log.specs.LogState.Act.{LogState}
+use Rattle.rg_laws_log.specs.LogState.Write.{own_of}
 use Rattle.rg_log.specs.Kept.{Listed}
 use Rattle.rg_record.specs.declared.record.Record.{Record}
-use Rattle.rg_unended.specs.Unended.{left_of}
+use Rattle.rg_check.specs.OpenUnits.Unended.{left_of}
 use Rattle.rg_engine.specs.Bytes.{taken_of}
 use Rattle.rg_engine.specs.Undoing.{AreChain}
 use Rattle.rg_engine.specs.Units.{unit_at}

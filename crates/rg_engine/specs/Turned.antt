@@ -11,13 +11,13 @@ use Rattle.rg_home.specs.Pages.{slot_of}
 use Rattle.rg_image.specs.Kept.{AreEntries}
 use Rattle.rg_image.specs.Log.{SpellsFrom}
 use Rattle.rg_image.specs.Pack.{end_of, start}
-use Rattle.rg_indexes.specs.Listings.{AreListings}
+use Rattle.rg_btree.specs.Indexes.Listings.{AreListings}
 use Rattle.rg_home.specs.Owners.{AllBelow}
 use Rattle.rg_outside.specs.Moments.{EachImage, HoldsThroughout}
 use Rattle.rg_shadow.specs.Shade.{Shade, home_rows, shade_slots}
 use Rattle.rg_space.specs.Memory.{list_seen}
 use Rattle.rg_space.specs.Space.{capacity_in, frames_of}
-use Rattle.rg_switch.specs.Switched.{switch_to}
+use Rattle.rg_laws_crash.specs.SwitchRecord.Switched.{switch_to}
 use Rattle.rg_engine.specs.Bytes.{taken_of}
 use Rattle.rg_engine.specs.Engine.{HasPages, seen_in}
 use Rattle.rg_engine.specs.Volume.{CallsLog, Leaves, VolumeSeen}

@@ -7,8 +7,8 @@ use Rattle.rg_base.specs.declared.place.Place.{Place}
 use Rattle.rg_base.specs.declared.row.Row.{Row}
 use Rattle.rg_home.specs.Undo.{undone}
 use Rattle.rg_index.specs.Listed.{SetsRow}
-use Rattle.rg_indexes.specs.Listings.{AreListedAt, AreListings, HasSpare}
-use Rattle.rg_lawful.specs.Write.{Write}
+use Rattle.rg_btree.specs.Indexes.Listings.{AreListedAt, AreListings, HasSpare}
+use Rattle.rg_laws_log.specs.LogState.Write.{Write}
 use Rattle.rg_record.specs.declared.record.Kind.{Kind}
 use Rattle.rg_record.specs.declared.record.Kind.TheVariants.{Change, Undo, Commit, RolledBack, Purge, Switch}
 use Rattle.rg_record.specs.declared.record.Record.{Record}

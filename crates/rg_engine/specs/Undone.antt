@@ -1,19 +1,19 @@
 -- A unit's writes, undone so far.
 use Rattle.std.specs.Prelude.{◌≡◌, ◌≤◌, ◌+◌, ◌*◌, ℕ, List, [], ◌++◌, length}
-use Rattle.rg_follow.specs.Next.{AreNext}
+use Rattle.rg_laws_crash.specs.LogChain.Next.{AreNext}
 use Rattle.rg_home.specs.Pages.{slot_of}
 use Rattle.rg_home.specs.Rows.{row_at}
 use Rattle.rg_image.specs.Rules.{last_position, of_tran, owed}
-use Rattle.rg_indexes.specs.Listings.{AreListings, HasSpare}
-use Rattle.rg_lawful.specs.Act.{Act, LogState, state}
-use Rattle.rg_lawful.specs.Closing.{AreUndos}
-use Rattle.rg_lawful.specs.Lawful.{Runs}
-use Rattle.rg_lawful.specs.Records.{acts_of}
-use Rattle.rg_lawful.specs.Write.{own_of}
+use Rattle.rg_btree.specs.Indexes.Listings.{AreListings, HasSpare}
+use Rattle.rg_laws_log.specs.LogState.Act.{Act, LogState, state}
+use Rattle.rg_laws_log.specs.LogState.Closing.{AreUndos}
+use Rattle.rg_laws_log.specs.LogState.Lawful.{Runs}
+use Rattle.rg_laws_log.specs.LogState.Records.{acts_of}
+use Rattle.rg_laws_log.specs.LogState.Write.{own_of}
 use Rattle.rg_model.specs.State.{State}
 use Rattle.rg_record.specs.declared.record.Record.{Record}
 use Rattle.rg_space.specs.Space.{capacity_in, undos_in}
-use Rattle.rg_unended.specs.Unended.{left_of}
+use Rattle.rg_check.specs.OpenUnits.Unended.{left_of}
 use Rattle.rg_engine.specs.Bytes.{taken_of}
 use Rattle.rg_engine.specs.Engine.{HasPages, slots_in}
 use Rattle.rg_engine.specs.Newest.{KeepsNewest}

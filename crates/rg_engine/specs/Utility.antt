@@ -12,18 +12,18 @@ use Rattle.rg_base.specs.declared.options.DrainState.{DrainState}
 use Rattle.rg_base.specs.declared.options.DrainState.TheVariants.{Free}
 use Rattle.rg_base.specs.declared.options.Options.{Options}
 use Rattle.rg_base.specs.declared.session.Session.{Session}
-use Rattle.rg_fold.specs.declared.item.Stage.{Stage}
+use Rattle.rg_feed.specs.declared.fold.item.Stage.{Stage}
 use Rattle.rg_log.specs.Kept.{left_of}
 use Rattle.rg_model.specs.State.{State}
 use Rattle.rg_model.specs.Turn.{Turn, turn_of}
 use Rattle.rg_model.specs.Utility.{new_utility}
-use Rattle.rg_stage.specs.Booked.{drain_kept}
-use Rattle.rg_stage.specs.Bounded.{KeepsBounds}
-use Rattle.rg_stage.specs.Followed.{Followed}
-use Rattle.rg_stage.specs.NumbersOf.{numbers_of}
+use Rattle.rg_rules.specs.Stage.Booked.{drain_kept}
+use Rattle.rg_rules.specs.Stage.Bounded.{KeepsBounds}
+use Rattle.rg_rules.specs.Stage.Followed.{Followed}
+use Rattle.rg_rules.specs.Stage.NumbersOf.{numbers_of}
 use Rattle.rg_stmt.specs.declared.event.Event.{Event}
 use Rattle.rg_stmt.specs.declared.event.Event.TheVariants as events
-use Rattle.rg_tending.specs.Tending.{aside_for}
+use Rattle.rg_laws_utility.specs.TraceStage.Tending.{aside_for}
 use Rattle.rg_engine.specs.Bytes.{taken_of}
 use Rattle.rg_engine.specs.Engine.{seen_in}
 use Rattle.rg_engine.specs.Aside.{PutsAside}
@@ -32,7 +32,7 @@ use Rattle.rg_engine.specs.Reopens.{IsCleanIn, KeepsParts}
 use Rattle.rg_engine.specs.Shows.{Shows}
 use Rattle.rg_engine.specs.declared.engine.Engine.{Engine}
 use Rattle.rg_model.specs.Changes.{changes}
-use Rattle.rg_tally.specs.Changed.{ChangeCount}
+use Rattle.rg_rules.specs.Tally.Changed.{ChangeCount}
 
 -- a utility that has done nothing
 abbrev pub IsNew : Options → (pages : ℕ) → Option Stage → Type 0

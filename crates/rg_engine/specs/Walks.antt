@@ -5,7 +5,7 @@
 use Rattle.std.specs.Prelude.{◌≡◌, ◌<◌, ℕ, List, [], ◌∷◌, Some}
 use Rattle.rg_record.specs.declared.record.Kind.TheVariants.{Change}
 use Rattle.rg_record.specs.declared.record.Record.{Record}
-use Rattle.rg_lawful.specs.Write.{Write}
+use Rattle.rg_laws_log.specs.LogState.Write.{Write}
 use Rattle.rg_engine.specs.RecordList.{record_at}
 
 -- the Change record of a write

@@ -11,12 +11,12 @@ use Rattle.rg_base.specs.declared.session.Session.{Session}
 use Rattle.rg_home.specs.declared.plan.Plan.{Plan}
 use Rattle.rg_home.specs.Pages.{applied, row_or_empty}
 use Rattle.rg_index.specs.Listed.{SetsRow}
-use Rattle.rg_indexes.specs.Listings.{AreListings, HasSpare, SameEntries}
+use Rattle.rg_btree.specs.Indexes.Listings.{AreListings, HasSpare, SameEntries}
 use Rattle.rg_lock.specs.Taken.{take_key}
 use Rattle.rg_log.specs.Kept.{left_of}
 use Rattle.rg_record.specs.declared.record.Kind.TheVariants.{Purge}
 use Rattle.rg_record.specs.declared.record.Record.{Record}
-use Rattle.rg_lawful.specs.Write.{write_of}
+use Rattle.rg_laws_log.specs.LogState.Write.{write_of}
 use Rattle.rg_stmt.specs.declared.stmt.Reply.{Reply}
 use Rattle.rg_stmt.specs.declared.stmt.Reply.TheVariants.{Done, LogFull, NoMemory}
 use Rattle.rg_space.specs.Carries.{Carries, cleared}

@@ -11,7 +11,7 @@ ghost use Rattle.rg_engine.specs.Wrote.{SameEngine};
 use crate::engine::Engine;
 use rg_base::no_memory::NoMemory;
 use rg_base::position::Position;
-use rg_fold::item::Item;
+use rg_feed::fold::item::Item;
 use rg_unload::unload::unload;
 
 // How many rows a copy has.

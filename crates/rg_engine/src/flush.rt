@@ -9,8 +9,8 @@ ghost use Rattle.std.specs.Prelude.{◌≡◌, ◌≤◌, ℕ, OnErr, OnOk, leng
 ghost use Rattle.rg_log.specs.Kept.{log_pages};
 ghost use Rattle.rg_outside.specs.Faults.{Rose};
 ghost use Rattle.rg_page.specs.Content.{Content, content_at};
-ghost use Rattle.rg_newest.specs.Tidy.{set_of};
-ghost use Rattle.rg_version.specs.Versions.{Spells};
+ghost use Rattle.rg_laws_crash.specs.NewestPages.Tidy.{set_of};
+ghost use Rattle.rg_laws_crash.specs.PageVersions.Versions.{Spells};
 ghost use Rattle.rg_engine.specs.Engine.{HasPages, seen_in};
 ghost use Rattle.rg_engine.specs.Flushed.{Flushes, ForcesLog};
 ghost use Rattle.rg_engine.specs.OnVolume.{IsLeastDirty, IsNextDirty, IsOnVolume, is_clean};

@@ -5,14 +5,14 @@
 ghost use Rattle.std.specs.Prelude.{◌≡◌, ◌≤◌, [], IfOk, length};
 ghost use Rattle.rg_home.specs.Pages.{slot_of};
 ghost use Rattle.rg_home.specs.Rows.{row_at};
-ghost use Rattle.rg_indexes.specs.Listings.{AreListings};
+ghost use Rattle.rg_btree.specs.Indexes.Listings.{AreListings};
 ghost use Rattle.rg_space.specs.Space.{Agree, InStep, capacity_in, frames_of, index_of};
 ghost use Rattle.rg_engine.specs.Begins.{CanBegin};
 ghost use Rattle.rg_space.specs.Memory.{list_seen, space_pages};
 
 use rg_base::no_memory::NoMemory;
 use rg_base::position::Position;
-use rg_indexes::indexes::Indexes;
+use rg_btree::indexes::indexes::Indexes;
 use rg_log::log::Log;
 use rg_page::list::ListFrames;
 use rg_space::space::Space;

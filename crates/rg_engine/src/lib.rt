@@ -43,3 +43,7 @@ pub mod units;
 pub mod utility;
 /// INSERT, UPDATE and DELETE.
 pub mod writes;
+/// How the pages of a new copy of the table are written to its set.
+pub mod copy_pages;
+/// What a desk sends to a utility of the records that it appends.
+pub mod change_feed;

@@ -6,16 +6,17 @@ ghost use Rattle.std.specs.Prelude.{◌≡◌, ◌≤◌, IfOk, IfSome, None, Er
 ghost use Rattle.rg_claim.specs.Drains.{GrantIsKept};
 ghost use Rattle.rg_shadow.specs.Planned.{AreNumbered, AreOfCopy};
 ghost use Rattle.rg_log.specs.Kept.{log_pages};
-ghost use Rattle.rg_newest.specs.Tidy.{set_of};
+ghost use Rattle.rg_laws_crash.specs.NewestPages.Tidy.{set_of};
 ghost use Rattle.rg_outside.specs.Capacities.{capacity_of};
 ghost use Rattle.rg_outside.specs.Faults.{Rose};
-ghost use Rattle.rg_written.specs.Stamped.{stamped_all};
+ghost use Rattle.rg_engine.specs.CopyPages.Stamped.{stamped_all};
 ghost use Rattle.rg_engine.specs.Prepared.{shade_kept};
 ghost use Rattle.rg_engine.specs.Flushed.{FitsSet};
 ghost use Rattle.rg_engine.specs.Prepared.{AreMarksAt, IsBuilt, IsSideOfKept, IsWritten};
 ghost use Rattle.rg_engine.specs.Prepared.{WritesShadow, WroteShadow, prepared_seen};
 ghost use Rattle.rg_engine.specs.Volume.{seen_volume};
 
+use crate::copy_pages::write::write_copy;
 use crate::engine::Engine;
 use rg_base::no_memory::NoMemory;
 use rg_base::position::Position;
@@ -23,7 +24,6 @@ use rg_log::fault::Device;
 use rg_outside::volume::Volume;
 use rg_shadow::shadow::Shadow;
 use rg_stmt::layout::Side;
-use rg_written::write::write_copy;
 use std::alloc::Global;
 
 /// A new copy that was written to the other set, the mark of each of its pages, and how many

@@ -11,13 +11,13 @@ ghost use Rattle.rg_base.specs.Session.{IsSession};
 ghost use Rattle.rg_model.specs.Claims.{claims_with, classes_needed, is_kept_out};
 ghost use Rattle.rg_model.specs.Plain.{is_done};
 ghost use Rattle.rg_log.specs.Kept.{log_pages};
-ghost use Rattle.rg_changed.specs.Changed.{changes_in};
+ghost use Rattle.rg_laws_utility.specs.RecordChanges.Changed.{changes_in};
 ghost use Rattle.rg_engine.specs.Answers.{Answers, Asks, classes_in, forces};
 ghost use Rattle.rg_engine.specs.Shows.{IsShown};
 ghost use Rattle.rg_engine.specs.Steps.{IfUp, Steps, is_commit};
 ghost use Rattle.rg_engine.specs.Volume.{seen_volume};
 ghost use Rattle.rg_feed.specs.Ends.{sent_items};
-ghost use Rattle.rg_sending.specs.Sending.{AddsChanges, items_made};
+ghost use Rattle.rg_engine.specs.ChangeFeed.Sending.{AddsChanges, items_made};
 
 use crate::engine::Engine;
 use crate::send::{is_ok, send_since};

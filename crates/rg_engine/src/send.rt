@@ -8,8 +8,8 @@
 //    the write found there.
 ghost use Rattle.std.specs.Prelude.{◌≡◌, ◌++◌, ◌∷◌, [], ◌≤◌, true, false, drop, List, length, IfOk, OnErr};
 ghost use Rattle.std.specs.Option.{option_copied};
-ghost use Rattle.rg_changed.specs.Changed.{changes_in, rows_after};
-ghost use Rattle.rg_account.specs.Found.{rows_made};
+ghost use Rattle.rg_laws_utility.specs.RecordChanges.Changed.{changes_in, rows_after};
+ghost use Rattle.rg_laws_utility.specs.ByteAccount.Found.{rows_made};
 ghost use Rattle.rg_engine.specs.Moves.{AreOwn, rows_before};
 ghost use Rattle.rg_engine.specs.Sends.{before_in, is_ok};
 ghost use Rattle.rg_engine.specs.Shows.{IsShown};
@@ -18,10 +18,11 @@ ghost use Rattle.rg_engine.specs.Undoing.{HasWrites};
 ghost use Rattle.rg_engine.specs.Units.{unit_at};
 ghost use Rattle.rg_engine.specs.Walks.{Walks};
 ghost use Rattle.rg_feed.specs.Ends.{SameSent, sent_items};
-ghost use Rattle.rg_lawful.specs.Write.{Write};
-ghost use Rattle.rg_sending.specs.Sending.{items_made};
+ghost use Rattle.rg_laws_log.specs.LogState.Write.{Write};
+ghost use Rattle.rg_engine.specs.ChangeFeed.Sending.{items_made};
 ghost use Rattle.rg_stmt.specs.declared.stmt.Reply.TheVariants.{Done};
 
+use crate::change_feed::send::send_changes;
 use crate::engine::Engine;
 use crate::records::record_at;
 use crate::units::OpenUnit;
@@ -31,7 +32,6 @@ use rg_base::session::Session;
 use rg_feed::outlet::FeedOut;
 use rg_log::log::Log;
 use rg_record::record::{Kind, Record};
-use rg_sending::send::send_changes;
 use rg_stmt::stmt::{Reply, Stmt};
 use std::alloc::Global;
 use std::collections::VecDeque;

@@ -17,7 +17,7 @@ use crate::engine::Engine;
 use crate::records::{append, next_position};
 use rg_base::position::Position;
 use rg_base::tran::Tran;
-use rg_indexes::indexes::Indexes;
+use rg_btree::indexes::indexes::Indexes;
 use rg_log::fault::Device;
 use rg_outside::volume::Volume;
 use rg_page::list::ListFrames;

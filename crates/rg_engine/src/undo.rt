@@ -5,7 +5,7 @@
 // 2. The latest is undone first. Each undo is a record of its own.
 ghost use Rattle.std.specs.Prelude.{◌≡◌, ◌≤◌, ◌+◌, ◌++◌, ◌∷◌, [], true, List, Some, IfOk, OnOk, OnErr, length};
 ghost use Rattle.rg_record.specs.Spelled.{IsRecord};
-ghost use Rattle.rg_lawful.specs.Write.{Write};
+ghost use Rattle.rg_laws_log.specs.LogState.Write.{Write};
 ghost use Rattle.rg_engine.specs.Bytes.{taken_of};
 ghost use Rattle.rg_engine.specs.Undoing.{AreChain, CanUndoNext, CanUnlist, HasWrites, KeepsUndone};
 ghost use Rattle.rg_engine.specs.Undoing.{UndidNext, Unlists, change_in, is_undo};

@@ -8,10 +8,10 @@
 ghost use Rattle.std.specs.Prelude.{◌≡◌, Some, true, is_some};
 ghost use Rattle.rg_model.specs.Claims.{least_holder};
 ghost use Rattle.rg_model.specs.Turn.{turn_of};
-ghost use Rattle.rg_stage.specs.Booked.{drain_kept};
-ghost use Rattle.rg_stage.specs.Bounded.{SomeBounded};
-ghost use Rattle.rg_stage.specs.NumbersOf.{numbers_of};
-ghost use Rattle.rg_tending.specs.Tending.{MayDrain, aside_for, is_plain};
+ghost use Rattle.rg_rules.specs.Stage.Booked.{drain_kept};
+ghost use Rattle.rg_rules.specs.Stage.Bounded.{SomeBounded};
+ghost use Rattle.rg_rules.specs.Stage.NumbersOf.{numbers_of};
+ghost use Rattle.rg_laws_utility.specs.TraceStage.Tending.{MayDrain, aside_for, is_plain};
 ghost use Rattle.rg_model.specs.Utility.{starts_utility};
 ghost use Rattle.rg_engine.specs.Utility.{started_count};
 ghost use Rattle.rg_engine.specs.Shows.{IsShown};
@@ -20,12 +20,12 @@ ghost use Rattle.rg_engine.specs.Utility.{StartIs, StepsOn};
 use crate::engine::Engine;
 use rg_base::control::Answer;
 use rg_base::options::{DrainState, Options};
-use rg_fold::item::Stage;
+use rg_feed::fold::item::Stage;
 use rg_log::fault::ReserveFault;
-use rg_stage::follow::next_stage;
-use rg_stage::start::started;
+use rg_rules::stage::follow::next_stage;
+use rg_rules::stage::start::started;
+use rg_rules::tally::changes::Changes;
 use rg_stmt::event::Event;
-use rg_tally::changes::Changes;
 
 /// The event of a control statement. The utility that it starts has this stage from then on.
 pub fn start_utility(

@@ -9,7 +9,7 @@ ghost use Rattle.rg_base.specs.declared.place.Place.{Place};
 ghost use Rattle.rg_home.specs.Pages.{slot_of};
 ghost use Rattle.rg_home.specs.Plan.{is_home};
 ghost use Rattle.rg_index.specs.Entries.{has_entry};
-ghost use Rattle.rg_indexes.specs.Listings.{entries_of};
+ghost use Rattle.rg_btree.specs.Indexes.Listings.{entries_of};
 ghost use Rattle.rg_model.specs.Held.{holder};
 ghost use Rattle.rg_engine.specs.Engine.{HasPages, slots_in};
 ghost use Rattle.rg_engine.specs.Planned.{IsHanded, IsRefusal, change_plan, drop_plan, put_plan};

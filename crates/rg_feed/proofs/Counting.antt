@@ -1,8 +1,8 @@
 -- Pieces of lists, one item more, and what was received, counted.
 use Rattle.std.proofs.Common.{◌≡◌, ℕ, ◌+◌, ◌<◌, zero, suc, List, [], ◌∷◌, ◌++◌, refl, sym, ◌∙◌, ap, drop, take, length, arith, length-append, add-one, append_assoc}
-use Rattle.rg_fold.specs.declared.item.Item.{Item}
-use Rattle.rg_fold.specs.declared.item.Item.TheVariants.{Begin, PageCopy, Booked}
-use Rattle.rg_fold.specs.declared.item.Item.TheVariants as items
+use Rattle.rg_feed.specs.declared.fold.item.Item.{Item}
+use Rattle.rg_feed.specs.declared.fold.item.Item.TheVariants.{Begin, PageCopy, Booked}
+use Rattle.rg_feed.specs.declared.fold.item.Item.TheVariants as items
 use Rattle.rg_feed.specs.Ends.{Grew, Joined, Pumped, Received, Sent, sent_items, still_taken, waiting}
 
 take_suc : {A : Type 0} (k : ℕ) (xs : List A) → take (suc k) xs ≡ take k xs ++ take 1 (drop k xs)

@@ -5,12 +5,12 @@ use Rattle.rg_base.specs.declared.options.Options.{Options}
 use Rattle.rg_base.specs.declared.place.Place.{Place}
 use Rattle.rg_base.specs.declared.position.Position.{Position}
 use Rattle.rg_base.specs.declared.row.Row.{Row}
-use Rattle.rg_fold.specs.Fold.{changes, page_copies, since_begin, stage_from}
-use Rattle.rg_fold.specs.declared.item.Item.{Item}
-use Rattle.rg_fold.specs.declared.item.Item.TheVariants.{Begin, PageCopy, Booked}
-use Rattle.rg_fold.specs.declared.item.Item.TheVariants as items
-use Rattle.rg_fold.specs.declared.item.Stage.{Stage}
-use Rattle.rg_fold.proofs.Folds.{changes-append, page_copies-append, since-append}
+use Rattle.rg_feed.specs.Fold.Fold.{changes, page_copies, since_begin, stage_from}
+use Rattle.rg_feed.specs.declared.fold.item.Item.{Item}
+use Rattle.rg_feed.specs.declared.fold.item.Item.TheVariants.{Begin, PageCopy, Booked}
+use Rattle.rg_feed.specs.declared.fold.item.Item.TheVariants as items
+use Rattle.rg_feed.specs.declared.fold.item.Stage.{Stage}
+use Rattle.rg_feed.proofs.FoldLemmas.Folds.{changes-append, page_copies-append, since-append}
 use Rattle.rg_feed.specs.Ends.{Keeps, taken_of}
 
 append_nil : {A : Type 0} (xs : List A) → xs ++ [] ≡ xs

@@ -1,3 +1,5 @@
+pub mod FoldLemmas
+pub mod SentItemsLemmas
 pub mod Keeping
 pub mod Passing
 pub mod Counting

@@ -3,14 +3,14 @@ use Rattle.std.proofs.Common.{◌≡◌, ◌==◌, ◌&&◌, ◌||◌, ℕ, ◌+
 use Rattle.std.proofs.lemmas.Bool.{and_parts, eqb-true, ne_eqb}
 use Rattle.std.proofs.lemmas.List.{at_drop_more}
 use Rattle.rg_base.specs.declared.change.Change.{Change}
-use Rattle.rg_fold.specs.Fold.{page_copies}
-use Rattle.rg_fold.specs.Lawful.{passes_over}
+use Rattle.rg_feed.specs.Fold.Fold.{page_copies}
+use Rattle.rg_feed.specs.Fold.Lawful.{passes_over}
 use Rattle.rg_base.specs.declared.place.Place.{Place}
 use Rattle.rg_base.specs.declared.position.Position.{Position}
 use Rattle.rg_base.specs.declared.row.Row.{Row}
-use Rattle.rg_fold.specs.declared.item.Item.{Item}
-use Rattle.rg_fold.specs.declared.item.Item.TheVariants.{Begin, PageCopy, Booked}
-use Rattle.rg_fold.specs.declared.item.Item.TheVariants as items
+use Rattle.rg_feed.specs.declared.fold.item.Item.{Item}
+use Rattle.rg_feed.specs.declared.fold.item.Item.TheVariants.{Begin, PageCopy, Booked}
+use Rattle.rg_feed.specs.declared.fold.item.Item.TheVariants as items
 use Rattle.rg_feed.specs.Ends.{are_numbered}
 
 pub of_copies : (change : Change) (feed : List Item) → passes_over (page_copies feed) change ≡ passes_over feed change

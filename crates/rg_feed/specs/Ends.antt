@@ -6,10 +6,10 @@
 --     it is 0 again after a Begin.
 use Rattle.std.specs.Prelude.{◌≡◌, ◌==◌, ◌&&◌, ℕ, ◌+◌, ◌-◌, Bool, true, false, List, [], ◌∷◌, ◌++◌, Option, length, take, drop}
 use Rattle.rg_base.specs.declared.change.Change.{Change}
-use Rattle.rg_fold.specs.Fold.{changes, page_copies, since_begin, stage_of}
-use Rattle.rg_fold.specs.declared.item.Item.{Item}
-use Rattle.rg_fold.specs.declared.item.Item.TheVariants.{Begin, PageCopy}
-use Rattle.rg_fold.specs.declared.item.Stage.{Stage}
+use Rattle.rg_feed.specs.Fold.Fold.{changes, page_copies, since_begin, stage_of}
+use Rattle.rg_feed.specs.declared.fold.item.Item.{Item}
+use Rattle.rg_feed.specs.declared.fold.item.Item.TheVariants.{Begin, PageCopy}
+use Rattle.rg_feed.specs.declared.fold.item.Stage.{Stage}
 use Rattle.rg_feed.specs.Ring.{Ring}
 
 -- the outlet: the items in the ring or taken out of it, those pending, how many slots of the ring

@@ -1,2 +1,4 @@
+pub mod Fold
+pub mod SentItems
 pub mod Ring
 pub mod Ends

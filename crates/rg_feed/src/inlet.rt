@@ -12,14 +12,14 @@
 ghost use Rattle.std.specs.Prelude.{◌≡◌, ◌==◌, ◌&&◌, ◌^◌, true, ◌++◌, [], ◌∷◌, ◌+◌, ◌≤◌, ◌<◌, None, drop, take, length, MatchOption, OnOk, OnErr, IfOk};
 ghost use mathlib.Core.List.{IsPrefix};
 ghost use Rattle.rtrb.specs.Ring.{consumer_capacity, received};
-ghost use Rattle.rg_fold.specs.Fold.{changes, page_copies, since_begin, stage_of};
-ghost use Rattle.rg_fold.specs.Lawful.{passes_over};
+ghost use Rattle.rg_feed.specs.Fold.Fold.{changes, page_copies, since_begin, stage_of};
+ghost use Rattle.rg_feed.specs.Fold.Lawful.{passes_over};
 ghost use Rattle.rg_feed.specs.Ends.{SameReceived, are_numbered, still_taken};
 ghost use Rattle.rg_feed.specs.Ring.{receiving_ring};
 
+use crate::fold::item::{Item, Stage};
 use rg_base::change::Change;
 use rg_base::no_memory::NoMemory;
-use rg_fold::item::{Item, Stage};
 use rtrb::{AnyItems, Consumer};
 use std::alloc::Global;
 use std::collections::VecDeque;

@@ -9,5 +9,9 @@ pub mod hand_over;
 pub mod inlet;
 /// The sending end.
 pub mod outlet;
+/// The feed's items, and what they leave of each row, without running anything.
+pub mod fold;
+/// What a desk keeps of the items that it has sent to a utility.
+pub mod sent_items;
 #[cfg(test)]
 mod tests;

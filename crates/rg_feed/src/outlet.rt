@@ -11,8 +11,8 @@ ghost use Rattle.rtrb.specs.Ring.{producer_capacity, sent};
 ghost use Rattle.rg_feed.specs.Ends.{Pumped, SameSent, sent_items};
 ghost use Rattle.rg_feed.specs.Ring.{sending_ring};
 
+use crate::fold::item::Item;
 use rg_base::no_memory::NoMemory;
-use rg_fold::item::Item;
 use rtrb::{AnyItems, Producer};
 use std::alloc::Global;
 use std::collections::VecDeque;

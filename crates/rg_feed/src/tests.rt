@@ -1,6 +1,7 @@
 ghost use Rattle.std.specs.Prelude.{◌≡◌, ◌+◌, ◌^◌, ◌<◌};
 
 use crate::ends::{beside, feed};
+use crate::fold::item::{Item, Stage};
 use crate::hand_over::hand_over;
 use crate::inlet::FeedIn;
 use crate::outlet::FeedOut;
@@ -11,7 +12,6 @@ use rg_base::no_memory::NoMemory;
 use rg_base::options::{DrainFor, DrainState, Options};
 use rg_base::place::Place;
 use rg_base::position::Position;
-use rg_fold::item::{Item, Stage};
 use std::alloc::Global;
 use std::test::Fail;
 

@@ -11,10 +11,10 @@ use Rattle.rg_model.specs.State.{State, Table}
 use Rattle.rg_model.proofs.RunPush.{behind}
 use Rattle.rg_judge.specs.Refused.{IsFirstRefused, IsSound, is_nil, states_begun}
 use Rattle.rg_judge.specs.StateOf.{state_of}
-use Rattle.rg_tally.specs.Tallied.{IsTallied, tally_after}
+use Rattle.rg_rules.specs.Tally.Tallied.{IsTallied, tally_after}
 use Rattle.rg_judge.specs.declared.possibility.Possibility.{Possibility}
-use Rattle.rg_tally.specs.declared.tally.Tally.{Tally}
-use Rattle.rg_tally.proofs.Tallies.{tallied-goes}
+use Rattle.rg_rules.specs.declared.tally.tally.Tally.{Tally}
+use Rattle.rg_rules.proofs.TallyLemmas.Tallies.{tallied-goes}
 
 -- one state's successors, behind those of the states before it
 pub advanced : (done one two left next total : List State) → (one ++ two) ≡ next → done ++ (next ++ left) ≡ total → ((done ++ one) ++ two) ++ left ≡ total

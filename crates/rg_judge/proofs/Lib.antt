@@ -1,3 +1,5 @@
+pub mod TableLemmas
+pub mod LayoutsLemmas
 pub mod Exactly
 pub mod Judging
 pub mod Unclaimed

@@ -1,2 +1,5 @@
+pub mod Table
+pub mod Turn
+pub mod Layouts
 pub mod StateOf
 pub mod Refused

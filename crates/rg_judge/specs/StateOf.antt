@@ -2,7 +2,7 @@
 use Rattle.std.specs.Option.{option_map}
 use Rattle.rg_model.specs.State.{State}
 use Rattle.rg_judge.specs.declared.possibility.Possibility.{Possibility}
-use Rattle.rg_turn.specs.UtilityOf.{utility_of}
+use Rattle.rg_judge.specs.Turn.UtilityOf.{utility_of}
 
 -- a state
 abbrev pub state_of : Possibility → State

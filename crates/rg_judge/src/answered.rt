@@ -20,8 +20,8 @@ use crate::walk::has_locks;
 use rg_base::no_memory::NoMemory;
 use rg_base::session::Session;
 use rg_model::plain::parts::is_done;
+use rg_rules::tally::tally::may_want_log;
 use rg_stmt::stmt::{Reply, Stmt};
-use rg_tally::tally::may_want_log;
 use std::alloc::Global;
 
 fn may_want_memory(stmt: &Stmt) -> bool

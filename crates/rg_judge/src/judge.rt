@@ -10,7 +10,7 @@ ghost use Rattle.std.specs.Option.{option_map};
 ghost use Rattle.rg_judge.specs.Refused.{IsFirstRefused, IsJudged, IsSound, is_nil};
 ghost use Rattle.rg_judge.specs.Refused.{states_begun};
 ghost use Rattle.rg_judge.specs.StateOf.{state_of};
-ghost use Rattle.rg_tally.specs.Tallied.{IsTallied};
+ghost use Rattle.rg_rules.specs.Tally.Tallied.{IsTallied};
 ghost use Rattle.rg_model.specs.Legal.{IsActor, Legal, asks};
 ghost use Rattle.rg_model.specs.Possible.{one_state, states_after, states_before};
 ghost use Rattle.rg_stmt.specs.declared.event.Entry as entries;
@@ -18,12 +18,12 @@ ghost use Rattle.rg_stmt.specs.declared.event.Entry as entries;
 use crate::next::judge_entry;
 use crate::opened::rest;
 use crate::possibility::Possibility;
+use crate::table::cat_table::CatTable;
 use rg_base::no_memory::NoMemory;
 use rg_base::table::Table;
-use rg_cats::cat_table::CatTable;
 use rg_model::plain::walks::copy_table;
+use rg_rules::tally::tally::Tally;
 use rg_stmt::event::{Actor, Entry, Event};
-use rg_tally::tally::Tally;
 use std::alloc::Global;
 
 // Whoever makes an entry has a number that a session can have, if it is a session.

@@ -25,3 +25,9 @@ pub mod step;
 pub mod unit;
 /// Walks over locks.
 pub mod walk;
+/// A table whose rows are also found by their `cat`.
+pub mod table;
+/// Says of each event whether it is a running utility's next, and what it leaves.
+pub mod turn;
+/// Says whether the layout of a copy is right for a table, and whether a switch may be made.
+pub mod layouts;

@@ -5,25 +5,25 @@
 ghost use Rattle.std.specs.Prelude.{◌≡◌, ◌++◌, IfOk, List, Option};
 ghost use Rattle.std.specs.Option.{option_map};
 ghost use Rattle.rg_judge.specs.StateOf.{state_of};
-ghost use Rattle.rg_tally.specs.Tallied.{IsTallied};
+ghost use Rattle.rg_rules.specs.Tally.Tallied.{IsTallied};
 ghost use Rattle.rg_model.specs.Legal.{IsActor};
 ghost use Rattle.rg_model.specs.Possible.{next_state, one_state, state_shown, state_started};
 ghost use Rattle.rg_model.specs.Possible.{states_after};
 ghost use Rattle.rg_base.specs.declared.control.Answer.{Answer};
 ghost use Rattle.rg_stmt.specs.declared.event.Entry.{Entry};
 
+use crate::layouts::layout::is_right_side;
 use crate::opened::judge_opened;
 use crate::possibility::{Possibility, if_allowed};
 use crate::said::judge_said;
 use crate::step::judge_step;
+use crate::turn::progress::Progress;
 use rg_base::control::Answer;
 use rg_base::no_memory::NoMemory;
 use rg_base::options::Options;
-use rg_right::layout::is_right_side;
+use rg_rules::tally::tally::Tally;
 use rg_stmt::event::{Actor, Event};
 use rg_stmt::layout::Side;
-use rg_tally::tally::Tally;
-use rg_turn::progress::Progress;
 use std::alloc::Global;
 
 // The layout of the current copy, while the engine is up.

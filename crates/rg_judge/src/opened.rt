@@ -11,11 +11,11 @@ ghost use Rattle.rg_model.specs.Possible.{is_copy_left, one_state, states_opened
 ghost use Rattle.rg_model.specs.State.{at_rest, row_count};
 
 use crate::possibility::Possibility;
+use crate::table::cat_table::CatTable;
+use crate::table::locked_rows::LockedRows;
 use crate::walk::{put_back, put_back_others};
 use rg_base::no_memory::NoMemory;
 use rg_base::session::Session;
-use rg_cats::cat_table::CatTable;
-use rg_cats::locked_rows::LockedRows;
 use rg_claim::claims::Claims;
 use rg_model::plain::walks::copy_table;
 use std::alloc::Global;

@@ -4,10 +4,10 @@ ghost use Rattle.rg_judge.specs.StateOf.{state_of};
 ghost use Rattle.std.specs.Option.{option_map};
 ghost use Rattle.rg_model.specs.Said.{if_allowed};
 
+use crate::table::locked_rows::LockedRows;
+use crate::turn::progress::Progress;
 use rg_base::session::Session;
-use rg_cats::locked_rows::LockedRows;
 use rg_claim::claims::Claims;
-use rg_turn::progress::Progress;
 
 /// A state that the entries so far allow. There is more than one where an opening found a table
 /// that a refused COMMIT leaves open.

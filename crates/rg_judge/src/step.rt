@@ -5,9 +5,9 @@ ghost use Rattle.std.specs.Prelude.{◌≡◌, ◌==◌, ◌-◌, ◌&&◌, IfOk
 ghost use Rattle.std.specs.Prelude.{if◌then◌else◌};
 ghost use Rattle.std.specs.Option.{option_map};
 ghost use Rattle.rg_judge.specs.StateOf.{state_of};
-ghost use Rattle.rg_turn.specs.UtilityOf.{utility_of};
-ghost use Rattle.rg_tally.specs.Tallied.{IsTallied};
-ghost use Rattle.rg_turn.specs.TurnOf.{turn_seen};
+ghost use Rattle.rg_judge.specs.Turn.UtilityOf.{utility_of};
+ghost use Rattle.rg_rules.specs.Tally.Tallied.{IsTallied};
+ghost use Rattle.rg_judge.specs.Turn.TurnOf.{turn_seen};
 ghost use Rattle.rg_model.specs.Possible.{state_after_step};
 ghost use Rattle.rg_model.specs.Layout.{is_right_side};
 ghost use Rattle.rg_model.specs.Right.{are_quiet_right, is_packed};
@@ -16,17 +16,17 @@ ghost use Rattle.rg_model.specs.Utility.{state_of_turn, state_stepped, stop_util
 ghost use Rattle.rg_stmt.specs.declared.event.Entry.{Entry};
 
 use crate::drain::{is_unclaimed, set_drain};
+use crate::layouts::switch::is_right_switch;
 use crate::possibility::{Possibility, if_allowed};
+use crate::turn::next_event::turn_of;
+use crate::turn::progress::Progress;
+use crate::turn::turn::Turn;
 use rg_base::control::Answer;
 use rg_base::no_memory::NoMemory;
 use rg_base::options::DrainState;
-use rg_right::switch::is_right_switch;
+use rg_rules::tally::tally::Tally;
 use rg_stmt::event::Event;
 use rg_stmt::layout::Sides;
-use rg_tally::tally::Tally;
-use rg_turn::next_event::turn_of;
-use rg_turn::progress::Progress;
-use rg_turn::turn::Turn;
 use std::alloc::Global;
 
 // It goes to the other copy, with as many pages as were written.

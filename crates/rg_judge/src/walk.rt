@@ -4,12 +4,12 @@ ghost use Rattle.std.specs.FinMap as map;
 ghost use Rattle.rg_model.specs.Committed.{locks_without, put_back};
 ghost use Rattle.rg_model.specs.Said.{has_locks};
 
+use crate::table::cat_table::CatTable;
 use rg_base::lock::Lock;
 use rg_base::map::NumberMap;
 use rg_base::no_memory::NoMemory;
 use rg_base::row::copy_row;
 use rg_base::session::Session;
-use rg_cats::cat_table::CatTable;
 use rg_model::plain::parts::is_others;
 use rg_model::plain::walks::entry_behind;
 use std::alloc::Global;

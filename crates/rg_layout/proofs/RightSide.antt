@@ -22,8 +22,8 @@ use Rattle.rg_index.specs.RisingPart.{IsRising-rising_part}
 use Rattle.rg_index.proofs.Listing.{listing_is}
 use Rattle.rg_index.proofs.Lists.{Each-map, Each-append}
 use Rattle.rg_index.proofs.Order.{same_itself}
-use Rattle.rg_indexes.specs.Listings.{entries_of}
-use Rattle.rg_indexes.specs.declared.indexes.Indexes.{Indexes}
+use Rattle.rg_btree.specs.Indexes.Listings.{entries_of}
+use Rattle.rg_btree.specs.declared.indexes.indexes.Indexes.{Indexes}
 use Rattle.rg_layout.proofs.OnSpots.{is_over, place_itself, spots, row_spot, every_spot, each_over, ForOver, IsOverAt, over_at, for_over, all_differ, homes_differ, different_from, homes_rise, rising_from, place_is, all_from, Each-joined}
 use Rattle.rg_layout.proofs.Places.{Rise, IsWithin, all_rise, is_among, is_slot}
 use Rattle.rg_layout.specs.Right.{IsRightFor}

@@ -3,8 +3,8 @@ use Rattle.std.specs.Prelude.{◌≡◌, true, List}
 use Rattle.rg_home.specs.Pages.{slot_of}
 use Rattle.rg_home.specs.Rows.{row_at, Tied}
 use Rattle.rg_home.specs.Slot.{Slot}
-use Rattle.rg_indexes.specs.Listings.{AreListings}
-use Rattle.rg_indexes.specs.declared.indexes.Indexes.{Indexes}
+use Rattle.rg_btree.specs.Indexes.Listings.{AreListings}
+use Rattle.rg_btree.specs.declared.indexes.indexes.Indexes.{Indexes}
 use Rattle.rg_home.specs.Table.{IsTable}
 use Rattle.rg_model.specs.Layout.{is_right_side}
 use Rattle.rg_model.specs.State.{Table, row_of}

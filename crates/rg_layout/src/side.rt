@@ -4,7 +4,7 @@
 // 2. A layout is right for the table of these rows: what is read is the table, where frames are
 //    sure.
 ghost use Rattle.std.specs.Prelude.{◌≡◌, ◌≤◌, true, length, IfOk, IfErr};
-ghost use Rattle.rg_indexes.specs.Listings.{entries_of};
+ghost use Rattle.rg_btree.specs.Indexes.Listings.{entries_of};
 ghost use Rattle.rg_layout.specs.Right.{IsRightFor};
 ghost use Rattle.rg_layout.specs.Spots.{spots_of};
 ghost use Rattle.rg_page.specs.Content.{slots_of};
@@ -13,8 +13,8 @@ ghost use Rattle.rg_space.specs.Space.{InStep, frames_of, index_of, capacity_in,
 ghost use Rattle.rg_space.specs.Took.{HasRisen};
 
 use crate::spots::all_spots;
+use rg_btree::indexes::indexes::Indexes;
 use rg_btree::tree::Tree;
-use rg_indexes::indexes::Indexes;
 use rg_page::frames::Frames;
 use rg_space::fault::SpaceFault;
 use rg_space::space::Space;

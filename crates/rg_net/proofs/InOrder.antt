@@ -15,7 +15,7 @@ use Rattle.rg_base.specs.declared.change.Change.{Change}
 use Rattle.rg_base.specs.declared.place.Place.{Place}
 use Rattle.rg_model.specs.Layout.{are_rising, is_place_before, same_place}
 use Rattle.rg_net.specs.ByHome.{HasLast, key_cmp, place_of}
-use Rattle.rg_fold.specs.Last.{last_at, later_of}
+use Rattle.rg_feed.specs.Fold.Last.{last_at, later_of}
 
 abbrev Entries : Type 0
 Entries = List ((ℕ × ℕ) × Change)

@@ -5,7 +5,7 @@ use Rattle.std.specs.Ordering.{nat_cmp, ordering_then}
 use Rattle.std.specs.declared.cmp.Ordering.{Ordering}
 use Rattle.rg_base.specs.declared.change.Change.{Change}
 use Rattle.rg_base.specs.declared.place.Place.{Place}
-use Rattle.rg_fold.specs.Last.{last_at}
+use Rattle.rg_feed.specs.Fold.Last.{last_at}
 
 -- by page, then by slot
 abbrev pub key_cmp : ℕ × ℕ → ℕ × ℕ → Ordering

@@ -9,7 +9,7 @@ ghost use Rattle.rg_base.specs.declared.place.Place.{Place};
 ghost use Rattle.rg_base.specs.declared.row.Row.{Row};
 ghost use Rattle.rg_model.specs.Layout.{are_rising};
 ghost use Rattle.rg_net.specs.ByHome.{HasLast};
-ghost use Rattle.rg_fold.specs.Last.{applied_at, last_at};
+ghost use Rattle.rg_feed.specs.Fold.Last.{applied_at, last_at};
 
 use rg_base::change::Change;
 use rg_base::no_memory::NoMemory;

@@ -5,10 +5,10 @@ use Rattle.std.specs.List.{AllByRecursion}
 use Rattle.rg_home.specs.Slot.{Slot, Free, Row, Pointer, Over, DeadRow, DeadPointer, DeadOver}
 use Rattle.rg_home.specs.Slots.{Fits, cut, placed, slot_at, trim, used}
 use Rattle.rg_home.proofs.Offers.{used-trim}
-use Rattle.rg_page_bytes.specs.Content.{FitsSlot}
-use Rattle.rg_page_bytes.specs.PageBytes.{slot_bytes, slots_bytes}
-use Rattle.rg_page_bytes.specs.Reading.{slot_at as slot_read}
-use Rattle.rg_page_bytes.proofs.ReadBack.{entry_of, slot_again}
+use Rattle.rg_page.specs.Bytes.Content.{FitsSlot}
+use Rattle.rg_page.specs.Bytes.PageBytes.{slot_bytes, slots_bytes}
+use Rattle.rg_page.specs.Bytes.Reading.{slot_at as slot_read}
+use Rattle.rg_page.proofs.BytesLemmas.ReadBack.{entry_of, slot_again}
 use Rattle.rg_page.proofs.Room.{used-some}
 
 cut_placed : (x : Slot) (ys : List Slot) (n : ℕ) (s : Slot) → placed (cut x ys) (suc n) s ≡ cut x (placed ys n s)

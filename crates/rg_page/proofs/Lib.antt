@@ -1,3 +1,4 @@
+pub mod BytesLemmas
 pub mod Buffer
 pub mod BareSlots
 pub mod Monotone

@@ -5,8 +5,8 @@ use Rattle.std.specs.List.{AllByRecursion}
 use Rattle.rg_base.specs.Field.{field}
 use Rattle.rg_home.specs.Slot.{Slot}
 use Rattle.rg_home.specs.Slots.{capacity_of}
-use Rattle.rg_page_bytes.specs.Content.{FitsSlot}
-use Rattle.rg_page_bytes.specs.PageBytes.{directory, slot_bytes, slots_bytes, slots_size}
+use Rattle.rg_page.specs.Bytes.Content.{FitsSlot}
+use Rattle.rg_page.specs.Bytes.PageBytes.{directory, slot_bytes, slots_bytes, slots_size}
 
 pub slots_bytes-more : (slots : List Slot) (s : Slot) → slots_bytes (slots ++ s ∷ []) ≡ slots_bytes slots ++ slot_bytes s
 unfolding slots_bytes

@@ -1,8 +1,8 @@
 -- Refusals of a reader of pages.
 use Rattle.std.proofs.Common.{◌≡◌, Option, None, refl}
-use Rattle.rg_page_bytes.specs.Reading.{Refuses}
-use Rattle.rg_page_bytes.specs.declared.fault.PageFault.{PageFault}
-use Rattle.rg_page_bytes.specs.declared.fault.PageFault.TheVariants.{NotAPage, NoMemory}
+use Rattle.rg_page.specs.Bytes.Reading.{Refuses}
+use Rattle.rg_page.specs.declared.bytes.fault.PageFault.{PageFault}
+use Rattle.rg_page.specs.declared.bytes.fault.PageFault.TheVariants.{NotAPage, NoMemory}
 use Rattle.rg_page.specs.Reading.{Unless}
 
 -- what is to be said of a refusal is to be said of that one alone

@@ -4,7 +4,7 @@ use Rattle.rg_base.specs.declared.tran.Tran.{Tran}
 use Rattle.rg_home.specs.Pages.{row_or_empty}
 use Rattle.rg_home.specs.Slot.{Slot}
 use Rattle.rg_home.specs.Slot.{Free, Row, Pointer, Over, DeadRow, DeadPointer, DeadOver}
-pub use Rattle.rg_page_bytes.specs.PageBytes.{nowhere}
+pub use Rattle.rg_page.specs.Bytes.PageBytes.{nowhere}
 use Rattle.rg_page.specs.declared.header.Kind.{Kind}
 use Rattle.rg_page.specs.declared.header.Kind.TheVariants as Is
 

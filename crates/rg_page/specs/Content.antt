@@ -1,7 +1,7 @@
 -- Pages, as contracts see them.
 use Rattle.std.specs.Prelude.{ℕ, List, ◌∷◌, map, slice_index_or}
 use Rattle.rg_home.specs.Slot.{Slot}
-pub use Rattle.rg_page_bytes.specs.Content.{Content, empty}
+pub use Rattle.rg_page.specs.Bytes.Content.{Content, empty}
 
 -- the slots of each page
 abbrev pub slots_of : List Content → List (List Slot)

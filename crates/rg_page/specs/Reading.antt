@@ -4,12 +4,12 @@ use Rattle.std.specs.List.{AllByRecursion}
 use Rattle.rg_home.specs.Pages.{TakesRow}
 use Rattle.rg_home.specs.Slot.{Slot}
 use Rattle.rg_home.specs.Slots.{Fits, placed, trim}
-use Rattle.rg_page_bytes.specs.Content.{Content, FitsPage, FitsSlot}
-use Rattle.rg_page_bytes.specs.PageBytes.{filled_bytes, page_bytes, slots_bytes}
-use Rattle.rg_page_bytes.specs.Reading.{slot_of}
-use Rattle.rg_page_bytes.specs.declared.entry.Entry.{Entry}
-use Rattle.rg_page_bytes.specs.declared.fault.PageFault.{PageFault}
-use Rattle.rg_page_bytes.specs.declared.fault.PageFault.TheVariants.{NotAPage, NoMemory}
+use Rattle.rg_page.specs.Bytes.Content.{Content, FitsPage, FitsSlot}
+use Rattle.rg_page.specs.Bytes.PageBytes.{filled_bytes, page_bytes, slots_bytes}
+use Rattle.rg_page.specs.Bytes.Reading.{slot_of}
+use Rattle.rg_page.specs.declared.bytes.entry.Entry.{Entry}
+use Rattle.rg_page.specs.declared.bytes.fault.PageFault.{PageFault}
+use Rattle.rg_page.specs.declared.bytes.fault.PageFault.TheVariants.{NotAPage, NoMemory}
 
 -- a refusal other than out of memory says this
 abbrev pub Unless : Type 0 → PageFault → Type 0

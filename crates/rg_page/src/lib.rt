@@ -1,4 +1,4 @@
-//! Pages of slots, and the frames through which pages are read and changed.
+//! Pages of slots: their bytes, and the frames through which they are read and changed.
 #![tactic(auto)]
 
 /// The bytes of a page's rows, and pushing within room.
@@ -23,3 +23,5 @@ pub mod slot;
 pub mod summary;
 /// Writing a page.
 pub mod write;
+/// The bytes of a data page.
+pub mod bytes;

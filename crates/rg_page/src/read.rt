@@ -6,17 +6,17 @@
 // 3. What was read is the page only if its spelling is these very bytes. So no test of a single
 //    byte is needed, and none can be forgotten.
 ghost use Rattle.std.specs.Prelude.{◌≡◌, [], IfOk, IfErr, OnOk};
-ghost use Rattle.rg_page_bytes.specs.Content.{FitsPage};
-ghost use Rattle.rg_page_bytes.specs.PageBytes.{page_bytes};
-ghost use Rattle.rg_page_bytes.specs.Reading.{slot_of};
+ghost use Rattle.rg_page.specs.Bytes.Content.{FitsPage};
+ghost use Rattle.rg_page.specs.Bytes.PageBytes.{page_bytes};
+ghost use Rattle.rg_page.specs.Bytes.Reading.{slot_of};
 ghost use Rattle.rg_page.specs.Reading.{FillsPage, FillsSlots, IsNone, IsPut, IsUnput, NoContentFills, NoSlotsFill};
 
+use crate::bytes::entry::Entry;
+use crate::bytes::fault::PageFault;
+use crate::bytes::read::{head_at, slot_at};
 use crate::page::Page;
 use rg_base::part::Part;
 use rg_base::position::Position;
-use rg_page_bytes::entry::Entry;
-use rg_page_bytes::fault::PageFault;
-use rg_page_bytes::read::{head_at, slot_at};
 use rg_record::buffer::PAGE_SIZE;
 use std::alloc::Global;
 

@@ -7,16 +7,17 @@ ghost use Rattle.std.specs.List.{AllByRecursion};
 ghost use Rattle.rg_base.specs.RowBytes.{row_of, row_size};
 ghost use Rattle.rg_home.specs.Slots.{capacity_of};
 ghost use Rattle.rg_record.specs.Fits.{FitsPlace, FitsRow};
-ghost use Rattle.rg_page_bytes.specs.Content.{FitsPage, FitsSlot};
-ghost use Rattle.rg_page_bytes.specs.PageBytes.{directory, fields_bytes, filled_bytes, is_blank, page_bytes, slot_bytes, slots_bytes, slots_size};
+ghost use Rattle.rg_page.specs.Bytes.Content.{FitsPage, FitsSlot};
+ghost use Rattle.rg_page.specs.Bytes.PageBytes.{directory, fields_bytes, filled_bytes, is_blank};
+ghost use Rattle.rg_page.specs.Bytes.PageBytes.{page_bytes, slot_bytes, slots_bytes, slots_size};
 ghost use Rattle.rg_page.specs.Bare.{nowhere};
 ghost use Rattle.rg_page.specs.Shown.{shown, IsHeld, IsSpelled, SpellsRow};
 
+use crate::bytes::entry::Head;
+use crate::bytes::write::{Fields, add_head, add_slot, add_zeros};
 use crate::page::Page;
 use crate::slot::Slot;
 use rg_base::place::Place;
-use rg_page_bytes::entry::Head;
-use rg_page_bytes::write::{Fields, add_head, add_slot, add_zeros};
 use rg_record::buffer::{Buffer, PAGE_SIZE};
 
 // Says of bytes that spell a row, and that an area of this capacity holds, that they may stand in

@@ -4,17 +4,17 @@ use Rattle.std.specs.List.Sorted.{IsPermutation}
 use Rattle.rg_base.specs.declared.options.Options.{Options}
 use Rattle.rg_base.specs.declared.place.Place.{Place}
 use Rattle.rg_base.specs.declared.row.Row.{Row}
-use Rattle.rg_caught.specs.Caught.{IsCaughtUp}
-use Rattle.rg_caught.proofs.Taking.{batch_taken, full_sent, loaded}
+use Rattle.rg_translate.specs.RightCopy.Caught.{IsCaughtUp}
+use Rattle.rg_translate.proofs.RightCopyLemmas.Taking.{batch_taken, full_sent, loaded}
 use Rattle.rg_feed.specs.Ends.{Received}
-use Rattle.rg_fold.specs.Fold.{fold_to, copied_rows, page_copies, since_begin}
-use Rattle.rg_fold.specs.Lawful.{AreApart, Lawful}
-use Rattle.rg_fold.specs.declared.item.Item.{Item}
-use Rattle.rg_fold.proofs.Loaded.{copies_apart}
-use Rattle.rg_loaded.specs.Loaded.{IsLoaded, IsPacked}
+use Rattle.rg_feed.specs.Fold.Fold.{fold_to, copied_rows, page_copies, since_begin}
+use Rattle.rg_feed.specs.Fold.Lawful.{AreApart, Lawful}
+use Rattle.rg_feed.specs.declared.fold.item.Item.{Item}
+use Rattle.rg_feed.proofs.FoldLemmas.Loaded.{copies_apart}
+use Rattle.rg_translate.specs.Load.Loaded.{IsLoaded, IsPacked}
 use Rattle.rg_map.specs.Mapping.{Targets}
 use Rattle.rg_page.specs.Content.{Content}
-use Rattle.rg_reach.specs.Weighed.{weigh_feed}
+use Rattle.rg_laws_utility.specs.CopyWeight.Weighed.{weigh_feed}
 use Rattle.rg_reload.specs.Order.{IsInOrder}
 use Rattle.rg_reload.specs.Reloading.{Reloading}
 use Rattle.rg_shadow.specs.Pieces.{IsMapped}

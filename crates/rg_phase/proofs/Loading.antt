@@ -14,18 +14,19 @@ use Rattle.rg_base.specs.declared.session.Session.{Session}
 use Rattle.rg_base.specs.declared.step.Step.{Step}
 use Rattle.rg_base.specs.declared.step.Step.TheVariants as steps
 use Rattle.rg_base.specs.declared.verdict.StopReason.TheVariants as reasons
-use Rattle.rg_course.specs.Loading.{IsLoaded, IsLoadedAfter, Loading, ShowsFilled, loading_after, loading_of}
-use Rattle.rg_course.proofs.Loaded.{loaded_goes_on}
-use Rattle.rg_course.proofs.Loads.{loading_goes_on}
-use Rattle.rg_fold.specs.declared.item.Stage.{Stage}
+use Rattle.rg_laws_utility.specs.Course.Loading.{IsLoaded, IsLoadedAfter, Loading, ShowsFilled}
+use Rattle.rg_laws_utility.specs.Course.Loading.{loading_after, loading_of}
+use Rattle.rg_laws_utility.proofs.CourseLemmas.Loaded.{loaded_goes_on}
+use Rattle.rg_laws_utility.proofs.CourseLemmas.Loads.{loading_goes_on}
+use Rattle.rg_feed.specs.declared.fold.item.Stage.{Stage}
 use Rattle.rg_model.specs.State.{Utility}
 use Rattle.rg_model.specs.Turn.{Turn, Runs, Switches, Stops, Falls, alter, end_turn, is_term, step_by_drain, step_of, term_turn, turn_at, turn_of}
 use Rattle.rg_shadow.specs.declared.fault.ShadowFault.{ShadowFault}
-use Rattle.rg_stage.specs.Followed.{Followed}
-use Rattle.rg_stage.specs.NumbersOf.{numbers_of}
+use Rattle.rg_rules.specs.Stage.Followed.{Followed}
+use Rattle.rg_rules.specs.Stage.NumbersOf.{numbers_of}
 use Rattle.rg_stmt.specs.declared.event.Event.{Event}
 use Rattle.rg_stmt.specs.declared.event.Event.TheVariants as events
-use Rattle.rg_tending.specs.Tending.{FollowsBy, is_plain}
+use Rattle.rg_laws_utility.specs.TraceStage.Tending.{FollowsBy, is_plain}
 use Rattle.rg_phase.specs.Drafted.{IsFullOf}
 use Rattle.rg_phase.specs.Step.{HasPagesFor, NextMade}
 use Rattle.rg_phase.specs.Working.{IsEventOrStop, MakesStep, is_filling, takes}

@@ -10,24 +10,25 @@ use Rattle.rg_engine.specs.Flushed.{CallsOwn, WritesEither}
 use Rattle.rg_engine.specs.Prepared.{PreparedSeen}
 use Rattle.rg_engine.specs.Room.{Ground}
 use Rattle.rg_engine.specs.Volume.{CallsLog, VolumeSeen}
-use Rattle.rg_fold.specs.declared.item.Item.{Item}
-use Rattle.rg_fold.specs.declared.item.Item.TheVariants.{PageCopy}
-use Rattle.rg_fold.specs.declared.item.Stage.{Stage}
+use Rattle.rg_feed.specs.declared.fold.item.Item.{Item}
+use Rattle.rg_feed.specs.declared.fold.item.Item.TheVariants.{PageCopy}
+use Rattle.rg_feed.specs.declared.fold.item.Stage.{Stage}
 use Rattle.rg_model.specs.Turn.{Turn, turn_of}
-use Rattle.rg_newest.specs.Tidy.{set_of}
+use Rattle.rg_laws_crash.specs.NewestPages.Tidy.{set_of}
 use Rattle.rg_outside.specs.Calls.{Call, FailedRead, FailedSync, FailedWrite, Read, Refused, Synced, Wrote}
 use Rattle.rg_outside.specs.Faults.{Rose}
 use Rattle.rg_outside.specs.Made.{WritesIn}
 use Rattle.rg_outside.proofs.Frame.{calls_weaken, no_calls}
-use Rattle.rg_reach.specs.Weighed.{weigh_feed}
-use Rattle.rg_stage.specs.NumbersOf.{numbers_of}
+use Rattle.rg_laws_utility.specs.CopyWeight.Weighed.{weigh_feed}
+use Rattle.rg_rules.specs.Stage.NumbersOf.{numbers_of}
 use Rattle.rg_stmt.specs.declared.event.Entry.{Entry}
 use Rattle.rg_stmt.specs.declared.event.Event.{Event}
 use Rattle.rg_stmt.specs.declared.event.Event.TheVariants as events
 use Rattle.rg_stmt.specs.declared.layout.Sides.{Sides}
 use Rattle.rg_base.specs.Copies.{other_of}
-use Rattle.rg_tending.specs.Tending.{FollowsBy, NextBy, is_booked, is_plain, utility_entry}
-use Rattle.rg_course.specs.Loading.{Loading, loading_after}
+use Rattle.rg_laws_utility.specs.TraceStage.Tending.{FollowsBy, NextBy, is_booked, is_plain}
+use Rattle.rg_laws_utility.specs.TraceStage.Tending.{utility_entry}
+use Rattle.rg_laws_utility.specs.Course.Loading.{Loading, loading_after}
 use Rattle.rg_image.specs.Rules.{copy_capacity}
 use Rattle.rg_phase.specs.Made.{IsAsMade}
 use Rattle.rg_phase.specs.declared.made.Made.{Made}

@@ -7,19 +7,19 @@ use Rattle.rg_base.specs.declared.change.Change.{Change}
 use Rattle.rg_base.specs.declared.options.Options.{Options}
 use Rattle.rg_base.specs.declared.place.Place.{Place}
 use Rattle.rg_base.specs.declared.row.Row.{Row}
-use Rattle.rg_caught.proofs.Taking.{more_received}
+use Rattle.rg_translate.proofs.RightCopyLemmas.Taking.{more_received}
 use Rattle.rg_engine.specs.Prepared.{while_running}
 use Rattle.rg_engine.specs.Prepared.{PreparedSeen}
 use Rattle.rg_feed.specs.Ends.{Grew, Received, still_taken}
-use Rattle.rg_fold.specs.Fold.{changes, copied_rows, since_begin}
-use Rattle.rg_fold.specs.declared.item.Item.{Item}
-use Rattle.rg_fold.specs.declared.item.Stage.{Stage}
-use Rattle.rg_fold.proofs.Folds.{changes-append}
+use Rattle.rg_feed.specs.Fold.Fold.{changes, copied_rows, since_begin}
+use Rattle.rg_feed.specs.declared.fold.item.Item.{Item}
+use Rattle.rg_feed.specs.declared.fold.item.Stage.{Stage}
+use Rattle.rg_feed.proofs.FoldLemmas.Folds.{changes-append}
 use Rattle.rg_reload.specs.Reloading.{Reloading}
-use Rattle.rg_sending.specs.Sending.{AddsChanges}
-use Rattle.rg_sending.proofs.Keeping.{copied_rows-append, no_rows, since_made}
-use Rattle.rg_sending.proofs.Walking.{sent_changes-append}
-use Rattle.rg_sent.specs.Keeps.{sent_changes}
+use Rattle.rg_engine.specs.ChangeFeed.Sending.{AddsChanges}
+use Rattle.rg_engine.proofs.ChangeFeedLemmas.Keeping.{copied_rows-append, no_rows, since_made}
+use Rattle.rg_engine.proofs.ChangeFeedLemmas.Walking.{sent_changes-append}
+use Rattle.rg_feed.specs.SentItems.Keeps.{sent_changes}
 use Rattle.rg_shadow.specs.Shade.{Shade}
 use Rattle.rg_translate.specs.Laws.{IsLater}
 use Rattle.rg_phase.specs.Drafted.{IsDraftOf, IsPackingOf, SameRows}

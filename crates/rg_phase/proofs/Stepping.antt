@@ -13,10 +13,10 @@ use Rattle.rg_base.specs.declared.verdict.StopReason.TheVariants as reasons
 use Rattle.rg_model.specs.State.{Utility}
 use Rattle.rg_model.specs.Turn.{Turn, Runs, Switches, Stops, Falls, turn_at}
 use Rattle.rg_model.specs.Verdict.{drain_verdict, is_late, retry_verdict, wait_verdict}
-use Rattle.rg_stage.specs.Events.{drain_event}
+use Rattle.rg_rules.specs.Stage.Events.{drain_event}
 use Rattle.rg_stmt.specs.declared.event.Event.{Event}
-use Rattle.rg_tending.specs.Tending.{is_booked, is_plain}
-use Rattle.rg_tending.proofs.Turning.{LeadsIf, Needs, at_leads}
+use Rattle.rg_laws_utility.specs.TraceStage.Tending.{is_booked, is_plain}
+use Rattle.rg_laws_utility.proofs.TraceStageLemmas.Turning.{LeadsIf, Needs, at_leads}
 use Rattle.rg_phase.specs.Step.{is_device_stop}
 use Rattle.rg_phase.specs.Working.{is_filling}
 

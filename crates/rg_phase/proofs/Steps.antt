@@ -7,17 +7,17 @@ use Rattle.rg_base.specs.declared.session.Session.{Session}
 use Rattle.rg_base.specs.declared.verdict.StopReason.TheVariants as reasons
 use Rattle.rg_desk.specs.Desk.{DeskState, IsNextStep}
 use Rattle.rg_engine.specs.Volume.{VolumeSeen}
-use Rattle.rg_fold.specs.declared.item.Stage.{Stage}
+use Rattle.rg_feed.specs.declared.fold.item.Stage.{Stage}
 use Rattle.rg_model.specs.Turn.{Turn, turn_of}
 use Rattle.rg_shadow.specs.declared.fault.ShadowFault.{ShadowFault}
-use Rattle.rg_stage.specs.Bounded.{KeepsBounds}
-use Rattle.rg_stage.specs.Followed.{Followed}
-use Rattle.rg_stage.specs.NumbersOf.{numbers_of}
+use Rattle.rg_rules.specs.Stage.Bounded.{KeepsBounds}
+use Rattle.rg_rules.specs.Stage.Followed.{Followed}
+use Rattle.rg_rules.specs.Stage.NumbersOf.{numbers_of}
 use Rattle.rg_stmt.specs.declared.event.Event.{Event}
 use Rattle.rg_stmt.specs.declared.event.Event.TheVariants as events
-use Rattle.rg_tending.specs.Tending.{IsKeptStage, NextBy, is_booked, is_plain}
-use Rattle.rg_tending.proofs.Kept.{kept_on}
-use Rattle.rg_tending.proofs.Switching.{plain_turn}
+use Rattle.rg_laws_utility.specs.TraceStage.Tending.{IsKeptStage, NextBy, is_booked, is_plain}
+use Rattle.rg_laws_utility.proofs.TraceStageLemmas.Kept.{kept_on}
+use Rattle.rg_laws_utility.proofs.TraceStageLemmas.Switching.{plain_turn}
 use Rattle.rg_phase.specs.Step.{NextMade, is_device_stop, is_made}
 use Rattle.rg_phase.specs.Working.{IsEventOrStop, Writes}
 use Rattle.rg_phase.proofs.Stops.{space_next, stop_next}

@@ -13,17 +13,17 @@ use Rattle.rg_base.specs.declared.step.Step.TheVariants as steps
 use Rattle.rg_base.specs.declared.verdict.DrainVerdict.{DrainVerdict}
 use Rattle.rg_base.specs.declared.verdict.DrainVerdict.TheVariants as waits
 use Rattle.rg_base.specs.declared.verdict.StopReason.TheVariants as reasons
-use Rattle.rg_fold.specs.declared.item.Stage.{Stage}
-use Rattle.rg_lawful.proofs.Tables.{eqb-refl}
+use Rattle.rg_feed.specs.declared.fold.item.Stage.{Stage}
+use Rattle.rg_laws_log.proofs.LogStateLemmas.Tables.{eqb-refl}
 use Rattle.rg_model.specs.Same.{same_reason}
 use Rattle.rg_model.specs.State.{Utility}
 use Rattle.rg_model.specs.Turn.{Turn, Runs, Stops, alter, early_stop, end_turn, is_term, step_of, step_by_drain, term_turn, turn_at, turn_if, turn_of, wait_turn}
 use Rattle.rg_model.specs.Verdict.{drain_verdict}
-use Rattle.rg_stage.specs.NumbersOf.{numbers_of}
+use Rattle.rg_rules.specs.Stage.NumbersOf.{numbers_of}
 use Rattle.rg_stmt.specs.declared.event.Event.{Event}
 use Rattle.rg_stmt.specs.declared.event.Event.TheVariants as events
-use Rattle.rg_tending.specs.Tending.{is_plain}
-use Rattle.rg_sending.proofs.Turning.{alter_copied, alter_pages}
+use Rattle.rg_laws_utility.specs.TraceStage.Tending.{is_plain}
+use Rattle.rg_engine.proofs.ChangeFeedLemmas.Turning.{alter_copied, alter_pages}
 use Rattle.rg_phase.specs.Working.{IsReloadEvent, MakesStep, takes}
 
 -- ---- STOP NOMEMORY may be the next event of every step

@@ -4,21 +4,21 @@ use Rattle.rg_base.specs.declared.control.Answer.{Answer}
 use Rattle.rg_base.specs.declared.options.Options.{Options}
 use Rattle.rg_base.specs.declared.row.Row.{Row}
 use Rattle.rg_base.specs.declared.step.Step.TheVariants as steps
-use Rattle.rg_caught.specs.Laws.{AreAllTaken}
-use Rattle.rg_caught.proofs.Lying.{rows_now}
-use Rattle.rg_caught.proofs.Right.{caught_quiet, caught_right}
-use Rattle.rg_account.specs.Account.{allowed_of}
-use Rattle.rg_account.specs.Reaching.{ReachesBy}
-use Rattle.rg_account.proofs.Reached.{feed_is_allowed}
-use Rattle.rg_caught.proofs.Taking.{caught_claims, same_slots}
+use Rattle.rg_translate.specs.RightCopy.Laws.{AreAllTaken}
+use Rattle.rg_translate.proofs.RightCopyLemmas.Lying.{rows_now}
+use Rattle.rg_translate.proofs.RightCopyLemmas.Right.{caught_quiet, caught_right}
+use Rattle.rg_laws_utility.specs.ByteAccount.Account.{allowed_of}
+use Rattle.rg_laws_utility.specs.ByteAccount.Reaching.{ReachesBy}
+use Rattle.rg_laws_utility.proofs.ByteAccountLemmas.Reached.{feed_is_allowed}
+use Rattle.rg_translate.proofs.RightCopyLemmas.Taking.{caught_claims, same_slots}
 use Rattle.rg_desk.specs.Desk.{AreSides, CanCommit, CanPrepare, DeskState, HasCurrent, HasDrain, IsNewSide}
 use Rattle.rg_engine.specs.Prepared.{PreparedSeen}
 use Rattle.rg_engine.specs.Volume.{VolumeSeen}
 use Rattle.rg_feed.specs.Ends.{Received}
-use Rattle.rg_fold.specs.Fed.{Fed, Progress}
-use Rattle.rg_fold.specs.Fold.{changes, since_begin}
-use Rattle.rg_fold.specs.declared.item.Item.{Item}
-use Rattle.rg_fold.specs.declared.item.Stage.{Stage}
+use Rattle.rg_feed.specs.Fold.Fed.{Fed, Progress}
+use Rattle.rg_feed.specs.Fold.Fold.{changes, since_begin}
+use Rattle.rg_feed.specs.declared.fold.item.Item.{Item}
+use Rattle.rg_feed.specs.declared.fold.item.Stage.{Stage}
 use Rattle.rg_home.specs.Pages.{slot_of}
 use Rattle.rg_home.specs.Rows.{row_at}
 use Rattle.rg_image.specs.Rules.{copy_capacity}
@@ -27,16 +27,16 @@ use Rattle.rg_model.specs.Quiet.{is_quiet}
 use Rattle.rg_model.specs.Right.{is_packed, same_home_spot}
 use Rattle.rg_model.specs.Same.{same_list}
 use Rattle.rg_model.specs.State.{Table, entries_of}
-use Rattle.rg_moved.proofs.Sources.{sources_are}
-use Rattle.rg_sent.specs.Keeps.{LeadTo}
+use Rattle.rg_translate.proofs.PackedCopyLemmas.Sources.{sources_are}
+use Rattle.rg_feed.specs.SentItems.Keeps.{LeadTo}
 use Rattle.rg_shadow.specs.Shade.{Shade}
 use Rattle.rg_stmt.specs.declared.layout.Side.{Side}
 use Rattle.rg_stmt.specs.declared.layout.Sides.{Sides}
 use Rattle.rg_stmt.specs.declared.layout.Spot.{Spot}
 use Rattle.rg_base.specs.Copies.{other_of}
 use Rattle.rg_model.specs.Run.{behind}
-use Rattle.rg_written.specs.Stamped.{stamped_all}
-use Rattle.rg_written.proofs.Stamping.{slots_of-stamped_first}
+use Rattle.rg_engine.specs.CopyPages.Stamped.{stamped_all}
+use Rattle.rg_engine.proofs.CopyPagesLemmas.Stamping.{slots_of-stamped_first}
 use Rattle.rg_phase.specs.Drafted.{IsDraftOf, IsReady}
 use Rattle.rg_phase.specs.Made.{Hears, IsWrittenOf}
 use Rattle.rg_phase.specs.Working.{AreSidesToSwitch, MakesStep}

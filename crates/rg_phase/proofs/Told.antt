@@ -4,15 +4,15 @@ use Rattle.std.specs.Prelude.{IfOk, OnOk, Ok, Err, is_err}
 use Rattle.std.specs.declared.result.Result.{Result}
 use Rattle.rg_base.specs.declared.control.Answer.{Answer}
 use Rattle.rg_base.specs.declared.session.Session.{Session}
-use Rattle.rg_fold.specs.declared.item.Stage.{Stage}
+use Rattle.rg_feed.specs.declared.fold.item.Stage.{Stage}
 use Rattle.rg_model.specs.Turn.{Turn, is_term, turn_of}
 use Rattle.rg_reload.specs.declared.fault.ReloadFault.{ReloadFault}
 use Rattle.rg_reload.specs.declared.packer.Filled.{Filled}
 use Rattle.rg_shadow.specs.declared.fault.ShadowFault.{ShadowFault}
-use Rattle.rg_stage.specs.NumbersOf.{numbers_of}
+use Rattle.rg_rules.specs.Stage.NumbersOf.{numbers_of}
 use Rattle.rg_stmt.specs.declared.event.Event.{Event}
 use Rattle.rg_stmt.specs.declared.event.Event.TheVariants as events
-use Rattle.rg_tending.specs.Tending.{is_plain}
+use Rattle.rg_laws_utility.specs.TraceStage.Tending.{is_plain}
 use Rattle.rg_phase.specs.Made.{IsAsMade, IsFilled}
 use Rattle.rg_phase.specs.Working.{IsEventOrStop, IsOver, IsPageOf}
 use Rattle.rg_phase.specs.declared.made.Made.{Made}

@@ -8,9 +8,9 @@ use Rattle.rg_base.specs.declared.options.Options.{Options}
 use Rattle.rg_base.specs.declared.place.Place.{Place}
 use Rattle.rg_base.specs.declared.row.Row.{Row}
 use Rattle.rg_base.specs.declared.which.Which.{Which}
-use Rattle.rg_caught.specs.Caught.{IsCaughtUp}
-use Rattle.rg_fold.specs.Fold.{changes, copied_rows, since_begin}
-use Rattle.rg_fold.specs.declared.item.Item.{Item}
+use Rattle.rg_translate.specs.RightCopy.Caught.{IsCaughtUp}
+use Rattle.rg_feed.specs.Fold.Fold.{changes, copied_rows, since_begin}
+use Rattle.rg_feed.specs.declared.fold.item.Item.{Item}
 use Rattle.rg_reload.specs.Order.{IsInOrder}
 use Rattle.rg_reload.specs.Reloading.{LacksPage, Reloading}
 use Rattle.rg_reload.specs.declared.fault.ReloadFault.{ReloadFault}

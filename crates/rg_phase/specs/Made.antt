@@ -8,14 +8,14 @@ use Rattle.rg_base.specs.declared.which.Which.{Which}
 use Rattle.rg_desk.specs.Desk.{DeskState, FeedIs}
 use Rattle.rg_engine.specs.Prepared.{PreparedSeen}
 use Rattle.rg_feed.specs.Ends.{Received}
-use Rattle.rg_fold.specs.declared.item.Item.{Item}
-use Rattle.rg_fold.specs.declared.item.Stage.{Stage}
+use Rattle.rg_feed.specs.declared.fold.item.Item.{Item}
+use Rattle.rg_feed.specs.declared.fold.item.Stage.{Stage}
 use Rattle.rg_phase.specs.Drafted.{IsDraftOf, IsPackingOf}
 use Rattle.rg_phase.specs.declared.made.Made.{Made}
 use Rattle.rg_phase.specs.declared.made.Made.TheVariants.{Nothing, Packing, Drafted, Written}
 use Rattle.rg_reload.specs.Moved.{packed_rows}
 use Rattle.rg_reload.specs.Pages.{slots_on}
-use Rattle.rg_sending.specs.Sending.{AddsChanges}
+use Rattle.rg_engine.specs.ChangeFeed.Sending.{AddsChanges}
 use Rattle.rg_shadow.specs.Shade.{stage_in}
 use Rattle.rg_shadow.specs.declared.drafts.IndexStage.{IndexStage}
 use Rattle.rg_shadow.specs.declared.drafts.IndexStage.TheVariants.{Sorted, Built}

@@ -20,11 +20,11 @@ use Rattle.std.specs.Prelude.{◌∷◌, Option, Some, None, IfSome, is_some}
 use Rattle.rg_base.specs.declared.control.Answer.{Answer}
 use Rattle.rg_base.specs.declared.session.Session.{Session}
 use Rattle.rg_base.specs.declared.verdict.StopReason.TheVariants as reasons
-use Rattle.rg_course.specs.Loading.{IsLoaded, loading_after, loading_of}
+use Rattle.rg_laws_utility.specs.Course.Loading.{IsLoaded, loading_after, loading_of}
 use Rattle.rg_desk.specs.Desk.{DeskState, FeedIs, left_to_take, old_records}
 use Rattle.rg_engine.specs.Flushed.{CallsOwn}
 use Rattle.rg_engine.specs.Volume.{IsCount, VolumeSeen}
-use Rattle.rg_fold.specs.declared.item.Stage.{Stage}
+use Rattle.rg_feed.specs.declared.fold.item.Stage.{Stage}
 use Rattle.rg_image.specs.Rules.{copy_capacity}
 use Rattle.rg_model.specs.Packed.{page_count}
 use Rattle.rg_model.specs.Turn.{turn_of}
@@ -32,12 +32,12 @@ use Rattle.rg_outside.specs.Faults.{Rose}
 use Rattle.rg_outside.specs.Told.{AddsAnswer, HandsOver}
 use Rattle.rg_phase.specs.Made.{IsAsMade}
 use Rattle.rg_phase.specs.declared.made.Made.{Made}
-use Rattle.rg_reach.specs.Weighed.{weigh_feed}
-use Rattle.rg_stage.specs.NumbersOf.{numbers_of}
+use Rattle.rg_laws_utility.specs.CopyWeight.Weighed.{weigh_feed}
+use Rattle.rg_rules.specs.Stage.NumbersOf.{numbers_of}
 use Rattle.rg_stmt.specs.declared.event.Event.{Event}
 use Rattle.rg_stmt.specs.declared.event.Event.TheVariants as events
 use Rattle.rg_base.specs.Copies.{other_of}
-use Rattle.rg_tending.specs.Tending.{is_booked, utility_entry}
+use Rattle.rg_laws_utility.specs.TraceStage.Tending.{is_booked, utility_entry}
 
 -- STOP DEVICE
 abbrev pub is_device_stop : Event → Bool

@@ -1,18 +1,18 @@
 -- What a step makes before its entry.
 use Rattle.std.specs.Prelude.{◌≡◌, ◌⊎◌, ◌≤◌, ℕ, Bool, true, false, [], Ok, Err, Option, is_err}
 use Rattle.std.specs.declared.result.Result.{Result}
-use Rattle.rg_account.specs.Account.{allowed_of}
+use Rattle.rg_laws_utility.specs.ByteAccount.Account.{allowed_of}
 use Rattle.rg_base.specs.declared.control.Answer.{Answer}
 use Rattle.rg_base.specs.declared.session.Session.{Session}
 use Rattle.rg_base.specs.declared.step.Step.{Step}
 use Rattle.rg_base.specs.declared.step.Step.TheVariants as steps
 use Rattle.rg_base.specs.declared.verdict.StopReason.TheVariants as reasons
-use Rattle.rg_claimed.specs.Claim.{claimed_all, nobody}
+use Rattle.rg_laws_pages.specs.ByteClaims.Claim.{claimed_all, nobody}
 use Rattle.rg_desk.specs.Desk.{AreSides, DeskState, HasCurrent, old_records}
 use Rattle.rg_engine.specs.Flushed.{CallsOwn}
 use Rattle.rg_engine.specs.Stored.{IsStored}
 use Rattle.rg_engine.specs.Volume.{VolumeSeen}
-use Rattle.rg_fold.specs.declared.item.Stage.{Stage}
+use Rattle.rg_feed.specs.declared.fold.item.Stage.{Stage}
 use Rattle.rg_home.specs.Pages.{slot_of}
 use Rattle.rg_home.specs.Rows.{row_at}
 use Rattle.rg_home.specs.Table.{IsTable}
@@ -26,13 +26,13 @@ use Rattle.rg_reload.specs.declared.packer.Filled.{Filled}
 use Rattle.rg_shadow.specs.Shade.{shade_slots}
 use Rattle.rg_shadow.specs.declared.fault.ShadowFault.{ShadowFault}
 use Rattle.rg_shadow.specs.declared.fault.ShadowFault.TheVariants.{NoSpace}
-use Rattle.rg_stage.specs.NumbersOf.{numbers_of}
+use Rattle.rg_rules.specs.Stage.NumbersOf.{numbers_of}
 use Rattle.rg_stmt.specs.declared.event.Event.{Event}
 use Rattle.rg_stmt.specs.declared.event.Event.TheVariants as events
 use Rattle.rg_stmt.specs.declared.layout.Sides.{Sides}
 use Rattle.rg_base.specs.Copies.{other_of}
 use Rattle.rg_model.specs.Run.{behind}
-use Rattle.rg_tending.specs.Tending.{is_booked, is_plain}
+use Rattle.rg_laws_utility.specs.TraceStage.Tending.{is_booked, is_plain}
 
 -- the operator lets the utility make this step
 pub record MakesStep (stage : Stage) (answer : Answer) (step : Step) : Type 0 where

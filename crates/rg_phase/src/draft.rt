@@ -6,11 +6,11 @@
 //    made in it once it is loaded, in their order.
 // 3. Whoever writes it asks first whether it is ready.
 ghost use Rattle.std.specs.Prelude.{◌≡◌, ◌+◌, true, length, IfOk, IfErr, OnOk};
-ghost use Rattle.rg_fold.specs.Fold.{since_begin};
-ghost use Rattle.rg_fold.specs.Lawful.{Lawful};
+ghost use Rattle.rg_feed.specs.Fold.Fold.{since_begin};
+ghost use Rattle.rg_feed.specs.Fold.Lawful.{Lawful};
 ghost use Rattle.rg_phase.specs.Drafted.{IsDraftOf, IsFullOf, IsPackingOf, IsReady};
 ghost use Rattle.rg_phase.specs.Drafted.{LacksPageIfFull, SameRows};
-ghost use Rattle.rg_reach.specs.Weighed.{weigh_feed};
+ghost use Rattle.rg_laws_utility.specs.CopyWeight.Weighed.{weigh_feed};
 ghost use Rattle.rg_reload.specs.Reloading.{Fills};
 ghost use Rattle.rg_shadow.specs.Shade.{is_built_stage, stage_in, with_stage};
 ghost use Rattle.rg_shadow.specs.declared.drafts.IndexStage.TheVariants.{Sorted, Built};
@@ -21,14 +21,14 @@ use rg_base::options::Options;
 use rg_base::place::Place;
 use rg_base::which::Which;
 use rg_feed::inlet::FeedIn;
-use rg_loaded::copied::rows_of;
-use rg_loaded::load::load;
 use rg_reload::fault::ReloadFault;
 use rg_reload::packer::{Filled, Packer};
 use rg_shadow::drafts::IndexStage;
 use rg_shadow::fault::ShadowFault;
 use rg_shadow::shadow::Shadow;
 use rg_translate::catch_up::catch_up;
+use rg_translate::load::copied::rows_of;
+use rg_translate::load::load::load;
 use std::alloc::Global;
 
 /// A new copy whose pages are being filled: by which options, which copy it is to be, and how many

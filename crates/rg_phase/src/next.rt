@@ -16,24 +16,24 @@ ghost use Rattle.rg_model.specs.Packed.{page_count};
 ghost use Rattle.rg_phase.specs.Step.{HasPagesFor, is_device_stop};
 ghost use Rattle.rg_phase.specs.Working.{IsEventOrStop, IsOver, IsPageOf, IsReloadEvent, MakesStep};
 ghost use Rattle.rg_phase.specs.Working.{is_filling, takes};
-ghost use Rattle.rg_stage.specs.NumbersOf.{numbers_of};
-ghost use Rattle.rg_tending.specs.Tending.{is_booked, is_plain};
+ghost use Rattle.rg_rules.specs.Stage.NumbersOf.{numbers_of};
+ghost use Rattle.rg_laws_utility.specs.TraceStage.Tending.{is_booked, is_plain};
 
 use rg_base::control::Answer;
 use rg_base::no_memory::NoMemory;
 use rg_base::session::Session;
 use rg_base::step::Step;
 use rg_base::verdict::StopReason;
-use rg_fold::item::Stage;
+use rg_feed::fold::item::Stage;
 use rg_reload::fault::ReloadFault;
 use rg_reload::packer::Filled;
-use rg_shadow::fault::ShadowFault;
-use rg_stage::events::{
+use rg_rules::stage::events::{
     build_event, last_batch, last_event, log_batch, log_event, sort_event, wait_event,
 };
-use rg_stage::step::{is_terminated, step_for, with_alter};
+use rg_rules::stage::step::{is_terminated, step_for, with_alter};
+use rg_rules::tally::pages::{page_at, page_count};
+use rg_shadow::fault::ShadowFault;
 use rg_stmt::event::Event;
-use rg_tally::pages::{page_at, page_count};
 
 // The event of the step that the stage decides, which has the operator's ALTER in it.
 fn step_event(stage: &Stage, all: u64, holder: Option<Session>, answer: &Answer) -> Event

@@ -1,15 +1,15 @@
 // A utility's steps on a table without pages, up to the new copy's writing, and after the switch.
 ghost use Rattle.std.specs.Prelude.{◌≡◌};
 ghost use Rattle.std.proofs.Props.{props};
-ghost use Rattle.rg_tending.specs.Tending.{IsForAll-prop, IsKeptUtility};
+ghost use Rattle.rg_laws_utility.specs.TraceStage.Tending.{IsForAll-prop, IsKeptUtility};
 
 use crate::next::next_event;
 use rg_base::control::{Answer, Command, Deadline, Longlog, Maxro};
 use rg_base::options::{DrainFor, Options};
 use rg_base::session::Session;
-use rg_fold::item::Stage;
-use rg_stage::follow::next_stage;
-use rg_stage::start::started;
+use rg_feed::fold::item::Stage;
+use rg_rules::stage::follow::next_stage;
+use rg_rules::stage::start::started;
 use rg_stmt::event::Event;
 use std::alloc::{AllocError, Global};
 use std::process::Abort;

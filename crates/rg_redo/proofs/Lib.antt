@@ -1,1 +1,2 @@
+pub mod CurrentCopyLemmas
 pub mod Redoing

@@ -1,1 +1,2 @@
+pub mod CurrentCopy
 pub mod Redo

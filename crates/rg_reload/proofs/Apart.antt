@@ -4,8 +4,8 @@ use Rattle.std.proofs.lemmas.Bool.{eqb-true}
 use Rattle.std.specs.List.{AllByRecursion}
 use Rattle.rg_base.specs.declared.place.Place.{Place}
 use Rattle.rg_base.specs.declared.row.Row.{Row}
-use Rattle.rg_fold.specs.Fold.{row_in}
-use Rattle.rg_fold.specs.Lawful.{AreApart}
+use Rattle.rg_feed.specs.Fold.Fold.{row_in}
+use Rattle.rg_feed.specs.Fold.Lawful.{AreApart}
 use Rattle.rg_model.specs.Layout.{same_place}
 
 -- a slot below this one

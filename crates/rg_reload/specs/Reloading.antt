@@ -9,7 +9,7 @@ use Rattle.std.specs.declared.alloc.Global.{Global}
 use Rattle.rg_base.specs.declared.options.Options.{Options}
 use Rattle.rg_base.specs.declared.place.Place.{Place}
 use Rattle.rg_base.specs.declared.row.Row.{Row}
-use Rattle.rg_fold.specs.Lawful.{AreApart}
+use Rattle.rg_feed.specs.Fold.Lawful.{AreApart}
 use Rattle.rg_home.specs.Pages.{slot_of}
 use Rattle.rg_home.specs.Slot.{Slot}
 use Rattle.rg_model.specs.Packed.{page_at, page_count}

@@ -7,8 +7,8 @@
 ghost use Rattle.std.specs.Prelude.{◌≡◌, ◌≤◌, ◌<◌, ◌+◌, ◌==◌, IfOk, IfErr, OnOk, OnErr, length, filter, map, true, false};
 ghost use Rattle.std.specs.List.Sorted.{IsPermutation};
 ghost use Rattle.rg_base.specs.declared.place.Place.{Place as ThePlace};
-ghost use Rattle.rg_fold.specs.Fold.{row_in};
-ghost use Rattle.rg_fold.specs.Lawful.{AreApart};
+ghost use Rattle.rg_feed.specs.Fold.Fold.{row_in};
+ghost use Rattle.rg_feed.specs.Fold.Lawful.{AreApart};
 ghost use Rattle.rg_home.specs.Able.{Proper};
 ghost use Rattle.rg_home.specs.Rows.{row_at};
 ghost use Rattle.rg_home.specs.Owners.{AllBelow};

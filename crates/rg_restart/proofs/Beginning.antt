@@ -2,8 +2,8 @@
 use Rattle.std.proofs.Common.{◌≡◌, ◌≤◌, ◌-◌, ◌++◌, ℕ, zero, suc, List, [], ◌∷◌, Option, length, take, refl, sym, ◌∙◌, ap, subst, arith}
 use Rattle.rg_base.specs.declared.place.Place.{Place}
 use Rattle.rg_base.specs.declared.row.Row.{Row as TableRow}
-use Rattle.rg_claimed.specs.Claim.{holding}
-use Rattle.rg_claimed.proofs.Pages.{claimed_all-used}
+use Rattle.rg_laws_pages.specs.ByteClaims.Claim.{holding}
+use Rattle.rg_laws_pages.proofs.ByteClaimsLemmas.Pages.{claimed_all-used}
 use Rattle.rg_home.specs.Able.{Proper}
 use Rattle.rg_home.specs.Pages.{Sound, slot_of}
 use Rattle.rg_home.specs.Rows.{row_at}
@@ -12,19 +12,20 @@ use Rattle.rg_home.specs.Undo.{undone_all}
 use Rattle.rg_home.specs.Written.{Written}
 use Rattle.rg_image.specs.Meaning.{stored}
 use Rattle.rg_image.specs.Rules.{HasSpace, greatest_tran}
-use Rattle.rg_keyed.specs.Keyed.{AllTakeBack, TransBelow, keyed_acts}
-use Rattle.rg_keyed.proofs.Stores.{opening_stores, stored_by_key, undos_add_none}
-use Rattle.rg_lawful.specs.Act.{LogState}
-use Rattle.rg_lawful.specs.Stored.{stored_at}
+use Rattle.rg_laws_log.specs.StoredRows.Keyed.{AllTakeBack, TransBelow, keyed_acts}
+use Rattle.rg_laws_log.proofs.StoredRowsLemmas.Stores.{opening_stores, stored_by_key}
+use Rattle.rg_laws_log.proofs.StoredRowsLemmas.Stores.{undos_add_none}
+use Rattle.rg_laws_log.specs.LogState.Act.{LogState}
+use Rattle.rg_laws_log.specs.LogState.Stored.{stored_at}
 use Rattle.rg_home.specs.Table.{IsTable}
-use Rattle.rg_lawful.specs.Tested.{OwnersBelow, Tested, all_of, opened}
-use Rattle.rg_lawful.proofs.Testing.{tested_consistent}
+use Rattle.rg_laws_log.specs.LogState.Tested.{OwnersBelow, Tested, all_of, opened}
+use Rattle.rg_laws_log.proofs.LogStateLemmas.Testing.{tested_consistent}
 use Rattle.rg_log.specs.Kept.{Listed}
-use Rattle.rg_ready.specs.Needed.{NeededInTurn}
+use Rattle.rg_laws_pages.specs.UndoRoom.Needed.{NeededInTurn}
 use Rattle.rg_record.specs.declared.record.Record.{Record}
 use Rattle.rg_engine.specs.Begins.{CanBegin}
-use Rattle.rg_sound.specs.ClosingLaws.{IsClosedLog}
-use Rattle.rg_sound.specs.Pages.{count_of}
+use Rattle.rg_laws_crash.specs.SoundVolume.ClosingLaws.{IsClosedLog}
+use Rattle.rg_laws_crash.specs.SoundVolume.Pages.{count_of}
 use Rattle.rg_engine.specs.Stored.{IsSettled}
 use Rattle.rg_restart.specs.Found.{StoresFew}
 

@@ -10,28 +10,28 @@ use Rattle.rg_image.specs.Pack.{log_bytes}
 use Rattle.rg_page.specs.Bare.{numbers_of}
 use Rattle.rg_page.specs.Content.{Content}
 use Rattle.rg_space.specs.Space.{InStep, capacity_in, frames_of, index_of}
-use Rattle.rg_tested.specs.Turns.{WereUndone}
+use Rattle.rg_check.specs.PageTests.Turns.{WereUndone}
 use Rattle.rg_home.specs.Slot.{Slot}
 use Rattle.rg_home.specs.Undo.{undone, undone_all}
 use Rattle.rg_home.specs.Written.{Written}
-use Rattle.rg_keyed.specs.Keyed.{AllTakeBack}
-use Rattle.rg_lawful.specs.Tested.{all_of}
+use Rattle.rg_laws_log.specs.StoredRows.Keyed.{AllTakeBack}
+use Rattle.rg_laws_log.specs.LogState.Tested.{all_of}
 use Rattle.rg_log.specs.Kept.{Listed}
 use Rattle.rg_page.specs.declared.list.ListFrames.{ListFrames}
-use Rattle.rg_ready.specs.Needed.{NeededInTurn}
+use Rattle.rg_laws_pages.specs.UndoRoom.Needed.{NeededInTurn}
 use Rattle.rg_record.specs.declared.record.Record.{Record}
 use Rattle.rg_space.specs.declared.space.Space.{Space}
-use Rattle.rg_tested.specs.Breach.{BreaksOf}
+use Rattle.rg_check.specs.PageTests.Breach.{BreaksOf}
 use Rattle.rg_undo.specs.Undoing.{written_of}
 use Rattle.rg_undo.specs.Unit.{undo_records, writes_of}
-use Rattle.rg_unended.specs.Unended.{left_of, owed_for}
+use Rattle.rg_check.specs.OpenUnits.Unended.{left_of, owed_for}
 use Rattle.rg_engine.specs.Bytes.{kind_bytes, taken_of}
 use Rattle.rg_space.specs.Memory.{list_seen, space_pages}
 use Rattle.rg_engine.specs.Newest.{StayNewest}
 use Rattle.rg_engine.specs.Undoing.{is_undo}
 use Rattle.rg_image.specs.Rules.{last_position, of_tran}
-use Rattle.rg_sound.specs.Closing.{all_closed, closed_by, end_back, rolled_back}
-use Rattle.rg_sound.specs.Left.{IsLacking, lefts_of, writes_left}
+use Rattle.rg_laws_crash.specs.SoundVolume.Closing.{all_closed, closed_by, end_back, rolled_back}
+use Rattle.rg_laws_crash.specs.SoundVolume.Left.{IsLacking, lefts_of, writes_left}
 use Rattle.rg_restart.specs.Closed.{AllAtMost, ClosedAll, ClosedUnit, Closes, ClosesUnit, IsInStep, TookBack, Undid}
 use Rattle.rg_restart.proofs.Beginning.{below_join}
 use Rattle.rg_restart.proofs.Exact.{writes_joined}

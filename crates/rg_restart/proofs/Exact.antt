@@ -9,29 +9,31 @@ use Rattle.rg_home.specs.Written.{Written}
 use Rattle.rg_image.specs.Pack.{log_bytes}
 use Rattle.rg_image.specs.Rules.{BreaksChain, BreaksSpace, IsChain, limit_of, owed}
 use Rattle.rg_image.proofs.Determined.{not_both, same_records}
-use Rattle.rg_lawful.specs.Tested.{all_of}
+use Rattle.rg_laws_log.specs.LogState.Tested.{all_of}
 use Rattle.rg_log.specs.Kept.{log_pages}
 use Rattle.rg_outside.specs.Calls.{Image}
 use Rattle.rg_outside.specs.Capacities.{Capacities}
 use Rattle.rg_page.specs.Content.{Content, content_at}
-use Rattle.rg_page_bytes.proofs.ReadBack.{one_spelling}
-use Rattle.rg_version.specs.Versions.{taken_past}
+use Rattle.rg_page.proofs.BytesLemmas.ReadBack.{one_spelling}
+use Rattle.rg_laws_crash.specs.PageVersions.Versions.{taken_past}
 use Rattle.rg_restart.specs.declared.data.LastSwitch.{LastSwitch}
 use Rattle.rg_restart.specs.Data.{IsDataPage, IsTaken, TakesPages, switch_of}
-use Rattle.rg_ready.specs.Needed.{NeededInTurn}
+use Rattle.rg_laws_pages.specs.UndoRoom.Needed.{NeededInTurn}
 use Rattle.rg_record.specs.declared.record.Record.{Record}
 use Rattle.rg_redo.specs.Redo.{AllRedoFit, FailsAt, since_switch}
 use Rattle.rg_space.specs.Redo.{redone}
 use Rattle.rg_undo.specs.Undoing.{written_of}
 use Rattle.rg_undo.specs.Unit.{writes_of}
-use Rattle.rg_unended.specs.Unended.{left_of, open_in}
-use Rattle.rg_sound.specs.Left.{IsLacking, lefts_of, writes_left}
-use Rattle.rg_sound.specs.Pages.{BreaksFit, BreaksRows, BreaksRule, BreaksSlots, CanClose, Fit, IsMatched, KeepsRules, copy_of, count_of, redone_of, set_of, undone_of}
-use Rattle.rg_sound.specs.Pages.BreaksFit.{Unfit}
-use Rattle.rg_sound.specs.Pages.BreaksSlots.{Untied, Lacking}
-use Rattle.rg_sound.specs.Pages.BreaksRows.{Twin, Strange, Missing}
-use Rattle.rg_sound.specs.Pages.BreaksRule.{OnParts, OnSlots, OnRows}
-use Rattle.rg_sound.specs.Sound.{IsSoundBy, TakesBase}
+use Rattle.rg_check.specs.OpenUnits.Unended.{left_of, open_in}
+use Rattle.rg_laws_crash.specs.SoundVolume.Left.{IsLacking, lefts_of, writes_left}
+use Rattle.rg_laws_crash.specs.SoundVolume.Pages.{BreaksFit, BreaksRows, BreaksRule, BreaksSlots}
+use Rattle.rg_laws_crash.specs.SoundVolume.Pages.{CanClose, Fit, IsMatched, KeepsRules, copy_of}
+use Rattle.rg_laws_crash.specs.SoundVolume.Pages.{count_of, redone_of, set_of, undone_of}
+use Rattle.rg_laws_crash.specs.SoundVolume.Pages.BreaksFit.{Unfit}
+use Rattle.rg_laws_crash.specs.SoundVolume.Pages.BreaksSlots.{Untied, Lacking}
+use Rattle.rg_laws_crash.specs.SoundVolume.Pages.BreaksRows.{Twin, Strange, Missing}
+use Rattle.rg_laws_crash.specs.SoundVolume.Pages.BreaksRule.{OnParts, OnSlots, OnRows}
+use Rattle.rg_laws_crash.specs.SoundVolume.Sound.{IsSoundBy, TakesBase}
 use Rattle.rg_restart.specs.Sound.{IsDamage, IsFirstBad}
 use Rattle.rg_restart.specs.Sound.IsDamage.{LogPage, Chain, Space, BadPage, OnPages}
 use Rattle.rg_restart.proofs.Switches.{base_takes, data_page}

@@ -6,7 +6,7 @@ use Rattle.rg_desk.specs.declared.desk.OpenCause.{OpenCause}
 use Rattle.rg_desk.specs.declared.desk.OpenCause.TheVariants.{Damaged, Device, NoMemory}
 use Rattle.rg_base.specs.declared.place.Place.{Place}
 use Rattle.rg_base.specs.declared.position.Position.{Position}
-use Rattle.rg_chain.specs.Running.{Running}
+use Rattle.rg_check.specs.Chain.Running.{Running}
 use Rattle.rg_home.specs.Able.{Proper}
 use Rattle.rg_home.specs.Pages.{Sound, slot_of}
 use Rattle.rg_home.specs.Rows.{row_at}
@@ -15,39 +15,40 @@ use Rattle.rg_home.specs.Written.{Written}
 use Rattle.rg_image.specs.Kept.{AreEntries}
 use Rattle.rg_image.specs.Meaning.{Current, stored}
 use Rattle.rg_image.specs.Rules.{greatest_tran, owed}
-use Rattle.rg_indexes.specs.Listings.{AreListings}
+use Rattle.rg_btree.specs.Indexes.Listings.{AreListings}
 use Rattle.rg_home.specs.Table.{IsTable}
-use Rattle.rg_lawful.specs.Tested.{OwnersBelow, all_of}
+use Rattle.rg_laws_log.specs.LogState.Tested.{OwnersBelow, all_of}
 use Rattle.rg_log.specs.Kept.{Listed}
 use Rattle.rg_page.specs.Bare.{bare}
 use Rattle.rg_page.specs.Content.{Content, slots_of}
 use Rattle.rg_page.specs.Seen.{Seen}
 use Rattle.rg_page.specs.declared.list.ListFrames.{ListFrames}
-use Rattle.rg_rebuilt.specs.Rebuilt.{AreSoundPages, IsRebuilt}
+use Rattle.rg_redo.specs.CurrentCopy.Rebuilt.{AreSoundPages, IsRebuilt}
 use Rattle.rg_record.specs.declared.record.Record.{Record}
 use Rattle.rg_space.specs.Indexed.{Indexed}
 use Rattle.rg_space.specs.Space.{capacity_in, frames_of}
 use Rattle.rg_space.specs.declared.space.Space.{Space}
-use Rattle.rg_tested.specs.Looked.{LeftAsItWas}
-use Rattle.rg_tested.specs.Places.{IsLeastBreach}
-use Rattle.rg_tested.specs.Ties.{IsTiedAt}
+use Rattle.rg_check.specs.PageTests.Looked.{LeftAsItWas}
+use Rattle.rg_check.specs.PageTests.Places.{IsLeastBreach}
+use Rattle.rg_check.specs.PageTests.Ties.{IsTiedAt}
 use Rattle.rg_undo.specs.Unit.{writes_of}
-use Rattle.rg_unended.specs.Unended.{left_of, open_in}
-use Rattle.rg_unended.proofs.Lefts.{below_by_recursion, owners_by_recursion}
-use Rattle.rg_unended.proofs.Opens.{listed_is}
-use Rattle.rg_anew.proofs.Anew.{trans_below}
-use Rattle.rg_newest.specs.Newest.{AreNewest}
-use Rattle.rg_newest.specs.Tidy.{opened_epoch}
+use Rattle.rg_check.specs.OpenUnits.Unended.{left_of, open_in}
+use Rattle.rg_check.proofs.OpenUnitsLemmas.Lefts.{below_by_recursion, owners_by_recursion}
+use Rattle.rg_check.proofs.OpenUnitsLemmas.Opens.{listed_is}
+use Rattle.rg_laws_crash.proofs.NewCopyLemmas.Anew.{trans_below}
+use Rattle.rg_laws_crash.specs.NewestPages.Newest.{AreNewest}
+use Rattle.rg_laws_crash.specs.NewestPages.Tidy.{opened_epoch}
 use Rattle.rg_engine.specs.Begins.{CanBegin}
 use Rattle.rg_base.specs.Copies.{IsCopy}
 use Rattle.rg_engine.specs.Newest.{HasNewest}
 use Rattle.rg_space.specs.Memory.{list_seen, space_pages}
 use Rattle.rg_engine.specs.declared.found.Found.{Found}
-use Rattle.rg_sound.specs.Left.{writes_left}
-use Rattle.rg_sound.specs.Reopens.{CanReopen}
+use Rattle.rg_laws_crash.specs.SoundVolume.Left.{writes_left}
+use Rattle.rg_laws_crash.specs.SoundVolume.Reopens.{CanReopen}
 use Rattle.rg_restart.specs.Closed.{AllAtMost, ClosedAll, IsInStep, TookBack}
 use Rattle.rg_restart.specs.Found.{Finds, IsClosed, IsUndone, MayFind, Refuses, SamePages, StoresFew}
-use Rattle.rg_sound.specs.Pages.{CanClose, Fit, IsMatched, Ties, count_of, redone_of, undone_from}
+use Rattle.rg_laws_crash.specs.SoundVolume.Pages.{CanClose, Fit, IsMatched, Ties, count_of}
+use Rattle.rg_laws_crash.specs.SoundVolume.Pages.{redone_of, undone_from}
 use Rattle.rg_restart.proofs.Beginning.{can_begin}
 use Rattle.rg_restart.proofs.Reopening.{opened_closed, opened_reopens, opened_space, redone_opened}
 use Rattle.rg_restart.proofs.Staying.{stay_looked}

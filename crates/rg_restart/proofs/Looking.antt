@@ -3,8 +3,8 @@ use Rattle.std.proofs.Common.{◌≡◌, ◌≤◌, ◌+◌, ◌⊎◌, ℕ, Lis
 use Rattle.rg_base.specs.declared.position.Position.{Position}
 use Rattle.rg_base.specs.declared.set.Set.{Set}
 use Rattle.rg_base.specs.declared.set.Set.TheVariants.{Log}
-use Rattle.rg_chain.specs.Kept.{IsKept}
-use Rattle.rg_chain.specs.Running.{Running}
+use Rattle.rg_check.specs.Chain.Kept.{IsKept}
+use Rattle.rg_check.specs.Chain.Running.{Running}
 use Rattle.rg_engine.specs.OnVolume.{IsOn, WasAllTidy}
 use Rattle.rg_engine.specs.Volume.{LeavesIfTidy, VolumeSeen, WasTidy}
 use Rattle.rg_desk.specs.declared.desk.OpenCause.{OpenCause}
@@ -28,9 +28,9 @@ use Rattle.rg_outside.specs.Faults.{Rose}
 use Rattle.rg_outside.specs.Moments.{EachCall, EachImage, IfTold}
 use Rattle.rg_outside.proofs.Every.{told_weaken}
 use Rattle.rg_outside.proofs.Frame.{calls_join}
-use Rattle.rg_newest.specs.Tidy.{opened_epoch}
-use Rattle.rg_rebuilt.specs.Laws.{CoversAll}
-use Rattle.rg_rebuilt.specs.Rebuilt.{CanRebuild}
+use Rattle.rg_laws_crash.specs.NewestPages.Tidy.{opened_epoch}
+use Rattle.rg_redo.specs.CurrentCopy.Laws.{CoversAll}
+use Rattle.rg_redo.specs.CurrentCopy.Rebuilt.{CanRebuild}
 use Rattle.rg_record.specs.declared.record.Record.{Record}
 use Rattle.rg_space.specs.Memory.{space_pages}
 use Rattle.rg_restart.specs.Closed.{TookBack}
@@ -38,9 +38,9 @@ use Rattle.rg_restart.specs.Found.{Finds, MayFind, Refuses, ReopensFrom}
 use Rattle.rg_restart.specs.Opening.{BreaksLog, CallsQuiet, GoesOnTidy, IsRefused, Looks, cause_of}
 use Rattle.rg_page.specs.Content.{Content}
 use Rattle.rg_restart.specs.Data.{AreTakenAsIs, IsDataFault, MarksPages, TakesPages, switch_of}
-use Rattle.rg_sound.specs.Pages.{BreaksRule, copy_of, count_of, set_of}
+use Rattle.rg_laws_crash.specs.SoundVolume.Pages.{BreaksRule, copy_of, count_of, set_of}
 use Rattle.rg_restart.specs.declared.data.LastSwitch.{LastSwitch}
-use Rattle.rg_sound.specs.Sound.{HasSoundLog, IsSoundBy, TakesBase}
+use Rattle.rg_laws_crash.specs.SoundVolume.Sound.{HasSoundLog, IsSoundBy, TakesBase}
 use Rattle.rg_restart.specs.Sound.{IsDamage, IsFirstBad, MarksBase}
 use Rattle.rg_restart.specs.Sound.IsDamage.{LogPage, Chain, Space, BadPage, OnPages}
 use Rattle.rg_restart.proofs.Reading.{both_told, quiet_image}

@@ -11,17 +11,17 @@ use Rattle.rg_home.specs.Slot.{Slot}
 use Rattle.rg_home.specs.Slots.{slot_at}
 use Rattle.rg_image.specs.Rules.{greatest_tran}
 use Rattle.rg_home.specs.Owners.{AllBelow, OwnerBelow}
-use Rattle.rg_newest.specs.Newest.{AreNewest}
-use Rattle.rg_newest.specs.Tidy.{opened_epoch}
-use Rattle.rg_newest.proofs.InMemory.{past_in, there_in}
+use Rattle.rg_laws_crash.specs.NewestPages.Newest.{AreNewest}
+use Rattle.rg_laws_crash.specs.NewestPages.Tidy.{opened_epoch}
+use Rattle.rg_laws_crash.proofs.NewestPagesLemmas.InMemory.{past_in, there_in}
 use Rattle.rg_page.specs.Content.{Content, content_at, empty, slots_of}
 use Rattle.rg_page.specs.Seen.{Seen}
 use Rattle.rg_record.specs.declared.record.Record.{Record}
-use Rattle.rg_sound.specs.Pages.{copy_of, count_of}
-use Rattle.rg_sound.specs.Reopens.{HasLowOwners, IsBelow}
-use Rattle.rg_sound.proofs.Owners.{version_below}
+use Rattle.rg_laws_crash.specs.SoundVolume.Pages.{copy_of, count_of}
+use Rattle.rg_laws_crash.specs.SoundVolume.Reopens.{HasLowOwners, IsBelow}
+use Rattle.rg_laws_crash.proofs.SoundVolumeLemmas.Owners.{version_below}
 use Rattle.rg_space.proofs.Took.{page_slots}
-use Rattle.rg_version.specs.Versions.{Epoch, version}
+use Rattle.rg_laws_crash.specs.PageVersions.Versions.{Epoch, version}
 use Rattle.rg_restart.proofs.Beginning.{take_some}
 
 -- ---- the newest versions

@@ -7,11 +7,11 @@ use Rattle.rg_home.specs.Rows.{row_at}
 use Rattle.rg_home.specs.Slot.{Slot}
 use Rattle.rg_image.specs.Meaning.{stored}
 use Rattle.rg_record.specs.declared.record.Record.{Record}
-use Rattle.rg_tested.specs.Keys.{IsAlone}
-use Rattle.rg_tested.specs.Places.{IsLeastBreach}
-use Rattle.rg_tested.specs.StoredRows.{IsStoredAt, Stands, StoredRows}
-use Rattle.rg_tested.specs.declared.stored.Standing.TheVariants.{Stored, Strange, Missing}
-use Rattle.rg_sound.specs.Pages.{Alone, HaveHomes, IsStoredThere, LacksHome}
+use Rattle.rg_check.specs.PageTests.Keys.{IsAlone}
+use Rattle.rg_check.specs.PageTests.Places.{IsLeastBreach}
+use Rattle.rg_check.specs.PageTests.StoredRows.{IsStoredAt, Stands, StoredRows}
+use Rattle.rg_check.specs.declared.page_tests.stored.Standing.TheVariants.{Stored, Strange, Missing}
+use Rattle.rg_laws_crash.specs.SoundVolume.Pages.{Alone, HaveHomes, IsStoredThere, LacksHome}
 
 module _ (rs : List Record) (pages undone : List (List Slot)) (is : pages ≡ undone) where
   pub alone_by : (o : Option Place) → IsLeastBreach (IsAlone (row_at (slot_of pages))) o → IsLeastBreach (Alone undone) o

@@ -9,10 +9,10 @@ use Rattle.rg_engine.specs.Volume.{VolumeSeen}
 use Rattle.rg_engine.specs.declared.found.Found.{Found}
 use Rattle.rg_image.specs.Rules.{copy_capacity}
 use Rattle.rg_log.specs.Kept.{Listed}
-use Rattle.rg_newest.specs.Newest.{page_in}
-use Rattle.rg_newest.specs.Tidy.{opened_epoch, set_of, switched_at, switched_pages}
-use Rattle.rg_newest.proofs.InMemory.{there_in}
-use Rattle.rg_newest.proofs.Switching.{switched_pages_low}
+use Rattle.rg_laws_crash.specs.NewestPages.Newest.{page_in}
+use Rattle.rg_laws_crash.specs.NewestPages.Tidy.{opened_epoch, set_of, switched_at, switched_pages}
+use Rattle.rg_laws_crash.proofs.NewestPagesLemmas.InMemory.{there_in}
+use Rattle.rg_laws_crash.proofs.NewestPagesLemmas.Switching.{switched_pages_low}
 use Rattle.rg_outside.specs.Calls.{Image, Told, read_of}
 use Rattle.rg_outside.specs.Moments.{IfTold}
 use Rattle.rg_outside.proofs.Every.{told_weaken}
@@ -20,10 +20,11 @@ use Rattle.rg_page.specs.Content.{Content}
 use Rattle.rg_record.specs.declared.record.Record.{Record}
 use Rattle.rg_space.specs.Memory.{list_seen, space_pages}
 use Rattle.rg_space.specs.Space.{capacity_in, frames_of}
-use Rattle.rg_sound.specs.Pages.{copy_of}
-use Rattle.rg_sound.specs.Sound.{IsSoundBy, TakesBase}
-use Rattle.rg_version.specs.Versions.{Epoch, Spells, redone_by, taken_if, taken_past, version}
-use Rattle.rg_version.proofs.Redo.{numbers_stay}
+use Rattle.rg_laws_crash.specs.SoundVolume.Pages.{copy_of}
+use Rattle.rg_laws_crash.specs.SoundVolume.Sound.{IsSoundBy, TakesBase}
+use Rattle.rg_laws_crash.specs.PageVersions.Versions.{Epoch, Spells, redone_by, taken_if}
+use Rattle.rg_laws_crash.specs.PageVersions.Versions.{taken_past, version}
+use Rattle.rg_laws_crash.proofs.PageVersionsLemmas.Redo.{numbers_stay}
 use Rattle.rg_restart.specs.Found.{Finds}
 use Rattle.rg_restart.specs.Opening.{AreMadeOf, CallsQuiet, Looks, NoneNames, OpensStored, ReadsSound, StandAsRead}
 use Rattle.rg_restart.proofs.Reopening.{unnamed_same}

@@ -13,16 +13,16 @@ use Rattle.rg_log.proofs.Ready.{quiet_reads}
 use Rattle.rg_outside.specs.Calls.{Image, Told, read_of}
 use Rattle.rg_outside.specs.Capacities.{Capacities, capacity_of}
 use Rattle.rg_outside.specs.Moments.{EachCall, IfTold}
-use Rattle.rg_sound.specs.Pages.{set_of}
+use Rattle.rg_laws_crash.specs.SoundVolume.Pages.{set_of}
 use Rattle.rg_page.specs.Content.{Content, content_at, empty}
 use Rattle.rg_page.specs.Reading.{IsNone, NoPageHas}
 use Rattle.rg_page.specs.declared.list.ListFrames.{ListFrames}
-use Rattle.rg_page_bytes.specs.Content.{FitsPage}
-use Rattle.rg_page_bytes.specs.PageBytes.{page_bytes}
-use Rattle.rg_page_bytes.specs.declared.fault.PageFault.{PageFault}
-use Rattle.rg_page_bytes.specs.declared.fault.PageFault.TheVariants.{NotAPage, NoMemory}
-use Rattle.rg_page_bytes.proofs.ReadBack.{one_spelling}
-use Rattle.rg_version.specs.Versions.{taken_if, taken_past}
+use Rattle.rg_page.specs.Bytes.Content.{FitsPage}
+use Rattle.rg_page.specs.Bytes.PageBytes.{page_bytes}
+use Rattle.rg_page.specs.declared.bytes.fault.PageFault.{PageFault}
+use Rattle.rg_page.specs.declared.bytes.fault.PageFault.TheVariants.{NotAPage, NoMemory}
+use Rattle.rg_page.proofs.BytesLemmas.ReadBack.{one_spelling}
+use Rattle.rg_laws_crash.specs.PageVersions.Versions.{taken_if, taken_past}
 use Rattle.rg_engine.specs.OnVolume.{mark_at}
 use Rattle.rg_restart.specs.declared.data.LastSwitch.{LastSwitch}
 use Rattle.rg_restart.specs.Data.{AreBase, AreTakenAsIs, BreaksData, IsDataPage, IsFirstBroken, IsMarked, IsTaken, IsTakenAsIs, IsUntaken, MarksPages, TakesPages}

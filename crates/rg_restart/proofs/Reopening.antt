@@ -10,7 +10,7 @@ use Rattle.std.proofs.lemmas.Bool.{cases_lt}
 use Rattle.std.proofs.lemmas.List.{get_or-map, length-map, take-append-le, take_all}
 use Rattle.std.specs.List.{AllByRecursion}
 use Rattle.rg_base.specs.declared.position.Position.{Position}
-use Rattle.rg_chain.specs.Running.{Running}
+use Rattle.rg_check.specs.Chain.Running.{Running}
 use Rattle.rg_engine.specs.declared.found.Found.{Found}
 use Rattle.rg_home.specs.Pages.{slot_of}
 use Rattle.rg_image.specs.Kept.{AreEntries}
@@ -18,32 +18,33 @@ use Rattle.rg_image.specs.Pack.{log_bytes}
 use Rattle.rg_image.specs.Rules.{ArePositions, HasSpace, greatest_tran, limit_of, owed}
 use Rattle.rg_home.specs.Owners.{AllBelow}
 use Rattle.rg_log.specs.Kept.{Listed, log_pages}
-use Rattle.rg_newest.specs.Newest.{AreNewest, page_in}
-use Rattle.rg_newest.specs.Tidy.{opened_epoch, switched_at, switched_pages}
-use Rattle.rg_newest.proofs.InMemory.{past_in, there_in}
-use Rattle.rg_newest.proofs.Near.{past_there}
-use Rattle.rg_newest.proofs.Steady.{steady_opened}
-use Rattle.rg_newest.proofs.Switching.{has_switched}
+use Rattle.rg_laws_crash.specs.NewestPages.Newest.{AreNewest, page_in}
+use Rattle.rg_laws_crash.specs.NewestPages.Tidy.{opened_epoch, switched_at, switched_pages}
+use Rattle.rg_laws_crash.proofs.NewestPagesLemmas.InMemory.{past_in, there_in}
+use Rattle.rg_laws_crash.proofs.NewestPagesLemmas.Near.{past_there}
+use Rattle.rg_laws_crash.proofs.NewestPagesLemmas.Steady.{steady_opened}
+use Rattle.rg_laws_crash.proofs.NewestPagesLemmas.Switching.{has_switched}
 use Rattle.rg_outside.specs.Capacities.{Capacities}
 use Rattle.rg_page.specs.Content.{Content, content_at, empty, slots_of}
 use Rattle.rg_page.specs.Seen.{Seen}
-use Rattle.rg_rebuilt.specs.Rebuilt.{CanRebuild}
+use Rattle.rg_redo.specs.CurrentCopy.Rebuilt.{CanRebuild}
 use Rattle.rg_record.specs.Applied.{parts_of}
 use Rattle.rg_record.specs.declared.record.Record.{Record}
 use Rattle.rg_redo.specs.Redo.{AllRedoFit, since_switch}
-use Rattle.rg_sound.specs.ClosingLaws.{IsClosedLog, MayClose}
-use Rattle.rg_sound.specs.Pages.{Fit, IsMatched, copy_of, count_of}
-use Rattle.rg_sound.specs.Reopens.{CanReopen, HasLowOwners, IsBelow, IsRedone}
-use Rattle.rg_sound.proofs.Closings.{closings_reopen, closings_tell}
-use Rattle.rg_sound.proofs.Switched.{pages_since}
+use Rattle.rg_laws_crash.specs.SoundVolume.ClosingLaws.{IsClosedLog, MayClose}
+use Rattle.rg_laws_crash.specs.SoundVolume.Pages.{Fit, IsMatched, copy_of, count_of}
+use Rattle.rg_laws_crash.specs.SoundVolume.Reopens.{CanReopen, HasLowOwners, IsBelow, IsRedone}
+use Rattle.rg_laws_crash.proofs.SoundVolumeLemmas.Closings.{closings_reopen, closings_tell}
+use Rattle.rg_laws_crash.proofs.SoundVolumeLemmas.Switched.{pages_since}
 use Rattle.rg_space.specs.Carries.{AllThere}
 use Rattle.rg_space.specs.Memory.{list_seen, space_pages}
 use Rattle.rg_space.specs.Redo.{RedoFits, redone}
 use Rattle.rg_space.specs.Space.{frames_of}
 use Rattle.rg_space.specs.declared.space.Space.{Space}
 use Rattle.rg_page.specs.declared.list.ListFrames.{ListFrames}
-use Rattle.rg_version.specs.Versions.{EachFits, IsBegun, names, taken_if, taken_past}
-use Rattle.rg_version.proofs.Parts.{passed_fits, step}
+use Rattle.rg_laws_crash.specs.PageVersions.Versions.{EachFits, IsBegun, names, taken_if}
+use Rattle.rg_laws_crash.specs.PageVersions.Versions.{taken_past}
+use Rattle.rg_laws_crash.proofs.PageVersionsLemmas.Parts.{passed_fits, step}
 use Rattle.rg_restart.specs.Data.{AreTakenAsIs, switch_of}
 use Rattle.rg_restart.specs.Found.{Finds, IsClosed, IsLogOf, MayFind, ReopensFrom}
 use Rattle.rg_restart.proofs.LowOwners.{low_begins, low_taken, newest_all_below}

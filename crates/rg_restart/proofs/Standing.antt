@@ -21,30 +21,31 @@ use Rattle.rg_outside.proofs.Every.{told_weaken}
 use Rattle.rg_outside.proofs.Images.{one_only}
 use Rattle.rg_page.specs.Content.{Content, content_at}
 use Rattle.rg_page.specs.declared.list.ListFrames.{ListFrames}
-use Rattle.rg_rebuilt.specs.Rebuilt.{CanRebuild}
+use Rattle.rg_redo.specs.CurrentCopy.Rebuilt.{CanRebuild}
 use Rattle.rg_record.specs.declared.record.Record.{Record}
 use Rattle.rg_space.specs.Space.{capacity_in}
 use Rattle.rg_space.specs.declared.space.Space.{Space}
-use Rattle.rg_version.specs.Versions.{Epoch, IsOnVolume as IsOnPage, Spells, taken_if, taken_past, version}
-use Rattle.rg_version.proofs.Redo.{version_more}
-use Rattle.rg_newest.specs.OpenLaws.{IsOpened}
-use Rattle.rg_newest.specs.Tidy.{AreSpare, opened_epoch, set_of}
-use Rattle.rg_newest.proofs.Opening.{opening_marks, opening_stands}
-use Rattle.rg_newest.proofs.Steady.{opened_past}
-use Rattle.rg_newest.proofs.Switching.{has_switched}
+use Rattle.rg_laws_crash.specs.PageVersions.Versions.{Epoch, IsOnVolume as IsOnPage, Spells}
+use Rattle.rg_laws_crash.specs.PageVersions.Versions.{taken_if, taken_past, version}
+use Rattle.rg_laws_crash.proofs.PageVersionsLemmas.Redo.{version_more}
+use Rattle.rg_laws_crash.specs.NewestPages.OpenLaws.{IsOpened}
+use Rattle.rg_laws_crash.specs.NewestPages.Tidy.{AreSpare, opened_epoch, set_of}
+use Rattle.rg_laws_crash.proofs.NewestPagesLemmas.Opening.{opening_marks, opening_stands}
+use Rattle.rg_laws_crash.proofs.NewestPagesLemmas.Steady.{opened_past}
+use Rattle.rg_laws_crash.proofs.NewestPagesLemmas.Switching.{has_switched}
 use Rattle.rg_engine.specs.Newest.{HasNewest}
 use Rattle.rg_engine.specs.OnVolume.{HasCopies, IsMark, IsOn, IsTidyVolume, WasAllTidy, mark_at}
 use Rattle.rg_engine.specs.Reopens.{PartsReopen}
 use Rattle.rg_engine.specs.Volume.{VolumeSeen}
 use Rattle.rg_engine.proofs.Copies.{copies_more}
-use Rattle.rg_switch.specs.Switched.{AreOldPages, IsOldPage}
+use Rattle.rg_laws_crash.specs.SwitchRecord.Switched.{AreOldPages, IsOldPage}
 use Rattle.rg_base.specs.Copies.{other_of}
 use Rattle.rg_restart.specs.declared.data.LastSwitch.{LastSwitch}
 use Rattle.rg_restart.specs.Data.{IsMarked, IsTaken, MarksPages, mark_if, switch_of}
 use Rattle.rg_restart.specs.Found.{ReopensFrom}
-use Rattle.rg_sound.specs.Pages.{copy_of, count_of}
-use Rattle.rg_sound.specs.Reopens.{AreTidyOwners, HasLowOwners, IsBelow}
-use Rattle.rg_sound.specs.Sound.{TakesBase}
+use Rattle.rg_laws_crash.specs.SoundVolume.Pages.{copy_of, count_of}
+use Rattle.rg_laws_crash.specs.SoundVolume.Reopens.{AreTidyOwners, HasLowOwners, IsBelow}
+use Rattle.rg_laws_crash.specs.SoundVolume.Sound.{TakesBase}
 use Rattle.rg_restart.proofs.Exact.{page_one}
 use Rattle.rg_restart.proofs.Reading.{copy_within}
 use Rattle.rg_restart.proofs.Switches.{page_taken}

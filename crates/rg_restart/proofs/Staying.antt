@@ -7,7 +7,7 @@ use Rattle.rg_image.proofs.Sound.{more_positions}
 use Rattle.rg_page.specs.Content.{Content, content_at}
 use Rattle.rg_page.specs.Listed.{list_numbered}
 use Rattle.rg_page.specs.declared.list.ListFrames.{ListFrames}
-use Rattle.rg_rebuilt.specs.Rebuilt.{CanRebuild, IsRebuilt}
+use Rattle.rg_redo.specs.CurrentCopy.Rebuilt.{CanRebuild, IsRebuilt}
 use Rattle.rg_record.specs.Applied.{parts_of}
 use Rattle.rg_record.specs.declared.record.Kind.{Kind}
 use Rattle.rg_record.specs.declared.record.Kind.TheVariants.{Change, Undo, Commit, RolledBack, Purge, Switch}
@@ -18,24 +18,24 @@ use Rattle.rg_space.specs.Memory.{list_seen}
 use Rattle.rg_space.specs.Space.{frames_of}
 use Rattle.rg_space.specs.declared.space.Space.{Space}
 use Rattle.rg_undo.specs.Wrote.{AllOnPages, wrote_each}
-use Rattle.rg_version.specs.Versions.{Epoch}
-use Rattle.rg_newest.specs.Laws.{CanRedoFrom}
-use Rattle.rg_newest.specs.Newest.{CountUp, page_in}
-use Rattle.rg_newest.specs.OpenLaws.{IsCutAtSwitch}
-use Rattle.rg_newest.specs.Steady.{IsSteady}
-use Rattle.rg_newest.specs.Tidy.{opened_epoch}
-use Rattle.rg_newest.proofs.InMemory.{past_in, there_in}
-use Rattle.rg_newest.proofs.Records.{each_newest, rebuilt_newest}
-use Rattle.rg_newest.proofs.Steady.{steady_more, steady_opened}
-use Rattle.rg_newest.proofs.Switching.{has_switched}
+use Rattle.rg_laws_crash.specs.PageVersions.Versions.{Epoch}
+use Rattle.rg_laws_crash.specs.NewestPages.Laws.{CanRedoFrom}
+use Rattle.rg_laws_crash.specs.NewestPages.Newest.{CountUp, page_in}
+use Rattle.rg_laws_crash.specs.NewestPages.OpenLaws.{IsCutAtSwitch}
+use Rattle.rg_laws_crash.specs.NewestPages.Steady.{IsSteady}
+use Rattle.rg_laws_crash.specs.NewestPages.Tidy.{opened_epoch}
+use Rattle.rg_laws_crash.proofs.NewestPagesLemmas.InMemory.{past_in, there_in}
+use Rattle.rg_laws_crash.proofs.NewestPagesLemmas.Records.{each_newest, rebuilt_newest}
+use Rattle.rg_laws_crash.proofs.NewestPagesLemmas.Steady.{steady_more, steady_opened}
+use Rattle.rg_laws_crash.proofs.NewestPagesLemmas.Switching.{has_switched}
 use Rattle.rg_engine.specs.Newest.{HasNewest, StayNewest}
 use Rattle.rg_engine.specs.Undoing.{is_undo}
 use Rattle.rg_engine.proofs.NewestKept.{end_stays, newest_same}
-use Rattle.rg_sound.specs.Closing.{rolled_back}
+use Rattle.rg_laws_crash.specs.SoundVolume.Closing.{rolled_back}
 use Rattle.rg_restart.specs.Closed.{AreUndosFrom}
 use Rattle.rg_restart.specs.Data.{AreBase}
 use Rattle.rg_restart.specs.Found.{SamePages}
-use Rattle.rg_sound.specs.Pages.{copy_of, count_of}
+use Rattle.rg_laws_crash.specs.SoundVolume.Pages.{copy_of, count_of}
 
 -- over several steps
 pub stay_join : (xs ys zs : List Record) (a b c : Space ListFrames) → StayNewest xs a ys b → StayNewest ys b zs c → StayNewest xs a zs c

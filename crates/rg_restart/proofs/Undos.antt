@@ -5,9 +5,9 @@ use Rattle.rg_home.specs.Able.{Proper}
 use Rattle.rg_home.specs.Slot.{Slot}
 use Rattle.rg_home.specs.Undo.{undone}
 use Rattle.rg_home.specs.Written.{Written}
-use Rattle.rg_keyed.specs.Keyed.{AllTakeBack, TakesBack, TransBelow}
-use Rattle.rg_ready.specs.Needed.{NeededInTurn}
-use Rattle.rg_ready.proofs.Next.{undo_proper}
+use Rattle.rg_laws_log.specs.StoredRows.Keyed.{AllTakeBack, TakesBack, TransBelow}
+use Rattle.rg_laws_pages.specs.UndoRoom.Needed.{NeededInTurn}
+use Rattle.rg_laws_pages.proofs.UndoRoomLemmas.Next.{undo_proper}
 use Rattle.rg_record.specs.declared.record.Kind.{Kind}
 use Rattle.rg_record.specs.declared.record.Kind.TheVariants.{Change, Undo, Commit, RolledBack, Purge, Switch}
 use Rattle.rg_record.specs.declared.record.Record.{Record}

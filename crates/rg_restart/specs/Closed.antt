@@ -10,22 +10,22 @@ use Rattle.rg_home.specs.Able.{Proper}
 use Rattle.rg_home.specs.Undo.{undone_all}
 use Rattle.rg_home.specs.Written.{Written}
 use Rattle.rg_image.specs.Pack.{log_bytes}
-use Rattle.rg_keyed.specs.Keyed.{AllTakeBack, TransBelow}
-use Rattle.rg_lawful.specs.Tested.{all_of}
+use Rattle.rg_laws_log.specs.StoredRows.Keyed.{AllTakeBack, TransBelow}
+use Rattle.rg_laws_log.specs.LogState.Tested.{all_of}
 use Rattle.rg_log.specs.Kept.{Listed}
 use Rattle.rg_page.specs.declared.list.ListFrames.{ListFrames}
-use Rattle.rg_ready.specs.Needed.{NeededInTurn}
+use Rattle.rg_laws_pages.specs.UndoRoom.Needed.{NeededInTurn}
 use Rattle.rg_record.specs.declared.record.Record.{Record}
 use Rattle.rg_record.specs.Spelled.{IsRecord}
 use Rattle.rg_space.specs.Space.{Agree, InStep, capacity_in, frames_of, index_of}
 use Rattle.rg_space.specs.declared.space.Space.{Space}
 use Rattle.rg_undo.specs.Unit.{writes_of}
-use Rattle.rg_unended.specs.Unended.{left_of, owed_for}
+use Rattle.rg_check.specs.OpenUnits.Unended.{left_of, owed_for}
 use Rattle.rg_space.specs.Memory.{list_seen, space_pages}
 use Rattle.rg_engine.specs.Newest.{StayNewest}
 use Rattle.rg_engine.specs.Undoing.{is_undo}
-use Rattle.rg_sound.specs.Closing.{all_closed, closed_by}
-use Rattle.rg_sound.specs.Left.{IsLacking, lefts_of, writes_left}
+use Rattle.rg_laws_crash.specs.SoundVolume.Closing.{all_closed, closed_by}
+use Rattle.rg_laws_crash.specs.SoundVolume.Left.{IsLacking, lefts_of, writes_left}
 
 -- summaries and pages are in step, and agree
 pub record IsInStep (space : Space ListFrames) : Type 0 where

@@ -17,14 +17,14 @@ use Rattle.rg_outside.specs.Faults.{Rose}
 use Rattle.rg_outside.specs.Moments.{IfTold}
 use Rattle.rg_page.specs.Content.{Content, content_at}
 use Rattle.rg_page.specs.declared.list.ListFrames.{ListFrames}
-use Rattle.rg_page_bytes.specs.Content.{FitsPage}
-use Rattle.rg_page_bytes.specs.declared.fault.PageFault.{PageFault}
-use Rattle.rg_page_bytes.specs.declared.fault.PageFault.TheVariants.{NotAPage}
-use Rattle.rg_page_bytes.specs.declared.fault.PageFault.TheVariants as faults
+use Rattle.rg_page.specs.Bytes.Content.{FitsPage}
+use Rattle.rg_page.specs.declared.bytes.fault.PageFault.{PageFault}
+use Rattle.rg_page.specs.declared.bytes.fault.PageFault.TheVariants.{NotAPage}
+use Rattle.rg_page.specs.declared.bytes.fault.PageFault.TheVariants as faults
 use Rattle.rg_record.specs.declared.record.Kind.{Kind}
 use Rattle.rg_record.specs.declared.record.Kind.TheVariants.{Change, Undo, Commit, RolledBack, Purge, Switch}
 use Rattle.rg_record.specs.declared.record.Record.{Record}
-use Rattle.rg_version.specs.Versions.{Spells, taken_past}
+use Rattle.rg_laws_crash.specs.PageVersions.Versions.{Spells, taken_past}
 use Rattle.rg_restart.specs.declared.data.LastSwitch.{LastSwitch}
 
 -- the last Switch after one record more

@@ -9,40 +9,41 @@
 use Rattle.std.specs.Prelude.{◌≡◌, ◌≤◌, ◌<◌, ◌+◌, ◌^◌, ◌++◌, ℕ, List, Option, length, take}
 use Rattle.rg_base.specs.declared.position.Position.{Position}
 use Rattle.rg_base.specs.declared.set.Set.{Set}
-use Rattle.rg_chain.specs.Kept.{IsKept}
-use Rattle.rg_chain.specs.Running.{Running}
+use Rattle.rg_check.specs.Chain.Kept.{IsKept}
+use Rattle.rg_check.specs.Chain.Running.{Running}
 use Rattle.rg_home.specs.Able.{Proper}
 use Rattle.rg_home.specs.Pages.{slot_of}
 use Rattle.rg_home.specs.Rows.{row_at}
 use Rattle.rg_image.specs.Pack.{log_bytes}
 use Rattle.rg_image.specs.Rules.{ArePositions, IsChain, copy_capacity, limit_of, owed}
-use Rattle.rg_indexes.specs.Listings.{AreListings}
-use Rattle.rg_keyed.specs.Keyed.{AllTakeBack}
+use Rattle.rg_btree.specs.Indexes.Listings.{AreListings}
+use Rattle.rg_laws_log.specs.StoredRows.Keyed.{AllTakeBack}
 use Rattle.rg_log.specs.Kept.{Listed, log_pages}
 use Rattle.rg_model.specs.State.{Table, row_count}
 use Rattle.rg_home.specs.Slot.{Slot}
 use Rattle.rg_outside.specs.Capacities.{Capacities}
 use Rattle.rg_page.specs.Content.{Content}
 use Rattle.rg_page.specs.declared.list.ListFrames.{ListFrames}
-use Rattle.rg_rebuilt.specs.Rebuilt.{CanRebuild}
+use Rattle.rg_redo.specs.CurrentCopy.Rebuilt.{CanRebuild}
 use Rattle.rg_record.specs.declared.record.Record.{Record}
 use Rattle.rg_space.specs.Space.{capacity_in, frames_of}
 use Rattle.rg_space.specs.declared.space.Space.{Space}
 use Rattle.rg_engine.specs.Begins.{CanBegin}
 use Rattle.rg_base.specs.Copies.{IsCopy}
 use Rattle.rg_space.specs.Memory.{list_seen, space_pages}
-use Rattle.rg_newest.specs.Tidy.{opened_epoch, switched_pages}
+use Rattle.rg_laws_crash.specs.NewestPages.Tidy.{opened_epoch, switched_pages}
 use Rattle.rg_engine.specs.Newest.{HasNewest}
 use Rattle.rg_engine.specs.Stored.{IsStored}
 use Rattle.rg_desk.specs.declared.desk.OpenCause.{OpenCause}
 use Rattle.rg_desk.specs.declared.desk.OpenCause.TheVariants.{Damaged, Device, NoMemory}
 use Rattle.rg_engine.specs.declared.found.Found.{Found}
-use Rattle.rg_unended.specs.Unended.{open_in}
+use Rattle.rg_check.specs.OpenUnits.Unended.{open_in}
 use Rattle.rg_restart.specs.Closed.{IsInStep, TookBack}
-use Rattle.rg_sound.specs.Closing.{closed_log}
-use Rattle.rg_sound.specs.Pages.{CanClose, KeepsRules, copy_of, count_of, undone_from}
-use Rattle.rg_sound.specs.Reopens.{CanReopen}
-use Rattle.rg_version.specs.Versions.{IsBegun}
+use Rattle.rg_laws_crash.specs.SoundVolume.Closing.{closed_log}
+use Rattle.rg_laws_crash.specs.SoundVolume.Pages.{CanClose, KeepsRules, copy_of, count_of}
+use Rattle.rg_laws_crash.specs.SoundVolume.Pages.{undone_from}
+use Rattle.rg_laws_crash.specs.SoundVolume.Reopens.{CanReopen}
+use Rattle.rg_laws_crash.specs.PageVersions.Versions.{IsBegun}
 
 -- the log of a volume of these capacities, whose current copy may have so many pages
 pub record IsLogOf (capacities : Capacities) (log : Listed) (capacity : ℕ) : Type 0 where

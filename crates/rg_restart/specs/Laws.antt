@@ -6,7 +6,7 @@ use Rattle.std.specs.Prelude.{ℕ}
 use Rattle.rg_base.specs.declared.set.Set.{Set}
 use Rattle.rg_outside.specs.Calls.{Image}
 use Rattle.rg_outside.specs.Capacities.{Capacities}
-use Rattle.rg_sound.specs.Sound.{IsSound}
+use Rattle.rg_laws_crash.specs.SoundVolume.Sound.{IsSound}
 use Rattle.rg_restart.specs.Sound.{IsDamage}
 
 abbrev pub SoundBreaksNone : Type 0

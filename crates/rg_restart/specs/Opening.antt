@@ -26,8 +26,8 @@ use Rattle.rg_log.specs.Kept.{Listed, log_pages}
 use Rattle.rg_log.specs.Open.{IsQuiet}
 use Rattle.rg_log.specs.declared.fault.LogFault.{LogFault}
 use Rattle.rg_log.specs.declared.fault.LogFault.TheVariants as log_faults
-use Rattle.rg_newest.specs.Newest.{page_in}
-use Rattle.rg_newest.specs.Tidy.{opened_epoch, set_of, switched_at, switched_pages}
+use Rattle.rg_laws_crash.specs.NewestPages.Newest.{page_in}
+use Rattle.rg_laws_crash.specs.NewestPages.Tidy.{opened_epoch, set_of, switched_at, switched_pages}
 use Rattle.rg_outside.specs.Calls.{Image, read_of}
 use Rattle.rg_outside.specs.Capacities.{Capacities}
 use Rattle.rg_outside.specs.Faults.{Rose}
@@ -35,12 +35,12 @@ use Rattle.rg_outside.specs.Moments.{EachCall, IfTold}
 use Rattle.rg_page.specs.Content.{Content}
 use Rattle.rg_record.specs.declared.record.Record.{Record}
 use Rattle.rg_space.specs.Memory.{space_pages}
-use Rattle.rg_unended.specs.Unended.{open_in}
-use Rattle.rg_version.specs.Versions.{Spells, names, version}
+use Rattle.rg_check.specs.OpenUnits.Unended.{open_in}
+use Rattle.rg_laws_crash.specs.PageVersions.Versions.{Spells, names, version}
 use Rattle.rg_restart.specs.Closed.{TookBack}
 use Rattle.rg_restart.specs.Found.{Finds}
-use Rattle.rg_sound.specs.Pages.{copy_of, count_of}
-use Rattle.rg_sound.specs.Sound.{IsSoundBy}
+use Rattle.rg_laws_crash.specs.SoundVolume.Pages.{copy_of, count_of}
+use Rattle.rg_laws_crash.specs.SoundVolume.Sound.{IsSoundBy}
 use Rattle.rg_restart.specs.Sound.{IsDamage}
 
 -- calls that write nothing

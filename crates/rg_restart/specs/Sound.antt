@@ -12,8 +12,8 @@ use Rattle.rg_outside.specs.Calls.{Image}
 use Rattle.rg_outside.specs.Capacities.{Capacities}
 use Rattle.rg_page.specs.Content.{Content}
 use Rattle.rg_record.specs.declared.record.Record.{Record}
-use Rattle.rg_sound.specs.Pages.{BreaksRule, copy_of, count_of, set_of}
-use Rattle.rg_sound.specs.Sound.{HasSoundLog, TakesBase}
+use Rattle.rg_laws_crash.specs.SoundVolume.Pages.{BreaksRule, copy_of, count_of, set_of}
+use Rattle.rg_laws_crash.specs.SoundVolume.Sound.{HasSoundLog, TakesBase}
 use Rattle.rg_restart.specs.Data.{IsFirstBroken, MarksPages, switch_of}
 
 -- the pages of the current copy have these marks

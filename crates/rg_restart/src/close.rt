@@ -11,27 +11,27 @@ ghost use Rattle.std.specs.List.{AllByRecursion};
 ghost use Rattle.rg_home.specs.Able.{Proper};
 ghost use Rattle.rg_image.specs.Rules.{last_position, limit_of, of_tran, owed};
 ghost use Rattle.rg_image.specs.Pack.{log_bytes};
-ghost use Rattle.rg_chain.specs.Kept.{IsKept};
+ghost use Rattle.rg_check.specs.Chain.Kept.{IsKept};
 ghost use Rattle.rg_page.specs.Bare.{numbers_of};
-ghost use Rattle.rg_unended.specs.Unended.{left_of, open_in, owed_for};
+ghost use Rattle.rg_check.specs.OpenUnits.Unended.{left_of, open_in, owed_for};
 ghost use Rattle.rg_space.specs.Memory.{space_pages};
-ghost use Rattle.rg_sound.specs.Closing.{rolled_back};
+ghost use Rattle.rg_laws_crash.specs.SoundVolume.Closing.{rolled_back};
 ghost use Rattle.rg_restart.specs.Closed.{AreUndosFrom, Closes, ClosesUnit, IsInStep, TookBack};
 
 use rg_base::no_memory::NoMemory;
 use rg_base::place::Place;
 use rg_base::position::Position;
 use rg_base::tran::Tran;
-use rg_chain::chain::Chain;
-use rg_chain::unit::Unit;
+use rg_check::chain::chain::Chain;
+use rg_check::chain::unit::Unit;
+use rg_check::open_units::unended::changes_left;
+use rg_check::page_tests::turns::{Outcome, undo_tested};
 use rg_engine::records::{append, next_position};
 use rg_log::fault::ReserveFault;
 use rg_log::log::Log;
 use rg_page::list::ListFrames;
 use rg_record::record::{Kind, Record};
 use rg_space::space::Space;
-use rg_tested::turns::{Outcome, undo_tested};
-use rg_unended::unended::changes_left;
 use std::alloc::Global;
 
 // Appends the records of a unit's undo.

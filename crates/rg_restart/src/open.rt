@@ -7,21 +7,21 @@
 // 3. The entries of earlier openings are kept, before those of the desk that is opened. A refusal
 //    hands them back.
 ghost use Rattle.std.specs.Prelude.{◌≡◌, [], IfOk, IfErr};
-ghost use Rattle.rg_chain.specs.Kept.{IsKept};
+ghost use Rattle.rg_check.specs.Chain.Kept.{IsKept};
 ghost use Rattle.rg_desk.specs.Chronicle.{IsRecorded};
 ghost use Rattle.rg_engine.specs.Volume.{HasCalls, seen_volume};
 ghost use Rattle.rg_image.specs.Rules.{HasSpace, IsChain};
 ghost use Rattle.rg_log.specs.Kept.{log_pages};
-ghost use Rattle.rg_rebuilt.specs.Laws.{CoversAll};
+ghost use Rattle.rg_redo.specs.CurrentCopy.Laws.{CoversAll};
 ghost use Rattle.rg_restart.specs.Opening.{BreaksLog, GoesOnTidy, IsRefused, Looks, OpensStored, cause_of};
 
 use crate::data::{read_pages, switch_of};
 use crate::find::{damaged, find};
 use rg_base::no_memory::NoMemory;
 use rg_base::set::Set;
-use rg_chain::chain::Chain;
-use rg_chain::names::copy_pages;
-use rg_chain::test::{LogTest, test_log};
+use rg_check::chain::chain::Chain;
+use rg_check::chain::names::copy_pages;
+use rg_check::chain::test::{LogTest, test_log};
 use rg_desk::desk::{Desk, OpenCause, OpenFault};
 use rg_engine::flush::set_of;
 use rg_engine::found::Found;

@@ -33,8 +33,8 @@ use Rattle.rg_record.specs.declared.record.Record.{Record}
 use Rattle.rg_restart.specs.Opening.{IsCause, IsRefused, OpensStored}
 use Rattle.rg_restart.specs.Sound.{IsDamage}
 use Rattle.rg_restart.proofs.Exact.{sound_breaks_none}
-use Rattle.rg_sound.specs.Pages.{copy_of}
-use Rattle.rg_sound.specs.Sound.{IsSound}
+use Rattle.rg_laws_crash.specs.SoundVolume.Pages.{copy_of}
+use Rattle.rg_laws_crash.specs.SoundVolume.Sound.{IsSound}
 use Rattle.rg_stmt.specs.declared.event.Entry.{Entry}
 use Rattle.rg_stmt.specs.declared.line.Line.{Line}
 use Rattle.rg_stmt.specs.declared.line.Line.TheVariants.{Death}

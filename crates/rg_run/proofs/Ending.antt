@@ -24,7 +24,7 @@ use Rattle.rg_run.specs.Outside.{IfBoth, IsEnd, WasUntidy, WritesOwn, log_at}
 use Rattle.rg_model.specs.Legal.{Legal}
 use Rattle.rg_run.specs.Full.{smaller_pages}
 use Rattle.rg_run.specs.Fit.{FailedSince, calls_of_last}
-use Rattle.rg_course.specs.OnCourse.{IsOnCourse}
+use Rattle.rg_laws_utility.specs.Course.OnCourse.{IsOnCourse}
 use Rattle.rg_run.specs.Parts.{AreParts, IfAtOpening, IfTidy, IsAtDeath, IsFailed, IsFound, IsPart, IsRun, IsUndamaged, LastPart, Made, RunEnds, RunsFrom, StaysSound}
 use Rattle.rg_run.specs.Played.{TraceOf, first_of}
 use Rattle.rg_run.specs.Table.{Begins, Ends, EndsAt, EndsAtDown, EndsAtOpening, EndsWhole, Finds, IfBegunTidy, IsAllowedRun, IsLegalRun, IsOpening, IsRunOnCourse, OpensLog}

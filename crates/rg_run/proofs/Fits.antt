@@ -9,14 +9,14 @@ use Rattle.rg_base.specs.declared.verdict.StopReason.TheVariants as reasons
 use Rattle.rg_engine.specs.Layouts.{IsLayout}
 use Rattle.rg_engine.specs.Flushed.{FlushIs, WrotePage}
 use Rattle.rg_engine.specs.Volume.{IsCount, VolumeSeen}
-use Rattle.rg_newest.specs.Tidy.{set_of}
+use Rattle.rg_laws_crash.specs.NewestPages.Tidy.{set_of}
 use Rattle.rg_outside.specs.Calls.{Call, Told, faults_of, is_failed}
 use Rattle.rg_outside.specs.Faults.{Rose}
 use Rattle.rg_outside.specs.Made.{CountsFailed}
 use Rattle.rg_outside.specs.Moments.{EachCall, IfTold, faults_at, moment}
 use Rattle.rg_outside.proofs.Every.{told_both, told_weaken}
 use Rattle.rg_page.specs.Content.{Content, content_at}
-use Rattle.rg_page_bytes.specs.PageBytes.{page_bytes}
+use Rattle.rg_page.specs.Bytes.PageBytes.{page_bytes}
 use Rattle.rg_phase.specs.Step.{copy_left, is_device_stop}
 use Rattle.rg_stmt.specs.declared.event.Entry.{Entry}
 use Rattle.rg_stmt.specs.declared.event.Event.{Event}

@@ -1,26 +1,28 @@
 -- When FULL is answered, and when STOP NOSPACE comes, by the pages of the smaller copy.
 use Rattle.std.proofs.Common.{◌≡◌, ◌==◌, ◌≤◌, ◌*◌, ◌++◌, nat_le, ℕ, Bool, true, false, List, [], ◌∷◌, Option, Some, None, if◌then◌else◌, refl, sym, ◌∙◌, subst, arith}
 use Rattle.std.proofs.lemmas.Bool.Decides.{nat_tests}
-use Rattle.rg_account.specs.Account.{Account, account_after, account_by, allowed_of, first_state, no_account, state_after}
-use Rattle.rg_account.specs.Reaching.{ReachesBy}
-use Rattle.rg_account.proofs.Reached.{feed_is_allowed}
+use Rattle.rg_laws_utility.specs.ByteAccount.Account.{Account, account_after, account_by}
+use Rattle.rg_laws_utility.specs.ByteAccount.Account.{allowed_of, first_state, no_account}
+use Rattle.rg_laws_utility.specs.ByteAccount.Account.{state_after}
+use Rattle.rg_laws_utility.specs.ByteAccount.Reaching.{ReachesBy}
+use Rattle.rg_laws_utility.proofs.ByteAccountLemmas.Reached.{feed_is_allowed}
 use Rattle.rg_base.specs.declared.control.Answer.{Answer}
 use Rattle.rg_base.specs.declared.options.Options.{Options}
 use Rattle.rg_base.specs.declared.verdict.StopReason.TheVariants as reasons
-use Rattle.rg_course.specs.Loading.{Loading, loading_after, loading_in}
+use Rattle.rg_laws_utility.specs.Course.Loading.{Loading, loading_after, loading_in}
 use Rattle.rg_engine.specs.Answers.{IfFull}
 use Rattle.rg_desk.specs.Desk.{DeskState, FeedIs, old_records}
 use Rattle.rg_engine.specs.Layouts.{IsLayout}
 use Rattle.rg_engine.specs.Stored.{IsStored}
 use Rattle.rg_engine.specs.Volume.{VolumeSeen}
-use Rattle.rg_fold.specs.declared.item.Stage.{Stage}
+use Rattle.rg_feed.specs.declared.fold.item.Stage.{Stage}
 use Rattle.rg_home.specs.Pages.{slot_of}
 use Rattle.rg_home.specs.Rows.{row_at}
 use Rattle.rg_image.specs.Rules.{copy_capacity, used_pages}
 use Rattle.rg_model.specs.State.{State, Table}
 use Rattle.rg_outside.specs.Capacities.{Capacities}
 use Rattle.rg_phase.specs.Step.{HasPagesFor}
-use Rattle.rg_reach.specs.Weighed.{weigh_feed}
+use Rattle.rg_laws_utility.specs.CopyWeight.Weighed.{weigh_feed}
 use Rattle.rg_stmt.specs.declared.event.Entry.{Entry}
 use Rattle.rg_stmt.specs.declared.event.Event.{Event}
 use Rattle.rg_stmt.specs.declared.event.Event.TheVariants.{Opened, Said, Stop}

@@ -36,7 +36,7 @@ use Rattle.rg_run.specs.Space.{AreForSpace}
 use Rattle.rg_run.proofs.Spaces.{space_join}
 use Rattle.rg_run.specs.Opening.{AreOpeningsSince, IfOpened, IsOpeningThen}
 use Rattle.rg_run.specs.Outside.{IsDeviceOnlyIf, WritesOwn}
-use Rattle.rg_course.proofs.OnCourse.{on_course}
+use Rattle.rg_laws_utility.proofs.CourseLemmas.OnCourse.{on_course}
 use Rattle.rg_run.specs.Parts.{Again, AreParts, Came, Follows, Going, IfTidy, IsFound, IsKnown, Made, PartRun, RunsFrom, IsPart}
 use Rattle.rg_run.specs.Parts.AreParts.{Next, One}
 use Rattle.rg_run.specs.Played.{Goes, TraceOf, first_of}

@@ -11,7 +11,7 @@ use Rattle.rg_model.specs.Run.{Allows, Reopens, Run}
 use Rattle.rg_model.specs.State.{State, Table, at_rest, row_count}
 use Rattle.rg_model.proofs.Overlay.{committed-at_rest}
 use Rattle.rg_model.proofs.RunPush.{behind}
-use Rattle.rg_newest.specs.Tidy.{set_of}
+use Rattle.rg_laws_crash.specs.NewestPages.Tidy.{set_of}
 use Rattle.rg_outside.specs.Calls.{Call}
 use Rattle.rg_stmt.specs.declared.event.Entry.{Entry}
 use Rattle.rg_stmt.specs.declared.event.Event.{Event}

@@ -18,8 +18,8 @@ use Rattle.rg_outside.proofs.Every.{told_both, told_weaken}
 use Rattle.rg_outside.proofs.Run.{moment_now}
 use Rattle.rg_record.specs.declared.record.Record.{Record}
 use Rattle.rg_restart.specs.Opening.{OpensStored}
-use Rattle.rg_sound.specs.Pages.{copy_of}
-use Rattle.rg_sound.specs.Sound.{IsSound, IsSoundBy}
+use Rattle.rg_laws_crash.specs.SoundVolume.Pages.{copy_of}
+use Rattle.rg_laws_crash.specs.SoundVolume.Sound.{IsSound, IsSoundBy}
 use Rattle.rg_restart.proofs.Beginning.{stored_more}
 use Rattle.rg_stmt.specs.Entries.{opened_entry}
 use Rattle.rg_stmt.specs.declared.event.Entry.{Entry}

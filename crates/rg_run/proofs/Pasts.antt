@@ -33,8 +33,8 @@ use Rattle.rg_stmt.specs.declared.layout.Spot.{Spot}
 use Rattle.rg_stmt.specs.declared.line.Line.{Line}
 use Rattle.rg_stmt.specs.declared.line.Line.TheVariants.{Death, Flush, Reorg, Said, Show, Step}
 use Rattle.rg_phase.specs.Step.{is_made}
-use Rattle.rg_tending.specs.Tending.{IsRefusedEvent, IsSystem, utility_entry}
-use Rattle.rg_tending.proofs.Keeping.{refused_is, said_keeps, system_keeps}
+use Rattle.rg_laws_utility.specs.TraceStage.Tending.{IsRefusedEvent, IsSystem, utility_entry}
+use Rattle.rg_laws_utility.proofs.TraceStageLemmas.Keeping.{refused_is, said_keeps, system_keeps}
 use Rattle.rg_run.specs.Played.{EntryOf, IsFlushed, IsOpenedEntry, IsStartEvent, IsStepEvent}
 
 -- ---- what is told

@@ -7,11 +7,11 @@ use Rattle.rg_base.specs.declared.control.Answer.{Answer}
 use Rattle.rg_base.specs.declared.options.Options.{Options}
 use Rattle.rg_base.specs.declared.session.Session.{Session}
 use Rattle.rg_base.specs.declared.verdict.StopReason.TheVariants as reasons
-use Rattle.rg_fold.specs.declared.item.Stage.{Stage}
+use Rattle.rg_feed.specs.declared.fold.item.Stage.{Stage}
 use Rattle.rg_log.specs.Kept.{Listed as ListedLog}
 use Rattle.rg_phase.specs.declared.made.Made.{Made}
 use Rattle.rg_phase.specs.Step.{HasPagesFor, IsSwitchFrom, Makes, NextMade, StepCalls, Stepped, copy_left, is_device_stop}
-use Rattle.rg_tending.specs.Tending.{utility_entry}
+use Rattle.rg_laws_utility.specs.TraceStage.Tending.{utility_entry}
 use Rattle.rg_base.specs.declared.position.Position.{Position}
 use Rattle.rg_page.specs.Content.{Content}
 use Rattle.rg_stmt.specs.declared.event.Entry.{Entry}
@@ -27,9 +27,9 @@ use Rattle.rg_stmt.specs.Entries.{said_entry}
 use Rattle.rg_base.specs.Copies.{IsCopy, other_of}
 use Rattle.rg_image.specs.Rules.{copy_capacity, limit_of}
 use Rattle.rg_engine.specs.Answers.{IfLogFull, is_device}
-use Rattle.rg_account.specs.Account.{allowed_of}
+use Rattle.rg_laws_utility.specs.ByteAccount.Account.{allowed_of}
 use Rattle.rg_model.specs.State.{Table}
-use Rattle.rg_reach.specs.Weighed.{weigh_feed}
+use Rattle.rg_laws_utility.specs.CopyWeight.Weighed.{weigh_feed}
 use Rattle.rg_engine.specs.Stored.{IsStored}
 use Rattle.rg_record.specs.declared.record.Record.{Record}
 use Rattle.rg_desk.specs.Chronicle.{logged_after, logged_by, system_entry}
@@ -39,7 +39,7 @@ use Rattle.rg_desk.specs.Desk.{MadeLayout, MadeSaid, MadeStart, Stays, left_to_t
 use Rattle.rg_model.specs.Utility.{starts_utility}
 use Rattle.rg_engine.specs.Flushed.{FlushIs, WritesEither}
 use Rattle.rg_engine.specs.Volume.{IsCount, VolumeSeen}
-use Rattle.rg_newest.specs.Tidy.{set_of}
+use Rattle.rg_laws_crash.specs.NewestPages.Tidy.{set_of}
 use Rattle.rg_outside.specs.Capacities.{Capacities}
 use Rattle.rg_outside.specs.Faults.{Rose}
 use Rattle.rg_outside.specs.Moments.{EachCall, IfTold}
@@ -53,7 +53,7 @@ use Rattle.rg_run.specs.Full.{AreAllowed, IsAllowedAt, smaller_pages}
 use Rattle.rg_run.specs.LogFull.{IsLogFullFrom, IsLogFullOnlyFrom}
 use Rattle.rg_run.specs.Outside.{IsDeviceIf, IsDeviceOnlyIf, WritesOwn}
 use Rattle.rg_run.specs.Played.{AllowsCopy, EntryOf, Goes, IsFlushed, IsOpened, IsOpenedEntry, IsStartEvent, IsStepEvent, ShowsLoading, StaysSince, TraceOf, first_of}
-use Rattle.rg_course.specs.Loading.{Loading, loading_after, loading_in}
+use Rattle.rg_laws_utility.specs.Course.Loading.{Loading, loading_after, loading_in}
 use Rattle.rg_run.specs.Space.{AreForSpace, IsForSpace}
 use Rattle.rg_run.proofs.Fullness.{allowed_flush, allowed_layout, allowed_on, allowed_opened, allowed_said, allowed_start, allowed_step, is_space_stop, smaller_least, space_allowed}
 use Rattle.rg_run.proofs.Spaces.{fills_idle, flush_none, layout_none, shown_start, shown_step, shown_still, space_on, space_opened, space_said, space_start, space_step}

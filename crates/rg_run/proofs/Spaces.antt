@@ -5,18 +5,19 @@ use Rattle.rg_base.specs.declared.control.Answer.{Answer}
 use Rattle.rg_base.specs.declared.options.Options.{Options}
 use Rattle.rg_base.specs.declared.session.Session.{Session}
 use Rattle.rg_base.specs.declared.verdict.StopReason.TheVariants as reasons
-use Rattle.rg_course.specs.Loading.{IsLoaded, Loading, loading_after, loading_in, loading_of}
+use Rattle.rg_laws_utility.specs.Course.Loading.{IsLoaded, Loading, loading_after, loading_in}
+use Rattle.rg_laws_utility.specs.Course.Loading.{loading_of}
 use Rattle.rg_engine.specs.Layouts.{IsLayout}
 use Rattle.rg_desk.specs.Desk.{IsStart}
 use Rattle.rg_engine.specs.Utility.{IsNew}
-use Rattle.rg_fold.specs.declared.item.Stage.{Stage}
+use Rattle.rg_feed.specs.declared.fold.item.Stage.{Stage}
 use Rattle.rg_image.specs.Rules.{copy_capacity}
 use Rattle.rg_log.specs.Kept.{Listed as ListedLog}
 use Rattle.rg_model.specs.State.{Utility}
 use Rattle.rg_outside.specs.Capacities.{Capacities}
 use Rattle.rg_phase.specs.Step.{HasPagesFor, NextMade}
 use Rattle.rg_phase.specs.Working.{is_filling}
-use Rattle.rg_stage.specs.NumbersOf.{numbers_of}
+use Rattle.rg_rules.specs.Stage.NumbersOf.{numbers_of}
 use Rattle.rg_stmt.specs.declared.event.Entry.{Entry}
 use Rattle.rg_stmt.specs.declared.event.Event.{Event}
 use Rattle.rg_stmt.specs.declared.event.Event.TheVariants as events

@@ -18,7 +18,7 @@ use Rattle.rg_outside.specs.Faults.{Rose}
 use Rattle.rg_outside.specs.Moments.{EachCall, EachImage, IfTold}
 use Rattle.rg_outside.proofs.Frame.{calls_join, calls_weaken}
 use Rattle.rg_restart.specs.Opening.{IsCause, IsRefused, OpensStored}
-use Rattle.rg_sound.specs.Pages.{copy_of}
+use Rattle.rg_laws_crash.specs.SoundVolume.Pages.{copy_of}
 use Rattle.rg_restart.specs.Sound.{IsDamage}
 use Rattle.rg_stmt.specs.declared.event.Entry.{Entry}
 use Rattle.rg_stmt.specs.declared.line.Line.{Line}

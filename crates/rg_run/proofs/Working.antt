@@ -5,7 +5,7 @@ use Rattle.rg_model.specs.Utility.{starts_utility}
 use Rattle.rg_engine.specs.Prepared.{PreparedSeen}
 use Rattle.rg_engine.specs.Sends.{begin_items}
 use Rattle.rg_feed.specs.Ends.{Received}
-use Rattle.rg_fold.specs.declared.item.Item.{Item}
+use Rattle.rg_feed.specs.declared.fold.item.Item.{Item}
 use Rattle.rg_phase.specs.Made.{Works}
 use Rattle.rg_phase.specs.declared.made.Made.{Made}
 use Rattle.rg_phase.specs.declared.made.Made.TheVariants.{Nothing}

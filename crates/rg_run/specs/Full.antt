@@ -6,9 +6,10 @@
 --    utility ran.
 -- 2. Until the first list is sorted STOP NOSPACE goes by the pages of the other copy.
 use Rattle.std.specs.Prelude.{◌≤◌, nat_le, ℕ, if◌then◌else◌, List, [], ◌∷◌, Option, None}
-use Rattle.rg_account.specs.Account.{Account, account_after, first_state, no_account, state_after}
+use Rattle.rg_laws_utility.specs.ByteAccount.Account.{Account, account_after, first_state}
+use Rattle.rg_laws_utility.specs.ByteAccount.Account.{no_account, state_after}
 use Rattle.rg_base.specs.declared.verdict.StopReason.TheVariants as reasons
-use Rattle.rg_course.specs.Loading.{Loading, loading_after}
+use Rattle.rg_laws_utility.specs.Course.Loading.{Loading, loading_after}
 use Rattle.rg_image.specs.Rules.{copy_capacity}
 use Rattle.rg_model.specs.State.{State, Table}
 use Rattle.rg_outside.specs.Capacities.{Capacities}

@@ -12,7 +12,7 @@ use Rattle.rg_outside.specs.Calls.{Image, Told}
 use Rattle.rg_outside.specs.Capacities.{Capacities}
 use Rattle.rg_outside.specs.Moments.{read_at}
 use Rattle.rg_record.specs.declared.record.Record.{Record}
-use Rattle.rg_sound.specs.Sound.{IsSound}
+use Rattle.rg_laws_crash.specs.SoundVolume.Sound.{IsSound}
 use Rattle.rg_stmt.specs.Entries.{opened_entry}
 use Rattle.rg_stmt.specs.declared.event.Entry.{Entry}
 use Rattle.rg_stmt.specs.declared.event.Event.{Event}

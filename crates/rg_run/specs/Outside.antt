@@ -18,7 +18,7 @@ use Rattle.rg_engine.specs.Volume.{VolumeSeen}
 use Rattle.rg_desk.specs.declared.desk.OpenCause.{OpenCause}
 use Rattle.rg_desk.specs.declared.desk.OpenCause.TheVariants as causes
 use Rattle.rg_log.specs.Open.{IsQuiet}
-use Rattle.rg_newest.specs.Tidy.{set_of}
+use Rattle.rg_laws_crash.specs.NewestPages.Tidy.{set_of}
 use Rattle.rg_image.specs.Log.{log_of}
 use Rattle.rg_outside.specs.Calls.{Call, Told, read_of}
 use Rattle.rg_record.specs.declared.record.Record.{Record}

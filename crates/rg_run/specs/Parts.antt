@@ -8,7 +8,7 @@
 use Rattle.std.specs.Prelude.{◌≡◌, ◌≤◌, ◌*◌, ◌⊎◌, ◌++◌, ℕ, Bool, true, false, List, [], ◌∷◌, Option, None}
 use Rattle.std.specs.List.{AllByRecursion}
 use Rattle.rg_base.specs.declared.control.Answer.{Answer}
-use Rattle.rg_course.specs.OnCourse.{IsOnCourse}
+use Rattle.rg_laws_utility.specs.Course.OnCourse.{IsOnCourse}
 use Rattle.rg_desk.specs.Chronicle.{IsRecorded}
 use Rattle.rg_desk.specs.Desk.{DeskState, LegalFrom, old_records}
 use Rattle.rg_base.specs.Copies.{IsCopy}

@@ -6,7 +6,7 @@
 -- 3. Before the first list is sorted, STOP NOSPACE comes only where it may not.
 use Rattle.std.specs.Prelude.{◌≤◌, ◌<◌, ◌+◌, ℕ, List, [], ◌∷◌, Option, Some}
 use Rattle.rg_base.specs.declared.verdict.StopReason.TheVariants as reasons
-use Rattle.rg_course.specs.Loading.{Loading, loading_after}
+use Rattle.rg_laws_utility.specs.Course.Loading.{Loading, loading_after}
 use Rattle.rg_image.specs.Rules.{copy_capacity}
 use Rattle.rg_model.specs.Packed.{page_count}
 use Rattle.rg_outside.specs.Capacities.{Capacities}

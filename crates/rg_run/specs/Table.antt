@@ -18,7 +18,7 @@
 -- 7. In each part a utility is caught up at its switch, and one that nothing hinders ends in time.
 -- 8. All of this is said of a known volume while its calls can be counted.
 use Rattle.std.specs.Prelude.{◌≡◌, ◌⊎◌, ◌*◌, ◌++◌, ℕ, Bool, true, false, List, [], ◌∷◌, length}
-use Rattle.rg_course.specs.OnCourse.{IsOnCourse}
+use Rattle.rg_laws_utility.specs.Course.OnCourse.{IsOnCourse}
 use Rattle.rg_desk.specs.Desk.{LegalFrom}
 use Rattle.rg_engine.specs.OnVolume.{IsSoundTidy, IsTidyVolume}
 use Rattle.rg_engine.specs.Stored.{IsStored}

@@ -3,10 +3,10 @@ use Rattle.std.proofs.Common.{◌≡◌, ◌≤◌, ◌+◌, ◌*◌, ℕ, true,
 use Rattle.rg_base.specs.RowBytes.{row_size}
 use Rattle.rg_base.specs.declared.place.Place.{Place}
 use Rattle.rg_base.specs.declared.row.Row.{Row}
-use Rattle.rg_claimed.specs.Claim.{Covers, claimed_all, nobody}
-use Rattle.rg_claimed.specs.Weight.{weight}
-use Rattle.rg_claimed.proofs.Full.{full_bound, no_change, no_put}
-use Rattle.rg_claimed.proofs.Plans.{change_claims, drop_claims, put_claims}
+use Rattle.rg_laws_pages.specs.ByteClaims.Claim.{Covers, claimed_all, nobody}
+use Rattle.rg_laws_pages.specs.ByteClaims.Weight.{weight}
+use Rattle.rg_laws_pages.proofs.ByteClaimsLemmas.Full.{full_bound, no_change, no_put}
+use Rattle.rg_laws_pages.proofs.ByteClaimsLemmas.Plans.{change_claims, drop_claims, put_claims}
 use Rattle.rg_home.specs.Able.{Proper}
 use Rattle.rg_home.specs.Pages.{row_or_empty, slot_of}
 use Rattle.rg_home.specs.Plan.{new_area, pages_after}

@@ -4,7 +4,7 @@ use Rattle.rg_base.specs.declared.place.Place.{Place}
 use Rattle.rg_base.specs.declared.row.Row.{Row}
 use Rattle.rg_base.specs.declared.which.Which.TheVariants.{Key, Clus, Cat}
 use Rattle.rg_index.specs.Indexed.{Indexed}
-use Rattle.rg_indexes.specs.Listings.{AreListings}
+use Rattle.rg_btree.specs.Indexes.Listings.{AreListings}
 use Rattle.rg_layout.specs.Right.{IsRightFor}
 use Rattle.rg_stmt.specs.declared.layout.Side.{Side}
 use Rattle.rg_shadow.specs.Drafts.{AreKept, IsKept}

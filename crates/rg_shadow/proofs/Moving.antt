@@ -5,10 +5,10 @@ use Rattle.std.specs.FinMap as map
 use Rattle.rg_base.specs.declared.place.Place.{Place}
 use Rattle.rg_base.specs.declared.row.Row.{Row}
 use Rattle.rg_base.specs.declared.which.Which.{Which}
-use Rattle.rg_claimed.specs.Claim.{claimed_all, nobody}
-use Rattle.rg_claimed.specs.Weight.{weight}
-use Rattle.rg_fold.proofs.Places.{one_place, place_itself}
-use Rattle.rg_fold.specs.Fed.{SetsRow}
+use Rattle.rg_laws_pages.specs.ByteClaims.Claim.{claimed_all, nobody}
+use Rattle.rg_laws_pages.specs.ByteClaims.Weight.{weight}
+use Rattle.rg_feed.proofs.FoldLemmas.Places.{one_place, place_itself}
+use Rattle.rg_feed.specs.Fold.Fed.{SetsRow}
 use Rattle.rg_home.specs.Pages.{row_or_empty, slot_of}
 use Rattle.rg_home.specs.Plan.{pages_after}
 use Rattle.rg_home.specs.Rows.{ChangesHome}

@@ -6,7 +6,7 @@ use Rattle.std.specs.List.{AllByRecursion, list_any}
 use Rattle.std.specs.FinMap as map
 use Rattle.rg_base.specs.declared.place.Place.{Place}
 use Rattle.rg_base.specs.declared.row.Row.{Row}
-use Rattle.rg_fold.proofs.Places.{one_place, place_itself}
+use Rattle.rg_feed.proofs.FoldLemmas.Places.{one_place, place_itself}
 use Rattle.rg_map.specs.Mapping.{Targets}
 use Rattle.rg_map.proofs.Places.{get-put, same_place-turned}
 use Rattle.rg_model.specs.Layout.{same_place}

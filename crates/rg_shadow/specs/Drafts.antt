@@ -9,7 +9,7 @@ use Rattle.rg_base.specs.declared.which.Which.{Which}
 use Rattle.rg_base.specs.declared.which.Which.TheVariants.{Key, Clus, Cat}
 use Rattle.rg_index.specs.Entries.{IsRising}
 use Rattle.rg_index.specs.Listed.{IsListingOf}
-use Rattle.rg_indexes.specs.Listings.{IsListedAt, entries_of}
+use Rattle.rg_btree.specs.Indexes.Listings.{IsListedAt, entries_of}
 use Rattle.rg_shadow.specs.declared.drafts.Drafts.{Drafts}
 use Rattle.rg_shadow.specs.declared.drafts.IndexDraft.{IndexDraft}
 use Rattle.rg_shadow.specs.declared.drafts.IndexDraft.TheVariants as draft

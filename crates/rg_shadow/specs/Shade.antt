@@ -13,9 +13,9 @@ use Rattle.rg_base.specs.declared.place.Place.{Place}
 use Rattle.rg_base.specs.declared.row.Row.{Row}
 use Rattle.rg_base.specs.declared.which.Which.{Which}
 use Rattle.rg_base.specs.declared.which.Which.TheVariants.{Key, Clus, Cat}
-use Rattle.rg_claimed.specs.Claim.{claimed_all, nobody}
-use Rattle.rg_claimed.specs.Weight.{weight}
-use Rattle.rg_fold.specs.Fed.{SetsRow}
+use Rattle.rg_laws_pages.specs.ByteClaims.Claim.{claimed_all, nobody}
+use Rattle.rg_laws_pages.specs.ByteClaims.Weight.{weight}
+use Rattle.rg_feed.specs.Fold.Fed.{SetsRow}
 use Rattle.rg_home.specs.Pages.{row_or_empty, slot_of}
 use Rattle.rg_home.specs.Plan.{pages_after}
 use Rattle.rg_home.specs.Rows.{lies_at, row_at}

@@ -5,8 +5,8 @@
 // 3. A page in memory is always at hand. So a spelling takes no memory and is never refused.
 ghost use Rattle.std.specs.Prelude.{◌≡◌, ◌≤◌, length};
 ghost use Rattle.rg_page.specs.Content.{content_at};
-ghost use Rattle.rg_page_bytes.specs.Content.{FitsPage};
-ghost use Rattle.rg_page_bytes.specs.PageBytes.{page_bytes};
+ghost use Rattle.rg_page.specs.Bytes.Content.{FitsPage};
+ghost use Rattle.rg_page.specs.Bytes.PageBytes.{page_bytes};
 ghost use Rattle.rg_shadow.specs.Planned.{HasPages, SameSpace, Stamps, pages_in};
 
 use rg_base::position::Position;

@@ -5,14 +5,15 @@ use Rattle.std.specs.List.Sorted.{IsPermutation}
 use Rattle.rg_base.specs.declared.place.Place.{Place}
 use Rattle.rg_base.specs.declared.row.Row.{Row}
 use Rattle.rg_feed.specs.Ends.{Grew, Received, still_taken}
-use Rattle.rg_fold.specs.Fold.{changes, copied_rows, fold_from, fold_to, row_in, since, since_begin, step_at, up_to}
-use Rattle.rg_fold.specs.Lawful.{Lawful}
-use Rattle.rg_fold.specs.declared.item.Item.{Item}
-use Rattle.rg_fold.specs.declared.item.Item.TheVariants.{Begin, PageCopy, Booked}
-use Rattle.rg_fold.specs.declared.item.Item.TheVariants as items
-use Rattle.rg_fold.proofs.Folds.{since-append}
-use Rattle.rg_fold.proofs.Loaded.{copies_apart, load}
-use Rattle.rg_fold.proofs.Permuted.{same_rows}
+use Rattle.rg_feed.specs.Fold.Fold.{changes, copied_rows, fold_from, fold_to, row_in, since}
+use Rattle.rg_feed.specs.Fold.Fold.{since_begin, step_at, up_to}
+use Rattle.rg_feed.specs.Fold.Lawful.{Lawful}
+use Rattle.rg_feed.specs.declared.fold.item.Item.{Item}
+use Rattle.rg_feed.specs.declared.fold.item.Item.TheVariants.{Begin, PageCopy, Booked}
+use Rattle.rg_feed.specs.declared.fold.item.Item.TheVariants as items
+use Rattle.rg_feed.proofs.FoldLemmas.Folds.{since-append}
+use Rattle.rg_feed.proofs.FoldLemmas.Loaded.{copies_apart, load}
+use Rattle.rg_feed.proofs.FoldLemmas.Permuted.{same_rows}
 use Rattle.rg_shadow.specs.Shade.{Shade, source_rows}
 use Rattle.rg_translate.specs.Backlog.{change_count}
 use Rattle.rg_translate.specs.Caught.{Caught}

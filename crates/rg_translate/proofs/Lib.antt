@@ -1,3 +1,6 @@
+pub mod PackedCopyLemmas
+pub mod LoadLemmas
+pub mod RightCopyLemmas
 pub mod Later
 pub mod Taking
 pub mod Making

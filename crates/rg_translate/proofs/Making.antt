@@ -4,16 +4,16 @@ use Rattle.std.proofs.lemmas.List.{take_more}
 use Rattle.std.proofs.lemmas.Bool.{and_parts}
 use Rattle.std.proofs.lemmas.Bool.Decides.{nat_tests}
 use Rattle.std.specs.List.{All, Contains, list_all}
-use Rattle.rg_fold.proofs.Batches.{none_kept}
+use Rattle.rg_feed.proofs.FoldLemmas.Batches.{none_kept}
 use Rattle.rg_base.specs.declared.change.Change.{Change}
 use Rattle.rg_base.specs.declared.place.Place.{Place}
 use Rattle.rg_base.specs.declared.row.Row.{Row}
-use Rattle.rg_fold.specs.Fed.{SetsRow}
-use Rattle.rg_fold.specs.Fold.{changes, fold_to, since_begin}
-use Rattle.rg_fold.specs.Last.{applied_at, changed_at, last_at, later_of}
-use Rattle.rg_fold.specs.Lawful.{Lawful}
-use Rattle.rg_fold.proofs.Batches.{batch}
-use Rattle.rg_fold.proofs.Places.{one_place, place_itself}
+use Rattle.rg_feed.specs.Fold.Fed.{SetsRow}
+use Rattle.rg_feed.specs.Fold.Fold.{changes, fold_to, since_begin}
+use Rattle.rg_feed.specs.Fold.Last.{applied_at, changed_at, last_at, later_of}
+use Rattle.rg_feed.specs.Fold.Lawful.{Lawful}
+use Rattle.rg_feed.proofs.FoldLemmas.Batches.{batch}
+use Rattle.rg_feed.proofs.FoldLemmas.Places.{one_place, place_itself}
 use Rattle.rg_model.specs.Layout.{are_rising, is_place_before, same_place}
 use Rattle.rg_feed.specs.Ends.{Received}
 use Rattle.rg_shadow.specs.Shade.{Applies, Shade, source_rows, target_of}

@@ -5,11 +5,11 @@ use Rattle.rg_base.specs.declared.change.Change.{Change}
 use Rattle.rg_base.specs.declared.place.Place.{Place}
 use Rattle.rg_base.specs.declared.row.Row.{Row}
 use Rattle.rg_feed.specs.Ends.{still_taken}
-use Rattle.rg_fold.specs.Fold.{copied_rows, page_copies}
-use Rattle.rg_fold.specs.declared.item.Item.{Item}
-use Rattle.rg_fold.specs.declared.item.Item.TheVariants.{Begin, PageCopy, Booked}
-use Rattle.rg_fold.specs.declared.item.Item.TheVariants as items
-use Rattle.rg_fold.proofs.Folds.{all-push}
+use Rattle.rg_feed.specs.Fold.Fold.{copied_rows, page_copies}
+use Rattle.rg_feed.specs.declared.fold.item.Item.{Item}
+use Rattle.rg_feed.specs.declared.fold.item.Item.TheVariants.{Begin, PageCopy, Booked}
+use Rattle.rg_feed.specs.declared.fold.item.Item.TheVariants as items
+use Rattle.rg_feed.proofs.FoldLemmas.Folds.{all-push}
 use Rattle.rg_reload.specs.Reloading.{GoesOn, Reloading}
 use Rattle.rg_reload.specs.declared.packer.Filled.{Filled}
 use Rattle.rg_translate.specs.Laws.{AddsLater, IsLater}

@@ -2,9 +2,9 @@
 use Rattle.std.proofs.Common.{◌≡◌, ℕ, ◌+◌, ◌<◌, zero, suc, Bool, true, false, List, [], ◌∷◌, ◌++◌, refl, sym, ◌∙◌, ap, add-one, arith, drop, if◌then◌else◌, length, length-drop, take}
 use Rattle.rg_base.specs.declared.change.Change.{Change}
 use Rattle.rg_feed.specs.Ends.{Received}
-use Rattle.rg_fold.specs.Fold.{changes, since_begin}
-use Rattle.rg_fold.specs.Lawful.{kept, passes_over}
-use Rattle.rg_fold.specs.declared.item.Item.{Item}
+use Rattle.rg_feed.specs.Fold.Fold.{changes, since_begin}
+use Rattle.rg_feed.specs.Fold.Lawful.{kept, passes_over}
+use Rattle.rg_feed.specs.declared.fold.item.Item.{Item}
 use Rattle.rg_translate.specs.Backlog.{to_make}
 
 pub some_left : {A : Type 0} (k : ℕ) (xs : List A) → drop k xs ≡ [] → k < length xs → ⊥

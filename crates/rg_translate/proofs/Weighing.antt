@@ -6,12 +6,12 @@ use Rattle.std.specs.List.{list_all}
 use Rattle.rg_base.specs.declared.change.Change.{Change}
 use Rattle.rg_base.specs.declared.place.Place.{Place}
 use Rattle.rg_base.specs.declared.row.Row.{Row}
-use Rattle.rg_claimed.specs.Claim.{claimed_all, nobody}
-use Rattle.rg_claimed.specs.Weight.{weight}
-use Rattle.rg_fold.specs.Last.{last_at, later_of}
-use Rattle.rg_fold.proofs.Places.{one_place, place_itself}
+use Rattle.rg_laws_pages.specs.ByteClaims.Claim.{claimed_all, nobody}
+use Rattle.rg_laws_pages.specs.ByteClaims.Weight.{weight}
+use Rattle.rg_feed.specs.Fold.Last.{last_at, later_of}
+use Rattle.rg_feed.proofs.FoldLemmas.Places.{one_place, place_itself}
 use Rattle.rg_model.specs.Layout.{are_rising, is_place_before, same_place}
-use Rattle.rg_reach.specs.Weighed.{weigh_changes}
+use Rattle.rg_laws_utility.specs.CopyWeight.Weighed.{weigh_changes}
 use Rattle.rg_shadow.specs.Shade.{Applies, Refuses, Shade, shade_slots}
 use Rattle.rg_shadow.specs.declared.fault.ShadowFault.{ShadowFault}
 use Rattle.rg_shadow.specs.declared.fault.ShadowFault.TheVariants.{NoMemory, NoSpace}

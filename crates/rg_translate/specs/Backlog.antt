@@ -4,8 +4,8 @@
 use Rattle.std.specs.Prelude.{◌≡◌, ℕ, ◌-◌, List, length, take, drop}
 use Rattle.rg_base.specs.declared.change.Change.{Change}
 use Rattle.rg_feed.specs.Ends.{Received}
-use Rattle.rg_fold.specs.Fold.{changes, since_begin}
-use Rattle.rg_fold.specs.Lawful.{kept}
+use Rattle.rg_feed.specs.Fold.Fold.{changes, since_begin}
+use Rattle.rg_feed.specs.Fold.Lawful.{kept}
 
 -- how many changes were received since the last Begin
 abbrev pub change_count : Received → ℕ

@@ -13,11 +13,11 @@ use Rattle.std.specs.Prelude.{◌≡◌, ◌⊎◌, ◌≤◌, ◌+◌, ◌*◌,
 use Rattle.rg_base.specs.declared.change.Change.{Change}
 use Rattle.rg_base.specs.declared.place.Place.{Place}
 use Rattle.rg_base.specs.declared.which.Which.{Which}
-use Rattle.rg_claimed.specs.Claim.{claimed_all, nobody}
+use Rattle.rg_laws_pages.specs.ByteClaims.Claim.{claimed_all, nobody}
 use Rattle.rg_feed.specs.Ends.{Received}
-use Rattle.rg_fold.specs.Fold.{fold_to}
-use Rattle.rg_fold.specs.Last.{last_at}
-use Rattle.rg_reach.specs.Weighed.{weigh_changes}
+use Rattle.rg_feed.specs.Fold.Fold.{fold_to}
+use Rattle.rg_feed.specs.Fold.Last.{last_at}
+use Rattle.rg_laws_utility.specs.CopyWeight.Weighed.{weigh_changes}
 use Rattle.rg_shadow.specs.Planned.{AreUnlogged}
 use Rattle.rg_shadow.specs.Shade.{Refuses, Shade, lies_in, shade_slots, source_rows, stage_in, target_of}
 use Rattle.rg_shadow.specs.declared.drafts.IndexStage.TheVariants.{Built}

@@ -9,10 +9,10 @@ use Rattle.std.specs.List.Sorted.{IsPermutation}
 use Rattle.rg_base.specs.declared.place.Place.{Place}
 use Rattle.rg_base.specs.declared.row.Row.{Row}
 use Rattle.rg_feed.specs.Ends.{Grew, Received}
-use Rattle.rg_fold.specs.Fold.{copied_rows, row_in, since_begin}
-use Rattle.rg_fold.specs.Lawful.{Lawful}
-use Rattle.rg_fold.specs.declared.item.Item.{Item}
-use Rattle.rg_fold.specs.declared.item.Item.TheVariants.{Begin, PageCopy}
+use Rattle.rg_feed.specs.Fold.Fold.{copied_rows, row_in, since_begin}
+use Rattle.rg_feed.specs.Fold.Lawful.{Lawful}
+use Rattle.rg_feed.specs.declared.fold.item.Item.{Item}
+use Rattle.rg_feed.specs.declared.fold.item.Item.TheVariants.{Begin, PageCopy}
 use Rattle.rg_shadow.specs.Shade.{Shade, source_rows}
 use Rattle.rg_translate.specs.Backlog.{change_count}
 use Rattle.rg_translate.specs.Caught.{Caught}

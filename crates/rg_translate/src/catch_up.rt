@@ -12,8 +12,8 @@
 //    before the first change is made. After a refusal the utility stops, since changes that were
 //    taken and not made are gone.
 ghost use Rattle.std.specs.Prelude.{◌≡◌, ◌+◌, [], min, OnOk, IfOk, IfErr};
-ghost use Rattle.rg_fold.specs.Fold.{since_begin};
-ghost use Rattle.rg_fold.specs.Lawful.{Lawful};
+ghost use Rattle.rg_feed.specs.Fold.Fold.{since_begin};
+ghost use Rattle.rg_feed.specs.Fold.Lawful.{Lawful};
 ghost use Rattle.rg_translate.specs.Backlog.{SameItems, left, next_changes, to_make};
 ghost use Rattle.rg_translate.specs.Caught.{Caught, ClaimsMore, IsFullBy, IsRefusedLast};
 ghost use Rattle.rg_translate.specs.Caught.{KeepTargets, SameCopy, StopsAt, Unmoved};

@@ -5,7 +5,7 @@
 // 2. A change that is refused is not made, and no later one is.
 ghost use Rattle.std.specs.Prelude.{◌≡◌, [], true, map, OnOk, IfErr};
 ghost use Rattle.rg_base.specs.declared.place.Place.{Place};
-ghost use Rattle.rg_fold.specs.Last.{applied_at};
+ghost use Rattle.rg_feed.specs.Fold.Last.{applied_at};
 ghost use Rattle.rg_model.specs.Layout.{are_rising};
 ghost use Rattle.rg_shadow.specs.Shade.{source_rows};
 ghost use Rattle.rg_translate.specs.Caught.{ClaimsMore, IsFullBy, IsRefusedOf, KeepTargets, SameCopy, Unmoved};

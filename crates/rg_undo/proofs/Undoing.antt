@@ -11,7 +11,7 @@ use Rattle.rg_home.proofs.Takes.{undo_takes}
 use Rattle.rg_page.specs.Bare.{bare}
 use Rattle.rg_page.specs.Content.{Content, slots_of}
 use Rattle.rg_page.specs.Seen.{Seen}
-use Rattle.rg_ready.proofs.Next.{undo_fits}
+use Rattle.rg_laws_pages.proofs.UndoRoomLemmas.Next.{undo_fits}
 use Rattle.rg_record.specs.declared.record.Kind.TheVariants.{Change}
 use Rattle.rg_record.specs.declared.record.Record.{Record}
 use Rattle.rg_space.specs.Applied.{AllHeld, wrote_all}

@@ -9,7 +9,8 @@ use Rattle.rg_home.specs.Slot.{Slot}
 use Rattle.rg_home.specs.Undo.{undone, undone_all}
 use Rattle.rg_page.specs.Content.{slots_of}
 use Rattle.rg_page.specs.Seen.{Seen}
-use Rattle.rg_ready.proofs.Next.{UnitUndone, undo_proper, undo_keeps_all, undo_all}
+use Rattle.rg_laws_pages.proofs.UndoRoomLemmas.Next.{UnitUndone, undo_proper, undo_keeps_all}
+use Rattle.rg_laws_pages.proofs.UndoRoomLemmas.Next.{undo_all}
 use Rattle.rg_record.specs.declared.record.Record.{Record}
 use Rattle.rg_space.specs.Indexed.{Indexed}
 use Rattle.rg_undo.specs.Undoing.{written_of, undo_record, CanUndoChange, UndidChange, IfFirst, later_of}

@@ -8,7 +8,7 @@ use Rattle.rg_home.specs.Rows.{row_at}
 use Rattle.rg_home.specs.Slot.{Slot}
 use Rattle.rg_home.specs.Undo.{undone_all}
 use Rattle.rg_home.specs.Written.{Written}
-use Rattle.rg_ready.specs.Ready.{Ready, only, without, HasHome, NoHome}
+use Rattle.rg_laws_pages.specs.UndoRoom.Ready.{Ready, only, without, HasHome, NoHome}
 use Rattle.rg_record.specs.declared.record.Record.{Record}
 use Rattle.rg_undo.specs.Unit.{writes_of}
 

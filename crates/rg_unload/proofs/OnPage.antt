@@ -4,8 +4,8 @@ use Rattle.std.proofs.lemmas.Bool.{eqb-true}
 use Rattle.std.proofs.lemmas.Bool.Decides.{nat_tests}
 use Rattle.rg_base.specs.declared.place.Place.{Place}
 use Rattle.rg_base.specs.declared.row.Row.{Row}
-use Rattle.rg_fold.specs.Fold.{row_in}
-use Rattle.rg_fold.specs.Lawful.{AreRowsOf}
+use Rattle.rg_feed.specs.Fold.Fold.{row_in}
+use Rattle.rg_feed.specs.Fold.Lawful.{AreRowsOf}
 use Rattle.rg_home.specs.Pages.{page_at, slot_of}
 use Rattle.rg_home.specs.Rows.{home_row, row_at}
 use Rattle.rg_home.specs.Slot.{Slot}

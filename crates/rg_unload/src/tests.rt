@@ -7,7 +7,7 @@ use rg_base::position::Position;
 use rg_base::row::Row;
 use rg_base::text::Text;
 use rg_base::tran::Tran;
-use rg_fold::item::Item;
+use rg_feed::fold::item::Item;
 use rg_page::frames::Frames;
 use rg_page::list::ListFrames;
 use rg_space::space::Space;

@@ -7,9 +7,9 @@
 // 3. The position is the caller's: that of the last record of the log, not that of the page.
 ghost use Rattle.std.specs.Prelude.{◌≡◌, ◌≤◌, true, None, IfOk, IfErr};
 ghost use Rattle.rg_base.specs.declared.place.Place.{Place};
-ghost use Rattle.rg_fold.specs.Fold.{step_at};
-ghost use Rattle.rg_fold.specs.Lawful.{IsWell};
-ghost use Rattle.rg_fold.specs.declared.item.Item.TheVariants.{PageCopy};
+ghost use Rattle.rg_feed.specs.Fold.Fold.{step_at};
+ghost use Rattle.rg_feed.specs.Fold.Lawful.{IsWell};
+ghost use Rattle.rg_feed.specs.declared.fold.item.Item.TheVariants.{PageCopy};
 ghost use Rattle.rg_home.specs.Rows.{row_at};
 ghost use Rattle.rg_page.specs.Content.{slots_of};
 ghost use Rattle.rg_page.specs.Seen.{Reads};
@@ -18,7 +18,7 @@ ghost use Rattle.rg_space.specs.Space.{InStep, capacity_in, frames_of, index_of,
 ghost use Rattle.rg_space.specs.Took.{HasRisen, slot_in};
 
 use rg_base::position::Position;
-use rg_fold::item::Item;
+use rg_feed::fold::item::Item;
 use rg_page::frames::Frames;
 use rg_space::fault::SpaceFault;
 use rg_space::space::Space;

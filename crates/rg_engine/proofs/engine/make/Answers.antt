@@ -2,7 +2,7 @@ use Rattle.std.proofs.Common.{[], ◌∷◌, ◌++◌, refl}
 use Rattle.rg_record.specs.Applied.{parts_of}
 use Rattle.rg_space.specs.Space.{capacity_in, frames_of}
 use Rattle.rg_space.specs.Memory.{list_seen}
-use Rattle.rg_newest.proofs.Near.{can_near}
+use Rattle.rg_laws_crash.proofs.NewestPagesLemmas.Near.{can_near}
 use Rattle.rg_engine.proofs.Held.{all_held}
 use Rattle.rg_engine.proofs.NewestKept.{record_stays, space_newest}
 use Rattle.rg_engine.proofs.engine.make.Goals as goal

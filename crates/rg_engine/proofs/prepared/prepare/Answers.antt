@@ -1,7 +1,7 @@
 use Rattle.std.proofs.Common.{inr, length, refl, arith}
-use Rattle.rg_anew.specs.Writing.{WritesCopy}
+use Rattle.rg_laws_crash.specs.NewCopy.Writing.{WritesCopy}
 use Rattle.rg_outside.proofs.Frame.{no_calls}
-use Rattle.rg_written.specs.Stamped.{stamped_all}
+use Rattle.rg_engine.specs.CopyPages.Stamped.{stamped_all}
 use Rattle.rg_engine.specs.Volume.{seen_volume}
 use Rattle.rg_engine.proofs.Flushing.{forces_none}
 use Rattle.rg_engine.proofs.prepared.prepare.Goals as goal

@@ -1,10 +1,10 @@
 use Rattle.std.proofs.Common.{◌≡◌, ◌≤◌, inl, ℕ, List, length, ap, subst}
-use Rattle.rg_anew.specs.Writing.{WritesCopy}
+use Rattle.rg_laws_crash.specs.NewCopy.Writing.{WritesCopy}
 use Rattle.rg_outside.specs.Moments.{EachCall}
 use Rattle.rg_page.specs.Content.{Content}
 use Rattle.rg_record.specs.declared.record.Record.{Record}
-use Rattle.rg_written.specs.Stamped.{stamped_all}
-use Rattle.rg_written.specs.Written.{LeavesCopy, ReadsCopy}
+use Rattle.rg_engine.specs.CopyPages.Stamped.{stamped_all}
+use Rattle.rg_engine.specs.CopyPages.Written.{LeavesCopy, ReadsCopy}
 use Rattle.rg_engine.specs.Volume.{seen_volume}
 use Rattle.rg_engine.proofs.prepared.write_shadow.Goals as goal
 

@@ -1,6 +1,6 @@
 use Rattle.std.proofs.Common.{◌∙◌, ◌+◌, ◌<◌, List, ap, arith, length, subst, sym}
 use Rattle.rtrb.specs.Ring.{known_items, producer_capacity, received, sent}
-use Rattle.rg_fold.specs.declared.item.Item.{Item}
+use Rattle.rg_feed.specs.declared.fold.item.Item.{Item}
 use Rattle.rg_feed.proofs.Counting.{free_slot}
 use Rattle.rg_feed.proofs.hand_over.push_through.Goals as goal
 

@@ -1,5 +1,5 @@
 use Rattle.std.proofs.Common.{◌-◌, ◌∙◌, ◌∷◌, [], ap, arith, inl, inr, sym}
-use Rattle.rg_fold.specs.Lawful.{passes_over}
+use Rattle.rg_feed.specs.Fold.Lawful.{passes_over}
 use Rattle.rg_feed.proofs.Passing.{in_turn_at, in_turn_none}
 use Rattle.rg_feed.proofs.inlet.is_copied_in_turn.Goals as goal
 

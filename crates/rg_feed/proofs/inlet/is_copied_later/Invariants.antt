@@ -1,5 +1,5 @@
 use Rattle.std.proofs.Common.{◌≡◌, drop}
-use Rattle.rg_fold.specs.Lawful.{passes_over}
+use Rattle.rg_feed.specs.Fold.Lawful.{passes_over}
 use Rattle.rg_feed.proofs.inlet.is_copied_later.Given as goal
 
 -- the copies from here on decide

@@ -4,7 +4,7 @@ use Rattle.std.specs.Vec.Iter.{into_iter_items}
 use Rattle.rg_stmt.specs.declared.event.Entry.{Entry}
 use Rattle.rg_model.specs.Possible.{states_after}
 use Rattle.rg_judge.specs.StateOf.{state_of}
-use Rattle.rg_tally.specs.Tallied.{IsTallied}
+use Rattle.rg_rules.specs.Tally.Tallied.{IsTallied}
 use Rattle.rg_judge.proofs.judge.advance.Given as goal
 
 -- what is left leads to what is left to find

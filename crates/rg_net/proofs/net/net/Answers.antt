@@ -1,4 +1,4 @@
-use Rattle.rg_fold.proofs.Applied.{same_fold}
+use Rattle.rg_feed.proofs.FoldLemmas.Applied.{same_fold}
 use Rattle.rg_net.proofs.InOrder.{net-homes, net-last, net-members}
 use Rattle.rg_net.proofs.net.net.Goals as goal
 

@@ -2,8 +2,8 @@ use Rattle.std.proofs.Common.{◌≡◌, true, ap, ◌∙◌, subst}
 use Rattle.rg_base.specs.declared.step.Step.{Step}
 use Rattle.rg_base.specs.declared.step.Step.TheVariants.{Last, Log, Wait}
 use Rattle.rg_model.specs.Turn.{turn_at}
-use Rattle.rg_stage.specs.NumbersOf.{numbers_of}
-use Rattle.rg_tending.specs.Tending.{is_booked, is_plain}
+use Rattle.rg_rules.specs.Stage.NumbersOf.{numbers_of}
+use Rattle.rg_laws_utility.specs.TraceStage.Tending.{is_booked, is_plain}
 use Rattle.rg_phase.specs.Step.{is_device_stop}
 use Rattle.rg_phase.specs.Working.{is_filling}
 use Rattle.rg_phase.proofs.Stepping.{drain_booked, drain_quiet, drain_unfilled, plain_at}

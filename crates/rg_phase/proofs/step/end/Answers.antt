@@ -2,8 +2,8 @@ use Rattle.std.proofs.Common.{◌≡◌, ℕ, true, Option, subst}
 use Rattle.rg_base.specs.declared.session.Session.{Session}
 use Rattle.rg_engine.specs.Volume.{seen_volume}
 use Rattle.rg_model.specs.Turn.{turn_of}
-use Rattle.rg_stage.specs.NumbersOf.{numbers_of}
-use Rattle.rg_tending.specs.Tending.{is_plain}
+use Rattle.rg_rules.specs.Stage.NumbersOf.{numbers_of}
+use Rattle.rg_laws_utility.specs.TraceStage.Tending.{is_plain}
 use Rattle.rg_phase.proofs.Loading.{space_at, space_unfilled}
 use Rattle.rg_phase.proofs.Making.{acts_booked, writes_none}
 use Rattle.rg_phase.proofs.Steps.{next_runs, runs_some}

@@ -2,7 +2,7 @@ use Rattle.std.proofs.Common.{ℕ, suc, List, length, take, drop, slice_index_or
 use Rattle.rg_base.specs.declared.tran.Tran.{Tran}
 use Rattle.rg_page.specs.Bare.{numbers_of}
 use Rattle.rg_record.specs.declared.record.Record.{Record}
-use Rattle.rg_unended.specs.Unended.{left_of}
+use Rattle.rg_check.specs.OpenUnits.Unended.{left_of}
 use Rattle.rg_restart.specs.Closed.{ClosedAll, Closes, ClosesUnit}
 use Rattle.rg_restart.proofs.Closing.{closes_none, closes_some, next_room, one_more, same_front, split_numbers, took_none, undid_none}
 use Rattle.rg_restart.proofs.close.close_each.Goals as goal

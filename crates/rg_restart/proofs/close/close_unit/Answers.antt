@@ -5,11 +5,11 @@ use Rattle.std.proofs.lemmas.Bool.Decides.{nat_tests}
 use Rattle.rg_base.specs.declared.position.Position.{Position}
 use Rattle.rg_record.specs.declared.record.Record.{Record}
 use Rattle.rg_space.specs.Space.{frames_of, index_of}
-use Rattle.rg_tested.specs.Turns.{OutcomeIs, WereUndone}
+use Rattle.rg_check.specs.PageTests.Turns.{OutcomeIs, WereUndone}
 use Rattle.rg_undo.specs.Undoing.{AreChanges}
 use Rattle.rg_undo.specs.Unit.{undo_records}
-use Rattle.rg_unended.specs.Unended.{left_of}
-use Rattle.rg_unended.proofs.Lefts.{left_are_changes, owners_by_recursion}
+use Rattle.rg_check.specs.OpenUnits.Unended.{left_of}
+use Rattle.rg_check.proofs.OpenUnitsLemmas.Lefts.{left_are_changes, owners_by_recursion}
 use Rattle.rg_space.specs.Memory.{list_seen, space_pages}
 use Rattle.rg_restart.specs.Closed.{AreUndosFrom}
 use Rattle.rg_restart.proofs.Closing.{closed_unit, end_none, end_some, undone_unit, undos_length}

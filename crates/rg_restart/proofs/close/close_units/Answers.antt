@@ -5,8 +5,8 @@ use Rattle.rg_image.specs.Rules.{greatest_tran}
 use Rattle.rg_log.specs.Kept.{Listed}
 use Rattle.rg_page.specs.Bare.{numbers_of}
 use Rattle.rg_record.specs.declared.record.Record.{Record}
-use Rattle.rg_unended.specs.Unended.{open_in, owed_for}
-use Rattle.rg_unended.proofs.Opens.{listed_is, owed_listed}
+use Rattle.rg_check.specs.OpenUnits.Unended.{open_in, owed_for}
+use Rattle.rg_check.proofs.OpenUnitsLemmas.Opens.{listed_is, owed_listed}
 use Rattle.rg_restart.specs.Closed.{Closes}
 use Rattle.rg_restart.proofs.Closing.{closes_out, low_numbers}
 use Rattle.rg_restart.proofs.close.close_units.Goals as goal

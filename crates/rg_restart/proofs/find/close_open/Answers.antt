@@ -8,18 +8,18 @@ use Rattle.rg_home.specs.Pages.{slot_of}
 use Rattle.rg_home.specs.Slot.{Slot}
 use Rattle.rg_image.specs.Rules.{greatest_tran}
 use Rattle.rg_page.specs.Bare.{numbers_of}
-use Rattle.rg_tested.specs.Places.{IsLeastBreach}
-use Rattle.rg_tested.specs.Ties.{IsTiedAt}
-use Rattle.rg_unended.specs.Unended.{open_in}
-use Rattle.rg_unended.proofs.Opens.{owed_listed}
+use Rattle.rg_check.specs.PageTests.Places.{IsLeastBreach}
+use Rattle.rg_check.specs.PageTests.Ties.{IsTiedAt}
+use Rattle.rg_check.specs.OpenUnits.Unended.{open_in}
+use Rattle.rg_check.proofs.OpenUnitsLemmas.Opens.{owed_listed}
 use Rattle.rg_space.specs.Memory.{space_pages}
-use Rattle.rg_sound.specs.Closing.{closed_log}
-use Rattle.rg_sound.specs.Left.{IsLacking, lefts_of}
+use Rattle.rg_laws_crash.specs.SoundVolume.Closing.{closed_log}
+use Rattle.rg_laws_crash.specs.SoundVolume.Left.{IsLacking, lefts_of}
 use Rattle.rg_restart.specs.Closed.{ClosedAll, Closes, TookBack}
-use Rattle.rg_rebuilt.specs.Rebuilt.{AreSoundPages}
+use Rattle.rg_redo.specs.CurrentCopy.Rebuilt.{AreSoundPages}
 use Rattle.rg_restart.specs.Found.{IsUndone, Refuses}
-use Rattle.rg_sound.specs.Pages.{BreaksSlots, Ties}
-use Rattle.rg_sound.specs.Pages.BreaksSlots.{Lacking, Untied}
+use Rattle.rg_laws_crash.specs.SoundVolume.Pages.{BreaksSlots, Ties}
+use Rattle.rg_laws_crash.specs.SoundVolume.Pages.BreaksSlots.{Lacking, Untied}
 use Rattle.rg_restart.proofs.Finding.{looked_same, proper_of, ties_by, undone_is}
 use Rattle.rg_restart.proofs.Staying.{stay_join, stay_looked}
 use Rattle.rg_restart.proofs.find.close_open.Goals as goal

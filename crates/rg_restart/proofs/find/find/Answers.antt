@@ -4,14 +4,15 @@ use Rattle.std.proofs.lemmas.Result.{err_from_is_err_and}
 use Rattle.std.proofs.Math.Seq.{take-length}
 use Rattle.rg_engine.specs.Newest.{HasNewest}
 use Rattle.rg_home.specs.Slot.{Slot}
-use Rattle.rg_newest.specs.Tidy.{opened_epoch}
+use Rattle.rg_laws_crash.specs.NewestPages.Tidy.{opened_epoch}
 use Rattle.rg_page.specs.Content.{Content}
 use Rattle.rg_record.specs.declared.record.Record.{Record}
 use Rattle.rg_space.specs.Memory.{list_seen, space_pages}
 use Rattle.rg_space.specs.Space.{frames_of}
 use Rattle.rg_restart.specs.Found.{IsClosed, IsGrown, Refuses}
-use Rattle.rg_sound.specs.Pages.{BreaksFit, BreaksRows, BreaksRule, BreaksSlots, CanClose, IsMatched, undone_from, undone_of}
-use Rattle.rg_sound.specs.Pages.BreaksRule.{OnParts, OnSlots, OnRows}
+use Rattle.rg_laws_crash.specs.SoundVolume.Pages.{BreaksFit, BreaksRows, BreaksRule, BreaksSlots}
+use Rattle.rg_laws_crash.specs.SoundVolume.Pages.{CanClose, IsMatched, undone_from, undone_of}
+use Rattle.rg_laws_crash.specs.SoundVolume.Pages.BreaksRule.{OnParts, OnSlots, OnRows}
 use Rattle.rg_restart.proofs.Finding.{finds, rebuilt_slots, refuses_map, same_join}
 use Rattle.rg_restart.proofs.Staying.{redo_newest}
 use Rattle.rg_restart.proofs.find.find.Goals as goal

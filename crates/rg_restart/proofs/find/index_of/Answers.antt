@@ -4,8 +4,8 @@ use Rattle.rg_home.specs.Rows.{row_at}
 use Rattle.rg_index.specs.Entries.{IsRising}
 use Rattle.rg_index.specs.Listed.{IsListingOf}
 use Rattle.rg_index.proofs.Kept.{shown_is}
-use Rattle.rg_indexes.specs.Listings.{entries_of}
-use Rattle.rg_tested.proofs.Says.{ok_map}
+use Rattle.rg_btree.specs.Indexes.Listings.{entries_of}
+use Rattle.rg_check.proofs.PageTestsLemmas.Says.{ok_map}
 use Rattle.rg_space.specs.Memory.{space_pages}
 use Rattle.rg_restart.proofs.find.index_of.Goals as goal
 

@@ -3,7 +3,7 @@ use Rattle.std.specs.FinMap as fin
 use Rattle.std.proofs.Math.Seq.{take-length}
 use Rattle.rg_base.specs.declared.place.Place.{Place}
 use Rattle.rg_base.specs.declared.set.Set.{Set}
-use Rattle.rg_chain.proofs.Walks.{few_records}
+use Rattle.rg_check.proofs.ChainLemmas.Walks.{few_records}
 use Rattle.rg_desk.specs.declared.desk.OpenCause.{OpenCause}
 use Rattle.rg_desk.specs.declared.desk.OpenCause.TheVariants.{Damaged}
 use Rattle.rg_home.specs.Pages.{slot_of}
@@ -11,13 +11,13 @@ use Rattle.rg_home.specs.Rows.{row_at}
 use Rattle.rg_image.specs.Meaning.{stored}
 use Rattle.rg_image.specs.Pack.{end_of, start}
 use Rattle.rg_record.specs.declared.record.Record.{Record}
-use Rattle.rg_tested.specs.Keys.{IsAlone}
-use Rattle.rg_tested.specs.Places.{IsLeastBreach}
-use Rattle.rg_tested.specs.StoredRows.{Stands}
+use Rattle.rg_check.specs.PageTests.Keys.{IsAlone}
+use Rattle.rg_check.specs.PageTests.Places.{IsLeastBreach}
+use Rattle.rg_check.specs.PageTests.StoredRows.{Stands}
 use Rattle.rg_space.specs.Memory.{space_pages}
 use Rattle.rg_restart.specs.Found.{Refuses}
-use Rattle.rg_sound.specs.Pages.{BreaksRows}
-use Rattle.rg_sound.specs.Pages.BreaksRows.{Missing, Strange, Twin}
+use Rattle.rg_laws_crash.specs.SoundVolume.Pages.{BreaksRows}
+use Rattle.rg_laws_crash.specs.SoundVolume.Pages.BreaksRows.{Missing, Strange, Twin}
 use Rattle.rg_restart.proofs.Beginning.{stored_more}
 use Rattle.rg_restart.proofs.Finding.{looked_same}
 use Rattle.rg_restart.proofs.Matching.{all_placed, all_there, alone_by, missing_row, missing_there, strange_at}

@@ -1,9 +1,9 @@
 use Rattle.std.proofs.Common.{ℕ, sym, subst}
-use Rattle.rg_rebuilt.specs.Rebuilt.{CanRebuild, IsOfCopy, RebuiltIs}
+use Rattle.rg_redo.specs.CurrentCopy.Rebuilt.{CanRebuild, IsOfCopy, RebuiltIs}
 use Rattle.rg_desk.specs.declared.desk.OpenCause.{OpenCause}
 use Rattle.rg_restart.specs.Found.{Refuses}
-use Rattle.rg_sound.specs.Pages.{BreaksFit}
-use Rattle.rg_sound.specs.Pages.BreaksFit.{Unfit}
+use Rattle.rg_laws_crash.specs.SoundVolume.Pages.{BreaksFit}
+use Rattle.rg_laws_crash.specs.SoundVolume.Pages.BreaksFit.{Unfit}
 use Rattle.rg_restart.proofs.find.redo_log.Goals as goal
 
 pub rebuild-requires-clause-can : goal.rebuild-requires-clause-can

@@ -9,14 +9,14 @@ use Rattle.rg_outside.specs.Calls.{read_of}
 use Rattle.rg_outside.specs.Capacities.{Capacities, capacity_of}
 use Rattle.rg_outside.specs.Moments.{IfTold}
 use Rattle.rg_record.specs.declared.record.Record.{Record}
-use Rattle.rg_tested.proofs.Says.{ok_map}
+use Rattle.rg_check.proofs.PageTestsLemmas.Says.{ok_map}
 use Rattle.rg_restart.specs.Found.{Finds, Refuses}
 use Rattle.rg_restart.specs.Opening.{IsRefused, Looks}
-use Rattle.rg_sound.specs.Pages.{copy_of, count_of, set_of}
+use Rattle.rg_laws_crash.specs.SoundVolume.Pages.{copy_of, count_of, set_of}
 use Rattle.rg_restart.specs.declared.data.LastSwitch.{LastSwitch}
 use Rattle.rg_restart.specs.Data.{AreBase, AreTakenAsIs, switch_of}
-use Rattle.rg_sound.specs.Pages.{BreaksRule}
-use Rattle.rg_sound.specs.Sound.{TakesBase}
+use Rattle.rg_laws_crash.specs.SoundVolume.Pages.{BreaksRule}
+use Rattle.rg_laws_crash.specs.SoundVolume.Sound.{TakesBase}
 use Rattle.rg_restart.specs.Sound.{MarksBase}
 use Rattle.rg_restart.proofs.Looking.{breaks_log, data_refused, fault_by, log_refused, looks, marks_by, may_find, rule_refused, takes_by, takes_told}
 use Rattle.rg_restart.proofs.Reading.{copy_within}

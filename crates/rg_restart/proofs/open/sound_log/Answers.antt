@@ -1,9 +1,9 @@
 use Rattle.std.proofs.Common.{sym, subst}
-use Rattle.rg_chain.specs.Tested.{IsLogTest}
-use Rattle.rg_chain.specs.declared.test.LogTest.TheVariants.{Sound}
+use Rattle.rg_check.specs.Chain.Tested.{IsLogTest}
+use Rattle.rg_check.specs.declared.chain.test.LogTest.TheVariants.{Sound}
 use Rattle.rg_image.specs.Kept.{AreEntries}
-use Rattle.rg_rebuilt.proofs.Covering.{covers_all}
-use Rattle.rg_rebuilt.specs.Laws.{CoversAll}
+use Rattle.rg_redo.proofs.CurrentCopyLemmas.Covering.{covers_all}
+use Rattle.rg_redo.specs.CurrentCopy.Laws.{CoversAll}
 use Rattle.rg_restart.proofs.open.sound_log.Goals as goal
 
 pub test_log-requires-clause-entries : goal.test_log-requires-clause-entries

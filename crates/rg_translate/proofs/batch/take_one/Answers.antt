@@ -1,4 +1,4 @@
-use Rattle.rg_fold.specs.Fold.{changes, since_begin}
+use Rattle.rg_feed.specs.Fold.Fold.{changes, since_begin}
 use Rattle.rg_translate.proofs.Taking.{some_left}
 use Rattle.rg_translate.proofs.batch.take_one.Goals as goal
 

@@ -2,8 +2,8 @@ use Rattle.std.proofs.Common.{◌≡◌, ◌∙◌, ◌≤◌, ℕ, true, List, 
 use Rattle.rg_base.specs.declared.change.Change.{Change}
 use Rattle.rg_base.specs.declared.place.Place.{Place}
 use Rattle.rg_feed.specs.Ends.{Received}
-use Rattle.rg_fold.specs.Fold.{changes, since_begin}
-use Rattle.rg_fold.specs.Last.{applied_at, last_at}
+use Rattle.rg_feed.specs.Fold.Fold.{changes, since_begin}
+use Rattle.rg_feed.specs.Fold.Last.{applied_at, last_at}
 use Rattle.rg_model.specs.Layout.{are_rising}
 use Rattle.rg_shadow.specs.Shade.{Shade, source_rows}
 use Rattle.rg_translate.specs.Backlog.{next_changes, to_make}

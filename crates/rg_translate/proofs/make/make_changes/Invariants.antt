@@ -1,7 +1,7 @@
 use Rattle.std.proofs.Common.{◌≡◌, [], true, None, map, take}
 use Rattle.rg_base.specs.declared.change.Change.{Change}
 use Rattle.rg_base.specs.declared.place.Place.{Place}
-use Rattle.rg_fold.specs.Last.{applied_at, last_at}
+use Rattle.rg_feed.specs.Fold.Last.{applied_at, last_at}
 use Rattle.rg_model.specs.Layout.{are_rising}
 use Rattle.rg_shadow.specs.Shade.{source_rows, target_of}
 use Rattle.rg_translate.specs.Caught.{ClaimsMore, KeepTargets, SameCopy, Unmoved}

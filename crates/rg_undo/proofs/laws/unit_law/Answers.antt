@@ -7,8 +7,9 @@ use Rattle.rg_home.specs.Rows.{row_at}
 use Rattle.rg_home.specs.Slot.{Slot}
 use Rattle.rg_home.specs.Undo.{undone_all}
 use Rattle.rg_home.specs.Written.{Written}
-use Rattle.rg_ready.specs.Ready.{Ready, only, without, HasHome, NoHome}
-use Rattle.rg_ready.proofs.Ready.{can_only, ready_rolled, rolled_rows, rolled_others}
+use Rattle.rg_laws_pages.specs.UndoRoom.Ready.{Ready, only, without, HasHome, NoHome}
+use Rattle.rg_laws_pages.proofs.UndoRoomLemmas.Ready.{can_only, ready_rolled, rolled_rows}
+use Rattle.rg_laws_pages.proofs.UndoRoomLemmas.Ready.{rolled_others}
 use Rattle.rg_undo.specs.Unit.{writes_of}
 use Rattle.rg_undo.proofs.laws.unit_law.Goals as goal
 

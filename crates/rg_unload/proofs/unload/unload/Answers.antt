@@ -2,8 +2,8 @@ use Rattle.std.proofs.Common.{◌≡◌, ◌==◌, Bool, List, None, if◌then�
 use Rattle.std.proofs.lemmas.Bool.Decides.{nat_tests}
 use Rattle.rg_base.specs.declared.place.Place.{Place}
 use Rattle.rg_base.specs.declared.row.Row.{Row}
-use Rattle.rg_fold.specs.Fold.{row_in}
-use Rattle.rg_fold.specs.Lawful.{AreRowsOf}
+use Rattle.rg_feed.specs.Fold.Fold.{row_in}
+use Rattle.rg_feed.specs.Fold.Lawful.{AreRowsOf}
 use Rattle.rg_home.specs.Rows.{row_at}
 use Rattle.rg_page.specs.Content.{slots_of}
 use Rattle.rg_space.specs.Homes.{homes_on}

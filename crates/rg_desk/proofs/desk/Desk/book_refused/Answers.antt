@@ -1,7 +1,7 @@
 use Rattle.std.proofs.Common.{◌≡◌, ◌+◌, List, [], ◌∷◌, ◌++◌, Option, None, refl, sym, ◌∙◌, ap, subst, append-nil}
 use Rattle.rg_model.specs.Claims.{least_holder}
 use Rattle.rg_stmt.specs.declared.event.Entry.{Entry}
-use Rattle.rg_tending.specs.Tending.{FollowsBy, aside_for, utility_entry}
+use Rattle.rg_laws_utility.specs.TraceStage.Tending.{FollowsBy, aside_for, utility_entry}
 use Rattle.rg_desk.specs.Desk.{IsNextStep, old_records}
 use Rattle.rg_engine.specs.Prepared.{while_running}
 use Rattle.rg_engine.specs.Flushed.{CallsOwn}

@@ -1,12 +1,13 @@
 use Rattle.std.proofs.Common.{◌≡◌, ◌+◌, ℕ, Bool, false, List, [], ◌∷◌, ◌++◌, Option, Some, take, refl, sym, ◌∙◌, ap, subst, append-nil}
-use Rattle.rg_account.specs.Account.{allowed_of}
-use Rattle.rg_fold.specs.declared.item.Stage.{Stage}
+use Rattle.rg_laws_utility.specs.ByteAccount.Account.{allowed_of}
+use Rattle.rg_feed.specs.declared.fold.item.Stage.{Stage}
 use Rattle.rg_log.specs.Kept.{Listed}
 use Rattle.rg_model.specs.Claims.{least_holder}
 use Rattle.rg_space.specs.Memory.{list_seen}
 use Rattle.rg_space.specs.Space.{capacity_in, frames_of}
 use Rattle.rg_stmt.specs.declared.event.Entry.{Entry}
-use Rattle.rg_tending.specs.Tending.{FollowsBy, NextBy, Tends, aside_for, utility_entry}
+use Rattle.rg_laws_utility.specs.TraceStage.Tending.{FollowsBy, NextBy, Tends, aside_for}
+use Rattle.rg_laws_utility.specs.TraceStage.Tending.{utility_entry}
 use Rattle.rg_desk.specs.Desk.{IsDesk, old_records}
 use Rattle.rg_engine.specs.Prepared.{while_running}
 use Rattle.rg_engine.specs.Flushed.{CallsOwn}

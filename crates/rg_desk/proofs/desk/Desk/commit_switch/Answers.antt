@@ -1,17 +1,17 @@
 use Rattle.std.proofs.Common.{◌≡◌, ◌++◌, ℕ, Bool, false, List, [], ◌∷◌, take, length, Option, Some, IfSome, refl, sym, ◌∙◌, ap, subst}
 use Rattle.rg_base.specs.declared.verdict.StopReason.TheVariants as reasons
 use Rattle.rg_base.specs.declared.which.Which.TheVariants.{Key, Clus, Cat}
-use Rattle.rg_fold.specs.declared.item.Stage.{Stage}
+use Rattle.rg_feed.specs.declared.fold.item.Stage.{Stage}
 use Rattle.rg_image.specs.Rules.{copy_capacity}
 use Rattle.rg_log.specs.Kept.{Listed}
 use Rattle.rg_outside.specs.Faults.{Rose}
 use Rattle.rg_model.specs.Turn.{alter}
 use Rattle.rg_space.specs.Space.{capacity_in}
-use Rattle.rg_stage.specs.NumbersOf.{numbers_of}
+use Rattle.rg_rules.specs.Stage.NumbersOf.{numbers_of}
 use Rattle.rg_stmt.specs.declared.event.Entry.{Entry}
 use Rattle.rg_stmt.specs.declared.event.Event.TheVariants as events
 use Rattle.rg_base.specs.Copies.{other_of}
-use Rattle.rg_tending.specs.Tending.{Tends, utility_entry}
+use Rattle.rg_laws_utility.specs.TraceStage.Tending.{Tends, utility_entry}
 use Rattle.rg_desk.specs.Desk.{IsDesk, old_records}
 use Rattle.rg_engine.specs.Engine.{seen_in}
 use Rattle.rg_page.specs.Content.{Content}

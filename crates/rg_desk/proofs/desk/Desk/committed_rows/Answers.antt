@@ -1,5 +1,5 @@
 use Rattle.std.proofs.Common.{◌∙◌, ap, subst}
-use Rattle.rg_account.specs.Account.{allowed_of}
+use Rattle.rg_laws_utility.specs.ByteAccount.Account.{allowed_of}
 use Rattle.rg_desk.specs.Desk.{EndsWithRows, old_records}
 use Rattle.rg_engine.specs.Volume.{seen_volume}
 use Rattle.rg_desk.proofs.DeskGoes.{desk_few}

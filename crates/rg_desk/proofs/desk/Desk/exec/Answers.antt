@@ -1,5 +1,5 @@
 use Rattle.std.proofs.Common.{◌≡◌, ◌≤◌, ◌||◌, ℕ, Bool, true, false, List, [], ◌∷◌, ◌++◌, drop, length, sym, ◌∙◌, ap, subst}
-use Rattle.rg_account.specs.Account.{allowed_of}
+use Rattle.rg_laws_utility.specs.ByteAccount.Account.{allowed_of}
 use Rattle.rg_outside.specs.Faults.{Rose}
 use Rattle.rg_stmt.specs.Entries.{said_entry}
 use Rattle.rg_stmt.specs.declared.event.Entry.{Entry}
@@ -18,14 +18,14 @@ use Rattle.rg_desk.proofs.DeskGoes.{desk_replied, desk_room, desk_shown, old_sam
 use Rattle.rg_engine.proofs.Flushing.{own_calls}
 use Rattle.rg_desk.proofs.Rows.{replied_rows}
 use Rattle.rg_desk.proofs.Sounding.{replied_sound}
-use Rattle.rg_tending.specs.Tending.{Tends}
+use Rattle.rg_laws_utility.specs.TraceStage.Tending.{Tends}
 use Rattle.rg_model.specs.Run.{behind}
-use Rattle.rg_tending.proofs.Tended.{tends_said}
+use Rattle.rg_laws_utility.proofs.TraceStageLemmas.Tended.{tends_said}
 use Rattle.rg_engine.proofs.Preparing.{prepared_on, prepared_same}
 use Rattle.rg_feed.specs.Ends.{sent_items}
-use Rattle.rg_changed.specs.Changed.{changes_in}
-use Rattle.rg_sending.specs.Sending.{items_made}
-use Rattle.rg_sent.specs.Keeps.{sent_changes}
+use Rattle.rg_laws_utility.specs.RecordChanges.Changed.{changes_in}
+use Rattle.rg_engine.specs.ChangeFeed.Sending.{items_made}
+use Rattle.rg_feed.specs.SentItems.Keeps.{sent_changes}
 use Rattle.rg_desk.proofs.Feeding.{said_items}
 use Rattle.rg_desk.proofs.desk.Desk.exec.Goals as goal
 

@@ -1,18 +1,19 @@
 use Rattle.std.proofs.Common.{◌≡◌, ◌+◌, ◌++◌, ℕ, Bool, true, false, List, [], ◌∷◌, Option, Some, length, take, refl, sym, ◌∙◌, ap, subst}
-use Rattle.rg_account.specs.Account.{allowed_of}
+use Rattle.rg_laws_utility.specs.ByteAccount.Account.{allowed_of}
 use Rattle.rg_feed.specs.Ends.{sent_items}
-use Rattle.rg_fold.specs.declared.item.Item.{Item}
-use Rattle.rg_fold.specs.declared.item.Item.TheVariants.{PageCopy}
-use Rattle.rg_fold.specs.declared.item.Stage.{Stage}
+use Rattle.rg_feed.specs.declared.fold.item.Item.{Item}
+use Rattle.rg_feed.specs.declared.fold.item.Item.TheVariants.{PageCopy}
+use Rattle.rg_feed.specs.declared.fold.item.Stage.{Stage}
 use Rattle.rg_log.specs.Kept.{Listed}
 use Rattle.rg_model.specs.Claims.{least_holder}
 use Rattle.rg_model.specs.Turn.{turn_of}
 use Rattle.rg_space.specs.Memory.{list_seen}
 use Rattle.rg_space.specs.Space.{capacity_in, frames_of}
-use Rattle.rg_stage.specs.NumbersOf.{numbers_of}
+use Rattle.rg_rules.specs.Stage.NumbersOf.{numbers_of}
 use Rattle.rg_stmt.specs.declared.event.Entry.{Entry}
 use Rattle.rg_stmt.specs.declared.event.Event.TheVariants.{Unload}
-use Rattle.rg_tending.specs.Tending.{FollowsBy, Tends, aside_for, is_plain, utility_entry}
+use Rattle.rg_laws_utility.specs.TraceStage.Tending.{FollowsBy, Tends, aside_for, is_plain}
+use Rattle.rg_laws_utility.specs.TraceStage.Tending.{utility_entry}
 use Rattle.rg_desk.specs.Desk.{IsDesk, old_records}
 use Rattle.rg_engine.specs.Prepared.{while_running}
 use Rattle.rg_engine.specs.Flushed.{CallsOwn}

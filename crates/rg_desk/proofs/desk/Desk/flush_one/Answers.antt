@@ -11,8 +11,8 @@ use Rattle.rg_desk.proofs.DeskFlush.{desk_flushed, flush_told}
 use Rattle.rg_desk.proofs.DeskGoes.{desk_room}
 use Rattle.rg_desk.proofs.Rows.{flushed_rows}
 use Rattle.rg_desk.proofs.Sounding.{flushed_sound}
-use Rattle.rg_tending.specs.Tending.{Tends}
-use Rattle.rg_tending.proofs.Tended.{tends_system}
+use Rattle.rg_laws_utility.specs.TraceStage.Tending.{Tends}
+use Rattle.rg_laws_utility.proofs.TraceStageLemmas.Tended.{tends_system}
 use Rattle.rg_desk.proofs.DeskUtility.{flush_system}
 use Rattle.rg_engine.proofs.Preparing.{prepared_on, prepared_same}
 use Rattle.rg_feed.specs.Ends.{sent_items}

@@ -1,6 +1,6 @@
 use Rattle.std.proofs.Common.{List, sym, subst}
 use Rattle.rg_stmt.specs.declared.event.Entry.{Entry}
-use Rattle.rg_tending.specs.Tending.{Tends}
+use Rattle.rg_laws_utility.specs.TraceStage.Tending.{Tends}
 use Rattle.rg_desk.proofs.DeskGoes.{desk_room}
 use Rattle.rg_feed.specs.Ends.{sent_items}
 use Rattle.rg_engine.specs.Sends.{KeepsItems}

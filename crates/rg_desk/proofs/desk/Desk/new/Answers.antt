@@ -21,9 +21,9 @@ use Rattle.rg_engine.proofs.Reopens.{idle_names}
 use Rattle.rg_model.specs.State.{row_count}
 use Rattle.rg_stmt.specs.Entries.{opened_entry}
 use Rattle.rg_stmt.specs.declared.event.Entry.{Entry}
-use Rattle.rg_tally.specs.Changed.{ChangeCount, no_changes}
-use Rattle.rg_tending.specs.Tending.{Tends}
-use Rattle.rg_tending.proofs.Tended.{tends_opened}
+use Rattle.rg_rules.specs.Tally.Changed.{ChangeCount, no_changes}
+use Rattle.rg_laws_utility.specs.TraceStage.Tending.{Tends}
+use Rattle.rg_laws_utility.proofs.TraceStageLemmas.Tended.{tends_opened}
 use Rattle.rg_feed.specs.Ends.{sent_items}
 use Rattle.rg_desk.proofs.Feeding.{opened_items}
 use Rattle.rg_desk.proofs.desk.Desk.new.Goals as goal

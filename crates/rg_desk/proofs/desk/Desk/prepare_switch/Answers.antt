@@ -1,6 +1,6 @@
 use Rattle.std.proofs.Common.{◌≡◌, ℕ, Bool, false, length, Option, Some, None, refl, sym, ◌∙◌, ap, subst}
 use Rattle.rg_base.specs.declared.options.DrainState.TheVariants.{Granted}
-use Rattle.rg_fold.specs.declared.item.Stage.{Stage}
+use Rattle.rg_feed.specs.declared.fold.item.Stage.{Stage}
 use Rattle.rg_base.specs.declared.row.Row.{Row}
 use Rattle.rg_home.specs.Pages.{slot_of}
 use Rattle.rg_home.specs.Rows.{row_at}
@@ -8,8 +8,8 @@ use Rattle.rg_image.specs.Rules.{copy_capacity}
 use Rattle.rg_home.specs.Table.{IsTable}
 use Rattle.rg_shadow.specs.Shade.{Shade, shade_slots}
 use Rattle.rg_base.specs.Copies.{other_of}
-use Rattle.rg_tending.specs.Tending.{Tends}
-use Rattle.rg_written.specs.Stamped.{stamped_all}
+use Rattle.rg_laws_utility.specs.TraceStage.Tending.{Tends}
+use Rattle.rg_engine.specs.CopyPages.Stamped.{stamped_all}
 use Rattle.rg_desk.specs.Desk.{DeskState, IsDesk, written_seen}
 use Rattle.rg_engine.specs.Engine.{ground_of, seen_in, slots_in}
 use Rattle.rg_engine.specs.Flushed.{CallsOwn}

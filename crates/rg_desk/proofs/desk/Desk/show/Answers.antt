@@ -1,9 +1,9 @@
 use Rattle.std.proofs.Common.{ℕ, List, [], ◌∷◌, ◌++◌, sym, ◌∙◌, ap, subst}
-use Rattle.rg_account.specs.Account.{allowed_of}
+use Rattle.rg_laws_utility.specs.ByteAccount.Account.{allowed_of}
 use Rattle.rg_log.specs.Kept.{Listed}
 use Rattle.rg_stmt.specs.declared.event.Entry.{Entry}
-use Rattle.rg_tending.specs.Tending.{Tends}
-use Rattle.rg_tending.proofs.Tended.{tends_system}
+use Rattle.rg_laws_utility.specs.TraceStage.Tending.{Tends}
+use Rattle.rg_laws_utility.proofs.TraceStageLemmas.Tended.{tends_system}
 use Rattle.rg_desk.specs.Chronicle.{system_entry}
 use Rattle.rg_desk.proofs.DeskUtility.{layout_system}
 use Rattle.rg_desk.proofs.DeskGoes.{desk_room, desk_same}

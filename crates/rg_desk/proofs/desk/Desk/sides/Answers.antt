@@ -1,6 +1,6 @@
 use Rattle.std.proofs.Common.{ℕ, Bool, Option, sym, ◌∙◌, ap, subst}
 use Rattle.rg_log.specs.Kept.{Listed}
-use Rattle.rg_tending.specs.Tending.{Tends}
+use Rattle.rg_laws_utility.specs.TraceStage.Tending.{Tends}
 use Rattle.rg_desk.specs.Desk.{IsDesk}
 use Rattle.rg_engine.specs.Prepared.{KeepsPrepared}
 use Rattle.rg_engine.specs.Volume.{seen_volume}

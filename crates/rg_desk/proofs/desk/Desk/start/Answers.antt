@@ -3,8 +3,8 @@ use Rattle.rg_log.specs.Kept.{Listed}
 use Rattle.rg_space.specs.Memory.{list_seen}
 use Rattle.rg_space.specs.Space.{capacity_in, frames_of}
 use Rattle.rg_stmt.specs.declared.event.Entry.{Entry}
-use Rattle.rg_tally.specs.Changed.{ChangeCount}
-use Rattle.rg_tending.specs.Tending.{Tends, aside_for, utility_entry}
+use Rattle.rg_rules.specs.Tally.Changed.{ChangeCount}
+use Rattle.rg_laws_utility.specs.TraceStage.Tending.{Tends, aside_for, utility_entry}
 use Rattle.rg_desk.specs.Chronicle.{logged_by}
 use Rattle.rg_desk.specs.Desk.{IfStartLogFull, IsStart, old_records}
 use Rattle.rg_engine.specs.Utility.{started_count}
@@ -20,7 +20,7 @@ use Rattle.rg_engine.proofs.Flushing.{own_same}
 use Rattle.rg_engine.proofs.Preparing.{prepared_same}
 use Rattle.rg_feed.specs.Ends.{sent_items}
 use Rattle.rg_engine.specs.Sends.{KeepsItems, begin_items}
-use Rattle.rg_fold.specs.declared.item.Item.{Item}
+use Rattle.rg_feed.specs.declared.fold.item.Item.{Item}
 use Rattle.rg_desk.proofs.Feeding.{started_items}
 use Rattle.rg_desk.proofs.desk.Desk.start.Goals as goal
 

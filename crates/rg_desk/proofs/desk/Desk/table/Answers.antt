@@ -1,7 +1,7 @@
 use Rattle.std.proofs.Common.{ℕ, IfOk, sym, ◌∙◌, ap, subst}
-use Rattle.rg_account.specs.Account.{allowed_of}
+use Rattle.rg_laws_utility.specs.ByteAccount.Account.{allowed_of}
 use Rattle.rg_log.specs.Kept.{Listed}
-use Rattle.rg_tending.specs.Tending.{Tends}
+use Rattle.rg_laws_utility.specs.TraceStage.Tending.{Tends}
 use Rattle.rg_feed.specs.Ends.{sent_items}
 use Rattle.rg_desk.specs.Desk.{old_records}
 use Rattle.rg_engine.specs.Tabled.{EndsWithTable}

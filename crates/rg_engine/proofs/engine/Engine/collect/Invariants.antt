@@ -1,5 +1,5 @@
 use Rattle.std.proofs.Common.{◌≡◌, List, length}
-use Rattle.rg_lawful.specs.Write.{Write}
+use Rattle.rg_laws_log.specs.LogState.Write.{Write}
 use Rattle.rg_engine.specs.Undoing.{Collected}
 use Rattle.rg_engine.specs.Walks.{Walks}
 use Rattle.rg_engine.proofs.engine.Engine.collect.Given as goal

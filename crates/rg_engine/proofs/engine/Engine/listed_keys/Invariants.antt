@@ -1,7 +1,7 @@
 use Rattle.std.proofs.Common.{◌≡◌, take}
 use Rattle.rg_home.specs.Pages.{slot_of}
 use Rattle.rg_home.specs.Rows.{row_at}
-use Rattle.rg_indexes.specs.Listed.{listed_keys}
+use Rattle.rg_btree.specs.Indexes.Listed.{listed_keys}
 use Rattle.rg_engine.specs.Engine.{slots_in}
 use Rattle.rg_engine.specs.Wrote.{SameEngine}
 use Rattle.rg_engine.proofs.engine.Engine.listed_keys.Given as goal

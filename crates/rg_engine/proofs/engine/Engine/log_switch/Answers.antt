@@ -1,6 +1,6 @@
 use Rattle.std.proofs.Common.{◌≡◌, ◌+◌, ℕ, [], ◌∷◌, ◌++◌, length, refl, ◌∙◌, ap, arith}
 use Rattle.rg_log.specs.Kept.{Listed}
-use Rattle.rg_switch.specs.Switched.{switch_to}
+use Rattle.rg_laws_crash.specs.SwitchRecord.Switched.{switch_to}
 use Rattle.rg_engine.specs.Bytes.{taken_of}
 use Rattle.rg_engine.specs.Stored.{Grows}
 use Rattle.rg_engine.specs.Volume.{seen_volume}

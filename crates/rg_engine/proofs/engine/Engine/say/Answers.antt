@@ -3,7 +3,7 @@ use Rattle.std.specs.FinMap as map
 use Rattle.rg_model.specs.Claims.{is_kept_out}
 use Rattle.rg_engine.proofs.Answering.{done_answers, drained_answers, drained_asks, drained_needs}
 use Rattle.rg_engine.proofs.Answering.{other_asks, refused_answers, still_admitted}
-use Rattle.rg_changed.specs.Changed.{changes_in, rows_after}
+use Rattle.rg_laws_utility.specs.RecordChanges.Changed.{changes_in, rows_after}
 use Rattle.rg_feed.specs.Ends.{sent_items}
 use Rattle.rg_record.specs.declared.record.Record.{Record}
 use Rattle.rg_stmt.specs.declared.stmt.Reply.TheVariants.{NoMemory}

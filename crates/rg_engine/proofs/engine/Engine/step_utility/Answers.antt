@@ -2,11 +2,11 @@ use Rattle.std.proofs.Common.{sym, ◌∙◌, ap, subst}
 use Rattle.std.specs.Option.{is_some}
 use Rattle.rg_base.specs.declared.options.DrainState.{DrainState}
 use Rattle.rg_model.specs.Claims.{least_holder}
-use Rattle.rg_stage.specs.Followed.{Followed}
-use Rattle.rg_stage.specs.NumbersOf.{numbers_of}
-use Rattle.rg_tending.specs.Tending.{MayDrain}
-use Rattle.rg_tending.proofs.Granting.{drain_granted}
-use Rattle.rg_tending.proofs.Switching.{plain_turn}
+use Rattle.rg_rules.specs.Stage.Followed.{Followed}
+use Rattle.rg_rules.specs.Stage.NumbersOf.{numbers_of}
+use Rattle.rg_laws_utility.specs.TraceStage.Tending.{MayDrain}
+use Rattle.rg_laws_utility.proofs.TraceStageLemmas.Granting.{drain_granted}
+use Rattle.rg_laws_utility.proofs.TraceStageLemmas.Switching.{plain_turn}
 use Rattle.rg_engine.specs.Shows.{IsShown}
 use Rattle.rg_engine.proofs.UtilityShows.{drained_shown, none_is, step_goes, step_over, still_aside}
 use Rattle.rg_engine.proofs.engine.Engine.step_utility.Goals as goal

@@ -1,5 +1,5 @@
 use Rattle.std.proofs.Common.{◌+◌, ℕ, length, refl, sym, ap, subst, arith}
-use Rattle.rg_lawful.specs.Write.{own_of}
+use Rattle.rg_laws_log.specs.LogState.Write.{own_of}
 use Rattle.rg_engine.specs.Shows.{left_by}
 use Rattle.rg_engine.specs.Undoing.{AreChain}
 use Rattle.rg_engine.specs.Undone.{IsUndoing}

@@ -1,8 +1,8 @@
 use Rattle.std.proofs.Common.{◌∙◌, Bool, List, ap}
 use Rattle.rtrb.specs.Ring.{received}
-use Rattle.rg_fold.specs.Fold.{since_begin}
-use Rattle.rg_fold.specs.Lawful.{passes_over}
-use Rattle.rg_fold.specs.declared.item.Item.{Item}
+use Rattle.rg_feed.specs.Fold.Fold.{since_begin}
+use Rattle.rg_feed.specs.Fold.Lawful.{passes_over}
+use Rattle.rg_feed.specs.declared.fold.item.Item.{Item}
 use Rattle.rg_feed.specs.Ends.{Received}
 use Rattle.rg_feed.proofs.Passing.{of_copies}
 use Rattle.rg_feed.proofs.inlet.FeedIn.passes_over.Goals as goal

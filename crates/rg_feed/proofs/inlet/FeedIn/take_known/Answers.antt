@@ -1,7 +1,7 @@
 use Rattle.std.proofs.Common.{◌≡◌, ◌==◌, ◌&&◌, ◌+◌, ◌∙◌, ◌++◌, ◌∷◌, [], List, ap, arith, sym, take}
 use Rattle.rtrb.specs.Ring.{received}
-use Rattle.rg_fold.specs.declared.item.Item.{Item}
-use Rattle.rg_fold.specs.declared.item.Item.TheVariants.{PageCopy}
+use Rattle.rg_feed.specs.declared.fold.item.Item.{Item}
+use Rattle.rg_feed.specs.declared.fold.item.Item.TheVariants.{PageCopy}
 use Rattle.rg_feed.specs.Ends.{Received, are_numbered, still_taken, taken_of}
 use Rattle.rg_feed.proofs.Keeping.{begin_keeps, begin_taken, booked_keeps, booked_taken, change_keeps, change_taken, copy_keeps, copy_taken}
 use Rattle.rg_feed.proofs.Passing.{more_numbered}

@@ -1,8 +1,9 @@
 use Rattle.std.proofs.Common.{◌≡◌, ℕ, ◌+◌, ◌-◌, ◌*◌, ◌++◌, List, length, replicate, ap, arith, append_assoc, ◌∙◌}
 use Rattle.rg_home.specs.Slots.{used}
-use Rattle.rg_page_bytes.specs.Content.{Content}
-use Rattle.rg_page_bytes.specs.PageBytes.{directory, filled_bytes, head_bytes, slots_bytes, slots_size}
-use Rattle.rg_page_bytes.proofs.Whole.{used_is}
+use Rattle.rg_page.specs.Bytes.Content.{Content}
+use Rattle.rg_page.specs.Bytes.PageBytes.{directory, filled_bytes, head_bytes, slots_bytes}
+use Rattle.rg_page.specs.Bytes.PageBytes.{slots_size}
+use Rattle.rg_page.proofs.BytesLemmas.Whole.{used_is}
 use Rattle.rg_page.proofs.page.Page.add_all.Goals as goal
 
 pub overflow_mul-end : goal.overflow_mul-end

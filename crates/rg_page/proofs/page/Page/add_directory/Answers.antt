@@ -3,8 +3,8 @@ use Rattle.std.proofs.lemmas.List.{append-nil, take_more}
 use Rattle.rg_base.specs.Field.{field}
 use Rattle.rg_home.specs.Slot.{Slot, Free}
 use Rattle.rg_home.specs.Slots.{slot_at}
-use Rattle.rg_page_bytes.specs.PageBytes.{directory, slots_size}
-use Rattle.rg_page_bytes.proofs.Whole.{used_is}
+use Rattle.rg_page.specs.Bytes.PageBytes.{directory, slots_size}
+use Rattle.rg_page.proofs.BytesLemmas.Whole.{used_is}
 use Rattle.rg_page.specs.Shown.{shown}
 use Rattle.rg_page.proofs.More.{directory-more, slots_size-more}
 use Rattle.rg_page.proofs.Room.{used-some}

@@ -1,5 +1,5 @@
 use Rattle.std.proofs.Common.{◌≡◌, ◌≤◌, ◌+◌, ◌*◌, ◌++◌, length, take}
-use Rattle.rg_page_bytes.specs.PageBytes.{directory, slots_size}
+use Rattle.rg_page.specs.Bytes.PageBytes.{directory, slots_size}
 use Rattle.rg_page.proofs.page.Page.add_directory.Given as goal
 
 abbrev pub invariant-loop-i : goal.invariant-loop-i

@@ -2,10 +2,10 @@ use Rattle.std.proofs.Common.{◌≡◌, ◌<◌, ℕ, ◌+◌, ◌∷◌, ◌++
 use Rattle.std.proofs.lemmas.List.{append-nil, take_more}
 use Rattle.rg_home.specs.Slot.{Slot, Free}
 use Rattle.rg_home.specs.Slots.{slot_at}
-use Rattle.rg_page_bytes.specs.PageBytes.{slot_bytes, slots_bytes, slots_size}
-use Rattle.rg_page_bytes.specs.Content.{FitsSlot}
+use Rattle.rg_page.specs.Bytes.PageBytes.{slot_bytes, slots_bytes, slots_size}
+use Rattle.rg_page.specs.Bytes.Content.{FitsSlot}
 use Rattle.std.specs.List.{AllByRecursion}
-use Rattle.rg_page_bytes.proofs.Whole.{used_is}
+use Rattle.rg_page.proofs.BytesLemmas.Whole.{used_is}
 use Rattle.rg_page.specs.Shown.{shown}
 use Rattle.rg_page.proofs.More.{slots_bytes-more, slots_fit-more, slots_size-more}
 use Rattle.rg_page.proofs.Room.{used-some}

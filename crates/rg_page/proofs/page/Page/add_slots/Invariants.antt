@@ -1,7 +1,7 @@
 use Rattle.std.proofs.Common.{◌≡◌, ◌+◌, ◌++◌, length, take}
 use Rattle.std.specs.List.{AllByRecursion}
-use Rattle.rg_page_bytes.specs.Content.{FitsSlot}
-use Rattle.rg_page_bytes.specs.PageBytes.{slots_bytes, slots_size}
+use Rattle.rg_page.specs.Bytes.Content.{FitsSlot}
+use Rattle.rg_page.specs.Bytes.PageBytes.{slots_bytes, slots_size}
 use Rattle.rg_page.proofs.page.Page.add_slots.Given as goal
 
 abbrev pub invariant-loop-i : goal.invariant-loop-i

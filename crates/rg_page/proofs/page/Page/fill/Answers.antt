@@ -2,12 +2,12 @@ use Rattle.std.proofs.Common.{◌≡◌, ◌<◌, ◌+◌, ◌-◌, ◌^◌, ℕ
 use Rattle.std.proofs.lemmas.Result.{err_from_is_err_and}
 use Rattle.rg_home.specs.Slot.{Slot}
 use Rattle.rg_home.specs.Slots.{used}
-use Rattle.rg_page_bytes.specs.Content.{Content, FitsPage}
-use Rattle.rg_page_bytes.specs.PageBytes.{directory, filled_bytes, slots_bytes, slots_size}
-use Rattle.rg_page_bytes.specs.Reading.{head_at}
-use Rattle.rg_page_bytes.specs.declared.entry.Head.{Head}
-use Rattle.rg_page_bytes.proofs.ReadBack.{head_again, head_of}
-use Rattle.rg_page_bytes.proofs.Whole.{used_is}
+use Rattle.rg_page.specs.Bytes.Content.{Content, FitsPage}
+use Rattle.rg_page.specs.Bytes.PageBytes.{directory, filled_bytes, slots_bytes, slots_size}
+use Rattle.rg_page.specs.Bytes.Reading.{head_at}
+use Rattle.rg_page.specs.declared.bytes.entry.Head.{Head}
+use Rattle.rg_page.proofs.BytesLemmas.ReadBack.{head_again, head_of}
+use Rattle.rg_page.proofs.BytesLemmas.Whole.{used_is}
 use Rattle.rg_page.specs.Reading.{Begins}
 use Rattle.rg_page.proofs.Refusing.{refused, said, unless}
 use Rattle.rg_page.proofs.page.Page.fill.Goals as goal

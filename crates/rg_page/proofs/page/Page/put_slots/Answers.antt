@@ -4,12 +4,12 @@ use Rattle.std.proofs.lemmas.Result.{err_from_is_err_and}
 use Rattle.rg_home.specs.Pages.{TakesRow}
 use Rattle.rg_home.specs.Slot.{Slot}
 use Rattle.rg_home.specs.Slots.{Fits, placed, slot_at, trim}
-use Rattle.rg_page_bytes.specs.Content.{Content}
-use Rattle.rg_page_bytes.specs.PageBytes.{slots_bytes}
-use Rattle.rg_page_bytes.specs.Reading.{slot_of}
-use Rattle.rg_page_bytes.specs.Reading.{slot_at as slot_read}
-use Rattle.rg_page_bytes.specs.declared.entry.Entry.{Entry}
-use Rattle.rg_page_bytes.proofs.ReadBack.{entry_is, entry_of, entry_takes}
+use Rattle.rg_page.specs.Bytes.Content.{Content}
+use Rattle.rg_page.specs.Bytes.PageBytes.{slots_bytes}
+use Rattle.rg_page.specs.Bytes.Reading.{slot_of}
+use Rattle.rg_page.specs.Bytes.Reading.{slot_at as slot_read}
+use Rattle.rg_page.specs.declared.bytes.entry.Entry.{Entry}
+use Rattle.rg_page.proofs.BytesLemmas.ReadBack.{entry_is, entry_of, entry_takes}
 use Rattle.rg_page.proofs.Filling.{fits_at, next_read, put_fits, trim-more}
 use Rattle.rg_page.proofs.Refusing.{refused, said, unless}
 use Rattle.rg_page.proofs.page.Page.put_slots.Goals as goal

@@ -2,7 +2,7 @@ use Rattle.std.proofs.Common.{◌≡◌, ◌++◌, List, drop, take}
 use Rattle.rg_home.specs.Slot.{Slot}
 use Rattle.rg_home.specs.Slots.{trim}
 use Rattle.rg_page.specs.Reading.{Begins}
-use Rattle.rg_page_bytes.specs.PageBytes.{slots_bytes}
+use Rattle.rg_page.specs.Bytes.PageBytes.{slots_bytes}
 use Rattle.rg_page.proofs.page.Page.put_slots.Given as goal
 
 abbrev pub invariant-loop-i : goal.invariant-loop-i

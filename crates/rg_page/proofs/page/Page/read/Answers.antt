@@ -1,7 +1,7 @@
 use Rattle.std.proofs.Common.{◌≡◌, ℕ, Bool, true, false, not, eqb, List, replicate, refl, sym, ap, ◌∙◌}
 use lib.Pointwise.{pointwise, bytes_decides}
-use Rattle.rg_page_bytes.specs.Content.{Content, FitsPage, empty}
-use Rattle.rg_page_bytes.specs.PageBytes.{bytes_if, filled_bytes, is_blank, page_bytes}
+use Rattle.rg_page.specs.Bytes.Content.{Content, FitsPage, empty}
+use Rattle.rg_page.specs.Bytes.PageBytes.{bytes_if, filled_bytes, is_blank, page_bytes}
 use Rattle.rg_page.specs.Reading.{IsFilled}
 use Rattle.rg_page.proofs.page.Page.read.Goals as goal
 use Rattle.rg_page.proofs.page.Page.read.Goals.{then-ne+in_ok-fill, else-ne}

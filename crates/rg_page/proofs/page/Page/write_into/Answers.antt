@@ -1,6 +1,6 @@
 use Rattle.std.proofs.Common.{◌≡◌, ℕ, ◌-◌, Bool, List, ◌++◌, length, replicate, ap, arith, sym, ◌∙◌}
 use Rattle.std.proofs.lemmas.List.{append-nil}
-use Rattle.rg_page_bytes.specs.PageBytes.{bytes_if}
+use Rattle.rg_page.specs.Bytes.PageBytes.{bytes_if}
 use Rattle.rg_record.specs.Filled.{padded}
 use Rattle.rg_page.proofs.page.Page.write_into.Goals as goal
 use Rattle.rg_page.proofs.page.Page.write_into.Goals.{then-not-is_blank, else-not-is_blank}

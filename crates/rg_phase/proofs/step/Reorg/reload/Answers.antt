@@ -1,7 +1,7 @@
 use Rattle.std.proofs.Common.{◌≡◌, ℕ, subst}
 use Rattle.rg_engine.specs.Volume.{seen_volume}
 use Rattle.rg_image.specs.Rules.{copy_capacity}
-use Rattle.rg_reach.specs.Weighed.{weigh_feed}
+use Rattle.rg_laws_utility.specs.CopyWeight.Weighed.{weigh_feed}
 use Rattle.rg_base.specs.Copies.{other_of}
 use Rattle.rg_phase.specs.Step.{HasPagesFor}
 use Rattle.rg_phase.proofs.Loading.{reload_left, space_at}

@@ -2,7 +2,7 @@ use Rattle.std.proofs.Common.{◌≡◌, ℕ, Option, Some, None, refl, sym, ◌
 use Rattle.rg_desk.specs.Desk.{DeskState, left_by_stage}
 use Rattle.rg_engine.specs.Prepared.{while_running}
 use Rattle.rg_engine.specs.Volume.{seen_volume}
-use Rattle.rg_fold.specs.declared.item.Stage.{Stage}
+use Rattle.rg_feed.specs.declared.fold.item.Stage.{Stage}
 use Rattle.rg_outside.specs.Told.{AddsAnswer, HandsOver}
 use Rattle.rg_stmt.specs.declared.event.Event.TheVariants as events
 use Rattle.rg_phase.specs.Step.{NextMade, StepCalls}

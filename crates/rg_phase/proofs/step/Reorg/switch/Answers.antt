@@ -14,7 +14,7 @@ use Rattle.rg_phase.proofs.Steps.{made_runs, next_runs, runs_some}
 use Rattle.rg_phase.proofs.Stops.{stop_next, switch_next}
 use Rattle.rg_phase.proofs.Switchable.{can_commit}
 use Rattle.rg_phase.proofs.step.Reorg.switch.Goals as goal
-use Rattle.rg_reach.specs.Weighed.{weigh_feed}
+use Rattle.rg_laws_utility.specs.CopyWeight.Weighed.{weigh_feed}
 
 pub commit_switch-requires-clause-can : goal.commit_switch-requires-clause-can
 commit_switch-requires-clause-can g c =

@@ -9,7 +9,7 @@ use Rattle.rg_phase.proofs.Making.{acts_booked, acts_copied, plain_some, writes_
 use Rattle.rg_phase.proofs.Steps.{made_runs, next_runs, runs_some}
 use Rattle.rg_phase.proofs.Stops.{stop_next, unload_next}
 use Rattle.rg_phase.proofs.step.Reorg.unload.Goals as goal
-use Rattle.rg_reach.specs.Weighed.{weigh_feed}
+use Rattle.rg_laws_utility.specs.CopyWeight.Weighed.{weigh_feed}
 
 pub feed_page-requires-clause-can : goal.feed_page-requires-clause-can
 feed_page-requires-clause-can g c = record {

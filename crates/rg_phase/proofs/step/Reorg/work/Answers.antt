@@ -2,8 +2,8 @@ use Rattle.std.proofs.Common.{◌≡◌, ℕ, true, Option, ◌∙◌, append-ni
 use Rattle.rg_base.specs.declared.session.Session.{Session}
 use Rattle.rg_engine.specs.Volume.{seen_volume}
 use Rattle.rg_model.specs.Turn.{turn_of}
-use Rattle.rg_stage.specs.NumbersOf.{numbers_of}
-use Rattle.rg_tending.specs.Tending.{is_plain}
+use Rattle.rg_rules.specs.Stage.NumbersOf.{numbers_of}
+use Rattle.rg_laws_utility.specs.TraceStage.Tending.{is_plain}
 use Rattle.rg_phase.proofs.Loading.{space_at, space_or_stop}
 use Rattle.rg_phase.proofs.Making.{acts_booked, writes_shadow}
 use Rattle.rg_phase.proofs.Receiving.{works_on}

@@ -12,7 +12,7 @@ use Rattle.rg_phase.proofs.Steps.{next_runs, runs_some}
 use Rattle.rg_phase.proofs.Stops.{device_next, stop_next, written_next}
 use Rattle.rg_phase.proofs.step.Reorg.write.Goals.{in-Ok, in-Err-Device, in-Err-NoMemory}
 use Rattle.rg_phase.proofs.step.Reorg.write.Goals as goal
-use Rattle.rg_reach.specs.Weighed.{weigh_feed}
+use Rattle.rg_laws_utility.specs.CopyWeight.Weighed.{weigh_feed}
 
 pub returns-clause-acts : goal.returns-clause-acts
 returns-clause-acts g c =

@@ -1,6 +1,6 @@
 use Rattle.std.proofs.Common.{ap}
 use Rattle.std.specs.Option.{is_some}
-use Rattle.rg_tending.proofs.Switching.{plain_turn}
+use Rattle.rg_laws_utility.proofs.TraceStageLemmas.Switching.{plain_turn}
 use Rattle.rg_phase.proofs.Steps.{stays_within}
 use Rattle.rg_phase.proofs.tests.Run.step.Goals as goal
 

@@ -3,7 +3,7 @@ use Rattle.std.proofs.lemmas.List.{take_all}
 use Rattle.rg_base.specs.declared.options.Options.{Options}
 use Rattle.rg_base.specs.declared.place.Place.{Place}
 use Rattle.rg_base.specs.declared.row.Row.{Row}
-use Rattle.rg_fold.specs.Lawful.{AreApart}
+use Rattle.rg_feed.specs.Fold.Lawful.{AreApart}
 use Rattle.rg_home.specs.Pages.{slot_of}
 use Rattle.rg_home.specs.Rows.{row_at}
 use Rattle.rg_page.specs.Content.{slots_of}

@@ -1,7 +1,7 @@
 use Rattle.std.proofs.Common.{subst, sym, rules, refl, arith}
 use Rattle.std.proofs.lemmas.Grind.{common_steps}
-use Rattle.rg_fold.proofs.Permuted.{same_rows}
-use Rattle.rg_fold.specs.Lawful.{AreApart}
+use Rattle.rg_feed.proofs.FoldLemmas.Permuted.{same_rows}
+use Rattle.rg_feed.specs.Fold.Lawful.{AreApart}
 use Rattle.rg_reload.proofs.packer.Packer.new.Goals as goal
 
 pub invariant_of-result : goal.invariant_of-result

@@ -1,5 +1,5 @@
 use Rattle.std.proofs.Common.{subst}
-use Rattle.rg_indexes.specs.Listings.{AreListings}
+use Rattle.rg_btree.specs.Indexes.Listings.{AreListings}
 use Rattle.rg_shadow.specs.Pieces.{shade_of}
 use Rattle.rg_shadow.specs.Shade.{Shade, home_rows}
 use Rattle.rg_shadow.proofs.shadow.Shadow.into_parts.Goals as goal

@@ -1,5 +1,0 @@
-//! What the entries since an opening have allowed the pages of a copy to claim.
-#![tactic(auto)]
-
-/// The laws, each the contract of a function without a body.
-pub mod laws;

@@ -1,5 +1,0 @@
-use Rattle.rg_cats.proofs.Ended.{held-none}
-use Rattle.rg_cats.proofs.locked_rows.LockedRows.new.Goals as goal
-
-pub invariant_of-result : goal.invariant_of-result
-invariant_of-result c = held-none c.args.table c.in_ok-new.field-0 c.new-2.result.owners c.in_ok-new.ensures c.new-2.ensures

@@ -1,8 +1,0 @@
-use Rattle.rg_caught.proofs.Taking.{more_received, same_slots}
-use Rattle.rg_caught.proofs.laws.more_law.Goals as goal
-
-pub returns-clause-more : goal.returns-clause-more
-returns-clause-more c = more_received
-
-pub returns-clause-slots : goal.returns-clause-slots
-returns-clause-slots c = same_slots

@@ -1,8 +1,0 @@
-use Rattle.rg_caught.proofs.Right.{caught_quiet, caught_right}
-use Rattle.rg_caught.proofs.laws.right_law.Goals as goal
-
-pub returns-clause-quiet : goal.returns-clause-quiet
-returns-clause-quiet c = caught_quiet
-
-pub returns-clause-right : goal.returns-clause-right
-returns-clause-right c = caught_right

@@ -1,5 +1,0 @@
-use Rattle.std.proofs.Common.{length}
-use Rattle.rg_chain.proofs.chain.+raised.Given as goal
-
-abbrev pub decreases-raised : goal.decreases-raised
-decreases-raised l = length l.parts.now

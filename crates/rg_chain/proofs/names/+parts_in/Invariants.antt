@@ -1,5 +1,0 @@
-use Rattle.std.proofs.Common.{length}
-use Rattle.rg_chain.proofs.names.+parts_in.Given as goal
-
-abbrev pub decreases-parts_in : goal.decreases-parts_in
-decreases-parts_in l = length l.parts.now

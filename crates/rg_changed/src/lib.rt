@@ -1,5 +1,0 @@
-//! The changes of rows that the records of a log make.
-#![tactic(auto)]
-
-/// The laws, each the contract of a function without a body.
-pub mod laws;

@@ -1,0 +1,3 @@
+pub mod ChainLemmas
+pub mod OpenUnitsLemmas
+pub mod PageTestsLemmas

@@ -1,9 +1,0 @@
-use Rattle.rg_course.proofs.Loaded.{loaded_goes_on}
-use Rattle.rg_course.proofs.Loads.{loading_goes_on}
-use Rattle.rg_course.proofs.laws.loading_law.Goals as goal
-
-pub returns-clause-filled : goal.returns-clause-filled
-returns-clause-filled c = loading_goes_on
-
-pub returns-clause-loaded : goal.returns-clause-loaded
-returns-clause-loaded c = loaded_goes_on

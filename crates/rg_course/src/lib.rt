@@ -1,5 +1,0 @@
-//! When a utility that nothing hinders has ended.
-#![tactic(auto)]
-
-/// The laws, each the contract of a function without a body.
-pub mod laws;

@@ -1,5 +1,0 @@
-//! What a log stores, by the keys of its writes and its Commits.
-#![tactic(auto)]
-
-/// The laws, each the contract of a function without a body.
-pub mod laws;

@@ -1,0 +1,3 @@
+pub mod LogStateLemmas
+pub mod StoredRowsLemmas
+pub mod PageBoundsLemmas

@@ -1,0 +1,3 @@
+pub mod LogState
+pub mod StoredRows
+pub mod PageBounds

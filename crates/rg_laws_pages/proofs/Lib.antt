@@ -1,0 +1,2 @@
+pub mod UndoRoomLemmas
+pub mod ByteClaimsLemmas

@@ -1,0 +1,2 @@
+pub mod UndoRoom
+pub mod ByteClaims

@@ -1,8 +1,0 @@
-use Rattle.rg_loud.proofs.Louder.{none_hushed, said_loud}
-use Rattle.rg_loud.proofs.laws.loud_law.Goals as goal
-
-pub returns-clause-none : goal.returns-clause-none
-returns-clause-none c = none_hushed
-
-pub returns-clause-said : goal.returns-clause-said
-returns-clause-said c = said_loud

@@ -1,5 +1,0 @@
-//! Which keys are not quiet after a statement.
-#![tactic(auto)]
-
-/// The laws, each the contract of a function without a body.
-pub mod laws;

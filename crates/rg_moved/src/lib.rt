@@ -1,5 +1,0 @@
-//! What a new copy has that was packed from the rows of a table.
-#![tactic(auto)]
-
-/// The laws, each the contract of a function without a body.
-pub mod laws;

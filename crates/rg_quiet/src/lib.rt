@@ -1,5 +1,0 @@
-//! What a trace tells of locks and of quiet keys, and what a right switch asks of them.
-#![tactic(auto)]
-
-/// The laws, each the contract of a function without a body.
-pub mod laws;

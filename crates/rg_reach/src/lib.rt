@@ -1,5 +1,0 @@
-//! How much a new copy may have to take: what was sent to a utility, and what will still be sent.
-#![tactic(auto)]
-
-/// The laws, each the contract of a function without a body.
-pub mod laws;

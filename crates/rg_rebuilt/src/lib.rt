@@ -1,7 +1,0 @@
-//! The pages of the current copy, rebuilt from the log.
-#![tactic(auto)]
-
-/// Laws of redo.
-pub mod laws;
-/// Empty pages, and the log redone on them.
-pub mod rebuilt;

@@ -1,5 +1,0 @@
-use Rattle.std.proofs.Common.{length}
-use Rattle.rg_rebuilt_tests.proofs.tests.+parts_there.Given as goal
-
-abbrev pub decreases-parts_there : goal.decreases-parts_there
-decreases-parts_there l = length l.parts.now

@@ -1,6 +1,0 @@
-//! Tests of `rg_rebuilt`, through its public calls. They stand in a crate of their own, since a
-//! check of a crate's tests proves the whole crate once more.
-#![tactic(auto)]
-
-#[cfg(test)]
-mod tests;

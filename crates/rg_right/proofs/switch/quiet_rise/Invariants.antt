@@ -1,7 +1,0 @@
-use Rattle.std.proofs.Common.{◌≡◌, None, drop}
-use Rattle.rg_right.specs.Clustered.{quiet_rises}
-use Rattle.rg_right.proofs.switch.quiet_rise.Given as goal
-
--- what is left decides, behind the last quiet row
-abbrev pub invariant-loop-spot : goal.invariant-loop-spot
-invariant-loop-spot l = quiet_rises l.tally l.last (drop l.spot-index l.spots) ≡ quiet_rises l.tally None l.spots

@@ -1,8 +1,0 @@
-use Rattle.rg_sending.proofs.Keeping.{copy_kept, start_kept}
-use Rattle.rg_sending.proofs.laws.sent_law.Goals as goal
-
-pub returns-clause-start : goal.returns-clause-start
-returns-clause-start c = start_kept
-
-pub returns-clause-copy : goal.returns-clause-copy
-returns-clause-copy c = copy_kept

@@ -1,8 +1,0 @@
-use Rattle.rg_sending.proofs.Keeping.{entry_kept, switch_kept}
-use Rattle.rg_sending.proofs.laws.still_law.Goals as goal
-
-pub returns-clause-entry : goal.returns-clause-entry
-returns-clause-entry c = entry_kept
-
-pub returns-clause-switched : goal.returns-clause-switched
-returns-clause-switched c = switch_kept

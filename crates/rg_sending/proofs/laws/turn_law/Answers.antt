@@ -1,8 +1,0 @@
-use Rattle.rg_sending.proofs.Turning.{booked_copies_none, unload_copies}
-use Rattle.rg_sending.proofs.laws.turn_law.Goals as goal
-
-pub returns-clause-booked : goal.returns-clause-booked
-returns-clause-booked c = booked_copies_none
-
-pub returns-clause-unload : goal.returns-clause-unload
-returns-clause-unload c = unload_copies

@@ -1,7 +1,0 @@
-//! What a desk sends to a utility of the records that it appends.
-#![tactic(auto)]
-
-/// The laws, each the contract of a function without a body.
-pub mod laws;
-/// The changes of records, sent.
-pub mod send;

@@ -1,5 +1,0 @@
-//! When a volume is sound, and why what a crash leaves of an engine's volume is.
-#![tactic(auto)]
-
-/// The laws, each the contract of a function without a body.
-pub mod laws;

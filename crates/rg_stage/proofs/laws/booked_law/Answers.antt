@@ -1,8 +1,0 @@
-use Rattle.rg_stage.proofs.Booking.{entry_allowed, switch_allowed}
-use Rattle.rg_stage.proofs.laws.booked_law.Goals as goal
-
-pub returns : goal.returns
-returns c = record {
-  entry = entry_allowed;
-  switch = switch_allowed;
-}

@@ -1,5 +1,0 @@
-//! What a Switch record makes of a log, and of what a crash leaves of a volume.
-#![tactic(auto)]
-
-/// The laws, each the contract of a function without a body.
-pub mod laws;

@@ -1,5 +1,0 @@
-//! What a desk keeps of the utility that runs, by its entries alone.
-#![tactic(auto)]
-
-/// The laws, each the contract of a function without a body.
-pub mod laws;

@@ -1,8 +1,0 @@
-use Rattle.rg_tested.proofs.laws.table_law.Goals as goal
-
-pub returns : goal.returns
-returns c = λ stored homes stands alone. record {
-  there = λ p row at. stands.0 p row at;
-  placed = λ k row at. stands.1 k row at;
-  once = λ p q row other at it key. alone p q row other at it key;
-}

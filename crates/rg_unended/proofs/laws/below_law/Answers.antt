@@ -1,5 +1,0 @@
-use Rattle.rg_unended.proofs.Opens.{listed_is}
-use Rattle.rg_unended.proofs.laws.below_law.Goals as goal
-
-pub returns : goal.returns
-returns c = λ rs t there. let is = listed_is rs t there in (is.0.0, is.1, is.0.2)

@@ -1,5 +1,0 @@
-//! The pages that a write names are within those of its copy.
-#![tactic(auto)]
-
-/// The laws, each the contract of a function without a body.
-pub mod laws;
