@@ -1,4 +1,4 @@
-pub mod TableLemmas
+mod TableLemmas
 pub mod LayoutsLemmas
 pub mod Exactly
 pub mod Judging

@@ -1,9 +1,9 @@
-mod ByTest
-mod Replaced
-mod SetsKept
-mod CatsKept
-mod Listing
-mod HeldKept
-mod LeastHeld
-mod Ended
-mod ScanHeld
+pub mod ByTest
+pub mod Replaced
+pub mod SetsKept
+pub mod CatsKept
+pub mod Listing
+pub mod HeldKept
+pub mod LeastHeld
+pub mod Ended
+pub mod ScanHeld
