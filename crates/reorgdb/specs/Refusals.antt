@@ -62,4 +62,5 @@ volume_refusal (volumes.Short length) = refusals.VolumeShort length
 -- a status of which a line on standard error says why
 abbrev pub HasLine : ℕ → Type 0
 HasLine status =
-    ((3 ≤ status) × (status ≤ 6)) ⊎ (((11 ≤ status) × (status ≤ 12)) ⊎ ((15 ≤ status) × (status ≤ 16)))
+    ((3 ≤ status) × (status ≤ 6))
+    ⊎ (((11 ≤ status) × (status ≤ 12)) ⊎ ((15 ≤ status) × (status ≤ 16)))
