@@ -1,5 +1,6 @@
 -- From the run of lines to what the bytes or the words that ask for it come to.
-use Rattle.std.proofs.Common.{◌≡◌, ◌≢◌, ℕ, List, [], ◌∷◌, Result, Ok, Err, IfOk, OnErr, refl, sym, ◌∙◌, ap, subst, append-nil, inl, inr, ◌⊎◌, Option}
+use Rattle.std.proofs.Common.{◌≡◌, ◌≢◌, ℕ, List, [], ◌∷◌, Result, Ok, Err, IfOk, OnErr, refl, sym}
+use Rattle.std.proofs.Common.{◌∙◌, ap, subst, append-nil, inl, inr, ◌⊎◌, Option}
 use Rattle.rg_base.specs.declared.bytes.Bytes.{Bytes}
 use Rattle.rg_base.specs.declared.no_memory.NoMemory.{NoMemory as WantsMemory}
 use Rattle.rg_print.specs.Print.{damaged_text}
@@ -26,136 +27,231 @@ use Rattle.rg_words.specs.Spelling.{IsAdmitted as Admitted, Spells}
 use Rattle.rg_words.specs.declared.words.Words.{Words as Asked}
 use Rattle.rg_words.specs.declared.words.Words.TheVariants as asks
 use Rattle.rg_words.specs.declared.words.Admits.TheVariants as upto
-use Rattle.reorgdb.specs.Answer.{AsksDeck, IsCommand, Comes, DealsWithBytes, DealsWithLines, EndsAtDeath, MakesTo, PlaysTo, ReadsDeck, Seen, ShowsTo}
+use Rattle.reorgdb.specs.Answer.{AsksDeck, IsCommand, Comes, DealsWithBytes, DealsWithLines}
+use Rattle.reorgdb.specs.Answer.{EndsAtDeath, MakesTo, PlaysTo, ReadsDeck, Seen, ShowsTo}
 use Rattle.reorgdb.specs.Telling.{IsOfJudge, IsTold, TellsRun, run_text}
 use Rattle.reorgdb.specs.declared.outcome.Outcome.{Outcome}
-use Rattle.reorgdb.specs.declared.outcome.Outcome.TheVariants.{Played, Down, Words, Deck, Source, Damaged, Long, NoMemory}
+use Rattle.reorgdb.specs.declared.outcome.Outcome.TheVariants.{Played, Down, Words, Deck, Source}
+use Rattle.reorgdb.specs.declared.outcome.Outcome.TheVariants.{Damaged, Long, NoMemory}
 use Rattle.reorgdb.specs.declared.telling.Tells.{Tells}
 use Rattle.reorgdb.specs.declared.telling.Tells.TheVariants.{Print, Verdict, Summary}
 
 -- the trace of all lines is one of some first lines
-pub TraceOfFront-whole : (lines : List Line) (trace : List Entry) → TraceOf lines trace → TraceOfFront lines trace
+pub TraceOfFront-whole : (lines : List Line) (trace : List Entry) → TraceOf lines trace
+    → TraceOfFront lines trace
 TraceOfFront-whole lines trace of = (lines, [], sym (append-nil lines), of)
 
-front_of : (bytes : List ℕ) (lines : List Line) (trace : List Entry) → Lines bytes lines → (trace ≡ []) ⊎ TraceOfFront lines trace
+front_of : (bytes : List ℕ) (lines : List Line) (trace : List Entry) → Lines bytes lines
+    → (trace ≡ []) ⊎ TraceOfFront lines trace
     → (trace ≡ []) ⊎ ((lines : List Line) × Lines bytes lines × TraceOfFront lines trace)
 front_of bytes lines trace spelled (inl none) = inl none
 front_of bytes lines trace spelled (inr front) = inr (lines, spelled, front)
 
-pub DealsWithBytes-lines : (tells : Tells) (volume volume_after : VolumeSeen) (outcome : Outcome) (bytes : List ℕ) (lines : List Line) (trace : List Entry) (text : List ℕ) → Lines bytes lines
-    → DealsWithLines tells volume volume_after lines outcome trace text → DealsWithBytes tells volume volume_after bytes outcome trace text
-DealsWithBytes-lines tells volume volume_after NoMemory bytes lines trace text spelled deals = front_of bytes lines trace spelled deals
-DealsWithBytes-lines tells volume volume_after (Deck line) bytes lines trace text spelled deals = absurd deals
-DealsWithBytes-lines tells volume volume_after outcome bytes lines trace text spelled deals = (lines, spelled, deals)
+pub DealsWithBytes-lines : (tells : Tells) (volume volume_after : VolumeSeen) (outcome : Outcome)
+    (bytes : List ℕ) (lines : List Line) (trace : List Entry) (text : List ℕ) → Lines bytes lines
+    → DealsWithLines tells volume volume_after lines outcome trace text
+    → DealsWithBytes tells volume volume_after bytes outcome trace text
+DealsWithBytes-lines tells volume volume_after NoMemory bytes lines trace text spelled deals =
+    front_of bytes lines trace spelled deals
+DealsWithBytes-lines tells volume volume_after (Deck line) bytes lines trace text spelled deals =
+    absurd deals
+DealsWithBytes-lines tells volume volume_after outcome bytes lines trace text spelled deals =
+    (lines, spelled, deals)
 
 -- ---- what a run comes to, once its text was made, or there was no memory for it
 
-tells_run : (tells : Tells) (volume volume_after : VolumeSeen) (trace read : List Entry) (close : Close) (end : RunEnd) (verdict : Option ℕ) (made text : List ℕ)
-    → end ≢ run_ends.NoMemory → (end ≢ run_ends.NoMemory → IsTold tells volume volume_after trace verdict) → read ≡ trace → text ≡ made → made ≡ run_text tells read close verdict
+tells_run : (tells : Tells) (volume volume_after : VolumeSeen) (trace read : List Entry)
+    (close : Close) (end : RunEnd) (verdict : Option ℕ) (made text : List ℕ)
+    → end ≢ run_ends.NoMemory
+    → (end ≢ run_ends.NoMemory → IsTold tells volume volume_after trace verdict) → read ≡ trace
+    → text ≡ made → made ≡ run_text tells read close verdict
     → TellsRun tells volume volume_after trace close text
-tells_run tells volume volume_after trace read close end verdict made text ends told read_is same is =
-    record { verdict = verdict; told = told ends; is = same ∙ is ∙ ap (λ (es : List Entry). run_text tells es close verdict) read_is }
+tells_run tells volume volume_after trace read close end verdict made text ends told read_is same
+    is =
+    record {
+      verdict = verdict;
+      told = told ends;
+      is = same ∙ is ∙ ap (λ (es : List Entry). run_text tells es close verdict) read_is;
+    }
 
-pub tells_whole : (tells : Tells) (volume volume_after : VolumeSeen) (lines : List Line) (trace read shown : List Entry) (rows : ℕ) (end : RunEnd) (verdict : Option ℕ) (made : Result Bytes WantsMemory) (outcome : Outcome) (text : List ℕ)
-    → end ≡ Whole rows → read ≡ trace → shown ≡ trace → IfOk made (λ p. p ≡ run_text tells read (closes.Rows rows) verdict) → IfOk made (λ p. (outcome ≡ Played) × (text ≡ p)) → OnErr made (outcome ≡ NoMemory)
-    → Ends volume volume_after lines trace end → (end ≢ run_ends.NoMemory → IsTold tells volume volume_after trace verdict) → DealsWithLines tells volume volume_after lines outcome shown text
-tells_whole tells volume volume_after lines trace read shown rows end verdict (Ok made) outcome text is read_is same printed came none ends told =
-    let whole : Ends volume volume_after lines trace (Whole rows) = subst (Ends volume volume_after lines trace) is ends in
-    let run : TellsRun tells volume volume_after trace (closes.Rows rows) text = tells_run tells volume volume_after trace read (closes.Rows rows) end verdict made text (λ e. cc (e, is)) told read_is came.1 printed in
+pub tells_whole : (tells : Tells) (volume volume_after : VolumeSeen) (lines : List Line)
+    (trace read shown : List Entry) (rows : ℕ) (end : RunEnd) (verdict : Option ℕ)
+    (made : Result Bytes WantsMemory) (outcome : Outcome) (text : List ℕ)
+    → end ≡ Whole rows → read ≡ trace → shown ≡ trace
+    → IfOk made (λ p. p ≡ run_text tells read (closes.Rows rows) verdict)
+    → IfOk made (λ p. (outcome ≡ Played) × (text ≡ p)) → OnErr made (outcome ≡ NoMemory)
+    → Ends volume volume_after lines trace end
+    → (end ≢ run_ends.NoMemory → IsTold tells volume volume_after trace verdict)
+    → DealsWithLines tells volume volume_after lines outcome shown text
+tells_whole tells volume volume_after lines trace read shown rows end verdict (Ok made) outcome text
+    is read_is same printed came none ends told =
+    let whole : Ends volume volume_after lines trace (Whole rows) =
+    subst (Ends volume volume_after lines trace) is ends in
+    let run : TellsRun tells volume volume_after trace (closes.Rows rows) text =
+    tells_run tells volume volume_after trace read (closes.Rows rows) end verdict made text
+    (λ e. cc (e, is)) told read_is came.1 printed in
     rw (came.0, same) (record { entries = whole.0; rows = rows; counted = whole.1; told = run })
-tells_whole tells volume volume_after lines trace read shown rows end verdict (Err e) outcome text is read_is same printed came none ends told =
-    let whole : Ends volume volume_after lines trace (Whole rows) = subst (Ends volume volume_after lines trace) is ends in
+tells_whole tells volume volume_after lines trace read shown rows end verdict (Err e) outcome text
+    is read_is same printed came none ends told =
+    let whole : Ends volume volume_after lines trace (Whole rows) =
+    subst (Ends volume volume_after lines trace) is ends in
     rw (none, same) (inr (TraceOfFront-whole lines trace whole.0))
 
-pub tells_down : (tells : Tells) (volume volume_after : VolumeSeen) (lines : List Line) (trace read shown : List Entry) (end : RunEnd) (verdict : Option ℕ) (made : Result Bytes WantsMemory) (outcome : Outcome) (text : List ℕ)
-    → end ≡ Ended → read ≡ trace → shown ≡ trace → IfOk made (λ p. p ≡ run_text tells read closes.Down verdict) → IfOk made (λ p. (outcome ≡ Down) × (text ≡ p)) → OnErr made (outcome ≡ NoMemory)
-    → Ends volume volume_after lines trace end → (end ≢ run_ends.NoMemory → IsTold tells volume volume_after trace verdict) → DealsWithLines tells volume volume_after lines outcome shown text
-tells_down tells volume volume_after lines trace read shown end verdict (Ok made) outcome text is read_is same printed came none ends told =
-    let down : Ends volume volume_after lines trace Ended = subst (Ends volume volume_after lines trace) is ends in
-    let run : TellsRun tells volume volume_after trace closes.Down text = tells_run tells volume volume_after trace read closes.Down end verdict made text (λ e. cc (e, is)) told read_is came.1 printed in
+pub tells_down : (tells : Tells) (volume volume_after : VolumeSeen) (lines : List Line)
+    (trace read shown : List Entry) (end : RunEnd) (verdict : Option ℕ)
+    (made : Result Bytes WantsMemory) (outcome : Outcome) (text : List ℕ)
+    → end ≡ Ended → read ≡ trace → shown ≡ trace
+    → IfOk made (λ p. p ≡ run_text tells read closes.Down verdict)
+    → IfOk made (λ p. (outcome ≡ Down) × (text ≡ p)) → OnErr made (outcome ≡ NoMemory)
+    → Ends volume volume_after lines trace end
+    → (end ≢ run_ends.NoMemory → IsTold tells volume volume_after trace verdict)
+    → DealsWithLines tells volume volume_after lines outcome shown text
+tells_down tells volume volume_after lines trace read shown end verdict (Ok made) outcome text is
+    read_is same printed came none ends told =
+    let down : Ends volume volume_after lines trace Ended =
+    subst (Ends volume volume_after lines trace) is ends in
+    let run : TellsRun tells volume volume_after trace closes.Down text =
+    tells_run tells volume volume_after trace read closes.Down end verdict made text
+    (λ e. cc (e, is)) told read_is came.1 printed in
     rw (came.0, same) (inl (record { entries = down.0; down = down.1; told = run }))
-tells_down tells volume volume_after lines trace read shown end verdict (Err e) outcome text is read_is same printed came none ends told =
-    let down : Ends volume volume_after lines trace Ended = subst (Ends volume volume_after lines trace) is ends in
+tells_down tells volume volume_after lines trace read shown end verdict (Err e) outcome text is
+    read_is same printed came none ends told =
+    let down : Ends volume volume_after lines trace Ended =
+    subst (Ends volume volume_after lines trace) is ends in
     rw (none, same) (inr (TraceOfFront-whole lines trace down.0))
 
 -- an opening was refused, so the trace is that of the lines before a death, where there is one
-at_death : (lines : List Line) (trace : List Entry) → EndsAtOpening lines trace → trace ≢ [] → EndsAtDeath lines trace
+at_death : (lines : List Line) (trace : List Entry) → EndsAtOpening lines trace → trace ≢ []
+    → EndsAtDeath lines trace
 at_death lines trace (inl none) some = absurd (some none)
-at_death lines trace (inr dies) some = record { front = dies.0; rest = dies.1; joined = dies.2; entries = dies.3 }
+at_death lines trace (inr dies) some =
+    record { front = dies.0; rest = dies.1; joined = dies.2; entries = dies.3 }
 
-front_at : (lines : List Line) (trace : List Entry) → EndsAtDeath lines trace → TraceOfFront lines trace
+front_at : (lines : List Line) (trace : List Entry) → EndsAtDeath lines trace
+    → TraceOfFront lines trace
 front_at lines trace dies = (dies.front, Death ∷ dies.rest, dies.joined, dies.entries)
 
-pub tells_stopped : (tells : Tells) (volume volume_after : VolumeSeen) (lines : List Line) (trace read shown : List Entry) (end : RunEnd) (verdict : Option ℕ) (made : Result Bytes WantsMemory) (outcome : Outcome) (text : List ℕ)
-    → end ≡ run_ends.DeviceAtOpening → trace ≢ [] → read ≡ trace → shown ≡ trace → IfOk made (λ p. p ≡ run_text tells read closes.Down verdict) → IfOk made (λ p. (outcome ≡ Down) × (text ≡ p)) → OnErr made (outcome ≡ NoMemory)
-    → Ends volume volume_after lines trace end → IsEnd volume volume_after trace end → (end ≢ run_ends.NoMemory → IsTold tells volume volume_after trace verdict) → DealsWithLines tells volume volume_after lines outcome shown text
-tells_stopped tells volume volume_after lines trace read shown end verdict (Ok made) outcome text is some read_is same printed came none ends is_end told =
-    let at : Ends volume volume_after lines trace run_ends.DeviceAtOpening = subst (Ends volume volume_after lines trace) is ends in
-    let run : TellsRun tells volume volume_after trace closes.Down text = tells_run tells volume volume_after trace read closes.Down end verdict made text (λ e. cc (e, is)) told read_is came.1 printed in
-    let failed : IsEnd volume volume_after trace run_ends.DeviceAtOpening = subst (IsEnd volume volume_after trace) is is_end in
+pub tells_stopped : (tells : Tells) (volume volume_after : VolumeSeen) (lines : List Line)
+    (trace read shown : List Entry) (end : RunEnd) (verdict : Option ℕ)
+    (made : Result Bytes WantsMemory) (outcome : Outcome) (text : List ℕ)
+    → end ≡ run_ends.DeviceAtOpening → trace ≢ [] → read ≡ trace → shown ≡ trace
+    → IfOk made (λ p. p ≡ run_text tells read closes.Down verdict)
+    → IfOk made (λ p. (outcome ≡ Down) × (text ≡ p)) → OnErr made (outcome ≡ NoMemory)
+    → Ends volume volume_after lines trace end → IsEnd volume volume_after trace end
+    → (end ≢ run_ends.NoMemory → IsTold tells volume volume_after trace verdict)
+    → DealsWithLines tells volume volume_after lines outcome shown text
+tells_stopped tells volume volume_after lines trace read shown end verdict (Ok made) outcome text is
+    some read_is same printed came none ends is_end told =
+    let at : Ends volume volume_after lines trace run_ends.DeviceAtOpening =
+    subst (Ends volume volume_after lines trace) is ends in
+    let run : TellsRun tells volume volume_after trace closes.Down text =
+    tells_run tells volume volume_after trace read closes.Down end verdict made text
+    (λ e. cc (e, is)) told read_is came.1 printed in
+    let failed : IsEnd volume volume_after trace run_ends.DeviceAtOpening =
+    subst (IsEnd volume volume_after trace) is is_end in
     rw (came.0, same) (inr ((at_death lines trace at some, run), failed.1))
-tells_stopped tells volume volume_after lines trace read shown end verdict (Err e) outcome text is some read_is same printed came none ends is_end told =
-    let at : Ends volume volume_after lines trace run_ends.DeviceAtOpening = subst (Ends volume volume_after lines trace) is ends in
+tells_stopped tells volume volume_after lines trace read shown end verdict (Err e) outcome text is
+    some read_is same printed came none ends is_end told =
+    let at : Ends volume volume_after lines trace run_ends.DeviceAtOpening =
+    subst (Ends volume volume_after lines trace) is ends in
     rw (none, same) (inr (front_at lines trace (at_death lines trace at some)))
 
-pub tells_damaged : (tells : Tells) (volume volume_after : VolumeSeen) (lines : List Line) (trace read shown : List Entry) (set : Set) (page : ℕ) (end : RunEnd) (verdict : Option ℕ) (made : Result Bytes WantsMemory) (outcome : Outcome) (text : List ℕ)
-    → end ≡ run_ends.Damaged set page → trace ≢ [] → read ≡ trace → shown ≡ trace → IfOk made (λ p. p ≡ run_text tells read (closes.Damaged set page) verdict) → IfOk made (λ p. (outcome ≡ Damaged set page) × (text ≡ p)) → OnErr made (outcome ≡ NoMemory)
-    → Ends volume volume_after lines trace end → (end ≢ run_ends.NoMemory → IsTold tells volume volume_after trace verdict) → DealsWithLines tells volume volume_after lines outcome shown text
-tells_damaged tells volume volume_after lines trace read shown set page end verdict (Ok made) outcome text is some read_is same printed came none ends told =
-    let at : Ends volume volume_after lines trace (run_ends.Damaged set page) = subst (Ends volume volume_after lines trace) is ends in
-    let run : TellsRun tells volume volume_after trace (closes.Damaged set page) text = tells_run tells volume volume_after trace read (closes.Damaged set page) end verdict made text (λ e. cc (e, is)) told read_is came.1 printed in
+pub tells_damaged : (tells : Tells) (volume volume_after : VolumeSeen) (lines : List Line)
+    (trace read shown : List Entry) (set : Set) (page : ℕ) (end : RunEnd) (verdict : Option ℕ)
+    (made : Result Bytes WantsMemory) (outcome : Outcome) (text : List ℕ)
+    → end ≡ run_ends.Damaged set page → trace ≢ [] → read ≡ trace → shown ≡ trace
+    → IfOk made (λ p. p ≡ run_text tells read (closes.Damaged set page) verdict)
+    → IfOk made (λ p. (outcome ≡ Damaged set page) × (text ≡ p)) → OnErr made (outcome ≡ NoMemory)
+    → Ends volume volume_after lines trace end
+    → (end ≢ run_ends.NoMemory → IsTold tells volume volume_after trace verdict)
+    → DealsWithLines tells volume volume_after lines outcome shown text
+tells_damaged tells volume volume_after lines trace read shown set page end verdict (Ok made)
+    outcome text is some read_is same printed came none ends told =
+    let at : Ends volume volume_after lines trace (run_ends.Damaged set page) =
+    subst (Ends volume volume_after lines trace) is ends in
+    let run : TellsRun tells volume volume_after trace (closes.Damaged set page) text =
+    tells_run tells volume volume_after trace read (closes.Damaged set page) end verdict made text
+    (λ e. cc (e, is)) told read_is came.1 printed in
     rw (came.0, same) (inr (at_death lines trace at some, run))
-tells_damaged tells volume volume_after lines trace read shown set page end verdict (Err e) outcome text is some read_is same printed came none ends told =
-    let at : Ends volume volume_after lines trace (run_ends.Damaged set page) = subst (Ends volume volume_after lines trace) is ends in
+tells_damaged tells volume volume_after lines trace read shown set page end verdict (Err e) outcome
+    text is some read_is same printed came none ends told =
+    let at : Ends volume volume_after lines trace (run_ends.Damaged set page) =
+    subst (Ends volume volume_after lines trace) is ends in
     rw (none, same) (inr (front_at lines trace (at_death lines trace at some)))
 
 -- the first opening found the page, so the volume is refused
-pub refuses_damaged : (tells : Tells) (volume volume_after : VolumeSeen) (lines : List Line) (shown : List Entry) (set : Set) (page : ℕ) (made : Result Bytes WantsMemory) (outcome : Outcome) (text : List ℕ)
-    → shown ≡ [] → IfOk made (λ p. p ≡ damaged_text set page) → IfOk made (λ p. (outcome ≡ Damaged set page) × (text ≡ p)) → OnErr made (outcome ≡ NoMemory)
+pub refuses_damaged : (tells : Tells) (volume volume_after : VolumeSeen) (lines : List Line)
+    (shown : List Entry) (set : Set) (page : ℕ) (made : Result Bytes WantsMemory)
+    (outcome : Outcome) (text : List ℕ)
+    → shown ≡ [] → IfOk made (λ p. p ≡ damaged_text set page)
+    → IfOk made (λ p. (outcome ≡ Damaged set page) × (text ≡ p)) → OnErr made (outcome ≡ NoMemory)
     → DealsWithLines tells volume volume_after lines outcome shown text
-refuses_damaged tells volume volume_after lines shown set page (Ok made) outcome text same printed came none = rw (came.0) (inl (same, came.1 ∙ printed))
-refuses_damaged tells volume volume_after lines shown set page (Err e) outcome text same printed came none = rw (none) (inl same)
+refuses_damaged tells volume volume_after lines shown set page (Ok made) outcome text same printed
+    came none = rw (came.0) (inl (same, came.1 ∙ printed))
+refuses_damaged tells volume volume_after lines shown set page (Err e) outcome text same printed
+    came none = rw (none) (inl same)
 
 -- what the judge says of a run that did not run out of memory
-is_of_judge : (volume volume_after : VolumeSeen) (trace : List Entry) (end : RunEnd) (verdict : Option ℕ) → JudgesRun volume volume_after trace end verdict → end ≢ run_ends.NoMemory → IsOfJudge volume volume_after trace verdict
+is_of_judge :
+    (volume volume_after : VolumeSeen) (trace : List Entry) (end : RunEnd) (verdict : Option ℕ)
+    → JudgesRun volume volume_after trace end verdict → end ≢ run_ends.NoMemory
+    → IsOfJudge volume volume_after trace verdict
 is_of_judge volume volume_after trace run_ends.NoMemory verdict judged ends = absurd (ends refl)
 is_of_judge volume volume_after trace end verdict judged ends = judged
 
-pub judged_run : (tells : Tells) (volume volume_after : VolumeSeen) (trace : List Entry) (end : RunEnd) (verdict : Option ℕ) → JudgesRun volume volume_after trace end verdict → end ≢ run_ends.NoMemory → IsTold tells volume volume_after trace verdict
+pub judged_run : (tells : Tells) (volume volume_after : VolumeSeen) (trace : List Entry)
+    (end : RunEnd) (verdict : Option ℕ) → JudgesRun volume volume_after trace end verdict
+    → end ≢ run_ends.NoMemory → IsTold tells volume volume_after trace verdict
 judged_run (Print full) volume volume_after trace end verdict judged ends = tt
-judged_run Verdict volume volume_after trace end verdict judged ends = is_of_judge volume volume_after trace end verdict judged ends
-judged_run (Summary seed rows) volume volume_after trace end verdict judged ends = is_of_judge volume volume_after trace end verdict judged ends
+judged_run Verdict volume volume_after trace end verdict judged ends =
+    is_of_judge volume volume_after trace end verdict judged ends
+judged_run (Summary seed rows) volume volume_after trace end verdict judged ends =
+    is_of_judge volume volume_after trace end verdict judged ends
 
 -- ---- what a call comes to
 
 -- whose words and bytes were read
-pub plays_read : (outcome : Outcome) (tells : Tells) (words : List (List ℕ)) (before after : Seen) (volume volume_after : VolumeSeen) (bytes : List ℕ) (trace : List Entry) (text : List ℕ) → AsksDeck tells words → ReadsDeck before bytes after
-    → DealsWithBytes tells volume volume_after bytes outcome trace text → PlaysTo outcome words before after volume volume_after trace text
-plays_read Source tells words before after volume volume_after bytes trace text asked reads deals = absurd deals.2
-plays_read Long tells words before after volume volume_after bytes trace text asked reads deals = absurd deals.2
-plays_read NoMemory tells words before after volume volume_after bytes trace text asked reads deals = ((tells, asked), inr (bytes, reads, deals))
-plays_read outcome tells words before after volume volume_after bytes trace text asked reads deals = ((tells, asked), bytes, reads, deals)
+pub plays_read : (outcome : Outcome) (tells : Tells) (words : List (List ℕ)) (before after : Seen)
+    (volume volume_after : VolumeSeen) (bytes : List ℕ) (trace : List Entry) (text : List ℕ)
+    → AsksDeck tells words → ReadsDeck before bytes after
+    → DealsWithBytes tells volume volume_after bytes outcome trace text
+    → PlaysTo outcome words before after volume volume_after trace text
+plays_read Source tells words before after volume volume_after bytes trace text asked reads deals =
+    absurd deals.2
+plays_read Long tells words before after volume volume_after bytes trace text asked reads deals =
+    absurd deals.2
+plays_read NoMemory tells words before after volume volume_after bytes trace text asked reads
+    deals = ((tells, asked), inr (bytes, reads, deals))
+plays_read outcome tells words before after volume volume_after bytes trace text asked reads deals =
+    ((tells, asked), bytes, reads, deals)
 
 -- whose words ask for a deck that is read
-pub comes_played : (outcome : Outcome) (words : List (List ℕ)) (before after : Seen) (volume volume_after : VolumeSeen) (trace : List Entry) (text : List ℕ)
-    → PlaysTo outcome words before after volume volume_after trace text → Comes outcome words before after volume volume_after trace text
+pub comes_played : (outcome : Outcome) (words : List (List ℕ)) (before after : Seen)
+    (volume volume_after : VolumeSeen) (trace : List Entry) (text : List ℕ)
+    → PlaysTo outcome words before after volume volume_after trace text
+    → Comes outcome words before after volume volume_after trace text
 comes_played Words words before after volume volume_after trace text plays = absurd plays.3.2
 comes_played outcome words before after volume volume_after trace text plays = inl plays
 
 -- for one that is made
-pub comes_made : (outcome : Outcome) (words : List (List ℕ)) (before after : Seen) (volume volume_after : VolumeSeen) (trace : List Entry) (text : List ℕ)
-    → MakesTo outcome words before after volume volume_after trace text → Comes outcome words before after volume volume_after trace text
+pub comes_made : (outcome : Outcome) (words : List (List ℕ)) (before after : Seen)
+    (volume volume_after : VolumeSeen) (trace : List Entry) (text : List ℕ)
+    → MakesTo outcome words before after volume volume_after trace text
+    → Comes outcome words before after volume volume_after trace text
 comes_made Words words before after volume volume_after trace text makes = absurd makes.4
 comes_made outcome words before after volume volume_after trace text makes = inr (inl makes)
 
 -- for a layout
-pub comes_shown : (outcome : Outcome) (words : List (List ℕ)) (before after : Seen) (volume volume_after : VolumeSeen) (trace : List Entry) (text : List ℕ)
-    → ShowsTo outcome words before after volume volume_after trace text → Comes outcome words before after volume volume_after trace text
+pub comes_shown : (outcome : Outcome) (words : List (List ℕ)) (before after : Seen)
+    (volume volume_after : VolumeSeen) (trace : List Entry) (text : List ℕ)
+    → ShowsTo outcome words before after volume volume_after trace text
+    → Comes outcome words before after volume volume_after trace text
 comes_shown Words words before after volume volume_after trace text shows = absurd shows
 comes_shown outcome words before after volume volume_after trace text shows = inr (inr shows)
 
 -- words that are read as no command ask for none
-pub no_command : (words : List (List ℕ)) → ((asked : Asked) → Spells asked words → Admitted upto.Gen asked → ⊥) → IsCommand words → ⊥
+pub no_command : (words : List (List ℕ))
+    → ((asked : Asked) → Spells asked words → Admitted upto.Gen asked → ⊥) → IsCommand words → ⊥
 no_command words none (inl deck) = no_deck deck.0 deck.1
   where
     no_deck : (tells : Tells) → AsksDeck tells words → ⊥
@@ -175,7 +271,8 @@ each_played Flush is = tt
 each_played Show is = tt
 each_played Death is = tt
 
-pub all_played : (lines : List Line) → AllByRecursion (IsAdmitted Every) lines → AllByRecursion IsPlayed lines
+pub all_played : (lines : List Line) → AllByRecursion (IsAdmitted Every) lines
+    → AllByRecursion IsPlayed lines
 all_played [] all = tt
 all_played (line ∷ lines) all = (each_played line all.0, all_played lines all.1)
 

@@ -1,5 +1,8 @@
--- The layout of a run of one line, which asks for it: it is that of the copy which was opened, and right for the table that the log stored. Such a run does not end down.
-use Rattle.std.proofs.Common.{◌≡◌, ◌==◌, ◌&&◌, ℕ, zero, suc, Bool, true, false, not, List, [], ◌∷◌, Some, None, Result, Ok, Err, IfOk, OnErr, refl, sym, ◌∙◌, ap, subst, arith, ◌⊎◌, ◌++◌, inl, inr}
+-- The layout of a run of one line, which asks for it: it is that of the copy which was opened, and
+-- right for the table that the log stored. Such a run does not end down.
+use Rattle.std.proofs.Common.{◌≡◌, ◌==◌, ◌&&◌, ℕ, zero, suc, Bool, true, false, not, List, [], ◌∷◌}
+use Rattle.std.proofs.Common.{Some, None, Result, Ok, Err, IfOk, OnErr, refl, sym, ◌∙◌, ap, subst}
+use Rattle.std.proofs.Common.{arith, ◌⊎◌, ◌++◌, inl, inr}
 use Rattle.std.proofs.lemmas.Bool.{eqb-true}
 use Rattle.std.specs.List.{Contains}
 use Rattle.rg_base.specs.declared.bytes.Bytes.{Bytes}
@@ -50,18 +53,26 @@ the_one x y (zero, low, is) = sym is
 the_one x y (suc k, low, is) = absurd (omega (arith, low))
 
 -- the state that an opening leaves, of a table at rest
-opened_state : (start : Table) (copy rows : ℕ) (found : ℕ) (mid : State) → Reopens (at_rest start found) copy rows mid → mid ≡ at_rest start copy
+opened_state : (start : Table) (copy rows : ℕ) (found : ℕ) (mid : State)
+    → Reopens (at_rest start found) copy rows mid → mid ≡ at_rest start copy
 opened_state start copy rows found mid opens =
-    opens.at_rest ∙ ap (λ table. at_rest table copy) (the_one (committed_table (at_rest start found)) opens.table opens.left ∙ committed-at_rest start found)
+    opens.at_rest
+    ∙ ap (λ table. at_rest table copy)
+    (the_one (committed_table (at_rest start found)) opens.table opens.left
+    ∙ committed-at_rest start found)
 
-module _ (start : Table) (found : ℕ) (first entry : Entry) (last : State) (opened : IsOpenedEntry first) (run : Run [] (at_rest start found) (first ∷ entry ∷ []) last) where
+module _ (start : Table) (found : ℕ) (first entry : Entry) (last : State)
+    (opened : IsOpenedEntry first)
+    (run : Run [] (at_rest start found) (first ∷ entry ∷ []) last) where
   abbrev mid : State
   mid = run.0
 
   mid_is : mid ≡ at_rest start opened.copy
   mid_is =
       let (now, opens, more) = run in
-      opened_state start opened.copy opened.rows found now (subst (λ (e : Entry). Allows [] e.answer e.actor e.event (at_rest start found) now) opened.is opens)
+      opened_state start opened.copy opened.rows found now
+      (subst (λ (e : Entry). Allows [] e.answer e.actor e.event (at_rest start found) now) opened.is
+      opens)
 
   -- the second entry's step
   record Steps (event : Event) : Type 0 where
@@ -69,26 +80,40 @@ module _ (start : Table) (found : ℕ) (first entry : Entry) (last : State) (ope
     step : next_state (first ∷ []) None System event mid ≡ Some after
     end : last ≡ after
 
-  steps : (event : Event) (copy : ℕ) → entry ≡ system_entry event entry.calls → IsLayout copy event → Steps event
+  steps : (event : Event) (copy : ℕ) → entry ≡ system_entry event entry.calls → IsLayout copy event
+      → Steps event
   steps event copy is layout =
       let (now, opens, more) = run in
       let (after, step, end) = more in
-      record { after = after; step = allows_next event copy now after layout (subst (λ (e : Entry). Allows (first ∷ []) e.answer e.actor e.event now after) is step); end = end }
+      record {
+        after = after;
+        step = allows_next event copy now after layout
+            (subst (λ (e : Entry). Allows (first ∷ []) e.answer e.actor e.event now after) is step);
+        end = end;
+      }
     where
-      allows_next : (event : Event) (copy : ℕ) (now after : State) → IsLayout copy event → Allows (first ∷ []) None System event now after → next_state (first ∷ []) None System event now ≡ Some after
+      allows_next : (event : Event) (copy : ℕ) (now after : State) → IsLayout copy event
+          → Allows (first ∷ []) None System event now after
+          → next_state (first ∷ []) None System event now ≡ Some after
       allows_next (Layout shown side) copy now after layout step = step
       allows_next LayoutNoMemory copy now after layout step = step
       allows_next LayoutDown copy now after layout step = step
       allows_next event copy now after layout step = absurd layout
 
-  pub shown_right : (copy : ℕ) (side : Side) → entry ≡ system_entry (Layout copy side) entry.calls → (copy ≡ opened.copy) × (is_right_side start side ≡ true)
+  pub shown_right : (copy : ℕ) (side : Side) → entry ≡ system_entry (Layout copy side) entry.calls
+      → (copy ≡ opened.copy) × (is_right_side start side ≡ true)
   shown_right copy side is =
       let to = steps (Layout copy side) copy is refl in
-      let may = allowed (not mid.down && ((copy == mid.copy) && is_right_side mid.table side)) mid to.after to.step in
-      let both = and_parts (copy == mid.copy) (is_right_side mid.table side) (and_parts (not mid.down) ((copy == mid.copy) && is_right_side mid.table side) may.0).1 in
-      (eqb-true copy mid.copy both.0 ∙ ap (λ (s : State). s.copy) mid_is, sym (ap (λ (s : State). is_right_side s.table side) mid_is) ∙ both.1)
+      let may = allowed (not mid.down && ((copy == mid.copy) && is_right_side mid.table side)) mid
+      to.after to.step in
+      let both = and_parts (copy == mid.copy) (is_right_side mid.table side)
+      (and_parts (not mid.down) ((copy == mid.copy) && is_right_side mid.table side) may.0).1 in (
+        eqb-true copy mid.copy both.0 ∙ ap (λ (s : State). s.copy) mid_is,
+        sym (ap (λ (s : State). is_right_side s.table side) mid_is) ∙ both.1,
+      )
 
-  pub still_up : (event : Event) (copy : ℕ) → entry ≡ system_entry event entry.calls → IsLayout copy event → last.down ≡ false
+  pub still_up : (event : Event) (copy : ℕ) → entry ≡ system_entry event entry.calls
+      → IsLayout copy event → last.down ≡ false
   still_up event copy is layout =
       let to = steps event copy is layout in
       ap (λ (s : State). s.down) to.end ∙ step_up event copy to.after layout to.step
@@ -96,10 +121,15 @@ module _ (start : Table) (found : ℕ) (first entry : Entry) (last : State) (ope
       up : mid.down ≡ false
       up = ap (λ (s : State). s.down) mid_is
 
-      step_up : (event : Event) (copy : ℕ) (after : State) → IsLayout copy event → next_state (first ∷ []) None System event mid ≡ Some after → after.down ≡ false
-      step_up (Layout shown side) copy after layout step = ap (λ (s : State). s.down) (allowed (not mid.down && ((shown == mid.copy) && is_right_side mid.table side)) mid after step).1 ∙ up
-      step_up LayoutNoMemory copy after layout step = ap (λ (s : State). s.down) (allowed (not mid.down) mid after step).1 ∙ up
-      step_up LayoutDown copy after layout step = absurd (clash (sym up ∙ (allowed mid.down mid after step).0))
+      step_up : (event : Event) (copy : ℕ) (after : State) → IsLayout copy event
+          → next_state (first ∷ []) None System event mid ≡ Some after → after.down ≡ false
+      step_up (Layout shown side) copy after layout step = ap (λ (s : State). s.down)
+          (allowed (not mid.down && ((shown == mid.copy) && is_right_side mid.table side)) mid after
+          step).1 ∙ up
+      step_up LayoutNoMemory copy after layout step =
+          ap (λ (s : State). s.down) (allowed (not mid.down) mid after step).1 ∙ up
+      step_up LayoutDown copy after layout step =
+          absurd (clash (sym up ∙ (allowed mid.down mid after step).0))
       step_up event copy after layout step = absurd layout
 
 -- the process does not die in the one line
@@ -122,7 +152,8 @@ pub at_first : (trace : List Entry) → EndsAtOpening (Show ∷ []) trace → tr
 at_first trace (inl none) = none
 at_first trace (inr dies) = absurd (not_dead (dies.0, dies.1, dies.2))
 
-module _ (before after : VolumeSeen) (trace : List Entry) (down : Bool) (last : State) (ends : EndsAt before after (Show ∷ []) trace down last) where
+module _ (before after : VolumeSeen) (trace : List Entry) (down : Bool) (last : State)
+    (ends : EndsAt before after (Show ∷ []) trace down last) where
   pub only_part : ends.before ≡ []
   only_part = by_alone ends.alone
     where
@@ -135,17 +166,25 @@ module _ (before after : VolumeSeen) (trace : List Entry) (down : Bool) (last : 
       subst (λ (es : List Entry). Run [] (at_rest ends.start ends.copy) es last)
       (sym (ends.joined ∙ ap (λ (es : List Entry). es ++ ends.part) only_part)) ends.run
 
-layout_of : (before after : VolumeSeen) (trace : List Entry) (rows : ℕ) (text : List ℕ) → TraceOf (Show ∷ []) trace → EndsWhole before after (Show ∷ []) trace rows → IsLayoutText trace text → ShowsLayout before after trace text
+layout_of : (before after : VolumeSeen) (trace : List Entry) (rows : ℕ) (text : List ℕ)
+    → TraceOf (Show ∷ []) trace → EndsWhole before after (Show ∷ []) trace rows
+    → IsLayoutText trace text → ShowsLayout before after trace text
 layout_of before after trace rows text entries whole layout =
-    let of : TraceOf (Show ∷ []) (layout.first ∷ layout.entry ∷ []) = subst (TraceOf (Show ∷ [])) layout.are entries in
+    let of : TraceOf (Show ∷ []) (layout.first ∷ layout.entry ∷ []) =
+    subst (TraceOf (Show ∷ [])) layout.are entries in
     let start = whole.ends.start in
     let found = whole.ends.copy in
-    let run : Run [] (at_rest start found) (layout.first ∷ layout.entry ∷ []) whole.last = subst (λ (t : List Entry). Run [] (at_rest start found) t whole.last) layout.are (whole_run before after trace false whole.last whole.ends) in
+    let run : Run [] (at_rest start found) (layout.first ∷ layout.entry ∷ []) whole.last =
+    subst (λ (t : List Entry). Run [] (at_rest start found) t whole.last) layout.are
+    (whole_run before after trace false whole.last whole.ends) in
     let (opened, shows) = of in
     let (copy, event, is, is_layout) = shows.0 in
-    let event_is : event ≡ Layout layout.copy layout.side = sym (ap (λ (e : Entry). e.event) is) ∙ layout.event in
-    let entry_is : layout.entry ≡ system_entry (Layout layout.copy layout.side) layout.entry.calls = subst (λ (e : Event). layout.entry ≡ system_entry e layout.entry.calls) event_is is in
-    let right = shown_right start found layout.first layout.entry whole.last opened run layout.copy layout.side entry_is in
+    let event_is : event ≡ Layout layout.copy layout.side =
+    sym (ap (λ (e : Entry). e.event) is) ∙ layout.event in
+    let entry_is : layout.entry ≡ system_entry (Layout layout.copy layout.side) layout.entry.calls =
+    subst (λ (e : Event). layout.entry ≡ system_entry e layout.entry.calls) event_is is in
+    let right = shown_right start found layout.first layout.entry whole.last opened run layout.copy
+    layout.side entry_is in
     record {
       copy = opened.copy;
       rows = opened.rows;
@@ -165,19 +204,34 @@ layout_of before after trace rows text entries whole layout =
       printed = layout.printed ∙ ap (λ c. print_layout_text c layout.side) right.0;
     }
 
-pub shows_whole : (before after : VolumeSeen) (words : List (List ℕ)) (source : Seen) (trace read shown : List Entry) (rows : ℕ) (end : RunEnd) (text : Result Bytes WantsMemory) (outcome : Outcome) (print : List ℕ)
-    → end ≡ Whole rows → read ≡ trace → shown ≡ trace → IfOk text (λ p. IsLayoutText read p) → IfOk text (λ p. (outcome ≡ Shown) × (print ≡ p)) → OnErr text (outcome ≡ NoMemory)
-    → Ends before after (Show ∷ []) trace end → IsShow words → ShowsTo outcome words source source before after shown print
-shows_whole before after words source trace read shown rows end (Ok text) outcome print is read_is same printed made none ends show =
-    let whole : Ends before after (Show ∷ []) trace (Whole rows) = subst (Ends before after (Show ∷ []) trace) is ends in
-    rw (made.0, made.1, same) (show, refl, layout_of before after trace rows text whole.0 whole.1 (subst (λ (es : List Entry). IsLayoutText es text) read_is printed))
-shows_whole before after words source trace read shown rows end (Err e) outcome print is read_is same printed made none ends show =
-    let whole : Ends before after (Show ∷ []) trace (Whole rows) = subst (Ends before after (Show ∷ []) trace) is ends in
+pub shows_whole : (before after : VolumeSeen) (words : List (List ℕ)) (source : Seen)
+    (trace read shown : List Entry) (rows : ℕ) (end : RunEnd) (text : Result Bytes WantsMemory)
+    (outcome : Outcome) (print : List ℕ)
+    → end ≡ Whole rows → read ≡ trace → shown ≡ trace → IfOk text (λ p. IsLayoutText read p)
+    → IfOk text (λ p. (outcome ≡ Shown) × (print ≡ p)) → OnErr text (outcome ≡ NoMemory)
+    → Ends before after (Show ∷ []) trace end → IsShow words
+    → ShowsTo outcome words source source before after shown print
+shows_whole before after words source trace read shown rows end (Ok text) outcome print is read_is
+    same printed made none ends show =
+    let whole : Ends before after (Show ∷ []) trace (Whole rows) =
+    subst (Ends before after (Show ∷ []) trace) is ends in
+    rw (made.0, made.1, same) (
+      show,
+      refl,
+      layout_of before after trace rows text whole.0 whole.1
+          (subst (λ (es : List Entry). IsLayoutText es text) read_is printed),
+    )
+shows_whole before after words source trace read shown rows end (Err e) outcome print is read_is
+    same printed made none ends show =
+    let whole : Ends before after (Show ∷ []) trace (Whole rows) =
+    subst (Ends before after (Show ∷ []) trace) is ends in
     rw (none, same) (show, refl, inr (TraceOfFront-whole (Show ∷ []) trace whole.0))
 
 -- no run of that one line ends down
-pub never_down : (before after : VolumeSeen) (trace : List Entry) (end : RunEnd) → end ≡ Ended → Ends before after (Show ∷ []) trace end → ⊥
-never_down before after trace end is ends = by_trace trace (subst (Ends before after (Show ∷ []) trace) is ends)
+pub never_down : (before after : VolumeSeen) (trace : List Entry) (end : RunEnd) → end ≡ Ended
+    → Ends before after (Show ∷ []) trace end → ⊥
+never_down before after trace end is ends =
+    by_trace trace (subst (Ends before after (Show ∷ []) trace) is ends)
   where
     by_trace : (trace : List Entry) → Ends before after (Show ∷ []) trace Ended → ⊥
     by_trace [] down = down.0
@@ -187,22 +241,35 @@ never_down before after trace end is ends = by_trace trace (subst (Ends before a
         let (last, ends) = found in
         let (opened, shows) = entries in
         let (copy, event, is, layout) = shows.0 in
-        let up : last.down ≡ false = still_up ends.start ends.copy first entry last opened (whole_run before after (first ∷ entry ∷ []) true last ends) event copy is layout in
+        let up : last.down ≡ false = still_up ends.start ends.copy first entry last opened
+        (whole_run before after (first ∷ entry ∷ []) true last ends) event copy is layout in
         clash (sym up ∙ ends.is)
     by_trace (first ∷ entry ∷ other ∷ more) down = down.0.1.1
 
-pub shows_device : (before after : VolumeSeen) (words : List (List ℕ)) (source : Seen) (trace shown : List Entry) (end : RunEnd) (outcome : Outcome) (print : List ℕ)
-    → end ≡ run_ends.DeviceAtOpening → shown ≡ trace → outcome ≡ Device → Ends before after (Show ∷ []) trace end → IsShow words → ShowsTo outcome words source source before after shown print
+pub shows_device : (before after : VolumeSeen) (words : List (List ℕ)) (source : Seen)
+    (trace shown : List Entry) (end : RunEnd) (outcome : Outcome) (print : List ℕ)
+    → end ≡ run_ends.DeviceAtOpening → shown ≡ trace → outcome ≡ Device
+    → Ends before after (Show ∷ []) trace end → IsShow words
+    → ShowsTo outcome words source source before after shown print
 shows_device before after words source trace shown end outcome print is same made ends show =
-    let at : Ends before after (Show ∷ []) trace run_ends.DeviceAtOpening = subst (Ends before after (Show ∷ []) trace) is ends in
+    let at : Ends before after (Show ∷ []) trace run_ends.DeviceAtOpening =
+    subst (Ends before after (Show ∷ []) trace) is ends in
     rw (made, same) (show, refl, at_first trace at)
 
-pub shows_damaged : (before after : VolumeSeen) (words : List (List ℕ)) (source : Seen) (trace shown : List Entry) (set : Set) (page : ℕ) (end : RunEnd) (text : Result Bytes WantsMemory) (outcome : Outcome) (print : List ℕ)
-    → end ≡ run_ends.Damaged set page → shown ≡ trace → IfOk text (λ p. p ≡ damaged_text set page) → IfOk text (λ p. (outcome ≡ Damaged set page) × (print ≡ p)) → OnErr text (outcome ≡ NoMemory)
-    → Ends before after (Show ∷ []) trace end → IsShow words → ShowsTo outcome words source source before after shown print
-shows_damaged before after words source trace shown set page end (Ok text) outcome print is same printed made none ends show =
-    let at : Ends before after (Show ∷ []) trace (run_ends.Damaged set page) = subst (Ends before after (Show ∷ []) trace) is ends in
+pub shows_damaged : (before after : VolumeSeen) (words : List (List ℕ)) (source : Seen)
+    (trace shown : List Entry) (set : Set) (page : ℕ) (end : RunEnd)
+    (text : Result Bytes WantsMemory) (outcome : Outcome) (print : List ℕ)
+    → end ≡ run_ends.Damaged set page → shown ≡ trace → IfOk text (λ p. p ≡ damaged_text set page)
+    → IfOk text (λ p. (outcome ≡ Damaged set page) × (print ≡ p)) → OnErr text (outcome ≡ NoMemory)
+    → Ends before after (Show ∷ []) trace end → IsShow words
+    → ShowsTo outcome words source source before after shown print
+shows_damaged before after words source trace shown set page end (Ok text) outcome print is same
+    printed made none ends show =
+    let at : Ends before after (Show ∷ []) trace (run_ends.Damaged set page) =
+    subst (Ends before after (Show ∷ []) trace) is ends in
     rw (made.0, same) (show, refl, at_first trace at, made.1 ∙ printed)
-shows_damaged before after words source trace shown set page end (Err e) outcome print is same printed made none ends show =
-    let at : Ends before after (Show ∷ []) trace (run_ends.Damaged set page) = subst (Ends before after (Show ∷ []) trace) is ends in
+shows_damaged before after words source trace shown set page end (Err e) outcome print is same
+    printed made none ends show =
+    let at : Ends before after (Show ∷ []) trace (run_ends.Damaged set page) =
+    subst (Ends before after (Show ∷ []) trace) is ends in
     rw (none, same) (show, refl, inl (at_first trace at))

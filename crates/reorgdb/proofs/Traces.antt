@@ -11,7 +11,8 @@ use Rattle.rg_run.specs.declared.played.RunEnd.{RunEnd}
 use Rattle.reorgdb.specs.Traced.{Traced}
 
 -- of a run
-whole_traced : (old new : VolumeSeen) (lines : List Line) (trace : List Entry) (end : RunEnd) → Whole old new lines trace end → Traced old new trace
+whole_traced : (old new : VolumeSeen) (lines : List Line) (trace : List Entry) (end : RunEnd)
+    → Whole old new lines trace end → Traced old new trace
 whole_traced old new lines trace end whole = record {
   legal = whole.legal;
   opening = whole.opening;
@@ -27,10 +28,13 @@ whole_traced old new lines trace end whole = record {
 }
 
 -- the volume and the trace that are handed on are those of the run
-pub run_traced : {V : Type 0} (look : V → VolumeSeen) (old : VolumeSeen) (ran new : V) (lines : List Line) (made trace : List Entry) (end : RunEnd) → new ≡ ran → trace ≡ made → Whole old (look ran) lines made end → Traced old (look new) trace
+pub run_traced : {V : Type 0} (look : V → VolumeSeen) (old : VolumeSeen) (ran new : V)
+    (lines : List Line) (made trace : List Entry) (end : RunEnd)
+    → new ≡ ran → trace ≡ made → Whole old (look ran) lines made end → Traced old (look new) trace
 run_traced {V} look old ran new lines made trace end same is whole =
     subst (λ (es : List Entry). Traced old (look new) es) (sym is)
-    (subst (λ (v : V). Traced old (look v) made) (sym same) (whole_traced old (look ran) lines made end whole))
+    (subst (λ (v : V). Traced old (look v) made) (sym same)
+    (whole_traced old (look ran) lines made end whole))
 
 told_each : (o : Option Told) (P : Told → Type 0) → ((t : Told) → P t) → IfTold o P
 told_each None P each = tt
@@ -38,7 +42,8 @@ told_each (Some t) P each = each t
 
 nothing_made : (o : Option Told) → MakesOnly (WritesOwn []) o o
 nothing_made None = tt
-nothing_made (Some t) = λ few. record { before = t; was = refl; fresh = []; first = refl; calls = refl; each = tt }
+nothing_made (Some t) =
+    λ few. record { before = t; was = refl; fresh = []; first = refl; calls = refl; each = tt }
 
 nothing_traced : (v : VolumeSeen) → Traced v v []
 nothing_traced v = record {
@@ -56,7 +61,8 @@ nothing_traced v = record {
 }
 
 -- without a run there is no entry
-pub none_traced : {V : Type 0} (look : V → VolumeSeen) (old new : V) (trace : List Entry) → new ≡ old → trace ≡ [] → Traced (look old) (look new) trace
+pub none_traced : {V : Type 0} (look : V → VolumeSeen) (old new : V) (trace : List Entry)
+    → new ≡ old → trace ≡ [] → Traced (look old) (look new) trace
 none_traced {V} look old new trace same none =
     subst (λ (es : List Entry). Traced (look old) (look new) es) (sym none)
     (subst (λ (v : V). Traced (look old) (look v) []) (sym same) (nothing_traced (look old)))

@@ -1,8 +1,10 @@
 -- The fields of a format.
-use Rattle.std.proofs.Common.{◌≡◌, ◌<◌, ℕ, zero, suc, ◌+◌, ◌^◌, List, [], ◌∷◌, ◌++◌, length, take, drop, get_or, sym, ap, ◌∙◌, arith}
+use Rattle.std.proofs.Common.{◌≡◌, ◌<◌, ℕ, zero, suc, ◌+◌, ◌^◌, List, [], ◌∷◌, ◌++◌, length, take}
+use Rattle.std.proofs.Common.{drop, get_or, sym, ap, ◌∙◌, arith}
 use Rattle.std.proofs.lemmas.List.{append_assoc, take_at, get_or-drop}
 use Rattle.std.proofs.lemmas.Slice.{drop-append-drop}
-use Rattle.std.proofs.lemmas.Nat.{be_bytes_2, be_bytes_4, be_bytes_8, from_be_bytes-to_be_bytes_2, from_be_bytes-to_be_bytes_4, from_be_bytes-to_be_bytes_8}
+use Rattle.std.proofs.lemmas.Nat.{be_bytes_2, be_bytes_4, be_bytes_8, from_be_bytes-to_be_bytes_2}
+use Rattle.std.proofs.lemmas.Nat.{from_be_bytes-to_be_bytes_4, from_be_bytes-to_be_bytes_8}
 use Rattle.std.specs.Int.{w16, w32, w64, from_be_bytes}
 use Rattle.byteorder.specs.Numbers.{length-bytes_high_first}
 use Rattle.rg_base.specs.Field.{field}
@@ -47,7 +49,8 @@ field_one_8 m n fits_m fits_n e =
     ∙ from_be_bytes-to_be_bytes_8 n fits_n
 
 -- a piece is written where the pieces before it end
-pub put_next : (base now next front piece : List ℕ) (at n : ℕ) → length front ≡ at → length piece ≡ n
+pub put_next : (base now next front piece : List ℕ) (at n : ℕ) → length front ≡ at
+    → length piece ≡ n
     → now ≡ front ++ drop at base → next ≡ take at now ++ (piece ++ drop (at + n) now)
     → next ≡ (front ++ piece) ++ drop (at + n) base
 put_next base now next front piece at n len len_piece e_now e_next =
@@ -60,10 +63,12 @@ put_next base now next front piece at n len len_piece e_now e_next =
 
 -- bytes are below 256; so are those of a part of them
 
-pub small_drop : (n : ℕ) (xs : List ℕ) → ((i : ℕ) → get_or xs i 0 < 256) → (i : ℕ) → get_or (drop n xs) i 0 < 256
+pub small_drop : (n : ℕ) (xs : List ℕ) → ((i : ℕ) → get_or xs i 0 < 256) → (i : ℕ)
+    → get_or (drop n xs) i 0 < 256
 small_drop n xs small i = rw (get_or-drop n xs i 0) (small (n + i))
 
-pub small_take : (n : ℕ) (xs : List ℕ) → ((i : ℕ) → get_or xs i 0 < 256) → (i : ℕ) → get_or (take n xs) i 0 < 256
+pub small_take : (n : ℕ) (xs : List ℕ) → ((i : ℕ) → get_or xs i 0 < 256) → (i : ℕ)
+    → get_or (take n xs) i 0 < 256
 small_take zero xs small i = omega arith
 small_take (suc n) [] small i = omega arith
 small_take (suc n) (x ∷ xs) small zero = small 0

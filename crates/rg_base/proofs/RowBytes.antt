@@ -1,6 +1,9 @@
 -- The bytes of a row, field by field.
-use Rattle.std.proofs.Common.{◌≡◌, ◌≤◌, ◌<◌, ℕ, ◌+◌, ◌-◌, ◌^◌, zero, suc, List, [], ◌∷◌, ◌++◌, length, take, drop, refl, sym, ap, subst, ◌∙◌, arith, length-append, get_or}
-use Rattle.std.proofs.lemmas.List.{append_assoc, take_at, take-append-drop, drop-drop, drop_at, get_or-drop, get_or-take, length-drop, length-take-le}
+use Rattle.std.proofs.Common.{◌≡◌, ◌≤◌, ◌<◌, ℕ, ◌+◌, ◌-◌, ◌^◌, zero, suc, List, [], ◌∷◌, ◌++◌}
+use Rattle.std.proofs.Common.{length, take, drop, refl, sym, ap, subst, ◌∙◌, arith, length-append}
+use Rattle.std.proofs.Common.{get_or}
+use Rattle.std.proofs.lemmas.List.{append_assoc, take_at, take-append-drop, drop-drop, drop_at}
+use Rattle.std.proofs.lemmas.List.{get_or-drop, get_or-take, length-drop, length-take-le}
 use Rattle.std.specs.List.{AllByRecursion}
 use Rattle.rg_base.specs.Text.{IsLetter, IsText}
 use Rattle.rg_base.specs.declared.row.Row.{Row}
@@ -30,7 +33,8 @@ row_written row text base a b c d e et ea eb ec ed ee =
     let f3 : List ℕ = field 8 row.cat in
     let f4 : List ℕ = field 2 (length text) in
     let l1 : length f1 ≡ 8 = length-field 8 row.key in
-    let l2 : length (f1 ++ f2) ≡ 16 = length-append f1 f2 ∙ omega (arith, l1, length-field 8 row.clus) in
+    let l2 : length (f1 ++ f2) ≡ 16 =
+    length-append f1 f2 ∙ omega (arith, l1, length-field 8 row.clus) in
     let l3 : length ((f1 ++ f2) ++ f3) ≡ 24 =
     length-append (f1 ++ f2) f3 ∙ omega (arith, l2, length-field 8 row.cat) in
     let l4 : length (((f1 ++ f2) ++ f3) ++ f4) ≡ 26 =
@@ -62,7 +66,8 @@ pub row_made : (row : Row) (bytes : List ℕ) → 26 ≤ length bytes → field 
     → row_bytes row ≡ bytes
 row_made row bytes long e1 e2 e3 e4 e5 = rw (e1, e2, e3, e4, e5) (row_read bytes long)
 
-letter_at : (xs : List ℕ) (i : ℕ) → i < length xs → AllByRecursion IsLetter xs → IsLetter (get_or xs i 0)
+letter_at : (xs : List ℕ) (i : ℕ) → i < length xs → AllByRecursion IsLetter xs
+    → IsLetter (get_or xs i 0)
 letter_at [] i below all = absurd (omega arith)
 letter_at (x ∷ xs) zero below all = all.0
 letter_at (x ∷ xs) (suc i) below all = letter_at xs i (omega arith) all.1
@@ -84,7 +89,8 @@ first_other bytes n long within letters other = record {
       letter_at (take n (drop 26 bytes)) (k - 26) there letters in
       let At : ℕ → Type 0 = λ i. IsLetter (get_or bytes i 0) in
       subst At e
-      (subst IsLetter (get_or-take n (drop 26 bytes) (k - 26) 0 below ∙ get_or-drop 26 bytes (k - 26) 0) is);
+      (subst IsLetter
+      (get_or-take n (drop 26 bytes) (k - 26) 0 below ∙ get_or-drop 26 bytes (k - 26) 0) is);
 }
 
 -- bytes whose length is another than the text's have no right length
@@ -93,7 +99,8 @@ pub other_length : (bytes text : List ℕ) (n : ℕ) → n < 2 ^ 16 → field 2 
 other_length bytes text n fits e len other has =
     let short : length bytes ≤ 826 = has.short in
     let small : length bytes - 26 < 2 ^ 16 = omega arith in
-    let same : n ≡ length bytes - 26 = field_one_2 n (length bytes - 26) fits small (e ∙ has.whole) in
+    let same : n ≡ length bytes - 26 =
+    field_one_2 n (length bytes - 26) fits small (e ∙ has.whole) in
     other (omega arith)
 
 -- the number that a field starts with
@@ -102,14 +109,18 @@ unfolding field
 number_of_field n x rest fits = big_number-reads_back n x rest fits
 
 same_row : (a b : Row) → a.key ≡ b.key → a.clus ≡ b.clus → a.cat ≡ b.cat → a.text ≡ b.text → a ≡ b
-same_row a b key clus cat text = λ i. record { key = key i; clus = clus i; cat = cat i; text = text i }
+same_row a b key clus cat text =
+    λ i. record { key = key i; clus = clus i; cat = cat i; text = text i }
 
 -- what follows each field
 
-drop_8 : (row : Row) → drop 8 (row_bytes row) ≡ field 8 row.clus ++ (field 8 row.cat ++ (field 2 (length row.text) ++ row.text))
+drop_8 : (row : Row)
+    → drop 8 (row_bytes row)
+    ≡ field 8 row.clus ++ (field 8 row.cat ++ (field 2 (length row.text) ++ row.text))
 drop_8 row = drop_at (field 8 row.key) _ 8 (length-field 8 row.key)
 
-drop_16 : (row : Row) → drop 16 (row_bytes row) ≡ field 8 row.cat ++ (field 2 (length row.text) ++ row.text)
+drop_16 : (row : Row)
+    → drop 16 (row_bytes row) ≡ field 8 row.cat ++ (field 2 (length row.text) ++ row.text)
 drop_16 row =
     sym (drop-drop 8 8 (row_bytes row)) ∙ ap (drop 8) (drop_8 row)
     ∙ drop_at (field 8 row.clus) _ 8 (length-field 8 row.clus)
@@ -120,13 +131,17 @@ drop_24 row =
     ∙ drop_at (field 8 row.cat) _ 8 (length-field 8 row.cat)
 
 -- bytes that spell a row have its fields, and the length of its text
-pub spelled_parts : (bytes : List ℕ) → row_bytes (row_of bytes) ≡ bytes → (26 ≤ length bytes) × (field 2 (length (drop 26 bytes)) ≡ take 2 (drop 24 bytes))
+pub spelled_parts : (bytes : List ℕ) → row_bytes (row_of bytes) ≡ bytes
+    → (26 ≤ length bytes) × (field 2 (length (drop 26 bytes)) ≡ take 2 (drop 24 bytes))
 unfolding row_of
 spelled_parts bytes spelled =
     let text : List ℕ = drop 26 bytes in
     let head : take 2 (drop 24 bytes) ≡ field 2 (length text) =
-    ap (λ (xs : List ℕ). take 2 (drop 24 xs)) (sym spelled) ∙ ap (take 2) (drop_24 (row_of bytes)) ∙ take_at (field 2 (length text)) text 2 (length-field 2 (length text)) in
-    (omega (arith, ap (λ (xs : List ℕ). length xs) spelled, length-row_bytes (row_of bytes)), sym head)
+    ap (λ (xs : List ℕ). take 2 (drop 24 xs)) (sym spelled) ∙ ap (take 2) (drop_24 (row_of bytes))
+    ∙ take_at (field 2 (length text)) text 2 (length-field 2 (length text)) in (
+      omega (arith, ap (λ (xs : List ℕ). length xs) spelled, length-row_bytes (row_of bytes)),
+      sym head,
+    )
 
 pub spelled_text : (bytes : List ℕ) → IsText (row_of bytes).text → IsText (drop 26 bytes)
 unfolding row_of
@@ -149,7 +164,8 @@ row_of-row_bytes row key clus cat =
     (drop_26 row)
 
 -- bytes that spell a row show it
-pub row_shown : (row : Row) (bytes : List ℕ) → row.key < 2 ^ 64 → row.clus < 2 ^ 64 → row.cat < 2 ^ 64
+pub row_shown : (row : Row) (bytes : List ℕ) → row.key < 2 ^ 64 → row.clus < 2 ^ 64
+    → row.cat < 2 ^ 64
     → row_bytes row ≡ bytes → row ≡ row_of bytes
 row_shown row bytes key clus cat e = sym (row_of-row_bytes row key clus cat) ∙ ap row_of e
 
@@ -159,14 +175,16 @@ pub not_short : (row : Row) (bytes : List ℕ) → row_bytes row ≡ bytes → l
 not_short row bytes e short =
     absurd (omega (arith, ap (λ (xs : List ℕ). length xs) e, length-row_bytes row))
 
-pub has_length : (row : Row) (bytes : List ℕ) → row_bytes row ≡ bytes → IsText row.text → HasLength bytes
+pub has_length : (row : Row) (bytes : List ℕ) → row_bytes row ≡ bytes → IsText row.text
+    → HasLength bytes
 has_length row bytes e text =
     let f1 : List ℕ = field 8 row.key in
     let f2 : List ℕ = field 8 row.clus in
     let f3 : List ℕ = field 8 row.cat in
     let f4 : List ℕ = field 2 (length row.text) in
     let all : List ℕ = row_bytes row in
-    let long : length bytes ≡ 26 + length row.text = ap (λ (xs : List ℕ). length xs) (sym e) ∙ length-row_bytes row in
+    let long : length bytes ≡ 26 + length row.text =
+    ap (λ (xs : List ℕ). length xs) (sym e) ∙ length-row_bytes row in
     let d24 : drop 24 all ≡ f4 ++ row.text = drop_24 row in
     record {
       whole = ap (λ (xs : List ℕ). take 2 (drop 24 xs)) (sym e) ∙ ap (take 2) d24
@@ -178,13 +196,17 @@ has_length row bytes e text =
 pub no_other : (row : Row) (bytes : List ℕ) (at : ℕ) → row_bytes row ≡ bytes → IsText row.text
     → IsFirstOther bytes at → ⊥
 no_other row bytes at e text first =
-    let long : length bytes ≡ 26 + length row.text = ap (λ (xs : List ℕ). length xs) (sym e) ∙ length-row_bytes row in
+    let long : length bytes ≡ 26 + length row.text =
+    ap (λ (xs : List ℕ). length xs) (sym e) ∙ length-row_bytes row in
     let n : ℕ = at - 26 in
     let at_is : 26 + n ≡ at = omega (arith, first.low) in
     let there : get_or bytes at 0 ≡ get_or row.text n 0 =
     ap (λ (xs : List ℕ). get_or xs at 0) (sym e) ∙ ap (λ k. get_or (row_bytes row) k 0) (sym at_is)
-    ∙ sym (get_or-drop 26 (row_bytes row) n 0) ∙ ap (λ (xs : List ℕ). get_or xs n 0) (drop_26 row) in
-    first.other (subst IsLetter (sym there) (letter_at row.text n (omega (arith, first.high, long)) text.letters))
+    ∙ sym (get_or-drop 26 (row_bytes row) n 0)
+    ∙ ap (λ (xs : List ℕ). get_or xs n 0) (drop_26 row) in
+    first.other
+    (subst IsLetter (sym there)
+    (letter_at row.text n (omega (arith, first.high, long)) text.letters))
 
 -- only memory can be wanting there
 abbrev pub IsMemory : RowFault → Type 0

@@ -4,7 +4,8 @@
 // 2. What is read is the row that the bytes spell. A refusal names the first test that fails: the
 //    number of bytes, then the length of the text, then each byte of the text.
 // 3. Writing into room that is there takes no memory.
-ghost use Rattle.std.specs.Prelude.{◌≡◌, ◌≤◌, ◌<◌, ◌^◌, ◌++◌, IfOk, IfErr, length, take, drop, slice_index};
+ghost use Rattle.std.specs.Prelude.{◌≡◌, ◌≤◌, ◌<◌, ◌^◌, ◌++◌, IfOk, IfErr, length, take, drop};
+ghost use Rattle.std.specs.Prelude.{slice_index};
 ghost use Rattle.std.specs.List.{AllByRecursion};
 ghost use Rattle.rg_base.specs.Field.{field};
 ghost use Rattle.rg_base.specs.Text.{IsLetter, IsText};

@@ -7,7 +7,8 @@
 // 3. They are enough for the tree of all entries that may be added, for a tree of n entries has at
 //    most n / 126 + 1 nodes, of which n / 14208 + 1 are inner ones; and there are a dozen more of
 //    each for what one addition takes on its way.
-ghost use Rattle.std.specs.Prelude.{◌≡◌, ◌≤◌, ◌+◌, ◌-◌, ◌*◌, ◌^◌, [], length, OnOk, IfOk, not, find};
+ghost use Rattle.std.specs.Prelude.{◌≡◌, ◌≤◌, ◌+◌, ◌-◌, ◌*◌, ◌^◌, [], length, OnOk, IfOk, not};
+ghost use Rattle.std.specs.Prelude.{find};
 ghost use Rattle.rg_model.specs.Layout.{is_entry_before};
 ghost use Rattle.rg_index.specs.Entries.{IsRising};
 

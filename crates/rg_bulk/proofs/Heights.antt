@@ -1,5 +1,6 @@
 -- A tree is not high.
-use Rattle.std.proofs.Common.{◌≡◌, ◌+◌, ◌-◌, ◌<◌, ◌≤◌, zero, suc, ℕ, List, [], ◌∷◌, length, length-append, refl, subst, inl, inr, arith}
+use Rattle.std.proofs.Common.{◌≡◌, ◌+◌, ◌-◌, ◌<◌, ◌≤◌, zero, suc, ℕ, List, [], ◌∷◌, length}
+use Rattle.std.proofs.Common.{length-append, refl, subst, inl, inr, arith}
 use Rattle.std.proofs.lemmas.Bool.{cases_lt}
 use Rattle.rg_bulk.specs.Branch.{Branch, joined}
 use Rattle.rg_bulk.specs.Shape.{EachOf, IsKid, least_entries}
@@ -22,11 +23,13 @@ height_small h n le lt =
       | inl low ↦ low
       | inr high ↦
           let is : nine_more (h - 9) ≡ h = omega (arith, nine_more_is (h - 9)) in
-          let much : 18446744073709551616 ≤ least_entries h = subst (λ k. 18446744073709551616 ≤ least_entries k) is (many (h - 9)) in
+          let much : 18446744073709551616 ≤ least_entries h =
+          subst (λ k. 18446744073709551616 ≤ least_entries k) is (many (h - 9)) in
           absurd (omega arith)
     ]
 
-pub level_low : (h : ℕ) (level : List Branch) (n : ℕ) → EachOf (IsKid h) level → 0 < length level → length (joined level) ≡ n → n < 18446744073709551616 → h < 9
+pub level_low : (h : ℕ) (level : List Branch) (n : ℕ) → EachOf (IsKid h) level → 0 < length level
+    → length (joined level) ≡ n → n < 18446744073709551616 → h < 9
 level_low h [] n each some is lt = absurd (omega arith)
 level_low h (kid ∷ level) n each some is lt =
     let enough = each.0.entries in

@@ -3,7 +3,8 @@ use Rattle.std.proofs.Common.{ℕ, ◌≡◌, ◌≢◌, List, [], ◌∷◌, �
 use Rattle.rg_deck.specs.Reading.{Lacks}
 
 -- the first place of a byte is one place
-pub first_place : (mark : ℕ) (a b x y : List ℕ) → Lacks mark a → Lacks mark b → a ++ mark ∷ x ≡ b ++ mark ∷ y → (a ≡ b) × (x ≡ y)
+pub first_place : (mark : ℕ) (a b x y : List ℕ) → Lacks mark a → Lacks mark b
+    → a ++ mark ∷ x ≡ b ++ mark ∷ y → (a ≡ b) × (x ≡ y)
 first_place mark [] [] x y la lb e = (refl, cc)
 first_place mark [] (q ∷ qs) x y la lb e = let same : mark ≡ q = cc in absurd (lb.0 (sym same))
 first_place mark (p ∷ ps) [] x y la lb e = let same : p ≡ mark = cc in absurd (la.0 same)

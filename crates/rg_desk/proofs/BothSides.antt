@@ -1,5 +1,6 @@
 -- The layouts of both copies, once a new copy was written, are right for the table.
-use Rattle.std.proofs.Common.{◌≡◌, ℕ, true, false, List, Option, Some, None, IfSome, length, take, refl, sym, ◌∙◌, ap, subst}
+use Rattle.std.proofs.Common.{◌≡◌, ℕ, true, false, List, Option, Some, None, IfSome, length, take}
+use Rattle.std.proofs.Common.{refl, sym, ◌∙◌, ap, subst}
 use Rattle.std.proofs.Math.Seq.{take-length}
 use Rattle.rg_laws_utility.specs.ByteAccount.Account.{allowed_of}
 use Rattle.rg_base.specs.declared.options.DrainState.TheVariants.{Granted}
@@ -35,7 +36,8 @@ use Rattle.rg_engine.proofs.Drained.{rows_stored}
 use Rattle.rg_desk.proofs.WrittenCopy.{claims_are}
 
 -- rows at homes are one table
-one_table : (homes : Place → Option Row) (a b : ℕ → Option Row) → IsTable homes a → IsTable homes b → (k : ℕ) → a k ≡ b k
+one_table : (homes : Place → Option Row) (a b : ℕ → Option Row) → IsTable homes a → IsTable homes b
+    → (k : ℕ) → a k ≡ b k
 one_table homes a b one other k = go (a k) refl (b k) refl
   where
     go : (x : Option Row) → a k ≡ x → (y : Option Row) → b k ≡ y → a k ≡ b k
@@ -47,38 +49,55 @@ one_table homes a b one other k = go (a k) refl (b k) refl
         subst (λ (n : ℕ). a n ≡ Some row) at.0 (one.there at.1 row at.2) ∙ sym f
     go None e None f = e ∙ sym f
 
-pub new_side_of : (p : Option Prepared) (side : Side) → IsSideOfKept p side → IfSome (prepared_seen p) (IsNewSide side)
+pub new_side_of : (p : Option Prepared) (side : Side) → IsSideOfKept p side
+    → IfSome (prepared_seen p) (IsNewSide side)
 new_side_of None side is = absurd is
 new_side_of (Some p) side is = (is.0, is.1)
 
-module _ (d : Engine) (c : ChronicleState) (origin : Origin) (copy : ℕ) (marks : List (Option Position)) (seen : VolumeSeen) (desk : IsDesk d c origin copy false marks seen)
-    (stage : Option Stage) (count : ChangeCount) (tends : Tends c.trace stage count d.set_aside) (kept : GrantIsKept d.claims)
+module _ (d : Engine) (c : ChronicleState) (origin : Origin) (copy : ℕ)
+    (marks : List (Option Position)) (seen : VolumeSeen)
+    (desk : IsDesk d c origin copy false marks seen) (stage : Option Stage) (count : ChangeCount)
+    (tends : Tends c.trace stage count d.set_aside) (kept : GrantIsKept d.claims)
     (p : Option Prepared) (prepared : KeepsPrepared p d.log.records copy seen)
-    (V O : Type 0) (view : DeskState V O) (stage_is : view.stage ≡ stage) (shadow_is : view.shadow ≡ prepared_seen p)
-    (records_are : view.ground.log.records ≡ d.log.records) (pages_are : view.ground.pages ≡ slots_in d)
+    (V O : Type 0) (view : DeskState V O) (stage_is : view.stage ≡ stage)
+    (shadow_is : view.shadow ≡ prepared_seen p)
+    (records_are : view.ground.log.records ≡ d.log.records)
+    (pages_are : view.ground.pages ≡ slots_in d)
     (drained : HasDrain view) (current : HasCurrent view) (sides : Sides)
-    (old : (st : State) (allowed : ℕ) → Shows st allowed d → (t : Table) → IsTable (row_at (slot_of (slots_in d))) (row_of t) → is_right_side t sides.old ≡ true) (new : IsSideOfKept p sides.new) where
+    (old : (st : State) (allowed : ℕ) → Shows st allowed d → (t : Table)
+    → IsTable (row_at (slot_of (slots_in d))) (row_of t) → is_right_side t sides.old ≡ true)
+    (new : IsSideOfKept p sides.new) where
   tends_some : Tends c.trace (Some drained.stage) count d.set_aside
-  tends_some = subst (λ (o : Option Stage). Tends c.trace o count d.set_aside) (sym stage_is ∙ drained.stage_is) tends
+  tends_some = subst (λ (o : Option Stage). Tends c.trace o count d.set_aside)
+      (sym stage_is ∙ drained.stage_is) tends
 
   granted : d.claims.drain ≡ Granted drained.granted
-  granted = sym (desk.shown refl).by.drain ∙ (state_shows d c origin copy false marks seen desk (Some drained.stage) count tends_some).1 ∙ drained.drain
+  granted = sym (desk.shown refl).by.drain
+      ∙ (state_shows d c origin copy false marks seen desk (Some drained.stage) count tends_some).1
+      ∙ drained.drain
 
   stored_rows : IsTable (row_at (slot_of (slots_in d))) (stored d.log.records)
-  stored_rows = rows_stored desk.state (allowed_of desk.start c.trace) d (desk.shown refl) (claims_are d c origin copy marks seen desk d) kept drained.granted granted
+  stored_rows = rows_stored desk.state (allowed_of desk.start c.trace) d (desk.shown refl)
+      (claims_are d c origin copy marks seen desk d) kept drained.granted granted
 
-  right_new : (o : Option Prepared) → KeepsPrepared o d.log.records copy seen → IsSideOfKept o sides.new → Some current.shadow ≡ prepared_seen o → (t : Table) → IsTable (row_at (slot_of (slots_in d))) (row_of t) → is_right_side t sides.new ≡ true
+  right_new : (o : Option Prepared) → KeepsPrepared o d.log.records copy seen
+      → IsSideOfKept o sides.new → Some current.shadow ≡ prepared_seen o → (t : Table)
+      → IsTable (row_at (slot_of (slots_in d))) (row_of t) → is_right_side t sides.new ≡ true
   right_new None keeps is same t rows = absurd is
   right_new (Some q) keeps is same t rows =
-      let records : q.records ≡ length d.log.records = sym (count_of same) ∙ current.current ∙ ap (λ (rs : List Record). length rs) records_are in
-      is.2 t
-      (table_same (row_at (slot_of (shade_slots q.shadow))) (row_at (slot_of (shade_slots q.shadow))) (stored (take q.records d.log.records)) (row_of t) (λ r. refl)
+      let records : q.records ≡ length d.log.records =
+      sym (count_of same) ∙ current.current ∙ ap (λ (rs : List Record). length rs) records_are in
+      is.2 t (table_same (row_at (slot_of (shade_slots q.shadow)))
+      (row_at (slot_of (shade_slots q.shadow))) (stored (take q.records d.log.records)) (row_of t)
+      (λ r. refl)
       (λ k.
       one_table (row_at (slot_of (slots_in d))) (row_of t) (stored d.log.records) rows stored_rows k
-      ∙ ap (λ (rs : List Record). stored rs k) (sym (ap (λ (n : ℕ). take n d.log.records) records ∙ take-length d.log.records)))
+      ∙ ap (λ (rs : List Record). stored rs k)
+      (sym (ap (λ (n : ℕ). take n d.log.records) records ∙ take-length d.log.records)))
       keeps.rows)
     where
-      count_of : Some current.shadow ≡ Some (record { shade = q.shadow; records = q.records }) → current.shadow.records ≡ q.records
+      count_of : Some current.shadow ≡ Some (record { shade = q.shadow; records = q.records })
+          → current.shadow.records ≡ q.records
       count_of e = ap from e
         where
           from : Option PreparedSeen → ℕ
@@ -87,8 +106,11 @@ module _ (d : Engine) (c : ChronicleState) (origin : Origin) (copy : ℕ) (marks
 
   pub both_sides : AreSides view sides
   both_sides = record {
-    new = subst (λ (o : Option PreparedSeen). IfSome o (IsNewSide sides.new)) (sym shadow_is) (new_side_of p sides.new new);
+    new = subst (λ (o : Option PreparedSeen). IfSome o (IsNewSide sides.new)) (sym shadow_is)
+        (new_side_of p sides.new new);
     right = λ t is.
-        let rows = subst (λ ps. IsTable (row_at (slot_of ps)) (row_of t)) pages_are is in
-        (old desk.state (allowed_of desk.start c.trace) (desk.shown refl) t rows, right_new p prepared new (sym current.shadow_is ∙ shadow_is) t rows);
+        let rows = subst (λ ps. IsTable (row_at (slot_of ps)) (row_of t)) pages_are is in (
+          old desk.state (allowed_of desk.start c.trace) (desk.shown refl) t rows,
+          right_new p prepared new (sym current.shadow_is ∙ shadow_is) t rows,
+        );
   }

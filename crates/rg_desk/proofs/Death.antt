@@ -11,6 +11,9 @@ use Rattle.rg_engine.specs.declared.origin.Origin.{Origin}
 use Rattle.rg_engine.proofs.Refused.{shown_left}
 
 -- a desk, whether it is up or down
-pub desk_left : (d : Engine) (c : ChronicleState) (origin : Origin) (copy : ℕ) (down : Bool) (marks : List (Option Position)) (seen : VolumeSeen) (desk : IsDesk d c origin copy down marks seen) → LeavesState desk.state d.log
-desk_left d c origin copy false marks seen desk = shown_left desk.state (allowed_of desk.start c.trace) d (desk.shown refl)
+pub desk_left : (d : Engine) (c : ChronicleState) (origin : Origin) (copy : ℕ) (down : Bool)
+    (marks : List (Option Position)) (seen : VolumeSeen)
+    (desk : IsDesk d c origin copy down marks seen) → LeavesState desk.state d.log
+desk_left d c origin copy false marks seen desk =
+    shown_left desk.state (allowed_of desk.start c.trace) d (desk.shown refl)
 desk_left d c origin copy true marks seen desk = desk.left refl

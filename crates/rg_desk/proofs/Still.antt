@@ -19,10 +19,13 @@ use Rattle.rg_engine.proofs.OnVolume.{on_same}
 use Rattle.rg_engine.proofs.Reopens.{same_clean}
 use Rattle.rg_engine.proofs.Same.{same_shows}
 
-pub desk_still : (d : Engine) (c : ChronicleState) (origin : Origin) (copy : ℕ) (down : Bool) (marks : List (Option Position)) (seen : VolumeSeen) → IsDesk d c origin copy down marks seen → (next : Engine) → SameEngine d next → IsDesk next c origin copy down marks seen
+pub desk_still : (d : Engine) (c : ChronicleState) (origin : Origin) (copy : ℕ) (down : Bool)
+    (marks : List (Option Position)) (seen : VolumeSeen) → IsDesk d c origin copy down marks seen
+    → (next : Engine) → SameEngine d next → IsDesk next c origin copy down marks seen
 desk_still d c origin copy down marks seen desk next same = record {
   start = desk.start;
-  starts = subst (λ (l : Listed). IsStored (take origin.records l.records) desk.start) (sym same.log) desk.starts;
+  starts = subst (λ (l : Listed). IsStored (take origin.records l.records) desk.start)
+      (sym same.log) desk.starts;
   within = subst (λ (l : Listed). origin.records ≤ length l.records) (sym same.log) desk.within;
   state = desk.state;
   begun = desk.begun;
@@ -39,9 +42,14 @@ desk_still d c origin copy down marks seen desk next same = record {
   logged = subst (λ (l : Listed). taken_of l ≤ logged_by 0 c.trace) (sym same.log) desk.logged;
   pages = ap (λ (l : Listed). l.pages) same.log ∙ desk.pages;
   leaves = subst (LeavesIfTidy seen) (sym same.log) desk.leaves;
-  is_on = λ up. record { epoch = (desk.is_on up).epoch; is_on = on_same (desk.is_on up).epoch copy d next marks seen same (desk.is_on up).is_on };
+  is_on = λ up. record {
+    epoch = (desk.is_on up).epoch;
+    is_on = on_same (desk.is_on up).epoch copy d next marks seen same (desk.is_on up).is_on;
+  };
   rests = desk.rests;
-  clean = λ up. told_weaken (λ t. WasAllTidy seen.capacities t → IsCleanIn d) (λ t. WasAllTidy seen.capacities t → IsCleanIn next) seen.told (λ t h tidy. same_clean d next same (h tidy)) (desk.clean up);
+  clean = λ up. told_weaken (λ t. WasAllTidy seen.capacities t → IsCleanIn d)
+      (λ t. WasAllTidy seen.capacities t → IsCleanIn next) seen.told
+      (λ t h tidy. same_clean d next same (h tidy)) (desk.clean up);
   keys = desk.keys;
   among = desk.among;
   few = desk.few;

@@ -4,7 +4,8 @@
 --    record, and it has room for that.
 -- 2. So the log may turn to the new copy that was written, whose rows are those that it stores. The
 --    table begins anew on it.
-use Rattle.std.proofs.Common.{◌≡◌, ◌+◌, inl, inr, ℕ, false, List, [], length, take, Option, None, refl, sym, ◌∙◌, ap, subst, arith}
+use Rattle.std.proofs.Common.{◌≡◌, ◌+◌, inl, inr, ℕ, false, List, [], length, take, Option, None}
+use Rattle.std.proofs.Common.{refl, sym, ◌∙◌, ap, subst, arith}
 use Rattle.std.proofs.Math.Seq.{take-length}
 use Rattle.rg_laws_utility.specs.ByteAccount.Account.{allowed_of}
 use Rattle.rg_laws_crash.proofs.NewCopyLemmas.Anew.{new_can_switch, owed_closed, switch_begins}
@@ -75,9 +76,13 @@ below_up top at low p = owner_up top (at p) (low p)
 
 -- ---- the log may turn to the new copy
 
-module _ (d : Engine) (c : ChronicleState) (origin : Origin) (copy : ℕ) (marks : List (Option Position)) (seen : VolumeSeen) (desk : IsDesk d c origin copy false marks seen)
-    (p : Prepared) (is : IsPrepared p d.log.records copy seen) (current : p.records ≡ length d.log.records) (shade : IsShade p.shadow)
-    (kept : GrantIsKept d.claims) (granted : d.claims.drain ≡ Granted All) (set_aside : d.set_aside ≡ 28) where
+module _ (d : Engine) (c : ChronicleState) (origin : Origin) (copy : ℕ)
+    (marks : List (Option Position)) (seen : VolumeSeen)
+    (desk : IsDesk d c origin copy false marks seen)
+    (p : Prepared) (is : IsPrepared p d.log.records copy seen)
+    (current : p.records ≡ length d.log.records) (shade : IsShade p.shadow)
+    (kept : GrantIsKept d.claims) (granted : d.claims.drain ≡ Granted All)
+    (set_aside : d.set_aside ≡ 28) where
   abbrev rs : List Record
   rs = d.log.records
 
@@ -91,7 +96,8 @@ module _ (d : Engine) (c : ChronicleState) (origin : Origin) (copy : ℕ) (marks
   shows = desk.shown refl
 
   pub claimed : AreClaimed desk.state
-  claimed = claimed_run [] c.trace (at_rest desk.start origin.copy) desk.state desk.run (claimed_begins desk.start origin.copy)
+  claimed = claimed_run [] c.trace (at_rest desk.start origin.copy) desk.state desk.run
+      (claimed_begins desk.start origin.copy)
 
   pub front : take p.records rs ≡ rs
   front = ap (λ (n : ℕ). take n rs) current ∙ take-length rs
@@ -117,7 +123,8 @@ module _ (d : Engine) (c : ChronicleState) (origin : Origin) (copy : ℕ) (marks
   pub no_units : (n : ℕ) → unit_at d.units n ≡ None
   no_units = no_unit desk.state (allowed_of desk.start c.trace) d shows claimed kept All granted
 
-  module _ (mid : Engine) (seen_after : VolumeSeen) (logs : LogsSwitch (other_of copy) (length p.shadow.pages) seen seen_after d mid) where
+  module _ (mid : Engine) (seen_after : VolumeSeen)
+      (logs : LogsSwitch (other_of copy) (length p.shadow.pages) seen seen_after d mid) where
     abbrev later : List Record
     later = switched rs (other_of copy) pages
 
@@ -131,7 +138,14 @@ module _ (d : Engine) (c : ChronicleState) (origin : Origin) (copy : ℕ) (marks
     space =
         subst (λ (n : ℕ). HasSpace n later) desk.pages
         (subst (HasSpace d.log.pages) logs.records
-        (omega (arith, ap (λ (xs : List Record). log_owed xs) logs.records, later_owes, logs.taken, none_reserved, shows.trails.space)))
+        (omega (
+          arith,
+          ap (λ (xs : List Record). log_owed xs) logs.records,
+          later_owes,
+          logs.taken,
+          none_reserved,
+          shows.trails.space,
+        )))
 
     pub is_new : IsNewCopy seen.capacities rs (other_of copy) pages
     is_new = record {
@@ -140,17 +154,27 @@ module _ (d : Engine) (c : ChronicleState) (origin : Origin) (copy : ℕ) (marks
       closed = closed;
       positions = (desk.is_on refl).is_on.newest.positions;
       space = space;
-      each = λ q one high. let page = is.each q one high in record { copy_is = page.copy_is; number = page.number; position = omega (arith, page.position, current) };
+      each = λ q one high. let page = is.each q one high in record {
+        copy_is = page.copy_is;
+        number = page.number;
+        position = omega (arith, page.position, current);
+      };
       proper = shade.proper;
       below = below_up (greatest_tran rs) (slot_of (shade_slots p.shadow)) shade.below;
-      rows = subst (λ (xs : List Record). IsTable (row_at (slot_of (shade_slots p.shadow))) (stored xs)) front is.rows;
+      rows = subst
+          (λ (xs : List Record). IsTable (row_at (slot_of (shade_slots p.shadow))) (stored xs))
+          front is.rows;
     }
 
-    pub can_switch : CanSwitch seen.capacities (copy_capacity seen.capacities (other_of copy)) rs (other_of copy) pages (anew_on later pages (greatest_tran rs))
+    pub can_switch : CanSwitch seen.capacities (copy_capacity seen.capacities (other_of copy)) rs
+        (other_of copy) pages (anew_on later pages (greatest_tran rs))
     can_switch = new_can_switch seen.capacities rs (other_of copy) pages is_new
 
     pub is_turned : IsTurned seen.capacities rs (other_of copy) pages
-    is_turned = switch_turns seen.capacities (copy_capacity seen.capacities (other_of copy)) rs (other_of copy) pages (anew_on later pages (greatest_tran rs)) can_switch
+    is_turned = switch_turns seen.capacities (copy_capacity seen.capacities (other_of copy)) rs
+        (other_of copy) pages (anew_on later pages (greatest_tran rs)) can_switch
 
-    pub begins_anew : BeginsAnew (copy_capacity seen.capacities (other_of copy)) (next_epoch rs (other_of copy) pages) later (anew_on later pages (greatest_tran rs))
-    begins_anew = switch_begins seen.capacities (copy_capacity seen.capacities (other_of copy)) rs (other_of copy) pages (anew_on later pages (greatest_tran rs)) can_switch
+    pub begins_anew : BeginsAnew (copy_capacity seen.capacities (other_of copy))
+        (next_epoch rs (other_of copy) pages) later (anew_on later pages (greatest_tran rs))
+    begins_anew = switch_begins seen.capacities (copy_capacity seen.capacities (other_of copy)) rs
+        (other_of copy) pages (anew_on later pages (greatest_tran rs)) can_switch

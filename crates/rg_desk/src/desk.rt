@@ -12,7 +12,8 @@
 //    the operator's answer. Its event is the next one of the stage that the desk keeps.
 // 6. What a utility needs is sent to it: a Begin at its start, a copy of each page that it copies,
 //    and each change of a row since. Whoever has the other end receives it all with `hand_over`.
-ghost use Rattle.std.specs.Prelude.{◌≡◌, ◌≤◌, ◌++◌, [], ℕ, true, false, OnOk, OnErr, IfOk, IfErr, IfSome, Some, None, drop, length};
+ghost use Rattle.std.specs.Prelude.{◌≡◌, ◌≤◌, ◌++◌, [], ℕ, true, false, OnOk, OnErr, IfOk, IfErr};
+ghost use Rattle.std.specs.Prelude.{IfSome, Some, None, drop, length};
 ghost use Rattle.rg_home.specs.Pages.{slot_of};
 ghost use Rattle.rg_home.specs.Rows.{row_at};
 ghost use Rattle.rg_btree.specs.Indexes.Listings.{AreListings};

@@ -1,6 +1,7 @@
 -- Under a drain that is granted no unit is open, and the pages have exactly the rows that the log
 -- stores.
-use Rattle.std.proofs.Common.{◌≡◌, ◌==◌, ◌||◌, ℕ, Bool, true, false, List, [], ◌∷◌, length, Option, Some, None, refl, sym, ◌∙◌, ap, subst, arith}
+use Rattle.std.proofs.Common.{◌≡◌, ◌==◌, ◌||◌, ℕ, Bool, true, false, List, [], ◌∷◌, length, Option}
+use Rattle.std.proofs.Common.{Some, None, refl, sym, ◌∙◌, ap, subst, arith}
 use Rattle.std.specs.FinMap as fin
 use Rattle.std.specs.FinMap.{get-empty}
 use Rattle.std.specs.List.{list_any}
@@ -35,7 +36,9 @@ use Rattle.rg_engine.specs.declared.units.OpenUnit.{OpenUnit}
 use Rattle.rg_engine.proofs.Sessions.{left_consistent}
 use Rattle.rg_engine.proofs.Settled.{now_stored}
 
-module _ (st : State) (allowed : ℕ) (d : Engine) (shows : Shows st allowed d) (claimed : AreClaimed st) (kept : GrantIsKept d.claims) (what : DrainFor) (granted : d.claims.drain ≡ Granted what) where
+module _ (st : State) (allowed : ℕ) (d : Engine) (shows : Shows st allowed d)
+    (claimed : AreClaimed st) (kept : GrantIsKept d.claims) (what : DrainFor)
+    (granted : d.claims.drain ≡ Granted what) where
   abbrev s : LogState
   s = left_by shows.first d
 
@@ -48,13 +51,15 @@ module _ (st : State) (allowed : ℕ) (d : Engine) (shows : Shows st allowed d) 
 
   -- nobody holds Writer
   free : (session : ℕ) → has_class (fin.get st.claims session) Writer ≡ false
-  free session = ap (λ (cs : Claims). has_class (fin.get cs session) Writer) shows.by.claims ∙ kept what granted session Writer covered
+  free session = ap (λ (cs : Claims). has_class (fin.get cs session) Writer) shows.by.claims
+      ∙ kept what granted session Writer covered
 
   pub no_locks : st.locks ≡ fin.empty
   no_locks = none_locked st claimed free
 
   no_lock : (k : ℕ) → fin.get d.locks k ≡ None
-  no_lock k = ap (λ (ls : Locks). fin.get ls k) (sym shows.by.locks ∙ no_locks) ∙ get-empty nat_cmp k
+  no_lock k =
+      ap (λ (ls : Locks). fin.get ls k) (sym shows.by.locks ∙ no_locks) ∙ get-empty nat_cmp k
 
   none_hit : (k : ℕ) → NoneHit (at_key k) s.writes
   none_hit k = subst (λ (o : Option Lock). KeyShown d.units s o k) (no_lock k) (shows.by.keys k)
@@ -73,26 +78,37 @@ module _ (st : State) (allowed : ℕ) (d : Engine) (shows : Shows st allowed d) 
       go None at = at
       go (Some unit) at =
           let shown = shows.by.units.each n unit at in
-          absurd (omega (arith, shown.wrote, shown.count, ap (λ (ws : List Write). length (own_of unit.tran.0 ws)) no_writes))
+          absurd
+          (omega (
+            arith,
+            shown.wrote,
+            shown.count,
+            ap (λ (ws : List Write). length (own_of unit.tran.0 ws)) no_writes,
+          ))
 
   none_live : (t : ℕ) → IsLive s.live t → ⊥
-  none_live t live = let has = shows.by.units.all t live in absurd (cc (has.has, no_unit has.session))
+  none_live t live = let has = shows.by.units.all t live in
+      absurd (cc (has.has, no_unit has.session))
 
   pub no_live : s.live ≡ []
   no_live = go s.live none_live
     where
       go : (us : List ℕ) → ((t : ℕ) → IsLive us t → ⊥) → us ≡ []
       go [] none = refl
-      go (u ∷ us) none = absurd (none u (ap (λ (b : Bool). b || list_any (λ v. v == u) us) (eqb-refl u)))
+      go (u ∷ us) none =
+          absurd (none u (ap (λ (b : Bool). b || list_any (λ v. v == u) us) (eqb-refl u)))
 
   pub all_closed : (t : ℕ) → IsOpen t d.log.records → ⊥
   all_closed t is = none_live t (shows.trails.tells.opens t is)
 
   -- the rows by key are those that the log stores
   pub now_is : (k : ℕ) → stored d.log.records k ≡ s.now k
-  now_is k = now_stored st allowed d shows k ∙ ap (λ (ws : List Write). gone_back (at_key k) ws (s.now k)) no_writes
+  now_is k = now_stored st allowed d shows k
+      ∙ ap (λ (ws : List Write). gone_back (at_key k) ws (s.now k)) no_writes
 
   pub rows_stored : IsTable (row_at (slot_of (slots_in d))) (stored d.log.records)
   rows_stored =
-      subst (λ (ps : List (List Slot)). IsTable (row_at (slot_of ps)) (stored d.log.records)) (sym shows.by.slots)
-      (table_same (row_at (slot_of s.pages)) (row_at (slot_of s.pages)) s.now (stored d.log.records) (λ p. refl) (λ k. now_is k) (left_consistent st allowed d shows).table)
+      subst (λ (ps : List (List Slot)). IsTable (row_at (slot_of ps)) (stored d.log.records))
+      (sym shows.by.slots)
+      (table_same (row_at (slot_of s.pages)) (row_at (slot_of s.pages)) s.now (stored d.log.records)
+      (λ p. refl) (λ k. now_is k) (left_consistent st allowed d shows).table)

@@ -1,5 +1,6 @@
 -- Keys and maps by key.
-use Rattle.std.proofs.Common.{◌≡◌, ◌==◌, ℕ, Bool, true, false, cond, Option, Some, refl, sym, ◌∙◌, ap, arith, ◌⊎◌, inl, inr, if◌then◌else◌}
+use Rattle.std.proofs.Common.{◌≡◌, ◌==◌, ℕ, Bool, true, false, cond, Option, Some, refl, sym, ◌∙◌}
+use Rattle.std.proofs.Common.{ap, arith, ◌⊎◌, inl, inr, if◌then◌else◌}
 use Rattle.std.specs.Ordering.{nat_cmp, eq_by_cmp}
 use Rattle.std.specs.FinMap as fin
 use Rattle.std.specs.FinMap.{get-insert}
@@ -30,28 +31,38 @@ cmp_apart q key n = go (eq_by_cmp nat_cmp q key) refl
     go true e = absurd (n (key_of q key e))
     go false e = refl
 
-pub insert_here : {V : Type 0} (m : fin.FinMap nat_cmp V) (key : ℕ) (v : V) → fin.get (fin.insert m key v) key ≡ Some v
-insert_here {V} m key v = get-insert nat_cmp_total m key v key ∙ ap (λ (b : Bool). cond b (Some v) (fin.get m key)) (cmp_same key)
+pub insert_here : {V : Type 0} (m : fin.FinMap nat_cmp V) (key : ℕ) (v : V)
+    → fin.get (fin.insert m key v) key ≡ Some v
+insert_here {V} m key v = get-insert nat_cmp_total m key v key
+    ∙ ap (λ (b : Bool). cond b (Some v) (fin.get m key)) (cmp_same key)
 
-pub insert_there : {V : Type 0} (m : fin.FinMap nat_cmp V) (key : ℕ) (v : V) (q : ℕ) → (q ≡ key → ⊥) → fin.get (fin.insert m key v) q ≡ fin.get m q
-insert_there {V} m key v q n = get-insert nat_cmp_total m key v q ∙ ap (λ (b : Bool). cond b (Some v) (fin.get m q)) (cmp_apart q key n)
+pub insert_there : {V : Type 0} (m : fin.FinMap nat_cmp V) (key : ℕ) (v : V) (q : ℕ) → (q ≡ key → ⊥)
+    → fin.get (fin.insert m key v) q ≡ fin.get m q
+insert_there {V} m key v q n = get-insert nat_cmp_total m key v q
+    ∙ ap (λ (b : Bool). cond b (Some v) (fin.get m q)) (cmp_apart q key n)
 
 -- a table with one row set, by key
-pub set_table : (table : Table) (now : ℕ → Option Row) (key : ℕ) (row : Option Row) → ((k : ℕ) → fin.get table k ≡ now k) → (k : ℕ) → fin.get (set_to table key row) k ≡ set_at now key row k
+pub set_table : (table : Table) (now : ℕ → Option Row) (key : ℕ) (row : Option Row)
+    → ((k : ℕ) → fin.get table k ≡ now k) → (k : ℕ)
+    → fin.get (set_to table key row) k ≡ set_at now key row k
 set_table table now key row same k = go (same_or_not k key)
   where
-    flip : (b : Bool) → (key == k) ≡ b → (if b then row else now k) ≡ (if key == k then row else now k)
+    flip : (b : Bool) → (key == k) ≡ b
+        → (if b then row else now k) ≡ (if key == k then row else now k)
     flip b e = ap (λ (c : Bool). if c then row else now k) (sym e)
 
     apart : (b : Bool) → (key == k) ≡ b → (k ≡ key → ⊥) → now k ≡ (if b then row else now k)
     apart true e n = absurd (n (sym (eqb-true key k e)))
     apart false e n = refl
 
-    go : (k ≡ key) ⊎ (k ≡ key → ⊥) → fin.get (set_to table key row) k ≡ (if key == k then row else now k)
+    go : (k ≡ key) ⊎ (k ≡ key → ⊥)
+        → fin.get (set_to table key row) k ≡ (if key == k then row else now k)
     go (inl e) =
         get-set_to table key row k
-        ∙ ap (λ (b : Bool). cond b row (fin.get table k)) (ap (eq_by_cmp nat_cmp k) (sym e) ∙ cmp_same k)
-        ∙ ap (λ (c : Bool). if c then row else now k) (sym (ap (λ (n : ℕ). n == k) (sym e) ∙ eqb-refl k))
+        ∙ ap (λ (b : Bool). cond b row (fin.get table k))
+        (ap (eq_by_cmp nat_cmp k) (sym e) ∙ cmp_same k)
+        ∙ ap (λ (c : Bool). if c then row else now k)
+        (sym (ap (λ (n : ℕ). n == k) (sym e) ∙ eqb-refl k))
     go (inr n) =
         get-set_to table key row k
         ∙ ap (λ (b : Bool). cond b row (fin.get table k)) (cmp_apart k key n)

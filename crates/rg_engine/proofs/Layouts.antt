@@ -8,5 +8,9 @@ use Rattle.rg_laws_log.proofs.LogStateLemmas.Tables.{eqb-refl}
 use Rattle.rg_stmt.specs.declared.layout.Side.{Side}
 
 -- a layout of the copy that is right for the table changes nothing
-pub shown_so : (st : State) (copy : ℕ) (side : Side) → st.down ≡ false → st.copy ≡ copy → is_right_side st.table side ≡ true → state_shown st copy side ≡ Some st
-shown_so st copy side up same right = ap (λ (b : Bool). if_allowed b st) (ap (λ (b : Bool). not b && ((copy == st.copy) && is_right_side st.table side)) up ∙ ap (λ (n : ℕ). (copy == n) && is_right_side st.table side) same ∙ ap (λ (b : Bool). b && is_right_side st.table side) (eqb-refl copy) ∙ right)
+pub shown_so : (st : State) (copy : ℕ) (side : Side) → st.down ≡ false → st.copy ≡ copy
+    → is_right_side st.table side ≡ true → state_shown st copy side ≡ Some st
+shown_so st copy side up same right = ap (λ (b : Bool). if_allowed b st)
+    (ap (λ (b : Bool). not b && ((copy == st.copy) && is_right_side st.table side)) up
+    ∙ ap (λ (n : ℕ). (copy == n) && is_right_side st.table side) same
+    ∙ ap (λ (b : Bool). b && is_right_side st.table side) (eqb-refl copy) ∙ right)

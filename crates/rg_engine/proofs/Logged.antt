@@ -1,5 +1,6 @@
 -- What records take of the log, as they are appended.
-use Rattle.std.proofs.Common.{◌≡◌, ◌≤◌, ◌+◌, ℕ, List, [], ◌∷◌, ◌++◌, Option, Some, None, length, arith}
+use Rattle.std.proofs.Common.{◌≡◌, ◌≤◌, ◌+◌, ℕ, List, [], ◌∷◌, ◌++◌, Option, Some, None, length}
+use Rattle.std.proofs.Common.{arith}
 use Rattle.rg_base.specs.declared.part.Part.{Part}
 use Rattle.rg_base.specs.declared.row.Row.{Row}
 use Rattle.rg_home.specs.declared.plan.Plan.{Plan}
@@ -15,21 +16,28 @@ use Rattle.rg_engine.specs.declared.units.OpenUnit.{OpenUnit}
 use Rattle.rg_engine.proofs.Spelled.{commit_bytes, size_is}
 
 -- one record more
-pub bytes-push : (rs : List Record) (r : Record) → log_bytes (rs ++ r ∷ []) ≡ log_bytes rs + kind_bytes r.kind
+pub bytes-push : (rs : List Record) (r : Record)
+    → log_bytes (rs ++ r ∷ []) ≡ log_bytes rs + kind_bytes r.kind
 bytes-push [] r = omega (arith, size_is r)
 bytes-push (x ∷ rs) r = omega (arith, bytes-push rs r)
 
-bytes_cleared : (rs : List Record) (parts : List Part) → log_bytes (records_cleared rs parts) ≡ log_bytes rs + purge_bytes parts
+bytes_cleared : (rs : List Record) (parts : List Part)
+    → log_bytes (records_cleared rs parts) ≡ log_bytes rs + purge_bytes parts
 bytes_cleared rs [] = omega arith
 bytes_cleared rs (x ∷ parts) = bytes-push rs (purge_record (length rs + 1) (x ∷ parts))
 
 -- the records of a write
-pub bytes_wrote : (rs : List Record) (unit : OpenUnit) (plan : Plan) (after : Option Row) → log_bytes (records_wrote rs unit plan after) ≡ log_bytes rs + plan_bytes plan after
+pub bytes_wrote : (rs : List Record) (unit : OpenUnit) (plan : Plan) (after : Option Row)
+    → log_bytes (records_wrote rs unit plan after) ≡ log_bytes rs + plan_bytes plan after
 bytes_wrote rs unit plan after =
-    let change = change_record (length (records_cleared rs plan.purge) + 1) unit.tran.0 unit.last.0 (write_of unit.tran.0 plan.home plan.before after plan.parts) in
+    let change = change_record (length (records_cleared rs plan.purge) + 1) unit.tran.0 unit.last.0
+    (write_of unit.tran.0 plan.home plan.before after plan.parts) in
     omega (arith, bytes-push (records_cleared rs plan.purge) change, bytes_cleared rs plan.purge)
 
 -- the end of a unit takes no more than was reserved for it
-pub bytes_committed : (rs : List Record) (unit : Option OpenUnit) (before after : ℕ) → after + owed_to unit ≡ before → log_bytes (records_committed rs unit) + after ≤ log_bytes rs + before
+pub bytes_committed : (rs : List Record) (unit : Option OpenUnit) (before after : ℕ)
+    → after + owed_to unit ≡ before
+    → log_bytes (records_committed rs unit) + after ≤ log_bytes rs + before
 bytes_committed rs None before after e = omega (arith, e)
-bytes_committed rs (Some unit) before after e = omega (arith, e, bytes-push rs (commit_record (length rs + 1) unit), commit_bytes)
+bytes_committed rs (Some unit) before after e =
+    omega (arith, e, bytes-push rs (commit_record (length rs + 1) unit), commit_bytes)

@@ -11,10 +11,13 @@ use Rattle.rg_space.specs.Carries.{AllFree, AllThere}
 -- ---- parts
 
 -- parts that free slots of pages that are there name no other page
-pub free_within : (n limit : ℕ) (parts : List Part) → n ≤ limit → AllThere n parts → AllFree parts → AllByRecursion (PartIn limit) parts
+pub free_within : (n limit : ℕ) (parts : List Part) → n ≤ limit → AllThere n parts → AllFree parts
+    → AllByRecursion (PartIn limit) parts
 free_within n limit [] high there frees = tt
-free_within n limit (x ∷ parts) high there frees =
-    (((there.0, omega (arith, there.1, high)), subst (PlaceIn limit) (sym frees.0) tt), free_within n limit parts high there.2 frees.1)
+free_within n limit (x ∷ parts) high there frees = (
+  ((there.0, omega (arith, there.1, high)), subst (PlaceIn limit) (sym frees.0) tt),
+  free_within n limit parts high there.2 frees.1,
+)
 
 -- parts on pages that are there add none
 pub raised_there : (n : ℕ) (parts : List Part) → AllThere n parts → raised n parts ≡ n
@@ -24,6 +27,8 @@ raised_there n (x ∷ parts) there =
     ap (λ (k : ℕ). raised k parts) same ∙ raised_there n parts there.2
 
 -- parts within so many pages are near them
-pub within_near : (limit n : ℕ) (parts : List Part) → limit ≤ n → AllByRecursion (PartIn limit) parts → AllNear n parts
+pub within_near : (limit n : ℕ) (parts : List Part) → limit ≤ n
+    → AllByRecursion (PartIn limit) parts → AllNear n parts
 within_near limit n [] high within = tt
-within_near limit n (x ∷ parts) high within = (within.0.0.0, omega (arith, within.0.0.1, high), within_near limit n parts high within.1)
+within_near limit n (x ∷ parts) high within =
+    (within.0.0.0, omega (arith, within.0.0.1, high), within_near limit n parts high within.1)

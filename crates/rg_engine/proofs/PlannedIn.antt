@@ -17,20 +17,28 @@ use Rattle.rg_space.specs.Memory.{list_seen}
 use Rattle.rg_engine.specs.Planned.{IsRefusal}
 
 -- pages that were read are as they were
-pub agree_later : (old new : Space ListFrames) → Reads (list_seen (frames_of old)) (list_seen (frames_of new)) → (index_of new).pages ≡ (index_of old).pages
-    → Agree (list_seen (frames_of old)) (index_of old) → Agree (list_seen (frames_of new)) (index_of new)
-agree_later old new reads same agree = ap (λ (ps : List Content). map (map bare) (slots_of ps)) (reads.same refl) ∙ agree ∙ sym same
+pub agree_later : (old new : Space ListFrames)
+    → Reads (list_seen (frames_of old)) (list_seen (frames_of new))
+    → (index_of new).pages ≡ (index_of old).pages
+    → Agree (list_seen (frames_of old)) (index_of old)
+    → Agree (list_seen (frames_of new)) (index_of new)
+agree_later old new reads same agree =
+    ap (λ (ps : List Content). map (map bare) (slots_of ps)) (reads.same refl) ∙ agree ∙ sym same
 
-pub ok_so : {T E : Type 0} (P Q : T → Type 0) (r : Result T E) → ((x : T) → P x → Q x) → IfOk r P → IfOk r Q
+pub ok_so : {T E : Type 0} (P Q : T → Type 0) (r : Result T E) → ((x : T) → P x → Q x) → IfOk r P
+    → IfOk r Q
 ok_so {T} {E} P Q (Ok x) f h = f x h
 ok_so {T} {E} P Q (Err e) f h = tt
 
-pub err_so : {T E : Type 0} (P Q : E → Type 0) (r : Result T E) → ((x : E) → P x → Q x) → IfErr r P → IfErr r Q
+pub err_so : {T E : Type 0} (P Q : E → Type 0) (r : Result T E) → ((x : E) → P x → Q x) → IfErr r P
+    → IfErr r Q
 err_so {T} {E} P Q (Ok x) f h = tt
 err_so {T} {E} P Q (Err e) f h = f e h
 
 -- there is no device that could fail
-pub refusal : (old new : ListFrames) (b : ℕ) (A : Type 0) (plan : Option Plan) → (A → plan ≡ None) → (fault : SpaceFault) → HasCause fault b A (list_seen old) (list_seen new) → IsRefusal b plan fault
+pub refusal : (old new : ListFrames) (b : ℕ) (A : Type 0) (plan : Option Plan) → (A → plan ≡ None)
+    → (fault : SpaceFault) → HasCause fault b A (list_seen old) (list_seen new)
+    → IsRefusal b plan fault
 refusal old new b A plan f (Full need) h = (h.0, f h.1)
 refusal old new b A plan f Device h = absurd (omega (arith, h (omega arith)))
 refusal old new b A plan f NoMemory h = tt

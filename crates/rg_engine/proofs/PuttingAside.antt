@@ -9,7 +9,10 @@ use Rattle.rg_engine.specs.Shows.{Shows}
 use Rattle.rg_engine.specs.declared.engine.Engine.{Engine}
 
 -- it shows what it showed, if as much more is reserved as is set aside, and the log has room for it
-aside_shows : (st : State) (allowed : ℕ) (d : Engine) (bytes reserved : ℕ) → reserved + d.set_aside ≡ d.log.reserved + bytes → log_bytes d.log.records + reserved ≤ limit_of d.log.pages → Shows st allowed d → Shows st allowed (record d { log = record d.log { reserved = reserved }; set_aside = bytes })
+aside_shows : (st : State) (allowed : ℕ) (d : Engine) (bytes reserved : ℕ)
+    → reserved + d.set_aside ≡ d.log.reserved + bytes
+    → log_bytes d.log.records + reserved ≤ limit_of d.log.pages → Shows st allowed d
+    → Shows st allowed (record d { log = record d.log { reserved = reserved }; set_aside = bytes })
 aside_shows st allowed d bytes reserved is room shows = record {
   first = shows.first;
   begun = shows.begun;
@@ -35,10 +38,17 @@ aside_shows st allowed d bytes reserved is room shows = record {
     owed = omega (arith, shows.by.owed, is);
     claimed = shows.by.claimed;
   };
-  trails = record { tells = shows.trails.tells; each = shows.trails.each; paid = omega (arith, shows.trails.paid, is); space = room };
+  trails = record {
+    tells = shows.trails.tells;
+    each = shows.trails.each;
+    paid = omega (arith, shows.trails.paid, is);
+    space = room;
+  };
 }
 
-aside_so : (d : Engine) (bytes reserved : ℕ) → reserved + d.set_aside ≡ d.log.reserved + bytes → log_bytes d.log.records + reserved ≤ limit_of d.log.pages → PutsAside d bytes (record d { log = record d.log { reserved = reserved }; set_aside = bytes })
+aside_so : (d : Engine) (bytes reserved : ℕ) → reserved + d.set_aside ≡ d.log.reserved + bytes
+    → log_bytes d.log.records + reserved ≤ limit_of d.log.pages
+    → PutsAside d bytes (record d { log = record d.log { reserved = reserved }; set_aside = bytes })
 aside_so d bytes reserved is room = record {
   same = refl;
   reserved = is;
@@ -51,5 +61,10 @@ aside_so d bytes reserved is room = record {
   clean = λ clean. record { names = clean.names; below = clean.below };
 }
 
-pub put_aside : (d : Engine) (bytes reserved : ℕ) (log : Listed) → log ≡ record d.log { reserved = reserved } → reserved + d.set_aside ≡ d.log.reserved + bytes → log_bytes d.log.records + reserved ≤ limit_of d.log.pages → PutsAside d bytes (record d { log = log; set_aside = bytes })
-put_aside d bytes reserved log log_is is room = subst (λ (l : Listed). PutsAside d bytes (record d { log = l; set_aside = bytes })) (sym log_is) (aside_so d bytes reserved is room)
+pub put_aside : (d : Engine) (bytes reserved : ℕ) (log : Listed)
+    → log ≡ record d.log { reserved = reserved } → reserved + d.set_aside ≡ d.log.reserved + bytes
+    → log_bytes d.log.records + reserved ≤ limit_of d.log.pages
+    → PutsAside d bytes (record d { log = log; set_aside = bytes })
+put_aside d bytes reserved log log_is is room =
+    subst (λ (l : Listed). PutsAside d bytes (record d { log = l; set_aside = bytes })) (sym log_is)
+    (aside_so d bytes reserved is room)

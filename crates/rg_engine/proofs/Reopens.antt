@@ -1,5 +1,6 @@
 -- What a step leaves of the parts of a log that can be opened.
-use Rattle.std.proofs.Common.{◌≡◌, ◌≤◌, ◌+◌, ◌-◌, ℕ, Bool, true, false, List, [], ◌∷◌, ◌++◌, length, take, refl, sym, ◌∙◌, ap, subst, arith}
+use Rattle.std.proofs.Common.{◌≡◌, ◌≤◌, ◌+◌, ◌-◌, ℕ, Bool, true, false, List, [], ◌∷◌, ◌++◌, length}
+use Rattle.std.proofs.Common.{take, refl, sym, ◌∙◌, ap, subst, arith}
 use Rattle.std.specs.Prelude.{nat_le}
 use Rattle.std.proofs.lemmas.Bool.Decides.{nat_tests}
 use Rattle.std.proofs.lemmas.List.{take-append-le, take_all}
@@ -58,11 +59,13 @@ greatest_front (r ∷ rs) more = omega (arith, greatest_front rs more)
 
 -- a longer log has them, too
 pub low_more : (e : Epoch) (rs more : List Record) → HasLowOwners e rs → HasLowOwners e (rs ++ more)
-low_more e rs more low p one n = owner_more (greatest_tran rs) (greatest_tran (rs ++ more)) (slot_at (e.base p).slots n) (greatest_front rs more) (low p one n)
+low_more e rs more low p one n = owner_more (greatest_tran rs) (greatest_tran (rs ++ more))
+    (slot_at (e.base p).slots n) (greatest_front rs more) (low p one n)
 
 -- ---- clean pages, by the units of sessions and by live ones
 
-named_by : (live other : List ℕ) (at : Place → Slot) (p : Place) (x : Slot) → ((t : ℕ) → IsLive other t → IsLive live t) → DeadNamed live at p x → DeadNamed other at p x
+named_by : (live other : List ℕ) (at : Place → Slot) (p : Place) (x : Slot)
+    → ((t : ℕ) → IsLive other t → IsLive live t) → DeadNamed live at p x → DeadNamed other at p x
 named_by live other at p Free all h = tt
 named_by live other at p (Row capacity row) all h = tt
 named_by live other at p (Pointer capacity q) all h = tt
@@ -76,9 +79,12 @@ module _ (st : State) (allowed : ℕ) (d : Engine) (s : LogState) (by : ShowsBy 
   clean_of clean = record {
     names = λ p.
         named_by (trans_of d.units) s.live (slot_of s.pages) p (slot_of s.pages p)
-        (λ t l. let has = by.units.all t l in subst (IsLive (trans_of d.units)) has.is (trans_has d.units has.session has.unit has.has))
-        (subst (λ (ps : List (List Slot)). DeadNames (trans_of d.units) (slot_of ps)) by.slots clean.names p);
-    below = subst (λ (top : ℕ). AllBelow top (slot_of s.pages)) by.top (subst (λ (ps : List (List Slot)). AllBelow d.top (slot_of ps)) by.slots clean.below);
+        (λ t l. let has = by.units.all t l in
+        subst (IsLive (trans_of d.units)) has.is (trans_has d.units has.session has.unit has.has))
+        (subst (λ (ps : List (List Slot)). DeadNames (trans_of d.units) (slot_of ps)) by.slots
+        clean.names p);
+    below = subst (λ (top : ℕ). AllBelow top (slot_of s.pages)) by.top
+        (subst (λ (ps : List (List Slot)). AllBelow d.top (slot_of ps)) by.slots clean.below);
   }
 
   pub clean_in : IsClean s → IsCleanIn d
@@ -87,9 +93,11 @@ module _ (st : State) (allowed : ℕ) (d : Engine) (s : LogState) (by : ShowsBy 
         subst (λ (ps : List (List Slot)). DeadNames (trans_of d.units) (slot_of ps)) (sym by.slots)
         (λ p.
         named_by s.live (trans_of d.units) (slot_of s.pages) p (slot_of s.pages p)
-        (λ t l. let has = trans_only d.units t l in subst (IsLive s.live) has.is (by.units.each has.session has.unit has.has).live)
+        (λ t l. let has = trans_only d.units t l in
+        subst (IsLive s.live) has.is (by.units.each has.session has.unit has.has).live)
         (clean.names p));
-    below = subst (λ (ps : List (List Slot)). AllBelow d.top (slot_of ps)) (sym by.slots) (subst (λ (top : ℕ). AllBelow top (slot_of s.pages)) (sym by.top) clean.below);
+    below = subst (λ (ps : List (List Slot)). AllBelow d.top (slot_of ps)) (sym by.slots)
+        (subst (λ (top : ℕ). AllBelow top (slot_of s.pages)) (sym by.top) clean.below);
   }
 
 -- without units no dead home is one of theirs
@@ -108,10 +116,14 @@ idle_names us at none p = go (at p)
 -- ---- what is as it was
 
 pub same_parts : (d new : Engine) → new.log ≡ d.log → KeepsParts d new
-same_parts d new same = λ capacities e h. subst (λ (l : Listed). PartsReopen capacities e (record l { forced = d.log.forced })) (sym same) h.parts
+same_parts d new same = λ capacities e h.
+    subst (λ (l : Listed). PartsReopen capacities e (record l { forced = d.log.forced })) (sym same)
+    h.parts
 
 -- where more is forced fewer parts are left
-pub parts_further : (capacities : Capacities) (e : Epoch) (log : Listed) (low : ℕ) → low ≤ log.forced → PartsReopen capacities e (record log { forced = low }) → PartsReopen capacities e log
+pub parts_further : (capacities : Capacities) (e : Epoch) (log : Listed) (low : ℕ)
+    → low ≤ log.forced → PartsReopen capacities e (record log { forced = low })
+    → PartsReopen capacities e log
 parts_further capacities e log low further h = record {
   can = λ n from to. h.can n (omega (arith, further, from)) to;
   low = λ n from to. h.low n (omega (arith, further, from)) to;
@@ -121,11 +133,14 @@ pub same_clean : (d new : Engine) → SameEngine d new → IsCleanIn d → IsCle
 same_clean d new same clean = record {
   names =
       subst (λ (us : List ℕ). DeadNames us (slot_of (slots_in new))) (ap trans_of (sym same.units))
-      (subst (λ (ps : List (List Slot)). DeadNames (trans_of d.units) (slot_of ps)) (sym same.slots) clean.names);
-  below = subst (λ (top : ℕ). AllBelow top (slot_of (slots_in new))) (sym same.top) (subst (λ (ps : List (List Slot)). AllBelow d.top (slot_of ps)) (sym same.slots) clean.below);
+      (subst (λ (ps : List (List Slot)). DeadNames (trans_of d.units) (slot_of ps)) (sym same.slots)
+      clean.names);
+  below = subst (λ (top : ℕ). AllBelow top (slot_of (slots_in new))) (sym same.top)
+      (subst (λ (ps : List (List Slot)). AllBelow d.top (slot_of ps)) (sym same.slots) clean.below);
 }
 
-pub same_reopens : (capacities : Capacities) (e : Epoch) (d new : Engine) → SameEngine d new → Reopens capacities e d → Reopens capacities e new
+pub same_reopens : (capacities : Capacities) (e : Epoch) (d new : Engine) → SameEngine d new
+    → Reopens capacities e d → Reopens capacities e new
 same_reopens capacities e d new same h = record {
   copy = h.copy ∙ sym same.capacity;
   pages = h.pages ∙ ap (λ (l : Listed). l.pages) (sym same.log);
@@ -136,7 +151,8 @@ same_reopens capacities e d new same h = record {
 
 -- ---- lawful records that were appended
 
-module _ (st : State) (allowed : ℕ) (d : Engine) (shows : Shows st allowed d) (more : List Record) (runs : Runs (capacity_in d.space) (left_by shows.first d) (acts_of [] more))
+module _ (st : State) (allowed : ℕ) (d : Engine) (shows : Shows st allowed d) (more : List Record)
+    (runs : Runs (capacity_in d.space) (left_by shows.first d) (acts_of [] more))
     (next : AreNext (capacity_in d.space) d.log.pages d.log.records more) where
   abbrev s : LogState
   s = left_by shows.first d
@@ -146,17 +162,21 @@ module _ (st : State) (allowed : ℕ) (d : Engine) (shows : Shows st allowed d) 
     whole = take_all (length d.log.records) d.log.records (omega arith)
 
     can : CanReopen capacities e d.log.records
-    can = subst (CanReopen capacities e) whole (h.parts.can (length d.log.records) shows.settled.within (omega arith))
+    can = subst (CanReopen capacities e) whole
+        (h.parts.can (length d.log.records) shows.settled.within (omega arith))
 
     low : HasLowOwners e d.log.records
-    low = subst (HasLowOwners e) whole (h.parts.low (length d.log.records) shows.settled.within (omega arith))
+    low = subst (HasLowOwners e) whole
+        (h.parts.low (length d.log.records) shows.settled.within (omega arith))
 
     stands : Stands e d.log.records s
     stands = record {
       seen = list_seen (frames_of d.space);
       redone = record {
         newest = h.newest.pages;
-        count = sym (slots_count (list_seen (frames_of d.space)).pages) ∙ ap (λ (ps : List (List Slot)). length ps) shows.by.slots ∙ sym shows.trails.tells.count;
+        count = sym (slots_count (list_seen (frames_of d.space)).pages)
+            ∙ ap (λ (ps : List (List Slot)). length ps) shows.by.slots
+            ∙ sym shows.trails.tells.count;
         fits = can.redone.fits;
       };
       slots = shows.by.slots;
@@ -168,15 +188,18 @@ module _ (st : State) (allowed : ℕ) (d : Engine) (shows : Shows st allowed d) 
       good = left_consistent st allowed d shows;
       clean = clean_of st allowed d s shows.by h.clean;
       tells = shows.trails.tells;
-      stores = λ n k. more_stored st allowed d shows (take n more) (runs_front (capacity_in d.space) s more n (left_consistent st allowed d shows) runs) k;
+      stores = λ n k. more_stored st allowed d shows (take n more)
+          (runs_front (capacity_in d.space) s more n (left_consistent st allowed d shows) runs) k;
       chain = can.chain;
       space = can.space;
       capacity = ap (copy_capacity capacities) h.newest.steady.copy ∙ h.copy;
       runs = runs;
-      next = subst (λ (pages : ℕ). AreNext (capacity_in d.space) pages d.log.records more) (sym h.pages) next;
+      next = subst (λ (pages : ℕ). AreNext (capacity_in d.space) pages d.log.records more)
+          (sym h.pages) next;
     }
 
-    more_parts : (log : Listed) → log.records ≡ d.log.records ++ more → log.forced ≡ d.log.forced → PartsReopen capacities e log
+    more_parts : (log : Listed) → log.records ≡ d.log.records ++ more → log.forced ≡ d.log.forced
+        → PartsReopen capacities e log
     more_parts log records same = record {
       can = λ n from to. go_can n from to (nat_le n (length d.log.records)) refl;
       low = λ n from to. go_low n from to (nat_le n (length d.log.records)) refl;
@@ -185,32 +208,44 @@ module _ (st : State) (allowed : ℕ) (d : Engine) (shows : Shows st allowed d) 
         short : (n : ℕ) → n ≤ length d.log.records → take n log.records ≡ take n d.log.records
         short n le = ap (take n) records ∙ take-append-le n d.log.records more le
 
-        long : (n : ℕ) → length d.log.records ≤ n → take n log.records ≡ d.log.records ++ take (n - length d.log.records) more
+        long : (n : ℕ) → length d.log.records ≤ n
+            → take n log.records ≡ d.log.records ++ take (n - length d.log.records) more
         long n le =
             let m : ℕ = n - length d.log.records in
             let sum : n ≡ length d.log.records + m = omega (arith, le) in
-            ap (take n) records ∙ ap (λ (k : ℕ). take k (d.log.records ++ more)) sum ∙ take-append-add d.log.records more m
+            ap (take n) records ∙ ap (λ (k : ℕ). take k (d.log.records ++ more)) sum
+            ∙ take-append-add d.log.records more m
 
-        go_can : (n : ℕ) → log.forced ≤ n → n ≤ length log.records → (b : Bool) → nat_le n (length d.log.records) ≡ b → CanReopen capacities e (take n log.records)
+        go_can : (n : ℕ) → log.forced ≤ n → n ≤ length log.records → (b : Bool)
+            → nat_le n (length d.log.records) ≡ b → CanReopen capacities e (take n log.records)
         go_can n from to true f =
             let le : n ≤ length d.log.records = grind (arith, nat_tests, f) in
-            subst (CanReopen capacities e) (sym (short n le)) (h.parts.can n (omega (arith, same, from)) le)
+            subst (CanReopen capacities e) (sym (short n le))
+            (h.parts.can n (omega (arith, same, from)) le)
         go_can n from to false f =
             let le : length d.log.records ≤ n = grind (arith, nat_tests, f) in
-            subst (CanReopen capacities e) (sym (long n le)) (appended_reopens capacities (capacity_in d.space) e d.log.records more s appended (n - length d.log.records))
+            subst (CanReopen capacities e) (sym (long n le))
+            (appended_reopens capacities (capacity_in d.space) e d.log.records more s appended
+            (n - length d.log.records))
 
-        go_low : (n : ℕ) → log.forced ≤ n → n ≤ length log.records → (b : Bool) → nat_le n (length d.log.records) ≡ b → HasLowOwners e (take n log.records)
+        go_low : (n : ℕ) → log.forced ≤ n → n ≤ length log.records → (b : Bool)
+            → nat_le n (length d.log.records) ≡ b → HasLowOwners e (take n log.records)
         go_low n from to true f =
             let le : n ≤ length d.log.records = grind (arith, nat_tests, f) in
             subst (HasLowOwners e) (sym (short n le)) (h.parts.low n (omega (arith, same, from)) le)
         go_low n from to false f =
             let le : length d.log.records ≤ n = grind (arith, nat_tests, f) in
-            subst (HasLowOwners e) (sym (long n le)) (low_more e d.log.records (take (n - length d.log.records) more) low)
+            subst (HasLowOwners e) (sym (long n le))
+            (low_more e d.log.records (take (n - length d.log.records) more) low)
 
   pub appended_parts : (new : Engine) → new.log.records ≡ d.log.records ++ more → KeepsParts d new
-  appended_parts new records = λ capacities e h. more_parts capacities e h (record new.log { forced = d.log.forced }) records refl
+  appended_parts new records = λ capacities e h. more_parts capacities e h
+      (record new.log { forced = d.log.forced }) records refl
 
-  pub appended_clean : (later : State) (bytes : ℕ) (new : Engine) → ShowsBy later bytes new (state (left_by shows.first d) (acts_of [] more)) → IsCleanIn d → IsCleanIn new
+  pub appended_clean : (later : State) (bytes : ℕ) (new : Engine)
+      → ShowsBy later bytes new (state (left_by shows.first d) (acts_of [] more)) → IsCleanIn d
+      → IsCleanIn new
   appended_clean later bytes new by clean =
       clean_in later bytes new (state s (acts_of [] more)) by
-      (runs_clean (capacity_in d.space) s (left_consistent st allowed d shows) (acts_of [] more) runs (clean_of st allowed d s shows.by clean))
+      (runs_clean (capacity_in d.space) s (left_consistent st allowed d shows) (acts_of [] more)
+      runs (clean_of st allowed d s shows.by clean))

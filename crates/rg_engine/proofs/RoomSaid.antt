@@ -1,5 +1,6 @@
 -- What a plan, or the want of one, says of the engine before it was planned.
-use Rattle.std.proofs.Common.{◌≡◌, ℕ, Bool, List, ◌∷◌, Option, Some, None, sym, ◌∙◌, ap, subst, inl, inr}
+use Rattle.std.proofs.Common.{◌≡◌, ℕ, Bool, List, ◌∷◌, Option, Some, None, sym, ◌∙◌, ap, subst, inl}
+use Rattle.std.proofs.Common.{inr}
 use Rattle.std.specs.Option.{is_some}
 use Rattle.rg_base.specs.declared.place.Place.{Place}
 use Rattle.rg_base.specs.declared.row.Row.{Row}
@@ -28,66 +29,105 @@ use Rattle.rg_engine.specs.declared.units.OpenUnit.{OpenUnit}
 use Rattle.rg_engine.proofs.Sessions.{left_consistent}
 
 -- `mid` is the engine once the write was planned
-module _ (st : State) (allowed : ℕ) (d : Engine) (shows : Shows st allowed d) (session : Session) (unit : OpenUnit) (is_unit : IsUnitOf d session.0 unit) (mid : Engine) (same : SameEngine d mid) where
+module _ (st : State) (allowed : ℕ) (d : Engine) (shows : Shows st allowed d) (session : Session)
+    (unit : OpenUnit) (is_unit : IsUnitOf d session.0 unit) (mid : Engine)
+    (same : SameEngine d mid) where
   number : unit.tran.0 ≡ number_in (unit_at d.units session.0) d.top
   number = go is_unit
     where
       go : IsUnitOf d session.0 unit → unit.tran.0 ≡ number_in (unit_at d.units session.0) d.top
       go (inl has) = ap (λ (o : Option OpenUnit). number_in o d.top) (sym has)
-      go (inr new) = ap (λ (u : OpenUnit). u.tran.0) new.1 ∙ ap (λ (o : Option OpenUnit). number_in o d.top) (sym new.0)
+      go (inr new) = ap (λ (u : OpenUnit). u.tran.0) new.1
+          ∙ ap (λ (o : Option OpenUnit). number_in o d.top) (sym new.0)
 
   put_is : (b : ℕ) → put_plan unit.tran.0 b mid ≡ plan_to_put (ground_of d) session.0 b
   put_is b = λ i.
       planned_put (number i ∷ trans_of (same.units i)) b (same.slots i)
       (new_area (number i ∷ trans_of (same.units i)) b (same.capacity i) (same.slots i))
 
-  change_is : (b : ℕ) (home : Place) → change_plan unit.tran.0 b home mid ≡ plan_to_change (ground_of d) session.0 b home
-  change_is b home = λ i. planned_change (number i ∷ trans_of (same.units i)) b (same.capacity i) (same.slots i) home
+  change_is : (b : ℕ) (home : Place)
+      → change_plan unit.tran.0 b home mid ≡ plan_to_change (ground_of d) session.0 b home
+  change_is b home = λ i. planned_change (number i ∷ trans_of (same.units i)) b (same.capacity i)
+      (same.slots i) home
 
-  pub put_room : (row : Row) (plan : Option Plan) (has : Bool) → plan ≡ put_plan unit.tran.0 (row_size row) mid → is_some plan ≡ has → HasPlan has (ground_of d) session.0 (Insert row)
-  put_room row plan has is e = ap (λ (o : Option Plan). is_some o) (sym (is ∙ put_is (row_size row))) ∙ e
+  pub put_room : (row : Row) (plan : Option Plan) (has : Bool)
+      → plan ≡ put_plan unit.tran.0 (row_size row) mid → is_some plan ≡ has
+      → HasPlan has (ground_of d) session.0 (Insert row)
+  put_room row plan has is e =
+      ap (λ (o : Option Plan). is_some o) (sym (is ∙ put_is (row_size row))) ∙ e
 
-  pub change_room : (home : Place) (old row : Row) (plan : Option Plan) (has : Bool) → row_at (slot_of (slots_in d)) home ≡ Some old → row.key ≡ old.key
-      → plan ≡ change_plan unit.tran.0 (row_size row) home mid → is_some plan ≡ has → HasPlan has (ground_of d) session.0 (Update row)
+  pub change_room : (home : Place) (old row : Row) (plan : Option Plan) (has : Bool)
+      → row_at (slot_of (slots_in d)) home ≡ Some old → row.key ≡ old.key
+      → plan ≡ change_plan unit.tran.0 (row_size row) home mid → is_some plan ≡ has
+      → HasPlan has (ground_of d) session.0 (Update row)
   change_room home old row plan has there key is e = λ other at.
-      let here : (p : Place) (found : Row) → row_at (slot_of (slots_in d)) p ≡ Some found → row_at (slot_of (left_by shows.first d).pages) p ≡ Some found =
-      λ p found h. subst (λ (ps : List (List Slot)). row_at (slot_of ps) p ≡ Some found) shows.by.slots h in
-      let one : home ≡ other = (left_consistent st allowed d shows).table.once home other old at.row (here home old there) (here other at.row at.there) (sym key ∙ sym at.key_is) in
-      ap (λ (o : Option Plan). is_some o) (sym (is ∙ change_is (row_size row) home ∙ ap (plan_to_change (ground_of d) session.0 (row_size row)) one)) ∙ e
+      let here : (p : Place) (found : Row) → row_at (slot_of (slots_in d)) p ≡ Some found
+      → row_at (slot_of (left_by shows.first d).pages) p ≡ Some found =
+      λ p found h. subst (λ (ps : List (List Slot)). row_at (slot_of ps) p ≡ Some found)
+      shows.by.slots h in
+      let one : home ≡ other = (left_consistent st allowed d shows).table.once home other old at.row
+      (here home old there) (here other at.row at.there) (sym key ∙ sym at.key_is) in
+      ap (λ (o : Option Plan). is_some o)
+      (sym
+      (is ∙ change_is (row_size row) home
+      ∙ ap (plan_to_change (ground_of d) session.0 (row_size row)) one)) ∙ e
 
   -- what the write needs of the log
 
   one_plan : (plan other : Plan) → Some plan ≡ Some other → plan ≡ other
   one_plan plan other e = cc (e)
 
-  need_same : (plan other : Plan) (after : Option Row) → plan ≡ other → needed (unit_at mid.units session.0) plan after ≡ needed (unit_at d.units session.0) other after
+  need_same : (plan other : Plan) (after : Option Row) → plan ≡ other
+      → needed (unit_at mid.units session.0) plan after
+      ≡ needed (unit_at d.units session.0) other after
   need_same plan other after e = λ i. needed (unit_at (same.units i) session.0) (e i) after
 
-  pub put_needs : (row : Row) (plan : Plan) (P : ℕ → Type 0) → Some plan ≡ put_plan unit.tran.0 (row_size row) mid → P (needed (unit_at mid.units session.0) plan (Some row)) → IfNeeds (ground_of d) session.0 (Insert row) P
-  put_needs row plan P is h = λ other e. subst P (need_same plan other (Some row) (one_plan plan other (is ∙ put_is (row_size row) ∙ sym e))) h
+  pub put_needs : (row : Row) (plan : Plan) (P : ℕ → Type 0)
+      → Some plan ≡ put_plan unit.tran.0 (row_size row) mid
+      → P (needed (unit_at mid.units session.0) plan (Some row))
+      → IfNeeds (ground_of d) session.0 (Insert row) P
+  put_needs row plan P is h = λ other e. subst P
+      (need_same plan other (Some row) (one_plan plan other (is ∙ put_is (row_size row) ∙ sym e))) h
 
-  same_home : (home : Place) (old : Row) (key : ℕ) → row_at (slot_of (slots_in d)) home ≡ Some old → old.key ≡ key → (other : Place) → IsHomeOfKey (ground_of d) key other → home ≡ other
+  same_home : (home : Place) (old : Row) (key : ℕ) → row_at (slot_of (slots_in d)) home ≡ Some old
+      → old.key ≡ key → (other : Place) → IsHomeOfKey (ground_of d) key other → home ≡ other
   same_home home old key there is other at =
-      let here : (p : Place) (found : Row) → row_at (slot_of (slots_in d)) p ≡ Some found → row_at (slot_of (left_by shows.first d).pages) p ≡ Some found =
-      λ p found h. subst (λ (ps : List (List Slot)). row_at (slot_of ps) p ≡ Some found) shows.by.slots h in
-      (left_consistent st allowed d shows).table.once home other old at.row (here home old there) (here other at.row at.there) (is ∙ sym at.key_is)
+      let here : (p : Place) (found : Row) → row_at (slot_of (slots_in d)) p ≡ Some found
+      → row_at (slot_of (left_by shows.first d).pages) p ≡ Some found =
+      λ p found h. subst (λ (ps : List (List Slot)). row_at (slot_of ps) p ≡ Some found)
+      shows.by.slots h in (left_consistent st allowed d shows).table.once home other old at.row
+      (here home old there) (here other at.row at.there) (is ∙ sym at.key_is)
 
-  pub change_needs : (home : Place) (old row : Row) (plan : Plan) (P : ℕ → Type 0) → row_at (slot_of (slots_in d)) home ≡ Some old → row.key ≡ old.key
-      → Some plan ≡ change_plan unit.tran.0 (row_size row) home mid → P (needed (unit_at mid.units session.0) plan (Some row)) → IfNeeds (ground_of d) session.0 (Update row) P
+  pub change_needs : (home : Place) (old row : Row) (plan : Plan) (P : ℕ → Type 0)
+      → row_at (slot_of (slots_in d)) home ≡ Some old → row.key ≡ old.key
+      → Some plan ≡ change_plan unit.tran.0 (row_size row) home mid
+      → P (needed (unit_at mid.units session.0) plan (Some row))
+      → IfNeeds (ground_of d) session.0 (Update row) P
   change_needs home old row plan P there key is h = λ other at plan2 e.
       let one : home ≡ other = same_home home old row.key there (sym key) other at in
-      subst P (need_same plan plan2 (Some row) (one_plan plan plan2 (is ∙ change_is (row_size row) home ∙ ap (plan_to_change (ground_of d) session.0 (row_size row)) one ∙ sym e))) h
+      subst P
+      (need_same plan plan2 (Some row)
+      (one_plan plan plan2
+      (is ∙ change_is (row_size row) home
+      ∙ ap (plan_to_change (ground_of d) session.0 (row_size row)) one ∙ sym e))) h
 
-  pub drop_needs : (home : Place) (old : Row) (key : ℕ) (plan : Plan) (P : ℕ → Type 0) → row_at (slot_of (slots_in d)) home ≡ Some old → old.key ≡ key
-      → plan ≡ drop_plan home mid → P (needed (unit_at mid.units session.0) plan None) → IfNeeds (ground_of d) session.0 (Delete key) P
+  pub drop_needs : (home : Place) (old : Row) (key : ℕ) (plan : Plan) (P : ℕ → Type 0)
+      → row_at (slot_of (slots_in d)) home ≡ Some old → old.key ≡ key
+      → plan ≡ drop_plan home mid → P (needed (unit_at mid.units session.0) plan None)
+      → IfNeeds (ground_of d) session.0 (Delete key) P
   drop_needs home old key plan P there is_key is h = λ other at.
       let one : home ≡ other = same_home home old key there is_key other at in
-      let drop : drop_plan home mid ≡ planned_drop (slots_in d) home (slot_of (slots_in d) home) = λ i. planned_drop (same.slots i) home (slot_of (same.slots i) home) in
-      subst P (need_same plan (planned_drop (slots_in d) other (slot_of (slots_in d) other)) None (is ∙ drop ∙ ap (λ (p : Place). planned_drop (slots_in d) p (slot_of (slots_in d) p)) one)) h
+      let drop : drop_plan home mid ≡ planned_drop (slots_in d) home (slot_of (slots_in d) home) =
+      λ i. planned_drop (same.slots i) home (slot_of (same.slots i) home) in
+      subst P
+      (need_same plan (planned_drop (slots_in d) other (slot_of (slots_in d) other)) None
+      (is ∙ drop ∙ ap (λ (p : Place). planned_drop (slots_in d) p (slot_of (slots_in d) p)) one)) h
 
 -- what was refused, was refused as a write is
-pub refused_writes : (old : Engine) (session : Session) (unit : OpenUnit) (plan : Plan) (key : ℕ) (after : Option Row) (reply : Reply) (new : Engine)
-    → Refuses old (needed (unit_at old.units session.0) plan after) reply new → Writes old session unit plan key after reply new
+pub refused_writes : (old : Engine) (session : Session) (unit : OpenUnit) (plan : Plan) (key : ℕ)
+    (after : Option Row) (reply : Reply) (new : Engine)
+    → Refuses old (needed (unit_at old.units session.0) plan after) reply new
+    → Writes old session unit plan key after reply new
 refused_writes old session unit plan key after Done new h = absurd h
 refused_writes old session unit plan key after (LogFull need left) new h = h
 refused_writes old session unit plan key after NoMemory new h = h

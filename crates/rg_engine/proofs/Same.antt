@@ -1,5 +1,6 @@
 -- What is as it was, but for room, shows what it showed.
-use Rattle.std.proofs.Common.{◌≡◌, ℕ, List, [], length, Option, refl, sym, ◌∙◌, ap, subst, append-nil, arith}
+use Rattle.std.proofs.Common.{◌≡◌, ℕ, List, [], length, Option, refl, sym, ◌∙◌, ap, subst}
+use Rattle.std.proofs.Common.{append-nil, arith}
 use Rattle.std.specs.FinMap as fin
 use Rattle.rg_claim.specs.declared.claims.Claims.{Claims}
 use Rattle.rg_home.specs.Pages.{Sound, slot_of}
@@ -39,11 +40,15 @@ same_engine d = record {
   set_aside = refl;
 }
 
-pub same_shows : (st : State) (allowed : ℕ) (old new : Engine) → SameEngine old new → Shows st allowed old → Shows st allowed new
+pub same_shows : (st : State) (allowed : ℕ) (old new : Engine) → SameEngine old new
+    → Shows st allowed old → Shows st allowed new
 same_shows st allowed old new same shows =
     let s : LogState = left_by shows.first old in
-    let records : old.log.records ≡ new.log.records = ap (λ (l : Listed). l.records) (sym same.log) in
-    shows_more st allowed old shows st allowed new [] same.opened (sym records ∙ sym (append-nil old.log.records)) same.capacity tt (subst IsSettled (sym same.log) shows.settled)
+    let records : old.log.records ≡ new.log.records =
+    ap (λ (l : Listed). l.records) (sym same.log) in
+    shows_more st allowed old shows st allowed new [] same.opened
+    (sym records ∙ sym (append-nil old.log.records)) same.capacity tt
+    (subst IsSettled (sym same.log) shows.settled)
     (record {
       up = shows.by.up;
       sure = shows.by.sure;
@@ -54,22 +59,34 @@ same_shows st allowed old new same shows =
       drain = shows.by.drain ∙ ap (λ (c : Claims). c.drain) (sym same.claims);
       pages = same.pages shows.by.pages;
       slots = same.slots ∙ shows.by.slots;
-      indexes = same_listings (row_at (slot_of s.pages)) old.indexes new.indexes same.entries shows.by.indexes;
+      indexes = same_listings (row_at (slot_of s.pages)) old.indexes new.indexes same.entries
+          shows.by.indexes;
       keys = λ k.
-          subst (λ (us : List (Option OpenUnit)). KeyShown us s (fin.get new.locks k) k) (sym same.units)
-          (subst (λ (ls : Locks). KeyShown old.units s (fin.get ls k) k) (sym same.locks) (shows.by.keys k));
+          subst (λ (us : List (Option OpenUnit)). KeyShown us s (fin.get new.locks k) k)
+          (sym same.units)
+          (subst (λ (ls : Locks). KeyShown old.units s (fin.get ls k) k) (sym same.locks)
+          (shows.by.keys k));
       places = ap length same.units ∙ shows.by.places;
       units =
           subst (λ (us : List (Option OpenUnit)). UnitsShown new.log.records s us) (sym same.units)
           (subst (λ (rs : List Record). UnitsShown rs s old.units) records shows.by.units);
       top = same.top ∙ shows.by.top;
-      owed = omega (arith, ap owed same.units, same.set_aside, shows.by.owed, ap (λ (l : Listed). l.reserved) same.log);
+      owed = omega (
+        arith,
+        ap owed same.units,
+        same.set_aside,
+        shows.by.owed,
+        ap (λ (l : Listed). l.reserved) same.log,
+      );
       claimed = shows.by.claimed;
     })
     (subst (λ (l : Listed). Trails l new.set_aside new.units s) (sym same.log)
     (subst (λ (n : ℕ). Trails old.log n new.units s) (sym same.set_aside)
-    (subst (λ (us : List (Option OpenUnit)). Trails old.log old.set_aside us s) (sym same.units) shows.trails)))
+    (subst (λ (us : List (Option OpenUnit)). Trails old.log old.set_aside us s) (sym same.units)
+    shows.trails)))
 
 -- the pages are sound
-pub same_sound : (st : State) (allowed : ℕ) (old new : Engine) → SameEngine old new → Shows st allowed old → Sound (slots_in new)
-same_sound st allowed old new same shows = subst (λ (ps : List (List Slot)). Sound ps) (sym (same.slots ∙ shows.by.slots)) (left_consistent st allowed old shows).ready.proper.sound
+pub same_sound : (st : State) (allowed : ℕ) (old new : Engine) → SameEngine old new
+    → Shows st allowed old → Sound (slots_in new)
+same_sound st allowed old new same shows = subst (λ (ps : List (List Slot)). Sound ps)
+    (sym (same.slots ∙ shows.by.slots)) (left_consistent st allowed old shows).ready.proper.sound

@@ -1,5 +1,6 @@
 -- How the undo of a unit begins, and how it ends.
-use Rattle.std.proofs.Common.{◌≡◌, ◌≤◌, ◌<◌, ◌+◌, ◌*◌, ℕ, zero, suc, true, List, [], ◌∷◌, Some, None, length, refl, sym, ◌∙◌, ap, subst, arith}
+use Rattle.std.proofs.Common.{◌≡◌, ◌≤◌, ◌<◌, ◌+◌, ◌*◌, ℕ, zero, suc, true, List, [], ◌∷◌, Some}
+use Rattle.std.proofs.Common.{None, length, refl, sym, ◌∙◌, ap, subst, arith}
 use Rattle.std.specs.Prelude.{slice_index_or}
 use Rattle.std.proofs.lemmas.List.{append-nil}
 use Rattle.rg_image.specs.Rules.{last_position, of_tran, owed}
@@ -31,28 +32,47 @@ use Rattle.rg_engine.proofs.UnitSlots.{at_within, owed-set}
 use Rattle.rg_engine.proofs.Written.{same_listings}
 
 -- its writes are found from its last record back
-pub has_writes : (st : State) (allowed : ℕ) (d : Engine) (shows : Shows st allowed d) (n : ℕ) (unit : OpenUnit) → unit_at d.units n ≡ Some unit → HasWrites d.log.records unit
+pub has_writes :
+    (st : State) (allowed : ℕ) (d : Engine) (shows : Shows st allowed d) (n : ℕ) (unit : OpenUnit)
+    → unit_at d.units n ≡ Some unit → HasWrites d.log.records unit
 has_writes st allowed d shows n unit has =
     let one = shows.by.units.each n unit has in
-    record { writes = own_of unit.tran.0 (left_by shows.first d).writes; walks = one.walks; count = one.count }
+    record {
+      writes = own_of unit.tran.0 (left_by shows.first d).writes;
+      walks = one.walks;
+      count = one.count;
+    }
 
 -- there is room for its undo, and for its end
-pub has_room : (st : State) (allowed : ℕ) (d : Engine) (shows : Shows st allowed d) (n : ℕ) (unit : OpenUnit) → unit_at d.units n ≡ Some unit → 23 + 911 * unit.writes ≤ d.log.reserved
-has_room st allowed d shows n unit has = omega (arith, owed-set d.units n None (at_within d.units n unit has), ap owed_to has, shows.by.owed)
+pub has_room :
+    (st : State) (allowed : ℕ) (d : Engine) (shows : Shows st allowed d) (n : ℕ) (unit : OpenUnit)
+    → unit_at d.units n ≡ Some unit → 23 + 911 * unit.writes ≤ d.log.reserved
+has_room st allowed d shows n unit has = omega
+    (arith, owed-set d.units n None (at_within d.units n unit has), ap owed_to has, shows.by.owed)
 
-pub chain_changes : (records : List Record) (t last : ℕ) (ws : List Write) (cs : List Record) → AreChain records t last ws cs → (k : ℕ) (d : Record) → k < length cs → is_change (slice_index_or cs k d).kind ≡ true
+pub chain_changes : (records : List Record) (t last : ℕ) (ws : List Write) (cs : List Record)
+    → AreChain records t last ws cs → (k : ℕ) (d : Record) → k < length cs
+    → is_change (slice_index_or cs k d).kind ≡ true
 chain_changes records t last ws [] h k d low = absurd (omega (arith, low))
 chain_changes records t last [] (r ∷ cs) h k d low = absurd h
-chain_changes records t last (w ∷ ws) (r ∷ cs) h zero d low = ap (λ (x : Record). is_change x.kind) h.2
-chain_changes records t last (w ∷ ws) (r ∷ cs) h (suc k) d low = chain_changes records t h.0 ws cs h.4 k d (omega (arith, low))
+chain_changes records t last (w ∷ ws) (r ∷ cs) h zero d low =
+    ap (λ (x : Record). is_change x.kind) h.2
+chain_changes records t last (w ∷ ws) (r ∷ cs) h (suc k) d low =
+    chain_changes records t h.0 ws cs h.4 k d (omega (arith, low))
 
 -- nothing is undone yet
-pub undo_begins : (st : State) (allowed : ℕ) (d mid : Engine) (shows : Shows st allowed d) (n : ℕ) (unit : OpenUnit) (work : List Record) (more : ℕ) → unit_at d.units n ≡ Some unit
-    → AreChain d.log.records unit.tran.0 unit.last.0 (own_of unit.tran.0 (left_by shows.first d).writes) work → more ≡ length work → HasSpare more mid.indexes → SameEntries d.indexes mid.indexes
-    → frames_of mid.space ≡ frames_of d.space → index_of mid.space ≡ index_of d.space → capacity_in mid.space ≡ capacity_in d.space → length work ≤ undos_in mid.space
-    → mid.log ≡ d.log → mid.locks ≡ d.locks → mid.claims ≡ d.claims → mid.units ≡ d.units → mid.top ≡ d.top → mid.opened ≡ d.opened → mid.set_aside ≡ d.set_aside
+pub undo_begins : (st : State) (allowed : ℕ) (d mid : Engine) (shows : Shows st allowed d) (n : ℕ)
+    (unit : OpenUnit) (work : List Record) (more : ℕ) → unit_at d.units n ≡ Some unit
+    → AreChain d.log.records unit.tran.0 unit.last.0
+    (own_of unit.tran.0 (left_by shows.first d).writes) work
+    → more ≡ length work → HasSpare more mid.indexes → SameEntries d.indexes mid.indexes
+    → frames_of mid.space ≡ frames_of d.space → index_of mid.space ≡ index_of d.space
+    → capacity_in mid.space ≡ capacity_in d.space → length work ≤ undos_in mid.space
+    → mid.log ≡ d.log → mid.locks ≡ d.locks → mid.claims ≡ d.claims → mid.units ≡ d.units
+    → mid.top ≡ d.top → mid.opened ≡ d.opened → mid.set_aside ≡ d.set_aside
     → IsUndoing d (left_by shows.first d) unit mid work unit.last.0 unit.last.0 0
-undo_begins st allowed d mid shows n unit work more has chain counts spare entries frames index capacity rooms log locks claims units top opened set_aside =
+undo_begins st allowed d mid shows n unit work more has chain counts spare entries frames index
+    capacity rooms log locks claims units top opened set_aside =
     let one = shows.by.units.each n unit has in
     let trail = shows.trails.each n unit has in
     let t : ℕ = unit.tran.0 in
@@ -66,31 +86,45 @@ undo_begins st allowed d mid shows n unit work more has chain counts spare entri
       acts = refl;
       follows = tt;
       left_is =
-          chain_one d.log.records t unit.last.0 (own_of t (left_by shows.first d).writes) work (left_of t d.log.records) chain trail.lefts
+          chain_one d.log.records t unit.last.0 (own_of t (left_by shows.first d).writes) work
+          (left_of t d.log.records) chain trail.lefts
           ∙ sym (ap (left_of t) same);
       last = trail.last ∙ sym (ap (λ (rs : List Record). last_position 0 (of_tran t rs)) same);
       owes = omega (arith, ap (λ (rs : List Record). owed rs) same);
       capacity = capacity;
       pages = record {
         step =
-            subst (λ (k : ℕ). InStep (list_seen (frames_of mid.space)) (index_of mid.space) k) (sym capacity)
-            (subst (λ (x : Indexed). InStep (list_seen (frames_of mid.space)) x (capacity_in d.space)) (sym index)
-            (subst (λ (f : ListFrames). InStep (list_seen f) (index_of d.space) (capacity_in d.space)) (sym frames) shows.by.pages.step));
+            subst (λ (k : ℕ). InStep (list_seen (frames_of mid.space)) (index_of mid.space) k)
+            (sym capacity) (subst
+            (λ (x : Indexed). InStep (list_seen (frames_of mid.space)) x (capacity_in d.space))
+            (sym index)
+            (subst
+            (λ (f : ListFrames). InStep (list_seen f) (index_of d.space) (capacity_in d.space))
+            (sym frames) shows.by.pages.step));
         agree =
             subst (λ (x : Indexed). Agree (list_seen (frames_of mid.space)) x) (sym index)
-            (subst (λ (f : ListFrames). Agree (list_seen f) (index_of d.space)) (sym frames) shows.by.pages.agree);
+            (subst (λ (f : ListFrames). Agree (list_seen f) (index_of d.space)) (sym frames)
+            shows.by.pages.agree);
       };
       slots = ap (λ (f : ListFrames). slots_of (list_seen f).pages) frames ∙ shows.by.slots;
       newest = frames_newest d.log.records mid.log.records d.space mid.space same frames;
-      indexes = same_listings (row_at (slot_of (left_by shows.first d).pages)) d.indexes mid.indexes entries shows.by.indexes;
-      chain = subst (λ (rs : List Record). AreChain rs unit.tran.0 unit.last.0 (own_of unit.tran.0 (left_by shows.first d).writes) work) (sym same) chain;
+      indexes = same_listings (row_at (slot_of (left_by shows.first d).pages)) d.indexes mid.indexes
+          entries shows.by.indexes;
+      chain = subst
+          (λ (rs : List Record). AreChain rs unit.tran.0 unit.last.0
+          (own_of unit.tran.0 (left_by shows.first d).writes) work) (sym same) chain;
       left = omega (arith, one.count);
       spare = subst (λ (k : ℕ). HasSpare k mid.indexes) counts spare;
       rooms = rooms;
       reserved = omega (arith, ap (λ (l : Listed). l.reserved) log);
       least = omega (arith, ap (λ (l : Listed). l.reserved) log);
       taken = ap (λ (l : Listed). taken_of l) log;
-      base = record { opened = opened; set_aside = set_aside; forced = ap (λ (l : Listed). l.forced) log; pages = ap (λ (l : Listed). l.pages) log };
+      base = record {
+        opened = opened;
+        set_aside = set_aside;
+        forced = ap (λ (l : Listed). l.forced) log;
+        pages = ap (λ (l : Listed). l.pages) log;
+      };
       locks = locks;
       claims = claims;
       units = units;
@@ -98,10 +132,15 @@ undo_begins st allowed d mid shows n unit work more has chain counts spare entri
     }
 
 -- all is undone
-pub undo_ends : (old : Engine) (s : LogState) (unit : OpenUnit) (now : Engine) (work : List Record) (at back i : ℕ) → IsUndoing old s unit now work at back i → unit.writes ≤ i → IsUndoing old s unit now [] 0 back unit.writes
-undo_ends old s unit now work at back i so high = go (own_of unit.tran.0 (state s so.undos).writes) refl work so.chain so
+pub undo_ends : (old : Engine) (s : LogState) (unit : OpenUnit) (now : Engine) (work : List Record)
+    (at back i : ℕ) → IsUndoing old s unit now work at back i → unit.writes ≤ i
+    → IsUndoing old s unit now [] 0 back unit.writes
+undo_ends old s unit now work at back i so high =
+    go (own_of unit.tran.0 (state s so.undos).writes) refl work so.chain so
   where
-    go : (ws : List Write) → own_of unit.tran.0 (state s so.undos).writes ≡ ws → (rs : List Record) → AreChain now.log.records unit.tran.0 at ws rs → IsUndoing old s unit now rs at back i → IsUndoing old s unit now [] 0 back unit.writes
+    go : (ws : List Write) → own_of unit.tran.0 (state s so.undos).writes ≡ ws → (rs : List Record)
+        → AreChain now.log.records unit.tran.0 at ws rs → IsUndoing old s unit now rs at back i
+        → IsUndoing old s unit now [] 0 back unit.writes
     go (w ∷ ws) e rs chain so2 = absurd (omega (arith, ap length e, so.left, high))
     go [] e (r ∷ rs) chain so2 = absurd chain
     go [] e [] chain so2 =
@@ -122,7 +161,8 @@ undo_ends old s unit now work at back i so high = go (own_of unit.tran.0 (state 
           slots = so.slots;
           newest = so.newest;
           indexes = so.indexes;
-          chain = subst (λ (ws : List Write). AreChain now.log.records unit.tran.0 0 ws []) (sym e) (refl, refl);
+          chain = subst (λ (ws : List Write). AreChain now.log.records unit.tran.0 0 ws []) (sym e)
+              (refl, refl);
           left = omega (arith, ap length e);
           spare = record { keys = omega arith; cluses = omega arith; cats = omega arith };
           rooms = omega arith;

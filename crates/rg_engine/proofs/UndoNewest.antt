@@ -16,13 +16,20 @@ use Rattle.rg_laws_crash.proofs.NewestPagesLemmas.Near.{there_near}
 use Rattle.rg_engine.specs.Newest.{StayNewest}
 use Rattle.rg_engine.proofs.NewestKept.{record_stays}
 
-pub undo_stays : (rs : List Record) (a b : Space ListFrames) (index : Indexed) (position back : ℕ) (entry undo : Record) → UndidChange position back (list_seen (frames_of a)) (list_seen (frames_of b)) index entry
-    → undo ≡ undo_record position back (slots_of (list_seen (frames_of a)).pages) entry → position ≡ length rs + 1 → (list_seen (frames_of b)).copy ≡ (list_seen (frames_of a)).copy → StayNewest rs a (rs ++ undo ∷ []) b
+pub undo_stays : (rs : List Record) (a b : Space ListFrames) (index : Indexed) (position back : ℕ)
+    (entry undo : Record)
+    → UndidChange position back (list_seen (frames_of a)) (list_seen (frames_of b)) index entry
+    → undo ≡ undo_record position back (slots_of (list_seen (frames_of a)).pages) entry
+    → position ≡ length rs + 1 → (list_seen (frames_of b)).copy ≡ (list_seen (frames_of a)).copy
+    → StayNewest rs a (rs ++ undo ∷ []) b
 undo_stays rs a b index position back entry undo did is next copy =
     record_stays rs undo a b
-    (there_near (length (list_seen (frames_of a)).pages) (parts_of undo.kind) (subst (λ (r : Record). AllThere (length (list_seen (frames_of a)).pages) (parts_of r.kind)) (sym is) did.there))
+    (there_near (length (list_seen (frames_of a)).pages) (parts_of undo.kind)
+    (subst (λ (r : Record). AllThere (length (list_seen (frames_of a)).pages) (parts_of r.kind))
+    (sym is) did.there))
     (ap (λ (r : Record). r.position.0) is ∙ next) (ap (λ (r : Record). is_switch r.kind) is) copy
-    (did.wrote ∙ ap (record_wrote (list_seen (frames_of a)).copy (list_seen (frames_of a)).pages) (sym is))
+    (did.wrote
+    ∙ ap (record_wrote (list_seen (frames_of a)).copy (list_seen (frames_of a)).pages) (sym is))
 
 pub first_is : (r s : Record) (rs ss : List Record) → r ∷ rs ≡ s ∷ ss → r ≡ s
 first_is r s rs ss e = cc (e)

@@ -1,5 +1,6 @@
 -- The undo of a unit, step by step.
-use Rattle.std.proofs.Common.{◌≡◌, ◌≤◌, ◌<◌, ◌+◌, ◌*◌, ℕ, List, [], ◌∷◌, ◌++◌, Some, None, length, refl, sym, ◌∙◌, ap, subst, arith}
+use Rattle.std.proofs.Common.{◌≡◌, ◌≤◌, ◌<◌, ◌+◌, ◌*◌, ℕ, List, [], ◌∷◌, ◌++◌, Some, None, length}
+use Rattle.std.proofs.Common.{refl, sym, ◌∙◌, ap, subst, arith}
 use Rattle.std.specs.List.{AllByRecursion}
 use Rattle.std.proofs.lemmas.List.{append_assoc}
 use Rattle.rg_base.specs.declared.part.Part.{Part}
@@ -55,8 +56,15 @@ use Rattle.rg_engine.proofs.UndoTrails.{next_more, undo_of_tran, undo_tells}
 use Rattle.rg_engine.proofs.WalkLists.{chain_longer}
 
 -- what the Change record of a write keeps of it
-written_is : (at t back : ℕ) (w : Write) → w.written.owner ≡ t → written_of (change_record at t back w) ≡ w.written
-written_is at t back w e = ap (λ (u : ℕ). let c : Written = record { owner = u; home = w.written.home; before = w.written.before; parts = w.written.parts } in c) (sym e)
+written_is : (at t back : ℕ) (w : Write) → w.written.owner ≡ t
+    → written_of (change_record at t back w) ≡ w.written
+written_is at t back w e = ap
+    (λ (u : ℕ). let c : Written = record {
+      owner = u;
+      home = w.written.home;
+      before = w.written.before;
+      parts = w.written.parts;
+    } in c) (sym e)
 
 -- the next Change to undo
 pub record NextUndo (now : Engine) (u : LogState) (t at : ℕ) (work : List Record) : Type 0 where
@@ -70,7 +78,9 @@ pub record NextUndo (now : Engine) (u : LogState) (t at : ℕ) (work : List Reco
   pub own_is : own_of t u.writes ≡ write ∷ rest
   pub chain : AreChain now.log.records t back rest later
 
-next_undo : (now : Engine) (u : LogState) (t at : ℕ) (ws : List Write) (work : List Record) → own_of t u.writes ≡ ws → 1 ≤ length ws → AreChain now.log.records t at ws work → NextUndo now u t at work
+next_undo : (now : Engine) (u : LogState) (t at : ℕ) (ws : List Write) (work : List Record)
+    → own_of t u.writes ≡ ws → 1 ≤ length ws → AreChain now.log.records t at ws work
+    → NextUndo now u t at work
 next_undo now u t at [] work own some chain = absurd (omega (arith, some))
 next_undo now u t at (w ∷ ws) [] own some chain = absurd (cc (chain.1))
 next_undo now u t at (w ∷ ws) (r ∷ rs) own some chain = record {
@@ -88,8 +98,10 @@ next_undo now u t at (w ∷ ws) (r ∷ rs) own some chain = record {
 tail_is : (v w : Write) (xs ws : List Write) → v ∷ xs ≡ w ∷ ws → xs ≡ ws
 tail_is v w xs ws e = cc (e)
 
-module _ (old : Engine) (s : LogState) (good : IsConsistent (capacity_in old.space) s) (trails : Trails old.log old.set_aside old.units s) (unit : OpenUnit) (now : Engine) (work : List Record)
-    (at back i : ℕ) (so : IsUndoing old s unit now work at back i) (low : i < unit.writes) (room : 23 + 911 * unit.writes ≤ old.log.reserved) where
+module _ (old : Engine) (s : LogState) (good : IsConsistent (capacity_in old.space) s)
+    (trails : Trails old.log old.set_aside old.units s) (unit : OpenUnit) (now : Engine)
+    (work : List Record) (at back i : ℕ) (so : IsUndoing old s unit now work at back i)
+    (low : i < unit.writes) (room : 23 + 911 * unit.writes ≤ old.log.reserved) where
   abbrev t : ℕ
   t = unit.tran.0
 
@@ -105,13 +117,17 @@ module _ (old : Engine) (s : LogState) (good : IsConsistent (capacity_in old.spa
   latest : (n : NextUndo now u t at work) → latest_of t u.writes ≡ Some n.write
   latest n = own_first t u.writes ∙ ap first_write n.own_is
 
-  here : (n : NextUndo now u t at work) → row_at (slot_of u.pages) n.write.written.home ≡ n.write.after
-  here n = back_latest t (at_home n.write.written.home) u.writes n.write (row_at (slot_of u.pages) n.write.written.home) (consistent.one_home n.write.written.home) (latest n) (same_place-refl n.write.written.home) (consistent.homes n.write.written.home)
+  here : (n : NextUndo now u t at work)
+      → row_at (slot_of u.pages) n.write.written.home ≡ n.write.after
+  here n = back_latest t (at_home n.write.written.home) u.writes n.write
+      (row_at (slot_of u.pages) n.write.written.home) (consistent.one_home n.write.written.home)
+      (latest n) (same_place-refl n.write.written.home) (consistent.homes n.write.written.home)
 
   undoable : (n : NextUndo now u t at work) → Undoable None (slot_of u.pages) n.write.written
   undoable n = latest_undoable (capacity_in old.space) u consistent t n.write (latest n)
 
-  written : (n : NextUndo now u t at work) → written_of (change_record at t n.back n.write) ≡ n.write.written
+  written : (n : NextUndo now u t at work)
+      → written_of (change_record at t n.back n.write) ≡ n.write.written
   written n = written_is at t n.back n.write (latest_owner t u.writes n.write (latest n))
 
   pub low_at : 1 ≤ at
@@ -120,7 +136,9 @@ module _ (old : Engine) (s : LogState) (good : IsConsistent (capacity_in old.spa
   pub can_undo : CanUndoNext now work at
   can_undo =
       let n = next in
-      let is : (which : Which) (value : ℕ) → has_value which value (row_at (slot_of u.pages) n.write.written.home) ≡ has_value which value n.write.after =
+      let is : (which : Which) (value : ℕ)
+      → has_value which value (row_at (slot_of u.pages) n.write.written.home)
+      ≡ has_value which value n.write.after =
       λ which value. ap (has_value which value) (here n) in
       let some : 1 ≤ length work = omega (arith, ap length n.work_is) in
       record {
@@ -134,14 +152,21 @@ module _ (old : Engine) (s : LogState) (good : IsConsistent (capacity_in old.spa
             cluses = λ value. so.indexes.cluses value n.write.written.home ∙ is Clus value;
             cats = λ value. so.indexes.cats value n.write.written.home ∙ is Cat value;
           };
-          spare = record { keys = omega (arith, some, so.spare.keys); cluses = omega (arith, some, so.spare.cluses); cats = omega (arith, some, so.spare.cats) };
+          spare = record {
+            keys = omega (arith, some, so.spare.keys);
+            cluses = omega (arith, some, so.spare.cluses);
+            cats = omega (arith, some, so.spare.cats);
+          };
         };
         later = n.later;
         work_is = n.work_is;
         able = record {
           agree = so.pages.agree;
-          proper = subst (λ (ps : List (List Slot)). Proper ps) (sym so.slots) consistent.ready.proper;
-          can = subst (λ (c : Written). Undoable None (slot_of (slots_in now)) c) (sym (written n)) (subst (λ (ps : List (List Slot)). Undoable None (slot_of ps) n.write.written) (sym so.slots) (undoable n));
+          proper =
+              subst (λ (ps : List (List Slot)). Proper ps) (sym so.slots) consistent.ready.proper;
+          can = subst (λ (c : Written). Undoable None (slot_of (slots_in now)) c) (sym (written n))
+              (subst (λ (ps : List (List Slot)). Undoable None (slot_of ps) n.write.written)
+              (sym so.slots) (undoable n));
         };
         pages = so.pages;
         undos = so.rooms;
@@ -156,88 +181,151 @@ module _ (old : Engine) (s : LogState) (good : IsConsistent (capacity_in old.spa
 
   -- the record of the next Undo, and its parts
   abbrev undo_of : NextUndo now u t at work → Record
-  undo_of n = undo_record (length now.log.records + 1) back (slots_in now) (change_record at t n.back n.write)
+  undo_of n = undo_record (length now.log.records + 1) back (slots_in now)
+      (change_record at t n.back n.write)
 
   abbrev parts : NextUndo now u t at work → List Part
   parts n = (planned_undo u.pages n.write.written).parts
 
-  parts_is : (n : NextUndo now u t at work) → (planned_undo (slots_in now) (written_of (change_record at t n.back n.write))).parts ≡ parts n
+  parts_is : (n : NextUndo now u t at work)
+      → (planned_undo (slots_in now) (written_of (change_record at t n.back n.write))).parts
+      ≡ parts n
   parts_is n =
-      ap (λ (ps : List (List Slot)). (planned_undo ps (written_of (change_record at t n.back n.write))).parts) so.slots
+      ap
+      (λ (ps : List (List Slot)).
+      (planned_undo ps (written_of (change_record at t n.back n.write))).parts) so.slots
       ∙ ap (λ (c : Written). (planned_undo u.pages c).parts) (written n)
 
-  within : (limit : ℕ) (n : NextUndo now u t at work) → length u.pages ≤ limit → IsWithin limit n.write.written.home (parts n)
-  within limit n high = undo_within limit u.pages n.write.written consistent.ready.proper high (undoable n)
+  within : (limit : ℕ) (n : NextUndo now u t at work) → length u.pages ≤ limit
+      → IsWithin limit n.write.written.home (parts n)
+  within limit n high =
+      undo_within limit u.pages n.write.written consistent.ready.proper high (undoable n)
 
   -- the Changes that are left once it is undone
-  left_then : (n : NextUndo now u t at work) → left_of t (now.log.records ++ undo_of n ∷ []) ≡ n.later
-  left_then n = left_own now.log.records (undo_of n) t refl ∙ ap later_of (sym so.left_is ∙ n.work_is)
+  left_then : (n : NextUndo now u t at work)
+      → left_of t (now.log.records ++ undo_of n ∷ []) ≡ n.later
+  left_then n =
+      left_own now.log.records (undo_of n) t refl ∙ ap later_of (sym so.left_is ∙ n.work_is)
 
-  owes_then : (n : NextUndo now u t at work) → owed (now.log.records ++ undo_of n ∷ []) + 911 ≡ owed now.log.records
+  owes_then : (n : NextUndo now u t at work)
+      → owed (now.log.records ++ undo_of n ∷ []) + 911 ≡ owed now.log.records
   owes_then n =
-      owes.undo now.log.records (undo_of n) (undo_of_tran old s good trails unit now work at back i so (undo_of n) (opened n) refl refl) refl
+      owes.undo now.log.records (undo_of n)
+      (undo_of_tran old s good trails unit now work at back i so (undo_of n) (opened n) refl refl)
+      refl
       (omega (arith, ap (λ (rs : List Record). length rs) (sym so.left_is ∙ n.work_is)))
 
   -- it may be appended, where there is room
-  undo_is_next : (n : NextUndo now u t at work) → HasSpace old.log.pages (now.log.records ++ undo_of n ∷ []) → IsNext (capacity_in old.space) old.log.pages now.log.records (undo_of n)
+  undo_is_next : (n : NextUndo now u t at work)
+      → HasSpace old.log.pages (now.log.records ++ undo_of n ∷ [])
+      → IsNext (capacity_in old.space) old.log.pages now.log.records (undo_of n)
   undo_is_next n space =
       let same = sym (parts_is n) in
       let limit : ℕ = capacity_in old.space in
       let at_all = within limit n consistent.few in
       record {
         position = refl;
-        links = (record { some = (opened n).0; back = so.last }, subst (λ (rs : List Record). IsFirstBack rs n.back) (sym n.work_is ∙ so.left_is) refl);
-        names = (at_all.home_is, subst (λ (ps : List Part). AllByRecursion (PartIn limit) ps) same at_all.parts_are);
+        links = (
+          record { some = (opened n).0; back = so.last },
+          subst (λ (rs : List Record). IsFirstBack rs n.back) (sym n.work_is ∙ so.left_is) refl,
+        );
+        names = (
+          at_all.home_is,
+          subst (λ (ps : List Part). AllByRecursion (PartIn limit) ps) same at_all.parts_are,
+        );
         near =
             subst (λ (ps : List Part). AllNear (current_of now.log.records).pages ps) same
-            (within_near (length u.pages) (current_of now.log.records).pages (parts n) (omega (arith, tells.count)) (within (length u.pages) n (omega arith)).parts_are);
+            (within_near (length u.pages) (current_of now.log.records).pages (parts n)
+            (omega (arith, tells.count)) (within (length u.pages) n (omega arith)).parts_are);
         space = space;
       }
 
-  module _ (then_at : ℕ) (new : Engine) (left : List Record) (did : UndidNext now work at back then_at new left) (keeps : KeepsUndone now work at new) where
+  module _ (then_at : ℕ) (new : Engine) (left : List Record)
+      (did : UndidNext now work at back then_at new left)
+      (keeps : KeepsUndone now work at new) where
     -- the act of its record
-    act_is : (n : NextUndo now u t at work) → act_of [] (undo_record (length now.log.records + 1) back (slots_in now) (change_record at t n.back n.write)) ≡ Undo t n.write.written.home n.write.written.before (planned_undo u.pages n.write.written).parts
+    act_is : (n : NextUndo now u t at work)
+        → act_of []
+        (undo_record (length now.log.records + 1) back (slots_in now)
+        (change_record at t n.back n.write))
+        ≡ Undo t n.write.written.home n.write.written.before
+        (planned_undo u.pages n.write.written).parts
     act_is n =
-        ap (λ (ps : List (List Slot)). Undo t n.write.written.home n.write.written.before (planned_undo ps (written_of (change_record at t n.back n.write))).parts) so.slots
-        ∙ ap (λ (c : Written). Undo t n.write.written.home n.write.written.before (planned_undo u.pages c).parts) (written n)
+        ap
+        (λ (ps : List (List Slot)). Undo t n.write.written.home n.write.written.before
+        (planned_undo ps (written_of (change_record at t n.back n.write))).parts) so.slots
+        ∙ ap
+        (λ (c : Written). Undo t n.write.written.home n.write.written.before
+        (planned_undo u.pages c).parts) (written n)
 
     -- the log has room for it
-    space_then : (n : NextUndo now u t at work) → new.log.records ≡ now.log.records ++ undo_of n ∷ [] → HasSpace old.log.pages (now.log.records ++ undo_of n ∷ [])
+    space_then : (n : NextUndo now u t at work)
+        → new.log.records ≡ now.log.records ++ undo_of n ∷ []
+        → HasSpace old.log.pages (now.log.records ++ undo_of n ∷ [])
     space_then n records =
-        let owing : owed new.log.records + 911 ≡ owed now.log.records = ap (λ (rs : List Record). owed rs + 911) records ∙ owes_then n in
-        let here_so : HasSpace old.log.pages new.log.records = omega (arith, owing, so.owes, did.taken, so.taken, did.least, so.least, trails.paid, trails.space) in
+        let owing : owed new.log.records + 911 ≡ owed now.log.records =
+        ap (λ (rs : List Record). owed rs + 911) records ∙ owes_then n in
+        let here_so : HasSpace old.log.pages new.log.records = omega (
+          arith,
+          owing,
+          so.owes,
+          did.taken,
+          so.taken,
+          did.least,
+          so.least,
+          trails.paid,
+          trails.space,
+        ) in
         subst (HasSpace old.log.pages) records here_so
 
     pub undo_goes : IsUndoing old s unit new left then_at (length now.log.records + 1) (i + 1)
     undo_goes =
         let n = next in
-        let a : Act = Undo t n.write.written.home n.write.written.before (planned_undo u.pages n.write.written).parts in
+        let a : Act = Undo t n.write.written.home n.write.written.before
+        (planned_undo u.pages n.write.written).parts in
         let r : Record = undo_of n in
         let later : LogState = step u a in
-        let may : MayUndo u t n.write.written.home n.write.written.before (planned_undo u.pages n.write.written).parts =
+        let may : MayUndo u t n.write.written.home n.write.written.before
+        (planned_undo u.pages n.write.written).parts =
         record { write = n.write; latest = latest n; at = refl; row = refl; is = refl } in
-        let pages : later.pages ≡ undone u.pages n.write.written = (undo_leaves u t n.write.written.home n.write.written.before (planned_undo u.pages n.write.written).parts n.write may (latest n)).3 in
-        let records : new.log.records ≡ now.log.records ++ r ∷ [] = did.records t n.back n.write n.later n.work_is in
-        let own : own_of t later.writes ≡ n.rest = tail_is n.write n.write (own_of t (less_of t u.writes)) n.rest (sym (own_less t u.writes n.write (latest n)) ∙ n.own_is) in
+        let pages : later.pages ≡ undone u.pages n.write.written =
+        (undo_leaves u t n.write.written.home n.write.written.before
+        (planned_undo u.pages n.write.written).parts n.write may (latest n)).3 in
+        let records : new.log.records ≡ now.log.records ++ r ∷ [] =
+        did.records t n.back n.write n.later n.work_is in
+        let own : own_of t later.writes ≡ n.rest =
+        tail_is n.write n.write (own_of t (less_of t u.writes)) n.rest
+        (sym (own_less t u.writes n.write (latest n)) ∙ n.own_is) in
         let left_is : left ≡ n.later = did.left_is t n.back n.write n.later n.work_is in
         let at_is : then_at ≡ n.back = did.next_is t n.back n.write n.found in
-        let changes : ChangesHome (slot_of u.pages) (slot_of later.pages) n.write.written.home n.write.written.before =
-        subst (λ (ps : List (List Slot)). ChangesHome (slot_of u.pages) (slot_of ps) n.write.written.home n.write.written.before) (sym pages) (undo_does n.write.written u.pages consistent.ready.proper (undoable n)) in
-        let counts : length work ≡ length left + 1 = omega (arith, ap length n.work_is, ap length left_is) in
-        let some : HasSpare (length left + 1) now.indexes = subst (λ (k : ℕ). HasSpare k now.indexes) counts so.spare in
+        let changes : ChangesHome (slot_of u.pages) (slot_of later.pages) n.write.written.home
+        n.write.written.before =
+        subst
+        (λ (ps : List (List Slot)). ChangesHome (slot_of u.pages) (slot_of ps) n.write.written.home
+        n.write.written.before) (sym pages)
+        (undo_does n.write.written u.pages consistent.ready.proper (undoable n)) in
+        let counts : length work ≡ length left + 1 =
+        omega (arith, ap length n.work_is, ap length left_is) in
+        let some : HasSpare (length left + 1) now.indexes =
+        subst (λ (k : ℕ). HasSpare k now.indexes) counts so.spare in
         record {
           undos = a ∷ so.undos;
           are = (refl, so.are);
           runs = (may, so.runs);
           more = so.more ++ r ∷ [];
-          records = records ∙ ap (λ (rs : List Record). rs ++ r ∷ []) so.records ∙ append_assoc old.log.records so.more (r ∷ []);
+          records = records ∙ ap (λ (rs : List Record). rs ++ r ∷ []) so.records
+              ∙ append_assoc old.log.records so.more (r ∷ []);
           follows =
               next_more (capacity_in old.space) old.log.pages old.log.records so.more r so.follows
-              (subst (λ (rs : List Record). IsNext (capacity_in old.space) old.log.pages rs r) so.records (undo_is_next n (space_then n records)));
+              (subst (λ (rs : List Record). IsNext (capacity_in old.space) old.log.pages rs r)
+              so.records (undo_is_next n (space_then n records)));
           left_is = left_is ∙ sym (ap (left_of t) records ∙ left_then n);
-          last = sym (ap (λ (rs : List Record). last_position 0 (of_tran t rs)) records ∙ last_own now.log.records r t refl);
+          last = sym
+              (ap (λ (rs : List Record). last_position 0 (of_tran t rs)) records
+              ∙ last_own now.log.records r t refl);
           owes = omega (arith, ap (λ (rs : List Record). owed rs) records, owes_then n, so.owes);
-          acts = acts_snoc so.more r ∙ ap (λ (x : Act). x ∷ acts_of [] so.more) (act_is n) ∙ ap (λ (acts : List Act). a ∷ acts) so.acts;
+          acts = acts_snoc so.more r ∙ ap (λ (x : Act). x ∷ acts_of [] so.more) (act_is n)
+              ∙ ap (λ (acts : List Act). a ∷ acts) so.acts;
           capacity = did.capacity ∙ so.capacity;
           pages = did.pages;
           slots =
@@ -246,11 +334,15 @@ module _ (old : Engine) (s : LogState) (good : IsConsistent (capacity_in old.spa
               ∙ ap (λ (ps : List (List Slot)). undone ps n.write.written) so.slots
               ∙ sym pages;
           newest = λ e h. keeps t n.back n.write n.later n.work_is e (so.newest e h);
-          indexes = did.listings t n.back n.write (row_at (slot_of u.pages)) (row_at (slot_of later.pages)) n.found so.indexes (here n) (record { set = changes.here; others = changes.others });
+          indexes = did.listings t n.back n.write (row_at (slot_of u.pages))
+              (row_at (slot_of later.pages)) n.found so.indexes (here n)
+              (record { set = changes.here; others = changes.others });
           chain =
-              subst (λ (rs : List Record). AreChain rs t then_at (own_of t later.writes) left) (sym records)
+              subst (λ (rs : List Record). AreChain rs t then_at (own_of t later.writes) left)
+              (sym records)
               (chain_longer now.log.records (r ∷ []) t 0 [] then_at (own_of t later.writes) left
-              (subst (λ (k : ℕ). AreChain now.log.records t k (own_of t later.writes) left) (sym at_is)
+              (subst (λ (k : ℕ). AreChain now.log.records t k (own_of t later.writes) left)
+              (sym at_is)
               (subst (λ (ws : List Write). AreChain now.log.records t n.back ws left) (sym own)
               (subst (AreChain now.log.records t n.back n.rest) (sym left_is) n.chain))));
           left = omega (arith, so.left, ap length n.own_is, ap length own);
@@ -259,7 +351,12 @@ module _ (old : Engine) (s : LogState) (good : IsConsistent (capacity_in old.spa
           reserved = omega (arith, did.reserved, so.reserved);
           least = omega (arith, did.least, so.least);
           taken = did.taken ∙ so.taken;
-          base = record { opened = did.base.opened ∙ so.base.opened; set_aside = did.base.set_aside ∙ so.base.set_aside; forced = did.base.forced ∙ so.base.forced; pages = did.base.pages ∙ so.base.pages };
+          base = record {
+            opened = did.base.opened ∙ so.base.opened;
+            set_aside = did.base.set_aside ∙ so.base.set_aside;
+            forced = did.base.forced ∙ so.base.forced;
+            pages = did.base.pages ∙ so.base.pages;
+          };
           locks = did.locks ∙ so.locks;
           claims = did.claims ∙ so.claims;
           units = did.units ∙ so.units;

@@ -7,7 +7,8 @@
 --    DEVICE comes only where a call of the volume failed. From then on the engine is down, and it
 --    is open whether the commit is in: its log stores the committed rows with it, or without, and
 --    so does a part of it that has only what was forced before.
-use Rattle.std.specs.Prelude.{◌≡◌, ◌≤◌, ◌<◌, ◌+◌, ◌*◌, ℕ, Bool, true, false, List, [], Option, Some, None, is_some, length}
+use Rattle.std.specs.Prelude.{◌≡◌, ◌≤◌, ◌<◌, ◌+◌, ◌*◌, ℕ, Bool, true, false, List, [], Option, Some}
+use Rattle.std.specs.Prelude.{None, is_some, length}
 use Rattle.rg_base.specs.declared.session.Class.{Class}
 use Rattle.rg_base.specs.declared.session.Session.{Session}
 use Rattle.rg_claim.specs.Classes.{classes_of}

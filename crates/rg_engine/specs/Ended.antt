@@ -2,7 +2,8 @@
 --
 -- 1. Its writes are no longer kept and it is no longer live, whether it commits or was undone. No
 --    other unit's writes are touched, nor what is committed of keys that it has not written.
-use Rattle.std.specs.Prelude.{◌≡◌, ◌≤◌, ◌+◌, ℕ, false, List, [], ◌∷◌, ◌++◌, Option, Some, None, length, slice_set}
+use Rattle.std.specs.Prelude.{◌≡◌, ◌≤◌, ◌+◌, ℕ, false, List, [], ◌∷◌, ◌++◌, Option, Some, None}
+use Rattle.std.specs.Prelude.{length, slice_set}
 use Rattle.std.specs.FinMap as fin
 use Rattle.rg_base.specs.declared.session.Session.{Session}
 use Rattle.rg_model.specs.Committed.{locks_without}

@@ -11,7 +11,8 @@ use Rattle.std.specs.Prelude.{◌≡◌, ◌≤◌, ◌⊎◌, ℕ, Bool, true, 
 use Rattle.rg_base.specs.declared.position.Position.{Position}
 use Rattle.rg_base.specs.declared.set.Set.{Set}
 use Rattle.rg_base.specs.declared.set.Set.TheVariants.{Log}
-use Rattle.rg_outside.specs.Calls.{Call, Told, Wrote, FailedWrite, Read, Synced, FailedRead, FailedSync, Refused, read_of}
+use Rattle.rg_outside.specs.Calls.{Call, Told, Wrote, FailedWrite, Read, Synced, FailedRead}
+use Rattle.rg_outside.specs.Calls.{FailedSync, Refused, read_of}
 use Rattle.rg_outside.specs.Faults.{Rose}
 use Rattle.rg_outside.specs.Moments.{EachCall, EachImage, HoldsThroughout, IfTold}
 use Rattle.rg_image.specs.Kept.{AreEntries}
@@ -23,7 +24,8 @@ use Rattle.rg_page.specs.Content.{Content, content_at}
 use Rattle.rg_page.specs.Bytes.PageBytes.{page_bytes}
 use Rattle.rg_space.specs.Space.{capacity_in}
 use Rattle.rg_stmt.specs.declared.event.Event.{Event}
-use Rattle.rg_stmt.specs.declared.event.Event.TheVariants.{Clean, Flush, FlushDevice, FlushDown, FlushNoMemory}
+use Rattle.rg_stmt.specs.declared.event.Event.TheVariants.{Clean, Flush, FlushDevice, FlushDown}
+use Rattle.rg_stmt.specs.declared.event.Event.TheVariants.{FlushNoMemory}
 use Rattle.rg_laws_crash.specs.PageVersions.Versions.{Spells}
 use Rattle.rg_laws_crash.specs.NewestPages.Tidy.{set_of}
 use Rattle.rg_engine.specs.Engine.{seen_in}

@@ -14,7 +14,8 @@
 --    opened. So whatever a crash leaves is sound, and tidy.
 -- 7. Of a desk that is down only so much is known of the volume: that it goes on tidy, that
 --    whatever a crash leaves is sound and tidy, and which copies that may make current.
-use Rattle.std.specs.Prelude.{◌≡◌, ◌≤◌, ◌<◌, ◌==◌, ℕ, Bool, true, false, List, ◌∷◌, Option, Some, None, length, slice_index_or, take}
+use Rattle.std.specs.Prelude.{◌≡◌, ◌≤◌, ◌<◌, ◌==◌, ℕ, Bool, true, false, List, ◌∷◌, Option, Some}
+use Rattle.std.specs.Prelude.{None, length, slice_index_or, take}
 use Rattle.rg_base.specs.declared.position.Position.{Position}
 use Rattle.rg_base.specs.declared.set.Set.{Set}
 use Rattle.rg_outside.specs.Calls.{Image, Told, read_of}

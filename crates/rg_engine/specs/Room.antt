@@ -6,7 +6,8 @@
 --    that writes for the first time has the next number.
 -- 3. A write is LOGFULL exactly where its records, the reserve for its undo and, with the first
 --    write of a unit, for the record of its end are more bytes than the log has left.
-use Rattle.std.specs.Prelude.{◌≡◌, ◌≤◌, ◌<◌, ◌+◌, ℕ, Bool, true, false, List, ◌∷◌, Option, Some, None, is_some}
+use Rattle.std.specs.Prelude.{◌≡◌, ◌≤◌, ◌<◌, ◌+◌, ℕ, Bool, true, false, List, ◌∷◌, Option, Some}
+use Rattle.std.specs.Prelude.{None, is_some}
 use Rattle.rg_base.specs.RowBytes.{row_size}
 use Rattle.rg_base.specs.declared.place.Place.{Place}
 use Rattle.rg_base.specs.declared.row.Row.{Row}

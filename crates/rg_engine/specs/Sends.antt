@@ -4,7 +4,8 @@
 --    rows, its entries, the stage, the changes since the start, and its records.
 -- 2. The rows that the writes of an open unit have found weigh no more than the entries count.
 --    Until the copies are switched, a new copy may have to take no more than they have allowed.
-use Rattle.std.specs.Prelude.{◌≡◌, ◌≤◌, ℕ, Bool, true, false, List, [], ◌∷◌, Option, Some, None, length, take}
+use Rattle.std.specs.Prelude.{◌≡◌, ◌≤◌, ℕ, Bool, true, false, List, [], ◌∷◌, Option, Some, None}
+use Rattle.std.specs.Prelude.{length, take}
 use Rattle.rg_laws_utility.specs.ByteAccount.Account.{account_of, allowed_of}
 use Rattle.rg_laws_utility.specs.ByteAccount.Found.{weigh_each}
 use Rattle.rg_laws_utility.specs.ByteAccount.Reaching.{ReachesBy}

@@ -11,7 +11,8 @@
 -- 5. The pages claim no more bytes than the entries so far have allowed.
 -- 6. The log stores the committed rows, and what is forced of it stores no others.
 -- 7. Its records tell of the open units, and it has room for all that it has reserved.
-use Rattle.std.specs.Prelude.{◌≡◌, ◌≤◌, ◌+◌, ℕ, suc, false, List, [], Option, Some, None, length, take, drop}
+use Rattle.std.specs.Prelude.{◌≡◌, ◌≤◌, ◌+◌, ℕ, suc, false, List, [], Option, Some, None, length}
+use Rattle.std.specs.Prelude.{take, drop}
 use Rattle.rg_base.specs.declared.lock.Lock.{Lock}
 use Rattle.rg_home.specs.Able.{IsLive}
 use Rattle.rg_home.specs.Pages.{slot_of}

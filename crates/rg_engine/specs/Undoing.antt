@@ -2,7 +2,8 @@
 --
 -- 1. Its Changes are found from its last record back, and copied. They are undone in that order,
 --    the latest first.
-use Rattle.std.specs.Prelude.{◌≡◌, ◌≤◌, ◌+◌, ℕ, Bool, true, false, List, [], ◌∷◌, ◌++◌, Option, Some, None, if◌then◌else◌, length}
+use Rattle.std.specs.Prelude.{◌≡◌, ◌≤◌, ◌+◌, ℕ, Bool, true, false, List, [], ◌∷◌, ◌++◌, Option}
+use Rattle.std.specs.Prelude.{Some, None, if◌then◌else◌, length}
 use Rattle.rg_base.specs.declared.place.Place.{Place}
 use Rattle.rg_base.specs.declared.row.Row.{Row}
 use Rattle.rg_home.specs.Undo.{undone}
@@ -10,7 +11,8 @@ use Rattle.rg_index.specs.Listed.{SetsRow}
 use Rattle.rg_btree.specs.Indexes.Listings.{AreListedAt, AreListings, HasSpare}
 use Rattle.rg_laws_log.specs.LogState.Write.{Write}
 use Rattle.rg_record.specs.declared.record.Kind.{Kind}
-use Rattle.rg_record.specs.declared.record.Kind.TheVariants.{Change, Undo, Commit, RolledBack, Purge, Switch}
+use Rattle.rg_record.specs.declared.record.Kind.TheVariants.{Change, Undo, Commit, RolledBack}
+use Rattle.rg_record.specs.declared.record.Kind.TheVariants.{Purge, Switch}
 use Rattle.rg_record.specs.declared.record.Record.{Record}
 use Rattle.rg_space.specs.Space.{capacity_in, index_of, undos_in}
 use Rattle.rg_undo.specs.Undoing.{CanUndoChange, is_change, undo_record, written_of}

@@ -5,7 +5,8 @@
 -- 2. Each has the number of its transaction, the position of its last record, and how many of its
 --    writes are not undone.
 -- 3. It is owed bytes of the log: 911 for the Undo of each write, and 23 for the record of its end.
-use Rattle.std.specs.Prelude.{◌+◌, ◌*◌, ℕ, List, [], ◌∷◌, Option, Some, None, slice_index_or, sum_by}
+use Rattle.std.specs.Prelude.{◌+◌, ◌*◌, ℕ, List, [], ◌∷◌, Option, Some, None, slice_index_or}
+use Rattle.std.specs.Prelude.{sum_by}
 use Rattle.rg_engine.specs.declared.units.OpenUnit.{OpenUnit}
 
 -- the open unit of the session with this number

@@ -3,7 +3,8 @@
 -- 1. A plan that purges is carried out by a Purge record, which is of no transaction, and then by
 --    the Change of its unit.
 -- 2. The Change's back is the unit's last record before.
-use Rattle.std.specs.Prelude.{◌≡◌, ◌≤◌, ◌<◌, ◌+◌, nat_le, ℕ, List, [], ◌∷◌, ◌++◌, Option, Some, if◌then◌else◌, length, slice_set}
+use Rattle.std.specs.Prelude.{◌≡◌, ◌≤◌, ◌<◌, ◌+◌, nat_le, ℕ, List, [], ◌∷◌, ◌++◌, Option, Some}
+use Rattle.std.specs.Prelude.{if◌then◌else◌, length, slice_set}
 use Rattle.rg_base.specs.declared.part.Part.{Part}
 use Rattle.rg_base.specs.declared.place.Place.{Place}
 use Rattle.rg_base.specs.declared.row.Row.{Row}

@@ -4,7 +4,8 @@
 //    indexes, bytes of the log, and last the lock. After that nothing fails.
 // 2. A record is applied to the pages and then appended. So the pages are always those that the
 //    records leave.
-ghost use Rattle.std.specs.Prelude.{◌≡◌, ◌≤◌, ◌<◌, ◌+◌, ◌*◌, ◌^◌, ℕ, false, ◌∷◌, ◌++◌, [], List, None, nat_le, if◌then◌else◌, length, IfOk, IfErr, OnOk};
+ghost use Rattle.std.specs.Prelude.{◌≡◌, ◌≤◌, ◌<◌, ◌+◌, ◌*◌, ◌^◌, ℕ, false, ◌∷◌, ◌++◌, [], List};
+ghost use Rattle.std.specs.Prelude.{None, nat_le, if◌then◌else◌, length, IfOk, IfErr, OnOk};
 ghost use Rattle.rg_base.specs.declared.part.Part.{Part};
 ghost use Rattle.rg_home.specs.Pages.{applied, row_or_empty};
 ghost use Rattle.rg_space.specs.Carries.{AllThere};
@@ -12,7 +13,8 @@ ghost use Rattle.rg_btree.specs.Indexes.Listings.{AreListedAt, AreListings, HasS
 ghost use Rattle.rg_record.specs.Applied.{parts_of};
 ghost use Rattle.rg_record.specs.Spelled.{IsRecord};
 ghost use Rattle.rg_redo.specs.Redo.{is_switch};
-ghost use Rattle.rg_space.specs.Ready.{CanApply, CanApplyRecord, IsAtHand, AllReady, record_applied};
+ghost use Rattle.rg_space.specs.Ready.{CanApply, CanApplyRecord, IsAtHand, AllReady};
+ghost use Rattle.rg_space.specs.Ready.{record_applied};
 ghost use Rattle.rg_space.specs.Space.{Agree, InStep, capacity_in, frames_of, index_of};
 ghost use Rattle.rg_page.specs.Content.{slots_of};
 ghost use Rattle.rg_model.specs.Held.{holder};

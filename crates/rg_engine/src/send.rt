@@ -6,7 +6,8 @@
 //    answered. Where there is none the statement is out of memory, and nothing was done.
 // 3. A write leaves its home the statement's row, or none. A ROLLBACK leaves each home the row that
 //    the write found there.
-ghost use Rattle.std.specs.Prelude.{◌≡◌, ◌++◌, ◌∷◌, [], ◌≤◌, true, false, drop, List, length, IfOk, OnErr};
+ghost use Rattle.std.specs.Prelude.{◌≡◌, ◌++◌, ◌∷◌, [], ◌≤◌, true, false, drop, List, length, IfOk};
+ghost use Rattle.std.specs.Prelude.{OnErr};
 ghost use Rattle.std.specs.Option.{option_copied};
 ghost use Rattle.rg_laws_utility.specs.RecordChanges.Changed.{changes_in, rows_after};
 ghost use Rattle.rg_laws_utility.specs.ByteAccount.Found.{rows_made};

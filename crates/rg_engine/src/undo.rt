@@ -3,7 +3,8 @@
 // 1. The Changes of the unit are copied first, from its last record back, and room in the indexes
 //    is taken for each. After that nothing fails.
 // 2. The latest is undone first. Each undo is a record of its own.
-ghost use Rattle.std.specs.Prelude.{◌≡◌, ◌≤◌, ◌+◌, ◌++◌, ◌∷◌, [], true, List, Some, IfOk, OnOk, OnErr, length};
+ghost use Rattle.std.specs.Prelude.{◌≡◌, ◌≤◌, ◌+◌, ◌++◌, ◌∷◌, [], true, List, Some, IfOk, OnOk};
+ghost use Rattle.std.specs.Prelude.{OnErr, length};
 ghost use Rattle.rg_record.specs.Spelled.{IsRecord};
 ghost use Rattle.rg_laws_log.specs.LogState.Write.{Write};
 ghost use Rattle.rg_engine.specs.Bytes.{taken_of};

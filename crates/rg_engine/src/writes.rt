@@ -3,7 +3,8 @@
 // 1. A key that another session has locked is refused before anything else is looked at.
 // 2. A unit gets its number with its first write. There are 4,294,967,295 numbers, and a unit that
 //    is to have one more is out of memory.
-ghost use Rattle.std.specs.Prelude.{◌≡◌, ◌+◌, ◌<◌, ◌^◌, Option, Some, None, true, false, IfOk, IfErr, IfSome};
+ghost use Rattle.std.specs.Prelude.{◌≡◌, ◌+◌, ◌<◌, ◌^◌, Option, Some, None, true, false, IfOk};
+ghost use Rattle.std.specs.Prelude.{IfErr, IfSome};
 ghost use Rattle.rg_base.specs.RowBytes.{row_size};
 ghost use Rattle.rg_base.specs.declared.place.Place.{Place};
 ghost use Rattle.rg_home.specs.Pages.{slot_of};

@@ -1,5 +1,6 @@
 -- One item more is received: what the inlet keeps is that of the items with it.
-use Rattle.std.proofs.Common.{◌≡◌, ℕ, ◌-◌, ◌≤◌, zero, suc, List, [], ◌∷◌, ◌++◌, Option, Some, None, refl, sym, ◌∙◌, ap, drop, length, arith, length-append, length-drop}
+use Rattle.std.proofs.Common.{◌≡◌, ℕ, ◌-◌, ◌≤◌, zero, suc, List, [], ◌∷◌, ◌++◌, Option, Some, None}
+use Rattle.std.proofs.Common.{refl, sym, ◌∙◌, ap, drop, length, arith, length-append, length-drop}
 use Rattle.rg_base.specs.declared.change.Change.{Change}
 use Rattle.rg_base.specs.declared.options.Options.{Options}
 use Rattle.rg_base.specs.declared.place.Place.{Place}
@@ -17,7 +18,8 @@ append_nil : {A : Type 0} (xs : List A) → xs ++ [] ≡ xs
 append_nil [] = refl
 append_nil (x ∷ xs) = ap (λ ys. x ∷ ys) (append_nil xs)
 
-drop-append : {A : Type 0} (k : ℕ) (xs ys : List A) → k ≤ length xs → drop k (xs ++ ys) ≡ drop k xs ++ ys
+drop-append : {A : Type 0} (k : ℕ) (xs ys : List A) → k ≤ length xs
+    → drop k (xs ++ ys) ≡ drop k xs ++ ys
 drop-append zero xs ys h = refl
 drop-append (suc k) [] ys h = absurd (omega (arith, h))
 drop-append (suc k) (x ∷ xs) ys h = drop-append k xs ys (omega (arith, h))
@@ -26,7 +28,8 @@ drop-nil : {A : Type 0} (k : ℕ) → drop {A = A} k [] ≡ []
 drop-nil zero = refl
 drop-nil (suc k) = refl
 
-stage-append : (stage : Option Stage) (xs ys : List Item) → stage_from stage (xs ++ ys) ≡ stage_from (stage_from stage xs) ys
+stage-append : (stage : Option Stage) (xs ys : List Item)
+    → stage_from stage (xs ++ ys) ≡ stage_from (stage_from stage xs) ys
 stage-append stage [] ys = refl
 stage-append stage (Begin o n ∷ xs) ys = stage-append stage xs ys
 stage-append stage (PageCopy n at rows ∷ xs) ys = stage-append stage xs ys
@@ -34,8 +37,13 @@ stage-append stage (items.Change c ∷ xs) ys = stage-append stage xs ys
 stage-append stage (Booked s ∷ xs) ys = stage-append (Some s) xs ys
 
 module _ (feed copies : List Item) (backlog : List Change) (stage : Option Stage) where
-  pub within : Keeps feed copies backlog stage → length backlog ≤ length (changes (since_begin feed))
-  within keeps = omega (arith, ap length keeps.backlog, length-drop (taken_of feed backlog) (changes (since_begin feed)))
+  pub within : Keeps feed copies backlog stage
+      → length backlog ≤ length (changes (since_begin feed))
+  within keeps = omega (
+    arith,
+    ap length keeps.backlog,
+    length-drop (taken_of feed backlog) (changes (since_begin feed)),
+  )
 
   -- a Begin
 
@@ -43,10 +51,13 @@ module _ (feed copies : List Item) (backlog : List Change) (stage : Option Stage
     none : since_begin (feed ++ Begin options pages ∷ []) ≡ []
     none = since-append [] feed (Begin options pages ∷ [])
 
-    pub begin_keeps : Keeps feed copies backlog stage → Keeps (feed ++ Begin options pages ∷ []) [] [] stage
+    pub begin_keeps : Keeps feed copies backlog stage
+        → Keeps (feed ++ Begin options pages ∷ []) [] [] stage
     begin_keeps keeps = record {
       copies = sym (ap page_copies none);
-      backlog = sym (ap (λ xs. drop (length (changes xs) - length {A = Change} []) (changes xs)) none ∙ drop-nil {A = Change} (length {A = Change} [] - length {A = Change} []));
+      backlog = sym
+          (ap (λ xs. drop (length (changes xs) - length {A = Change} []) (changes xs)) none
+          ∙ drop-nil {A = Change} (length {A = Change} [] - length {A = Change} []));
       stage = keeps.stage ∙ sym (stage-append None feed (Begin options pages ∷ []));
     }
 
@@ -55,23 +66,34 @@ module _ (feed copies : List Item) (backlog : List Change) (stage : Option Stage
 
   -- an item that is neither Begin nor Change
 
-  module _ (item : Item) (joins : since_begin (feed ++ item ∷ []) ≡ since_begin feed ++ item ∷ []) (plain : changes (item ∷ []) ≡ []) where
+  module _ (item : Item) (joins : since_begin (feed ++ item ∷ []) ≡ since_begin feed ++ item ∷ [])
+      (plain : changes (item ∷ []) ≡ []) where
     same : changes (since_begin (feed ++ item ∷ [])) ≡ changes (since_begin feed)
-    same = ap changes joins ∙ changes-append (since_begin feed) (item ∷ []) ∙ ap (λ cs. changes (since_begin feed) ++ cs) plain ∙ append_nil (changes (since_begin feed))
+    same = ap changes joins ∙ changes-append (since_begin feed) (item ∷ [])
+        ∙ ap (λ cs. changes (since_begin feed) ++ cs) plain
+        ∙ append_nil (changes (since_begin feed))
 
     same_taken : taken_of (feed ++ item ∷ []) backlog ≡ taken_of feed backlog
     same_taken = ap (λ cs. length cs - length backlog) same
 
-    same_backlog : Keeps feed copies backlog stage → backlog ≡ drop (taken_of (feed ++ item ∷ []) backlog) (changes (since_begin (feed ++ item ∷ [])))
+    same_backlog : Keeps feed copies backlog stage
+        → backlog
+        ≡ drop (taken_of (feed ++ item ∷ []) backlog) (changes (since_begin (feed ++ item ∷ [])))
     same_backlog keeps = keeps.backlog ∙ ap (λ cs. drop (length cs - length backlog) cs) (sym same)
 
   module _ (page : ℕ) (at : Position) (rows : List (Place × Row)) where
-    joins_copy : since_begin (feed ++ PageCopy page at rows ∷ []) ≡ since_begin feed ++ PageCopy page at rows ∷ []
+    joins_copy : since_begin (feed ++ PageCopy page at rows ∷ [])
+        ≡ since_begin feed ++ PageCopy page at rows ∷ []
     joins_copy = since-append [] feed (PageCopy page at rows ∷ [])
 
-    pub copy_keeps : Keeps feed copies backlog stage → Keeps (feed ++ PageCopy page at rows ∷ []) (copies ++ PageCopy page at rows ∷ []) backlog stage
+    pub copy_keeps : Keeps feed copies backlog stage
+        → Keeps (feed ++ PageCopy page at rows ∷ []) (copies ++ PageCopy page at rows ∷ []) backlog
+        stage
     copy_keeps keeps = record {
-      copies = ap (λ xs. xs ++ PageCopy page at rows ∷ []) keeps.copies ∙ sym (ap page_copies joins_copy ∙ page_copies-append (since_begin feed) (PageCopy page at rows ∷ []));
+      copies = ap (λ xs. xs ++ PageCopy page at rows ∷ []) keeps.copies
+          ∙ sym
+          (ap page_copies joins_copy
+          ∙ page_copies-append (since_begin feed) (PageCopy page at rows ∷ []));
       backlog = same_backlog (PageCopy page at rows) joins_copy refl keeps;
       stage = keeps.stage ∙ sym (stage-append None feed (PageCopy page at rows ∷ []));
     }
@@ -83,9 +105,13 @@ module _ (feed copies : List Item) (backlog : List Change) (stage : Option Stage
     joins_booked : since_begin (feed ++ Booked booked ∷ []) ≡ since_begin feed ++ Booked booked ∷ []
     joins_booked = since-append [] feed (Booked booked ∷ [])
 
-    pub booked_keeps : Keeps feed copies backlog stage → Keeps (feed ++ Booked booked ∷ []) copies backlog (Some booked)
+    pub booked_keeps : Keeps feed copies backlog stage
+        → Keeps (feed ++ Booked booked ∷ []) copies backlog (Some booked)
     booked_keeps keeps = record {
-      copies = keeps.copies ∙ sym (ap page_copies joins_booked ∙ page_copies-append (since_begin feed) (Booked booked ∷ []) ∙ append_nil (page_copies (since_begin feed)));
+      copies = keeps.copies
+          ∙ sym
+          (ap page_copies joins_booked ∙ page_copies-append (since_begin feed) (Booked booked ∷ [])
+          ∙ append_nil (page_copies (since_begin feed)));
       backlog = same_backlog (Booked booked) joins_booked refl keeps;
       stage = sym (stage-append None feed (Booked booked ∷ []));
     }
@@ -96,19 +122,39 @@ module _ (feed copies : List Item) (backlog : List Change) (stage : Option Stage
   -- a change
 
   module _ (change : Change) where
-    joins_change : since_begin (feed ++ items.Change change ∷ []) ≡ since_begin feed ++ items.Change change ∷ []
+    joins_change : since_begin (feed ++ items.Change change ∷ [])
+        ≡ since_begin feed ++ items.Change change ∷ []
     joins_change = since-append [] feed (items.Change change ∷ [])
 
-    more : changes (since_begin (feed ++ items.Change change ∷ [])) ≡ changes (since_begin feed) ++ change ∷ []
+    more : changes (since_begin (feed ++ items.Change change ∷ []))
+        ≡ changes (since_begin feed) ++ change ∷ []
     more = ap changes joins_change ∙ changes-append (since_begin feed) (items.Change change ∷ [])
 
-    pub change_taken : Keeps feed copies backlog stage → taken_of (feed ++ items.Change change ∷ []) (backlog ++ change ∷ []) ≡ taken_of feed backlog
-    change_taken keeps = omega (arith, ap length more, length-append (changes (since_begin feed)) (change ∷ []), length-append backlog (change ∷ []), within keeps)
+    pub change_taken : Keeps feed copies backlog stage
+        → taken_of (feed ++ items.Change change ∷ []) (backlog ++ change ∷ [])
+        ≡ taken_of feed backlog
+    change_taken keeps = omega (
+      arith,
+      ap length more,
+      length-append (changes (since_begin feed)) (change ∷ []),
+      length-append backlog (change ∷ []),
+      within keeps,
+    )
 
-    pub change_keeps : Keeps feed copies backlog stage → Keeps (feed ++ items.Change change ∷ []) copies (backlog ++ change ∷ []) stage
+    pub change_keeps : Keeps feed copies backlog stage
+        → Keeps (feed ++ items.Change change ∷ []) copies (backlog ++ change ∷ []) stage
     change_keeps keeps = record {
-      copies = keeps.copies ∙ sym (ap page_copies joins_change ∙ page_copies-append (since_begin feed) (items.Change change ∷ []) ∙ append_nil (page_copies (since_begin feed)));
-      backlog = ap (λ cs. cs ++ change ∷ []) keeps.backlog ∙ sym (drop-append (taken_of feed backlog) (changes (since_begin feed)) (change ∷ []) (omega (arith, within keeps)))
-          ∙ ap (λ k. drop k (changes (since_begin feed) ++ change ∷ [])) (sym (change_taken keeps)) ∙ ap (drop (taken_of (feed ++ items.Change change ∷ []) (backlog ++ change ∷ []))) (sym more);
+      copies = keeps.copies
+          ∙ sym
+          (ap page_copies joins_change
+          ∙ page_copies-append (since_begin feed) (items.Change change ∷ [])
+          ∙ append_nil (page_copies (since_begin feed)));
+      backlog = ap (λ cs. cs ++ change ∷ []) keeps.backlog
+          ∙ sym
+          (drop-append (taken_of feed backlog) (changes (since_begin feed)) (change ∷ [])
+          (omega (arith, within keeps)))
+          ∙ ap (λ k. drop k (changes (since_begin feed) ++ change ∷ [])) (sym (change_taken keeps))
+          ∙ ap (drop (taken_of (feed ++ items.Change change ∷ []) (backlog ++ change ∷ [])))
+          (sym more);
       stage = keeps.stage ∙ sym (stage-append None feed (items.Change change ∷ []));
     }

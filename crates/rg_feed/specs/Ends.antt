@@ -4,7 +4,8 @@
 --     since the last Begin, and the last stage.
 -- (3) How many changes were taken is what the backlog lacks of the changes since the last Begin. So
 --     it is 0 again after a Begin.
-use Rattle.std.specs.Prelude.{◌≡◌, ◌==◌, ◌&&◌, ℕ, ◌+◌, ◌-◌, Bool, true, false, List, [], ◌∷◌, ◌++◌, Option, length, take, drop}
+use Rattle.std.specs.Prelude.{◌≡◌, ◌==◌, ◌&&◌, ℕ, ◌+◌, ◌-◌, Bool, true, false, List, [], ◌∷◌, ◌++◌}
+use Rattle.std.specs.Prelude.{Option, length, take, drop}
 use Rattle.rg_base.specs.declared.change.Change.{Change}
 use Rattle.rg_feed.specs.Fold.Fold.{changes, page_copies, since_begin, stage_of}
 use Rattle.rg_feed.specs.declared.fold.item.Item.{Item}

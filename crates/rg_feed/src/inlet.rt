@@ -9,7 +9,8 @@
 //    another page says nothing of it, however late it was made.
 // 5. Pages are copied in turn, from page 1 on. As long as they are, the copy of a page is found by
 //    its number; else all copies are looked at.
-ghost use Rattle.std.specs.Prelude.{◌≡◌, ◌==◌, ◌&&◌, ◌^◌, true, ◌++◌, [], ◌∷◌, ◌+◌, ◌≤◌, ◌<◌, None, drop, take, length, MatchOption, OnOk, OnErr, IfOk};
+ghost use Rattle.std.specs.Prelude.{◌≡◌, ◌==◌, ◌&&◌, ◌^◌, true, ◌++◌, [], ◌∷◌, ◌+◌, ◌≤◌, ◌<◌, None};
+ghost use Rattle.std.specs.Prelude.{drop, take, length, MatchOption, OnOk, OnErr, IfOk};
 ghost use mathlib.Core.List.{IsPrefix};
 ghost use Rattle.rtrb.specs.Ring.{consumer_capacity, received};
 ghost use Rattle.rg_feed.specs.Fold.Fold.{changes, page_copies, since_begin, stage_of};

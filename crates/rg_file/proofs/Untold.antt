@@ -9,7 +9,8 @@ pub made_read : (r : Result (Unit {0}) Failed) → MadeRead r None None
 made_read (Ok x) = (Read, tt, tt)
 made_read (Err e) = (FailedRead, tt, tt)
 
-pub made_write : (r : Result (Unit {0}) Failed) (set : Set) (page : ℕ) (bytes : List ℕ) → MadeWrite r None set page bytes None
+pub made_write : (r : Result (Unit {0}) Failed) (set : Set) (page : ℕ) (bytes : List ℕ)
+    → MadeWrite r None set page bytes None
 made_write (Ok x) set page bytes = (Wrote set page bytes, (refl, refl, refl), tt)
 made_write (Err e) set page bytes = (Refused, tt, tt)
 

@@ -1,11 +1,13 @@
 -- One insert or one round more, and what is left then.
-use Rattle.std.proofs.Common.{◌≡◌, ◌++◌, ◌+◌, ◌-◌, ◌<◌, ◌%◌, ℕ, suc, true, List, [], ◌∷◌, sym, ◌∙◌, ap, arith, append_assoc}
+use Rattle.std.proofs.Common.{◌≡◌, ◌++◌, ◌+◌, ◌-◌, ◌<◌, ◌%◌, ℕ, suc, true, List, [], ◌∷◌, sym, ◌∙◌}
+use Rattle.std.proofs.Common.{ap, arith, append_assoc}
 use Rattle.rg_base.specs.declared.row.Row.{Row}
 use Rattle.rg_stmt.specs.declared.line.Line.{Line}
 use Rattle.rg_stmt.specs.declared.line.Line.TheVariants as lines
 use Rattle.rg_stmt.specs.declared.stmt.Stmt.TheVariants as stmts
 use Rattle.rg_gen.specs.Draws.{next_state, drawn}
-use Rattle.rg_gen.specs.Deck.{row_of, session, ends_unit, insert_lines, inserts, after_draws, round_lines, round_row, rounds}
+use Rattle.rg_gen.specs.Deck.{row_of, session, ends_unit, insert_lines, inserts, after_draws}
+use Rattle.rg_gen.specs.Deck.{round_lines, round_row, rounds}
 
 -- of the inserts that are left the first comes next
 pub inserts-next :
@@ -47,7 +49,8 @@ insert-keeps rows key state draw after deck new all below is_draw is_after appen
     ap (λ n. n ++ left after) appended
     ∙ ap (λ x. (deck ++ insert_lines rows (key + 1) draw) ++ left x) is_after
     ∙ ap (λ d. (deck ++ insert_lines rows (key + 1) d) ++ left (next_state state)) is_draw
-    ∙ append_assoc deck (insert_lines rows (key + 1) (drawn (next_state state))) (left (next_state state))
+    ∙ append_assoc deck (insert_lines rows (key + 1) (drawn (next_state state)))
+    (left (next_state state))
     ∙ ap (λ r. deck ++ r) (sym (inserts-next rows key state below))
     ∙ whole
 
@@ -61,15 +64,20 @@ pub round-keeps :
     new ≡ deck ++ round_lines session row →
     deck ++ rounds rows (count - round) (round + 1) state ≡ all →
     new ++ rounds rows (count - (round + 1)) (round + 1 + 1) after ≡ all
-round-keeps rows count round state first second after session row deck new all below is_first is_second is_after is_session is_row appended whole =
+round-keeps rows count round state first second after session row deck new all below is_first
+    is_second is_after is_session is_row appended whole =
     let left = λ (x : ℕ). rounds rows (count - (round + 1)) (round + 1 + 1) x in
     let mid = drawn (next_state state) in
     let end_ = drawn (next_state (next_state state)) in
     ap (λ n. n ++ left after) appended
     ∙ ap (λ x. (deck ++ round_lines session row) ++ left x) is_after
-    ∙ ap (λ r. (deck ++ round_lines session r) ++ left (next_state (next_state state))) (is_row ∙ ap (λ d. round_row rows d second) is_first ∙ ap (λ d. round_row rows mid d) is_second)
-    ∙ ap (λ n. (deck ++ round_lines n (round_row rows mid end_)) ++ left (next_state (next_state state))) is_session
-    ∙ append_assoc deck (round_lines (2 + (round + 1) % 4) (round_row rows mid end_)) (left (next_state (next_state state)))
+    ∙ ap (λ r. (deck ++ round_lines session r) ++ left (next_state (next_state state)))
+    (is_row ∙ ap (λ d. round_row rows d second) is_first ∙ ap (λ d. round_row rows mid d) is_second)
+    ∙ ap
+    (λ n. (deck ++ round_lines n (round_row rows mid end_)) ++ left (next_state (next_state state)))
+    is_session
+    ∙ append_assoc deck (round_lines (2 + (round + 1) % 4) (round_row rows mid end_))
+    (left (next_state (next_state state)))
     ∙ ap (λ r. deck ++ r) (sym (rounds-next rows count round state below))
     ∙ whole
 
@@ -87,4 +95,5 @@ insert-ends rows key draw row deck mid new first second is_row is_first is_secon
     ∙ ap (λ m. m ++ second ∷ []) one
     ∙ append_assoc deck (first ∷ []) (second ∷ [])
     ∙ ap (λ s. deck ++ first ∷ s ∷ []) is_second
-    ∙ ap (λ f. deck ++ f ∷ lines.Said (session 1) stmts.Commit ∷ []) (is_first ∙ ap (λ r. lines.Said (session 1) (stmts.Insert r)) is_row))
+    ∙ ap (λ f. deck ++ f ∷ lines.Said (session 1) stmts.Commit ∷ [])
+    (is_first ∙ ap (λ r. lines.Said (session 1) (stmts.Insert r)) is_row))

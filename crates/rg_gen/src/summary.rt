@@ -1,7 +1,8 @@
 // The line that sums up a run.
 ghost use Rattle.std.specs.Prelude.{◌≡◌, IfOk, count_by};
 ghost use Rattle.rg_print.specs.Layout.{is_over};
-ghost use Rattle.rg_gen.specs.Summary.{is_answered, show, shown_in, legal_word, line_text, summary_text};
+ghost use Rattle.rg_gen.specs.Summary.{is_answered, show, shown_in, legal_word, line_text};
+ghost use Rattle.rg_gen.specs.Summary.{summary_text};
 
 use rg_base::bytes::Bytes;
 use rg_base::no_memory::NoMemory;

@@ -13,7 +13,8 @@ use Rattle.rg_home.proofs.Writes.{wrote_here, wrote_there}
 use Rattle.rg_base.specs.declared.part.SlotOp.TheVariants as Op
 use Rattle.rg_home.specs.Owners.{AllBelow, OwnerBelow}
 
-made_below : (top t : ℕ) (after : TableRow) (op : SlotOp) → t ≤ top → OwnerBelow top (made t after op)
+made_below : (top t : ℕ) (after : TableRow) (op : SlotOp) → t ≤ top
+    → OwnerBelow top (made t after op)
 made_below top t after Op.Free l = tt
 made_below top t after (Op.Row c) l = tt
 made_below top t after (Op.Pointer c o) l = tt
@@ -22,17 +23,23 @@ made_below top t after (Op.DeadRow c) l = l
 made_below top t after (Op.DeadPointer c o) l = l
 made_below top t after (Op.DeadOver c h) l = l
 
-wrote_below : (top : ℕ) (pages : List (List Slot)) (p : Place) (s : Slot) → 1 ≤ p.page → OwnerBelow top s → AllBelow top (slot_of pages) → AllBelow top (slot_of (wrote pages p s))
+wrote_below : (top : ℕ) (pages : List (List Slot)) (p : Place) (s : Slot) → 1 ≤ p.page
+    → OwnerBelow top s → AllBelow top (slot_of pages) → AllBelow top (slot_of (wrote pages p s))
 wrote_below top pages p s low b all q = go (same_place q p) refl
   where
     go : (c : Bool) → same_place q p ≡ c → OwnerBelow top (slot_of (wrote pages p s) q)
-    go true e = subst (OwnerBelow top) (sym (ap (slot_of (wrote pages p s)) (same_place-true q p e) ∙ wrote_here pages p s low)) b
+    go true e = subst (OwnerBelow top)
+        (sym (ap (slot_of (wrote pages p s)) (same_place-true q p e) ∙ wrote_here pages p s low)) b
     go false e = subst (OwnerBelow top) (sym (wrote_there pages p s low q e)) (all q)
 
-pub applied_below : (top t : ℕ) (after : TableRow) (limit : ℕ) (pages : List (List Slot)) (parts : List Part) → t ≤ top → FitsAll t after limit pages parts → AllBelow top (slot_of pages) → AllBelow top (slot_of (applied t after pages parts))
+pub applied_below :
+    (top t : ℕ) (after : TableRow) (limit : ℕ) (pages : List (List Slot)) (parts : List Part)
+    → t ≤ top → FitsAll t after limit pages parts → AllBelow top (slot_of pages)
+    → AllBelow top (slot_of (applied t after pages parts))
 applied_below top t after limit pages [] l f all = all
 applied_below top t after limit pages (x ∷ parts) l f all =
-    applied_below top t after limit (wrote pages (place_of x) (made t after x.op)) parts l f.3 (wrote_below top pages (place_of x) (made t after x.op) f.0 (made_below top t after x.op l) all)
+    applied_below top t after limit (wrote pages (place_of x) (made t after x.op)) parts l f.3
+    (wrote_below top pages (place_of x) (made t after x.op) f.0 (made_below top t after x.op l) all)
 
 raised : (top top2 : ℕ) → top ≤ top2 → (s : Slot) → OwnerBelow top s → OwnerBelow top2 s
 raised top top2 l (DeadRow c u) h = omega (arith, l, h)
@@ -43,5 +50,6 @@ raised top top2 l (Row c b) h = tt
 raised top top2 l (Pointer c o) h = tt
 raised top top2 l (Over c b o) h = tt
 
-pub all_raised : (top top2 : ℕ) → top ≤ top2 → (at : Place → Slot) → AllBelow top at → AllBelow top2 at
+pub all_raised : (top top2 : ℕ) → top ≤ top2 → (at : Place → Slot) → AllBelow top at
+    → AllBelow top2 at
 all_raised top top2 l at all p = raised top top2 l (at p) (all p)

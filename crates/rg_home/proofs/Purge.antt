@@ -1,10 +1,12 @@
 -- A purge changes no home row and no tie.
-use Rattle.std.proofs.Common.{◌≡◌, inl, inr, ◌⊎◌, true, false, Option, None, refl, sym, ◌∙◌, ap, subst}
+use Rattle.std.proofs.Common.{◌≡◌, inl, inr, ◌⊎◌, true, false, Option, None, refl, sym, ◌∙◌, ap}
+use Rattle.std.proofs.Common.{subst}
 use Rattle.rg_base.specs.declared.place.Place.{Place}
 use Rattle.rg_base.specs.declared.row.Row.{Row as TableRow}
 use Rattle.rg_home.specs.Slot.{Slot}
 use Rattle.rg_home.specs.Slot.{Free, Row, Pointer, Over, DeadRow, DeadPointer, DeadOver}
-use Rattle.rg_home.specs.Rows.{over_row, home_row, row_at, lies_at, IsOverOf, IsPointerTo, TiesAt, Tied, is_dead, ChangesHome}
+use Rattle.rg_home.specs.Rows.{over_row, home_row, row_at, lies_at, IsOverOf, IsPointerTo, TiesAt}
+use Rattle.rg_home.specs.Rows.{Tied, is_dead, ChangesHome}
 
 -- this slot stays, or was dead and is Free
 abbrev pub Sweeps : Slot → Slot → Type 0
@@ -53,7 +55,8 @@ keeps_over_of p (DeadPointer a b d) t i h = absurd i
 keeps_over_of p (DeadOver a b d) t i h = absurd i
 
 keeps_pointer_to : (p : Place) (s t : Slot) → IsPointerTo p s → Sweeps s t → IsPointerTo p t
-keeps_pointer_to p (Pointer a b) t i h = subst (IsPointerTo p) (sym (alive (Pointer a b) t refl t h)) i
+keeps_pointer_to p (Pointer a b) t i h =
+    subst (IsPointerTo p) (sym (alive (Pointer a b) t refl t h)) i
 keeps_pointer_to p Free t i h = absurd i
 keeps_pointer_to p (Row a b) t i h = absurd i
 keeps_pointer_to p (Over a b d) t i h = absurd i
@@ -63,21 +66,33 @@ keeps_pointer_to p (DeadOver a b d) t i h = absurd i
 
 module _ (at after : Place → Slot) (buried : Buried at after) where
   -- of one slot
-  slot_kept : (q : Place) (s t : Slot) → Sweeps s t → TiesAt at q s → (home_row after t ≡ home_row at s) × TiesAt after q t
-  slot_kept q (Pointer c o) t (inl e) i = (ap (home_row after) e ∙ keeps_over (at o) (after o) (buried.each o), subst (TiesAt after q) (sym e) (keeps_over_of q (at o) (after o) i (buried.each o)))
-  slot_kept q (Over c b h) t (inl e) i = (ap (home_row after) e, subst (TiesAt after q) (sym e) (keeps_pointer_to q (at h) (after h) i (buried.each h)))
+  slot_kept : (q : Place) (s t : Slot) → Sweeps s t → TiesAt at q s
+      → (home_row after t ≡ home_row at s) × TiesAt after q t
+  slot_kept q (Pointer c o) t (inl e) i = (
+    ap (home_row after) e ∙ keeps_over (at o) (after o) (buried.each o),
+    subst (TiesAt after q) (sym e) (keeps_over_of q (at o) (after o) i (buried.each o)),
+  )
+  slot_kept q (Over c b h) t (inl e) i = (
+    ap (home_row after) e,
+    subst (TiesAt after q) (sym e) (keeps_pointer_to q (at h) (after h) i (buried.each h)),
+  )
   slot_kept q Free t (inl e) i = (ap (home_row after) e, subst (TiesAt after q) (sym e) tt)
   slot_kept q (Row a b) t (inl e) i = (ap (home_row after) e, subst (TiesAt after q) (sym e) tt)
   slot_kept q (DeadRow a b) t (inl e) i = (ap (home_row after) e, subst (TiesAt after q) (sym e) tt)
-  slot_kept q (DeadPointer a b d) t (inl e) i = (ap (home_row after) e, subst (TiesAt after q) (sym e) tt)
-  slot_kept q (DeadOver a b d) t (inl e) i = (ap (home_row after) e, subst (TiesAt after q) (sym e) tt)
+  slot_kept q (DeadPointer a b d) t (inl e) i =
+      (ap (home_row after) e, subst (TiesAt after q) (sym e) tt)
+  slot_kept q (DeadOver a b d) t (inl e) i =
+      (ap (home_row after) e, subst (TiesAt after q) (sym e) tt)
   slot_kept q Free t (inr e) i = absurd (cc (e.0))
   slot_kept q (Row a b) t (inr e) i = absurd (cc (e.0))
   slot_kept q (Pointer a b) t (inr e) i = absurd (cc (e.0))
   slot_kept q (Over a b d) t (inr e) i = absurd (cc (e.0))
-  slot_kept q (DeadRow a b) t (inr e) i = (ap (home_row after) e.1, subst (TiesAt after q) (sym e.1) tt)
-  slot_kept q (DeadPointer a b d) t (inr e) i = (ap (home_row after) e.1, subst (TiesAt after q) (sym e.1) tt)
-  slot_kept q (DeadOver a b d) t (inr e) i = (ap (home_row after) e.1, subst (TiesAt after q) (sym e.1) tt)
+  slot_kept q (DeadRow a b) t (inr e) i =
+      (ap (home_row after) e.1, subst (TiesAt after q) (sym e.1) tt)
+  slot_kept q (DeadPointer a b d) t (inr e) i =
+      (ap (home_row after) e.1, subst (TiesAt after q) (sym e.1) tt)
+  slot_kept q (DeadOver a b d) t (inr e) i =
+      (ap (home_row after) e.1, subst (TiesAt after q) (sym e.1) tt)
 
   pub buried_rows : Tied at → (q : Place) → row_at after q ≡ row_at at q
   buried_rows tied q = (slot_kept q (at q) (after q) (buried.each q) (tied q)).0
@@ -91,7 +106,8 @@ module _ (at after : Place → Slot) (buried : Buried at after) where
   pub buried_alive : (q : Place) → is_dead (at q) ≡ false → after q ≡ at q
   buried_alive q a = alive (at q) (at q) a (after q) (buried.each q)
 
-pub buried_then : (at mid after : Place → Slot) (home : Place) (row : Option TableRow) → Tied at → Buried at mid → ChangesHome mid after home row → ChangesHome at after home row
+pub buried_then : (at mid after : Place → Slot) (home : Place) (row : Option TableRow) → Tied at
+    → Buried at mid → ChangesHome mid after home row → ChangesHome at after home row
 buried_then at mid after home row tied buried c = record {
   here = c.here;
   others = λ q n. c.others q n ∙ buried_rows at mid buried tied q;

@@ -1,12 +1,15 @@
 -- The slots of a page with one set, and with the Free slots at the end dropped.
-use Rattle.std.proofs.Common.{◌≡◌, ℕ, ◌+◌, ◌*◌, ◌<◌, ◌≤◌, true, false, zero, suc, List, [], ◌∷◌, ◌++◌, length, get_or, set, refl, ◌∙◌, ap, arith}
+use Rattle.std.proofs.Common.{◌≡◌, ℕ, ◌+◌, ◌*◌, ◌<◌, ◌≤◌, true, false, zero, suc, List, [], ◌∷◌}
+use Rattle.std.proofs.Common.{◌++◌, length, get_or, set, refl, ◌∙◌, ap, arith}
 use Rattle.rg_home.specs.Slot.{Slot}
 use Rattle.rg_home.specs.Slot.{Free, Row, Pointer, Over, DeadRow, DeadPointer, DeadOver}
-use Rattle.rg_home.specs.Slots.{capacity_of, is_free, used, slot_at, cut, trim, IsTrimmed, put, placed}
+use Rattle.rg_home.specs.Slots.{capacity_of, is_free, used, slot_at, cut, trim, IsTrimmed, put}
+use Rattle.rg_home.specs.Slots.{placed}
 
 -- look-up
 
-pub slot_at-cut : (s : Slot) (slots : List Slot) (i : ℕ) → slot_at (cut s slots) i ≡ slot_at (s ∷ slots) i
+pub slot_at-cut : (s : Slot) (slots : List Slot) (i : ℕ)
+    → slot_at (cut s slots) i ≡ slot_at (s ∷ slots) i
 slot_at-cut Free [] zero = refl
 slot_at-cut Free [] (suc i) = refl
 slot_at-cut Free (x ∷ slots) i = refl
@@ -28,7 +31,8 @@ slot_at-put_same [] (suc i) s = slot_at-put_same [] i s
 slot_at-put_same (x ∷ slots) zero s = refl
 slot_at-put_same (x ∷ slots) (suc i) s = slot_at-put_same slots i s
 
-pub slot_at-put_other : (slots : List Slot) (i j : ℕ) (s : Slot) → (j ≡ i → ⊥) → slot_at (put slots i s) j ≡ slot_at slots j
+pub slot_at-put_other : (slots : List Slot) (i j : ℕ) (s : Slot) → (j ≡ i → ⊥)
+    → slot_at (put slots i s) j ≡ slot_at slots j
 slot_at-put_other [] zero zero s n = absurd (n refl)
 slot_at-put_other [] zero (suc j) s n = refl
 slot_at-put_other [] (suc i) zero s n = refl
@@ -36,13 +40,16 @@ slot_at-put_other [] (suc i) (suc j) s n = slot_at-put_other [] i j s (λ e. n (
 slot_at-put_other (x ∷ slots) zero zero s n = absurd (n refl)
 slot_at-put_other (x ∷ slots) zero (suc j) s n = refl
 slot_at-put_other (x ∷ slots) (suc i) zero s n = refl
-slot_at-put_other (x ∷ slots) (suc i) (suc j) s n = slot_at-put_other slots i j s (λ e. n (ap suc e))
+slot_at-put_other (x ∷ slots) (suc i) (suc j) s n =
+    slot_at-put_other slots i j s (λ e. n (ap suc e))
 
 pub slot_at-placed_same : (slots : List Slot) (i : ℕ) (s : Slot) → slot_at (placed slots i s) i ≡ s
 slot_at-placed_same slots i s = slot_at-trim (put slots i s) i ∙ slot_at-put_same slots i s
 
-pub slot_at-placed_other : (slots : List Slot) (i j : ℕ) (s : Slot) → (j ≡ i → ⊥) → slot_at (placed slots i s) j ≡ slot_at slots j
-slot_at-placed_other slots i j s n = slot_at-trim (put slots i s) j ∙ slot_at-put_other slots i j s n
+pub slot_at-placed_other : (slots : List Slot) (i j : ℕ) (s : Slot) → (j ≡ i → ⊥)
+    → slot_at (placed slots i s) j ≡ slot_at slots j
+slot_at-placed_other slots i j s n =
+    slot_at-trim (put slots i s) j ∙ slot_at-put_other slots i j s n
 
 -- trim
 
@@ -79,25 +86,32 @@ trim-free [] = refl
 trim-free (s ∷ slots) = ap (cut s) (trim-free slots)
 
 -- slots that end in one that is not Free
-pub trim-full : (slots : List Slot) (s : Slot) → is_free s ≡ false → trim (slots ++ s ∷ []) ≡ slots ++ s ∷ []
+pub trim-full : (slots : List Slot) (s : Slot) → is_free s ≡ false
+    → trim (slots ++ s ∷ []) ≡ slots ++ s ∷ []
 trim-full [] s e = cut-full s [] e
 trim-full (x ∷ []) s e = ap (cut x) (cut-full s [] e) ∙ cut-cons x s []
-trim-full (x ∷ y ∷ slots) s e = ap (cut x) (trim-full (y ∷ slots) s e) ∙ cut-cons x y (slots ++ s ∷ [])
+trim-full (x ∷ y ∷ slots) s e =
+    ap (cut x) (trim-full (y ∷ slots) s e) ∙ cut-cons x y (slots ++ s ∷ [])
 
-cut-put : (x : Slot) (slots : List Slot) (i : ℕ) (s : Slot) → cut x (put slots i s) ≡ x ∷ put slots i s
+cut-put : (x : Slot) (slots : List Slot) (i : ℕ) (s : Slot)
+    → cut x (put slots i s) ≡ x ∷ put slots i s
 cut-put x [] zero s = cut-cons x s []
 cut-put x [] (suc i) s = cut-cons x Free (put [] i s)
 cut-put x (y ∷ slots) zero s = cut-cons x s slots
 cut-put x (y ∷ slots) (suc i) s = cut-cons x y (put slots i s)
 
-pub trim-put_past : (slots : List Slot) (i : ℕ) (s : Slot) → length slots ≤ i → is_free s ≡ false → trim (put slots i s) ≡ put slots i s
+pub trim-put_past : (slots : List Slot) (i : ℕ) (s : Slot) → length slots ≤ i → is_free s ≡ false
+    → trim (put slots i s) ≡ put slots i s
 trim-put_past [] zero s n e = cut-full s [] e
-trim-put_past [] (suc i) s n e = ap (cut Free) (trim-put_past [] i s (omega arith) e) ∙ cut-put Free [] i s
+trim-put_past [] (suc i) s n e =
+    ap (cut Free) (trim-put_past [] i s (omega arith) e) ∙ cut-put Free [] i s
 trim-put_past (x ∷ slots) zero s n e = absurd (omega arith)
-trim-put_past (x ∷ slots) (suc i) s n e = ap (cut x) (trim-put_past slots i s (omega arith) e) ∙ cut-put x slots i s
+trim-put_past (x ∷ slots) (suc i) s n e =
+    ap (cut x) (trim-put_past slots i s (omega arith) e) ∙ cut-put x slots i s
 
 -- a Free slot past the end changes nothing
-pub trim-put_free : (slots : List Slot) (i : ℕ) → length slots ≤ i → trim (put slots i Free) ≡ trim slots
+pub trim-put_free : (slots : List Slot) (i : ℕ) → length slots ≤ i
+    → trim (put slots i Free) ≡ trim slots
 trim-put_free [] zero n = refl
 trim-put_free [] (suc i) n = ap (cut Free) (trim-put_free [] i (omega arith))
 trim-put_free (x ∷ slots) zero n = absurd (omega arith)
@@ -105,18 +119,21 @@ trim-put_free (x ∷ slots) (suc i) n = ap (cut x) (trim-put_free slots i (omega
 
 -- put, as the code does it
 
-pub put-set : (slots : List Slot) (i : ℕ) (s : Slot) → i < length slots → put slots i s ≡ set slots i s
+pub put-set : (slots : List Slot) (i : ℕ) (s : Slot) → i < length slots
+    → put slots i s ≡ set slots i s
 put-set [] i s n = absurd (omega arith)
 put-set (x ∷ slots) zero s n = refl
 put-set (x ∷ slots) (suc i) s n = ap (λ (r : List Slot). x ∷ r) (put-set slots i s (omega arith))
 
-pub put-end : (slots : List Slot) (i : ℕ) (s : Slot) → i ≡ length slots → put slots i s ≡ slots ++ s ∷ []
+pub put-end : (slots : List Slot) (i : ℕ) (s : Slot) → i ≡ length slots
+    → put slots i s ≡ slots ++ s ∷ []
 put-end [] zero s n = refl
 put-end [] (suc i) s n = absurd (omega arith)
 put-end (x ∷ slots) zero s n = absurd (omega arith)
 put-end (x ∷ slots) (suc i) s n = ap (λ (r : List Slot). x ∷ r) (put-end slots i s (omega arith))
 
-pub put-more : (slots : List Slot) (i : ℕ) (s : Slot) → length slots < i → put (slots ++ Free ∷ []) i s ≡ put slots i s
+pub put-more : (slots : List Slot) (i : ℕ) (s : Slot) → length slots < i
+    → put (slots ++ Free ∷ []) i s ≡ put slots i s
 put-more [] zero s n = absurd (omega arith)
 put-more [] (suc i) s n = refl
 put-more (x ∷ slots) zero s n = absurd (omega arith)
@@ -128,12 +145,14 @@ pub used-append : (a b : List Slot) → used (a ++ b) ≡ used a + used b
 used-append [] b = omega arith
 used-append (x ∷ a) b = omega (arith, used-append a b)
 
-pub used-set : (slots : List Slot) (i : ℕ) (s : Slot) → i < length slots → used (set slots i s) + capacity_of (get_or slots i Free) ≡ used slots + capacity_of s
+pub used-set : (slots : List Slot) (i : ℕ) (s : Slot) → i < length slots
+    → used (set slots i s) + capacity_of (get_or slots i Free) ≡ used slots + capacity_of s
 used-set [] i s n = absurd (omega arith)
 used-set (x ∷ slots) zero s n = omega arith
 used-set (x ∷ slots) (suc i) s n = omega (arith, used-set slots i s (omega arith))
 
-pub used-put_past : (slots : List Slot) (i : ℕ) (s : Slot) → length slots ≤ i → used (put slots i s) + 18 * length slots ≡ used slots + 18 * (i + 1) + capacity_of s
+pub used-put_past : (slots : List Slot) (i : ℕ) (s : Slot) → length slots ≤ i
+    → used (put slots i s) + 18 * length slots ≡ used slots + 18 * (i + 1) + capacity_of s
 used-put_past [] zero s n = omega arith
 used-put_past [] (suc i) s n = omega (arith, used-put_past [] i s (omega arith))
 used-put_past (x ∷ slots) zero s n = absurd (omega arith)
@@ -158,9 +177,14 @@ tail : (x : Slot) (slots : List Slot) → IsTrimmed (x ∷ slots) → IsTrimmed 
 tail x slots t = cut_tail x (trim slots) slots t
 
 -- trimmed slots, with one of them set to another that is not Free, are trimmed
-pub trim-set_full : (slots : List Slot) (i : ℕ) (s : Slot) → i < length slots → IsTrimmed slots → is_free s ≡ false → IsTrimmed (set slots i s)
+pub trim-set_full : (slots : List Slot) (i : ℕ) (s : Slot) → i < length slots → IsTrimmed slots
+    → is_free s ≡ false → IsTrimmed (set slots i s)
 trim-set_full [] i s n t e = absurd (omega arith)
 trim-set_full (x ∷ slots) zero s n t e = ap (cut s) (tail x slots t) ∙ cut-full s slots e
 trim-set_full (x ∷ []) (suc i) s n t e = absurd (omega arith)
-trim-set_full (x ∷ y ∷ slots) (suc zero) s n t e = ap (cut x) (trim-set_full (y ∷ slots) zero s (omega arith) (tail x (y ∷ slots) t) e) ∙ cut-cons x s slots
-trim-set_full (x ∷ y ∷ slots) (suc (suc i)) s n t e = ap (cut x) (trim-set_full (y ∷ slots) (suc i) s (omega arith) (tail x (y ∷ slots) t) e) ∙ cut-cons x y (set slots i s)
+trim-set_full (x ∷ y ∷ slots) (suc zero) s n t e =
+    ap (cut x) (trim-set_full (y ∷ slots) zero s (omega arith) (tail x (y ∷ slots) t) e)
+    ∙ cut-cons x s slots
+trim-set_full (x ∷ y ∷ slots) (suc (suc i)) s n t e =
+    ap (cut x) (trim-set_full (y ∷ slots) (suc i) s (omega arith) (tail x (y ∷ slots) t) e)
+    ∙ cut-cons x y (set slots i s)

@@ -7,7 +7,8 @@
 --    show.
 -- 3. A new area goes to the first page that admits it, there to the lowest free slot. There is none
 --    exactly where the copy has all its pages and none of them admits.
-use Rattle.std.specs.Prelude.{◌≡◌, ℕ, ◌+◌, ◌≤◌, ◌<◌, ◌↔◌, true, false, not, List, [], length, Option, Some, None, IfSome, if◌then◌else◌}
+use Rattle.std.specs.Prelude.{◌≡◌, ℕ, ◌+◌, ◌≤◌, ◌<◌, ◌↔◌, true, false, not, List, [], length}
+use Rattle.std.specs.Prelude.{Option, Some, None, IfSome, if◌then◌else◌}
 use Rattle.rg_base.specs.RowBytes.{row_size}
 use Rattle.rg_base.specs.declared.place.Place.{Place}
 use Rattle.rg_base.specs.declared.row.Row.{Row as TableRow}
@@ -18,7 +19,8 @@ use Rattle.rg_home.specs.Rows.{row_at, lies_at, ChangesHome}
 use Rattle.rg_home.specs.Pages.{page_at, slot_of, applied, FitsAll, TakesAll, row_or_empty}
 use Rattle.rg_home.specs.declared.plan.Plan.{Plan}
 use Rattle.rg_home.specs.declared.plan.Area.{Area}
-use Rattle.rg_home.specs.Plan.{admits, fitting, is_home, lies_changed, new_area, pages_after, planned_change, planned_drop, planned_put, purge_of, purged, takes}
+use Rattle.rg_home.specs.Plan.{admits, fitting, is_home, lies_changed, new_area, pages_after}
+use Rattle.rg_home.specs.Plan.{planned_change, planned_drop, planned_put, purge_of, purged, takes}
 use Rattle.rg_home.specs.Able.{Proper}
 
 -- the row that a plan brings is at its home, no other row changes or moves, and all parts fit

@@ -6,7 +6,8 @@
 --    for every kind of record: writes, purges, undo and redo.
 -- 3. Each part fits: its page stays within its bytes, and is there or may be added. A part that
 --    brings a row has an area that holds it. So the pages stay sound.
-use Rattle.std.specs.Prelude.{◌≡◌, ℕ, zero, suc, List, [], ◌∷◌, Option, Some, None, slice_index_or, ◌≤◌, IsSomeAnd}
+use Rattle.std.specs.Prelude.{◌≡◌, ℕ, zero, suc, List, [], ◌∷◌, Option, Some, None, slice_index_or}
+use Rattle.std.specs.Prelude.{◌≤◌, IsSomeAnd}
 use Rattle.rg_base.specs.RowBytes.{row_size}
 use Rattle.rg_base.specs.declared.place.Place.{Place}
 use Rattle.rg_base.specs.declared.row.Row.{Row as TableRow}

@@ -8,7 +8,8 @@
 -- 4. A page is purged only where the write that chose it needs the bytes: it frees the dead areas
 --    of ended owners, all of them on that page. A dead area of a live unit is what its undo goes
 --    back to.
-use Rattle.std.specs.Prelude.{◌==◌, ℕ, ◌+◌, ◌-◌, nat_le, nat_lt, Bool, true, false, not, List, [], ◌∷◌, map, Option, Some, None, if◌then◌else◌}
+use Rattle.std.specs.Prelude.{◌==◌, ℕ, ◌+◌, ◌-◌, nat_le, nat_lt, Bool, true, false, not, List, []}
+use Rattle.std.specs.Prelude.{◌∷◌, map, Option, Some, None, if◌then◌else◌}
 use Rattle.std.specs.List.{position_or_len, list_any}
 use Rattle.rg_base.specs.declared.place.Place.{Place}
 use Rattle.rg_base.specs.declared.row.Row.{Row as TableRow}

@@ -3,7 +3,8 @@
 -- 1. Slots are numbered from 0. Past the last one all are Free, so a look-up is total.
 -- 2. Free slots at the end are dropped (trimmed), and put back where a higher slot is set.
 -- 3. A slot takes 18 bytes and its capacity, and a page has 4,064 bytes of room.
-use Rattle.std.specs.Prelude.{◌≡◌, ℕ, ◌+◌, ◌≤◌, Bool, true, false, List, [], ◌∷◌, slice_index_or, zero, suc}
+use Rattle.std.specs.Prelude.{◌≡◌, ℕ, ◌+◌, ◌≤◌, Bool, true, false, List, [], ◌∷◌, slice_index_or}
+use Rattle.std.specs.Prelude.{zero, suc}
 use Rattle.rg_home.specs.Slot.{Slot}
 use Rattle.rg_home.specs.Slot.{Free, Row, Pointer, Over, DeadRow, DeadPointer, DeadOver}
 

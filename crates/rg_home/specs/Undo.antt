@@ -7,7 +7,8 @@
 -- 3. A unit is undone by its writes, the latest first. Then each of its homes has the row that it
 --    had before the unit wrote there.
 use Rattle.rg_base.specs.RowBytes.{row_size}
-use Rattle.std.specs.Prelude.{Bool, true, false, nat_le, List, [], ◌∷◌, Option, Some, None, if◌then◌else◌}
+use Rattle.std.specs.Prelude.{Bool, true, false, nat_le, List, [], ◌∷◌, Option, Some, None}
+use Rattle.std.specs.Prelude.{if◌then◌else◌}
 use Rattle.rg_base.specs.declared.place.Place.{Place}
 use Rattle.rg_base.specs.declared.row.Row.{Row as TableRow}
 use Rattle.rg_base.specs.declared.part.Part.{Part}

@@ -1,5 +1,6 @@
 //! Each function's contract is a law of the definitions. None of them runs anything.
-ghost use Rattle.rg_home.specs.Laws.{PurgeDoes, PutDoes, ChangeDoes, DropDoes, RowLies, FirstFit, FullMeans};
+ghost use Rattle.rg_home.specs.Laws.{PurgeDoes, PutDoes, ChangeDoes, DropDoes, RowLies, FirstFit};
+ghost use Rattle.rg_home.specs.Laws.{FullMeans};
 
 /// What plans do, once they are carried out: to rows, to where they lie, and to the bytes of pages.
 pub fn plans_law()

@@ -16,5 +16,6 @@ all_fit rs entries entry c = omega (arith, entry_size entry (entries entry c))
 pub are_values : (rs : List Record) → AreEntries rs → AreValues rs
 are_values rs entries entry c = (entries entry c).fits
 
-pub item_is : (rs : List Record) (i : ℕ) (x : Record) → AreEntries rs → i < length rs → x ≡ get_or rs i x → IsEntry x
+pub item_is : (rs : List Record) (i : ℕ) (x : Record) → AreEntries rs → i < length rs
+    → x ≡ get_or rs i x → IsEntry x
 item_is rs i x entries lt is = entries x (i, lt, sym is)

@@ -1,5 +1,7 @@
 -- The log pages that follow the rule, and the log of the image.
-use Rattle.std.proofs.Common.{◌≡◌, ⊎_elim, ℕ, suc, ◌+◌, ◌-◌, ◌<◌, ◌≤◌, nat_le, Bool, true, List, [], ◌∷◌, ◌++◌, length, drop, refl, sym, ◌∙◌, subst, ap, arith, if◌then◌else◌}
+use Rattle.std.proofs.Common.{◌≡◌, ⊎_elim, ℕ, suc, ◌+◌, ◌-◌, ◌<◌, ◌≤◌, nat_le, Bool, true, List, []}
+use Rattle.std.proofs.Common.{◌∷◌, ◌++◌, length, drop, refl, sym, ◌∙◌, subst, ap, arith}
+use Rattle.std.proofs.Common.{if◌then◌else◌}
 use Rattle.std.proofs.lemmas.List.{drop-append-le, length-drop, take_all}
 use Rattle.std.proofs.lemmas.List.Elements.{Contains-append_cases}
 use Rattle.std.proofs.lemmas.Bool.{lt-leb, le-leb}
@@ -21,10 +23,13 @@ use Rattle.rg_image.proofs.Room.{first_step}
 use Rattle.rg_image.proofs.Start.{end_is}
 
 -- where all records fit the page and the next one does not, just they stand on it
-pub fitting_full : (page used : ℕ) (back more : List Record) (r : Record) → fitting used back ≡ length back
-    → room < (end_of (record { page = page; used = used }) back).used + size_of r → fitting used (back ++ r ∷ more) ≡ length back
+pub fitting_full : (page used : ℕ) (back more : List Record) (r : Record)
+    → fitting used back ≡ length back
+    → room < (end_of (record { page = page; used = used }) back).used + size_of r
+    → fitting used (back ++ r ∷ more) ≡ length back
 fitting_full page used [] more r all full =
-    ap (λ (t : Bool). if t then suc (fitting (used + size_of r) more) else 0) (lt-leb (used + size_of r) room full)
+    ap (λ (t : Bool). if t then suc (fitting (used + size_of r) more) else 0)
+    (lt-leb (used + size_of r) room full)
 fitting_full page used (x ∷ back) more r all full =
     let step = first_step used x back (omega (arith, all)) in
     let whole = first_step used x (back ++ r ∷ more) in
@@ -33,40 +38,52 @@ fitting_full page used (x ∷ back) more r all full =
     fitting_full page (used + size_of x) back more r (omega (arith, all, step.1))
     (subst (λ (s : Spot). room < (end_of s back).used + size_of r) next full) in
     let fits : nat_le (used + size_of x) room ≡ true = le-leb (used + size_of x) room step.0 in
-    ap (λ (t : Bool). if t then suc (fitting (used + size_of x) (back ++ r ∷ more)) else 0) fits ∙ ap suc rest
+    ap (λ (t : Bool). if t then suc (fitting (used + size_of x) (back ++ r ∷ more)) else 0) fits
+    ∙ ap suc rest
 
 -- the spot after all records, counted from the last page
-pub last_spot : (rs : List Record) (from page : ℕ) → IsOpened rs from page → 1 ≤ page → end_of start rs ≡ end_of (record { page = page; used = 0 }) (drop from rs)
+pub last_spot : (rs : List Record) (from page : ℕ) → IsOpened rs from page → 1 ≤ page
+    → end_of start rs ≡ end_of (record { page = page; used = 0 }) (drop from rs)
 last_spot rs from page is low =
     let all : from + fitting 0 (drop from rs) ≡ length rs = is.whole low in
     let len : length (drop from rs) ≡ length rs - from = length-drop from rs in
     let there : from < length rs = is.there low in
     ap (end_of start) (sym (take_all (from + fitting 0 (drop from rs)) rs (omega (arith, all))))
     ∙ end_is rs from page (is.begins low) is.fit there
-    ∙ ap (end_of (record { page = page; used = 0 })) (take_all (fitting 0 (drop from rs)) (drop from rs) (omega (arith, all, len, there)))
+    ∙ ap (end_of (record { page = page; used = 0 }))
+    (take_all (fitting 0 (drop from rs)) (drop from rs) (omega (arith, all, len, there)))
 
 -- the first record of the next page had no room, so its page ends there
-pub page_ends : (rs : List Record) (more : List Record) (r : Record) (from page : ℕ) → IsOpened rs from page → 1 ≤ page
-    → room < (end_of start rs).used + size_of r → from + fitting 0 (drop from (rs ++ r ∷ more)) ≡ length rs
+pub page_ends : (rs : List Record) (more : List Record) (r : Record) (from page : ℕ)
+    → IsOpened rs from page → 1 ≤ page
+    → room < (end_of start rs).used + size_of r
+    → from + fitting 0 (drop from (rs ++ r ∷ more)) ≡ length rs
 page_ends rs more r from page is low full =
     let there : from < length rs = is.there low in
-    let back : drop from (rs ++ r ∷ more) ≡ drop from rs ++ r ∷ more = drop-append-le from rs (r ∷ more) (omega (arith, there)) in
+    let back : drop from (rs ++ r ∷ more) ≡ drop from rs ++ r ∷ more =
+    drop-append-le from rs (r ∷ more) (omega (arith, there)) in
     let len : length (drop from rs) ≡ length rs - from = length-drop from rs in
-    let all : fitting 0 (drop from rs) ≡ length (drop from rs) = omega (arith, is.whole low, len, there) in
+    let all : fitting 0 (drop from rs) ≡ length (drop from rs) =
+    omega (arith, is.whole low, len, there) in
     let e : fitting 0 (drop from (rs ++ r ∷ more)) ≡ length (drop from rs) =
-    ap (fitting 0) back ∙ fitting_full page 0 (drop from rs) more r all (subst (λ (s : Spot). room < s.used + size_of r) (last_spot rs from page is low) full) in
+    ap (fitting 0) back
+    ∙ fitting_full page 0 (drop from rs) more r all
+    (subst (λ (s : Spot). room < s.used + size_of r) (last_spot rs from page is low) full) in
     omega (arith, e, len, there)
 
 -- one more page
-pub next_opened : (rs more : List Record) (from page : ℕ) (bytes : List ℕ) → IsOpened rs from page → IsNextPage (page + 1) rs more bytes → IsOpened (rs ++ more) (length rs) (page + 1)
+pub next_opened : (rs more : List Record) (from page : ℕ) (bytes : List ℕ) → IsOpened rs from page
+    → IsNextPage (page + 1) rs more bytes → IsOpened (rs ++ more) (length rs) (page + 1)
 next_opened rs [] from page bytes is next = absurd next.follows
 next_opened rs (r ∷ more) from page bytes is next =
     ⊎_elim
-    (λ low. joined rs (r ∷ more) from page is low.1 (omega arith) next.fits (page_ends rs more r from page is low.1 (next.follows.1 (omega (arith, low.1)))))
+    (λ low. joined rs (r ∷ more) from page is low.1 (omega arith) next.fits
+    (page_ends rs more r from page is low.1 (next.follows.1 (omega (arith, low.1)))))
     (λ lt. let zero_ : page ≡ 0 = omega (arith, lt.1) in
     let none : rs ≡ [] = is.none zero_ in
     subst (λ (p : ℕ). IsOpened (rs ++ r ∷ more) (length rs) (p + 1)) (sym zero_)
-    (subst (λ (l : List Record). IsOpened (l ++ r ∷ more) (length l) (0 + 1)) (sym none) (first_opened (r ∷ more) (omega arith) next.fits)))
+    (subst (λ (l : List Record). IsOpened (l ++ r ∷ more) (length l) (0 + 1)) (sym none)
+    (first_opened (r ∷ more) (omega arith) next.fits)))
     (leb_tells 1 page)
 
 -- what is known of the pages so far
@@ -91,17 +108,21 @@ known i _ _ NoPage = record {
 }
 known i _ _ (OnePage page rs more are next) =
     let k = known i page rs are in
-    let opened : IsOpened (rs ++ more) (length rs) (page + 1) = next_opened rs more k.from page (i Log (page + 1)) k.opened next in
+    let opened : IsOpened (rs ++ more) (length rs) (page + 1) =
+    next_opened rs more k.from page (i Log (page + 1)) k.opened next in
     record {
       from = length rs;
       opened = opened;
-      spells = spells_on rs more (page + 1) i (opened.begins (omega arith)) opened.fit next.fits (λ p low lt. k.spells p low (omega (arith, lt))) next.spelt;
+      spells = spells_on rs more (page + 1) i (opened.begins (omega arith)) opened.fit next.fits
+          (λ p low lt. k.spells p low (omega (arith, lt))) next.spelt;
       entries = λ r c. ⊎_elim (k.entries r) (next.entries r) (Contains-append_cases rs more r c);
     }
 
 -- where all log pages have the form, their records are the log
-pub log_is_read : (capacity : ℕ) (i : Image) (rs : List Record) → HasLogPages capacity i rs → log_of capacity i ≡ rs
+pub log_is_read : (capacity : ℕ) (i : Image) (rs : List Record) → HasLogPages capacity i rs
+    → log_of capacity i ≡ rs
 unfolding page_bytes
 log_is_read capacity i rs has =
     let k = known i has.pages rs has.are in
-    opened_log capacity rs k.from has.pages i k.opened (are_values rs k.entries) has.high k.spells has.stop
+    opened_log capacity rs k.from has.pages i k.opened (are_values rs k.entries) has.high k.spells
+    has.stop

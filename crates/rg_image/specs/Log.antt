@@ -1,5 +1,6 @@
 -- The log of an image.
-use Rattle.std.specs.Prelude.{◌≡◌, ◌≤◌, ◌+◌, ◌==◌, ℕ, suc, zero, Bool, not, List, [], ◌∷◌, ◌++◌, length, take, drop, take_while, option_to_list, replicate}
+use Rattle.std.specs.Prelude.{◌≡◌, ◌≤◌, ◌+◌, ◌==◌, ℕ, suc, zero, Bool, not, List, [], ◌∷◌, ◌++◌}
+use Rattle.std.specs.Prelude.{length, take, drop, take_while, option_to_list, replicate}
 use Rattle.std.specs.List.{flat_map, list_all}
 use Rattle.byteorder.specs.Endian.{big_number}
 use Rattle.rg_base.specs.declared.set.Set.TheVariants.{Log}

@@ -19,7 +19,8 @@ ghost use Rattle.rg_record.specs.declared.record.Record.{Record};
 ghost use Rattle.rg_image.specs.Kept.{AreEntries};
 ghost use Rattle.rg_image.specs.Log.{Spells, SpellsFrom, log_of, IsZeroLog};
 ghost use Rattle.rg_image.specs.Pack.{end_of, start};
-ghost use Rattle.rg_image.specs.Rules.{ArePositions, BreaksChain, BreaksLogPages, HasLogPages, IsChain};
+ghost use Rattle.rg_image.specs.Rules.{ArePositions, BreaksChain, BreaksLogPages, HasLogPages};
+ghost use Rattle.rg_image.specs.Rules.{IsChain};
 ghost use Rattle.rg_image.specs.Rules.{IsTidyLog};
 
 /// An image whose log pages spell records has them as its log.

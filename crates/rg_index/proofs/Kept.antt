@@ -13,19 +13,27 @@ use Rattle.rg_index.proofs.Lists.{IsRising-put_entry, rising_part-rising}
 pub shown_is : (es shown : List (ℕ × Place)) → IsRising es → es ≡ shown → rising_part shown ≡ es
 shown_is es shown rising seen = ap rising_part (sym seen) ∙ rising_part-rising es rising
 
-pub added : (e : ℕ × Place) (es shown : List (ℕ × Place)) → IsRising es → es ≡ shown → has_entry (rising_part shown) e ≡ false → IsRising (put_entry e es) × (rising_part (put_entry e es) ≡ put_entry e (rising_part shown))
+pub added : (e : ℕ × Place) (es shown : List (ℕ × Place)) → IsRising es → es ≡ shown
+    → has_entry (rising_part shown) e ≡ false
+    → IsRising (put_entry e es) × (rising_part (put_entry e es) ≡ put_entry e (rising_part shown))
 added e es shown rising seen absent =
     let is = shown_is es shown rising seen in
     let rises = IsRising-put_entry e es rising (ap (λ xs. has_entry xs e) (sym is) ∙ absent) in
     (rises, rising_part-rising (put_entry e es) rises ∙ ap (put_entry e) (sym is))
 
-pub removed : (e : ℕ × Place) (es shown : List (ℕ × Place)) → IsRising es → es ≡ shown → IsRising (without_entry e es) × (rising_part (without_entry e es) ≡ without_entry e (rising_part shown))
+pub removed : (e : ℕ × Place) (es shown : List (ℕ × Place)) → IsRising es → es ≡ shown
+    → IsRising (without_entry e es)
+    × (rising_part (without_entry e es) ≡ without_entry e (rising_part shown))
 removed e es shown rising seen =
     let is = shown_is es shown rising seen in
-    let rises = IsRising-filter (λ x. not (Rattle.rg_model.specs.Layout.same_entry e x)) es rising in
+    let rises =
+    IsRising-filter (λ x. not (Rattle.rg_model.specs.Layout.same_entry e x)) es rising in
     (rises, rising_part-rising (without_entry e es) rises ∙ ap (without_entry e) (sym is))
 
 -- a vector into which an entry was put where a search said
-pub inserted : (e : ℕ × Place) (es seen new : List (ℕ × Place)) (n : ℕ) (ok : Bool) → seen ≡ es → IsCutBy (λ x. not (is_entry_before e x)) seen n → new ≡ cond ok (insert es n e) es → ok ≡ true → new ≡ put_entry e es
+pub inserted : (e : ℕ × Place) (es seen new : List (ℕ × Place)) (n : ℕ) (ok : Bool) → seen ≡ es
+    → IsCutBy (λ x. not (is_entry_before e x)) seen n → new ≡ cond ok (insert es n e) es → ok ≡ true
+    → new ≡ put_entry e es
 inserted e es seen new n ok same cut is done =
-    is ∙ (λ i. cond (done i) (insert es n e) es) ∙ insert_is_put e es n (subst (λ xs. IsCutBy (λ x. not (is_entry_before e x)) xs n) same cut)
+    is ∙ (λ i. cond (done i) (insert es n e) es)
+    ∙ insert_is_put e es n (subst (λ xs. IsCutBy (λ x. not (is_entry_before e x)) xs n) same cut)

@@ -8,40 +8,49 @@ use Rattle.rg_model.specs.Layout.{is_entry_before, same_entry, same_place}
 
 -- by three numbers
 abbrev before3 : ℕ → ℕ → ℕ → ℕ → ℕ → ℕ → Bool
-before3 v p s w q t = nat_le (v + 1) w || (v == w && (nat_le (p + 1) q || (p == q && nat_le (s + 1) t)))
+before3 v p s w q t =
+    nat_le (v + 1) w || (v == w && (nat_le (p + 1) q || (p == q && nat_le (s + 1) t)))
 
-trans3 : (v p s w q t x r u : ℕ) → before3 v p s w q t ≡ true → before3 w q t x r u ≡ true → before3 v p s x r u ≡ true
+trans3 : (v p s w q t x r u : ℕ) → before3 v p s w q t ≡ true → before3 w q t x r u ≡ true
+    → before3 v p s x r u ≡ true
 trans3 v p s w q t x r u a b = grind (arith, nat_tests)
 
 asym3 : (v p s w q t : ℕ) → before3 v p s w q t ≡ true → before3 w q t v p s ≡ false
 asym3 v p s w q t a = grind (arith, nat_tests)
 
-total3 : (v p s w q t : ℕ) → before3 v p s w q t ≡ false → (v == w && (p == q && s == t)) ≡ false → before3 w q t v p s ≡ true
+total3 : (v p s w q t : ℕ) → before3 v p s w q t ≡ false → (v == w && (p == q && s == t)) ≡ false
+    → before3 w q t v p s ≡ true
 total3 v p s w q t a b = grind (arith, nat_tests)
 
 apart3 : (v p s w q t : ℕ) → before3 v p s w q t ≡ true → (v == w && (p == q && s == t)) ≡ false
 apart3 v p s w q t a = grind (arith, nat_tests)
 
-pub before_trans : (a b c : ℕ × Place) → is_entry_before a b ≡ true → is_entry_before b c ≡ true → is_entry_before a c ≡ true
-before_trans a b c p q = trans3 a.0 a.1.page a.1.slot b.0 b.1.page b.1.slot c.0 c.1.page c.1.slot p q
+pub before_trans : (a b c : ℕ × Place) → is_entry_before a b ≡ true → is_entry_before b c ≡ true
+    → is_entry_before a c ≡ true
+before_trans a b c p q =
+    trans3 a.0 a.1.page a.1.slot b.0 b.1.page b.1.slot c.0 c.1.page c.1.slot p q
 
 pub before_asym : (a b : ℕ × Place) → is_entry_before a b ≡ true → is_entry_before b a ≡ false
 before_asym a b p = asym3 a.0 a.1.page a.1.slot b.0 b.1.page b.1.slot p
 
-pub before_total : (a b : ℕ × Place) → is_entry_before a b ≡ false → same_entry b a ≡ false → is_entry_before b a ≡ true
+pub before_total : (a b : ℕ × Place) → is_entry_before a b ≡ false → same_entry b a ≡ false
+    → is_entry_before b a ≡ true
 before_total a b p q = total3' a.0 a.1.page a.1.slot b.0 b.1.page b.1.slot p q
   where
-    total3' : (v p s w q t : ℕ) → before3 v p s w q t ≡ false → (w == v && (q == p && t == s)) ≡ false → before3 w q t v p s ≡ true
+    total3' : (v p s w q t : ℕ) → before3 v p s w q t ≡ false
+        → (w == v && (q == p && t == s)) ≡ false → before3 w q t v p s ≡ true
     total3' v p s w q t a b = grind (arith, nat_tests)
 
--- an entry is not before another, and is not the same: then the other is before it, whichever is named first
+-- an entry is not before another, and is not the same: then the other is before it, whichever is
+-- named first
 pub before_apart : (a b : ℕ × Place) → is_entry_before a b ≡ true → same_entry a b ≡ false
 before_apart a b p = apart3 a.0 a.1.page a.1.slot b.0 b.1.page b.1.slot p
 
 pub behind_apart : (a b : ℕ × Place) → is_entry_before b a ≡ true → same_entry a b ≡ false
 behind_apart a b p = apart3' b.0 b.1.page b.1.slot a.0 a.1.page a.1.slot p
   where
-    apart3' : (v p s w q t : ℕ) → before3 v p s w q t ≡ true → (w == v && (q == p && t == s)) ≡ false
+    apart3' : (v p s w q t : ℕ) → before3 v p s w q t ≡ true
+        → (w == v && (q == p && t == s)) ≡ false
     apart3' v p s w q t a = grind (arith, nat_tests)
 
 pub same_is : (a b : ℕ × Place) → same_entry a b ≡ true → a ≡ b
@@ -60,31 +69,42 @@ same_itself a = itself3 a.0 a.1.page a.1.slot
     itself3 v p s = grind (arith, nat_tests)
 
 -- what an entry that is not behind another has behind it, the other has too
-pub not_behind_trans : (a b c : ℕ × Place) → is_entry_before b a ≡ false → is_entry_before b c ≡ true → is_entry_before a c ≡ true
-not_behind_trans a b c p q = through3 a.0 a.1.page a.1.slot b.0 b.1.page b.1.slot c.0 c.1.page c.1.slot p q
+pub not_behind_trans : (a b c : ℕ × Place) → is_entry_before b a ≡ false
+    → is_entry_before b c ≡ true → is_entry_before a c ≡ true
+not_behind_trans a b c p q =
+    through3 a.0 a.1.page a.1.slot b.0 b.1.page b.1.slot c.0 c.1.page c.1.slot p q
   where
-    through3 : (v p s w q t x r u : ℕ) → before3 w q t v p s ≡ false → before3 w q t x r u ≡ true → before3 v p s x r u ≡ true
+    through3 : (v p s w q t x r u : ℕ) → before3 w q t v p s ≡ false → before3 w q t x r u ≡ true
+        → before3 v p s x r u ≡ true
     through3 v p s w q t x r u a b = grind (arith, nat_tests)
 
 -- what is before what passes passes too
-pub down_through : (entry a b : ℕ × Place) → is_entry_before a b ≡ true → not (is_entry_before entry b) ≡ true → not (is_entry_before entry a) ≡ true
-down_through entry a b p q = go entry.0 entry.1.page entry.1.slot a.0 a.1.page a.1.slot b.0 b.1.page b.1.slot p q
+pub down_through : (entry a b : ℕ × Place) → is_entry_before a b ≡ true
+    → not (is_entry_before entry b) ≡ true → not (is_entry_before entry a) ≡ true
+down_through entry a b p q =
+    go entry.0 entry.1.page entry.1.slot a.0 a.1.page a.1.slot b.0 b.1.page b.1.slot p q
   where
-    go : (x r u v p s w q t : ℕ) → before3 v p s w q t ≡ true → not (before3 x r u w q t) ≡ true → not (before3 x r u v p s) ≡ true
+    go : (x r u v p s w q t : ℕ) → before3 v p s w q t ≡ true → not (before3 x r u w q t) ≡ true
+        → not (before3 x r u v p s) ≡ true
     go x r u v p s w q t a b = grind (arith, nat_tests)
 
-pub down_below : (value : ℕ) (a b : ℕ × Place) → is_entry_before a b ≡ true → nat_le (b.0 + 1) value ≡ true → nat_le (a.0 + 1) value ≡ true
+pub down_below : (value : ℕ) (a b : ℕ × Place) → is_entry_before a b ≡ true
+    → nat_le (b.0 + 1) value ≡ true → nat_le (a.0 + 1) value ≡ true
 down_below value a b p q = go a.0 a.1.page a.1.slot b.0 b.1.page b.1.slot p q
   where
-    go : (v p s w q t : ℕ) → before3 v p s w q t ≡ true → nat_le (w + 1) value ≡ true → nat_le (v + 1) value ≡ true
+    go : (v p s w q t : ℕ) → before3 v p s w q t ≡ true → nat_le (w + 1) value ≡ true
+        → nat_le (v + 1) value ≡ true
     go v p s w q t a b = grind (arith, nat_tests)
 
-pub down_up_to : (value : ℕ) (a b : ℕ × Place) → is_entry_before a b ≡ true → nat_le b.0 value ≡ true → nat_le a.0 value ≡ true
+pub down_up_to : (value : ℕ) (a b : ℕ × Place) → is_entry_before a b ≡ true
+    → nat_le b.0 value ≡ true → nat_le a.0 value ≡ true
 down_up_to value a b p q = go a.0 a.1.page a.1.slot b.0 b.1.page b.1.slot p q
   where
-    go : (v p s w q t : ℕ) → before3 v p s w q t ≡ true → nat_le w value ≡ true → nat_le v value ≡ true
+    go : (v p s w q t : ℕ) → before3 v p s w q t ≡ true → nat_le w value ≡ true
+        → nat_le v value ≡ true
     go v p s w q t a b = grind (arith, nat_tests)
 
 -- an entry that is neither before another nor the same is behind it
-pub before_turned : (a b : ℕ × Place) → is_entry_before a b ≡ false → same_entry a b ≡ false → is_entry_before b a ≡ true
+pub before_turned : (a b : ℕ × Place) → is_entry_before a b ≡ false → same_entry a b ≡ false
+    → is_entry_before b a ≡ true
 before_turned a b p q = total3 a.0 a.1.page a.1.slot b.0 b.1.page b.1.slot p q

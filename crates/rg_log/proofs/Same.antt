@@ -8,7 +8,8 @@ use Rattle.rg_record.specs.declared.record.Record.{Record}
 use Rattle.rg_image.specs.Log.{SpellsFrom}
 use Rattle.rg_log.specs.Kept.{log_pages}
 
-pub spells_respects : (capacities : Capacities) (rs : List Record) (low : ℕ) (t : Told) → t.capacities ≡ capacities
+pub spells_respects : (capacities : Capacities) (rs : List Record) (low : ℕ) (t : Told)
+    → t.capacities ≡ capacities
     → RespectsPages t.capacities (SpellsFrom (log_pages capacities) rs low)
 spells_respects capacities rs low t own i j same is = record {
   count = is.count;

@@ -1,7 +1,8 @@
 -- Opening a log.
 use Rattle.std.specs.Prelude.{◌≡◌, ℕ, List, Option}
 use Rattle.rg_base.specs.declared.set.Set.{Set}
-use Rattle.rg_outside.specs.Calls.{Told, read_of, Call, Read, Wrote, Synced, FailedRead, FailedWrite, FailedSync, Refused}
+use Rattle.rg_outside.specs.Calls.{Told, read_of, Call, Read, Wrote, Synced, FailedRead}
+use Rattle.rg_outside.specs.Calls.{FailedWrite, FailedSync, Refused}
 use Rattle.rg_outside.specs.Faults.{Rose}
 use Rattle.rg_outside.specs.Moments.{CrashLeaves, IfTold}
 use Rattle.rg_record.specs.declared.record.Record.{Record}

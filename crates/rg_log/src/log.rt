@@ -4,7 +4,8 @@
 // 3. Reserved bytes become used bytes, or are given back. Used and reserved bytes together never
 //    pass the limit, so the pages of the records are within the set.
 // 4. Nothing that is forced is lost: records are only added.
-ghost use Rattle.std.specs.Prelude.{◌≡◌, ◌≤◌, ◌<◌, ◌+◌, ◌-◌, ◌++◌, ◌∷◌, [], ℕ, length, OnOk, OnErr, IfOk, IfErr, min, slice_index_or};
+ghost use Rattle.std.specs.Prelude.{◌≡◌, ◌≤◌, ◌<◌, ◌+◌, ◌-◌, ◌++◌, ◌∷◌, [], ℕ, length, OnOk, OnErr};
+ghost use Rattle.std.specs.Prelude.{IfOk, IfErr, min, slice_index_or};
 ghost use Rattle.rg_base.specs.declared.set.Set.TheVariants.{Log as LogSet};
 ghost use Rattle.rg_outside.specs.Faults.{HasCause, Rose};
 ghost use Rattle.rg_outside.specs.Made.{WritesIn};

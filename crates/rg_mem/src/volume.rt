@@ -7,11 +7,13 @@
 //    nothing durable.
 ghost use Rattle.std.specs.Bool.{OnTrue, OnFalse};
 ghost use Rattle.std.specs.Prelude.{◌≡◌, ◌==◌, find, ℕ, ◌≤◌, ◌<◌, ◌^◌, ◌+◌, ◌-◌, []};
-ghost use Rattle.std.specs.Prelude.{slice_index_or, ◌∷◌, ◌++◌, length, is_some, All, IfOk, OnOk, OnErr};
+ghost use Rattle.std.specs.Prelude.{slice_index_or, ◌∷◌, ◌++◌, length, is_some, All, IfOk, OnOk};
+ghost use Rattle.std.specs.Prelude.{OnErr};
 ghost use Rattle.std.specs.Prelude.{is_err};
 ghost use Rattle.std.specs.Prelude.{IsTrue, min, vec_len, vec_capacity, if◌then◌else◌, ◌↔◌};
 ghost use Rattle.rg_mem.specs.Tally.{count_after};
-ghost use Rattle.rg_mem.specs.Listed.{failed_in, is_failed_note, writes_needed, noted_write, zero_page};
+ghost use Rattle.rg_mem.specs.Listed.{failed_in, is_failed_note, writes_needed, noted_write};
+ghost use Rattle.rg_mem.specs.Listed.{zero_page};
 ghost use Rattle.rg_mem.specs.Listed.{pick_at};
 
 use crate::noted::Noted;

@@ -57,14 +57,16 @@ past =
 
 -- the same with key 3 written after the start
 abbrev busy : List Entry
-busy = said 2 (Update (row 3 10 1 99)) Done ∷ line (events.Started options 1 1) ∷ said 1 Commit Done ∷ []
+busy = said 2 (Update (row 3 10 1 99)) Done ∷ line (events.Started options 1 1) ∷ said 1 Commit Done
+    ∷ []
 
 -- PCTFREE 99 lets each page take one row, and FREEPAGE 2 leaves page 3 empty
 abbrev loose : ℕ → Options
 loose freepage = record options { pctfree = 99; freepage = freepage }
 
 abbrev first_of : (page key clus : ℕ) → Spot
-first_of page key clus = record { place = record { page = page; slot = 0 }; key = key; clus = clus; over = None }
+first_of page key clus =
+    record { place = record { page = page; slot = 0 }; key = key; clus = clus; over = None }
 
 one_to_a_page : spots_from (loose 0) 0 0 0 (row 1 10 1 45 ∷ row 2 20 1 45 ∷ row 3 30 1 45 ∷ [])
     ≡ first_of 1 1 10 ∷ first_of 2 2 20 ∷ first_of 3 3 30 ∷ []
@@ -86,19 +88,24 @@ module _
     abbrev st : State
     st = record (at_rest table 1) { claims = claims }
 
-    clustering_restored : is_right_switch past st options (record { old = old; new = clustered }) ≡ true
+    clustering_restored : is_right_switch past st options (record { old = old; new = clustered })
+        ≡ true
     clustering_restored = rw (rows, one, two, three, unclaimed) refl
 
     -- the order in which the rows were unloaded is refused, also where another key changed since
     unload_order_kept : is_right_switch past st options (record { old = old; new = old }) ≡ false
     unload_order_kept = rw (rows, one, two, three, unclaimed) refl
 
-    unload_order_kept_beside_a_writer : is_right_switch busy st options (record { old = old; new = old }) ≡ false
+    unload_order_kept_beside_a_writer :
+        is_right_switch busy st options (record { old = old; new = old }) ≡ false
     unload_order_kept_beside_a_writer = rw (rows, one, two, three, unclaimed) refl
 
     -- an index that lists an earlier value is refused
     stale_index_entry : is_right_switch past st options
-        (record { old = old; new = record clustered { cats = (1, place 1) ∷ (1, place 2) ∷ (3, place 0) ∷ [] } }) ≡ false
+        (record {
+          old = old;
+          new = record clustered { cats = (1, place 1) ∷ (1, place 2) ∷ (3, place 0) ∷ [] };
+        }) ≡ false
     stale_index_entry = rw (rows, one, two, three) refl
 
     -- so is a layout whose indexes list nothing

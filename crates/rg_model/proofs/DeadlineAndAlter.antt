@@ -29,7 +29,9 @@ trace =
     ∷ now (events.Sort Key) ∷ now (events.Sort Clus) ∷ now (events.Sort Cat)
     ∷ now (events.Build Key) ∷ now (events.Build Clus) ∷ now (events.Build Cat)
     ∷ step (answer 40 10 Nothing) (events.Log 1 0 0 Next)
-    ∷ step (answer 40 10 (Alter (record { maxro = Some (Within 10); longlog = None; delay = None; deadline = None })))
+    ∷ step
+    (answer 40 10
+    (Alter (record { maxro = Some (Within 10); longlog = None; delay = None; deadline = None })))
     (events.Log 2 0 0 (Drain Writers))
     ∷ step (answer 41 10 Nothing) (events.Stop reasons.Deadline)
     ∷ []

@@ -25,7 +25,8 @@ options = record defaults { wait = 5; retry = 1; pause = 2 }
 abbrev before : List Entry
 before = line (events.Started options 1 1) ∷ []
 
-abbrev numbers : (iteration asked : ℕ) → Option ℕ → (failed shadow : ℕ) → (last written : Bool) → model.Utility
+abbrev numbers : (iteration asked : ℕ) → Option ℕ → (failed shadow : ℕ) → (last written : Bool)
+    → model.Utility
 numbers iteration asked gave_up failed shadow last written =
     record (new_utility options 1) {
       copied = 1;
@@ -45,20 +46,26 @@ numbers iteration asked gave_up failed shadow last written =
 
 -- once the drain for ALL was given up, and before the next one is asked
 abbrev after_giveup : List Entry
-after_giveup = step (at 5) (events.GiveUp 1) ∷ step (at 4) (events.Wait (session 2)) ∷ step (at 0) (events.Written 1) ∷ before
+after_giveup = step (at 5) (events.GiveUp 1) ∷ step (at 4) (events.Wait (session 2))
+    ∷ step (at 0) (events.Written 1) ∷ before
 
 abbrev drained : List Entry
-drained = step (at 7) (events.Log 3 0 0 (Drain Writers)) ∷ step (at 6) (events.Log 2 0 0 Next) ∷ after_giveup
+drained = step (at 7) (events.Log 3 0 0 (Drain Writers)) ∷ step (at 6) (events.Log 2 0 0 Next)
+    ∷ after_giveup
 
-module _ (table : model.Table) (claims : model.Claims) (reads : map.entries claims ≡ (2, Reader) ∷ []) where
+module _ (table : model.Table) (claims : model.Claims)
+    (reads : map.entries claims ≡ (2, Reader) ∷ []) where
   abbrev state : DrainState → model.Utility → State
   state drain utility = beside table map.empty claims drain utility
 
-  waits : next_state (step (at 0) (events.Written 1) ∷ before) (Some (at 4)) Utility (events.Wait (session 2))
-      (state (Asked All) (numbers 1 0 None 0 1 true true)) ≡ Some (state (Asked All) (numbers 1 0 None 0 1 true true))
+  waits : next_state (step (at 0) (events.Written 1) ∷ before) (Some (at 4)) Utility
+      (events.Wait (session 2)) (state (Asked All) (numbers 1 0 None 0 1 true true))
+      ≡ Some (state (Asked All) (numbers 1 0 None 0 1 true true))
   waits = rw reads refl
 
-  gives_up : next_state (step (at 4) (events.Wait (session 2)) ∷ step (at 0) (events.Written 1) ∷ before) (Some (at 5))
+  gives_up :
+      next_state (step (at 4) (events.Wait (session 2)) ∷ step (at 0) (events.Written 1) ∷ before)
+      (Some (at 5))
       Utility (events.GiveUp 1) (state (Asked All) (numbers 1 0 None 0 1 true true))
       ≡ Some (state Free (numbers 2 0 (Some 5) 1 1 false false))
   gives_up = rw reads refl
@@ -69,8 +76,9 @@ module _ (table : model.Table) (claims : model.Claims) (reads : map.entries clai
   grants = rw reads refl
 
   stops : next_state
-      (step (at 7) (events.Written 1) ∷ step (at 7) (events.Last 0 0) ∷ step (at 7) (events.Granted Writers) ∷ drained)
-      (Some (at 12)) Utility (events.Stop reasons.Drain) (state (Asked All) (numbers 3 7 (Some 5) 1 1 true true))
+      (step (at 7) (events.Written 1) ∷ step (at 7) (events.Last 0 0)
+      ∷ step (at 7) (events.Granted Writers) ∷ drained) (Some (at 12)) Utility
+      (events.Stop reasons.Drain) (state (Asked All) (numbers 3 7 (Some 5) 1 1 true true))
       ≡ Some (stop_utility (state Free (numbers 3 7 (Some 5) 1 1 true true)))
   stops = rw reads refl
 

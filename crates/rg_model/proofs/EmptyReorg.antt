@@ -49,11 +49,21 @@ trace =
 -- after BUILD CAT
 abbrev numbers : (last written switched : Bool) → model.Utility
 numbers last written switched =
-    record (new_utility defaults 0) { sorted = 3; built = 3; iteration = 1; last = last; written = written; switched = switched }
+    record (new_utility defaults 0) {
+      sorted = 3;
+      built = 3;
+      iteration = 1;
+      last = last;
+      written = written;
+      switched = switched;
+    }
 
 abbrev state : ℕ → DrainState → (last written switched : Bool) → State
 state copy drain last written switched =
-    record (at_rest map.empty copy) { drain = drain; utility = Some (numbers last written switched) }
+    record (at_rest map.empty copy) {
+      drain = drain;
+      utility = Some (numbers last written switched);
+    }
 
 abbrev built : List Entry
 built =
@@ -67,25 +77,30 @@ drained = now (events.Log 1 0 0 (Drain Writers)) ∷ built
 abbrev written : List Entry
 written = now (events.Written 0) ∷ now (events.Last 0 0) ∷ now (events.Granted Writers) ∷ drained
 
-granted_writers : next_state drained (Some (at 0)) Utility (events.Granted Writers) (state 1 (Asked Writers) false false false)
+granted_writers : next_state drained (Some (at 0)) Utility (events.Granted Writers)
+    (state 1 (Asked Writers) false false false)
     ≡ Some (state 1 (Granted Writers) false false false)
 granted_writers = rw (entries-empty Class) refl
 
-granted_all : next_state written (Some (at 0)) Utility (events.Granted All) (state 1 (Asked All) true true false)
+granted_all : next_state written (Some (at 0)) Utility (events.Granted All)
+    (state 1 (Asked All) true true false)
     ≡ Some (state 1 (Granted All) true true false)
 granted_all = rw (entries-empty Class) refl
 
-switched : next_state (now (events.Granted All) ∷ written) (Some (at 0)) Utility (events.Switched 2 sides)
+switched : next_state (now (events.Granted All) ∷ written) (Some (at 0)) Utility
+    (events.Switched 2 sides)
     (state 1 (Granted All) true true false) ≡ Some (state 2 Free true true true)
 switched = rw (entries-empty Row, len-empty Class) refl
 
-ended : Run (now (events.Switched 2 sides) ∷ now (events.Granted All) ∷ written) (state 2 Free true true true)
+ended : Run (now (events.Switched 2 sides) ∷ now (events.Granted All) ∷ written)
+    (state 2 Free true true true)
     (now events.Ended ∷ line events.Idle ∷ []) (at_rest map.empty 2)
 ended = (at_rest map.empty 2, refl, (at_rest map.empty 2, refl, refl))
 
-from_drain : Run drained (state 1 (Asked Writers) false false false)
-    (now (events.Granted Writers) ∷ now (events.Last 0 0) ∷ now (events.Written 0) ∷ now (events.Granted All)
-    ∷ now (events.Switched 2 sides) ∷ now events.Ended ∷ line events.Idle ∷ []) (at_rest map.empty 2)
+from_drain : Run drained (state 1 (Asked Writers) false false false) (now (events.Granted Writers)
+    ∷ now (events.Last 0 0) ∷ now (events.Written 0) ∷ now (events.Granted All)
+    ∷ now (events.Switched 2 sides) ∷ now events.Ended ∷ line events.Idle ∷ [])
+    (at_rest map.empty 2)
 from_drain = (
   state 1 (Granted Writers) false false false,
   granted_writers,

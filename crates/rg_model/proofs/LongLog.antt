@@ -67,13 +67,18 @@ record IsFree (st : State) : Type 0 where
   present : map.contains_key st.table 1 ≡ true
   own : holder st.locks (session 1) 1 ≡ None
 
-updates : (st : State) (letter : ℕ) → IsFree st → Says st (session 1) (update letter) Done (updated st letter)
+updates : (st : State) (letter : ℕ) → IsFree st
+    → Says st (session 1) (update letter) Done (updated st letter)
 updates st letter is = (is.up, rw is.free refl, (rw (is.own, is.present) refl, refl))
 
-lock_stays : (st : State) (found : Option Lock) → map.get st.locks 1 ≡ found → holder st.locks (session 1) 1 ≡ None
+lock_stays : (st : State) (found : Option Lock) → map.get st.locks 1 ≡ found
+    → holder st.locks (session 1) 1 ≡ None
     → holder (lock_key st (session 1) 1) (session 1) 1 ≡ None
 lock_stays st None e own =
-    rw e (rw (get-insert nat_cmp_total st.locks 1 (record { owner = session 1; row = map.get st.table 1 }) 1) refl)
+    rw e
+    (rw
+    (get-insert nat_cmp_total st.locks 1 (record { owner = session 1; row = map.get st.table 1 }) 1)
+    refl)
 lock_stays st (Some kept) e own = rw (ap is_some e) own
 
 stays_free : (st : State) (letter : ℕ) → IsFree st → IsFree (updated st letter)
@@ -130,9 +135,11 @@ module _
     long_log : Run past start trace end
     long_log =
         let one = stays_free start 98 starts_free in
-        let more : IsFree second_iteration = record { up = one.up; free = one.free; present = one.present; own = one.own } in
+        let more : IsFree second_iteration =
+        record { up = one.up; free = one.free; present = one.present; own = one.own } in
         let two = stays_free second_iteration 99 more in
-        let last : IsFree third_iteration = record { up = two.up; free = two.free; present = two.present; own = two.own } in (
+        let last : IsFree third_iteration =
+        record { up = two.up; free = two.free; present = two.present; own = two.own } in (
           first,
           updates start 98 starts_free,
           (

@@ -37,7 +37,8 @@ abbrev waited : List Entry
 waited = said 1 Rollback Done ∷ step (at 0) (events.Wait (session 1)) ∷ past
 
 abbrev written : List Entry
-written = step (at 0) (events.Written 1) ∷ step (at 0) (events.Last 1 0) ∷ step (at 0) (events.Granted Writers) ∷ waited
+written = step (at 0) (events.Written 1) ∷ step (at 0) (events.Last 1 0)
+    ∷ step (at 0) (events.Granted Writers) ∷ waited
 
 abbrev numbers : (target done shadow : ℕ) → (last written : Bool) → model.Utility
 numbers target done shadow last written =
@@ -83,15 +84,18 @@ module _
     abbrev after : DrainState → model.Utility → State
     after drain utility = after_rollback (before drain utility) (session 1)
 
-    waits : next_state past (Some (at 0)) Utility (events.Wait (session 1)) (before (Asked Writers) (numbers 0 0 0 false false))
+    waits : next_state past (Some (at 0)) Utility (events.Wait (session 1))
+        (before (Asked Writers) (numbers 0 0 0 false false))
         ≡ Some (before (Asked Writers) (numbers 0 0 0 false false))
     waits = rw writes refl
 
-    grants : next_state waited (Some (at 0)) Utility (events.Granted Writers) (after (Asked Writers) (numbers 0 0 0 false false))
+    grants : next_state waited (Some (at 0)) Utility (events.Granted Writers)
+        (after (Asked Writers) (numbers 0 0 0 false false))
         ≡ Some (after (Granted Writers) (numbers 0 0 0 false false))
     grants = rw no_claims refl
 
-    grants_all : next_state written (Some (at 0)) Utility (events.Granted All) (after (Asked All) (numbers 1 1 1 true true))
+    grants_all : next_state written (Some (at 0)) Utility (events.Granted All)
+        (after (Asked All) (numbers 1 1 1 true true))
         ≡ Some (after (Granted All) (numbers 1 1 1 true true))
     grants_all = rw no_claims refl
 

@@ -62,7 +62,12 @@ line event = record { actor = Utility; event = event; answer = None; calls = 0 }
 
 abbrev pub said : ℕ → Stmt → Reply → Entry
 said number stmt reply =
-    record { actor = Session (session number); event = events.Said stmt reply; answer = None; calls = 0 }
+    record {
+      actor = Session (session number);
+      event = events.Said stmt reply;
+      answer = None;
+      calls = 0;
+    }
 
 -- a state of copy 1 in which a utility runs
 abbrev pub beside : model.Table → model.Locks → model.Claims → DrainState → model.Utility → State

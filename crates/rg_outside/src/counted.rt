@@ -58,7 +58,8 @@ impl<V: Volume> Counted<V> {
 }
 
 impl<V: Volume> Volume for Counted<V> {
-    ghost use Rattle.rg_outside.specs.Counts.{counted, counted_capacities, counted_faults, counted_pages};
+    ghost use Rattle.rg_outside.specs.Counts.{counted, counted_capacities, counted_faults};
+    ghost use Rattle.rg_outside.specs.Counts.{counted_pages};
 
     ghost capacities = { λ c. V.capacities c.volume };
 

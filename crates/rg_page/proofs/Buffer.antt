@@ -1,6 +1,10 @@
 -- Stretches of a buffer, as one of them is replaced.
-use Rattle.std.proofs.Common.{◌≡◌, ◌≤◌, ◌<◌, ℕ, zero, suc, ◌+◌, ◌-◌, List, [], ◌∷◌, ◌++◌, length, take, drop, set, get_or, refl, sym, ap, subst, ◌∙◌, arith, Option, Some, None}
-use Rattle.std.proofs.lemmas.List.{append_assoc, take-append-drop, take-append-le, drop-append-le, drop-drop, drop_at, take_at, length-take-le, length-drop, take-take, drop-take, take_all, drop_all, append-nil}
+use Rattle.std.proofs.Common.{◌≡◌, ◌≤◌, ◌<◌, ℕ, zero, suc, ◌+◌, ◌-◌, List, [], ◌∷◌, ◌++◌, length}
+use Rattle.std.proofs.Common.{take, drop, set, get_or, refl, sym, ap, subst, ◌∙◌, arith, Option}
+use Rattle.std.proofs.Common.{Some, None}
+use Rattle.std.proofs.lemmas.List.{append_assoc, take-append-drop, take-append-le, drop-append-le}
+use Rattle.std.proofs.lemmas.List.{drop-drop, drop_at, take_at, length-take-le, length-drop}
+use Rattle.std.proofs.lemmas.List.{take-take, drop-take, take_all, drop_all, append-nil}
 use borrow.Rule.Slice.PartMut.{put_mid}
 use Rattle.std.specs.List.{copy_within}
 use Rattle.std.specs.declared.vec.Vec.{Vec}
@@ -13,12 +17,15 @@ pub length-stretches : (lengths bytes : List ℕ) → length (stretches lengths 
 length-stretches [] bytes = refl
 length-stretches (n ∷ lengths) bytes = omega (arith, length-stretches lengths (drop n bytes))
 
-pub take-stretches : (i : ℕ) (lengths bytes : List ℕ) → take i (stretches lengths bytes) ≡ stretches (take i lengths) bytes
+pub take-stretches : (i : ℕ) (lengths bytes : List ℕ)
+    → take i (stretches lengths bytes) ≡ stretches (take i lengths) bytes
 take-stretches zero lengths bytes = refl
 take-stretches (suc i) [] bytes = refl
-take-stretches (suc i) (n ∷ lengths) bytes = ap (λ (xs : List (List ℕ)). take n bytes ∷ xs) (take-stretches i lengths (drop n bytes))
+take-stretches (suc i) (n ∷ lengths) bytes =
+    ap (λ (xs : List (List ℕ)). take n bytes ∷ xs) (take-stretches i lengths (drop n bytes))
 
-pub filled_by-stretches : (lengths bytes : List ℕ) → total lengths ≤ length bytes → filled_by (stretches lengths bytes) ≡ total lengths
+pub filled_by-stretches : (lengths bytes : List ℕ) → total lengths ≤ length bytes
+    → filled_by (stretches lengths bytes) ≡ total lengths
 filled_by-stretches [] bytes within = refl
 filled_by-stretches (n ∷ lengths) bytes within =
     omega (
@@ -27,9 +34,11 @@ filled_by-stretches (n ∷ lengths) bytes within =
       filled_by-stretches lengths (drop n bytes) (omega (arith, length-drop n bytes)),
     )
 
-pub stretches-push : (lengths bytes : List ℕ) → stretches (lengths ++ 0 ∷ []) bytes ≡ stretches lengths bytes ++ [] ∷ []
+pub stretches-push : (lengths bytes : List ℕ)
+    → stretches (lengths ++ 0 ∷ []) bytes ≡ stretches lengths bytes ++ [] ∷ []
 stretches-push [] bytes = refl
-stretches-push (n ∷ lengths) bytes = ap (λ (xs : List (List ℕ)). take n bytes ∷ xs) (stretches-push lengths (drop n bytes))
+stretches-push (n ∷ lengths) bytes =
+    ap (λ (xs : List (List ℕ)). take n bytes ∷ xs) (stretches-push lengths (drop n bytes))
 
 pub total-push : (lengths : List ℕ) → total (lengths ++ 0 ∷ []) ≡ total lengths
 total-push [] = refl
@@ -49,18 +58,22 @@ total-more (n ∷ lengths) (suc i) below =
     rw e (omega (arith, total-more lengths i (omega arith)))
 
 -- the length at a place, those before it, and those behind
-pub total-split : (lengths : List ℕ) (i : ℕ) → i < length lengths → total (take i lengths) + get_or lengths i 0 + total (drop (suc i) lengths) ≡ total lengths
+pub total-split : (lengths : List ℕ) (i : ℕ) → i < length lengths
+    → total (take i lengths) + get_or lengths i 0 + total (drop (suc i) lengths) ≡ total lengths
 total-split [] i below = absurd (omega arith)
 total-split (n ∷ lengths) zero below = omega arith
 total-split (n ∷ lengths) (suc i) below = omega (arith, total-split lengths i (omega arith))
 
-pub total-set : (lengths : List ℕ) (i m : ℕ) → i < length lengths → total (set lengths i m) + get_or lengths i 0 ≡ total lengths + m
+pub total-set : (lengths : List ℕ) (i m : ℕ) → i < length lengths
+    → total (set lengths i m) + get_or lengths i 0 ≡ total lengths + m
 total-set [] i m below = absurd (omega arith)
 total-set (n ∷ lengths) zero m below = omega arith
 total-set (n ∷ lengths) (suc i) m below = omega (arith, total-set lengths i m (omega arith))
 
 -- a stretch is its part of the buffer
-pub stretch_at : (lengths bytes : List ℕ) (i : ℕ) → i < length lengths → get_or (stretches lengths bytes) i [] ≡ take (get_or lengths i 0) (drop (total (take i lengths)) bytes)
+pub stretch_at : (lengths bytes : List ℕ) (i : ℕ) → i < length lengths
+    → get_or (stretches lengths bytes) i []
+    ≡ take (get_or lengths i 0) (drop (total (take i lengths)) bytes)
 stretch_at [] bytes i below = absurd (omega arith)
 stretch_at (n ∷ lengths) bytes zero below = refl
 stretch_at (n ∷ lengths) bytes (suc i) below =
@@ -88,7 +101,8 @@ pub replaced_at : (lengths : List ℕ) (i m : ℕ) (front old piece back rest : 
     → stretches (set lengths i m) (front ++ (piece ++ rest))
     ≡ set (stretches lengths (front ++ (old ++ back))) i piece
 replaced_at [] i m front old piece back rest below f o p e = absurd (omega arith)
-replaced_at (n ∷ lengths) zero m (x ∷ front) old piece back rest below f o p e = absurd (omega arith)
+replaced_at (n ∷ lengths) zero m (x ∷ front) old piece back rest below f o p e =
+    absurd (omega arith)
 replaced_at (n ∷ lengths) zero m [] old piece back rest below f o p e =
     let one : take m (piece ++ rest) ≡ piece = take_at piece rest m p in
     let two : drop m (piece ++ rest) ≡ rest = drop_at piece rest m p in
@@ -109,7 +123,8 @@ replaced_at (n ∷ lengths) (suc i) m front old piece back rest below f o p e =
 -- the whole buffer, where a row was put
 pub replaced : (lengths before after : List ℕ) (i m : ℕ) (piece : List ℕ) → i < length lengths
     → total lengths ≤ length before → length piece ≡ m
-    → IsPut before after (total (take i lengths)) (get_or lengths i 0) (total (drop (suc i) lengths)) piece
+    → IsPut before after (total (take i lengths)) (get_or lengths i 0)
+    (total (drop (suc i) lengths)) piece
     → stretches (set lengths i m) after ≡ set (stretches lengths before) i piece
 replaced lengths before after i m piece below within p put =
     let at : ℕ = total (take i lengths) in
@@ -121,14 +136,16 @@ replaced lengths before after i m piece below within p put =
     let whole : take at before ++ (take n (drop at before) ++ drop n (drop at before)) ≡ before =
     ap (λ (xs : List ℕ). take at before ++ xs) (take-append-drop n (drop at before))
     ∙ take-append-drop at before in
-    let moved = put.moved ∙ ap (take (total (drop (suc i) lengths))) (sym (drop-drop n at before)) in
+    let moved =
+    put.moved ∙ ap (take (total (drop (suc i) lengths))) (sym (drop-drop n at before)) in
     ap (stretches (set lengths i m)) put.is
     ∙ replaced_at lengths i m (take at before) (take n (drop at before)) piece
     (drop n (drop at before)) put.rest below front old p moved
     ∙ ap (λ (xs : List ℕ). set (stretches lengths xs) i piece) whole
 
 -- bytes behind the old ones are moved, and nothing is put
-pub put_none : (before after : List ℕ) (at old filled : ℕ) → at + old ≤ filled → filled ≤ length before
+pub put_none : (before after : List ℕ) (at old filled : ℕ) → at + old ≤ filled
+    → filled ≤ length before
     → after ≡ copy_within before (at + old) filled at → length after ≡ length before
     → IsPut before after at old (filled - (at + old)) []
 put_none before after at old filled low high is long =
@@ -189,9 +206,11 @@ written_end between into piece at n size e is =
 
 -- what a buffer's fields say of the stretches seen
 
-module _ (lengths : Vec ℕ Global) (bytes : List ℕ) (filled : ℕ) (areas : List (List ℕ)) (is : IsBuffer lengths bytes filled) (seen : stretches lengths.items bytes ≡ areas) where
+module _ (lengths : Vec ℕ Global) (bytes : List ℕ) (filled : ℕ) (areas : List (List ℕ))
+    (is : IsBuffer lengths bytes filled) (seen : stretches lengths.items bytes ≡ areas) where
   pub seen_count : length areas ≡ length lengths.items
-  seen_count = ap (λ (xs : List (List ℕ)). length xs) (sym seen) ∙ length-stretches lengths.items bytes
+  seen_count =
+      ap (λ (xs : List (List ℕ)). length xs) (sym seen) ∙ length-stretches lengths.items bytes
 
   pub seen_fits : (i : ℕ) → total (take i lengths.items) ≤ 4064
   seen_fits i = omega (arith, total-take i lengths.items, is.fills, is.within)
@@ -205,42 +224,60 @@ module _ (lengths : Vec ℕ Global) (bytes : List ℕ) (filled : ℕ) (areas : L
   pub seen_whole : filled_by areas ≡ filled
   seen_whole =
       ap filled_by (sym seen)
-      ∙ filled_by-stretches lengths.items bytes (omega (arith, is.fills, is.within, is.whole)) ∙ is.fills
+      ∙ filled_by-stretches lengths.items bytes (omega (arith, is.fills, is.within, is.whole))
+      ∙ is.fills
 
   pub seen_at : (i : ℕ) → i < length areas
-      → get_or areas i [] ≡ take (get_or lengths.items i 0) (drop (total (take i lengths.items)) bytes)
+      → get_or areas i []
+      ≡ take (get_or lengths.items i 0) (drop (total (take i lengths.items)) bytes)
   seen_at i below =
       ap (λ (xs : List (List ℕ)). get_or xs i []) (sym seen)
       ∙ stretch_at lengths.items bytes i (omega (arith, below, seen_count))
 
-  pub seen_length : (i : ℕ) → i < length areas → length (get_or areas i []) ≡ get_or lengths.items i 0
+  pub seen_length : (i : ℕ) → i < length areas
+      → length (get_or areas i []) ≡ get_or lengths.items i 0
   seen_length i below =
       let split = total-split lengths.items i (omega (arith, below, seen_count)) in
       ap (λ (xs : List ℕ). length xs) (seen_at i below)
       ∙ length-take-le (get_or lengths.items i 0) (drop (total (take i lengths.items)) bytes)
-      (omega (arith, length-drop (total (take i lengths.items)) bytes, split, is.fills, is.within, is.whole))
+      (omega (
+        arith,
+        length-drop (total (take i lengths.items)) bytes,
+        split,
+        is.fills,
+        is.within,
+        is.whole,
+      ))
 
   -- the stretch ends within what is filled
   pub seen_end : (i : ℕ) → i < length areas
-      → total (take i lengths.items) + get_or lengths.items i 0 + total (drop (suc i) lengths.items) ≡ filled
+      → total (take i lengths.items) + get_or lengths.items i 0 + total (drop (suc i) lengths.items)
+      ≡ filled
   seen_end i below = total-split lengths.items i (omega (arith, below, seen_count)) ∙ is.fills
 
   -- a piece that was put where stretch i was
-  pub seen_put : (i : ℕ) → i < length areas → (before after piece : List ℕ) (at n : ℕ) → before ≡ bytes
+  pub seen_put : (i : ℕ) → i < length areas → (before after piece : List ℕ) (at n : ℕ)
+      → before ≡ bytes
       → at ≡ filled_by (take i areas) → n ≡ get_or lengths.items i 0
       → IsPut before after at n (filled - (at + n)) piece
-      → IsPut bytes after (total (take i lengths.items)) (get_or lengths.items i 0) (total (drop (suc i) lengths.items)) piece
+      → IsPut bytes after (total (take i lengths.items)) (get_or lengths.items i 0)
+      (total (drop (suc i) lengths.items)) piece
   seen_put i below before after piece at n eb ea en put =
       let e_at : at ≡ total (take i lengths.items) = ea ∙ seen_offset i in
       let e_more : filled - (at + n) ≡ total (drop (suc i) lengths.items) =
       omega (arith, e_at, en, seen_end i below) in
       let one = subst (λ (b : List ℕ). IsPut b after at n (filled - (at + n)) piece) eb put in
       let two = subst (λ (m : ℕ). IsPut bytes after at n m piece) e_more one in
-      let three = subst (λ (k : ℕ). IsPut bytes after k n (total (drop (suc i) lengths.items)) piece) e_at two in
-      subst (λ (k : ℕ). IsPut bytes after (total (take i lengths.items)) k (total (drop (suc i) lengths.items)) piece) en three
+      let three =
+      subst (λ (k : ℕ). IsPut bytes after k n (total (drop (suc i) lengths.items)) piece) e_at
+      two in
+      subst
+      (λ (k : ℕ). IsPut bytes after (total (take i lengths.items)) k
+      (total (drop (suc i) lengths.items)) piece) en three
 
 -- a vector whose items were written over by as many
-pub refilled : (v : Vec ℕ Global) (ws : List ℕ) → length ws ≡ v.len → take v.len (ws ++ drop (length ws) v.items) ≡ ws
+pub refilled : (v : Vec ℕ Global) (ws : List ℕ) → length ws ≡ v.len
+    → take v.len (ws ++ drop (length ws) v.items) ≡ ws
 refilled v ws e = take_at ws (drop (length ws) v.items) v.len e
 
 pub length-bytes_of : (row : Option Row) → length (bytes_of row) ≡ size_of row
@@ -251,7 +288,8 @@ pub filled_by-push : (areas : List (List ℕ)) → filled_by (areas ++ [] ∷ []
 filled_by-push [] = refl
 filled_by-push (bytes ∷ areas) = omega (arith, filled_by-push areas)
 
-pub length-set_any : (areas : List (List ℕ)) (i : ℕ) (bytes : List ℕ) → length (set areas i bytes) ≡ length areas
+pub length-set_any : (areas : List (List ℕ)) (i : ℕ) (bytes : List ℕ)
+    → length (set areas i bytes) ≡ length areas
 length-set_any [] i bytes = refl
 length-set_any (x ∷ areas) zero bytes = refl
 length-set_any (x ∷ areas) (suc i) bytes = omega (arith, length-set_any areas i bytes)
@@ -261,7 +299,8 @@ pub set-end : (areas : List (List ℕ)) (i : ℕ) (bytes : List ℕ) → length 
 set-end [] zero bytes e = refl
 set-end [] (suc i) bytes e = absurd (omega arith)
 set-end (x ∷ areas) zero bytes e = absurd (omega arith)
-set-end (x ∷ areas) (suc i) bytes e = ap (λ (xs : List (List ℕ)). x ∷ xs) (set-end areas i bytes (omega arith))
+set-end (x ∷ areas) (suc i) bytes e =
+    ap (λ (xs : List (List ℕ)). x ∷ xs) (set-end areas i bytes (omega arith))
 
 pub get_or-past : (areas : List (List ℕ)) (i : ℕ) → length areas ≤ i → get_or areas i [] ≡ []
 get_or-past [] i past = refl

@@ -1,5 +1,6 @@
 -- Slots laid out of headers, places and bytes.
-use Rattle.std.proofs.Common.{◌≡◌, ◌≤◌, ◌<◌, ℕ, zero, suc, List, [], ◌∷◌, length, map, get_or, refl, sym, ap, ◌∙◌, arith}
+use Rattle.std.proofs.Common.{◌≡◌, ◌≤◌, ◌<◌, ℕ, zero, suc, List, [], ◌∷◌, length, map, get_or, refl}
+use Rattle.std.proofs.Common.{sym, ap, ◌∙◌, arith}
 use Rattle.std.specs.declared.vec.Vec.{Vec}
 use Rattle.std.specs.declared.alloc.Global.{Global}
 use Rattle.rg_base.specs.declared.place.Place.{Place}
@@ -12,7 +13,8 @@ use Rattle.rg_page.specs.Laid.{whole_slot, laid, IsArea, AreAreas, IsLaid}
 use Rattle.rg_page.proofs.BareSlots.{bare_used, bare_trim, bare_room}
 
 -- as many areas as headers
-pub areas_count : (headers : List Slot) (areas : List (List ℕ)) → AreAreas headers areas → length areas ≡ length headers
+pub areas_count : (headers : List Slot) (areas : List (List ℕ)) → AreAreas headers areas
+    → length areas ≡ length headers
 areas_count [] areas are = ap (λ (xs : List (List ℕ)). length xs) are
 areas_count (h ∷ headers) [] are = absurd are
 areas_count (h ∷ headers) (bytes ∷ areas) are = omega (arith, areas_count headers areas are.1)
@@ -35,15 +37,18 @@ bare_laid (h ∷ headers) [] areas p a = absurd (omega arith)
 bare_laid (h ∷ headers) (other ∷ others) [] p a = absurd (omega arith)
 bare_laid (h ∷ headers) (other ∷ others) (bytes ∷ areas) p a =
     ap (λ (s : Slot). s ∷ map bare (laid headers others areas)) (bare_whole h other bytes)
-    ∙ ap (λ (r : List Slot). bare h ∷ r) (bare_laid headers others areas (omega arith) (omega arith))
+    ∙ ap (λ (r : List Slot). bare h ∷ r)
+    (bare_laid headers others areas (omega arith) (omega arith))
 
 pub length-map_bare : (slots : List Slot) → length (map bare slots) ≡ length slots
 length-map_bare [] = refl
 length-map_bare (s ∷ slots) = omega (arith, length-map_bare slots)
 
-pub laid_at : (headers : List Slot) (others : List Place) (areas : List (List ℕ)) (i : ℕ) (d : Place)
+pub laid_at : (headers : List Slot) (others : List Place) (areas : List (List ℕ)) (i : ℕ)
+    (d : Place)
     → length others ≡ length headers → length areas ≡ length headers → i < length headers
-    → slot_at (laid headers others areas) i ≡ whole_slot (slot_at headers i) (get_or others i d) (get_or areas i [])
+    → slot_at (laid headers others areas) i
+    ≡ whole_slot (slot_at headers i) (get_or others i d) (get_or areas i [])
 laid_at [] others areas i d p a below = absurd (omega arith)
 laid_at (h ∷ headers) [] areas i d p a below = absurd (omega arith)
 laid_at (h ∷ headers) (other ∷ others) [] i d p a below = absurd (omega arith)
@@ -51,12 +56,14 @@ laid_at (h ∷ headers) (other ∷ others) (bytes ∷ areas) zero d p a below = 
 laid_at (h ∷ headers) (other ∷ others) (bytes ∷ areas) (suc i) d p a below =
     laid_at headers others areas i d (omega arith) (omega arith) (omega arith)
 
-pub area_at : (headers : List Slot) (areas : List (List ℕ)) (i : ℕ) → AreAreas headers areas → i < length headers
+pub area_at : (headers : List Slot) (areas : List (List ℕ)) (i : ℕ) → AreAreas headers areas
+    → i < length headers
     → IsArea (slot_at headers i) (get_or areas i [])
 area_at [] areas i are below = absurd (omega arith)
 area_at (h ∷ headers) [] i are below = absurd are
 area_at (h ∷ headers) (bytes ∷ areas) zero are below = are.0
-area_at (h ∷ headers) (bytes ∷ areas) (suc i) are below = area_at headers areas i are.1 (omega arith)
+area_at (h ∷ headers) (bytes ∷ areas) (suc i) are below =
+    area_at headers areas i are.1 (omega arith)
 
 -- a page is trimmed where its headers are
 cut_longer : (s : Slot) (slots : List Slot) → length (cut s slots) ≤ suc (length slots)
@@ -81,7 +88,8 @@ trim_whole (s ∷ slots) e =
     trim_whole slots (omega (arith, cut_longer s (trim slots), trim_no_longer slots, e)) in
     ap (cut s) rest ∙ kept s slots (ap (λ (xs : List Slot). length (cut s xs)) (sym rest) ∙ e)
   where
-    kept : (s : Slot) (slots : List Slot) → length (cut s slots) ≡ suc (length slots) → cut s slots ≡ s ∷ slots
+    kept : (s : Slot) (slots : List Slot) → length (cut s slots) ≡ suc (length slots)
+        → cut s slots ≡ s ∷ slots
     kept Free [] e = absurd (omega arith)
     kept Free (x ∷ slots) e = refl
     kept (Row a b) slots e = refl
@@ -97,11 +105,14 @@ trimmed_bare slots e =
     ∙ ap (λ (xs : List Slot). length xs) (bare_trim slots ∙ e) ∙ length-map_bare slots)
 
 -- what a page's fields say of the slots seen
-module _ (headers : List Slot) (others : Vec Place Global) (areas : List (List ℕ)) (slots : List Slot) (is : IsLaid headers others areas) (seen : laid headers others.items areas ≡ slots) where
+module _ (headers : List Slot) (others : Vec Place Global) (areas : List (List ℕ))
+    (slots : List Slot) (is : IsLaid headers others areas)
+    (seen : laid headers others.items areas ≡ slots) where
   pub seen_bare : headers ≡ map bare slots
   seen_bare =
       sym is.headers_are
-      ∙ sym (bare_laid headers others.items areas is.places (areas_count headers areas is.areas_are))
+      ∙
+      sym (bare_laid headers others.items areas is.places (areas_count headers areas is.areas_are))
       ∙ ap (map bare) seen
 
   pub seen_count : length headers ≡ length slots

@@ -14,6 +14,7 @@ pub said : {why : Type 0} (fault : PageFault) → Unless why fault → fault ≡
 said NotAPage says is = says
 said NoMemory says is = cc
 
-pub refused : {Y : Type 0} (fault : PageFault) (read : Option Y) → Refuses fault read → fault ≡ NotAPage → read ≡ None
+pub refused : {Y : Type 0} (fault : PageFault) (read : Option Y) → Refuses fault read
+    → fault ≡ NotAPage → read ≡ None
 refused NotAPage read says is = says
 refused NoMemory read says is = cc

@@ -1,5 +1,6 @@
 -- Whether a slot that is set fits its page.
-use Rattle.std.proofs.Common.{◌≡◌, ◌≤◌, ◌<◌, ℕ, zero, suc, ◌+◌, ◌-◌, ◌*◌, List, [], ◌∷◌, length, take, get_or, ap, subst, arith, true, false, inl, inr, nat_le}
+use Rattle.std.proofs.Common.{◌≡◌, ◌≤◌, ◌<◌, ℕ, zero, suc, ◌+◌, ◌-◌, ◌*◌, List, [], ◌∷◌, length}
+use Rattle.std.proofs.Common.{take, get_or, ap, subst, arith, true, false, inl, inr, nat_le}
 use Rattle.std.proofs.lemmas.Bool.{cases_lt, le-leb}
 use Rattle.std.proofs.lemmas.List.{take_all}
 use Rattle.rg_home.specs.Slot.{Slot}
@@ -12,11 +13,17 @@ use Rattle.rg_home.proofs.Steps.{set_used, set_unfit, past_used, past_unfit, pas
 pub true_leb : (a b : ℕ) → a ≤ b → nat_le a b ≡ true
 true_leb a b h = le-leb a b h
 
-module _ (slots : List Slot) (i : ℕ) (s : Slot) (trimmed : IsTrimmed slots) (fits : Fits slots) where
+module _ (slots : List Slot) (i : ℕ) (s : Slot) (trimmed : IsTrimmed slots)
+    (fits : Fits slots) where
   pub in_fits : (x : Slot) → i < length slots → x ≡ get_or slots i x
       → capacity_of s ≤ (4064 - used slots) + capacity_of x → Fits (placed slots i s)
   in_fits x below is room =
-      omega (arith, used-trim (put slots i s), ap used (put-set slots i s below), set_used slots i s x below is)
+      omega (
+        arith,
+        used-trim (put slots i s),
+        ap used (put-set slots i s below),
+        set_used slots i s x below is,
+      )
 
   pub in_needs : (x : Slot) → i < length slots → x ≡ get_or slots i x → Fits (placed slots i s)
       → capacity_of s ≤ (4064 - used slots) + capacity_of x

@@ -7,7 +7,8 @@
 -- 3. `sure` says that a page that is given up comes back as it was: frames over a volume that
 --    reports its contents are. Where they are not, only fixed pages stay. No call makes frames
 --    sure again.
-use Rattle.std.specs.Prelude.{◌⊎◌, ◌≡◌, ◌≤◌, ◌+◌, ◌-◌, ℕ, Bool, true, List, length, ◌++◌, ◌∷◌, [], Option, slice_set}
+use Rattle.std.specs.Prelude.{◌⊎◌, ◌≡◌, ◌≤◌, ◌+◌, ◌-◌, ℕ, Bool, true, List, length, ◌++◌, ◌∷◌, []}
+use Rattle.std.specs.Prelude.{Option, slice_set}
 use Rattle.rg_base.specs.declared.part.Part.{Part}
 use Rattle.rg_base.specs.declared.row.Row.{Row}
 use Rattle.rg_outside.specs.Faults.{Rose}

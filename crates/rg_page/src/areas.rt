@@ -3,7 +3,8 @@
 // 1. The buffer has the 4,064 bytes that a page's slots may take, from the start on, so nothing
 //    here takes memory later.
 // 2. A row's bytes are replaced in place: only the bytes behind them move.
-ghost use Rattle.std.specs.Prelude.{◌≡◌, ◌≤◌, ◌<◌, ◌+◌, ◌-◌, ◌∷◌, ◌++◌, [], IfOk, Some, length, take, slice_index_or, set, vec_len, vec_capacity};
+ghost use Rattle.std.specs.Prelude.{◌≡◌, ◌≤◌, ◌<◌, ◌+◌, ◌-◌, ◌∷◌, ◌++◌, [], IfOk, Some, length};
+ghost use Rattle.std.specs.Prelude.{take, slice_index_or, set, vec_len, vec_capacity};
 ghost use Rattle.std.specs.Option.{option_copied};
 ghost use Rattle.rg_base.specs.RowBytes.{row_bytes, row_size};
 ghost use Rattle.rg_page.specs.Changed.{IsShown};

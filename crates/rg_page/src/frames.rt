@@ -6,13 +6,15 @@
 // 3. A page may be given up to the volume between calls. Then its content is in the list of pages,
 //    and its position is not above the one that the log is known to be forced to (`gave`).
 // 4. A caller keeps five frames spare before it starts, and lets go at its end.
-ghost use Rattle.std.specs.Prelude.{◌≡◌, ◌≤◌, ◌<◌, ◌+◌, ℕ, List, Bool, true, length, IfOk, IfErr, OnOk, OnErr, ⊤, None};
+ghost use Rattle.std.specs.Prelude.{◌≡◌, ◌≤◌, ◌<◌, ◌+◌, ℕ, List, Bool, true, length, IfOk, IfErr};
+ghost use Rattle.std.specs.Prelude.{OnOk, OnErr, ⊤, None};
 ghost use Rattle.std.specs.Borrow.{follows_so, sem};
 ghost use Rattle.std.specs.Option.{option_copied};
 ghost use mathlib.Core.Option.{none};
 ghost use Rattle.rg_home.specs.Pages.{PartFits};
 ghost use Rattle.rg_page.specs.Content.{Content, content_at};
-ghost use Rattle.rg_page.specs.Seen.{Seen, Held, Failed, Reserved, Added, WasSet, LetGo, Forced, FaultIs};
+ghost use Rattle.rg_page.specs.Seen.{Seen, Held, Failed, Reserved, Added, WasSet, LetGo, Forced};
+ghost use Rattle.rg_page.specs.Seen.{FaultIs};
 
 use crate::page::{Page, PartFault};
 use rg_base::part::Part;

@@ -5,7 +5,9 @@
 // 2. The slots stay within 4,064 bytes, at 18 bytes a slot and its capacity, and the last one is
 //    not Free. 225 slots are never passed, since a header takes 18 bytes.
 // 3. A row lies in an area that holds it.
-ghost use Rattle.std.specs.Prelude.{◌≡◌, ◌≤◌, ◌<◌, ◌+◌, ◌↔◌, ℕ, List, [], IsTrue, IfOk, OnOk, OnErr, IsSomeAnd, length, map, take, slice_index_or, vec_len, vec_capacity};
+ghost use Rattle.std.specs.Prelude.{◌≡◌, ◌≤◌, ◌<◌, ◌+◌, ◌↔◌, ℕ, List, [], IsTrue, IfOk, OnOk};
+ghost use Rattle.std.specs.Prelude.{OnErr, IsSomeAnd, length, map, take, slice_index_or, vec_len};
+ghost use Rattle.std.specs.Prelude.{vec_capacity};
 ghost use Rattle.std.specs.Option.{option_copied};
 ghost use Rattle.rg_base.specs.RowBytes.{row_size};
 ghost use Rattle.rg_base.specs.declared.place.Place.{Place as ThePlace};

@@ -9,7 +9,8 @@ ghost use Rattle.std.specs.Prelude.{◌≡◌, [], IfOk, IfErr, OnOk};
 ghost use Rattle.rg_page.specs.Bytes.Content.{FitsPage};
 ghost use Rattle.rg_page.specs.Bytes.PageBytes.{page_bytes};
 ghost use Rattle.rg_page.specs.Bytes.Reading.{slot_of};
-ghost use Rattle.rg_page.specs.Reading.{FillsPage, FillsSlots, IsNone, IsPut, IsUnput, NoContentFills, NoSlotsFill};
+ghost use Rattle.rg_page.specs.Reading.{FillsPage, FillsSlots, IsNone, IsPut, IsUnput};
+ghost use Rattle.rg_page.specs.Reading.{NoContentFills, NoSlotsFill};
 
 use crate::bytes::entry::Entry;
 use crate::bytes::fault::PageFault;

@@ -1,7 +1,8 @@
 // 1. A summary has the headers of its page's slots, and the last of them is not Free.
 // 2. Its slots take at most 4,064 bytes.
 // 3. It keeps the ceiling of its page: what that can offer at most, whoever is live.
-ghost use Rattle.std.specs.Prelude.{◌≡◌, ◌≤◌, ◌<◌, ◌+◌, [], ◌++◌, ◌∷◌, ◌↔◌, IsTrue, IfOk, length, map, vec_len, vec_capacity};
+ghost use Rattle.std.specs.Prelude.{◌≡◌, ◌≤◌, ◌<◌, ◌+◌, [], ◌++◌, ◌∷◌, ◌↔◌, IsTrue, IfOk, length};
+ghost use Rattle.std.specs.Prelude.{map, vec_len, vec_capacity};
 ghost use Rattle.std.specs.List.{list_any};
 ghost use Rattle.rg_home.specs.Slots.{slot_at, placed, used, Fits, IsTrimmed, trim, put, is_free};
 ghost use Rattle.rg_home.specs.Plan.{room, purged, admits, first_free};

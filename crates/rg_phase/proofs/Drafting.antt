@@ -27,34 +27,48 @@ use Rattle.rg_translate.proofs.Replaying.{copied_rows-copies}
 use Rattle.rg_phase.specs.Drafted.{IsDraftOf, IsFullOf, IsPackingOf, SameRows}
 
 -- the rows of the copies that were received
-pub rows_apart : (items copies : List Item) (rows : List (Place × Row)) → Lawful (since_begin items) → copies ≡ page_copies (since_begin items) → rows ≡ copied_rows copies → AreApart rows
+pub rows_apart : (items copies : List Item) (rows : List (Place × Row)) → Lawful (since_begin items)
+    → copies ≡ page_copies (since_begin items) → rows ≡ copied_rows copies → AreApart rows
 rows_apart items copies rows lawful copies_are rows_are =
-    subst AreApart (sym (rows_are ∙ ap copied_rows copies_are ∙ copied_rows-copies (since_begin items))) (copies_apart (since_begin items) lawful)
+    subst AreApart
+    (sym (rows_are ∙ ap copied_rows copies_are ∙ copied_rows-copies (since_begin items)))
+    (copies_apart (since_begin items) lawful)
 
-pub packing_begun : (options : Options) (p : Reloading) (items copies : List Item) (taken : ℕ) (rows : List (Place × Row)) → taken ≡ 0 → copies ≡ page_copies (since_begin items) → rows ≡ copied_rows copies
-    → IsPermutation rows p.rows → IsInOrder p.rows → p.options ≡ options → IsPackingOf options p items taken
+pub packing_begun : (options : Options) (p : Reloading) (items copies : List Item) (taken : ℕ)
+    (rows : List (Place × Row))
+    → taken ≡ 0 → copies ≡ page_copies (since_begin items) → rows ≡ copied_rows copies
+    → IsPermutation rows p.rows → IsInOrder p.rows → p.options ≡ options
+    → IsPackingOf options p items taken
 packing_begun options p items copies taken rows none copies_are rows_are moved order by = record {
   options_are = by;
-  moved = subst (λ (rs : List (Place × Row)). IsPermutation rs p.rows) (rows_are ∙ ap copied_rows copies_are ∙ copied_rows-copies (since_begin items)) moved;
+  moved = subst (λ (rs : List (Place × Row)). IsPermutation rs p.rows)
+      (rows_are ∙ ap copied_rows copies_are ∙ copied_rows-copies (since_begin items)) moved;
   order = order;
   none = none;
 }
 
-pub draft_loaded : (options : Options) (p q : Reloading) (items : List Item) (taken : ℕ) (s : Shade) → Lawful (since_begin items) → IsPackingOf options p items taken → q.rows ≡ p.rows → q.options ≡ p.options → IsLoaded q s → IsMapped s.targets (home_rows s)
+pub draft_loaded : (options : Options) (p q : Reloading) (items : List Item) (taken : ℕ) (s : Shade)
+    → Lawful (since_begin items) → IsPackingOf options p items taken → q.rows ≡ p.rows
+    → q.options ≡ p.options → IsLoaded q s → IsMapped s.targets (home_rows s)
     → IsDraftOf options s items taken
 draft_loaded options p q items taken s lawful packing rows by is mapped =
-    let packed = subst (λ (o : Options). IsPacked o p.rows s) (by ∙ packing.options_are) (subst (λ (rs : List (Place × Row)). IsPacked q.options rs s) rows is.rows) in
+    let packed = subst (λ (o : Options). IsPacked o p.rows s) (by ∙ packing.options_are)
+    (subst (λ (rs : List (Place × Row)). IsPacked q.options rs s) rows is.rows) in
     record {
       rows = p.rows;
       first = s;
       moved = packing.moved;
       order = packing.order;
-      caught = subst (IsCaughtUp options p.rows s s items) (sym packing.none) (loaded options p.rows s items lawful packing.moved packed mapped);
+      caught = subst (IsCaughtUp options p.rows s s items) (sym packing.none)
+          (loaded options p.rows s items lawful packing.moved packed mapped);
       within = omega (arith, packing.none);
     }
 
 -- only how far the indexes are made has changed
-rows_made : (options : Options) (rows : List (Place × Row)) (first old new : Shade) (items : List Item) (taken : ℕ) → IsCaughtUp options rows first old items taken → IsCaughtUp options rows first (record new { pages = old.pages; targets = old.targets }) items taken
+rows_made : (options : Options) (rows : List (Place × Row)) (first old new : Shade)
+    (items : List Item) (taken : ℕ) → IsCaughtUp options rows first old items taken
+    → IsCaughtUp options rows first (record new { pages = old.pages; targets = old.targets }) items
+    taken
 rows_made options rows first old new items taken h = record {
   loaded = h.loaded;
   mapped = h.mapped;
@@ -64,15 +78,19 @@ rows_made options rows first old new items taken h = record {
   idle = h.idle;
 }
 
-pub draft_same : (options : Options) (old new : Shade) (items : List Item) (taken : ℕ) → SameRows old new → IsDraftOf options old items taken → IsDraftOf options new items taken
+pub draft_same : (options : Options) (old new : Shade) (items : List Item) (taken : ℕ)
+    → SameRows old new → IsDraftOf options old items taken → IsDraftOf options new items taken
 draft_same options old new items taken same h = record {
   rows = h.rows;
   first = h.first;
   moved = h.moved;
   order = h.order;
   caught =
-      subst (λ (pages : List Content). IsCaughtUp options h.rows h.first (record new { pages = pages }) items taken) (sym same.pages)
-      (subst (λ (targets : Targets). IsCaughtUp options h.rows h.first (record new { pages = old.pages; targets = targets }) items taken) (sym same.targets)
+      subst
+      (λ (pages : List Content). IsCaughtUp options h.rows h.first (record new { pages = pages })
+      items taken) (sym same.pages) (subst
+      (λ (targets : Targets). IsCaughtUp options h.rows h.first
+      (record new { pages = old.pages; targets = targets }) items taken) (sym same.targets)
       (rows_made options h.rows h.first old new items taken h.caught));
   within = h.within;
 }
@@ -81,10 +99,16 @@ min_most : (m n : ℕ) → min m n ≤ n
 min_most m n = omega (arith)
 
 -- the next changes are made
-pub draft_taken : (options : Options) (old new : Shade) (inlet later : Received) (most n : ℕ) → IsDraftOf options old inlet.items inlet.taken → n ≡ min most (left inlet) → later.taken ≡ inlet.taken + n → later.items ≡ inlet.items → Caught new later
-    → Unmoved old new (next_changes (min most (left inlet)) inlet) → ClaimsMore old new (to_make (min most (left inlet)) inlet) → (to_make (min most (left inlet)) inlet ≡ [] → new ≡ old) → IsMapped new.targets (home_rows new)
+pub draft_taken : (options : Options) (old new : Shade) (inlet later : Received) (most n : ℕ)
+    → IsDraftOf options old inlet.items inlet.taken → n ≡ min most (left inlet)
+    → later.taken ≡ inlet.taken + n → later.items ≡ inlet.items → Caught new later
+    → Unmoved old new (next_changes (min most (left inlet)) inlet)
+    → ClaimsMore old new (to_make (min most (left inlet)) inlet)
+    → (to_make (min most (left inlet)) inlet ≡ [] → new ≡ old)
+    → IsMapped new.targets (home_rows new)
     → IsDraftOf options new later.items later.taken
-draft_taken options old new inlet later most n h n_is taken items caught unmoved claims idle mapped =
+draft_taken options old new inlet later most n h n_is taken items caught unmoved claims idle
+    mapped =
     let k = min most (left inlet) in
     let taken_is : later.taken ≡ inlet.taken + k = taken ∙ ap (λ (m : ℕ). inlet.taken + m) n_is in
     subst (λ (xs : List Item). IsDraftOf options new xs later.taken) (sym items)
@@ -95,14 +119,20 @@ draft_taken options old new inlet later most n h n_is taken items caught unmoved
       moved = h.moved;
       order = h.order;
       caught = batch_taken options h.rows h.first old new inlet.items inlet.taken k h.caught mapped
-          (λ place. caught place ∙ ap (λ (xs : List Item). fold_to xs later.taken place) items ∙ ap (λ (m : ℕ). fold_to inlet.items m place) taken_is)
+          (λ place. caught place ∙ ap (λ (xs : List Item). fold_to xs later.taken place) items
+          ∙ ap (λ (m : ℕ). fold_to inlet.items m place) taken_is)
           unmoved claims idle;
       within = omega (arith, h.within, min_most most (left inlet));
     }))
 
 -- one of them has no room
-pub draft_full : (options : Options) (s : Shade) (inlet : Received) (most capacity : ℕ) (fault : ShadowFault) → IsDraftOf options s inlet.items inlet.taken → s.capacity ≡ capacity → IsFullBy s (to_make (min most (left inlet)) inlet) fault
+pub draft_full :
+    (options : Options) (s : Shade) (inlet : Received) (most capacity : ℕ) (fault : ShadowFault)
+    → IsDraftOf options s inlet.items inlet.taken → s.capacity ≡ capacity
+    → IsFullBy s (to_make (min most (left inlet)) inlet) fault
     → IsFullOf capacity (weigh_feed inlet.items) fault
 draft_full options s inlet most capacity NoSpace h same full =
-    subst (λ (n : ℕ). 3221 * n ≤ weigh_feed inlet.items) same (full_sent options h.rows h.first s inlet.items inlet.taken (min most (left inlet)) h.moved h.caught full)
+    subst (λ (n : ℕ). 3221 * n ≤ weigh_feed inlet.items) same
+    (full_sent options h.rows h.first s inlet.items inlet.taken (min most (left inlet)) h.moved
+    h.caught full)
 draft_full options s inlet most capacity NoMemory h same full = tt

@@ -1,11 +1,13 @@
 -- One entry of a step is made, whatever the step did before it.
-use Rattle.std.proofs.Common.{◌≡◌, ◌++◌, inl, inr, ℕ, Bool, true, false, List, [], ◌∷◌, Option, Some, None, IfSome, take, refl, sym, ◌∙◌, ap, subst, arith}
+use Rattle.std.proofs.Common.{◌≡◌, ◌++◌, inl, inr, ℕ, Bool, true, false, List, [], ◌∷◌, Option}
+use Rattle.std.proofs.Common.{Some, None, IfSome, take, refl, sym, ◌∙◌, ap, subst, arith}
 use Rattle.std.specs.Option.{is_some}
 use Rattle.rg_base.specs.declared.control.Answer.{Answer}
 use Rattle.rg_base.specs.declared.session.Session.{Session}
 use Rattle.rg_base.specs.declared.set.Set.TheVariants.{Log}
 use Rattle.rg_base.specs.declared.verdict.StopReason.TheVariants as reasons
-use Rattle.rg_desk.specs.Desk.{DeskState, IsNextStep, MadeCopy, MadeFall, MadeStep, MadeSwitch, Prepares}
+use Rattle.rg_desk.specs.Desk.{DeskState, IsNextStep, MadeCopy, MadeFall, MadeStep, MadeSwitch}
+use Rattle.rg_desk.specs.Desk.{Prepares}
 use Rattle.rg_engine.specs.Flushed.{CallsOwn, WritesEither}
 use Rattle.rg_engine.specs.Prepared.{PreparedSeen}
 use Rattle.rg_engine.specs.Room.{Ground}
@@ -15,7 +17,8 @@ use Rattle.rg_feed.specs.declared.fold.item.Item.TheVariants.{PageCopy}
 use Rattle.rg_feed.specs.declared.fold.item.Stage.{Stage}
 use Rattle.rg_model.specs.Turn.{Turn, turn_of}
 use Rattle.rg_laws_crash.specs.NewestPages.Tidy.{set_of}
-use Rattle.rg_outside.specs.Calls.{Call, FailedRead, FailedSync, FailedWrite, Read, Refused, Synced, Wrote}
+use Rattle.rg_outside.specs.Calls.{Call, FailedRead, FailedSync, FailedWrite, Read, Refused, Synced}
+use Rattle.rg_outside.specs.Calls.{Wrote}
 use Rattle.rg_outside.specs.Faults.{Rose}
 use Rattle.rg_outside.specs.Made.{WritesIn}
 use Rattle.rg_outside.proofs.Frame.{calls_weaken, no_calls}
@@ -32,7 +35,8 @@ use Rattle.rg_laws_utility.specs.Course.Loading.{Loading, loading_after}
 use Rattle.rg_image.specs.Rules.{copy_capacity}
 use Rattle.rg_phase.specs.Made.{IsAsMade}
 use Rattle.rg_phase.specs.declared.made.Made.{Made}
-use Rattle.rg_phase.specs.Step.{Acts, HasPagesFor, IsSwitchFrom, Loads, Makes, NextMade, copy_left, is_device_stop, is_made}
+use Rattle.rg_phase.specs.Step.{Acts, HasPagesFor, IsSwitchFrom, Loads, Makes, NextMade, copy_left}
+use Rattle.rg_phase.specs.Step.{is_device_stop, is_made}
 use Rattle.rg_phase.proofs.Loading.{shows_none, shows_same, shows_step, shows_switched, space_any}
 use Rattle.rg_phase.specs.Working.{Writes}
 
@@ -56,15 +60,25 @@ plain_some None is = absurd (cc (is))
 plain_some (Some turn) is = refl
 
 -- a plain event that is booked is the next one
-pub next_booked : (down : Bool) (stage : Option Stage) (changes : ℕ) (covered : Option Session) (answer : Answer) (event : Event) → NextBy down stage changes covered (Some answer) event → NextMade down stage changes covered (Some answer) event
+pub next_booked : (down : Bool) (stage : Option Stage) (changes : ℕ) (covered : Option Session)
+    (answer : Answer) (event : Event) → NextBy down stage changes covered (Some answer) event
+    → NextMade down stage changes covered (Some answer) event
 next_booked true stage changes covered answer event next = absurd next
 next_booked false None changes covered answer event next = absurd next
-next_booked false (Some s) changes covered answer event next = (booked_made event next.0, plain_some (turn_of changes covered answer (numbers_of s) s.drain event) next.1)
+next_booked false (Some s) changes covered answer event next = (
+  booked_made event next.0,
+  plain_some (turn_of changes covered answer (numbers_of s) s.drain event) next.1,
+)
 
 -- where a utility runs after a step that was booked, it ran before
-runs_on : (down : Bool) (stage next : Option Stage) (changes : ℕ) (covered : Option Session) (answer : Option Answer) (event : Event) → FollowsBy down stage changes covered answer event next → is_some next ≡ true → is_some stage ≡ true
-runs_on true stage next changes covered answer event follows runs = ap (λ (o : Option Stage). is_some o) (sym follows) ∙ runs
-runs_on false None next changes covered answer event follows runs = ap (λ (o : Option Stage). is_some o) (sym follows) ∙ runs
+runs_on : (down : Bool) (stage next : Option Stage) (changes : ℕ) (covered : Option Session)
+    (answer : Option Answer) (event : Event)
+    → FollowsBy down stage changes covered answer event next → is_some next ≡ true
+    → is_some stage ≡ true
+runs_on true stage next changes covered answer event follows runs =
+    ap (λ (o : Option Stage). is_some o) (sym follows) ∙ runs
+runs_on false None next changes covered answer event follows runs =
+    ap (λ (o : Option Stage). is_some o) (sym follows) ∙ runs
 runs_on false (Some s) next changes covered answer event follows runs = refl
 
 -- ---- calls
@@ -79,27 +93,58 @@ log_either set FailedSync is = tt
 log_either set Refused is = tt
 
 log_own : (copy : ℕ) (old new : VolumeSeen) → CallsLog old new → CallsOwn copy old new
-log_own copy old new calls = record { only = calls_weaken (WritesIn Log) (WritesEither (set_of copy)) old.told new.told (log_either copy) calls.only; later = calls.later; capacities = calls.capacities }
+log_own copy old new calls = record {
+  only = calls_weaken (WritesIn Log) (WritesEither (set_of copy)) old.told new.told
+      (log_either copy) calls.only;
+  later = calls.later;
+  capacities = calls.capacities;
+}
 
 -- nothing is called
-still_own : {V : Type 0} (look : V → VolumeSeen) (copy : ℕ) (v w : V) → w ≡ v → CallsOwn copy (look v) (look w)
-still_own {V} look copy v w same = subst (λ (x : V). CallsOwn copy (look v) (look x)) (sym same) (record { only = no_calls (WritesEither (set_of copy)) (look v).told; later = omega arith; capacities = refl })
+still_own : {V : Type 0} (look : V → VolumeSeen) (copy : ℕ) (v w : V) → w ≡ v
+    → CallsOwn copy (look v) (look w)
+still_own {V} look copy v w same = subst (λ (x : V). CallsOwn copy (look v) (look x)) (sym same)
+    (record {
+      only = no_calls (WritesEither (set_of copy)) (look v).told;
+      later = omega arith;
+      capacities = refl;
+    })
 
 module _ {V O : Type 0} (look : V → VolumeSeen) where
   pub writes_none : (old : DeskState V O) → Writes look old old
-  writes_none old = record { same = refl; ground = refl; calls = still_own look (other_of old.copy) old.volume old.volume refl }
+  writes_none old = record {
+    same = refl;
+    ground = refl;
+    calls = still_own look (other_of old.copy) old.volume old.volume refl;
+  }
 
-  pub writes_prepared : (old new : DeskState V O) (shadow : Option PreparedSeen) → Prepares look old shadow new → Writes look old new
+  pub writes_prepared : (old new : DeskState V O) (shadow : Option PreparedSeen)
+      → Prepares look old shadow new → Writes look old new
   writes_prepared old new shadow p = record {
-    same = p.same ∙ ap (λ (s : Option PreparedSeen). let d : DeskState V O = record old { ground = new.ground; shadow = s; volume = new.volume } in d) (sym (ap (λ (d : DeskState V O). d.shadow) p.same));
+    same = p.same
+        ∙ ap
+        (λ (s : Option PreparedSeen). let d : DeskState V O =
+        record old { ground = new.ground; shadow = s; volume = new.volume } in d)
+        (sym (ap (λ (d : DeskState V O). d.shadow) p.same));
     ground = p.ground;
     calls = p.calls;
   }
 
-  pub writes_shadow : (old new : DeskState V O) → new ≡ record old { shadow = new.shadow } → Writes look old new
+  pub writes_shadow : (old new : DeskState V O) → new ≡ record old { shadow = new.shadow }
+      → Writes look old new
   writes_shadow old new same = record {
-    same = same ∙ ap (λ (x : V). let d : DeskState V O = record old { shadow = new.shadow; volume = x } in d) (sym volume) ∙ ap (λ (g : Ground). let d : DeskState V O = record old { ground = g; shadow = new.shadow; volume = new.volume } in d) (sym ground);
-    ground = ground ∙ ap (λ (n : ℕ). let g : Ground = record old.ground { log = record old.ground.log { forced = n } } in g) (sym (ap (λ (g : Ground). g.log.forced) ground));
+    same = same
+        ∙
+        ap (λ (x : V). let d : DeskState V O = record old { shadow = new.shadow; volume = x } in d)
+        (sym volume)
+        ∙ ap
+        (λ (g : Ground). let d : DeskState V O =
+        record old { ground = g; shadow = new.shadow; volume = new.volume } in d) (sym ground);
+    ground = ground
+        ∙ ap
+        (λ (n : ℕ).
+        let g : Ground = record old.ground { log = record old.ground.log { forced = n } } in g)
+        (sym (ap (λ (g : Ground). g.log.forced) ground));
     calls = still_own look (other_of old.copy) old.volume new.volume volume;
   }
     where
@@ -110,12 +155,19 @@ module _ {V O : Type 0} (look : V → VolumeSeen) where
       ground = ap (λ (d : DeskState V O). d.ground) same
 
   -- the new copy that was kept is dropped
-  pub writes_forgotten : (old new : DeskState V O) → new ≡ record old { shadow = None } → Writes look old new
+  pub writes_forgotten : (old new : DeskState V O) → new ≡ record old { shadow = None }
+      → Writes look old new
   writes_forgotten old new same =
-      writes_shadow old new (same ∙ ap (λ (x : Option PreparedSeen). let d : DeskState V O = record old { shadow = x } in d) (sym (ap (λ (d : DeskState V O). d.shadow) same)))
+      writes_shadow old new
+      (same
+      ∙ ap (λ (x : Option PreparedSeen). let d : DeskState V O = record old { shadow = x } in d)
+      (sym (ap (λ (d : DeskState V O). d.shadow) same)))
 
   -- a desk that is down, or over which no utility runs
-  pub makes_refused : (old new : DeskState V O) (event : Event) → copy_left old.copy event ≡ old.copy → IsSwitchFrom old.copy event → is_device_stop event ≡ false → MadeStep look old None event [] new → Makes look old None event new
+  pub makes_refused : (old new : DeskState V O) (event : Event)
+      → copy_left old.copy event ≡ old.copy → IsSwitchFrom old.copy event
+      → is_device_stop event ≡ false → MadeStep look old None event [] new
+      → Makes look old None event new
   makes_refused old new event left from quiet made = record {
     calls = made.calls;
     made = made.made;
@@ -137,32 +189,52 @@ module _ {V O : Type 0} (look : V → VolumeSeen) where
   }
 
   -- it tells nothing of the new copy
-  pub loads_refused : (old mid new : DeskState V O) (event : Event) → ((l : Option Loading) → loading_after l event ≡ l) → ((capacity weight : ℕ) (s : Stage) → HasPagesFor capacity weight s event) → mid.copy ≡ old.copy → mid.stage ≡ old.stage → FollowsBy mid.down mid.stage mid.changes mid.covered None event new.stage
+  pub loads_refused : (old mid new : DeskState V O) (event : Event)
+      → ((l : Option Loading) → loading_after l event ≡ l)
+      → ((capacity weight : ℕ) (s : Stage) → HasPagesFor capacity weight s event)
+      → mid.copy ≡ old.copy → mid.stage ≡ old.stage
+      → FollowsBy mid.down mid.stage mid.changes mid.covered None event new.stage
       → new.copy ≡ mid.copy → Loads look old event new
   loads_refused old mid new event tells space copy stage follows same = record {
-    space = space_any old.stage (copy_capacity (look old.volume).capacities (other_of old.copy)) (weigh_feed old.feed) event (space (copy_capacity (look old.volume).capacities (other_of old.copy)) (weigh_feed old.feed));
-    shows = shows_same old.stage new.stage event old.copy new.copy (same ∙ copy) (stayed mid.down mid.stage follows ∙ stage) tells;
+    space = space_any old.stage (copy_capacity (look old.volume).capacities (other_of old.copy))
+        (weigh_feed old.feed) event
+        (space (copy_capacity (look old.volume).capacities (other_of old.copy))
+        (weigh_feed old.feed));
+    shows = shows_same old.stage new.stage event old.copy new.copy (same ∙ copy)
+        (stayed mid.down mid.stage follows ∙ stage) tells;
   }
     where
-      stayed : (down : Bool) (o : Option Stage) → FollowsBy down o mid.changes mid.covered None event new.stage → new.stage ≡ o
+      stayed : (down : Bool) (o : Option Stage)
+          → FollowsBy down o mid.changes mid.covered None event new.stage → new.stage ≡ o
       stayed true o follows = follows
       stayed false None follows = follows
       stayed false (Some s) follows = follows
 
   -- from the desk that was asked
-  pub loads_asked : (old asked new : DeskState V O) (answer : Answer) (event : Event) → asked ≡ record old { spare = asked.spare; kept = Some answer; operator = asked.operator } → Loads look asked event new → Loads look old event new
+  pub loads_asked : (old asked new : DeskState V O) (answer : Answer) (event : Event)
+      → asked ≡ record old { spare = asked.spare; kept = Some answer; operator = asked.operator }
+      → Loads look asked event new → Loads look old event new
   loads_asked old asked new answer event same loads =
-      let moved : Loads look (record old { spare = asked.spare; kept = Some answer; operator = asked.operator }) event new = subst (λ (d : DeskState V O). Loads look d event new) same loads in
+      let moved : Loads look
+      (record old { spare = asked.spare; kept = Some answer; operator = asked.operator }) event
+      new = subst (λ (d : DeskState V O). Loads look d event new) same loads in
       record { space = moved.space; shows = moved.shows }
 
   module _ (old : DeskState V O) (answer : Answer) (made_of : Made) (taken : ℕ) where
     -- the event is as the other copy has room
     abbrev Space : Event → Type 0
-    Space event = IfSome old.stage (λ s. HasPagesFor (copy_capacity (look old.volume).capacities (other_of old.copy)) (weigh_feed old.feed) s event)
+    Space event = IfSome old.stage
+        (λ s. HasPagesFor (copy_capacity (look old.volume).capacities (other_of old.copy))
+        (weigh_feed old.feed) s event)
 
     -- a step was made, after a new copy was written or not
-    acts_made : (mid new : DeskState V O) (event : Event) (items : List Item) → is_some old.stage ≡ true → Writes look old mid → NextMade old.down old.stage old.changes old.covered (Some answer) event → copy_left old.copy event ≡ old.copy → IsSwitchFrom old.copy event
-        → (is_device_stop event ≡ true → Rose (look old.volume).faults (look mid.volume).faults) → Space event → IsAsMade made_of old.stage taken event → MadeStep look mid (Some answer) event items new → Acts look old answer made_of taken new
+    acts_made : (mid new : DeskState V O) (event : Event) (items : List Item)
+        → is_some old.stage ≡ true → Writes look old mid
+        → NextMade old.down old.stage old.changes old.covered (Some answer) event
+        → copy_left old.copy event ≡ old.copy → IsSwitchFrom old.copy event
+        → (is_device_stop event ≡ true → Rose (look old.volume).faults (look mid.volume).faults)
+        → Space event → IsAsMade made_of old.stage taken event
+        → MadeStep look mid (Some answer) event items new → Acts look old answer made_of taken new
     acts_made mid new event items runs wrote next left from device space told made = record {
       event = event;
       told = told;
@@ -170,19 +242,26 @@ module _ {V O : Type 0} (look : V → VolumeSeen) where
       loads = record {
         space = space;
         shows =
-            shows_step old.down old.stage new.stage old.changes old.covered answer event old.copy new.copy (made.stays.copy ∙ copy) next
-            (subst (λ (d : DeskState V O). FollowsBy d.down d.stage d.changes d.covered (Some answer) event new.stage) wrote.same made.follows);
+            shows_step old.down old.stage new.stage old.changes old.covered answer event old.copy
+            new.copy (made.stays.copy ∙ copy) next
+            (subst
+            (λ (d : DeskState V O). FollowsBy d.down d.stage d.changes d.covered (Some answer) event
+            new.stage) wrote.same made.follows);
       };
       made = record {
         calls = made.calls;
-        made = made.made ∙ ap (λ (es : List Entry). es ++ utility_entry event (Some answer) made.calls ∷ []) (ap (λ (d : DeskState V O). d.trace) wrote.same);
+        made = made.made
+            ∙ ap (λ (es : List Entry). es ++ utility_entry event (Some answer) made.calls ∷ [])
+            (ap (λ (d : DeskState V O). d.trace) wrote.same);
         counted = made.counted;
         copy = made.stays.copy ∙ copy ∙ sym left;
         ring = made.stays.ring ∙ ap (λ (d : DeskState V O). d.ring) wrote.same;
         to = from;
         capacity = inl (made.stays.capacity ∙ ap (λ (g : Ground). g.capacity) wrote.ground);
-        down = λ down. inl (sym (ap (λ (d : DeskState V O). d.down) wrote.same) ∙ sym made.down ∙ down);
-        device = λ is. subst (λ (v : V). Rose (look old.volume).faults (look v).faults) (sym made.volume) (device is);
+        down = λ down.
+            inl (sym (ap (λ (d : DeskState V O). d.down) wrote.same) ∙ sym made.down ∙ down);
+        device = λ is. subst (λ (v : V). Rose (look old.volume).faults (look v).faults)
+            (sym made.volume) (device is);
         runs = λ is. runs;
         kept = made.kept;
         operator = made.operator ∙ ap (λ (d : DeskState V O). d.operator) wrote.same;
@@ -192,34 +271,58 @@ module _ {V O : Type 0} (look : V → VolumeSeen) where
         first_copy = made.stays.first_copy ∙ ap (λ (d : DeskState V O). d.first_copy) wrote.same;
         old_same =
             made.stays.old_same ∙ ap (λ (g : Ground). take mid.opened g.log.records) wrote.ground
-            ∙ ap (λ (n : ℕ). take n old.ground.log.records) (ap (λ (d : DeskState V O). d.opened) wrote.same);
+            ∙ ap (λ (n : ℕ). take n old.ground.log.records)
+            (ap (λ (d : DeskState V O). d.opened) wrote.same);
       };
-      only = (runs, subst (λ (v : V). CallsOwn (other_of old.copy) (look old.volume) (look v)) (sym made.volume) wrote.calls);
+      only = (
+        runs,
+        subst (λ (v : V). CallsOwn (other_of old.copy) (look old.volume) (look v)) (sym made.volume)
+            wrote.calls,
+      );
     }
       where
         copy : mid.copy ≡ old.copy
         copy = ap (λ (d : DeskState V O). d.copy) wrote.same
 
     -- it was booked
-    pub acts_booked : (mid new : DeskState V O) (event : Event) → is_some old.stage ≡ true → Writes look old mid → IsNextStep old (Some answer) event → is_booked event ≡ true
-        → (is_device_stop event ≡ true → Rose (look old.volume).faults (look mid.volume).faults) → Space event → IsAsMade made_of old.stage taken event → MadeStep look mid (Some answer) event [] new → Acts look old answer made_of taken new
+    pub acts_booked : (mid new : DeskState V O) (event : Event) → is_some old.stage ≡ true
+        → Writes look old mid → IsNextStep old (Some answer) event → is_booked event ≡ true
+        → (is_device_stop event ≡ true → Rose (look old.volume).faults (look mid.volume).faults)
+        → Space event → IsAsMade made_of old.stage taken event
+        → MadeStep look mid (Some answer) event [] new → Acts look old answer made_of taken new
     acts_booked mid new event runs wrote next booked device space told made =
-        acts_made mid new event [] runs wrote (next_booked old.down old.stage old.changes old.covered answer event next) (booked_left old.copy event booked) (booked_from old.copy event booked) device space told made
+        acts_made mid new event [] runs wrote
+        (next_booked old.down old.stage old.changes old.covered answer event next)
+        (booked_left old.copy event booked) (booked_from old.copy event booked) device space told
+        made
 
     -- a page was copied
-    pub acts_copied : (mid new : DeskState V O) (page rows : ℕ) → is_some old.stage ≡ true → Writes look old mid → NextMade old.down old.stage old.changes old.covered (Some answer) (events.Unload page rows) → MadeCopy look mid answer page rows new → Acts look old answer made_of taken new
+    pub acts_copied : (mid new : DeskState V O) (page rows : ℕ) → is_some old.stage ≡ true
+        → Writes look old mid
+        → NextMade old.down old.stage old.changes old.covered (Some answer)
+        (events.Unload page rows)
+        → MadeCopy look mid answer page rows new → Acts look old answer made_of taken new
     acts_copied mid new page rows runs wrote next made =
-        acts_made mid new (events.Unload page rows) (PageCopy page made.position made.copied ∷ []) runs wrote next refl tt (λ is. absurd (cc (is))) (space_any old.stage (copy_capacity (look old.volume).capacities (other_of old.copy)) (weigh_feed old.feed) (events.Unload page rows) (λ s. tt)) tt made.made
+        acts_made mid new (events.Unload page rows) (PageCopy page made.position made.copied ∷ [])
+        runs wrote next refl tt (λ is. absurd (cc (is)))
+        (space_any old.stage (copy_capacity (look old.volume).capacities (other_of old.copy))
+        (weigh_feed old.feed) (events.Unload page rows) (λ s. tt)) tt made.made
 
     -- the copies were switched
-    pub acts_switched : (new : DeskState V O) (sides : Sides) → is_some old.stage ≡ true → NextMade old.down old.stage old.changes old.covered (Some answer) (events.Switched (other_of old.copy) sides) → MadeSwitch look old answer sides new → Acts look old answer made_of taken new
+    pub acts_switched : (new : DeskState V O) (sides : Sides) → is_some old.stage ≡ true
+        → NextMade old.down old.stage old.changes old.covered (Some answer)
+        (events.Switched (other_of old.copy) sides)
+        → MadeSwitch look old answer sides new → Acts look old answer made_of taken new
     acts_switched new sides runs next made = record {
       event = events.Switched (other_of old.copy) sides;
       told = tt;
       next = next;
       loads = record {
-        space = space_any old.stage (copy_capacity (look old.volume).capacities (other_of old.copy)) (weigh_feed old.feed) (events.Switched (other_of old.copy) sides) (λ s. tt);
-        shows = shows_switched old.stage new.stage made.stage (events.Switched (other_of old.copy) sides) old.copy new.copy made.stage_is made.switched;
+        space = space_any old.stage (copy_capacity (look old.volume).capacities (other_of old.copy))
+            (weigh_feed old.feed) (events.Switched (other_of old.copy) sides) (λ s. tt);
+        shows = shows_switched old.stage new.stage made.stage
+            (events.Switched (other_of old.copy) sides) old.copy new.copy made.stage_is
+            made.switched;
       };
       made = record {
         calls = made.calls;
@@ -240,18 +343,24 @@ module _ {V O : Type 0} (look : V → VolumeSeen) where
         first_copy = made.stays.first_copy;
         old_same = made.stays.old_same;
       };
-      only = (runs, log_own (other_of old.copy) (look old.volume) (look new.volume) made.stays.calls);
+      only =
+          (runs, log_own (other_of old.copy) (look old.volume) (look new.volume) made.stays.calls);
     }
 
     -- the record of the switch could not be forced
-    pub acts_fallen : (new : DeskState V O) → is_some old.stage ≡ true → NextMade old.down old.stage old.changes old.covered (Some answer) (events.Stop reasons.Device) → MadeFall look old answer new → Acts look old answer made_of taken new
+    pub acts_fallen : (new : DeskState V O) → is_some old.stage ≡ true
+        → NextMade old.down old.stage old.changes old.covered (Some answer)
+        (events.Stop reasons.Device)
+        → MadeFall look old answer new → Acts look old answer made_of taken new
     acts_fallen new runs next made = record {
       event = events.Stop reasons.Device;
       told = tt;
       next = next;
       loads = record {
-        space = space_any old.stage (copy_capacity (look old.volume).capacities (other_of old.copy)) (weigh_feed old.feed) (events.Stop reasons.Device) (λ s. tt);
-        shows = shows_none old.stage new.stage (events.Stop reasons.Device) old.copy new.copy made.stage;
+        space = space_any old.stage (copy_capacity (look old.volume).capacities (other_of old.copy))
+            (weigh_feed old.feed) (events.Stop reasons.Device) (λ s. tt);
+        shows = shows_none old.stage new.stage (events.Stop reasons.Device) old.copy new.copy
+            made.stage;
       };
       made = record {
         calls = made.calls;
@@ -272,5 +381,6 @@ module _ {V O : Type 0} (look : V → VolumeSeen) where
         first_copy = made.stays.first_copy;
         old_same = made.stays.old_same;
       };
-      only = (runs, log_own (other_of old.copy) (look old.volume) (look new.volume) made.stays.calls);
+      only =
+          (runs, log_own (other_of old.copy) (look old.volume) (look new.volume) made.stays.calls);
     }

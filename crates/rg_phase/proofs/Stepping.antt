@@ -1,5 +1,6 @@
 -- Which events of a step are the next one.
-use Rattle.std.proofs.Common.{◌≡◌, ◌+◌, nat_le, nat_lt, ℕ, Bool, true, false, Option, Some, None, if◌then◌else◌, refl}
+use Rattle.std.proofs.Common.{◌≡◌, ◌+◌, nat_le, nat_lt, ℕ, Bool, true, false, Option, Some, None}
+use Rattle.std.proofs.Common.{if◌then◌else◌, refl}
 use Rattle.std.specs.Option.{is_some}
 use Rattle.rg_base.specs.declared.control.Answer.{Answer}
 use Rattle.rg_base.specs.declared.options.DrainFor.{DrainFor}
@@ -32,43 +33,73 @@ leads_plain (Some (Switches copy sides u)) leads some = absurd leads
 leads_plain (Some Stops) leads some = refl
 leads_plain (Some Falls) leads some = absurd leads
 
-pub plain_at : (step : Step) (all : ℕ) (blocker : Option Session) (answer : Answer) (u : Utility) (d : DrainState) (event : Event) → Needs Anything step u d → is_some (turn_at step all blocker answer u d event) ≡ true → is_plain (turn_at step all blocker answer u d event) ≡ true
-plain_at step all blocker answer u d event needs some = leads_plain _ (at_leads Anything step all blocker answer u d event needs) some
+pub plain_at : (step : Step) (all : ℕ) (blocker : Option Session) (answer : Answer) (u : Utility)
+    (d : DrainState) (event : Event)
+    → Needs Anything step u d → is_some (turn_at step all blocker answer u d event) ≡ true
+    → is_plain (turn_at step all blocker answer u d event) ≡ true
+plain_at step all blocker answer u d event needs some =
+    leads_plain _ (at_leads Anything step all blocker answer u d event needs) some
 
 -- whatever becomes of the drain is booked, and no call failed for it
 
-pub drain_booked : (what : DrainFor) (failed : ℕ) (verdict : DrainVerdict) → is_booked (drain_event what failed verdict) ≡ true
+pub drain_booked : (what : DrainFor) (failed : ℕ) (verdict : DrainVerdict)
+    → is_booked (drain_event what failed verdict) ≡ true
 drain_booked what failed (waits.Wait session) = refl
 drain_booked what failed waits.Granted = refl
 drain_booked what failed waits.GiveUp = refl
 drain_booked what failed (waits.Stop reason) = refl
 
-by_test : (what : DrainFor) (failed : ℕ) (b : Bool) (one other : DrainVerdict) → is_device_stop (drain_event what failed one) ≡ false → is_device_stop (drain_event what failed other) ≡ false → is_device_stop (drain_event what failed (if b then one else other)) ≡ false
+by_test : (what : DrainFor) (failed : ℕ) (b : Bool) (one other : DrainVerdict)
+    → is_device_stop (drain_event what failed one) ≡ false
+    → is_device_stop (drain_event what failed other) ≡ false
+    → is_device_stop (drain_event what failed (if b then one else other)) ≡ false
 by_test what failed true one other y n = y
 by_test what failed false one other y n = n
 
-wait_quiet : (options : Options) (what : DrainFor) (asked failed : ℕ) (blocker : Option Session) (now : ℕ) → is_device_stop (drain_event what failed (wait_verdict options asked failed blocker now)) ≡ false
+wait_quiet :
+    (options : Options) (what : DrainFor) (asked failed : ℕ) (blocker : Option Session) (now : ℕ)
+    → is_device_stop (drain_event what failed (wait_verdict options asked failed blocker now))
+    ≡ false
 wait_quiet options what asked failed None now = refl
 wait_quiet options what asked failed (Some session) now =
-    by_test what failed (nat_le (asked + options.wait) now) (retry_verdict options failed) (waits.Wait session)
-    (by_test what failed (nat_lt options.retry (failed + 1)) (waits.Stop reasons.Drain) waits.GiveUp refl refl) refl
+    by_test what failed (nat_le (asked + options.wait) now) (retry_verdict options failed)
+    (waits.Wait session)
+    (by_test what failed (nat_lt options.retry (failed + 1)) (waits.Stop reasons.Drain) waits.GiveUp
+    refl refl) refl
 
-pub drain_quiet : (options : Options) (what : DrainFor) (asked failed : ℕ) (blocker : Option Session) (now estimate : ℕ) → is_device_stop (drain_event what failed (drain_verdict options asked failed blocker now estimate)) ≡ false
+pub drain_quiet : (options : Options) (what : DrainFor) (asked failed : ℕ)
+    (blocker : Option Session) (now estimate : ℕ)
+    → is_device_stop
+    (drain_event what failed (drain_verdict options asked failed blocker now estimate)) ≡ false
 drain_quiet options what asked failed blocker now estimate =
-    by_test what failed (is_late options.deadline now estimate) (waits.Stop reasons.Deadline) (wait_verdict options asked failed blocker now) refl (wait_quiet options what asked failed blocker now)
+    by_test what failed (is_late options.deadline now estimate) (waits.Stop reasons.Deadline)
+    (wait_verdict options asked failed blocker now) refl
+    (wait_quiet options what asked failed blocker now)
 
 -- nor was a page to be filled
 
-unfilled_test : (what : DrainFor) (failed : ℕ) (b : Bool) (one other : DrainVerdict) → is_filling (drain_event what failed one) ≡ false → is_filling (drain_event what failed other) ≡ false → is_filling (drain_event what failed (if b then one else other)) ≡ false
+unfilled_test : (what : DrainFor) (failed : ℕ) (b : Bool) (one other : DrainVerdict)
+    → is_filling (drain_event what failed one) ≡ false
+    → is_filling (drain_event what failed other) ≡ false
+    → is_filling (drain_event what failed (if b then one else other)) ≡ false
 unfilled_test what failed true one other y n = y
 unfilled_test what failed false one other y n = n
 
-wait_unfilled : (options : Options) (what : DrainFor) (asked failed : ℕ) (blocker : Option Session) (now : ℕ) → is_filling (drain_event what failed (wait_verdict options asked failed blocker now)) ≡ false
+wait_unfilled :
+    (options : Options) (what : DrainFor) (asked failed : ℕ) (blocker : Option Session) (now : ℕ)
+    → is_filling (drain_event what failed (wait_verdict options asked failed blocker now)) ≡ false
 wait_unfilled options what asked failed None now = refl
 wait_unfilled options what asked failed (Some session) now =
-    unfilled_test what failed (nat_le (asked + options.wait) now) (retry_verdict options failed) (waits.Wait session)
-    (unfilled_test what failed (nat_lt options.retry (failed + 1)) (waits.Stop reasons.Drain) waits.GiveUp refl refl) refl
+    unfilled_test what failed (nat_le (asked + options.wait) now) (retry_verdict options failed)
+    (waits.Wait session)
+    (unfilled_test what failed (nat_lt options.retry (failed + 1)) (waits.Stop reasons.Drain)
+    waits.GiveUp refl refl) refl
 
-pub drain_unfilled : (options : Options) (what : DrainFor) (asked failed : ℕ) (blocker : Option Session) (now estimate : ℕ) → is_filling (drain_event what failed (drain_verdict options asked failed blocker now estimate)) ≡ false
+pub drain_unfilled : (options : Options) (what : DrainFor) (asked failed : ℕ)
+    (blocker : Option Session) (now estimate : ℕ)
+    → is_filling (drain_event what failed (drain_verdict options asked failed blocker now estimate))
+    ≡ false
 drain_unfilled options what asked failed blocker now estimate =
-    unfilled_test what failed (is_late options.deadline now estimate) (waits.Stop reasons.Deadline) (wait_verdict options asked failed blocker now) refl (wait_unfilled options what asked failed blocker now)
+    unfilled_test what failed (is_late options.deadline now estimate) (waits.Stop reasons.Deadline)
+    (wait_verdict options asked failed blocker now) refl
+    (wait_unfilled options what asked failed blocker now)

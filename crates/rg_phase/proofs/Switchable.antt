@@ -1,5 +1,7 @@
 -- A new copy that is caught up with all changes may be written, and then switched to.
-use Rattle.std.proofs.Common.{◌≡◌, ◌==◌, ◌&&◌, ◌+◌, ◌-◌, ◌*◌, ◌/◌, nat_le, ℕ, Bool, false, List, [], ◌∷◌, Option, Some, IfSome, if◌then◌else◌, length, filter, map, refl, sym, ◌∙◌, ap, subst, arith}
+use Rattle.std.proofs.Common.{◌≡◌, ◌==◌, ◌&&◌, ◌+◌, ◌-◌, ◌*◌, ◌/◌, nat_le, ℕ, Bool, false, List, []}
+use Rattle.std.proofs.Common.{◌∷◌, Option, Some, IfSome, if◌then◌else◌, length, filter, map, refl}
+use Rattle.std.proofs.Common.{sym, ◌∙◌, ap, subst, arith}
 use Rattle.rg_base.specs.declared.control.Answer.{Answer}
 use Rattle.rg_base.specs.declared.options.Options.{Options}
 use Rattle.rg_base.specs.declared.row.Row.{Row}
@@ -11,7 +13,8 @@ use Rattle.rg_laws_utility.specs.ByteAccount.Account.{allowed_of}
 use Rattle.rg_laws_utility.specs.ByteAccount.Reaching.{ReachesBy}
 use Rattle.rg_laws_utility.proofs.ByteAccountLemmas.Reached.{feed_is_allowed}
 use Rattle.rg_translate.proofs.RightCopyLemmas.Taking.{caught_claims, same_slots}
-use Rattle.rg_desk.specs.Desk.{AreSides, CanCommit, CanPrepare, DeskState, HasCurrent, HasDrain, IsNewSide}
+use Rattle.rg_desk.specs.Desk.{AreSides, CanCommit, CanPrepare, DeskState, HasCurrent, HasDrain}
+use Rattle.rg_desk.specs.Desk.{IsNewSide}
 use Rattle.rg_engine.specs.Prepared.{PreparedSeen}
 use Rattle.rg_engine.specs.Volume.{VolumeSeen}
 use Rattle.rg_feed.specs.Ends.{Received}
@@ -22,7 +25,8 @@ use Rattle.rg_feed.specs.declared.fold.item.Stage.{Stage}
 use Rattle.rg_home.specs.Pages.{slot_of}
 use Rattle.rg_home.specs.Rows.{row_at}
 use Rattle.rg_image.specs.Rules.{copy_capacity}
-use Rattle.rg_model.specs.Packed.{area_of, clustered_rows, home_spot, page_at, page_count, spots_from}
+use Rattle.rg_model.specs.Packed.{area_of, clustered_rows, home_spot, page_at, page_count}
+use Rattle.rg_model.specs.Packed.{spots_from}
 use Rattle.rg_model.specs.Quiet.{is_quiet}
 use Rattle.rg_model.specs.Right.{is_packed, same_home_spot}
 use Rattle.rg_model.specs.Same.{same_list}
@@ -46,21 +50,31 @@ use Rattle.rg_phase.specs.Working.{AreSidesToSwitch, MakesStep}
 abbrev pub progress_of : Stage → (changes : ℕ) → Progress
 progress_of s n = record { pages = s.pages; copied = s.copied; changes = n }
 
-pub fed_now : {V O : Type 0} (desk : DeskState V O) (inlet : Received) (s : Stage) → Hears desk inlet → desk.stage ≡ Some s → s.switched ≡ false
-    → Fed (row_at (slot_of desk.ground.pages)) (λ key. is_quiet key (behind [] desk.trace)) (progress_of s desk.changes) desk.feed
+pub fed_now : {V O : Type 0} (desk : DeskState V O) (inlet : Received) (s : Stage)
+    → Hears desk inlet → desk.stage ≡ Some s → s.switched ≡ false
+    → Fed (row_at (slot_of desk.ground.pages)) (λ key. is_quiet key (behind [] desk.trace))
+    (progress_of s desk.changes) desk.feed
 fed_now desk inlet s hears stage unswitched =
     let keeps = hears.feed.keeps in
     let rows = row_at (slot_of desk.ground.pages) in
     let past = behind [] desk.trace in
-    let leads = subst (λ (o : Option Stage). LeadTo rows past o desk.changes keeps.copied desk.feed) stage keeps.leads in
+    let leads = subst (λ (o : Option Stage). LeadTo rows past o desk.changes keeps.copied desk.feed)
+    stage keeps.leads in
     (leads unswitched).1
 
-pub changes_heard : {V O : Type 0} (desk : DeskState V O) (inlet : Received) (s : Stage) → Hears desk inlet → desk.stage ≡ Some s → s.switched ≡ false → length (changes (since_begin inlet.items)) ≡ desk.changes
-changes_heard desk inlet s hears stage unswitched = ap (λ (xs : List Item). length (changes (since_begin xs))) hears.items ∙ (fed_now desk inlet s hears stage unswitched).counted
+pub changes_heard : {V O : Type 0} (desk : DeskState V O) (inlet : Received) (s : Stage)
+    → Hears desk inlet → desk.stage ≡ Some s → s.switched ≡ false
+    → length (changes (since_begin inlet.items)) ≡ desk.changes
+changes_heard desk inlet s hears stage unswitched =
+    ap (λ (xs : List Item). length (changes (since_begin xs))) hears.items
+    ∙ (fed_now desk inlet s hears stage unswitched).counted
 
 -- all is taken
-pub all_taken : {V O : Type 0} (desk : DeskState V O) (inlet : Received) (s : Stage) (options : Options) (shade : Shade) → Hears desk inlet → s.copied ≡ s.pages → (draft : IsDraftOf options shade desk.feed inlet.taken)
-    → inlet.taken ≡ length (changes (since_begin desk.feed)) → AreAllTaken desk.feed (progress_of s desk.changes) draft.rows inlet.taken
+pub all_taken : {V O : Type 0} (desk : DeskState V O) (inlet : Received) (s : Stage)
+    (options : Options) (shade : Shade) → Hears desk inlet → s.copied ≡ s.pages
+    → (draft : IsDraftOf options shade desk.feed inlet.taken)
+    → inlet.taken ≡ length (changes (since_begin desk.feed))
+    → AreAllTaken desk.feed (progress_of s desk.changes) draft.rows inlet.taken
 all_taken desk inlet s options shade hears copied draft none = record {
   lawful = hears.feed.keeps.ordered.lawful;
   all = copied;
@@ -71,13 +85,21 @@ all_taken desk inlet s options shade hears copied draft none = record {
 
 -- ---- it may be written
 
-pub can_prepare : {V O : Type 0} (look : V → VolumeSeen) (desk : DeskState V O) (inlet : Received) (s : Stage) (options : Options) (shade : Shade) → HasDrain desk → Hears desk inlet → desk.stage ≡ Some s → s.switched ≡ false → s.copied ≡ s.pages
-    → IsDraftOf options shade inlet.items inlet.taken → inlet.taken ≡ length (changes (since_begin inlet.items)) → IsReady (other_of desk.copy) (copy_capacity (look desk.volume).capacities (other_of desk.copy)) shade → CanPrepare look desk shade
+pub can_prepare : {V O : Type 0} (look : V → VolumeSeen) (desk : DeskState V O) (inlet : Received)
+    (s : Stage) (options : Options) (shade : Shade) → HasDrain desk → Hears desk inlet
+    → desk.stage ≡ Some s → s.switched ≡ false → s.copied ≡ s.pages
+    → IsDraftOf options shade inlet.items inlet.taken
+    → inlet.taken ≡ length (changes (since_begin inlet.items))
+    → IsReady (other_of desk.copy)
+    (copy_capacity (look desk.volume).capacities (other_of desk.copy)) shade
+    → CanPrepare look desk shade
 can_prepare look desk inlet s options shade drained hears stage unswitched copied made none ready =
-    let draft = subst (λ (xs : List Item). IsDraftOf options shade xs inlet.taken) hears.items made in
+    let draft =
+    subst (λ (xs : List Item). IsDraftOf options shade xs inlet.taken) hears.items made in
     let rows = row_at (slot_of desk.ground.pages) in
     let quiet : ℕ → Bool = λ key. is_quiet key (behind [] desk.trace) in
-    let now = rows_now rows (progress_of s desk.changes) desk.feed options draft.rows draft.first shade inlet.taken quiet (fed_now desk inlet s hears stage unswitched) copied
+    let now = rows_now rows (progress_of s desk.changes) desk.feed options draft.rows draft.first
+    shade inlet.taken quiet (fed_now desk inlet s hears stage unswitched) copied
     (none ∙ ap (λ (xs : List Item). length (changes (since_begin xs))) hears.items) draft.caught in
     record {
       drained = drained;
@@ -86,72 +108,116 @@ can_prepare look desk inlet s options shade drained hears stage unswitched copie
     }
 
 -- with positions it is the same copy
-pub draft_stamped : (options : Options) (shade : Shade) (items : List Item) (taken at : ℕ) → IsDraftOf options shade items taken → IsDraftOf options (record shade { pages = stamped_all at shade.pages }) items taken
+pub draft_stamped : (options : Options) (shade : Shade) (items : List Item) (taken at : ℕ)
+    → IsDraftOf options shade items taken
+    → IsDraftOf options (record shade { pages = stamped_all at shade.pages }) items taken
 draft_stamped options shade items taken at draft = record {
   rows = draft.rows;
   first = draft.first;
   moved = draft.moved;
   order = draft.order;
-  caught = same_slots options draft.rows draft.first shade items taken (stamped_all at shade.pages) (slots_of-stamped_first at (length shade.pages) shade.pages) draft.caught;
+  caught = same_slots options draft.rows draft.first shade items taken (stamped_all at shade.pages)
+      (slots_of-stamped_first at (length shade.pages) shade.pages) draft.caught;
   within = draft.within;
 }
 
 -- ---- the options that packing goes by
 
-spots_same : (a b : Options) → a.pctfree ≡ b.pctfree → a.freepage ≡ b.freepage → (k slot free : ℕ) (rows : List Row) → spots_from a k slot free rows ≡ spots_from b k slot free rows
+spots_same : (a b : Options) → a.pctfree ≡ b.pctfree → a.freepage ≡ b.freepage
+    → (k slot free : ℕ) (rows : List Row)
+    → spots_from a k slot free rows ≡ spots_from b k slot free rows
 spots_same a b e f k slot free [] = refl
 spots_same a b e f k slot free (row ∷ rows) =
-    let put : (pctfree freepage : ℕ) → (here next : List Spot) → List Spot = λ pctfree freepage here next.
-    if nat_le (4064 * pctfree / 100 + area_of row) free then home_spot (page_at freepage k) slot row ∷ here else home_spot (page_at freepage (k + 1)) 0 row ∷ next in
-    ap (λ (n : ℕ). put n a.freepage (spots_from a k (slot + 1) (free - area_of row) rows) (spots_from a (k + 1) 1 (4064 - area_of row) rows)) e
-    ∙ ap (λ (n : ℕ). put b.pctfree n (spots_from a k (slot + 1) (free - area_of row) rows) (spots_from a (k + 1) 1 (4064 - area_of row) rows)) f
-    ∙ ap (λ (xs : List Spot). put b.pctfree b.freepage xs (spots_from a (k + 1) 1 (4064 - area_of row) rows)) (spots_same a b e f k (slot + 1) (free - area_of row) rows)
-    ∙ ap (λ (xs : List Spot). put b.pctfree b.freepage (spots_from b k (slot + 1) (free - area_of row) rows) xs) (spots_same a b e f (k + 1) 1 (4064 - area_of row) rows)
+    let put : (pctfree freepage : ℕ) → (here next : List Spot) → List Spot =
+    λ pctfree freepage here next.
+    if nat_le (4064 * pctfree / 100 + area_of row) free
+    then home_spot (page_at freepage k) slot row ∷ here
+    else home_spot (page_at freepage (k + 1)) 0 row ∷ next in
+    ap
+    (λ (n : ℕ). put n a.freepage (spots_from a k (slot + 1) (free - area_of row) rows)
+    (spots_from a (k + 1) 1 (4064 - area_of row) rows)) e
+    ∙ ap
+    (λ (n : ℕ). put b.pctfree n (spots_from a k (slot + 1) (free - area_of row) rows)
+    (spots_from a (k + 1) 1 (4064 - area_of row) rows)) f
+    ∙ ap
+    (λ (xs : List Spot). put b.pctfree b.freepage xs
+    (spots_from a (k + 1) 1 (4064 - area_of row) rows))
+    (spots_same a b e f k (slot + 1) (free - area_of row) rows)
+    ∙ ap
+    (λ (xs : List Spot). put b.pctfree b.freepage
+    (spots_from b k (slot + 1) (free - area_of row) rows) xs)
+    (spots_same a b e f (k + 1) 1 (4064 - area_of row) rows)
 
-packed_same : (a b : Options) → a.pctfree ≡ b.pctfree → a.freepage ≡ b.freepage → (t : Table) (side : Side) → is_packed a t side ≡ is_packed b t side
+packed_same : (a b : Options) → a.pctfree ≡ b.pctfree → a.freepage ≡ b.freepage
+    → (t : Table) (side : Side) → is_packed a t side ≡ is_packed b t side
 packed_same a b e f t side =
     let rows = clustered_rows (map (λ entry. entry.1) (entries_of t)) in
-    let test : (freepage : ℕ) (spots : List Spot) → Bool = λ freepage spots. side.pages == page_count freepage (length (filter (λ spot. spot.place.slot == 0) spots)) && same_list same_home_spot side.spots spots in
-    ap (λ (n : ℕ). test n (spots_from a 0 0 0 rows)) f ∙ ap (λ (spots : List Spot). test b.freepage spots) (spots_same a b e f 0 0 0 rows)
+    let test : (freepage : ℕ) (spots : List Spot) → Bool = λ freepage spots.
+    side.pages == page_count freepage (length (filter (λ spot. spot.place.slot == 0) spots))
+    && same_list same_home_spot side.spots spots in
+    ap (λ (n : ℕ). test n (spots_from a 0 0 0 rows)) f
+    ∙ ap (λ (spots : List Spot). test b.freepage spots) (spots_same a b e f 0 0 0 rows)
 
 -- ---- it may be switched to
 
-pub sides_right : {V O : Type 0} (desk : DeskState V O) (inlet : Received) (s : Stage) (options : Options) (sides : Sides) → Hears desk inlet → desk.stage ≡ Some s → s.switched ≡ false → s.copied ≡ s.pages → IsWrittenOf options desk.shadow inlet
-    → inlet.taken ≡ length (changes (since_begin inlet.items)) → options.pctfree ≡ s.options.pctfree → options.freepage ≡ s.options.freepage → HasCurrent desk → AreSides desk sides → sides.new.pages ≡ s.shadow → AreSidesToSwitch desk s sides
-sides_right desk inlet s options sides hears stage unswitched copied written none pctfree freepage current are as_written = record {
-  current = current;
-  are = are;
-  as_written = as_written;
-  claims = λ start stored.
-      omega (
-        arith,
-        caught_claims options draft.rows draft.first current.shadow.shade desk.feed inlet.taken draft.moved draft.caught,
-        feed_is_allowed (row_at (slot_of desk.ground.pages)) s (allowed_of start desk.trace) desk.feed
-            (subst (λ (o : Option Stage). ReachesBy (row_at (slot_of desk.ground.pages)) o (allowed_of start desk.trace) desk.feed) stage (hears.feed.reaches start stored))
-            unswitched (omega (arith, copied)) hears.feed.keeps.ordered.lawful,
-      );
-  quiet = caught_quiet (row_at (slot_of desk.ground.pages)) (progress_of s desk.changes) desk.feed options draft.rows draft.first current.shadow.shade inlet.taken (behind [] desk.trace) sides.new fed done draft.caught new.1;
-  packed = λ unchanged t is.
-      sym (packed_same options s.options pctfree freepage t sides.new)
-      ∙ (caught_right (row_at (slot_of desk.ground.pages)) (progress_of s desk.changes) desk.feed options draft.rows draft.first current.shadow.shade inlet.taken (behind [] desk.trace) t sides.new fed done draft.caught is new.0 new.1).packed (hears.feed.counted ∙ unchanged);
-}
+pub sides_right : {V O : Type 0} (desk : DeskState V O) (inlet : Received) (s : Stage)
+    (options : Options) (sides : Sides) → Hears desk inlet → desk.stage ≡ Some s
+    → s.switched ≡ false → s.copied ≡ s.pages → IsWrittenOf options desk.shadow inlet
+    → inlet.taken ≡ length (changes (since_begin inlet.items)) → options.pctfree ≡ s.options.pctfree
+    → options.freepage ≡ s.options.freepage → HasCurrent desk → AreSides desk sides
+    → sides.new.pages ≡ s.shadow → AreSidesToSwitch desk s sides
+sides_right desk inlet s options sides hears stage unswitched copied written none pctfree freepage
+    current are as_written = record {
+      current = current;
+      are = are;
+      as_written = as_written;
+      claims = λ start stored.
+          omega (
+            arith,
+            caught_claims options draft.rows draft.first current.shadow.shade desk.feed inlet.taken
+                draft.moved draft.caught,
+            feed_is_allowed (row_at (slot_of desk.ground.pages)) s (allowed_of start desk.trace)
+                desk.feed
+                (subst
+                (λ (o : Option Stage). ReachesBy (row_at (slot_of desk.ground.pages)) o
+                (allowed_of start desk.trace) desk.feed) stage (hears.feed.reaches start stored))
+                unswitched (omega (arith, copied)) hears.feed.keeps.ordered.lawful,
+          );
+      quiet =
+          caught_quiet (row_at (slot_of desk.ground.pages)) (progress_of s desk.changes) desk.feed
+          options draft.rows draft.first current.shadow.shade inlet.taken (behind [] desk.trace)
+          sides.new fed done draft.caught new.1;
+      packed = λ unchanged t is.
+          sym (packed_same options s.options pctfree freepage t sides.new)
+          ∙
+          (caught_right (row_at (slot_of desk.ground.pages)) (progress_of s desk.changes) desk.feed
+          options draft.rows draft.first current.shadow.shade inlet.taken (behind [] desk.trace) t
+          sides.new fed done draft.caught is new.0 new.1).packed (hears.feed.counted ∙ unchanged);
+    }
   where
     new : IsNewSide sides.new current.shadow
-    new = subst (λ (o : Option PreparedSeen). IfSome o (IsNewSide sides.new)) current.shadow_is are.new
+    new = subst (λ (o : Option PreparedSeen). IfSome o (IsNewSide sides.new)) current.shadow_is
+        are.new
 
     kept : IsDraftOf options current.shadow.shade inlet.items inlet.taken
-    kept = subst (λ (o : Option PreparedSeen). IsWrittenOf options o inlet) current.shadow_is written
+    kept =
+        subst (λ (o : Option PreparedSeen). IsWrittenOf options o inlet) current.shadow_is written
 
     draft : IsDraftOf options current.shadow.shade desk.feed inlet.taken
-    draft = subst (λ (xs : List Item). IsDraftOf options current.shadow.shade xs inlet.taken) hears.items kept
+    draft = subst (λ (xs : List Item). IsDraftOf options current.shadow.shade xs inlet.taken)
+        hears.items kept
 
-    fed : Fed (row_at (slot_of desk.ground.pages)) (λ key. is_quiet key (behind [] desk.trace)) (progress_of s desk.changes) desk.feed
+    fed : Fed (row_at (slot_of desk.ground.pages)) (λ key. is_quiet key (behind [] desk.trace))
+        (progress_of s desk.changes) desk.feed
     fed = fed_now desk inlet s hears stage unswitched
 
     done : AreAllTaken desk.feed (progress_of s desk.changes) draft.rows inlet.taken
-    done = all_taken desk inlet s options current.shadow.shade hears copied draft (none ∙ ap (λ (xs : List Item). length (changes (since_begin xs))) hears.items)
+    done = all_taken desk inlet s options current.shadow.shade hears copied draft
+        (none ∙ ap (λ (xs : List Item). length (changes (since_begin xs))) hears.items)
 
-pub can_commit : {V O : Type 0} (desk : DeskState V O) (s : Stage) (answer : Answer) (sides : Sides) → desk.stage ≡ Some s → MakesStep s answer steps.Switch → AreSidesToSwitch desk s sides → CanCommit desk answer sides
+pub can_commit : {V O : Type 0} (desk : DeskState V O) (s : Stage) (answer : Answer) (sides : Sides)
+    → desk.stage ≡ Some s → MakesStep s answer steps.Switch → AreSidesToSwitch desk s sides
+    → CanCommit desk answer sides
 can_commit {V} {O} desk s answer sides stage_is makes are = record {
   stage = s;
   stage_is = stage_is;
@@ -163,7 +229,9 @@ can_commit {V} {O} desk s answer sides stage_is makes are = record {
   current = are.current.current;
   claims = are.claims;
   as_written = are.as_written;
-  as_kept = (subst (λ (o : Option PreparedSeen). IfSome o (IsNewSide sides.new)) are.current.shadow_is are.are.new).0;
+  as_kept =
+      (subst (λ (o : Option PreparedSeen). IfSome o (IsNewSide sides.new)) are.current.shadow_is
+      are.are.new).0;
   right = are.are.right;
   quiet = are.quiet;
   packed = are.packed;

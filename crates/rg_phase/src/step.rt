@@ -13,7 +13,8 @@
 //    The desk keeps it for the switch. At GIVEUP it is taken back.
 // 7. An entry tells what was made: RELOAD the rows of its page, SORT and BUILD their index, LOG and
 //    LAST how many changes.
-ghost use Rattle.std.specs.Prelude.{◌≡◌, ◌≤◌, ◌+◌, ℕ, List, false, Some, None, Err, OnErr, OnOk, IfErr, IfOk, length};
+ghost use Rattle.std.specs.Prelude.{◌≡◌, ◌≤◌, ◌+◌, ℕ, List, false, Some, None, Err, OnErr, OnOk};
+ghost use Rattle.std.specs.Prelude.{IfErr, IfOk, length};
 ghost use Rattle.rg_base.specs.declared.options.DrainState.TheVariants.{Granted};
 ghost use Rattle.rg_base.specs.declared.step.Step.TheVariants as steps;
 ghost use Rattle.rg_desk.specs.Desk.{HasDrain, HasTaken};

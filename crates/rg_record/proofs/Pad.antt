@@ -1,6 +1,8 @@
 -- A page that is being filled.
-use Rattle.std.proofs.Common.{◌≡◌, ℕ, ◌+◌, ◌-◌, ◌≤◌, List, ◌++◌, length, take, drop, replicate, refl, sym, ◌∙◌, ap, arith}
-use Rattle.std.proofs.lemmas.List.{drop_at, drop-replicate, length-take, length-append, length-replicate, append_assoc}
+use Rattle.std.proofs.Common.{◌≡◌, ℕ, ◌+◌, ◌-◌, ◌≤◌, List, ◌++◌, length, take, drop, replicate}
+use Rattle.std.proofs.Common.{refl, sym, ◌∙◌, ap, arith}
+use Rattle.std.proofs.lemmas.List.{drop_at, drop-replicate, length-take, length-append}
+use Rattle.std.proofs.lemmas.List.{length-replicate, append_assoc}
 use Rattle.std.proofs.lemmas.Slice.{take-put_mid}
 use borrow.Rule.Slice.PartMut.{put_mid}
 use Rattle.rg_record.specs.Filled.{padded}
@@ -33,6 +35,8 @@ added bytes piece used k same le is =
     let count : 4096 - length xs - k ≡ 4096 - length (xs ++ piece) =
     omega (arith, len, same, length-append xs piece, le) in
     let end : drop k (drop used bytes) ≡ replicate (4096 - length (xs ++ piece)) 0 =
-    ap (drop k) rest ∙ drop-replicate k (4096 - length xs) 0 ∙ ap (λ (n : ℕ). replicate n 0) count in
+    ap (drop k) rest ∙ drop-replicate k (4096 - length xs) 0
+    ∙ ap (λ (n : ℕ). replicate n 0) count in
     ap (λ (l : List ℕ). xs ++ (piece ++ l)) end
-    ∙ sym (append_assoc xs piece (replicate (4096 - length (xs ++ piece)) 0)) ∙ ap padded (sym front)
+    ∙ sym (append_assoc xs piece (replicate (4096 - length (xs ++ piece)) 0))
+    ∙ ap padded (sym front)

@@ -1,5 +1,7 @@
 -- Which bytes are those of a row.
-use Rattle.std.proofs.Common.{◌≡◌, ◌≤◌, ◌<◌, ◌^◌, ℕ, suc, zero, ◌+◌, ◌-◌, Bool, true, false, ◌&&◌, eqb, leb, List, [], ◌∷◌, ◌++◌, length, take, drop, get_or, Some, None, refl, sym, ap, subst, ◌∙◌, arith, length-append}
+use Rattle.std.proofs.Common.{◌≡◌, ◌≤◌, ◌<◌, ◌^◌, ℕ, suc, zero, ◌+◌, ◌-◌, Bool, true, false, ◌&&◌}
+use Rattle.std.proofs.Common.{eqb, leb, List, [], ◌∷◌, ◌++◌, length, take, drop, get_or, Some, None}
+use Rattle.std.proofs.Common.{refl, sym, ap, subst, ◌∙◌, arith, length-append}
 use Rattle.std.specs.Int.{w16, from_be_bytes}
 use Rattle.std.specs.List.{list_all, AllByRecursion}
 use Rattle.std.proofs.lemmas.List.{append_assoc, drop_at, length-drop, length-take-le, get_or-drop}
@@ -81,7 +83,8 @@ is_row-row_bytes row fits =
     (both _ _ (le-leb (length all) 826 small) (both _ _ (eq-eqb _ _ number) all_letters))
 
 -- a row that is read is the one that the bytes show
-pub row_read : (row : Row) (bytes : List ℕ) → FitsRow row → row_bytes row ≡ bytes → row ≡ row_of bytes
+pub row_read : (row : Row) (bytes : List ℕ) → FitsRow row → row_bytes row ≡ bytes
+    → row ≡ row_of bytes
     → (length bytes ≡ 0 → ⊥) → row_in bytes ≡ Some (Some row)
 unfolding row_in
 row_read row bytes fits spelled shown some =

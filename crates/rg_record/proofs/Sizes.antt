@@ -1,5 +1,7 @@
 -- How many bytes the pieces of a record have.
-use Rattle.std.proofs.Common.{◌≡◌, ◌≤◌, ◌<◌, ℕ, suc, zero, ◌+◌, ◌*◌, Bool, true, false, ◌&&◌, eqb, List, [], ◌∷◌, ◌++◌, length, drop, get_or, Option, Some, None, refl, ap, ◌∙◌, arith, length-append, append_assoc}
+use Rattle.std.proofs.Common.{◌≡◌, ◌≤◌, ◌<◌, ℕ, suc, zero, ◌+◌, ◌*◌, Bool, true, false, ◌&&◌, eqb}
+use Rattle.std.proofs.Common.{List, [], ◌∷◌, ◌++◌, length, drop, get_or, Option, Some, None, refl}
+use Rattle.std.proofs.Common.{ap, ◌∙◌, arith, length-append, append_assoc}
 use Rattle.std.specs.List.{list_all}
 use Rattle.std.proofs.lemmas.List.{drop_more}
 use Rattle.std.proofs.Math.Seq.{drop-nil}
@@ -12,11 +14,14 @@ use Rattle.rg_base.specs.RowBytes.{row_bytes, row_size}
 use Rattle.rg_base.proofs.Fields.{length-field}
 use Rattle.rg_base.proofs.RowBytes.{length-row_bytes}
 use Rattle.rg_record.specs.declared.record.Kind.{Kind}
-use Rattle.rg_record.specs.declared.record.Kind.TheVariants.{Change, Undo, Commit, RolledBack, Purge, Switch}
+use Rattle.rg_record.specs.declared.record.Kind.TheVariants.{Change, Undo, Commit, RolledBack}
+use Rattle.rg_record.specs.declared.record.Kind.TheVariants.{Purge, Switch}
 use Rattle.rg_record.specs.declared.record.Record.{Record}
 use Rattle.rg_record.specs.Fits.{FitsOption, FitsKind, Fits}
 use Rattle.rg_record.specs.Spelled.{is_free, frees_on, AreFrees, IsKind, IsRecord, greatest}
-use Rattle.rg_record.specs.Spelling.{op_bytes, op_size, part_size, part_bytes, parts_bytes, parts_size, row_field, row_field_size, kind_bytes, kind_size, record_bytes, record_size}
+use Rattle.rg_record.specs.Spelling.{op_bytes, op_size, part_size, part_bytes, parts_bytes}
+use Rattle.rg_record.specs.Spelling.{parts_size, row_field, row_field_size, kind_bytes, kind_size}
+use Rattle.rg_record.specs.Spelling.{record_bytes, record_size}
 
 -- one part more
 pub parts_size_at : (parts : List Part) (i : ℕ) (d : Part) → i < length parts
@@ -30,7 +35,8 @@ unfolding parts_bytes
 parts_bytes_at parts i d lt = ap parts_bytes (drop_more parts i d lt)
 
 -- a piece more
-pub piece_added : (out piece rest new all : List ℕ) → new ≡ out ++ piece → out ++ (piece ++ rest) ≡ all
+pub piece_added : (out piece rest new all : List ℕ) → new ≡ out ++ piece
+    → out ++ (piece ++ rest) ≡ all
     → new ++ rest ≡ all
 piece_added out piece rest new all e so_far =
     ap (λ (xs : List ℕ). xs ++ rest) e ∙ append_assoc out piece rest ∙ so_far
@@ -76,7 +82,8 @@ length-op_bytes (slot_op.Row capacity) = simp (length-append, length-field) (ome
 length-op_bytes (slot_op.Pointer capacity other) = simp (length-append, length-field) (omega arith)
 length-op_bytes (slot_op.Over capacity other) = simp (length-append, length-field) (omega arith)
 length-op_bytes (slot_op.DeadRow capacity) = simp (length-append, length-field) (omega arith)
-length-op_bytes (slot_op.DeadPointer capacity other) = simp (length-append, length-field) (omega arith)
+length-op_bytes (slot_op.DeadPointer capacity other) =
+    simp (length-append, length-field) (omega arith)
 length-op_bytes (slot_op.DeadOver capacity other) = simp (length-append, length-field) (omega arith)
 
 length-parts_bytes : (parts : List Part) → length (parts_bytes parts) ≡ parts_size parts
@@ -156,7 +163,8 @@ kind_size_high (Purge parts) is fits = omega (arith, frees_size parts is.1, is.0
 kind_size_high (Switch copy pages) is fits = omega arith
 
 -- no record has more bytes than the greatest of its kind
-pub record_size_high : (entry : Record) → IsRecord entry → Fits entry → record_size entry ≤ greatest entry.kind
+pub record_size_high : (entry : Record) → IsRecord entry → Fits entry
+    → record_size entry ≤ greatest entry.kind
 unfolding record_size
 record_size_high entry is fits = kind_size_high entry.kind is.0 fits.kind
 
@@ -169,4 +177,5 @@ greatest_high (Purge parts) = omega arith
 greatest_high (Switch copy pages) = omega arith
 
 pub record_size_limit : (entry : Record) → IsRecord entry → Fits entry → record_size entry ≤ 1729
-record_size_limit entry is fits = omega (arith, record_size_high entry is fits, greatest_high entry.kind)
+record_size_limit entry is fits =
+    omega (arith, record_size_high entry is fits, greatest_high entry.kind)

@@ -3,7 +3,8 @@ use Rattle.std.specs.Prelude.{List, [], Option, None}
 use Rattle.rg_base.specs.declared.part.Part.{Part}
 use Rattle.rg_base.specs.declared.row.Row.{Row}
 use Rattle.rg_record.specs.declared.record.Kind.{Kind}
-use Rattle.rg_record.specs.declared.record.Kind.TheVariants.{Change, Undo, Commit, RolledBack, Purge, Switch}
+use Rattle.rg_record.specs.declared.record.Kind.TheVariants.{Change, Undo, Commit, RolledBack}
+use Rattle.rg_record.specs.declared.record.Kind.TheVariants.{Purge, Switch}
 
 -- the parts that a record applies
 abbrev pub parts_of : Kind → List Part

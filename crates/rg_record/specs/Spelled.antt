@@ -1,11 +1,13 @@
 -- The records that have a spelling.
-use Rattle.std.specs.Prelude.{ℕ, ◌≡◌, ◌≤◌, ◌⊎◌, Bool, true, false, ◌&&◌, ◌==◌, IsTrue, List, [], ◌∷◌, length}
+use Rattle.std.specs.Prelude.{ℕ, ◌≡◌, ◌≤◌, ◌⊎◌, Bool, true, false, ◌&&◌, ◌==◌, IsTrue, List, []}
+use Rattle.std.specs.Prelude.{◌∷◌, length}
 use Rattle.std.specs.List.{list_all}
 use Rattle.rg_base.specs.declared.part.Part.{Part}
 use Rattle.rg_base.specs.declared.part.SlotOp.{SlotOp}
 use Rattle.rg_base.specs.declared.part.SlotOp.TheVariants as slot_op
 use Rattle.rg_record.specs.declared.record.Kind.{Kind}
-use Rattle.rg_record.specs.declared.record.Kind.TheVariants.{Change, Undo, Commit, RolledBack, Purge, Switch}
+use Rattle.rg_record.specs.declared.record.Kind.TheVariants.{Change, Undo, Commit, RolledBack}
+use Rattle.rg_record.specs.declared.record.Kind.TheVariants.{Purge, Switch}
 use Rattle.rg_record.specs.declared.record.Record.{Record}
 
 -- a write changes its home, the area that it takes, and the area that it leaves

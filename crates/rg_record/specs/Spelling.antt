@@ -8,7 +8,8 @@ use Rattle.rg_base.specs.declared.row.Row.{Row}
 use Rattle.rg_base.specs.Field.{field}
 use Rattle.rg_base.specs.RowBytes.{row_bytes, row_size}
 use Rattle.rg_record.specs.declared.record.Kind.{Kind}
-use Rattle.rg_record.specs.declared.record.Kind.TheVariants.{Change, Undo, Commit, RolledBack, Purge, Switch}
+use Rattle.rg_record.specs.declared.record.Kind.TheVariants.{Change, Undo, Commit, RolledBack}
+use Rattle.rg_record.specs.declared.record.Kind.TheVariants.{Purge, Switch}
 use Rattle.rg_record.specs.declared.record.Record.{Record}
 
 -- a place: its page in 4 bytes and its slot in 2

@@ -3,7 +3,10 @@
 //    no test of a single byte is needed, and none can be forgotten.
 ghost use Rattle.std.specs.Prelude.{◌≡◌, IfOk, IfErr, length};
 ghost use Rattle.rg_record.specs.Fits.{Fits};
-ghost use Rattle.rg_record.specs.Reading.{Gives, Refuses, refusal, code_at, number_at, place_at, wide_at, op_at, part_at, parts_at, parts_field_at, row_in, row_field_at, change_at, undo_at, purge_at, switch_at, kind_at, record_at};
+ghost use Rattle.rg_record.specs.Reading.{Gives, Refuses, refusal, code_at, number_at, place_at};
+ghost use Rattle.rg_record.specs.Reading.{wide_at, op_at, part_at, parts_at, parts_field_at};
+ghost use Rattle.rg_record.specs.Reading.{row_in, row_field_at, change_at, undo_at, purge_at};
+ghost use Rattle.rg_record.specs.Reading.{switch_at, kind_at, record_at};
 ghost use Rattle.rg_record.specs.Spelled.{IsRecord};
 ghost use Rattle.rg_record.specs.Spelling.{record_bytes};
 ghost use Rattle.rg_record.specs.Told.{IsNone};

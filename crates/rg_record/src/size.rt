@@ -2,7 +2,8 @@
 ghost use Rattle.std.specs.Prelude.{◌≡◌, ◌≤◌, ◌+◌, ◌*◌, length};
 ghost use Rattle.rg_base.specs.declared.place.Place.{Place};
 ghost use Rattle.rg_record.specs.Spelled.{IsFew, IsKind, IsRecord, AreFrees, greatest};
-ghost use Rattle.rg_record.specs.Spelling.{op_size, parts_size, row_field_size, kind_size, record_bytes, record_size};
+ghost use Rattle.rg_record.specs.Spelling.{op_size, parts_size, row_field_size, kind_size};
+ghost use Rattle.rg_record.specs.Spelling.{record_bytes, record_size};
 ghost use Rattle.rg_record.specs.declared.record.Kind.TheVariants as kinds;
 
 use crate::record::{Kind, Record};

@@ -2,7 +2,9 @@
 ghost use Rattle.std.specs.Prelude.{◌≡◌, ◌≤◌, ◌+◌, ◌++◌, ◌∷◌, IfOk, length};
 ghost use Rattle.rg_base.specs.Field.{field};
 ghost use Rattle.rg_record.specs.Spelled.{IsKind, IsRecord};
-ghost use Rattle.rg_record.specs.Spelling.{place_bytes, op_bytes, op_size, part_bytes, part_size, parts_field, parts_size, row_field, row_field_size, kind_bytes, kind_size, record_bytes, record_size};
+ghost use Rattle.rg_record.specs.Spelling.{place_bytes, op_bytes, op_size, part_bytes, part_size};
+ghost use Rattle.rg_record.specs.Spelling.{parts_field, parts_size, row_field, row_field_size};
+ghost use Rattle.rg_record.specs.Spelling.{kind_bytes, kind_size, record_bytes, record_size};
 
 use crate::buffer::Buffer;
 use crate::record::{Kind, Record};

@@ -8,7 +8,8 @@ ghost use Rattle.std.specs.Prelude.{◌≡◌, ◌≤◌, true, length, drop, On
 ghost use Rattle.std.specs.List.{AllByRecursion};
 ghost use Rattle.rg_page.specs.Seen.{Keeps};
 ghost use Rattle.rg_space.specs.Space.{Agree, InStep, frames_of, index_of, capacity_in, undos_in};
-ghost use Rattle.rg_redo.specs.Redo.{AllRedoFit, CanRedo, IsRedoFault, is_switch, redone_all, since_switch};
+ghost use Rattle.rg_redo.specs.Redo.{AllRedoFit, CanRedo, IsRedoFault, is_switch, redone_all};
+ghost use Rattle.rg_redo.specs.Redo.{since_switch};
 
 use crate::fault::RedoFault;
 use rg_log::log::Log;

@@ -1,5 +1,7 @@
 -- The pages of a new copy, as they are added.
-use Rattle.std.proofs.Common.{◌≡◌, ℕ, zero, suc, ◌+◌, ◌==◌, ◌≤◌, ◌<◌, Bool, true, false, List, [], ◌∷◌, ◌++◌, if◌then◌else◌, length, get_or, refl, sym, ap, subst, ◌∙◌, arith, append-nil}
+use Rattle.std.proofs.Common.{◌≡◌, ℕ, zero, suc, ◌+◌, ◌==◌, ◌≤◌, ◌<◌, Bool, true, false, List, []}
+use Rattle.std.proofs.Common.{◌∷◌, ◌++◌, if◌then◌else◌, length, get_or, refl, sym, ap, subst, ◌∙◌}
+use Rattle.std.proofs.Common.{arith, append-nil}
 use Rattle.std.proofs.lemmas.Bool.{eqb-true}
 use Rattle.std.proofs.lemmas.Bool.Decides.{nat_tests}
 use Rattle.rg_base.specs.declared.place.Place.{Place}
@@ -42,7 +44,8 @@ pub page_at-old : (pages : List Content) (x : Content) (n : ℕ) → (n ≡ leng
 page_at-old pages x zero e = refl
 page_at-old pages x (suc k) e = get-old pages x k (λ f. e (omega arith))
 
-pub page_at-past : (pages : List Content) (n : ℕ) → length pages < n → page_at (slots_of pages) n ≡ []
+pub page_at-past : (pages : List Content) (n : ℕ) → length pages < n
+    → page_at (slots_of pages) n ≡ []
 page_at-past pages zero h = absurd (omega arith)
 page_at-past pages (suc k) h = get-past pages k (omega arith)
 
@@ -66,11 +69,15 @@ rows-pad pages x rows e f h = record {
   positions = λ n. position-add pages x n e (h.positions n);
 }
   where
-    within : (n : ℕ) (b : Bool) → (n == length pages + 1) ≡ b → Fits (page_at (slots_of (pages ++ x ∷ [])) n)
-    within n true t = subst Fits (sym (page_at-new pages x n (eqb-true n (length pages + 1) t) ∙ f)) (omega arith)
-    within n false t = subst Fits (sym (page_at-old pages x n (decided n (length pages + 1) t))) (h.fits n)
+    within : (n : ℕ) (b : Bool) → (n == length pages + 1) ≡ b
+        → Fits (page_at (slots_of (pages ++ x ∷ [])) n)
+    within n true t =
+        subst Fits (sym (page_at-new pages x n (eqb-true n (length pages + 1) t) ∙ f)) (omega arith)
+    within n false t =
+        subst Fits (sym (page_at-old pages x n (decided n (length pages + 1) t))) (h.fits n)
 
-    go : (n : ℕ) (b : Bool) → (n == length pages + 1) ≡ b → page_at (slots_of (pages ++ x ∷ [])) n ≡ slots_on n rows
+    go : (n : ℕ) (b : Bool) → (n == length pages + 1) ≡ b
+        → page_at (slots_of (pages ++ x ∷ [])) n ≡ slots_on n rows
     go n true t =
         let same : n ≡ length pages + 1 = eqb-true n (length pages + 1) t in
         page_at-new pages x n same ∙ f ∙ sym (page_at-past pages n (omega arith)) ∙ h.slots n
@@ -78,7 +85,8 @@ rows-pad pages x rows e f h = record {
 
 -- the slots of rows that were moved
 
-pub slots_on-append : (n : ℕ) (a b : List Moved) → slots_on n (a ++ b) ≡ slots_on n a ++ slots_on n b
+pub slots_on-append : (n : ℕ) (a b : List Moved)
+    → slots_on n (a ++ b) ≡ slots_on n a ++ slots_on n b
 slots_on-append n [] b = refl
 slots_on-append n (m ∷ a) b = go (m.target.page == n) (slots_on-append n a b)
   where
@@ -91,50 +99,68 @@ slots_on-append n (m ∷ a) b = go (m.target.page == n) (slots_on-append n a b)
 same_number : (n : ℕ) → (n == n) ≡ true
 same_number n = grind (arith, nat_tests)
 
-pub slots_on-here : (page slot : ℕ) (rows : List (Place × TableRow)) → slots_on page (moved_on page slot rows) ≡ row_slots rows
+pub slots_on-here : (page slot : ℕ) (rows : List (Place × TableRow))
+    → slots_on page (moved_on page slot rows) ≡ row_slots rows
 slots_on-here page slot [] = refl
 slots_on-here page slot (x ∷ rows) =
-    ap (λ (b : Bool). if b then row_slot x.1 ∷ slots_on page (moved_on page (slot + 1) rows) else slots_on page (moved_on page (slot + 1) rows)) (same_number page)
+    ap
+    (λ (b : Bool). if b then row_slot x.1 ∷ slots_on page (moved_on page (slot + 1) rows)
+    else slots_on page (moved_on page (slot + 1) rows)) (same_number page)
     ∙ ap (λ (s : List Slot). row_slot x.1 ∷ s) (slots_on-here page (slot + 1) rows)
 
-pub slots_on-other : (n page slot : ℕ) (rows : List (Place × TableRow)) → (page == n) ≡ false → slots_on n (moved_on page slot rows) ≡ []
+pub slots_on-other : (n page slot : ℕ) (rows : List (Place × TableRow)) → (page == n) ≡ false
+    → slots_on n (moved_on page slot rows) ≡ []
 slots_on-other n page slot [] e = refl
 slots_on-other n page slot (x ∷ rows) e =
-    ap (λ (b : Bool). if b then row_slot x.1 ∷ slots_on n (moved_on page (slot + 1) rows) else slots_on n (moved_on page (slot + 1) rows)) e
+    ap
+    (λ (b : Bool). if b then row_slot x.1 ∷ slots_on n (moved_on page (slot + 1) rows)
+    else slots_on n (moved_on page (slot + 1) rows)) e
     ∙ slots_on-other n page (slot + 1) rows e
 
 other_number : (a b : ℕ) → (a == b) ≡ false → (b == a) ≡ false
 other_number a b e = grind (arith, nat_tests)
 
 -- the next page, with rows
-pub rows-fill : (pages : List Content) (copy number : ℕ) (rows : List Moved) (taken : List (Place × TableRow))
+pub rows-fill : (pages : List Content) (copy number : ℕ) (rows : List Moved)
+    (taken : List (Place × TableRow))
     → number ≡ length pages + 1 → Fits (row_slots taken) → HasRows pages rows
-    → HasRows (pages ++ page_of copy number (row_slots taken) ∷ []) (rows ++ moved_on number 0 taken)
+    → HasRows (pages ++ page_of copy number (row_slots taken) ∷ [])
+    (rows ++ moved_on number 0 taken)
 rows-fill pages copy number rows taken e f h = record {
   slots = λ n. go n (n == number) refl;
   fits = λ n. within n (n == number) refl;
-  positions = λ n. position-add pages (page_of copy number (row_slots taken)) n refl (h.positions n);
+  positions =
+      λ n. position-add pages (page_of copy number (row_slots taken)) n refl (h.positions n);
 }
   where
     within : (n : ℕ) (b : Bool) → (n == number) ≡ b
         → Fits (page_at (slots_of (pages ++ page_of copy number (row_slots taken) ∷ [])) n)
     within n true t =
-        subst Fits (sym (page_at-new pages (page_of copy number (row_slots taken)) n (eqb-true n number t ∙ e))) f
+        subst Fits
+        (sym
+        (page_at-new pages (page_of copy number (row_slots taken)) n (eqb-true n number t ∙ e))) f
     within n false t =
-        subst Fits (sym (page_at-old pages (page_of copy number (row_slots taken)) n (λ q. decided n number t (q ∙ sym e)))) (h.fits n)
+        subst Fits
+        (sym
+        (page_at-old pages (page_of copy number (row_slots taken)) n
+        (λ q. decided n number t (q ∙ sym e)))) (h.fits n)
 
     go : (n : ℕ) (b : Bool) → (n == number) ≡ b
-        → page_at (slots_of (pages ++ page_of copy number (row_slots taken) ∷ [])) n ≡ slots_on n (rows ++ moved_on number 0 taken)
+        → page_at (slots_of (pages ++ page_of copy number (row_slots taken) ∷ [])) n
+        ≡ slots_on n (rows ++ moved_on number 0 taken)
     go n true t =
         let same : n ≡ number = eqb-true n number t in
         page_at-new pages (page_of copy number (row_slots taken)) n (same ∙ e)
         ∙ sym (slots_on-append n rows (moved_on number 0 taken)
-        ∙ ap (λ (s : List Slot). s ++ slots_on n (moved_on number 0 taken)) (sym (h.slots n) ∙ page_at-past pages n (omega arith))
+        ∙ ap (λ (s : List Slot). s ++ slots_on n (moved_on number 0 taken))
+        (sym (h.slots n) ∙ page_at-past pages n (omega arith))
         ∙ ap (λ (k : ℕ). slots_on k (moved_on number 0 taken)) same
         ∙ slots_on-here number 0 taken)
     go n false t =
-        page_at-old pages (page_of copy number (row_slots taken)) n (λ f. decided n number t (f ∙ sym e))
+        page_at-old pages (page_of copy number (row_slots taken)) n
+        (λ f. decided n number t (f ∙ sym e))
         ∙ h.slots n
         ∙ sym (slots_on-append n rows (moved_on number 0 taken)
-        ∙ ap (λ (s : List Slot). slots_on n rows ++ s) (slots_on-other n number 0 taken (other_number n number t))
+        ∙ ap (λ (s : List Slot). slots_on n rows ++ s)
+        (slots_on-other n number 0 taken (other_number n number t))
         ∙ append-nil (slots_on n rows))

@@ -6,7 +6,8 @@
 --    ones.
 -- 3. The new places are those of `spots_from`, which says how the rows of a table are packed. Here
 --    each row keeps the place of its old home beside it.
-use Rattle.std.specs.Prelude.{◌≡◌, ℕ, ◌+◌, ◌-◌, ◌==◌, false, suc, List, [], ◌∷◌, nat_le, length, filter, if◌then◌else◌, Option, Some, None, is_some}
+use Rattle.std.specs.Prelude.{◌≡◌, ℕ, ◌+◌, ◌-◌, ◌==◌, false, suc, List, [], ◌∷◌, nat_le, length}
+use Rattle.std.specs.Prelude.{filter, if◌then◌else◌, Option, Some, None, is_some}
 use Rattle.std.specs.List.{AllByRecursion, list_any}
 use Rattle.rg_base.specs.declared.options.Options.{Options}
 use Rattle.rg_base.specs.declared.place.Place.{Place}

@@ -3,7 +3,8 @@
 -- 1. A page has a Row slot for each row that lies on it, in their order, and no other slot. Each
 --    area is as long as its row.
 -- 2. No record has changed a page: its position is 0.
-use Rattle.std.specs.Prelude.{◌≡◌, ℕ, ◌==◌, List, [], ◌∷◌, if◌then◌else◌, true, Option, Some, None, length}
+use Rattle.std.specs.Prelude.{◌≡◌, ℕ, ◌==◌, List, [], ◌∷◌, if◌then◌else◌, true, Option, Some, None}
+use Rattle.std.specs.Prelude.{length}
 use Rattle.rg_base.specs.RowBytes.{row_size}
 use Rattle.rg_base.specs.declared.place.Place.{Place}
 use Rattle.rg_base.specs.declared.row.Row.{Row as TableRow}

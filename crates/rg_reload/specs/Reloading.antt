@@ -3,7 +3,8 @@
 -- 1. Of its rows, which are in order, the first so many are placed, on so many filled pages.
 -- 2. Once every row is placed it makes the space of the new copy, and is whole.
 -- 3. A packer that was out of memory is spent: it makes no more pages, and answers the same again.
-use Rattle.std.specs.Prelude.{◌≡◌, ℕ, ◌+◌, ◌≤◌, ◌<◌, Bool, true, false, List, [], ◌++◌, length, drop, take, Option, Some, None, vec_capacity}
+use Rattle.std.specs.Prelude.{◌≡◌, ℕ, ◌+◌, ◌≤◌, ◌<◌, Bool, true, false, List, [], ◌++◌, length}
+use Rattle.std.specs.Prelude.{drop, take, Option, Some, None, vec_capacity}
 use Rattle.std.specs.declared.vec.Vec.{Vec}
 use Rattle.std.specs.declared.alloc.Global.{Global}
 use Rattle.rg_base.specs.declared.options.Options.{Options}
@@ -15,7 +16,8 @@ use Rattle.rg_home.specs.Slot.{Slot}
 use Rattle.rg_model.specs.Packed.{page_at, page_count}
 use Rattle.rg_page.specs.Content.{slots_of}
 use Rattle.rg_page.specs.declared.list.ListFrames.{ListFrames}
-use Rattle.rg_reload.specs.Moved.{Moved, moved_from, moved_on, packed_rows, page_taken, pages_filled, pairs_of}
+use Rattle.rg_reload.specs.Moved.{Moved, moved_from, moved_on, packed_rows, page_taken}
+use Rattle.rg_reload.specs.Moved.{pages_filled, pairs_of}
 use Rattle.rg_reload.specs.Pages.{HasRows, frames_seen, slots_on}
 use Rattle.rg_reload.specs.declared.fault.ReloadFault.{ReloadFault}
 use Rattle.rg_reload.specs.declared.fault.ReloadFault.TheVariants.{NoSpace, NoMemory}

@@ -4,7 +4,8 @@
 // 2. A page is filled by one call. NoSpace is found first, and changes nothing.
 // 3. Out of memory leaves a packer spent: it fills no more pages.
 // 4. The space of the new copy is made once every row is placed, by the call that says so.
-ghost use Rattle.std.specs.Prelude.{◌≡◌, ◌≤◌, ◌<◌, ◌+◌, ◌==◌, IfOk, IfErr, OnOk, OnErr, length, filter, map, true, false};
+ghost use Rattle.std.specs.Prelude.{◌≡◌, ◌≤◌, ◌<◌, ◌+◌, ◌==◌, IfOk, IfErr, OnOk, OnErr, length};
+ghost use Rattle.std.specs.Prelude.{filter, map, true, false};
 ghost use Rattle.std.specs.List.Sorted.{IsPermutation};
 ghost use Rattle.rg_base.specs.declared.place.Place.{Place as ThePlace};
 ghost use Rattle.rg_feed.specs.Fold.Fold.{row_in};
@@ -15,7 +16,8 @@ ghost use Rattle.rg_home.specs.Owners.{AllBelow};
 ghost use Rattle.rg_model.specs.Layout.{are_rising};
 ghost use Rattle.rg_model.specs.Packed.{page_count, spots_from};
 ghost use Rattle.rg_page.specs.Content.{slots_of};
-ghost use Rattle.rg_reload.specs.Moved.{AreOneToOne, AreTargets, new_homes, packed_rows, pairs_of, row_through, rows_in, moved_spots, target_in};
+ghost use Rattle.rg_reload.specs.Moved.{AreOneToOne, AreTargets, new_homes, packed_rows, pairs_of};
+ghost use Rattle.rg_reload.specs.Moved.{row_through, rows_in, moved_spots, target_in};
 ghost use Rattle.rg_reload.specs.Order.{IsInOrder};
 ghost use Rattle.rg_reload.specs.Reloading.{Fills, GoesOn, Stops, IsCopy, space_slots};
 ghost use Rattle.rg_reload.specs.Pages.{slot_with};

@@ -3,7 +3,8 @@
 // 1. A page takes its first row always, and each next one while PCTFREE of its room stays free
 //    after the row's header and bytes.
 // 2. Slots are numbered in order. Each area is as long as its row.
-ghost use Rattle.std.specs.Prelude.{◌≡◌, ◌≤◌, ◌<◌, ◌++◌, IfOk, length, take, vec_len, vec_capacity, ◌+◌};
+ghost use Rattle.std.specs.Prelude.{◌≡◌, ◌≤◌, ◌<◌, ◌++◌, IfOk, length, take, vec_len, vec_capacity};
+ghost use Rattle.std.specs.Prelude.{◌+◌};
 ghost use Rattle.rg_home.specs.Slots.{Fits};
 ghost use Rattle.rg_model.specs.Packed.{area_of, free_part};
 ghost use Rattle.rg_reload.specs.Moved.{moved_on, page_taken, pairs_of};

@@ -1,5 +1,6 @@
 -- What an opening finds, from what its steps say.
-use Rattle.std.proofs.Common.{◌≡◌, ◌≤◌, ◌++◌, ℕ, zero, suc, List, [], ◌∷◌, Option, None, length, map, take, refl, sym, ◌∙◌, ap, subst, arith, length-append}
+use Rattle.std.proofs.Common.{◌≡◌, ◌≤◌, ◌++◌, ℕ, zero, suc, List, [], ◌∷◌, Option, None, length}
+use Rattle.std.proofs.Common.{map, take, refl, sym, ◌∙◌, ap, subst, arith, length-append}
 use Rattle.std.specs.List.{AllByRecursion, Contains}
 use Rattle.rg_base.specs.declared.set.Set.{Set}
 use Rattle.rg_desk.specs.declared.desk.OpenCause.{OpenCause}
@@ -46,7 +47,8 @@ use Rattle.rg_engine.specs.declared.found.Found.{Found}
 use Rattle.rg_laws_crash.specs.SoundVolume.Left.{writes_left}
 use Rattle.rg_laws_crash.specs.SoundVolume.Reopens.{CanReopen}
 use Rattle.rg_restart.specs.Closed.{AllAtMost, ClosedAll, IsInStep, TookBack}
-use Rattle.rg_restart.specs.Found.{Finds, IsClosed, IsUndone, MayFind, Refuses, SamePages, StoresFew}
+use Rattle.rg_restart.specs.Found.{Finds, IsClosed, IsUndone, MayFind, Refuses, SamePages}
+use Rattle.rg_restart.specs.Found.{StoresFew}
 use Rattle.rg_laws_crash.specs.SoundVolume.Pages.{CanClose, Fit, IsMatched, Ties, count_of}
 use Rattle.rg_laws_crash.specs.SoundVolume.Pages.{redone_of, undone_from}
 use Rattle.rg_restart.proofs.Beginning.{can_begin}
@@ -54,18 +56,22 @@ use Rattle.rg_restart.proofs.Reopening.{opened_closed, opened_reopens, opened_sp
 use Rattle.rg_restart.proofs.Staying.{stay_looked}
 
 -- pages that redo leaves, and that tie, are proper
-pub proper_of : (live : List ℕ) (pages : List (List Slot)) → AreSoundPages pages → IsLeastBreach (IsTiedAt live (slot_of pages)) None → Proper pages
-proper_of live pages sound ties = record { tied = λ p. (ties p).0; sound = sound.sound; holds = sound.holds }
+pub proper_of : (live : List ℕ) (pages : List (List Slot)) → AreSoundPages pages
+    → IsLeastBreach (IsTiedAt live (slot_of pages)) None → Proper pages
+proper_of live pages sound ties =
+    record { tied = λ p. (ties p).0; sound = sound.sound; holds = sound.holds }
 
 -- the pages that were rebuilt
-pub rebuilt_slots : (base : List Content) (rs : List Record) (space : Space ListFrames) → IsRebuilt base rs space → space_pages space ≡ redone_of base rs
+pub rebuilt_slots : (base : List Content) (rs : List Record) (space : Space ListFrames)
+    → IsRebuilt base rs space → space_pages space ≡ redone_of base rs
 rebuilt_slots base rs space is = ap slots_of is.pages
 
 -- ---- numbers
 
 most_of : (top : ℕ) (ts : List ℕ) → ((t : ℕ) → Contains ts t → t ≤ top) → AllAtMost top ts
 most_of top [] all = tt
-most_of top (t ∷ ts) all = (all t (zero, omega arith, refl), most_of top ts (λ u there. all u (later u there)))
+most_of top (t ∷ ts) all =
+    (all t (zero, omega arith, refl), most_of top ts (λ u there. all u (later u there)))
   where
     later : (u : ℕ) → Contains ts u → Contains (t ∷ ts) u
     later u (k, low, is) = (suc k, omega (arith, low), is)
@@ -73,22 +79,29 @@ most_of top (t ∷ ts) all = (all t (zero, omega arith, refl), most_of top ts (�
 pub open_most : (rs : List Record) → AllAtMost (greatest_tran rs) (open_in rs)
 open_most rs = most_of (greatest_tran rs) (open_in rs) (λ t there. (listed_is rs t there).1)
 
-owners_join : (top : ℕ) (xs ys : List Written) → OwnersBelow top xs → OwnersBelow top ys → OwnersBelow top (xs ++ ys)
+owners_join : (top : ℕ) (xs ys : List Written) → OwnersBelow top xs → OwnersBelow top ys
+    → OwnersBelow top (xs ++ ys)
 owners_join top [] ys all more = more
 owners_join top (x ∷ xs) ys all more = (all.0, owners_join top xs ys all.1 more)
 
-owners_of : (top t : ℕ) (cs : List Written) → t ≤ top → AllByRecursion (λ (c : Written). c.owner ≡ t) cs → OwnersBelow top cs
+owners_of : (top t : ℕ) (cs : List Written) → t ≤ top
+    → AllByRecursion (λ (c : Written). c.owner ≡ t) cs → OwnersBelow top cs
 owners_of top t [] low all = tt
 owners_of top t (c ∷ cs) low all = (omega (arith, all.0, low), owners_of top t cs low all.1)
 
-pub owners_below : (top : ℕ) (ts : List ℕ) (rs : List Record) → AllAtMost top ts → OwnersBelow top (all_of (writes_left ts rs))
+pub owners_below : (top : ℕ) (ts : List ℕ) (rs : List Record) → AllAtMost top ts
+    → OwnersBelow top (all_of (writes_left ts rs))
 owners_below top [] rs low = tt
 owners_below top (t ∷ ts) rs low =
-    owners_join top (writes_of (left_of t rs)) (all_of (writes_left ts rs)) (owners_of top t (writes_of (left_of t rs)) low.0 (owners_by_recursion t rs)) (owners_below top ts rs low.1)
+    owners_join top (writes_of (left_of t rs)) (all_of (writes_left ts rs))
+    (owners_of top t (writes_of (left_of t rs)) low.0 (owners_by_recursion t rs))
+    (owners_below top ts rs low.1)
 
 -- ---- the steps
 
-pub undone_is : (rs : List Record) (a b : Space ListFrames) (log later : Listed) → log.records ≡ rs → AreSoundPages (space_pages a) → IsLeastBreach (Ties rs (space_pages a)) None → ClosedAll (open_in rs) rs a b log later
+pub undone_is : (rs : List Record) (a b : Space ListFrames) (log later : Listed) → log.records ≡ rs
+    → AreSoundPages (space_pages a) → IsLeastBreach (Ties rs (space_pages a)) None
+    → ClosedAll (open_in rs) rs a b log later
     → IsUndone (space_pages a) rs later.records b
 undone_is rs a b log later is sound tied closed = record {
   closes = record { tied = tied; can = closed.undid.needed };
@@ -105,24 +118,40 @@ undone_is rs a b log later is sound tied closed = record {
 }
 
 -- rows that match are one table
-matched_table : (rs : List Record) (pages undone : List (List Slot)) → pages ≡ undone → IsMatched rs undone → IsTable (row_at (slot_of pages)) (stored rs)
-matched_table rs pages undone is matched = subst (λ (ps : List (List Slot)). IsTable (row_at (slot_of ps)) (stored rs)) (sym is) (record {
-  there = λ p row at. matched.there p row at;
-  placed = λ k row at. matched.placed k row at;
-  once = λ p q row other at it same. matched.alone p q row other at it same;
-})
+matched_table : (rs : List Record) (pages undone : List (List Slot)) → pages ≡ undone
+    → IsMatched rs undone → IsTable (row_at (slot_of pages)) (stored rs)
+matched_table rs pages undone is matched =
+    subst (λ (ps : List (List Slot)). IsTable (row_at (slot_of ps)) (stored rs)) (sym is) (record {
+      there = λ p row at. matched.there p row at;
+      placed = λ k row at. matched.placed k row at;
+      once = λ p q row other at it same. matched.alone p q row other at it same;
+    })
 
 -- what is found where all rules are kept
-pub finds : (base : List Content) (marks : List (Option Position)) (log now : Listed) (chain : Running) (capacity : ℕ) (redone : List (List Slot)) (seen : Seen) (closed last : Space ListFrames) (found : Found) → MayFind log chain capacity → redone ≡ slots_of seen.pages → length seen.pages ≡ length base → AreNewest (opened_epoch log.records base) log.records seen → AreEntries now.records → Fit base log.records → length base ≡ count_of log.records
-    → redone ≡ redone_of base log.records → length redone ≡ count_of log.records → IsClosed redone log capacity closed now → IsMatched log.records (space_pages closed) → StoresFew now.records
-    → SamePages closed last → AreListings (row_at (slot_of (space_pages last))) found.indexes → HasNewest (opened_epoch log.records base) now.records closed
-    → found.log ≡ now → found.space ≡ last → found.copy ≡ chain.current.copy → found.top ≡ length chain.units → found.marks.items ≡ marks → Finds base marks log capacity found
-finds base marks log now chain capacity redone seen closed last found may seen_is seen_count seen_newest entries fit taken redone_is count is matched few same listings newest log_is space_is copy_is top_is marks_are =
+pub finds : (base : List Content) (marks : List (Option Position)) (log now : Listed)
+    (chain : Running) (capacity : ℕ) (redone : List (List Slot)) (seen : Seen)
+    (closed last : Space ListFrames) (found : Found)
+    → MayFind log chain capacity → redone ≡ slots_of seen.pages → length seen.pages ≡ length base
+    → AreNewest (opened_epoch log.records base) log.records seen → AreEntries now.records
+    → Fit base log.records → length base ≡ count_of log.records
+    → redone ≡ redone_of base log.records → length redone ≡ count_of log.records
+    → IsClosed redone log capacity closed now → IsMatched log.records (space_pages closed)
+    → StoresFew now.records
+    → SamePages closed last → AreListings (row_at (slot_of (space_pages last))) found.indexes
+    → HasNewest (opened_epoch log.records base) now.records closed
+    → found.log ≡ now → found.space ≡ last → found.copy ≡ chain.current.copy
+    → found.top ≡ length chain.units → found.marks.items ≡ marks
+    → Finds base marks log capacity found
+finds base marks log now chain capacity redone seen closed last found may seen_is seen_count
+    seen_newest entries fit taken redone_is count is matched few same listings newest log_is
+    space_is copy_is top_is marks_are =
     let rs = log.records in
     let undone = is.undone in
     let top : found.top ≡ greatest_tran rs = top_is ∙ may.kept.units.greatest in
-    let redoes = redone_opened rs base seen may.positions may.can taken fit seen_newest seen_count in
-    let is_seen : IsClosed (slots_of seen.pages) log capacity closed now = subst (λ (ps : List (List Slot)). IsClosed ps log capacity closed now) seen_is is in
+    let redoes =
+    redone_opened rs base seen may.positions may.can taken fit seen_newest seen_count in
+    let is_seen : IsClosed (slots_of seen.pages) log capacity closed now =
+    subst (λ (ps : List (List Slot)). IsClosed ps log capacity closed now) seen_is is in
     record {
       rules = record {
         fit = fit;
@@ -131,41 +160,61 @@ finds base marks log now chain capacity redone seen closed last found may seen_i
       };
       taken = taken;
       begins =
-          subst (λ (s : Space ListFrames). CanBegin capacity (space_pages s) found.log found.top) (sym space_is)
+          subst (λ (s : Space ListFrames). CanBegin capacity (space_pages s) found.log found.top)
+          (sym space_is)
           (subst (λ (l : Listed). CanBegin capacity (space_pages last) l found.top) (sym log_is)
           (subst (CanBegin capacity (space_pages last) now) (sym top)
-          (can_begin capacity rs now is.took.more is.took.records is.took.back redone (writes_left (open_in rs) rs) (greatest_tran rs) (space_pages last) undone.first
+          (can_begin capacity rs now is.took.more is.took.records is.took.back redone
+          (writes_left (open_in rs) rs) (greatest_tran rs) (space_pages last) undone.first
           (omega (arith, may.within, count))
-          (owners_below (greatest_tran rs) (open_in rs) rs (open_most rs)) undone.closes.can (same.slots ∙ undone.slots) (matched_table rs (space_pages last) (space_pages closed) same.slots matched)
+          (owners_below (greatest_tran rs) (open_in rs) rs (open_most rs)) undone.closes.can
+          (same.slots ∙ undone.slots)
+          (matched_table rs (space_pages last) (space_pages closed) same.slots matched)
           refl (ap (λ (ps : List (List Slot)). length ps) same.slots ∙ undone.count_is ∙ count)
-          (opened_closed log now chain base seen capacity closed may redoes is_seen matched entries) (opened_space log now chain base seen capacity closed may redoes is_seen matched entries)
-          (trans_below (greatest_tran rs) rs (below_by_recursion rs)) (is.took.below (greatest_tran rs) (open_most rs)) (is.took.forced ∙ may.forced)
-          (omega (arith, ap (λ (xs : List Record). length xs) is.took.records, length-append rs is.took.more)) is.idle
+          (opened_closed log now chain base seen capacity closed may redoes is_seen matched entries)
+          (opened_space log now chain base seen capacity closed may redoes is_seen matched entries)
+          (trans_below (greatest_tran rs) rs (below_by_recursion rs))
+          (is.took.below (greatest_tran rs) (open_most rs)) (is.took.forced ∙ may.forced)
+          (omega (
+            arith,
+            ap (λ (xs : List Record). length xs) is.took.records,
+            length-append rs is.took.more,
+          )) is.idle
           (subst (λ (ps : List (List Slot)). Sound ps) (sym same.slots) undone.proper.sound) few)));
       in_step = subst IsInStep (sym space_is) same.in_step;
-      listings = subst (λ (s : Space ListFrames). AreListings (row_at (slot_of (space_pages s))) found.indexes) (sym space_is) listings;
-      capacity_is = ap (λ (s : Space ListFrames). capacity_in s) space_is ∙ same.capacity ∙ is.capacity_is;
+      listings = subst
+          (λ (s : Space ListFrames). AreListings (row_at (slot_of (space_pages s))) found.indexes)
+          (sym space_is) listings;
+      capacity_is =
+          ap (λ (s : Space ListFrames). capacity_in s) space_is ∙ same.capacity ∙ is.capacity_is;
       copy = subst IsCopy (sym (copy_is ∙ ap (λ (c : Current). c.copy) may.kept.current)) may.copy;
       copy_is = copy_is ∙ ap (λ (c : Current). c.copy) may.kept.current;
-      count_is = ap (λ (s : Space ListFrames). length (space_pages s)) space_is ∙ ap (λ (ps : List (List Slot)). length ps) same.slots ∙ undone.count_is ∙ count;
+      count_is = ap (λ (s : Space ListFrames). length (space_pages s)) space_is
+          ∙ ap (λ (ps : List (List Slot)). length ps) same.slots ∙ undone.count_is ∙ count;
       took = subst (TookBack (open_in rs) (owed rs) log) (sym log_is) is.took;
       newest =
-          subst (λ (s : Space ListFrames). HasNewest (opened_epoch rs base) found.log.records s) (sym space_is)
+          subst (λ (s : Space ListFrames). HasNewest (opened_epoch rs base) found.log.records s)
+          (sym space_is)
           (subst (λ (l : Listed). HasNewest (opened_epoch rs base) l.records last) (sym log_is)
           (stay_looked now.records closed last same (opened_epoch rs base) newest));
       marks_are = marks_are;
       reopens = λ capacities volume.
-          subst (λ (l : Listed). (n : ℕ) → length rs ≤ n → n ≤ length l.records → CanReopen capacities (opened_epoch rs base) (take n l.records)) (sym log_is)
-          (opened_reopens log now chain base seen capacity closed may redoes is_seen matched entries capacities volume);
+          subst
+          (λ (l : Listed). (n : ℕ) → length rs ≤ n → n ≤ length l.records
+          → CanReopen capacities (opened_epoch rs base) (take n l.records)) (sym log_is)
+          (opened_reopens log now chain base seen capacity closed may redoes is_seen matched entries
+          capacities volume);
     }
 
 -- ---- calls that only look
 
-pub looked_same : (a b : Space ListFrames) → IsInStep a → LeftAsItWas a b (list_seen (frames_of a)) (list_seen (frames_of b)) → SamePages a b
+pub looked_same : (a b : Space ListFrames) → IsInStep a
+    → LeftAsItWas a b (list_seen (frames_of a)) (list_seen (frames_of b)) → SamePages a b
 looked_same a b has left = record {
   in_step = record {
     step = left.step;
-    agree = ap (λ (cs : List Content). map (map bare) (slots_of cs)) (left.looked.reads.same refl) ∙ has.agree ∙ ap (λ (i : Indexed). i.pages) (sym left.summaries);
+    agree = ap (λ (cs : List Content). map (map bare) (slots_of cs)) (left.looked.reads.same refl)
+        ∙ has.agree ∙ ap (λ (i : Indexed). i.pages) (sym left.summaries);
   };
   slots = ap slots_of (left.looked.reads.same refl);
   contents = left.looked.reads.same refl;
@@ -183,14 +232,17 @@ same_join a b c one two = record {
 }
 
 -- how the slots stand, by the transactions that are open
-pub ties_by : (rs : List Record) (trans : List ℕ) (a b : Space ListFrames) (o : Option Place) → trans ≡ open_in rs → space_pages b ≡ space_pages a → IsLeastBreach (IsTiedAt trans (slot_of (space_pages b))) o
+pub ties_by : (rs : List Record) (trans : List ℕ) (a b : Space ListFrames) (o : Option Place)
+    → trans ≡ open_in rs → space_pages b ≡ space_pages a
+    → IsLeastBreach (IsTiedAt trans (slot_of (space_pages b))) o
     → IsLeastBreach (Ties rs (space_pages a)) o
 ties_by rs trans a b o is same breach =
     subst (λ (ps : List (List Slot)). IsLeastBreach (IsTiedAt (open_in rs) (slot_of ps)) o) same
     (subst (λ (ts : List ℕ). IsLeastBreach (IsTiedAt ts (slot_of (space_pages b))) o) is breach)
 
 -- a refusal by one rule is one by another that says more
-pub refuses_map : (A B : Set → ℕ → Type 0) (cause : OpenCause) → ((set : Set) (page : ℕ) → A set page → B set page) → Refuses A cause → Refuses B cause
+pub refuses_map : (A B : Set → ℕ → Type 0) (cause : OpenCause)
+    → ((set : Set) (page : ℕ) → A set page → B set page) → Refuses A cause → Refuses B cause
 refuses_map A B (Damaged set page) f breaks = f set page breaks
 refuses_map A B Device f breaks = breaks
 refuses_map A B NoMemory f breaks = tt

@@ -1,5 +1,6 @@
 -- The pages of a desk that was opened, by those that were taken.
-use Rattle.std.proofs.Common.{◌≡◌, ◌≤◌, ◌&&◌, nat_lt, ℕ, Bool, false, List, [], ◌∷◌, Option, length, take, drop, sym, ◌∙◌, ap, subst, refl, arith}
+use Rattle.std.proofs.Common.{◌≡◌, ◌≤◌, ◌&&◌, nat_lt, ℕ, Bool, false, List, [], ◌∷◌, Option, length}
+use Rattle.std.proofs.Common.{take, drop, sym, ◌∙◌, ap, subst, refl, arith}
 use Rattle.std.specs.Prelude.{IfOk, Result, Ok, Err}
 use Rattle.std.proofs.Math.Seq.{take-length}
 use Rattle.std.proofs.lemmas.Bool.Decides.{nat_tests}
@@ -26,26 +27,31 @@ use Rattle.rg_laws_crash.specs.PageVersions.Versions.{Epoch, Spells, redone_by, 
 use Rattle.rg_laws_crash.specs.PageVersions.Versions.{taken_past, version}
 use Rattle.rg_laws_crash.proofs.PageVersionsLemmas.Redo.{numbers_stay}
 use Rattle.rg_restart.specs.Found.{Finds}
-use Rattle.rg_restart.specs.Opening.{AreMadeOf, CallsQuiet, Looks, NoneNames, OpensStored, ReadsSound, StandAsRead}
+use Rattle.rg_restart.specs.Opening.{AreMadeOf, CallsQuiet, Looks, NoneNames, OpensStored}
+use Rattle.rg_restart.specs.Opening.{ReadsSound, StandAsRead}
 use Rattle.rg_restart.proofs.Reopening.{unnamed_same}
 
 -- records that do not name a page leave it as it is
 unnamed_by : (rs : List Record) (x : Content) → NoneNames x.number rs → redone_by rs x ≡ x
 unnamed_by [] x none = refl
-unnamed_by (entry ∷ rs) x none = ap (redone_by rs) (unnamed_same entry x none.0) ∙ unnamed_by rs x none.1
+unnamed_by (entry ∷ rs) x none =
+    ap (redone_by rs) (unnamed_same entry x none.0) ∙ unnamed_by rs x none.1
 
-module _ (base : List Content) (marks : List (Option Position)) (log : Listed) (capacity : ℕ) (found : Found) (finds : Finds base marks log capacity found)
-    (contents : List Content) (contents_are : contents ≡ (list_seen (frames_of found.space)).pages) where
+module _ (base : List Content) (marks : List (Option Position)) (log : Listed) (capacity : ℕ)
+    (found : Found) (finds : Finds base marks log capacity found) (contents : List Content)
+    (contents_are : contents ≡ (list_seen (frames_of found.space)).pages) where
   abbrev now : List Record
   now = found.log.records
 
   abbrev epoch : Epoch
   epoch = opened_epoch log.records base
 
-  each : (p : ℕ) → 1 ≤ p → page_in (copy_of log.records) contents p ≡ version epoch now (length now) p
+  each : (p : ℕ) → 1 ≤ p
+      → page_in (copy_of log.records) contents p ≡ version epoch now (length now) p
   each p one =
       ap (λ (xs : List Content). page_in (copy_of log.records) xs p) contents_are
-      ∙ ap (λ (k : ℕ). page_in k (list_seen (frames_of found.space)).pages p) (sym finds.newest.pages.copy)
+      ∙ ap (λ (k : ℕ). page_in k (list_seen (frames_of found.space)).pages p)
+      (sym finds.newest.pages.copy)
       ∙ (finds.newest.pages.each p one).is
 
   numbered : (p : ℕ) → 1 ≤ p → (page_in (copy_of log.records) base p).number ≡ p
@@ -55,18 +61,21 @@ module _ (base : List Content) (marks : List (Option Position)) (log : Listed) (
       ∙ ap (λ (x : Content). x.number) (sym newest.is)
       ∙ newest.number
 
-  unnamed : (p : ℕ) → 1 ≤ p → NoneNames p (drop (switched_at log.records) now) → page_in (copy_of log.records) contents p ≡ page_in (copy_of log.records) base p
+  unnamed : (p : ℕ) → 1 ≤ p → NoneNames p (drop (switched_at log.records) now)
+      → page_in (copy_of log.records) contents p ≡ page_in (copy_of log.records) base p
   unnamed p one none =
       each p one
       ∙ ap (λ (xs : List Record). redone_by (drop epoch.from xs) (epoch.base p)) (take-length now)
-      ∙ unnamed_by (drop epoch.from now) (epoch.base p) (subst (λ (k : ℕ). NoneNames k (drop epoch.from now)) (sym (numbered p one)) none)
+      ∙ unnamed_by (drop epoch.from now) (epoch.base p)
+      (subst (λ (k : ℕ). NoneNames k (drop epoch.from now)) (sym (numbered p one)) none)
 
   pub made_of : AreMadeOf log.records base now contents
   made_of = record { each = each; unnamed = unnamed }
 
   -- a page that the Switch counts is taken as it is
   taken_so : (pages p : ℕ) → p ≤ pages → (from : ℕ) (x : Content) → taken_past from pages p x ≡ x
-  taken_so pages p low from x = ap (λ (t : Bool). taken_if (t && nat_lt x.position from) x) (not_past pages p low)
+  taken_so pages p low from x =
+      ap (λ (t : Bool). taken_if (t && nat_lt x.position from) x) (not_past pages p low)
     where
       not_past : (pages p : ℕ) → p ≤ pages → nat_lt pages p ≡ false
       not_past pages p low = grind (arith, nat_tests, low)
@@ -77,15 +86,24 @@ module _ (base : List Content) (marks : List (Option Position)) (log : Listed) (
       let count = takes.count_is in
       let this = takes.each p one (omega (arith, low, high)) in
       subst (Spells (i (set_of (copy_of log.records)) p))
-      (sym (unnamed p one none ∙ there_in (copy_of log.records) base p (omega (arith, count, low, high)) ∙ this.is ∙ taken_so (switched_pages log.records) p low (switched_at log.records) this.page))
+      (sym
+      (unnamed p one none ∙ there_in (copy_of log.records) base p (omega (arith, count, low, high))
+      ∙ this.is ∙ taken_so (switched_pages log.records) p low (switched_at log.records) this.page))
       this.spells
 
-  pub as_read : (told : Option Told) → IfTold told (λ t. TakesBase log.records (read_of t.first t.calls) base) → IfTold told (λ t. StandAsRead log.records now contents (read_of t.first t.calls))
-  as_read told takes = told_weaken (λ t. TakesBase log.records (read_of t.first t.calls) base) (λ t. StandAsRead log.records now contents (read_of t.first t.calls)) told (λ t. as_taken (read_of t.first t.calls)) takes
+  pub as_read : (told : Option Told)
+      → IfTold told (λ t. TakesBase log.records (read_of t.first t.calls) base)
+      → IfTold told (λ t. StandAsRead log.records now contents (read_of t.first t.calls))
+  as_read told takes = told_weaken (λ t. TakesBase log.records (read_of t.first t.calls) base)
+      (λ t. StandAsRead log.records now contents (read_of t.first t.calls)) told
+      (λ t. as_taken (read_of t.first t.calls)) takes
 
 -- a desk begins over what was found
-pub opens_stored : {V O : Type 0} (look : V → VolumeSeen) (old : VolumeSeen) (volume : V) (operator : O) (found : Found) (desk : DeskState V O) → Looks old (look volume) found
-    → Opens look volume operator found.log found.copy (capacity_in found.space) (space_pages found.space) desk → desk.contents ≡ (list_seen (frames_of found.space)).pages → OpensStored look old operator desk
+pub opens_stored : {V O : Type 0} (look : V → VolumeSeen) (old : VolumeSeen) (volume : V)
+    (operator : O) (found : Found) (desk : DeskState V O) → Looks old (look volume) found
+    → Opens look volume operator found.log found.copy (capacity_in found.space)
+    (space_pages found.space) desk
+    → desk.contents ≡ (list_seen (frames_of found.space)).pages → OpensStored look old operator desk
 opens_stored look old volume operator found desk looks opens contents =
     let log : Listed = looks.log in
     let finds = looks.finds in
@@ -100,20 +118,32 @@ opens_stored look old volume operator found desk looks opens contents =
       slots = space_pages found.space;
       count_is = finds.count_is;
       opens =
-          subst (λ v. Opens look v operator found.log (copy_of log.records) capacity (space_pages found.space) desk) (sym opens.same)
-          (subst (λ (n : ℕ). Opens look volume operator found.log (copy_of log.records) n (space_pages found.space) desk) finds.capacity_is
-          (subst (λ (n : ℕ). Opens look volume operator found.log n (capacity_in found.space) (space_pages found.space) desk) finds.copy_is opens));
+          subst
+          (λ v. Opens look v operator found.log (copy_of log.records) capacity
+          (space_pages found.space) desk) (sym opens.same) (subst
+          (λ (n : ℕ). Opens look volume operator found.log (copy_of log.records) n
+          (space_pages found.space) desk) finds.capacity_is
+          (subst
+          (λ (n : ℕ). Opens look volume operator found.log n (capacity_in found.space)
+          (space_pages found.space) desk) finds.copy_is opens));
       calls = subst (λ v. CallsQuiet old (look v)) (sym opens.same) looks.calls;
       base = looks.base;
       sound = subst (λ v. ReadsSound (look v) log.records looks.base) (sym opens.same) sound;
       made_of = made_of looks.base marks log capacity found finds desk.contents contents;
       as_read =
-          subst (λ v. IfTold (look v).told (λ t. StandAsRead log.records found.log.records desk.contents (read_of t.first t.calls))) (sym opens.same)
-          (as_read looks.base marks log capacity found finds desk.contents contents (look volume).told
-          (told_weaken (λ t. IsSoundBy (look volume).capacities (read_of t.first t.calls) log.records looks.base) (λ t. TakesBase log.records (read_of t.first t.calls) looks.base) (look volume).told (λ t h. h.takes) sound));
+          subst
+          (λ v. IfTold (look v).told
+          (λ t. StandAsRead log.records found.log.records desk.contents (read_of t.first t.calls)))
+          (sym opens.same) (as_read looks.base marks log capacity found finds desk.contents contents
+          (look volume).told
+          (told_weaken
+          (λ t. IsSoundBy (look volume).capacities (read_of t.first t.calls) log.records looks.base)
+          (λ t. TakesBase log.records (read_of t.first t.calls) looks.base) (look volume).told
+          (λ t h. h.takes) sound));
     }
 
 -- of two facts of what is returned a third follows
-pub ok_both : {A E : Type 0} (r : Result A E) (P Q R : A → Type 0) → ((x : A) → P x → Q x → R x) → IfOk r P → IfOk r Q → IfOk r R
+pub ok_both : {A E : Type 0} (r : Result A E) (P Q R : A → Type 0) → ((x : A) → P x → Q x → R x)
+    → IfOk r P → IfOk r Q → IfOk r R
 ok_both (Ok x) P Q R f p q = f x p q
 ok_both (Err e) P Q R f p q = p

@@ -4,7 +4,8 @@
 -- 2. The records of the undo are appended to the log, and nothing is forced. They take no more of
 --    it than was reserved: 911 bytes for an Undo, and 23 for the RolledBack.
 -- 3. The pages stay the newest versions that the records of the log make of them.
-use Rattle.std.specs.Prelude.{◌≡◌, ◌≤◌, ◌+◌, ◌*◌, ◌++◌, ◌∷◌, ℕ, true, List, [], length, Option, Some, None}
+use Rattle.std.specs.Prelude.{◌≡◌, ◌≤◌, ◌+◌, ◌*◌, ◌++◌, ◌∷◌, ℕ, true, List, [], length, Option}
+use Rattle.std.specs.Prelude.{Some, None}
 use Rattle.rg_base.specs.declared.place.Place.{Place}
 use Rattle.rg_home.specs.Able.{Proper}
 use Rattle.rg_home.specs.Undo.{undone_all}

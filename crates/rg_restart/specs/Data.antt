@@ -5,7 +5,8 @@
 -- 2. A page that is taken as it was read is marked with its position. One that is left over has no
 --    mark.
 -- 3. What was taken of a page would be taken as it is.
-use Rattle.std.specs.Prelude.{◌≡◌, ◌≤◌, ◌<◌, ◌&&◌, nat_lt, ℕ, Bool, true, false, List, [], ◌∷◌, length, Option, Some, None}
+use Rattle.std.specs.Prelude.{◌≡◌, ◌≤◌, ◌<◌, ◌&&◌, nat_lt, ℕ, Bool, true, false, List, [], ◌∷◌}
+use Rattle.std.specs.Prelude.{length, Option, Some, None}
 use Rattle.std.specs.List.{AllByRecursion}
 use Rattle.rg_base.specs.declared.position.Position.{Position}
 use Rattle.rg_base.specs.declared.set.Set.{Set}
@@ -22,7 +23,8 @@ use Rattle.rg_page.specs.declared.bytes.fault.PageFault.{PageFault}
 use Rattle.rg_page.specs.declared.bytes.fault.PageFault.TheVariants.{NotAPage}
 use Rattle.rg_page.specs.declared.bytes.fault.PageFault.TheVariants as faults
 use Rattle.rg_record.specs.declared.record.Kind.{Kind}
-use Rattle.rg_record.specs.declared.record.Kind.TheVariants.{Change, Undo, Commit, RolledBack, Purge, Switch}
+use Rattle.rg_record.specs.declared.record.Kind.TheVariants.{Change, Undo, Commit, RolledBack}
+use Rattle.rg_record.specs.declared.record.Kind.TheVariants.{Purge, Switch}
 use Rattle.rg_record.specs.declared.record.Record.{Record}
 use Rattle.rg_laws_crash.specs.PageVersions.Versions.{Spells, taken_past}
 use Rattle.rg_restart.specs.declared.data.LastSwitch.{LastSwitch}

@@ -9,7 +9,8 @@ ghost use Rattle.rg_log.specs.Open.{IsQuiet};
 ghost use Rattle.rg_outside.specs.Calls.{read_of};
 ghost use Rattle.rg_outside.specs.Capacities.{capacity_of};
 ghost use Rattle.rg_outside.specs.Moments.{EachCall, IfTold};
-ghost use Rattle.rg_restart.specs.Data.{AreBase, AreTakenAsIs, IsDataFault, IsMarked, IsTaken, IsUntaken, MarksPages, TakesPages, switch_after, switch_of};
+ghost use Rattle.rg_restart.specs.Data.{AreBase, AreTakenAsIs, IsDataFault, IsMarked, IsTaken};
+ghost use Rattle.rg_restart.specs.Data.{IsUntaken, MarksPages, TakesPages, switch_after, switch_of};
 
 use rg_base::position::Position;
 use rg_base::set::Set;

@@ -6,7 +6,8 @@
 // 3. The pages are the newest versions: what the records of the log, those of the undo too, make of
 //    the pages that were read.
 // 4. No call of a volume is made. After a refusal all that was found is to be dropped.
-ghost use Rattle.std.specs.Prelude.{◌≡◌, ◌≤◌, ◌+◌, ◌==◌, ℕ, length, take, if◌then◌else◌, IfOk, IfErr, OnOk, None};
+ghost use Rattle.std.specs.Prelude.{◌≡◌, ◌≤◌, ◌+◌, ◌==◌, ℕ, length, take, if◌then◌else◌, IfOk};
+ghost use Rattle.std.specs.Prelude.{IfErr, OnOk, None};
 ghost use Rattle.rg_base.specs.declared.set.Set.TheVariants.{Log as LogSet};
 ghost use Rattle.rg_engine.specs.Newest.{StayNewest};
 ghost use Rattle.rg_home.specs.Able.{Proper};
@@ -24,7 +25,8 @@ ghost use Rattle.rg_check.specs.OpenUnits.Unended.{open_in};
 ghost use Rattle.rg_space.specs.Memory.{space_pages};
 ghost use Rattle.rg_restart.specs.Closed.{IsInStep};
 ghost use Rattle.rg_restart.specs.Data.{AreBase};
-ghost use Rattle.rg_restart.specs.Found.{Finds, IsClosed, IsGrown, MayFind, Refuses, SamePages, StoresFew};
+ghost use Rattle.rg_restart.specs.Found.{Finds, IsClosed, IsGrown, MayFind, Refuses, SamePages};
+ghost use Rattle.rg_restart.specs.Found.{StoresFew};
 ghost use Rattle.rg_shadow.specs.Valued.{AreReadFrom};
 ghost use Rattle.rg_laws_crash.specs.SoundVolume.Pages.{BreaksFit, BreaksRows, BreaksRule};
 ghost use Rattle.rg_laws_crash.specs.SoundVolume.Pages.{BreaksSlots, IsMatched, copy_of, count_of};

@@ -13,7 +13,8 @@ ghost use Rattle.rg_engine.specs.Volume.{HasCalls, seen_volume};
 ghost use Rattle.rg_image.specs.Rules.{HasSpace, IsChain};
 ghost use Rattle.rg_log.specs.Kept.{log_pages};
 ghost use Rattle.rg_redo.specs.CurrentCopy.Laws.{CoversAll};
-ghost use Rattle.rg_restart.specs.Opening.{BreaksLog, GoesOnTidy, IsRefused, Looks, OpensStored, cause_of};
+ghost use Rattle.rg_restart.specs.Opening.{BreaksLog, GoesOnTidy, IsRefused, Looks, OpensStored};
+ghost use Rattle.rg_restart.specs.Opening.{cause_of};
 
 use crate::data::{read_pages, switch_of};
 use crate::find::{damaged, find};

@@ -1,5 +1,7 @@
 -- What entries tell of the calls stays so over more calls, and goes on by one entry.
-use Rattle.std.proofs.Common.{◌≡◌, ◌≤◌, ◌<◌, ◌+◌, ◌-◌, ◌^◌, ℕ, Bool, true, false, List, [], ◌∷◌, ◌++◌, Option, Some, None, length, drop, refl, sym, ◌∙◌, ap, subst, arith, length-append}
+use Rattle.std.proofs.Common.{◌≡◌, ◌≤◌, ◌<◌, ◌+◌, ◌-◌, ◌^◌, ℕ, Bool, true, false, List, [], ◌∷◌}
+use Rattle.std.proofs.Common.{◌++◌, Option, Some, None, length, drop, refl, sym, ◌∙◌, ap, subst}
+use Rattle.std.proofs.Common.{arith, length-append}
 use Rattle.std.proofs.Math.Seq.{drop-append-add}
 use Rattle.std.proofs.lemmas.List.Sums.{count_by-le-length}
 use Rattle.rg_base.specs.declared.control.Answer.{Answer}
@@ -25,7 +27,8 @@ use Rattle.rg_stmt.specs.declared.line.Line.{Line}
 use Rattle.rg_stmt.specs.declared.stmt.Reply.{Reply}
 use Rattle.rg_stmt.specs.declared.stmt.Reply.TheVariants.{Device}
 use Rattle.rg_stmt.specs.declared.stmt.Stmt.{Stmt}
-use Rattle.rg_run.specs.Fit.{FailedSince, FailedThen, FitFrom, FitSince, FitsThen, WroteThen, calls_of_last, copy_after, copy_of_last}
+use Rattle.rg_run.specs.Fit.{FailedSince, FailedThen, FitFrom, FitSince, FitsThen, WroteThen}
+use Rattle.rg_run.specs.Fit.{calls_of_last, copy_after, copy_of_last}
 use Rattle.rg_run.specs.Played.{IsFlushed, IsOpenedEntry, IsStartEvent, IsStepEvent, TraceOf}
 
 -- what holds of every known volume
@@ -35,12 +38,14 @@ told_all (Some t) P f = f t
 
 -- ---- other entries
 
-pub layout_keeps : (copy : ℕ) (event : Event) → IsLayout copy event → (k : ℕ) → copy_after k event ≡ k
+pub layout_keeps : (copy : ℕ) (event : Event) → IsLayout copy event → (k : ℕ)
+    → copy_after k event ≡ k
 layout_keeps copy (events.Opened opened rows pages used) is k = absurd is
 layout_keeps copy (events.Switched to sides) is k = absurd is
 layout_keeps copy event is k = refl
 
-pub layout_tells : (copy : ℕ) (event : Event) → IsLayout copy event → (k start before calls : ℕ) (t : Told) → FitsThen k start before calls t event
+pub layout_tells : (copy : ℕ) (event : Event) → IsLayout copy event
+    → (k start before calls : ℕ) (t : Told) → FitsThen k start before calls t event
 layout_tells copy (events.Flush page) is k start before calls t = absurd is
 layout_tells copy events.Clean is k start before calls t = absurd is
 layout_tells copy events.FlushDevice is k start before calls t = absurd is
@@ -53,12 +58,14 @@ flushed_keeps (events.Opened opened rows pages used) is k = absurd is
 flushed_keeps (events.Switched to sides) is k = absurd is
 flushed_keeps event is k = refl
 
-pub start_keeps : (options : Options) (event : Event) → IsStartEvent options event → (k : ℕ) → copy_after k event ≡ k
+pub start_keeps : (options : Options) (event : Event) → IsStartEvent options event → (k : ℕ)
+    → copy_after k event ≡ k
 start_keeps options (events.Opened opened rows pages used) is k = absurd is
 start_keeps options (events.Switched to sides) is k = absurd is
 start_keeps options event is k = refl
 
-pub start_tells : (options : Options) (event : Event) → IsStartEvent options event → (k start before calls : ℕ) (t : Told) → FitsThen k start before calls t event
+pub start_tells : (options : Options) (event : Event) → IsStartEvent options event
+    → (k start before calls : ℕ) (t : Told) → FitsThen k start before calls t event
 start_tells options (events.Flush page) is k start before calls t = absurd is
 start_tells options events.Clean is k start before calls t = absurd is
 start_tells options events.FlushDevice is k start before calls t = absurd is
@@ -66,12 +73,16 @@ start_tells options (events.Said stmt reply) is k start before calls t = absurd 
 start_tells options (events.Stop reason) is k start before calls t = absurd is
 start_tells options event is k start before calls t = tt
 
-pub step_copy : (answer : Option Answer) (event : Event) → IsStepEvent answer event → (k : ℕ) → copy_after k event ≡ copy_left k event
+pub step_copy : (answer : Option Answer) (event : Event) → IsStepEvent answer event → (k : ℕ)
+    → copy_after k event ≡ copy_left k event
 step_copy None (events.Opened opened rows pages used) is k = absurd is
 step_copy (Some answer) (events.Opened opened rows pages used) is k = absurd (cc (is))
 step_copy answer event is k = refl
 
-pub step_tells : (answer : Option Answer) (event : Event) → IsStepEvent answer event → (told : Option Told) (k since calls : ℕ) → (is_device_stop event ≡ true → IfTold told (λ t. FailedThen t.start since calls t)) → IfTold told (λ t. FitsThen k t.start since calls t event)
+pub step_tells : (answer : Option Answer) (event : Event) → IsStepEvent answer event
+    → (told : Option Told) (k since calls : ℕ)
+    → (is_device_stop event ≡ true → IfTold told (λ t. FailedThen t.start since calls t))
+    → IfTold told (λ t. FitsThen k t.start since calls t event)
 step_tells None (events.Flush page) is told k since calls failed = absurd is
 step_tells (Some answer) (events.Flush page) is told k since calls failed = absurd (cc (is))
 step_tells None events.Clean is told k since calls failed = absurd is
@@ -82,54 +93,80 @@ step_tells None (events.Said stmt reply) is told k since calls failed = absurd i
 step_tells (Some answer) (events.Said stmt reply) is told k since calls failed = absurd (cc (is))
 step_tells None (events.Stop reasons.Device) is told k since calls failed = absurd is
 step_tells (Some answer) (events.Stop reasons.Device) is told k since calls failed = failed refl
-step_tells answer event is told k since calls failed = told_all told (λ t. FitsThen k t.start since calls t event) (λ t. tt)
+step_tells answer event is told k since calls failed =
+    told_all told (λ t. FitsThen k t.start since calls t event) (λ t. tt)
 
-pub said_tells : (stmt : Stmt) (reply : Reply) (told : Option Told) (k since calls : ℕ) → (reply ≡ Device → IfTold told (λ t. FailedThen t.start since calls t)) → IfTold told (λ t. FitsThen k t.start since calls t (events.Said stmt reply))
+pub said_tells : (stmt : Stmt) (reply : Reply) (told : Option Told) (k since calls : ℕ)
+    → (reply ≡ Device → IfTold told (λ t. FailedThen t.start since calls t))
+    → IfTold told (λ t. FitsThen k t.start since calls t (events.Said stmt reply))
 said_tells stmt Device told k since calls failed = failed refl
-said_tells stmt reply told k since calls failed = told_all told (λ t. FitsThen k t.start since calls t (events.Said stmt reply)) (λ t. tt)
+said_tells stmt reply told k since calls failed =
+    told_all told (λ t. FitsThen k t.start since calls t (events.Said stmt reply)) (λ t. tt)
 
 -- ---- parts
 
 -- the entry of an opening tells nothing, whatever came before it
-pub opened_alone : (copy start before : ℕ) (t : Told) (entry : Entry) → IsOpenedEntry entry → FitFrom copy start before t (entry ∷ [])
-opened_alone copy start before t entry opened = subst (λ (e : Entry). FitFrom copy start before t (e ∷ [])) (sym opened.is) (tt, tt)
+pub opened_alone : (copy start before : ℕ) (t : Told) (entry : Entry) → IsOpenedEntry entry
+    → FitFrom copy start before t (entry ∷ [])
+opened_alone copy start before t entry opened =
+    subst (λ (e : Entry). FitFrom copy start before t (e ∷ [])) (sym opened.is) (tt, tt)
 
-opened_from : (copy other start before then : ℕ) (t : Told) (entry : Entry) (entries : List Entry) → IsOpenedEntry entry → FitFrom copy start before t (entry ∷ entries) → FitFrom other start then t (entry ∷ entries)
+opened_from : (copy other start before then : ℕ) (t : Told) (entry : Entry) (entries : List Entry)
+    → IsOpenedEntry entry → FitFrom copy start before t (entry ∷ entries) → FitFrom other start
+    then t (entry ∷ entries)
 opened_from copy other start before then t entry entries opened =
-    subst (λ (e : Entry). FitFrom copy start before t (e ∷ entries) → FitFrom other start then t (e ∷ entries)) (sym opened.is) (λ all. all)
+    subst
+    (λ (e : Entry). FitFrom copy start before t (e ∷ entries) → FitFrom other start
+    then t (e ∷ entries)) (sym opened.is) (λ all. all)
 
-pub fit_join : (start : ℕ) (t : Told) (copy before : ℕ) (lines : List Line) (older part : List Entry) → TraceOf lines part → FitFrom copy start before t older → FitSince start t part → FitFrom copy start before t (older ++ part)
+pub fit_join :
+    (start : ℕ) (t : Told) (copy before : ℕ) (lines : List Line) (older part : List Entry)
+    → TraceOf lines part → FitFrom copy start before t older → FitSince start t part
+    → FitFrom copy start before t (older ++ part)
 fit_join start t copy before lines [] [] of all more = tt
-fit_join start t copy before lines [] (e ∷ es) of all more = opened_from 0 copy start 0 before t e es of.0 more
-fit_join start t copy before lines (e ∷ older) part of all more = (all.0, fit_join start t (copy_after copy e.event) e.calls lines older part of all.1 more)
+fit_join start t copy before lines [] (e ∷ es) of all more =
+    opened_from 0 copy start 0 before t e es of.0 more
+fit_join start t copy before lines (e ∷ older) part of all more =
+    (all.0, fit_join start t (copy_after copy e.event) e.calls lines older part of all.1 more)
 
 -- ---- one entry more
 
-pub fit_push : (copy start before : ℕ) (t : Told) (trace : List Entry) (entry : Entry) → FitFrom copy start before t trace → FitsThen (copy_of_last copy trace) start (calls_of_last before trace) entry.calls t entry.event
+pub fit_push : (copy start before : ℕ) (t : Told) (trace : List Entry) (entry : Entry)
+    → FitFrom copy start before t trace
+    → FitsThen (copy_of_last copy trace) start (calls_of_last before trace) entry.calls t
+    entry.event
     → FitFrom copy start before t (trace ++ entry ∷ [])
 fit_push copy start before t [] entry all one = (one, tt)
-fit_push copy start before t (e ∷ es) entry all one = (all.0, fit_push (copy_after copy e.event) start e.calls t es entry all.1 one)
+fit_push copy start before t (e ∷ es) entry all one =
+    (all.0, fit_push (copy_after copy e.event) start e.calls t es entry all.1 one)
 
-pub copy_push : (copy : ℕ) (trace : List Entry) (entry : Entry) → copy_of_last copy (trace ++ entry ∷ []) ≡ copy_after (copy_of_last copy trace) entry.event
+pub copy_push : (copy : ℕ) (trace : List Entry) (entry : Entry)
+    → copy_of_last copy (trace ++ entry ∷ []) ≡ copy_after (copy_of_last copy trace) entry.event
 copy_push copy [] entry = refl
 copy_push copy (e ∷ es) entry = copy_push (copy_after copy e.event) es entry
 
-pub calls_push : (calls : ℕ) (trace : List Entry) (entry : Entry) → calls_of_last calls (trace ++ entry ∷ []) ≡ entry.calls
+pub calls_push : (calls : ℕ) (trace : List Entry) (entry : Entry)
+    → calls_of_last calls (trace ++ entry ∷ []) ≡ entry.calls
 calls_push calls [] entry = refl
 calls_push calls (e ∷ es) entry = calls_push e.calls es entry
 
 -- ---- more calls
 
 -- the calls up to an earlier moment stay as they were
-pub calls_then : (before : Told) (fresh : List Call) (c : ℕ) → c ≤ length before.calls → (moment (record before { calls = fresh ++ before.calls }) c).calls ≡ (moment before c).calls
+pub calls_then : (before : Told) (fresh : List Call) (c : ℕ) → c ≤ length before.calls
+    → (moment (record before { calls = fresh ++ before.calls }) c).calls ≡ (moment before c).calls
 calls_then before fresh c low =
-    ap (λ (n : ℕ). drop n (fresh ++ before.calls)) (sum (length (fresh ++ before.calls)) (length fresh) (length before.calls) c (length-append fresh before.calls) low)
+    ap (λ (n : ℕ). drop n (fresh ++ before.calls))
+    (sum (length (fresh ++ before.calls)) (length fresh) (length before.calls) c
+    (length-append fresh before.calls) low)
     ∙ drop-append-add fresh before.calls (length before.calls - c)
   where
     sum : (all m n s : ℕ) → all ≡ m + n → s ≤ n → all - s ≡ m + (n - s)
     sum all m n s e low = omega (arith, e, low)
 
-failed_on : (start since calls : ℕ) (before : Told) (fresh : List Call) → FailedThen start since calls before → FailedThen start since calls (record before { calls = fresh ++ before.calls })
+failed_on : (start since calls : ℕ) (before : Told) (fresh : List Call)
+    → FailedThen start since calls before
+    → FailedThen start since calls (record before { calls = fresh ++ before.calls })
 failed_on start since calls before fresh is =
     let high = is.high in
     let low = is.since in
@@ -138,55 +175,94 @@ failed_on start since calls before fresh is =
       high = omega (arith, high, longer);
       since = is.since;
       failed = λ few.
-          subst (λ (n : ℕ). n < faults_of (moment (record before { calls = fresh ++ before.calls }) (start + calls)).calls) (sym (ap faults_of (calls_then before fresh (start + since) (omega (arith, high, low)))))
-          (subst (λ (n : ℕ). faults_at before (start + since) < n) (sym (ap faults_of (calls_then before fresh (start + calls) is.high))) (is.failed (omega (arith, few, longer))));
+          subst
+          (λ (n : ℕ). n
+          < faults_of
+          (moment (record before { calls = fresh ++ before.calls }) (start + calls)).calls)
+          (sym (ap faults_of (calls_then before fresh (start + since) (omega (arith, high, low)))))
+          (subst (λ (n : ℕ). faults_at before (start + since) < n)
+          (sym (ap faults_of (calls_then before fresh (start + calls) is.high)))
+          (is.failed (omega (arith, few, longer))));
     }
 
-event_on : (copy start since calls : ℕ) (before : Told) (fresh : List Call) (event : Event) → FitsThen copy start since calls before event → FitsThen copy start since calls (record before { calls = fresh ++ before.calls }) event
+event_on : (copy start since calls : ℕ) (before : Told) (fresh : List Call) (event : Event)
+    → FitsThen copy start since calls before event
+    → FitsThen copy start since calls (record before { calls = fresh ++ before.calls }) event
 event_on copy start since calls before fresh (events.Flush page) is =
     let high = is.high in
     let longer = length-append fresh before.calls in
-    record { high = omega (arith, high, longer); since = is.since; bytes = is.bytes; rest = is.rest; last = calls_then before fresh (start + calls) is.high ∙ is.last }
+    record {
+      high = omega (arith, high, longer);
+      since = is.since;
+      bytes = is.bytes;
+      rest = is.rest;
+      last = calls_then before fresh (start + calls) is.high ∙ is.last;
+    }
 event_on copy start since calls before fresh events.Clean is = is
-event_on copy start since calls before fresh events.FlushDevice is = failed_on start since calls before fresh is
-event_on copy start since calls before fresh (events.Said stmt Device) is = failed_on start since calls before fresh is
-event_on copy start since calls before fresh (events.Stop reasons.Device) is = failed_on start since calls before fresh is
+event_on copy start since calls before fresh events.FlushDevice is =
+    failed_on start since calls before fresh is
+event_on copy start since calls before fresh (events.Said stmt Device) is =
+    failed_on start since calls before fresh is
+event_on copy start since calls before fresh (events.Stop reasons.Device) is =
+    failed_on start since calls before fresh is
 event_on copy start since calls before fresh event is = tt
 
-each_on : (copy start since : ℕ) (before : Told) (fresh : List Call) (trace : List Entry) → FitFrom copy start since before trace → FitFrom copy start since (record before { calls = fresh ++ before.calls }) trace
+each_on : (copy start since : ℕ) (before : Told) (fresh : List Call) (trace : List Entry)
+    → FitFrom copy start since before trace
+    → FitFrom copy start since (record before { calls = fresh ++ before.calls }) trace
 each_on copy start since before fresh [] all = tt
-each_on copy start since before fresh (e ∷ es) all = (event_on copy start since e.calls before fresh e.event all.0, each_on (copy_after copy e.event) start e.calls before fresh es all.1)
+each_on copy start since before fresh (e ∷ es) all = (
+  event_on copy start since e.calls before fresh e.event all.0,
+  each_on (copy_after copy e.event) start e.calls before fresh es all.1,
+)
 
-pub fit_on : (Kind : Call → Type 0) (old new : Option Told) (copy since : ℕ) (trace : List Entry) → EachCall old new Kind → IfTold old (λ t. FitFrom copy t.start since t trace) → IfTold new (λ t. FitFrom copy t.start since t trace)
+pub fit_on : (Kind : Call → Type 0) (old new : Option Told) (copy since : ℕ) (trace : List Entry)
+    → EachCall old new Kind → IfTold old (λ t. FitFrom copy t.start since t trace)
+    → IfTold new (λ t. FitFrom copy t.start since t trace)
 fit_on Kind old None copy since trace made all = tt
 fit_on Kind None (Some after) copy since trace made all = absurd (cc (made.2))
 fit_on Kind (Some before) (Some after) copy since trace made all =
     let was : before ≡ made.0 = cc (made.2) in
-    let is : after ≡ record before { calls = made.1 ++ before.calls } = made.3 ∙ ap (λ (t : Told). let u : Told = record t { calls = made.1 ++ t.calls } in u) (sym was) in
-    subst (λ (t : Told). FitFrom copy t.start since t trace) (sym is) (each_on copy before.start since before made.1 trace all)
+    let is : after ≡ record before { calls = made.1 ++ before.calls } = made.3
+    ∙ ap (λ (t : Told). let u : Told = record t { calls = made.1 ++ t.calls } in u) (sym was) in
+    subst (λ (t : Told). FitFrom copy t.start since t trace) (sym is)
+    (each_on copy before.start since before made.1 trace all)
 
 -- the same calls, as another count has them
-recounted_event : (copy start since calls count : ℕ) (t : Told) (event : Event) → FitsThen copy start since calls (record t { start = count }) event → FitsThen copy start since calls t event
-recounted_event copy start since calls count t (events.Flush page) is = record { high = is.high; since = is.since; bytes = is.bytes; rest = is.rest; last = is.last }
+recounted_event : (copy start since calls count : ℕ) (t : Told) (event : Event)
+    → FitsThen copy start since calls (record t { start = count }) event
+    → FitsThen copy start since calls t event
+recounted_event copy start since calls count t (events.Flush page) is =
+    record { high = is.high; since = is.since; bytes = is.bytes; rest = is.rest; last = is.last }
 recounted_event copy start since calls count t events.Clean is = is
-recounted_event copy start since calls count t events.FlushDevice is = record { high = is.high; since = is.since; failed = is.failed }
-recounted_event copy start since calls count t (events.Said stmt Device) is = record { high = is.high; since = is.since; failed = is.failed }
-recounted_event copy start since calls count t (events.Stop reasons.Device) is = record { high = is.high; since = is.since; failed = is.failed }
+recounted_event copy start since calls count t events.FlushDevice is =
+    record { high = is.high; since = is.since; failed = is.failed }
+recounted_event copy start since calls count t (events.Said stmt Device) is =
+    record { high = is.high; since = is.since; failed = is.failed }
+recounted_event copy start since calls count t (events.Stop reasons.Device) is =
+    record { high = is.high; since = is.since; failed = is.failed }
 recounted_event copy start since calls count t event is = tt
 
-pub recounted : (copy start since count : ℕ) (t : Told) (trace : List Entry) → FitFrom copy start since (record t { start = count }) trace → FitFrom copy start since t trace
+pub recounted : (copy start since count : ℕ) (t : Told) (trace : List Entry)
+    → FitFrom copy start since (record t { start = count }) trace → FitFrom copy start since t trace
 recounted copy start since count t [] all = tt
-recounted copy start since count t (e ∷ es) all = (recounted_event copy start since e.calls count t e.event all.0, recounted (copy_after copy e.event) start e.calls count t es all.1)
+recounted copy start since count t (e ∷ es) all = (
+  recounted_event copy start since e.calls count t e.event all.0,
+  recounted (copy_after copy e.event) start e.calls count t es all.1,
+)
 
 -- ---- a flush
 
-wrote_then : (Kind : Call → Type 0) (copy page since calls : ℕ) (x : Content) (a b : Option Told) → EachCall a b Kind → IfTold a (λ t. length t.calls ≡ t.start + since) → IfTold b (λ t. length t.calls ≡ t.start + calls) → IfTold b (WrotePage a (set_of copy) page x)
+wrote_then : (Kind : Call → Type 0) (copy page since calls : ℕ) (x : Content) (a b : Option Told)
+    → EachCall a b Kind → IfTold a (λ t. length t.calls ≡ t.start + since)
+    → IfTold b (λ t. length t.calls ≡ t.start + calls) → IfTold b (WrotePage a (set_of copy) page x)
     → IfTold b (λ t. WroteThen copy t.start since calls page t)
 wrote_then Kind copy page since calls x a None made was now wrote = tt
 wrote_then Kind copy page since calls x None (Some t) made was now wrote = absurd (cc (made.2))
 wrote_then Kind copy page since calls x (Some o) (Some t) made was now wrote =
     let is : o ≡ made.0 = cc (made.2) in
-    let start : t.start ≡ o.start = ap (λ (u : Told). u.start) made.3 ∙ ap (λ (u : Told). u.start) (sym is) in
+    let start : t.start ≡ o.start =
+    ap (λ (u : Told). u.start) made.3 ∙ ap (λ (u : Told). u.start) (sym is) in
     let longer = ap (λ (cs : List Call). length cs) wrote.last in
     let low = wrote.since in
     let all : length t.calls - (t.start + calls) ≡ 0 = omega (arith, now) in
@@ -201,14 +277,19 @@ wrote_then Kind copy page since calls x (Some o) (Some t) made was now wrote =
 -- ---- a call that failed
 
 -- the faults have risen, and so have the calls that failed
-rose_told : (old new : VolumeSeen) (since : ℕ) (o t : Told) (fresh : List Call) → t ≡ record o { calls = fresh ++ o.calls } → length o.calls ≡ o.start + since → CountsFailed old.faults o → CountsFailed new.faults t → Rose old.faults new.faults → FailedSince t.start since t
+rose_told : (old new : VolumeSeen) (since : ℕ) (o t : Told) (fresh : List Call)
+    → t ≡ record o { calls = fresh ++ o.calls } → length o.calls ≡ o.start + since
+    → CountsFailed old.faults o → CountsFailed new.faults t → Rose old.faults new.faults
+    → FailedSince t.start since t
 rose_told old new since o t fresh whole was law later rose = λ few.
     let start : t.start ≡ o.start = ap (λ (u : Told). u.start) whole in
-    let longer : length t.calls ≡ length fresh + length o.calls = ap (λ (u : Told). length u.calls) whole ∙ length-append fresh o.calls in
+    let longer : length t.calls ≡ length fresh + length o.calls =
+    ap (λ (u : Told). length u.calls) whole ∙ length-append fresh o.calls in
     let before : faults_at t (t.start + since) ≡ faults_of o.calls =
     ap (λ (u : Told). faults_at u (t.start + since)) whole
     ∙ ap faults_of (calls_then o fresh (t.start + since) (omega (arith, start, was)))
-    ∙ ap (λ (n : ℕ). faults_of (drop n o.calls)) (none (length o.calls) (t.start + since) (omega (arith, start, was))) in
+    ∙ ap (λ (n : ℕ). faults_of (drop n o.calls))
+    (none (length o.calls) (t.start + since) (omega (arith, start, was))) in
     let most = count_by-le-length is_failed t.calls in
     let a : old.faults ≡ faults_of o.calls = law (omega (arith, few, longer)) in
     let b : new.faults ≡ faults_of t.calls = later few in
@@ -218,51 +299,87 @@ rose_told old new since o t fresh whole was law later rose = λ few.
     none : (n k : ℕ) → n ≡ k → n - k ≡ 0
     none n k e = omega (arith, e)
 
-pub failed_then : (Kind : Call → Type 0) (old new : VolumeSeen) (since calls : ℕ) → EachCall old.told new.told Kind → IsCount old since → IsCount new calls → IfTold old.told (CountsFailed old.faults) → IfTold new.told (CountsFailed new.faults) → Rose old.faults new.faults
+pub failed_then : (Kind : Call → Type 0) (old new : VolumeSeen) (since calls : ℕ)
+    → EachCall old.told new.told Kind → IsCount old since → IsCount new calls
+    → IfTold old.told (CountsFailed old.faults) → IfTold new.told (CountsFailed new.faults)
+    → Rose old.faults new.faults
     → IfTold new.told (λ t. FailedThen t.start since calls t)
-failed_then Kind old new since calls made was now law later rose = go old.told new.told made was now law later
+failed_then Kind old new since calls made was now law later rose =
+    go old.told new.told made was now law later
   where
-    go : (a b : Option Told) → EachCall a b Kind → IfTold a (λ t. length t.calls ≡ t.start + since) → IfTold b (λ t. length t.calls ≡ t.start + calls) → IfTold a (CountsFailed old.faults) → IfTold b (CountsFailed new.faults) → IfTold b (λ t. FailedThen t.start since calls t)
+    go : (a b : Option Told) → EachCall a b Kind → IfTold a (λ t. length t.calls ≡ t.start + since)
+        → IfTold b (λ t. length t.calls ≡ t.start + calls) → IfTold a (CountsFailed old.faults)
+        → IfTold b (CountsFailed new.faults) → IfTold b (λ t. FailedThen t.start since calls t)
     go a None made was now law later = tt
     go None (Some t) made was now law later = absurd (cc (made.2))
     go (Some o) (Some t) made was now law later =
         let is : o ≡ made.0 = cc (made.2) in
-        let whole : t ≡ record o { calls = made.1 ++ o.calls } = made.3 ∙ ap (λ (u : Told). let w : Told = record u { calls = made.1 ++ u.calls } in w) (sym is) in
+        let whole : t ≡ record o { calls = made.1 ++ o.calls } = made.3
+        ∙ ap (λ (u : Told). let w : Told = record u { calls = made.1 ++ u.calls } in w) (sym is) in
         let start : t.start ≡ o.start = ap (λ (u : Told). u.start) whole in
-        let longer : length t.calls ≡ length made.1 + length o.calls = ap (λ (u : Told). length u.calls) whole ∙ length-append made.1 o.calls in
+        let longer : length t.calls ≡ length made.1 + length o.calls =
+        ap (λ (u : Told). length u.calls) whole ∙ length-append made.1 o.calls in
         let all : length t.calls - (t.start + calls) ≡ 0 = omega (arith, now) in
-        let here : faults_at t (t.start + calls) ≡ faults_of t.calls = ap (λ (n : ℕ). faults_of (drop n t.calls)) all in
+        let here : faults_at t (t.start + calls) ≡ faults_of t.calls =
+        ap (λ (n : ℕ). faults_of (drop n t.calls)) all in
         record {
           high = omega (arith, now);
           since = omega (arith, start, was, now, longer);
-          failed = λ few. let risen = rose_told old new since o t made.1 whole was law later rose few in omega (arith, here, risen);
+          failed =
+              λ few. let risen = rose_told old new since o t made.1 whole was law later rose few in
+              omega (arith, here, risen);
         }
 
 -- the same up to now
-pub failed_after : (Kind : Call → Type 0) (old new : VolumeSeen) (since : ℕ) → EachCall old.told new.told Kind → IsCount old since → IfTold old.told (CountsFailed old.faults) → IfTold new.told (CountsFailed new.faults) → Rose old.faults new.faults → IfTold new.told (λ t. FailedSince t.start since t)
+pub failed_after : (Kind : Call → Type 0) (old new : VolumeSeen) (since : ℕ)
+    → EachCall old.told new.told Kind → IsCount old since
+    → IfTold old.told (CountsFailed old.faults) → IfTold new.told (CountsFailed new.faults)
+    → Rose old.faults new.faults → IfTold new.told (λ t. FailedSince t.start since t)
 failed_after Kind old new since made was law later rose = go old.told new.told made was law later
   where
-    go : (a b : Option Told) → EachCall a b Kind → IfTold a (λ t. length t.calls ≡ t.start + since) → IfTold a (CountsFailed old.faults) → IfTold b (CountsFailed new.faults) → IfTold b (λ t. FailedSince t.start since t)
+    go : (a b : Option Told) → EachCall a b Kind → IfTold a (λ t. length t.calls ≡ t.start + since)
+        → IfTold a (CountsFailed old.faults) → IfTold b (CountsFailed new.faults)
+        → IfTold b (λ t. FailedSince t.start since t)
     go a None made was law later = tt
     go None (Some t) made was law later = absurd (cc (made.2))
     go (Some o) (Some t) made was law later =
         let is : o ≡ made.0 = cc (made.2) in
-        rose_told old new since o t made.1 (made.3 ∙ ap (λ (u : Told). let w : Told = record u { calls = made.1 ++ u.calls } in w) (sym is)) was law later rose
+        rose_told old new since o t made.1
+        (made.3
+        ∙ ap (λ (u : Told). let w : Told = record u { calls = made.1 ++ u.calls } in w) (sym is))
+        was law later rose
 
 -- the calls up to the last entry are those up to the last of the last part
-pub calls_of_part : (calls : ℕ) (lines : List Line) (older part : List Entry) → TraceOf lines part → calls_of_last calls (older ++ part) ≡ calls_of_last 0 part
+pub calls_of_part : (calls : ℕ) (lines : List Line) (older part : List Entry) → TraceOf lines part
+    → calls_of_last calls (older ++ part) ≡ calls_of_last 0 part
 calls_of_part calls lines [] [] of = absurd of
 calls_of_part calls lines [] (e ∷ es) of = refl
 calls_of_part calls lines (o ∷ older) part of = calls_of_part o.calls lines older part of
 
 -- what its event tells, by what it did
-pub flush_then : (Kind : Call → Type 0) (down : Bool) (copy : ℕ) (contents : List Content) (marks later : List (Option Position)) (old new : VolumeSeen) (since calls : ℕ) (event : Event) → EachCall old.told new.told Kind → IsCount old since → IsCount new calls
-    → (Rose old.faults new.faults → IfTold new.told (λ t. FailedThen t.start since calls t)) → FlushIs down copy contents marks later old new event → IfTold new.told (λ t. FitsThen copy t.start since calls t event)
-flush_then Kind true copy contents marks later old new since calls event made was now failed is = told_all new.told (λ t. FitsThen copy t.start since calls t event) (λ t. subst (FitsThen copy t.start since calls t) (sym is.0) tt)
-flush_then Kind false copy contents marks later old new since calls (events.Flush page) made was now failed is = wrote_then Kind copy page since calls (content_at contents page) old.told new.told made was now is.2
-flush_then Kind false copy contents marks later old new since calls events.Clean made was now failed is =
-    told_weaken (λ t. (length t.calls ≡ t.start + since) × (length t.calls ≡ t.start + calls)) (λ t. calls ≡ since) new.told (λ t both. omega (arith, both.0, both.1))
-    (told_both (λ t. length t.calls ≡ t.start + since) (λ t. length t.calls ≡ t.start + calls) new.told (subst (λ (v : VolumeSeen). IfTold v.told (λ t. length t.calls ≡ t.start + since)) (sym is.1) was) now)
-flush_then Kind false copy contents marks later old new since calls events.FlushDevice made was now failed is = failed is
-flush_then Kind false copy contents marks later old new since calls events.FlushNoMemory made was now failed is = told_all new.told (λ t. Unit {0}) (λ t. tt)
-flush_then Kind false copy contents marks later old new since calls event made was now failed is = absurd is
+pub flush_then : (Kind : Call → Type 0) (down : Bool) (copy : ℕ) (contents : List Content)
+    (marks later : List (Option Position)) (old new : VolumeSeen) (since calls : ℕ) (event : Event)
+    → EachCall old.told new.told Kind → IsCount old since → IsCount new calls
+    → (Rose old.faults new.faults → IfTold new.told (λ t. FailedThen t.start since calls t))
+    → FlushIs down copy contents marks later old new event
+    → IfTold new.told (λ t. FitsThen copy t.start since calls t event)
+flush_then Kind true copy contents marks later old new since calls event made was now failed is =
+    told_all new.told (λ t. FitsThen copy t.start since calls t event)
+    (λ t. subst (FitsThen copy t.start since calls t) (sym is.0) tt)
+flush_then Kind false copy contents marks later old new since calls (events.Flush page) made was now
+    failed is = wrote_then Kind copy page since calls (content_at contents page) old.told new.told
+    made was now is.2
+flush_then Kind false copy contents marks later old new since calls events.Clean made was now failed
+    is =
+    told_weaken (λ t. (length t.calls ≡ t.start + since) × (length t.calls ≡ t.start + calls))
+    (λ t. calls ≡ since) new.told (λ t both. omega (arith, both.0, both.1))
+    (told_both (λ t. length t.calls ≡ t.start + since) (λ t. length t.calls ≡ t.start + calls)
+    new.told
+    (subst (λ (v : VolumeSeen). IfTold v.told (λ t. length t.calls ≡ t.start + since)) (sym is.1)
+    was) now)
+flush_then Kind false copy contents marks later old new since calls events.FlushDevice made was now
+    failed is = failed is
+flush_then Kind false copy contents marks later old new since calls events.FlushNoMemory made was
+    now failed is = told_all new.told (λ t. Unit {0}) (λ t. tt)
+flush_then Kind false copy contents marks later old new since calls event made was now failed is =
+    absurd is

@@ -1,5 +1,6 @@
 -- The desk of an opening.
-use Rattle.std.proofs.Common.{◌≡◌, ◌+◌, ℕ, List, Some, length, take, refl, sym, ◌∙◌, ap, subst, arith}
+use Rattle.std.proofs.Common.{◌≡◌, ◌+◌, ℕ, List, Some, length, take, refl, sym, ◌∙◌, ap, subst}
+use Rattle.std.proofs.Common.{arith}
 use Rattle.std.proofs.Math.Seq.{take-length}
 use Rattle.rg_desk.specs.Desk.{DeskState, old_records}
 use Rattle.rg_engine.specs.Stored.{IsStored}
@@ -27,15 +28,23 @@ use Rattle.rg_run.specs.Played.{IsOpened, first_of}
 use Rattle.rg_run.specs.Opening.{IsOpeningOf, IsOpeningThen, ReadSo}
 use Rattle.rg_run.specs.Parts.{IsFound}
 
-module _ {V O : Type 0} (look : V → VolumeSeen) (old : VolumeSeen) (operator : O) (desk : DeskState V O) (opens : OpensStored look old operator desk) where
+module _ {V O : Type 0} (look : V → VolumeSeen) (old : VolumeSeen) (operator : O)
+    (desk : DeskState V O) (opens : OpensStored look old operator desk) where
   -- entry 0
   abbrev pub entry_zero : Entry
-  entry_zero = opened_entry (copy_of opens.log.records) (row_count opens.opens.start) (length opens.slots) (log_bytes opens.now.records) opens.opens.calls
+  entry_zero = opened_entry (copy_of opens.log.records) (row_count opens.opens.start)
+      (length opens.slots) (log_bytes opens.now.records) opens.opens.calls
 
   pub opened_first : IsOpened desk
   opened_first = record {
     entry = entry_zero;
-    is = record { copy = copy_of opens.log.records; rows = row_count opens.opens.start; pages = length opens.slots; used = log_bytes opens.now.records; is = refl };
+    is = record {
+      copy = copy_of opens.log.records;
+      rows = row_count opens.opens.start;
+      pages = length opens.slots;
+      used = log_bytes opens.now.records;
+      is = refl;
+    };
     trace = opens.opens.trace;
     up = opens.opens.up;
   }
@@ -51,18 +60,23 @@ module _ {V O : Type 0} (look : V → VolumeSeen) (old : VolumeSeen) (operator :
 
   -- the records that the desk began with
   pub old_first : old_records desk ≡ opens.now.records
-  old_first = ap (λ (n : ℕ). take n desk.ground.log.records) opens.opens.opened ∙ ap (λ (l : Listed). take (length opens.now.records) l.records) opens.opens.log_is ∙ take-length opens.now.records
+  old_first = ap (λ (n : ℕ). take n desk.ground.log.records) opens.opens.opened
+      ∙ ap (λ (l : Listed). take (length opens.now.records) l.records) opens.opens.log_is
+      ∙ take-length opens.now.records
 
   -- they store what the log stored
   pub stores_first : (k : ℕ) → stored opens.now.records k ≡ stored opens.log.records k
-  stores_first k = ap (λ (rs : List Record). stored rs k) opens.took.records ∙ stored_more opens.log.records opens.took.more opens.took.back k
+  stores_first k = ap (λ (rs : List Record). stored rs k) opens.took.records
+      ∙ stored_more opens.log.records opens.took.more opens.took.back k
 
   pub opening_first : IsOpeningOf opens.log.records entry_zero
   opening_first = record {
     start = opens.opens.start;
     starts = λ k. opens.opens.starts k ∙ stores_first k;
     used = log_bytes opens.now.records;
-    is = ap (λ (n : ℕ). opened_entry (copy_of opens.log.records) (row_count opens.opens.start) n (log_bytes opens.now.records) opens.opens.calls) opens.count_is;
+    is = ap
+        (λ (n : ℕ). opened_entry (copy_of opens.log.records) (row_count opens.opens.start) n
+        (log_bytes opens.now.records) opens.opens.calls) opens.count_is;
     least = opens.took.least;
     most = opens.took.most_bytes;
   }
@@ -73,48 +87,88 @@ module _ {V O : Type 0} (look : V → VolumeSeen) (old : VolumeSeen) (operator :
   pub pages_first : desk.ground.log.pages ≡ log_pages old.capacities
   pages_first = ap (λ (l : Listed). l.pages) opens.opens.log_is ∙ opens.took.pages ∙ opens.pages
 
-  pub read_first_log : IfTold (look desk.volume).told (λ t. HasLogPages (log_pages old.capacities) (read_of t.first t.calls) opens.log.records)
+  pub read_first_log : IfTold (look desk.volume).told
+      (λ t. HasLogPages (log_pages old.capacities) (read_of t.first t.calls) opens.log.records)
   read_first_log =
-      told_weaken (λ t. IsSoundBy (look desk.volume).capacities (read_of t.first t.calls) opens.log.records opens.base) (λ t. HasLogPages (log_pages old.capacities) (read_of t.first t.calls) opens.log.records) (look desk.volume).told
-      (λ t sound. subst (λ (c : Capacities). HasLogPages (log_pages c) (read_of t.first t.calls) opens.log.records) opens.calls.capacities sound.log.pages) opens.sound
+      told_weaken
+      (λ t. IsSoundBy (look desk.volume).capacities (read_of t.first t.calls) opens.log.records
+      opens.base)
+      (λ t. HasLogPages (log_pages old.capacities) (read_of t.first t.calls) opens.log.records)
+      (look desk.volume).told
+      (λ t sound. subst
+      (λ (c : Capacities). HasLogPages (log_pages c) (read_of t.first t.calls) opens.log.records)
+      opens.calls.capacities sound.log.pages) opens.sound
 
   -- what holds of the log that was read holds of it as it reads after the calls of the entry
-  reads_then : (P : List Record → Type 0) → P opens.log.records → IfTold (look desk.volume).told (λ t. ReadSo (λ i. P (log_of (log_pages (look desk.volume).capacities) i)) t.start opens.opens.calls t)
+  reads_then : (P : List Record → Type 0) → P opens.log.records
+      → IfTold (look desk.volume).told
+      (λ t. ReadSo (λ i. P (log_of (log_pages (look desk.volume).capacities) i)) t.start
+      opens.opens.calls t)
   reads_then P p =
-      subst (λ (c : Capacities). IfTold (look desk.volume).told (λ t. ReadSo (λ i. P (log_of (log_pages c) i)) t.start opens.opens.calls t)) (sym opens.calls.capacities)
-      (told_weaken (λ t. (length t.calls ≡ t.start + opens.opens.calls) × HasLogPages (log_pages old.capacities) (read_of t.first t.calls) opens.log.records)
-      (λ t. ReadSo (λ i. P (log_of (log_pages old.capacities) i)) t.start opens.opens.calls t) (look desk.volume).told
+      subst
+      (λ (c : Capacities). IfTold (look desk.volume).told
+      (λ t. ReadSo (λ i. P (log_of (log_pages c) i)) t.start opens.opens.calls t))
+      (sym opens.calls.capacities) (told_weaken
+      (λ t. (length t.calls ≡ t.start + opens.opens.calls)
+      × HasLogPages (log_pages old.capacities) (read_of t.first t.calls) opens.log.records)
+      (λ t. ReadSo (λ i. P (log_of (log_pages old.capacities) i)) t.start opens.opens.calls t)
+      (look desk.volume).told
       (λ t reads. by_moment (log_pages old.capacities) t reads.0 reads.1)
-      (told_both (λ t. length t.calls ≡ t.start + opens.opens.calls) (λ t. HasLogPages (log_pages old.capacities) (read_of t.first t.calls) opens.log.records) (look desk.volume).told opens.opens.counted read_first_log))
+      (told_both (λ t. length t.calls ≡ t.start + opens.opens.calls)
+      (λ t. HasLogPages (log_pages old.capacities) (read_of t.first t.calls) opens.log.records)
+      (look desk.volume).told opens.opens.counted read_first_log))
     where
-      by_moment : (pages : ℕ) (t : Told) → length t.calls ≡ t.start + opens.opens.calls → HasLogPages pages (read_of t.first t.calls) opens.log.records → ReadSo (λ i. P (log_of pages i)) t.start opens.opens.calls t
+      by_moment : (pages : ℕ) (t : Told) → length t.calls ≡ t.start + opens.opens.calls
+          → HasLogPages pages (read_of t.first t.calls) opens.log.records
+          → ReadSo (λ i. P (log_of pages i)) t.start opens.opens.calls t
       by_moment pages t is has =
-          let now : read_at t (t.start + opens.opens.calls) ≡ read_of t.first t.calls = ap (read_at t) (sym is) ∙ ap (λ (u : Told). read_of u.first u.calls) (moment_now t) in
-          let log : log_of pages (read_at t (t.start + opens.opens.calls)) ≡ opens.log.records = ap (log_of pages) now ∙ log_is_read pages (read_of t.first t.calls) opens.log.records has in
+          let now : read_at t (t.start + opens.opens.calls) ≡ read_of t.first t.calls =
+          ap (read_at t) (sym is) ∙ ap (λ (u : Told). read_of u.first u.calls) (moment_now t) in
+          let log : log_of pages (read_at t (t.start + opens.opens.calls)) ≡ opens.log.records =
+          ap (log_of pages) now
+          ∙ log_is_read pages (read_of t.first t.calls) opens.log.records has in
           (omega (arith, is), subst P (sym log) p)
 
   -- it read sound then
-  sound_then : IfTold (look desk.volume).told (λ t. ReadSo (IsSound (look desk.volume).capacities) t.start opens.opens.calls t)
+  sound_then : IfTold (look desk.volume).told
+      (λ t. ReadSo (IsSound (look desk.volume).capacities) t.start opens.opens.calls t)
   sound_then =
       let capacities = (look desk.volume).capacities in
-      told_weaken (λ t. (length t.calls ≡ t.start + opens.opens.calls) × IsSoundBy capacities (read_of t.first t.calls) opens.log.records opens.base) (λ t. ReadSo (IsSound capacities) t.start opens.opens.calls t) (look desk.volume).told
+      told_weaken
+      (λ t. (length t.calls ≡ t.start + opens.opens.calls)
+      × IsSoundBy capacities (read_of t.first t.calls) opens.log.records opens.base)
+      (λ t. ReadSo (IsSound capacities) t.start opens.opens.calls t) (look desk.volume).told
       (λ t both.
-      let now : read_at t (t.start + opens.opens.calls) ≡ read_of t.first t.calls = ap (read_at t) (sym both.0) ∙ ap (λ (u : Told). read_of u.first u.calls) (moment_now t) in
-      (omega (arith, both.0), subst (IsSound capacities) (sym now) (opens.log.records, opens.base, both.1)))
-      (told_both (λ t. length t.calls ≡ t.start + opens.opens.calls) (λ t. IsSoundBy capacities (read_of t.first t.calls) opens.log.records opens.base) (look desk.volume).told opens.opens.counted opens.sound)
+      let now : read_at t (t.start + opens.opens.calls) ≡ read_of t.first t.calls =
+      ap (read_at t) (sym both.0) ∙ ap (λ (u : Told). read_of u.first u.calls) (moment_now t) in (
+        omega (arith, both.0),
+        subst (IsSound capacities) (sym now) (opens.log.records, opens.base, both.1),
+      ))
+      (told_both (λ t. length t.calls ≡ t.start + opens.opens.calls)
+      (λ t. IsSoundBy capacities (read_of t.first t.calls) opens.log.records opens.base)
+      (look desk.volume).told opens.opens.counted opens.sound)
 
   -- the entry is that of the log as it reads now
-  pub opening_then : IfTold (look desk.volume).told (λ t. IsOpeningThen (look desk.volume).capacities t.start t opened_first.entry)
+  pub opening_then : IfTold (look desk.volume).told
+      (λ t. IsOpeningThen (look desk.volume).capacities t.start t opened_first.entry)
   unfolding opened_first
   opening_then =
       let capacities = (look desk.volume).capacities in
       let calls = opens.opens.calls in
-      told_weaken (λ t. ReadSo (λ i. IsOpeningOf (log_of (log_pages capacities) i) entry_zero) t.start calls t × ReadSo (IsSound capacities) t.start calls t) (λ t. IsOpeningThen capacities t.start t entry_zero) (look desk.volume).told
+      told_weaken
+      (λ t. ReadSo (λ i. IsOpeningOf (log_of (log_pages capacities) i) entry_zero) t.start calls t
+      × ReadSo (IsSound capacities) t.start calls t)
+      (λ t. IsOpeningThen capacities t.start t entry_zero) (look desk.volume).told
       (λ t both. (both.0.0, (both.0.1, both.1.1)))
-      (told_both (λ t. ReadSo (λ i. IsOpeningOf (log_of (log_pages capacities) i) entry_zero) t.start calls t) (λ t. ReadSo (IsSound capacities) t.start calls t) (look desk.volume).told (reads_then (λ rs. IsOpeningOf rs entry_zero) opening_first) sound_then)
+      (told_both
+      (λ t. ReadSo (λ i. IsOpeningOf (log_of (log_pages capacities) i) entry_zero) t.start calls t)
+      (λ t. ReadSo (IsSound capacities) t.start calls t) (look desk.volume).told
+      (reads_then (λ rs. IsOpeningOf rs entry_zero) opening_first) sound_then)
 
   -- the table is the one that this log stores
-  pub found_first : (start : Table) → IsStored (old_records desk) start → IsFound (look desk.volume) opened_first.entry start
+  pub found_first : (start : Table) → IsStored (old_records desk) start
+      → IsFound (look desk.volume) opened_first.entry start
   unfolding opened_first
   found_first start starts =
-      reads_then (λ rs. IsStored rs start) (λ k. subst (λ (rs : List Record). IsStored rs start) old_first starts k ∙ stores_first k)
+      reads_then (λ rs. IsStored rs start)
+      (λ k. subst (λ (rs : List Record). IsStored rs start) old_first starts k ∙ stores_first k)

@@ -1,5 +1,7 @@
 -- A run goes on by one line.
-use Rattle.std.proofs.Common.{◌≡◌, ◌==◌, ◌≤◌, ◌⊎◌, inl, inr, ◌||◌, ◌*◌, ℕ, Bool, true, false, List, [], ◌∷◌, ◌++◌, Option, Some, None, if◌then◌else◌, length, refl, sym, ◌∙◌, ap, subst, arith, IfSome}
+use Rattle.std.proofs.Common.{◌≡◌, ◌==◌, ◌≤◌, ◌⊎◌, inl, inr, ◌||◌, ◌*◌, ℕ, Bool, true, false, List}
+use Rattle.std.proofs.Common.{[], ◌∷◌, ◌++◌, Option, Some, None, if◌then◌else◌, length, refl, sym}
+use Rattle.std.proofs.Common.{◌∙◌, ap, subst, arith, IfSome}
 use Rattle.std.specs.Prelude.{Result, Ok, Err, IfOk}
 use Rattle.std.specs.List.{AllZip}
 use Rattle.std.specs.Option.{is_some}
@@ -10,18 +12,24 @@ use Rattle.rg_base.specs.declared.verdict.StopReason.TheVariants as reasons
 use Rattle.rg_feed.specs.declared.fold.item.Stage.{Stage}
 use Rattle.rg_log.specs.Kept.{Listed as ListedLog}
 use Rattle.rg_phase.specs.declared.made.Made.{Made}
-use Rattle.rg_phase.specs.Step.{HasPagesFor, IsSwitchFrom, Makes, NextMade, StepCalls, Stepped, copy_left, is_device_stop}
+use Rattle.rg_phase.specs.Step.{HasPagesFor, IsSwitchFrom, Makes, NextMade, StepCalls, Stepped}
+use Rattle.rg_phase.specs.Step.{copy_left, is_device_stop}
 use Rattle.rg_laws_utility.specs.TraceStage.Tending.{utility_entry}
 use Rattle.rg_base.specs.declared.position.Position.{Position}
 use Rattle.rg_page.specs.Content.{Content}
 use Rattle.rg_stmt.specs.declared.event.Entry.{Entry}
 use Rattle.rg_stmt.specs.declared.event.Event.{Event}
 use Rattle.rg_stmt.specs.declared.event.Event.TheVariants as events
-use Rattle.rg_stmt.specs.declared.event.Event.TheVariants.{Clean, Flush as EventFlush, FlushDevice, FlushDown, FlushNoMemory, Layout, LayoutDown, LayoutNoMemory, Said as EventSaid, Stop}
+use Rattle.rg_stmt.specs.declared.event.Event.TheVariants.{Clean, Flush as EventFlush, FlushDevice}
+use Rattle.rg_stmt.specs.declared.event.Event.TheVariants.{FlushDown, FlushNoMemory, Layout}
+use Rattle.rg_stmt.specs.declared.event.Event.TheVariants.{LayoutDown, LayoutNoMemory}
+use Rattle.rg_stmt.specs.declared.event.Event.TheVariants.{Said as EventSaid, Stop}
 use Rattle.rg_stmt.specs.declared.line.Line.{Line}
 use Rattle.rg_stmt.specs.declared.line.Line.TheVariants.{Flush, Reorg, Said, Show, Step}
 use Rattle.rg_stmt.specs.declared.stmt.Reply.{Reply}
-use Rattle.rg_stmt.specs.declared.stmt.Reply.TheVariants.{Done, Found, Listed, Keyed, Absent, Duplicate, Held, Victim, Drained, Full, LogFull, Device, Down, NoMemory}
+use Rattle.rg_stmt.specs.declared.stmt.Reply.TheVariants.{Done, Found, Listed, Keyed, Absent}
+use Rattle.rg_stmt.specs.declared.stmt.Reply.TheVariants.{Duplicate, Held, Victim, Drained, Full}
+use Rattle.rg_stmt.specs.declared.stmt.Reply.TheVariants.{LogFull, Device, Down, NoMemory}
 use Rattle.rg_stmt.specs.declared.stmt.Stmt.{Stmt}
 use Rattle.rg_stmt.specs.Entries.{said_entry}
 use Rattle.rg_base.specs.Copies.{IsCopy, other_of}
@@ -48,38 +56,60 @@ use Rattle.rg_outside.proofs.Frame.{calls_join, calls_weaken, no_calls}
 use Rattle.rg_run.specs.Asked.{HasAnswered, answer_before, answers_in}
 use Rattle.rg_outside.specs.Calls.{Call}
 use Rattle.rg_outside.specs.Made.{CountsFailed}
-use Rattle.rg_run.specs.Fit.{FitSince, FailedThen, FitsThen, calls_of_last, copy_after, copy_of_last}
+use Rattle.rg_run.specs.Fit.{FitSince, FailedThen, FitsThen, calls_of_last, copy_after}
+use Rattle.rg_run.specs.Fit.{copy_of_last}
 use Rattle.rg_run.specs.Full.{AreAllowed, IsAllowedAt, smaller_pages}
 use Rattle.rg_run.specs.LogFull.{IsLogFullFrom, IsLogFullOnlyFrom}
 use Rattle.rg_run.specs.Outside.{IsDeviceIf, IsDeviceOnlyIf, WritesOwn}
-use Rattle.rg_run.specs.Played.{AllowsCopy, EntryOf, Goes, IsFlushed, IsOpened, IsOpenedEntry, IsStartEvent, IsStepEvent, ShowsLoading, StaysSince, TraceOf, first_of}
+use Rattle.rg_run.specs.Played.{AllowsCopy, EntryOf, Goes, IsFlushed, IsOpened, IsOpenedEntry}
+use Rattle.rg_run.specs.Played.{IsStartEvent, IsStepEvent, ShowsLoading, StaysSince, TraceOf}
+use Rattle.rg_run.specs.Played.{first_of}
 use Rattle.rg_laws_utility.specs.Course.Loading.{Loading, loading_after, loading_in}
 use Rattle.rg_run.specs.Space.{AreForSpace, IsForSpace}
-use Rattle.rg_run.proofs.Fullness.{allowed_flush, allowed_layout, allowed_on, allowed_opened, allowed_said, allowed_start, allowed_step, is_space_stop, smaller_least, space_allowed}
-use Rattle.rg_run.proofs.Spaces.{fills_idle, flush_none, layout_none, shown_start, shown_step, shown_still, space_on, space_opened, space_said, space_start, space_step}
+use Rattle.rg_run.proofs.Fullness.{allowed_flush, allowed_layout, allowed_on, allowed_opened}
+use Rattle.rg_run.proofs.Fullness.{allowed_said, allowed_start, allowed_step, is_space_stop}
+use Rattle.rg_run.proofs.Fullness.{smaller_least, space_allowed}
+use Rattle.rg_run.proofs.Spaces.{fills_idle, flush_none, layout_none, shown_start, shown_step}
+use Rattle.rg_run.proofs.Spaces.{shown_still, space_on, space_opened, space_said, space_start}
+use Rattle.rg_run.proofs.Spaces.{space_step}
 use Rattle.rg_run.proofs.Joins.{own_left, own_part, own_right}
 use Rattle.rg_run.proofs.Asking.{answered_all, answered_once, same_unasked, unasked}
-use Rattle.rg_run.proofs.Fits.{calls_push, copy_push, failed_then, flush_then, flushed_keeps, fit_on, fit_push, layout_keeps, layout_tells, opened_alone, said_tells, start_keeps, start_tells, step_copy, step_tells, told_all}
+use Rattle.rg_run.proofs.Fits.{calls_push, copy_push, failed_then, flush_then, flushed_keeps}
+use Rattle.rg_run.proofs.Fits.{fit_on, fit_push, layout_keeps, layout_tells, opened_alone}
+use Rattle.rg_run.proofs.Fits.{said_tells, start_keeps, start_tells, step_copy, step_tells}
+use Rattle.rg_run.proofs.Fits.{told_all}
 
-entries_push : (lines : List Line) (entries : List Entry) (line : Line) (entry : Entry) → AllZip EntryOf lines entries → EntryOf line entry → AllZip EntryOf (lines ++ line ∷ []) (entries ++ entry ∷ [])
+entries_push : (lines : List Line) (entries : List Entry) (line : Line) (entry : Entry)
+    → AllZip EntryOf lines entries → EntryOf line entry
+    → AllZip EntryOf (lines ++ line ∷ []) (entries ++ entry ∷ [])
 entries_push [] [] line entry all of = (of, tt)
 entries_push [] (e ∷ entries) line entry all of = absurd all
 entries_push (l ∷ lines) [] line entry all of = absurd all
-entries_push (l ∷ lines) (e ∷ entries) line entry all of = (all.0, entries_push lines entries line entry all.1 of)
+entries_push (l ∷ lines) (e ∷ entries) line entry all of =
+    (all.0, entries_push lines entries line entry all.1 of)
 
-first_push : (lines : List Line) (trace : List Entry) (entry : Entry) → TraceOf lines trace → first_of (trace ++ entry ∷ []) ≡ first_of trace
+first_push : (lines : List Line) (trace : List Entry) (entry : Entry) → TraceOf lines trace
+    → first_of (trace ++ entry ∷ []) ≡ first_of trace
 first_push lines [] entry of = absurd of
 first_push lines (e ∷ entries) entry of = refl
 
-trace_push : (lines : List Line) (trace : List Entry) (line : Line) (entry : Entry) → TraceOf lines trace → EntryOf line entry → TraceOf (lines ++ line ∷ []) (trace ++ entry ∷ [])
+trace_push : (lines : List Line) (trace : List Entry) (line : Line) (entry : Entry)
+    → TraceOf lines trace → EntryOf line entry → TraceOf (lines ++ line ∷ []) (trace ++ entry ∷ [])
 trace_push lines [] line entry of one = absurd of
-trace_push lines (e ∷ entries) line entry of one = (of.0, entries_push lines entries line entry of.1 one)
+trace_push lines (e ∷ entries) line entry of one =
+    (of.0, entries_push lines entries line entry of.1 one)
 
-log_push : (limit logged : ℕ) (entries : List Entry) (entry : Entry) → IsLogFullOnlyFrom limit logged entries → IsLogFullFrom limit (logged_by logged entries) entry.event → IsLogFullOnlyFrom limit logged (entries ++ entry ∷ [])
+log_push : (limit logged : ℕ) (entries : List Entry) (entry : Entry)
+    → IsLogFullOnlyFrom limit logged entries
+    → IsLogFullFrom limit (logged_by logged entries) entry.event
+    → IsLogFullOnlyFrom limit logged (entries ++ entry ∷ [])
 log_push limit logged [] entry all one = (one, tt)
-log_push limit logged (e ∷ entries) entry all one = (all.0, log_push limit (logged_after logged e.event) entries entry all.1 one)
+log_push limit logged (e ∷ entries) entry all one =
+    (all.0, log_push limit (logged_after logged e.event) entries entry all.1 one)
 
-log_said : (session : Session) (stmt : Stmt) (reply : Reply) (logged pages : ℕ) → IfLogFull reply logged pages → IsLogFullFrom (limit_of pages) logged (said_entry session stmt reply 0).event
+log_said : (session : Session) (stmt : Stmt) (reply : Reply) (logged pages : ℕ)
+    → IfLogFull reply logged pages
+    → IsLogFullFrom (limit_of pages) logged (said_entry session stmt reply 0).event
 log_said session stmt Done logged pages is = tt
 log_said session stmt (Found row) logged pages is = tt
 log_said session stmt (Listed rows) logged pages is = tt
@@ -95,7 +125,8 @@ log_said session stmt Device logged pages is = tt
 log_said session stmt Down logged pages is = tt
 log_said session stmt NoMemory logged pages is = tt
 
-log_layout : (copy : ℕ) (event : Event) (limit logged : ℕ) → IsLayout copy event → IsLogFullFrom limit logged event
+log_layout : (copy : ℕ) (event : Event) (limit logged : ℕ) → IsLayout copy event
+    → IsLogFullFrom limit logged event
 log_layout copy (Layout shown side) limit logged is = tt
 log_layout copy LayoutNoMemory limit logged is = tt
 log_layout copy LayoutDown limit logged is = tt
@@ -116,7 +147,9 @@ log_flush FlushNoMemory limit logged is = tt
 log_flush event limit logged is = absurd is
 
 -- what a flush answers that is up, or down
-flushed_so : (down : Bool) (copy : ℕ) (contents : List Content) (marks later : List (Option Position)) (old new : VolumeSeen) (event : Event) → FlushIs down copy contents marks later old new event → IsFlushed event
+flushed_so : (down : Bool) (copy : ℕ) (contents : List Content)
+    (marks later : List (Option Position)) (old new : VolumeSeen) (event : Event)
+    → FlushIs down copy contents marks later old new event → IsFlushed event
 flushed_so true copy contents marks later old new event is = subst IsFlushed (sym is.0) tt
 flushed_so false copy contents marks later old new (EventFlush page) is = tt
 flushed_so false copy contents marks later old new Clean is = tt
@@ -124,8 +157,12 @@ flushed_so false copy contents marks later old new FlushDevice is = tt
 flushed_so false copy contents marks later old new FlushNoMemory is = tt
 flushed_so false copy contents marks later old new event is = absurd is
 
-device_flush : (P : Type 0) (down : Bool) (copy : ℕ) (contents : List Content) (marks later : List (Option Position)) (old new : VolumeSeen) (event : Event) → (Rose old.faults new.faults → P) → FlushIs down copy contents marks later old new event → IsDeviceIf P event
-device_flush P true copy contents marks later old new event f is = subst (IsDeviceIf P) (sym is.0) tt
+device_flush : (P : Type 0) (down : Bool) (copy : ℕ) (contents : List Content)
+    (marks later : List (Option Position)) (old new : VolumeSeen) (event : Event)
+    → (Rose old.faults new.faults → P) → FlushIs down copy contents marks later old new event
+    → IsDeviceIf P event
+device_flush P true copy contents marks later old new event f is =
+    subst (IsDeviceIf P) (sym is.0) tt
 device_flush P false copy contents marks later old new (EventFlush page) f is = tt
 device_flush P false copy contents marks later old new Clean f is = tt
 device_flush P false copy contents marks later old new FlushDevice f is = f is
@@ -134,26 +171,34 @@ device_flush P false copy contents marks later old new event f is = absurd is
 
 -- ---- the utility
 
-start_so : (down : Bool) (stage : Option Stage) (options : Options) (copy pages : ℕ) (log : ListedLog) (event : Event) (next : Option Stage) → IsStart down stage options copy pages log event next → IsStartEvent options event
-start_so true stage options copy pages log event next is = subst (IsStartEvent options) (sym is.0) tt
-start_so false (Some s) options copy pages log event next is = subst (IsStartEvent options) (sym is.0) tt
+start_so : (down : Bool) (stage : Option Stage) (options : Options) (copy pages : ℕ)
+    (log : ListedLog) (event : Event) (next : Option Stage)
+    → IsStart down stage options copy pages log event next → IsStartEvent options event
+start_so true stage options copy pages log event next is =
+    subst (IsStartEvent options) (sym is.0) tt
+start_so false (Some s) options copy pages log event next is =
+    subst (IsStartEvent options) (sym is.0) tt
 start_so false None options copy pages log (events.Started given of_copy of_pages) next is = is.0
 start_so false None options copy pages log (events.StartLogFull need left) next is = tt
 start_so false None options copy pages log events.StartNoMemory next is = tt
 start_so false None options copy pages log event next is = absurd is
 
-log_start : (options : Options) (event : Event) (logged pages : ℕ) → IsStartEvent options event → IfStartLogFull event logged pages → IsLogFullFrom (limit_of pages) logged event
+log_start : (options : Options) (event : Event) (logged pages : ℕ) → IsStartEvent options event
+    → IfStartLogFull event logged pages → IsLogFullFrom (limit_of pages) logged event
 log_start options (EventSaid stmt reply) logged pages is full = absurd is
 log_start options (events.StartLogFull need left) logged pages is full = full
 log_start options event logged pages is full = tt
 
-device_start : (P : Type 0) (options : Options) (event : Event) → IsStartEvent options event → IsDeviceIf P event
+device_start : (P : Type 0) (options : Options) (event : Event) → IsStartEvent options event
+    → IsDeviceIf P event
 device_start P options (EventSaid stmt reply) is = absurd is
 device_start P options FlushDevice is = absurd is
 device_start P options (Stop reason) is = absurd is
 device_start P options event is = tt
 
-step_so : (down : Bool) (stage : Option Stage) (changes : ℕ) (covered : Option Session) (answer : Option Answer) (event : Event) → NextMade down stage changes covered answer event → IsStepEvent answer event
+step_so : (down : Bool) (stage : Option Stage) (changes : ℕ) (covered : Option Session)
+    (answer : Option Answer) (event : Event)
+    → NextMade down stage changes covered answer event → IsStepEvent answer event
 step_so true stage changes covered None events.StepDown is = tt
 step_so true stage changes covered None event is = absurd is
 step_so true stage changes covered (Some answer) event is = absurd is
@@ -163,14 +208,16 @@ step_so false None changes covered (Some answer) event is = absurd is
 step_so false (Some s) changes covered None event is = absurd is
 step_so false (Some s) changes covered (Some answer) event is = is.0
 
-log_step : (answer : Option Answer) (event : Event) (limit logged : ℕ) → IsStepEvent answer event → IsLogFullFrom limit logged event
+log_step : (answer : Option Answer) (event : Event) (limit logged : ℕ) → IsStepEvent answer event
+    → IsLogFullFrom limit logged event
 log_step None (EventSaid stmt reply) limit logged is = absurd is
 log_step (Some answer) (EventSaid stmt reply) limit logged is = absurd (cc (is))
 log_step None (events.StartLogFull need left) limit logged is = absurd is
 log_step (Some answer) (events.StartLogFull need left) limit logged is = absurd (cc (is))
 log_step answer event limit logged is = tt
 
-device_step : (P : Type 0) (answer : Option Answer) (event : Event) → (is_device_stop event ≡ true → P) → IsStepEvent answer event → IsDeviceIf P event
+device_step : (P : Type 0) (answer : Option Answer) (event : Event)
+    → (is_device_stop event ≡ true → P) → IsStepEvent answer event → IsDeviceIf P event
 device_step P None (EventSaid stmt reply) f is = absurd is
 device_step P (Some answer) (EventSaid stmt reply) f is = absurd (cc (is))
 device_step P None FlushDevice f is = absurd is
@@ -180,7 +227,8 @@ device_step P (Some answer) (Stop reasons.Device) f is = f refl
 device_step P (Some answer) (Stop reason) f is = tt
 device_step P answer event f is = tt
 
-device_said : (P : Type 0) (session : Session) (stmt : Stmt) (reply : Reply) → (reply ≡ Device → P) → IsDeviceIf P (said_entry session stmt reply 0).event
+device_said : (P : Type 0) (session : Session) (stmt : Stmt) (reply : Reply) → (reply ≡ Device → P)
+    → IsDeviceIf P (said_entry session stmt reply 0).event
 device_said P session stmt Device is = is refl
 device_said P session stmt reply is = tt
 
@@ -193,11 +241,14 @@ one_more P Q (Stop reasons.Device) f is = f is
 one_more P Q (Stop reason) f is = tt
 one_more P Q event f is = tt
 
-pub device_more : (P Q : Type 0) (entries : List Entry) → (P → Q) → IsDeviceOnlyIf P entries → IsDeviceOnlyIf Q entries
+pub device_more : (P Q : Type 0) (entries : List Entry) → (P → Q) → IsDeviceOnlyIf P entries
+    → IsDeviceOnlyIf Q entries
 device_more P Q [] f all = tt
-device_more P Q (entry ∷ entries) f all = (one_more P Q entry.event f all.0, device_more P Q entries f all.1)
+device_more P Q (entry ∷ entries) f all =
+    (one_more P Q entry.event f all.0, device_more P Q entries f all.1)
 
-device_push : (P : Type 0) (entries : List Entry) (entry : Entry) → IsDeviceOnlyIf P entries → IsDeviceIf P entry.event → IsDeviceOnlyIf P (entries ++ entry ∷ [])
+device_push : (P : Type 0) (entries : List Entry) (entry : Entry) → IsDeviceOnlyIf P entries
+    → IsDeviceIf P entry.event → IsDeviceOnlyIf P (entries ++ entry ∷ [])
 device_push P [] entry all one = (one, tt)
 device_push P (e ∷ entries) entry all one = (all.0, device_push P entries entry all.1 one)
 
@@ -209,7 +260,8 @@ device_is reply e = absurd (cc (e))
 
 -- from fewer faults before, to more now
 pub rose_wider : (a b c d : ℕ) → c ≤ a → b ≤ d → Rose a b → Rose c d
-rose_wider a b c d low high rose = λ few. let lt = rose (omega (arith, few, high)) in omega (arith, lt, low, high)
+rose_wider a b c d low high rose = λ few. let lt = rose (omega (arith, few, high)) in
+    omega (arith, lt, low, high)
 
 pub rose_later : (a b c : ℕ) → b ≤ c → Rose a b → Rose a c
 rose_later a b c le rose = λ low. let lt = rose (omega (arith, low, le)) in omega (arith, lt, le)
@@ -232,7 +284,8 @@ record CallsWithin {V O : Type 0} (look : V → VolumeSeen) (old new : DeskState
   pub capacities : (look new.volume).capacities ≡ (look old.volume).capacities
 
 -- what an entry's calls and its desk leave as it was
-record Moves {V O : Type 0} (look : V → VolumeSeen) (old new : DeskState V O) (entry : Entry) : Type 0 where
+record Moves {V O : Type 0} (look : V → VolumeSeen) (old new : DeskState V O) (entry : Entry) :
+    Type 0 where
   pub older : new.older ≡ old.older
   pub log_pages : new.ground.log.pages ≡ old.ground.log.pages
   pub opened : new.opened ≡ old.opened
@@ -244,12 +297,17 @@ record Moves {V O : Type 0} (look : V → VolumeSeen) (old new : DeskState V O) 
   pub room : smaller_pages (look old.volume).capacities ≤ new.ground.capacity
   pub copy : new.copy ≡ copy_after old.copy entry.event
   pub own : AllowsCopy (old.trace ++ entry ∷ []) new.copy
-  pub both : is_some new.stage ≡ true → (copy : ℕ) → IsCopy copy → AllowsCopy (old.trace ++ entry ∷ []) copy
+  pub both : is_some new.stage ≡ true → (copy : ℕ) → IsCopy copy
+      → AllowsCopy (old.trace ++ entry ∷ []) copy
   pub space : IsForSpace (look old.volume).capacities (loading_in None old.trace) entry.event
   pub loading : ShowsLoading new.stage new.copy (old.trace ++ entry ∷ [])
 
-module _ {V O : Type 0} {answers : O → Option (List Answer)} (look : V → VolumeSeen) (law : (v : V) → IfTold (look v).told (CountsFailed (look v).faults)) (first old new : DeskState V O) (lines : List Line) (goes : Goes look answers first lines old) where
-  stays_on : (entry : Entry) → new.trace ≡ old.trace ++ entry ∷ [] → Moves look old new entry → StaysSince look first new
+module _ {V O : Type 0} {answers : O → Option (List Answer)} (look : V → VolumeSeen)
+    (law : (v : V) → IfTold (look v).told (CountsFailed (look v).faults))
+    (first old new : DeskState V O) (lines : List Line)
+    (goes : Goes look answers first lines old) where
+  stays_on : (entry : Entry) → new.trace ≡ old.trace ++ entry ∷ [] → Moves look old new entry
+      → StaysSince look first new
   stays_on entry made moves = record {
     older = moves.older ∙ goes.stays.older;
     log_pages = moves.log_pages ∙ goes.stays.log_pages;
@@ -257,80 +315,128 @@ module _ {V O : Type 0} {answers : O → Option (List Answer)} (look : V → Vol
     first_copy = moves.first_copy ∙ goes.stays.first_copy;
     old_same = moves.old_same ∙ goes.stays.old_same;
     only =
-        subst (λ (es : List Entry). EachCall (look first.volume).told (look new.volume).told (WritesOwn es)) (sym made)
-        (calls_weaken (WritesOwn old.trace) (WritesOwn (old.trace ++ entry ∷ [])) (look first.volume).told (look new.volume).told (own_left old.trace (entry ∷ []))
-        (calls_join (WritesOwn old.trace) (look first.volume).told (look old.volume).told (look new.volume).told goes.stays.only moves.only));
+        subst
+        (λ (es : List Entry). EachCall (look first.volume).told (look new.volume).told
+        (WritesOwn es)) (sym made)
+        (calls_weaken (WritesOwn old.trace) (WritesOwn (old.trace ++ entry ∷ []))
+        (look first.volume).told (look new.volume).told (own_left old.trace (entry ∷ []))
+        (calls_join (WritesOwn old.trace) (look first.volume).told (look old.volume).told
+        (look new.volume).told goes.stays.only moves.only));
     later = omega (arith, goes.stays.later, moves.later);
     capacities = moves.capacities ∙ goes.stays.capacities;
   }
 
   -- faults that rose before have risen, and so have those that rose now
-  risen : (look old.volume).faults ≤ (look new.volume).faults → Rose (look first.volume).faults (look old.volume).faults → Rose (look first.volume).faults (look new.volume).faults
-  risen later rose = rose_later (look first.volume).faults (look old.volume).faults (look new.volume).faults later rose
+  risen : (look old.volume).faults ≤ (look new.volume).faults
+      → Rose (look first.volume).faults (look old.volume).faults
+      → Rose (look first.volume).faults (look new.volume).faults
+  risen later rose = rose_later (look first.volume).faults (look old.volume).faults
+      (look new.volume).faults later rose
 
-  rises : Rose (look old.volume).faults (look new.volume).faults → Rose (look first.volume).faults (look new.volume).faults
-  rises rose = rose_earlier (look first.volume).faults (look old.volume).faults (look new.volume).faults goes.stays.later rose
+  rises : Rose (look old.volume).faults (look new.volume).faults
+      → Rose (look first.volume).faults (look new.volume).faults
+  rises rose = rose_earlier (look first.volume).faults (look old.volume).faults
+      (look new.volume).faults goes.stays.later rose
 
   -- a call that was made since the entry before has failed
-  failed_now : (Kind : Call → Type 0) (calls : ℕ) → EachCall (look old.volume).told (look new.volume).told Kind → IsCount (look new.volume) calls → Rose (look old.volume).faults (look new.volume).faults → IfTold (look new.volume).told (λ t. FailedThen t.start (calls_of_last 0 old.trace) calls t)
-  failed_now Kind calls made counted rose = failed_then Kind (look old.volume) (look new.volume) (calls_of_last 0 old.trace) calls made goes.counted counted (law old.volume) (law new.volume) rose
+  failed_now : (Kind : Call → Type 0) (calls : ℕ)
+      → EachCall (look old.volume).told (look new.volume).told Kind
+      → IsCount (look new.volume) calls → Rose (look old.volume).faults (look new.volume).faults
+      → IfTold (look new.volume).told (λ t. FailedThen t.start (calls_of_last 0 old.trace) calls t)
+  failed_now Kind calls made counted rose =
+      failed_then Kind (look old.volume) (look new.volume) (calls_of_last 0 old.trace) calls made
+      goes.counted counted (law old.volume) (law new.volume) rose
 
   abbrev least : ℕ
   least = 3221 * smaller_pages (look old.volume).capacities
 
-  on : (line : Line) (entry : Entry) → new.trace ≡ old.trace ++ entry ∷ [] → EntryOf line entry → ((start : Table) → IsStored (old_records old) start → IsAllowedAt least (allowed_of start old.trace) entry.event (loading_in None old.trace)) → IsLogFullFrom (limit_of old.ground.log.pages) (logged_by 0 old.trace) entry.event
-      → IsDeviceIf (Rose (look first.volume).faults (look new.volume).faults) entry.event → (new.down ≡ true → Rose (look first.volume).faults (look new.volume).faults)
-      → IfTold (look new.volume).told (λ t. FitsThen (copy_of_last 0 old.trace) t.start (calls_of_last 0 old.trace) entry.calls t entry.event) → IsCount (look new.volume) entry.calls → HasAnswered (answers old.operator) (answer_before entry.answer []) (answers new.operator) → Moves look old new entry → Goes look answers first (lines ++ line ∷ []) new
+  on : (line : Line) (entry : Entry) → new.trace ≡ old.trace ++ entry ∷ [] → EntryOf line entry
+      → ((start : Table) → IsStored (old_records old) start
+      → IsAllowedAt least (allowed_of start old.trace) entry.event (loading_in None old.trace))
+      → IsLogFullFrom (limit_of old.ground.log.pages) (logged_by 0 old.trace) entry.event
+      → IsDeviceIf (Rose (look first.volume).faults (look new.volume).faults) entry.event
+      → (new.down ≡ true → Rose (look first.volume).faults (look new.volume).faults)
+      → IfTold (look new.volume).told
+      (λ t. FitsThen (copy_of_last 0 old.trace) t.start (calls_of_last 0 old.trace) entry.calls t
+      entry.event)
+      → IsCount (look new.volume) entry.calls
+      → HasAnswered (answers old.operator) (answer_before entry.answer []) (answers new.operator)
+      → Moves look old new entry → Goes look answers first (lines ++ line ∷ []) new
   on line entry made of full log device down flush counted asked moves = record {
-    entries = subst (TraceOf (lines ++ line ∷ [])) (sym made) (trace_push lines old.trace line entry goes.entries of);
+    entries = subst (TraceOf (lines ++ line ∷ [])) (sym made)
+        (trace_push lines old.trace line entry goes.entries of);
     begins = ap first_of made ∙ first_push lines old.trace entry goes.entries ∙ goes.begins;
     full = λ start stored.
         let was = subst (λ (rs : List Record). IsStored rs start) moves.old_same stored in
-        subst (λ (c : Capacities). AreAllowed (3221 * smaller_pages c) start new.trace) (sym moves.capacities)
-        (subst (AreAllowed least start) (sym made) (allowed_on least start old.trace entry (goes.full start was) (full start was)));
+        subst (λ (c : Capacities). AreAllowed (3221 * smaller_pages c) start new.trace)
+        (sym moves.capacities)
+        (subst (AreAllowed least start) (sym made)
+        (allowed_on least start old.trace entry (goes.full start was) (full start was)));
     log_full =
         subst (λ (n : ℕ). IsLogFullOnlyFrom (limit_of n) 0 new.trace) (sym moves.log_pages)
-        (subst (IsLogFullOnlyFrom (limit_of old.ground.log.pages) 0) (sym made) (log_push (limit_of old.ground.log.pages) 0 old.trace entry goes.log_full log));
+        (subst (IsLogFullOnlyFrom (limit_of old.ground.log.pages) 0) (sym made)
+        (log_push (limit_of old.ground.log.pages) 0 old.trace entry goes.log_full log));
     space =
         subst (AreForSpace (look new.volume).capacities None) (sym made)
-        (space_on (look old.volume).capacities (look new.volume).capacities old.trace entry moves.capacities goes.space moves.space);
+        (space_on (look old.volume).capacities (look new.volume).capacities old.trace entry
+        moves.capacities goes.space moves.space);
     loading = subst (ShowsLoading new.stage new.copy) (sym made) moves.loading;
     device =
         subst (IsDeviceOnlyIf (Rose (look first.volume).faults (look new.volume).faults)) (sym made)
         (device_push (Rose (look first.volume).faults (look new.volume).faults) old.trace entry
-        (device_more (Rose (look first.volume).faults (look old.volume).faults) (Rose (look first.volume).faults (look new.volume).faults) old.trace (risen moves.later) goes.device) device);
+        (device_more (Rose (look first.volume).faults (look old.volume).faults)
+        (Rose (look first.volume).faults (look new.volume).faults) old.trace (risen moves.later)
+        goes.device) device);
     down = down;
     fit =
-        subst (λ (es : List Entry). IfTold (look new.volume).told (λ t. FitSince t.start t es)) (sym made)
-        (told_weaken (λ t. FitSince t.start t old.trace × FitsThen (copy_of_last 0 old.trace) t.start (calls_of_last 0 old.trace) entry.calls t entry.event) (λ t. FitSince t.start t (old.trace ++ entry ∷ [])) (look new.volume).told
+        subst (λ (es : List Entry). IfTold (look new.volume).told (λ t. FitSince t.start t es))
+        (sym made) (told_weaken
+        (λ t. FitSince t.start t old.trace
+        × FitsThen (copy_of_last 0 old.trace) t.start (calls_of_last 0 old.trace) entry.calls t
+        entry.event) (λ t. FitSince t.start t (old.trace ++ entry ∷ [])) (look new.volume).told
         (λ t both. fit_push 0 t.start 0 t old.trace entry both.0 both.1)
-        (told_both (λ t. FitSince t.start t old.trace) (λ t. FitsThen (copy_of_last 0 old.trace) t.start (calls_of_last 0 old.trace) entry.calls t entry.event) (look new.volume).told
-        (fit_on (WritesOwn old.trace) (look old.volume).told (look new.volume).told 0 0 old.trace moves.only goes.fit) flush));
-    copy_is = ap (copy_of_last 0) made ∙ copy_push 0 old.trace entry ∙ ap (λ (n : ℕ). copy_after n entry.event) goes.copy_is ∙ sym moves.copy;
-    counted = subst (IsCount (look new.volume)) (sym (ap (calls_of_last 0) made ∙ calls_push 0 old.trace entry)) counted;
+        (told_both (λ t. FitSince t.start t old.trace)
+        (λ t. FitsThen (copy_of_last 0 old.trace) t.start (calls_of_last 0 old.trace) entry.calls t
+        entry.event) (look new.volume).told
+        (fit_on (WritesOwn old.trace) (look old.volume).told (look new.volume).told 0 0 old.trace
+        moves.only goes.fit) flush));
+    copy_is = ap (copy_of_last 0) made ∙ copy_push 0 old.trace entry
+        ∙ ap (λ (n : ℕ). copy_after n entry.event) goes.copy_is ∙ sym moves.copy;
+    counted = subst (IsCount (look new.volume))
+        (sym (ap (calls_of_last 0) made ∙ calls_push 0 old.trace entry)) counted;
     asked =
-        subst (λ (es : List Entry). HasAnswered (answers first.operator) (answers_in es) (answers new.operator)) (sym made)
-        (answered_all (answers first.operator) (answers old.operator) (answers new.operator) old.trace (entry ∷ []) (old.trace ++ entry ∷ []) refl goes.asked asked);
-    room = subst (λ (c : Capacities). smaller_pages c ≤ new.ground.capacity) (sym moves.capacities) moves.room;
+        subst
+        (λ (es : List Entry). HasAnswered (answers first.operator) (answers_in es)
+        (answers new.operator)) (sym made)
+        (answered_all (answers first.operator) (answers old.operator) (answers new.operator)
+        old.trace (entry ∷ []) (old.trace ++ entry ∷ []) refl goes.asked asked);
+    room = subst (λ (c : Capacities). smaller_pages c ≤ new.ground.capacity) (sym moves.capacities)
+        moves.room;
     own = subst (λ (es : List Entry). AllowsCopy es new.copy) (sym made) moves.own;
-    both = λ runs copy is. subst (λ (es : List Entry). AllowsCopy es copy) (sym made) (moves.both runs copy is);
+    both = λ runs copy is. subst (λ (es : List Entry). AllowsCopy es copy) (sym made)
+        (moves.both runs copy is);
     stays = stays_on entry made moves;
   }
 
   -- what one more entry allows
-  allows_more : (entry : Entry) (copy : ℕ) → AllowsCopy old.trace copy → AllowsCopy (old.trace ++ entry ∷ []) copy
-  allows_more entry copy allows call writes = own_left old.trace (entry ∷ []) call (allows call writes)
+  allows_more : (entry : Entry) (copy : ℕ) → AllowsCopy old.trace copy
+      → AllowsCopy (old.trace ++ entry ∷ []) copy
+  allows_more entry copy allows call writes =
+      own_left old.trace (entry ∷ []) call (allows call writes)
 
   moves_of : (entry : Entry) → Stays look old new → ((k : ℕ) → copy_after k entry.event ≡ k)
-      → (is_some new.stage ≡ true → (copy : ℕ) → IsCopy copy → AllowsCopy (old.trace ++ entry ∷ []) copy)
-      → IsForSpace (look old.volume).capacities (loading_in None old.trace) entry.event → ShowsLoading new.stage new.copy (old.trace ++ entry ∷ []) → Moves look old new entry
+      → (is_some new.stage ≡ true → (copy : ℕ) → IsCopy copy
+      → AllowsCopy (old.trace ++ entry ∷ []) copy)
+      → IsForSpace (look old.volume).capacities (loading_in None old.trace) entry.event
+      → ShowsLoading new.stage new.copy (old.trace ++ entry ∷ []) → Moves look old new entry
   moves_of entry stays keeps both space loading = record {
     older = stays.older;
     log_pages = stays.log_pages;
     opened = stays.opened;
     first_copy = stays.first_copy;
     old_same = stays.old_same;
-    only = calls_weaken (WritesEither (set_of old.copy)) (WritesOwn old.trace) (look old.volume).told (look new.volume).told goes.own stays.calls.only;
+    only = calls_weaken (WritesEither (set_of old.copy)) (WritesOwn old.trace)
+        (look old.volume).told (look new.volume).told goes.own stays.calls.only;
     later = stays.calls.later;
     capacities = stays.calls.capacities;
     room = let room = goes.room in let capacity = stays.capacity in omega (arith, room, capacity);
@@ -342,103 +448,188 @@ module _ {V O : Type 0} {answers : O → Option (List Answer)} (look : V → Vol
   }
 
   -- where the entry tells nothing of the new copy, and the stage and the copy are as they were
-  loading_still : (entry : Entry) → new.stage ≡ old.stage → new.copy ≡ old.copy → ((now : Option Loading) → loading_after now entry.event ≡ now) → ShowsLoading new.stage new.copy (old.trace ++ entry ∷ [])
-  loading_still entry stage copy tells = shown_still old.stage new.stage old.copy new.copy old.trace entry stage copy (tells (loading_in None old.trace)) goes.loading
+  loading_still : (entry : Entry) → new.stage ≡ old.stage → new.copy ≡ old.copy
+      → ((now : Option Loading) → loading_after now entry.event ≡ now)
+      → ShowsLoading new.stage new.copy (old.trace ++ entry ∷ [])
+  loading_still entry stage copy tells = shown_still old.stage new.stage old.copy new.copy old.trace
+      entry stage copy (tells (loading_in None old.trace)) goes.loading
 
   -- where the utility's stage is as it was
-  both_still : (entry : Entry) → new.stage ≡ old.stage → is_some new.stage ≡ true → (copy : ℕ) → IsCopy copy → AllowsCopy (old.trace ++ entry ∷ []) copy
-  both_still entry same runs copy is = allows_more entry copy (goes.both (ap (λ (o : Option Stage). is_some o) (sym same) ∙ runs) copy is)
+  both_still : (entry : Entry) → new.stage ≡ old.stage → is_some new.stage ≡ true → (copy : ℕ)
+      → IsCopy copy → AllowsCopy (old.trace ++ entry ∷ []) copy
+  both_still entry same runs copy is = allows_more entry copy
+      (goes.both (ap (λ (o : Option Stage). is_some o) (sym same) ∙ runs) copy is)
 
   least_room : least ≤ 3221 * old.ground.capacity
   least_room = let room = goes.room in omega (arith, room)
 
-  pub goes_said : (session : Session) (stmt : Stmt) → MadeSaid look old session stmt new → Goes look answers first (lines ++ Said session stmt ∷ []) new
+  pub goes_said : (session : Session) (stmt : Stmt) → MadeSaid look old session stmt new
+      → Goes look answers first (lines ++ Said session stmt ∷ []) new
   goes_said session stmt said =
       let entry = said_entry session stmt said.reply said.calls in
-      on (Said session stmt) entry said.made (said.reply, refl, said.is) (λ start stored. allowed_said stmt said.reply least (allowed_of start old.trace) old.ground.capacity (loading_in None old.trace) least_room (said.full start stored)) (log_said session stmt said.reply (logged_by 0 old.trace) old.ground.log.pages said.log_full)
-      (device_said (Rose (look first.volume).faults (look new.volume).faults) session stmt said.reply (λ is. rises (said.device is)))
-      (λ down. by_old old.down refl (sym said.down ∙ down)) (said_tells stmt said.reply (look new.volume).told (copy_of_last 0 old.trace) (calls_of_last 0 old.trace) said.calls (λ is. failed_now (WritesEither (set_of old.copy)) said.calls said.stays.calls.only said.counted (said.device is))) said.counted (same_unasked answers old.operator new.operator said.utility.operator)
-      (moves_of entry said.stays (λ k. refl) (both_still entry said.utility.stage) (space_said (look old.volume).capacities stmt said.reply (loading_in None old.trace)) (loading_still entry said.utility.stage said.stays.copy (λ now. refl)))
+      on (Said session stmt) entry said.made (said.reply, refl, said.is)
+      (λ start stored. allowed_said stmt said.reply least (allowed_of start old.trace)
+      old.ground.capacity (loading_in None old.trace) least_room (said.full start stored))
+      (log_said session stmt said.reply (logged_by 0 old.trace) old.ground.log.pages said.log_full)
+      (device_said (Rose (look first.volume).faults (look new.volume).faults) session stmt
+      said.reply (λ is. rises (said.device is)))
+      (λ down. by_old old.down refl (sym said.down ∙ down))
+      (said_tells stmt said.reply (look new.volume).told (copy_of_last 0 old.trace)
+      (calls_of_last 0 old.trace) said.calls
+      (λ is. failed_now (WritesEither (set_of old.copy)) said.calls said.stays.calls.only
+      said.counted (said.device is))) said.counted
+      (same_unasked answers old.operator new.operator said.utility.operator)
+      (moves_of entry said.stays (λ k. refl) (both_still entry said.utility.stage)
+      (space_said (look old.volume).capacities stmt said.reply (loading_in None old.trace))
+      (loading_still entry said.utility.stage said.stays.copy (λ now. refl)))
     where
-      by_old : (b : Bool) → old.down ≡ b → (b || is_device said.reply) ≡ true → Rose (look first.volume).faults (look new.volume).faults
+      by_old : (b : Bool) → old.down ≡ b → (b || is_device said.reply) ≡ true
+          → Rose (look first.volume).faults (look new.volume).faults
       by_old true e down = risen said.stays.calls.later (goes.down e)
       by_old false e down = rises (said.device (device_is said.reply down))
 
   pub goes_shown : MadeLayout look old new → Goes look answers first (lines ++ Show ∷ []) new
   goes_shown shown =
       let entry = system_entry shown.event shown.calls in
-      on Show entry shown.made (old.copy, shown.event, refl, shown.is) (λ start stored. allowed_layout old.copy shown.event least (allowed_of start old.trace) (loading_in None old.trace) shown.is) (log_layout old.copy shown.event (limit_of old.ground.log.pages) (logged_by 0 old.trace) shown.is)
-      (device_layout (Rose (look first.volume).faults (look new.volume).faults) old.copy shown.event shown.is) (λ down. risen shown.stays.calls.later (goes.down (sym shown.down ∙ down)))
-      (told_all (look new.volume).told (λ t. FitsThen (copy_of_last 0 old.trace) t.start (calls_of_last 0 old.trace) shown.calls t shown.event) (λ t. layout_tells old.copy shown.event shown.is (copy_of_last 0 old.trace) t.start (calls_of_last 0 old.trace) shown.calls t))
-      shown.counted (same_unasked answers old.operator new.operator shown.utility.operator) (moves_of entry shown.stays (layout_keeps old.copy shown.event shown.is) (both_still entry shown.utility.stage)
-      ((layout_none old.copy shown.event shown.is).space (look old.volume).capacities (loading_in None old.trace)) (loading_still entry shown.utility.stage shown.stays.copy (layout_none old.copy shown.event shown.is).same))
+      on Show entry shown.made (old.copy, shown.event, refl, shown.is)
+      (λ start stored. allowed_layout old.copy shown.event least (allowed_of start old.trace)
+      (loading_in None old.trace) shown.is)
+      (log_layout old.copy shown.event (limit_of old.ground.log.pages) (logged_by 0 old.trace)
+      shown.is)
+      (device_layout (Rose (look first.volume).faults (look new.volume).faults) old.copy shown.event
+      shown.is) (λ down. risen shown.stays.calls.later (goes.down (sym shown.down ∙ down)))
+      (told_all (look new.volume).told
+      (λ t. FitsThen (copy_of_last 0 old.trace) t.start (calls_of_last 0 old.trace) shown.calls t
+      shown.event)
+      (λ t. layout_tells old.copy shown.event shown.is (copy_of_last 0 old.trace) t.start
+      (calls_of_last 0 old.trace) shown.calls t))
+      shown.counted (same_unasked answers old.operator new.operator shown.utility.operator)
+      (moves_of entry shown.stays (layout_keeps old.copy shown.event shown.is)
+      (both_still entry shown.utility.stage)
+      ((layout_none old.copy shown.event shown.is).space (look old.volume).capacities
+      (loading_in None old.trace))
+      (loading_still entry shown.utility.stage shown.stays.copy
+      (layout_none old.copy shown.event shown.is).same))
 
   pub goes_flushed : MadeFlush look old new → Goes look answers first (lines ++ Flush ∷ []) new
   goes_flushed made =
-      let is = flushed_so old.down old.copy old.contents old.marks new.marks (look old.volume) (look new.volume) made.event made.is in
+      let is = flushed_so old.down old.copy old.contents old.marks new.marks (look old.volume)
+      (look new.volume) made.event made.is in
       let entry = system_entry made.event made.calls in
-      on Flush entry made.made (made.event, refl, is) (λ start stored. allowed_flush made.event least (allowed_of start old.trace) (loading_in None old.trace) is) (log_flush made.event (limit_of old.ground.log.pages) (logged_by 0 old.trace) is)
-      (device_flush (Rose (look first.volume).faults (look new.volume).faults) old.down old.copy old.contents old.marks new.marks (look old.volume) (look new.volume) made.event rises made.is)
-      (λ down. risen made.stays.calls.later (goes.down (sym made.down ∙ down)))
-      (subst (λ (k : ℕ). IfTold (look new.volume).told (λ t. FitsThen k t.start (calls_of_last 0 old.trace) made.calls t made.event)) (sym goes.copy_is)
-      (flush_then (WritesEither (set_of old.copy)) old.down old.copy old.contents old.marks new.marks (look old.volume) (look new.volume) (calls_of_last 0 old.trace) made.calls made.event made.stays.calls.only goes.counted made.counted (λ rose. failed_now (WritesEither (set_of old.copy)) made.calls made.stays.calls.only made.counted rose) made.is))
-      made.counted (same_unasked answers old.operator new.operator made.utility.operator) (moves_of entry made.stays (flushed_keeps made.event is) (both_still entry made.utility.stage)
-      ((flush_none made.event is).space (look old.volume).capacities (loading_in None old.trace)) (loading_still entry made.utility.stage made.stays.copy (flush_none made.event is).same))
+      on Flush entry made.made (made.event, refl, is)
+      (λ start stored. allowed_flush made.event least (allowed_of start old.trace)
+      (loading_in None old.trace) is)
+      (log_flush made.event (limit_of old.ground.log.pages) (logged_by 0 old.trace) is)
+      (device_flush (Rose (look first.volume).faults (look new.volume).faults) old.down old.copy
+      old.contents old.marks new.marks (look old.volume) (look new.volume) made.event rises made.is)
+      (λ down. risen made.stays.calls.later (goes.down (sym made.down ∙ down))) (subst
+      (λ (k : ℕ). IfTold (look new.volume).told
+      (λ t. FitsThen k t.start (calls_of_last 0 old.trace) made.calls t made.event))
+      (sym goes.copy_is)
+      (flush_then (WritesEither (set_of old.copy)) old.down old.copy old.contents old.marks
+      new.marks (look old.volume) (look new.volume) (calls_of_last 0 old.trace) made.calls
+      made.event made.stays.calls.only goes.counted made.counted
+      (λ rose. failed_now (WritesEither (set_of old.copy)) made.calls made.stays.calls.only
+      made.counted rose) made.is))
+      made.counted (same_unasked answers old.operator new.operator made.utility.operator)
+      (moves_of entry made.stays (flushed_keeps made.event is) (both_still entry made.utility.stage)
+      ((flush_none made.event is).space (look old.volume).capacities (loading_in None old.trace))
+      (loading_still entry made.utility.stage made.stays.copy (flush_none made.event is).same))
 
   -- where a utility runs, it ran before, or it started
-  started_runs : (down : Bool) (stage next : Option Stage) (options : Options) (copy pages : ℕ) (log : ListedLog) (event : Event) → IsStart down stage options copy pages log event next → is_some next ≡ true → (is_some stage ≡ true) ⊎ (starts_utility event ≡ true)
-  started_runs true stage next options copy pages log event is runs = inl (ap (λ (o : Option Stage). is_some o) (sym is.1) ∙ runs)
+  started_runs : (down : Bool) (stage next : Option Stage) (options : Options) (copy pages : ℕ)
+      (log : ListedLog) (event : Event) → IsStart down stage options copy pages log event next
+      → is_some next ≡ true → (is_some stage ≡ true) ⊎ (starts_utility event ≡ true)
+  started_runs true stage next options copy pages log event is runs =
+      inl (ap (λ (o : Option Stage). is_some o) (sym is.1) ∙ runs)
   started_runs false (Some s) next options copy pages log event is runs = inl refl
-  started_runs false None next options copy pages log (events.Started given of_copy of_pages) is runs = inr refl
-  started_runs false None next options copy pages log (events.StartLogFull need left) is runs = absurd (cc (ap (λ (o : Option Stage). is_some o) is.3, runs))
-  started_runs false None next options copy pages log events.StartNoMemory is runs = absurd (cc (ap (λ (o : Option Stage). is_some o) is, runs))
+  started_runs false None next options copy pages log (events.Started given of_copy of_pages) is
+      runs = inr refl
+  started_runs false None next options copy pages log (events.StartLogFull need left) is runs =
+      absurd (cc (ap (λ (o : Option Stage). is_some o) is.3, runs))
+  started_runs false None next options copy pages log events.StartNoMemory is runs =
+      absurd (cc (ap (λ (o : Option Stage). is_some o) is, runs))
   started_runs false None next options copy pages log event is runs = absurd is
 
   -- the start of a utility allows both copies
-  start_allows : (event : Event) (calls : ℕ) → starts_utility event ≡ true → (copy : ℕ) → IsCopy copy → AllowsCopy (old.trace ++ utility_entry event None calls ∷ []) copy
+  start_allows : (event : Event) (calls : ℕ) → starts_utility event ≡ true → (copy : ℕ)
+      → IsCopy copy → AllowsCopy (old.trace ++ utility_entry event None calls ∷ []) copy
   start_allows (events.Started options of_copy pages) calls is copy (inl one) call writes =
-      own_right old.trace (utility_entry (events.Started options of_copy pages) None calls ∷ []) call (inl (inl (subst (λ (n : ℕ). WritesEither (set_of n) call) one writes)))
+      own_right old.trace (utility_entry (events.Started options of_copy pages) None calls ∷ [])
+      call (inl (inl (subst (λ (n : ℕ). WritesEither (set_of n) call) one writes)))
   start_allows (events.Started options of_copy pages) calls is copy (inr two) call writes =
-      own_right old.trace (utility_entry (events.Started options of_copy pages) None calls ∷ []) call (inl (inr (subst (λ (n : ℕ). WritesEither (set_of n) call) two writes)))
+      own_right old.trace (utility_entry (events.Started options of_copy pages) None calls ∷ [])
+      call (inl (inr (subst (λ (n : ℕ). WritesEither (set_of n) call) two writes)))
   start_allows event calls is copy which call writes = absurd (cc (is))
 
-  pub goes_started : (options : Options) (started : Bool) → MadeStart look old options started new → Goes look answers first (lines ++ Reorg options ∷ []) new
+  pub goes_started : (options : Options) (started : Bool) → MadeStart look old options started new
+      → Goes look answers first (lines ++ Reorg options ∷ []) new
   goes_started options started made =
-      let is = start_so old.down old.stage options old.copy (length old.contents) old.ground.log made.event new.stage made.is in
+      let is = start_so old.down old.stage options old.copy (length old.contents) old.ground.log
+      made.event new.stage made.is in
       let entry = utility_entry made.event None made.calls in
-      on (Reorg options) entry made.made (made.event, refl, is) (λ start stored. allowed_start options made.event least (allowed_of start old.trace) (loading_in None old.trace) is)
-      (log_start options made.event (logged_by 0 old.trace) old.ground.log.pages is made.log_full) (device_start (Rose (look first.volume).faults (look new.volume).faults) options made.event is)
+      on (Reorg options) entry made.made (made.event, refl, is)
+      (λ start stored. allowed_start options made.event least (allowed_of start old.trace)
+      (loading_in None old.trace) is)
+      (log_start options made.event (logged_by 0 old.trace) old.ground.log.pages is made.log_full)
+      (device_start (Rose (look first.volume).faults (look new.volume).faults) options made.event
+      is)
       (λ down. risen made.stays.calls.later (goes.down (sym made.down ∙ down)))
-      (told_all (look new.volume).told (λ t. FitsThen (copy_of_last 0 old.trace) t.start (calls_of_last 0 old.trace) made.calls t made.event) (λ t. start_tells options made.event is (copy_of_last 0 old.trace) t.start (calls_of_last 0 old.trace) made.calls t))
+      (told_all (look new.volume).told
+      (λ t. FitsThen (copy_of_last 0 old.trace) t.start (calls_of_last 0 old.trace) made.calls t
+      made.event)
+      (λ t. start_tells options made.event is (copy_of_last 0 old.trace) t.start
+      (calls_of_last 0 old.trace) made.calls t))
       made.counted (same_unasked answers old.operator new.operator made.operator)
       (moves_of entry made.stays (start_keeps options made.event is)
-      (λ runs copy which. by_start copy which (started_runs old.down old.stage new.stage options old.copy (length old.contents) old.ground.log made.event made.is runs))
+      (λ runs copy which. by_start copy which
+      (started_runs old.down old.stage new.stage options old.copy (length old.contents)
+      old.ground.log made.event made.is runs))
       (space_start options made.event is (look old.volume).capacities (loading_in None old.trace))
-      (shown_start old.down old.stage new.stage options old.copy new.copy (length old.contents) old.ground.log old.trace entry made.is made.stays.copy goes.loading))
+      (shown_start old.down old.stage new.stage options old.copy new.copy (length old.contents)
+      old.ground.log old.trace entry made.is made.stays.copy goes.loading))
     where
-      by_start : (copy : ℕ) → IsCopy copy → (is_some old.stage ≡ true) ⊎ (starts_utility made.event ≡ true) → AllowsCopy (old.trace ++ utility_entry made.event None made.calls ∷ []) copy
-      by_start copy which (inl ran) = allows_more (utility_entry made.event None made.calls) copy (goes.both ran copy which)
+      by_start : (copy : ℕ) → IsCopy copy
+          → (is_some old.stage ≡ true) ⊎ (starts_utility made.event ≡ true)
+          → AllowsCopy (old.trace ++ utility_entry made.event None made.calls ∷ []) copy
+      by_start copy which (inl ran) =
+          allows_more (utility_entry made.event None made.calls) copy (goes.both ran copy which)
       by_start copy which (inr started) = start_allows made.event made.calls started copy which
 
-  pub goes_stepped : (last : O → Option ℕ) (made_of : Made) (taken : ℕ) → Stepped look answers last old made_of taken new → Goes look answers first (lines ++ Step ∷ []) new
+  pub goes_stepped : (last : O → Option ℕ) (made_of : Made) (taken : ℕ)
+      → Stepped look answers last old made_of taken new
+      → Goes look answers first (lines ++ Step ∷ []) new
   goes_stepped last made_of taken stepped =
       let answer = stepped.answer in
       let event = stepped.event in
       let is = step_so old.down old.stage old.changes old.covered answer event stepped.next in
-      on Step entry made.made (answer, event, refl, is) (λ start stored. allowed_step answer event least (allowed_of start old.trace) (loading_in None old.trace) is (stops start stored))
-      (log_step answer event (limit_of old.ground.log.pages) (logged_by 0 old.trace) is) (device_step (Rose (look first.volume).faults (look new.volume).faults) answer event (λ at. rises (made.device at)) is)
+      on Step entry made.made (answer, event, refl, is)
+      (λ start stored. allowed_step answer event least (allowed_of start old.trace)
+      (loading_in None old.trace) is (stops start stored))
+      (log_step answer event (limit_of old.ground.log.pages) (logged_by 0 old.trace) is)
+      (device_step (Rose (look first.volume).faults (look new.volume).faults) answer event
+      (λ at. rises (made.device at)) is)
       (λ down. by_down (made.down down))
-      (step_tells answer event is (look new.volume).told (copy_of_last 0 old.trace) (calls_of_last 0 old.trace) made.calls (λ at. failed_now (WritesOwn old.trace) made.calls calls.only made.counted (made.device at)))
+      (step_tells answer event is (look new.volume).told (copy_of_last 0 old.trace)
+      (calls_of_last 0 old.trace) made.calls
+      (λ at. failed_now (WritesOwn old.trace) made.calls calls.only made.counted (made.device at)))
       made.counted
-      (subst (λ (o : O). HasAnswered (answers old.operator) (answer_before answer []) (answers o)) (sym made.operator)
-      (answered_once answers last (left_to_take old) old.operator stepped.asked.operator answer stepped.operator))
+      (subst (λ (o : O). HasAnswered (answers old.operator) (answer_before answer []) (answers o))
+      (sym made.operator)
+      (answered_once answers last (left_to_take old) old.operator stepped.asked.operator answer
+      stepped.operator))
       moves
     where
       asked : DeskState V O
-      asked = record old { spare = stepped.asked.spare; kept = stepped.answer; operator = stepped.asked.operator }
+      asked = record old {
+        spare = stepped.asked.spare;
+        kept = stepped.answer;
+        operator = stepped.asked.operator;
+      }
 
       made : Makes look asked stepped.answer stepped.event new
-      made = subst (λ (d : DeskState V O). Makes look d stepped.answer stepped.event new) stepped.same stepped.made
+      made = subst (λ (d : DeskState V O). Makes look d stepped.answer stepped.event new)
+          stepped.same stepped.made
 
       entry : Entry
       entry = utility_entry stepped.event stepped.answer made.calls
@@ -446,53 +637,88 @@ module _ {V O : Type 0} {answers : O → Option (List Answer)} (look : V → Vol
       -- it calls nothing, or only as far as the start of the utility allows
       calls_of : (answer : Option Answer) → StepCalls look old answer new → CallsWithin look old new
       calls_of None same = record {
-        only = subst (λ (v : V). EachCall (look old.volume).told (look v).told (WritesOwn old.trace)) (sym same) (no_calls (WritesOwn old.trace) (look old.volume).told);
+        only =
+            subst (λ (v : V). EachCall (look old.volume).told (look v).told (WritesOwn old.trace))
+            (sym same) (no_calls (WritesOwn old.trace) (look old.volume).told);
         later = omega (arith, ap (λ (v : V). (look v).faults) same);
         capacities = ap (λ (v : V). (look v).capacities) same;
       }
       calls_of (Some a) calls = record {
-        only = calls_weaken (WritesEither (set_of (other_of old.copy))) (WritesOwn old.trace) (look old.volume).told (look new.volume).told (goes.both calls.0 (other_of old.copy) (other_is old.copy)) calls.1.only;
+        only = calls_weaken (WritesEither (set_of (other_of old.copy))) (WritesOwn old.trace)
+            (look old.volume).told (look new.volume).told
+            (goes.both calls.0 (other_of old.copy) (other_is old.copy)) calls.1.only;
         later = calls.1.later;
         capacities = calls.1.capacities;
       }
 
       -- STOP NOSPACE comes only where so many bytes were allowed
-      stops_at : (down : Bool) (stage : Option Stage) (answer : Option Answer) (event : Event) → old.down ≡ down → old.stage ≡ stage → NextMade down stage old.changes old.covered answer event → ShowsLoading stage old.copy old.trace
-          → IfSome stage (λ s. HasPagesFor (copy_capacity (look old.volume).capacities (other_of old.copy)) (weigh_feed old.feed) s event) → is_space_stop event ≡ true → loading_in None old.trace ≡ None → (start : Table) → IsStored (old_records old) start → least ≤ allowed_of start old.trace
-      stops_at true stage None events.StepDown down runs next shown space is none start stored = absurd (cc (is))
+      stops_at : (down : Bool) (stage : Option Stage) (answer : Option Answer) (event : Event)
+          → old.down ≡ down → old.stage ≡ stage
+          → NextMade down stage old.changes old.covered answer event
+          → ShowsLoading stage old.copy old.trace
+          → IfSome stage
+          (λ s. HasPagesFor (copy_capacity (look old.volume).capacities (other_of old.copy))
+          (weigh_feed old.feed) s event)
+          → is_space_stop event ≡ true → loading_in None old.trace ≡ None → (start : Table)
+          → IsStored (old_records old) start → least ≤ allowed_of start old.trace
+      stops_at true stage None events.StepDown down runs next shown space is none start stored =
+          absurd (cc (is))
       stops_at true stage None event down runs next shown space is none start stored = absurd next
-      stops_at true stage (Some a) event down runs next shown space is none start stored = absurd next
-      stops_at false None None events.Idle down runs next shown space is none start stored = absurd (cc (is))
+      stops_at true stage (Some a) event down runs next shown space is none start stored =
+          absurd next
+      stops_at false None None events.Idle down runs next shown space is none start stored =
+          absurd (cc (is))
       stops_at false None None event down runs next shown space is none start stored = absurd next
-      stops_at false None (Some a) event down runs next shown space is none start stored = absurd next
-      stops_at false (Some s) None event down runs next shown space is none start stored = absurd next
-      stops_at false (Some s) (Some a) (Stop reasons.NoSpace) down runs next shown space is none start stored =
+      stops_at false None (Some a) event down runs next shown space is none start stored =
+          absurd next
+      stops_at false (Some s) None event down runs next shown space is none start stored =
+          absurd next
+      stops_at false (Some s) (Some a) (Stop reasons.NoSpace) down runs next shown space is none
+          start stored =
           let low = smaller_least (look old.volume).capacities (other_of old.copy) in
-          omega (arith, low, space_allowed old s (copy_capacity (look old.volume).capacities (other_of old.copy)) start (stepped.feed down) runs shown space none stored)
-      stops_at false (Some s) (Some a) event down runs next shown space is none start stored = absurd (cc (is))
+          omega (
+            arith,
+            low,
+            space_allowed old s (copy_capacity (look old.volume).capacities (other_of old.copy))
+                start (stepped.feed down) runs shown space none stored,
+          )
+      stops_at false (Some s) (Some a) event down runs next shown space is none start stored =
+          absurd (cc (is))
 
-      stops : (start : Table) → IsStored (old_records old) start → is_space_stop stepped.event ≡ true → loading_in None old.trace ≡ None → least ≤ allowed_of start old.trace
-      stops start stored is none = stops_at old.down old.stage stepped.answer stepped.event refl refl stepped.next goes.loading stepped.loads.space is none start stored
+      stops : (start : Table) → IsStored (old_records old) start
+          → is_space_stop stepped.event ≡ true → loading_in None old.trace ≡ None
+          → least ≤ allowed_of start old.trace
+      stops start stored is none = stops_at old.down old.stage stepped.answer stepped.event refl
+          refl stepped.next goes.loading stepped.loads.space is none start stored
 
       calls : CallsWithin look old new
       calls = calls_of stepped.answer stepped.only
 
-      by_down : (old.down ≡ true) ⊎ Rose (look old.volume).faults (look new.volume).faults → Rose (look first.volume).faults (look new.volume).faults
+      by_down : (old.down ≡ true) ⊎ Rose (look old.volume).faults (look new.volume).faults
+          → Rose (look first.volume).faults (look new.volume).faults
       by_down (inl down) = risen calls.later (goes.down down)
       by_down (inr rose) = rises rose
 
-      room : (new.ground.capacity ≡ old.ground.capacity) ⊎ (new.ground.capacity ≡ copy_capacity (look old.volume).capacities (other_of old.copy)) → smaller_pages (look old.volume).capacities ≤ new.ground.capacity
+      room : (new.ground.capacity ≡ old.ground.capacity)
+          ⊎ (new.ground.capacity ≡ copy_capacity (look old.volume).capacities (other_of old.copy))
+          → smaller_pages (look old.volume).capacities ≤ new.ground.capacity
       room (inl same) = let least = goes.room in omega (arith, least, same)
-      room (inr other) = let least = smaller_least (look old.volume).capacities (other_of old.copy) in omega (arith, least, other)
+      room (inr other) =
+          let least = smaller_least (look old.volume).capacities (other_of old.copy) in
+          omega (arith, least, other)
 
       -- the copy that is current after it is one that may be written
-      own_copy : (answer : Option Answer) (event : Event) → IsStepEvent answer event → StepCalls look old answer new → IsSwitchFrom old.copy event → AllowsCopy old.trace (copy_left old.copy event)
+      own_copy : (answer : Option Answer) (event : Event) → IsStepEvent answer event
+          → StepCalls look old answer new → IsSwitchFrom old.copy event
+          → AllowsCopy old.trace (copy_left old.copy event)
       own_copy None (events.Switched to sides) is calls to_is = absurd is
-      own_copy (Some a) (events.Switched to sides) is calls to_is = subst (AllowsCopy old.trace) (sym to_is) (goes.both calls.0 (other_of old.copy) (other_is old.copy))
+      own_copy (Some a) (events.Switched to sides) is calls to_is = subst (AllowsCopy old.trace)
+          (sym to_is) (goes.both calls.0 (other_of old.copy) (other_is old.copy))
       own_copy answer event is calls to_is = goes.own
 
       step_is : IsStepEvent stepped.answer stepped.event
-      step_is = step_so old.down old.stage old.changes old.covered stepped.answer stepped.event stepped.next
+      step_is = step_so old.down old.stage old.changes old.covered stepped.answer stepped.event
+          stepped.next
 
       moves : Moves look old new entry
       moves = record {
@@ -506,40 +732,70 @@ module _ {V O : Type 0} {answers : O → Option (List Answer)} (look : V → Vol
         capacities = calls.capacities;
         room = room made.capacity;
         copy = made.copy ∙ sym (step_copy stepped.answer stepped.event step_is old.copy);
-        own = allows_more entry new.copy (subst (AllowsCopy old.trace) (sym made.copy) (own_copy stepped.answer stepped.event step_is stepped.only made.to));
+        own = allows_more entry new.copy
+            (subst (AllowsCopy old.trace) (sym made.copy)
+            (own_copy stepped.answer stepped.event step_is stepped.only made.to));
         both = λ runs copy which. allows_more entry copy (goes.both (made.runs runs) copy which);
-        space = space_step (look old.volume).capacities old.copy old.trace old.stage _ stepped.event goes.loading stepped.loads.space (fills_idle old.down old.stage old.changes old.covered stepped.answer stepped.event stepped.next);
-        loading = shown_step old.stage new.stage old.copy new.copy old.trace entry made.runs goes.loading stepped.loads.shows;
+        space = space_step (look old.volume).capacities old.copy old.trace old.stage _ stepped.event
+            goes.loading stepped.loads.space
+            (fills_idle old.down old.stage old.changes old.covered stepped.answer stepped.event
+            stepped.next);
+        loading = shown_step old.stage new.stage old.copy new.copy old.trace entry made.runs
+            goes.loading stepped.loads.shows;
       }
 
-log_opened : (entry : Entry) → IsOpenedEntry entry → (limit logged : ℕ) → IsLogFullFrom limit logged entry.event
-log_opened entry is limit logged = subst (λ (e : Entry). IsLogFullFrom limit logged e.event) (sym is.is) tt
+log_opened : (entry : Entry) → IsOpenedEntry entry → (limit logged : ℕ)
+    → IsLogFullFrom limit logged entry.event
+log_opened entry is limit logged =
+    subst (λ (e : Entry). IsLogFullFrom limit logged e.event) (sym is.is) tt
 
 device_opened : (entry : Entry) → IsOpenedEntry entry → (P : Type 0) → IsDeviceIf P entry.event
 device_opened entry is P = subst (λ (e : Entry). IsDeviceIf P e.event) (sym is.is) tt
 
 -- the run begins with the entry of the opening
-pub goes_opened : {V O : Type 0} (look : V → VolumeSeen) (answers : O → Option (List Answer)) (desk : DeskState V O) → (opened : IsOpened desk) → opened.is.copy ≡ desk.copy → IsCount (look desk.volume) opened.entry.calls
-    → smaller_pages (look desk.volume).capacities ≤ desk.ground.capacity → desk.stage ≡ None → Goes look answers desk [] desk
+pub goes_opened : {V O : Type 0} (look : V → VolumeSeen) (answers : O → Option (List Answer))
+    (desk : DeskState V O) → (opened : IsOpened desk) → opened.is.copy ≡ desk.copy
+    → IsCount (look desk.volume) opened.entry.calls
+    → smaller_pages (look desk.volume).capacities ≤ desk.ground.capacity → desk.stage ≡ None
+    → Goes look answers desk [] desk
 goes_opened {V} {O} look answers desk opened copy counted room idle = record {
   entries = subst (TraceOf []) (sym opened.trace) (opened.is, tt);
   begins = refl;
-  full = λ start stored. subst (AreAllowed (3221 * smaller_pages (look desk.volume).capacities) start) (sym opened.trace) (allowed_opened opened.entry opened.is (3221 * smaller_pages (look desk.volume).capacities) start);
-  log_full = subst (IsLogFullOnlyFrom (limit_of desk.ground.log.pages) 0) (sym opened.trace) (log_opened opened.entry opened.is (limit_of desk.ground.log.pages) 0, tt);
-  space = subst (AreForSpace (look desk.volume).capacities None) (sym opened.trace) (space_opened (look desk.volume).capacities opened.entry opened.is);
+  full =
+      λ start stored. subst (AreAllowed (3221 * smaller_pages (look desk.volume).capacities) start)
+      (sym opened.trace)
+      (allowed_opened opened.entry opened.is (3221 * smaller_pages (look desk.volume).capacities)
+      start);
+  log_full = subst (IsLogFullOnlyFrom (limit_of desk.ground.log.pages) 0) (sym opened.trace)
+      (log_opened opened.entry opened.is (limit_of desk.ground.log.pages) 0, tt);
+  space = subst (AreForSpace (look desk.volume).capacities None) (sym opened.trace)
+      (space_opened (look desk.volume).capacities opened.entry opened.is);
   loading = subst (λ (o : Option Stage). ShowsLoading o desk.copy desk.trace) (sym idle) tt;
-  device = subst (IsDeviceOnlyIf (Rose (look desk.volume).faults (look desk.volume).faults)) (sym opened.trace) (device_opened opened.entry opened.is (Rose (look desk.volume).faults (look desk.volume).faults), tt);
+  device = subst (IsDeviceOnlyIf (Rose (look desk.volume).faults (look desk.volume).faults))
+      (sym opened.trace) (
+        device_opened opened.entry opened.is
+            (Rose (look desk.volume).faults (look desk.volume).faults),
+        tt,
+      );
   down = λ down. absurd (cc (down, opened.up));
   fit =
-      subst (λ (es : List Entry). IfTold (look desk.volume).told (λ t. FitSince t.start t es)) (sym opened.trace)
-      (told_all (look desk.volume).told (λ t. FitSince t.start t (opened.entry ∷ [])) (λ t. opened_alone 0 t.start 0 t opened.entry opened.is));
-  copy_is = ap (copy_of_last 0) opened.trace ∙ ap (λ (e : Entry). copy_after 0 e.event) opened.is.is ∙ copy;
+      subst (λ (es : List Entry). IfTold (look desk.volume).told (λ t. FitSince t.start t es))
+      (sym opened.trace)
+      (told_all (look desk.volume).told (λ t. FitSince t.start t (opened.entry ∷ []))
+      (λ t. opened_alone 0 t.start 0 t opened.entry opened.is));
+  copy_is = ap (copy_of_last 0) opened.trace ∙ ap (λ (e : Entry). copy_after 0 e.event) opened.is.is
+      ∙ copy;
   counted = subst (IsCount (look desk.volume)) (sym (ap (calls_of_last 0) opened.trace)) counted;
   asked =
-      subst (λ (es : List Entry). HasAnswered (answers desk.operator) (answers_in es) (answers desk.operator)) (sym opened.trace)
-      (subst (λ (e : Entry). HasAnswered (answers desk.operator) (answers_in (e ∷ [])) (answers desk.operator)) (sym opened.is.is) (unasked (answers desk.operator)));
+      subst
+      (λ (es : List Entry). HasAnswered (answers desk.operator) (answers_in es)
+      (answers desk.operator)) (sym opened.trace)
+      (subst
+      (λ (e : Entry). HasAnswered (answers desk.operator) (answers_in (e ∷ []))
+      (answers desk.operator)) (sym opened.is.is) (unasked (answers desk.operator)));
   room = room;
-  own = λ call writes. own_part desk.trace opened.entry opened.is desk.copy copy (ap first_of opened.trace) call writes;
+  own = λ call writes. own_part desk.trace opened.entry opened.is desk.copy copy
+      (ap first_of opened.trace) call writes;
   both = λ runs. absurd (cc (runs, ap (λ (o : Option Stage). is_some o) idle));
   stays = record {
     older = refl;
@@ -554,36 +810,40 @@ goes_opened {V} {O} look answers desk opened copy counted room idle = record {
 }
 
 -- what a result that is no refusal says
-pub ok_weaken : {A B : Type 0} (P Q : A → Type 0) (result : Result A B) → ((x : A) → P x → Q x) → IfOk result P → IfOk result Q
+pub ok_weaken : {A B : Type 0} (P Q : A → Type 0) (result : Result A B) → ((x : A) → P x → Q x)
+    → IfOk result P → IfOk result Q
 ok_weaken P Q (Ok x) f p = f x p
 ok_weaken P Q (Err e) f p = p
 
 -- the new copy that a desk keeps is no matter of its entries
-pub goes_dropped : {V O : Type 0} {answers : O → Option (List Answer)} (look : V → VolumeSeen) (first desk new : DeskState V O) (lines : List Line) → new ≡ record desk { shadow = None } → Goes look answers first lines desk → Goes look answers first lines new
-goes_dropped {V} {O} {answers} look first desk new lines same goes = subst (Goes look answers first lines) (sym same) (record {
-  entries = goes.entries;
-  begins = goes.begins;
-  full = goes.full;
-  log_full = goes.log_full;
-  space = goes.space;
-  loading = goes.loading;
-  device = goes.device;
-  down = goes.down;
-  fit = goes.fit;
-  copy_is = goes.copy_is;
-  counted = goes.counted;
-  asked = goes.asked;
-  room = goes.room;
-  own = goes.own;
-  both = goes.both;
-  stays = record {
-    older = goes.stays.older;
-    log_pages = goes.stays.log_pages;
-    opened = goes.stays.opened;
-    first_copy = goes.stays.first_copy;
-    old_same = goes.stays.old_same;
-    only = goes.stays.only;
-    later = goes.stays.later;
-    capacities = goes.stays.capacities;
-  };
-})
+pub goes_dropped : {V O : Type 0} {answers : O → Option (List Answer)} (look : V → VolumeSeen)
+    (first desk new : DeskState V O) (lines : List Line) → new ≡ record desk { shadow = None }
+    → Goes look answers first lines desk → Goes look answers first lines new
+goes_dropped {V} {O} {answers} look first desk new lines same goes =
+    subst (Goes look answers first lines) (sym same) (record {
+      entries = goes.entries;
+      begins = goes.begins;
+      full = goes.full;
+      log_full = goes.log_full;
+      space = goes.space;
+      loading = goes.loading;
+      device = goes.device;
+      down = goes.down;
+      fit = goes.fit;
+      copy_is = goes.copy_is;
+      counted = goes.counted;
+      asked = goes.asked;
+      room = goes.room;
+      own = goes.own;
+      both = goes.both;
+      stays = record {
+        older = goes.stays.older;
+        log_pages = goes.stays.log_pages;
+        opened = goes.stays.opened;
+        first_copy = goes.stays.first_copy;
+        old_same = goes.stays.old_same;
+        only = goes.stays.only;
+        later = goes.stays.later;
+        capacities = goes.stays.capacities;
+      };
+    })

@@ -4,7 +4,8 @@
 --    that the entries have, in order. So it was asked once for each entry with an answer, and else
 --    never.
 -- 2. It may stop reporting them only with answer 2 ^ 64 - 1, or a later one.
-use Rattle.std.specs.Prelude.{◌≡◌, ◌≤◌, ◌+◌, ◌-◌, ◌^◌, ◌++◌, List, [], ◌∷◌, Option, Some, None, length}
+use Rattle.std.specs.Prelude.{◌≡◌, ◌≤◌, ◌+◌, ◌-◌, ◌^◌, ◌++◌, List, [], ◌∷◌, Option, Some, None}
+use Rattle.std.specs.Prelude.{length}
 use Rattle.rg_base.specs.declared.control.Answer.{Answer}
 use Rattle.rg_stmt.specs.declared.event.Entry.{Entry}
 

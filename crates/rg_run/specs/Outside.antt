@@ -27,7 +27,8 @@ use Rattle.rg_outside.specs.Moments.{IfTold}
 use Rattle.rg_restart.specs.Sound.{IsDamage}
 use Rattle.rg_run.specs.Fit.{FailedSince, calls_of_last}
 use Rattle.rg_run.specs.declared.played.RunEnd.{RunEnd}
-use Rattle.rg_run.specs.declared.played.RunEnd.TheVariants.{Whole, Down, Damaged, DeviceAtOpening, NoMemory}
+use Rattle.rg_run.specs.declared.played.RunEnd.TheVariants.{Whole, Down, Damaged, DeviceAtOpening}
+use Rattle.rg_run.specs.declared.played.RunEnd.TheVariants.{NoMemory}
 use Rattle.rg_stmt.specs.declared.event.Entry.{Entry}
 use Rattle.rg_stmt.specs.declared.event.Event.{Event}
 use Rattle.rg_stmt.specs.declared.event.Event.TheVariants.{FlushDevice, Opened, Said, Started, Stop}

@@ -5,7 +5,8 @@
 --    one from the table that it stored as the volume read at the opening of the part.
 -- 3. Where the volume is known and read tidy then, an opening finds what process death leaves of
 --    the part before. So the whole trace is legal from that table.
-use Rattle.std.specs.Prelude.{◌≡◌, ◌≤◌, ◌*◌, ◌⊎◌, ◌++◌, ℕ, Bool, true, false, List, [], ◌∷◌, Option, None}
+use Rattle.std.specs.Prelude.{◌≡◌, ◌≤◌, ◌*◌, ◌⊎◌, ◌++◌, ℕ, Bool, true, false, List, [], ◌∷◌, Option}
+use Rattle.std.specs.Prelude.{None}
 use Rattle.std.specs.List.{AllByRecursion}
 use Rattle.rg_base.specs.declared.control.Answer.{Answer}
 use Rattle.rg_laws_utility.specs.Course.OnCourse.{IsOnCourse}
@@ -40,7 +41,8 @@ use Rattle.rg_run.specs.Opening.{AreOpeningsSince, IsFoundThen, IsOpeningThen}
 use Rattle.rg_run.specs.Outside.{IsDeviceOnlyIf, WritesOwn}
 use Rattle.rg_run.specs.Played.{Goes, IsOpened, IsOpenedEntry, TraceOf, first_of}
 use Rattle.rg_run.specs.declared.played.RunEnd.{RunEnd}
-use Rattle.rg_run.specs.declared.played.RunEnd.TheVariants.{Whole, Down, Damaged, DeviceAtOpening, NoMemory}
+use Rattle.rg_run.specs.declared.played.RunEnd.TheVariants.{Whole, Down, Damaged, DeviceAtOpening}
+use Rattle.rg_run.specs.declared.played.RunEnd.TheVariants.{NoMemory}
 
 -- the table is the one that the first of these entries found
 abbrev pub IsFoundBy : (Found : Entry → Table → Type 0) → List Entry → Table → Type 0

@@ -43,7 +43,8 @@ use Rattle.rg_run.specs.Full.{smaller_pages}
 use Rattle.rg_run.specs.Parts.{AreParts, DiesIn, IsPart, RunsFrom}
 use Rattle.rg_run.specs.Played.{TraceOf, TraceOfFront}
 use Rattle.rg_run.specs.declared.played.RunEnd.{RunEnd}
-use Rattle.rg_run.specs.declared.played.RunEnd.TheVariants.{Whole, Down, Damaged, DeviceAtOpening, NoMemory}
+use Rattle.rg_run.specs.declared.played.RunEnd.TheVariants.{Whole, Down, Damaged, DeviceAtOpening}
+use Rattle.rg_run.specs.declared.played.RunEnd.TheVariants.{NoMemory}
 
 -- the table is the one that the log stored
 abbrev pub Begins : (old new : VolumeSeen) → Table → Type 0

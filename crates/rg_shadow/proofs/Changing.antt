@@ -29,44 +29,61 @@ use Rattle.rg_shadow.proofs.Keeping.{same_shade, still_built}
 use Rattle.rg_shadow.proofs.Moving.{Moves, applied, mapped, put_in, replaced, row_set, taken_out}
 
 -- the new copy with this mapping table follows the old one
-pub record Follows (old mid car : Pieces) (m : Mapping) (source : Place) (after : Option Row) : Type 0 where
+pub record Follows (old mid car : Pieces) (m : Mapping) (source : Place) (after : Option Row)
+    : Type 0 where
   pub whole : IsWhole (record car { map = m })
   pub applies : Applies (shade_of old) source after (shade_of (record car { map = m }))
 
-module _ (old mid car : Pieces) (plan : Plan) (source : Place) (same : SamePieces old mid) (whole : IsWhole mid) where
+module _ (old mid car : Pieces) (plan : Plan) (source : Place) (same : SamePieces old mid)
+    (whole : IsWhole mid) where
   pub changes : (after : Option Row) → IsReady mid after plan → Carried mid plan after car
       → ChangesHome (slot_of (slots_in mid.space)) (slot_of (slots_in car.space)) plan.home after
   changes after ready carried =
-      subst (λ (ps : List (List Slot)). ChangesHome (slot_of (slots_in mid.space)) (slot_of ps) plan.home after) (sym carried.slots) ready.carries.writes.changes
+      subst
+      (λ (ps : List (List Slot)). ChangesHome (slot_of (slots_in mid.space)) (slot_of ps) plan.home
+      after) (sym carried.slots) ready.carries.writes.changes
 
-  pub sets : (after : Option Row) → IsReady mid after plan → Carried mid plan after car → SetsRow (rows_in mid) (rows_in car) plan.home after
-  sets after ready carried = row_set (shade_of mid) (shade_of car) plan.home after (changes after ready carried)
+  pub sets : (after : Option Row) → IsReady mid after plan → Carried mid plan after car
+      → SetsRow (rows_in mid) (rows_in car) plan.home after
+  sets after ready carried =
+      row_set (shade_of mid) (shade_of car) plan.home after (changes after ready carried)
 
   -- what the plan leaves dead is of owner 0
-  below : (after : Option Row) → IsReady mid after plan → Carried mid plan after car → AllBelow 0 (slot_of (slots_in car.space))
+  below : (after : Option Row) → IsReady mid after plan → Carried mid plan after car
+      → AllBelow 0 (slot_of (slots_in car.space))
   below after ready carried =
       let c = ready.carries in
-      let purged = applied_below 0 0 (row_or_empty None) (capacity_in mid.space) (slots_in mid.space) plan.purge (le_refl 0) c.purge_fits whole.below in
+      let purged = applied_below 0 0 (row_or_empty None) (capacity_in mid.space)
+      (slots_in mid.space) plan.purge (le_refl 0) c.purge_fits whole.below in
       subst (λ (ps : List (List Slot)). AllBelow 0 (slot_of ps)) (c.after ∙ sym carried.slots)
-      (applied_below 0 0 (row_or_empty after) (capacity_in mid.space) (cleared 0 (slots_in mid.space) plan) plan.parts (le_refl 0) c.parts_fit purged)
+      (applied_below 0 0 (row_or_empty after) (capacity_in mid.space)
+      (cleared 0 (slots_in mid.space) plan) plan.parts (le_refl 0) c.parts_fit purged)
 
   follows : (m : Mapping) (after : Option Row) → IsReady mid after plan → Carried mid plan after car
-      → Moves mid.map.targets m.targets (rows_in mid) (rows_in car) source plan.home after → plan_for (shade_of mid) source after ≡ Some plan
+      → Moves mid.map.targets m.targets (rows_in mid) (rows_in car) source plan.home after
+      → plan_for (shade_of mid) source after ≡ Some plan
       → Follows old mid car m source after
   follows m after ready carried moves is = record {
     whole = record {
       has = carried.has;
       proper = subst Proper (sym carried.slots) ready.carries.writes.proper;
       below = below after ready carried;
-      mapped = mapped mid.map.targets m.targets (rows_in mid) (rows_in car) source plan.home after moves whole.mapped;
+      mapped = mapped mid.map.targets m.targets (rows_in mid) (rows_in car) source plan.home after
+          moves whole.mapped;
       kept = carried.kept;
       values = subst (AreKeptValues (slots_in car.space)) (sym carried.values) tt;
     };
-    applies = subst (λ (s : Shade). Applies s source after (shade_of (record car { map = m }))) (same_shade old mid same)
-        (applied (shade_of mid) (shade_of (record car { map = m })) source plan.home after moves (changes after ready carried) (record {
-          pages = subst (λ (o : Option Plan). IsSomeAnd o (λ p. slots_in car.space ≡ pages_after 0 (row_or_empty after) (slots_in mid.space) p)) (sym is) carried.slots;
+    applies = subst (λ (s : Shade). Applies s source after (shade_of (record car { map = m })))
+        (same_shade old mid same) (applied (shade_of mid) (shade_of (record car { map = m })) source
+        plan.home after moves (changes after ready carried) (record {
+          pages = subst
+              (λ (o : Option Plan). IsSomeAnd o
+              (λ p. slots_in car.space ≡ pages_after 0 (row_or_empty after) (slots_in mid.space) p))
+              (sym is) carried.slots;
           claims =
-              subst (λ (ps : List (List Slot)). claimed_all nobody ps ≤ claimed_all nobody (slots_in mid.space) + weight after) (sym carried.slots)
+              subst
+              (λ (ps : List (List Slot)). claimed_all nobody ps
+              ≤ claimed_all nobody (slots_in mid.space) + weight after) (sym carried.slots)
               (plan_claims (shade_of mid) whole.proper source after plan whole.mapped is);
           positions = carried.positions;
           copy = carried.copy;
@@ -79,29 +96,42 @@ module _ (old mid car : Pieces) (plan : Plan) (source : Place) (same : SamePiece
   was : (o : Option Place) → map.get old.map.targets source ≡ o → map.get mid.map.targets source ≡ o
   was o e = ap (λ (ts : Targets). map.get ts source) same.targets ∙ e
 
-  pub put_follows : (m : Mapping) (row : Row) → IsReady mid (Some row) plan → Carried mid plan (Some row) car
-      → map.get old.map.targets source ≡ None → rows_in mid plan.home ≡ None → m.targets ≡ map.insert car.map.targets source plan.home
-      → put_plan row (capacity_in mid.space) (slots_in mid.space) ≡ Some plan → Follows old mid car m source (Some row)
+  pub put_follows : (m : Mapping) (row : Row) → IsReady mid (Some row) plan
+      → Carried mid plan (Some row) car
+      → map.get old.map.targets source ≡ None → rows_in mid plan.home ≡ None
+      → m.targets ≡ map.insert car.map.targets source plan.home
+      → put_plan row (capacity_in mid.space) (slots_in mid.space) ≡ Some plan
+      → Follows old mid car m source (Some row)
   put_follows m row ready carried none fresh is planned =
-      follows m (Some row) ready carried
-      (put_in mid.map.targets m.targets (rows_in mid) (rows_in car) source plan.home row whole.mapped (was None none) fresh
-      (is ∙ ap (λ (t : Mapping). map.insert t.targets source plan.home) carried.map_is) (sets (Some row) ready carried))
+      follows m (Some row) ready carried (put_in mid.map.targets m.targets (rows_in mid)
+      (rows_in car) source plan.home row whole.mapped (was None none) fresh
+      (is ∙ ap (λ (t : Mapping). map.insert t.targets source plan.home) carried.map_is)
+      (sets (Some row) ready carried))
       (ap (λ (o : Option Place). plan_at (shade_of mid) o (Some row)) (was None none) ∙ planned)
 
-  pub replace_follows : (target : Place) (row : Row) → IsReady mid (Some row) plan → Carried mid plan (Some row) car
+  pub replace_follows : (target : Place) (row : Row) → IsReady mid (Some row) plan
+      → Carried mid plan (Some row) car
       → map.get old.map.targets source ≡ Some target → plan.home ≡ target
-      → change_plan row (capacity_in mid.space) (slots_in mid.space) target ≡ Some plan → Follows old mid car car.map source (Some row)
+      → change_plan row (capacity_in mid.space) (slots_in mid.space) target ≡ Some plan
+      → Follows old mid car car.map source (Some row)
   replace_follows target row ready carried there home planned =
-      follows car.map (Some row) ready carried
-      (replaced mid.map.targets car.map.targets (rows_in mid) (rows_in car) source plan.home row whole.mapped
-      (was (Some target) there ∙ ap (λ (p : Place). Some p) (sym home)) (ap (λ (t : Mapping). t.targets) carried.map_is) (sets (Some row) ready carried))
-      (ap (λ (o : Option Place). plan_at (shade_of mid) o (Some row)) (was (Some target) there) ∙ planned)
+      follows car.map (Some row) ready carried (replaced mid.map.targets car.map.targets
+      (rows_in mid) (rows_in car) source plan.home row whole.mapped
+      (was (Some target) there ∙ ap (λ (p : Place). Some p) (sym home))
+      (ap (λ (t : Mapping). t.targets) carried.map_is) (sets (Some row) ready carried))
+      (ap (λ (o : Option Place). plan_at (shade_of mid) o (Some row)) (was (Some target) there)
+      ∙ planned)
 
-  pub remove_follows : (m : Mapping) (target : Place) → IsReady mid None plan → Carried mid plan None car
-      → map.get old.map.targets source ≡ Some target → plan.home ≡ target → m.targets ≡ map.remove car.map.targets source
+  pub remove_follows : (m : Mapping) (target : Place) → IsReady mid None plan
+      → Carried mid plan None car
+      → map.get old.map.targets source ≡ Some target → plan.home ≡ target
+      → m.targets ≡ map.remove car.map.targets source
       → plan ≡ drop_plan (slots_in mid.space) target → Follows old mid car m source None
   remove_follows m target ready carried there home is planned =
       follows m None ready carried
       (taken_out mid.map.targets m.targets (rows_in mid) (rows_in car) source plan.home whole.mapped
-      (was (Some target) there ∙ ap (λ (p : Place). Some p) (sym home)) (is ∙ ap (λ (t : Mapping). map.remove t.targets source) carried.map_is) (sets None ready carried))
-      (ap (λ (o : Option Place). plan_at (shade_of mid) o None) (was (Some target) there) ∙ ap (λ (p : Plan). Some p) (sym planned))
+      (was (Some target) there ∙ ap (λ (p : Place). Some p) (sym home))
+      (is ∙ ap (λ (t : Mapping). map.remove t.targets source) carried.map_is)
+      (sets None ready carried))
+      (ap (λ (o : Option Place). plan_at (shade_of mid) o None) (was (Some target) there)
+      ∙ ap (λ (p : Plan). Some p) (sym planned))

@@ -1,4 +1,5 @@
--- Pages in memory: all are held, each has its number and is of the copy, and what was read is as it was.
+-- Pages in memory: all are held, each has its number and is of the copy, and what was read is as it
+-- was.
 use Rattle.std.proofs.Common.{◌≡◌, List, [], ◌∷◌, refl, sym, ◌∙◌, ap, map}
 use Rattle.rg_base.specs.declared.part.Part.{Part}
 use Rattle.rg_page.specs.Bare.{bare}
@@ -25,6 +26,8 @@ all_of_copy space n low high =
     let f = frames_of space in
     list_of_copy f.copy f.pages f.reserved f.is_list n low high
 
-pub agree_later : (old new : Space ListFrames) → Reads (seen_in old) (seen_in new) → (index_of new).pages ≡ (index_of old).pages
+pub agree_later : (old new : Space ListFrames) → Reads (seen_in old) (seen_in new)
+    → (index_of new).pages ≡ (index_of old).pages
     → Agree (seen_in old) (index_of old) → Agree (seen_in new) (index_of new)
-agree_later old new reads same agree = ap (λ (ps : List Content). map (map bare) (slots_of ps)) (reads.same refl) ∙ agree ∙ sym same
+agree_later old new reads same agree =
+    ap (λ (ps : List Content). map (map bare) (slots_of ps)) (reads.same refl) ∙ agree ∙ sym same

@@ -21,7 +21,8 @@ pub record HasTrees (x : Drafts) (keys cluses cats : Indexed) : Type 0 where
   pub cluses_are : x.cluses ≡ draft.Built cluses
   pub cats_are : x.cats ≡ draft.Built cats
 
-listings : (rows : Place → Option Row) (x : Drafts) (keys cluses cats : Indexed) → HasTrees x keys cluses cats → AreKept rows x
+listings : (rows : Place → Option Row) (x : Drafts) (keys cluses cats : Indexed)
+    → HasTrees x keys cluses cats → AreKept rows x
     → AreListings rows (record { keys = keys; cluses = cluses; cats = cats })
 listings rows x keys cluses cats has kept = record {
   keys = subst (IsKept Key rows) has.keys_are kept.keys;
@@ -29,7 +30,9 @@ listings rows x keys cluses cats has kept = record {
   cats = subst (IsKept Cat rows) has.cats_are kept.cats;
 }
 
-pub right_side : (p : Pieces) (keys cluses cats : Indexed) (side : Side) → HasTrees p.drafts keys cluses cats → IsWhole p
-    → IsRightFor (slots_in p.space) (record { keys = keys; cluses = cluses; cats = cats }) side → IsRightSideOf (shade_of p) side
+pub right_side : (p : Pieces) (keys cluses cats : Indexed) (side : Side)
+    → HasTrees p.drafts keys cluses cats → IsWhole p
+    → IsRightFor (slots_in p.space) (record { keys = keys; cluses = cluses; cats = cats }) side
+    → IsRightSideOf (shade_of p) side
 right_side p keys cluses cats side has whole right table is =
     right whole.proper.tied table is (listings (rows_in p) p.drafts keys cluses cats has whole.kept)

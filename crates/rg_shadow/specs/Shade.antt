@@ -7,7 +7,8 @@
 -- 3. The pages are those that the plans of puts, changes and drops leave, where no unit is live. No
 --    record of the log changes one of them: its position stays 0 until it is given another one, as
 --    it goes to a volume.
-use Rattle.std.specs.Prelude.{◌≡◌, ◌≤◌, ◌+◌, ℕ, Bool, true, false, List, [], Option, Some, None, is_some, IsSomeAnd}
+use Rattle.std.specs.Prelude.{◌≡◌, ◌≤◌, ◌+◌, ℕ, Bool, true, false, List, [], Option, Some, None}
+use Rattle.std.specs.Prelude.{is_some, IsSomeAnd}
 use Rattle.std.specs.FinMap as map
 use Rattle.rg_base.specs.declared.place.Place.{Place}
 use Rattle.rg_base.specs.declared.row.Row.{Row}

@@ -11,7 +11,9 @@ ghost use Rattle.rg_base.specs.declared.row.Row.{Row};
 ghost use Rattle.rg_base.specs.declared.which.Which.{Which as WhichIndex};
 ghost use Rattle.rg_index.specs.Listed.{SetsRow};
 ghost use Rattle.rg_btree.specs.Indexes.Listings.{AreListings};
-ghost use Rattle.rg_shadow.specs.Drafts.{AreKept, AreKeptAt, BuildsOne, HasList, HasSpareIn, HaveSpare, IsKept, IsKeptAt, KeepBuilt, SameDraft, SameDrafts, draft_in, is_built, stage_of, with_draft};
+ghost use Rattle.rg_shadow.specs.Drafts.{AreKept, AreKeptAt, BuildsOne, HasList, HasSpareIn};
+ghost use Rattle.rg_shadow.specs.Drafts.{HaveSpare, IsKept, IsKeptAt, KeepBuilt, SameDraft};
+ghost use Rattle.rg_shadow.specs.Drafts.{SameDrafts, draft_in, is_built, stage_of, with_draft};
 ghost use Rattle.rg_shadow.specs.declared.drafts.IndexDraft.TheVariants as drafts;
 ghost use Rattle.rg_shadow.specs.declared.drafts.IndexStage.TheVariants.{Unsorted, Built};
 

@@ -7,7 +7,8 @@
 // 3. To spell a page, or to lay all of them out, changes no slot, no target and no index.
 // 4. The values of all rows are read once, for the first list that is sorted. A change forgets
 //    them.
-ghost use Rattle.std.specs.Prelude.{◌≡◌, ◌≤◌, Some, None, IfOk, IfErr, OnOk, OnErr, is_some, length, true};
+ghost use Rattle.std.specs.Prelude.{◌≡◌, ◌≤◌, Some, None, IfOk, IfErr, OnOk, OnErr, is_some};
+ghost use Rattle.std.specs.Prelude.{length, true};
 ghost use Rattle.std.specs.FinMap as map;
 ghost use Rattle.std.specs.Option.{option_copied};
 ghost use Rattle.rg_layout.specs.Spots.{spots_of};
@@ -19,7 +20,8 @@ ghost use Rattle.rg_space.specs.Space.{capacity_in};
 ghost use Rattle.rg_shadow.specs.Drafts.{HaveSpare};
 ghost use Rattle.rg_shadow.specs.Pieces.{Carried, IsReady, IsWhole, SamePieces, rows_in, shade_of};
 ghost use Rattle.rg_shadow.specs.Planned.{IsFull, change_plan, drop_plan, put_plan, slots_in};
-ghost use Rattle.rg_shadow.specs.Shade.{Applies, IsRightSideOf, Refuses, shade_slots, stage_in, with_stage};
+ghost use Rattle.rg_shadow.specs.Shade.{Applies, IsRightSideOf, Refuses, shade_slots, stage_in};
+ghost use Rattle.rg_shadow.specs.Shade.{with_stage};
 ghost use Rattle.rg_shadow.specs.declared.drafts.IndexStage.TheVariants.{Sorted, Built};
 
 use crate::drafts::Drafts;

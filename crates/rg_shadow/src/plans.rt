@@ -12,7 +12,8 @@ ghost use Rattle.rg_home.specs.Plan.{is_home, pages_after};
 ghost use Rattle.rg_space.specs.Carries.{AllThere, Carries};
 ghost use Rattle.rg_space.specs.Ready.{AllReady, CanApply, IsAtHand};
 ghost use Rattle.rg_space.specs.Space.{capacity_in, frames_of};
-ghost use Rattle.rg_shadow.specs.Planned.{AreUnlogged, HasPages, IsRefusal, SameSpace, change_plan, drop_plan, pages_in, put_plan, seen_in, slots_in};
+ghost use Rattle.rg_shadow.specs.Planned.{AreUnlogged, HasPages, IsRefusal, SameSpace, change_plan};
+ghost use Rattle.rg_shadow.specs.Planned.{drop_plan, pages_in, put_plan, seen_in, slots_in};
 
 use crate::fault::ShadowFault;
 use rg_base::no_memory::NoMemory;

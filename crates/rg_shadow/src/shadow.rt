@@ -27,7 +27,8 @@ ghost use Rattle.rg_reload.specs.Moved.{AreOneToOne, AreTargets, target_in};
 ghost use Rattle.rg_reload.specs.Reloading.{space_slots};
 ghost use Rattle.rg_shadow.specs.Pieces.{IsMapped};
 ghost use Rattle.rg_shadow.specs.Planned.{AreNumbered, AreOfCopy, HasPages, pages_in, slots_in};
-ghost use Rattle.rg_shadow.specs.Shade.{Applies, IsRightSideOf, Refuses, home_rows, is_built_stage, shade_slots, stage_in, target_of, with_stage};
+ghost use Rattle.rg_shadow.specs.Shade.{Applies, IsRightSideOf, Refuses, home_rows, is_built_stage};
+ghost use Rattle.rg_shadow.specs.Shade.{shade_slots, stage_in, target_of, with_stage};
 ghost use Rattle.rg_shadow.specs.declared.drafts.IndexStage.TheVariants.{Unsorted, Sorted, Built};
 ghost use Rattle.rg_space.specs.Space.{capacity_in, frames_of};
 

@@ -1,5 +1,6 @@
 -- Summaries stay in step with pages.
-use Rattle.std.proofs.Common.{◌≡◌, ◌≤◌, ℕ, ◌-◌, List, [], ◌∷◌, Option, map, length, set, refl, sym, ap, ◌∙◌, arith}
+use Rattle.std.proofs.Common.{◌≡◌, ◌≤◌, ℕ, ◌-◌, List, [], ◌∷◌, Option, map, length, set, refl, sym}
+use Rattle.std.proofs.Common.{ap, ◌∙◌, arith}
 use Rattle.std.proofs.lemmas.List.{map-set}
 use Rattle.rg_base.specs.declared.part.Part.{Part}
 use Rattle.rg_base.specs.declared.row.Row.{Row as TableRow}
@@ -16,21 +17,26 @@ use Rattle.rg_space.specs.Indexed.{HasRoom}
 use Rattle.rg_space.proofs.Took.{page_slots}
 
 -- setting a slot of a page is a write to the slots of all
-pub slots_set : (pages : List Content) (x : Part) (owner : ℕ) (after : Option TableRow) (position : ℕ)
+pub slots_set : (pages : List Content) (x : Part) (owner : ℕ) (after : Option TableRow)
+    (position : ℕ)
     → 1 ≤ x.page → x.page ≤ length pages
-    → slots_of (set_content pages x owner after position) ≡ wrote (slots_of pages) (place_of x) (made owner (row_or_empty after) x.op)
+    → slots_of (set_content pages x owner after position)
+    ≡ wrote (slots_of pages) (place_of x) (made owner (row_or_empty after) x.op)
 slots_set pages x owner after position low high =
     let s : Slot = made owner (row_or_empty after) x.op in
     let n : ℕ = x.page in
-    map-set (λ (p : Content). p.slots) pages (n - 1) (changed (content_at pages n) x owner after position)
-    ∙ ap (λ (slots : List Slot). set (slots_of pages) (n - 1) (placed slots x.slot s)) (sym (page_slots pages n))
+    map-set (λ (p : Content). p.slots) pages (n - 1)
+    (changed (content_at pages n) x owner after position)
+    ∙ ap (λ (slots : List Slot). set (slots_of pages) (n - 1) (placed slots x.slot s))
+    (sym (page_slots pages n))
     ∙ sym (wrote-set (slots_of pages) n x.slot s low (omega (arith, length-slots pages)))
   where
     length-slots : (pages : List Content) → length (slots_of pages) ≡ length pages
     length-slots [] = refl
     length-slots (p ∷ pages) = omega (arith, length-slots pages)
 
-module _ (pages : List Content) (index : List (List Slot)) (agree : map (map bare) (slots_of pages) ≡ index) where
+module _ (pages : List Content) (index : List (List Slot))
+    (agree : map (map bare) (slots_of pages) ≡ index) where
   pub agree_page : (n : ℕ) → page_at index n ≡ map bare (content_at pages n).slots
   agree_page n =
       ap (λ (ix : List (List Slot)). page_at ix n) (sym agree) ∙ bare_page_at (slots_of pages) n
@@ -44,25 +50,32 @@ module _ (pages : List Content) (index : List (List Slot)) (agree : map (map bar
       go (p ∷ pages) = omega (arith, go pages)
 
   -- a slot that fits its page fits the summary
-  pub has_room : (x : Part) (owner : ℕ) (after : Option TableRow) (header : Slot) → 1 ≤ x.page → x.page ≤ length pages
+  pub has_room : (x : Part) (owner : ℕ) (after : Option TableRow) (header : Slot) → 1 ≤ x.page
+      → x.page ≤ length pages
       → ((row : TableRow) → header ≡ bare (made owner row x.op))
-      → PartFits x.page (content_at pages x.page).slots owner after x → HasRoom index (place_of x) header
+      → PartFits x.page (content_at pages x.page).slots owner after x
+      → HasRoom index (place_of x) header
   has_room x owner after header low high is fits =
       let slots : List Slot = (content_at pages x.page).slots in
       let s : Slot = made owner (row_or_empty after) x.op in
       let bare_fits : Fits (placed (map bare slots) x.slot (bare s)) =
-      omega (arith, bare_used (placed slots x.slot s), ap used (bare_placed slots x.slot s), fits.fits) in
+      omega
+      (arith, bare_used (placed slots x.slot s), ap used (bare_placed slots x.slot s), fits.fits) in
       record {
         low = low;
         high = omega (arith, agree_count);
         fits = rw (agree_page x.page, is (row_or_empty after)) bare_fits;
       }
 
-  pub agree_set : (x : Part) (owner : ℕ) (after : Option TableRow) (position : ℕ) (header : Slot) → 1 ≤ x.page → x.page ≤ length pages
+  pub agree_set : (x : Part) (owner : ℕ) (after : Option TableRow) (position : ℕ) (header : Slot)
+      → 1 ≤ x.page → x.page ≤ length pages
       → ((row : TableRow) → header ≡ bare (made owner row x.op))
-      → map (map bare) (slots_of (set_content pages x owner after position)) ≡ wrote index (place_of x) header
+      → map (map bare) (slots_of (set_content pages x owner after position))
+      ≡ wrote index (place_of x) header
   agree_set x owner after position header low high is =
       ap (map (map bare)) (slots_set pages x owner after position low high)
       ∙ bare_wrote (slots_of pages) (place_of x) (made owner (row_or_empty after) x.op)
-      ∙ ap (λ (ix : List (List Slot)). wrote ix (place_of x) (bare (made owner (row_or_empty after) x.op))) agree
+      ∙ ap
+      (λ (ix : List (List Slot)). wrote ix (place_of x)
+      (bare (made owner (row_or_empty after) x.op))) agree
       ∙ ap (wrote index (place_of x)) (sym (is (row_or_empty after)))

@@ -1,5 +1,6 @@
 -- Calls that read, one after the other, and slots of pages that stay.
-use Rattle.std.proofs.Common.{◌≡◌, ◌≤◌, ◌<◌, ℕ, zero, suc, ◌+◌, inl, inr, List, [], ◌∷◌, Option, Some, None, map, length, get_or, refl, sym, ap, subst, ◌∙◌, arith}
+use Rattle.std.proofs.Common.{◌≡◌, ◌≤◌, ◌<◌, ℕ, zero, suc, ◌+◌, inl, inr, List, [], ◌∷◌, Option}
+use Rattle.std.proofs.Common.{Some, None, map, length, get_or, refl, sym, ap, subst, ◌∙◌, arith}
 use Rattle.std.proofs.lemmas.Bool.{cases_lt}
 use Rattle.rg_base.specs.declared.place.Place.{Place}
 use Rattle.rg_home.specs.Pages.{page_at}
@@ -63,7 +64,13 @@ keeps_same a = record {
 
 pub took_none : (a : Seen) → Took 0 a a
 took_none a = record {
-  reads = record { keeps = keeps_same a; count = refl; same = λ s. refl; as_was = λ p f. refl; forced = refl };
+  reads = record {
+    keeps = keeps_same a;
+    count = refl;
+    same = λ s. refl;
+    as_was = λ p f. refl;
+    forced = refl;
+  };
   stay = λ p h. (h, refl);
   spare = omega arith;
   idle = omega arith;
@@ -71,21 +78,26 @@ took_none a = record {
 
 -- slots
 
-get_slots : (pages : List Content) (n : ℕ) (d : Content) → d.slots ≡ [] → get_or (map (λ p. p.slots) pages) n [] ≡ (get_or pages n d).slots
+get_slots : (pages : List Content) (n : ℕ) (d : Content) → d.slots ≡ []
+    → get_or (map (λ p. p.slots) pages) n [] ≡ (get_or pages n d).slots
 get_slots [] n d e = sym e
 get_slots (p ∷ pages) zero d e = refl
 get_slots (p ∷ pages) (suc n) d e = get_slots pages n d e
 
-pub page_slots : (pages : List Content) (n : ℕ) → page_at (slots_of pages) n ≡ (content_at pages n).slots
+pub page_slots : (pages : List Content) (n : ℕ)
+    → page_at (slots_of pages) n ≡ (content_at pages n).slots
 page_slots pages n = get_slots (empty 0 0 ∷ pages) n (empty 0 0) refl
 
-pub slot_same : (a b : Seen) (p : Place) → content_at b.pages p.page ≡ content_at a.pages p.page → slot_in b p ≡ slot_in a p
+pub slot_same : (a b : Seen) (p : Place) → content_at b.pages p.page ≡ content_at a.pages p.page
+    → slot_in b p ≡ slot_in a p
 slot_same a b p e =
-    ap (λ (xs : List Slot). slot_at xs p.slot) (page_slots b.pages p.page ∙ ap (λ (x : Content). x.slots) e ∙ sym (page_slots a.pages p.page))
+    ap (λ (xs : List Slot). slot_at xs p.slot)
+    (page_slots b.pages p.page ∙ ap (λ (x : Content). x.slots) e ∙ sym (page_slots a.pages p.page))
 
 -- a place of no page
 past_page : (pages : List Content) (n : ℕ) → length pages < n → page_at (slots_of pages) n ≡ []
-past_page pages n above = page_slots pages n ∙ ap (λ (x : Content). x.slots) (none (empty 0 0 ∷ pages) n (omega arith))
+past_page pages n above =
+    page_slots pages n ∙ ap (λ (x : Content). x.slots) (none (empty 0 0 ∷ pages) n (omega arith))
   where
     none : (xs : List Content) (n : ℕ) → length xs ≤ n → get_or xs n (empty 0 0) ≡ empty 0 0
     none [] n past = refl
@@ -100,7 +112,8 @@ slot_zero s p e = ap (λ n. slot_at (page_at (slots_of s.pages) n) p.slot) e
 
 -- rows
 
-pub row_here : (at : Place → Slot) (home : Place) (seen : Glimpse) (s : Slot) → at home ≡ s → IsGlimpse seen s → seen.other ≡ None
+pub row_here : (at : Place → Slot) (home : Place) (seen : Glimpse) (s : Slot) → at home ≡ s
+    → IsGlimpse seen s → seen.other ≡ None
     → row_at at home ≡ seen.row
 row_here at home seen s e is none = ap (home_row at) e ∙ go s is.row (sym is.other ∙ none)
   where
@@ -113,7 +126,8 @@ row_here at home seen s e is none = ap (home_row at) e ∙ go s is.row (sym is.o
     go (DeadPointer c o u) r n = sym r
     go (DeadOver c h u) r n = sym r
 
-pub row_there : (at : Place → Slot) (home o : Place) (s : Slot) → at home ≡ s → pointed_to s ≡ Some o
+pub row_there : (at : Place → Slot) (home o : Place) (s : Slot) → at home ≡ s
+    → pointed_to s ≡ Some o
     → row_at at home ≡ over_row (at o)
 row_there at home o s e is = ap (home_row at) e ∙ go s is
   where
@@ -135,9 +149,11 @@ row_there at home o s e is = ap (home_row at) e ∙ go s is
 
 -- a place whose page is held stays as it is, and so does one of no page
 
-pub slot_stays : (n : ℕ) (a b : Seen) (p : Place) → Took n a b → IsHeldAt a p.page → slot_in b p ≡ slot_in a p
+pub slot_stays : (n : ℕ) (a b : Seen) (p : Place) → Took n a b → IsHeldAt a p.page
+    → slot_in b p ≡ slot_in a p
 slot_stays n a b p t held = elim (cases_lt (length a.pages) p.page) [
-  | inl above ↦ no_slot b p (subst (λ k. k < p.page) (sym t.reads.count) above) ∙ sym (no_slot a p above)
+  | inl above ↦
+      no_slot b p (subst (λ k. k < p.page) (sym t.reads.count) above) ∙ sym (no_slot a p above)
   | inr below ↦ low p.page refl below
 ]
   where
@@ -146,10 +162,14 @@ slot_stays n a b p t held = elim (cases_lt (length a.pages) p.page) [
     low (suc k) e below = slot_same a b p (t.stay p.page (held (omega arith) below)).1
 
 -- so what a home shows stays
-pub home_stays : (n : ℕ) (a b : Seen) (home : Place) (at : AtHome) → Took n a b → IsAtHome a home at → IsAtHome b home at
+pub home_stays : (n : ℕ) (a b : Seen) (home : Place) (at : AtHome) → Took n a b → IsAtHome a home at
+    → IsAtHome b home at
 home_stays n a b home at t h = record {
   other = h.other ∙ ap pointed_to (sym here);
-  row = h.row ∙ sym (ap (home_row (slot_in b)) here ∙ row_stays (slot_in a home) (subst (IsHeldOf a) h.other h.held_other));
+  row = h.row
+      ∙ sym
+      (ap (home_row (slot_in b)) here
+      ∙ row_stays (slot_in a home) (subst (IsHeldOf a) h.other h.held_other));
   held = stays home.page h.held;
   held_other = other_stays at.other h.held_other;
 }
@@ -164,7 +184,8 @@ home_stays n a b home at t h = record {
     other_stays None x = tt
     other_stays (Some p) x = stays p.page x
 
-    row_stays : (s : Slot) → IsHeldOf a (pointed_to s) → home_row (slot_in b) s ≡ home_row (slot_in a) s
+    row_stays : (s : Slot) → IsHeldOf a (pointed_to s)
+        → home_row (slot_in b) s ≡ home_row (slot_in a) s
     row_stays Free x = refl
     row_stays (Row c row) x = refl
     row_stays (Pointer c q) x = ap over_row (slot_stays n a b q t x)

@@ -3,7 +3,8 @@
 -- 1. A page whose position is below the record's gets all parts of the record that are on it, in
 --    their order. Every other page stays as it is, so a record is redone once.
 -- 2. Each of those parts has to fit its page, as it is then.
-use Rattle.std.specs.Prelude.{◌≡◌, ◌<◌, ◌-◌, ◌==◌, nat_lt, ℕ, true, List, [], ◌∷◌, Option, if◌then◌else◌, slice_set}
+use Rattle.std.specs.Prelude.{◌≡◌, ◌<◌, ◌-◌, ◌==◌, nat_lt, ℕ, true, List, [], ◌∷◌, Option}
+use Rattle.std.specs.Prelude.{if◌then◌else◌, slice_set}
 use Rattle.rg_base.specs.declared.part.Part.{Part}
 use Rattle.rg_base.specs.declared.row.Row.{Row}
 use Rattle.rg_home.specs.Pages.{PartFits}

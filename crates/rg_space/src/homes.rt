@@ -4,7 +4,8 @@
 // 2. All pages are let go before each row, so that two idle frames are enough. Frames may then give
 //    the page up between two rows. The rows are those of one state of the pages where frames are
 //    sure.
-ghost use Rattle.std.specs.Prelude.{◌≡◌, ◌≤◌, ◌<◌, ◌+◌, ◌++◌, true, length, map, IfOk, IfErr, OnOk, ℕ, List};
+ghost use Rattle.std.specs.Prelude.{◌≡◌, ◌≤◌, ◌<◌, ◌+◌, ◌++◌, true, length, map, IfOk, IfErr, OnOk};
+ghost use Rattle.std.specs.Prelude.{ℕ, List};
 ghost use Rattle.rg_home.specs.Pages.{page_at};
 ghost use Rattle.rg_home.specs.Rows.{row_at};
 ghost use Rattle.rg_page.specs.Content.{slots_of};

@@ -3,7 +3,9 @@
 // 1. For each 256 pages there is a number, and the ceiling of none of them is above it. So pages
 //    that cannot take an area are passed over, 256 at a time.
 // 2. Room for a page more is made first. Adding the page then takes no memory.
-ghost use Rattle.std.specs.Prelude.{◌≡◌, ◌≤◌, ◌<◌, ◌+◌, ◌*◌, ◌^◌, ℕ, [], ◌++◌, ◌∷◌, ◌↔◌, IsSome, IfSome, IfNone, OnOk, OnErr, length, slice_index_or, vec_len, vec_capacity};
+ghost use Rattle.std.specs.Prelude.{◌≡◌, ◌≤◌, ◌<◌, ◌+◌, ◌*◌, ◌^◌, ℕ, [], ◌++◌, ◌∷◌, ◌↔◌, IsSome};
+ghost use Rattle.std.specs.Prelude.{IfSome, IfNone, OnOk, OnErr, length, slice_index_or, vec_len};
+ghost use Rattle.std.specs.Prelude.{vec_capacity};
 ghost use Rattle.rg_home.specs.Slots.{placed, Fits};
 ghost use Rattle.rg_home.specs.Pages.{page_at, wrote};
 ghost use Rattle.rg_home.specs.Plan.{admits, first_page};

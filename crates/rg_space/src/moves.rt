@@ -4,7 +4,8 @@
 // 1. A row that grows stays at home if its page has the room; else in its Over area; else it goes
 //    to a new one, on the first page that admits it.
 // 2. Nothing is chosen here: `specs/Moves.antt` computes each answer.
-ghost use Rattle.std.specs.Prelude.{◌≡◌, ◌≤◌, ◌<◌, ◌+◌, ◌^◌, ◌∷◌, ◌++◌, ◌-◌, [], IfOk, length, drop};
+ghost use Rattle.std.specs.Prelude.{◌≡◌, ◌≤◌, ◌<◌, ◌+◌, ◌^◌, ◌∷◌, ◌++◌, ◌-◌, [], IfOk, length};
+ghost use Rattle.std.specs.Prelude.{drop};
 ghost use Rattle.rg_home.specs.Pages.{page_at, slot_of, part_at, place_of};
 ghost use Rattle.rg_home.specs.Undo.{left_area, over_place, over_before};
 ghost use Rattle.rg_home.specs.Plan.{new_area, fitting, listed, purge_of};
@@ -12,7 +13,8 @@ ghost use Rattle.rg_home.specs.Slots.{capacity_of};
 ghost use Rattle.std.specs.Option.{option_copied};
 ghost use Rattle.rg_space.specs.Planned.{size_in};
 ghost use Rattle.rg_page.specs.Bare.{numbers_of};
-ghost use Rattle.rg_space.specs.Moves.{IsPut, home_moves, over_moves, new_moves, change_moves, drop_moves, undo_moves, left_by, back_moves, points_to};
+ghost use Rattle.rg_space.specs.Moves.{IsPut, home_moves, over_moves, new_moves, change_moves};
+ghost use Rattle.rg_space.specs.Moves.{drop_moves, undo_moves, left_by, back_moves, points_to};
 
 use crate::index::Index;
 use rg_base::no_memory::NoMemory;

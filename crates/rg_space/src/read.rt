@@ -1,6 +1,7 @@
 // Slots and rows, read through frames. What is said is of the pages as they are afterwards, and
 // what was held stays as it is, so it holds whether or not pages come back that are given up.
-ghost use Rattle.std.specs.Prelude.{◌≡◌, ◌≤◌, ◌<◌, ◌+◌, ◌↔◌, IsTrue, true, length, IfOk, IfErr, OnOk, OnErr};
+ghost use Rattle.std.specs.Prelude.{◌≡◌, ◌≤◌, ◌<◌, ◌+◌, ◌↔◌, IsTrue, true, length, IfOk, IfErr};
+ghost use Rattle.std.specs.Prelude.{OnOk, OnErr};
 ghost use Rattle.rg_home.specs.Plan.{pointed_to};
 ghost use Rattle.rg_page.specs.Content.{Content};
 ghost use Rattle.rg_space.specs.Glimpse.{IsGlimpse, IsValuesGlimpse};

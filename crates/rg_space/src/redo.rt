@@ -6,7 +6,8 @@
 //    position. So pages are taken one at a time, and a page that is named again has the record.
 // 3. A part that does not fit shows that log and pages do not belong together. Then the space is of
 //    no use any more.
-ghost use Rattle.std.specs.Prelude.{◌≡◌, ◌≤◌, ◌<◌, ◌+◌, ◌-◌, ◌↔◌, ℕ, List, IsTrue, true, map, length, IfOk, IfErr, OnOk, OnErr, slice_set};
+ghost use Rattle.std.specs.Prelude.{◌≡◌, ◌≤◌, ◌<◌, ◌+◌, ◌-◌, ◌↔◌, ℕ, List, IsTrue, true, map};
+ghost use Rattle.std.specs.Prelude.{length, IfOk, IfErr, OnOk, OnErr, slice_set};
 ghost use Rattle.std.specs.List.{All};
 ghost use Rattle.rg_home.specs.Pages.{PartFits};
 ghost use Rattle.rg_page.specs.Content.{Content, content_at};
@@ -14,7 +15,8 @@ ghost use Rattle.rg_page.specs.Seen.{Keeps, Reads};
 ghost use Rattle.rg_outside.specs.Faults.{Rose};
 ghost use Rattle.rg_record.specs.Applied.{parts_of, after_of};
 ghost use Rattle.rg_space.specs.Carries.{AllThere};
-ghost use Rattle.rg_space.specs.Redo.{with_part, with_parts, AllFit, redone, redone_on, RedoFits, HasRedoCause};
+ghost use Rattle.rg_space.specs.Redo.{with_part, with_parts, AllFit, redone, redone_on, RedoFits};
+ghost use Rattle.rg_space.specs.Redo.{HasRedoCause};
 ghost use Rattle.rg_space.specs.Space.{Agree, InStep, frames_of, index_of, capacity_in, undos_in};
 
 use crate::fault::RedoFault;

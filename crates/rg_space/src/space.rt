@@ -5,7 +5,8 @@
 // 2. A space is full exactly where a plan needs a page above its capacity.
 // 3. What a call says of pages is of the pages as they are afterwards. Where summaries and pages
 //    agree, a plan is the one that the definitions compute of these pages.
-ghost use Rattle.std.specs.Prelude.{◌≡◌, ◌⊎◌, ◌≤◌, ◌<◌, ◌+◌, ℕ, List, [], true, length, IfOk, IfErr, OnOk, OnErr, Some, None};
+ghost use Rattle.std.specs.Prelude.{◌≡◌, ◌⊎◌, ◌≤◌, ◌<◌, ◌+◌, ℕ, List, [], true, length, IfOk};
+ghost use Rattle.std.specs.Prelude.{IfErr, OnOk, OnErr, Some, None};
 ghost use Rattle.std.specs.Option.{option_copied};
 ghost use Rattle.rg_base.specs.RowBytes.{row_size};
 ghost use Rattle.rg_home.specs.Pages.{slot_of, PartFits};
@@ -23,10 +24,13 @@ ghost use Rattle.rg_space.specs.Carries.{AllThere};
 ghost use Rattle.rg_space.specs.Homes.{homes_on, values_on};
 ghost use Rattle.rg_home.specs.Rows.{row_at};
 ghost use Rattle.rg_home.specs.Undo.{over_before, undo_parts};
-ghost use Rattle.rg_space.specs.Applied.{IsApplicable, AreApplicable, AllHeld, Within, Writes, grown, wrote_part, wrote_all};
+ghost use Rattle.rg_space.specs.Applied.{IsApplicable, AreApplicable, AllHeld, Within, Writes};
+ghost use Rattle.rg_space.specs.Applied.{grown, wrote_part, wrote_all};
 ghost use Rattle.rg_space.specs.Took.{Took, HasRisen, IsRisen, IsHeldAt, slot_in};
-ghost use Rattle.rg_space.specs.Ready.{IsReady, AllReady, IsAtHand, HasCause, CanApplyRecord, record_applied, record_wrote};
-ghost use Rattle.rg_space.specs.Space.{Agree, InStep, frames_of, index_of, capacity_in, undos_in, with_frames};
+ghost use Rattle.rg_space.specs.Ready.{IsReady, AllReady, IsAtHand, HasCause, CanApplyRecord};
+ghost use Rattle.rg_space.specs.Ready.{record_applied, record_wrote};
+ghost use Rattle.rg_space.specs.Space.{Agree, InStep, frames_of, index_of, capacity_in, undos_in};
+ghost use Rattle.rg_space.specs.Space.{with_frames};
 
 use crate::fault::SpaceFault;
 use crate::homes::{homes_of, values_of};

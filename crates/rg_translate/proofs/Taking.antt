@@ -1,5 +1,7 @@
 -- The next changes of a backlog, one after another.
-use Rattle.std.proofs.Common.{◌≡◌, ℕ, ◌+◌, ◌<◌, zero, suc, Bool, true, false, List, [], ◌∷◌, ◌++◌, refl, sym, ◌∙◌, ap, add-one, arith, drop, if◌then◌else◌, length, length-drop, take}
+use Rattle.std.proofs.Common.{◌≡◌, ℕ, ◌+◌, ◌<◌, zero, suc, Bool, true, false, List, [], ◌∷◌, ◌++◌}
+use Rattle.std.proofs.Common.{refl, sym, ◌∙◌, ap, add-one, arith, drop, if◌then◌else◌, length}
+use Rattle.std.proofs.Common.{length-drop, take}
 use Rattle.rg_base.specs.declared.change.Change.{Change}
 use Rattle.rg_feed.specs.Ends.{Received}
 use Rattle.rg_feed.specs.Fold.Fold.{changes, since_begin}
@@ -28,28 +30,38 @@ drop_drop n (suc k) (x ∷ xs) =
     drop_drop n k xs ∙ ap (λ m. drop m (x ∷ xs)) e
 
 -- n from the k-th on, and the one behind them
-next-step : {A : Type 0} (n k m : ℕ) (xs : List A) → m ≡ k + n → take (n + 1) (drop k xs) ≡ take n (drop k xs) ++ take 1 (drop m xs)
+next-step : {A : Type 0} (n k m : ℕ) (xs : List A) → m ≡ k + n
+    → take (n + 1) (drop k xs) ≡ take n (drop k xs) ++ take 1 (drop m xs)
 next-step n k m xs e =
-    ap (λ m. take m (drop k xs)) (add-one n) ∙ take_suc n (drop k xs) ∙ ap (λ ys. take n (drop k xs) ++ take 1 ys) (drop_drop n k xs ∙ ap (λ m. drop m xs) (sym e))
+    ap (λ m. take m (drop k xs)) (add-one n) ∙ take_suc n (drop k xs)
+    ∙ ap (λ ys. take n (drop k xs) ++ take 1 ys) (drop_drop n k xs ∙ ap (λ m. drop m xs) (sym e))
 
-pub kept-append : (feed : List Item) (xs ys : List Change) → kept feed (xs ++ ys) ≡ kept feed xs ++ kept feed ys
+pub kept-append : (feed : List Item) (xs ys : List Change)
+    → kept feed (xs ++ ys) ≡ kept feed xs ++ kept feed ys
 kept-append feed [] ys = refl
 kept-append feed (x ∷ xs) ys = go (passes_over feed x) (kept-append feed xs ys)
   where
     go : (b : Bool) → kept feed (xs ++ ys) ≡ kept feed xs ++ kept feed ys
-        → (if b then kept feed (xs ++ ys) else x ∷ kept feed (xs ++ ys)) ≡ (if b then kept feed xs else x ∷ kept feed xs) ++ kept feed ys
+        → (if b then kept feed (xs ++ ys) else x ∷ kept feed (xs ++ ys))
+        ≡ (if b then kept feed xs else x ∷ kept feed xs) ++ kept feed ys
     go true e = e
     go false e = ap (λ zs. x ∷ zs) e
 
 -- the batch of one change more
-pub one_more : (n : ℕ) (start here : Received) → here.items ≡ start.items → here.taken ≡ start.taken + n
+pub one_more : (n : ℕ) (start here : Received) → here.items ≡ start.items
+    → here.taken ≡ start.taken + n
     → to_make (n + 1) start ≡ to_make n start ++ to_make 1 here
 one_more n start here items taken =
     let all = changes (since_begin start.items) in
     ap (kept (since_begin start.items)) (next-step n start.taken here.taken all taken)
-    ∙ kept-append (since_begin start.items) (take n (drop start.taken all)) (take 1 (drop here.taken all))
-    ∙ ap (λ (xs : List Item). kept (since_begin start.items) (take n (drop start.taken all)) ++ kept (since_begin xs) (take 1 (drop here.taken (changes (since_begin xs))))) (sym items)
+    ∙ kept-append (since_begin start.items) (take n (drop start.taken all))
+    (take 1 (drop here.taken all))
+    ∙ ap
+    (λ (xs : List Item). kept (since_begin start.items) (take n (drop start.taken all))
+    ++ kept (since_begin xs) (take 1 (drop here.taken (changes (since_begin xs))))) (sym items)
 
-pub grown : (n : ℕ) (start here : Received) (batch more : List Change) → here.items ≡ start.items → here.taken ≡ start.taken + n
+pub grown : (n : ℕ) (start here : Received) (batch more : List Change) → here.items ≡ start.items
+    → here.taken ≡ start.taken + n
     → batch ≡ to_make n start → more ≡ batch ++ to_make 1 here → more ≡ to_make (n + 1) start
-grown n start here batch more items taken is adds = adds ∙ ap (λ cs. cs ++ to_make 1 here) is ∙ sym (one_more n start here items taken)
+grown n start here batch more items taken is adds =
+    adds ∙ ap (λ cs. cs ++ to_make 1 here) is ∙ sym (one_more n start here items taken)

@@ -19,7 +19,8 @@ use Rattle.rg_feed.specs.Fold.Fold.{fold_to}
 use Rattle.rg_feed.specs.Fold.Last.{last_at}
 use Rattle.rg_laws_utility.specs.CopyWeight.Weighed.{weigh_changes}
 use Rattle.rg_shadow.specs.Planned.{AreUnlogged}
-use Rattle.rg_shadow.specs.Shade.{Refuses, Shade, lies_in, shade_slots, source_rows, stage_in, target_of}
+use Rattle.rg_shadow.specs.Shade.{Refuses, Shade, lies_in, shade_slots, source_rows, stage_in}
+use Rattle.rg_shadow.specs.Shade.{target_of}
 use Rattle.rg_shadow.specs.declared.drafts.IndexStage.TheVariants.{Built}
 use Rattle.rg_shadow.specs.declared.fault.ShadowFault.{ShadowFault}
 use Rattle.rg_shadow.specs.declared.fault.ShadowFault.TheVariants.{NoMemory, NoSpace}

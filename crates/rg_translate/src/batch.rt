@@ -4,7 +4,8 @@
 //    nothing was taken.
 // 2. A change that is passed over is taken out of the backlog like any other, and dropped: the copy
 //    of its own page already has what it left. Copies of other pages say nothing of it.
-ghost use Rattle.std.specs.Prelude.{◌≡◌, ◌+◌, ◌<◌, ◌≤◌, [], ◌++◌, min, vec_capacity, vec_len, IfOk, OnOk, OnErr};
+ghost use Rattle.std.specs.Prelude.{◌≡◌, ◌+◌, ◌<◌, ◌≤◌, [], ◌++◌, min, vec_capacity, vec_len, IfOk};
+ghost use Rattle.std.specs.Prelude.{OnOk, OnErr};
 ghost use Rattle.rg_translate.specs.Backlog.{SameItems, change_count, left, to_make};
 
 use rg_base::change::Change;

@@ -8,7 +8,8 @@ ghost use Rattle.rg_base.specs.declared.place.Place.{Place};
 ghost use Rattle.rg_feed.specs.Fold.Last.{applied_at};
 ghost use Rattle.rg_model.specs.Layout.{are_rising};
 ghost use Rattle.rg_shadow.specs.Shade.{source_rows};
-ghost use Rattle.rg_translate.specs.Caught.{ClaimsMore, IsFullBy, IsRefusedOf, KeepTargets, SameCopy, Unmoved};
+ghost use Rattle.rg_translate.specs.Caught.{ClaimsMore, IsFullBy, IsRefusedOf, KeepTargets};
+ghost use Rattle.rg_translate.specs.Caught.{SameCopy, Unmoved};
 
 use rg_base::change::Change;
 use rg_shadow::fault::ShadowFault;

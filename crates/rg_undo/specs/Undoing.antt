@@ -11,7 +11,8 @@ use Rattle.rg_page.specs.Content.{slots_of}
 use Rattle.rg_page.specs.Seen.{Seen}
 use Rattle.rg_record.specs.Applied.{parts_of}
 use Rattle.rg_record.specs.declared.record.Kind.{Kind}
-use Rattle.rg_record.specs.declared.record.Kind.TheVariants.{Change, Undo, Commit, RolledBack, Purge, Switch}
+use Rattle.rg_record.specs.declared.record.Kind.TheVariants.{Change, Undo, Commit, RolledBack}
+use Rattle.rg_record.specs.declared.record.Kind.TheVariants.{Purge, Switch}
 use Rattle.rg_record.specs.declared.record.Record.{Record}
 use Rattle.rg_space.specs.Carries.{AllThere}
 use Rattle.rg_space.specs.Indexed.{Indexed}

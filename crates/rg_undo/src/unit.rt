@@ -4,13 +4,16 @@
 //    is undone.
 // 2. Afterwards each home that the unit has written has the row that it had before, and no other
 //    row has changed.
-ghost use Rattle.std.specs.Prelude.{◌≡◌, ◌≤◌, ◌<◌, ◌+◌, ◌^◌, ◌++◌, ◌∷◌, [], true, length, IfOk, IfErr, OnOk, vec_len, vec_capacity};
+ghost use Rattle.std.specs.Prelude.{◌≡◌, ◌≤◌, ◌<◌, ◌+◌, ◌^◌, ◌++◌, ◌∷◌, [], true, length, IfOk};
+ghost use Rattle.std.specs.Prelude.{IfErr, OnOk, vec_len, vec_capacity};
 ghost use Rattle.rg_page.specs.Content.{slots_of};
 ghost use Rattle.rg_page.specs.Seen.{Keeps};
 ghost use Rattle.rg_space.specs.Space.{InStep, frames_of, index_of, capacity_in, undos_in};
 ghost use Rattle.rg_space.specs.Took.{HasRisen, IsRisen};
-ghost use Rattle.rg_undo.specs.Undoing.{AreChanges, undo_record, CanUndoChange, UndidChange, IfFirst, later_of};
-ghost use Rattle.rg_undo.specs.Unit.{undo_records, change_back, changes_back, CanUndoUnit, UndidUnit};
+ghost use Rattle.rg_undo.specs.Undoing.{AreChanges, undo_record, CanUndoChange, UndidChange};
+ghost use Rattle.rg_undo.specs.Undoing.{IfFirst, later_of};
+ghost use Rattle.rg_undo.specs.Unit.{undo_records, change_back, changes_back, CanUndoUnit};
+ghost use Rattle.rg_undo.specs.Unit.{UndidUnit};
 
 use crate::work::UndoWork;
 use rg_base::change::Change;

@@ -6,12 +6,14 @@
 //    units may write between two steps.
 // 3. Each step answers the record of the undo, which the caller puts into the log before it forces
 //    the log or lets the pages be written.
-ghost use Rattle.std.specs.Prelude.{◌≡◌, ◌≤◌, ◌<◌, ◌+◌, ◌^◌, ◌↔◌, IsTrue, [], true, length, Some, None, IsNone, IfOk, IfErr, OnOk};
+ghost use Rattle.std.specs.Prelude.{◌≡◌, ◌≤◌, ◌<◌, ◌+◌, ◌^◌, ◌↔◌, IsTrue, [], true, length, Some};
+ghost use Rattle.std.specs.Prelude.{None, IsNone, IfOk, IfErr, OnOk};
 ghost use Rattle.rg_page.specs.Content.{slots_of};
 ghost use Rattle.rg_page.specs.Seen.{Keeps};
 ghost use Rattle.rg_space.specs.Space.{InStep, frames_of, index_of, capacity_in, undos_in};
 ghost use Rattle.rg_space.specs.Took.{IsRisen};
-ghost use Rattle.rg_undo.specs.Undoing.{AreChanges, undo_record, CanUndoChange, UndidChange, IfFirst, later_of};
+ghost use Rattle.rg_undo.specs.Undoing.{AreChanges, undo_record, CanUndoChange, UndidChange};
+ghost use Rattle.rg_undo.specs.Undoing.{IfFirst, later_of};
 
 use crate::one::undo_one;
 use rg_base::no_memory::NoMemory;

@@ -1,5 +1,7 @@
 -- The rows whose homes are on a page.
-use Rattle.std.proofs.Common.{◌≡◌, ℕ, zero, suc, ◌+◌, ◌==◌, ◌&&◌, ◌≤◌, ◌<◌, nat_lt, Bool, true, false, List, [], ◌∷◌, ◌++◌, Option, Some, None, if◌then◌else◌, length, refl, sym, ap, subst, ◌∙◌, arith}
+use Rattle.std.proofs.Common.{◌≡◌, ℕ, zero, suc, ◌+◌, ◌==◌, ◌&&◌, ◌≤◌, ◌<◌, nat_lt, Bool, true}
+use Rattle.std.proofs.Common.{false, List, [], ◌∷◌, ◌++◌, Option, Some, None, if◌then◌else◌, length}
+use Rattle.std.proofs.Common.{refl, sym, ap, subst, ◌∙◌, arith}
 use Rattle.std.proofs.lemmas.Bool.{eqb-true}
 use Rattle.std.proofs.lemmas.Bool.Decides.{nat_tests}
 use Rattle.rg_base.specs.declared.place.Place.{Place}
@@ -27,23 +29,27 @@ same_slot n a = grind (arith, nat_tests)
 skip : (n a b : ℕ) (row : Option Row) (rest : List (Place × Row)) → (a ≡ b → ⊥)
     → row_in (home_with (place_on n a) row ++ rest) (place_on n b) ≡ row_in rest (place_on n b)
 skip n a b None rest h = refl
-skip n a b (Some row) rest h = ap (λ (t : Bool). if t then Some row else row_in rest (place_on n b)) (other_slot n a b h)
+skip n a b (Some row) rest h =
+    ap (λ (t : Bool). if t then Some row else row_in rest (place_on n b)) (other_slot n a b h)
 
 -- the row of this slot
 here : (n a : ℕ) (row : Option Row) (rest : List (Place × Row)) → row_in rest (place_on n a) ≡ None
     → row_in (home_with (place_on n a) row ++ rest) (place_on n a) ≡ row
 here n a None rest h = h
-here n a (Some row) rest h = ap (λ (t : Bool). if t then Some row else row_in rest (place_on n a)) (same_slot n a)
+here n a (Some row) rest h =
+    ap (λ (t : Bool). if t then Some row else row_in rest (place_on n a)) (same_slot n a)
 
 -- of the rows of slots from i on, none is of a slot below
-none_below : (at : Place → Slot) (n i count s : ℕ) → s < i → row_in (rows_from at n i count) (place_on n s) ≡ None
+none_below : (at : Place → Slot) (n i count s : ℕ) → s < i
+    → row_in (rows_from at n i count) (place_on n s) ≡ None
 none_below at n i zero s h = refl
 none_below at n i (suc count) s h =
     skip n i s (row_at at (place_on n i)) (rows_from at n (i + 1) count) (λ e. omega arith)
     ∙ none_below at n (i + 1) count s (omega arith)
 
 -- and none of a slot past them
-none_above : (at : Place → Slot) (n i count s : ℕ) → i + count ≤ s → row_in (rows_from at n i count) (place_on n s) ≡ None
+none_above : (at : Place → Slot) (n i count s : ℕ) → i + count ≤ s
+    → row_in (rows_from at n i count) (place_on n s) ≡ None
 none_above at n i zero s h = refl
 none_above at n i (suc count) s h =
     skip n i s (row_at at (place_on n i)) (rows_from at n (i + 1) count) (λ e. omega arith)
@@ -52,21 +58,30 @@ none_above at n i (suc count) s h =
 found : (at : Place → Slot) (n i count s : ℕ) → i ≤ s → s < i + count
     → row_in (rows_from at n i count) (place_on n s) ≡ row_at at (place_on n s)
 found at n i zero s l h = absurd (omega arith)
-found at n i (suc count) s l h = go (i == s) refl (λ (m : i + 1 ≤ s). found at n (i + 1) count s m (omega arith))
+found at n i (suc count) s l h =
+    go (i == s) refl (λ (m : i + 1 ≤ s). found at n (i + 1) count s m (omega arith))
   where
     below : (a b : ℕ) → (a == b) ≡ false → a ≡ b → ⊥
     below a b e f = grind (arith, nat_tests)
 
     go : (t : Bool) → (i == s) ≡ t
-        → (i + 1 ≤ s → row_in (rows_from at n (i + 1) count) (place_on n s) ≡ row_at at (place_on n s))
-        → row_in (home_with (place_on n i) (row_at at (place_on n i)) ++ rows_from at n (i + 1) count) (place_on n s) ≡ row_at at (place_on n s)
+        → (i + 1 ≤ s
+        → row_in (rows_from at n (i + 1) count) (place_on n s) ≡ row_at at (place_on n s))
+        →
+        row_in (home_with (place_on n i) (row_at at (place_on n i)) ++ rows_from at n (i + 1) count)
+        (place_on n s) ≡ row_at at (place_on n s)
     go true e rest =
-        subst (λ (k : ℕ). row_in (home_with (place_on n i) (row_at at (place_on n i)) ++ rows_from at n (i + 1) count) (place_on n k) ≡ row_at at (place_on n k))
+        subst
+        (λ (k : ℕ).
+        row_in (home_with (place_on n i) (row_at at (place_on n i)) ++ rows_from at n (i + 1) count)
+        (place_on n k) ≡ row_at at (place_on n k))
         (eqb-true i s e)
-        (here n i (row_at at (place_on n i)) (rows_from at n (i + 1) count) (none_below at n (i + 1) count i (omega arith)))
+        (here n i (row_at at (place_on n i)) (rows_from at n (i + 1) count)
+        (none_below at n (i + 1) count i (omega arith)))
     go false e rest =
         let off : (i ≡ s → ⊥) = below i s e in
-        skip n i s (row_at at (place_on n i)) (rows_from at n (i + 1) count) off ∙ rest (omega (arith, off))
+        skip n i s (row_at at (place_on n i)) (rows_from at n (i + 1) count) off
+        ∙ rest (omega (arith, off))
 
 past : (slots : List Slot) (s : ℕ) → length slots ≤ s → slot_at slots s ≡ Free
 past [] s h = refl
@@ -89,15 +104,19 @@ row_of_copy pages n s = go (nat_lt s (length (page_at pages n))) refl
     go true e = found (slot_of pages) n 0 (length (page_at pages n)) s (omega arith)
         (omega (arith, is_below s (length (page_at pages n)) e))
     go false e =
-        none_above (slot_of pages) n 0 (length (page_at pages n)) s (omega (arith, is_not s (length (page_at pages n)) e))
-        ∙ sym (ap (home_row (slot_of pages)) (past (page_at pages n) s (is_not s (length (page_at pages n)) e)))
+        none_above (slot_of pages) n 0 (length (page_at pages n)) s
+        (omega (arith, is_not s (length (page_at pages n)) e))
+        ∙ sym
+        (ap (home_row (slot_of pages))
+        (past (page_at pages n) s (is_not s (length (page_at pages n)) e)))
 
 -- the rows have different homes, all on the page
 rows_of_from : (at : Place → Slot) (n i count : ℕ) → AreRowsOf n (rows_from at n i count)
 rows_of_from at n i zero = tt
 rows_of_from at n i (suc count) = go (row_at at (place_on n i)) (rows_of_from at n (i + 1) count)
   where
-    go : (row : Option Row) → AreRowsOf n (rows_from at n (i + 1) count) → AreRowsOf n (home_with (place_on n i) row ++ rows_from at n (i + 1) count)
+    go : (row : Option Row) → AreRowsOf n (rows_from at n (i + 1) count)
+        → AreRowsOf n (home_with (place_on n i) row ++ rows_from at n (i + 1) count)
     go None rest = rest
     go (Some row) rest = (refl, none_below at n (i + 1) count i (omega arith), rest)
 

@@ -1,7 +1,9 @@
 -- What entries list of rows: each has its row, and two of them have two rows.
-use Rattle.std.proofs.Common.{◌≡◌, ◌==◌, ◌&&◌, ◌≤◌, ℕ, ◌+◌, true, List, [], ◌∷◌, Option, Some, None, refl, sym, ◌∙◌, subst, inl, inr, arith}
+use Rattle.std.proofs.Common.{◌≡◌, ◌==◌, ◌&&◌, ◌≤◌, ℕ, ◌+◌, true, List, [], ◌∷◌, Option, Some, None}
+use Rattle.std.proofs.Common.{refl, sym, ◌∙◌, subst, inl, inr, arith}
 use Rattle.std.specs.Prelude.{nat_le}
-use Rattle.std.proofs.lemmas.Bool.{and_parts, eqb-true, leb-true, or_cases, or_left, or_right, false≢true}
+use Rattle.std.proofs.lemmas.Bool.{and_parts, eqb-true, leb-true, or_cases, or_left, or_right}
+use Rattle.std.proofs.lemmas.Bool.{false≢true}
 use Rattle.std.proofs.lemmas.Bool.Decides.{nat_tests}
 use Rattle.rg_base.specs.declared.place.Place.{Place}
 use Rattle.rg_base.specs.declared.row.Row.{Row}
@@ -19,7 +21,9 @@ pub record IsRowOf (which : Which) (rows : Place → Option Row) (e : ℕ × Pla
   pub value : value_of which row ≡ e.0
 
 -- each entry of a list is one that the list has
-each_member : (all es : List (ℕ × Place)) → ((q : ℕ × Place) → has_entry es q ≡ true → has_entry all q ≡ true) → Each (λ e. has_entry all e ≡ true) es
+each_member : (all es : List (ℕ × Place))
+    → ((q : ℕ × Place) → has_entry es q ≡ true → has_entry all q ≡ true)
+    → Each (λ e. has_entry all e ≡ true) es
 each_member all [] among = tt
 each_member all (e ∷ es) among = (
   among e (or_left (same_entry e e) (has_entry es e) (same_itself e)),
@@ -29,22 +33,31 @@ each_member all (e ∷ es) among = (
 pub itself_there : (es : List (ℕ × Place)) → Each (λ e. has_entry es e ≡ true) es
 itself_there es = each_member es es (λ q there. there)
 
-pub row_there : (which : Which) (rows : Place → Option Row) (e : ℕ × Place) → has_value which e.0 (rows e.1) ≡ true → IsRowOf which rows e
+pub row_there : (which : Which) (rows : Place → Option Row) (e : ℕ × Place)
+    → has_value which e.0 (rows e.1) ≡ true → IsRowOf which rows e
 row_there which rows e has = go (rows e.1) refl has
   where
     go : (row : Option Row) → rows e.1 ≡ row → has_value which e.0 row ≡ true → IsRowOf which rows e
     go None is has = absurd (false≢true has)
-    go (Some row) is has = record { row = row; is = is; value = sym (eqb-true e.0 (value_of which row) has) }
+    go (Some row) is has =
+        record { row = row; is = is; value = sym (eqb-true e.0 (value_of which row) has) }
 
-pub each_row : (which : Which) (rows : Place → Option Row) (es : List (ℕ × Place)) → IsListingOf which rows es → Each (IsRowOf which rows) es
-each_row which rows es is = Each-map (λ e. has_entry es e ≡ true) (IsRowOf which rows) (λ e there. row_there which rows e (sym (is e.0 e.1) ∙ there)) es (itself_there es)
+pub each_row : (which : Which) (rows : Place → Option Row) (es : List (ℕ × Place))
+    → IsListingOf which rows es → Each (IsRowOf which rows) es
+each_row which rows es is = Each-map (λ e. has_entry es e ≡ true) (IsRowOf which rows)
+    (λ e there. row_there which rows e (sym (is e.0 e.1) ∙ there)) es (itself_there es)
 
--- an entry that is not below another in value, and before it, has the same value, and its place is before
-pub same_value : (a b : ℕ × Place) → is_entry_before a b ≡ true → b.0 ≤ a.0 → (a.0 ≡ b.0) × (is_place_before a.1 b.1 ≡ true)
-same_value a b before le = elim (or_cases (nat_le (a.0 + 1) b.0) (a.0 == b.0 && is_place_before a.1 b.1) before) [
-  | inl less ↦ absurd (omega (arith, leb-true (a.0 + 1) b.0 less))
-  | inr same ↦ (let parts = and_parts (a.0 == b.0) (is_place_before a.1 b.1) same in (eqb-true a.0 b.0 parts.0, parts.1))
-]
+-- an entry that is not below another in value, and before it, has the same value, and its place is
+-- before
+pub same_value : (a b : ℕ × Place) → is_entry_before a b ≡ true → b.0 ≤ a.0
+    → (a.0 ≡ b.0) × (is_place_before a.1 b.1 ≡ true)
+same_value a b before le =
+    elim (or_cases (nat_le (a.0 + 1) b.0) (a.0 == b.0 && is_place_before a.1 b.1) before) [
+      | inl less ↦ absurd (omega (arith, leb-true (a.0 + 1) b.0 less))
+      | inr same ↦
+          (let parts = and_parts (a.0 == b.0) (is_place_before a.1 b.1) same in
+          (eqb-true a.0 b.0 parts.0, parts.1))
+    ]
 
 pub not_itself : (p q : Place) → is_place_before p q ≡ true → p ≡ q → ⊥
 not_itself p q before e = never p (subst (λ r. is_place_before p r ≡ true) (sym e) before)

@@ -4,7 +4,8 @@
 //    listed at its home.
 // 2. Room for additions is reserved first. `replace` takes none, and cannot fail half-way.
 // 3. Looking up a key, or an entry of a `cat`, takes no memory and logarithmic time.
-ghost use Rattle.std.specs.Prelude.{◌≡◌, ◌≤◌, ◌+◌, ℕ, [], true, false, Option, IfOk, IfSome, IfNone, OnOk, OnErr, nat_le, find, length};
+ghost use Rattle.std.specs.Prelude.{◌≡◌, ◌≤◌, ◌+◌, ℕ, [], true, false, Option, IfOk, IfSome};
+ghost use Rattle.std.specs.Prelude.{IfNone, OnOk, OnErr, nat_le, find, length};
 ghost use Rattle.std.specs.Option.{option_copied};
 ghost use Rattle.rg_base.specs.declared.place.Place.{Place};
 ghost use Rattle.rg_base.specs.declared.row.Row.{Row};

@@ -1,5 +1,6 @@
 // Laws of what indexes list. None of these functions does anything.
-ghost use Rattle.std.specs.Prelude.{◌≡◌, ℕ, List, Option, None, true, false, IsPermutation, IsSorted, length};
+ghost use Rattle.std.specs.Prelude.{◌≡◌, ℕ, List, Option, None, true, false, IsPermutation};
+ghost use Rattle.std.specs.Prelude.{IsSorted, length};
 ghost use Rattle.std.specs.Ordering.{nat_cmp};
 ghost use Rattle.rg_base.specs.declared.place.Place.{Place};
 ghost use Rattle.rg_base.specs.declared.row.Row.{Row};

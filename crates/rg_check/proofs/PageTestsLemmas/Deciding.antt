@@ -1,5 +1,6 @@
 -- Whether an undo has what it needs.
-use Rattle.std.proofs.Common.{◌≡◌, ◌≤◌, ◌<◌, inl, inr, true, false, List, Option, Some, None, refl, sym, ◌∙◌, ap, subst, arith}
+use Rattle.std.proofs.Common.{◌≡◌, ◌≤◌, ◌<◌, inl, inr, true, false, List, Option, Some, None, refl}
+use Rattle.std.proofs.Common.{sym, ◌∙◌, ap, subst, arith}
 use Rattle.rg_base.specs.RowBytes.{row_size}
 use Rattle.rg_base.specs.declared.place.Place.{Place}
 use Rattle.rg_base.specs.declared.row.Row.{Row as TableRow}
@@ -68,14 +69,19 @@ module _ (at : Place → Slot) (home : Place) (over : Option Place) where
   insert_lacks e = (λ n. cc (e, row_is here, n.2), sym (ap (named_of home over) e))
 
   module _ (row : TableRow) where
-    pub home_lacks : is_home (outline_of here) ≡ false → IsBreach at home (Some row) over (Some home)
-    home_lacks e = (λ n. says_no (is_home (outline_of here)) (IsHomeOf None here) e (home_says here) n.0, sym (ap (named_of home over) e))
+    pub home_lacks : is_home (outline_of here) ≡ false
+        → IsBreach at home (Some row) over (Some home)
+    home_lacks e = (
+      λ n. says_no (is_home (outline_of here)) (IsHomeOf None here) e (home_says here) n.0,
+      sym (ap (named_of home over) e),
+    )
 
     module _ (is : is_home (outline_of here) ≡ true) where
       there : IsHomeOf None here
       there = says_yes (is_home (outline_of here)) (IsHomeOf None here) is (home_says here)
 
-      pub home_fits : row_size row ≤ capacity_in (outline_of here) → IsBreach at home (Some row) over None
+      pub home_fits : row_size row ≤ capacity_in (outline_of here)
+          → IsBreach at home (Some row) over None
       home_fits fits = (there, inl (omega (arith, fits, capacity_is here)), tt)
 
       module _ (big : capacity_in (outline_of here) < row_size row) where
@@ -83,31 +89,52 @@ module _ (at : Place → Slot) (home : Place) (over : Option Place) where
         too_big le = omega (arith, le, big, capacity_is here)
 
         pub none_known : over ≡ None → IsBreach at home (Some row) over (Some home)
-        none_known e = subst (λ (o : Option Place). IsBreach at home (Some row) o (Some home)) (sym e) (lacks, sym (ap (named_of home None) is))
+        none_known e = subst (λ (o : Option Place). IsBreach at home (Some row) o (Some home))
+            (sym e) (lacks, sym (ap (named_of home None) is))
           where
             lacks : IsNeeded at home (Some row) None → ⊥
             lacks (h, inl le, t) = too_big le
             lacks (h, inr none, t) = none
 
         module _ (area : Place) (known : over ≡ Some area) where
-          pub area_fits : is_area_of home (outline_of (at area)) ≡ true → row_size row ≤ capacity_in (outline_of (at area)) → IsBreach at home (Some row) over None
-          area_fits e le = subst (λ (o : Option Place). IsBreach at home (Some row) o None) (sym known)
-              (there, inr (says_yes (is_area_of home (outline_of (at area))) (IsAreaOf None home (at area)) e (area_says home (at area)), omega (arith, le, capacity_is (at area))), tt)
+          pub area_fits : is_area_of home (outline_of (at area)) ≡ true
+              → row_size row ≤ capacity_in (outline_of (at area))
+              → IsBreach at home (Some row) over None
+          area_fits e le =
+              subst (λ (o : Option Place). IsBreach at home (Some row) o None) (sym known) (
+                there,
+                inr (
+                  says_yes (is_area_of home (outline_of (at area))) (IsAreaOf None home (at area)) e
+                      (area_says home (at area)),
+                  omega (arith, le, capacity_is (at area)),
+                ),
+                tt,
+              )
 
-          pub area_lacks : (IsAreaOf None home (at area) × (row_size row ≤ capacity_in (outline_of (at area))) → ⊥) → IsBreach at home (Some row) over (Some area)
-          area_lacks denied = subst (λ (o : Option Place). IsBreach at home (Some row) o (Some area)) (sym known) (lacks, sym (ap (named_of home (Some area)) is))
+          pub area_lacks :
+              (IsAreaOf None home (at area) × (row_size row ≤ capacity_in (outline_of (at area)))
+              → ⊥) → IsBreach at home (Some row) over (Some area)
+          area_lacks denied =
+              subst (λ (o : Option Place). IsBreach at home (Some row) o (Some area)) (sym known)
+              (lacks, sym (ap (named_of home (Some area)) is))
             where
               lacks : IsNeeded at home (Some row) (Some area) → ⊥
               lacks (h, inl le, t) = too_big le
               lacks (h, inr both, t) = denied (both.0, omega (arith, both.1, capacity_is (at area)))
 
-          pub area_other : is_area_of home (outline_of (at area)) ≡ false → IsBreach at home (Some row) over (Some area)
-          area_other e = area_lacks (λ both. says_no (is_area_of home (outline_of (at area))) (IsAreaOf None home (at area)) e (area_says home (at area)) both.0)
+          pub area_other : is_area_of home (outline_of (at area)) ≡ false
+              → IsBreach at home (Some row) over (Some area)
+          area_other e = area_lacks
+              (λ both. says_no (is_area_of home (outline_of (at area)))
+              (IsAreaOf None home (at area)) e (area_says home (at area)) both.0)
 
-          pub area_small : capacity_in (outline_of (at area)) < row_size row → IsBreach at home (Some row) over (Some area)
+          pub area_small : capacity_in (outline_of (at area)) < row_size row
+              → IsBreach at home (Some row) over (Some area)
           area_small lt = area_lacks (λ both. omega (arith, lt, both.1))
 
 -- as said of a write
-pub breaks : (pages : List (List Slot)) (c : Written) (breach : Option Place) → IsBreach (slot_of pages) c.home c.before (over_before c.parts) breach → BreaksOf pages c breach
+pub breaks : (pages : List (List Slot)) (c : Written) (breach : Option Place)
+    → IsBreach (slot_of pages) c.home c.before (over_before c.parts) breach
+    → BreaksOf pages c breach
 breaks pages c None n = (record { home = n.0; fits = n.1 }, n.2)
 breaks pages c (Some p) n = (λ need. n.0 (need.0.home, need.0.fits, need.1), n.1)

@@ -15,7 +15,13 @@ looked_more a b c x y = record {
 
 pub looked_same : (a : Seen) → Looked a a
 looked_same a = record {
-  reads = record { keeps = keeps_same a; count = refl; same = λ s. refl; as_was = λ p f. refl; forced = refl };
+  reads = record {
+    keeps = keeps_same a;
+    count = refl;
+    same = λ s. refl;
+    as_was = λ p f. refl;
+    forced = refl;
+  };
   reserved = refl;
   idle = omega arith;
 }
@@ -37,7 +43,11 @@ looked_let_go a b g = record {
 }
 
 -- what was given up, by two calls
-pub gave_next : {F : Type 0} (gave : List Content → ℕ → F → F → Type 0) (x y z : F) (a b c : Seen) → Reads a b → Reads b c
-    → ((c.sure ≡ true → gave a.pages a.forced y z) → gave a.pages a.forced x z) → gave b.pages b.forced y z → gave a.pages a.forced x z
+pub gave_next : {F : Type 0} (gave : List Content → ℕ → F → F → Type 0) (x y z : F) (a b c : Seen)
+    → Reads a b → Reads b c
+    → ((c.sure ≡ true → gave a.pages a.forced y z) → gave a.pages a.forced x z)
+    → gave b.pages b.forced y z → gave a.pages a.forced x z
 gave_next gave x y z a b c ab bc law step =
-    law (λ sure. subst (λ (n : ℕ). gave a.pages n y z) ab.forced (subst (λ (ps : List Content). gave ps b.forced y z) (ab.same (bc.keeps.sure sure)) step))
+    law
+    (λ sure. subst (λ (n : ℕ). gave a.pages n y z) ab.forced
+    (subst (λ (ps : List Content). gave ps b.forced y z) (ab.same (bc.keeps.sure sure)) step))

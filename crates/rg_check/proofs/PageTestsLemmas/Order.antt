@@ -1,5 +1,7 @@
 -- Places in order, and rules that hold of places so far.
-use Rattle.std.proofs.Common.{◌≡◌, ◌≤◌, ◌<◌, inl, inr, true, false, ℕ, zero, suc, ◌+◌, List, [], ◌∷◌, Option, Some, None, length, get_or, refl, sym, ap, subst, ◌∙◌, arith}
+use Rattle.std.proofs.Common.{◌≡◌, ◌≤◌, ◌<◌, inl, inr, true, false, ℕ, zero, suc, ◌+◌, List, []}
+use Rattle.std.proofs.Common.{◌∷◌, Option, Some, None, length, get_or, refl, sym, ap, subst, ◌∙◌}
+use Rattle.std.proofs.Common.{arith}
 use Rattle.std.specs.Option.{is_some}
 use Rattle.std.proofs.lemmas.Bool.{cases_lt}
 use Rattle.rg_base.specs.declared.place.Place.{Place}
@@ -51,11 +53,14 @@ past [] n d le = refl
 past (x ∷ xs) zero d le = absurd (omega arith)
 past (x ∷ xs) (suc n) d le = past xs n d (omega arith)
 
-pub no_slot : (pages : List (List Slot)) (p : Place) → length (page_at pages p.page) ≤ p.slot → slot_of pages p ≡ Free
+pub no_slot : (pages : List (List Slot)) (p : Place) → length (page_at pages p.page) ≤ p.slot
+    → slot_of pages p ≡ Free
 no_slot pages p le = past (page_at pages p.page) p.slot Free le
 
-pub no_page : (pages : List (List Slot)) (p : Place) → length pages < p.page → slot_of pages p ≡ Free
-no_page pages p above = ap (λ (slots : List Slot). slot_at slots p.slot) (past ([] ∷ pages) p.page [] (omega arith))
+pub no_page : (pages : List (List Slot)) (p : Place) → length pages < p.page
+    → slot_of pages p ≡ Free
+no_page pages p above =
+    ap (λ (slots : List Slot). slot_at slots p.slot) (past ([] ∷ pages) p.page [] (omega arith))
 
 pub page_zero : (pages : List (List Slot)) (p : Place) → p.page ≡ 0 → slot_of pages p ≡ Free
 page_zero pages p e = ap (λ (n : ℕ). slot_at (page_at pages n) p.slot) e
@@ -86,7 +91,8 @@ module _ (Rule : Place → Type 0) where
     | inr below ↦ so_far p below
   ]
 
-  pub least_found : (n : ℕ) (p : Place) → HoldsTo n → IsLeastOnPage Rule (n + 1) (Some p) → IsLeastBreach Rule (Some p)
+  pub least_found : (n : ℕ) (p : Place) → HoldsTo n → IsLeastOnPage Rule (n + 1) (Some p)
+      → IsLeastBreach Rule (Some p)
   least_found n p so_far found = (found.1, go)
     where
       go : (q : Place) → IsBefore q p → Rule q
@@ -94,20 +100,24 @@ module _ (Rule : Place → Type 0) where
       go q (inr both) = found.2 q (both.0 ∙ found.0) both.1
 
   -- the same of what a walk of the next page answers
-  pub to_more_of : (n : ℕ) (found : Option Place) → is_some found ≡ false → HoldsTo n → IsLeastOnPage Rule (n + 1) found → HoldsTo (n + 1)
+  pub to_more_of : (n : ℕ) (found : Option Place) → is_some found ≡ false → HoldsTo n
+      → IsLeastOnPage Rule (n + 1) found → HoldsTo (n + 1)
   to_more_of n None e so_far page = to_more n so_far page
   to_more_of n (Some p) e so_far page = absurd (cc (e))
 
-  pub least_of : (n : ℕ) (found : Option Place) → is_some found ≡ true → HoldsTo n → IsLeastOnPage Rule (n + 1) found → IsLeastBreach Rule found
+  pub least_of : (n : ℕ) (found : Option Place) → is_some found ≡ true → HoldsTo n
+      → IsLeastOnPage Rule (n + 1) found → IsLeastBreach Rule found
   least_of n None e so_far page = absurd (cc (e))
   least_of n (Some p) e so_far page = least_found n p so_far page
 
   -- where it holds of each slot that is Free
   module _ (pages : List (List Slot)) (free : (p : Place) → slot_of pages p ≡ Free → Rule p) where
-    pub on_all : (n count : ℕ) → count ≡ length (page_at pages n) → HoldsOn n count → IsLeastOnPage Rule n None
+    pub on_all : (n count : ℕ) → count ≡ length (page_at pages n) → HoldsOn n count
+        → IsLeastOnPage Rule n None
     on_all n count is so_far p e = elim (cases_lt p.slot count) [
       | inl below ↦ so_far p e below
-      | inr le ↦ free p (no_slot pages p (omega (arith, le, is, ap (λ (k : ℕ). length (page_at pages k)) e)))
+      | inr le ↦ free p
+          (no_slot pages p (omega (arith, le, is, ap (λ (k : ℕ). length (page_at pages k)) e)))
     ]
 
     pub to_none : HoldsTo 0

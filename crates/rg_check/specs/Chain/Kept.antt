@@ -1,10 +1,13 @@
 -- How what is kept stands to the records so far.
-use Rattle.std.specs.Prelude.{◌≡◌, ◌≤◌, ◌-◌, ◌*◌, ℕ, false, List, [], ◌∷◌, length, Option, Some, None, slice_index_or, sum_by}
+use Rattle.std.specs.Prelude.{◌≡◌, ◌≤◌, ◌-◌, ◌*◌, ℕ, false, List, [], ◌∷◌, length, Option, Some}
+use Rattle.std.specs.Prelude.{None, slice_index_or, sum_by}
 use Rattle.rg_record.specs.declared.record.Kind.{Kind}
-use Rattle.rg_record.specs.declared.record.Kind.TheVariants.{Change, Undo, Commit, RolledBack, Purge, Switch}
+use Rattle.rg_record.specs.declared.record.Kind.TheVariants.{Change, Undo, Commit, RolledBack}
+use Rattle.rg_record.specs.declared.record.Kind.TheVariants.{Purge, Switch}
 use Rattle.rg_record.specs.declared.record.Record.{Record}
 use Rattle.rg_image.specs.Meaning.{current_of}
-use Rattle.rg_image.specs.Rules.{Done, of_tran, last_position, greatest_tran, is_ended, has_undo, not_undone}
+use Rattle.rg_image.specs.Rules.{Done, of_tran, last_position, greatest_tran, is_ended, has_undo}
+use Rattle.rg_image.specs.Rules.{not_undone}
 use Rattle.rg_check.specs.declared.chain.unit.Unit.{Unit}
 use Rattle.rg_check.specs.Chain.Running.{Running, owed_unit}
 

@@ -1,7 +1,9 @@
 -- What is kept of the records so far, and what one more record makes of it.
-use Rattle.std.specs.Prelude.{ℕ, ◌+◌, ◌-◌, ◌*◌, true, false, if◌then◌else◌, nat_le, List, [], ◌∷◌, ◌++◌, length, slice_index_or, slice_set}
+use Rattle.std.specs.Prelude.{ℕ, ◌+◌, ◌-◌, ◌*◌, true, false, if◌then◌else◌, nat_le, List, [], ◌∷◌}
+use Rattle.std.specs.Prelude.{◌++◌, length, slice_index_or, slice_set}
 use Rattle.rg_record.specs.declared.record.Kind.{Kind}
-use Rattle.rg_record.specs.declared.record.Kind.TheVariants.{Change, Undo, Commit, RolledBack, Purge, Switch}
+use Rattle.rg_record.specs.declared.record.Kind.TheVariants.{Change, Undo, Commit, RolledBack}
+use Rattle.rg_record.specs.declared.record.Kind.TheVariants.{Purge, Switch}
 use Rattle.rg_image.specs.Meaning.{Current}
 use Rattle.rg_check.specs.declared.chain.unit.Unit.{Unit}
 

@@ -2,10 +2,12 @@
 //    current copy, and what ending the open transactions takes.
 // 2. A transaction is drawn with the next number, so transactions are kept in order, without gaps.
 // 3. No transaction is open where nothing is owed.
-ghost use Rattle.std.specs.Prelude.{◌≡◌, ◌≤◌, ◌<◌, ◌+◌, ◌-◌, ◌*◌, ◌^◌, ◌++◌, ◌∷◌, [], ◌↔◌, IsTrue, OnOk, false, length, List, ℕ, nat_le, if◌then◌else◌, sum_by};
+ghost use Rattle.std.specs.Prelude.{◌≡◌, ◌≤◌, ◌<◌, ◌+◌, ◌-◌, ◌*◌, ◌^◌, ◌++◌, ◌∷◌, [], ◌↔◌, IsTrue};
+ghost use Rattle.std.specs.Prelude.{OnOk, false, length, List, ℕ, nat_le, if◌then◌else◌, sum_by};
 ghost use Rattle.rg_record.specs.Spelled.{IsRecord};
 ghost use Rattle.rg_image.specs.Meaning.{Current, raised, current_after};
-ghost use Rattle.rg_image.specs.Rules.{Done, has_undo, Undoes, IsOfTran, IsOpen, KindFollows, IsChained, owed};
+ghost use Rattle.rg_image.specs.Rules.{Done, has_undo, Undoes, IsOfTran, IsOpen, KindFollows};
+ghost use Rattle.rg_image.specs.Rules.{IsChained, owed};
 ghost use Rattle.rg_check.specs.Chain.Kept.{AreDone, IsKept, IsUnit};
 ghost use Rattle.rg_check.specs.Chain.Running.{owed_unit, put_unit, unit_at};
 

@@ -4,7 +4,8 @@
 //    alone. The least place whose row is not is named.
 // 2. Where each row is stored, a stored row may have no home. No place can be named then.
 // 3. The homes are walked once, by rising place, and then the stored rows once.
-ghost use Rattle.std.specs.Prelude.{◌≡◌, ◌≤◌, ℕ, true, length, IsTrue, IfOk, IfErr, OnOk, Some, None, Option};
+ghost use Rattle.std.specs.Prelude.{◌≡◌, ◌≤◌, ℕ, true, length, IsTrue, IfOk, IfErr, OnOk, Some};
+ghost use Rattle.std.specs.Prelude.{None, Option};
 ghost use Rattle.std.specs.FinMap as map;
 ghost use Rattle.std.specs.Option.{option_copied, option_map};
 ghost use Rattle.rg_base.specs.First.{IsFirstFrom};

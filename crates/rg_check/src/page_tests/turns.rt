@@ -4,7 +4,8 @@
 // 2. The first Change that lacks what its undo needs is answered by its place, and no later one is
 //    undone. The space is then to be dropped, as after a fault.
 // 3. Each Change that is undone has a record for it, which the caller puts into the log.
-ghost use Rattle.std.specs.Prelude.{◌≡◌, ◌≤◌, ◌<◌, ◌+◌, ◌^◌, true, length, IfOk, IfErr, OnOk, IfSome};
+ghost use Rattle.std.specs.Prelude.{◌≡◌, ◌≤◌, ◌<◌, ◌+◌, ◌^◌, true, length, IfOk, IfErr, OnOk};
+ghost use Rattle.std.specs.Prelude.{IfSome};
 ghost use Rattle.rg_page.specs.Seen.{Keeps};
 ghost use Rattle.rg_space.specs.Space.{InStep, frames_of, index_of, capacity_in, undos_in};
 ghost use Rattle.rg_space.specs.Took.{HasRisen};

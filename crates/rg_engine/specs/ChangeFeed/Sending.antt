@@ -4,7 +4,8 @@
 -- 1. The items stand to the rows as the stage asks, where the log has so many records.
 -- 2. As many pages are copied among them as the stage says, and as many rows.
 -- 3. The writes of each open unit are those that the entries count.
-use Rattle.std.specs.Prelude.{◌≡◌, ◌<◌, ◌+◌, ◌++◌, ℕ, Bool, true, false, List, [], Option, Some, None, length}
+use Rattle.std.specs.Prelude.{◌≡◌, ◌<◌, ◌+◌, ◌++◌, ℕ, Bool, true, false, List, [], Option, Some}
+use Rattle.std.specs.Prelude.{None, length}
 use Rattle.std.specs.List.{AllByRecursion}
 use Rattle.rg_base.specs.declared.change.Change.{Change}
 use Rattle.rg_base.specs.declared.session.Session.{Session}

@@ -12,7 +12,8 @@ one_place a b e =
     λ i. record { page = page i; slot = slot i }
 
 pub place_itself : (a : Place) → same_place a a ≡ true
-place_itself a = and_from (a.page == a.page) (a.slot == a.slot) (eq-eqb a.page a.page refl) (eq-eqb a.slot a.slot refl)
+place_itself a = and_from (a.page == a.page) (a.slot == a.slot) (eq-eqb a.page a.page refl)
+    (eq-eqb a.slot a.slot refl)
 
 pub either_way : {A : Type 0} (b : Bool) (x : A) → (if b then x else x) ≡ x
 either_way true x = refl

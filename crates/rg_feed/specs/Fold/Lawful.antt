@@ -5,7 +5,8 @@
 --     what the change left. Copies of other pages say nothing of it.
 -- (4) So a utility that loads all copies first, and then makes the changes that are not passed
 --     over, comes to the fold of the feed.
-use Rattle.std.specs.Prelude.{◌≡◌, ◌==◌, ◌&&◌, ◌||◌, ℕ, ◌<◌, ◌≤◌, nat_le, Bool, false, List, [], ◌∷◌, Option, None, if◌then◌else◌}
+use Rattle.std.specs.Prelude.{◌≡◌, ◌==◌, ◌&&◌, ◌||◌, ℕ, ◌<◌, ◌≤◌, nat_le, Bool, false, List, []}
+use Rattle.std.specs.Prelude.{◌∷◌, Option, None, if◌then◌else◌}
 use Rattle.std.specs.List.{AllByRecursion}
 use Rattle.rg_base.specs.declared.change.Change.{Change}
 use Rattle.rg_base.specs.declared.place.Place.{Place}

@@ -7,7 +7,8 @@
 -- 4. An entry that changes no row needs nothing sent, where the stage has the same pages, and no
 --    key becomes quiet (`EntryIsPassed`). Once the copies are switched nothing is asked of the rows
 --    (`SwitchIsPassed`).
-use Rattle.std.specs.Prelude.{◌≡◌, ◌≤◌, ◌<◌, ◌+◌, ◌++◌, ℕ, true, false, List, [], ◌∷◌, Option, Some, None, length}
+use Rattle.std.specs.Prelude.{◌≡◌, ◌≤◌, ◌<◌, ◌+◌, ◌++◌, ℕ, true, false, List, [], ◌∷◌, Option, Some}
+use Rattle.std.specs.Prelude.{None, length}
 use Rattle.std.specs.List.{AllByRecursion}
 use Rattle.rg_base.specs.declared.change.Change.{Change}
 use Rattle.rg_base.specs.declared.options.Options.{Options}

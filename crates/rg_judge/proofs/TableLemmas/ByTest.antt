@@ -1,5 +1,6 @@
 -- Tests of numbers and of truth values.
-use Rattle.std.proofs.Common.{◌≡◌, ◌==◌, ◌&&◌, ◌||◌, ◌<◌, ◌⊎◌, inl, inr, nat_lt, ℕ, Bool, true, false, not, cond, Option, Some, None, is_some, refl, sym, ◌∙◌, arith}
+use Rattle.std.proofs.Common.{◌≡◌, ◌==◌, ◌&&◌, ◌||◌, ◌<◌, ◌⊎◌, inl, inr, nat_lt, ℕ, Bool, true}
+use Rattle.std.proofs.Common.{false, not, cond, Option, Some, None, is_some, refl, sym, ◌∙◌, arith}
 use Rattle.std.specs.Ordering.{nat_cmp, eq_by_cmp}
 use Rattle.std.proofs.lemmas.Bool.Decides.{nat_tests}
 use Rattle.rg_base.proofs.Walk.{place}
@@ -26,9 +27,11 @@ not_below a b ge = grind (arith, nat_tests)
 pub agree : (a b : ℕ) → eq_by_cmp nat_cmp a b ≡ (b == a)
 agree a b = by_place (place a b) where
   by_place : (a < b) ⊎ ((b ≡ a) ⊎ (b < a)) → eq_by_cmp nat_cmp a b ≡ (b == a)
-  by_place (inl lt) = apart_cmp a b (λ e. omega (arith, e, lt)) ∙ sym (apart b a (λ e. omega (arith, e, lt)))
+  by_place (inl lt) =
+      apart_cmp a b (λ e. omega (arith, e, lt)) ∙ sym (apart b a (λ e. omega (arith, e, lt)))
   by_place (inr (inl e)) = same_cmp a b (sym e) ∙ sym (same b a e)
-  by_place (inr (inr gt)) = apart_cmp a b (λ e. omega (arith, e, gt)) ∙ sym (apart b a (λ e. omega (arith, e, gt)))
+  by_place (inr (inr gt)) =
+      apart_cmp a b (λ e. omega (arith, e, gt)) ∙ sym (apart b a (λ e. omega (arith, e, gt)))
 
 pub equal_of : (a b : ℕ) → (a == b) ≡ true → a ≡ b
 equal_of a b e = by_place (place a b) where
@@ -41,11 +44,13 @@ pub twice : {X : Type 0} (b : Bool) (x y z : X) → cond b x (cond b y z) ≡ co
 twice true x y z = refl
 twice false x y z = refl
 
-pub some_or : {X : Type 0} (b : Bool) (x : X) (o : Option X) → is_some (cond b (Some x) o) ≡ (b || is_some o)
+pub some_or : {X : Type 0} (b : Bool) (x : X) (o : Option X)
+    → is_some (cond b (Some x) o) ≡ (b || is_some o)
 some_or true x o = refl
 some_or false x o = refl
 
-pub none_or : {X : Type 0} (b : Bool) (o : Option X) → is_some (cond b None o) ≡ (not b && is_some o)
+pub none_or : {X : Type 0} (b : Bool) (o : Option X)
+    → is_some (cond b None o) ≡ (not b && is_some o)
 none_or true o = refl
 none_or false o = refl
 

@@ -1,5 +1,7 @@
 -- What the walks of a table list.
-use Rattle.std.proofs.Common.{◌≡◌, ◌==◌, ◌&&◌, ◌≤◌, ◌<◌, ◌+◌, nat_le, ℕ, Bool, true, false, List, [], ◌∷◌, ◌++◌, map, Option, Some, None, refl, sym, ◌∙◌, ap, append-nil, arith}
+use Rattle.std.proofs.Common.{◌≡◌, ◌==◌, ◌&&◌, ◌≤◌, ◌<◌, ◌+◌, nat_le, ℕ, Bool, true, false, List}
+use Rattle.std.proofs.Common.{[], ◌∷◌, ◌++◌, map, Option, Some, None, refl, sym, ◌∙◌, ap}
+use Rattle.std.proofs.Common.{append-nil, arith}
 use Rattle.std.specs.FinMap as fin
 use Rattle.std.proofs.lemmas.Bool.Decides.{nat_tests}
 use Rattle.rg_base.specs.First.{IsEmptyFrom, IsFirstFrom}
@@ -33,26 +35,35 @@ module _ (cat : ℕ) (rows : Table) (sets : Sets) (are : AreCats rows sets) wher
   test entry = entry.1.cat == cat
 
   -- a row at a key that is not in the set has another `cat`
-  fails : (q : ℕ) (v : Row) → is_key_in sets cat q ≡ false → fin.get rows q ≡ Some v → test (q, v) ≡ false
+  fails : (q : ℕ) (v : Row) → is_key_in sets cat q ≡ false → fin.get rows q ≡ Some v
+      → test (q, v) ≡ false
   unfolding test
   fails q v out there = sym (ap (has_cat cat) there) ∙ sym (are cat q) ∙ out
 
-  module _ (done : List ℕ) (from : ℕ) (so_far : done ++ keys_from cat rows from ≡ keys_with_cat cat rows) where
-    pub keys-go : (key : ℕ) → IsFirstIn sets cat from (Some key) → (done ++ key ∷ []) ++ keys_from cat rows (key + 1) ≡ keys_with_cat cat rows
+  module _ (done : List ℕ) (from : ℕ)
+      (so_far : done ++ keys_from cat rows from ≡ keys_with_cat cat rows) where
+    pub keys-go : (key : ℕ) → IsFirstIn sets cat from (Some key)
+        → (done ++ key ∷ []) ++ keys_from cat rows (key + 1) ≡ keys_with_cat cat rows
     unfolding test
     keys-go key is =
         let at = found cat (fin.get rows key) (sym (are cat key) ∙ is.1) in
-        gathered-passes (λ (entry : ℕ × Row). entry.0) (λ (entry : ℕ × Row). entry.1.cat == cat) rows (keys_with_cat cat rows) done key (key, at.row)
+        gathered-passes (λ (entry : ℕ × Row). entry.0) (λ (entry : ℕ × Row). entry.1.cat == cat)
+        rows (keys_with_cat cat rows) done key (key, at.row)
         (first_at (λ (entry : ℕ × Row). entry.1.cat == cat) rows key at.row at.there) at.has
         (ap (λ es. done ++ map (λ (entry : ℕ × Row). entry.0) es)
-        (sym (walk_skips (λ (entry : ℕ × Row). entry.1.cat == cat) rows from key is.0 (λ q v low lt there. fails q v (is.2 q low lt) there)))
+        (sym
+        (walk_skips (λ (entry : ℕ × Row). entry.1.cat == cat) rows from key is.0
+        (λ q v low lt there. fails q v (is.2 q low lt) there)))
         ∙ so_far)
 
     pub keys-end : IsFirstIn sets cat from None → done ≡ keys_with_cat cat rows
     unfolding test
     keys-end none =
         sym (append-nil done)
-        ∙ ap (λ es. done ++ map (λ (entry : ℕ × Row). entry.0) es) (sym (walk_fails (λ (entry : ℕ × Row). entry.1.cat == cat) rows from (λ q v low there. fails q v (none q low) there)))
+        ∙ ap (λ es. done ++ map (λ (entry : ℕ × Row). entry.0) es)
+        (sym
+        (walk_fails (λ (entry : ℕ × Row). entry.1.cat == cat) rows from
+        (λ q v low there. fails q v (none q low) there)))
         ∙ so_far
 
 module _ (lo hi : ℕ) (rows : Table) where
@@ -73,14 +84,21 @@ module _ (lo hi : ℕ) (rows : Table) where
   pub rows-begin : rows_from lo hi rows lo ≡ rows_between lo hi rows
   unfolding between
   rows-begin =
-      ap (map (λ (entry : ℕ × Row). entry.1))
-      (sym (walk_skips (λ (entry : ℕ × Row). nat_le lo entry.0 && nat_le entry.0 hi) rows 0 lo (omega arith) (λ q v low lt there. low_fails q v lt))
-      ∙ walk_begins (λ (entry : ℕ × Row). nat_le lo entry.0 && nat_le entry.0 hi) rows (fin.entries rows))
+      ap (map (λ (entry : ℕ × Row). entry.1)) (sym
+      (walk_skips (λ (entry : ℕ × Row). nat_le lo entry.0 && nat_le entry.0 hi) rows 0 lo
+      (omega arith) (λ q v low lt there. low_fails q v lt))
+      ∙ walk_begins (λ (entry : ℕ × Row). nat_le lo entry.0 && nat_le entry.0 hi) rows
+      (fin.entries rows))
 
-  module _ (done : List Row) (from : ℕ) (low : lo ≤ from) (so_far : done ++ rows_from lo hi rows from ≡ rows_between lo hi rows) (key : ℕ) (row : Row) (is : IsFirstFrom rows from (Some (key, row))) where
-    pub rows-go : key ≤ hi → (done ++ row ∷ []) ++ rows_from lo hi rows (key + 1) ≡ rows_between lo hi rows
+  module _ (done : List Row) (from : ℕ) (low : lo ≤ from)
+      (so_far : done ++ rows_from lo hi rows from ≡ rows_between lo hi rows) (key : ℕ) (row : Row)
+      (is : IsFirstFrom rows from (Some (key, row))) where
+    pub rows-go : key ≤ hi
+        → (done ++ row ∷ []) ++ rows_from lo hi rows (key + 1) ≡ rows_between lo hi rows
     rows-go le =
-        gathered-passes (λ (entry : ℕ × Row). entry.1) (λ (entry : ℕ × Row). nat_le lo entry.0 && nat_le entry.0 hi) rows (rows_between lo hi rows) done from (key, row) is
+        gathered-passes (λ (entry : ℕ × Row). entry.1)
+        (λ (entry : ℕ × Row). nat_le lo entry.0 && nat_le entry.0 hi) rows (rows_between lo hi rows)
+        done from (key, row) is
         (rw (within lo key (omega (arith, low, is.0)), within key hi le) refl) so_far
 
     pub rows-stop : hi < key → done ≡ rows_between lo hi rows
@@ -88,10 +106,16 @@ module _ (lo hi : ℕ) (rows : Table) where
     rows-stop gt =
         sym (append-nil done)
         ∙ ap (λ es. done ++ map (λ (entry : ℕ × Row). entry.1) es)
-        (sym (walk_skips (λ (entry : ℕ × Row). nat_le lo entry.0 && nat_le entry.0 hi) rows from key is.0 (λ q v at_least lt there. absurd (cc (sym there ∙ is.2 q at_least lt)))
-        ∙ walk_fails (λ (entry : ℕ × Row). nat_le lo entry.0 && nat_le entry.0 hi) rows key (λ q v at_least there. high_fails q v (omega (arith, gt, at_least)))))
+        (sym (walk_skips (λ (entry : ℕ × Row). nat_le lo entry.0 && nat_le entry.0 hi) rows from key
+        is.0 (λ q v at_least lt there. absurd (cc (sym there ∙ is.2 q at_least lt)))
+        ∙ walk_fails (λ (entry : ℕ × Row). nat_le lo entry.0 && nat_le entry.0 hi) rows key
+        (λ q v at_least there. high_fails q v (omega (arith, gt, at_least)))))
         ∙ so_far
 
-  pub rows-done : (done : List Row) (from : ℕ) → done ++ rows_from lo hi rows from ≡ rows_between lo hi rows → IsEmptyFrom rows from → done ≡ rows_between lo hi rows
+  pub rows-done : (done : List Row) (from : ℕ)
+      → done ++ rows_from lo hi rows from ≡ rows_between lo hi rows → IsEmptyFrom rows from
+      → done ≡ rows_between lo hi rows
   rows-done done from so_far empty =
-      gathered-ends (λ (entry : ℕ × Row). entry.1) (λ (entry : ℕ × Row). nat_le lo entry.0 && nat_le entry.0 hi) rows (rows_between lo hi rows) done from empty so_far
+      gathered-ends (λ (entry : ℕ × Row). entry.1)
+      (λ (entry : ℕ × Row). nat_le lo entry.0 && nat_le entry.0 hi) rows (rows_between lo hi rows)
+      done from empty so_far

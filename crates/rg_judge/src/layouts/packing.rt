@@ -5,7 +5,8 @@
 ghost use Rattle.std.specs.Prelude.{◌≡◌, ◌==◌, ◌+◌, IfOk, filter, length, map, nat_le};
 ghost use Rattle.std.specs.Ordering.{is_lt};
 ghost use Rattle.rg_judge.specs.Layouts.Packing.{packing_after, spot_of, spots_by};
-ghost use Rattle.rg_model.specs.Packed.{area_of, clustered_rows, free_part, home_spot, is_row_before};
+ghost use Rattle.rg_model.specs.Packed.{area_of, clustered_rows, free_part, home_spot};
+ghost use Rattle.rg_model.specs.Packed.{is_row_before};
 ghost use Rattle.rg_model.specs.Packed.{packed_pages, packed_spots};
 ghost use Rattle.rg_model.specs.Right.{is_packed, same_home_spot};
 ghost use Rattle.rg_model.specs.Same.{same_list};

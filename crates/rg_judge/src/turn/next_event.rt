@@ -6,7 +6,8 @@ ghost use Rattle.std.specs.Prelude.{◌≡◌, IfOk};
 ghost use Rattle.std.specs.Option.{option_map};
 ghost use Rattle.rg_judge.specs.Turn.UtilityOf.{utility_of};
 ghost use Rattle.rg_judge.specs.Turn.TurnOf.{turn_seen};
-ghost use Rattle.rg_model.specs.Turn.{alter, is_term, step_by_drain, step_of, step_under, term_turn};
+ghost use Rattle.rg_model.specs.Turn.{alter, is_term, step_by_drain, step_of, step_under};
+ghost use Rattle.rg_model.specs.Turn.{term_turn};
 ghost use Rattle.rg_model.specs.Turn.{turn_at, turn_of};
 
 use crate::turn::copying::{build, reload, sort, unload};

@@ -1,11 +1,15 @@
 -- What ending the open transactions takes after one more record, and that there is room for it.
-use Rattle.std.proofs.Common.{◌≡◌, ◌≤◌, ◌+◌, ◌*◌, ◌==◌, ⊎_elim, ℕ, zero, suc, Bool, true, false, if◌then◌else◌, List, [], ◌∷◌, ◌++◌, length, take, refl, sym, ◌∙◌, ap, subst, arith}
+use Rattle.std.proofs.Common.{◌≡◌, ◌≤◌, ◌+◌, ◌*◌, ◌==◌, ⊎_elim, ℕ, zero, suc, Bool, true, false}
+use Rattle.std.proofs.Common.{if◌then◌else◌, List, [], ◌∷◌, ◌++◌, length, take, refl, sym, ◌∙◌, ap}
+use Rattle.std.proofs.Common.{subst, arith}
 use Rattle.std.proofs.lemmas.List.{append-nil}
 use Rattle.std.proofs.lemmas.Bool.{cases_lt, eqb-false, eqb-true, or_from}
 use Rattle.rg_record.specs.declared.record.Kind.{Kind}
-use Rattle.rg_record.specs.declared.record.Kind.TheVariants.{Change, Undo, Commit, RolledBack, Purge, Switch}
+use Rattle.rg_record.specs.declared.record.Kind.TheVariants.{Change, Undo, Commit, RolledBack}
+use Rattle.rg_record.specs.declared.record.Kind.TheVariants.{Purge, Switch}
 use Rattle.rg_record.specs.declared.record.Record.{Record}
-use Rattle.rg_image.specs.Rules.{Done, HasSpace, IsOfTran, done_by, is_end, is_ended, is_undo, not_undone, of_tran, owed, owed_by}
+use Rattle.rg_image.specs.Rules.{Done, HasSpace, IsOfTran, done_by, is_end, is_ended, is_undo}
+use Rattle.rg_image.specs.Rules.{not_undone, of_tran, owed, owed_by}
 use Rattle.rg_undo.specs.Undoing.{is_change}
 use Rattle.rg_check.specs.OpenUnits.Unended.{left_of}
 use Rattle.rg_check.proofs.OpenUnitsLemmas.Lefts.{left_count}
@@ -33,7 +37,8 @@ undo_plain RolledBack is = absurd (cc (is))
 undo_plain (Purge parts) is = refl
 undo_plain (Switch copy pages) is = refl
 
-change_count : (back : ℕ) (done : List Done) (kind : Kind) → is_change kind ≡ true → length (done_by back done kind) ≡ length done + 1
+change_count : (back : ℕ) (done : List Done) (kind : Kind) → is_change kind ≡ true
+    → length (done_by back done kind) ≡ length done + 1
 change_count back done (Change home before after parts) is = omega arith
 change_count back done (Undo next home after parts) is = absurd (cc (is))
 change_count back done Commit is = absurd (cc (is))
@@ -41,7 +46,8 @@ change_count back done RolledBack is = absurd (cc (is))
 change_count back done (Purge parts) is = absurd (cc (is))
 change_count back done (Switch copy pages) is = absurd (cc (is))
 
-undo_count : (back : ℕ) (done : List Done) (kind : Kind) → is_undo kind ≡ true → 1 ≤ length done → length (done_by back done kind) + 1 ≡ length done
+undo_count : (back : ℕ) (done : List Done) (kind : Kind) → is_undo kind ≡ true → 1 ≤ length done
+    → length (done_by back done kind) + 1 ≡ length done
 undo_count back [] kind is some = absurd (omega (arith, some))
 undo_count back (change ∷ done) (Undo next home after parts) is some = omega arith
 undo_count back (change ∷ done) (Change home before after parts) is some = absurd (cc (is))
@@ -62,30 +68,59 @@ module _ (rs : List Record) (entry : Record) where
   now = rs ++ entry ∷ []
 
   -- after a record that is no end, where it had none
-  goes_on : is_ended tran rs ≡ false → is_end entry.kind ≡ false → owed_by tran now ≡ 911 * length (done_by entry.back.0 (not_undone tran rs) entry.kind) + 23
+  goes_on : is_ended tran rs ≡ false → is_end entry.kind ≡ false
+      → owed_by tran now ≡ 911 * length (done_by entry.back.0 (not_undone tran rs) entry.kind) + 23
   goes_on going plain =
-      owed_by_going tran now (ended_own rs entry tran refl ∙ or_from (is_ended tran rs) (is_end entry.kind) going plain) (some_own rs entry tran refl)
+      owed_by_going tran now
+      (ended_own rs entry tran refl ∙ or_from (is_ended tran rs) (is_end entry.kind) going plain)
+      (some_own rs entry tran refl)
       ∙ ap (λ (done : List Done). 911 * length done + 23) (done_own rs entry tran refl)
 
-  owes_change : IsOfTran rs entry → is_change entry.kind ≡ true → owed now ≡ owed rs + 911 + (if length (of_tran tran rs) == 0 then 23 else 0)
+  owes_change : IsOfTran rs entry → is_change entry.kind ≡ true
+      → owed now ≡ owed rs + 911 + (if length (of_tran tran rs) == 0 then 23 else 0)
   owes_change of is = go (length (of_tran tran rs) == 0) refl
     where
       more : owed_by tran now ≡ 911 * length (not_undone tran rs) + 934
-      more = omega (arith, goes_on of.going (change_plain entry.kind is), change_count entry.back.0 (not_undone tran rs) entry.kind is)
+      more = omega (
+        arith,
+        goes_on of.going (change_plain entry.kind is),
+        change_count entry.back.0 (not_undone tran rs) entry.kind is,
+      )
 
-      go : (b : Bool) → (length (of_tran tran rs) == 0) ≡ b → owed now ≡ owed rs + 911 + (if b then 23 else 0)
+      go : (b : Bool) → (length (of_tran tran rs) == 0) ≡ b
+          → owed now ≡ owed rs + 911 + (if b then 23 else 0)
       go true e =
-          let none : of_tran tran rs ≡ [] = none_of (of_tran tran rs) (eqb-true (length (of_tran tran rs)) 0 e) in
-          omega (arith, owed_own rs entry of.some, more, owed_by_none rs tran none, ap (λ (l : List Done). length l) (done_none rs tran none))
-      go false e = omega (arith, owed_own rs entry of.some, more, owed_by_going tran rs of.going (some_of (length (of_tran tran rs)) e))
+          let none : of_tran tran rs ≡ [] =
+          none_of (of_tran tran rs) (eqb-true (length (of_tran tran rs)) 0 e) in
+          omega (
+            arith,
+            owed_own rs entry of.some,
+            more,
+            owed_by_none rs tran none,
+            ap (λ (l : List Done). length l) (done_none rs tran none),
+          )
+      go false e = omega (
+        arith,
+        owed_own rs entry of.some,
+        more,
+        owed_by_going tran rs of.going (some_of (length (of_tran tran rs)) e),
+      )
 
   -- where Changes are left there are records
   some_left : 1 ≤ length (not_undone tran rs) → 1 ≤ length (of_tran tran rs)
   some_left some =
-      ⊎_elim (λ lt. absurd (omega (arith, some, ap (λ (l : List Done). length l) (done_none rs tran (none_of (of_tran tran rs) (omega (arith, lt)))))))
+      ⊎_elim
+      (λ lt. absurd
+      (omega (
+        arith,
+        some,
+        ap (λ (l : List Done). length l)
+            (done_none rs tran (none_of (of_tran tran rs) (omega (arith, lt)))),
+      )))
       (λ le. le) (cases_lt (length (of_tran tran rs)) 1)
 
-  owes_undo : IsOfTran rs entry → is_undo entry.kind ≡ true → 1 ≤ length (left_of tran rs) → owed now + 911 ≡ owed rs
+  owes_undo : IsOfTran rs entry → is_undo entry.kind ≡ true → 1 ≤ length (left_of tran rs)
+      → owed now + 911 ≡ owed rs
   owes_undo of is some =
       let left : 1 ≤ length (not_undone tran rs) = omega (arith, some, left_count tran rs) in
       omega (
@@ -96,12 +131,14 @@ module _ (rs : List Record) (entry : Record) where
         owed_by_going tran rs of.going (some_left left),
       )
 
-  owes_end : IsOfTran rs entry → is_end entry.kind ≡ true → 1 ≤ length (of_tran tran rs) → owed now + (911 * length (left_of tran rs) + 23) ≡ owed rs
+  owes_end : IsOfTran rs entry → is_end entry.kind ≡ true → 1 ≤ length (of_tran tran rs)
+      → owed now + (911 * length (left_of tran rs) + 23) ≡ owed rs
   owes_end of is some =
       omega (
         arith,
         owed_own rs entry of.some,
-        owed_by_ended tran now (ended_own rs entry tran refl ∙ or_true (is_ended tran rs) (is_end entry.kind) is),
+        owed_by_ended tran now
+            (ended_own rs entry tran refl ∙ or_true (is_ended tran rs) (is_end entry.kind) is),
         owed_by_going tran rs of.going some,
         left_count tran rs,
       )
@@ -114,8 +151,12 @@ owes = record {
   none = λ rs entry none. owed_none rs entry none;
 }
 
-pub fronts_have_space : (limit pages : ℕ) (rs more : List Record) → HasSpace pages rs → AreNext limit pages rs more → (n : ℕ) → HasSpace pages (rs ++ take n more)
-fronts_have_space limit pages rs more space next zero = subst (HasSpace pages) (sym (append-nil rs)) space
-fronts_have_space limit pages rs [] space next (suc n) = subst (HasSpace pages) (sym (append-nil rs)) space
+pub fronts_have_space : (limit pages : ℕ) (rs more : List Record) → HasSpace pages rs
+    → AreNext limit pages rs more → (n : ℕ) → HasSpace pages (rs ++ take n more)
+fronts_have_space limit pages rs more space next zero =
+    subst (HasSpace pages) (sym (append-nil rs)) space
+fronts_have_space limit pages rs [] space next (suc n) =
+    subst (HasSpace pages) (sym (append-nil rs)) space
 fronts_have_space limit pages rs (entry ∷ more) space next (suc n) =
-    subst (HasSpace pages) (push_append rs (take n more) entry) (fronts_have_space limit pages (rs ++ entry ∷ []) more next.0.space next.1 n)
+    subst (HasSpace pages) (push_append rs (take n more) entry)
+    (fronts_have_space limit pages (rs ++ entry ∷ []) more next.0.space next.1 n)

@@ -40,11 +40,13 @@ no_writes : (at : Place → Slot) (ws : List Write) → CanUndo [] at (written_o
 no_writes at [] can = refl
 no_writes at (w ∷ ws) can = absurd (cc (can.1))
 
-none_in : (n : ℕ) (rs : List Record) (ts : List ℕ) → AllByRecursion (IsListed n rs) ts → ((t : ℕ) → IsOpen t rs → ⊥) → ts ≡ []
+none_in : (n : ℕ) (rs : List Record) (ts : List ℕ) → AllByRecursion (IsListed n rs) ts
+    → ((t : ℕ) → IsOpen t rs → ⊥) → ts ≡ []
 none_in n rs [] all none = refl
 none_in n rs (t ∷ ts) all none = absurd (none t all.0.0)
 
-pub trans_below : (top : ℕ) (rs : List Record) → AllByRecursion (λ (entry : Record). entry.tran.0 ≤ top) rs → TransBelow top rs
+pub trans_below : (top : ℕ) (rs : List Record)
+    → AllByRecursion (λ (entry : Record). entry.tran.0 ≤ top) rs → TransBelow top rs
 trans_below top [] all = tt
 trans_below top (entry ∷ rs) all = (all.0, trans_below top rs all.1)
 
@@ -52,11 +54,13 @@ trans_below top (entry ∷ rs) all = (all.0, trans_below top rs all.1)
 pub owed_closed : (rs : List Record) → ((t : ℕ) → IsOpen t rs → ⊥) → owed rs ≡ 0
 owed_closed rs closed =
     sym (owed_listed (greatest_tran rs) rs)
-    ∙ ap (λ (us : List ℕ). owed_for us rs) (none_in (greatest_tran rs) rs (open_in rs) (all_open (greatest_tran rs) rs) closed)
+    ∙ ap (λ (us : List ℕ). owed_for us rs)
+    (none_in (greatest_tran rs) rs (open_in rs) (all_open (greatest_tran rs) rs) closed)
 
 -- ---- the state in which the table begins
 
-module _ (capacities : Capacities) (limit : ℕ) (rs : List Record) (copy : ℕ) (pages : List Content) (s : LogState) (can : CanSwitch capacities limit rs copy pages s) where
+module _ (capacities : Capacities) (limit : ℕ) (rs : List Record) (copy : ℕ) (pages : List Content)
+    (s : LogState) (can : CanSwitch capacities limit rs copy pages s) where
   abbrev later : List Record
   later = switched rs copy pages
 
@@ -64,19 +68,28 @@ module _ (capacities : Capacities) (limit : ℕ) (rs : List Record) (copy : ℕ)
   first = anew_on later pages s.top
 
   writes : s.writes ≡ []
-  writes = no_writes (slot_of s.pages) s.writes (subst (λ (us : List ℕ). CanUndo us (slot_of s.pages) (written_of s.writes)) can.live can.good.ready.can)
+  writes = no_writes (slot_of s.pages) s.writes
+      (subst (λ (us : List ℕ). CanUndo us (slot_of s.pages) (written_of s.writes)) can.live
+      can.good.ready.can)
 
   tested : Tested limit (slots_of pages) [] (stored_at (keyed_acts later)) s.top
-  tested = subst (λ (ps : List (List Slot)). Tested limit ps [] (stored_at (keyed_acts later)) s.top) (sym can.slots)
-      (consistent_tested limit s can.good (stored_at (keyed_acts later)) (λ k. sym (stored_by_key later k) ∙ switch_stores rs copy pages k ∙ can.stores k) [] (sym writes))
+  tested =
+      subst (λ (ps : List (List Slot)). Tested limit ps [] (stored_at (keyed_acts later)) s.top)
+      (sym can.slots)
+      (consistent_tested limit s can.good (stored_at (keyed_acts later))
+      (λ k. sym (stored_by_key later k) ∙ switch_stores rs copy pages k ∙ can.stores k) []
+      (sym writes))
 
   good : IsConsistent limit first
   good = tested_consistent limit (slots_of pages) [] (stored_at (keyed_acts later)) s.top tested
 
   clean : IsClean first
   clean = record {
-    names = subst (λ (us : List ℕ). DeadNames us (slot_of (slots_of pages))) can.live (subst (λ (ps : List (List Slot)). DeadNames s.live (slot_of ps)) (sym can.slots) can.clean.names);
-    below = subst (λ (ps : List (List Slot)). AllBelow s.top (slot_of ps)) (sym can.slots) can.clean.below;
+    names = subst (λ (us : List ℕ). DeadNames us (slot_of (slots_of pages))) can.live
+        (subst (λ (ps : List (List Slot)). DeadNames s.live (slot_of ps)) (sym can.slots)
+        can.clean.names);
+    below = subst (λ (ps : List (List Slot)). AllBelow s.top (slot_of ps)) (sym can.slots)
+        can.clean.below;
   }
 
   -- the log may turn to the copy in this state as well
@@ -103,7 +116,8 @@ module _ (capacities : Capacities) (limit : ℕ) (rs : List Record) (copy : ℕ)
   none_open t is = cc (tells.opens t is)
 
   below : TransBelow s.top later
-  below = subst (λ (top : ℕ). TransBelow top later) tells.top (trans_below (greatest_tran later) later (below_by_recursion later))
+  below = subst (λ (top : ℕ). TransBelow top later) tells.top
+      (trans_below (greatest_tran later) later (below_by_recursion later))
 
   owes : owed later ≡ 0
   owes = owed_closed later none_open
@@ -115,7 +129,8 @@ module _ (capacities : Capacities) (limit : ℕ) (rs : List Record) (copy : ℕ)
     tells = tells;
     stands = switch_stands capacities limit rs copy pages first again;
     owes = owes;
-    stores = λ more runs k. opening_stores limit (slots_of pages) [] s.top later tested below more runs k;
+    stores = λ more runs k. opening_stores limit (slots_of pages) [] s.top later tested below more
+        runs k;
   }
 
 -- ---- a log may turn to a copy that has its rows
@@ -129,7 +144,8 @@ named at p (Over capacity row home) = tt
 named at p (DeadRow capacity owner) = tt
 named at p (DeadOver capacity home owner) = tt
 
-module _ (capacities : Capacities) (rs : List Record) (copy : ℕ) (pages : List Content) (is : IsNewCopy capacities rs copy pages) where
+module _ (capacities : Capacities) (rs : List Record) (copy : ℕ) (pages : List Content)
+    (is : IsNewCopy capacities rs copy pages) where
   abbrev top : ℕ
   top = greatest_tran rs
 
@@ -139,16 +155,19 @@ module _ (capacities : Capacities) (rs : List Record) (copy : ℕ) (pages : List
   by_key : (k : ℕ) → stored_at (keyed_acts then) k ≡ stored rs k
   by_key k = sym (stored_by_key then k) ∙ switch_stores rs copy pages k
 
-  new_tested : Tested (copy_capacity capacities copy) (slots_of pages) [] (stored_at (keyed_acts then)) top
+  new_tested : Tested (copy_capacity capacities copy) (slots_of pages) []
+      (stored_at (keyed_acts then)) top
   new_tested = record {
     proper = is.proper;
     few = omega (arith, slots_count pages, is.room);
     owners = tt;
     needed = tt;
-    rows = table_same (row_at (slot_of (slots_of pages))) (row_at (slot_of (slots_of pages))) (stored rs) (stored_at (keyed_acts then)) (λ p. refl) by_key is.rows;
+    rows = table_same (row_at (slot_of (slots_of pages))) (row_at (slot_of (slots_of pages)))
+        (stored rs) (stored_at (keyed_acts then)) (λ p. refl) by_key is.rows;
   }
 
-  pub new_can_switch : CanSwitch capacities (copy_capacity capacities copy) rs copy pages (anew_on then pages top)
+  pub new_can_switch : CanSwitch capacities (copy_capacity capacities copy) rs copy pages
+      (anew_on then pages top)
   new_can_switch = record {
     other = is.other;
     room = is.room;
@@ -157,8 +176,12 @@ module _ (capacities : Capacities) (rs : List Record) (copy : ℕ) (pages : List
     space = is.space;
     each = is.each;
     slots = refl;
-    good = tested_consistent (copy_capacity capacities copy) (slots_of pages) [] (stored_at (keyed_acts then)) top new_tested;
-    clean = record { names = λ p. named (slot_of (slots_of pages)) p (slot_of (slots_of pages) p); below = is.below };
+    good = tested_consistent (copy_capacity capacities copy) (slots_of pages) []
+        (stored_at (keyed_acts then)) top new_tested;
+    clean = record {
+      names = λ p. named (slot_of (slots_of pages)) p (slot_of (slots_of pages) p);
+      below = is.below;
+    };
     live = refl;
     top = refl;
     stores = λ k. sym (by_key k);

@@ -1,5 +1,6 @@
 -- What a crash leaves while a Switch is forced.
-use Rattle.std.proofs.Common.{◌≡◌, ◌≤◌, ◌+◌, inl, inr, ℕ, List, [], ◌∷◌, length, take, sym, ◌∙◌, ap, subst, arith, length-append}
+use Rattle.std.proofs.Common.{◌≡◌, ◌≤◌, ◌+◌, inl, inr, ℕ, List, [], ◌∷◌, length, take, sym, ◌∙◌, ap}
+use Rattle.std.proofs.Common.{subst, arith, length-append}
 use Rattle.std.proofs.Math.Seq.{take-length}
 use Rattle.std.proofs.lemmas.Bool.{cases_lt}
 use Rattle.std.proofs.lemmas.List.{take-append-le}
@@ -28,7 +29,9 @@ use Rattle.rg_laws_crash.specs.PageVersions.Versions.{Epoch, IsBegun}
 
 -- ---- the one copy or the other
 
-module _ (capacities : Capacities) (limit : ℕ) (e : Epoch) (rs : List Record) (copy : ℕ) (pages : List Content) (s : LogState) (forced n : ℕ) (i : Image) (can : CanSwitch capacities limit rs copy pages s)
+module _ (capacities : Capacities) (limit : ℕ) (e : Epoch) (rs : List Record) (copy : ℕ)
+    (pages : List Content) (s : LogState) (forced n : ℕ) (i : Image)
+    (can : CanSwitch capacities limit rs copy pages s)
     (is : IsForcing capacities e rs copy pages forced n i) where
   abbrev last : List Record
   last = switch_to (length rs + 1) copy (length pages) ∷ []
@@ -52,9 +55,16 @@ module _ (capacities : Capacities) (limit : ℕ) (e : Epoch) (rs : List Record) 
     steady = is.steady;
     counts = is.counts ∙ sym (pages_front e rs n (omega (arith, is.begun, is.low)) few is.steady);
     base = is.base;
-    entries = subst AreEntries front (λ entry contains. is.entries entry (contains_take (length rs) later entry contains));
-    room = λ some. omega (arith, front_page (length rs) later, ap (λ (xs : List Record). (end_of start xs).page) front, is.fits);
-    log = subst (λ (xs : List Record). LogSpells (log_pages capacities) xs i) (take-append-le n rs last few) is.log;
+    entries = subst AreEntries front
+        (λ entry contains. is.entries entry (contains_take (length rs) later entry contains));
+    room = λ some. omega (
+      arith,
+      front_page (length rs) later,
+      ap (λ (xs : List Record). (end_of start xs).page) front,
+      is.fits,
+    );
+    log = subst (λ (xs : List Record). LogSpells (log_pages capacities) xs i)
+        (take-append-le n rs last few) is.log;
     pages = is.own;
   }
 
@@ -63,21 +73,26 @@ module _ (capacities : Capacities) (limit : ℕ) (e : Epoch) (rs : List Record) 
   whole all = switch_left capacities limit rs copy pages s can i (record {
     entries = is.entries;
     fits = is.fits;
-    log = subst (λ (xs : List Record). LogSpells (log_pages capacities) xs i) (ap (λ (m : ℕ). take m later) all ∙ take-length later) is.log;
+    log = subst (λ (xs : List Record). LogSpells (log_pages capacities) xs i)
+        (ap (λ (m : ℕ). take m later) all ∙ take-length later) is.log;
     there = is.there;
   })
 
   pub switch_either : IsEither capacities e rs copy pages forced n i
   switch_either = elim (cases_lt (length rs) n) [
-    | inl more ↦ (let all : n ≡ length later = omega (arith, more, is.high, longer) in inr (all, whole all))
+    | inl more ↦
+        (let all : n ≡ length later = omega (arith, more, is.high, longer) in inr (all, whole all))
     | inr few ↦ inl (few, without few)
   ]
 
 -- ---- the copy that was current
-pub versions_old : (capacities : Capacities) (e : Epoch) (rs : List Record) (forced : ℕ) (i : Image) → ArePositions rs → ((p : ℕ) → 1 ≤ p → IsBegun e p) → e.from ≤ forced → forced ≤ length rs
-    → HasPages (set_of e.copy) (copy_capacity capacities e.copy) e rs forced i → AreOldPages capacities e.copy forced i
+pub versions_old : (capacities : Capacities) (e : Epoch) (rs : List Record) (forced : ℕ) (i : Image)
+    → ArePositions rs → ((p : ℕ) → 1 ≤ p → IsBegun e p) → e.from ≤ forced → forced ≤ length rs
+    → HasPages (set_of e.copy) (copy_capacity capacities e.copy) e rs forced i
+    → AreOldPages capacities e.copy forced i
 versions_old capacities e rs forced i positions begins begun within has p one there =
-    let shown : Shown e rs forced p (i (set_of e.copy) p) = shown_there e rs forced p (i (set_of e.copy) p) positions (begins p one) begun within (has p one there) in
+    let shown : Shown e rs forced p (i (set_of e.copy) p) = shown_there e rs forced p
+    (i (set_of e.copy) p) positions (begins p one) begun within (has p one there) in
     record {
       page = shown.page;
       spells = shown.spells;

@@ -1,5 +1,6 @@
 -- The pages that an opening takes.
-use Rattle.std.proofs.Common.{◌≡◌, ◌≤◌, ◌<◌, ◌&&◌, nat_lt, inl, inr, ℕ, Bool, true, false, List, length, refl, sym, ◌∙◌, ap, subst, arith}
+use Rattle.std.proofs.Common.{◌≡◌, ◌≤◌, ◌<◌, ◌&&◌, nat_lt, inl, inr, ℕ, Bool, true, false, List}
+use Rattle.std.proofs.Common.{length, refl, sym, ◌∙◌, ap, subst, arith}
 use Rattle.std.proofs.lemmas.Bool.{cases_lt}
 use Rattle.std.specs.List.{AllByRecursion}
 use Rattle.rg_image.specs.Meaning.{current_of}
@@ -51,7 +52,9 @@ module _ (rs : List Record) (base : List Content) (i : Image) (opened : IsOpened
   bytes_of p = i (set_of (current_of rs).copy) p
 
   -- a page that was read, as one with which a copy begins
-  read : (p : ℕ) → 1 ≤ p → (there : p ≤ (current_of rs).pages) → (was : IsTakenPage rs p (bytes_of p) (content_at base p)) → IsRead e rs p (bytes_of p) was.page
+  read : (p : ℕ) → 1 ≤ p → (there : p ≤ (current_of rs).pages)
+      → (was : IsTakenPage rs p (bytes_of p) (content_at base p))
+      → IsRead e rs p (bytes_of p) was.page
   read p one there was = record {
     spells = was.spells;
     copy = was.copy_is;
@@ -89,11 +92,15 @@ module _ (rs : List Record) (base : List Content) (i : Image) (opened : IsOpened
     base_is = λ p one. refl;
     numbers = number;
     low = low;
-    there = subst (λ (n : ℕ). AllByRecursion (λ (entry : Record). AllThere n (parts_of entry.kind)) (since_switch rs)) (sym opened.count_is) opened.there;
+    there = subst
+        (λ (n : ℕ). AllByRecursion (λ (entry : Record). AllThere n (parts_of entry.kind))
+        (since_switch rs)) (sym opened.count_is) opened.there;
   }
 
   -- past the pages that were taken
-  spare_there : (p : ℕ) → (current_of rs).pages < p → IsSpare (current_of rs).copy (switched_at rs) p (bytes_of p) → IsOnVolume e rs (length rs) p (bytes_of p)
+  spare_there : (p : ℕ) → (current_of rs).pages < p
+      → IsSpare (current_of rs).copy (switched_at rs) p (bytes_of p)
+      → IsOnVolume e rs (length rs) p (bytes_of p)
   spare_there p past spare = record {
     count = e.from;
     begun = omega arith;
@@ -119,31 +126,44 @@ module _ (rs : List Record) (base : List Content) (i : Image) (opened : IsOpened
       none : version e rs e.from p ≡ empty e.copy p
       none = version_early e rs p e.from (omega arith) ∙ beyond p past
 
-  taken_there : (p : ℕ) → 1 ≤ p → p ≤ (current_of rs).pages → IsOnVolume e rs (length rs) p (bytes_of p)
+  taken_there : (p : ℕ) → 1 ≤ p → p ≤ (current_of rs).pages
+      → IsOnVolume e rs (length rs) p (bytes_of p)
   taken_there p one there =
       let was = opened.each p one there in
       begins_there e rs p (bytes_of p) was.page (read p one there was) opened.positions now.high
 
-  pub opening_mark : (n : ℕ) (x : Content) → 1 ≤ n → n ≤ (current_of rs).pages → Spells (bytes_of n) x → content_at base n ≡ x → IsMark rs base n (bytes_of n) x
+  pub opening_mark : (n : ℕ) (x : Content) → 1 ≤ n → n ≤ (current_of rs).pages
+      → Spells (bytes_of n) x → content_at base n ≡ x → IsMark rs base n (bytes_of n) x
   opening_mark n x one there spells as_is =
       let begins : e.base n ≡ x = here n there ∙ as_is in
-      let same : version e rs x.position n ≡ x = subst (λ (c : Content). version e rs c.position n ≡ c) begins (base_version e rs n opened.positions now.high (low n one)) in
+      let same : version e rs x.position n ≡ x =
+      subst (λ (c : Content). version e rs c.position n ≡ c) begins
+      (base_version e rs n opened.positions now.high (low n one)) in
       record {
         position = subst (λ (c : Content). c.position ≤ length rs) begins (low n one);
         version_is = same;
         spells = subst (Spells (bytes_of n)) (sym same) spells;
       }
 
-pub opening_stands : (capacities : Capacities) (rs : List Record) (base : List Content) (i : Image) → IsOpened rs base i → AreSpare capacities rs i → (p : ℕ) → 1 ≤ p → p ≤ copy_capacity capacities (current_of rs).copy
+pub opening_stands : (capacities : Capacities) (rs : List Record) (base : List Content) (i : Image)
+    → IsOpened rs base i → AreSpare capacities rs i → (p : ℕ) → 1 ≤ p
+    → p ≤ copy_capacity capacities (current_of rs).copy
     → IsOnVolume (opened_epoch rs base) rs (length rs) p (i (set_of (current_of rs).copy) p)
-opening_stands capacities rs base i opened spare p one high = elim (cases_lt (current_of rs).pages p) [
-  | inl past ↦ spare_there rs base i opened p past (spare p past high)
-  | inr there ↦ taken_there rs base i opened p one there
-]
+opening_stands capacities rs base i opened spare p one high =
+    elim (cases_lt (current_of rs).pages p) [
+      | inl past ↦ spare_there rs base i opened p past (spare p past high)
+      | inr there ↦ taken_there rs base i opened p one there
+    ]
 
-pub opening_newest : (rs : List Record) (base : List Content) (i : Image) (s : Seen) → IsOpened rs base i → s.copy ≡ (current_of rs).copy → s.pages ≡ redone_all (since_switch rs) base → AreNewest (opened_epoch rs base) rs s
-opening_newest rs base i s opened copy pages = rebuilt_newest (opened_epoch rs base) rs (since_switch rs) base s (opening_can_redo rs base i opened) copy pages
+pub opening_newest : (rs : List Record) (base : List Content) (i : Image) (s : Seen)
+    → IsOpened rs base i → s.copy ≡ (current_of rs).copy
+    → s.pages ≡ redone_all (since_switch rs) base → AreNewest (opened_epoch rs base) rs s
+opening_newest rs base i s opened copy pages = rebuilt_newest (opened_epoch rs base) rs
+    (since_switch rs) base s (opening_can_redo rs base i opened) copy pages
 
-pub opening_marks : (rs : List Record) (base : List Content) (i : Image) (n : ℕ) (x : Content) → IsOpened rs base i → 1 ≤ n → n ≤ (current_of rs).pages → Spells (i (set_of (current_of rs).copy) n) x → content_at base n ≡ x
+pub opening_marks : (rs : List Record) (base : List Content) (i : Image) (n : ℕ) (x : Content)
+    → IsOpened rs base i → 1 ≤ n → n ≤ (current_of rs).pages
+    → Spells (i (set_of (current_of rs).copy) n) x → content_at base n ≡ x
     → IsMark rs base n (i (set_of (current_of rs).copy) n) x
-opening_marks rs base i n x opened one there spells as_is = opening_mark rs base i opened n x one there spells as_is
+opening_marks rs base i n x opened one there spells as_is =
+    opening_mark rs base i opened n x one there spells as_is

@@ -1,9 +1,11 @@
 -- The undo of a write leaves each dead home of an open unit with the area that it names.
 --
--- 1. An undo changes the slots of its home and of the home's Over areas alone. Those of another home
+-- 1. An undo changes the slots of its home and of the home's Over areas alone. Those of another
+-- home
 --    stay as they are.
 -- 2. Where it drops a row that had moved, the dead home names the area that it left.
-use Rattle.std.proofs.Common.{◌≡◌, inl, inr, ℕ, ◌≤◌, nat_le, Bool, true, false, List, [], ◌∷◌, Option, Some, None, refl, sym, ◌∙◌, ap, subst}
+use Rattle.std.proofs.Common.{◌≡◌, inl, inr, ℕ, ◌≤◌, nat_le, Bool, true, false, List, [], ◌∷◌}
+use Rattle.std.proofs.Common.{Option, Some, None, refl, sym, ◌∙◌, ap, subst}
 use Rattle.rg_base.specs.RowBytes.{row_size}
 use Rattle.rg_base.specs.declared.part.Part.{Part}
 use Rattle.rg_base.specs.declared.part.SlotOp.{SlotOp}
@@ -45,23 +47,30 @@ MakesTied at p (DeadOver c h u) = Unit {0}
 
 -- ---- one slot
 
-module _ (live : List ℕ) (t : ℕ) (home : Place) (pages : List (List Slot)) (x : Place) (s2 : Slot) (low : 1 ≤ x.page) (turns : Turns t home x (slot_of pages x) s2) where
+module _ (live : List ℕ) (t : ℕ) (home : Place) (pages : List (List Slot)) (x : Place) (s2 : Slot)
+    (low : 1 ≤ x.page) (turns : Turns t home x (slot_of pages x) s2) where
   -- an area of a home stays one
-  area_kept : (p o : Place) → IsAreaOf None p (slot_of pages o) → IsAreaOf None p (slot_of (wrote pages x s2) o)
+  area_kept : (p o : Place) → IsAreaOf None p (slot_of pages o)
+      → IsAreaOf None p (slot_of (wrote pages x s2) o)
   area_kept p o a = go (same_place o x) refl
     where
-      turned : Turns t home x (slot_of pages x) s2 → IsAreaOf None p (slot_of pages x) → IsAreaOf None p s2
+      turned : Turns t home x (slot_of pages x) s2 → IsAreaOf None p (slot_of pages x)
+          → IsAreaOf None p s2
       turned (inl f) a = absurd (subst (IsAreaOf None p) f a)
       turned (inr (inl h)) a = absurd (home_area None None p (slot_of pages x) h.1 a)
-      turned (inr (inr h)) a = subst (λ (q : Place). IsAreaOf None q s2) (sym (area_one None None p home (slot_of pages x) a h.0)) (area_any (Some t) home s2 h.1)
+      turned (inr (inr h)) a = subst (λ (q : Place). IsAreaOf None q s2)
+          (sym (area_one None None p home (slot_of pages x) a h.0)) (area_any (Some t) home s2 h.1)
 
       go : (b : Bool) → same_place o x ≡ b → IsAreaOf None p (slot_of (wrote pages x s2) o)
       go true e =
           let is = same_place-true o x e in
-          subst (IsAreaOf None p) (sym (ap (slot_of (wrote pages x s2)) is ∙ wrote_here pages x s2 low)) (turned turns (subst (λ (q : Place). IsAreaOf None p (slot_of pages q)) is a))
+          subst (IsAreaOf None p)
+          (sym (ap (slot_of (wrote pages x s2)) is ∙ wrote_here pages x s2 low))
+          (turned turns (subst (λ (q : Place). IsAreaOf None p (slot_of pages q)) is a))
       go false e = subst (IsAreaOf None p) (sym (wrote_there pages x s2 low o e)) a
 
-  tied_there : (p : Place) (s : Slot) → DeadTiesAt live (slot_of pages) p s → DeadTiesAt live (slot_of (wrote pages x s2)) p s
+  tied_there : (p : Place) (s : Slot) → DeadTiesAt live (slot_of pages) p s
+      → DeadTiesAt live (slot_of (wrote pages x s2)) p s
   tied_there p (DeadPointer c o u) h = λ l. area_kept p o (h l)
   tied_there p Free h = tt
   tied_there p (Row c b) h = tt
@@ -70,7 +79,8 @@ module _ (live : List ℕ) (t : ℕ) (home : Place) (pages : List (List Slot)) (
   tied_there p (DeadRow c u) h = tt
   tied_there p (DeadOver c o u) h = tt
 
-  tied_here : (s : Slot) → MakesTied (slot_of pages) x s → DeadTiesAt live (slot_of (wrote pages x s2)) x s
+  tied_here : (s : Slot) → MakesTied (slot_of pages) x s
+      → DeadTiesAt live (slot_of (wrote pages x s2)) x s
   tied_here (DeadPointer c o v) m = λ l. area_kept x o m
   tied_here Free m = tt
   tied_here (Row c b) m = tt
@@ -79,18 +89,25 @@ module _ (live : List ℕ) (t : ℕ) (home : Place) (pages : List (List Slot)) (
   tied_here (DeadRow c u) m = tt
   tied_here (DeadOver c o u) m = tt
 
-  ties_wrote : MakesTied (slot_of pages) x s2 → DeadTies live (slot_of pages) → DeadTies live (slot_of (wrote pages x s2))
+  ties_wrote : MakesTied (slot_of pages) x s2 → DeadTies live (slot_of pages)
+      → DeadTies live (slot_of (wrote pages x s2))
   ties_wrote makes ties p = go (same_place p x) refl
     where
-      go : (b : Bool) → same_place p x ≡ b → DeadTiesAt live (slot_of (wrote pages x s2)) p (slot_of (wrote pages x s2) p)
+      go : (b : Bool) → same_place p x ≡ b
+          → DeadTiesAt live (slot_of (wrote pages x s2)) p (slot_of (wrote pages x s2) p)
       go true e =
-          subst (λ (q : Place). DeadTiesAt live (slot_of (wrote pages x s2)) q (slot_of (wrote pages x s2) q)) (sym (same_place-true p x e))
-          (subst (DeadTiesAt live (slot_of (wrote pages x s2)) x) (sym (wrote_here pages x s2 low)) (tied_here s2 makes))
-      go false e = subst (DeadTiesAt live (slot_of (wrote pages x s2)) p) (sym (wrote_there pages x s2 low p e)) (tied_there p (slot_of pages p) (ties p))
+          subst
+          (λ (q : Place). DeadTiesAt live (slot_of (wrote pages x s2)) q
+          (slot_of (wrote pages x s2) q)) (sym (same_place-true p x e))
+          (subst (DeadTiesAt live (slot_of (wrote pages x s2)) x) (sym (wrote_here pages x s2 low))
+          (tied_here s2 makes))
+      go false e = subst (DeadTiesAt live (slot_of (wrote pages x s2)) p)
+          (sym (wrote_there pages x s2 low p e)) (tied_there p (slot_of pages p) (ties p))
 
 -- ---- parts
 
-alive_makes : (t : ℕ) (after : TableRow) (at : Place → Slot) (p : Place) (op : SlotOp) → Alive op → MakesTied at p (made t after op)
+alive_makes : (t : ℕ) (after : TableRow) (at : Place → Slot) (p : Place) (op : SlotOp) → Alive op
+    → MakesTied at p (made t after op)
 alive_makes t after at p (Op.DeadPointer c o) a = absurd a
 alive_makes t after at p Op.Free a = tt
 alive_makes t after at p (Op.Row c) a = tt
@@ -100,19 +117,27 @@ alive_makes t after at p (Op.DeadRow c) a = tt
 alive_makes t after at p (Op.DeadOver c h) a = tt
 
 module _ (live : List ℕ) (t : ℕ) (home : Place) (after : TableRow) where
-  ties_alive : (pages : List (List Slot)) (parts : List Part) → AllAlive parts → InTurn (Turns t home) t after pages parts → DeadTies live (slot_of pages) → DeadTies live (slot_of (applied t after pages parts))
+  ties_alive : (pages : List (List Slot)) (parts : List Part) → AllAlive parts
+      → InTurn (Turns t home) t after pages parts → DeadTies live (slot_of pages)
+      → DeadTies live (slot_of (applied t after pages parts))
   ties_alive pages [] a r ties = ties
   ties_alive pages (x ∷ parts) a r ties =
       ties_alive (wrote pages (place_of x) (made t after x.op)) parts a.1 r.2
-      (ties_wrote live t home pages (place_of x) (made t after x.op) r.0 r.1 (alive_makes t after (slot_of pages) (place_of x) x.op a.0) ties)
+      (ties_wrote live t home pages (place_of x) (made t after x.op) r.0 r.1
+      (alive_makes t after (slot_of pages) (place_of x) x.op a.0) ties)
 
   -- a moved row is dropped
-  ties_dropped : (pages : List (List Slot)) (c : ℕ) (o : Place) (parts : List Part) → Tied (slot_of pages) → slot_of pages home ≡ Pointer c o → AllAlive parts → InTurn (Turns t home) t after pages (part_at home (Op.DeadPointer c o) ∷ parts)
-      → DeadTies live (slot_of pages) → DeadTies live (slot_of (applied t after pages (part_at home (Op.DeadPointer c o) ∷ parts)))
+  ties_dropped : (pages : List (List Slot)) (c : ℕ) (o : Place) (parts : List Part)
+      → Tied (slot_of pages) → slot_of pages home ≡ Pointer c o → AllAlive parts
+      → InTurn (Turns t home) t after pages (part_at home (Op.DeadPointer c o) ∷ parts)
+      → DeadTies live (slot_of pages)
+      → DeadTies live (slot_of (applied t after pages (part_at home (Op.DeadPointer c o) ∷ parts)))
   ties_dropped pages c o parts tied e a r ties =
       let was = pointed (slot_of pages) home o c tied e in
-      let makes : MakesTied (slot_of pages) home (DeadPointer c o t) = subst (IsAreaOf None home) (sym was.2) refl in
-      ties_alive (wrote pages home (DeadPointer c o t)) parts a r.2 (ties_wrote live t home pages home (DeadPointer c o t) r.0 r.1 makes ties)
+      let makes : MakesTied (slot_of pages) home (DeadPointer c o t) =
+      subst (IsAreaOf None home) (sym was.2) refl in
+      ties_alive (wrote pages home (DeadPointer c o t)) parts a r.2
+      (ties_wrote live t home pages home (DeadPointer c o t) r.0 r.1 makes ties)
 
 -- ---- the plan
 
@@ -125,32 +150,52 @@ alive_left pages home (DeadRow c u) = tt
 alive_left pages home (DeadPointer c o u) = tt
 alive_left pages home (DeadOver c h u) = tt
 
-alive_back : (pages : List (List Slot)) (home q : Place) (s : Slot) (b : Bool) → AllAlive (back_from pages home q s b)
+alive_back : (pages : List (List Slot)) (home q : Place) (s : Slot) (b : Bool)
+    → AllAlive (back_from pages home q s b)
 alive_back pages home q s true = (tt, tt)
 alive_back pages home q s false = (tt, (tt, alive_left pages home s))
 
-alive_row : (pages : List (List Slot)) (home : Place) (over : Option Place) (s : Slot) (b : Bool) → AllAlive (undo_row pages home over s b)
+alive_row : (pages : List (List Slot)) (home : Place) (over : Option Place) (s : Slot) (b : Bool)
+    → AllAlive (undo_row pages home over s b)
 alive_row pages home over s true = (tt, alive_left pages home s)
 alive_row pages home None s false = tt
 alive_row pages home (Some q) s false = alive_back pages home q s (lies_in q s)
 
-module _ (live : List ℕ) (t : ℕ) (home : Place) (after : TableRow) (pages : List (List Slot)) (tied : Tied (slot_of pages)) (ties : DeadTies live (slot_of pages)) where
-  drop_ties : (s : Slot) → slot_of pages home ≡ s → InTurn (Turns t home) t after pages (planned_drop pages home s).parts → DeadTies live (slot_of (applied t after pages (planned_drop pages home s).parts))
-  drop_ties (Pointer c o) e r = ties_dropped live t home after pages c o (part_at o (Op.DeadOver (capacity_of (slot_of pages o)) home) ∷ []) tied e (tt, tt) r ties
-  drop_ties (Row c b) e r = ties_alive live t home after pages (part_at home (Op.DeadRow c) ∷ []) (tt, tt) r ties
-  drop_ties (DeadRow c u) e r = ties_alive live t home after pages (part_at home (Op.DeadRow c) ∷ []) (tt, tt) r ties
-  drop_ties (DeadPointer c o u) e r = ties_alive live t home after pages (part_at home (Op.DeadRow c) ∷ []) (tt, tt) r ties
-  drop_ties Free e r = ties_alive live t home after pages (part_at home (Op.DeadRow 0) ∷ []) (tt, tt) r ties
-  drop_ties (Over c b h) e r = ties_alive live t home after pages (part_at home (Op.DeadRow c) ∷ []) (tt, tt) r ties
-  drop_ties (DeadOver c h u) e r = ties_alive live t home after pages (part_at home (Op.DeadRow c) ∷ []) (tt, tt) r ties
+module _ (live : List ℕ) (t : ℕ) (home : Place) (after : TableRow) (pages : List (List Slot))
+    (tied : Tied (slot_of pages)) (ties : DeadTies live (slot_of pages)) where
+  drop_ties : (s : Slot) → slot_of pages home ≡ s
+      → InTurn (Turns t home) t after pages (planned_drop pages home s).parts
+      → DeadTies live (slot_of (applied t after pages (planned_drop pages home s).parts))
+  drop_ties (Pointer c o) e r = ties_dropped live t home after pages c o
+      (part_at o (Op.DeadOver (capacity_of (slot_of pages o)) home) ∷ []) tied e (tt, tt) r ties
+  drop_ties (Row c b) e r =
+      ties_alive live t home after pages (part_at home (Op.DeadRow c) ∷ []) (tt, tt) r ties
+  drop_ties (DeadRow c u) e r =
+      ties_alive live t home after pages (part_at home (Op.DeadRow c) ∷ []) (tt, tt) r ties
+  drop_ties (DeadPointer c o u) e r =
+      ties_alive live t home after pages (part_at home (Op.DeadRow c) ∷ []) (tt, tt) r ties
+  drop_ties Free e r =
+      ties_alive live t home after pages (part_at home (Op.DeadRow 0) ∷ []) (tt, tt) r ties
+  drop_ties (Over c b h) e r =
+      ties_alive live t home after pages (part_at home (Op.DeadRow c) ∷ []) (tt, tt) r ties
+  drop_ties (DeadOver c h u) e r =
+      ties_alive live t home after pages (part_at home (Op.DeadRow c) ∷ []) (tt, tt) r ties
 
-  parts_ties : (over : Option Place) (before : Option TableRow) → InTurn (Turns t home) t after pages (undo_parts pages home over before (slot_of pages home)) → DeadTies live (slot_of (applied t after pages (undo_parts pages home over before (slot_of pages home))))
+  parts_ties : (over : Option Place) (before : Option TableRow)
+      → InTurn (Turns t home) t after pages (undo_parts pages home over before (slot_of pages home))
+      → DeadTies live
+      (slot_of (applied t after pages (undo_parts pages home over before (slot_of pages home))))
   parts_ties over None r = drop_ties (slot_of pages home) refl r
   parts_ties over (Some row) r =
       let fits : Bool = nat_le (row_size row) (capacity_of (slot_of pages home)) in
-      ties_alive live t home after pages (undo_row pages home over (slot_of pages home) fits) (alive_row pages home over (slot_of pages home) fits) r ties
+      ties_alive live t home after pages (undo_row pages home over (slot_of pages home) fits)
+      (alive_row pages home over (slot_of pages home) fits) r ties
 
-pub undo_ties : (live : List ℕ) (c : Written) (pages : List (List Slot)) → Proper pages → Undoable None (slot_of pages) c → DeadTies live (slot_of pages) → DeadTies live (slot_of (undone pages c))
+pub undo_ties : (live : List ℕ) (c : Written) (pages : List (List Slot)) → Proper pages
+    → Undoable None (slot_of pages) c → DeadTies live (slot_of pages)
+    → DeadTies live (slot_of (undone pages c))
 undo_ties live c pages proper can ties =
-    parts_ties live c.owner c.home (row_or_empty c.before) pages proper.tied ties (over_before c.parts) c.before
-    (in_turn_weaker _ (Turns c.owner c.home) (reuse_turns c.owner c.home) c.owner (row_or_empty c.before) pages _ (reuses c pages proper can))
+    parts_ties live c.owner c.home (row_or_empty c.before) pages proper.tied ties
+    (over_before c.parts) c.before
+    (in_turn_weaker _ (Turns c.owner c.home) (reuse_turns c.owner c.home) c.owner
+    (row_or_empty c.before) pages _ (reuses c pages proper can))

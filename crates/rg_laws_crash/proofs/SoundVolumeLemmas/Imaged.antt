@@ -5,7 +5,9 @@
 -- 2. Redo goes on from each of them to the newest version. So the pages after redo are those of
 --    which it is known that the log can be opened.
 -- 3. A record that fitted the page when it was made fits in the redo from any version.
-use Rattle.std.proofs.Common.{◌≡◌, ◌≤◌, ◌<◌, ◌&&◌, inl, inr, nat_lt, ℕ, zero, suc, Bool, true, List, [], ◌∷◌, length, map, take, drop, get_or, refl, sym, ◌∙◌, ap, subst, arith, length-take}
+use Rattle.std.proofs.Common.{◌≡◌, ◌≤◌, ◌<◌, ◌&&◌, inl, inr, nat_lt, ℕ, zero, suc, Bool, true, List}
+use Rattle.std.proofs.Common.{[], ◌∷◌, length, map, take, drop, get_or, refl, sym, ◌∙◌, ap, subst}
+use Rattle.std.proofs.Common.{arith, length-take}
 use Rattle.std.specs.List.{All, range_with_len}
 use Rattle.std.proofs.lemmas.Bool.{cases_lt, lt-ltb}
 use Rattle.std.proofs.lemmas.List.{ext_get_or, get_or-map, length-map}
@@ -66,14 +68,18 @@ module _ (e : Epoch) (rs : List Record) (p : ℕ) (begins : IsBegun e p) where
   version_number k = numbers_stay (drop e.from (take k rs)) (e.base p) ∙ begins.number
 
 -- a left-over page is taken as empty
-left_empty : (e : Epoch) (p : ℕ) (bytes : List ℕ) (left : IsLeftOver e p bytes) → taken e p left.page ≡ empty e.copy p
+left_empty : (e : Epoch) (p : ℕ) (bytes : List ℕ) (left : IsLeftOver e p bytes)
+    → taken e p left.page ≡ empty e.copy p
 left_empty e p bytes left =
     let beyond : nat_lt e.pages p ≡ true = lt-ltb e.pages p left.past in
     let low : nat_lt left.page.position e.from ≡ true = lt-ltb left.page.position e.from left.low in
     let test : (nat_lt e.pages p && nat_lt left.page.position e.from) ≡ true = rw beyond low in
-    ap (λ (t : Bool). taken_if t left.page) test ∙ ap (λ (c : ℕ). empty c left.page.number) left.copy ∙ ap (empty e.copy) left.number
+    ap (λ (t : Bool). taken_if t left.page) test
+    ∙ ap (λ (c : ℕ). empty c left.page.number) left.copy ∙ ap (empty e.copy) left.number
 
-pub shown_there : (e : Epoch) (rs : List Record) (high p : ℕ) (bytes : List ℕ) → ArePositions rs → IsBegun e p → e.from ≤ high → high ≤ length rs → IsOnVolume e rs high p bytes → Shown e rs high p bytes
+pub shown_there : (e : Epoch) (rs : List Record) (high p : ℕ) (bytes : List ℕ) → ArePositions rs
+    → IsBegun e p → e.from ≤ high → high ≤ length rs → IsOnVolume e rs high p bytes
+    → Shown e rs high p bytes
 shown_there e rs high p bytes positions begins low most on = elim on.shows [
   | inl here ↦ record {
     page = version e rs on.count p;
@@ -84,7 +90,8 @@ shown_there e rs high p bytes positions begins low most on = elim on.shows [
     copy = version_copy e rs p begins on.count;
     number = version_number e rs p begins on.count;
     position = on.position;
-    is = version_taken e rs p (follow_positions rs positions) on.count (omega (arith, on.most, most)) begins.taken;
+    is = version_taken e rs p (follow_positions rs positions) on.count
+        (omega (arith, on.most, most)) begins.taken;
   }
   | inr left ↦ record {
     page = left.0.page;
@@ -100,21 +107,28 @@ shown_there e rs high p bytes positions begins low most on = elim on.shows [
 ]
 
 -- whatever is taken of these bytes, as of that page, is that version
-pub taken_shown : (e : Epoch) (rs : List Record) (high p : ℕ) (bytes : List ℕ) (shown : Shown e rs high p bytes) (page : Content) → Spells bytes page → page.copy ≡ e.copy → page.number ≡ p → taken e p page ≡ version e rs shown.count p
+pub taken_shown : (e : Epoch) (rs : List Record) (high p : ℕ) (bytes : List ℕ)
+    (shown : Shown e rs high p bytes) (page : Content) → Spells bytes page → page.copy ≡ e.copy
+    → page.number ≡ p → taken e p page ≡ version e rs shown.count p
 taken_shown e rs high p bytes shown page spells copy number =
-    ap (taken e p) (one_spelling page shown.page spells.fits shown.spells.fits (copy ∙ sym shown.copy) (number ∙ sym shown.number) (sym spells.is ∙ shown.spells.is)) ∙ shown.is
+    ap (taken e p)
+    (one_spelling page shown.page spells.fits shown.spells.fits (copy ∙ sym shown.copy)
+    (number ∙ sym shown.number) (sym spells.is ∙ shown.spells.is)) ∙ shown.is
 
 -- ---- all pages
 
 -- records that fit each page fit them all
-each_to_all : (rs : List Record) (pages : List Content) → All (EachFits rs) pages → AllRedoFit rs pages
+each_to_all : (rs : List Record) (pages : List Content) → All (EachFits rs) pages
+    → AllRedoFit rs pages
 each_to_all [] pages fits = tt
 each_to_all (entry ∷ rs) pages fits = (
   λ k other low. (fits k other low).0,
-  each_to_all rs (map (redone entry) pages) (All-map (EachFits rs) (redone entry) pages (λ k other low. (fits k other low).1)),
+  each_to_all rs (map (redone entry) pages)
+      (All-map (EachFits rs) (redone entry) pages (λ k other low. (fits k other low).1)),
 )
 
-module _ (capacities : Capacities) (e : Epoch) (rs : List Record) (forced n : ℕ) (i : Image) (left : IsLeft capacities e rs forced n i) (can : CanReopen capacities e (take n rs)) where
+module _ (capacities : Capacities) (e : Epoch) (rs : List Record) (forced n : ℕ) (i : Image)
+    (left : IsLeft capacities e rs forced n i) (can : CanReopen capacities e (take n rs)) where
   abbrev front : List Record
   front = take n rs
 
@@ -128,34 +142,42 @@ module _ (capacities : Capacities) (e : Epoch) (rs : List Record) (forced n : �
   steady = steady_front e rs n begun_front left.high left.steady
 
   since_is : since_switch front ≡ drop e.from front
-  since_is = (has_switched front (left_positions capacities e rs forced n i left)).since ∙ ap (λ (k : ℕ). drop k front) steady.from
+  since_is = (has_switched front (left_positions capacities e rs forced n i left)).since
+      ∙ ap (λ (k : ℕ). drop k front) steady.from
 
   within : count_of front ≤ copy_capacity capacities e.copy
   within =
-      let covers : CoversAll capacities front = covers_all capacities front can.chain (left_entries capacities e rs forced n i left) in
+      let covers : CoversAll capacities front =
+      covers_all capacities front can.chain (left_entries capacities e rs forced n i left) in
       subst (λ (k : ℕ). count_of front ≤ copy_capacity capacities k) steady.copy covers.within
 
   abbrev bytes_of : ℕ → List ℕ
   bytes_of p = i (set_of e.copy) p
 
   -- what is taken by the log is what is taken by the copy
-  pub taken_same : (p : ℕ) (page : Content) → taken_past (switched_at front) (switched_pages front) p page ≡ taken e p page
-  taken_same p page = ap (λ (k : ℕ). taken_past k (switched_pages front) p page) steady.from ∙ ap (λ (k : ℕ). taken_past e.from k p page) (sym left.counts)
+  pub taken_same : (p : ℕ) (page : Content)
+      → taken_past (switched_at front) (switched_pages front) p page ≡ taken e p page
+  taken_same p page = ap (λ (k : ℕ). taken_past k (switched_pages front) p page) steady.from
+      ∙ ap (λ (k : ℕ). taken_past e.from k p page) (sym left.counts)
 
   pub shown_page : (p : ℕ) → 1 ≤ p → p ≤ count_of front → Shown e rs forced p (bytes_of p)
   shown_page p one there =
-      shown_there e rs forced p (bytes_of p) left.positions (left.base p one) left.begun (omega (arith, left.low, left.high))
+      shown_there e rs forced p (bytes_of p) left.positions (left.base p one) left.begun
+      (omega (arith, left.low, left.high))
       (left.pages p one (omega (arith, there, within)))
 
   -- what is taken of page k + 1
   record Found (k : ℕ) : Type 0 where
     content : Content
-    how : k < count_of front → (shown : Shown e rs forced (suc k) (bytes_of (suc k))) × (content ≡ taken e (suc k) shown.page)
+    how : k < count_of front
+        → (shown : Shown e rs forced (suc k) (bytes_of (suc k)))
+        × (content ≡ taken e (suc k) shown.page)
 
   found : (k : ℕ) → Found k
   found k = elim (cases_lt k (count_of front)) [
     | inl there ↦
-        let shown : Shown e rs forced (suc k) (bytes_of (suc k)) = shown_page (suc k) (omega arith) (omega (arith, there)) in
+        let shown : Shown e rs forced (suc k) (bytes_of (suc k)) =
+        shown_page (suc k) (omega arith) (omega (arith, there)) in
         record { content = taken e (suc k) shown.page; how = λ low. (shown, refl) }
     | inr past ↦ record { content = empty 0 0; how = λ low. absurd (omega (arith, low, past)) }
   ]
@@ -169,19 +191,22 @@ module _ (capacities : Capacities) (e : Epoch) (rs : List Record) (forced n : �
 
   base_at : (k : ℕ) → k < count_of front → get_or base k (empty 0 0) ≡ (found k).content
   unfolding base
-  base_at k low = get_or-map-range_with_len (λ (k : ℕ). (found k).content) 0 (count_of front) k k (empty 0 0) low (omega arith)
+  base_at k low = get_or-map-range_with_len (λ (k : ℕ). (found k).content) 0 (count_of front) k k
+      (empty 0 0) low (omega arith)
 
   takes : TakesBase front i base
   takes = record { count_is = base_length; each = each }
     where
-      each : (p : ℕ) → 1 ≤ p → p ≤ count_of front → IsTakenPage front p (i (set_of (copy_of front)) p) (content_at base p)
+      each : (p : ℕ) → 1 ≤ p → p ≤ count_of front
+          → IsTakenPage front p (i (set_of (copy_of front)) p) (content_at base p)
       each zero one there = absurd (omega (arith, one))
       each (suc k) one there =
           let low : k < count_of front = omega (arith, there) in
           let how = (found k).how low in
           record {
             page = how.0.page;
-            spells = subst (λ (c : ℕ). Spells (i (set_of c) (suc k)) how.0.page) (sym steady.copy) how.0.spells;
+            spells = subst (λ (c : ℕ). Spells (i (set_of c) (suc k)) how.0.page) (sym steady.copy)
+                how.0.spells;
             copy_is = how.0.copy ∙ sym steady.copy;
             number = how.0.number;
             position = omega (arith, how.0.position, front_length, left.low);
@@ -189,16 +214,20 @@ module _ (capacities : Capacities) (e : Epoch) (rs : List Record) (forced n : �
           }
 
   -- redo leaves the newest versions
-  redone_at : (k : ℕ) → k < count_of front → redone_by (drop e.from front) (get_or base k (empty 0 0)) ≡ version e rs n (suc k)
+  redone_at : (k : ℕ) → k < count_of front
+      → redone_by (drop e.from front) (get_or base k (empty 0 0)) ≡ version e rs n (suc k)
   redone_at k low =
       let how = (found k).how low in
       ap (redone_by (drop e.from front)) (base_at k low ∙ how.1 ∙ how.0.is)
-      ∙ version_redone e rs (suc k) how.0.count n how.0.begun (omega (arith, how.0.most, left.low)) left.high
+      ∙ version_redone e rs (suc k) how.0.count n how.0.begun (omega (arith, how.0.most, left.low))
+      left.high
 
-  newest_at : (k : ℕ) → k < count_of front → get_or can.seen.pages k (empty 0 0) ≡ version e rs n (suc k)
+  newest_at : (k : ℕ) → k < count_of front
+      → get_or can.seen.pages k (empty 0 0) ≡ version e rs n (suc k)
   newest_at k low =
       let there : suc k ≤ length can.seen.pages = omega (arith, low, can.redone.count) in
-      let newest : IsNewest e front (suc k) (page_in can.seen.copy can.seen.pages (suc k)) = can.redone.newest.each (suc k) (omega arith) in
+      let newest : IsNewest e front (suc k) (page_in can.seen.copy can.seen.pages (suc k)) =
+      can.redone.newest.each (suc k) (omega arith) in
       sym (there_in can.seen.copy can.seen.pages (suc k) there) ∙ newest.is
       ∙ ap (λ (xs : List Record). redone_by (drop e.from xs) (e.base (suc k))) (take_whole front)
     where
@@ -207,32 +236,40 @@ module _ (capacities : Capacities) (e : Epoch) (rs : List Record) (forced n : �
       take_whole (x ∷ xs) = ap (λ (l : List Record). x ∷ l) (take_whole xs)
 
   rebuilt_is : rebuilt_pages base front ≡ can.seen.pages
-  rebuilt_is = ap (λ (xs : List Record). redone_all xs base) since_is ∙ all_redone (drop e.from front) base ∙ same
+  rebuilt_is = ap (λ (xs : List Record). redone_all xs base) since_is
+      ∙ all_redone (drop e.from front) base ∙ same
     where
       count : length (map (redone_by (drop e.from front)) base) ≡ length can.seen.pages
       count = length-map base (redone_by (drop e.from front)) ∙ base_length ∙ sym can.redone.count
 
       same : map (redone_by (drop e.from front)) base ≡ can.seen.pages
-      same = ext_get_or (empty 0 0) (map (redone_by (drop e.from front)) base) can.seen.pages count (λ k low.
+      same = ext_get_or (empty 0 0) (map (redone_by (drop e.from front)) base) can.seen.pages count
+          (λ k low.
           let below : k < count_of front = omega (arith, low, count, can.redone.count) in
-          get_or-map (redone_by (drop e.from front)) base k (empty 0 0) (empty 0 0) (omega (arith, below, base_length))
+          get_or-map (redone_by (drop e.from front)) base k (empty 0 0) (empty 0 0)
+          (omega (arith, below, base_length))
           ∙ redone_at k below ∙ sym (newest_at k below))
 
   all_fit : AllRedoFit (since_switch front) base
-  all_fit = subst (λ (xs : List Record). AllRedoFit xs base) (sym since_is) (each_to_all (drop e.from front) base (All-from_get_or (EachFits (drop e.from front)) base (empty 0 0) fits))
+  all_fit = subst (λ (xs : List Record). AllRedoFit xs base) (sym since_is)
+      (each_to_all (drop e.from front) base
+      (All-from_get_or (EachFits (drop e.from front)) base (empty 0 0) fits))
     where
       fits : (k : ℕ) → k < length base → EachFits (drop e.from front) (get_or base k (empty 0 0))
       fits k low =
           let below : k < count_of front = omega (arith, low, base_length) in
           let how = (found k).how below in
           subst (EachFits (drop e.from front)) (sym (base_at k below ∙ how.1 ∙ how.0.is))
-          (version_fits e rs (suc k) how.0.count n how.0.begun (omega (arith, how.0.most, left.low)) left.high (can.redone.fits (suc k) (omega arith)))
+          (version_fits e rs (suc k) how.0.count n how.0.begun (omega (arith, how.0.most, left.low))
+          left.high (can.redone.fits (suc k) (omega arith)))
 
   keeps : KeepsRules base front
   keeps = record {
     fit = all_fit;
-    closes = subst (λ (pages : List Content). CanClose front (slots_of pages)) (sym rebuilt_is) can.closes;
-    matched = subst (λ (pages : List Content). IsMatched front (undone_from front (slots_of pages))) (sym rebuilt_is) can.matched;
+    closes = subst (λ (pages : List Content). CanClose front (slots_of pages)) (sym rebuilt_is)
+        can.closes;
+    matched = subst (λ (pages : List Content). IsMatched front (undone_from front (slots_of pages)))
+        (sym rebuilt_is) can.matched;
   }
 
   pub image_sound : IsSound capacities i
@@ -240,7 +277,11 @@ module _ (capacities : Capacities) (e : Epoch) (rs : List Record) (forced n : �
     front,
     base,
     record {
-      log = record { pages = left_pages capacities e rs forced n i left; chain = can.chain; space = can.space };
+      log = record {
+        pages = left_pages capacities e rs forced n i left;
+        chain = can.chain;
+        space = can.space;
+      };
       takes = takes;
       pages = keeps;
     },

@@ -18,10 +18,14 @@ use Rattle.rg_laws_crash.specs.PageVersions.Versions.{Epoch}
 use Rattle.rg_laws_crash.specs.SoundVolume.Laws.{IsLeft}
 
 -- records with the positions from 1 on, for which a log has room
-pub spelled_pages : (capacity : ℕ) (rs : List Record) (i : Image) → AreEntries rs → ArePositions rs → (1 ≤ length rs → (end_of start rs).page ≤ capacity) → Spells capacity rs i → HasLogPages capacity i rs
-spelled_pages capacity rs i entries positions room spells = spelled_sound capacity rs i entries positions room spells
+pub spelled_pages : (capacity : ℕ) (rs : List Record) (i : Image) → AreEntries rs → ArePositions rs
+    → (1 ≤ length rs → (end_of start rs).page ≤ capacity) → Spells capacity rs i
+    → HasLogPages capacity i rs
+spelled_pages capacity rs i entries positions room spells =
+    spelled_sound capacity rs i entries positions room spells
 
-module _ (capacities : Capacities) (e : Epoch) (rs : List Record) (forced n : ℕ) (i : Image) (left : IsLeft capacities e rs forced n i) where
+module _ (capacities : Capacities) (e : Epoch) (rs : List Record) (forced n : ℕ) (i : Image)
+    (left : IsLeft capacities e rs forced n i) where
   pub left_entries : AreEntries (take n rs)
   left_entries entry contains = left.entries entry (contains_take n rs entry contains)
 
@@ -31,5 +35,6 @@ module _ (capacities : Capacities) (e : Epoch) (rs : List Record) (forced n : �
   pub left_pages : HasLogPages (log_pages capacities) i (take n rs)
   left_pages =
       spelled_pages (log_pages capacities) (take n rs) i left_entries left_positions
-      (λ some. omega (arith, front_page n rs, left.room (omega (arith, some, length-take n rs, left.high))))
+      (λ some.
+      omega (arith, front_page n rs, left.room (omega (arith, some, length-take n rs, left.high))))
       left.log

@@ -4,7 +4,9 @@
 --    low.
 -- 2. What an opening takes of a page is a version of it: the page with which the copy began, and
 --    records of the log.
-use Rattle.std.proofs.Common.{◌≡◌, ◌≤◌, inl, inr, nat_lt, ℕ, zero, suc, ◌==◌, if◌then◌else◌, Bool, true, false, List, [], ◌∷◌, Option, take, drop, sym, ◌∙◌, ap, subst, arith}
+use Rattle.std.proofs.Common.{◌≡◌, ◌≤◌, inl, inr, nat_lt, ℕ, zero, suc, ◌==◌, if◌then◌else◌, Bool}
+use Rattle.std.proofs.Common.{true, false, List, [], ◌∷◌, Option, take, drop, sym, ◌∙◌, ap, subst}
+use Rattle.std.proofs.Common.{arith}
 use Rattle.std.proofs.lemmas.Bool.{cases_eq}
 use Rattle.std.proofs.lemmas.List.{take-take}
 use Rattle.std.specs.List.{AllByRecursion}
@@ -35,7 +37,8 @@ use Rattle.rg_laws_crash.proofs.SoundVolumeLemmas.Imaged.{taken_shown}
 
 -- ---- records with low numbers
 
-made_below : (top owner : ℕ) (after : Row) (op : SlotOp) → owner ≤ top → OwnerBelow top (made owner after op)
+made_below : (top owner : ℕ) (after : Row) (op : SlotOp) → owner ≤ top
+    → OwnerBelow top (made owner after op)
 made_below top owner after Op.Free low = tt
 made_below top owner after (Op.Row capacity) low = tt
 made_below top owner after (Op.Pointer capacity other) low = tt
@@ -45,28 +48,44 @@ made_below top owner after (Op.DeadPointer capacity other) low = low
 made_below top owner after (Op.DeadOver capacity home) low = low
 
 module _ (top owner : ℕ) (after : Option Row) (position : ℕ) (low : owner ≤ top) where
-  changed_below : (page : Content) (x : Part) → IsBelow top page → IsBelow top (changed page x owner after position)
+  changed_below : (page : Content) (x : Part) → IsBelow top page
+      → IsBelow top (changed page x owner after position)
   changed_below page x below k = elim (cases_eq k x.slot) [
     | inl here ↦
-        subst (OwnerBelow top) (sym (ap (slot_at (changed page x owner after position).slots) here ∙ slot_at-placed_same page.slots x.slot (made owner (row_or_empty after) x.op)))
+        subst (OwnerBelow top)
+        (sym
+        (ap (slot_at (changed page x owner after position).slots) here
+        ∙ slot_at-placed_same page.slots x.slot (made owner (row_or_empty after) x.op)))
         (made_below top owner (row_or_empty after) x.op low)
-    | inr other ↦ subst (OwnerBelow top) (sym (slot_at-placed_other page.slots x.slot k (made owner (row_or_empty after) x.op) other)) (below k)
+    | inr other ↦ subst (OwnerBelow top)
+        (sym
+        (slot_at-placed_other page.slots x.slot k (made owner (row_or_empty after) x.op) other))
+        (below k)
   ]
 
-  part_below : (page : Content) (x : Part) → IsBelow top page → IsBelow top (with_part owner after position page x)
-  part_below page x below = elim (x.page == page.number) as (λ (t : Bool). IsBelow top (if t then changed page x owner after position else page)) [
-    | true ↦ changed_below page x below
-    | false ↦ below
-  ]
+  part_below : (page : Content) (x : Part) → IsBelow top page
+      → IsBelow top (with_part owner after position page x)
+  part_below page x below = elim (x.page == page.number) as
+      (λ (t : Bool). IsBelow top (if t then changed page x owner after position else page)) [
+        | true ↦ changed_below page x below
+        | false ↦ below
+      ]
 
-  parts_below : (parts : List Part) (page : Content) → IsBelow top page → IsBelow top (with_parts owner after position page parts)
+  parts_below : (parts : List Part) (page : Content) → IsBelow top page
+      → IsBelow top (with_parts owner after position page parts)
   parts_below [] page below = below
-  parts_below (x ∷ parts) page below = parts_below parts (with_part owner after position page x) (part_below page x below)
+  parts_below (x ∷ parts) page below =
+      parts_below parts (with_part owner after position page x) (part_below page x below)
 
-redone_below : (top : ℕ) (entry : Record) (page : Content) → entry.tran.0 ≤ top → IsBelow top page → IsBelow top (redone entry page)
+redone_below : (top : ℕ) (entry : Record) (page : Content) → entry.tran.0 ≤ top → IsBelow top page
+    → IsBelow top (redone entry page)
 redone_below top entry page low below =
-    elim (nat_lt page.position entry.position.0) as (λ (t : Bool). IsBelow top (if t then with_parts entry.tran.0 (after_of entry.kind) entry.position.0 page (parts_of entry.kind) else page)) [
-      | true ↦ parts_below top entry.tran.0 (after_of entry.kind) entry.position.0 low (parts_of entry.kind) page below
+    elim (nat_lt page.position entry.position.0) as (λ (t : Bool). IsBelow top
+    (if t
+    then with_parts entry.tran.0 (after_of entry.kind) entry.position.0 page (parts_of entry.kind)
+    else page)) [
+      | true ↦ parts_below top entry.tran.0 (after_of entry.kind) entry.position.0 low
+          (parts_of entry.kind) page below
       | false ↦ below
     ]
 
@@ -74,9 +93,11 @@ redone_below top entry page low below =
 abbrev AllLow : (top : ℕ) → List Record → Type 0
 AllLow top rs = AllByRecursion (λ (entry : Record). entry.tran.0 ≤ top) rs
 
-all_redone_below : (top : ℕ) (rs : List Record) (page : Content) → AllLow top rs → IsBelow top page → IsBelow top (redone_by rs page)
+all_redone_below : (top : ℕ) (rs : List Record) (page : Content) → AllLow top rs → IsBelow top page
+    → IsBelow top (redone_by rs page)
 all_redone_below top [] page low below = below
-all_redone_below top (entry ∷ rs) page low below = all_redone_below top rs (redone entry page) low.1 (redone_below top entry page low.0 below)
+all_redone_below top (entry ∷ rs) page low below =
+    all_redone_below top rs (redone entry page) low.1 (redone_below top entry page low.0 below)
 
 greatest_low : (rs : List Record) (top : ℕ) → greatest_tran rs ≤ top → AllLow top rs
 greatest_low [] top le = tt
@@ -95,22 +116,35 @@ drop_low top (suc k) (entry ∷ rs) low = drop_low top k rs low.1
 -- ---- the pages of the volume
 
 -- a version that some of the first n records make
-pub version_below : (e : Epoch) (rs : List Record) (n k p : ℕ) → k ≤ n → IsBelow (greatest_tran (take n rs)) (e.base p) → IsBelow (greatest_tran (take n rs)) (version e rs k p)
+pub version_below : (e : Epoch) (rs : List Record) (n k p : ℕ) → k ≤ n
+    → IsBelow (greatest_tran (take n rs)) (e.base p)
+    → IsBelow (greatest_tran (take n rs)) (version e rs k p)
 version_below e rs n k p le below =
     let top : ℕ = greatest_tran (take n rs) in
-    let early : AllLow top (take k rs) = subst (AllLow top) (take-take k n rs le) (take_low top k (take n rs) (greatest_low (take n rs) top (omega arith))) in
-    all_redone_below top (drop e.from (take k rs)) (e.base p) (drop_low top e.from (take k rs) early) below
+    let early : AllLow top (take k rs) = subst (AllLow top) (take-take k n rs le)
+    (take_low top k (take n rs) (greatest_low (take n rs) top (omega arith))) in
+    all_redone_below top (drop e.from (take k rs)) (e.base p)
+    (drop_low top e.from (take k rs) early) below
 
-module _ (capacities : Capacities) (e : Epoch) (rs : List Record) (forced n : ℕ) (i : Image) (left : IsLeft capacities e rs forced n i) (can : CanReopen capacities e (take n rs)) (low : HasLowOwners e (take n rs)) where
-  page_below : (p : ℕ) (y : Content) → 1 ≤ p → p ≤ count_of (take n rs) → IsTakenPage (take n rs) p (i (set_of (copy_of (take n rs))) p) y → IsBelow (greatest_tran (take n rs)) y
+module _ (capacities : Capacities) (e : Epoch) (rs : List Record) (forced n : ℕ) (i : Image)
+    (left : IsLeft capacities e rs forced n i) (can : CanReopen capacities e (take n rs))
+    (low : HasLowOwners e (take n rs)) where
+  page_below : (p : ℕ) (y : Content) → 1 ≤ p → p ≤ count_of (take n rs)
+      → IsTakenPage (take n rs) p (i (set_of (copy_of (take n rs))) p) y
+      → IsBelow (greatest_tran (take n rs)) y
   page_below p y one there was =
-      let shown : Shown e rs forced p (i (set_of e.copy) p) = shown_page capacities e rs forced n i left can p one there in
+      let shown : Shown e rs forced p (i (set_of e.copy) p) =
+      shown_page capacities e rs forced n i left can p one there in
       let copy : copy_of (take n rs) ≡ e.copy = (steady capacities e rs forced n i left can).copy in
-      let spells : Spells (i (set_of e.copy) p) was.page = subst (λ (c : ℕ). Spells (i (set_of c) p) was.page) copy was.spells in
+      let spells : Spells (i (set_of e.copy) p) was.page =
+      subst (λ (c : ℕ). Spells (i (set_of c) p) was.page) copy was.spells in
       let same : y ≡ version e rs shown.count p =
       was.is ∙ taken_same capacities e rs forced n i left can p was.page
-      ∙ taken_shown e rs forced p (i (set_of e.copy) p) shown was.page spells (was.copy_is ∙ copy) was.number in
-      subst (IsBelow (greatest_tran (take n rs))) (sym same) (version_below e rs n shown.count p (omega (arith, shown.most, left.low)) (low p one))
+      ∙ taken_shown e rs forced p (i (set_of e.copy) p) shown was.page spells (was.copy_is ∙ copy)
+      was.number in
+      subst (IsBelow (greatest_tran (take n rs))) (sym same)
+      (version_below e rs n shown.count p (omega (arith, shown.most, left.low)) (low p one))
 
   pub image_owners : AreTidyOwners (take n rs) i
-  image_owners base takes p one there = page_below p (content_at base p) one there (takes.each p one there)
+  image_owners base takes p one there =
+      page_below p (content_at base p) one there (takes.each p one there)

@@ -1,5 +1,7 @@
 -- A log that ends with a Switch.
-use Rattle.std.proofs.Common.{◌≡◌, ◌≢◌, ◌≤◌, ◌<◌, ◌+◌, ◌&&◌, max, nat_lt, inl, inr, ℕ, suc, Bool, true, false, List, [], ◌∷◌, ◌++◌, length, drop, take, refl, sym, ◌∙◌, ap, subst, arith, length-append}
+use Rattle.std.proofs.Common.{◌≡◌, ◌≢◌, ◌≤◌, ◌<◌, ◌+◌, ◌&&◌, max, nat_lt, inl, inr, ℕ, suc, Bool}
+use Rattle.std.proofs.Common.{true, false, List, [], ◌∷◌, ◌++◌, length, drop, take, refl, sym, ◌∙◌}
+use Rattle.std.proofs.Common.{ap, subst, arith, length-append}
 use Rattle.std.proofs.Math.Seq.{drop-length, take-length}
 use Rattle.std.proofs.lemmas.Bool.{cases_lt, le-ltb}
 use Rattle.std.specs.List.{AllByRecursion}
@@ -14,7 +16,8 @@ use Rattle.rg_home.specs.Slots.{slot_at}
 use Rattle.rg_image.proofs.Sound.{more_positions}
 use Rattle.rg_image.specs.Log.{Spells as LogSpells}
 use Rattle.rg_image.specs.Meaning.{current_of, stored}
-use Rattle.rg_image.specs.Rules.{ArePositions, IsChain, IsChained, IsOpen, copy_capacity, greatest_tran}
+use Rattle.rg_image.specs.Rules.{ArePositions, IsChain, IsChained, IsOpen, copy_capacity}
+use Rattle.rg_image.specs.Rules.{greatest_tran}
 use Rattle.rg_laws_log.proofs.StoredRowsLemmas.Stores.{stored_by_key}
 use Rattle.rg_laws_log.specs.StoredRows.Keyed.{keyed_acts, keyed_of}
 use Rattle.rg_laws_log.specs.LogState.Act.{Act, LogState}
@@ -51,25 +54,32 @@ use Rattle.rg_laws_crash.specs.SwitchRecord.Switched.{CanSwitch, next_epoch, swi
 
 -- ---- what is stored
 
-keyed_push : (rs : List Record) (entry : Record) → keyed_of entry.tran.0 entry.kind ≡ [] → keyed_acts (rs ++ entry ∷ []) ≡ keyed_acts rs
+keyed_push : (rs : List Record) (entry : Record) → keyed_of entry.tran.0 entry.kind ≡ []
+    → keyed_acts (rs ++ entry ∷ []) ≡ keyed_acts rs
 keyed_push [] entry none = none
-keyed_push (r ∷ rs) entry none = ap (λ (acts : List Act). acts ++ keyed_of r.tran.0 r.kind) (keyed_push rs entry none)
+keyed_push (r ∷ rs) entry none =
+    ap (λ (acts : List Act). acts ++ keyed_of r.tran.0 r.kind) (keyed_push rs entry none)
 
-pub switch_stores : (rs : List Record) (copy : ℕ) (pages : List Content) (k : ℕ) → stored (switched rs copy pages) k ≡ stored rs k
+pub switch_stores : (rs : List Record) (copy : ℕ) (pages : List Content) (k : ℕ)
+    → stored (switched rs copy pages) k ≡ stored rs k
 switch_stores rs copy pages k =
     stored_by_key (switched rs copy pages) k
-    ∙ ap (λ (acts : List Act). stored_at acts k) (keyed_push rs (switch_to (length rs + 1) copy (length pages)) refl)
+    ∙ ap (λ (acts : List Act). stored_at acts k)
+    (keyed_push rs (switch_to (length rs + 1) copy (length pages)) refl)
     ∙ sym (stored_by_key rs k)
 
 -- ---- the last Switch
 
-at_push : (at : ℕ) (rs : List Record) (position copy pages : ℕ) → switched_from at (rs ++ switch_to position copy pages ∷ []) ≡ position
+at_push : (at : ℕ) (rs : List Record) (position copy pages : ℕ)
+    → switched_from at (rs ++ switch_to position copy pages ∷ []) ≡ position
 at_push at [] position copy pages = refl
 at_push at (r ∷ rs) position copy pages = at_push _ rs position copy pages
 
-pages_push : (kept : ℕ) (rs : List Record) (position copy pages : ℕ) → switched_pages_from kept (rs ++ switch_to position copy pages ∷ []) ≡ pages
+pages_push : (kept : ℕ) (rs : List Record) (position copy pages : ℕ)
+    → switched_pages_from kept (rs ++ switch_to position copy pages ∷ []) ≡ pages
 pages_push kept [] position copy pages = refl
-pages_push kept (r ∷ rs) position copy pages = pages_push (switch_pages kept r.kind) rs position copy pages
+pages_push kept (r ∷ rs) position copy pages =
+    pages_push (switch_pages kept r.kind) rs position copy pages
 
 -- ---- what frames that have these pages show
 
@@ -92,7 +102,8 @@ empty_taken : (b : Bool) (copy p : ℕ) → taken_if b (empty copy p) ≡ empty 
 empty_taken true copy p = refl
 empty_taken false copy p = refl
 
-module _ (capacities : Capacities) (limit : ℕ) (rs : List Record) (copy : ℕ) (pages : List Content) (s : LogState) (can : CanSwitch capacities limit rs copy pages s) where
+module _ (capacities : Capacities) (limit : ℕ) (rs : List Record) (copy : ℕ) (pages : List Content)
+    (s : LogState) (can : CanSwitch capacities limit rs copy pages s) where
   abbrev entry : Record
   entry = switch_to (length rs + 1) copy (length pages)
 
@@ -177,7 +188,12 @@ module _ (capacities : Capacities) (limit : ℕ) (rs : List Record) (copy : ℕ)
   low : (p : ℕ) → 1 ≤ p → (e.base p).position ≤ length later
   low p one = elim (cases_lt (length pages) p) [
     | inl past ↦ omega (arith, ap (λ (x : Content). x.position) (beyond p past))
-    | inr there ↦ omega (arith, ap (λ (x : Content). x.position) (here p there), (can.each p one there).position, longer)
+    | inr there ↦ omega (
+      arith,
+      ap (λ (x : Content). x.position) (here p there),
+      (can.each p one there).position,
+      longer,
+    )
   ]
 
   begun : (p : ℕ) → 1 ≤ p → IsBegun e p
@@ -185,12 +201,16 @@ module _ (capacities : Capacities) (limit : ℕ) (rs : List Record) (copy : ℕ)
     | inl past ↦ record {
       copy = ap (λ (x : Content). x.copy) (beyond p past) ∙ sym copy_now;
       number = number p one;
-      taken = ap (taken e p) (beyond p past) ∙ empty_taken (nat_lt e.pages p && nat_lt (empty copy p).position e.from) copy p ∙ sym (beyond p past);
+      taken = ap (taken e p) (beyond p past)
+          ∙ empty_taken (nat_lt e.pages p && nat_lt (empty copy p).position e.from) copy p
+          ∙ sym (beyond p past);
     }
     | inr there ↦ record {
-      copy = ap (λ (x : Content). x.copy) (here p there) ∙ (can.each p one there).copy_is ∙ sym copy_now;
+      copy = ap (λ (x : Content). x.copy) (here p there) ∙ (can.each p one there).copy_is
+          ∙ sym copy_now;
       number = number p one;
-      taken = ap (λ (b : Bool). taken_if (b && nat_lt (e.base p).position e.from) (e.base p)) (le-ltb e.pages p (omega (arith, counts, there)));
+      taken = ap (λ (b : Bool). taken_if (b && nat_lt (e.base p).position e.from) (e.base p))
+          (le-ltb e.pages p (omega (arith, counts, there)));
     }
   ]
 
@@ -202,14 +222,18 @@ module _ (capacities : Capacities) (limit : ℕ) (rs : List Record) (copy : ℕ)
     base_is = λ p one. refl;
     numbers = number;
     low = low;
-    there = subst (λ (rest : List Record). AllByRecursion (λ (r : Record). AllThere (length pages) (parts_of r.kind)) rest) (sym since_none) tt;
+    there = subst
+        (λ (rest : List Record).
+        AllByRecursion (λ (r : Record). AllThere (length pages) (parts_of r.kind)) rest)
+        (sym since_none) tt;
   }
 
   abbrev now : Seen
   now = seen_with (current_of later).copy pages
 
   newest : AreNewest e later now
-  newest = rebuilt_newest e later (since_switch later) pages now redo refl (ap (λ (rest : List Record). redone_all rest pages) (sym since_none))
+  newest = rebuilt_newest e later (since_switch later) pages now redo refl
+      (ap (λ (rest : List Record). redone_all rest pages) (sym since_none))
 
   pub switch_stands : Stands e later s
   switch_stands = record {
@@ -227,7 +251,8 @@ module _ (capacities : Capacities) (limit : ℕ) (rs : List Record) (copy : ℕ)
 
   pub switch_reopens : IsChain capacities rs → CanReopen capacities e later
   switch_reopens chain =
-      stands_reopens capacities limit e later s switch_stands can.good can.clean switch_tells (λ k. switch_stores rs copy pages k ∙ can.stores k)
+      stands_reopens capacities limit e later s switch_stands can.good can.clean switch_tells
+      (λ k. switch_stores rs copy pages k ∙ can.stores k)
       (chain_more capacities rs entry chain chained) can.space
 
   -- ---- the copy to which it turned
@@ -235,10 +260,12 @@ module _ (capacities : Capacities) (limit : ℕ) (rs : List Record) (copy : ℕ)
   from_all : take e.from later ≡ later
   from_all = ap (λ (n : ℕ). take n later) (at_is ∙ sym longer) ∙ take-length later
 
-  same_newest : (seen : Seen) → seen.copy ≡ copy → seen.pages ≡ pages → (p : ℕ) → 1 ≤ p → IsNewest e later p (page_in seen.copy seen.pages p)
+  same_newest : (seen : Seen) → seen.copy ≡ copy → seen.pages ≡ pages → (p : ℕ) → 1 ≤ p
+      → IsNewest e later p (page_in seen.copy seen.pages p)
   same_newest seen copy_is pages_are p one =
       subst (λ (c : ℕ). IsNewest e later p (page_in c seen.pages p)) (copy_now ∙ sym copy_is)
-      (subst (λ (xs : List Content). IsNewest e later p (page_in (current_of later).copy xs p)) (sym pages_are) (newest.each p one))
+      (subst (λ (xs : List Content). IsNewest e later p (page_in (current_of later).copy xs p))
+      (sym pages_are) (newest.each p one))
 
   pub switch_turns : IsTurned capacities rs copy pages
   switch_turns = record {
@@ -255,7 +282,8 @@ module _ (capacities : Capacities) (limit : ℕ) (rs : List Record) (copy : ℕ)
       copy = copy_is ∙ sym copy_now;
       each = same_newest seen copy_is pages_are;
     };
-    reads = λ p one high. version_early e later p (content_at pages p).position (omega (arith, (can.each p one high).position, at_is)) ∙ here p high;
+    reads = λ p one high. version_early e later p (content_at pages p).position
+        (omega (arith, (can.each p one high).position, at_is)) ∙ here p high;
   }
 
   -- ---- owners
@@ -265,14 +293,18 @@ module _ (capacities : Capacities) (limit : ℕ) (rs : List Record) (copy : ℕ)
 
   pub switch_owners : HasLowOwners e later
   switch_owners p one = elim (cases_lt (length pages) p) [
-    | inl past ↦ subst (IsBelow (greatest_tran later)) (sym (beyond p past)) (empty_below (greatest_tran later) p)
-    | inr there ↦ subst (IsBelow (greatest_tran later)) (sym (here p there)) (page_below p one there)
+    | inl past ↦ subst (IsBelow (greatest_tran later)) (sym (beyond p past))
+        (empty_below (greatest_tran later) p)
+    | inr there ↦
+        subst (IsBelow (greatest_tran later)) (sym (here p there)) (page_below p one there)
   ]
     where
-      page_below : (p : ℕ) → 1 ≤ p → p ≤ length pages → IsBelow (greatest_tran later) (content_at pages p)
+      page_below : (p : ℕ) → 1 ≤ p → p ≤ length pages
+          → IsBelow (greatest_tran later) (content_at pages p)
       page_below p one there n =
           subst (λ (top : ℕ). OwnerBelow top (slot_at (content_at pages p).slots n)) (sym greatest)
-          (subst (λ (slots : List Slot). OwnerBelow s.top (slot_at slots n)) (ap (λ (xs : List (List Slot)). page_at xs p) (sym can.slots) ∙ page_slots pages p)
+          (subst (λ (slots : List Slot). OwnerBelow s.top (slot_at slots n))
+          (ap (λ (xs : List (List Slot)). page_at xs p) (sym can.slots) ∙ page_slots pages p)
           (can.clean.below (record { page = p; slot = n })))
 
   -- ---- an image
@@ -282,23 +314,33 @@ module _ (capacities : Capacities) (limit : ℕ) (rs : List Record) (copy : ℕ)
     opened = record {
       positions = positions;
       count_is = sym count_now;
-      there = subst (λ (rest : List Record). AllByRecursion (λ (r : Record). AllThere (current_of later).pages (parts_of r.kind)) rest) (sym since_none) tt;
+      there = subst
+          (λ (rest : List Record).
+          AllByRecursion (λ (r : Record). AllThere (current_of later).pages (parts_of r.kind)) rest)
+          (sym since_none) tt;
       each = λ n one there.
           let below : n ≤ length pages = omega (arith, there, count_now) in
           let is = can.each n one below in
           record {
             page = content_at pages n;
-            spells = subst (λ (c : ℕ). Spells (i (set_of c) n) (content_at pages n)) (sym copy_now) (has.there.each n one below);
+            spells = subst (λ (c : ℕ). Spells (i (set_of c) n) (content_at pages n)) (sym copy_now)
+                (has.there.each n one below);
             copy_is = is.copy_is ∙ sym copy_now;
             number = is.number;
             position = omega (arith, is.position, longer);
-            is = sym (ap (λ (b : Bool). taken_if (b && nat_lt (content_at pages n).position (switched_at later)) (content_at pages n)) (le-ltb (switched_pages later) n (omega (arith, counts, below))));
+            is = sym
+                (ap
+                (λ (b : Bool).
+                taken_if (b && nat_lt (content_at pages n).position (switched_at later))
+                (content_at pages n))
+                (le-ltb (switched_pages later) n (omega (arith, counts, below))));
           };
     }
 
     spare : AreSpare capacities later i
     spare p past high =
-        let old = has.there.past p (omega (arith, past, count_now)) (subst (λ (c : ℕ). p ≤ copy_capacity capacities c) copy_now high) in
+        let old = has.there.past p (omega (arith, past, count_now))
+        (subst (λ (c : ℕ). p ≤ copy_capacity capacities c) copy_now high) in
         record {
           page = old.page;
           spells = subst (λ (c : ℕ). Spells (i (set_of c) p) old.page) (sym copy_now) old.spells;
@@ -319,7 +361,8 @@ module _ (capacities : Capacities) (limit : ℕ) (rs : List Record) (copy : ℕ)
         base = begun;
         entries = has.entries;
         room = λ some. has.fits;
-        log = subst (λ (xs : List Record). LogSpells (log_pages capacities) xs i) (sym (take-length later)) has.log;
+        log = subst (λ (xs : List Record). LogSpells (log_pages capacities) xs i)
+            (sym (take-length later)) has.log;
         pages = opening_stands capacities later pages i opened spare;
       };
       spare = spare;

@@ -6,9 +6,11 @@
 -- 3. Each part of it leaves room for the end of each open transaction (`FrontsHaveSpace`).
 -- 4. What ending the open transactions takes grows with each Change and shrinks with each Undo and
 --    each end (`Owes`).
-use Rattle.std.specs.Prelude.{◌≡◌, ◌≤◌, ◌+◌, ◌*◌, ◌==◌, ◌++◌, ℕ, true, List, [], ◌∷◌, length, take, if◌then◌else◌}
+use Rattle.std.specs.Prelude.{◌≡◌, ◌≤◌, ◌+◌, ◌*◌, ◌==◌, ◌++◌, ℕ, true, List, [], ◌∷◌, length, take}
+use Rattle.std.specs.Prelude.{if◌then◌else◌}
 use Rattle.rg_image.specs.Meaning.{current_of}
-use Rattle.rg_image.specs.Rules.{HasSpace, IsChain, IsChained, IsOfTran, copy_capacity, is_end, is_undo, of_tran, owed}
+use Rattle.rg_image.specs.Rules.{HasSpace, IsChain, IsChained, IsOfTran, copy_capacity, is_end}
+use Rattle.rg_image.specs.Rules.{is_undo, of_tran, owed}
 use Rattle.rg_laws_log.specs.LogState.Act.{LogState, state, step}
 use Rattle.rg_laws_log.specs.LogState.Consistent.{IsConsistent}
 use Rattle.rg_laws_log.specs.LogState.Lawful.{Lawful, Runs}

@@ -6,7 +6,8 @@
 -- 3. A page past those that the last Switch counts, and that was last changed before it, is
 --    left over from earlier. An opening takes it as empty.
 -- 4. What a crash leaves of a page spells a version of it, or such a left-over page.
-use Rattle.std.specs.Prelude.{◌≡◌, ◌≤◌, ◌<◌, ◌==◌, ◌⊎◌, ◌&&◌, nat_lt, ℕ, Bool, true, false, List, [], ◌∷◌, take, drop}
+use Rattle.std.specs.Prelude.{◌≡◌, ◌≤◌, ◌<◌, ◌==◌, ◌⊎◌, ◌&&◌, nat_lt, ℕ, Bool, true, false, List}
+use Rattle.std.specs.Prelude.{[], ◌∷◌, take, drop}
 use Rattle.std.specs.List.{list_any}
 use Rattle.rg_page.specs.Content.{Content, empty}
 use Rattle.rg_page.specs.Bytes.PageBytes.{page_bytes}

@@ -16,5 +16,9 @@ abbrev pub Kept : ℕ → LogState → LogState → Type 0
 Kept limit s after = IsConsistent limit after × (IsClean s → IsClean after)
 
 -- Ready, with the rows that it takes back itself
-pub own_base : (live : List ℕ) (pages : List (List Slot)) (cs : List Written) (base : Place → Option TableRow) → Ready live pages cs base → Ready live pages cs (λ p. taken_back cs p (row_at (slot_of pages) p))
-own_base live pages cs base r = record { proper = r.proper; can = r.can; apart = r.apart; back = λ p. refl }
+pub own_base :
+    (live : List ℕ) (pages : List (List Slot)) (cs : List Written) (base : Place → Option TableRow)
+    → Ready live pages cs base
+    → Ready live pages cs (λ p. taken_back cs p (row_at (slot_of pages) p))
+own_base live pages cs base r =
+    record { proper = r.proper; can = r.can; apart = r.apart; back = λ p. refl }

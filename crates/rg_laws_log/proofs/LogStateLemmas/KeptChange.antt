@@ -1,5 +1,6 @@
 -- A write keeps the invariant.
-use Rattle.std.proofs.Common.{◌≡◌, inl, inr, ◌⊎◌, ◌||◌, ◌==◌, ℕ, ◌≤◌, nat_le, suc, Bool, true, false, ◌∷◌, refl, sym, ◌∙◌, ap, subst, if◌then◌else◌, arith}
+use Rattle.std.proofs.Common.{◌≡◌, inl, inr, ◌⊎◌, ◌||◌, ◌==◌, ℕ, ◌≤◌, nat_le, suc, Bool, true}
+use Rattle.std.proofs.Common.{false, ◌∷◌, refl, sym, ◌∙◌, ap, subst, if◌then◌else◌, arith}
 use Rattle.std.proofs.lemmas.Bool.{eqb-true, leb-true, leb-false}
 use Rattle.std.specs.List.{list_any}
 use Rattle.rg_base.specs.declared.place.Place.{Place}
@@ -30,23 +31,35 @@ module _ (limit : ℕ) (s : LogState) (g : IsConsistent limit s) where
   pub change_kept : (w : Write) → MayWrite limit s w → Kept limit s (step s (Change w))
   change_kept w m =
       let does = m.makes.changes in
-      let ready = makes_ready limit (t ∷ s.live) s.pages c w.after m.makes (t ∷ s.live) (base_of s) (written_of s.writes)
-      (ready_begun s.live (t ∷ s.live) (base_of s) s.pages (written_of s.writes) (λ u l. live_more s.live t u l) g.ready) m.home (live_same s.live t) in (
+      let ready = makes_ready limit (t ∷ s.live) s.pages c w.after m.makes (t ∷ s.live) (base_of s)
+      (written_of s.writes)
+      (ready_begun s.live (t ∷ s.live) (base_of s) s.pages (written_of s.writes)
+      (λ u l. live_more s.live t u l) g.ready) m.home (live_same s.live t) in (
         record {
           few = applied_within t (row_or_empty w.after) limit s.pages c.parts m.makes.fits g.few;
           ready = own_base (t ∷ s.live) _ _ (base_of s) ready;
           fresh = λ u l. low u l;
           rolled = λ u l. omega (arith, g.rolled u l, above (nat_le t s.top) refl);
-          table = table_set (row_at (slot_of s.pages)) s.now c.home w.key c.before w.after g.table (sym m.makes.before) m.present m.of_key.before m.of_key.after _ (λ p. row_changed (slot_of s.pages) _ c.home w.after p does) _ (λ k. refl);
+          table = table_set (row_at (slot_of s.pages)) s.now c.home w.key c.before w.after g.table
+              (sym m.makes.before) m.present m.of_key.before m.of_key.after _
+              (λ p. row_changed (slot_of s.pages) _ c.home w.after p does) _ (λ k. refl);
           homes = λ p. at_homes p (same_place p c.home) refl;
           keys = λ k. at_keys k (w.key == k) refl;
-          one_home = λ p. ((λ e. home_hit t c.home p s.writes (same_place-true p c.home e) m.home), g.one_home p);
-          one_key = λ k. ((λ e. subst (λ (j : ℕ). HitBy t (at_key j) s.writes) (eqb-true w.key k e) m.key), g.one_key k);
+          one_home = λ p. (
+            (λ e. home_hit t c.home p s.writes (same_place-true p c.home e) m.home),
+            g.one_home p,
+          );
+          one_key = λ k. (
+            (λ e. subst (λ (j : ℕ). HitBy t (at_key j) s.writes) (eqb-true w.key k e) m.key),
+            g.one_key k,
+          );
           of_key = (m.of_key, g.of_key);
         },
         λ clean. record {
           names = m.makes.names (λ p. known p (slot_of s.pages p) (clean.names p) (clean.below p));
-          below = applied_below top t (row_or_empty w.after) limit s.pages c.parts (within (nat_le t s.top) refl) m.makes.fits (all_raised s.top top (above (nat_le t s.top) refl) (slot_of s.pages) clean.below);
+          below = applied_below top t (row_or_empty w.after) limit s.pages c.parts
+              (within (nat_le t s.top) refl) m.makes.fits
+              (all_raised s.top top (above (nat_le t s.top) refl) (slot_of s.pages) clean.below);
         },
       )
     where
@@ -68,11 +81,13 @@ module _ (limit : ℕ) (s : LogState) (g : IsConsistent limit s) where
       above false e = omega (arith, leb-false t s.top e)
 
       -- no dead area has a number that was never drawn
-      known_one : (u : ℕ) → u ≤ s.top → IsLive (t ∷ s.live) u → (IsLive s.live t ⊎ (t ≡ suc s.top)) → IsLive s.live u
+      known_one : (u : ℕ) → u ≤ s.top → IsLive (t ∷ s.live) u → (IsLive s.live t ⊎ (t ≡ suc s.top))
+          → IsLive s.live u
       known_one u l lives (inl k) = live_known s.live t u k lives
       known_one u l lives (inr k) = live_other s.live t u (λ e. omega (arith, l, k, e)) lives
 
-      known : (p : Place) (x : Slot) → DeadNamed s.live (slot_of s.pages) p x → OwnerBelow s.top x → DeadNamed (t ∷ s.live) (slot_of s.pages) p x
+      known : (p : Place) (x : Slot) → DeadNamed s.live (slot_of s.pages) p x → OwnerBelow s.top x
+          → DeadNamed (t ∷ s.live) (slot_of s.pages) p x
       known p (DeadPointer d o u) h b = λ l. h (known_one u b l m.unit.number)
       known p Free h b = tt
       known p (Row d x) h b = tt
@@ -91,17 +106,36 @@ module _ (limit : ℕ) (s : LogState) (g : IsConsistent limit s) where
       after : Place → Slot
       after = slot_of (applied t (row_or_empty w.after) s.pages c.parts)
 
-      at_homes : (p : Place) (b : Bool) → same_place p c.home ≡ b → Back (at_home p) (w ∷ s.writes) (row_at after p)
+      at_homes : (p : Place) (b : Bool) → same_place p c.home ≡ b
+          → Back (at_home p) (w ∷ s.writes) (row_at after p)
       at_homes p true e =
-          subst (λ (b : Bool). Either b ((row_at after p ≡ w.after) × Back (at_home p) s.writes c.before) (Back (at_home p) s.writes (row_at after p))) (sym e)
-          (ap (row_at after) (same_place-true p c.home e) ∙ m.makes.changes.here, subst (Back (at_home p) s.writes) (ap (row_at (slot_of s.pages)) (same_place-true p c.home e) ∙ sym m.makes.before) (g.homes p))
+          subst
+          (λ (b : Bool). Either b ((row_at after p ≡ w.after) × Back (at_home p) s.writes c.before)
+          (Back (at_home p) s.writes (row_at after p))) (sym e) (
+            ap (row_at after) (same_place-true p c.home e) ∙ m.makes.changes.here,
+            subst (Back (at_home p) s.writes)
+                (ap (row_at (slot_of s.pages)) (same_place-true p c.home e) ∙ sym m.makes.before)
+                (g.homes p),
+          )
       at_homes p false e =
-          subst (λ (b : Bool). Either b ((row_at after p ≡ w.after) × Back (at_home p) s.writes c.before) (Back (at_home p) s.writes (row_at after p))) (sym e)
+          subst
+          (λ (b : Bool). Either b ((row_at after p ≡ w.after) × Back (at_home p) s.writes c.before)
+          (Back (at_home p) s.writes (row_at after p))) (sym e)
           (subst (Back (at_home p) s.writes) (sym (m.makes.changes.others p e)) (g.homes p))
 
-      at_keys : (k : ℕ) (b : Bool) → (w.key == k) ≡ b → Back (at_key k) (w ∷ s.writes) (set_at s.now w.key w.after k)
+      at_keys : (k : ℕ) (b : Bool) → (w.key == k) ≡ b
+          → Back (at_key k) (w ∷ s.writes) (set_at s.now w.key w.after k)
       at_keys k true e =
-          subst (λ (b : Bool). Either b (((if b then w.after else s.now k) ≡ w.after) × Back (at_key k) s.writes c.before) (Back (at_key k) s.writes (if b then w.after else s.now k))) (sym e)
-          (refl, subst (Back (at_key k) s.writes) (ap s.now (sym (eqb-true w.key k e)) ∙ m.present) (g.keys k))
+          subst
+          (λ (b : Bool). Either b
+          (((if b then w.after else s.now k) ≡ w.after) × Back (at_key k) s.writes c.before)
+          (Back (at_key k) s.writes (if b then w.after else s.now k))) (sym e) (
+            refl,
+            subst (Back (at_key k) s.writes) (ap s.now (sym (eqb-true w.key k e)) ∙ m.present)
+                (g.keys k),
+          )
       at_keys k false e =
-          subst (λ (b : Bool). Either b (((if b then w.after else s.now k) ≡ w.after) × Back (at_key k) s.writes c.before) (Back (at_key k) s.writes (if b then w.after else s.now k))) (sym e) (g.keys k)
+          subst
+          (λ (b : Bool). Either b
+          (((if b then w.after else s.now k) ≡ w.after) × Back (at_key k) s.writes c.before)
+          (Back (at_key k) s.writes (if b then w.after else s.now k))) (sym e) (g.keys k)

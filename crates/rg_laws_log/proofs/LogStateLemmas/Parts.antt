@@ -15,14 +15,16 @@ use Rattle.rg_base.specs.declared.part.SlotOp.TheVariants as Op
 
 -- a purge made while more units were counted as live is one by the live units
 
-not_any : (live more : List ℕ) (u : ℕ) → ((v : ℕ) → IsLive live v → IsLive more v) → not (list_any (λ t. t == u) more) ≡ true → not (list_any (λ t. t == u) live) ≡ true
+not_any : (live more : List ℕ) (u : ℕ) → ((v : ℕ) → IsLive live v → IsLive more v)
+    → not (list_any (λ t. t == u) more) ≡ true → not (list_any (λ t. t == u) live) ≡ true
 not_any live more u f e = go (list_any (λ t. t == u) live) refl
   where
     go : (b : Bool) → list_any (λ t. t == u) live ≡ b → not b ≡ true
     go true g = absurd (cc (e, f u g))
     go false g = refl
 
-ended_fewer : (live more : List ℕ) → ((v : ℕ) → IsLive live v → IsLive more v) → (s : Slot) → is_ended more s ≡ true → is_ended live s ≡ true
+ended_fewer : (live more : List ℕ) → ((v : ℕ) → IsLive live v → IsLive more v) → (s : Slot)
+    → is_ended more s ≡ true → is_ended live s ≡ true
 ended_fewer live more f (DeadRow c u) e = not_any live more u f e
 ended_fewer live more f (DeadPointer c o u) e = not_any live more u f e
 ended_fewer live more f (DeadOver c o u) e = not_any live more u f e
@@ -31,25 +33,41 @@ ended_fewer live more f (Row c b) e = absurd (cc (e))
 ended_fewer live more f (Pointer c o) e = absurd (cc (e))
 ended_fewer live more f (Over c b o) e = absurd (cc (e))
 
-pub ends_fewer : (live more : List ℕ) → ((v : ℕ) → IsLive live v → IsLive more v) → (at after : Place → Slot) → Ended more at after → Ended live at after
+pub ends_fewer : (live more : List ℕ) → ((v : ℕ) → IsLive live v → IsLive more v)
+    → (at after : Place → Slot) → Ended more at after → Ended live at after
 ends_fewer live more f at after ended = record { each = λ q. go q (ended.each q) }
   where
     go : (q : Place) → Ends more (at q) (after q) → Ends live (at q) (after q)
     go q (inl e) = inl e
     go q (inr e) = inr (ended_fewer live more f (at q) e.0, e.1)
 
-pub can_purged : (live : List ℕ) (at after : Place → Slot) (cs : List Written) → Ended live at after → CanUndo live at cs → CanUndo live after cs
+pub can_purged : (live : List ℕ) (at after : Place → Slot) (cs : List Written) → Ended live at after
+    → CanUndo live at cs → CanUndo live after cs
 can_purged live at after [] ended can = tt
-can_purged live at after (c ∷ cs) ended can = (ends_keep live c.owner can.1 at after c ended can.0, can.1, can_purged live at after cs ended can.2)
+can_purged live at after (c ∷ cs) ended can = (
+  ends_keep live c.owner can.1 at after c ended can.0,
+  can.1,
+  can_purged live at after cs ended can.2,
+)
 
 -- a purge's parts take nothing from their record
-pub purge_same : (t u : ℕ) (x y : TableRow) (live : List ℕ) (n i : ℕ) (slots : List Slot) (pages : List (List Slot)) → applied t x pages (purge_from live n i slots) ≡ applied u y pages (purge_from live n i slots)
+pub purge_same : (t u : ℕ) (x y : TableRow) (live : List ℕ) (n i : ℕ) (slots : List Slot)
+    (pages : List (List Slot))
+    → applied t x pages (purge_from live n i slots) ≡ applied u y pages (purge_from live n i slots)
 purge_same t u x y live n i [] pages = refl
-purge_same t u x y live n i (s ∷ slots) pages = go (is_ended live s) (λ ps. purge_same t u x y live n (i + 1) slots ps)
+purge_same t u x y live n i (s ∷ slots) pages =
+    go (is_ended live s) (λ ps. purge_same t u x y live n (i + 1) slots ps)
   where
-    go : (b : Bool) → ((ps : List (List Slot)) → applied t x ps (purge_from live n (i + 1) slots) ≡ applied u y ps (purge_from live n (i + 1) slots))
-        → applied t x pages (if b then part_at (record { page = n; slot = i }) Op.Free ∷ purge_from live n (i + 1) slots else purge_from live n (i + 1) slots)
-        ≡ applied u y pages (if b then part_at (record { page = n; slot = i }) Op.Free ∷ purge_from live n (i + 1) slots else purge_from live n (i + 1) slots)
+    go : (b : Bool)
+        → ((ps : List (List Slot))
+        → applied t x ps (purge_from live n (i + 1) slots)
+        ≡ applied u y ps (purge_from live n (i + 1) slots))
+        → applied t x pages
+        (if b then part_at (record { page = n; slot = i }) Op.Free ∷ purge_from live n (i + 1) slots
+        else purge_from live n (i + 1) slots)
+        ≡ applied u y pages
+        (if b then part_at (record { page = n; slot = i }) Op.Free ∷ purge_from live n (i + 1) slots
+        else purge_from live n (i + 1) slots)
     go true rest = rest (wrote pages (record { page = n; slot = i }) Free)
     go false rest = rest pages
 

@@ -7,7 +7,8 @@
 -- 3. A unit is live from its first Change to its Commit or RollBack. Its writes are kept until they
 --    are undone or it ends. An Undo undoes the latest of them.
 -- 4. A Switch makes other pages the current ones. It brings them along.
-use Rattle.std.specs.Prelude.{◌==◌, nat_le, ℕ, Bool, not, List, [], ◌∷◌, Option, Some, None, if◌then◌else◌}
+use Rattle.std.specs.Prelude.{◌==◌, nat_le, ℕ, Bool, not, List, [], ◌∷◌, Option, Some, None}
+use Rattle.std.specs.Prelude.{if◌then◌else◌}
 use Rattle.std.specs.List.{list_any}
 use Rattle.rg_base.specs.declared.place.Place.{Place}
 use Rattle.rg_base.specs.declared.row.Row.{Row as TableRow}

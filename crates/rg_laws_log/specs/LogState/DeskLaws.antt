@@ -16,7 +16,8 @@ use Rattle.rg_home.specs.Slot.{Slot}
 use Rattle.rg_home.specs.Slot.{Free}
 use Rattle.rg_home.specs.Rows.{row_at}
 use Rattle.rg_home.specs.Pages.{slot_of, applied, row_or_empty}
-use Rattle.rg_home.specs.Plan.{is_home, new_area, planned_put, planned_change, planned_drop, purge_of, pages_after}
+use Rattle.rg_home.specs.Plan.{is_home, new_area, planned_put, planned_change, planned_drop}
+use Rattle.rg_home.specs.Plan.{purge_of, pages_after}
 use Rattle.rg_home.specs.declared.plan.Plan.{Plan}
 use Rattle.rg_home.specs.Written.{Written}
 use Rattle.rg_home.specs.Able.{IsLive, HomeOf}

@@ -4,7 +4,8 @@
 --    passes over the list to find it, and no state.
 -- 2. It is the row that is there once all writes that are not yet undone are taken back. If some
 --    open units committed now, it would be the row that is there once all others are taken back.
-use Rattle.std.specs.Prelude.{◌≡◌, ◌==◌, ◌≤◌, ◌⊎◌, ◌||◌, ◌&&◌, ◌++◌, ℕ, suc, Bool, true, false, not, List, [], ◌∷◌, Option, None, if◌then◌else◌}
+use Rattle.std.specs.Prelude.{◌≡◌, ◌==◌, ◌≤◌, ◌⊎◌, ◌||◌, ◌&&◌, ◌++◌, ℕ, suc, Bool, true, false, not}
+use Rattle.std.specs.Prelude.{List, [], ◌∷◌, Option, None, if◌then◌else◌}
 use Rattle.rg_base.specs.declared.row.Row.{Row as TableRow}
 use Rattle.rg_home.specs.Able.{IsLive}
 use Rattle.rg_laws_log.specs.LogState.Write.{at_key, kept_of, gone_back}

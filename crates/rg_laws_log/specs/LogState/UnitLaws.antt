@@ -11,7 +11,8 @@
 --    end (`OwnAfter`).
 -- 6. So a unit that is undone by its Undos and a RollBack leaves the committed rows at the keys
 --    that it has written, and every other row as it was (`RollbackRows`).
-use Rattle.std.specs.Prelude.{◌≡◌, ◌==◌, ◌≤◌, ◌++◌, ℕ, suc, true, false, List, [], ◌∷◌, length, Option, Some, None, if◌then◌else◌, Bool}
+use Rattle.std.specs.Prelude.{◌≡◌, ◌==◌, ◌≤◌, ◌++◌, ℕ, suc, true, false, List, [], ◌∷◌, length}
+use Rattle.std.specs.Prelude.{Option, Some, None, if◌then◌else◌, Bool}
 use Rattle.rg_base.specs.declared.place.Place.{Place}
 use Rattle.rg_base.specs.declared.row.Row.{Row as TableRow}
 use Rattle.rg_base.specs.declared.part.Part.{Part}

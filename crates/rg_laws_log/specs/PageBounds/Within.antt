@@ -12,7 +12,8 @@ use Rattle.rg_base.specs.declared.part.Part.{Part}
 use Rattle.rg_base.specs.declared.place.Place.{Place}
 use Rattle.rg_home.specs.Able.{Proper, Undoable}
 use Rattle.rg_home.specs.Pages.{slot_of}
-use Rattle.rg_home.specs.Plan.{is_home, new_area, planned_change, planned_drop, planned_put, purge_of}
+use Rattle.rg_home.specs.Plan.{is_home, new_area, planned_change, planned_drop, planned_put}
+use Rattle.rg_home.specs.Plan.{purge_of}
 use Rattle.rg_home.specs.Slot.{Slot}
 use Rattle.rg_home.specs.Undo.{planned_undo}
 use Rattle.rg_home.specs.Written.{Written}

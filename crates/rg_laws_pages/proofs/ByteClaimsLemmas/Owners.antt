@@ -1,5 +1,7 @@
 -- Who holds dead areas: a unit that begins or ends, and a shadow that becomes the space.
-use Rattle.std.proofs.Common.{◌≡◌, ◌==◌, ◌||◌, ◌⊎◌, inl, inr, ℕ, ◌+◌, ◌≤◌, Bool, true, false, nat_le, zero, suc, List, [], ◌∷◌, get_or, refl, ◌∙◌, ap, if◌then◌else◌, arith}
+use Rattle.std.proofs.Common.{◌≡◌, ◌==◌, ◌||◌, ◌⊎◌, inl, inr, ℕ, ◌+◌, ◌≤◌, Bool, true, false}
+use Rattle.std.proofs.Common.{nat_le, zero, suc, List, [], ◌∷◌, get_or, refl, ◌∙◌, ap}
+use Rattle.std.proofs.Common.{if◌then◌else◌, arith}
 use Rattle.std.specs.List.{list_any}
 use Rattle.std.proofs.lemmas.Bool.{eqb-true, leb-true, le-leb}
 use Rattle.rg_home.specs.Slot.{Slot}
@@ -24,22 +26,29 @@ pub covers : (live : List ℕ) (next : ℕ) → Covers (holding live next) live
 covers live next t e = or_left (list_any (λ u. u == t) live) (nat_le next t) e
 
 -- a unit that begins draws the next number, and holds nothing new
-pub begins : (live : List ℕ) (next : ℕ) → Fewer (holding live next) (holding (next ∷ live) (next + 1))
-begins live next t e = go (either ((next == t) || list_any (λ u. u == t) live) (nat_le (next + 1) t) e)
+pub begins : (live : List ℕ) (next : ℕ)
+    → Fewer (holding live next) (holding (next ∷ live) (next + 1))
+begins live next t e =
+    go (either ((next == t) || list_any (λ u. u == t) live) (nat_le (next + 1) t) e)
   where
     any : Bool
     any = list_any (λ u. u == t) live
 
     first : (next == t) ≡ true ⊎ list_any (λ u. u == t) live ≡ true → holding live next t ≡ true
-    first (inl n) = or_right (list_any (λ u. u == t) live) (nat_le next t) (le-leb next t (omega (arith, eqb-true next t n)))
+    first (inl n) = or_right (list_any (λ u. u == t) live) (nat_le next t)
+        (le-leb next t (omega (arith, eqb-true next t n)))
     first (inr l) = or_left (list_any (λ u. u == t) live) (nat_le next t) l
 
-    go : (((next == t) || list_any (λ u. u == t) live) ≡ true) ⊎ (nat_le (next + 1) t ≡ true) → holding live next t ≡ true
+    go : (((next == t) || list_any (λ u. u == t) live) ≡ true) ⊎ (nat_le (next + 1) t ≡ true)
+        → holding live next t ≡ true
     go (inl a) = first (either (next == t) (list_any (λ u. u == t) live) a)
-    go (inr b) = or_right (list_any (λ u. u == t) live) (nat_le next t) (le-leb next t (omega (arith, leb-true (next + 1) t b)))
+    go (inr b) = or_right (list_any (λ u. u == t) live) (nat_le next t)
+        (le-leb next t (omega (arith, leb-true (next + 1) t b)))
 
 -- a unit that ends
-pub ends : (live rest : List ℕ) (next : ℕ) → ((t : ℕ) → list_any (λ u. u == t) rest ≡ true → list_any (λ u. u == t) live ≡ true) → Fewer (holding live next) (holding rest next)
+pub ends : (live rest : List ℕ) (next : ℕ)
+    → ((t : ℕ) → list_any (λ u. u == t) rest ≡ true → list_any (λ u. u == t) live ≡ true)
+    → Fewer (holding live next) (holding rest next)
 ends live rest next fewer t e = go (either (list_any (λ u. u == t) rest) (nat_le next t) e)
   where
     go : (list_any (λ u. u == t) rest ≡ true) ⊎ (nat_le next t ≡ true) → holding live next t ≡ true
@@ -57,7 +66,8 @@ module _ (next : ℕ) (low : 1 ≤ next) where
       go false e = e
 
   dead_zero : (c t : ℕ) → t ≡ 0 → (if holding [] next t then c else 0) ≡ 0
-  dead_zero c t e = ap (λ (n : ℕ). if holding [] next n then c else 0) e ∙ ap (λ (b : Bool). if b then c else 0) none_holds
+  dead_zero c t e = ap (λ (n : ℕ). if holding [] next n then c else 0) e
+      ∙ ap (λ (b : Bool). if b then c else 0) none_holds
 
   zero_of : (s : Slot) → OwnerIsZero s → claim_of (holding [] next) s ≡ claim_of nobody s
   zero_of Free z = refl
@@ -68,10 +78,13 @@ module _ (next : ℕ) (low : 1 ≤ next) where
   zero_of (DeadPointer a b d) z = dead_zero a d z
   zero_of (DeadOver a b d) z = dead_zero a d z
 
-  zero_page : (slots : List Slot) → ((i : ℕ) → OwnerIsZero (slot_at slots i)) → claimed (holding [] next) slots ≡ claimed nobody slots
+  zero_page : (slots : List Slot) → ((i : ℕ) → OwnerIsZero (slot_at slots i))
+      → claimed (holding [] next) slots ≡ claimed nobody slots
   zero_page [] z = refl
   zero_page (s ∷ slots) z = omega (arith, zero_of s (z zero), zero_page slots (λ i. z (suc i)))
 
-  pub switched : (pages : List (List Slot)) → ((k i : ℕ) → OwnerIsZero (slot_at (get_or pages k []) i)) → claimed_all (holding [] next) pages ≡ claimed_all nobody pages
+  pub switched : (pages : List (List Slot))
+      → ((k i : ℕ) → OwnerIsZero (slot_at (get_or pages k []) i))
+      → claimed_all (holding [] next) pages ≡ claimed_all nobody pages
   switched [] z = refl
   switched (p ∷ pages) z = omega (arith, zero_page p (z zero), switched pages (λ k. z (suc k)))

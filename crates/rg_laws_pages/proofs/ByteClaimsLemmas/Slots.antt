@@ -1,5 +1,6 @@
 -- The claimed bytes of one page, with a slot set, and with owners gone.
-use Rattle.std.proofs.Common.{◌≡◌, ℕ, ◌+◌, ◌<◌, ◌≤◌, ◌⊎◌, inl, inr, Bool, true, false, zero, suc, List, [], ◌∷◌, length, set, refl, ap, if◌then◌else◌, arith}
+use Rattle.std.proofs.Common.{◌≡◌, ℕ, ◌+◌, ◌<◌, ◌≤◌, ◌⊎◌, inl, inr, Bool, true, false, zero, suc}
+use Rattle.std.proofs.Common.{List, [], ◌∷◌, length, set, refl, ap, if◌then◌else◌, arith}
 use Rattle.std.proofs.lemmas.Bool.{cases_lt}
 use Rattle.rg_home.specs.Slot.{Slot}
 use Rattle.rg_home.specs.Slot.{Free, Row, Pointer, Over, DeadRow, DeadPointer, DeadOver}
@@ -39,38 +40,51 @@ module _ (h : ℕ → Bool) where
   claimed-trim [] = omega arith
   claimed-trim (s ∷ slots) = omega (arith, claimed-cut s (trim slots), claimed-trim slots)
 
-  claimed-set : (slots : List Slot) (i : ℕ) (s : Slot) → i < length slots → claimed h (set slots i s) + claim_of h (slot_at slots i) ≡ claimed h slots + claim_of h s
+  claimed-set : (slots : List Slot) (i : ℕ) (s : Slot) → i < length slots
+      → claimed h (set slots i s) + claim_of h (slot_at slots i) ≡ claimed h slots + claim_of h s
   claimed-set [] i s n = absurd (omega arith)
   claimed-set (x ∷ slots) zero s n = omega arith
   claimed-set (x ∷ slots) (suc i) s n = omega (arith, claimed-set slots i s (omega arith))
 
-  claimed-put_end : (slots : List Slot) (i : ℕ) (s : Slot) → i ≡ length slots → claimed h (put slots i s) ≡ claimed h slots + 18 + claim_of h s
+  claimed-put_end : (slots : List Slot) (i : ℕ) (s : Slot) → i ≡ length slots
+      → claimed h (put slots i s) ≡ claimed h slots + 18 + claim_of h s
   claimed-put_end [] zero s n = omega arith
   claimed-put_end [] (suc i) s n = absurd (omega arith)
   claimed-put_end (x ∷ slots) zero s n = absurd (omega arith)
   claimed-put_end (x ∷ slots) (suc i) s n = omega (arith, claimed-put_end slots i s (omega arith))
 
   -- a slot that is there is set
-  pub placed_in : (slots : List Slot) (i : ℕ) (s : Slot) → i < length slots → claimed h (placed slots i s) + claim_of h (slot_at slots i) ≤ claimed h slots + claim_of h s
-  placed_in slots i s n = omega (arith, claimed-trim (put slots i s), ap (claimed h) (put-set slots i s n), claimed-set slots i s n)
+  pub placed_in : (slots : List Slot) (i : ℕ) (s : Slot) → i < length slots
+      → claimed h (placed slots i s) + claim_of h (slot_at slots i) ≤ claimed h slots + claim_of h s
+  placed_in slots i s n = omega (
+    arith,
+    claimed-trim (put slots i s),
+    ap (claimed h) (put-set slots i s n),
+    claimed-set slots i s n,
+  )
 
   -- a slot that is there is set, or the next one
-  pub placed_new : (slots : List Slot) (i : ℕ) (s : Slot) → i ≤ length slots → claimed h (placed slots i s) ≤ claimed h slots + 18 + claim_of h s
+  pub placed_new : (slots : List Slot) (i : ℕ) (s : Slot) → i ≤ length slots
+      → claimed h (placed slots i s) ≤ claimed h slots + 18 + claim_of h s
   placed_new slots i s n = go (cases_lt i (length slots))
     where
-      go : (i < length slots) ⊎ (length slots ≤ i) → claimed h (placed slots i s) ≤ claimed h slots + 18 + claim_of h s
+      go : (i < length slots) ⊎ (length slots ≤ i)
+          → claimed h (placed slots i s) ≤ claimed h slots + 18 + claim_of h s
       go (inl l) = omega (arith, placed_in slots i s l)
-      go (inr l) = omega (arith, claimed-trim (put slots i s), claimed-put_end slots i s (omega arith))
+      go (inr l) =
+          omega (arith, claimed-trim (put slots i s), claimed-put_end slots i s (omega arith))
 
   pub placed_free : (slots : List Slot) (i : ℕ) → claimed h (placed slots i Free) ≤ claimed h slots
   placed_free slots i = go (cases_lt i (length slots))
     where
-      go : (i < length slots) ⊎ (length slots ≤ i) → claimed h (placed slots i Free) ≤ claimed h slots
+      go : (i < length slots) ⊎ (length slots ≤ i)
+          → claimed h (placed slots i Free) ≤ claimed h slots
       go (inl l) = omega (arith, placed_in slots i Free l)
       go (inr l) = omega (arith, claimed-trim slots, ap (claimed h) (trim-put_free slots i l))
 
 module _ (before after : ℕ → Bool) (fewer : Fewer before after) where
-  if_fewer : (c t : ℕ) → (a b : Bool) → after t ≡ a → before t ≡ b → (if a then c else 0) ≤ (if b then c else 0)
+  if_fewer : (c t : ℕ) → (a b : Bool) → after t ≡ a → before t ≡ b
+      → (if a then c else 0) ≤ (if b then c else 0)
   if_fewer c t false b ea eb = omega arith
   if_fewer c t true true ea eb = omega arith
   if_fewer c t true false ea eb = absurd (cc (fewer t ea, eb))

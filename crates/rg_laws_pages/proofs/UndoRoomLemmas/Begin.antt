@@ -19,12 +19,16 @@ slot_none p = ap (λ (slots : List Slot). slot_at slots p.slot) (page_none p.pag
 pub proper_empty : Proper []
 proper_empty = record {
   tied = λ p. subst (TiesAt (slot_of []) p) (sym (slot_none p)) tt;
-  sound = record { trimmed = λ n. subst IsTrimmed (sym (page_none n)) refl; fits = λ n. subst Fits (sym (page_none n)) (none_fits tt) };
+  sound = record {
+    trimmed = λ n. subst IsTrimmed (sym (page_none n)) refl;
+    fits = λ n. subst Fits (sym (page_none n)) (none_fits tt);
+  };
   holds = λ p. subst Holds (sym (slot_none p)) tt;
 }
   where
     none_fits : Unit {0} → Fits []
     none_fits u = omega arith
 
-pub ready_alone : (live : List ℕ) (pages : List (List Slot)) → Proper pages → Ready live pages [] (row_at (slot_of pages))
+pub ready_alone : (live : List ℕ) (pages : List (List Slot)) → Proper pages
+    → Ready live pages [] (row_at (slot_of pages))
 ready_alone live pages proper = record { proper = proper; can = tt; apart = tt; back = λ p. refl }

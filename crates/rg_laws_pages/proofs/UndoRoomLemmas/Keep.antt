@@ -1,6 +1,7 @@
 -- What a unit writes at its homes keeps every undo that is possible.
 use Rattle.rg_base.specs.RowBytes.{row_size}
-use Rattle.std.proofs.Common.{◌≡◌, inl, inr, ◌⊎◌, ℕ, ◌≤◌, Bool, true, false, List, [], ◌∷◌, Option, Some, None, refl, sym, ◌∙◌, ap, subst, arith}
+use Rattle.std.proofs.Common.{◌≡◌, inl, inr, ◌⊎◌, ℕ, ◌≤◌, Bool, true, false, List, [], ◌∷◌, Option}
+use Rattle.std.proofs.Common.{Some, None, refl, sym, ◌∙◌, ap, subst, arith}
 use Rattle.rg_base.specs.declared.place.Place.{Place}
 use Rattle.rg_base.specs.declared.row.Row.{Row as TableRow}
 use Rattle.rg_home.specs.Slot.{Slot}
@@ -17,10 +18,12 @@ use Rattle.rg_home.specs.Able.{Owned, IsHomeOf, IsAreaOf, AreaHolds, RowFits, Un
 use Rattle.rg_laws_pages.specs.UndoRoom.Areas.{KeepsHome, KeepsArea, KeepsAreas}
 use Rattle.rg_laws_pages.proofs.UndoRoomLemmas.Parts.{InTurn}
 
--- what unit t may make of a slot for the row of this home: of a Free slot anything; of the home a home of its own, and of
--- the home's Over area one of its own, neither smaller
+-- what unit t may make of a slot for the row of this home: of a Free slot anything; of the home a
+-- home of its own, and of the home's Over area one of its own, neither smaller
 abbrev pub Turns : ℕ → Place → Place → Slot → Slot → Type 0
-Turns t home p s s2 = (s ≡ Free) ⊎ (((p ≡ home) × IsHomeOf None s × IsHomeOf (Some t) s2 × (capacity_of s ≤ capacity_of s2)) ⊎ (IsAreaOf None home s × IsAreaOf (Some t) home s2 × (capacity_of s ≤ capacity_of s2)))
+Turns t home p s s2 = (s ≡ Free)
+    ⊎ (((p ≡ home) × IsHomeOf None s × IsHomeOf (Some t) s2 × (capacity_of s ≤ capacity_of s2))
+    ⊎ (IsAreaOf None home s × IsAreaOf (Some t) home s2 × (capacity_of s ≤ capacity_of s2)))
 
 owned_by : (by : Option ℕ) (t u : ℕ) → Owned by t → u ≡ t → Owned by u
 owned_by None t u o e = tt
@@ -35,7 +38,8 @@ home_by by t Free o h = absurd h
 home_by by t (Over c b p) o h = absurd h
 home_by by t (DeadOver c p u) o h = absurd h
 
-area_by : (by : Option ℕ) (t : ℕ) (home : Place) (s : Slot) → Owned by t → IsAreaOf (Some t) home s → IsAreaOf by home s
+area_by : (by : Option ℕ) (t : ℕ) (home : Place) (s : Slot) → Owned by t → IsAreaOf (Some t) home s
+    → IsAreaOf by home s
 area_by by t home (Over c b p) o h = h
 area_by by t home (DeadOver c p u) o h = (h.0, owned_by by t u o h.1)
 area_by by t home Free o h = absurd h
@@ -54,7 +58,8 @@ home_area a b home (Over c x p) h r = h
 home_area a b home (DeadOver c p u) h r = h
 
 -- an area is one home's
-pub area_one : (a b : Option ℕ) (h1 h2 : Place) (s : Slot) → IsAreaOf a h1 s → IsAreaOf b h2 s → h1 ≡ h2
+pub area_one : (a b : Option ℕ) (h1 h2 : Place) (s : Slot) → IsAreaOf a h1 s → IsAreaOf b h2 s
+    → h1 ≡ h2
 area_one a b h1 h2 (Over c x p) r q = sym r ∙ q
 area_one a b h1 h2 (DeadOver c p u) r q = sym r.0 ∙ q.0
 area_one a b h1 h2 Free r q = absurd r
@@ -92,18 +97,24 @@ module _ (by : Option ℕ) (t : ℕ) (home mine : Place) (apart : mine ≡ home 
   turned_area p s s2 (inl free) h = absurd (subst (IsAreaOf by mine) free h)
   turned_area p s s2 (inr (inl x)) h = absurd (home_area None by mine s x.1 h)
   turned_area p s s2 (inr (inr x)) h =
-      let one = area_one by None mine home s h x.0 in
-      (subst (λ (q : Place). IsAreaOf by q s2) (sym one) (area_by by t home s2 (apart one) x.1), x.2)
+      let one = area_one by None mine home s h x.0 in (
+        subst (λ (q : Place). IsAreaOf by q s2) (sym one) (area_by by t home s2 (apart one) x.1),
+        x.2,
+      )
 
 -- an undo is kept where its home and each Over area of its home is
-module _ (by : Option ℕ) (at after : Place → Slot) (c : Written) (kept : KeepsAreas by c.home at after) where
-  area_holds : (b : ℕ) (over : Option Place) → AreaHolds by at c.home b over → AreaHolds by after c.home b over
+module _ (by : Option ℕ) (at after : Place → Slot) (c : Written)
+    (kept : KeepsAreas by c.home at after) where
+  area_holds : (b : ℕ) (over : Option Place) → AreaHolds by at c.home b over
+      → AreaHolds by after c.home b over
   area_holds b None h = h
   area_holds b (Some q) h =
       let k = kept.areas_kept q h.0 in
       (k.0, omega (arith, h.1, k.1))
 
-  row_fits : (row : Option TableRow) (over : Option Place) → capacity_of (at c.home) ≤ capacity_of (after c.home) → RowFits by at c.home row over → RowFits by after c.home row over
+  row_fits : (row : Option TableRow) (over : Option Place)
+      → capacity_of (at c.home) ≤ capacity_of (after c.home) → RowFits by at c.home row over
+      → RowFits by after c.home row over
   row_fits None over l h = tt
   row_fits (Some row) over l (inl h) = inl (omega (arith, h, l))
   row_fits (Some row) over l (inr h) = inr (area_holds (row_size row) over h)
@@ -115,7 +126,8 @@ module _ (by : Option ℕ) (at after : Place → Slot) (c : Written) (kept : Kee
 
 -- one step after another, and one slot written
 module _ (by : Option ℕ) (mine : Place) where
-  pub kept_then : (at mid after : Place → Slot) → KeepsAreas by mine at mid → KeepsAreas by mine mid after → KeepsAreas by mine at after
+  pub kept_then : (at mid after : Place → Slot) → KeepsAreas by mine at mid
+      → KeepsAreas by mine mid after → KeepsAreas by mine at after
   kept_then at mid after a b = record { home_kept = home_then; areas_kept = area_then }
     where
       home_then : KeepsHome by (at mine) (after mine)
@@ -137,38 +149,61 @@ module _ (by : Option ℕ) (mine : Place) where
   same_area s s2 e h = (subst (IsAreaOf by mine) (sym e) h, omega (arith, ap capacity_of e))
 
   pub kept_same : (at : Place → Slot) → KeepsAreas by mine at at
-  kept_same at = record { home_kept = same_home (at mine) (at mine) refl; areas_kept = λ q. same_area (at q) (at q) refl }
+  kept_same at = record {
+    home_kept = same_home (at mine) (at mine) refl;
+    areas_kept = λ q. same_area (at q) (at q) refl;
+  }
 
   module _ (pages : List (List Slot)) (p : Place) (s : Slot) (low : 1 ≤ p.page) where
-    home_wrote : (p ≡ mine → KeepsHome by (slot_of pages p) s) → (b : Bool) → same_place mine p ≡ b → KeepsHome by (slot_of pages mine) (slot_of (wrote pages p s) mine)
+    home_wrote : (p ≡ mine → KeepsHome by (slot_of pages p) s) → (b : Bool) → same_place mine p ≡ b
+        → KeepsHome by (slot_of pages mine) (slot_of (wrote pages p s) mine)
     home_wrote keeps true e =
         let is = same_place-true mine p e in
         subst (λ (q : Place). KeepsHome by (slot_of pages q) (slot_of (wrote pages p s) q)) (sym is)
-        (subst (λ (x : Slot). KeepsHome by (slot_of pages p) x) (sym (wrote_here pages p s low)) (keeps (sym is)))
-    home_wrote keeps false e = same_home (slot_of pages mine) (slot_of (wrote pages p s) mine) (wrote_there pages p s low mine e)
+        (subst (λ (x : Slot). KeepsHome by (slot_of pages p) x) (sym (wrote_here pages p s low))
+        (keeps (sym is)))
+    home_wrote keeps false e = same_home (slot_of pages mine) (slot_of (wrote pages p s) mine)
+        (wrote_there pages p s low mine e)
 
-    area_wrote : KeepsArea by mine (slot_of pages p) s → (q : Place) (b : Bool) → same_place q p ≡ b → KeepsArea by mine (slot_of pages q) (slot_of (wrote pages p s) q)
+    area_wrote : KeepsArea by mine (slot_of pages p) s → (q : Place) (b : Bool) → same_place q p ≡ b
+        → KeepsArea by mine (slot_of pages q) (slot_of (wrote pages p s) q)
     area_wrote keeps q true e =
-        subst (λ (q : Place). KeepsArea by mine (slot_of pages q) (slot_of (wrote pages p s) q)) (sym (same_place-true q p e))
-        (subst (λ (x : Slot). KeepsArea by mine (slot_of pages p) x) (sym (wrote_here pages p s low)) keeps)
-    area_wrote keeps q false e = same_area (slot_of pages q) (slot_of (wrote pages p s) q) (wrote_there pages p s low q e)
+        subst (λ (q : Place). KeepsArea by mine (slot_of pages q) (slot_of (wrote pages p s) q))
+        (sym (same_place-true q p e))
+        (subst (λ (x : Slot). KeepsArea by mine (slot_of pages p) x)
+        (sym (wrote_here pages p s low)) keeps)
+    area_wrote keeps q false e =
+        same_area (slot_of pages q) (slot_of (wrote pages p s) q) (wrote_there pages p s low q e)
 
-    pub kept_wrote : (p ≡ mine → KeepsHome by (slot_of pages p) s) → KeepsArea by mine (slot_of pages p) s → KeepsAreas by mine (slot_of pages) (slot_of (wrote pages p s))
-    kept_wrote home area = record { home_kept = home_wrote home (same_place mine p) refl; areas_kept = λ q. area_wrote area q (same_place q p) refl }
+    pub kept_wrote : (p ≡ mine → KeepsHome by (slot_of pages p) s)
+        → KeepsArea by mine (slot_of pages p) s
+        → KeepsAreas by mine (slot_of pages) (slot_of (wrote pages p s))
+    kept_wrote home area = record {
+      home_kept = home_wrote home (same_place mine p) refl;
+      areas_kept = λ q. area_wrote area q (same_place q p) refl;
+    }
 
 -- parts of unit t at this home keep the areas of another home, and of its own for the unit
 module _ (by : Option ℕ) (t : ℕ) (home mine : Place) (apart : mine ≡ home → Owned by t) where
-  pub parts_kept : (after : TableRow) (pages : List (List Slot)) (parts : List Part) → InTurn (Turns t home) t after pages parts → KeepsAreas by mine (slot_of pages) (slot_of (applied t after pages parts))
+  pub parts_kept : (after : TableRow) (pages : List (List Slot)) (parts : List Part)
+      → InTurn (Turns t home) t after pages parts
+      → KeepsAreas by mine (slot_of pages) (slot_of (applied t after pages parts))
   parts_kept after pages [] turns = kept_same by mine (slot_of pages)
   parts_kept after pages (x ∷ parts) turns =
       let next = wrote pages (place_of x) (made t after x.op) in
       kept_then by mine (slot_of pages) (slot_of next) (slot_of (applied t after next parts))
       (kept_wrote by mine pages (place_of x) (made t after x.op) turns.0
-      (turned_home by t home mine apart (place_of x) (slot_of pages (place_of x)) (made t after x.op) turns.1)
-      (turned_area by t home mine apart (place_of x) (slot_of pages (place_of x)) (made t after x.op) turns.1))
+      (turned_home by t home mine apart (place_of x) (slot_of pages (place_of x))
+      (made t after x.op) turns.1)
+      (turned_area by t home mine apart (place_of x) (slot_of pages (place_of x))
+      (made t after x.op) turns.1))
       (parts_kept after next parts turns.2)
 
 -- so they keep the undo of what was written at another home, or by the unit
-pub parts_keep : (by : Option ℕ) (t : ℕ) (home : Place) (c : Written) → (c.home ≡ home → Owned by t) → (after : TableRow) (pages : List (List Slot)) (parts : List Part) → InTurn (Turns t home) t after pages parts
+pub parts_keep : (by : Option ℕ) (t : ℕ) (home : Place) (c : Written) → (c.home ≡ home → Owned by t)
+    → (after : TableRow) (pages : List (List Slot)) (parts : List Part)
+    → InTurn (Turns t home) t after pages parts
     → Undoable by (slot_of pages) c → Undoable by (slot_of (applied t after pages parts)) c
-parts_keep by t home c apart after pages parts turns u = undoable_kept by (slot_of pages) (slot_of (applied t after pages parts)) c (parts_kept by t home c.home apart after pages parts turns) u
+parts_keep by t home c apart after pages parts turns u =
+    undoable_kept by (slot_of pages) (slot_of (applied t after pages parts)) c
+    (parts_kept by t home c.home apart after pages parts turns) u

@@ -16,26 +16,39 @@ use Rattle.rg_laws_pages.proofs.UndoRoomLemmas.Parts.{InTurn}
 use Rattle.rg_laws_pages.proofs.UndoRoomLemmas.Shape.{Reuses}
 
 module _ (t : ℕ) (after : TableRow) (home : Place) (limit : ℕ) where
-  pub reuses_fit : (pages : List (List Slot)) (parts : List Part) → InTurn (Reuses t home) t after pages parts → Sound pages → length pages ≤ limit → FitsAll t after limit pages parts
+  pub reuses_fit : (pages : List (List Slot)) (parts : List Part)
+      → InTurn (Reuses t home) t after pages parts → Sound pages → length pages ≤ limit
+      → FitsAll t after limit pages parts
   reuses_fit pages [] r sound l = tt
   reuses_fit pages (x ∷ parts) r sound l =
       let within = page_within pages x.page x.slot r.1.0 in
       let below = slot_below (page_at pages x.page) x.slot r.1.0 in
-      let fit : Fits (placed (page_at pages x.page) x.slot (made t after x.op)) = sized_fits (page_at pages x.page) x.slot (made t after x.op) below (omega (arith, sound.fits x.page, r.1.1)) in (
+      let fit : Fits (placed (page_at pages x.page) x.slot (made t after x.op)) =
+      sized_fits (page_at pages x.page) x.slot (made t after x.op) below
+      (omega (arith, sound.fits x.page, r.1.1)) in (
         r.0,
         omega (arith, within.1, l),
         fit,
-        reuses_fit (wrote pages (place_of x) (made t after x.op)) parts r.2 (wrote_sound pages x.page x.slot (made t after x.op) r.0 fit sound)
+        reuses_fit (wrote pages (place_of x) (made t after x.op)) parts r.2
+            (wrote_sound pages x.page x.slot (made t after x.op) r.0 fit sound)
             (omega (arith, l, wrote-length pages x.page x.slot (made t after x.op) within.1)),
       )
 
   -- no page is added
-  pub reuses_length : (pages : List (List Slot)) (parts : List Part) → InTurn (Reuses t home) t after pages parts → length (applied t after pages parts) ≡ length pages
+  pub reuses_length : (pages : List (List Slot)) (parts : List Part)
+      → InTurn (Reuses t home) t after pages parts
+      → length (applied t after pages parts) ≡ length pages
   reuses_length pages [] r = refl
   reuses_length pages (x ∷ parts) r =
       let within = page_within pages x.page x.slot r.1.0 in
-      reuses_length (wrote pages (place_of x) (made t after x.op)) parts r.2 ∙ wrote-length pages x.page x.slot (made t after x.op) within.1
+      reuses_length (wrote pages (place_of x) (made t after x.op)) parts r.2
+      ∙ wrote-length pages x.page x.slot (made t after x.op) within.1
 
-pub reuses_hold : (t : ℕ) (after : TableRow) (home : Place) (pages : List (List Slot)) (parts : List Part) → InTurn (Reuses t home) t after pages parts → AllHold (slot_of pages) → AllHold (slot_of (applied t after pages parts))
+pub reuses_hold :
+    (t : ℕ) (after : TableRow) (home : Place) (pages : List (List Slot)) (parts : List Part)
+    → InTurn (Reuses t home) t after pages parts → AllHold (slot_of pages)
+    → AllHold (slot_of (applied t after pages parts))
 reuses_hold t after home pages [] r all = all
-reuses_hold t after home pages (x ∷ parts) r all = reuses_hold t after home (wrote pages (place_of x) (made t after x.op)) parts r.2 (held_wrote pages x.page x.slot (made t after x.op) r.1.2 all)
+reuses_hold t after home pages (x ∷ parts) r all =
+    reuses_hold t after home (wrote pages (place_of x) (made t after x.op)) parts r.2
+    (held_wrote pages x.page x.slot (made t after x.op) r.1.2 all)

@@ -7,7 +7,8 @@
 -- 3. A put or a change claims at most 18 bytes and its row's bytes more. A drop, an undo, a purge,
 --    and the start or end of a unit claim nothing more. A write is Full only where the pages claim
 --    3,221 bytes each. So what has been written bounds when FULL may come.
-use Rattle.std.specs.Prelude.{◌≡◌, ◌==◌, ◌||◌, nat_le, ℕ, ◌+◌, Bool, true, false, List, [], ◌∷◌, if◌then◌else◌}
+use Rattle.std.specs.Prelude.{◌≡◌, ◌==◌, ◌||◌, nat_le, ℕ, ◌+◌, Bool, true, false, List, [], ◌∷◌}
+use Rattle.std.specs.Prelude.{if◌then◌else◌}
 use Rattle.std.specs.List.{list_any}
 use Rattle.rg_home.specs.Slot.{Slot}
 use Rattle.rg_home.specs.Slot.{Free, Row, Pointer, Over, DeadRow, DeadPointer, DeadOver}

@@ -5,14 +5,16 @@
 --    and a switch, where the shadow, in which nobody holds a dead area, becomes the space.
 -- 3. A log of writes adds these up. So a FULL can be answered by what was written since the
 --    opening.
-use Rattle.std.specs.Prelude.{◌≡◌, ℕ, ◌+◌, ◌*◌, ◌≤◌, ◌<◌, Bool, true, false, List, ◌∷◌, [], length, Option, Some, None, IfSome}
+use Rattle.std.specs.Prelude.{◌≡◌, ℕ, ◌+◌, ◌*◌, ◌≤◌, ◌<◌, Bool, true, false, List, ◌∷◌, [], length}
+use Rattle.std.specs.Prelude.{Option, Some, None, IfSome}
 use Rattle.rg_base.specs.RowBytes.{row_size}
 use Rattle.rg_base.specs.declared.place.Place.{Place}
 use Rattle.rg_base.specs.declared.row.Row.{Row as TableRow}
 use Rattle.rg_home.specs.Slot.{Slot}
 use Rattle.rg_home.specs.Rows.{same_place, ChangesHome}
 use Rattle.rg_home.specs.Pages.{slot_of, applied, Sound}
-use Rattle.rg_home.specs.Plan.{is_home, new_area, pages_after, planned_put, planned_change, planned_drop, purge_of}
+use Rattle.rg_home.specs.Plan.{is_home, new_area, pages_after, planned_put, planned_change}
+use Rattle.rg_home.specs.Plan.{planned_drop, purge_of}
 use Rattle.rg_home.specs.Written.{Written}
 use Rattle.rg_home.specs.Able.{IsLive, Proper, Undoable}
 use Rattle.rg_home.specs.Undo.{undone}

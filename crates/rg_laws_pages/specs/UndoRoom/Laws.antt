@@ -9,7 +9,8 @@
 --    own rows committed (`CommittedRows`).
 -- 4. It works since no home or area of a live unit goes away or shrinks (`AreasStay`), and since
 --    locks keep the homes of units apart (`LocksKeepApart`).
-use Rattle.std.specs.Prelude.{◌≡◌, ℕ, ◌≤◌, true, false, List, [], ◌∷◌, length, Option, Some, None, IfSome}
+use Rattle.std.specs.Prelude.{◌≡◌, ℕ, ◌≤◌, true, false, List, [], ◌∷◌, length, Option, Some, None}
+use Rattle.std.specs.Prelude.{IfSome}
 use Rattle.rg_base.specs.RowBytes.{row_size}
 use Rattle.rg_base.specs.declared.place.Place.{Place}
 use Rattle.rg_base.specs.declared.row.Row.{Row as TableRow}
@@ -17,11 +18,13 @@ use Rattle.rg_base.specs.declared.part.Part.{Part}
 use Rattle.rg_home.specs.Slot.{Slot}
 use Rattle.rg_home.specs.Rows.{is_dead, lies_at, row_at, ChangesHome}
 use Rattle.rg_home.specs.Pages.{slot_of, applied}
-use Rattle.rg_home.specs.Plan.{is_home, purge_of, new_area, planned_put, planned_change, planned_drop, pages_after}
+use Rattle.rg_home.specs.Plan.{is_home, purge_of, new_area, planned_put, planned_change}
+use Rattle.rg_home.specs.Plan.{planned_drop, pages_after}
 use Rattle.rg_home.specs.Written.{Written}
 use Rattle.rg_home.specs.Laws.{WritesHome}
 use Rattle.rg_home.specs.Able.{Undoable, AllUndoable, IsLive, HomeOf, Proper}
-use Rattle.rg_home.specs.Undo.{lies_undone, over_before, planned_undo, undone, undone_all, taken_back}
+use Rattle.rg_home.specs.Undo.{lies_undone, over_before, planned_undo, undone, undone_all}
+use Rattle.rg_home.specs.Undo.{taken_back}
 use Rattle.rg_laws_pages.specs.UndoRoom.Ready.{latest, less, only, without, HasHome, NoHome, Ready}
 use Rattle.rg_laws_pages.specs.UndoRoom.Areas.{KeepsAreas}
 use Rattle.rg_laws_pages.specs.UndoRoom.Dead.{DeadNames}

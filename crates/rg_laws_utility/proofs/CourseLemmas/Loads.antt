@@ -1,5 +1,7 @@
 -- What a step tells of the new copy is what the numbers that it leaves show.
-use Rattle.std.proofs.Common.{◌≡◌, ◌+◌, ◌-◌, ◌==◌, ◌&&◌, ℕ, Bool, true, false, not, Option, Some, None, IfSome, nat_lt, nat_le, min, if◌then◌else◌, refl, ◌∙◌, ap, subst, arith}
+use Rattle.std.proofs.Common.{◌≡◌, ◌+◌, ◌-◌, ◌==◌, ◌&&◌, ℕ, Bool, true, false, not, Option, Some}
+use Rattle.std.proofs.Common.{None, IfSome, nat_lt, nat_le, min, if◌then◌else◌, refl, ◌∙◌, ap}
+use Rattle.std.proofs.Common.{subst, arith}
 use Rattle.std.proofs.lemmas.Bool.Decides.{nat_tests}
 use Rattle.rg_base.specs.declared.control.Answer.{Answer}
 use Rattle.rg_base.specs.declared.control.Command.{Command}
@@ -21,7 +23,11 @@ use Rattle.rg_stmt.specs.declared.event.Event.TheVariants as events
 use Rattle.rg_model.specs.Packed.{page_at}
 use Rattle.rg_model.specs.Same.{same_drain, same_reason, same_verdict, same_which}
 use Rattle.rg_model.specs.State.{Utility}
-use Rattle.rg_model.specs.Turn.{Turn, Runs, Switches, Stops, Falls, alter, build_turn, early_stop, end_turn, is_term, last_turn, log_turn, log_verdict, nth_which, reload_turn, sort_turn, space_stop, step_by_drain, step_of, switch_turn, term_turn, turn_at, turn_if, turn_of, unload_turn, verdict_turn, wait_turn, write_turn}
+use Rattle.rg_model.specs.Turn.{Turn, Runs, Switches, Stops, Falls, alter, build_turn, early_stop}
+use Rattle.rg_model.specs.Turn.{end_turn, is_term, last_turn, log_turn, log_verdict, nth_which}
+use Rattle.rg_model.specs.Turn.{reload_turn, sort_turn, space_stop, step_by_drain, step_of}
+use Rattle.rg_model.specs.Turn.{switch_turn, term_turn, turn_at, turn_if, turn_of, unload_turn}
+use Rattle.rg_model.specs.Turn.{verdict_turn, wait_turn, write_turn}
 use Rattle.rg_model.specs.Verdict.{drain_verdict, is_slow}
 use Rattle.rg_laws_utility.specs.Course.Loading.{Loading, ShowsFilled, loading_after, loading_of}
 
@@ -48,16 +54,26 @@ some_sorted n = grind (arith, nat_tests)
 -- ---- by the stage
 
 module _ (copy : ℕ) (u : Utility) where
-  unload_leads : (drain : DrainState) (event : Event) → LeadsIf copy u event (unload_turn u drain event)
-  unload_leads drain (events.Unload page rows) = leads_if copy u (events.Unload page rows) (page == u.copied + 1 && nat_le rows 225) _ refl
+  unload_leads : (drain : DrainState) (event : Event)
+      → LeadsIf copy u event (unload_turn u drain event)
+  unload_leads drain (events.Unload page rows) =
+      leads_if copy u (events.Unload page rows) (page == u.copied + 1 && nat_le rows 225) _ refl
   unload_leads drain event = early_leads copy u event
 
-  reload_leads : (drain : DrainState) (event : Event) → LeadsIf copy u event (reload_turn u drain event)
+  reload_leads : (drain : DrainState) (event : Event)
+      → LeadsIf copy u event (reload_turn u drain event)
   reload_leads drain (events.Reload page rows) =
-      leads_if copy u (events.Reload page rows) (page == page_at u.options.freepage (u.filled + 1) && (nat_le 1 rows && nat_le rows (u.unloaded - u.reloaded))) _ (go (u.sorted == 0))
+      leads_if copy u (events.Reload page rows)
+      (page == page_at u.options.freepage (u.filled + 1)
+      && (nat_le 1 rows && nat_le rows (u.unloaded - u.reloaded))) _ (go (u.sorted == 0))
     where
-      go : (b : Bool) → (if b then Some (record { copy = copy; freepage = u.options.freepage; filled = u.filled + 1 }) else None)
-          ≡ loading_after (if b then Some (record { copy = copy; freepage = u.options.freepage; filled = u.filled }) else None) (events.Reload page rows)
+      go : (b : Bool)
+          → (if b
+          then Some (record { copy = copy; freepage = u.options.freepage; filled = u.filled + 1 })
+          else None)
+          ≡ loading_after
+          (if b then Some (record { copy = copy; freepage = u.options.freepage; filled = u.filled })
+          else None) (events.Reload page rows)
       go true = refl
       go false = refl
   reload_leads drain event = space_leads copy u event
@@ -65,18 +81,33 @@ module _ (copy : ℕ) (u : Utility) where
   sort_leads : (drain : DrainState) (event : Event) → LeadsIf copy u event (sort_turn u drain event)
   sort_leads drain (events.Sort which) =
       leads_if copy u (events.Sort which) (same_which which (nth_which u.sorted)) _
-      (ap (λ (b : Bool). if b then Some (record { copy = copy; freepage = u.options.freepage; filled = u.filled }) else None) (some_sorted u.sorted))
+      (ap
+      (λ (b : Bool). if b
+      then Some (record { copy = copy; freepage = u.options.freepage; filled = u.filled })
+      else None) (some_sorted u.sorted))
   sort_leads drain event = early_leads copy u event
 
-  build_leads : (all : ℕ) (drain : DrainState) (event : Event) → LeadsIf copy u event (build_turn all u drain event)
-  build_leads all drain (events.Build which) = leads_if copy u (events.Build which) (same_which which (nth_which u.built)) _ (go (u.built == 2))
+  build_leads : (all : ℕ) (drain : DrainState) (event : Event)
+      → LeadsIf copy u event (build_turn all u drain event)
+  build_leads all drain (events.Build which) = leads_if copy u (events.Build which)
+      (same_which which (nth_which u.built)) _ (go (u.built == 2))
     where
-      go : (b : Bool) → loading_of copy (if b then record u { built = 3; iteration = u.iteration + 1; target = all; size = all - u.done } else record u { built = u.built + 1 }) ≡ loading_of copy u
+      go : (b : Bool)
+          → loading_of copy
+          (if b then record u {
+            built = 3;
+            iteration = u.iteration + 1;
+            target = all;
+            size = all - u.done;
+          } else record u { built = u.built + 1 }) ≡ loading_of copy u
       go true = refl
       go false = refl
   build_leads all drain event = early_leads copy u event
 
-  verdict_leads : (all now : ℕ) (slow : Bool) (next : Utility) (drain : DrainState) (verdict : Verdict) (event : Event) → loading_of copy next ≡ loading_after (loading_of copy u) event → ShowsFilled copy u event (verdict_turn all now slow next drain verdict)
+  verdict_leads : (all now : ℕ) (slow : Bool) (next : Utility) (drain : DrainState)
+      (verdict : Verdict) (event : Event)
+      → loading_of copy next ≡ loading_after (loading_of copy u) event
+      → ShowsFilled copy u event (verdict_turn all now slow next drain verdict)
   verdict_leads all now slow next drain verdicts.More event at = at
   verdict_leads all now true next drain verdicts.Next event at = at
   verdict_leads all now false next drain verdicts.Next event at = at
@@ -84,36 +115,52 @@ module _ (copy : ℕ) (u : Utility) where
   verdict_leads all now slow next drain (verdicts.Drain asked) event at = at
   verdict_leads all now slow next drain (verdicts.Stop reason) event at = tt
 
-  log_leads : (all : ℕ) (answer : Answer) (drain : DrainState) (event : Event) → LeadsIf copy u event (log_turn all answer u drain event)
+  log_leads : (all : ℕ) (answer : Answer) (drain : DrainState) (event : Event)
+      → LeadsIf copy u event (log_turn all answer u drain event)
   log_leads all answer drain (events.Log iteration took left verdict) =
       let next : Utility = record u { done = u.done + took } in
       leads_if copy u (events.Log iteration took left verdict)
-      (iteration == u.iteration && (took == min 64 (u.target - u.done) && (left == all - next.done && same_verdict verdict (log_verdict left answer next)))) _
-      (verdict_leads all answer.now (is_slow left u.size) next drain verdict (events.Log iteration took left verdict) refl)
+      (iteration == u.iteration
+      && (took == min 64 (u.target - u.done)
+      && (left == all - next.done && same_verdict verdict (log_verdict left answer next)))) _
+      (verdict_leads all answer.now (is_slow left u.size) next drain verdict
+      (events.Log iteration took left verdict) refl)
   log_leads all answer drain event = space_leads copy u event
 
-  wait_leads : (all : ℕ) (answer : Answer) (drain : DrainState) (asked : DrainFor) (verdict : DrainVerdict) (event : Event) → LeadsIf copy u event (wait_turn all answer u drain asked verdict event)
-  wait_leads all answer drain asked (waits.Wait session) (events.Wait named) = leads_if copy u (events.Wait named) (named.0 == session.0) _ refl
-  wait_leads all answer drain asked waits.Granted (events.Granted named) = leads_if copy u (events.Granted named) (same_drain named asked) _ refl
-  wait_leads all answer drain asked waits.GiveUp (events.GiveUp count) = leads_if copy u (events.GiveUp count) (count == u.failed + 1) _ refl
-  wait_leads all answer drain asked (waits.Stop reason) (events.Stop named) = go (same_reason named reason)
+  wait_leads : (all : ℕ) (answer : Answer) (drain : DrainState) (asked : DrainFor)
+      (verdict : DrainVerdict) (event : Event)
+      → LeadsIf copy u event (wait_turn all answer u drain asked verdict event)
+  wait_leads all answer drain asked (waits.Wait session) (events.Wait named) =
+      leads_if copy u (events.Wait named) (named.0 == session.0) _ refl
+  wait_leads all answer drain asked waits.Granted (events.Granted named) =
+      leads_if copy u (events.Granted named) (same_drain named asked) _ refl
+  wait_leads all answer drain asked waits.GiveUp (events.GiveUp count) =
+      leads_if copy u (events.GiveUp count) (count == u.failed + 1) _ refl
+  wait_leads all answer drain asked (waits.Stop reason) (events.Stop named) =
+      go (same_reason named reason)
     where
-      go : (b : Bool) → LeadsIf copy u (events.Stop named) (if b then Some Stops else early_stop (events.Stop named))
+      go : (b : Bool)
+          → LeadsIf copy u (events.Stop named)
+          (if b then Some Stops else early_stop (events.Stop named))
       go true = tt
       go false = early_leads copy u (events.Stop named)
   wait_leads all answer drain asked verdict event = early_leads copy u event
 
-  last_leads : (all : ℕ) (drain : DrainState) (event : Event) → LeadsIf copy u event (last_turn all u drain event)
-  last_leads all drain (events.Last took left) = leads_if copy u (events.Last took left) (took == min 64 (all - u.done) && left == all - (u.done + took)) _ refl
+  last_leads : (all : ℕ) (drain : DrainState) (event : Event)
+      → LeadsIf copy u event (last_turn all u drain event)
+  last_leads all drain (events.Last took left) = leads_if copy u (events.Last took left)
+      (took == min 64 (all - u.done) && left == all - (u.done + took)) _ refl
   last_leads all drain event = space_leads copy u event
 
-  write_leads : (answer : Answer) (drain : DrainState) (granted : DrainFor) (event : Event) → LeadsIf copy u event (write_turn answer u drain granted event)
+  write_leads : (answer : Answer) (drain : DrainState) (granted : DrainFor) (event : Event)
+      → LeadsIf copy u event (write_turn answer u drain granted event)
   write_leads answer drain what.Writers (events.Written pages) = refl
   write_leads answer drain what.All (events.Written pages) = refl
   write_leads answer drain granted event = early_leads copy u event
 
   -- once the lists are sorted nothing is told
-  switch_leads : (event : Event) → nat_lt u.sorted 3 ≡ false → LeadsIf copy u event (switch_turn u event)
+  switch_leads : (event : Event) → nat_lt u.sorted 3 ≡ false
+      → LeadsIf copy u event (switch_turn u event)
   switch_leads (events.Switched other sides) sorted =
       let some : (u.sorted == 0) ≡ false = grind (arith, nat_tests, sorted) in
       λ now. rw some refl
@@ -129,42 +176,58 @@ module _ (copy all : ℕ) (blocker : Option Session) (answer : Answer) (event : 
   TurnAt u step drain = LeadsIf copy u event (turn_at step all blocker answer u drain event)
 
   under_leads : (u : Utility) (drain : DrainState) (granted : DrainFor) → nat_lt u.sorted 3 ≡ false
-      → TurnAt u (if not u.last then steps.Last else (if not u.written then steps.Write granted else steps.Switch)) drain
+      → TurnAt u
+      (if not u.last then steps.Last
+      else (if not u.written then steps.Write granted else steps.Switch)) drain
   under_leads u drain granted sorted = go u.last u.written
     where
-      go : (a b : Bool) → TurnAt u (if not a then steps.Last else (if not b then steps.Write granted else steps.Switch)) drain
+      go : (a b : Bool)
+          → TurnAt u
+          (if not a then steps.Last else (if not b then steps.Write granted else steps.Switch))
+          drain
       go false b = last_leads copy u all drain event
       go true false = write_leads copy u answer drain granted event
       go true true = switch_leads copy u event sorted
 
-  drain_leads : (u : Utility) (drain now : DrainState) → nat_lt u.sorted 3 ≡ false → TurnAt u (step_by_drain u drain) now
+  drain_leads : (u : Utility) (drain now : DrainState) → nat_lt u.sorted 3 ≡ false
+      → TurnAt u (step_by_drain u drain) now
   drain_leads u drains.Free now sorted = log_leads copy u all answer now event
-  drain_leads u (drains.Asked asked) now sorted = wait_leads copy u all answer now asked (drain_verdict u.options u.asked u.failed blocker answer.now answer.estimate) event
+  drain_leads u (drains.Asked asked) now sorted = wait_leads copy u all answer now asked
+      (drain_verdict u.options u.asked u.failed blocker answer.now answer.estimate) event
   drain_leads u (drains.Granted granted) now sorted = under_leads u now granted sorted
 
   step_leads : (u : Utility) (drain : DrainState) → TurnAt u (step_of u drain) drain
-  step_leads u drain = go (nat_lt u.copied u.pages) (nat_lt u.reloaded u.unloaded) (nat_lt u.sorted 3) (nat_lt u.built 3) refl
+  step_leads u drain = go (nat_lt u.copied u.pages) (nat_lt u.reloaded u.unloaded)
+      (nat_lt u.sorted 3) (nat_lt u.built 3) refl
     where
       go : (a b c d : Bool) → nat_lt u.sorted 3 ≡ c
-          → TurnAt u (if a then steps.Unload else (if b then steps.Reload else (if c then steps.Sort else (if d then steps.Build else step_by_drain u drain)))) drain
+          → TurnAt u
+          (if a then steps.Unload else (if b then steps.Reload
+          else (if c then steps.Sort else (if d then steps.Build else step_by_drain u drain))))
+          drain
       go true b c d sorted = unload_leads copy u drain event
       go false true c d sorted = reload_leads copy u drain event
       go false false true d sorted = sort_leads copy u drain event
       go false false false true sorted = build_leads copy u all drain event
       go false false false false sorted = drain_leads u drain drain sorted
 
-  altered : (u : Utility) (command : Command) → loading_of copy (alter u command) ≡ loading_of copy u
+  altered : (u : Utility) (command : Command)
+      → loading_of copy (alter u command) ≡ loading_of copy u
   altered u (commands.Alter a) = refl
   altered u command = refl
 
-  from_altered : (u : Utility) (command : Command) (turn : Option Turn) → LeadsIf copy (alter u command) event turn → LeadsIf copy u event turn
+  from_altered : (u : Utility) (command : Command) (turn : Option Turn)
+      → LeadsIf copy (alter u command) event turn → LeadsIf copy u event turn
   from_altered u command None leads = tt
-  from_altered u command (Some (Runs v later)) leads = leads ∙ ap (λ (l : Option Loading). loading_after l event) (altered u command)
-  from_altered u command (Some (Switches other sides v)) leads = λ now. leads now ∙ ap (λ (l : Option Loading). loading_after l event) (altered u command)
+  from_altered u command (Some (Runs v later)) leads =
+      leads ∙ ap (λ (l : Option Loading). loading_after l event) (altered u command)
+  from_altered u command (Some (Switches other sides v)) leads =
+      λ now. leads now ∙ ap (λ (l : Option Loading). loading_after l event) (altered u command)
   from_altered u command (Some Stops) leads = tt
   from_altered u command (Some Falls) leads = tt
 
-  turn_leads : (u : Utility) (drain : DrainState) → LeadsIf copy u event (turn_of all blocker answer u drain event)
+  turn_leads : (u : Utility) (drain : DrainState)
+      → LeadsIf copy u event (turn_of all blocker answer u drain event)
   turn_leads u drain = by_switched u.switched
     where
       v : Utility
@@ -175,13 +238,24 @@ module _ (copy all : ℕ) (blocker : Option Session) (answer : Answer) (event : 
       term_leads (events.Stop reasons.NoMemory) = tt
       term_leads event = tt
 
-      by_term : (b : Bool) → LeadsIf copy u event (if b then term_turn event else turn_at (step_of v drain) all blocker answer v drain event)
+      by_term : (b : Bool)
+          → LeadsIf copy u event
+          (if b then term_turn event
+          else turn_at (step_of v drain) all blocker answer v drain event)
       by_term true = term_leads event
-      by_term false = from_altered u answer.command (turn_at (step_of v drain) all blocker answer v drain event) (step_leads v drain)
+      by_term false = from_altered u answer.command
+          (turn_at (step_of v drain) all blocker answer v drain event) (step_leads v drain)
 
-      by_switched : (b : Bool) → LeadsIf copy u event (if b then end_turn event else (if is_term answer.command then term_turn event else turn_at (step_of v drain) all blocker answer v drain event))
+      by_switched : (b : Bool)
+          → LeadsIf copy u event
+          (if b then end_turn event else (if is_term answer.command then term_turn event
+          else turn_at (step_of v drain) all blocker answer v drain event))
       by_switched true = end_leads copy u event
       by_switched false = by_term (is_term answer.command)
 
-pub loading_goes_on : (copy all : ℕ) (blocker : Option Session) (answer : Answer) (u : Utility) (drain : DrainState) (event : Event) (turn : Turn) → turn_of all blocker answer u drain event ≡ Some turn → ShowsFilled copy u event turn
-loading_goes_on copy all blocker answer u drain event turn is = subst (λ (o : Option Turn). LeadsIf copy u event o) is (turn_leads copy all blocker answer event u drain)
+pub loading_goes_on : (copy all : ℕ) (blocker : Option Session) (answer : Answer) (u : Utility)
+    (drain : DrainState) (event : Event) (turn : Turn)
+    → turn_of all blocker answer u drain event ≡ Some turn → ShowsFilled copy u event turn
+loading_goes_on copy all blocker answer u drain event turn is =
+    subst (λ (o : Option Turn). LeadsIf copy u event o) is
+    (turn_leads copy all blocker answer event u drain)

@@ -38,11 +38,16 @@ pub record IsBuilt (u : Utility) : Type 0 where
 
 -- under a drain: the last changes are not taken yet, or the new copy is not written yet, or it is
 pub data Late (u : Utility) (drain : DrainState) (n : ℕ) : Type 0 where
-  Waits : (d : DrainFor) → drain ≡ drains.Asked d → u.last ≡ false → u.written ≡ false → n + 1 ≡ tail d → Late u drain n
-  Takes : (d : DrainFor) → drain ≡ drains.Granted d → u.last ≡ false → u.written ≡ false → n + 2 ≡ tail d → Late u drain n
-  Writes : (d : DrainFor) → drain ≡ drains.Granted d → u.last ≡ true → u.written ≡ false → n + 3 ≡ tail d → Late u drain n
-  WaitsForAll : drain ≡ drains.Asked what.All → u.last ≡ true → u.written ≡ true → n ≡ 3 → Late u drain n
-  ToSwitch : drain ≡ drains.Granted what.All → u.last ≡ true → u.written ≡ true → n ≡ 2 → Late u drain n
+  Waits : (d : DrainFor) → drain ≡ drains.Asked d → u.last ≡ false → u.written ≡ false
+      → n + 1 ≡ tail d → Late u drain n
+  Takes : (d : DrainFor) → drain ≡ drains.Granted d → u.last ≡ false → u.written ≡ false
+      → n + 2 ≡ tail d → Late u drain n
+  Writes : (d : DrainFor) → drain ≡ drains.Granted d → u.last ≡ true → u.written ≡ false
+      → n + 3 ≡ tail d → Late u drain n
+  WaitsForAll : drain ≡ drains.Asked what.All → u.last ≡ true → u.written ≡ true → n ≡ 3
+      → Late u drain n
+  ToSwitch : drain ≡ drains.Granted what.All → u.last ≡ true → u.written ≡ true → n ≡ 2
+      → Late u drain n
 
 pub data Phase (most : ℕ) (u : Utility) (drain : DrainState) (n : ℕ) : Type 0 where
   Early : IsCalm most u → drain ≡ drains.Free → IsEarly u n → Phase most u drain n
@@ -67,10 +72,14 @@ late_left u drain n (WaitsForAll is last written at) = omega arith
 late_left u drain n (ToSwitch is last written at) = omega arith
 
 -- a step is left at least
-pub phase_left : (most : ℕ) (u : Utility) (drain : DrainState) (n : ℕ) → Phase most u drain n → 1 ≤ n
+pub phase_left : (most : ℕ) (u : Utility) (drain : DrainState) (n : ℕ) → Phase most u drain n
+    → 1 ≤ n
 phase_left most u drain n (Early calm free early) =
-    let is : n + (u.copied + (u.sorted + u.built)) ≡ u.pages + (6 + tail u.options.drain) = early.left in
-    let (a, b, c, d) : (u.copied ≤ u.pages) × (u.sorted ≤ 3) × (u.built ≤ 3) × (6 ≤ tail u.options.drain) = (early.copied, early.sorted, early.built, tail_left u.options.drain) in
+    let is : n + (u.copied + (u.sorted + u.built)) ≡ u.pages + (6 + tail u.options.drain) =
+    early.left in
+    let (a, b, c, d) : (u.copied ≤ u.pages) × (u.sorted ≤ 3) × (u.built ≤ 3)
+    × (6 ≤ tail u.options.drain) =
+    (early.copied, early.sorted, early.built, tail_left u.options.drain) in
     omega arith
 phase_left most u drain n (Drained calm built unswitched late) = late_left u drain n late
 phase_left most u drain n (Ends switched is) = omega arith

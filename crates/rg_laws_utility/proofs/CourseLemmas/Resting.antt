@@ -1,5 +1,6 @@
 -- Where no utility runs, no drain is in force.
-use Rattle.std.proofs.Common.{◌≡◌, ℕ, Bool, true, false, List, [], ◌∷◌, Option, Some, None, if◌then◌else◌, refl, sym, ◌∙◌, ap, subst}
+use Rattle.std.proofs.Common.{◌≡◌, ℕ, Bool, true, false, List, [], ◌∷◌, Option, Some, None}
+use Rattle.std.proofs.Common.{if◌then◌else◌, refl, sym, ◌∙◌, ap, subst}
 use Rattle.rg_base.specs.declared.control.Answer.{Answer}
 use Rattle.rg_base.specs.declared.options.DrainState.TheVariants.{Free}
 use Rattle.rg_stmt.specs.declared.event.Actor.{Actor}
@@ -40,26 +41,32 @@ module _ (past : List Entry) (st new : State) (rest : IsRest st) where
   turned u (Some (Runs v drain)) e = runs _ v (some_is _ new e) refl
   turned u (Some (Switches copy sides v)) e = runs _ v (allowed_is _ _ new e) refl
   turned u (Some Stops) e = λ none. ap (λ (s : State). s.drain) (some_is (stop_utility st) new e)
-  turned u (Some Falls) e = λ none. ap (λ (s : State). s.drain) (some_is (record (stop_utility st) { down = true; copydoubt = true }) new e)
+  turned u (Some Falls) e = λ none. ap (λ (s : State). s.drain)
+      (some_is (record (stop_utility st) { down = true; copydoubt = true }) new e)
 
-  stepped : (answer : Option Answer) (event : Event) (o : Option Utility) → state_after_step past answer event st o ≡ Some new → IsRest new
+  stepped : (answer : Option Answer) (event : Event) (o : Option Utility)
+      → state_after_step past answer event st o ≡ Some new → IsRest new
   stepped answer event None e = absurd (cc e)
   stepped answer event (Some u) e = by_down st.down e
     where
       by_answer : (o : Option Answer) → state_stepped past o event st u ≡ Some new → IsRest new
       by_answer None e = absurd (cc e)
-      by_answer (Some answer) e = turned u (turn_of (changes past) (least_holder st.drain st.claims) answer u st.drain event) e
+      by_answer (Some answer) e = turned u
+          (turn_of (changes past) (least_holder st.drain st.claims) answer u st.drain event) e
 
-      by_down : (b : Bool) → (if b then None else state_stepped past answer event st u) ≡ Some new → IsRest new
+      by_down : (b : Bool) → (if b then None else state_stepped past answer event st u) ≡ Some new
+          → IsRest new
       by_down true e = absurd (cc e)
       by_down false e = by_answer answer e
 
-  entry_rests : (answer : Option Answer) (actor : Actor) (event : Event) → Allows past answer actor event st new → IsRest new
+  entry_rests : (answer : Option Answer) (actor : Actor) (event : Event)
+      → Allows past answer actor event st new → IsRest new
   entry_rests answer (actors.Session session) (events.Said stmt reply) allowed =
       let keeps = said_keeps st new session stmt reply allowed in
       λ none. keeps.1 ∙ rest (sym keeps.0 ∙ none)
   entry_rests answer (actors.Session session) event allowed = absurd (cc allowed)
-  entry_rests answer actors.System (events.Opened copy rows pages used) allowed = λ none. ap (λ (s : State). s.drain) allowed.at_rest
+  entry_rests answer actors.System (events.Opened copy rows pages used) allowed =
+      λ none. ap (λ (s : State). s.drain) allowed.at_rest
   entry_rests answer actors.System (events.Flush page) e = same (allowed_is _ st new e)
   entry_rests answer actors.System events.Clean e = same (allowed_is _ st new e)
   entry_rests answer actors.System events.FlushDevice e = same (allowed_is _ st new e)
@@ -70,7 +77,8 @@ module _ (past : List Entry) (st new : State) (rest : IsRest st) where
   entry_rests answer actors.System events.LayoutDown e = same (allowed_is _ st new e)
   entry_rests answer actors.System events.LayoutNoMemory e = same (allowed_is _ st new e)
   entry_rests answer actors.System event e = absurd (cc e)
-  entry_rests answer actors.Utility (events.Started options copy pages) e = runs (start_utility st options pages) _ (allowed_is _ _ new e) refl
+  entry_rests answer actors.Utility (events.Started options copy pages) e =
+      runs (start_utility st options pages) _ (allowed_is _ _ new e) refl
   entry_rests answer actors.Utility events.Active e = same (allowed_is _ st new e)
   entry_rests answer actors.Utility (events.StartLogFull need left) e = same (allowed_is _ st new e)
   entry_rests answer actors.Utility events.StartDown e = same (allowed_is _ st new e)
@@ -79,9 +87,11 @@ module _ (past : List Entry) (st new : State) (rest : IsRest st) where
   entry_rests answer actors.Utility events.StepDown e = same (allowed_is _ st new e)
   entry_rests answer actors.Utility event e = stepped answer event st.utility e
 
-pub rests : (past trace : List Entry) (st new : State) → IsRest st → Run past st trace new → IsRest new
+pub rests : (past trace : List Entry) (st new : State) → IsRest st → Run past st trace new
+    → IsRest new
 rests past [] st new rest run = subst IsRest (sym run) rest
-rests past (entry ∷ trace) st new rest run = rests (entry ∷ past) trace run.0 new (entry_rests past st run.0 rest entry.answer entry.actor entry.event run.1) run.2
+rests past (entry ∷ trace) st new rest run = rests (entry ∷ past) trace run.0 new
+    (entry_rests past st run.0 rest entry.answer entry.actor entry.event run.1) run.2
 
 pub rests_at_first : (table : Table) (copy : ℕ) → IsRest (at_rest table copy)
 rests_at_first table copy none = refl

@@ -1,5 +1,6 @@
 -- A list in order is known by its members.
-use Rattle.std.proofs.Common.{◌≡◌, ◌&&◌, Bool, true, false, List, [], ◌∷◌, refl, sym, ◌∙◌, ap, subst, inl, inr, ◌⊎◌, arith}
+use Rattle.std.proofs.Common.{◌≡◌, ◌&&◌, Bool, true, false, List, [], ◌∷◌, refl, sym, ◌∙◌, ap}
+use Rattle.std.proofs.Common.{subst, inl, inr, ◌⊎◌, arith}
 use Rattle.std.specs.List.{AllByRecursion, list_all}
 use Rattle.std.proofs.lemmas.Bool.Decides.{nat_tests}
 use Rattle.rg_base.specs.declared.place.Place.{Place}
@@ -17,17 +18,20 @@ module _ {X : Type 0} (R : X → X → Type 0) where
 
   module _ (apart : (a b : X) → R a b → R b a → ⊥) where
     -- the members after the first are those of the rest
-    rest_of : (x y z : X) (xs ys : List X) → AllByRecursion (R x) xs → x ≡ y → IsMember z xs → (z ≡ y) ⊎ IsMember z ys → IsMember z ys
+    rest_of : (x y z : X) (xs ys : List X) → AllByRecursion (R x) xs → x ≡ y → IsMember z xs
+        → (z ≡ y) ⊎ IsMember z ys → IsMember z ys
     rest_of x y z xs ys all heads member (inr there) = there
     rest_of x y z xs ys all heads member (inl e) = absurd (apart x x itself itself)
       where
         itself : R x x
         itself = subst (R x) (e ∙ sym heads) (later_member x z xs all member)
 
-    head_of : (x y : X) (xs ys : List X) → AllByRecursion (R x) xs → AllByRecursion (R y) ys → (x ≡ y) ⊎ IsMember x ys → (y ≡ x) ⊎ IsMember y xs → x ≡ y
+    head_of : (x y : X) (xs ys : List X) → AllByRecursion (R x) xs → AllByRecursion (R y) ys
+        → (x ≡ y) ⊎ IsMember x ys → (y ≡ x) ⊎ IsMember y xs → x ≡ y
     head_of x y xs ys after_x after_y (inl e) m = e
     head_of x y xs ys after_x after_y (inr m) (inl e) = sym e
-    head_of x y xs ys after_x after_y (inr m) (inr n) = absurd (apart x y (later_member x y xs after_x n) (later_member y x ys after_y m))
+    head_of x y xs ys after_x after_y (inr m) (inr n) =
+        absurd (apart x y (later_member x y xs after_x n) (later_member y x ys after_y m))
 
     -- two lists in order with the same members are one
     pub same_rising : (xs ys : List X) → InTurn R xs → InTurn R ys → HaveSame xs ys → xs ≡ ys
@@ -60,20 +64,28 @@ LiesBefore a b = is_place_before a.place b.place ≡ true
 places_apart : (a b : Place) → is_place_before a b ≡ true → is_place_before b a ≡ true → ⊥
 places_apart a b e f = grind (arith, nat_tests)
 
-each_lies : (spot : Spot) (spots : List Spot) → list_all (λ later. is_place_before spot.place later) (homes spots) ≡ true → AllByRecursion (LiesBefore spot) spots
+each_lies : (spot : Spot) (spots : List Spot)
+    → list_all (λ later. is_place_before spot.place later) (homes spots) ≡ true
+    → AllByRecursion (LiesBefore spot) spots
 each_lies spot [] e = tt
 each_lies spot (s ∷ ss) e = go (is_place_before spot.place s.place) refl e (each_lies spot ss)
   where
-    go : (b : Bool) → is_place_before spot.place s.place ≡ b → (b && list_all (λ later. is_place_before spot.place later) (homes ss)) ≡ true
-        → (list_all (λ later. is_place_before spot.place later) (homes ss) ≡ true → AllByRecursion (LiesBefore spot) ss) → AllByRecursion (LiesBefore spot) (s ∷ ss)
+    go : (b : Bool) → is_place_before spot.place s.place ≡ b
+        → (b && list_all (λ later. is_place_before spot.place later) (homes ss)) ≡ true
+        → (list_all (λ later. is_place_before spot.place later) (homes ss) ≡ true
+        → AllByRecursion (LiesBefore spot) ss)
+        → AllByRecursion (LiesBefore spot) (s ∷ ss)
     go true test e rest = (test, rest e)
     go false test e rest = absurd (cc (e))
 
 pub in_turn : (spots : List Spot) → are_rising (homes spots) ≡ true → InTurn LiesBefore spots
 in_turn [] e = tt
-in_turn (s ∷ ss) e = go (list_all (λ later. is_place_before s.place later) (homes ss)) refl e (in_turn ss)
+in_turn (s ∷ ss) e =
+    go (list_all (λ later. is_place_before s.place later) (homes ss)) refl e (in_turn ss)
   where
-    go : (b : Bool) → list_all (λ later. is_place_before s.place later) (homes ss) ≡ b → (b && are_rising (homes ss)) ≡ true → (are_rising (homes ss) ≡ true → InTurn LiesBefore ss) → InTurn LiesBefore (s ∷ ss)
+    go : (b : Bool) → list_all (λ later. is_place_before s.place later) (homes ss) ≡ b
+        → (b && are_rising (homes ss)) ≡ true
+        → (are_rising (homes ss) ≡ true → InTurn LiesBefore ss) → InTurn LiesBefore (s ∷ ss)
     go true test e rest = (each_lies s ss test, rest e)
     go false test e rest = absurd (cc (e))
 
@@ -81,5 +93,6 @@ pub same_spots : SameRising
 same_spots =
     record {
       by_key = λ a b v w same. same_rising IsBelow below_apart a b v w same;
-      by_place = λ a b v w same. same_rising LiesBefore (λ x y. places_apart x.place y.place) a b (in_turn a v) (in_turn b w) same;
+      by_place = λ a b v w same. same_rising LiesBefore (λ x y. places_apart x.place y.place) a b
+          (in_turn a v) (in_turn b w) same;
     }

@@ -1,5 +1,6 @@
 -- A drain is granted only where it was asked, and no session is in its way.
-use Rattle.std.proofs.Common.{◌≡◌, ◌+◌, if◌then◌else◌, inl, inr, nat_le, nat_lt, ℕ, Bool, true, false, Option, Some, None, refl, sym, subst}
+use Rattle.std.proofs.Common.{◌≡◌, ◌+◌, if◌then◌else◌, inl, inr, nat_le, nat_lt, ℕ, Bool, true}
+use Rattle.std.proofs.Common.{false, Option, Some, None, refl, sym, subst}
 use Rattle.rg_base.specs.declared.control.Answer.{Answer}
 use Rattle.rg_base.specs.declared.options.DrainFor.{DrainFor}
 use Rattle.rg_base.specs.declared.options.DrainFor.TheVariants as what
@@ -18,7 +19,10 @@ use Rattle.rg_base.specs.declared.verdict.Verdict.TheVariants as verdicts
 use Rattle.rg_feed.specs.declared.fold.item.Stage.{Stage}
 use Rattle.rg_model.specs.Same.{same_reason}
 use Rattle.rg_model.specs.State.{Utility}
-use Rattle.rg_model.specs.Turn.{Turn, Runs, Switches, Stops, Falls, alter, build_turn, early_stop, end_turn, is_term, last_turn, log_turn, reload_turn, sort_turn, space_stop, step_of, switch_turn, term_turn, turn_at, turn_if, turn_of, unload_turn, verdict_turn, wait_turn, write_turn}
+use Rattle.rg_model.specs.Turn.{Turn, Runs, Switches, Stops, Falls, alter, build_turn, early_stop}
+use Rattle.rg_model.specs.Turn.{end_turn, is_term, last_turn, log_turn, reload_turn, sort_turn}
+use Rattle.rg_model.specs.Turn.{space_stop, step_of, switch_turn, term_turn, turn_at, turn_if}
+use Rattle.rg_model.specs.Turn.{turn_of, unload_turn, verdict_turn, wait_turn, write_turn}
 use Rattle.rg_model.specs.Verdict.{drain_verdict, is_late, is_slow, retry_verdict, wait_verdict}
 use Rattle.rg_rules.specs.Stage.Booked.{drain_kept}
 use Rattle.rg_rules.specs.Stage.Followed.{Followed}
@@ -42,7 +46,8 @@ stays (drains.Asked asked) blocker = tt
 stays (drains.Granted granted) blocker = inl refl
 
 module _ (old : DrainState) (blocker : Option Session) where
-  leaves_if : (b : Bool) (turn : Turn) → MayLeave old blocker turn → MayLeaveIf old blocker (turn_if b turn)
+  leaves_if : (b : Bool) (turn : Turn) → MayLeave old blocker turn
+      → MayLeaveIf old blocker (turn_if b turn)
   leaves_if true turn h = h
   leaves_if false turn h = tt
 
@@ -67,41 +72,55 @@ module _ (old : DrainState) (blocker : Option Session) where
   sort_leaves u (events.Sort which) = leaves_if _ _ (stays old blocker)
   sort_leaves u event = stops_so event
 
-  build_leaves : (all : ℕ) (u : Utility) (event : Event) → MayLeaveIf old blocker (build_turn all u old event)
+  build_leaves : (all : ℕ) (u : Utility) (event : Event)
+      → MayLeaveIf old blocker (build_turn all u old event)
   build_leaves all u (events.Build which) = leaves_if _ _ (stays old blocker)
   build_leaves all u event = stops_so event
 
-  verdict_leaves : (all now : ℕ) (slow : Bool) (u : Utility) (verdict : Verdict) → MayLeave old blocker (verdict_turn all now slow u old verdict)
+  verdict_leaves : (all now : ℕ) (slow : Bool) (u : Utility) (verdict : Verdict)
+      → MayLeave old blocker (verdict_turn all now slow u old verdict)
   verdict_leaves all now slow u verdicts.More = stays old blocker
   verdict_leaves all now slow u verdicts.Next = stays old blocker
   verdict_leaves all now slow u verdicts.Message = stays old blocker
   verdict_leaves all now slow u (verdicts.Drain asked) = tt
   verdict_leaves all now slow u (verdicts.Stop reason) = tt
 
-  log_leaves : (all : ℕ) (answer : Answer) (u : Utility) (event : Event) → MayLeaveIf old blocker (log_turn all answer u old event)
-  log_leaves all answer u (events.Log iteration took left verdict) = leaves_if _ _ (verdict_leaves all answer.now (is_slow left u.size) (record u { done = u.done + took }) verdict)
+  log_leaves : (all : ℕ) (answer : Answer) (u : Utility) (event : Event)
+      → MayLeaveIf old blocker (log_turn all answer u old event)
+  log_leaves all answer u (events.Log iteration took left verdict) = leaves_if _ _
+      (verdict_leaves all answer.now (is_slow left u.size) (record u { done = u.done + took })
+      verdict)
   log_leaves all answer u event = stops_for_space event
 
-  stop_so : (b : Bool) (named : StopReason) → MayLeaveIf old blocker (if b then Some Stops else early_stop (events.Stop named))
+  stop_so : (b : Bool) (named : StopReason)
+      → MayLeaveIf old blocker (if b then Some Stops else early_stop (events.Stop named))
   stop_so true named = tt
   stop_so false named = stops_so (events.Stop named)
 
   -- a drain that was asked is granted where nobody is in its way
-  wait_leaves : (all : ℕ) (answer : Answer) (u : Utility) (asked : DrainFor) (verdict : DrainVerdict) (event : Event) → old ≡ drains.Asked asked → (verdict ≡ waits.Granted → blocker ≡ None) → MayLeaveIf old blocker (wait_turn all answer u old asked verdict event)
-  wait_leaves all answer u asked (waits.Wait session) (events.Wait named) is nobody = leaves_if _ _ (stays old blocker)
+  wait_leaves : (all : ℕ) (answer : Answer) (u : Utility) (asked : DrainFor)
+      (verdict : DrainVerdict) (event : Event)
+      → old ≡ drains.Asked asked → (verdict ≡ waits.Granted → blocker ≡ None)
+      → MayLeaveIf old blocker (wait_turn all answer u old asked verdict event)
+  wait_leaves all answer u asked (waits.Wait session) (events.Wait named) is nobody =
+      leaves_if _ _ (stays old blocker)
   wait_leaves all answer u asked (waits.Wait session) event is nobody = stops_so event
-  wait_leaves all answer u asked waits.Granted (events.Granted named) is nobody = leaves_if _ _ (inr (is, nobody refl))
+  wait_leaves all answer u asked waits.Granted (events.Granted named) is nobody =
+      leaves_if _ _ (inr (is, nobody refl))
   wait_leaves all answer u asked waits.Granted event is nobody = stops_so event
   wait_leaves all answer u asked waits.GiveUp (events.GiveUp count) is nobody = leaves_if _ _ tt
   wait_leaves all answer u asked waits.GiveUp event is nobody = stops_so event
-  wait_leaves all answer u asked (waits.Stop reason) (events.Stop named) is nobody = stop_so (same_reason named reason) named
+  wait_leaves all answer u asked (waits.Stop reason) (events.Stop named) is nobody =
+      stop_so (same_reason named reason) named
   wait_leaves all answer u asked (waits.Stop reason) event is nobody = stops_so event
 
-  last_leaves : (all : ℕ) (u : Utility) (event : Event) → MayLeaveIf old blocker (last_turn all u old event)
+  last_leaves : (all : ℕ) (u : Utility) (event : Event)
+      → MayLeaveIf old blocker (last_turn all u old event)
   last_leaves all u (events.Last took left) = leaves_if _ _ (stays old blocker)
   last_leaves all u event = stops_for_space event
 
-  write_leaves : (answer : Answer) (u : Utility) (granted : DrainFor) (event : Event) → MayLeaveIf old blocker (write_turn answer u old granted event)
+  write_leaves : (answer : Answer) (u : Utility) (granted : DrainFor) (event : Event)
+      → MayLeaveIf old blocker (write_turn answer u old granted event)
   write_leaves answer u what.Writers (events.Written pages) = tt
   write_leaves answer u what.All (events.Written pages) = stays old blocker
   write_leaves answer u granted event = stops_so event
@@ -121,61 +140,92 @@ module _ (old : DrainState) (blocker : Option Session) where
   term_leaves event = tt
 
 -- a drain is granted where nobody is in its way
-nobody : (options : Options) (asked failed : ℕ) (blocker : Option Session) (now estimate : ℕ) → drain_verdict options asked failed blocker now estimate ≡ waits.Granted → blocker ≡ None
+nobody : (options : Options) (asked failed : ℕ) (blocker : Option Session) (now estimate : ℕ)
+    → drain_verdict options asked failed blocker now estimate ≡ waits.Granted → blocker ≡ None
 nobody options asked failed None now estimate e = refl
-nobody options asked failed (Some session) now estimate e = late (is_late options.deadline now estimate) e
+nobody options asked failed (Some session) now estimate e =
+    late (is_late options.deadline now estimate) e
   where
-    retried : (b : Bool) → (if b then waits.Stop reasons.Drain else waits.GiveUp) ≡ waits.Granted → Some session ≡ None
+    retried : (b : Bool) → (if b then waits.Stop reasons.Drain else waits.GiveUp) ≡ waits.Granted
+        → Some session ≡ None
     retried true e = absurd (cc (e))
     retried false e = absurd (cc (e))
 
-    waited : (b : Bool) → (if b then retry_verdict options failed else waits.Wait session) ≡ waits.Granted → Some session ≡ None
+    waited : (b : Bool)
+        → (if b then retry_verdict options failed else waits.Wait session) ≡ waits.Granted
+        → Some session ≡ None
     waited true e = retried (nat_lt options.retry (failed + 1)) e
     waited false e = absurd (cc (e))
 
-    late : (b : Bool) → (if b then waits.Stop reasons.Deadline else wait_verdict options asked failed (Some session) now) ≡ waits.Granted → Some session ≡ None
+    late : (b : Bool)
+        → (if b then waits.Stop reasons.Deadline
+        else wait_verdict options asked failed (Some session) now) ≡ waits.Granted
+        → Some session ≡ None
     late true e = absurd (cc (e))
     late false e = waited (nat_le (asked + options.wait) now) e
 
-at_leaves : (drain : DrainState) (blocker : Option Session) (u : Utility) (step : Step) → IsAt step u drain → (all : ℕ) (answer : Answer) (event : Event) → MayLeaveIf drain blocker (turn_at step all blocker answer u drain event)
+at_leaves : (drain : DrainState) (blocker : Option Session) (u : Utility) (step : Step)
+    → IsAt step u drain → (all : ℕ) (answer : Answer) (event : Event)
+    → MayLeaveIf drain blocker (turn_at step all blocker answer u drain event)
 at_leaves drain blocker u steps.Unload at all answer event = unload_leaves drain blocker u event
 at_leaves drain blocker u steps.Reload at all answer event = reload_leaves drain blocker u event
 at_leaves drain blocker u steps.Sort at all answer event = sort_leaves drain blocker u event
 at_leaves drain blocker u steps.Build at all answer event = build_leaves drain blocker all u event
-at_leaves drain blocker u steps.Log at all answer event = log_leaves drain blocker all answer u event
+at_leaves drain blocker u steps.Log at all answer event =
+    log_leaves drain blocker all answer u event
 at_leaves drain blocker u (steps.Wait asked) at all answer event =
-    wait_leaves drain blocker all answer u asked (drain_verdict u.options u.asked u.failed blocker answer.now answer.estimate) event at (nobody u.options u.asked u.failed blocker answer.now answer.estimate)
+    wait_leaves drain blocker all answer u asked
+    (drain_verdict u.options u.asked u.failed blocker answer.now answer.estimate) event at
+    (nobody u.options u.asked u.failed blocker answer.now answer.estimate)
 at_leaves drain blocker u steps.Last at all answer event = last_leaves drain blocker all u event
-at_leaves drain blocker u (steps.Write granted) at all answer event = write_leaves drain blocker answer u granted event
+at_leaves drain blocker u (steps.Write granted) at all answer event =
+    write_leaves drain blocker answer u granted event
 at_leaves drain blocker u steps.Switch at all answer event = switch_leaves drain blocker u event
 at_leaves drain blocker u steps.End at all answer event = end_leaves drain blocker event
 
-pub turn_leaves : (all : ℕ) (blocker : Option Session) (answer : Answer) (u : Utility) (drain : DrainState) (event : Event) → MayLeaveIf drain blocker (turn_of all blocker answer u drain event)
+pub turn_leaves : (all : ℕ) (blocker : Option Session) (answer : Answer) (u : Utility)
+    (drain : DrainState) (event : Event)
+    → MayLeaveIf drain blocker (turn_of all blocker answer u drain event)
 turn_leaves all blocker answer u drain event = by_switched u.switched
   where
-    by_term : (b : Bool) → MayLeaveIf drain blocker (if b then term_turn event else turn_at (step_of (alter u answer.command) drain) all blocker answer (alter u answer.command) drain event)
+    by_term : (b : Bool)
+        → MayLeaveIf drain blocker
+        (if b then term_turn event else turn_at (step_of (alter u answer.command) drain) all blocker
+        answer (alter u answer.command) drain event)
     by_term true = term_leaves drain blocker event
     by_term false =
         let v : Utility = alter u answer.command in
         at_leaves drain blocker v (step_of v drain) (step_at v drain) all answer event
 
-    by_switched : (b : Bool) → MayLeaveIf drain blocker (if b then end_turn event else (if is_term answer.command then term_turn event else turn_at (step_of (alter u answer.command) drain) all blocker answer (alter u answer.command) drain event))
+    by_switched : (b : Bool)
+        → MayLeaveIf drain blocker
+        (if b then end_turn event else (if is_term answer.command then term_turn event
+        else turn_at (step_of (alter u answer.command) drain) all blocker answer
+        (alter u answer.command) drain event))
     by_switched true = end_leaves drain blocker event
     by_switched false = by_term (is_term answer.command)
 
 -- so may the drain of the stage that follows
-pub next_drains : (old : DrainState) (blocker : Option Session) (turn : Turn) (next : Option Stage) → MayLeave old blocker turn → Followed turn next → MayDrain old blocker (drain_kept next)
-next_drains old blocker (Runs v drain) (Some t) leaves follows = subst (MayDrain old blocker) (sym follows.1) leaves
+pub next_drains : (old : DrainState) (blocker : Option Session) (turn : Turn) (next : Option Stage)
+    → MayLeave old blocker turn → Followed turn next → MayDrain old blocker (drain_kept next)
+next_drains old blocker (Runs v drain) (Some t) leaves follows =
+    subst (MayDrain old blocker) (sym follows.1) leaves
 next_drains old blocker (Runs v drain) None leaves follows = absurd follows
-next_drains old blocker (Switches copy sides v) (Some t) leaves follows = subst (MayDrain old blocker) (sym follows.1) tt
+next_drains old blocker (Switches copy sides v) (Some t) leaves follows =
+    subst (MayDrain old blocker) (sym follows.1) tt
 next_drains old blocker (Switches copy sides v) None leaves follows = absurd follows
 next_drains old blocker Stops (Some t) leaves follows = absurd follows
 next_drains old blocker Stops None leaves follows = tt
 next_drains old blocker Falls (Some t) leaves follows = absurd follows
 next_drains old blocker Falls None leaves follows = tt
 
-leave_of : (old : DrainState) (blocker : Option Session) (o : Option Turn) (turn : Turn) → o ≡ Some turn → MayLeaveIf old blocker o → MayLeave old blocker turn
+leave_of : (old : DrainState) (blocker : Option Session) (o : Option Turn) (turn : Turn)
+    → o ≡ Some turn → MayLeaveIf old blocker o → MayLeave old blocker turn
 leave_of old blocker o turn e leaves = subst (MayLeaveIf old blocker) e leaves
 
-pub drain_granted : (u : Utility) (all : ℕ) (blocker : Option Session) (answer : Answer) (drain : DrainState) (event : Event) (turn : Turn) (next : Option Stage) → turn_of all blocker answer u drain event ≡ Some turn → Followed turn next → MayDrain drain blocker (drain_kept next)
-drain_granted u all blocker answer drain event turn next e follows = next_drains drain blocker turn next (leave_of drain blocker _ turn e (turn_leaves all blocker answer u drain event)) follows
+pub drain_granted : (u : Utility) (all : ℕ) (blocker : Option Session) (answer : Answer)
+    (drain : DrainState) (event : Event) (turn : Turn) (next : Option Stage)
+    → turn_of all blocker answer u drain event ≡ Some turn → Followed turn next
+    → MayDrain drain blocker (drain_kept next)
+drain_granted u all blocker answer drain event turn next e follows = next_drains drain blocker turn
+    next (leave_of drain blocker _ turn e (turn_leaves all blocker answer u drain event)) follows

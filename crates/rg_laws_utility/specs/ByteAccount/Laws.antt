@@ -9,7 +9,8 @@
 --    the pages claim (`BeginReaches`).
 -- 4. Once all pages are copied, what was sent weighs no more than the entries have allowed
 --    (`FeedIsAllowed`).
-use Rattle.std.specs.Prelude.{◌≡◌, ◌≤◌, ◌++◌, ℕ, Bool, true, false, List, [], ◌∷◌, Option, Some, is_some, length}
+use Rattle.std.specs.Prelude.{◌≡◌, ◌≤◌, ◌++◌, ℕ, Bool, true, false, List, [], ◌∷◌, Option, Some}
+use Rattle.std.specs.Prelude.{is_some, length}
 use Rattle.rg_base.specs.declared.change.Change.{Change}
 use Rattle.rg_base.specs.declared.options.Options.{Options}
 use Rattle.rg_base.specs.declared.place.Place.{Place}

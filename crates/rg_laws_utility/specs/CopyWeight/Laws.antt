@@ -6,7 +6,8 @@
 --    adds nothing (`CopyReaches`), and nor does an entry that changes no row (`StillReaches`).
 -- 3. Once all pages are copied, what was sent weighs no more (`AllReach`), in whatever order the
 --    rows are loaded (`OrderWeighsNothing`).
-use Rattle.std.specs.Prelude.{◌≡◌, ◌≤◌, ◌<◌, ◌+◌, ◌++◌, ℕ, Bool, List, [], ◌∷◌, Option, None, length}
+use Rattle.std.specs.Prelude.{◌≡◌, ◌≤◌, ◌<◌, ◌+◌, ◌++◌, ℕ, Bool, List, [], ◌∷◌, Option, None}
+use Rattle.std.specs.Prelude.{length}
 use Rattle.std.specs.List.Sorted.{IsPermutation}
 use Rattle.rg_base.specs.declared.change.Change.{Change}
 use Rattle.rg_base.specs.declared.options.Options.{Options}

@@ -5,7 +5,8 @@
 --    still to come, has what it left.
 -- 2. Still to come are the rows of the pages that are not copied yet.
 -- 3. Both together are at most the rows at the start and those that the changes left since.
-use Rattle.std.specs.Prelude.{◌≡◌, ◌≤◌, ◌+◌, ◌||◌, ℕ, nat_le, Bool, List, [], ◌∷◌, Option, if◌then◌else◌}
+use Rattle.std.specs.Prelude.{◌≡◌, ◌≤◌, ◌+◌, ◌||◌, ℕ, nat_le, Bool, List, [], ◌∷◌, Option}
+use Rattle.std.specs.Prelude.{if◌then◌else◌}
 use Rattle.rg_base.specs.declared.place.Place.{Place}
 use Rattle.rg_base.specs.declared.row.Row.{Row}
 use Rattle.rg_laws_pages.specs.ByteClaims.Weight.{weight}

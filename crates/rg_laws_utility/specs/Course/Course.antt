@@ -21,7 +21,8 @@ use Rattle.rg_base.specs.declared.options.Options.{Options}
 use Rattle.rg_stmt.specs.declared.event.Actor.TheVariants as actors
 use Rattle.rg_stmt.specs.declared.event.Entry.{Entry}
 use Rattle.rg_stmt.specs.declared.event.Event.{Event}
-use Rattle.rg_stmt.specs.declared.event.Event.TheVariants.{Ended, GiveUp, Reload, Started, Stop, Wait}
+use Rattle.rg_stmt.specs.declared.event.Event.TheVariants.{Ended, GiveUp, Reload, Started, Stop}
+use Rattle.rg_stmt.specs.declared.event.Event.TheVariants.{Wait}
 use Rattle.rg_model.specs.Legal.{asks}
 use Rattle.rg_model.specs.Run.{Run}
 use Rattle.rg_model.specs.State.{State, Table, at_rest}

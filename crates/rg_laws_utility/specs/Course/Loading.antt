@@ -7,7 +7,8 @@
 -- 3. The numbers of the utility show the same, and do so after each step (`LoadingGoesOn`).
 -- 4. Once a list is sorted all pages are copied and all rows reloaded. It stays so with each step
 --    (`LoadedGoesOn`).
-use Rattle.std.specs.Prelude.{ℕ, ◌≡◌, ◌≤◌, ◌+◌, ◌==◌, List, [], ◌∷◌, Option, Some, None, if◌then◌else◌}
+use Rattle.std.specs.Prelude.{ℕ, ◌≡◌, ◌≤◌, ◌+◌, ◌==◌, List, [], ◌∷◌, Option, Some, None}
+use Rattle.std.specs.Prelude.{if◌then◌else◌}
 use Rattle.rg_base.specs.declared.control.Answer.{Answer}
 use Rattle.rg_base.specs.declared.options.DrainState.{DrainState}
 use Rattle.rg_base.specs.declared.session.Session.{Session}

@@ -9,7 +9,8 @@
 --    is granted (`SwitchIsUnderAll`).
 -- 4. The drain of the stage that follows is granted only where it was asked, and no session was in
 --    its way (`DrainIsGranted`).
-use Rattle.std.specs.Prelude.{◌≡◌, ◌≤◌, ◌+◌, ℕ, true, false, List, [], ◌∷◌, ◌++◌, Option, Some, None, length}
+use Rattle.std.specs.Prelude.{◌≡◌, ◌≤◌, ◌+◌, ℕ, true, false, List, [], ◌∷◌, ◌++◌, Option, Some}
+use Rattle.std.specs.Prelude.{None, length}
 use Rattle.rg_base.specs.declared.control.Answer.{Answer}
 use Rattle.rg_base.specs.declared.control.Command.{Command}
 use Rattle.rg_base.specs.declared.options.DrainFor.TheVariants.{All}

@@ -1,5 +1,6 @@
 -- How many bytes slots and pages have.
-use Rattle.std.proofs.Common.{◌≡◌, ◌≤◌, ◌+◌, ◌*◌, ◌-◌, ℕ, true, false, List, [], ◌∷◌, ◌++◌, length, replicate, refl, arith, length-append}
+use Rattle.std.proofs.Common.{◌≡◌, ◌≤◌, ◌+◌, ◌*◌, ◌-◌, ℕ, true, false, List, [], ◌∷◌, ◌++◌, length}
+use Rattle.std.proofs.Common.{replicate, refl, arith, length-append}
 use Rattle.std.proofs.lemmas.List.{length-replicate}
 use Rattle.std.specs.List.{AllByRecursion}
 use Rattle.rg_base.specs.declared.place.Place.{Place}
@@ -35,7 +36,8 @@ length-fields kind capacity owner other row held =
     let named = length-append place (row ++ zeros) in
     let owned = length-append (field 4 owner) (place ++ (row ++ zeros)) in
     let sized = length-append (field 2 (length row)) (field 4 owner ++ (place ++ (row ++ zeros))) in
-    let whole = length-append (field 2 capacity) (field 2 (length row) ++ (field 4 owner ++ (place ++ (row ++ zeros)))) in
+    let whole = length-append (field 2 capacity)
+    (field 2 (length row) ++ (field 4 owner ++ (place ++ (row ++ zeros)))) in
     omega (
       arith,
       area,
@@ -54,17 +56,29 @@ length-fields kind capacity owner other row held =
     )
 
 length-slot : (s : Slot) → FitsSlot s → length (slot_bytes s) ≡ 16 + capacity_of s
-length-slot s fits = length-fields (kind_number s) (capacity_of s) (owner_of s) (named_by s) (row_in s) (row_held s fits)
+length-slot s fits = length-fields (kind_number s) (capacity_of s) (owner_of s) (named_by s)
+    (row_in s) (row_held s fits)
 
-length-slots : (slots : List Slot) → AllByRecursion FitsSlot slots → length (slots_bytes slots) ≡ slots_size slots
+length-slots : (slots : List Slot) → AllByRecursion FitsSlot slots
+    → length (slots_bytes slots) ≡ slots_size slots
 unfolding slots_bytes
 length-slots [] fits = refl
-length-slots (s ∷ slots) fits = omega (arith, length-append (slot_bytes s) (slots_bytes slots), length-slot s fits.0, length-slots slots fits.1)
+length-slots (s ∷ slots) fits = omega (
+  arith,
+  length-append (slot_bytes s) (slots_bytes slots),
+  length-slot s fits.0,
+  length-slots slots fits.1,
+)
 
 length-directory : (at : ℕ) (slots : List Slot) → length (directory at slots) ≡ 2 * length slots
 unfolding directory
 length-directory at [] = refl
-length-directory at (s ∷ slots) = omega (arith, length-append (directory (at + (16 + capacity_of s)) slots) (field 2 at), length-directory (at + (16 + capacity_of s)) slots, length-field 2 at)
+length-directory at (s ∷ slots) = omega (
+  arith,
+  length-append (directory (at + (16 + capacity_of s)) slots) (field 2 at),
+  length-directory (at + (16 + capacity_of s)) slots,
+  length-field 2 at,
+)
 
 -- the bytes that slots take, with the directory
 pub used_is : (slots : List Slot) → used slots ≡ slots_size slots + 2 * length slots
@@ -72,13 +86,15 @@ used_is [] = refl
 used_is (s ∷ slots) = omega (arith, used_is slots)
 
 -- a head has 32 bytes
-pub length-head : (copy count number position end : ℕ) → length (head_bytes copy count number position end) ≡ 32
+pub length-head : (copy count number position end : ℕ)
+    → length (head_bytes copy count number position end) ≡ 32
 unfolding head_bytes
 length-head copy count number position end =
     let d = length-append (field 2 end) (replicate 10 0) in
     let e = length-append (field 8 position) (field 2 end ++ replicate 10 0) in
     let f = length-append (field 4 number) (field 8 position ++ (field 2 end ++ replicate 10 0)) in
-    let g = length-append (field 2 count) (field 4 number ++ (field 8 position ++ (field 2 end ++ replicate 10 0))) in
+    let g = length-append (field 2 count)
+    (field 4 number ++ (field 8 position ++ (field 2 end ++ replicate 10 0))) in
     omega (
       arith,
       d,
@@ -95,7 +111,8 @@ length-head copy count number position end =
 length-filled : (x : Content) → FitsPage x → length (filled_bytes x) ≡ 4096
 unfolding filled_bytes
 length-filled x fits =
-    let head : List ℕ = head_bytes x.copy (length x.slots) x.number x.position (32 + slots_size x.slots) in
+    let head : List ℕ =
+    head_bytes x.copy (length x.slots) x.number x.position (32 + slots_size x.slots) in
     let end : List ℕ = replicate (4064 - used x.slots) 0 ++ directory 32 x.slots in
     let a = length-append (replicate (4064 - used x.slots) 0) (directory 32 x.slots) in
     let b = length-append (slots_bytes x.slots) end in
@@ -114,4 +131,7 @@ length-filled x fits =
     )
 
 pub length-page : (x : Content) → FitsPage x → length (page_bytes x) ≡ 4096
-length-page x fits = elim (is_blank x) as (λ t. length (bytes_if t x) ≡ 4096) [ true ↦ length-replicate {A = ℕ} 4096 0 | false ↦ length-filled x fits ]
+length-page x fits = elim (is_blank x) as (λ t. length (bytes_if t x) ≡ 4096) [
+  | true ↦ length-replicate {A = ℕ} 4096 0
+  | false ↦ length-filled x fits
+]

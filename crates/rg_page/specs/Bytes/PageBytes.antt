@@ -9,7 +9,8 @@
 --    zeros up to the capacity. What a kind has not is zero.
 -- 4. The directory has the offset of each slot in 2 bytes, that of slot 0 last.
 -- 5. The page without slots whose position is 0 is all zeros.
-use Rattle.std.specs.Prelude.{ℕ, ◌+◌, ◌-◌, ◌==◌, ◌&&◌, Bool, true, false, List, [], ◌∷◌, ◌++◌, length, replicate}
+use Rattle.std.specs.Prelude.{ℕ, ◌+◌, ◌-◌, ◌==◌, ◌&&◌, Bool, true, false, List, [], ◌∷◌, ◌++◌}
+use Rattle.std.specs.Prelude.{length, replicate}
 use Rattle.rg_base.specs.declared.place.Place.{Place}
 use Rattle.rg_base.specs.Field.{field}
 use Rattle.rg_base.specs.RowBytes.{row_bytes}

@@ -27,12 +27,15 @@ slots_hold (s ∷ slots) fits zero = slot_holds s fits.0
 slots_hold (s ∷ slots) fits (suc i) = slots_hold slots fits.1 i
 
 page_sound : (x : Content) → FitsPage x → SoundPage x.slots
-page_sound x fits = record { trimmed = fits.trimmed; fits = fits.within; holds = slots_hold x.slots fits.slots }
+page_sound x fits =
+    record { trimmed = fits.trimmed; fits = fits.within; holds = slots_hold x.slots fits.slots }
 
 pages_sound : (pages : List Content) → AllByRecursion FitsPage pages → AllSound pages
 pages_sound [] fits = tt
 pages_sound (x ∷ pages) fits = (page_sound x fits.0, pages_sound pages fits.1)
 
 -- records that fit leave them sound
-pub redone_sound : (base : List Content) (rs : List Record) → AllByRecursion FitsPage base → AllRedoFit rs base → AreSoundPages (slots_of (redone_all rs base))
-redone_sound base rs fits fit = are_sound (redone_all rs base) (records_sound rs base fit (pages_sound base fits))
+pub redone_sound : (base : List Content) (rs : List Record) → AllByRecursion FitsPage base
+    → AllRedoFit rs base → AreSoundPages (slots_of (redone_all rs base))
+redone_sound base rs fits fit =
+    are_sound (redone_all rs base) (records_sound rs base fit (pages_sound base fits))

@@ -2,7 +2,8 @@
 --
 -- 1. The records of a log are entries, so each position is below 2 ^ 64, as far as pages in memory
 --    are forced.
-use Rattle.std.proofs.Common.{◌≡◌, ◌<◌, ◌^◌, ◌∙◌, ℕ, Bool, true, false, List, [], ◌∷◌, get_or, length, sym, ap, subst, arith, if◌then◌else◌}
+use Rattle.std.proofs.Common.{◌≡◌, ◌<◌, ◌^◌, ◌∙◌, ℕ, Bool, true, false, List, [], ◌∷◌, get_or}
+use Rattle.std.proofs.Common.{length, sym, ap, subst, arith, if◌then◌else◌}
 use Rattle.std.specs.List.{All, AllByRecursion}
 use Rattle.std.proofs.lemmas.List.Elements.{Contains-get_or, recursion_from_All}
 use Rattle.rg_image.specs.Kept.{AreEntries}
@@ -25,42 +26,56 @@ AreLow rs = AllByRecursion (λ (entry : Record). entry.position.0 < 2 ^ 64) rs
 
 entries_low : (rs : List Record) → AreEntries rs → AreLow rs
 entries_low rs entries =
-    let low : All (λ (entry : Record). entry.position.0 < 2 ^ 64) rs = λ k d below. (entries (get_or rs k d) (Contains-get_or rs k d below)).fits.position in
+    let low : All (λ (entry : Record). entry.position.0 < 2 ^ 64) rs =
+    λ k d below. (entries (get_or rs k d) (Contains-get_or rs k d below)).fits.position in
     recursion_from_All (λ (entry : Record). entry.position.0 < 2 ^ 64) rs low
 
 since_low : (kept rs : List Record) → AreLow kept → AreLow rs → AreLow (since_last kept rs)
 since_low kept [] before low = before
-since_low kept (entry ∷ rs) before low = since_low (if is_switch entry.kind then rs else kept) rs (pick (is_switch entry.kind)) low.1
+since_low kept (entry ∷ rs) before low =
+    since_low (if is_switch entry.kind then rs else kept) rs (pick (is_switch entry.kind)) low.1
   where
     pick : (b : Bool) → AreLow (if b then rs else kept)
     pick true = low.1
     pick false = before
 
-all_can : (count : ℕ) (rs : List Record) → AllByRecursion (λ (entry : Record). AllThere count (parts_of entry.kind)) rs → AreLow rs
+all_can : (count : ℕ) (rs : List Record)
+    → AllByRecursion (λ (entry : Record). AllThere count (parts_of entry.kind)) rs → AreLow rs
     → AllByRecursion (CanRedo count 18446744073709551616) rs
 all_can count [] there low = tt
-all_can count (entry ∷ rs) there low = (record { there = there.0; is_forced = omega (arith, low.0) }, all_can count rs there.1 low.1)
+all_can count (entry ∷ rs) there low =
+    (record { there = there.0; is_forced = omega (arith, low.0) }, all_can count rs there.1 low.1)
 
 -- a log can be redone on pages that cover what it names
-pub base_can : (base : List Content) (rs : List Record) (pages : List Content) → pages ≡ base → CanRebuild (length base) rs → AreEntries rs
+pub base_can : (base : List Content) (rs : List Record) (pages : List Content) → pages ≡ base
+    → CanRebuild (length base) rs → AreEntries rs
     → AllByRecursion (CanRedo (length pages) 18446744073709551616) (since_switch rs)
 base_can base rs pages are can entries =
     let low : AreLow rs = entries_low rs entries in
-    subst (λ (ps : List Content). AllByRecursion (CanRedo (length ps) 18446744073709551616) (since_switch rs)) (sym are) (all_can (length base) (since_switch rs) can (since_low rs rs low low))
+    subst
+    (λ (ps : List Content). AllByRecursion (CanRedo (length ps) 18446744073709551616)
+    (since_switch rs)) (sym are)
+    (all_can (length base) (since_switch rs) can (since_low rs rs low low))
 
 -- what is rebuilt then
-pub is_rebuilt : (base : List Content) (rs : List Record) (begun : List Content) (space : Space ListFrames) → begun ≡ base → AllByRecursion FitsPage base
-    → (list_seen (frames_of space)).pages ≡ redone_all (since_switch rs) begun → AllRedoFit (since_switch rs) begun
-    → length (list_seen (frames_of space)).pages ≡ length begun → InStep (list_seen (frames_of space)) (index_of space) (capacity_in space)
+pub is_rebuilt :
+    (base : List Content) (rs : List Record) (begun : List Content) (space : Space ListFrames)
+    → begun ≡ base → AllByRecursion FitsPage base
+    → (list_seen (frames_of space)).pages ≡ redone_all (since_switch rs) begun
+    → AllRedoFit (since_switch rs) begun
+    → length (list_seen (frames_of space)).pages ≡ length begun
+    → InStep (list_seen (frames_of space)) (index_of space) (capacity_in space)
     → Agree (list_seen (frames_of space)) (index_of space) → IsRebuilt base rs space
 is_rebuilt base rs begun space are spelled pages fit same step agree =
     let fits : AllRedoFit (since_switch rs) base = subst (AllRedoFit (since_switch rs)) are fit in
-    let so : (list_seen (frames_of space)).pages ≡ redone_all (since_switch rs) base = pages ∙ ap (redone_all (since_switch rs)) are in
+    let so : (list_seen (frames_of space)).pages ≡ redone_all (since_switch rs) base =
+    pages ∙ ap (redone_all (since_switch rs)) are in
     record {
       step = step;
       agree = agree;
       pages = so;
       count_is = same ∙ ap length are;
       fit = fits;
-      sound = subst (λ (ps : List Content). AreSoundPages (slots_of ps)) (sym so) (redone_sound base (since_switch rs) spelled fits);
+      sound = subst (λ (ps : List Content). AreSoundPages (slots_of ps)) (sym so)
+          (redone_sound base (since_switch rs) spelled fits);
     }

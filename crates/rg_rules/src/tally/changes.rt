@@ -2,7 +2,8 @@
 // (1) Each write that was done is a change, and a rollback is one for each write of its unit.
 // (2) The writes of each session's open unit are counted, also those before the utility started.
 // (3) The room for all sessions is taken at the beginning. No later call takes memory.
-ghost use Rattle.std.specs.Prelude.{◌≡◌, ◌+◌, ◌<◌, ◌≤◌, ◌^◌, ℕ, List, [], ◌∷◌, true, IfOk, slice_set};
+ghost use Rattle.std.specs.Prelude.{◌≡◌, ◌+◌, ◌<◌, ◌≤◌, ◌^◌, ℕ, List, [], ◌∷◌, true, IfOk};
+ghost use Rattle.std.specs.Prelude.{slice_set};
 ghost use Rattle.rg_base.specs.Session.{IsSession};
 ghost use Rattle.rg_model.specs.Changes.{is_rollback, is_write, writes_after};
 ghost use Rattle.rg_stmt.specs.Entries.{said_entry};

@@ -15,6 +15,7 @@ line_played Flush is = tt
 line_played Show is = tt
 line_played Death is = tt
 
-pub lines_played : (lines : List Line) → AllByRecursion (IsAdmitted Every) lines → AllByRecursion IsPlayed lines
+pub lines_played : (lines : List Line) → AllByRecursion (IsAdmitted Every) lines
+    → AllByRecursion IsPlayed lines
 lines_played [] all = tt
 lines_played (line ∷ lines) all = (line_played line all.0, lines_played lines all.1)

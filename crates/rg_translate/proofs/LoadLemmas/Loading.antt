@@ -31,26 +31,41 @@ use Rattle.rg_stmt.specs.declared.layout.Side.{Side}
 use Rattle.rg_translate.specs.Load.Laws.{AreLoadedRows, IsRightCopy}
 use Rattle.rg_translate.specs.Load.Loaded.{IsPacked}
 
-pub packed_stays : (options : Options) (rows : List (Place × Row)) (which : Which) (stage : IndexStage) (s : Shade) → IsPacked options rows s → IsPacked options rows (with_stage which stage s)
-packed_stays options rows Key stage s h = record { packed = h.packed; sources = h.sources; pages = h.pages; claims = h.claims }
-packed_stays options rows Clus stage s h = record { packed = h.packed; sources = h.sources; pages = h.pages; claims = h.claims }
-packed_stays options rows Cat stage s h = record { packed = h.packed; sources = h.sources; pages = h.pages; claims = h.claims }
+pub packed_stays :
+    (options : Options) (rows : List (Place × Row)) (which : Which) (stage : IndexStage) (s : Shade)
+    → IsPacked options rows s → IsPacked options rows (with_stage which stage s)
+packed_stays options rows Key stage s h =
+    record { packed = h.packed; sources = h.sources; pages = h.pages; claims = h.claims }
+packed_stays options rows Clus stage s h =
+    record { packed = h.packed; sources = h.sources; pages = h.pages; claims = h.claims }
+packed_stays options rows Cat stage s h =
+    record { packed = h.packed; sources = h.sources; pages = h.pages; claims = h.claims }
 
-pub all_unsorted : (s : Shade) → s.keys ≡ Unsorted → s.cluses ≡ Unsorted → s.cats ≡ Unsorted → (which : Which) → stage_in which s ≡ Unsorted
+pub all_unsorted : (s : Shade) → s.keys ≡ Unsorted → s.cluses ≡ Unsorted → s.cats ≡ Unsorted
+    → (which : Which) → stage_in which s ≡ Unsorted
 all_unsorted s keys cluses cats Key = keys
 all_unsorted s keys cluses cats Clus = cluses
 all_unsorted s keys cluses cats Cat = cats
 
-pub packed_right : (row_at : Place → Option Row) (is_quiet : ℕ → Bool) (progress : Progress) (feed : List Item) (options : Options) (rows : List (Place × Row)) (s : Shade) (past : List Entry) (t : Table) (side : Side)
-    → Fed row_at is_quiet progress feed → AreLoadedRows feed progress rows → IsPacked options rows s → IsMapped s.targets (home_rows s) → IsTable row_at (row_of t)
-    → side.pages ≡ length s.pages → side.spots ≡ spots_of (shade_slots s) → IsRightCopy options past s t side
-packed_right row_at is_quiet progress feed options rows s past t side fed loaded packed mapped is pages spots =
-    let both = copies_are row_at is_quiet progress feed rows loaded.lawful fed loaded.all loaded.still loaded.moved in
-    let in_rows : IsTable (row_in rows) (row_of t) = table_same row_at (row_in rows) (row_of t) (row_of t) both.1 (λ key. refl) is in
+pub packed_right : (row_at : Place → Option Row) (is_quiet : ℕ → Bool) (progress : Progress)
+    (feed : List Item) (options : Options) (rows : List (Place × Row)) (s : Shade)
+    (past : List Entry) (t : Table) (side : Side)
+    → Fed row_at is_quiet progress feed → AreLoadedRows feed progress rows → IsPacked options rows s
+    → IsMapped s.targets (home_rows s) → IsTable row_at (row_of t)
+    → side.pages ≡ length s.pages → side.spots ≡ spots_of (shade_slots s)
+    → IsRightCopy options past s t side
+packed_right row_at is_quiet progress feed options rows s past t side fed loaded packed mapped is
+    pages spots =
+    let both = copies_are row_at is_quiet progress feed rows loaded.lawful fed loaded.all
+    loaded.still loaded.moved in
+    let in_rows : IsTable (row_in rows) (row_of t) =
+    table_same row_at (row_in rows) (row_of t) (row_of t) both.1 (λ key. refl) is in
     let same = rows_are_clustered rows t both.0 in_rows loaded.order in
-    let spots_are : side.spots ≡ spots_from options 0 0 0 (rows_in rows) = spots ∙ packed_spots_are options rows (shade_slots s) packed.packed in
+    let spots_are : side.spots ≡ spots_from options 0 0 0 (rows_in rows) =
+    spots ∙ packed_spots_are options rows (shade_slots s) packed.packed in
     record {
-      table = sources_are s row_at (row_of t) mapped (λ place. packed.sources place ∙ both.1 place) is;
+      table =
+          sources_are s row_at (row_of t) mapped (λ place. packed.sources place ∙ both.1 place) is;
       quiet =
           ap (are_quiet_right past) spots_are
           ∙ packed_quiet options rows past loaded.order (other_keys rows t both.0 in_rows);

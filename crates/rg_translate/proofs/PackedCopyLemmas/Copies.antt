@@ -12,12 +12,18 @@ use Rattle.rg_feed.proofs.FoldLemmas.Loaded.{copies_apart, load}
 use Rattle.rg_feed.proofs.FoldLemmas.Permuted.{same_rows}
 use Rattle.rg_feed.proofs.FoldLemmas.Taken.{take_all}
 
-pub copies_are : (row_at : Place → Option Row) (is_quiet : ℕ → Bool) (progress : Progress) (feed : List Item) (rows : List (Place × Row)) → Lawful (since_begin feed) → Fed row_at is_quiet progress feed
-    → progress.copied ≡ progress.pages → progress.changes ≡ 0 → IsPermutation (copied_rows (since_begin feed)) rows → AreApart rows × ((place : Place) → row_in rows place ≡ row_at place)
+pub copies_are : (row_at : Place → Option Row) (is_quiet : ℕ → Bool) (progress : Progress)
+    (feed : List Item) (rows : List (Place × Row))
+    → Lawful (since_begin feed) → Fed row_at is_quiet progress feed
+    → progress.copied ≡ progress.pages → progress.changes ≡ 0
+    → IsPermutation (copied_rows (since_begin feed)) rows
+    → AreApart rows × ((place : Place) → row_in rows place ≡ row_at place)
 copies_are row_at is_quiet progress feed rows lawful fed copied none permuted =
-    let both = same_rows (copied_rows (since_begin feed)) rows permuted (copies_apart (since_begin feed) lawful) in (
+    let both = same_rows (copied_rows (since_begin feed)) rows permuted
+    (copies_apart (since_begin feed) lawful) in (
       both.0,
       λ place.
-          both.1 place ∙ sym (load feed lawful place) ∙ take_all feed 0 (omega (arith, fed.counted, none)) place
+          both.1 place ∙ sym (load feed lawful place)
+          ∙ take_all feed 0 (omega (arith, fed.counted, none)) place
           ∙ all_copied row_at is_quiet progress feed fed copied place,
     )

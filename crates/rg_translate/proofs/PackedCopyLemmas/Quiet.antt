@@ -1,5 +1,7 @@
 -- Packed rows lie at home, in clustering order, and so do the quiet ones among them.
-use Rattle.std.proofs.Common.{◌≡◌, ◌==◌, ◌≤◌, ◌<◌, ◌+◌, ◌-◌, ◌⊎◌, inl, inr, nat_le, nat_lt, nat_cmp, is_lt, cond, Less, Equal, Greater, ℕ, suc, Bool, true, false, List, [], ◌∷◌, if◌then◌else◌, get_or, refl, sym, subst, ◌∙◌, arith}
+use Rattle.std.proofs.Common.{◌≡◌, ◌==◌, ◌≤◌, ◌<◌, ◌+◌, ◌-◌, ◌⊎◌, inl, inr, nat_le, nat_lt, nat_cmp}
+use Rattle.std.proofs.Common.{is_lt, cond, Less, Equal, Greater, ℕ, suc, Bool, true, false, List}
+use Rattle.std.proofs.Common.{[], ◌∷◌, if◌then◌else◌, get_or, refl, sym, subst, ◌∙◌, arith}
 use Rattle.std.proofs.lemmas.Bool.{eqb-true}
 use Rattle.std.proofs.lemmas.Bool.Decides.{nat_tests}
 use Rattle.std.specs.List.{AllByRecursion}
@@ -36,46 +38,62 @@ above a b e = grind (arith, nat_tests)
 differ : (a b : ℕ) → (a == b) ≡ false → a ≡ b → ⊥
 differ a b e f = grind (arith, nat_tests)
 
-neighbours : (x y : Place × Row) → is_lt (order_cmp (order_key y) (order_key x)) ≡ false → (y.1.key == x.1.key) ≡ false → Below x.1 y.1
+neighbours : (x y : Place × Row) → is_lt (order_cmp (order_key y) (order_key x)) ≡ false
+    → (y.1.key == x.1.key) ≡ false → Below x.1 y.1
 neighbours x y e f =
-    go (nat_lt y.1.clus x.1.clus) refl (y.1.clus == x.1.clus) refl (nat_lt y.1.key x.1.key) refl (y.1.key == x.1.key) refl e
+    go (nat_lt y.1.clus x.1.clus) refl (y.1.clus == x.1.clus) refl (nat_lt y.1.key x.1.key) refl
+    (y.1.key == x.1.key) refl e
   where
     go : (p : Bool) → nat_lt y.1.clus x.1.clus ≡ p → (q : Bool) → (y.1.clus == x.1.clus) ≡ q
         → (r : Bool) → nat_lt y.1.key x.1.key ≡ r → (s : Bool) → (y.1.key == x.1.key) ≡ s
-        → is_lt (ordering_then (ordering_then (ordering_then (cond p Less (cond q Equal Greater)) (cond r Less (cond s Equal Greater)))
+        → is_lt (ordering_then (ordering_then
+        (ordering_then (cond p Less (cond q Equal Greater)) (cond r Less (cond s Equal Greater)))
         (nat_cmp y.0.page x.0.page)) (nat_cmp y.0.slot x.0.slot)) ≡ false
         → Below x.1 y.1
     go true a q b r c s d g = absurd (cc (g))
     go false a true b true c s d g = absurd (cc (g))
-    go false a true b false c s d g = inr (sym (eqb-true y.1.clus x.1.clus b), omega (arith, above y.1.key x.1.key c, differ y.1.key x.1.key f))
-    go false a false b r c s d g = inl (omega (arith, above y.1.clus x.1.clus a, differ y.1.clus x.1.clus b))
+    go false a true b false c s d g = inr (
+      sym (eqb-true y.1.clus x.1.clus b),
+      omega (arith, above y.1.key x.1.key c, differ y.1.key x.1.key f),
+    )
+    go false a false b r c s d g =
+        inl (omega (arith, above y.1.clus x.1.clus a, differ y.1.clus x.1.clus b))
 
-rest_in_order : (x : Place × Row) (rows : List (Place × Row)) → IsInOrder (x ∷ rows) → IsInOrder rows
+rest_in_order : (x : Place × Row) (rows : List (Place × Row)) → IsInOrder (x ∷ rows)
+    → IsInOrder rows
 rest_in_order x rows w = λ k d l h.
     let e : suc k + 1 ≡ suc (k + 1) = omega arith in
-    subst (λ (n : ℕ). is_lt (order_cmp (order_key (get_or (x ∷ rows) n d)) (order_key (get_or rows k d))) ≡ false) e
+    subst
+    (λ (n : ℕ). is_lt (order_cmp (order_key (get_or (x ∷ rows) n d)) (order_key (get_or rows k d)))
+    ≡ false) e
     (w (suc k) d (omega arith) (omega (arith, h)))
 
-all_above : (a b : Row) (rows : List Row) → Below a b → AllByRecursion (Below b) rows → AllByRecursion (Below a) rows
+all_above : (a b : Row) (rows : List Row) → Below a b → AllByRecursion (Below b) rows
+    → AllByRecursion (Below a) rows
 all_above a b [] e h = tt
 all_above a b (x ∷ rows) e h = (below_trans a b x e h.0, all_above a b rows e h.1)
 
-in_turn : (rows : List (Place × Row)) → IsInOrder rows → HaveOtherKeys (rows_in rows) → InTurn Below (rows_in rows)
+in_turn : (rows : List (Place × Row)) → IsInOrder rows → HaveOtherKeys (rows_in rows)
+    → InTurn Below (rows_in rows)
 in_turn [] w h = tt
 in_turn (x ∷ []) w h = (tt, tt)
 in_turn (x ∷ y ∷ rows) w h =
     let first : Below x.1 y.1 = neighbours x y (w 0 x (omega arith) (omega arith)) h.0.0 in
-    let rest : InTurn Below (rows_in (y ∷ rows)) = in_turn (y ∷ rows) (rest_in_order x (y ∷ rows) w) h.1 in
+    let rest : InTurn Below (rows_in (y ∷ rows)) =
+    in_turn (y ∷ rows) (rest_in_order x (y ∷ rows) w) h.1 in
     ((first, all_above x.1 y.1 (rows_in rows) first rest.0), rest)
 
 -- ---- their spots
 
 -- the spots that come of rows which all come behind this one
-spots_above : (options : Options) (k slot free : ℕ) (a : Row) (rows : List Row) (s : Spot) → s.clus ≡ a.clus → s.key ≡ a.key → AllByRecursion (Below a) rows → AllByRecursion (IsBelow s) (spots_from options k slot free rows)
+spots_above : (options : Options) (k slot free : ℕ) (a : Row) (rows : List Row) (s : Spot)
+    → s.clus ≡ a.clus → s.key ≡ a.key → AllByRecursion (Below a) rows
+    → AllByRecursion (IsBelow s) (spots_from options k slot free rows)
 spots_above options k slot free a [] s c e all = tt
 spots_above options k slot free a (row ∷ rows) s c e all =
     go (nat_le (free_part options + area_of row) free)
-    (spots_above options k (slot + 1) (free - area_of row) a rows s c e all.1) (spots_above options (k + 1) 1 (4064 - area_of row) a rows s c e all.1)
+    (spots_above options k (slot + 1) (free - area_of row) a rows s c e all.1)
+    (spots_above options (k + 1) 1 (4064 - area_of row) a rows s c e all.1)
   where
     one : (page place : ℕ) → IsBelow s (home_spot page place row)
     one page place = by_way all.0
@@ -84,59 +102,88 @@ spots_above options k slot free a (row ∷ rows) s c e all =
         by_way (inl lt) = inl (omega (arith, c, lt))
         by_way (inr lt) = inr (c ∙ lt.0, omega (arith, e, lt.1))
 
-    go : (b : Bool) → AllByRecursion (IsBelow s) (spots_from options k (slot + 1) (free - area_of row) rows) → AllByRecursion (IsBelow s) (spots_from options (k + 1) 1 (4064 - area_of row) rows)
-        → AllByRecursion (IsBelow s)
-        (if b then home_spot (page_at options.freepage k) slot row ∷ spots_from options k (slot + 1) (free - area_of row) rows
-        else home_spot (page_at options.freepage (k + 1)) 0 row ∷ spots_from options (k + 1) 1 (4064 - area_of row) rows)
+    go : (b : Bool)
+        → AllByRecursion (IsBelow s) (spots_from options k (slot + 1) (free - area_of row) rows)
+        → AllByRecursion (IsBelow s) (spots_from options (k + 1) 1 (4064 - area_of row) rows)
+        → AllByRecursion (IsBelow s) (if b then home_spot (page_at options.freepage k) slot row
+        ∷ spots_from options k (slot + 1) (free - area_of row) rows
+        else home_spot (page_at options.freepage (k + 1)) 0 row
+        ∷ spots_from options (k + 1) 1 (4064 - area_of row) rows)
     go true here next = (one (page_at options.freepage k) slot, here)
     go false here next = (one (page_at options.freepage (k + 1)) 0, next)
 
-spots_turn : (options : Options) (k slot free : ℕ) (rows : List Row) → InTurn Below rows → InTurn IsBelow (spots_from options k slot free rows)
+spots_turn : (options : Options) (k slot free : ℕ) (rows : List Row) → InTurn Below rows
+    → InTurn IsBelow (spots_from options k slot free rows)
 spots_turn options k slot free [] w = tt
 spots_turn options k slot free (row ∷ rows) w =
-    go (nat_le (free_part options + area_of row) free) (spots_turn options k (slot + 1) (free - area_of row) rows w.1) (spots_turn options (k + 1) 1 (4064 - area_of row) rows w.1)
+    go (nat_le (free_part options + area_of row) free)
+    (spots_turn options k (slot + 1) (free - area_of row) rows w.1)
+    (spots_turn options (k + 1) 1 (4064 - area_of row) rows w.1)
   where
-    go : (b : Bool) → InTurn IsBelow (spots_from options k (slot + 1) (free - area_of row) rows) → InTurn IsBelow (spots_from options (k + 1) 1 (4064 - area_of row) rows)
-        → InTurn IsBelow
-        (if b then home_spot (page_at options.freepage k) slot row ∷ spots_from options k (slot + 1) (free - area_of row) rows
-        else home_spot (page_at options.freepage (k + 1)) 0 row ∷ spots_from options (k + 1) 1 (4064 - area_of row) rows)
-    go true here next = (spots_above options k (slot + 1) (free - area_of row) row rows (home_spot (page_at options.freepage k) slot row) refl refl w.0, here)
-    go false here next = (spots_above options (k + 1) 1 (4064 - area_of row) row rows (home_spot (page_at options.freepage (k + 1)) 0 row) refl refl w.0, next)
+    go : (b : Bool) → InTurn IsBelow (spots_from options k (slot + 1) (free - area_of row) rows)
+        → InTurn IsBelow (spots_from options (k + 1) 1 (4064 - area_of row) rows)
+        → InTurn IsBelow (if b then home_spot (page_at options.freepage k) slot row
+        ∷ spots_from options k (slot + 1) (free - area_of row) rows
+        else home_spot (page_at options.freepage (k + 1)) 0 row
+        ∷ spots_from options (k + 1) 1 (4064 - area_of row) rows)
+    go true here next = (
+      spots_above options k (slot + 1) (free - area_of row) row rows
+          (home_spot (page_at options.freepage k) slot row) refl refl w.0,
+      here,
+    )
+    go false here next = (
+      spots_above options (k + 1) 1 (4064 - area_of row) row rows
+          (home_spot (page_at options.freepage (k + 1)) 0 row) refl refl w.0,
+      next,
+    )
 
-spots_home : (options : Options) (k slot free : ℕ) (rows : List Row) → AllByRecursion IsHome (spots_from options k slot free rows)
+spots_home : (options : Options) (k slot free : ℕ) (rows : List Row)
+    → AllByRecursion IsHome (spots_from options k slot free rows)
 spots_home options k slot free [] = tt
 spots_home options k slot free (row ∷ rows) =
-    go (nat_le (free_part options + area_of row) free) (spots_home options k (slot + 1) (free - area_of row) rows) (spots_home options (k + 1) 1 (4064 - area_of row) rows)
+    go (nat_le (free_part options + area_of row) free)
+    (spots_home options k (slot + 1) (free - area_of row) rows)
+    (spots_home options (k + 1) 1 (4064 - area_of row) rows)
   where
-    go : (b : Bool) → AllByRecursion IsHome (spots_from options k (slot + 1) (free - area_of row) rows) → AllByRecursion IsHome (spots_from options (k + 1) 1 (4064 - area_of row) rows)
-        → AllByRecursion IsHome
-        (if b then home_spot (page_at options.freepage k) slot row ∷ spots_from options k (slot + 1) (free - area_of row) rows
-        else home_spot (page_at options.freepage (k + 1)) 0 row ∷ spots_from options (k + 1) 1 (4064 - area_of row) rows)
+    go : (b : Bool)
+        → AllByRecursion IsHome (spots_from options k (slot + 1) (free - area_of row) rows)
+        → AllByRecursion IsHome (spots_from options (k + 1) 1 (4064 - area_of row) rows)
+        → AllByRecursion IsHome (if b then home_spot (page_at options.freepage k) slot row
+        ∷ spots_from options k (slot + 1) (free - area_of row) rows
+        else home_spot (page_at options.freepage (k + 1)) 0 row
+        ∷ spots_from options (k + 1) 1 (4064 - area_of row) rows)
     go true here next = (refl, here)
     go false here next = (refl, next)
 
 -- ---- the quiet ones among them
 
-all_quiet : (P : Spot → Type 0) (past : List Entry) (spots : List Spot) → AllByRecursion P spots → AllByRecursion P (quiet_spots past spots)
+all_quiet : (P : Spot → Type 0) (past : List Entry) (spots : List Spot) → AllByRecursion P spots
+    → AllByRecursion P (quiet_spots past spots)
 all_quiet P past [] all = tt
 all_quiet P past (s ∷ spots) all = go (is_quiet s.key past) (all_quiet P past spots all.1)
   where
-    go : (b : Bool) → AllByRecursion P (quiet_spots past spots) → AllByRecursion P (if b then s ∷ quiet_spots past spots else quiet_spots past spots)
+    go : (b : Bool) → AllByRecursion P (quiet_spots past spots)
+        → AllByRecursion P (if b then s ∷ quiet_spots past spots else quiet_spots past spots)
     go true rest = (all.0, rest)
     go false rest = rest
 
-turn_quiet : (past : List Entry) (spots : List Spot) → InTurn IsBelow spots → InTurn IsBelow (quiet_spots past spots)
+turn_quiet : (past : List Entry) (spots : List Spot) → InTurn IsBelow spots
+    → InTurn IsBelow (quiet_spots past spots)
 turn_quiet past [] w = tt
 turn_quiet past (s ∷ spots) w = go (is_quiet s.key past) (turn_quiet past spots w.1)
   where
-    go : (b : Bool) → InTurn IsBelow (quiet_spots past spots) → InTurn IsBelow (if b then s ∷ quiet_spots past spots else quiet_spots past spots)
+    go : (b : Bool) → InTurn IsBelow (quiet_spots past spots)
+        → InTurn IsBelow (if b then s ∷ quiet_spots past spots else quiet_spots past spots)
     go true rest = (all_quiet (IsBelow s) past spots w.0, rest)
     go false rest = rest
 
-pub packed_quiet : (options : Options) (rows : List (Place × Row)) (past : List Entry) → IsInOrder rows → HaveOtherKeys (rows_in rows) → are_quiet_right past (spots_from options 0 0 0 (rows_in rows)) ≡ true
+pub packed_quiet : (options : Options) (rows : List (Place × Row)) (past : List Entry)
+    → IsInOrder rows → HaveOtherKeys (rows_in rows)
+    → are_quiet_right past (spots_from options 0 0 0 (rows_in rows)) ≡ true
 packed_quiet options rows past order keys =
     let spots : List Spot = spots_from options 0 0 0 (rows_in rows) in
     quiet_test past spots (record {
-      rise = turn_quiet past spots (spots_turn options 0 0 0 (rows_in rows) (in_turn rows order keys));
+      rise =
+          turn_quiet past spots (spots_turn options 0 0 0 (rows_in rows) (in_turn rows order keys));
       homes = all_quiet IsHome past spots (spots_home options 0 0 0 (rows_in rows));
     })

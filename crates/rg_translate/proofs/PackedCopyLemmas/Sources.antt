@@ -14,7 +14,9 @@ same_some {A} a b e = ap from e
     from None = a
     from (Some x) = x
 
-module _ (s : Shade) (rows : Place → Option Row) (keys : ℕ → Option Row) (mapped : IsMapped s.targets (home_rows s)) (same : (place : Place) → source_rows s place ≡ rows place) (is : IsTable rows keys) where
+module _ (s : Shade) (rows : Place → Option Row) (keys : ℕ → Option Row)
+    (mapped : IsMapped s.targets (home_rows s))
+    (same : (place : Place) → source_rows s place ≡ rows place) (is : IsTable rows keys) where
   -- the source of a row at home
   record FromSource (home : Place) (row : Row) : Type 0 where
     pub source : Place
@@ -24,7 +26,11 @@ module _ (s : Shade) (rows : Place → Option Row) (keys : ℕ → Option Row) (
   from_source : (home : Place) (row : Row) → home_rows s home ≡ Some row → FromSource home row
   from_source home row e =
       let at = mapped.sources home (ap is_some e) in
-      record { source = at.0; target = at.1; row_is = sym (same at.0) ∙ ap (row_through (home_rows s)) at.1 ∙ e }
+      record {
+        source = at.0;
+        target = at.1;
+        row_is = sym (same at.0) ∙ ap (row_through (home_rows s)) at.1 ∙ e;
+      }
 
   -- where a source has a row, the row is at home at its target
   record AtTarget (row : Row) : Type 0 where
@@ -49,5 +55,7 @@ module _ (s : Shade) (rows : Place → Option Row) (keys : ℕ → Option Row) (
         let one = from_source p row e in
         let two = from_source q other f in
         same_some p q
-        (sym one.target ∙ ap (target_of s) (is.once one.source two.source row other one.row_is two.row_is keys_same) ∙ two.target);
+        (sym one.target
+        ∙ ap (target_of s) (is.once one.source two.source row other one.row_is two.row_is keys_same)
+        ∙ two.target);
   }

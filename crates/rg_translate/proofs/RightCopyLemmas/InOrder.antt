@@ -1,5 +1,8 @@
 -- Packed rows in order: of two of them, the one at the lower place does not come after the other.
-use Rattle.std.proofs.Common.{◌≡◌, ◌==◌, ◌≤◌, ◌<◌, ◌+◌, ◌-◌, ◌⊎◌, inl, inr, nat_le, nat_lt, nat_cmp, is_lt, cond, Less, Equal, Greater, ℕ, suc, Bool, true, false, List, [], ◌∷◌, Option, Some, None, if◌then◌else◌, get_or, map, refl, sym, subst, ◌∙◌, ap, arith}
+use Rattle.std.proofs.Common.{◌≡◌, ◌==◌, ◌≤◌, ◌<◌, ◌+◌, ◌-◌, ◌⊎◌, inl, inr, nat_le, nat_lt, nat_cmp}
+use Rattle.std.proofs.Common.{is_lt, cond, Less, Equal, Greater, ℕ, suc, Bool, true, false, List}
+use Rattle.std.proofs.Common.{[], ◌∷◌, Option, Some, None, if◌then◌else◌, get_or, map, refl, sym}
+use Rattle.std.proofs.Common.{subst, ◌∙◌, ap, arith}
 use Rattle.std.proofs.lemmas.Bool.{and_parts, eqb-true}
 use Rattle.std.proofs.lemmas.Bool.Decides.{nat_tests}
 use Rattle.std.specs.List.{AllByRecursion, list_all}
@@ -35,27 +38,36 @@ above a b e = grind (arith, nat_tests)
 differ : (a b : ℕ) → (a == b) ≡ false → a ≡ b → ⊥
 differ a b e f = grind (arith, nat_tests)
 
-neighbours : (x y : Place × Row) → is_lt (order_cmp (order_key y) (order_key x)) ≡ false → NotAfter x.1 y.1
+neighbours : (x y : Place × Row) → is_lt (order_cmp (order_key y) (order_key x)) ≡ false
+    → NotAfter x.1 y.1
 neighbours x y e =
-    go (nat_lt y.1.clus x.1.clus) refl (y.1.clus == x.1.clus) refl (nat_lt y.1.key x.1.key) refl (y.1.key == x.1.key) e
+    go (nat_lt y.1.clus x.1.clus) refl (y.1.clus == x.1.clus) refl (nat_lt y.1.key x.1.key) refl
+    (y.1.key == x.1.key) e
   where
     go : (p : Bool) → nat_lt y.1.clus x.1.clus ≡ p → (q : Bool) → (y.1.clus == x.1.clus) ≡ q
         → (r : Bool) → nat_lt y.1.key x.1.key ≡ r → (s : Bool)
-        → is_lt (ordering_then (ordering_then (ordering_then (cond p Less (cond q Equal Greater)) (cond r Less (cond s Equal Greater)))
+        → is_lt (ordering_then (ordering_then
+        (ordering_then (cond p Less (cond q Equal Greater)) (cond r Less (cond s Equal Greater)))
         (nat_cmp y.0.page x.0.page)) (nat_cmp y.0.slot x.0.slot)) ≡ false
         → NotAfter x.1 y.1
     go true a q b r c s g = absurd (cc (g))
     go false a true b true c s g = absurd (cc (g))
-    go false a true b false c s g = inr (sym (eqb-true y.1.clus x.1.clus b), above y.1.key x.1.key c)
-    go false a false b r c s g = inl (omega (arith, above y.1.clus x.1.clus a, differ y.1.clus x.1.clus b))
+    go false a true b false c s g =
+        inr (sym (eqb-true y.1.clus x.1.clus b), above y.1.key x.1.key c)
+    go false a false b r c s g =
+        inl (omega (arith, above y.1.clus x.1.clus a, differ y.1.clus x.1.clus b))
 
-rest_in_order : (x : Place × Row) (rows : List (Place × Row)) → IsInOrder (x ∷ rows) → IsInOrder rows
+rest_in_order : (x : Place × Row) (rows : List (Place × Row)) → IsInOrder (x ∷ rows)
+    → IsInOrder rows
 rest_in_order x rows w = λ k d l h.
     let e : suc k + 1 ≡ suc (k + 1) = omega arith in
-    subst (λ (n : ℕ). is_lt (order_cmp (order_key (get_or (x ∷ rows) n d)) (order_key (get_or rows k d))) ≡ false) e
+    subst
+    (λ (n : ℕ). is_lt (order_cmp (order_key (get_or (x ∷ rows) n d)) (order_key (get_or rows k d)))
+    ≡ false) e
     (w (suc k) d (omega arith) (omega (arith, h)))
 
-all_further : (a b : Row) (rows : List Row) → NotAfter a b → AllByRecursion (NotAfter b) rows → AllByRecursion (NotAfter a) rows
+all_further : (a b : Row) (rows : List Row) → NotAfter a b → AllByRecursion (NotAfter b) rows
+    → AllByRecursion (NotAfter a) rows
 all_further a b [] e h = tt
 all_further a b (x ∷ rows) e h = (not_after-trans a b x e h.0, all_further a b rows e h.1)
 
@@ -64,7 +76,8 @@ in_turn [] w = tt
 in_turn (x ∷ []) w = (tt, tt)
 in_turn (x ∷ y ∷ rows) w =
     let first : NotAfter x.1 y.1 = neighbours x y (w 0 x (omega arith) (omega arith)) in
-    let rest : InTurn NotAfter (rows_in (y ∷ rows)) = in_turn (y ∷ rows) (rest_in_order x (y ∷ rows) w) in
+    let rest : InTurn NotAfter (rows_in (y ∷ rows)) =
+    in_turn (y ∷ rows) (rest_in_order x (y ∷ rows) w) in
     ((first, all_further x.1 y.1 (rows_in rows) first rest.0), rest)
 
 -- ---- rows at places that rise
@@ -85,55 +98,83 @@ same_some {A} a b e = ap from e
     from None = a
     from (Some x) = x
 
-has_row : (rows : List (Place × Row)) (p : Place) (row : Row) → row_in rows p ≡ Some row → IsMember row (rows_in rows)
+has_row : (rows : List (Place × Row)) (p : Place) (row : Row) → row_in rows p ≡ Some row
+    → IsMember row (rows_in rows)
 has_row [] p row e = absurd (cc (e))
 has_row (x ∷ rows) p row e = go (has_row rows p row) (same_place x.0 p) e
   where
-    go : (row_in rows p ≡ Some row → IsMember row (rows_in rows)) → (b : Bool) → (if b then Some x.1 else row_in rows p) ≡ Some row → IsMember row (rows_in (x ∷ rows))
+    go : (row_in rows p ≡ Some row → IsMember row (rows_in rows)) → (b : Bool)
+        → (if b then Some x.1 else row_in rows p) ≡ Some row → IsMember row (rows_in (x ∷ rows))
     go rest true f = inl (sym (same_some x.1 row f))
     go rest false f = inr (rest f)
 
 -- a row's place is behind one that is before all
-place_behind : (place : Place) (rows : List (Place × Row)) → list_all (λ later. is_place_before place later) (places rows) ≡ true
+place_behind : (place : Place) (rows : List (Place × Row))
+    → list_all (λ later. is_place_before place later) (places rows) ≡ true
     → (p : Place) (row : Row) → row_in rows p ≡ Some row → is_place_before place p ≡ true
 place_behind place [] all p row e = absurd (cc (e))
 place_behind place (x ∷ rows) all p row e =
-    let parts = and_parts (is_place_before place x.0) (list_all (λ later. is_place_before place later) (places rows)) all in
+    let parts = and_parts (is_place_before place x.0)
+    (list_all (λ later. is_place_before place later) (places rows)) all in
     go parts.0 (place_behind place rows parts.1 p row) (same_place x.0 p) refl e
   where
-    go : is_place_before place x.0 ≡ true → (row_in rows p ≡ Some row → is_place_before place p ≡ true)
-        → (b : Bool) → same_place x.0 p ≡ b → (if b then Some x.1 else row_in rows p) ≡ Some row → is_place_before place p ≡ true
-    go first rest true same f = subst (λ r. is_place_before place r ≡ true) (place_is x.0 p same) first
+    go : is_place_before place x.0 ≡ true
+        → (row_in rows p ≡ Some row → is_place_before place p ≡ true)
+        → (b : Bool) → same_place x.0 p ≡ b → (if b then Some x.1 else row_in rows p) ≡ Some row
+        → is_place_before place p ≡ true
+    go first rest true same f =
+        subst (λ r. is_place_before place r ≡ true) (place_is x.0 p same) first
     go first rest false other f = rest f
 
-placed_in_order : (rows : List (Place × Row)) → InTurn NotAfter (rows_in rows) → are_rising (places rows) ≡ true
-    → (p q : Place) (row other : Row) → row_in rows p ≡ Some row → row_in rows q ≡ Some other → is_place_before p q ≡ true → NotAfter row other
+placed_in_order : (rows : List (Place × Row)) → InTurn NotAfter (rows_in rows)
+    → are_rising (places rows) ≡ true
+    → (p q : Place) (row other : Row) → row_in rows p ≡ Some row → row_in rows q ≡ Some other
+    → is_place_before p q ≡ true → NotAfter row other
 placed_in_order [] w rise p q row other e f before = absurd (cc (e))
 placed_in_order (x ∷ rows) w rise p q row other e f before =
-    let parts = and_parts (list_all (λ later. is_place_before x.0 later) (places rows)) (are_rising (places rows)) rise in
-    go parts.0 (λ d g. placed_in_order rows w.1 parts.1 p q row other d g before) (same_place x.0 p) refl e (same_place x.0 q) refl f
+    let parts = and_parts (list_all (λ later. is_place_before x.0 later) (places rows))
+    (are_rising (places rows)) rise in
+    go parts.0 (λ d g. placed_in_order rows w.1 parts.1 p q row other d g before) (same_place x.0 p)
+    refl e (same_place x.0 q) refl f
   where
-    go : list_all (λ later. is_place_before x.0 later) (places rows) ≡ true → (row_in rows p ≡ Some row → row_in rows q ≡ Some other → NotAfter row other)
+    go : list_all (λ later. is_place_before x.0 later) (places rows) ≡ true
+        → (row_in rows p ≡ Some row → row_in rows q ≡ Some other → NotAfter row other)
         → (a : Bool) → same_place x.0 p ≡ a → (if a then Some x.1 else row_in rows p) ≡ Some row
-        → (b : Bool) → same_place x.0 q ≡ b → (if b then Some x.1 else row_in rows q) ≡ Some other → NotAfter row other
-    go first rest true a d true b g = absurd (never_itself p (subst (λ r. is_place_before p r ≡ true) (sym (place_is x.0 q b) ∙ place_is x.0 p a) before))
+        → (b : Bool) → same_place x.0 q ≡ b → (if b then Some x.1 else row_in rows q) ≡ Some other
+        → NotAfter row other
+    go first rest true a d true b g = absurd
+        (never_itself p
+        (subst (λ r. is_place_before p r ≡ true) (sym (place_is x.0 q b) ∙ place_is x.0 p a)
+        before))
     go first rest true a d false b g =
-        subst (λ r. NotAfter r other) (same_some x.1 row d) (later_member NotAfter x.1 other (rows_in rows) w.0 (has_row rows q other g))
+        subst (λ r. NotAfter r other) (same_some x.1 row d)
+        (later_member NotAfter x.1 other (rows_in rows) w.0 (has_row rows q other g))
     go first rest false a d true b g =
-        absurd (never_both p q before (subst (λ r. is_place_before r p ≡ true) (place_is x.0 q b) (place_behind x.0 rows first p row d)))
+        absurd
+        (never_both p q before
+        (subst (λ r. is_place_before r p ≡ true) (place_is x.0 q b)
+        (place_behind x.0 rows first p row d)))
     go first rest false a d false b g = rest d g
 
 -- ---- packed rows
 
-moved_rows : (options : Options) (k slot free : ℕ) (rows : List (Place × Row)) → rows_in (new_homes (moved_from options k slot free rows)) ≡ rows_in rows
+moved_rows : (options : Options) (k slot free : ℕ) (rows : List (Place × Row))
+    → rows_in (new_homes (moved_from options k slot free rows)) ≡ rows_in rows
 moved_rows options k slot free [] = refl
 moved_rows options k slot free (x ∷ rows) =
-    go (nat_le (free_part options + area_of x.1) free) (moved_rows options k (slot + 1) (free - area_of x.1) rows) (moved_rows options (k + 1) 1 (4064 - area_of x.1) rows)
+    go (nat_le (free_part options + area_of x.1) free)
+    (moved_rows options k (slot + 1) (free - area_of x.1) rows)
+    (moved_rows options (k + 1) 1 (4064 - area_of x.1) rows)
   where
-    go : (b : Bool) → rows_in (new_homes (moved_from options k (slot + 1) (free - area_of x.1) rows)) ≡ rows_in rows
-        → rows_in (new_homes (moved_from options (k + 1) 1 (4064 - area_of x.1) rows)) ≡ rows_in rows
-        → rows_in (new_homes (if b then moved_to (page_at options.freepage k) slot x ∷ moved_from options k (slot + 1) (free - area_of x.1) rows
-        else moved_to (page_at options.freepage (k + 1)) 0 x ∷ moved_from options (k + 1) 1 (4064 - area_of x.1) rows)) ≡ rows_in (x ∷ rows)
+    go : (b : Bool)
+        → rows_in (new_homes (moved_from options k (slot + 1) (free - area_of x.1) rows))
+        ≡ rows_in rows
+        → rows_in (new_homes (moved_from options (k + 1) 1 (4064 - area_of x.1) rows))
+        ≡ rows_in rows
+        → rows_in (new_homes (if b then moved_to (page_at options.freepage k) slot x
+        ∷ moved_from options k (slot + 1) (free - area_of x.1) rows
+        else moved_to (page_at options.freepage (k + 1)) 0 x
+        ∷ moved_from options (k + 1) 1 (4064 - area_of x.1) rows)) ≡ rows_in (x ∷ rows)
     go true here next = ap (λ (rs : List Row). x.1 ∷ rs) here
     go false here next = ap (λ (rs : List Row). x.1 ∷ rs) next
 
@@ -143,7 +184,8 @@ moved_places (m ∷ ms) = ap (λ (ps : List Place). m.target ∷ ps) (moved_plac
 
 -- of two packed rows, the one at the lower place does not come after the other
 pub packed_in_order : (options : Options) (rows : List (Place × Row)) → IsInOrder rows
-    → (p q : Place) (row other : Row) → row_in (new_homes (packed_rows options rows)) p ≡ Some row → row_in (new_homes (packed_rows options rows)) q ≡ Some other
+    → (p q : Place) (row other : Row) → row_in (new_homes (packed_rows options rows)) p ≡ Some row
+    → row_in (new_homes (packed_rows options rows)) q ≡ Some other
     → is_place_before p q ≡ true → NotAfter row other
 packed_in_order options rows order =
     placed_in_order (new_homes (packed_rows options rows))

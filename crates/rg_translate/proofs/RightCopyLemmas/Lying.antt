@@ -1,5 +1,6 @@
 -- A row whose key is quiet lies at home, where it was packed.
-use Rattle.std.proofs.Common.{◌≡◌, ℕ, Bool, true, List, Option, Some, None, is_some, length, take, refl, sym, ◌∙◌, ap, arith}
+use Rattle.std.proofs.Common.{◌≡◌, ℕ, Bool, true, List, Option, Some, None, is_some, length, take}
+use Rattle.std.proofs.Common.{refl, sym, ◌∙◌, ap, arith}
 use Rattle.std.proofs.Math.Seq.{take-length}
 use Rattle.rg_base.specs.declared.change.Change.{Change}
 use Rattle.rg_base.specs.declared.options.Options.{Options}
@@ -43,12 +44,14 @@ pub record IsAmong (rows : List (Place × TableRow)) (spot : Spot) : Type 0 wher
 -- ---- slots
 
 -- what a slot has that was packed
-row_packed : (at : Place → Slot) (o : Option TableRow) (row : TableRow) → home_row at (slot_with o) ≡ Some row → o ≡ Some row
+row_packed : (at : Place → Slot) (o : Option TableRow) (row : TableRow)
+    → home_row at (slot_with o) ≡ Some row → o ≡ Some row
 row_packed at None row e = absurd (cc (e))
 row_packed at (Some other) row e = e
 
 -- the slot of a row that lies at home names no other place
-lies_home : (at : Place → Slot) (home : Place) (slot : Slot) (row : TableRow) → at home ≡ slot → home_row at slot ≡ Some row → lies_at home slot ≡ Some home → pointed_to slot ≡ None
+lies_home : (at : Place → Slot) (home : Place) (slot : Slot) (row : TableRow) → at home ≡ slot
+    → home_row at slot ≡ Some row → lies_at home slot ≡ Some home → pointed_to slot ≡ None
 lies_home at home Free row is e lies = refl
 lies_home at home (Row c r) row is e lies = refl
 lies_home at home (Pointer c other) row is e lies =
@@ -61,11 +64,16 @@ lies_home at home (DeadOver c h u) row is e lies = refl
 
 -- ---- the new copy
 
-module _ (row_at : Place → Option TableRow) (progress : Progress) (feed : List Item) (options : Options) (rows : List (Place × TableRow)) (first s : Shade) (taken : ℕ) (quiet : ℕ → Bool)
-    (fed : Fed row_at quiet progress feed) (all : progress.copied ≡ progress.pages) (none_left : taken ≡ length (changes (since_begin feed))) (caught : IsCaughtUp options rows first s feed taken) where
+module _ (row_at : Place → Option TableRow) (progress : Progress) (feed : List Item)
+    (options : Options) (rows : List (Place × TableRow)) (first s : Shade) (taken : ℕ)
+    (quiet : ℕ → Bool)
+    (fed : Fed row_at quiet progress feed) (all : progress.copied ≡ progress.pages)
+    (none_left : taken ≡ length (changes (since_begin feed)))
+    (caught : IsCaughtUp options rows first s feed taken) where
   -- its sources have the rows of the table
   pub rows_now : (place : Place) → source_rows s place ≡ row_at place
-  rows_now place = caught.caught place ∙ take_all feed taken (omega (arith, none_left)) place ∙ all_copied row_at quiet progress feed fed all place
+  rows_now place = caught.caught place ∙ take_all feed taken (omega (arith, none_left)) place
+      ∙ all_copied row_at quiet progress feed fed all place
 
   abbrev cs : List Change
   cs = changes (since_begin feed)
@@ -80,17 +88,24 @@ module _ (row_at : Place → Option TableRow) (progress : Progress) (feed : List
   at = slot_of (shade_slots s)
 
   -- what holds of a row whose source no change names
-  unnamed_lies : (source home : Place) (row : TableRow) → target_of s source ≡ Some home → home_rows s home ≡ Some row → last_at source cs ≡ None → IsAmong homes (row_spot at home row)
+  unnamed_lies : (source home : Place) (row : TableRow) → target_of s source ≡ Some home
+      → home_rows s home ≡ Some row → last_at source cs ≡ None
+      → IsAmong homes (row_spot at home row)
   unnamed_lies source home row target e unnamed =
       let none : last_at source (take taken cs) ≡ None = ap (last_at source) take_them ∙ unnamed in
-      let target_was : target_of first source ≡ Some home = sym (caught.unmoved.targets source none) ∙ target in
+      let target_was : target_of first source ≡ Some home =
+      sym (caught.unmoved.targets source none) ∙ target in
       let row_was : home_rows first home ≡ Some row =
-      sym (ap (row_through (home_rows first)) target_was) ∙ sym (caught.unmoved.rows source none) ∙ ap (row_through (home_rows s)) target ∙ e in
-      let slot_was : slot_of (shade_slots first) home ≡ slot_with (row_in homes home) = caught.loaded.packed home in
+      sym (ap (row_through (home_rows first)) target_was) ∙ sym (caught.unmoved.rows source none)
+      ∙ ap (row_through (home_rows s)) target ∙ e in
+      let slot_was : slot_of (shade_slots first) home ≡ slot_with (row_in homes home) =
+      caught.loaded.packed home in
       let packed : row_in homes home ≡ Some row =
-      row_packed (slot_of (shade_slots first)) (row_in homes home) row (sym (ap (home_row (slot_of (shade_slots first))) slot_was) ∙ row_was) in
+      row_packed (slot_of (shade_slots first)) (row_in homes home) row
+      (sym (ap (home_row (slot_of (shade_slots first))) slot_was) ∙ row_was) in
       let lies : lies_in s home ≡ Some home =
-      caught.unmoved.lie source home none target_was ∙ ap (lies_at home) (slot_was ∙ ap slot_with packed) in
+      caught.unmoved.lie source home none target_was
+      ∙ ap (lies_at home) (slot_was ∙ ap slot_with packed) in
       record {
         row = row;
         row_is = packed;
@@ -99,8 +114,10 @@ module _ (row_at : Place → Option TableRow) (progress : Progress) (feed : List
         home = lies_home at home (at home) row refl e lies;
       }
 
-  pub quiet_lies : (home : Place) (row : TableRow) → home_rows s home ≡ Some row → quiet row.key ≡ true → IsAmong homes (row_spot at home row)
+  pub quiet_lies : (home : Place) (row : TableRow) → home_rows s home ≡ Some row
+      → quiet row.key ≡ true → IsAmong homes (row_spot at home row)
   quiet_lies home row e is_quiet =
       let from = caught.mapped.sources home (ap is_some e) in
-      let there : row_at from.0 ≡ Some row = sym (rows_now from.0) ∙ ap (row_through (home_rows s)) from.1 ∙ e in
+      let there : row_at from.0 ≡ Some row =
+      sym (rows_now from.0) ∙ ap (row_through (home_rows s)) from.1 ∙ e in
       unnamed_lies from.0 home row from.1 e (fed.unnamed from.0 row there is_quiet)

@@ -1,5 +1,7 @@
 -- A new copy is loaded, batches of changes are taken, indexes are made, and more is received.
-use Rattle.std.proofs.Common.{◌≡◌, ◌==◌, ℕ, ◌+◌, ◌≤◌, ◌*◌, ◌&&◌, ◌||◌, nat_le, zero, suc, Bool, List, [], ◌∷◌, ◌++◌, Option, Some, None, if◌then◌else◌, refl, sym, subst, ◌∙◌, ap, append_assoc, arith, drop, length, take}
+use Rattle.std.proofs.Common.{◌≡◌, ◌==◌, ℕ, ◌+◌, ◌≤◌, ◌*◌, ◌&&◌, ◌||◌, nat_le, zero, suc, Bool}
+use Rattle.std.proofs.Common.{List, [], ◌∷◌, ◌++◌, Option, Some, None, if◌then◌else◌, refl, sym}
+use Rattle.std.proofs.Common.{subst, ◌∙◌, ap, append_assoc, arith, drop, length, take}
 use Rattle.std.specs.List.{AllByRecursion}
 use Rattle.std.specs.List.Sorted.{IsPermutation}
 use Rattle.std.proofs.Math.Seq.{take-add}
@@ -44,7 +46,9 @@ use Rattle.rg_translate.specs.RightCopy.Caught.{IsCaughtUp}
 
 -- ---- the load
 
-pub loaded : (options : Options) (rows : List (Place × Row)) (s : Shade) (feed : List Item) → Lawful (since_begin feed) → IsPermutation (copied_rows (since_begin feed)) rows → IsPacked options rows s
+pub loaded : (options : Options) (rows : List (Place × Row)) (s : Shade) (feed : List Item)
+    → Lawful (since_begin feed) → IsPermutation (copied_rows (since_begin feed)) rows
+    → IsPacked options rows s
     → IsMapped s.targets (home_rows s) → IsCaughtUp options rows s s feed 0
 loaded options rows s feed lawful permuted packed mapped =
     let copied = copied_rows (since_begin feed) in
@@ -52,47 +56,63 @@ loaded options rows s feed lawful permuted packed mapped =
       loaded = packed;
       mapped = mapped;
       unmoved = unmoved_none s [];
-      caught = λ place. packed.sources place ∙ (same_rows copied rows permuted (copies_apart (since_begin feed) lawful)).1 place ∙ sym (load feed lawful place);
+      caught = λ place. packed.sources place
+          ∙ (same_rows copied rows permuted (copies_apart (since_begin feed) lawful)).1 place
+          ∙ sym (load feed lawful place);
       claims = omega arith;
       idle = λ none. refl;
     }
 
 -- ---- a batch
 
-both_none : (later earlier : Option Change) → later_of later earlier ≡ None → (later ≡ None) × (earlier ≡ None)
+both_none : (later earlier : Option Change) → later_of later earlier ≡ None
+    → (later ≡ None) × (earlier ≡ None)
 both_none None earlier e = (refl, e)
 both_none (Some change) earlier e = absurd (cc (e))
 
 -- a place that none of these changes names
-named_before : (place : Place) (xs ys : List Change) → last_at place (xs ++ ys) ≡ None → (last_at place xs ≡ None) × (last_at place ys ≡ None)
+named_before : (place : Place) (xs ys : List Change) → last_at place (xs ++ ys) ≡ None
+    → (last_at place xs ≡ None) × (last_at place ys ≡ None)
 named_before place [] ys e = (refl, e)
 named_before place (x ∷ xs) ys e =
-    let parts = both_none (last_at place (xs ++ ys)) (if same_place x.home place then Some x else None) e in
+    let parts =
+    both_none (last_at place (xs ++ ys)) (if same_place x.home place then Some x else None) e in
     let rest = named_before place xs ys parts.0 in (
-      ap (λ later. later_of later (if same_place x.home place then Some x else None)) rest.0 ∙ parts.1,
+      ap (λ later. later_of later (if same_place x.home place then Some x else None)) rest.0
+          ∙ parts.1,
       rest.1,
     )
 
 -- some changes, and then some more
-unmoved_both : (first old new : Shade) (xs ys : List Change) → Unmoved first old xs → Unmoved old new ys → Unmoved first new (xs ++ ys)
+unmoved_both : (first old new : Shade) (xs ys : List Change) → Unmoved first old xs
+    → Unmoved old new ys → Unmoved first new (xs ++ ys)
 unmoved_both first old new xs ys one two = record {
-  rows = λ source e. let none = named_before source xs ys e in two.rows source none.1 ∙ one.rows source none.0;
-  targets = λ source e. let none = named_before source xs ys e in two.targets source none.1 ∙ one.targets source none.0;
+  rows = λ source e. let none = named_before source xs ys e in
+      two.rows source none.1 ∙ one.rows source none.0;
+  targets = λ source e. let none = named_before source xs ys e in
+      two.targets source none.1 ∙ one.targets source none.0;
   lie = λ source target e f.
       let none = named_before source xs ys e in
       two.lie source target none.1 (one.targets source none.0 ∙ f) ∙ one.lie source target none.0 f;
 }
 
-pub batch_taken : (options : Options) (rows : List (Place × Row)) (first old new : Shade) (feed : List Item) (taken n : ℕ) → IsCaughtUp options rows first old feed taken → IsMapped new.targets (home_rows new)
-    → ((place : Place) → source_rows new place ≡ fold_to feed (taken + n) place) → Unmoved old new (take n (drop taken (changes (since_begin feed))))
-    → ClaimsMore old new (kept (since_begin feed) (take n (drop taken (changes (since_begin feed)))))
-    → (kept (since_begin feed) (take n (drop taken (changes (since_begin feed)))) ≡ [] → new ≡ old) → IsCaughtUp options rows first new feed (taken + n)
+pub batch_taken : (options : Options) (rows : List (Place × Row)) (first old new : Shade)
+    (feed : List Item) (taken n : ℕ)
+    → IsCaughtUp options rows first old feed taken → IsMapped new.targets (home_rows new)
+    → ((place : Place) → source_rows new place ≡ fold_to feed (taken + n) place)
+    → Unmoved old new (take n (drop taken (changes (since_begin feed))))
+    → ClaimsMore old new
+    (kept (since_begin feed) (take n (drop taken (changes (since_begin feed)))))
+    → (kept (since_begin feed) (take n (drop taken (changes (since_begin feed)))) ≡ [] → new ≡ old)
+    → IsCaughtUp options rows first new feed (taken + n)
 batch_taken options rows first old new feed taken n was mapped caught unmoved claims idle =
     let all = changes (since_begin feed) in
     record {
       loaded = was.loaded;
       mapped = mapped;
-      unmoved = subst (Unmoved first new) (sym (take-add taken n all)) (unmoved_both first old new (take taken all) (take n (drop taken all)) was.unmoved unmoved);
+      unmoved = subst (Unmoved first new) (sym (take-add taken n all))
+          (unmoved_both first old new (take taken all) (take n (drop taken all)) was.unmoved
+          unmoved);
       caught = caught;
       claims =
           omega (
@@ -100,17 +120,23 @@ batch_taken options rows first old new feed taken n was mapped caught unmoved cl
             was.claims,
             claims,
             ap (λ cs. weigh_changes (kept (since_begin feed) cs)) (take-add taken n all),
-            ap weigh_changes (kept-append (since_begin feed) (take taken all) (take n (drop taken all))),
-            weigh-append (kept (since_begin feed) (take taken all)) (kept (since_begin feed) (take n (drop taken all))),
+            ap weigh_changes
+                (kept-append (since_begin feed) (take taken all) (take n (drop taken all))),
+            weigh-append (kept (since_begin feed) (take taken all))
+                (kept (since_begin feed) (take n (drop taken all))),
           );
       idle = λ none.
           let some : n ≡ 0 = omega (arith, none) in
-          ap (λ (s : Shade). shade_slots s) (idle (ap (λ (k : ℕ). kept (since_begin feed) (take k (drop taken all))) some)) ∙ was.idle (omega (arith, none));
+          ap (λ (s : Shade). shade_slots s)
+          (idle (ap (λ (k : ℕ). kept (since_begin feed) (take k (drop taken all))) some))
+          ∙ was.idle (omega (arith, none));
     }
 
 -- ---- indexes
 
-pub stage_made : (options : Options) (rows : List (Place × Row)) (first s : Shade) (feed : List Item) (taken : ℕ) (which : Which) (stage : IndexStage) → IsCaughtUp options rows first s feed taken
+pub stage_made : (options : Options) (rows : List (Place × Row)) (first s : Shade)
+    (feed : List Item) (taken : ℕ) (which : Which) (stage : IndexStage)
+    → IsCaughtUp options rows first s feed taken
     → IsCaughtUp options rows first (with_stage which stage s) feed taken
 stage_made options rows first s feed taken Key stage h = record {
   loaded = h.loaded;
@@ -140,34 +166,45 @@ stage_made options rows first s feed taken Cat stage h = record {
 -- ---- more items
 
 -- items that are no Begin stand behind those before
-since_later : (before more : List Item) → AllByRecursion IsLater more → since before more ≡ before ++ more
+since_later : (before more : List Item) → AllByRecursion IsLater more
+    → since before more ≡ before ++ more
 since_later before [] later = sym (append-nil before)
 since_later before (Begin o n ∷ more) later = absurd later.0
 since_later before (PageCopy n at rows ∷ more) later = absurd later.0
-since_later before (items.Change c ∷ more) later = since_later (before ++ items.Change c ∷ []) more later.1 ∙ append_assoc before (items.Change c ∷ []) more
-since_later before (Booked s ∷ more) later = since_later (before ++ Booked s ∷ []) more later.1 ∙ append_assoc before (Booked s ∷ []) more
+since_later before (items.Change c ∷ more) later =
+    since_later (before ++ items.Change c ∷ []) more later.1
+    ∙ append_assoc before (items.Change c ∷ []) more
+since_later before (Booked s ∷ more) later =
+    since_later (before ++ Booked s ∷ []) more later.1 ∙ append_assoc before (Booked s ∷ []) more
 
 -- without their changes they leave each row
-none_done : (place : Place) (row : Option Row) (more : List Item) → AllByRecursion IsLater more → fold_from place row (up_to more 0) ≡ row
+none_done : (place : Place) (row : Option Row) (more : List Item) → AllByRecursion IsLater more
+    → fold_from place row (up_to more 0) ≡ row
 none_done place row [] later = refl
 none_done place row (Begin o n ∷ more) later = absurd later.0
 none_done place row (PageCopy n at rows ∷ more) later = absurd later.0
 none_done place row (items.Change c ∷ more) later = none_done place row more later.1
 none_done place row (Booked s ∷ more) later = none_done place row more later.1
 
-same_so_far : (place : Place) (row : Option Row) (feed more : List Item) (k : ℕ) → k ≤ length (changes feed) → AllByRecursion IsLater more
+same_so_far : (place : Place) (row : Option Row) (feed more : List Item) (k : ℕ)
+    → k ≤ length (changes feed) → AllByRecursion IsLater more
     → fold_from place row (up_to (feed ++ more) k) ≡ fold_from place row (up_to feed k)
 same_so_far place row [] more k few later =
     let none : k ≡ 0 = omega (arith, few) in
-    ap (λ k. fold_from place row (up_to more k)) none ∙ none_done place row more later ∙ sym (ap (λ k. fold_from place row (up_to [] k)) none)
+    ap (λ k. fold_from place row (up_to more k)) none ∙ none_done place row more later
+    ∙ sym (ap (λ k. fold_from place row (up_to [] k)) none)
 same_so_far place row (Begin o n ∷ xs) more k few later = same_so_far place None xs more k few later
-same_so_far place row (PageCopy n at rows ∷ xs) more k few later = same_so_far place (step_at place (PageCopy n at rows) row) xs more k few later
-same_so_far place row (items.Change c ∷ xs) more zero few later = same_so_far place row xs more zero (omega arith) later
-same_so_far place row (items.Change c ∷ xs) more (suc k) few later = same_so_far place (step_at place (items.Change c) row) xs more k (omega (arith, few)) later
+same_so_far place row (PageCopy n at rows ∷ xs) more k few later =
+    same_so_far place (step_at place (PageCopy n at rows) row) xs more k few later
+same_so_far place row (items.Change c ∷ xs) more zero few later =
+    same_so_far place row xs more zero (omega arith) later
+same_so_far place row (items.Change c ∷ xs) more (suc k) few later =
+    same_so_far place (step_at place (items.Change c) row) xs more k (omega (arith, few)) later
 same_so_far place row (Booked s ∷ xs) more k few later = same_so_far place row xs more k few later
 
 -- what is added passes nothing over
-later_passes : (xs more : List Item) (change : Change) → AllByRecursion IsLater more → passes_over (xs ++ more) change ≡ passes_over xs change
+later_passes : (xs more : List Item) (change : Change) → AllByRecursion IsLater more
+    → passes_over (xs ++ more) change ≡ passes_over xs change
 later_passes [] [] change later = refl
 later_passes [] (Begin o n ∷ more) change later = absurd later.0
 later_passes [] (PageCopy n at rows ∷ more) change later = absurd later.0
@@ -175,23 +212,30 @@ later_passes [] (items.Change c ∷ more) change later = later_passes [] more ch
 later_passes [] (Booked s ∷ more) change later = later_passes [] more change later.1
 later_passes (Begin o n ∷ xs) more change later = later_passes xs more change later
 later_passes (PageCopy n at rows ∷ xs) more change later =
-    ap (λ (b : Bool). (n == change.home.page && nat_le change.position.0 at.0) || b) (later_passes xs more change later)
+    ap (λ (b : Bool). (n == change.home.page && nat_le change.position.0 at.0) || b)
+    (later_passes xs more change later)
 later_passes (items.Change c ∷ xs) more change later = later_passes xs more change later
 later_passes (Booked s ∷ xs) more change later = later_passes xs more change later
 
-later_kept : (xs more : List Item) (cs : List Change) → AllByRecursion IsLater more → kept (xs ++ more) cs ≡ kept xs cs
+later_kept : (xs more : List Item) (cs : List Change) → AllByRecursion IsLater more
+    → kept (xs ++ more) cs ≡ kept xs cs
 later_kept xs more [] later = refl
 later_kept xs more (c ∷ cs) later =
-    ap (λ (b : Bool). if b then kept (xs ++ more) cs else c ∷ kept (xs ++ more) cs) (later_passes xs more c later)
+    ap (λ (b : Bool). if b then kept (xs ++ more) cs else c ∷ kept (xs ++ more) cs)
+    (later_passes xs more c later)
     ∙ ap (λ ds. if passes_over xs c then ds else c ∷ ds) (later_kept xs more cs later)
 
-pub more_received : (options : Options) (rows : List (Place × Row)) (first s : Shade) (feed more : List Item) (taken : ℕ) → AddsLater feed more → taken ≤ length (changes (since_begin feed))
+pub more_received : (options : Options) (rows : List (Place × Row)) (first s : Shade)
+    (feed more : List Item) (taken : ℕ)
+    → AddsLater feed more → taken ≤ length (changes (since_begin feed))
     → IsCaughtUp options rows first s feed taken → IsCaughtUp options rows first s more taken
 more_received options rows first s feed more taken adds within h =
     let since_is : since_begin more ≡ since_begin feed ++ adds.more =
-    ap since_begin adds.items ∙ since-append [] feed adds.more ∙ since_later (since_begin feed) adds.more adds.later in
+    ap since_begin adds.items ∙ since-append [] feed adds.more
+    ∙ since_later (since_begin feed) adds.more adds.later in
     let same : take taken (changes (since_begin more)) ≡ take taken (changes (since_begin feed)) =
-    ap (λ xs. take taken (changes xs)) since_is ∙ ap (take taken) (changes-append (since_begin feed) adds.more)
+    ap (λ xs. take taken (changes xs)) since_is
+    ∙ ap (take taken) (changes-append (since_begin feed) adds.more)
     ∙ take-append-le taken (changes (since_begin feed)) (changes adds.more) within in
     record {
       loaded = h.loaded;
@@ -199,32 +243,43 @@ more_received options rows first s feed more taken adds within h =
       unmoved = subst (Unmoved first s) (sym same) h.unmoved;
       caught = λ place.
           h.caught place
-          ∙ sym (ap (λ xs. fold_from place None (up_to xs taken)) since_is ∙ same_so_far place None (since_begin feed) adds.more taken within adds.later);
+          ∙ sym
+          (ap (λ xs. fold_from place None (up_to xs taken)) since_is
+          ∙ same_so_far place None (since_begin feed) adds.more taken within adds.later);
       claims =
           omega (
             arith,
             h.claims,
             ap (λ cs. weigh_changes (kept (since_begin more) cs)) same,
             ap (λ xs. weigh_changes (kept xs (take taken (changes (since_begin feed))))) since_is,
-            ap weigh_changes (later_kept (since_begin feed) adds.more (take taken (changes (since_begin feed))) adds.later),
+            ap weigh_changes
+                (later_kept (since_begin feed) adds.more (take taken (changes (since_begin feed)))
+                adds.later),
           );
       idle = h.idle;
     }
 
 -- ---- other pages with the same slots
 
-pub same_slots : (options : Options) (rows : List (Place × Row)) (first s : Shade) (feed : List Item) (taken : ℕ) (pages : List Content) → slots_of pages ≡ shade_slots s → IsCaughtUp options rows first s feed taken
+pub same_slots : (options : Options) (rows : List (Place × Row)) (first s : Shade)
+    (feed : List Item) (taken : ℕ) (pages : List Content)
+    → slots_of pages ≡ shade_slots s → IsCaughtUp options rows first s feed taken
     → IsCaughtUp options rows first (record s { pages = pages }) feed taken
 same_slots options rows first s feed taken pages same h =
     let at : List (List Slot) → Place → Option Row = λ slots place. row_at (slot_of slots) place in
-    let row_of : List (List Slot) → Place → Option Row = λ slots source. row_through (at slots) (target_of s source) in
+    let row_of : List (List Slot) → Place → Option Row =
+    λ slots source. row_through (at slots) (target_of s source) in
     record {
       loaded = h.loaded;
-      mapped = subst (λ (slots : List (List Slot)). IsMapped s.targets (at slots)) (sym same) h.mapped;
+      mapped =
+          subst (λ (slots : List (List Slot)). IsMapped s.targets (at slots)) (sym same) h.mapped;
       unmoved = record {
-        rows = λ source none. ap (λ (slots : List (List Slot)). row_of slots source) same ∙ h.unmoved.rows source none;
+        rows = λ source none. ap (λ (slots : List (List Slot)). row_of slots source) same
+            ∙ h.unmoved.rows source none;
         targets = h.unmoved.targets;
-        lie = λ source target none is. ap (λ (slots : List (List Slot)). lies_at target (slot_of slots target)) same ∙ h.unmoved.lie source target none is;
+        lie = λ source target none is.
+            ap (λ (slots : List (List Slot)). lies_at target (slot_of slots target)) same
+            ∙ h.unmoved.lie source target none is;
       };
       caught = λ place. ap (λ (slots : List (List Slot)). row_of slots place) same ∙ h.caught place;
       claims = omega (arith, h.claims, ap (claimed_all nobody) same);
@@ -233,13 +288,26 @@ same_slots options rows first s feed taken pages same h =
 
 -- ---- what its pages claim
 
-pub caught_claims : (options : Options) (rows : List (Place × Row)) (first s : Shade) (feed : List Item) (taken : ℕ) → IsPermutation (copied_rows (since_begin feed)) rows → IsCaughtUp options rows first s feed taken
+pub caught_claims :
+    (options : Options) (rows : List (Place × Row)) (first s : Shade) (feed : List Item) (taken : ℕ)
+    → IsPermutation (copied_rows (since_begin feed)) rows
+    → IsCaughtUp options rows first s feed taken
     → claimed_all nobody (shade_slots s) ≤ weigh_feed feed
 caught_claims options rows first s feed taken permuted h =
-    omega (arith, h.claims, h.loaded.claims, weigh_permuted (copied_rows (since_begin feed)) rows permuted, first_kept (since_begin feed) taken (changes (since_begin feed)))
+    omega (
+      arith,
+      h.claims,
+      h.loaded.claims,
+      weigh_permuted (copied_rows (since_begin feed)) rows permuted,
+      first_kept (since_begin feed) taken (changes (since_begin feed)),
+    )
 
-pub full_sent : (options : Options) (rows : List (Place × Row)) (first s : Shade) (feed : List Item) (taken n : ℕ) → IsPermutation (copied_rows (since_begin feed)) rows → IsCaughtUp options rows first s feed taken
-    → IsFullBy s (kept (since_begin feed) (take n (drop taken (changes (since_begin feed))))) NoSpace → 3221 * s.capacity ≤ weigh_feed feed
+pub full_sent : (options : Options) (rows : List (Place × Row)) (first s : Shade) (feed : List Item)
+    (taken n : ℕ) → IsPermutation (copied_rows (since_begin feed)) rows
+    → IsCaughtUp options rows first s feed taken
+    → IsFullBy s (kept (since_begin feed) (take n (drop taken (changes (since_begin feed)))))
+    NoSpace
+    → 3221 * s.capacity ≤ weigh_feed feed
 full_sent options rows first s feed taken n permuted h full =
     let xs = since_begin feed in
     let all = changes xs in

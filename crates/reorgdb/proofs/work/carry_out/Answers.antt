@@ -15,17 +15,30 @@ returns-in-Ok-Layout-clause-comes g c =
     let words = map string_bytes c.args.words.now in
     let source = seen g.S.Source.left g.S.Source.faults c.args.source.now in
     let look = seen_volume g.V.Volume.told g.V.Volume.faults g.V.Volume.capacities in
-    comes_shown c.show_layout.result.outcome words source source (look c.args.volume) (look c.show_layout.result.volume) c.show_layout.result.trace.items c.show_layout.result.text
-    (c.show_layout.ensures.shows words source (subst (λ (asked : Words). Spells asked words) c.in-Ok-Layout.field-0-is c.in-Ok-Layout.ensures.command.0))
+    comes_shown c.show_layout.result.outcome words source source (look c.args.volume)
+    (look c.show_layout.result.volume) c.show_layout.result.trace.items c.show_layout.result.text
+    (c.show_layout.ensures.shows words source
+    (subst (λ (asked : Words). Spells asked words) c.in-Ok-Layout.field-0-is
+    c.in-Ok-Layout.ensures.command.0))
 
 pub returns-in-Err-Unknown-clause-comes : goal.returns-in-Err-Unknown-clause-comes
 returns-in-Err-Unknown-clause-comes g c =
     let words = map string_bytes c.args.words.now in
-    rw c.bare.ensures.outcome
-    (no_command words (subst (λ (r : Result Words WordsFault). OnErr r ((asked : Words) → Spells asked words → IsAdmitted UpToGen asked → ⊥)) c.in-Err-Unknown.is c.read_admitted.ensures.unknown), refl, c.bare.ensures.trace)
+    rw c.bare.ensures.outcome (
+      no_command words
+          (subst
+          (λ (r : Result Words WordsFault). OnErr r
+          ((asked : Words) → Spells asked words → IsAdmitted UpToGen asked → ⊥)) c.in-Err-Unknown.is
+          c.read_admitted.ensures.unknown),
+      refl,
+      c.bare.ensures.trace,
+    )
 
 pub returns-in-Err-Unknown-clause-asked : goal.returns-in-Err-Unknown-clause-asked
-returns-in-Err-Unknown-clause-asked g c = none_asked g.O.Operator.answers c.args.operator c.bare.result.operator c.bare.result.trace.items c.bare.ensures.operator c.bare.ensures.trace
+returns-in-Err-Unknown-clause-asked g c = none_asked g.O.Operator.answers c.args.operator
+    c.bare.result.operator c.bare.result.trace.items c.bare.ensures.operator c.bare.ensures.trace
 
 pub returns-in-Err-Unknown-clause-traced : goal.returns-in-Err-Unknown-clause-traced
-returns-in-Err-Unknown-clause-traced g c = none_traced (seen_volume g.V.Volume.told g.V.Volume.faults g.V.Volume.capacities) c.args.volume c.bare.result.volume c.bare.result.trace.items c.bare.ensures.volume c.bare.ensures.trace
+returns-in-Err-Unknown-clause-traced g c =
+    none_traced (seen_volume g.V.Volume.told g.V.Volume.faults g.V.Volume.capacities) c.args.volume
+    c.bare.result.volume c.bare.result.trace.items c.bare.ensures.volume c.bare.ensures.trace

@@ -11,16 +11,26 @@ pub returns-in-Ok-clause-deals : goal.returns-in-Ok-clause-deals
 returns-in-Ok-clause-deals g c =
     let look = seen_volume g.V.Volume.told g.V.Volume.faults g.V.Volume.capacities in
     let made = c.play_lines.result in
-    DealsWithBytes-lines c.args.tells (look c.args.volume) (look made.volume) made.outcome c.args.bytes.now c.in-Ok.lines.items made.trace.items made.text c.in-Ok.ensures.lines c.play_lines.ensures.deals
+    DealsWithBytes-lines c.args.tells (look c.args.volume) (look made.volume) made.outcome
+    c.args.bytes.now c.in-Ok.lines.items made.trace.items made.text c.in-Ok.ensures.lines
+    c.play_lines.ensures.deals
 
 pub returns-in-Err-Line-clause-asked : goal.returns-in-Err-Line-clause-asked
-returns-in-Err-Line-clause-asked g c = none_asked g.O.Operator.answers c.args.operator c.refuse_line.result.operator c.refuse_line.result.trace.items c.refuse_line.ensures.operator c.refuse_line.ensures.trace
+returns-in-Err-Line-clause-asked g c =
+    none_asked g.O.Operator.answers c.args.operator c.refuse_line.result.operator
+    c.refuse_line.result.trace.items c.refuse_line.ensures.operator c.refuse_line.ensures.trace
 
 pub returns-in-Err-NoMemory-clause-asked : goal.returns-in-Err-NoMemory-clause-asked
-returns-in-Err-NoMemory-clause-asked g c = none_asked g.O.Operator.answers c.args.operator c.bare.result.operator c.bare.result.trace.items c.bare.ensures.operator c.bare.ensures.trace
+returns-in-Err-NoMemory-clause-asked g c = none_asked g.O.Operator.answers c.args.operator
+    c.bare.result.operator c.bare.result.trace.items c.bare.ensures.operator c.bare.ensures.trace
 
 pub returns-in-Err-Line-clause-traced : goal.returns-in-Err-Line-clause-traced
-returns-in-Err-Line-clause-traced g c = none_traced (seen_volume g.V.Volume.told g.V.Volume.faults g.V.Volume.capacities) c.args.volume c.refuse_line.result.volume c.refuse_line.result.trace.items c.refuse_line.ensures.volume c.refuse_line.ensures.trace
+returns-in-Err-Line-clause-traced g c =
+    none_traced (seen_volume g.V.Volume.told g.V.Volume.faults g.V.Volume.capacities) c.args.volume
+    c.refuse_line.result.volume c.refuse_line.result.trace.items c.refuse_line.ensures.volume
+    c.refuse_line.ensures.trace
 
 pub returns-in-Err-NoMemory-clause-traced : goal.returns-in-Err-NoMemory-clause-traced
-returns-in-Err-NoMemory-clause-traced g c = none_traced (seen_volume g.V.Volume.told g.V.Volume.faults g.V.Volume.capacities) c.args.volume c.bare.result.volume c.bare.result.trace.items c.bare.ensures.volume c.bare.ensures.trace
+returns-in-Err-NoMemory-clause-traced g c =
+    none_traced (seen_volume g.V.Volume.told g.V.Volume.faults g.V.Volume.capacities) c.args.volume
+    c.bare.result.volume c.bare.result.trace.items c.bare.ensures.volume c.bare.ensures.trace

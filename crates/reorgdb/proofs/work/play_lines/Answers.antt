@@ -10,24 +10,33 @@ returns-clause-deals g c =
     let look = seen_volume g.V.Volume.told g.V.Volume.faults g.V.Volume.capacities in
     let ran = c.run_lines.result in
     let made = c.tell_run.result in
-    subst (λ (v : g.row.V.Denot). DealsWithLines c.args.tells (look c.args.volume) (look v) c.args.lines.items made.outcome made.trace.items made.text) (sym c.tell_run.ensures.volume)
-    (c.tell_run.ensures.deals (look c.args.volume) (look ran.played.volume) c.args.lines.items c.run_lines.ensures.whole.ends c.run_lines.ensures.whole.is_end c.run_lines.ensures.told)
+    subst
+    (λ (v : g.row.V.Denot). DealsWithLines c.args.tells (look c.args.volume) (look v)
+    c.args.lines.items made.outcome made.trace.items made.text) (sym c.tell_run.ensures.volume)
+    (c.tell_run.ensures.deals (look c.args.volume) (look ran.played.volume) c.args.lines.items
+    c.run_lines.ensures.whole.ends c.run_lines.ensures.whole.is_end c.run_lines.ensures.told)
 
 pub returns-clause-traced : goal.returns-clause-traced
 returns-clause-traced g c =
     let look = seen_volume g.V.Volume.told g.V.Volume.faults g.V.Volume.capacities in
     let ran = c.run_lines.result in
-    run_traced look (look c.args.volume) ran.played.volume c.tell_run.result.volume c.args.lines.items ran.played.trace.items c.tell_run.result.trace.items ran.played.end c.tell_run.ensures.volume c.tell_run.ensures.trace c.run_lines.ensures.whole
+    run_traced look (look c.args.volume) ran.played.volume c.tell_run.result.volume
+    c.args.lines.items ran.played.trace.items c.tell_run.result.trace.items ran.played.end
+    c.tell_run.ensures.volume c.tell_run.ensures.trace c.run_lines.ensures.whole
 
 pub returns-clause-finds : goal.returns-clause-finds
 returns-clause-finds g c =
     let look = seen_volume g.V.Volume.told g.V.Volume.faults g.V.Volume.capacities in
     let ran = c.run_lines.result in
     let made = c.tell_run.result in
-    subst (λ (v : g.row.V.Denot). Finds made.outcome (look c.args.volume) (look v) made.trace.items) (sym c.tell_run.ensures.volume)
-    (c.tell_run.ensures.finds (look c.args.volume) (look ran.played.volume) c.run_lines.ensures.whole.is_end)
+    subst (λ (v : g.row.V.Denot). Finds made.outcome (look c.args.volume) (look v) made.trace.items)
+    (sym c.tell_run.ensures.volume)
+    (c.tell_run.ensures.finds (look c.args.volume) (look ran.played.volume)
+    c.run_lines.ensures.whole.is_end)
 
 pub returns-clause-asked : goal.returns-clause-asked
 returns-clause-asked g c =
     let ran = c.run_lines.result in
-    run_asked g.O.Operator.answers c.args.operator ran.played.operator c.tell_run.result.operator ran.played.trace.items c.tell_run.result.trace.items c.tell_run.ensures.operator c.tell_run.ensures.trace c.run_lines.ensures.asked
+    run_asked g.O.Operator.answers c.args.operator ran.played.operator c.tell_run.result.operator
+    ran.played.trace.items c.tell_run.result.trace.items c.tell_run.ensures.operator
+    c.tell_run.ensures.trace c.run_lines.ensures.asked

@@ -28,10 +28,13 @@ returns-in-Print-clause-whole g c =
 pub returns-in-Print-clause-told : goal.returns-in-Print-clause-told
 returns-in-Print-clause-told g c ends =
     let look = seen_volume g.V.Volume.told g.V.Volume.faults g.V.Volume.capacities in
-    subst (λ (t : Tells). IsTold t (look c.args.volume) (look c.run.result.volume) c.run.result.trace.items None) (sym c.in-Print.is) tt
+    subst
+    (λ (t : Tells). IsTold t (look c.args.volume) (look c.run.result.volume)
+    c.run.result.trace.items None) (sym c.in-Print.is) tt
 
 pub returns-in-Verdict-clause-told : goal.returns-in-Verdict-clause-told
 returns-in-Verdict-clause-told g c =
     let look = seen_volume g.V.Volume.told g.V.Volume.faults g.V.Volume.capacities in
     let run = c.run_judged.result in
-    judged_run c.args.tells (look c.args.volume) (look run.played.volume) run.played.trace.items run.played.end run.verdict c.run_judged.ensures.judged
+    judged_run c.args.tells (look c.args.volume) (look run.played.volume) run.played.trace.items
+    run.played.end run.verdict c.run_judged.ensures.judged

@@ -12,26 +12,40 @@ use Rattle.reorgdb.proofs.work.show_layout.Goals as goal
 pub returns-in-Ok-clause-shows : goal.returns-in-Ok-clause-shows
 returns-in-Ok-clause-shows g c = λ words source show.
     let look = seen_volume g.V.Volume.told g.V.Volume.faults g.V.Volume.capacities in
-    let lines : c.push.new.self.items ≡ Show ∷ [] = subst (λ (ls : List Line). c.push.new.self.items ≡ ls ++ Show ∷ []) c.new-lines.ensures.items c.in-Ok.ensures.items in
-    let ends = subst (λ (ls : List Line). Ends (look c.args.volume) (look c.run.result.volume) ls c.run.result.trace.items c.run.result.end) lines c.run.ensures.ends in
+    let lines : c.push.new.self.items ≡ Show ∷ [] =
+    subst (λ (ls : List Line). c.push.new.self.items ≡ ls ++ Show ∷ []) c.new-lines.ensures.items
+    c.in-Ok.ensures.items in
+    let ends = subst
+    (λ (ls : List Line). Ends (look c.args.volume) (look c.run.result.volume) ls
+    c.run.result.trace.items c.run.result.end) lines c.run.ensures.ends in
     c.print_shown.ensures.shows (look c.args.volume) (look c.print_shown.result.volume) words source
-    (subst (λ (v : g.row.V.Denot). Ends (look c.args.volume) (look v) (Show ∷ []) c.run.result.trace.items c.run.result.end) (sym c.print_shown.ensures.volume) ends) show
+    (subst
+    (λ (v : g.row.V.Denot). Ends (look c.args.volume) (look v) (Show ∷ []) c.run.result.trace.items
+    c.run.result.end) (sym c.print_shown.ensures.volume) ends) show
 
 pub returns-in-Ok-clause-finds : goal.returns-in-Ok-clause-finds
 returns-in-Ok-clause-finds g c =
     let look = seen_volume g.V.Volume.told g.V.Volume.faults g.V.Volume.capacities in
     let run = c.run.result in
-    let lines : c.push.new.self.items ≡ Show ∷ [] = subst (λ (ls : List Line). c.push.new.self.items ≡ ls ++ Show ∷ []) c.new-lines.ensures.items c.in-Ok.ensures.items in
-    let ends = subst (λ (ls : List Line). Ends (look c.args.volume) (look run.volume) ls run.trace.items run.end) lines c.run.ensures.ends in
+    let lines : c.push.new.self.items ≡ Show ∷ [] =
+    subst (λ (ls : List Line). c.push.new.self.items ≡ ls ++ Show ∷ []) c.new-lines.ensures.items
+    c.in-Ok.ensures.items in
+    let ends = subst
+    (λ (ls : List Line). Ends (look c.args.volume) (look run.volume) ls run.trace.items run.end)
+    lines c.run.ensures.ends in
     c.print_shown.ensures.finds (look c.args.volume) (look c.print_shown.result.volume)
-    (subst (λ (v : g.row.V.Denot). Ends (look c.args.volume) (look v) (Show ∷ []) run.trace.items run.end) (sym c.print_shown.ensures.volume) ends)
-    (subst (λ (v : g.row.V.Denot). IsEnd (look c.args.volume) (look v) run.trace.items run.end) (sym c.print_shown.ensures.volume) c.run.ensures.end)
+    (subst
+    (λ (v : g.row.V.Denot). Ends (look c.args.volume) (look v) (Show ∷ []) run.trace.items run.end)
+    (sym c.print_shown.ensures.volume) ends)
+    (subst (λ (v : g.row.V.Denot). IsEnd (look c.args.volume) (look v) run.trace.items run.end)
+    (sym c.print_shown.ensures.volume) c.run.ensures.end)
 
 pub returns-in-Ok-clause-traced : goal.returns-in-Ok-clause-traced
 returns-in-Ok-clause-traced g c =
     let look = seen_volume g.V.Volume.told g.V.Volume.faults g.V.Volume.capacities in
     let run = c.run.ensures in
-    let whole : Whole (look c.args.volume) (look c.run.result.volume) c.push.new.self.items c.run.result.trace.items c.run.result.end = record {
+    let whole : Whole (look c.args.volume) (look c.run.result.volume) c.push.new.self.items
+    c.run.result.trace.items c.run.result.end = record {
       ends = run.ends;
       legal = run.legal;
       opening = run.opening;
@@ -47,13 +61,21 @@ returns-in-Ok-clause-traced g c =
       only = run.only;
       later = run.later;
     } in
-    run_traced look (look c.args.volume) c.run.result.volume c.print_shown.result.volume c.push.new.self.items c.run.result.trace.items c.print_shown.result.trace.items c.run.result.end c.print_shown.ensures.volume c.print_shown.ensures.trace whole
+    run_traced look (look c.args.volume) c.run.result.volume c.print_shown.result.volume
+    c.push.new.self.items c.run.result.trace.items c.print_shown.result.trace.items c.run.result.end
+    c.print_shown.ensures.volume c.print_shown.ensures.trace whole
 
 pub returns-in-Err-clause-traced : goal.returns-in-Err-clause-traced
-returns-in-Err-clause-traced g c = none_traced (seen_volume g.V.Volume.told g.V.Volume.faults g.V.Volume.capacities) c.args.volume c.bare.result.volume c.bare.result.trace.items c.bare.ensures.volume c.bare.ensures.trace
+returns-in-Err-clause-traced g c =
+    none_traced (seen_volume g.V.Volume.told g.V.Volume.faults g.V.Volume.capacities) c.args.volume
+    c.bare.result.volume c.bare.result.trace.items c.bare.ensures.volume c.bare.ensures.trace
 
 pub returns-in-Ok-clause-asked : goal.returns-in-Ok-clause-asked
-returns-in-Ok-clause-asked g c = run_asked g.O.Operator.answers c.args.operator c.run.result.operator c.print_shown.result.operator c.run.result.trace.items c.print_shown.result.trace.items c.print_shown.ensures.operator c.print_shown.ensures.trace c.run.ensures.asked
+returns-in-Ok-clause-asked g c =
+    run_asked g.O.Operator.answers c.args.operator c.run.result.operator
+    c.print_shown.result.operator c.run.result.trace.items c.print_shown.result.trace.items
+    c.print_shown.ensures.operator c.print_shown.ensures.trace c.run.ensures.asked
 
 pub returns-in-Err-clause-asked : goal.returns-in-Err-clause-asked
-returns-in-Err-clause-asked g c = none_asked g.O.Operator.answers c.args.operator c.bare.result.operator c.bare.result.trace.items c.bare.ensures.operator c.bare.ensures.trace
+returns-in-Err-clause-asked g c = none_asked g.O.Operator.answers c.args.operator
+    c.bare.result.operator c.bare.result.trace.items c.bare.ensures.operator c.bare.ensures.trace

@@ -1,4 +1,5 @@
-use Rattle.std.proofs.Common.{◌≡◌, ◌-◌, ℕ, List, length, rules, arith, sym, ap, ◌∙◌, drop, subst, ◌<◌}
+use Rattle.std.proofs.Common.{◌≡◌, ◌-◌, ℕ, List, length, rules, arith, sym, ap, ◌∙◌, drop, subst}
+use Rattle.std.proofs.Common.{◌<◌}
 use Rattle.rg_base.specs.Field.{field}
 use Rattle.rg_base.proofs.RowBytes.{first_other, other_length}
 use Rattle.rg_base.proofs.row_bytes.read_row.Goals as goal
@@ -14,9 +15,11 @@ pub returns-then-at-text-clause-fault : goal.returns-then-at-text-clause-fault
 returns-then-at-text-clause-fault c =
     let e = c.split_at.ensures.back in
     let n = c.count_letters-at.result in
-    let within : n < length (drop 26 c.args.bytes.now) = subst (λ (xs : List ℕ). n < length xs) e c.if-at-text.true in
+    let within : n < length (drop 26 c.args.bytes.now) =
+    subst (λ (xs : List ℕ). n < length xs) e c.if-at-text.true in
     let len = c.split_at.ensures.back_len in
-    let same : c.get_u16.result ≡ length c.args.bytes.now - 26 = omega (arith, c.if-get_u16-text.false, len) in (
+    let same : c.get_u16.result ≡ length c.args.bytes.now - 26 =
+    omega (arith, c.if-get_u16-text.false, len) in (
       omega arith,
       record {
         whole = sym c.get_u16.ensures ∙ ap (field 2) same;

@@ -17,5 +17,13 @@ pub returns : goal.returns
 returns c =
     let bytes = c.args.bytes.now in
     let parts = spelled_parts bytes c.requires in
-    let row : Row = record { key = c.get_u64-key.result; clus = c.get_u64-clus.result; cat = c.get_u64-cat.result; text = drop 26 bytes } in
-    ap values_of (row_shown row bytes (search rules) (search rules) (search rules) (row_made row bytes parts.0 c.get_u64-key.ensures c.get_u64-clus.ensures c.get_u64-cat.ensures parts.1 refl))
+    let row : Row = record {
+      key = c.get_u64-key.result;
+      clus = c.get_u64-clus.result;
+      cat = c.get_u64-cat.result;
+      text = drop 26 bytes;
+    } in
+    ap values_of
+    (row_shown row bytes (search rules) (search rules) (search rules)
+    (row_made row bytes parts.0 c.get_u64-key.ensures c.get_u64-clus.ensures c.get_u64-cat.ensures
+    parts.1 refl))

@@ -4,4 +4,6 @@ use Rattle.rg_index.specs.RisingPart.{IsRising-filter}
 use Rattle.rg_btree.proofs.tests.rebuild.Goals as goal
 
 pub build-requires : goal.build-requires
-build-requires g c = subst IsRising (sym (c.as_slice-2.ensures ∙ c.in_ok-range.ensures)) (IsRising-filter (is_within 0 18446744073709551615) (g.I.Index.entries c.args.index.now) (g.met.I.Index.rising c.args.index.now))
+build-requires g c = subst IsRising (sym (c.as_slice-2.ensures ∙ c.in_ok-range.ensures))
+    (IsRising-filter (is_within 0 18446744073709551615) (g.I.Index.entries c.args.index.now)
+    (g.met.I.Index.rising c.args.index.now))

@@ -8,4 +8,5 @@ decreases-collect l = l.node.now.height
 
 -- the entries of the children that were looked at
 abbrev pub invariant-loop-kid : goal.invariant-loop-kid
-invariant-loop-kid l = l.found.items ≡ l.fn.found.items ++ entries_within l.lo l.hi (joined (take l.kid-index l.kids))
+invariant-loop-kid l =
+    l.found.items ≡ l.fn.found.items ++ entries_within l.lo l.hi (joined (take l.kid-index l.kids))

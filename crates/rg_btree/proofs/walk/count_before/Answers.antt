@@ -7,6 +7,10 @@ use Rattle.rg_btree.proofs.walk.count_before.Goals as goal
 
 pub returns : goal.returns
 returns c =
-    let parted = partitioned (λ e. is_entry_before e c.args.entry) (λ a b before later. before_trans a b c.args.entry before later) c.args.entries.now c.requires in
-    cut_at (λ e. is_entry_before e c.args.entry) c.args.entries.now c.partition_point.result c.partition_point.ensures.bound
-    (IsPartitionPoint-from_clause (λ e. is_entry_before e c.args.entry) c.args.entries.now c.partition_point.result c.partition_point.ensures.partitioned parted (λ a r q k. search rules))
+    let parted = partitioned (λ e. is_entry_before e c.args.entry)
+    (λ a b before later. before_trans a b c.args.entry before later) c.args.entries.now
+    c.requires in
+    cut_at (λ e. is_entry_before e c.args.entry) c.args.entries.now c.partition_point.result
+    c.partition_point.ensures.bound
+    (IsPartitionPoint-from_clause (λ e. is_entry_before e c.args.entry) c.args.entries.now
+    c.partition_point.result c.partition_point.ensures.partitioned parted (λ a r q k. search rules))

@@ -10,9 +10,12 @@ loop-left-preserved c =
     let leaf = c.in_ok-leaf.ensures in
     let node = ap (λ b. b.nodes) leaf in
     let inner = ap (λ b. b.inners) leaf in
-    let nodes = ap (total (λ kid. kid.nodes)) items ∙ total-append (λ kid. kid.nodes) c.loop-left.level.items (c.in_ok-leaf.field-0 ∷ []) in
-    let inners = ap (total (λ kid. kid.inners)) items ∙ total-append (λ kid. kid.inners) c.loop-left.level.items (c.in_ok-leaf.field-0 ∷ []) in
-    let count = ap Rattle.std.proofs.Common.length items ∙ length-append c.loop-left.level.items (c.in_ok-leaf.field-0 ∷ []) in
+    let nodes = ap (total (λ kid. kid.nodes)) items
+    ∙ total-append (λ kid. kid.nodes) c.loop-left.level.items (c.in_ok-leaf.field-0 ∷ []) in
+    let inners = ap (total (λ kid. kid.inners)) items
+    ∙ total-append (λ kid. kid.inners) c.loop-left.level.items (c.in_ok-leaf.field-0 ∷ []) in
+    let count = ap Rattle.std.proofs.Common.length items
+    ∙ length-append c.loop-left.level.items (c.in_ok-leaf.field-0 ∷ []) in
     record {
       all = grind (arith, common_steps);
       full = grind (arith, common_steps);

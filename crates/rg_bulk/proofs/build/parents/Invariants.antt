@@ -11,8 +11,10 @@ invariant-loop-alloc l = record {
   enough : 0 < length l.level.items → 112 ≤ length l.level.items;
   begun : length l.above.items ≡ 0 → 225 < length l.level.items;
   several : length l.level.items ≡ 0 → 2 ≤ length l.above.items;
-  nodes : total (λ kid. kid.nodes) l.above.items + total (λ kid. kid.nodes) l.level.items ≡ total (λ kid. kid.nodes) l.fn.level.items + length l.above.items;
-  inners : total (λ kid. kid.inners) l.above.items + total (λ kid. kid.inners) l.level.items ≡ total (λ kid. kid.inners) l.fn.level.items + length l.above.items;
+  nodes : total (λ kid. kid.nodes) l.above.items + total (λ kid. kid.nodes) l.level.items
+      ≡ total (λ kid. kid.nodes) l.fn.level.items + length l.above.items;
+  inners : total (λ kid. kid.inners) l.above.items + total (λ kid. kid.inners) l.level.items
+      ≡ total (λ kid. kid.inners) l.fn.level.items + length l.above.items;
   fewer : 2 * length l.above.items + length l.level.items ≤ length l.fn.level.items;
 }
 

@@ -9,5 +9,7 @@ returns-in_default c = λ options of. c.in_default.ensures.cases.0 (control_utf8
 
 pub returns : goal.returns
 returns c =
-    let words = ap texts c.deref.ensures.value ∙ c.in_ok-words.ensures ∙ ap (λ bytes. parts 32 bytes) c.in-Ok.ensures.cases.0 in
-    rw c.ok.ensures.value (finds_options _ _ _ words c.read_control.ensures.options c.read_control.ensures.fault)
+    let words = ap texts c.deref.ensures.value ∙ c.in_ok-words.ensures
+    ∙ ap (λ bytes. parts 32 bytes) c.in-Ok.ensures.cases.0 in
+    rw c.ok.ensures.value
+    (finds_options _ _ _ words c.read_control.ensures.options c.read_control.ensures.fault)

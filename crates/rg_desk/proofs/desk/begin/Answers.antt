@@ -24,7 +24,8 @@ returns-clause-begun c =
     let pages = length (space_pages c.args.found.space) in
     let shows = c.in_ok-engine.ensures.shows b.start copy b.starts in
     let counted = c.unlocked_rows-rows.ensures (at_rest b.start copy) (4064 * pages) shows in
-    let rows : c.unlocked_rows-rows.result ≡ row_count b.start = omega (arith, counted, none_locked b.start copy) in
+    let rows : c.unlocked_rows-rows.result ≡ row_count b.start =
+    omega (arith, counted, none_locked b.start copy) in
     let trace = c.make_room.ensures.trace ∙ c.requires.first in
     record {
       start = b.start;
@@ -41,9 +42,14 @@ returns-clause-begun c =
           c.push.ensures.trace
           ∙ ap (λ (xs : List Entry). xs ++ c.opened.result ∷ []) trace
           ∙ ap (λ (e : Entry). e ∷ []) c.opened.ensures
-          ∙ ap (λ (n : ℕ). opened_entry copy n c.count-pages.result c.used-used.result c.args.calls ∷ []) rows
-          ∙ ap (λ (n : ℕ). opened_entry copy (row_count b.start) n c.used-used.result c.args.calls ∷ []) (c.count-pages.ensures ∙ sym (slots_count (frames_of c.args.found.space).pages.items))
-          ∙ ap (λ (n : ℕ). opened_entry copy (row_count b.start) pages n c.args.calls ∷ []) c.used-used.ensures;
+          ∙ ap
+          (λ (n : ℕ). opened_entry copy n c.count-pages.result c.used-used.result c.args.calls ∷ [])
+          rows
+          ∙ ap
+          (λ (n : ℕ). opened_entry copy (row_count b.start) n c.used-used.result c.args.calls ∷ [])
+          (c.count-pages.ensures ∙ sym (slots_count (frames_of c.args.found.space).pages.items))
+          ∙ ap (λ (n : ℕ). opened_entry copy (row_count b.start) pages n c.args.calls ∷ [])
+          c.used-used.ensures;
       at = c.push.ensures.calls ∙ ap (λ (e : Entry). e.calls) c.opened.ensures;
       recorded = c.push.ensures.recorded;
     }

@@ -4,4 +4,5 @@ pub layout-requires : goal.layout-requires
 layout-requires c = record { pages = c.requires.pages c.if-down.false }
 
 pub returns-clause-right : goal.returns-clause-right
-returns-clause-right c = λ st allowed shows up one. c.layout.ensures.right st allowed (shows c.if-down.false) one
+returns-clause-right c =
+    λ st allowed shows up one. c.layout.ensures.right st allowed (shows c.if-down.false) one

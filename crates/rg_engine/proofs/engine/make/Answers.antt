@@ -12,5 +12,9 @@ apply-requires-clause-held c = all_held (frames_of c.args.space.now) (parts_of c
 
 pub returns-clause-newest : goal.returns-clause-newest
 returns-clause-newest c = λ can other e h.
-    space_newest (c.args.log.now.records ++ c.args.entry ∷ []) c.append.new.log.records c.apply.new.self c.apply.new.self c.append.ensures.records refl e
-    (record_stays c.args.log.now.records c.args.entry c.args.space.now c.apply.new.self (can_near (list_seen (frames_of c.args.space.now)) (capacity_in c.args.space.now) _ _ (parts_of c.args.entry.kind) can) c.requires.next other c.apply.ensures.writes.keeps.copy (c.apply.ensures.pages can) e h)
+    space_newest (c.args.log.now.records ++ c.args.entry ∷ []) c.append.new.log.records
+    c.apply.new.self c.apply.new.self c.append.ensures.records refl e
+    (record_stays c.args.log.now.records c.args.entry c.args.space.now c.apply.new.self
+    (can_near (list_seen (frames_of c.args.space.now)) (capacity_in c.args.space.now) _ _
+    (parts_of c.args.entry.kind) can) c.requires.next other c.apply.ensures.writes.keeps.copy
+    (c.apply.ensures.pages can) e h)

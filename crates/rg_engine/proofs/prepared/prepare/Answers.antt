@@ -8,11 +8,14 @@ use Rattle.rg_engine.proofs.prepared.prepare.Goals as goal
 
 pub returns-in-Err-clause-err : goal.returns-in-Err-clause-err
 returns-in-Err-clause-err g c =
-    let seen = seen_volume g.V.Volume.told g.V.Volume.faults g.V.Volume.capacities c.args.volume.now in
+    let seen =
+    seen_volume g.V.Volume.told g.V.Volume.faults g.V.Volume.capacities c.args.volume.now in
     record {
       mid = seen;
       forces = forces_none c.args.engine.now seen c.forced.ensures.within;
-      only = no_calls (WritesCopy c.args.copy (stamped_all (length c.args.engine.now.log.records) c.args.shadow.pages)) seen.told;
+      only = no_calls
+          (WritesCopy c.args.copy
+          (stamped_all (length c.args.engine.now.log.records) c.args.shadow.pages)) seen.told;
       capacities = refl;
       later = omega arith;
       settled = inr refl;

@@ -8,7 +8,10 @@ returns-in-Ok-clause-ok g c =
     let look = seen_volume g.V.Volume.told g.V.Volume.faults g.V.Volume.capacities in
     record {
       mid = c.log_switch.new.self;
-      logs = subst (λ (n : ℕ). LogsSwitch c.args.copy n (look c.args.volume.now) (look c.log_switch.new.volume) c.args.engine.now c.log_switch.new.self) c.count-count.ensures.count c.log_switch.ensures.logs;
+      logs = subst
+          (λ (n : ℕ). LogsSwitch c.args.copy n (look c.args.volume.now)
+          (look c.log_switch.new.volume) c.args.engine.now c.log_switch.new.self)
+          c.count-count.ensures.count c.log_switch.ensures.logs;
       forced = c.in-Ok.ensures.ok;
       takes = c.take_copy.ensures;
     }

@@ -10,7 +10,14 @@ loop-passed-preserved c =
       sent = record { ring = e.sent.ring ∙ i.sent.ring; items = e.sent.items ∙ i.sent.items };
       joined = e.joined;
       ring = e.sent.ring ∙ i.ring ∙ sym e.grew.ring;
-      left = omega (arith, joined_length c.loop-passed.inlet c.loop-passed.outlet i.joined, joined_length c.pass_one.new.inlet c.pass_one.new.outlet e.joined, ap length e.sent.items, e.one, i.left);
+      left = omega (
+        arith,
+        joined_length c.loop-passed.inlet c.loop-passed.outlet i.joined,
+        joined_length c.pass_one.new.inlet c.pass_one.new.outlet e.joined,
+        ap length e.sent.items,
+        e.one,
+        i.left,
+      );
       room = omega (arith, e.room, i.room);
       spare = omega (arith, e.spare, i.spare);
     }

@@ -11,6 +11,9 @@ push_reserved-requires c =
     let looked = c.slots_beside.ensures in
     let joined = rw (sym c.inlet.view_is, sym c.outlet.view_is) at c.requires.joined in
     let empty = rw (sym c.inlet.view_is) at c.requires.empty in
-    let here : 0 < c.slots_beside.result = free_slot (received i.end) (known_items i.end) o.pending.items (sent o.end) c.slots_beside.result (producer_capacity o.end) joined empty
-    (ap (λ (xs : List Item). c.slots_beside.result + length xs) (sym looked.looked.1) ∙ looked.all_free ∙ omega (arith, looked.looked.0.1, ap length looked.consumer.1)) c.outlet.invariant in
+    let here : 0 < c.slots_beside.result = free_slot (received i.end) (known_items i.end)
+    o.pending.items (sent o.end) c.slots_beside.result (producer_capacity o.end) joined empty
+    (ap (λ (xs : List Item). c.slots_beside.result + length xs) (sym looked.looked.1)
+    ∙ looked.all_free ∙ omega (arith, looked.looked.0.1, ap length looked.consumer.1))
+    c.outlet.invariant in
     (subst (λ n. 0 < n) looked.value here, tt)

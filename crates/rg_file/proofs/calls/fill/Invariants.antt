@@ -6,7 +6,8 @@ abbrev pub invariant-loop-at : goal.invariant-loop-at
 invariant-loop-at g l =
     record {
       within : l.at ≤ length l.into;
-      taken : Consumes (g.R.Read.remaining l.fn.reader) (g.R.Read.remaining l.reader) (take l.at l.into);
+      taken : Consumes (g.R.Read.remaining l.fn.reader) (g.R.Read.remaining l.reader)
+          (take l.at l.into);
       later : l.fn.faults ≤ l.faults;
     }
 

@@ -5,4 +5,5 @@ pub returns-in-Ok : goal.returns-in-Ok
 returns-in-Ok c =
     simp append_assoc (
     c.new.ensures
-    ∙ simp (append_assoc, c.new-out.ensures.items, c.legal_word-word.ensures) at c.in-Ok.ensures.bytes)
+    ∙ simp (append_assoc, c.new-out.ensures.items, c.legal_word-word.ensures) at
+    c.in-Ok.ensures.bytes)

@@ -6,7 +6,8 @@ use Rattle.rg_image.proofs.sizes.last_page.Goals as goal
 
 pub size_of-size-requires : goal.size_of-size-requires
 size_of-size-requires c =
-    item_is c.args.records.now c.loop-entry.entry-index _ c.requires.entries c.loop-entry-test.true c.entry-item.is
+    item_is c.args.records.now c.loop-entry.entry-index _ c.requires.entries c.loop-entry-test.true
+    c.entry-item.is
 
 pub overflow_add-page : goal.overflow_add-page
 overflow_add-page c =

@@ -7,6 +7,9 @@ use Rattle.rg_index.proofs.search.count_below.Goals as goal
 
 pub returns : goal.returns
 returns c =
-    let parted = partitioned (λ e. nat_le (e.0 + 1) c.args.value) (down_below c.args.value) c.args.entries.now c.requires in
-    cut_at (λ e. nat_le (e.0 + 1) c.args.value) c.args.entries.now c.partition_point.result c.partition_point.ensures.bound
-    (IsPartitionPoint-from_clause (λ e. nat_le (e.0 + 1) c.args.value) c.args.entries.now c.partition_point.result c.partition_point.ensures.partitioned parted (λ a r q k. search rules))
+    let parted = partitioned (λ e. nat_le (e.0 + 1) c.args.value) (down_below c.args.value)
+    c.args.entries.now c.requires in
+    cut_at (λ e. nat_le (e.0 + 1) c.args.value) c.args.entries.now c.partition_point.result
+    c.partition_point.ensures.bound
+    (IsPartitionPoint-from_clause (λ e. nat_le (e.0 + 1) c.args.value) c.args.entries.now
+    c.partition_point.result c.partition_point.ensures.partitioned parted (λ a r q k. search rules))

@@ -5,4 +5,6 @@ use Rattle.rg_index.proofs.tests.put.Goals as goal
 
 pub add-requires-clause-absent : goal.add-requires-clause-absent
 add-requires-clause-absent g c =
-    ap (λ es. has_entry es (c.args.value, c.args.place)) (c.in_ok-reserve.ensures.entries ∙ c.remove-there.ensures.entries) ∙ gone (c.args.value, c.args.place) (g.I.Index.entries c.args.index.now)
+    ap (λ es. has_entry es (c.args.value, c.args.place))
+    (c.in_ok-reserve.ensures.entries ∙ c.remove-there.ensures.entries)
+    ∙ gone (c.args.value, c.args.place) (g.I.Index.entries c.args.index.now)

@@ -21,7 +21,10 @@ loop-st-preserved c = λ past is.
     let total = flat_map next (map state_of c.args.states.items) in
     let popped : into_iter_items c.loop-st.left ≡ st ∷ left = c.in-Some.ensures.items in
     let pushed : map state_of c.push_state-in-Some.new.states.items ≡ (done ++ one) ++ two =
-    c.in_ok-push_state-2.ensures ∙ ap (λ (states : List State). states ++ two) c.in_ok-push_state.ensures in
+    c.in_ok-push_state-2.ensures
+    ∙ ap (λ (states : List State). states ++ two) c.in_ok-push_state.ensures in
     ap (λ (states : List State). states ++ flat_map next (map state_of left)) pushed
-    ∙ advanced done one two (flat_map next (map state_of left)) (next (state_of st)) total (c.in_ok-first.ensures past is)
-    (ap (λ (states : List Possibility). done ++ flat_map next (map state_of states)) (sym popped) ∙ c.loop-st.invariant past is)
+    ∙ advanced done one two (flat_map next (map state_of left)) (next (state_of st)) total
+    (c.in_ok-first.ensures past is)
+    (ap (λ (states : List Possibility). done ++ flat_map next (map state_of states)) (sym popped)
+    ∙ c.loop-st.invariant past is)

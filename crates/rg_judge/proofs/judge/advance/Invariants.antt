@@ -11,8 +11,11 @@ use Rattle.rg_judge.proofs.judge.advance.Given as goal
 abbrev pub invariant-loop-st : goal.invariant-loop-st
 invariant-loop-st l =
     (past : List Entry) → IsTallied past l.tally →
-    map state_of l.after.items ++ flat_map (states_after past l.entry.answer l.entry.actor l.entry.event) (map state_of (into_iter_items l.left))
-    ≡ flat_map (states_after past l.entry.answer l.entry.actor l.entry.event) (map state_of l.fn.states.items)
+    map state_of l.after.items
+    ++ flat_map (states_after past l.entry.answer l.entry.actor l.entry.event)
+    (map state_of (into_iter_items l.left))
+    ≡ flat_map (states_after past l.entry.answer l.entry.actor l.entry.event)
+    (map state_of l.fn.states.items)
 
 abbrev pub decreases-loop-st : goal.decreases-loop-st
 decreases-loop-st l = length (into_iter_items l.left)

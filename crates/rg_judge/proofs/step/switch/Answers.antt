@@ -1,4 +1,5 @@
-use Rattle.std.proofs.Common.{◌≡◌, ◌==◌, ◌-◌, ◌&&◌, Bool, true, false, Some, refl, ◌∙◌, ap, if◌then◌else◌}
+use Rattle.std.proofs.Common.{◌≡◌, ◌==◌, ◌-◌, ◌&&◌, Bool, true, false, Some, refl, ◌∙◌, ap}
+use Rattle.std.proofs.Common.{if◌then◌else◌}
 use Rattle.std.specs.FinMap as fin
 use Rattle.rg_model.specs.Changes.{changes}
 use Rattle.rg_model.specs.Layout.{is_right_side}
@@ -25,9 +26,20 @@ returns c = λ past is.
     let right : c.in_ok-right.right ≡ is_right_switch past (state_of st) u.options sides =
     c.in_ok-right.ensures past is
     ∙ (λ i. (is_right_side (rows i) sides.old && is_right_side (rows i) sides.new)
-    && (c.is_unclaimed-unclaimed.ensures.unclaimed i && (quiet && (if is.changes i == 0 then is_packed u.options (rows i) sides.new else true))))
-    ∙ regroup old new (fin.len st.claims.claims == 0 && (quiet && (if changes past == 0 then packed else true))) in
-    let allowed : c.is_other_copy-allowed.result ≡ (c.args.copy == 3 - st.copy && (sides.new.pages == u.shadow && is_right_switch past (state_of st) u.options sides)) =
-    c.is_other_copy-allowed.ensures ∙ ap (λ (b : Bool). c.args.copy == 3 - st.copy && (sides.new.pages == u.shadow && b)) right in
+    && (c.is_unclaimed-unclaimed.ensures.unclaimed i
+    && (quiet && (if is.changes i == 0 then is_packed u.options (rows i) sides.new else true))))
+    ∙ regroup old new
+    (fin.len st.claims.claims == 0 && (quiet && (if changes past == 0 then packed else true))) in
+    let allowed : c.is_other_copy-allowed.result
+    ≡ (c.args.copy == 3 - st.copy
+    && (sides.new.pages == u.shadow && is_right_switch past (state_of st) u.options sides)) =
+    c.is_other_copy-allowed.ensures
+    ∙ ap (λ (b : Bool). c.args.copy == 3 - st.copy && (sides.new.pages == u.shadow && b)) right in
     c.if_allowed.ensures
-    ∙ (λ i. if_allowed (allowed i) (state_of (record st { claims = c.is_unclaimed-unclaimed.ensures.undrained i; copy = c.args.copy; utility = Some c.args.progress })))
+    ∙ (λ i. if_allowed (allowed i)
+    (state_of
+    (record st {
+      claims = c.is_unclaimed-unclaimed.ensures.undrained i;
+      copy = c.args.copy;
+      utility = Some c.args.progress;
+    })))

@@ -14,7 +14,9 @@ same : (a b : ℕ) → a ≡ b → (a == b) ≡ true
 same a b e = grind (arith, nat_tests)
 
 pub loop-key-init : goal.loop-key-init
-loop-key-init c = ap first_owner (walk_begins (λ (lock : ℕ × Lock). lock.1.owner.0 == c.args.session.0) c.args.locks.now (map.entries c.args.locks.now))
+loop-key-init c = ap first_owner
+    (walk_begins (λ (lock : ℕ × Lock). lock.1.owner.0 == c.args.session.0) c.args.locks.now
+    (map.entries c.args.locks.now))
 
 apart : (a b : ℕ) → (a ≡ b → ⊥) → (a == b) ≡ false
 apart a b differ = grind (arith, nat_tests)
@@ -22,16 +24,26 @@ apart a b differ = grind (arith, nat_tests)
 pub returns-then-kept-session : goal.returns-then-kept-session
 returns-then-kept-session c =
     let p = λ (lock : ℕ × Lock). lock.1.owner.0 == c.args.session.0 in
-    ap is_some (owner-found p c.args.locks.now (start_of c.loop-key.last) (first_owner (filter p (map.entries c.args.locks.now))) c.loop-key.invariant (c.in-Some.key, c.in-Some.kept.now) c.in-Some.ensures (same c.in-Some.kept.now.owner.0 c.args.session.0 c.if-kept-session.true))
+    ap is_some
+    (owner-found p c.args.locks.now (start_of c.loop-key.last)
+    (first_owner (filter p (map.entries c.args.locks.now))) c.loop-key.invariant
+    (c.in-Some.key, c.in-Some.kept.now) c.in-Some.ensures
+    (same c.in-Some.kept.now.owner.0 c.args.session.0 c.if-kept-session.true))
     ∙ any_filter p (map.entries c.args.locks.now)
 
 pub loop-key-preserved : goal.loop-key-preserved
 loop-key-preserved c =
     let p = λ (lock : ℕ × Lock). lock.1.owner.0 == c.args.session.0 in
-    owner-behind p c.args.locks.now (start_of c.loop-key.last) (first_owner (filter p (map.entries c.args.locks.now))) c.loop-key.invariant (c.in-Some.key, c.in-Some.kept.now) c.in-Some.ensures (apart c.in-Some.kept.now.owner.0 c.args.session.0 c.if-kept-session.false)
+    owner-behind p c.args.locks.now (start_of c.loop-key.last)
+    (first_owner (filter p (map.entries c.args.locks.now))) c.loop-key.invariant
+    (c.in-Some.key, c.in-Some.kept.now) c.in-Some.ensures
+    (apart c.in-Some.kept.now.owner.0 c.args.session.0 c.if-kept-session.false)
 
 pub returns : goal.returns
 returns c =
     let p = λ (lock : ℕ × Lock). lock.1.owner.0 == c.args.session.0 in
-    ap is_some (owner-none p c.args.locks.now (start_of c.loop-key.last) (first_owner (filter p (map.entries c.args.locks.now))) c.loop-key.invariant c.in_default.ensures)
+    ap is_some
+    (owner-none p c.args.locks.now (start_of c.loop-key.last)
+    (first_owner (filter p (map.entries c.args.locks.now))) c.loop-key.invariant
+    c.in_default.ensures)
     ∙ any_filter p (map.entries c.args.locks.now)

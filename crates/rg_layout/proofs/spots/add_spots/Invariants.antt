@@ -19,6 +19,9 @@ invariant-loop-slot g l =
       reserved : b.reserved ≡ a.reserved;
       idle : a.idle ≤ b.idle;
       count : b.sure ≡ true → l.count ≡ length (page_at (slots_of b.pages) l.page);
-      spots : b.sure ≡ true → l.spots.items ≡ l.fn.spots.items ++ flat_map (spot_at (slot_of (slots_of b.pages))) (places_on l.page l.slot);
+      spots : b.sure ≡ true
+          → l.spots.items
+          ≡ l.fn.spots.items
+          ++ flat_map (spot_at (slot_of (slots_of b.pages))) (places_on l.page l.slot);
       gave : g.F.Frames.gave a.pages a.forced l.fn.frames l.frames;
     }

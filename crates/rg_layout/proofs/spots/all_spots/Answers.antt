@@ -19,10 +19,18 @@ loop-n-preserved g c =
       reads = reads_more a b last i.reads h.reads;
       reserved = h.reserved ∙ i.reserved;
       idle = omega (arith, i.idle, h.idle);
-      spots = λ sure. page_added (slots_of last.pages) c.loop-n.n c.loop-n.spots.items c.add_spots.new.spots.items
-          (subst (λ (ps : List Content). c.loop-n.spots.items ≡ flat_map (spot_at (slot_of (slots_of ps))) (places_to (slots_of ps) c.loop-n.n)) (sym (h.reads.same sure)) (i.spots (h.reads.keeps.sure sure)))
+      spots = λ sure. page_added (slots_of last.pages) c.loop-n.n c.loop-n.spots.items
+          c.add_spots.new.spots.items
+          (subst
+          (λ (ps : List Content). c.loop-n.spots.items
+          ≡ flat_map (spot_at (slot_of (slots_of ps))) (places_to (slots_of ps) c.loop-n.n))
+          (sym (h.reads.same sure)) (i.spots (h.reads.keeps.sure sure)))
           (c.in_ok-add_spots.ensures.added sure);
-      gave = g.met.F.Frames.gave_more a.pages a.forced c.args.frames.now c.loop-n.frames c.add_spots.new.frames i.gave
-          (λ sure. subst (λ (n : ℕ). g.F.Frames.gave a.pages n c.loop-n.frames c.add_spots.new.frames) i.reads.forced
-          (subst (λ (ps : List Content). g.F.Frames.gave ps b.forced c.loop-n.frames c.add_spots.new.frames) (i.reads.same (h.reads.keeps.sure sure)) h.gave));
+      gave = g.met.F.Frames.gave_more a.pages a.forced c.args.frames.now c.loop-n.frames
+          c.add_spots.new.frames i.gave (λ sure.
+          subst (λ (n : ℕ). g.F.Frames.gave a.pages n c.loop-n.frames c.add_spots.new.frames)
+          i.reads.forced
+          (subst
+          (λ (ps : List Content). g.F.Frames.gave ps b.forced c.loop-n.frames
+          c.add_spots.new.frames) (i.reads.same (h.reads.keeps.sure sure)) h.gave));
     }

@@ -18,6 +18,8 @@ invariant-loop-n g l =
       reads : Reads a b;
       reserved : b.reserved ≡ a.reserved;
       idle : a.idle ≤ b.idle;
-      spots : b.sure ≡ true → l.spots.items ≡ flat_map (spot_at (slot_of (slots_of b.pages))) (places_to (slots_of b.pages) l.n);
+      spots : b.sure ≡ true
+          → l.spots.items
+          ≡ flat_map (spot_at (slot_of (slots_of b.pages))) (places_to (slots_of b.pages) l.n);
       gave : g.F.Frames.gave a.pages a.forced l.fn.frames l.frames;
     }

@@ -7,9 +7,11 @@ returns-then-bytes-lt2-clause-fault c = too_short c.args.bytes.now (search rules
 
 pub returns-then-rest-size-clause-fault : goal.returns-then-rest-size-clause-fault
 returns-then-rest-size-clause-fault c =
-    no_room c.args.bytes.now _ c.get_u16-size.result (search rules) c.get_u16-size.ensures c.split_at.ensures.back (search rules)
+    no_room c.args.bytes.now _ c.get_u16-size.result (search rules) c.get_u16-size.ensures
+    c.split_at.ensures.back (search rules)
 
 pub returns-in-Err-clause-fault : goal.returns-in-Err-clause-fault
 returns-in-Err-clause-fault c =
-    not_read c.args.bytes.now _ _ c.get_u16-size.result c.in-Err.fault (search rules) c.get_u16-size.ensures c.split_at.ensures.back
+    not_read c.args.bytes.now _ _ c.get_u16-size.result c.in-Err.fault (search rules)
+    c.get_u16-size.ensures c.split_at.ensures.back
     c.split_at-2.ensures.front c.in-Err.ensures.fault

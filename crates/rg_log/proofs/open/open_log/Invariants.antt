@@ -15,5 +15,6 @@ invariant-loop-page g l = record {
   later : g.V.Volume.faults l.fn.volume ≤ g.V.Volume.faults l.volume;
   only : EachCall (g.V.Volume.told l.fn.volume) (g.V.Volume.told l.volume) IsQuiet;
   sure : IfTold (g.V.Volume.told l.volume) IsCertain;
-  are : IfTold (g.V.Volume.told l.volume) (λ t. ArePages (read_of t.first t.calls) l.page l.records.items);
+  are : IfTold (g.V.Volume.told l.volume)
+      (λ t. ArePages (read_of t.first t.calls) l.page l.records.items);
 }

@@ -7,7 +7,8 @@ use Rattle.rg_log.proofs.page.page_end.Goals as goal
 
 pub count_fitting-count-requires : goal.count_fitting-count-requires
 count_fitting-count-requires c =
-    subst AreEntries (sym c.split_at.ensures.back) (back_entries c.args.records.now c.args.from c.requires.entries)
+    subst AreEntries (sym c.split_at.ensures.back)
+    (back_entries c.args.records.now c.args.from c.requires.entries)
 
 pub overflow_add-result : goal.overflow_add-result
 overflow_add-result c =
@@ -21,7 +22,8 @@ overflow_add-result c =
     )
 
 pub returns-clause-end : goal.returns-clause-end
-returns-clause-end c = omega (arith, c.count_fitting-count.ensures.count, ap (fitting 0) c.split_at.ensures.back)
+returns-clause-end c =
+    omega (arith, c.count_fitting-count.ensures.count, ap (fitting 0) c.split_at.ensures.back)
 
 pub returns-clause-within : goal.returns-clause-within
 returns-clause-within c =

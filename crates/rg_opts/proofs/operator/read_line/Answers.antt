@@ -9,5 +9,6 @@ returns-in_default c = λ answer is. c.in_default.ensures.cases.0 (answer_utf8 _
 
 pub returns : goal.returns
 returns c =
-    let words = ap texts c.deref.ensures.value ∙ c.in_ok-words.ensures ∙ ap (λ bytes. parts 32 bytes) c.in-Ok.ensures.cases.0 in
+    let words = ap texts c.deref.ensures.value ∙ c.in_ok-words.ensures
+    ∙ ap (λ bytes. parts 32 bytes) c.in-Ok.ensures.cases.0 in
     finds _ _ _ words c.read_answer.ensures.none c.read_answer.ensures.found

@@ -14,5 +14,6 @@ pub loop-rest-preserved : goal.loop-rest-preserved
 loop-rest-preserved c =
     let is = rw c.in-Ok-Some.field-0-is at c.in-Ok-Some.ensures in
     let some : 0 < length c.loop-rest.rest.now = grind (arith, nat_tests) in
-    let pushed : c.push.new.self.items ≡ c.loop-rest.answers.items ++ c.in-Ok-Some.answer ∷ [] = grind (arith, common_steps) in
+    let pushed : c.push.new.self.items ≡ c.loop-rest.answers.items ++ c.in-Ok-Some.answer ∷ [] =
+    grind (arith, common_steps) in
     rw pushed (read_more _ _ _ _ _ _ _ c.loop-rest.invariant some c.split_line.ensures is)

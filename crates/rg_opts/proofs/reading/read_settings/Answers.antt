@@ -16,7 +16,8 @@ returns-in-Err-clause-few c =
 
 pub returns-in-Err-clause-stops : goal.returns-in-Err-clause-stops
 returns-in-Err-clause-stops c =
-    stopped _ _ _ _ _ c.loop-at.invariant (omega (arith, length-texts c.args.words.now)) (rw texts-rest at c.in-Err.ensures.none)
+    stopped _ _ _ _ _ c.loop-at.invariant (omega (arith, length-texts c.args.words.now))
+    (rw texts-rest at c.in-Err.ensures.none)
 
 pub overflow_add-at : goal.overflow_add-at
 overflow_add-at c =
@@ -26,4 +27,5 @@ overflow_add-at c =
 pub loop-at-preserved : goal.loop-at-preserved
 loop-at-preserved c =
     let found = c.in-Ok.ensures.found in
-    rw c.put.ensures (stepped _ _ _ _ _ c.loop-at.invariant found.0 found.1 (rw texts-rest at found.2))
+    rw c.put.ensures
+    (stepped _ _ _ _ _ c.loop-at.invariant found.0 found.1 (rw texts-rest at found.2))

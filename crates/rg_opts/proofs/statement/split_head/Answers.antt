@@ -8,10 +8,12 @@ returns-in_default-strip_word-clause-stops c =
 pub returns-in_default-strip_word-2-clause-stops :
     goal.returns-in_default-strip_word-2-clause-stops
 returns-in_default-strip_word-2-clause-stops c =
-    stops_third _ _ _ c.in-Some.ensures.found c.in-Some-strip_word.ensures.found c.in_default-strip_word-2.ensures.none
+    stops_third _ _ _ c.in-Some.ensures.found c.in-Some-strip_word.ensures.found
+    c.in_default-strip_word-2.ensures.none
 
 pub returns-in_default-strip_word-3-clause-stops :
     goal.returns-in_default-strip_word-3-clause-stops
 returns-in_default-strip_word-3-clause-stops c =
-    stops_fourth _ _ _ _ c.in-Some.ensures.found c.in-Some-strip_word.ensures.found c.in-Some-strip_word-2.ensures.found
+    stops_fourth _ _ _ _ c.in-Some.ensures.found c.in-Some-strip_word.ensures.found
+    c.in-Some-strip_word-2.ensures.found
     c.in_default-strip_word-3.ensures.none

@@ -19,5 +19,6 @@ returns-in-Some c =
     (c.write_into.ensures.size ∙ sym size)
     c.copy_within-in-Some.ensures.after len
     (written_end _ _ _ c.args.at _ c.size.result
-    (omega (arith, len, c.requires.whole, c.requires.filled)) (c.write_into.ensures.bytes ∙ rw size refl))
+    (omega (arith, len, c.requires.whole, c.requires.filled))
+    (c.write_into.ensures.bytes ∙ rw size refl))
     (search rules))

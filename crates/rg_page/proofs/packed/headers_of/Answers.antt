@@ -1,4 +1,5 @@
-use Rattle.std.proofs.Common.{◌≡◌, ◌∙◌, ℕ, None, List, [], ◌∷◌, ◌++◌, map, take, get_or, ap, sym, arith}
+use Rattle.std.proofs.Common.{◌≡◌, ◌∙◌, ℕ, None, List, [], ◌∷◌, ◌++◌, map, take, get_or, ap, sym}
+use Rattle.std.proofs.Common.{arith}
 use Rattle.rg_base.specs.RowBytes.{row_size}
 use Rattle.rg_home.specs.Pages.{row_or_empty}
 use Rattle.rg_home.specs.Slot.{Slot, Row}

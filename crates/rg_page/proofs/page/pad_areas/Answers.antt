@@ -11,7 +11,8 @@ loop-areas-preserved c =
     let below : length was < c.args.count = omega arith in
     let is = c.push_empty.ensures in
     record {
-      in_range = omega (arith, ap (λ (xs : List (List ℕ)). length xs) is, length-append was ([] ∷ []), below);
+      in_range = omega
+          (arith, ap (λ (xs : List (List ℕ)). length xs) is, length-append was ([] ∷ []), below);
       filled = ap filled_by is ∙ filled_by-push was ∙ c.loop-areas.invariant.filled;
       same = λ x. ap (λ (xs : List (List ℕ)). altered [] (λ _. x) xs c.args.count) is
           ∙ altered-more [] (λ _. x) was c.args.count below ∙ c.loop-areas.invariant.same x;

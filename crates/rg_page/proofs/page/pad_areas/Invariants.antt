@@ -7,7 +7,8 @@ abbrev pub invariant-loop-areas : goal.invariant-loop-areas
 invariant-loop-areas l = record {
   in_range : length l.areas ≤ l.count;
   filled : filled_by l.areas ≡ filled_by l.fn.areas;
-  same : (x : List ℕ) → altered [] (λ _. x) l.areas l.count ≡ altered [] (λ _. x) l.fn.areas l.count;
+  same : (x : List ℕ)
+      → altered [] (λ _. x) l.areas l.count ≡ altered [] (λ _. x) l.fn.areas l.count;
 }
 
 abbrev pub decreases-loop-areas : goal.decreases-loop-areas

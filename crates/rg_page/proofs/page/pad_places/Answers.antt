@@ -11,7 +11,8 @@ loop-others-preserved c =
     let below : length was < c.args.count = omega (arith, c.loop-others.others.ok.0) in
     let is = c.push_within.ensures.items in
     record {
-      in_range = omega (arith, ap (λ (xs : List Place). length xs) is, length-append was (nowhere ∷ []), below);
+      in_range = omega
+          (arith, ap (λ (xs : List Place). length xs) is, length-append was (nowhere ∷ []), below);
       capacity = omega (arith, c.push_within.ensures.capacity, c.loop-others.invariant.capacity);
       same = λ x. ap (λ (xs : List Place). altered nowhere (λ _. x) xs c.args.count) is
           ∙ altered-more nowhere (λ _. x) was c.args.count below ∙ c.loop-others.invariant.same x;

@@ -8,7 +8,9 @@ abbrev pub invariant-loop-others : goal.invariant-loop-others
 invariant-loop-others l = record {
   in_range : length l.others.items ≤ l.count;
   capacity : vec_capacity l.fn.others ≤ vec_capacity l.others;
-  same : (x : Place) → altered nowhere (λ _. x) l.others.items l.count ≡ altered nowhere (λ _. x) l.fn.others.items l.count;
+  same : (x : Place)
+      → altered nowhere (λ _. x) l.others.items l.count
+      ≡ altered nowhere (λ _. x) l.fn.others.items l.count;
 }
 
 abbrev pub decreases-loop-others : goal.decreases-loop-others

@@ -9,7 +9,12 @@ use Rattle.rg_page.proofs.page.put_area.Goals as goal
 
 pub truncate-requires : goal.truncate-requires
 truncate-requires c =
-    omega (arith, ap (λ (xs : List (List ℕ)). length xs) c.replace.ensures, length-set_any c.args.areas.now c.args.at (bytes_of (option_copied c.args.row)), c.requires.left.inside (omega arith))
+    omega (
+      arith,
+      ap (λ (xs : List (List ℕ)). length xs) c.replace.ensures,
+      length-set_any c.args.areas.now c.args.at (bytes_of (option_copied c.args.row)),
+      c.requires.left.inside (omega arith),
+    )
 
 pub returns-then-at-len : goal.returns-then-at-len
 returns-then-at-len c =
@@ -23,7 +28,9 @@ returns-then-left-at c =
     let past : length c.args.areas.now ≤ c.args.at = omega arith in
     let few : c.args.left ≤ length c.args.areas.now = c.requires.left.none past (omega arith) in
     c.truncate-then-left-at.ensures
-    ∙ sym (altered-front [] (λ _. bytes_of (option_copied c.args.row)) c.args.areas.now c.args.at c.args.left few past)
+    ∙ sym
+    (altered-front [] (λ _. bytes_of (option_copied c.args.row)) c.args.areas.now c.args.at
+    c.args.left few past)
 
 pub replace-requires-2-clause-fits : goal.replace-requires-2-clause-fits
 replace-requires-2-clause-fits c =

@@ -10,7 +10,9 @@ pub returns-then-at-len-clause-items : goal.returns-then-at-len-clause-items
 returns-then-at-len-clause-items c =
     c.truncate.ensures.items
     ∙ ap (λ (xs : List Place). take c.args.left xs)
-    (sym (altered-set nowhere c.args.other c.args.others.now.items c.args.at (omega (arith, c.args.others.now.ok.0))))
+    (sym
+    (altered-set nowhere c.args.other c.args.others.now.items c.args.at
+    (omega (arith, c.args.others.now.ok.0))))
 
 pub returns-then-left-at-clause-items : goal.returns-then-left-at-clause-items
 returns-then-left-at-clause-items c =
@@ -18,7 +20,9 @@ returns-then-left-at-clause-items c =
     let few : c.args.left ≤ length c.args.others.now.items =
     omega (arith, c.requires.left.none (omega arith) (omega arith), c.args.others.now.ok.0) in
     c.truncate-then-left-at.ensures.items
-    ∙ sym (altered-front nowhere (λ _. c.args.other) c.args.others.now.items c.args.at c.args.left few past)
+    ∙ sym
+    (altered-front nowhere (λ _. c.args.other) c.args.others.now.items c.args.at c.args.left few
+    past)
 
 pub returns-clause-items : goal.returns-clause-items
 returns-clause-items c =

@@ -17,9 +17,15 @@ returns-clause-row c =
       text = c.requires.spelled.1;
     }
   where
-    later : (n : ℕ) (bytes : List ℕ) → ((i : ℕ) → get_or bytes i 0 < 256) → (i : ℕ) → get_or (drop n bytes) i 0 < 256
+    later : (n : ℕ) (bytes : List ℕ) → ((i : ℕ) → get_or bytes i 0 < 256) → (i : ℕ)
+        → get_or (drop n bytes) i 0 < 256
     later n bytes small i = subst (λ (x : ℕ). x < 256) (sym (get_or-drop n bytes i 0)) (small _)
 
 pub returns-clause-within : goal.returns-clause-within
 returns-clause-within c =
-    omega (arith, length-row_bytes (row_of c.args._bytes.now), ap (λ (xs : List ℕ). length xs) c.requires.spelled.0, c.requires.held)
+    omega (
+      arith,
+      length-row_bytes (row_of c.args._bytes.now),
+      ap (λ (xs : List ℕ). length xs) c.requires.spelled.0,
+      c.requires.held,
+    )

@@ -18,8 +18,18 @@ returns-clause-acts g c =
     let event = c.next_event-event.result in
     let is = c.next_event-event.ensures in
     let next =
-    subst (λ (n : ℕ). is_plain (turn_of n old.covered c.args.answer (numbers_of s) s.drain event) ≡ true) c.changes.ensures
-    (subst (λ (o : Option Session). is_plain (turn_of c.changes.result o c.args.answer (numbers_of s) s.drain event) ≡ true) c.holder.ensures c.next_event-event.ensures.next) in
+    subst
+    (λ (n : ℕ). is_plain (turn_of n old.covered c.args.answer (numbers_of s) s.drain event) ≡ true)
+    c.changes.ensures
+    (subst
+    (λ (o : Option Session).
+    is_plain (turn_of c.changes.result o c.args.answer (numbers_of s) s.drain event) ≡ true)
+    c.holder.ensures c.next_event-event.ensures.next) in
     λ made taken.
-    acts_booked look old c.args.answer made taken old c.book.new.self event (runs_some old s c.requires.stage) (writes_none look old) (next_runs old s c.args.answer event c.requires.up c.requires.stage is.booked next) is.booked
-    (λ stops. absurd (cc (stops, is.device))) (space_at old.stage s _ _ event c.requires.stage (space_unfilled _ _ s event is.unfilled)) (told_over made old.stage taken old.changes old.covered c.args.answer s event c.requires.over next) c.book.ensures
+    acts_booked look old c.args.answer made taken old c.book.new.self event
+    (runs_some old s c.requires.stage) (writes_none look old)
+    (next_runs old s c.args.answer event c.requires.up c.requires.stage is.booked next) is.booked
+    (λ stops. absurd (cc (stops, is.device)))
+    (space_at old.stage s _ _ event c.requires.stage (space_unfilled _ _ s event is.unfilled))
+    (told_over made old.stage taken old.changes old.covered c.args.answer s event c.requires.over
+    next) c.book.ensures

@@ -4,4 +4,5 @@ use Rattle.rg_print.specs.Layout.{spot_line}
 use Rattle.rg_print.proofs.layout.push_spots.Given as goal
 
 abbrev pub invariant-loop-spot : goal.invariant-loop-spot
-invariant-loop-spot l = l.out.items ≡ l.fn.out.items ++ flat_map spot_line (take l.spot-index l.spots)
+invariant-loop-spot l =
+    l.out.items ≡ l.fn.out.items ++ flat_map spot_line (take l.spot-index l.spots)

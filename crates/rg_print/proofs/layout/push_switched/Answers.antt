@@ -11,5 +11,7 @@ returns c =
     let older = side_text c.args.full (codes "OLD") c.args.sides.now.old in
     let newer = side_text c.args.full (codes "NEW") c.args.sides.now.new in
     let named = rw c.from.ensures at c.in_ok-push_named.ensures in
-    let first = joined out c.push_named.new.out.items c.push_side.new.out.items copy older named c.in_ok-push_side.ensures in
-    OnOk-joined c.push_side-2.result out c.push_side.new.out.items c.push_side-2.new.out.items (copy ++ older) newer first c.push_side-2.ensures
+    let first = joined out c.push_named.new.out.items c.push_side.new.out.items copy older named
+    c.in_ok-push_side.ensures in
+    OnOk-joined c.push_side-2.result out c.push_side.new.out.items c.push_side-2.new.out.items
+    (copy ++ older) newer first c.push_side-2.ensures

@@ -3,4 +3,6 @@ use Rattle.rg_print.proofs.Pieces.{OnOk-map_err}
 use Rattle.rg_print.proofs.print.push_end.Goals as goal
 
 pub returns : goal.returns
-returns c = simp append_assoc (OnOk-map_err _ c.writeln.result c.map_err.result c.map_err.ensures.variant c.writeln.ensures.bytes)
+returns c = simp append_assoc
+    (OnOk-map_err _ c.writeln.result c.map_err.result c.map_err.ensures.variant
+    c.writeln.ensures.bytes)

@@ -4,4 +4,5 @@ use Rattle.rg_print.specs.Reply.{row_line}
 use Rattle.rg_print.proofs.reply.push_listed.Given as goal
 
 abbrev pub invariant-loop-row : goal.invariant-loop-row
-invariant-loop-row l = l.out.items ≡ l.initial.out.items ++ flat_map row_line (take l.row-index l.rows)
+invariant-loop-row l =
+    l.out.items ≡ l.initial.out.items ++ flat_map row_line (take l.row-index l.rows)

@@ -5,4 +5,5 @@ use Rattle.rg_print.proofs.utility.push_log.Goals as goal
 pub returns : goal.returns
 returns c =
     let named = rw c.verdict_words-verdict.ensures at c.write.ensures.bytes in
-    simp append_assoc (OnOk-map_err _ c.write.result c.map_err.result c.map_err.ensures.variant named)
+    simp append_assoc
+    (OnOk-map_err _ c.write.result c.map_err.result c.map_err.ensures.variant named)

@@ -3,4 +3,5 @@ use Rattle.rg_print.proofs.Pieces.{OnOk-map_err}
 use Rattle.rg_print.proofs.utility.push_unload.Goals as goal
 
 pub returns : goal.returns
-returns c = simp append_assoc (OnOk-map_err _ c.write.result c.map_err.result c.map_err.ensures.variant c.write.ensures.bytes)
+returns c = simp append_assoc
+    (OnOk-map_err _ c.write.result c.map_err.result c.map_err.ensures.variant c.write.ensures.bytes)

@@ -8,7 +8,8 @@ returns-in_err-part c =
     let p = err_from_is_err_and c.from_residual.result c.from_residual.ensures.1 in
     rw (p.1, p.2)
     (ends c.in_err-part.field-0.0 c.loop.parts.items c.args.count c.loop.counter c.loop.rest.now
-    (parts_at c.args.count c.args.bytes.now) c.loop-test.true c.in_err-part.ensures c.loop.invariant)
+    (parts_at c.args.count c.args.bytes.now) c.loop-test.true c.in_err-part.ensures
+    c.loop.invariant)
 
 pub loop-preserved : goal.loop-preserved
 loop-preserved c =

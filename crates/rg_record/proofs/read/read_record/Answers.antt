@@ -20,7 +20,8 @@ returns-then-ne-clause-fault c =
     only_read c.args.bytes.now c.in_ok-entry.entry c.in_ok-entry.ensures
     (λ is same.
     let written : c.add_to.new.out ≡ record_bytes c.in_ok-entry.entry =
-    c.add_to.ensures.bytes ∙ ap (λ (xs : List ℕ). xs ++ record_bytes c.in_ok-entry.entry) c.new-again.ensures in
+    c.add_to.ensures.bytes
+    ∙ ap (λ (xs : List ℕ). xs ++ record_bytes c.in_ok-entry.entry) c.new-again.ensures in
     let equal : c.as_slice.result.now ≡ c.args.bytes.now =
     c.as_slice.ensures.bytes ∙ written ∙ same in
     let test = (bytes_decides c.as_slice.result.now c.args.bytes.now).1 equal in

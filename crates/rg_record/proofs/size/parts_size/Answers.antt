@@ -6,7 +6,8 @@ use Rattle.rg_record.proofs.size.parts_size.Goals as goal
 
 pub loop-part-preserved : goal.loop-part-preserved
 loop-part-preserved c =
-    let at = parts_size_at c.args.parts.now c.loop-part.part-index (record { page = 0; slot = 0; op = Free })
+    let at =
+    parts_size_at c.args.parts.now c.loop-part.part-index (record { page = 0; slot = 0; op = Free })
     c.loop-part-test.true in (
       omega (arith, at, c.op_size.ensures.size, c.loop-part.invariant.0),
       omega (arith, c.op_size.ensures.high, c.loop-part.invariant.1),

@@ -7,15 +7,18 @@ use Rattle.rg_record.proofs.write.add_parts.Goals as goal
 
 pub add_part-requires : goal.add_part-requires
 add_part-requires c =
-    let at = parts_size_at c.args.parts.now c.loop-part.part-index (record { page = 0; slot = 0; op = Free })
+    let at =
+    parts_size_at c.args.parts.now c.loop-part.part-index (record { page = 0; slot = 0; op = Free })
     c.loop-part-test.true in
     omega (arith, at, c.loop-part.invariant.len, c.requires.room)
 
 pub loop-part-preserved : goal.loop-part-preserved
 loop-part-preserved c =
     let i : ℕ = c.loop-part.part-index in
-    let size = parts_size_at c.args.parts.now i (record { page = 0; slot = 0; op = Free }) c.loop-part-test.true in
-    let bytes = parts_bytes_at c.args.parts.now i (record { page = 0; slot = 0; op = Free }) c.loop-part-test.true in
+    let size = parts_size_at c.args.parts.now i (record { page = 0; slot = 0; op = Free })
+    c.loop-part-test.true in
+    let bytes = parts_bytes_at c.args.parts.now i (record { page = 0; slot = 0; op = Free })
+    c.loop-part-test.true in
     record {
       bytes = piece_added c.loop-part.out _ _ _ _ c.add_part.ensures.bytes
           (ap (λ (xs : List ℕ). c.loop-part.out ++ xs) (sym bytes) ∙ c.loop-part.invariant.bytes);

@@ -11,5 +11,6 @@ invariant-loop-alloc l = record {
   copy : l.frames.copy ≡ l.copy;
   few : length l.frames.pages.items ≤ l.count;
   reserved : l.frames.reserved.items ≡ [];
-  rows : (rows : List Moved) → HasRows l.fn.frames.pages.items rows → HasRows l.frames.pages.items rows;
+  rows : (rows : List Moved) → HasRows l.fn.frames.pages.items rows
+      → HasRows l.frames.pages.items rows;
 }

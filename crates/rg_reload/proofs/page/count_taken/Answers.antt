@@ -7,7 +7,8 @@ loop-count-preserved c =
     let row = c.index-rows-count.result in
     let area = c.area_of-area.ensures.area in
     let i = c.loop-count.invariant in
-    let more = taken-more c.args.options.now c.loop-count.free c.loop-count.count c.args.rows.now row c.loop-count-test.true
+    let more = taken-more c.args.options.now c.loop-count.free c.loop-count.count c.args.rows.now
+    row c.loop-count-test.true
     (omega (arith, area, c.free_part-kept.ensures.part, c.if-kept-area.false)) in
     let slots = used-take c.loop-count.count c.args.rows.now row c.loop-count-test.true in
     record {

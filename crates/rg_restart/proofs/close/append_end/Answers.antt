@@ -8,7 +8,12 @@ append-requires-clause-room c = omega (arith, rolled_bytes, c.requires.room)
 
 pub returns-clause-took : goal.returns-clause-took
 returns-clause-took c = record {
-  more = record { position = c.next_position.result; tran = c.args.tran; back = c.args.back; kind = RolledBack } ∷ [];
+  more = record {
+    position = c.next_position.result;
+    tran = c.args.tran;
+    back = c.args.back;
+    kind = RolledBack;
+  } ∷ [];
   records = c.append.ensures.records;
   back = (tt, tt);
   below = λ top low. (low.0, tt);

@@ -6,7 +6,8 @@ use Rattle.rg_restart.proofs.close.close_each.Given as goal
 abbrev pub invariant-loop-at : goal.invariant-loop-at
 invariant-loop-at l = record {
   low : l.at ≤ length l.trans;
-  closed : ClosedAll (take l.at (numbers_of l.trans)) (take l.count l.fn.log.records) l.fn.space l.space l.fn.log l.log;
+  closed : ClosedAll (take l.at (numbers_of l.trans)) (take l.count l.fn.log.records) l.fn.space
+      l.space l.fn.log l.log;
 }
 
 abbrev pub decreases-loop-at : goal.decreases-loop-at

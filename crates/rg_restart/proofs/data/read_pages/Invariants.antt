@@ -12,6 +12,10 @@ invariant-loop-before g l = record {
   only : EachCall (g.V.Volume.told l.fn.volume) (g.V.Volume.told l.volume) IsQuiet;
   base : AreBase l.fn.copy l.fn.last l.before l.frames;
   as_is : AreTakenAsIs l.fn.copy l.fn.switch l.frames.pages.items;
-  takes : IfTold (g.V.Volume.told l.volume) (λ t. TakesPages l.fn.copy l.fn.last l.fn.switch l.fn.set l.before (read_of t.first t.calls) l.frames.pages.items);
-  marked : IfTold (g.V.Volume.told l.volume) (λ t. MarksPages l.fn.copy l.fn.last l.fn.switch l.fn.set l.before (read_of t.first t.calls) l.marks.items);
+  takes : IfTold (g.V.Volume.told l.volume)
+      (λ t. TakesPages l.fn.copy l.fn.last l.fn.switch l.fn.set l.before (read_of t.first t.calls)
+      l.frames.pages.items);
+  marked : IfTold (g.V.Volume.told l.volume)
+      (λ t. MarksPages l.fn.copy l.fn.last l.fn.switch l.fn.set l.before (read_of t.first t.calls)
+      l.marks.items);
 }

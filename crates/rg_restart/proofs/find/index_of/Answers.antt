@@ -10,13 +10,18 @@ use Rattle.rg_space.specs.Memory.{space_pages}
 use Rattle.rg_restart.proofs.find.index_of.Goals as goal
 
 pub build-requires : goal.build-requires
-build-requires c = subst IsRising (sym c.as_slice.ensures) (c.in_ok-list.ensures (space_pages c.args._space.now) c.requires).0
+build-requires c = subst IsRising (sym c.as_slice.ensures)
+    (c.in_ok-list.ensures (space_pages c.args._space.now) c.requires).0
 
 pub returns : goal.returns
 returns c =
     let lists = c.in_ok-list.ensures (space_pages c.args._space.now) c.requires in
-    ok_map c.build.result _ (λ index. IsListingOf c.args.which (row_at (slot_of (space_pages c.args._space.now))) (entries_of index))
+    ok_map c.build.result _
+    (λ index. IsListingOf c.args.which (row_at (slot_of (space_pages c.args._space.now)))
+    (entries_of index))
     (λ index is. subst (IsListingOf c.args.which (row_at (slot_of (space_pages c.args._space.now))))
-    (sym (shown_is c.as_slice.result.now index.entries (subst IsRising (sym c.as_slice.ensures) lists.0) (sym is) ∙ c.as_slice.ensures))
+    (sym
+    (shown_is c.as_slice.result.now index.entries (subst IsRising (sym c.as_slice.ensures) lists.0)
+    (sym is) ∙ c.as_slice.ensures))
     lists.1)
     c.build.ensures

@@ -9,8 +9,16 @@ use Rattle.rg_restart.proofs.find.page_of.Goals as goal
 pub last_page-requires-clause-entries : goal.last_page-requires-clause-entries
 last_page-requires-clause-entries c =
     subst AreEntries (sym c.split_at.ensures.front)
-    (λ entry is. subst AreEntries (sym c.records-records.ensures.records) c.records-records.ensures.entries entry (contains_take c.min.result c.records-records.result.now entry is))
+    (λ entry is. subst AreEntries (sym c.records-records.ensures.records)
+    c.records-records.ensures.entries entry
+    (contains_take c.min.result c.records-records.result.now entry is))
 
 pub last_page-requires-clause-few : goal.last_page-requires-clause-few
 last_page-requires-clause-few c =
-    omega (arith, ap (λ (l : List Record). (end_of start l).page) c.split_at.ensures.front, front_page c.min.result c.records-records.result.now, c.records-records.ensures.last, ap (λ (l : List Record). (end_of start l).page) c.records-records.ensures.records)
+    omega (
+      arith,
+      ap (λ (l : List Record). (end_of start l).page) c.split_at.ensures.front,
+      front_page c.min.result c.records-records.result.now,
+      c.records-records.ensures.last,
+      ap (λ (l : List Record). (end_of start l).page) c.records-records.ensures.records,
+    )

@@ -14,7 +14,9 @@ new-requires-clause-copy g c = c.in-Ok.ensures.looks.finds.copy
 
 -- looking makes more calls, and takes none back
 pub new-requires-clause-counted : goal.new-requires-clause-counted
-new-requires-clause-counted g c = has_more IsQuiet (g.V.Volume.told c.args.volume) (g.V.Volume.told c.look.new.volume) c.args.calls c.in-Ok.ensures.looks.calls.only c.requires.counted
+new-requires-clause-counted g c =
+    has_more IsQuiet (g.V.Volume.told c.args.volume) (g.V.Volume.told c.look.new.volume)
+    c.args.calls c.in-Ok.ensures.looks.calls.only c.requires.counted
 
 pub returns-in-Ok-clause-opens : goal.returns-in-Ok-clause-opens
 returns-in-Ok-clause-opens g c =
@@ -23,8 +25,10 @@ returns-in-Ok-clause-opens g c =
     let volume = c.look.new.volume in
     let operator = c.args.operator in
     ok_both c.new.result
-    (λ made. Opens look volume operator found.log found.copy (capacity_in found.space) (space_pages found.space) made.0)
+    (λ made. Opens look volume operator found.log found.copy (capacity_in found.space)
+    (space_pages found.space) made.0)
     (λ made. made.0.contents ≡ (list_seen (frames_of found.space)).pages)
     (λ made. OpensStored look (look c.args.volume) operator made.0)
-    (λ made opens contents. opens_stored look (look c.args.volume) volume operator found made.0 c.in-Ok.ensures.looks opens contents)
+    (λ made opens contents. opens_stored look (look c.args.volume) volume operator found made.0
+    c.in-Ok.ensures.looks opens contents)
     c.new.ensures.opens c.new.ensures.contents

@@ -9,4 +9,5 @@ use Rattle.rg_restart.proofs.stored.committed_in.Goals as goal
 pub loop-at-init : goal.loop-at-init
 loop-at-init c = λ tran.
     ap (λ m. map.contains_key m tran || is_committed c.args.records.now tran) c.new-ended.ensures
-    ∙ ap (λ (o : Option Bool). is_some o || is_committed c.args.records.now tran) (get-empty {X = Bool} nat_cmp tran)
+    ∙ ap (λ (o : Option Bool). is_some o || is_committed c.args.records.now tran)
+    (get-empty {X = Bool} nat_cmp tran)

@@ -7,5 +7,6 @@ abbrev pub decreases-loop-at : goal.decreases-loop-at
 decreases-loop-at l = length l.records - l.at
 
 abbrev pub invariant-loop-at : goal.invariant-loop-at
-invariant-loop-at l =
-    (tran : ℕ) → (map.contains_key l.ended tran || is_committed (drop l.at l.records) tran) ≡ is_committed l.records tran
+invariant-loop-at l = (tran : ℕ)
+    → (map.contains_key l.ended tran || is_committed (drop l.at l.records) tran)
+    ≡ is_committed l.records tran

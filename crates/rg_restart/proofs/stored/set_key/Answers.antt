@@ -12,7 +12,12 @@ returns-in-Ok-clause-row c = λ q.
     ap (λ t. map.get t q) c.in-Ok.ensures.ok
     ∙ key_set c.args.table.now c.in-Some.row.now.key c.in_ok-copy.copy q
     ∙ ap (λ (r : Option Row). if c.in-Some.row.now.key == q then r else old) c.in_ok-copy.ensures
-    ∙ ap (λ o. if has_key q (option_copied o) then option_copied c.args.after else old) (sym c.in-Some.is)
+    ∙ ap (λ o. if has_key q (option_copied o) then option_copied c.args.after else old)
+    (sym c.in-Some.is)
 
 pub returns-in-Ok-clause-few : goal.returns-in-Ok-clause-few
-returns-in-Ok-clause-few c = omega (arith, ap (λ t. map.len t) c.in-Ok.ensures.ok, set_few c.args.table.now c.in-Some.row.now.key c.in_ok-copy.copy)
+returns-in-Ok-clause-few c = omega (
+  arith,
+  ap (λ t. map.len t) c.in-Ok.ensures.ok,
+  set_few c.args.table.now c.in-Some.row.now.key c.in_ok-copy.copy,
+)

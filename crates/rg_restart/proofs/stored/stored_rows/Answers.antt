@@ -14,7 +14,8 @@ loop-at-init c =
     record {
       rows = λ key.
           ap (λ m. made_over (last_made rs rs key) (map.get m key)) c.new-table.ensures
-          ∙ ap (λ (row : Option Row). made_over (last_made rs rs key) row) (get-empty {X = Row} nat_cmp key)
+          ∙ ap (λ (row : Option Row). made_over (last_made rs rs key) row)
+          (get-empty {X = Row} nat_cmp key)
           ∙ made_of_none (last_made rs rs key);
       few = omega (arith, ap (λ m. map.len m) c.new-table.ensures, len-empty nat_cmp Row);
       low = omega arith;

@@ -9,7 +9,9 @@ decreases-loop-at l = length l.records - l.at
 
 abbrev pub invariant-loop-at : goal.invariant-loop-at
 invariant-loop-at l = record {
-  rows : (key : ℕ) → made_over (last_made l.records (drop l.at l.records) key) (map.get l.table key) ≡ stored l.records key;
+  rows : (key : ℕ)
+      → made_over (last_made l.records (drop l.at l.records) key) (map.get l.table key)
+      ≡ stored l.records key;
   few : map.len l.table ≤ 2 * l.at;
   low : l.at ≤ length l.records;
 }

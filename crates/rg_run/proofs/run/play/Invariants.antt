@@ -10,7 +10,8 @@ use Rattle.rg_run.proofs.run.play.Given as goal
 abbrev pub invariant-loop-line : goal.invariant-loop-line
 invariant-loop-line g l =
     record {
-      going : Going (seen_volume g.V.Volume.told g.V.Volume.faults g.V.Volume.capacities) g.O.Operator.answers l.fn.desk l.yielded l.desk;
+      going : Going (seen_volume g.V.Volume.told g.V.Volume.faults g.V.Volume.capacities)
+          g.O.Operator.answers l.fn.desk l.yielded l.desk;
       rest : l.yielded ++ into_iter_items l.line-iterator ≡ l.fn.lines.items;
       left : into_iter_len l.line-iterator ≡ length (into_iter_items l.line-iterator);
       kept : l.desk.kept ≡ None;

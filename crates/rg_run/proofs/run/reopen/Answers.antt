@@ -18,7 +18,8 @@ returns-in-Ok-clause-goes g c = λ first lines going.
     going_again look first c.args.desk lines going parts.left parts.legal count
     (subst (λ (es : List Entry). IsRecorded es count) parts.trace parts.recorded) parts.counted
     c.into_parts-volume.result.1 parts.operator c.in-Ok.desk
-    (subst (λ v. OpensStored look (look v) c.into_parts-volume.result.1 c.in-Ok.desk) parts.volume c.in-Ok.ensures.opens)
+    (subst (λ v. OpensStored look (look v) c.into_parts-volume.result.1 c.in-Ok.desk) parts.volume
+    c.in-Ok.ensures.opens)
     (c.in-Ok.ensures.older ∙ parts.trace)
 
 pub returns-in-Ok-clause-kept : goal.returns-in-Ok-clause-kept
@@ -35,10 +36,17 @@ returns-in-Err-clause-ends g c = λ first lines rest going.
     let count = c.into_parts-volume.result.3 in
     let left = c.refused.ensures in
     let seen = look c.in-Err.fault.volume in
-    subst (λ v. IsRun look answers first (lines ++ Death ∷ rest) (look v) c.refused.result.operator c.refused.result.trace.items c.refused.result.end) (sym left.volume)
-    (subst (λ (end : RunEnd). IsRun look answers first (lines ++ Death ∷ rest) seen c.refused.result.operator c.refused.result.trace.items end) (sym left.end)
+    subst
+    (λ v. IsRun look answers first (lines ++ Death ∷ rest) (look v) c.refused.result.operator
+    c.refused.result.trace.items c.refused.result.end) (sym left.volume) (subst
+    (λ (end : RunEnd). IsRun look answers first (lines ++ Death ∷ rest) seen
+    c.refused.result.operator c.refused.result.trace.items end) (sym left.end)
     (refused_again look first c.args.desk lines going parts.left parts.legal count
     (subst (λ (es : List Entry). IsRecorded es count) parts.trace parts.recorded) parts.counted
     seen c.in-Err.fault.cause c.refused.result.operator c.refused.result.trace.items rest
-    (left.operator ∙ c.in-Err.ensures.operator ∙ parts.operator) (left.trace ∙ c.in-Err.ensures.trace ∙ parts.trace) parts.sound (g.met.V.Volume.told_faults c.args.desk.volume) (g.met.V.Volume.told_faults c.in-Err.fault.volume)
-    (subst (λ v. IsRefused (look v) seen c.in-Err.fault.cause) parts.volume c.in-Err.ensures.refused)))
+    (left.operator ∙ c.in-Err.ensures.operator ∙ parts.operator)
+    (left.trace ∙ c.in-Err.ensures.trace ∙ parts.trace) parts.sound
+    (g.met.V.Volume.told_faults c.args.desk.volume)
+    (g.met.V.Volume.told_faults c.in-Err.fault.volume)
+    (subst (λ v. IsRefused (look v) seen c.in-Err.fault.cause) parts.volume
+    c.in-Err.ensures.refused)))

@@ -9,20 +9,25 @@ use Rattle.rg_run.specs.Asked.{HasAnswered, answers_in}
 use Rattle.rg_run.specs.declared.played.RunEnd.{RunEnd}
 use Rattle.rg_run.proofs.Asking.{same_unasked}
 use Rattle.rg_run.specs.Whole.{Whole}
-use Rattle.rg_run.proofs.Wholly.{begun_counted, begun_tidy, going_first, none_recorded, whole_refused, whole_run}
+use Rattle.rg_run.proofs.Wholly.{begun_counted, begun_tidy, going_first, none_recorded}
+use Rattle.rg_run.proofs.Wholly.{whole_refused, whole_run}
 use Rattle.rg_run.proofs.run.run.Given as given
 use Rattle.rg_run.proofs.run.run.Goals as goal
 
 -- the count has just begun
 pub open_desk-requires : goal.open_desk-requires
 open_desk-requires g c = record {
-  tidy = begun_tidy g.V.Volume.told g.V.Volume.faults g.V.Volume.capacities c.args.volume c.new.result c.new.ensures;
+  tidy = begun_tidy g.V.Volume.told g.V.Volume.faults g.V.Volume.capacities c.args.volume
+      c.new.result c.new.ensures;
   recorded = none_recorded c.new-2.result.items c.new-2.ensures.items;
-  counted = begun_counted g.V.Volume.told g.V.Volume.faults g.V.Volume.capacities c.args.volume c.new.result c.new.ensures;
+  counted = begun_counted g.V.Volume.told g.V.Volume.faults g.V.Volume.capacities c.args.volume
+      c.new.result c.new.ensures;
 }
 
 pub play-requires-clause-going : goal.play-requires-clause-going
-play-requires-clause-going g c = going_first g.V.Volume.told g.V.Volume.faults g.V.Volume.capacities c.args.volume c.new.result g.O.Operator.answers c.args.operator c.in-Ok.desk c.in-Ok.ensures.opens (c.in-Ok.ensures.older ∙ c.new-2.ensures.items)
+play-requires-clause-going g c = going_first g.V.Volume.told g.V.Volume.faults g.V.Volume.capacities
+    c.args.volume c.new.result g.O.Operator.answers c.args.operator c.in-Ok.desk
+    c.in-Ok.ensures.opens (c.in-Ok.ensures.older ∙ c.new-2.ensures.items)
 
 pub play-requires-clause-kept : goal.play-requires-clause-kept
 play-requires-clause-kept g c = c.in-Ok.ensures.opens.opens.kept
@@ -32,29 +37,53 @@ play-requires-clause-shadow g c = c.in-Ok.ensures.opens.opens.shadow
 
 -- the run that was counted is one of the volume below
 played : (g : given.Over) (c : goal.After-uncounted g)
-    → Whole (seen_volume g.V.Volume.told g.V.Volume.faults g.V.Volume.capacities c.args.volume) (seen_volume g.V.Volume.told g.V.Volume.faults g.V.Volume.capacities c.uncounted.result.volume) c.args.lines.items c.uncounted.result.trace.items c.uncounted.result.end
+    → Whole (seen_volume g.V.Volume.told g.V.Volume.faults g.V.Volume.capacities c.args.volume)
+    (seen_volume g.V.Volume.told g.V.Volume.faults g.V.Volume.capacities c.uncounted.result.volume)
+    c.args.lines.items c.uncounted.result.trace.items c.uncounted.result.end
 played g c =
     let look = seen_volume g.V.Volume.told g.V.Volume.faults g.V.Volume.capacities in
     let below = c.uncounted.result.volume in
-    subst (λ (es : Vec Entry Global). Whole (look c.args.volume) (look below) c.args.lines.items es.items c.uncounted.result.end) (sym c.uncounted.ensures.trace)
-    (subst (λ (end : RunEnd). Whole (look c.args.volume) (look below) c.args.lines.items c.play.result.trace.items end) (sym c.uncounted.ensures.end)
-    (whole_run g.V.Volume.told g.V.Volume.faults g.V.Volume.capacities c.args.volume below c.new.result c.new.ensures c.play.result.volume c.uncounted.ensures.volume c.uncounted.ensures.counted
-    c.args.operator c.in-Ok.desk c.in-Ok.ensures.opens c.args.lines.items c.play.result.operator c.play.result.trace.items c.play.result.end c.play.ensures))
+    subst
+    (λ (es : Vec Entry Global). Whole (look c.args.volume) (look below) c.args.lines.items es.items
+    c.uncounted.result.end) (sym c.uncounted.ensures.trace) (subst
+    (λ (end : RunEnd). Whole (look c.args.volume) (look below) c.args.lines.items
+    c.play.result.trace.items end) (sym c.uncounted.ensures.end) (whole_run g.V.Volume.told
+    g.V.Volume.faults g.V.Volume.capacities c.args.volume below c.new.result c.new.ensures
+    c.play.result.volume c.uncounted.ensures.volume c.uncounted.ensures.counted
+    c.args.operator c.in-Ok.desk c.in-Ok.ensures.opens c.args.lines.items c.play.result.operator
+    c.play.result.trace.items c.play.result.end c.play.ensures))
 
 not_opened : (g : given.Over) (c : goal.After-drop-lines g)
-    → Whole (seen_volume g.V.Volume.told g.V.Volume.faults g.V.Volume.capacities c.args.volume) (seen_volume g.V.Volume.told g.V.Volume.faults g.V.Volume.capacities c.uncounted-in-Err.result.volume) c.args.lines.items c.uncounted-in-Err.result.trace.items c.uncounted-in-Err.result.end
+    → Whole (seen_volume g.V.Volume.told g.V.Volume.faults g.V.Volume.capacities c.args.volume)
+    (seen_volume g.V.Volume.told g.V.Volume.faults g.V.Volume.capacities
+    c.uncounted-in-Err.result.volume) c.args.lines.items c.uncounted-in-Err.result.trace.items
+    c.uncounted-in-Err.result.end
 not_opened g c =
     let look = seen_volume g.V.Volume.told g.V.Volume.faults g.V.Volume.capacities in
     let below = c.uncounted-in-Err.result.volume in
     let left = c.uncounted-in-Err.ensures in
     let fault = c.in-Err.fault in
     let n = c.refused.result.volume.calls in
-    let counted_look = seen_volume (λ (x : CountedCalls g.row.V.Denot). counted (g.V.Volume.told x.volume) x.calls) (λ x. g.V.Volume.faults x.volume) (λ x. g.V.Volume.capacities x.volume) in
-    subst (λ (end : RunEnd). Whole (look c.args.volume) (look below) c.args.lines.items c.uncounted-in-Err.result.trace.items end) (sym (left.end ∙ c.refused.ensures.end))
-    (whole_refused g.V.Volume.told g.V.Volume.faults g.V.Volume.capacities c.args.volume below c.new.result c.new.ensures g.met.V.Volume.told_faults n left.counted c.args.lines.items c.uncounted-in-Err.result.trace.items fault.cause
-    (ap (λ (v : Vec Entry Global). v.items) left.trace ∙ c.refused.ensures.trace ∙ c.in-Err.ensures.trace ∙ c.new-2.ensures.items)
-    (subst (λ (v : g.row.V.Denot). IsRefused (counted_look c.new.result) (record { told = counted (g.V.Volume.told v) n; faults = g.V.Volume.faults v; capacities = g.V.Volume.capacities v }) fault.cause) (sym left.volume)
-    (subst (λ (x : CountedCalls g.row.V.Denot). IsRefused (counted_look c.new.result) (counted_look x) fault.cause) (sym c.refused.ensures.volume) c.in-Err.ensures.refused)))
+    let counted_look =
+    seen_volume (λ (x : CountedCalls g.row.V.Denot). counted (g.V.Volume.told x.volume) x.calls)
+    (λ x. g.V.Volume.faults x.volume) (λ x. g.V.Volume.capacities x.volume) in
+    subst
+    (λ (end : RunEnd). Whole (look c.args.volume) (look below) c.args.lines.items
+    c.uncounted-in-Err.result.trace.items end) (sym (left.end ∙ c.refused.ensures.end))
+    (whole_refused g.V.Volume.told g.V.Volume.faults g.V.Volume.capacities c.args.volume below
+    c.new.result c.new.ensures g.met.V.Volume.told_faults n left.counted c.args.lines.items
+    c.uncounted-in-Err.result.trace.items fault.cause
+    (ap (λ (v : Vec Entry Global). v.items) left.trace ∙ c.refused.ensures.trace
+    ∙ c.in-Err.ensures.trace ∙ c.new-2.ensures.items) (subst
+    (λ (v : g.row.V.Denot). IsRefused (counted_look c.new.result)
+    (record {
+      told = counted (g.V.Volume.told v) n;
+      faults = g.V.Volume.faults v;
+      capacities = g.V.Volume.capacities v;
+    }) fault.cause) (sym left.volume)
+    (subst
+    (λ (x : CountedCalls g.row.V.Denot). IsRefused (counted_look c.new.result) (counted_look x)
+    fault.cause) (sym c.refused.ensures.volume) c.in-Err.ensures.refused)))
 
 pub returns-in-Ok-clause-ends : goal.returns-in-Ok-clause-ends
 returns-in-Ok-clause-ends g c = (played g c).ends
@@ -143,14 +172,25 @@ returns-in-Err-clause-later g c = (not_opened g c).later
 pub returns-in-Ok-clause-asked : goal.returns-in-Ok-clause-asked
 returns-in-Ok-clause-asked g c =
     let answers = g.O.Operator.answers in
-    subst (λ (o : g.row.O.Denot). HasAnswered (answers c.args.operator) (answers_in c.uncounted.result.trace.items) (answers o)) (sym c.uncounted.ensures.operator)
-    (subst (λ (es : Vec Entry Global). HasAnswered (answers c.args.operator) (answers_in es.items) (answers c.play.result.operator)) (sym c.uncounted.ensures.trace)
-    (subst (λ (o : g.row.O.Denot). HasAnswered (answers o) (answers_in c.play.result.trace.items) (answers c.play.result.operator)) c.in-Ok.ensures.opens.opens.asked c.play.ensures.asked))
+    subst
+    (λ (o : g.row.O.Denot). HasAnswered (answers c.args.operator)
+    (answers_in c.uncounted.result.trace.items) (answers o)) (sym c.uncounted.ensures.operator)
+    (subst
+    (λ (es : Vec Entry Global). HasAnswered (answers c.args.operator) (answers_in es.items)
+    (answers c.play.result.operator)) (sym c.uncounted.ensures.trace)
+    (subst
+    (λ (o : g.row.O.Denot). HasAnswered (answers o) (answers_in c.play.result.trace.items)
+    (answers c.play.result.operator)) c.in-Ok.ensures.opens.opens.asked c.play.ensures.asked))
 
 pub returns-in-Err-clause-asked : goal.returns-in-Err-clause-asked
 returns-in-Err-clause-asked g c =
     let answers = g.O.Operator.answers in
     let left = c.uncounted-in-Err.ensures in
-    subst (λ (es : List Entry). HasAnswered (answers c.args.operator) (answers_in es) (answers c.uncounted-in-Err.result.operator))
-    (sym (ap (λ (v : Vec Entry Global). v.items) left.trace ∙ c.refused.ensures.trace ∙ c.in-Err.ensures.trace ∙ c.new-2.ensures.items))
-    (same_unasked answers c.args.operator c.uncounted-in-Err.result.operator (left.operator ∙ c.refused.ensures.operator ∙ c.in-Err.ensures.operator))
+    subst
+    (λ (es : List Entry). HasAnswered (answers c.args.operator) (answers_in es)
+    (answers c.uncounted-in-Err.result.operator))
+    (sym
+    (ap (λ (v : Vec Entry Global). v.items) left.trace ∙ c.refused.ensures.trace
+    ∙ c.in-Err.ensures.trace ∙ c.new-2.ensures.items))
+    (same_unasked answers c.args.operator c.uncounted-in-Err.result.operator
+    (left.operator ∙ c.refused.ensures.operator ∙ c.in-Err.ensures.operator))

@@ -9,5 +9,7 @@ pub returns-clause-kept : goal.returns-clause-kept
 returns-clause-kept c = λ which rows kept.
     let listed = subst (IsKept which rows) c.in-Sorted.is kept in
     subst (IsListingOf which rows)
-    (sym (ap rising_part (c.in_ok-build-in-Sorted.ensures ∙ c.as_slice.ensures) ∙ rising_part-rising c.in-Sorted.list listed.0))
+    (sym
+    (ap rising_part (c.in_ok-build-in-Sorted.ensures ∙ c.as_slice.ensures)
+    ∙ rising_part-rising c.in-Sorted.list listed.0))
     listed.1

@@ -6,6 +6,7 @@ use Rattle.rg_shadow.proofs.mapping.map_pairs.Given as goal
 
 abbrev pub invariant-loop-source : goal.invariant-loop-source
 invariant-loop-source l = record {
-  targets : (source : Place) → map.get l.table.targets source ≡ target_in (take l.source-index l.pairs) source;
+  targets : (source : Place)
+      → map.get l.table.targets source ≡ target_in (take l.source-index l.pairs) source;
   spare : length l.pairs ≤ l.table.spare + l.source-index;
 }

@@ -14,8 +14,10 @@ returns-clause-has c =
     (record {
       copy = c.stamp.ensures.copy ∙ ap (λ (f : ListFrames). f.copy) lent;
       capacity = refl;
-      pages = c.stamp.ensures.pages ∙ ap (λ (f : ListFrames). stamped f.pages.items c.args.number c.args.at.0) lent;
+      pages = c.stamp.ensures.pages
+          ∙ ap (λ (f : ListFrames). stamped f.pages.items c.args.number c.args.at.0) lent;
     })
     refl
-    (ap (λ (ps : List Content). length ps) c.stamp.ensures.reserved ∙ ap (λ (f : ListFrames). length f.reserved.items) lent)
+    (ap (λ (ps : List Content). length ps) c.stamp.ensures.reserved
+    ∙ ap (λ (f : ListFrames). length f.reserved.items) lent)
     c.requires.has

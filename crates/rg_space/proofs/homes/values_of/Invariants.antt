@@ -18,6 +18,8 @@ invariant-loop-slot g l =
       reserved : b.reserved ≡ a.reserved;
       idle : a.idle ≤ b.idle;
       count : b.sure ≡ true → l.count ≡ length (page_at (slots_of b.pages) l.page);
-      values : b.sure ≡ true → l.values.items ≡ map homed_values (rows_from (slot_of (slots_of b.pages)) l.page 0 l.slot);
+      values : b.sure ≡ true
+          → l.values.items
+          ≡ map homed_values (rows_from (slot_of (slots_of b.pages)) l.page 0 l.slot);
       gave : g.F.Frames.gave a.pages a.forced l.fn.frames l.frames;
     }

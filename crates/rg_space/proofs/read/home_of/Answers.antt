@@ -17,7 +17,10 @@ returns-clause-seen g c =
     sym c.in-Some.is ∙ first.seen.other ∙ ap pointed_to (sym same) in
     record {
       other = other;
-      row = last.seen.moved ∙ sym (row_there (slot_in b) home c.in-Some.other (slot_in b home) (λ i. slot_in b home) (sym other));
+      row = last.seen.moved
+          ∙ sym
+          (row_there (slot_in b) home c.in-Some.other (slot_in b home) (λ i. slot_in b home)
+          (sym other));
       held = λ low high. stay.0;
       held_other = λ low high. last.held;
     }

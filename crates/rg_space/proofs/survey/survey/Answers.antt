@@ -18,11 +18,18 @@ loop-n-preserved g c =
       reads = reads_more a b last i.reads h.reads;
       reserved = h.reserved ∙ i.reserved;
       idle = omega (arith, i.idle, h.idle);
-      count = ap (λ (x : Indexed). length x.pages) added ∙ length-append c.loop-n.index.pages _ ∙ omega (arith, i.count);
+      count = ap (λ (x : Indexed). length x.pages) added ∙ length-append c.loop-n.index.pages _
+          ∙ omega (arith, i.count);
       room = ap (λ (x : Indexed). x.room) added ∙ i.room;
       agree = λ sure. ap (λ (x : Indexed). x.pages) added
-          ∙ one_more b.pages last.pages c.loop-n.n c.loop-n.index.pages _ (omega (arith, c.loop-n-test.true, c.count-count.ensures, i.reads.count)) (h.reads.same sure) (i.agree (h.reads.keeps.sure sure)) c.in_ok-summary.ensures.summary;
-      gave = g.met.F.Frames.gave_more a.pages a.forced c.args.frames.now c.loop-n.frames c.next_summary.new.frames i.gave
-          (λ sure. subst (λ (n : ℕ). g.F.Frames.gave a.pages n c.loop-n.frames c.next_summary.new.frames) i.reads.forced
-          (subst (λ (ps : List Content). g.F.Frames.gave ps b.forced c.loop-n.frames c.next_summary.new.frames) (i.reads.same (h.reads.keeps.sure sure)) h.gave));
+          ∙ one_more b.pages last.pages c.loop-n.n c.loop-n.index.pages _
+          (omega (arith, c.loop-n-test.true, c.count-count.ensures, i.reads.count))
+          (h.reads.same sure) (i.agree (h.reads.keeps.sure sure)) c.in_ok-summary.ensures.summary;
+      gave = g.met.F.Frames.gave_more a.pages a.forced c.args.frames.now c.loop-n.frames
+          c.next_summary.new.frames i.gave (λ sure.
+          subst (λ (n : ℕ). g.F.Frames.gave a.pages n c.loop-n.frames c.next_summary.new.frames)
+          i.reads.forced
+          (subst
+          (λ (ps : List Content). g.F.Frames.gave ps b.forced c.loop-n.frames
+          c.next_summary.new.frames) (i.reads.same (h.reads.keeps.sure sure)) h.gave));
     }

@@ -1,4 +1,5 @@
-use Rattle.std.proofs.Common.{◌≡◌, ◌∙◌, ℕ, true, cond, List, [], Option, Some, None, refl, sym, subst, arith}
+use Rattle.std.proofs.Common.{◌≡◌, ◌∙◌, ℕ, true, cond, List, [], Option, Some, None, refl, sym}
+use Rattle.std.proofs.Common.{subst, arith}
 use Rattle.std.proofs.lemmas.Bool.Decides.{nat_tests}
 use Rattle.rg_base.specs.declared.place.Place.{Place}
 use Rattle.rg_base.specs.declared.row.Row.{Row}
@@ -24,13 +25,20 @@ here : (home : Place) (row : Row) → only home row home ≡ Some row
 here home row = λ i. cond (same_itself home i) (Some row) None
 
 sets : (home : Place) (row : Row) → SetsRow none (only home row) home (Some row)
-sets home row = record { set = here home row; others = λ p apart. λ i. cond (apart i) (Some row) None }
+sets home row =
+    record { set = here home row; others = λ p apart. λ i. cond (apart i) (Some row) None }
 
 empty : (which : Which) (es : List (ℕ × Place)) → es ≡ [] → IsListingOf which none es
 empty which es e = subst (IsListingOf which none) (sym e) (λ value place. refl)
 
-at_home : (home : Place) (row : Row) (x : Indexes) → AreListings (only home row) x → AreListedAt x home (Some row)
-at_home home row x are = subst (AreListedAt x home) (here home row) (record { keys = λ value. are.keys value home; cluses = λ value. are.cluses value home; cats = λ value. are.cats value home })
+at_home : (home : Place) (row : Row) (x : Indexes) → AreListings (only home row) x
+    → AreListedAt x home (Some row)
+at_home home row x are = subst (AreListedAt x home) (here home row)
+    (record {
+      keys = λ value. are.keys value home;
+      cluses = λ value. are.cluses value home;
+      cats = λ value. are.cats value home;
+    })
 
 pub returns-clause-listed : goal.returns-clause-listed
 returns-clause-listed c =

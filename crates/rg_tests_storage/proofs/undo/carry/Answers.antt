@@ -4,4 +4,5 @@ use Rattle.rg_tests_storage.proofs.undo.carry.Goals as goal
 
 pub apply-requires-2-clause-held : goal.apply-requires-2-clause-held
 apply-requires-2-clause-held g c =
-    held_on _ (g.F.Frames.seen (frames_of c.args.space.now)) (g.F.Frames.seen (frames_of c.apply.new.self)) _ c.apply.ensures.writes c.requires.parts
+    held_on _ (g.F.Frames.seen (frames_of c.args.space.now))
+    (g.F.Frames.seen (frames_of c.apply.new.self)) _ c.apply.ensures.writes c.requires.parts

@@ -13,7 +13,10 @@ loop-clus-preserved c =
     let row = c.in_ok-long_row.field-0 in
     record {
       slot = ap (λ n. n + 1) i.slot;
-      below = subst (λ (rows : List (Place × Row)). AllByRecursion (IsBelow (c.loop-clus.slot + 1)) rows) (sym c.in_ok-push.ensures.items)
+      below = subst
+          (λ (rows : List (Place × Row)). AllByRecursion (IsBelow (c.loop-clus.slot + 1)) rows)
+          (sym c.in_ok-push.ensures.items)
           (below-push c.loop-clus.rows.items place row i.below);
-      apart = subst AreApart (sym c.in_ok-push.ensures.items) (apart-push c.loop-clus.rows.items place row i.below i.apart);
+      apart = subst AreApart (sym c.in_ok-push.ensures.items)
+          (apart-push c.loop-clus.rows.items place row i.below i.apart);
     }

@@ -12,7 +12,10 @@ loop-slot-preserved c =
     let place : Place = record { page = 1; slot = c.loop-slot.slot } in
     let row = c.in_ok-row.field-0 in
     record {
-      below = subst (λ (rows : List (Place × Row)). AllByRecursion (IsBelow (c.loop-slot.slot + 1)) rows) (sym c.in_ok-push.ensures.items)
+      below = subst
+          (λ (rows : List (Place × Row)). AllByRecursion (IsBelow (c.loop-slot.slot + 1)) rows)
+          (sym c.in_ok-push.ensures.items)
           (below-push c.loop-slot.rows.items place row i.below);
-      apart = subst AreApart (sym c.in_ok-push.ensures.items) (apart-push c.loop-slot.rows.items place row i.below i.apart);
+      apart = subst AreApart (sym c.in_ok-push.ensures.items)
+          (apart-push c.loop-slot.rows.items place row i.below i.apart);
     }

@@ -14,13 +14,17 @@ use Rattle.rg_undo.specs.Unit.{writes_of}
 use Rattle.rg_undo.proofs.laws.unit_law.Goals as goal
 
 -- all that is said, of any list of writes
-record Back (live : List ℕ) (pages : List (List Slot)) (cs : List Written) (base : Place → Option TableRow) (t : ℕ) (ws : List Written) : Type 0 where
+record Back (live : List ℕ) (pages : List (List Slot)) (cs : List Written)
+    (base : Place → Option TableRow) (t : ℕ) (ws : List Written) : Type 0 where
   pub can : AllUndoable None (slot_of pages) ws
   pub ready : Ready live (undone_all pages ws) (without t cs) base
   pub homes : (p : Place) → HasHome t p cs → row_at (slot_of (undone_all pages ws)) p ≡ base p
-  pub others : (p : Place) → NoHome p (only t cs) → row_at (slot_of (undone_all pages ws)) p ≡ row_at (slot_of pages) p
+  pub others : (p : Place) → NoHome p (only t cs)
+      → row_at (slot_of (undone_all pages ws)) p ≡ row_at (slot_of pages) p
 
-back : (live : List ℕ) (pages : List (List Slot)) (cs : List Written) (base : Place → Option TableRow) (t : ℕ) → Ready live pages cs base → Back live pages cs base t (only t cs)
+back : (live : List ℕ) (pages : List (List Slot)) (cs : List Written)
+    (base : Place → Option TableRow) (t : ℕ)
+    → Ready live pages cs base → Back live pages cs base t (only t cs)
 back live pages cs base t r = record {
   can = can_only live base t (slot_of pages) cs r.can;
   ready = ready_rolled live base t pages cs r;
@@ -30,5 +34,6 @@ back live pages cs base t r = record {
 
 pub returns : goal.returns
 returns c live pages cs base t entries r is =
-    let b : Back live pages cs base t (writes_of entries) = subst (Back live pages cs base t) (sym is) (back live pages cs base t r) in
+    let b : Back live pages cs base t (writes_of entries) =
+    subst (Back live pages cs base t) (sym is) (back live pages cs base t r) in
     record { can = b.can; ready = b.ready; homes = b.homes; others = b.others }

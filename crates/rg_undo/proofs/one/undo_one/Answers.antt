@@ -12,6 +12,11 @@ returns-clause-undone g c = λ sure can.
     let h = c.plan_undo.ensures in
     let k = c.in-Change in
     let after = c.apply.ensures in
-    undid a m z (index_of c.args.space.now) (index_of c.plan_undo.new.self) (index_of c.apply.new.self) (capacity_in c.plan_undo.new.self) c.args.entry k.home k.before k.after (option_copied c.as_ref.result) k.parts c.as_slice.result.now c.in_ok-undo-in-Change.undo
-    (h.took.reads.same (sym after.writes.sure ∙ sure)) h.summaries can k.is h.step.few c.in_ok-undo-in-Change.ensures.held c.as_ref.ensures.value c.as_slice.ensures c.in_ok-undo-in-Change.ensures.parts
-    c.args.position.0 c.args.back.0 h.took.reads.keeps.copy after.slots after.pages after.count after.agree
+    undid a m z (index_of c.args.space.now) (index_of c.plan_undo.new.self)
+    (index_of c.apply.new.self) (capacity_in c.plan_undo.new.self) c.args.entry k.home k.before
+    k.after (option_copied c.as_ref.result) k.parts c.as_slice.result.now
+    c.in_ok-undo-in-Change.undo (h.took.reads.same (sym after.writes.sure ∙ sure)) h.summaries can
+    k.is h.step.few c.in_ok-undo-in-Change.ensures.held c.as_ref.ensures.value c.as_slice.ensures
+    c.in_ok-undo-in-Change.ensures.parts
+    c.args.position.0 c.args.back.0 h.took.reads.keeps.copy after.slots after.pages after.count
+    after.agree

@@ -23,5 +23,6 @@ invariant-loop-back g l =
       idle : a.idle ≤ b.idle;
       spare : 5 ≤ b.spare;
       goes : b.sure ≡ true → CanUndoUnit a (index_of l.fn.space) l.fn.changes.items
-          → Goes a b (index_of l.space) l.fn.changes.items l.work l.records.items l.fn.position.0 l.fn.back.0 l.at l.back.0;
+          → Goes a b (index_of l.space) l.fn.changes.items l.work l.records.items l.fn.position.0
+          l.fn.back.0 l.at l.back.0;
     }

@@ -7,4 +7,5 @@ pub returns-in_err-seed-in-gen-clause-none : goal.returns-in_err-seed-in-gen-cla
 returns-in_err-seed-in-gen-clause-none c =
     let split = c.in_ok-command.ensures.cases in
     let gen : string_bytes c.in_ok-command.command.now ≡ codes "gen" = cc (c.in-gen.is) in
-    rw c.from_residual-in_err-seed-in-gen.ensures (no_gen _ _ _ _ split.0 gen c.in_err-seed-in-gen.ensures.none)
+    rw c.from_residual-in_err-seed-in-gen.ensures
+    (no_gen _ _ _ _ split.0 gen c.in_err-seed-in-gen.ensures.none)

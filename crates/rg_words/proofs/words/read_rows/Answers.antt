@@ -4,10 +4,12 @@ use Rattle.rg_words.proofs.words.read_rows.Goals as goal
 
 pub returns-in_default-clause-none : goal.returns-in_default-clause-none
 returns-in_default-clause-none c = λ rows low high e.
-    let same : rows ≡ c.in_ok-rows.rows = decimal_injective _ _ (omega arith) (omega arith) (sym e ∙ c.in_ok-rows.ensures.found) in
+    let same : rows ≡ c.in_ok-rows.rows =
+    decimal_injective _ _ (omega arith) (omega arith) (sym e ∙ c.in_ok-rows.ensures.found) in
     omega (arith, same)
 
 pub returns-in_default-2-clause-none : goal.returns-in_default-2-clause-none
 returns-in_default-2-clause-none c = λ rows low high e.
-    let same : rows ≡ c.in_ok-rows.rows = decimal_injective _ _ (omega arith) (omega arith) (sym e ∙ c.in_ok-rows.ensures.found) in
+    let same : rows ≡ c.in_ok-rows.rows =
+    decimal_injective _ _ (omega arith) (omega arith) (sym e ∙ c.in_ok-rows.ensures.found) in
     omega (arith, same)

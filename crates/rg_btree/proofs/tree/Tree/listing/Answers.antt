@@ -7,4 +7,6 @@ returns c =
     c.new.ensures
     ∙ c.in_ok-collect_all.ensures
     ∙ ap (λ es. es ++ c.self.inside.root.entries) c.in_ok-found.ensures.items
-    ∙ sym (shown_is c.self.inside.root.entries c.args.self.now.entries c.self.invariant.rising (ap (λ v. v.entries) c.self.view_is))
+    ∙ sym
+    (shown_is c.self.inside.root.entries c.args.self.now.entries c.self.invariant.rising
+    (ap (λ v. v.entries) c.self.view_is))

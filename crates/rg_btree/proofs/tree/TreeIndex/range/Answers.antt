@@ -7,5 +7,9 @@ pub returns : goal.returns
 returns c =
     c.new.ensures
     ∙ c.in_ok-collect.ensures
-    ∙ ap (λ es. es ++ entries_within c.args.lo c.args.hi c.self.inside.root.entries) c.new-found.ensures.items
-    ∙ ap (entries_within c.args.lo c.args.hi) (sym (shown_is c.self.inside.root.entries c.args.self.now.entries c.self.invariant.rising (ap (λ v. v.entries) c.self.view_is)))
+    ∙ ap (λ es. es ++ entries_within c.args.lo c.args.hi c.self.inside.root.entries)
+    c.new-found.ensures.items
+    ∙ ap (entries_within c.args.lo c.args.hi)
+    (sym
+    (shown_is c.self.inside.root.entries c.args.self.now.entries c.self.invariant.rising
+    (ap (λ v. v.entries) c.self.view_is)))

@@ -5,6 +5,9 @@ use Rattle.rg_bulk.proofs.node.Node.height.Goals as goal
 
 pub returns : goal.returns
 returns c = record {
-  height = height_is c.self.inside.height c.self.inside.keys.items c.self.inside.kids.items ∙ ap (λ b. b.height) c.self.view_is;
-  bounds = subst IsRoot c.self.view_is (is_root c.self.inside.height c.self.inside.keys.items c.self.inside.kids.items (vec_capacity c.self.inside.keys) (vec_capacity c.self.inside.kids) c.self.invariant);
+  height = height_is c.self.inside.height c.self.inside.keys.items c.self.inside.kids.items
+      ∙ ap (λ b. b.height) c.self.view_is;
+  bounds = subst IsRoot c.self.view_is
+      (is_root c.self.inside.height c.self.inside.keys.items c.self.inside.kids.items
+      (vec_capacity c.self.inside.keys) (vec_capacity c.self.inside.kids) c.self.invariant);
 }

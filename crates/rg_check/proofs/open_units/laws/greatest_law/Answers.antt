@@ -6,4 +6,5 @@ use Rattle.rg_check.proofs.OpenUnitsLemmas.Lefts.{all_below}
 use Rattle.rg_check.proofs.open_units.laws.greatest_law.Goals as goal
 
 pub returns : goal.returns
-returns c = λ rs entry there. All-contains (λ (e : Record). e.tran.0 ≤ greatest_tran rs) rs entry (all_below rs) there
+returns c = λ rs entry there. All-contains (λ (e : Record). e.tran.0 ≤ greatest_tran rs) rs entry
+    (all_below rs) there

@@ -7,4 +7,5 @@ use Rattle.rg_check.proofs.OpenUnitsLemmas.Lefts.{left_owners}
 use Rattle.rg_check.proofs.open_units.laws.owners_law.Goals as goal
 
 pub returns : goal.returns
-returns c = λ tran rs write there. All-contains (λ (w : Written). w.owner ≡ tran) (writes_of (left_of tran rs)) write (left_owners tran rs) there
+returns c = λ tran rs write there. All-contains (λ (w : Written). w.owner ≡ tran)
+    (writes_of (left_of tran rs)) write (left_owners tran rs) there

@@ -8,4 +8,5 @@ decreases-loop-at l = length l.records - l.at
 
 abbrev pub invariant-loop-at : goal.invariant-loop-at
 invariant-loop-at l =
-    left_after (reverse l.left.items) (of_tran l.tran.0 (drop l.at l.records)) ≡ left_of l.tran.0 l.records
+    left_after (reverse l.left.items) (of_tran l.tran.0 (drop l.at l.records))
+    ≡ left_of l.tran.0 l.records

@@ -10,6 +10,9 @@ loop-number-preserved c =
       bound = omega arith;
       listed = λ rs kept.
           c.in_ok-list_open.ensures
-          ∙ ap (λ (l : List ℕ). l ++ (if ended then [] else (n + 1) ∷ [])) (c.loop-number.invariant.listed rs kept)
-          ∙ sym (open_more n rs ended (sym (c.unit.ensures.unit rs kept).ended) (kept.units.some (n + 1) (omega arith) (omega arith)));
+          ∙ ap (λ (l : List ℕ). l ++ (if ended then [] else (n + 1) ∷ []))
+          (c.loop-number.invariant.listed rs kept)
+          ∙ sym
+          (open_more n rs ended (sym (c.unit.ensures.unit rs kept).ended)
+          (kept.units.some (n + 1) (omega arith) (omega arith)));
     }

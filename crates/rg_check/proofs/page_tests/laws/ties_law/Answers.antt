@@ -16,7 +16,8 @@ any_owner t p (DeadRow c u) h = h
 any_owner t p (DeadPointer c o u) h = h
 any_owner t p (DeadOver c q u) h = (h.0, tt)
 
-named_ties : (live : List ℕ) (at : Place → Slot) (p : Place) (s : Slot) → DeadNamed live at p s → DeadTiesAt live at p s
+named_ties : (live : List ℕ) (at : Place → Slot) (p : Place) (s : Slot) → DeadNamed live at p s
+    → DeadTiesAt live at p s
 named_ties live at p Free h = tt
 named_ties live at p (Row c r) h = tt
 named_ties live at p (Pointer c o) h = tt

@@ -13,7 +13,10 @@ returns-clause-stands g c =
     let z = g.F.Frames.seen (frames_of c.let_go.new.self) in
     let go = c.let_go.ensures.let_go in
     let stored = c.args.stored.now in
-    ok_map c.standing_in-standing.result (λ standing. b.sure ≡ true → Stands stored (row_at (slot_of (slots_of b.pages))) standing)
+    ok_map c.standing_in-standing.result
+    (λ standing. b.sure ≡ true → Stands stored (row_at (slot_of (slots_of b.pages))) standing)
     (λ standing. z.sure ≡ true → Stands stored (row_at (slot_of (slots_of z.pages))) standing)
-    (λ standing stands sure. subst (λ (ps : List Content). Stands stored (row_at (slot_of (slots_of ps))) standing) (sym go.pages) (stands (sym go.sure ∙ sure)))
+    (λ standing stands sure.
+    subst (λ (ps : List Content). Stands stored (row_at (slot_of (slots_of ps))) standing)
+    (sym go.pages) (stands (sym go.sure ∙ sure)))
     c.standing_in-standing.ensures.stands

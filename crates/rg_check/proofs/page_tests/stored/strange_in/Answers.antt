@@ -23,9 +23,14 @@ loop-n-init g c =
     record {
       bound = omega arith;
       looked = looked_same a;
-      stored = λ sure. to_none (IsStoredAt c.args.stored.now (row_at (slot_of pages))) pages (free_stored c.args.stored.now pages);
-      noted = λ sure. to_none (IsNoted (row_at (slot_of pages)) c.args.notes.now) pages (free_noted c.args.notes.now pages);
-      sound = λ sure k p at. absurd (none_some p (sym (ap (λ (m : Notes). map.get m k) c.requires.none ∙ get-empty {X = Place} nat_cmp k) ∙ at));
+      stored = λ sure. to_none (IsStoredAt c.args.stored.now (row_at (slot_of pages))) pages
+          (free_stored c.args.stored.now pages);
+      noted = λ sure. to_none (IsNoted (row_at (slot_of pages)) c.args.notes.now) pages
+          (free_noted c.args.notes.now pages);
+      sound = λ sure k p at. absurd
+          (none_some p
+          (sym (ap (λ (m : Notes). map.get m k) c.requires.none ∙ get-empty {X = Place} nat_cmp k)
+          ∙ at));
       gave = g.met.F.Frames.gave_none a.pages a.forced c.args.frames.now;
     }
 
@@ -36,8 +41,10 @@ returns-then-is_some-clause-least g c = λ sure.
     let h = c.strange_on.ensures in
     let n = c.loop-n.n in
     let stored = c.args.stored.now in
-    least_of (IsStoredAt stored (row_at (slot_of (slots_of last.pages)))) n c.in_ok-found.found (sym c.is_some.ensures ∙ c.if-is_some.true)
-    (subst (λ (ps : List Content). HoldsTo (IsStoredAt stored (row_at (slot_of (slots_of ps)))) n) (sym (h.looked.reads.same sure)) (i.stored (h.looked.reads.keeps.sure sure)))
+    least_of (IsStoredAt stored (row_at (slot_of (slots_of last.pages)))) n c.in_ok-found.found
+    (sym c.is_some.ensures ∙ c.if-is_some.true)
+    (subst (λ (ps : List Content). HoldsTo (IsStoredAt stored (row_at (slot_of (slots_of ps)))) n)
+    (sym (h.looked.reads.same sure)) (i.stored (h.looked.reads.keeps.sure sure)))
     (c.in_ok-found.ensures.least sure)
 
 pub returns-then-is_some-clause-sound : goal.returns-then-is_some-clause-sound
@@ -45,7 +52,8 @@ returns-then-is_some-clause-sound g c = λ sure.
     let i = c.loop-n.invariant in
     let h = c.strange_on.ensures in
     (c.in_ok-found.ensures.noted sure).sound
-    (subst (λ (ps : List Content). AreSound (row_at (slot_of (slots_of ps))) c.loop-n.notes) (sym (h.looked.reads.same sure)) (i.sound (h.looked.reads.keeps.sure sure)))
+    (subst (λ (ps : List Content). AreSound (row_at (slot_of (slots_of ps))) c.loop-n.notes)
+    (sym (h.looked.reads.same sure)) (i.sound (h.looked.reads.keeps.sure sure)))
 
 pub loop-n-preserved : goal.loop-n-preserved
 loop-n-preserved g c =
@@ -62,26 +70,48 @@ loop-n-preserved g c =
       bound = omega arith;
       looked = looked_more a b last i.looked h.looked;
       stored = λ sure. to_more_of (IsStoredAt stored homes) n c.in_ok-found.found none
-          (subst (λ (ps : List Content). HoldsTo (IsStoredAt stored (row_at (slot_of (slots_of ps)))) n) (sym (h.looked.reads.same sure)) (i.stored (h.looked.reads.keeps.sure sure)))
+          (subst
+          (λ (ps : List Content). HoldsTo (IsStoredAt stored (row_at (slot_of (slots_of ps)))) n)
+          (sym (h.looked.reads.same sure)) (i.stored (h.looked.reads.keeps.sure sure)))
           (c.in_ok-found.ensures.least sure);
       noted = λ sure. to_more (IsNoted homes c.strange_on.new.notes) n
           (λ p le row at. (c.in_ok-found.ensures.noted sure).grows row.key
-          (subst (λ (ps : List Content). HoldsTo (IsNoted (row_at (slot_of (slots_of ps))) c.loop-n.notes) n) (sym (h.looked.reads.same sure)) (i.noted (h.looked.reads.keeps.sure sure)) p le row at))
+          (subst
+          (λ (ps : List Content). HoldsTo (IsNoted (row_at (slot_of (slots_of ps))) c.loop-n.notes)
+          n) (sym (h.looked.reads.same sure)) (i.noted (h.looked.reads.keeps.sure sure)) p le row
+          at))
           ((c.in_ok-found.ensures.noted sure).page (none_of c.in_ok-found.found none));
       sound = λ sure. (c.in_ok-found.ensures.noted sure).sound
-          (subst (λ (ps : List Content). AreSound (row_at (slot_of (slots_of ps))) c.loop-n.notes) (sym (h.looked.reads.same sure)) (i.sound (h.looked.reads.keeps.sure sure)));
-      gave = gave_next g.F.Frames.gave c.args.frames.now c.loop-n.frames c.strange_on.new.frames a b last i.looked.reads h.looked.reads
-          (g.met.F.Frames.gave_more a.pages a.forced c.args.frames.now c.loop-n.frames c.strange_on.new.frames i.gave) h.gave;
+          (subst (λ (ps : List Content). AreSound (row_at (slot_of (slots_of ps))) c.loop-n.notes)
+          (sym (h.looked.reads.same sure)) (i.sound (h.looked.reads.keeps.sure sure)));
+      gave = gave_next g.F.Frames.gave c.args.frames.now c.loop-n.frames c.strange_on.new.frames a b
+          last i.looked.reads h.looked.reads
+          (g.met.F.Frames.gave_more a.pages a.forced c.args.frames.now c.loop-n.frames
+          c.strange_on.new.frames i.gave) h.gave;
     }
 
 pub returns-clause-least : goal.returns-clause-least
 returns-clause-least g c = λ sure.
     let b = g.F.Frames.seen c.loop-n.frames in
-    to_all (IsStoredAt c.args.stored.now (row_at (slot_of (slots_of b.pages)))) (slots_of b.pages) (free_stored c.args.stored.now (slots_of b.pages)) c.loop-n.n
-    (omega (arith, slots_count b.pages, c.loop-n-test.false, c.count-count.ensures, c.loop-n.invariant.looked.reads.count)) (c.loop-n.invariant.stored sure)
+    to_all (IsStoredAt c.args.stored.now (row_at (slot_of (slots_of b.pages)))) (slots_of b.pages)
+    (free_stored c.args.stored.now (slots_of b.pages)) c.loop-n.n
+    (omega (
+      arith,
+      slots_count b.pages,
+      c.loop-n-test.false,
+      c.count-count.ensures,
+      c.loop-n.invariant.looked.reads.count,
+    )) (c.loop-n.invariant.stored sure)
 
 pub returns-clause-noted : goal.returns-clause-noted
 returns-clause-noted g c = λ sure e.
     let b = g.F.Frames.seen c.loop-n.frames in
-    to_all (IsNoted (row_at (slot_of (slots_of b.pages))) c.loop-n.notes) (slots_of b.pages) (free_noted c.loop-n.notes (slots_of b.pages)) c.loop-n.n
-    (omega (arith, slots_count b.pages, c.loop-n-test.false, c.count-count.ensures, c.loop-n.invariant.looked.reads.count)) (c.loop-n.invariant.noted sure)
+    to_all (IsNoted (row_at (slot_of (slots_of b.pages))) c.loop-n.notes) (slots_of b.pages)
+    (free_noted c.loop-n.notes (slots_of b.pages)) c.loop-n.n
+    (omega (
+      arith,
+      slots_count b.pages,
+      c.loop-n-test.false,
+      c.count-count.ensures,
+      c.loop-n.invariant.looked.reads.count,
+    )) (c.loop-n.invariant.noted sure)

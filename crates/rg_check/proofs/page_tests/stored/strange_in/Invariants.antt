@@ -17,7 +17,8 @@ invariant-loop-n g l =
     record {
       bound : l.n ≤ l.count;
       looked : Looked a b;
-      stored : b.sure ≡ true → HoldsTo (IsStoredAt l.stored (row_at (slot_of (slots_of b.pages)))) l.n;
+      stored : b.sure ≡ true
+          → HoldsTo (IsStoredAt l.stored (row_at (slot_of (slots_of b.pages)))) l.n;
       noted : b.sure ≡ true → HoldsTo (IsNoted (row_at (slot_of (slots_of b.pages))) l.notes) l.n;
       sound : b.sure ≡ true → AreSound (row_at (slot_of (slots_of b.pages))) l.notes;
       gave : g.F.Frames.gave a.pages a.forced l.fn.frames l.frames;

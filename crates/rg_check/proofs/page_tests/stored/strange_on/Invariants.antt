@@ -18,9 +18,12 @@ invariant-loop-slot g l =
       bound : l.slot ≤ l.count;
       looked : Looked a b;
       count : b.sure ≡ true → l.count ≡ length (page_at (slots_of b.pages) l.page);
-      stored : b.sure ≡ true → HoldsOn (IsStoredAt l.stored (row_at (slot_of (slots_of b.pages)))) l.page l.slot;
-      noted : b.sure ≡ true → HoldsOn (IsNoted (row_at (slot_of (slots_of b.pages))) l.notes) l.page l.slot;
+      stored : b.sure ≡ true
+          → HoldsOn (IsStoredAt l.stored (row_at (slot_of (slots_of b.pages)))) l.page l.slot;
+      noted : b.sure ≡ true
+          → HoldsOn (IsNoted (row_at (slot_of (slots_of b.pages))) l.notes) l.page l.slot;
       grows : (k : ℕ) → IsIn l.fn.notes k → IsIn l.notes k;
-      sound : b.sure ≡ true → AreSound (row_at (slot_of (slots_of b.pages))) l.fn.notes → AreSound (row_at (slot_of (slots_of b.pages))) l.notes;
+      sound : b.sure ≡ true → AreSound (row_at (slot_of (slots_of b.pages))) l.fn.notes
+          → AreSound (row_at (slot_of (slots_of b.pages))) l.notes;
       gave : g.F.Frames.gave a.pages a.forced l.fn.frames l.frames;
     }

@@ -22,13 +22,20 @@ returns-in-Ok-undo-clause-turn g c = λ sure proper.
     let sure_m : m.sure ≡ true = c.undo_one-undo.ensures.keeps.sure sure_z in
     let stays : m ≡ t = ap g.F.Frames.seen c.reserve_undo.ensures.frames in
     let sure_t : t.sure ≡ true = sym (ap (λ (s : Seen). s.sure) stays) ∙ sure_m in
-    let same : m.pages ≡ a.pages = ap (λ (s : Seen). s.pages) stays ∙ c.breach_of.ensures.left.looked.reads.same sure_t in
-    let copy : m.copy ≡ a.copy = ap (λ (s : Seen). s.copy) stays ∙ c.breach_of.ensures.left.looked.reads.keeps.copy in
+    let same : m.pages ≡ a.pages =
+    ap (λ (s : Seen). s.pages) stays ∙ c.breach_of.ensures.left.looked.reads.same sure_t in
+    let copy : m.copy ≡ a.copy =
+    ap (λ (s : Seen). s.copy) stays ∙ c.breach_of.ensures.left.looked.reads.keeps.copy in
     let index = c.reserve_undo.ensures.index ∙ c.breach_of.ensures.left.summaries in
-    let needed_t : Needed (slots_of t.pages) (written_of entry) = subst (λ (o : Option Place). BreaksOf (slots_of t.pages) (written_of entry) o) c.in-Ok-None.field-0-is (c.in-Ok-None.ensures.breach sure_t) in
-    let needed : Needed (slots_of m.pages) (written_of entry) = subst (λ (s : Seen). Needed (slots_of s.pages) (written_of entry)) (sym stays) needed_t in
+    let needed_t : Needed (slots_of t.pages) (written_of entry) =
+    subst (λ (o : Option Place). BreaksOf (slots_of t.pages) (written_of entry) o)
+    c.in-Ok-None.field-0-is (c.in-Ok-None.ensures.breach sure_t) in
+    let needed : Needed (slots_of m.pages) (written_of entry) =
+    subst (λ (s : Seen). Needed (slots_of s.pages) (written_of entry)) (sym stays) needed_t in
     let ai = index_of c.args.space.now in
     let mi = index_of c.reserve_undo.new.self in
     let can : CanUndoChange m mi entry = turn_can a m ai mi entry same index proper needed in
-    turn_done a m ai mi entry same index proper needed z y (index_of c.undo_one-undo.new.space) (index_of c.let_go.new.self) c.args.position.0 c.args.back.0 copy go.pages c.let_go.ensures.summaries
-    (c.in-Ok-undo.ensures.undone sure_z can) c.in-Ok-undo.undo (c.in-Ok-undo.ensures.undo sure_z can)
+    turn_done a m ai mi entry same index proper needed z y (index_of c.undo_one-undo.new.space)
+    (index_of c.let_go.new.self) c.args.position.0 c.args.back.0 copy go.pages
+    c.let_go.ensures.summaries (c.in-Ok-undo.ensures.undone sure_z can) c.in-Ok-undo.undo
+    (c.in-Ok-undo.ensures.undo sure_z can)

@@ -21,5 +21,6 @@ invariant-loop-entry g l =
       idle : a.idle ≤ b.idle;
       spare : 5 ≤ b.spare;
       goes : b.sure ≡ true → IsProper a (index_of l.fn.space)
-          → SoFar l.fn.position.0 l.fn.back.0 a b (index_of l.space) l.fn.changes.items l.waiting l.undos.items l.at l.back.0;
+          → SoFar l.fn.position.0 l.fn.back.0 a b (index_of l.space) l.fn.changes.items l.waiting
+          l.undos.items l.at l.back.0;
     }

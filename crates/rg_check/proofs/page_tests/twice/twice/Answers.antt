@@ -13,7 +13,10 @@ returns-clause-least g c =
     let b = g.F.Frames.seen c.twice_in-least.new.frames in
     let z = g.F.Frames.seen (frames_of c.let_go.new.self) in
     let go = c.let_go.ensures.let_go in
-    ok_map c.twice_in-least.result (λ place. b.sure ≡ true → IsLeastBreach (IsAlone (row_at (slot_of (slots_of b.pages)))) place)
+    ok_map c.twice_in-least.result
+    (λ place. b.sure ≡ true → IsLeastBreach (IsAlone (row_at (slot_of (slots_of b.pages)))) place)
     (λ place. z.sure ≡ true → IsLeastBreach (IsAlone (row_at (slot_of (slots_of z.pages)))) place)
-    (λ place least sure. subst (λ (ps : List Content). IsLeastBreach (IsAlone (row_at (slot_of (slots_of ps)))) place) (sym go.pages) (least (sym go.sure ∙ sure)))
+    (λ place least sure.
+    subst (λ (ps : List Content). IsLeastBreach (IsAlone (row_at (slot_of (slots_of ps)))) place)
+    (sym go.pages) (least (sym go.sure ∙ sure)))
     c.twice_in-least.ensures.least

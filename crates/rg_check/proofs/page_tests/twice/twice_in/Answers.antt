@@ -30,13 +30,24 @@ loop-n-preserved g c =
       bound = omega arith;
       looked = looked_more a b last i.looked h.looked;
       kept = λ sure. c.in_ok-least.ensures.kept sure
-          (subst (λ (ps : List Content). Kept (row_at (slot_of (slots_of ps))) (place_on (c.loop-n.n + 1) 0) c.loop-n.notes c.loop-n.least) (sym (h.looked.reads.same sure)) (i.kept (h.looked.reads.keeps.sure sure)));
-      gave = gave_next g.F.Frames.gave c.args.frames.now c.loop-n.frames c.twice_on.new.frames a b last i.looked.reads h.looked.reads
-          (g.met.F.Frames.gave_more a.pages a.forced c.args.frames.now c.loop-n.frames c.twice_on.new.frames i.gave) h.gave;
+          (subst
+          (λ (ps : List Content). Kept (row_at (slot_of (slots_of ps)))
+          (place_on (c.loop-n.n + 1) 0) c.loop-n.notes c.loop-n.least)
+          (sym (h.looked.reads.same sure)) (i.kept (h.looked.reads.keeps.sure sure)));
+      gave = gave_next g.F.Frames.gave c.args.frames.now c.loop-n.frames c.twice_on.new.frames a b
+          last i.looked.reads h.looked.reads
+          (g.met.F.Frames.gave_more a.pages a.forced c.args.frames.now c.loop-n.frames
+          c.twice_on.new.frames i.gave) h.gave;
     }
 
 pub returns-clause-least : goal.returns-clause-least
 returns-clause-least g c = λ sure.
     let b = g.F.Frames.seen c.loop-n.frames in
     kept_end (slots_of b.pages) (c.loop-n.n + 1) c.loop-n.notes c.loop-n.least
-    (omega (arith, slots_count b.pages, c.loop-n-test.false, c.count-count.ensures, c.loop-n.invariant.looked.reads.count)) (c.loop-n.invariant.kept sure)
+    (omega (
+      arith,
+      slots_count b.pages,
+      c.loop-n-test.false,
+      c.count-count.ensures,
+      c.loop-n.invariant.looked.reads.count,
+    )) (c.loop-n.invariant.kept sure)

@@ -17,6 +17,7 @@ invariant-loop-n g l =
     record {
       bound : l.n ≤ l.count;
       looked : Looked a b;
-      kept : b.sure ≡ true → Kept (row_at (slot_of (slots_of b.pages))) (place_on (l.n + 1) 0) l.notes l.least;
+      kept : b.sure ≡ true
+          → Kept (row_at (slot_of (slots_of b.pages))) (place_on (l.n + 1) 0) l.notes l.least;
       gave : g.F.Frames.gave a.pages a.forced l.fn.frames l.frames;
     }

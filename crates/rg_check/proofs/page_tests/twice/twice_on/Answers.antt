@@ -25,14 +25,24 @@ loop-slot-preserved g c =
     record {
       bound = omega arith;
       looked = looked_more a b last i.looked h.looked;
-      count = λ sure. subst (λ (ps : List Content). c.in-Ok.count ≡ length (page_at (slots_of ps) page)) (sym (h.looked.reads.same sure)) (i.count (h.looked.reads.keeps.sure sure));
+      count =
+          λ sure. subst (λ (ps : List Content). c.in-Ok.count ≡ length (page_at (slots_of ps) page))
+          (sym (h.looked.reads.same sure)) (i.count (h.looked.reads.keeps.sure sure));
       kept = λ sure first.
-          subst (λ (m : Notes). Kept homes (place_on page (slot + 1)) m c.lesser-least.result) (sym c.in_ok-first.ensures.noted)
-          (subst (Kept homes (place_on page (slot + 1)) (first_noted notes here (homes here))) (sym (c.lesser-least.ensures ∙ ap (lesser least) c.in_ok-first.ensures.first))
+          subst (λ (m : Notes). Kept homes (place_on page (slot + 1)) m c.lesser-least.result)
+          (sym c.in_ok-first.ensures.noted)
+          (subst (Kept homes (place_on page (slot + 1)) (first_noted notes here (homes here)))
+          (sym (c.lesser-least.ensures ∙ ap (lesser least) c.in_ok-first.ensures.first))
           (kept_step homes page slot notes least
-          (subst (λ (ps : List Content). Kept (row_at (slot_of (slots_of ps))) (place_on page 0) c.args.notes.now c.args.least → Kept (row_at (slot_of (slots_of ps))) here notes least) (sym (h.looked.reads.same sure)) (i.kept (h.looked.reads.keeps.sure sure)) first)));
-      gave = gave_next g.F.Frames.gave c.args.frames.now c.loop-slot.frames c.first_with.new.frames a b last i.looked.reads h.looked.reads
-          (g.met.F.Frames.gave_more a.pages a.forced c.args.frames.now c.loop-slot.frames c.first_with.new.frames i.gave) h.gave;
+          (subst
+          (λ (ps : List Content).
+          Kept (row_at (slot_of (slots_of ps))) (place_on page 0) c.args.notes.now c.args.least
+          → Kept (row_at (slot_of (slots_of ps))) here notes least) (sym (h.looked.reads.same sure))
+          (i.kept (h.looked.reads.keeps.sure sure)) first)));
+      gave = gave_next g.F.Frames.gave c.args.frames.now c.loop-slot.frames c.first_with.new.frames
+          a b last i.looked.reads h.looked.reads
+          (g.met.F.Frames.gave_more a.pages a.forced c.args.frames.now c.loop-slot.frames
+          c.first_with.new.frames i.gave) h.gave;
     }
 
 pub returns-clause-kept : goal.returns-clause-kept

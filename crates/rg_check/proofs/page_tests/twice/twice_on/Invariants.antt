@@ -18,7 +18,8 @@ invariant-loop-slot g l =
       bound : l.slot ≤ l.count;
       looked : Looked a b;
       count : b.sure ≡ true → l.count ≡ length (page_at (slots_of b.pages) l.page);
-      kept : b.sure ≡ true → Kept (row_at (slot_of (slots_of b.pages))) (place_on l.page 0) l.fn.notes l.fn.least
+      kept : b.sure ≡ true
+          → Kept (row_at (slot_of (slots_of b.pages))) (place_on l.page 0) l.fn.notes l.fn.least
           → Kept (row_at (slot_of (slots_of b.pages))) (place_on l.page l.slot) l.notes l.least;
       gave : g.F.Frames.gave a.pages a.forced l.fn.frames l.frames;
     }

@@ -14,7 +14,10 @@ returns-clause-least g c =
     let z = g.F.Frames.seen (frames_of c.let_go.new.self) in
     let go = c.let_go.ensures.let_go in
     let live = numbers_of c.args.live.now in
-    ok_map c.untied_in-found.result (λ place. b.sure ≡ true → IsLeastBreach (IsTiedAt live (slot_of (slots_of b.pages))) place)
+    ok_map c.untied_in-found.result
+    (λ place. b.sure ≡ true → IsLeastBreach (IsTiedAt live (slot_of (slots_of b.pages))) place)
     (λ place. z.sure ≡ true → IsLeastBreach (IsTiedAt live (slot_of (slots_of z.pages))) place)
-    (λ place least sure. subst (λ (ps : List Content). IsLeastBreach (IsTiedAt live (slot_of (slots_of ps))) place) (sym go.pages) (least (sym go.sure ∙ sure)))
+    (λ place least sure.
+    subst (λ (ps : List Content). IsLeastBreach (IsTiedAt live (slot_of (slots_of ps))) place)
+    (sym go.pages) (least (sym go.sure ∙ sure)))
     c.untied_in-found.ensures.least

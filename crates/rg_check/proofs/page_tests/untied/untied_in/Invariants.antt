@@ -17,6 +17,7 @@ invariant-loop-n g l =
     record {
       bound : l.n ≤ l.count;
       looked : Looked a b;
-      tied : b.sure ≡ true → HoldsTo (IsTiedAt (numbers_of l.live) (slot_of (slots_of b.pages))) l.n;
+      tied : b.sure ≡ true
+          → HoldsTo (IsTiedAt (numbers_of l.live) (slot_of (slots_of b.pages))) l.n;
       gave : g.F.Frames.gave a.pages a.forced l.fn.frames l.frames;
     }

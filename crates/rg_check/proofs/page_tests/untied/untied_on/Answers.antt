@@ -22,10 +22,17 @@ loop-slot-preserved g c =
     record {
       bound = omega arith;
       looked = looked_more a b last i.looked h.looked;
-      count = λ sure. subst (λ (ps : List Content). c.in_ok-count.count ≡ length (page_at (slots_of ps) page)) (sym (h.looked.reads.same sure)) (i.count (h.looked.reads.keeps.sure sure));
+      count = λ sure.
+          subst (λ (ps : List Content). c.in_ok-count.count ≡ length (page_at (slots_of ps) page))
+          (sym (h.looked.reads.same sure)) (i.count (h.looked.reads.keeps.sure sure));
       tied = λ sure. on_more (IsTiedAt live (slot_of (slots_of last.pages))) page slot
-          (subst (λ (ps : List Content). HoldsOn (IsTiedAt live (slot_of (slots_of ps))) page slot) (sym (h.looked.reads.same sure)) (i.tied (h.looked.reads.keeps.sure sure)))
-          (says_yes c.in_ok-is_tied.field-0 (IsTiedAt live (slot_of (slots_of last.pages)) (place_on page slot)) c.if-not-branch.false (c.in_ok-is_tied.ensures.tied sure));
-      gave = gave_next g.F.Frames.gave c.args.frames.now c.loop-slot.frames c.is_tied.new.frames a b last i.looked.reads h.looked.reads
-          (g.met.F.Frames.gave_more a.pages a.forced c.args.frames.now c.loop-slot.frames c.is_tied.new.frames i.gave) h.gave;
+          (subst (λ (ps : List Content). HoldsOn (IsTiedAt live (slot_of (slots_of ps))) page slot)
+          (sym (h.looked.reads.same sure)) (i.tied (h.looked.reads.keeps.sure sure)))
+          (says_yes c.in_ok-is_tied.field-0
+          (IsTiedAt live (slot_of (slots_of last.pages)) (place_on page slot)) c.if-not-branch.false
+          (c.in_ok-is_tied.ensures.tied sure));
+      gave = gave_next g.F.Frames.gave c.args.frames.now c.loop-slot.frames c.is_tied.new.frames a b
+          last i.looked.reads h.looked.reads
+          (g.met.F.Frames.gave_more a.pages a.forced c.args.frames.now c.loop-slot.frames
+          c.is_tied.new.frames i.gave) h.gave;
     }

@@ -18,6 +18,7 @@ invariant-loop-slot g l =
       bound : l.slot ≤ l.count;
       looked : Looked a b;
       count : b.sure ≡ true → l.count ≡ length (page_at (slots_of b.pages) l.page);
-      tied : b.sure ≡ true → HoldsOn (IsTiedAt (numbers_of l.live) (slot_of (slots_of b.pages))) l.page l.slot;
+      tied : b.sure ≡ true
+          → HoldsOn (IsTiedAt (numbers_of l.live) (slot_of (slots_of b.pages))) l.page l.slot;
       gave : g.F.Frames.gave a.pages a.forced l.fn.frames l.frames;
     }

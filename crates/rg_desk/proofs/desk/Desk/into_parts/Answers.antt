@@ -11,33 +11,48 @@ use Rattle.rg_desk.proofs.desk.Desk.into_parts.Goals as goal
 pub returns-clause-legal : goal.returns-clause-legal
 returns-clause-legal g c =
     let desk = c.self.invariant.0 in
-    subst (λ d. LegalFrom (old_records d) d.trace) c.self.view_is
-    (desk.start, desk.starts, desk_legal c.self.inside.engine c.self.inside.chronicle c.self.inside.origin c.self.inside.copy c.self.inside.down _ _ desk)
+    subst (λ d. LegalFrom (old_records d) d.trace) c.self.view_is (
+      desk.start,
+      desk.starts,
+      desk_legal c.self.inside.engine c.self.inside.chronicle c.self.inside.origin
+          c.self.inside.copy c.self.inside.down _ _ desk,
+    )
 
 pub returns-clause-tidy : goal.returns-clause-tidy
 returns-clause-tidy g c =
     let inside = c.self.inside in
-    subst (λ d. GoesOnTidy (seen_volume g.V.Volume.told g.V.Volume.faults g.V.Volume.capacities d.volume)) c.self.view_is
-    (desk_rests inside.engine inside.chronicle inside.origin inside.copy inside.down _ _ c.self.invariant.0 c.records.ensures.entries c.records.ensures.set).tidy
+    subst
+    (λ d. GoesOnTidy (seen_volume g.V.Volume.told g.V.Volume.faults g.V.Volume.capacities d.volume))
+    c.self.view_is
+    (desk_rests inside.engine inside.chronicle inside.origin inside.copy inside.down _ _
+    c.self.invariant.0 c.records.ensures.entries c.records.ensures.set).tidy
 
 pub returns-clause-sound : goal.returns-clause-sound
 returns-clause-sound g c =
     let inside = c.self.inside in
-    subst (λ d. LeavesSoundIfTidy (seen_volume g.V.Volume.told g.V.Volume.faults g.V.Volume.capacities d.volume)) c.self.view_is
-    (desk_rests inside.engine inside.chronicle inside.origin inside.copy inside.down _ _ c.self.invariant.0 c.records.ensures.entries c.records.ensures.set).sound
+    subst
+    (λ d. LeavesSoundIfTidy
+    (seen_volume g.V.Volume.told g.V.Volume.faults g.V.Volume.capacities d.volume)) c.self.view_is
+    (desk_rests inside.engine inside.chronicle inside.origin inside.copy inside.down _ _
+    c.self.invariant.0 c.records.ensures.entries c.records.ensures.set).sound
 
 pub returns-clause-left : goal.returns-clause-left
 returns-clause-left g c =
     let desk = c.self.invariant.0 in
     let inside = c.self.inside in
     let look = seen_volume g.V.Volume.told g.V.Volume.faults g.V.Volume.capacities in
-    let left = desk_left inside.engine inside.chronicle inside.origin inside.copy inside.down _ _ desk in
-    subst (λ d. LeavesTable (old_records d) d.first_copy d.ground.log.pages (look d.volume) d.trace) c.self.view_is
+    let left =
+    desk_left inside.engine inside.chronicle inside.origin inside.copy inside.down _ _ desk in
+    subst (λ d. LeavesTable (old_records d) d.first_copy d.ground.log.pages (look d.volume) d.trace)
+    c.self.view_is
     (record {
       start = desk.start;
       starts = desk.starts;
       last = desk.state;
       run = desk.run;
-      copies = (desk_rests inside.engine inside.chronicle inside.origin inside.copy inside.down _ _ desk c.records.ensures.entries c.records.ensures.set).copies;
-      left = on_images (StoresLeft desk.state) inside.engine.log (look inside.volume) c.records.ensures.entries c.records.ensures.set desk.leaves left.stored;
+      copies =
+          (desk_rests inside.engine inside.chronicle inside.origin inside.copy inside.down _ _ desk
+          c.records.ensures.entries c.records.ensures.set).copies;
+      left = on_images (StoresLeft desk.state) inside.engine.log (look inside.volume)
+          c.records.ensures.entries c.records.ensures.set desk.leaves left.stored;
     })

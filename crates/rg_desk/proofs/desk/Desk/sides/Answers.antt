@@ -17,10 +17,15 @@ invariant_of-self g c =
     let inside = c.self.inside in
     let seen = seen_volume g.V.Volume.told g.V.Volume.faults g.V.Volume.capacities inside.volume in
     let same = c.side.ensures.same in (
-      desk_still inside.engine inside.chronicle inside.origin inside.copy inside.down inside.marks.items seen c.self.invariant.0 c.side.new.self same,
-      subst (λ (n : ℕ). Tends inside.chronicle.trace inside.stage inside.changes n) (sym same.set_aside) c.self.invariant.1,
-      prepared_same inside.shadow inside.engine.log.records c.side.new.self.log.records inside.copy seen (ap (λ (l : Listed). l.records) same.log) c.self.invariant.2,
-      same_items inside.engine c.side.new.self inside.origin inside.chronicle.trace inside.down inside.stage inside.changes (sent_items inside.outlet) (engine_rows inside.engine c.side.new.self same) c.self.invariant.3,
+      desk_still inside.engine inside.chronicle inside.origin inside.copy inside.down
+          inside.marks.items seen c.self.invariant.0 c.side.new.self same,
+      subst (λ (n : ℕ). Tends inside.chronicle.trace inside.stage inside.changes n)
+          (sym same.set_aside) c.self.invariant.1,
+      prepared_same inside.shadow inside.engine.log.records c.side.new.self.log.records inside.copy
+          seen (ap (λ (l : Listed). l.records) same.log) c.self.invariant.2,
+      same_items inside.engine c.side.new.self inside.origin inside.chronicle.trace inside.down
+          inside.stage inside.changes (sent_items inside.outlet)
+          (engine_rows inside.engine c.side.new.self same) c.self.invariant.3,
     )
 
 pub invariant_of-self-in_err-new : goal.invariant_of-self-in_err-new
@@ -28,11 +33,17 @@ invariant_of-self-in_err-new g c =
     let inside = c.self.inside in
     let seen = seen_volume g.V.Volume.told g.V.Volume.faults g.V.Volume.capacities inside.volume in
     let same = c.side.ensures.same in (
-      desk_still inside.engine inside.chronicle inside.origin inside.copy inside.down inside.marks.items seen c.self.invariant.0 c.side.new.self same,
-      subst (λ (n : ℕ). Tends inside.chronicle.trace inside.stage inside.changes n) (sym same.set_aside) c.self.invariant.1,
-      subst (λ (o : Option Prepared). KeepsPrepared o c.side.new.self.log.records inside.copy seen) (sym c.new_side.ensures.same)
-          (prepared_same inside.shadow inside.engine.log.records c.side.new.self.log.records inside.copy seen (ap (λ (l : Listed). l.records) same.log) c.self.invariant.2),
-      same_items inside.engine c.side.new.self inside.origin inside.chronicle.trace inside.down inside.stage inside.changes (sent_items inside.outlet) (engine_rows inside.engine c.side.new.self same) c.self.invariant.3,
+      desk_still inside.engine inside.chronicle inside.origin inside.copy inside.down
+          inside.marks.items seen c.self.invariant.0 c.side.new.self same,
+      subst (λ (n : ℕ). Tends inside.chronicle.trace inside.stage inside.changes n)
+          (sym same.set_aside) c.self.invariant.1,
+      subst (λ (o : Option Prepared). KeepsPrepared o c.side.new.self.log.records inside.copy seen)
+          (sym c.new_side.ensures.same)
+          (prepared_same inside.shadow inside.engine.log.records c.side.new.self.log.records
+          inside.copy seen (ap (λ (l : Listed). l.records) same.log) c.self.invariant.2),
+      same_items inside.engine c.side.new.self inside.origin inside.chronicle.trace inside.down
+          inside.stage inside.changes (sent_items inside.outlet)
+          (engine_rows inside.engine c.side.new.self same) c.self.invariant.3,
     )
 
 pub invariant_of-self-2 : goal.invariant_of-self-2
@@ -40,11 +51,17 @@ invariant_of-self-2 g c =
     let inside = c.self.inside in
     let seen = seen_volume g.V.Volume.told g.V.Volume.faults g.V.Volume.capacities inside.volume in
     let same = c.side.ensures.same in (
-      desk_still inside.engine inside.chronicle inside.origin inside.copy inside.down inside.marks.items seen c.self.invariant.0 c.side.new.self same,
-      subst (λ (n : ℕ). Tends inside.chronicle.trace inside.stage inside.changes n) (sym same.set_aside) c.self.invariant.1,
-      subst (λ (o : Option Prepared). KeepsPrepared o c.side.new.self.log.records inside.copy seen) (sym c.new_side.ensures.same)
-          (prepared_same inside.shadow inside.engine.log.records c.side.new.self.log.records inside.copy seen (ap (λ (l : Listed). l.records) same.log) c.self.invariant.2),
-      same_items inside.engine c.side.new.self inside.origin inside.chronicle.trace inside.down inside.stage inside.changes (sent_items inside.outlet) (engine_rows inside.engine c.side.new.self same) c.self.invariant.3,
+      desk_still inside.engine inside.chronicle inside.origin inside.copy inside.down
+          inside.marks.items seen c.self.invariant.0 c.side.new.self same,
+      subst (λ (n : ℕ). Tends inside.chronicle.trace inside.stage inside.changes n)
+          (sym same.set_aside) c.self.invariant.1,
+      subst (λ (o : Option Prepared). KeepsPrepared o c.side.new.self.log.records inside.copy seen)
+          (sym c.new_side.ensures.same)
+          (prepared_same inside.shadow inside.engine.log.records c.side.new.self.log.records
+          inside.copy seen (ap (λ (l : Listed). l.records) same.log) c.self.invariant.2),
+      same_items inside.engine c.side.new.self inside.origin inside.chronicle.trace inside.down
+          inside.stage inside.changes (sent_items inside.outlet)
+          (engine_rows inside.engine c.side.new.self same) c.self.invariant.3,
     )
 
 pub returns-clause-sides : goal.returns-clause-sides
@@ -53,9 +70,13 @@ returns-clause-sides g c =
     let seen = seen_volume g.V.Volume.told g.V.Volume.faults g.V.Volume.capacities inside.volume in
     let up = ap (λ d. d.down) c.self.view_is ∙ c.requires.up in
     both_sides inside.engine inside.chronicle inside.origin inside.copy inside.marks.items seen
-    (subst (λ (b : Bool). IsDesk inside.engine inside.chronicle inside.origin inside.copy b inside.marks.items seen) up c.self.invariant.0)
-    inside.stage inside.changes c.self.invariant.1 c.drain.ensures.grant inside.shadow c.self.invariant.2
-    g.row.V.Denot g.row.O.Denot c.args.self.now (sym (ap (λ d. d.stage) c.self.view_is)) (sym (ap (λ d. d.shadow) c.self.view_is))
-    (sym (ap (λ d. d.ground.log.records) c.self.view_is)) (sym (ap (λ d. d.ground.pages) c.self.view_is))
+    (subst
+    (λ (b : Bool). IsDesk inside.engine inside.chronicle inside.origin inside.copy b
+    inside.marks.items seen) up c.self.invariant.0)
+    inside.stage inside.changes c.self.invariant.1 c.drain.ensures.grant inside.shadow
+    c.self.invariant.2
+    g.row.V.Denot g.row.O.Denot c.args.self.now (sym (ap (λ d. d.stage) c.self.view_is))
+    (sym (ap (λ d. d.shadow) c.self.view_is)) (sym (ap (λ d. d.ground.log.records) c.self.view_is))
+    (sym (ap (λ d. d.ground.pages) c.self.view_is))
     c.requires.drained c.requires.current (record { old = c.in_ok-old.old; new = c.in_ok-new.new })
     c.in_ok-old.ensures.table c.in_ok-new.ensures.side

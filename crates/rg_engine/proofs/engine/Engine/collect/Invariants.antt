@@ -7,5 +7,6 @@ use Rattle.rg_engine.proofs.engine.Engine.collect.Given as goal
 -- the Changes so far, whichever writes they are of
 abbrev pub invariant-loop : goal.invariant-loop
 invariant-loop l =
-    (ws : List Write) → Walks l.fn.self.log.records l.fn.unit.tran.0 l.fn.unit.last.0 ws → length ws ≡ l.fn.unit.writes
+    (ws : List Write) → Walks l.fn.self.log.records l.fn.unit.tran.0 l.fn.unit.last.0 ws
+    → length ws ≡ l.fn.unit.writes
     → Collected l.fn.self.log.records l.fn.unit ws l.at.0 l.counter l.changes.items

@@ -13,7 +13,9 @@ abbrev pub invariant-loop-next : goal.invariant-loop-next
 invariant-loop-next l =
     (from : ℕ)
     × IsFirstFrom l.locks from (valued l.next)
-    × ((st : State) (allowed : ℕ) → Shows st allowed l.self → l.count + left_from (λ lock. is_some lock.1.row) l.locks from ≡ row_count (committed_table st))
+    × ((st : State) (allowed : ℕ) → Shows st allowed l.self
+    → l.count + left_from (λ lock. is_some lock.1.row) l.locks from
+    ≡ row_count (committed_table st))
 
 abbrev pub decreases-loop-next : goal.decreases-loop-next
 decreases-loop-next l = room_after l.next

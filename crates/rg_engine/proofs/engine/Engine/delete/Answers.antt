@@ -10,22 +10,32 @@ pub returns-in_default-home_of : goal.returns-in_default-home_of
 returns-in_default-home_of c = λ st allowed shows.
     let d = c.args.self.now in
     go_absent st allowed d shows c.args.session (Delete c.args.key)
-    (delete_absent st allowed d shows c.args.session c.args.key (sym c.in_default.ensures) (key_none st allowed d shows c.args.session c.args.key c.in_default-home_of.ensures.none))
+    (delete_absent st allowed d shows c.args.session c.args.key (sym c.in_default.ensures)
+    (key_none st allowed d shows c.args.session c.args.key c.in_default-home_of.ensures.none))
 
 pub returns-in-Ok : goal.returns-in-Ok
 returns-in-Ok c = λ st allowed shows.
     let d = c.args.self.now in
     let mid = c.plan_drop.new.self in
-    let at = key_some st allowed d shows c.args.session c.args.key c.in-Some-home_of.home c.in-Some-home_of.ensures.there in
-    drop_goes st allowed d shows c.args.session c.in-Some-unit_of.unit c.in-Some-unit_of.ensures.unit mid c.in-Ok.ensures.same (same_shows st allowed d mid c.in-Ok.ensures.same shows)
-    c.in-Some-home_of.home at.row c.args.key c.in-Ok.plan c.write.result c.write.new.self c.in-Some-unit_of.ensures.small at.there at.home (sym c.in_default.ensures) at.key_is c.in-Ok.ensures.plan
-    (delete_done st allowed d shows c.args.session c.args.key at.row (sym c.in_default.ensures) at.now) c.write.ensures
+    let at = key_some st allowed d shows c.args.session c.args.key c.in-Some-home_of.home
+    c.in-Some-home_of.ensures.there in
+    drop_goes st allowed d shows c.args.session c.in-Some-unit_of.unit
+    c.in-Some-unit_of.ensures.unit mid c.in-Ok.ensures.same
+    (same_shows st allowed d mid c.in-Ok.ensures.same shows)
+    c.in-Some-home_of.home at.row c.args.key c.in-Ok.plan c.write.result c.write.new.self
+    c.in-Some-unit_of.ensures.small at.there at.home (sym c.in_default.ensures) at.key_is
+    c.in-Ok.ensures.plan
+    (delete_done st allowed d shows c.args.session c.args.key at.row (sym c.in_default.ensures)
+    at.now) c.write.ensures
 
 pub returns-in-Some : goal.returns-in-Some
-returns-in-Some c = λ st allowed shows. go_delete_held st allowed c.args.self.now shows c.args.session c.args.key c.in-Some.owner c.in-Some.ensures
+returns-in-Some c = λ st allowed shows. go_delete_held st allowed c.args.self.now shows
+    c.args.session c.args.key c.in-Some.owner c.in-Some.ensures
 
 pub returns-in_default-unit_of : goal.returns-in_default-unit_of
-returns-in_default-unit_of c = λ st allowed shows. go_wanting_here st allowed c.args.self.now shows c.args.session (Delete c.args.key) refl
+returns-in_default-unit_of c = λ st allowed shows. go_wanting_here st allowed c.args.self.now shows
+    c.args.session (Delete c.args.key) refl
 
 pub returns-in-Err : goal.returns-in-Err
-returns-in-Err c = λ st allowed shows. go_wanting st allowed c.args.self.now shows c.args.session (Delete c.args.key) c.plan_drop.new.self refl c.in-Err.ensures.same
+returns-in-Err c = λ st allowed shows. go_wanting st allowed c.args.self.now shows c.args.session
+    (Delete c.args.key) c.plan_drop.new.self refl c.in-Err.ensures.same

@@ -11,7 +11,8 @@ loop-next-init c = (
   c.first_from-next.ensures,
   λ st allowed shows.
       find_begins st.table c.as_map-locks.result.now c.args.session c.args.cat
-      ∙ ap (λ (locks : Locks). find_holder st.table locks c.args.session c.args.cat) (c.as_map-locks.ensures ∙ sym shows.by.locks),
+      ∙ ap (λ (locks : Locks). find_holder st.table locks c.args.session c.args.cat)
+      (c.as_map-locks.ensures ∙ sym shows.by.locks),
 )
 
 pub returns-in-Some-holding_up : goal.returns-in-Some-holding_up
@@ -19,8 +20,10 @@ returns-in-Some-holding_up c =
     let locks = c.as_map-locks.result.now in
     let (from, first, so_far) = c.loop-next.invariant in
     λ st allowed shows.
-    sym (find_goes st.table locks c.args.session c.args.cat from c.in-Some.key c.in-Some.lock.now (Some c.in-Some-holding_up.owner)
-    (subst (λ n. IsFirstFrom locks from (valued n)) c.in-Some.is first) (c.in-Some-holding_up.ensures.holding st allowed shows))
+    sym (find_goes st.table locks c.args.session c.args.cat from c.in-Some.key c.in-Some.lock.now
+    (Some c.in-Some-holding_up.owner)
+    (subst (λ n. IsFirstFrom locks from (valued n)) c.in-Some.is first)
+    (c.in-Some-holding_up.ensures.holding st allowed shows))
     ∙ so_far st allowed shows
 
 pub loop-next-preserved : goal.loop-next-preserved
@@ -30,8 +33,10 @@ loop-next-preserved c =
       c.in-Some.key + 1,
       c.first_after-next.ensures,
       λ st allowed shows.
-          sym (find_goes st.table locks c.args.session c.args.cat from c.in-Some.key c.in-Some.lock.now None
-          (subst (λ n. IsFirstFrom locks from (valued n)) c.in-Some.is first) (c.in_default-holding_up.ensures.holding st allowed shows))
+          sym (find_goes st.table locks c.args.session c.args.cat from c.in-Some.key
+          c.in-Some.lock.now None
+          (subst (λ n. IsFirstFrom locks from (valued n)) c.in-Some.is first)
+          (c.in_default-holding_up.ensures.holding st allowed shows))
           ∙ so_far st allowed shows,
     )
 
@@ -40,5 +45,7 @@ returns c =
     let locks = c.as_map-locks.result.now in
     let (from, first, so_far) = c.loop-next.invariant in
     λ st allowed shows.
-    sym (find_ends st.table locks c.args.session c.args.cat from (subst (λ n. IsFirstFrom locks from (valued n)) c.in_default.is first))
+    sym
+    (find_ends st.table locks c.args.session c.args.cat from
+    (subst (λ n. IsFirstFrom locks from (valued n)) c.in_default.is first))
     ∙ so_far st allowed shows

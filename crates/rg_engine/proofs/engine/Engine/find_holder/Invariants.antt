@@ -11,7 +11,9 @@ abbrev pub invariant-loop-next : goal.invariant-loop-next
 invariant-loop-next l =
     (from : ℕ)
     × IsFirstFrom l.locks from (valued l.next)
-    × ((st : State) (allowed : ℕ) → Shows st allowed l.self → first_owner (holding_from st.table l.locks l.session l.cat from) ≡ find_holder st.table st.locks l.session l.cat)
+    × ((st : State) (allowed : ℕ) → Shows st allowed l.self
+    → first_owner (holding_from st.table l.locks l.session l.cat from)
+    ≡ find_holder st.table st.locks l.session l.cat)
 
 abbrev pub decreases-loop-next : goal.decreases-loop-next
 decreases-loop-next l = room_after l.next

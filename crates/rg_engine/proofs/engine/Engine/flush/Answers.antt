@@ -10,12 +10,19 @@ use Rattle.rg_engine.proofs.engine.Engine.flush.Goals as goal
 pub returns-in_default : goal.returns-in_default
 returns-in_default g c =
     let on = c.requires.is_on in
-    flush_clean on.epoch c.args.copy c.args.self.now c.next_dirty.new.self c.args.marks.now.items (seen_volume g.V.Volume.told g.V.Volume.faults g.V.Volume.capacities c.args.volume.now) c.next_dirty.ensures.same
-    (subst (λ (l : Listed). l.forced ≤ length l.records) c.next_dirty.ensures.same.log c.forced.ensures.within) on.is_on
-    (subst (λ (ms : List (Option Position)). AreClean (seen_in c.args.self.now).pages ms) c.as_slice.ensures.value c.in_default.ensures.next)
+    flush_clean on.epoch c.args.copy c.args.self.now c.next_dirty.new.self c.args.marks.now.items
+    (seen_volume g.V.Volume.told g.V.Volume.faults g.V.Volume.capacities c.args.volume.now)
+    c.next_dirty.ensures.same
+    (subst (λ (l : Listed). l.forced ≤ length l.records) c.next_dirty.ensures.same.log
+    c.forced.ensures.within) on.is_on
+    (subst (λ (ms : List (Option Position)). AreClean (seen_in c.args.self.now).pages ms)
+    c.as_slice.ensures.value c.in_default.ensures.next)
 
 pub returns-in-Err : goal.returns-in-Err
 returns-in-Err g c =
     let on = c.requires.is_on in
-    flush_refused on.epoch c.args.copy c.args.self.now c.next_dirty.new.self c.args.marks.now.items c.make_room.new.marks.items (seen_volume g.V.Volume.told g.V.Volume.faults g.V.Volume.capacities c.args.volume.now) c.next_dirty.ensures.same on.is_on
+    flush_refused on.epoch c.args.copy c.args.self.now c.next_dirty.new.self c.args.marks.now.items
+    c.make_room.new.marks.items
+    (seen_volume g.V.Volume.told g.V.Volume.faults g.V.Volume.capacities c.args.volume.now)
+    c.next_dirty.ensures.same on.is_on
     c.make_room.ensures.same

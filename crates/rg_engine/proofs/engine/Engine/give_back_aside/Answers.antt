@@ -6,4 +6,5 @@ pub returns : goal.returns
 returns c =
     let d = c.args.self.now in
     let shows = c.requires.shown.shows in
-    put_aside d 0 (d.log.reserved - d.set_aside) _ c.give_back.ensures (omega (arith, shows.by.owed)) (omega (arith, shows.trails.space))
+    put_aside d 0 (d.log.reserved - d.set_aside) _ c.give_back.ensures
+    (omega (arith, shows.by.owed)) (omega (arith, shows.trails.space))

@@ -9,7 +9,12 @@ any : Session
 any = record { 0 = 0 }
 
 pub returns-in-None-clause-there : goal.returns-in-None-clause-there
-returns-in-None-clause-there c = λ st allowed shows. sym (ap (λ (row : Option Row). is_some row) (key_none st allowed c.args.self.now shows any c.args.key c.in-None.ensures.none))
+returns-in-None-clause-there c = λ st allowed shows. sym
+    (ap (λ (row : Option Row). is_some row)
+    (key_none st allowed c.args.self.now shows any c.args.key c.in-None.ensures.none))
 
 pub returns-in-Some-clause-there : goal.returns-in-Some-clause-there
-returns-in-Some-clause-there c = λ st allowed shows. sym (ap (λ (row : Option Row). is_some row) (key_some st allowed c.args.self.now shows any c.args.key c.in-Some.field-0 c.in-Some.ensures.there).now)
+returns-in-Some-clause-there c = λ st allowed shows. sym
+    (ap (λ (row : Option Row). is_some row)
+    (key_some st allowed c.args.self.now shows any c.args.key c.in-Some.field-0
+    c.in-Some.ensures.there).now)

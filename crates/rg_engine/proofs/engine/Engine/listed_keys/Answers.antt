@@ -19,16 +19,20 @@ loop-entry-preserved c =
     let i = c.loop-entry.entry-index in
     let same = same_same old now c.row_at.new.self c.loop-entry.invariant.0 c.row_at.ensures.same in
     let none : ℕ × Place = (0, record { page = 0; slot = 0 }) in
-    let at = c.in_ok-row.ensures.row ∙ ap (λ (ps : List (List Slot)). row_at (slot_of ps) (get_or es i none).1) c.loop-entry.invariant.0.slots in
+    let at = c.in_ok-row.ensures.row
+    ∙ ap (λ (ps : List (List Slot)). row_at (slot_of ps) (get_or es i none).1)
+    c.loop-entry.invariant.0.slots in
     elim c.match-branch-3.branch [
       | in-Some+in_ok-push w ↦ (
         same,
-        key_some rows es i none c.loop-entry.keys.items c.match-branch-3.keys.items w.in-Some.row c.loop-entry-test.true c.loop-entry.invariant.1
-            (sym at ∙ w.in-Some.is) (ap (λ (v : Vec ℕ Global). v.items) w.keys-is ∙ w.in_ok-push.ensures.items),
+        key_some rows es i none c.loop-entry.keys.items c.match-branch-3.keys.items w.in-Some.row
+            c.loop-entry-test.true c.loop-entry.invariant.1 (sym at ∙ w.in-Some.is)
+            (ap (λ (v : Vec ℕ Global). v.items) w.keys-is ∙ w.in_ok-push.ensures.items),
       )
       | in_default w ↦ (
         same,
-        key_none rows es i none c.loop-entry.keys.items c.match-branch-3.keys.items c.loop-entry-test.true c.loop-entry.invariant.1
+        key_none rows es i none c.loop-entry.keys.items c.match-branch-3.keys.items
+            c.loop-entry-test.true c.loop-entry.invariant.1
             (sym at ∙ w.in_default.is) (ap (λ (v : Vec ℕ Global). v.items) w.keys-is),
       )
     ]

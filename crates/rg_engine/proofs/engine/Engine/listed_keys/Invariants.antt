@@ -10,4 +10,5 @@ use Rattle.rg_engine.proofs.engine.Engine.listed_keys.Given as goal
 abbrev pub invariant-loop-entry : goal.invariant-loop-entry
 invariant-loop-entry l =
     SameEngine l.initial.self l.self
-    × (l.keys.items ≡ listed_keys (row_at (slot_of (slots_in l.initial.self))) (take l.entry-index l.entry-items))
+    × (l.keys.items
+    ≡ listed_keys (row_at (slot_of (slots_in l.initial.self))) (take l.entry-index l.entry-items))

@@ -6,4 +6,5 @@ use Rattle.rg_engine.proofs.engine.Engine.next_dirty.Given as goal
 
 -- the pages so far are clean
 abbrev pub invariant-loop-before : goal.invariant-loop-before
-invariant-loop-before l = SameEngine l.fn.self l.self × AllCleanBefore (seen_in l.fn.self).pages l.marks (l.before + 1)
+invariant-loop-before l =
+    SameEngine l.fn.self l.self × AllCleanBefore (seen_in l.fn.self).pages l.marks (l.before + 1)

@@ -13,13 +13,22 @@ returns-clause-plan c =
     let sp = c.plan_change.new.self in
     let b = row_size c.args.row.now in
     let pages = slots_of (list_seen (frames_of sp)).pages in
-    let agree = agree_later c.args.self.now.space sp c.plan_change.ensures.took.reads c.plan_change.ensures.summaries c.requires.pages.agree in
-    ok_so _ _ c.plan_change.result (λ plan h. h agree ∙ ap (λ (us : List ℕ). planned_change us b (capacity_in sp) pages c.args.home) (ap numbers_of c.as_slice.ensures.value ∙ c.in-Ok.ensures)) c.plan_change.ensures.plan
+    let agree = agree_later c.args.self.now.space sp c.plan_change.ensures.took.reads
+    c.plan_change.ensures.summaries c.requires.pages.agree in
+    ok_so _ _ c.plan_change.result
+    (λ plan h. h agree
+    ∙ ap (λ (us : List ℕ). planned_change us b (capacity_in sp) pages c.args.home)
+    (ap numbers_of c.as_slice.ensures.value ∙ c.in-Ok.ensures)) c.plan_change.ensures.plan
 
 pub returns-clause-refusal : goal.returns-clause-refusal
 returns-clause-refusal c =
     let sp = c.plan_change.new.self in
     let b = row_size c.args.row.now in
     let pages = slots_of (list_seen (frames_of sp)).pages in
-    let agree = agree_later c.args.self.now.space sp c.plan_change.ensures.took.reads c.plan_change.ensures.summaries c.requires.pages.agree in
-    err_so _ _ c.plan_change.result (refusal (frames_of c.args.self.now.space) (frames_of sp) b _ _ (λ none. ap (λ (us : List ℕ). planned_change us b (capacity_in sp) pages c.args.home) (sym (ap numbers_of c.as_slice.ensures.value ∙ c.in-Ok.ensures)) ∙ none agree)) c.plan_change.ensures.cause
+    let agree = agree_later c.args.self.now.space sp c.plan_change.ensures.took.reads
+    c.plan_change.ensures.summaries c.requires.pages.agree in
+    err_so _ _ c.plan_change.result
+    (refusal (frames_of c.args.self.now.space) (frames_of sp) b _ _
+    (λ none. ap (λ (us : List ℕ). planned_change us b (capacity_in sp) pages c.args.home)
+    (sym (ap numbers_of c.as_slice.ensures.value ∙ c.in-Ok.ensures)) ∙ none agree))
+    c.plan_change.ensures.cause

@@ -16,8 +16,10 @@ pub write-requires-clause-spelled : goal.write-requires-clause-spelled
 write-requires-clause-spelled c =
     let mid = c.plan_put.new.self in
     let live = units_with c.in-Some.unit.tran.0 mid in
-    put_spelled live (row_size c.args.row) (slots_in mid) (new_area live (row_size c.args.row) (capacity_in mid.space) (slots_in mid)) c.in-Ok.plan
-    (same_sound c.requires.shown.state c.requires.shown.allowed c.args.self.now c.plan_put.new.self c.in-Ok.ensures.same c.requires.shown.shows) c.in-Ok.ensures.plan
+    put_spelled live (row_size c.args.row) (slots_in mid)
+    (new_area live (row_size c.args.row) (capacity_in mid.space) (slots_in mid)) c.in-Ok.plan
+    (same_sound c.requires.shown.state c.requires.shown.allowed c.args.self.now c.plan_put.new.self
+    c.in-Ok.ensures.same c.requires.shown.shows) c.in-Ok.ensures.plan
 
 pub write-requires-clause-listed : goal.write-requires-clause-listed
 write-requires-clause-listed c =
@@ -25,26 +27,41 @@ write-requires-clause-listed c =
     let mid = c.plan_put.new.self in
     let st = c.requires.shown.state in
     let shows = c.requires.shown.shows in
-    put_listed st c.requires.shown.allowed d shows c.args.session c.in-Some.unit c.in-Some.ensures.unit mid c.in-Ok.ensures.same (same_shows st c.requires.shown.allowed d mid c.in-Ok.ensures.same shows)
-    c.args.row c.in-Ok.plan (key_none st c.requires.shown.allowed d shows c.args.session c.args.row.key c.requires.absent) c.requires.alone (subst (λ (n : ℕ). n ≤ 826) c.size-size.ensures.size c.size-size.ensures.high) c.in-Ok.ensures.plan
+    put_listed st c.requires.shown.allowed d shows c.args.session c.in-Some.unit
+    c.in-Some.ensures.unit mid c.in-Ok.ensures.same
+    (same_shows st c.requires.shown.allowed d mid c.in-Ok.ensures.same shows)
+    c.args.row c.in-Ok.plan
+    (key_none st c.requires.shown.allowed d shows c.args.session c.args.row.key c.requires.absent)
+    c.requires.alone (subst (λ (n : ℕ). n ≤ 826) c.size-size.ensures.size c.size-size.ensures.high)
+    c.in-Ok.ensures.plan
 
 pub returns-in-Ok : goal.returns-in-Ok
 returns-in-Ok c = λ st allowed shows.
     let d = c.args.self.now in
     let mid = c.plan_put.new.self in
     let absent = key_none st allowed d shows c.args.session c.args.row.key c.requires.absent in
-    put_goes st allowed d shows c.args.session c.in-Some.unit c.in-Some.ensures.unit mid c.in-Ok.ensures.same (same_shows st allowed d mid c.in-Ok.ensures.same shows)
-    c.args.row c.in-Ok.plan c.write.result c.write.new.self c.in-Some.ensures.small absent c.requires.alone (subst (λ (n : ℕ). n ≤ 826) c.size-size.ensures.size c.size-size.ensures.high) c.in-Ok.ensures.plan
-    (insert_done st allowed d shows c.args.session c.args.row c.requires.alone absent) c.write.ensures
+    put_goes st allowed d shows c.args.session c.in-Some.unit c.in-Some.ensures.unit mid
+    c.in-Ok.ensures.same (same_shows st allowed d mid c.in-Ok.ensures.same shows)
+    c.args.row c.in-Ok.plan c.write.result c.write.new.self c.in-Some.ensures.small absent
+    c.requires.alone (subst (λ (n : ℕ). n ≤ 826) c.size-size.ensures.size c.size-size.ensures.high)
+    c.in-Ok.ensures.plan
+    (insert_done st allowed d shows c.args.session c.args.row c.requires.alone absent)
+    c.write.ensures
 
 pub returns-in-Err : goal.returns-in-Err
 returns-in-Err c = λ st allowed shows.
     let d = c.args.self.now in
     let mid = c.plan_put.new.self in
     let absent = key_none st allowed d shows c.args.session c.args.row.key c.requires.absent in
-    subst (λ reply. Goes st allowed d c.args.session (Insert c.args.row) reply mid) (sym c.reply_of.ensures)
-    (put_refused st allowed d shows c.args.session c.in-Some.unit c.in-Some.ensures.unit mid c.in-Err.ensures.same (same_shows st allowed d mid c.in-Err.ensures.same shows)
-    c.args.row c.in-Err.fault (subst (λ (n : ℕ). n ≤ 826) c.size-size.ensures.size c.size-size.ensures.high) c.in-Err.ensures.refusal (insert_done st allowed d shows c.args.session c.args.row c.requires.alone absent))
+    subst (λ reply. Goes st allowed d c.args.session (Insert c.args.row) reply mid)
+    (sym c.reply_of.ensures)
+    (put_refused st allowed d shows c.args.session c.in-Some.unit c.in-Some.ensures.unit mid
+    c.in-Err.ensures.same (same_shows st allowed d mid c.in-Err.ensures.same shows)
+    c.args.row c.in-Err.fault
+    (subst (λ (n : ℕ). n ≤ 826) c.size-size.ensures.size c.size-size.ensures.high)
+    c.in-Err.ensures.refusal
+    (insert_done st allowed d shows c.args.session c.args.row c.requires.alone absent))
 
 pub returns-in_default : goal.returns-in_default
-returns-in_default c = λ st allowed shows. go_wanting_here st allowed c.args.self.now shows c.args.session (Insert c.args.row) refl
+returns-in_default c = λ st allowed shows. go_wanting_here st allowed c.args.self.now shows
+    c.args.session (Insert c.args.row) refl

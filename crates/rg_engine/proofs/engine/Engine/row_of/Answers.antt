@@ -8,12 +8,14 @@ any : Session
 any = record { 0 = 0 }
 
 pub returns-in_default-clause-row : goal.returns-in_default-clause-row
-returns-in_default-clause-row c = λ st allowed shows. key_none st allowed c.args.self.now shows any c.args.key c.in_default.ensures.none
+returns-in_default-clause-row c = λ st allowed shows. key_none st allowed c.args.self.now shows any
+    c.args.key c.in_default.ensures.none
 
 pub returns-clause-row : goal.returns-clause-row
 returns-clause-row c =
     ok_so _ _ c.row_at.result
     (λ row is st allowed shows.
-    let at = key_some st allowed c.args.self.now shows any c.args.key c.in-Some.home c.in-Some.ensures.there in
+    let at = key_some st allowed c.args.self.now shows any c.args.key c.in-Some.home
+    c.in-Some.ensures.there in
     at.now ∙ sym (is ∙ at.there))
     c.row_at.ensures.row

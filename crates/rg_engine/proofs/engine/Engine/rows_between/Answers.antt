@@ -17,18 +17,23 @@ loop-entry-preserved c =
     let rows : Place → Option Row = row_at (slot_of (slots_in old)) in
     let es = c.as_slice-entry-items.result.now in
     let i = c.loop-entry.entry-index in
-    let same = same_same old now c.row_at.new.self c.loop-entry.invariant.same c.row_at.ensures.same in
+    let same =
+    same_same old now c.row_at.new.self c.loop-entry.invariant.same c.row_at.ensures.same in
     let none : ℕ × Place = (0, record { page = 0; slot = 0 }) in
-    let at = c.in_ok-row.ensures.row ∙ ap (λ (ps : List (List Slot)). row_at (slot_of ps) (get_or es i none).1) c.loop-entry.invariant.same.slots in
+    let at = c.in_ok-row.ensures.row
+    ∙ ap (λ (ps : List (List Slot)). row_at (slot_of ps) (get_or es i none).1)
+    c.loop-entry.invariant.same.slots in
     elim c.match-branch-3.branch [
       | in-Some+in_ok-push w ↦ record {
         same = same;
-        rows = read_some rows es i none c.loop-entry.rows.items c.match-branch-3.rows.items w.in-Some.row c.loop-entry-test.true c.loop-entry.invariant.rows
-            (sym at ∙ w.in-Some.is) (ap (λ (v : Vec Row Global). v.items) w.rows-is ∙ w.in_ok-push.ensures.items);
+        rows = read_some rows es i none c.loop-entry.rows.items c.match-branch-3.rows.items
+            w.in-Some.row c.loop-entry-test.true c.loop-entry.invariant.rows (sym at ∙ w.in-Some.is)
+            (ap (λ (v : Vec Row Global). v.items) w.rows-is ∙ w.in_ok-push.ensures.items);
       }
       | in_default w ↦ record {
         same = same;
-        rows = read_none rows es i none c.loop-entry.rows.items c.match-branch-3.rows.items c.loop-entry-test.true c.loop-entry.invariant.rows
+        rows = read_none rows es i none c.loop-entry.rows.items c.match-branch-3.rows.items
+            c.loop-entry-test.true c.loop-entry.invariant.rows
             (sym at ∙ w.in_default.is) (ap (λ (v : Vec Row Global). v.items) w.rows-is);
       }
     ]

@@ -4,4 +4,5 @@ use Rattle.rg_engine.proofs.engine.Engine.rows_between.Given as goal
 
 -- the rows of the entries so far
 abbrev pub invariant-loop-entry : goal.invariant-loop-entry
-invariant-loop-entry l = RowsRead l.initial.self l.self (take l.entry-index l.entry-items) l.rows.items
+invariant-loop-entry l =
+    RowsRead l.initial.self l.self (take l.entry-index l.entry-items) l.rows.items

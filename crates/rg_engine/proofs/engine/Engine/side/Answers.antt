@@ -8,7 +8,10 @@ any : Session
 any = record { 0 = 0 }
 
 pub returns-in-Ok-clause-right : goal.returns-in-Ok-clause-right
-returns-in-Ok-clause-right c = λ st allowed shows. side_right st allowed c.args.self.now shows any _ c.in-Ok.side (ap slots_of (c.in-Ok.ensures.reads.same refl)) (c.in-Ok.ensures.right refl)
+returns-in-Ok-clause-right c = λ st allowed shows. side_right st allowed c.args.self.now shows any _
+    c.in-Ok.side (ap slots_of (c.in-Ok.ensures.reads.same refl)) (c.in-Ok.ensures.right refl)
 
 pub returns-in-Ok-clause-table : goal.returns-in-Ok-clause-table
-returns-in-Ok-clause-table c = λ st allowed shows t is. side_right_of st allowed c.args.self.now shows any _ c.in-Ok.side (ap slots_of (c.in-Ok.ensures.reads.same refl)) (c.in-Ok.ensures.right refl) t is
+returns-in-Ok-clause-table c =
+    λ st allowed shows t is. side_right_of st allowed c.args.self.now shows any _ c.in-Ok.side
+    (ap slots_of (c.in-Ok.ensures.reads.same refl)) (c.in-Ok.ensures.right refl) t is

@@ -19,7 +19,8 @@ drain_to-requires c =
     let has = plain_turn _ c.requires.next in
     subst (λ (x : DrainState). MayDrain x blocker c.drain_of.result) (sym c.requires.drain)
     (subst (λ (x : DrainState). MayDrain s.drain blocker x) (sym c.drain_of.ensures)
-    (drain_granted (numbers_of s) c.args.changes blocker c.args.answer.now s.drain c.args.event.now has.0 c.next_stage-next.result has.1 (c.next_stage-next.ensures.followed blocker has.0 has.1)))
+    (drain_granted (numbers_of s) c.args.changes blocker c.args.answer.now s.drain c.args.event.now
+    has.0 c.next_stage-next.result has.1 (c.next_stage-next.ensures.followed blocker has.0 has.1)))
 
 pub next_stage-next-requires-clause-next : goal.next_stage-next-requires-clause-next
 next_stage-next-requires-clause-next c =
@@ -27,14 +28,19 @@ next_stage-next-requires-clause-next c =
     (least_holder c.args.self.now.claims.drain c.args.self.now.claims.claims, ap is_some has.1)
 
 pub give_back_aside-requires : goal.give_back_aside-requires
-give_back_aside-requires c = record { shown = subst IsShown (sym c.drain_to.ensures) (drained_shown c.args.self.now c.drain_of.result c.requires.shown) }
+give_back_aside-requires c = record {
+  shown = subst IsShown (sym c.drain_to.ensures)
+      (drained_shown c.args.self.now c.drain_of.result c.requires.shown);
+}
 
 pub returns-then-is_none : goal.returns-then-is_none
 returns-then-is_none c = record {
   follows = c.next_stage-next.ensures.followed;
   bounded = c.next_stage-next.ensures.bounded;
-  engine = step_over c.args.self.now c.drain_of.result c.drain_to.new.self c.give_back_aside.new.self c.next_stage-next.result c.drain_to.ensures c.drain_of.ensures
-      (none_is c.next_stage-next.result c.is_none.result c.is_none.ensures c.if-is_none.true) c.give_back_aside.ensures;
+  engine = step_over c.args.self.now c.drain_of.result c.drain_to.new.self
+      c.give_back_aside.new.self c.next_stage-next.result c.drain_to.ensures c.drain_of.ensures
+      (none_is c.next_stage-next.result c.is_none.result c.is_none.ensures c.if-is_none.true)
+      c.give_back_aside.ensures;
 }
 
 pub returns-else-is_none : goal.returns-else-is_none
@@ -46,7 +52,10 @@ returns-else-is_none c =
     record {
       follows = c.next_stage-next.ensures.followed;
       bounded = c.next_stage-next.ensures.bounded;
-      engine = step_goes c.args.self.now c.drain_of.result c.drain_to.new.self c.next_stage-next.result c.is_none.result c.drain_to.ensures c.drain_of.ensures c.is_none.ensures c.if-is_none.false
-          (λ t is. c.requires.set_aside ∙ still_aside c.args.changes blocker c.args.answer.now s t c.args.event.now has.0 has.1 has.2
+      engine = step_goes c.args.self.now c.drain_of.result c.drain_to.new.self
+          c.next_stage-next.result c.is_none.result c.drain_to.ensures c.drain_of.ensures
+          c.is_none.ensures c.if-is_none.false (λ t is. c.requires.set_aside
+          ∙ still_aside c.args.changes blocker c.args.answer.now s t c.args.event.now has.0 has.1
+          has.2
           (subst (Followed has.0) is (c.next_stage-next.ensures.followed blocker has.0 has.1)));
     }

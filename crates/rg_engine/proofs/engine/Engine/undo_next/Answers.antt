@@ -16,17 +16,39 @@ returns-clause-newest c = λ t before w later is e h.
     let next = c.next.new.space in
     let entry = change_record c.args.at.0 t before w in
     let can = c.requires.can in
-    let same = first_is (change_record c.args.at.0 can.unlist.t can.unlist.back can.unlist.write) entry can.later later (sym can.work_is ∙ is) in
-    let able : CanUndoChange (list_seen (frames_of c.args.self.now.space)) (index_of c.args.self.now.space) entry = subst (CanUndoChange (list_seen (frames_of c.args.self.now.space)) (index_of c.args.self.now.space)) same can.able in
+    let same = first_is (change_record c.args.at.0 can.unlist.t can.unlist.back can.unlist.write)
+    entry can.later later (sym can.work_is ∙ is) in
+    let able : CanUndoChange (list_seen (frames_of c.args.self.now.space))
+    (index_of c.args.self.now.space) entry = subst
+    (CanUndoChange (list_seen (frames_of c.args.self.now.space)) (index_of c.args.self.now.space))
+    same can.able in
     let space : mid.space ≡ c.args.self.now.space = ap (λ x. x.space) c.unlist-next.ensures.same in
-    let records : mid.log.records ≡ c.args.self.now.log.records = ap (λ x. x.log.records) c.unlist-next.ensures.same in
-    let able_mid : CanUndoChange (list_seen (frames_of sp)) (index_of sp) entry = subst (λ s. CanUndoChange (list_seen (frames_of s)) (index_of s) entry) (sym space) able in
-    let did : UndidChange c.next_position-position.result.0 c.args.back.0 (list_seen (frames_of sp)) (list_seen (frames_of next)) (index_of next) entry =
-    subst (λ (ws : List Record). IfFirst ws (λ r. CanUndoChange (list_seen (frames_of sp)) (index_of sp) r → UndidChange c.next_position-position.result.0 c.args.back.0 (list_seen (frames_of sp)) (list_seen (frames_of next)) (index_of next) r)) is (c.in-Ok-Some.ensures.undone refl) able_mid in
-    let undo_is = subst (λ (ws : List Record). IfFirst ws (λ r. CanUndoChange (list_seen (frames_of sp)) (index_of sp) r → c.in-Ok-Some.field-0 ≡ Some (undo_record c.next_position-position.result.0 c.args.back.0 (slots_of (list_seen (frames_of sp)).pages) r))) is (c.in-Ok-Some.ensures.undo refl) able_mid in
-    space_newest (mid.log.records ++ c.in-Ok-Some.undo ∷ []) c.append_undo.new.log.records next next c.append_undo.ensures.records refl e
-    (undo_stays mid.log.records sp next (index_of next) c.next_position-position.result.0 c.args.back.0 entry c.in-Ok-Some.undo did (some_is (sym c.in-Ok-Some.field-0-is ∙ undo_is)) c.next_position-position.ensures c.next.ensures.keeps.copy e
-    (space_newest c.args.self.now.log.records mid.log.records c.args.self.now.space sp records space e h))
+    let records : mid.log.records ≡ c.args.self.now.log.records =
+    ap (λ x. x.log.records) c.unlist-next.ensures.same in
+    let able_mid : CanUndoChange (list_seen (frames_of sp)) (index_of sp) entry =
+    subst (λ s. CanUndoChange (list_seen (frames_of s)) (index_of s) entry) (sym space) able in
+    let did : UndidChange c.next_position-position.result.0 c.args.back.0 (list_seen (frames_of sp))
+    (list_seen (frames_of next)) (index_of next) entry =
+    subst
+    (λ (ws : List Record). IfFirst ws
+    (λ r. CanUndoChange (list_seen (frames_of sp)) (index_of sp) r
+    → UndidChange c.next_position-position.result.0 c.args.back.0 (list_seen (frames_of sp))
+    (list_seen (frames_of next)) (index_of next) r)) is (c.in-Ok-Some.ensures.undone refl)
+    able_mid in
+    let undo_is = subst
+    (λ (ws : List Record). IfFirst ws
+    (λ r. CanUndoChange (list_seen (frames_of sp)) (index_of sp) r
+    → c.in-Ok-Some.field-0
+    ≡ Some
+    (undo_record c.next_position-position.result.0 c.args.back.0
+    (slots_of (list_seen (frames_of sp)).pages) r))) is (c.in-Ok-Some.ensures.undo refl) able_mid in
+    space_newest (mid.log.records ++ c.in-Ok-Some.undo ∷ []) c.append_undo.new.log.records next next
+    c.append_undo.ensures.records refl e
+    (undo_stays mid.log.records sp next (index_of next) c.next_position-position.result.0
+    c.args.back.0 entry c.in-Ok-Some.undo did (some_is (sym c.in-Ok-Some.field-0-is ∙ undo_is))
+    c.next_position-position.ensures c.next.ensures.keeps.copy e
+    (space_newest c.args.self.now.log.records mid.log.records c.args.self.now.space sp records space
+    e h))
   where
     some_is : {r s : Record} → Some r ≡ Some s → r ≡ s
     some_is e = cc (e)

@@ -8,4 +8,5 @@ use Rattle.rg_engine.proofs.engine.Engine.undo_writes.Given as goal
 abbrev pub invariant-loop : goal.invariant-loop
 invariant-loop l =
     (st : State) (allowed : ℕ) (shows : Shows st allowed l.fn.self)
-    → IsUndoing l.fn.self (left_by shows.first l.fn.self) l.fn.unit l.self l.work l.at.0 l.back.0 l.counter
+    → IsUndoing l.fn.self (left_by shows.first l.fn.self) l.fn.unit l.self l.work l.at.0 l.back.0
+    l.counter

@@ -10,10 +10,16 @@ returns c = record {
   same = refl;
   spare = c.replace.ensures.spare;
   listings = λ t back w rows after found lists here sets.
-      let is = change_of c.args.at.0 t back w c.in-Some.entry.now c.in-Change.home c.in-Change.before c.in-Change.after c.in-Change.parts (c.in-Some.ensures ∙ found) c.in-Change.is in
+      let is =
+      change_of c.args.at.0 t back w c.in-Some.entry.now c.in-Change.home c.in-Change.before
+      c.in-Change.after c.in-Change.parts (c.in-Some.ensures ∙ found) c.in-Change.is in
       c.replace.ensures.listings rows after lists
       (ap rows is.home_is ∙ here ∙ sym is.after_is ∙ sym c.as_ref.ensures.value)
-      (subst (λ (home : Place). SetsRow rows after home (option_copied c.as_ref-in-Change.result)) (sym is.home_is) (subst (SetsRow rows after w.written.home) (sym is.before_is ∙ sym c.as_ref-in-Change.ensures.value) sets));
+      (subst (λ (home : Place). SetsRow rows after home (option_copied c.as_ref-in-Change.result))
+      (sym is.home_is)
+      (subst (SetsRow rows after w.written.home)
+      (sym is.before_is ∙ sym c.as_ref-in-Change.ensures.value) sets));
   next_is = λ t back w found.
-      (change_of c.args.at.0 t back w c.in-Some.entry.now c.in-Change.home c.in-Change.before c.in-Change.after c.in-Change.parts (c.in-Some.ensures ∙ found) c.in-Change.is).back_is;
+      (change_of c.args.at.0 t back w c.in-Some.entry.now c.in-Change.home c.in-Change.before
+      c.in-Change.after c.in-Change.parts (c.in-Some.ensures ∙ found) c.in-Change.is).back_is;
 }

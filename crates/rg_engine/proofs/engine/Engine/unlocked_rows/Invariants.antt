@@ -12,7 +12,9 @@ abbrev pub invariant-loop-next : goal.invariant-loop-next
 invariant-loop-next l =
     (from : ℕ)
     × IsFirstFrom l.locks from (valued l.next)
-    × ((st : State) (allowed : ℕ) → Shows st allowed l.self → l.count + locked_present st ≡ row_count st.table + left_from (λ lock. is_present st.table lock.0) l.locks from)
+    × ((st : State) (allowed : ℕ) → Shows st allowed l.self
+    → l.count + locked_present st
+    ≡ row_count st.table + left_from (λ lock. is_present st.table lock.0) l.locks from)
 
 abbrev pub decreases-loop-next : goal.decreases-loop-next
 decreases-loop-next l = room_after l.next

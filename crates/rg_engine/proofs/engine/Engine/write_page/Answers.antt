@@ -9,28 +9,46 @@ pub returns-in-Err : goal.returns-in-Err
 returns-in-Err g c =
     let seen = seen_volume g.V.Volume.told g.V.Volume.faults g.V.Volume.capacities in
     let on = c.requires.is_on in
-    force_failed c.args.copy c.args.self.now c.spell-position.new.self c.force_to.new.self (seen c.args.volume.now) (seen c.force_to.new.volume) c.spell-position.ensures.same c.force_to.ensures.forces c.requires.counted
+    force_failed c.args.copy c.args.self.now c.spell-position.new.self c.force_to.new.self
+    (seen c.args.volume.now) (seen c.force_to.new.volume) c.spell-position.ensures.same
+    c.force_to.ensures.forces c.requires.counted
     on.epoch c.args.marks.now.items on.is_on c.in-Err.ensures.cause
 
 pub returns-in-Err-write : goal.returns-in-Err-write
 returns-in-Err-write g c =
     let seen = seen_volume g.V.Volume.told g.V.Volume.faults g.V.Volume.capacities in
     let on = c.requires.is_on in
-    write_failed c.args.copy c.args.self.now c.spell-position.new.self c.force_to.new.self (seen c.args.volume.now) (seen c.force_to.new.volume) c.spell-position.ensures.same c.force_to.ensures.forces c.requires.counted
-    on.epoch c.args.marks.now.items c.set_mark.new.marks.items on.is_on c.args.number c.spell-position.new.into (seen c.write.new.self) c.write.result
+    write_failed c.args.copy c.args.self.now c.spell-position.new.self c.force_to.new.self
+    (seen c.args.volume.now) (seen c.force_to.new.volume) c.spell-position.ensures.same
+    c.force_to.ensures.forces c.requires.counted
+    on.epoch c.args.marks.now.items c.set_mark.new.marks.items on.is_on c.args.number
+    c.spell-position.new.into (seen c.write.new.self) c.write.result
     c.requires.dirty c.set_mark.ensures.here c.set_mark.ensures.others
-    (subst (λ (n : ℕ). n ≤ c.force_to.new.self.log.forced) c.spell-position.ensures.position c.in-Ok.ensures.ok) c.spell-position.ensures.spells
-    (subst (λ (s : Set). MadeWrite c.write.result (g.V.Volume.told c.force_to.new.volume) s c.args.number c.spell-position.new.into (g.V.Volume.told c.write.new.self)) c.set_of.ensures c.write.ensures.made)
+    (subst (λ (n : ℕ). n ≤ c.force_to.new.self.log.forced) c.spell-position.ensures.position
+    c.in-Ok.ensures.ok) c.spell-position.ensures.spells
+    (subst
+    (λ (s : Set). MadeWrite c.write.result (g.V.Volume.told c.force_to.new.volume) s c.args.number
+    c.spell-position.new.into (g.V.Volume.told c.write.new.self)) c.set_of.ensures
+    c.write.ensures.made)
     c.write.ensures.capacities c.write.ensures.cause c.in-Err-write.ensures.cause.failed
 
 pub returns : goal.returns
 returns g c =
     let seen = seen_volume g.V.Volume.told g.V.Volume.faults g.V.Volume.capacities in
     let on = c.requires.is_on in
-    page_written c.args.copy c.args.self.now c.spell-position.new.self c.force_to.new.self (seen c.args.volume.now) (seen c.force_to.new.volume) c.spell-position.ensures.same c.force_to.ensures.forces c.requires.counted
-    on.epoch c.args.marks.now.items c.set_mark.new.marks.items on.is_on c.args.number c.spell-position.new.into (seen c.write.new.self) c.write.result
+    page_written c.args.copy c.args.self.now c.spell-position.new.self c.force_to.new.self
+    (seen c.args.volume.now) (seen c.force_to.new.volume) c.spell-position.ensures.same
+    c.force_to.ensures.forces c.requires.counted
+    on.epoch c.args.marks.now.items c.set_mark.new.marks.items on.is_on c.args.number
+    c.spell-position.new.into (seen c.write.new.self) c.write.result
     c.requires.dirty c.set_mark.ensures.here c.set_mark.ensures.others
-    (subst (λ (n : ℕ). n ≤ c.force_to.new.self.log.forced) c.spell-position.ensures.position c.in-Ok.ensures.ok) c.spell-position.ensures.spells
-    (subst (λ (s : Set). MadeWrite c.write.result (g.V.Volume.told c.force_to.new.volume) s c.args.number c.spell-position.new.into (g.V.Volume.told c.write.new.self)) c.set_of.ensures c.write.ensures.made)
+    (subst (λ (n : ℕ). n ≤ c.force_to.new.self.log.forced) c.spell-position.ensures.position
+    c.in-Ok.ensures.ok) c.spell-position.ensures.spells
+    (subst
+    (λ (s : Set). MadeWrite c.write.result (g.V.Volume.told c.force_to.new.volume) s c.args.number
+    c.spell-position.new.into (g.V.Volume.told c.write.new.self)) c.set_of.ensures
+    c.write.ensures.made)
     c.write.ensures.capacities c.write.ensures.cause c.set_mark-2.new.marks.items c.in-Ok-write.is
-    (c.set_mark-2.ensures.here ∙ ap (λ (n : ℕ). Some (record { 0 = n })) c.spell-position.ensures.position) c.set_mark-2.ensures.others
+    (c.set_mark-2.ensures.here
+    ∙ ap (λ (n : ℕ). Some (record { 0 = n })) c.spell-position.ensures.position)
+    c.set_mark-2.ensures.others

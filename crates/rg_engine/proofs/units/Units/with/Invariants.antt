@@ -5,4 +5,5 @@ use Rattle.rg_engine.proofs.units.Units.with.Given as goal
 
 -- the transaction, and those of the slots so far
 abbrev pub invariant-loop-slot : goal.invariant-loop-slot
-invariant-loop-slot l = numbers_of l.trans.items ≡ l.fn.tran.0 ∷ trans_of (take l.slot-index l.slot-items)
+invariant-loop-slot l =
+    numbers_of l.trans.items ≡ l.fn.tran.0 ∷ trans_of (take l.slot-index l.slot-items)

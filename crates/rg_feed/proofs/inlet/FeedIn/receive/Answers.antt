@@ -11,8 +11,14 @@ loop-taken-preserved c =
     let i = c.loop-taken.invariant in
     let e = c.take_known.ensures in record {
       ring = e.ring ∙ i.ring;
-      items = e.items ∙ ap (λ xs. c.loop-taken.self.items ++ take 1 xs) i.known ∙ ap (λ xs. xs ++ take 1 (drop k known)) i.items ∙ append_assoc before.items (take k known) (take 1 (drop k known)) ∙ ap (λ xs. before.items ++ xs) (sym (take-next k known));
+      items = e.items ∙ ap (λ xs. c.loop-taken.self.items ++ take 1 xs) i.known
+          ∙ ap (λ xs. xs ++ take 1 (drop k known)) i.items
+          ∙ append_assoc before.items (take k known) (take 1 (drop k known))
+          ∙ ap (λ xs. before.items ++ xs) (sym (take-next k known));
       known = e.known ∙ ap (drop 1) i.known ∙ sym (drop-next k known);
-      taken = e.taken ∙ ap (λ xs. still_taken (take 1 xs) c.loop-taken.self.taken) i.known ∙ ap (still_taken (take 1 (drop k known))) i.taken ∙ sym (still-append (take k known) (take 1 (drop k known)) before.taken) ∙ ap (λ xs. still_taken xs before.taken) (sym (take-next k known));
+      taken = e.taken ∙ ap (λ xs. still_taken (take 1 xs) c.loop-taken.self.taken) i.known
+          ∙ ap (still_taken (take 1 (drop k known))) i.taken
+          ∙ sym (still-append (take k known) (take 1 (drop k known)) before.taken)
+          ∙ ap (λ xs. still_taken xs before.taken) (sym (take-next k known));
       room = omega (arith, e.room, i.room);
     }

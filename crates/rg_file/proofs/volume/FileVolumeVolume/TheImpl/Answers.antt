@@ -4,10 +4,17 @@ use Rattle.rg_file.proofs.volume.FileVolumeVolume.TheImpl.Goals as goal
 
 -- nothing is reported of a call
 pub read-tells : goal.read-tells
-read-tells g c = record { made = made_read c.result; content = untold c.result; kept = c.ensures.kept; capacities = refl; cause = c.ensures.cause }
+read-tells g c = record {
+  made = made_read c.result;
+  content = untold c.result;
+  kept = c.ensures.kept;
+  capacities = refl;
+  cause = c.ensures.cause;
+}
 
 pub write-tells : goal.write-tells
-write-tells g c = record { made = made_write c.result _ _ _; capacities = refl; cause = c.ensures.cause }
+write-tells g c =
+    record { made = made_write c.result _ _ _; capacities = refl; cause = c.ensures.cause }
 
 pub sync-tells : goal.sync-tells
 sync-tells g c = record { made = made_sync c.result; capacities = refl; cause = c.ensures.cause }

@@ -13,17 +13,26 @@ all_pass (e ∷ es) = ap (λ rest. e ∷ rest) (all_pass es)
 pub loop-key-init : goal.loop-key-init
 loop-key-init c =
     let table = c.args.table.now in
-    ap (λ (done : List Row). done ++ mapped_from (λ (entry : ℕ × Row). entry.1) (λ (entry : ℕ × Row). true) table 0) c.new-rows.ensures.items
-    ∙ ap (λ (es : List (ℕ × Row)). map (λ (entry : ℕ × Row). entry.1) es) (walk_begins (λ (entry : ℕ × Row). true) table (fin.entries table) ∙ all_pass (fin.entries table))
+    ap
+    (λ (done : List Row). done
+    ++ mapped_from (λ (entry : ℕ × Row). entry.1) (λ (entry : ℕ × Row). true) table 0)
+    c.new-rows.ensures.items
+    ∙ ap (λ (es : List (ℕ × Row)). map (λ (entry : ℕ × Row). entry.1) es)
+    (walk_begins (λ (entry : ℕ × Row). true) table (fin.entries table)
+    ∙ all_pass (fin.entries table))
 
 pub loop-key-preserved : goal.loop-key-preserved
 loop-key-preserved c =
     let table = c.args.table.now in
     let entry : ℕ × Row = (c.in-Some.key, c.in-Some.row.now) in
     rw (c.in_ok-push.ensures.items, c.in_ok-copy.ensures)
-    (gathered-passes (λ (entry : ℕ × Row). entry.1) (λ (entry : ℕ × Row). true) table (map (λ (entry : ℕ × Row). entry.1) (fin.entries table)) c.loop-key.rows.items (start_of c.loop-key.last) entry c.in-Some.ensures refl c.loop-key.invariant)
+    (gathered-passes (λ (entry : ℕ × Row). entry.1) (λ (entry : ℕ × Row). true) table
+    (map (λ (entry : ℕ × Row). entry.1) (fin.entries table)) c.loop-key.rows.items
+    (start_of c.loop-key.last) entry c.in-Some.ensures refl c.loop-key.invariant)
 
 pub returns : goal.returns
 returns c =
     let table = c.args.table.now in
-    gathered-ends (λ (entry : ℕ × Row). entry.1) (λ (entry : ℕ × Row). true) table (map (λ (entry : ℕ × Row). entry.1) (fin.entries table)) c.loop-key.rows.items (start_of c.loop-key.last) c.in_default.ensures c.loop-key.invariant
+    gathered-ends (λ (entry : ℕ × Row). entry.1) (λ (entry : ℕ × Row). true) table
+    (map (λ (entry : ℕ × Row). entry.1) (fin.entries table)) c.loop-key.rows.items
+    (start_of c.loop-key.last) c.in_default.ensures c.loop-key.invariant

@@ -10,4 +10,5 @@ returns c =
     let empty : Packing = record { filled = 0; slots = 0; free = 0 } in
     c.in_ok-spots.ensures
     ∙ spots-by options empty c.as_slice.result.now
-    ∙ ap (spots_from options 0 0 0) (c.as_slice.ensures.value ∙ c.in_ok-rows.ensures ∙ ap clustered_rows c.in_ok-all_rows.ensures)
+    ∙ ap (spots_from options 0 0 0)
+    (c.as_slice.ensures.value ∙ c.in_ok-rows.ensures ∙ ap clustered_rows c.in_ok-all_rows.ensures)

@@ -5,4 +5,5 @@ use Rattle.rg_judge.proofs.layouts.packing.same_home_spots.Given as goal
 
 -- what is left of both decides
 abbrev pub invariant-loop-x : goal.invariant-loop-x
-invariant-loop-x l = same_list same_home_spot (drop l.x-index l.a) l.left ≡ same_list same_home_spot l.a l.b
+invariant-loop-x l =
+    same_list same_home_spot (drop l.x-index l.a) l.left ≡ same_list same_home_spot l.a l.b

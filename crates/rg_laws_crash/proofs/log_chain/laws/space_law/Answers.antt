@@ -5,4 +5,5 @@ pub returns-clause-owes : goal.returns-clause-owes
 returns-clause-owes c = owes
 
 pub returns-clause-fronts : goal.returns-clause-fronts
-returns-clause-fronts c limit pages rs more space next n = fronts_have_space limit pages rs more space next n
+returns-clause-fronts c limit pages rs more space next n =
+    fronts_have_space limit pages rs more space next n

@@ -5,4 +5,5 @@ pub returns-clause-can : goal.returns-clause-can
 returns-clause-can c capacities rs copy pages is = new_can_switch capacities rs copy pages is
 
 pub returns-clause-begins : goal.returns-clause-begins
-returns-clause-begins c capacities limit rs copy pages s can = switch_begins capacities limit rs copy pages s can
+returns-clause-begins c capacities limit rs copy pages s can =
+    switch_begins capacities limit rs copy pages s can

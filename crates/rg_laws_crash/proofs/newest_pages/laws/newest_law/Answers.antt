@@ -10,13 +10,16 @@ pub returns-clause-can : goal.returns-clause-can
 returns-clause-can c s capacity owner after parts can = can_near s capacity owner after parts can
 
 pub returns-clause-one : goal.returns-clause-one
-returns-clause-one c e rs entry a b are next near copy pages = record_newest e rs entry a b are next near copy pages
+returns-clause-one c e rs entry a b are next near copy pages =
+    record_newest e rs entry a b are next near copy pages
 
 pub returns-clause-each : goal.returns-clause-each
-returns-clause-each c e rs more a b are up on copy pages = each_newest e rs more a b are up on copy pages
+returns-clause-each c e rs more a b are up on copy pages =
+    each_newest e rs more a b are up on copy pages
 
 pub returns-clause-end : goal.returns-clause-end
 returns-clause-end c e rs entry s are next none = end_newest e rs entry s are next none
 
 pub returns-clause-rebuilt : goal.returns-clause-rebuilt
-returns-clause-rebuilt c e rs since base s can copy pages = rebuilt_newest e rs since base s can copy pages
+returns-clause-rebuilt c e rs since base s can copy pages =
+    rebuilt_newest e rs since base s can copy pages

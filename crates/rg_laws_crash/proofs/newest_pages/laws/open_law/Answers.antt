@@ -10,7 +10,8 @@ pub returns-clause-pages : goal.returns-clause-pages
 returns-clause-pages c rs = switched_pages_low rs
 
 pub returns-clause-stands : goal.returns-clause-stands
-returns-clause-stands c capacities rs base i opened spare p one high = opening_stands capacities rs base i opened spare p one high
+returns-clause-stands c capacities rs base i opened spare p one high =
+    opening_stands capacities rs base i opened spare p one high
 
 pub returns-clause-can_redo : goal.returns-clause-can_redo
 returns-clause-can_redo c rs base i opened = opening_can_redo rs base i opened
@@ -19,4 +20,5 @@ pub returns-clause-newest : goal.returns-clause-newest
 returns-clause-newest c rs base i s opened copy pages = opening_newest rs base i s opened copy pages
 
 pub returns-clause-marks : goal.returns-clause-marks
-returns-clause-marks c rs base i n x opened one high spells as_is = opening_marks rs base i n x opened one high spells as_is
+returns-clause-marks c rs base i n x opened one high spells as_is =
+    opening_marks rs base i n x opened one high spells as_is

@@ -15,8 +15,10 @@ pub returns-clause-grow : goal.returns-clause-grow
 returns-clause-grow c e rs m n begun le high steady = pages_grow e rs m n begun le high steady
 
 pub returns-clause-tidy : goal.returns-clause-tidy
-returns-clause-tidy c capacities e rs at forced n i positions steady begun low le high empties has p past within =
-    tidy_goes_on capacities e rs at forced n i positions steady begun low le high empties has p past within
+returns-clause-tidy c capacities e rs at forced n i positions steady begun low le high empties has p
+    past within =
+    tidy_goes_on capacities e rs at forced n i positions steady begun low le high empties has p past
+    within
 
 pub returns-clause-past : goal.returns-clause-past
 returns-clause-past c rs base count p past = opened_past rs base count p past

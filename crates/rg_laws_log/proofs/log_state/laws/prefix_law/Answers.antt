@@ -12,7 +12,8 @@ pub returns-clause-start : goal.returns-clause-start
 returns-clause-start c limit = (nothing_consistent limit, nothing_clean)
 
 pub returns-clause-runs : goal.returns-clause-runs
-returns-clause-runs c limit first acts g runs = (runs_consistent limit first g acts runs, λ clean. runs_clean limit first g acts runs clean)
+returns-clause-runs c limit first acts g runs =
+    (runs_consistent limit first g acts runs, λ clean. runs_clean limit first g acts runs clean)
 
 pub returns-clause-prefixes : goal.returns-clause-prefixes
 returns-clause-prefixes c limit acts runs = prefixes_hold limit acts runs

@@ -11,7 +11,8 @@ returns-clause-rows c limit s t undos g are runs k = rollback_rows limit s g t u
 
 pub returns-clause-runs : goal.returns-clause-runs
 returns-clause-runs c = record {
-  runs = λ limit first t acts runs lives. undos_run limit first t (own_of t (state first acts).writes) acts runs lives refl;
+  runs = λ limit first t acts runs lives. undos_run limit first t
+      (own_of t (state first acts).writes) acts runs lives refl;
   are = λ t pages ws. undos_are t pages ws [] tt;
   joins = λ t pages ws acts. undos_join t pages ws [] acts;
 }

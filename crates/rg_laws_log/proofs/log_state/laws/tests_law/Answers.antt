@@ -15,16 +15,24 @@ returns-clause-close c = record {
 }
 
 pub returns-clause-suffice : goal.returns-clause-suffice
-returns-clause-suffice c limit pages units stored top t = (units_can units pages t.proper t.needed, tested_consistent limit pages units stored top t, λ below. tested_clean limit pages units stored top t below)
+returns-clause-suffice c limit pages units stored top t = (
+  units_can units pages t.proper t.needed,
+  tested_consistent limit pages units stored top t,
+  λ below. tested_clean limit pages units stored top t below,
+)
 
 pub returns-clause-rests : goal.returns-clause-rests
-returns-clause-rests c limit pages units rest done stored top e t = tested_rest limit pages units rest done stored top e t
+returns-clause-rests c limit pages units rest done stored top e t =
+    tested_rest limit pages units rest done stored top e t
 
 pub returns-clause-later : goal.returns-clause-later
-returns-clause-later c limit pages units top old t low acts runs = later limit pages units top old t low acts runs
+returns-clause-later c limit pages units top old t low acts runs =
+    later limit pages units top old t low acts runs
 
 pub returns-clause-tells : goal.returns-clause-tells
 returns-clause-tells c = record {
-  stored = λ limit pages units top old t low acts runs k. later_stored limit pages units top old t low acts runs k;
-  commits = λ limit pages units top old t low acts runs f may k. later_tells limit pages units top old t low acts runs f may k;
+  stored = λ limit pages units top old t low acts runs k. later_stored limit pages units top old t
+      low acts runs k;
+  commits = λ limit pages units top old t low acts runs f may k. later_tells limit pages units top
+      old t low acts runs f may k;
 }

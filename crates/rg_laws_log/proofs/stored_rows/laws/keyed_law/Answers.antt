@@ -9,7 +9,8 @@ pub returns-clause-undos : goal.returns-clause-undos
 returns-clause-undos c rs more are = undos_add_none rs more are
 
 pub returns-clause-opening : goal.returns-clause-opening
-returns-clause-opening c limit pages units top old tested below more runs k = opening_stores limit pages units top old tested below more runs k
+returns-clause-opening c limit pages units top old tested below more runs k =
+    opening_stores limit pages units top old tested below more runs k
 
 pub returns-clause-log : goal.returns-clause-log
 returns-clause-log c limit rs runs k = log_stores limit rs runs k

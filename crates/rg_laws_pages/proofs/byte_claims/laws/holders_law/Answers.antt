@@ -7,7 +7,9 @@ pub returns-clause-fewer : goal.returns-clause-fewer
 returns-clause-fewer c before after pages fewer = claimed_all-fewer before after fewer pages
 
 pub returns-clause-holders : goal.returns-clause-holders
-returns-clause-holders c live next = (covers live next, begins live next, λ rest fewer. ends live rest next fewer)
+returns-clause-holders c live next =
+    (covers live next, begins live next, λ rest fewer. ends live rest next fewer)
 
 pub returns-clause-switched : goal.returns-clause-switched
-returns-clause-switched c next pages low owners = switched next low pages (λ k i. owners (record { page = suc k; slot = i }))
+returns-clause-switched c next pages low owners =
+    switched next low pages (λ k i. owners (record { page = suc k; slot = i }))

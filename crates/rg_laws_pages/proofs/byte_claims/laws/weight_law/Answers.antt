@@ -6,4 +6,5 @@ pub returns-clause-rows : goal.returns-clause-rows
 returns-clause-rows c holds pages proper = all_rows_claim holds pages proper
 
 pub returns-clause-change : goal.returns-clause-change
-returns-clause-change c at after home row n k changes = (change_weight at after home row changes n k, change_elsewhere at after home row changes n k)
+returns-clause-change c at after home row n k changes =
+    (change_weight at after home row changes n k, change_elsewhere at after home row changes n k)

@@ -8,6 +8,7 @@ invariant_of-result c =
     let lists = c.in_ok-empty_lists.field-0 in
     record {
       len = c.in_ok-empty_lists.ensures.len;
-      exact = subst (λ locks. IsExact locks lists.items) (sym c.new.ensures) (exact-empty lists.items c.in_ok-empty_lists.ensures.none);
+      exact = subst (λ locks. IsExact locks lists.items) (sym c.new.ensures)
+          (exact-empty lists.items c.in_ok-empty_lists.ensures.none);
       once = once-empty lists.items c.in_ok-empty_lists.ensures.none;
     }

@@ -9,7 +9,8 @@ use Rattle.rg_lock.proofs.locks.Locks.release.Goals.{In_ok-kept, After-from_resi
 mine : (c : In_ok-kept) → not (is_others c.args.session (Some c.in_ok-kept.kept)) ≡ true
 mine c =
     ap (λ found. not (is_others c.args.session found)) c.in_ok-kept.ensures.before
-    ∙ was_own c.self.inside.locks c.self.inside.owned.items c.pop_key.new.lists.items c.args.session c.in_ok-key.key c.in_ok-key.ensures.keys c.self.invariant.exact c.self.invariant.once
+    ∙ was_own c.self.inside.locks c.self.inside.owned.items c.pop_key.new.lists.items c.args.session
+    c.in_ok-key.key c.in_ok-key.ensures.keys c.self.invariant.exact c.self.invariant.once
 
 pub invariant_of-self-2 : goal.invariant_of-self-2
 invariant_of-self-2 c =
@@ -19,19 +20,27 @@ invariant_of-self-2 c =
     record {
       len = c.in_ok-key.ensures.len;
       exact = subst (λ left. IsExact left new) (sym c.in_ok-kept.ensures.removed)
-          (exact-removed locks old new c.args.session c.in_ok-key.key c.in_ok-key.ensures.keys c.self.invariant.exact c.self.invariant.once);
-      once = once-removed locks old new c.args.session c.in_ok-key.key c.in_ok-key.ensures.keys c.self.invariant.exact c.self.invariant.once;
+          (exact-removed locks old new c.args.session c.in_ok-key.key c.in_ok-key.ensures.keys
+          c.self.invariant.exact c.self.invariant.once);
+      once = once-removed locks old new c.args.session c.in_ok-key.key c.in_ok-key.ensures.keys
+          c.self.invariant.exact c.self.invariant.once;
     }
 
 pub returns : goal.returns
 returns c =
-    rw (← c.self.view_is)
-    (sym c.in_ok-kept.ensures.before ∙ ap Some (own_kept c.args.session c.in_ok-kept.kept (mine c)), c.in_ok-kept.ensures.removed)
+    rw (← c.self.view_is) (
+      sym c.in_ok-kept.ensures.before
+          ∙ ap Some (own_kept c.args.session c.in_ok-kept.kept (mine c)),
+      c.in_ok-kept.ensures.removed,
+    )
 
 no_lock : (c : After-from_residual-in_err-kept) → ⊥
 no_lock c =
-    let listed = was_own c.self.inside.locks c.self.inside.owned.items c.pop_key.new.lists.items c.args.session c.in_ok-key.key c.in_ok-key.ensures.keys c.self.invariant.exact c.self.invariant.once in
-    let unlocked : false ≡ true = ap (λ found. not (is_others c.args.session found)) c.in_err-kept.ensures.before ∙ listed in
+    let listed =
+    was_own c.self.inside.locks c.self.inside.owned.items c.pop_key.new.lists.items c.args.session
+    c.in_ok-key.key c.in_ok-key.ensures.keys c.self.invariant.exact c.self.invariant.once in
+    let unlocked : false ≡ true =
+    ap (λ found. not (is_others c.args.session found)) c.in_err-kept.ensures.before ∙ listed in
     absurd (cc (unlocked))
 
 pub returns-in_err-kept : goal.returns-in_err-kept

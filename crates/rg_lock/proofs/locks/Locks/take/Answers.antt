@@ -22,7 +22,9 @@ invariant_of-self-in-Err-push_key c =
     let new = c.push_key.new.lists.items in
     record {
       len = c.in-Err-push_key.ensures.len;
-      exact = subst (λ locks. IsExact locks new) (sym (undone c)) (exact-same c.self.inside.locks old new c.in-Err-push_key.ensures.err c.self.invariant.exact);
+      exact = subst (λ locks. IsExact locks new) (sym (undone c))
+          (exact-same c.self.inside.locks old new c.in-Err-push_key.ensures.err
+          c.self.invariant.exact);
       once = once-same old new c.in-Err-push_key.ensures.err c.self.invariant.once;
     }
 
@@ -38,6 +40,8 @@ invariant_of-self-in_default-push_key c =
     record {
       len = c.in_default-push_key.ensures.len;
       exact = subst (λ locks. IsExact locks new) (sym c.in_default-insert.ensures.ok)
-          (exact-inserted locks old new kept c.args.key c.in_default-push_key.ensures.ok (sym c.in_default.ensures) c.self.invariant.exact);
-      once = once-inserted locks old new c.args.session c.args.key c.in_default-push_key.ensures.ok (sym c.in_default.ensures) c.self.invariant.exact c.self.invariant.once;
+          (exact-inserted locks old new kept c.args.key c.in_default-push_key.ensures.ok
+          (sym c.in_default.ensures) c.self.invariant.exact);
+      once = once-inserted locks old new c.args.session c.args.key c.in_default-push_key.ensures.ok
+          (sym c.in_default.ensures) c.self.invariant.exact c.self.invariant.once;
     }

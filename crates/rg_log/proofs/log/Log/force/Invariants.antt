@@ -12,7 +12,8 @@ invariant-loop-self g l = record {
   further : l.fn.self.forced ≤ l.self.forced;
   capacities : g.V.Volume.capacities l.volume ≡ g.V.Volume.capacities l.fn.volume;
   later : g.V.Volume.faults l.fn.volume ≤ g.V.Volume.faults l.volume;
-  moments : LeavesLog (g.V.Volume.told l.fn.volume) l.fn.self.pages l.fn.self.records l.fn.self.forced
+  moments : LeavesLog (g.V.Volume.told l.fn.volume) l.fn.self.pages l.fn.self.records
+      l.fn.self.forced
       → HoldsThroughout (g.V.Volume.told l.fn.volume) (g.V.Volume.told l.volume)
       (EachImage (SpellsFrom l.fn.self.pages l.fn.self.records l.fn.self.forced));
   ahead : LeavesLog (g.V.Volume.told l.fn.volume) l.fn.self.pages l.fn.self.records l.fn.self.forced

@@ -6,5 +6,6 @@ use Rattle.rg_map.proofs.table.MapTable.get.Goals as goal
 
 pub returns-clause-target : goal.returns-clause-target
 returns-clause-target c =
-    c.copied.ensures ∙ c.get.ensures.value ∙ sym (get-targets c.self.inside.targets.entries c.args.source)
+    c.copied.ensures ∙ c.get.ensures.value
+    ∙ sym (get-targets c.self.inside.targets.entries c.args.source)
     ∙ ap (λ (mapping : Mapping). map.get mapping.targets c.args.source) c.self.view_is

@@ -14,10 +14,16 @@ on_false false f = f refl
 
 pub returns-clause-taken : goal.returns-clause-taken
 returns-clause-taken c =
-    subst (λ (mapping : Mapping). OnTrue c.has_value.result (IsTarget mapping.targets c.args.target)) c.self.view_is
-    (on_true c.has_value.result (λ e. target_of_key c.self.inside.targets.entries c.args.target c.has_value.ensures.unique (sym c.has_value.ensures.value ∙ e)))
+    subst
+    (λ (mapping : Mapping). OnTrue c.has_value.result (IsTarget mapping.targets c.args.target))
+    c.self.view_is
+    (on_true c.has_value.result
+    (λ e. target_of_key c.self.inside.targets.entries c.args.target c.has_value.ensures.unique
+    (sym c.has_value.ensures.value ∙ e)))
 
 pub returns-clause-free : goal.returns-clause-free
 returns-clause-free c =
-    subst (λ (mapping : Mapping). OnFalse c.has_value.result (IsFree mapping.targets c.args.target)) c.self.view_is
-    (on_false c.has_value.result (λ e. free_of c.self.inside.targets.entries c.args.target (sym c.has_value.ensures.value ∙ e)))
+    subst (λ (mapping : Mapping). OnFalse c.has_value.result (IsFree mapping.targets c.args.target))
+    c.self.view_is
+    (on_false c.has_value.result
+    (λ e. free_of c.self.inside.targets.entries c.args.target (sym c.has_value.ensures.value ∙ e)))

@@ -13,15 +13,24 @@ ok_fact : {A E : Type 0} {P : Type 0} (r : Result A E) → IsOk r → OnOk r P �
 ok_fact (Ok x) is p = p
 ok_fact (Err e) is p = cc (is)
 
-updated : (c : After-insert) → targets_of c.insert.new.self.entries ≡ map.insert (targets_of c.self.inside.targets.entries) c.args.source c.args.target
+updated : (c : After-insert)
+    → targets_of c.insert.new.self.entries
+    ≡ map.insert (targets_of c.self.inside.targets.entries) c.args.source c.args.target
 updated c =
-    let room = subst (λ (mapping : Mapping). 0 < mapping.spare) (sym c.self.view_is) c.requires.spare in
-    targets-put c.self.inside.targets.entries c.insert.new.self.entries c.args.source c.args.target (ok_fact c.insert.result (c.insert.ensures.succeeds room) c.insert.ensures.updates).0
+    let room =
+    subst (λ (mapping : Mapping). 0 < mapping.spare) (sym c.self.view_is) c.requires.spare in
+    targets-put c.self.inside.targets.entries c.insert.new.self.entries c.args.source c.args.target
+    (ok_fact c.insert.result (c.insert.ensures.succeeds room) c.insert.ensures.updates).0
 
 pub invariant_of-self : goal.invariant_of-self
 invariant_of-self c =
-    let free = subst (λ (mapping : Mapping). IsFree mapping.targets c.args.target) (sym c.self.view_is) c.requires.target in
-    subst IsOneToOne (sym (updated c)) (one-put (targets_of c.self.inside.targets.entries) c.args.source c.args.target c.self.invariant free)
+    let free = subst (λ (mapping : Mapping). IsFree mapping.targets c.args.target)
+    (sym c.self.view_is) c.requires.target in
+    subst IsOneToOne (sym (updated c))
+    (one-put (targets_of c.self.inside.targets.entries) c.args.source c.args.target c.self.invariant
+    free)
 
 pub returns-clause-targets : goal.returns-clause-targets
-returns-clause-targets c = updated c ∙ ap (λ (mapping : Mapping). map.insert mapping.targets c.args.source c.args.target) c.self.view_is
+returns-clause-targets c = updated c
+    ∙ ap (λ (mapping : Mapping). map.insert mapping.targets c.args.source c.args.target)
+    c.self.view_is

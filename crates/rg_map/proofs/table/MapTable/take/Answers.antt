@@ -8,7 +8,9 @@ use Rattle.rg_map.proofs.table.MapTable.take.Goals as goal
 pub invariant_of-self : goal.invariant_of-self
 invariant_of-self c =
     let old = c.self.inside.targets.entries in
-    subst IsOneToOne (sym (targets-take old c.remove.new.self.entries c.args.source c.remove.ensures.updates.0)) (one-taken (targets_of old) c.args.source c.self.invariant)
+    subst IsOneToOne
+    (sym (targets-take old c.remove.new.self.entries c.args.source c.remove.ensures.updates.0))
+    (one-taken (targets_of old) c.args.source c.self.invariant)
 
 pub returns-clause-target : goal.returns-clause-target
 returns-clause-target c =
@@ -17,5 +19,6 @@ returns-clause-target c =
 
 pub returns-clause-targets : goal.returns-clause-targets
 returns-clause-targets c =
-    targets-take c.self.inside.targets.entries c.remove.new.self.entries c.args.source c.remove.ensures.updates.0
+    targets-take c.self.inside.targets.entries c.remove.new.self.entries c.args.source
+    c.remove.ensures.updates.0
     ∙ ap (λ (mapping : Mapping). map.remove mapping.targets c.args.source) c.self.view_is

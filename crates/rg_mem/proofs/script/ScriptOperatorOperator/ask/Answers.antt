@@ -9,4 +9,5 @@ pub returns-then-self-lt18446744073709551615-clause-answered :
 returns-then-self-lt18446744073709551615-clause-answered c =
     rw (← c.self.view_is)
     (one_answer c.self.inside.lines.items c.self.inside.asks _ (omega arith)
-    (c.line_at-answer.ensures ∙ ap (λ lines. answer_at lines c.self.inside.asks) c.deref.ensures.value))
+    (c.line_at-answer.ensures
+    ∙ ap (λ lines. answer_at lines c.self.inside.asks) c.deref.ensures.value))

@@ -8,7 +8,8 @@ invariant-loop-n l =
     let first = image_of l.self.log.items l.self.first.items l.self.second.items in
     record {
       in_range : l.n ≤ length l.self.calls.items;
-      same : read_of first (calls_of l.self.writes.items (take l.n l.self.calls.items)) l.set l.page ≡ read_of first (calls_of l.self.writes.items l.self.calls.items) l.set l.page;
+      same : read_of first (calls_of l.self.writes.items (take l.n l.self.calls.items)) l.set l.page
+          ≡ read_of first (calls_of l.self.writes.items l.self.calls.items) l.set l.page;
     }
 
 abbrev pub decreases-loop-n : goal.decreases-loop-n

@@ -9,5 +9,8 @@ abbrev pub invariant-loop-n : goal.invariant-loop-n
 invariant-loop-n l = record {
   whole : All (λ page. length page ≡ 4096) l.pages.items;
   len : length l.pages.items ≡ l.n;
-  each : (n : ℕ) → n < l.n → slice_index_or l.pages.items n [] ≡ content_at (left_of (shown l.self).first (shown l.self).calls l.set (n + 1)) (pick_at l.picks (l.start + n));
+  each : (n : ℕ) → n < l.n
+      → slice_index_or l.pages.items n []
+      ≡ content_at (left_of (shown l.self).first (shown l.self).calls l.set (n + 1))
+      (pick_at l.picks (l.start + n));
 }

@@ -8,5 +8,7 @@ use Rattle.rg_model.proofs.plain.PlainState.claim_reader.Goals as goal
 pub returns-then-contains_key-clause-ok : goal.returns-then-contains_key-clause-ok
 returns-then-contains_key-clause-ok c =
     let plain = c.args.self.now in
-    ap (λ (claims : Claims). record (state_of plain) { claims = claims }) (sym (claim-held plain.claims c.args.session.0
-    (ap (map.contains_key plain.claims) (sym c.from-number.ensures) ∙ sym c.if-contains_key.ensures)))
+    ap (λ (claims : Claims). record (state_of plain) { claims = claims })
+    (sym (claim-held plain.claims c.args.session.0
+    (ap (map.contains_key plain.claims) (sym c.from-number.ensures)
+    ∙ sym c.if-contains_key.ensures)))

@@ -6,4 +6,5 @@ use Rattle.rg_model.proofs.plain.parts.drop_locks.Goals as goal
 pub returns : goal.returns
 returns c =
     let session = c.args.session in
-    c.retain.ensures (λ key (kept : Lock). not (kept.owner.0 == session.0)) (λ key kept answer met. search rules) ∙ retained-others session c.args.locks.now
+    c.retain.ensures (λ key (kept : Lock). not (kept.owner.0 == session.0))
+    (λ key kept answer met. search rules) ∙ retained-others session c.args.locks.now

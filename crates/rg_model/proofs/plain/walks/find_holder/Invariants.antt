@@ -6,7 +6,9 @@ use Rattle.rg_model.specs.Start.{start_of}
 use Rattle.rg_model.proofs.plain.walks.find_holder.Given as goal
 
 abbrev pub invariant-loop-key : goal.invariant-loop-key
-invariant-loop-key l = first_owner (passing_from (is_held_with_cat l.table l.session l.cat) (start_of l.last) (map.entries l.locks)) ≡ find_holder l.table l.locks l.session l.cat
+invariant-loop-key l = first_owner
+    (passing_from (is_held_with_cat l.table l.session l.cat) (start_of l.last)
+    (map.entries l.locks)) ≡ find_holder l.table l.locks l.session l.cat
 
 abbrev pub decreases-loop-key : goal.decreases-loop-key
 decreases-loop-key l = 2 ^ 64 - start_of l.last

@@ -20,7 +20,8 @@ loop-key-preserved-in_ok-push c =
     let all = keys_with_cat c.args.cat table in
     let entry : ℕ × Row = (c.in-Some.key, c.in-Some.row.now) in
     rw c.in_ok-push.ensures.items
-    (gathered-passes key test table all c.loop-key.keys.items (start_of c.loop-key.last) entry c.in-Some.ensures (same entry.1.cat c.args.cat c.if-row-cat.true) c.loop-key.invariant)
+    (gathered-passes key test table all c.loop-key.keys.items (start_of c.loop-key.last) entry
+    c.in-Some.ensures (same entry.1.cat c.args.cat c.if-row-cat.true) c.loop-key.invariant)
 
 pub loop-key-preserved : goal.loop-key-preserved
 loop-key-preserved c =
@@ -29,10 +30,12 @@ loop-key-preserved c =
     let table = c.args.table.now in
     let all = keys_with_cat c.args.cat table in
     let entry : ℕ × Row = (c.in-Some.key, c.in-Some.row.now) in
-    gathered-fails key test table all c.loop-key.keys.items (start_of c.loop-key.last) entry c.in-Some.ensures (apart entry.1.cat c.args.cat c.if-row-cat.false) c.loop-key.invariant
+    gathered-fails key test table all c.loop-key.keys.items (start_of c.loop-key.last) entry
+    c.in-Some.ensures (apart entry.1.cat c.args.cat c.if-row-cat.false) c.loop-key.invariant
 
 pub returns : goal.returns
 returns c =
     c.new.ensures
-    ∙ gathered-ends (λ (entry : ℕ × Row). entry.0) (λ (entry : ℕ × Row). entry.1.cat == c.args.cat) c.args.table.now (keys_with_cat c.args.cat c.args.table.now)
+    ∙ gathered-ends (λ (entry : ℕ × Row). entry.0) (λ (entry : ℕ × Row). entry.1.cat == c.args.cat)
+    c.args.table.now (keys_with_cat c.args.cat c.args.table.now)
     c.loop-key.keys.items (start_of c.loop-key.last) c.in_default.ensures c.loop-key.invariant

@@ -6,7 +6,8 @@ use Rattle.rg_model.proofs.Turned.{IsTurned}
 use Rattle.rg_model.proofs.plain.walks.rolled_back.Given as goal
 
 abbrev pub invariant-loop-key : goal.invariant-loop-key
-invariant-loop-key l = IsTurned l.table (put_back (map.entries (own_locks l.session l.locks)) l.table) (start_of l.last) l.rolled
+invariant-loop-key l = IsTurned l.table
+    (put_back (map.entries (own_locks l.session l.locks)) l.table) (start_of l.last) l.rolled
 
 abbrev pub decreases-loop-key : goal.decreases-loop-key
 decreases-loop-key l = 2 ^ 64 - start_of l.last

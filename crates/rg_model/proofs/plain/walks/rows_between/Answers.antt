@@ -13,7 +13,8 @@ loop-key-preserved-in_ok-push c =
     let all = rows_between c.args.lo c.args.hi table in
     let entry : ℕ × Row = (c.in-Some.key, c.in-Some.row.now) in
     rw (c.in_ok-push.ensures.items, c.in_ok-copy.ensures)
-    (gathered-passes row test table all c.loop-key.rows.items (start_of c.loop-key.last) entry c.in-Some.ensures (sym c.is_between.ensures ∙ c.if-is_between.true) c.loop-key.invariant)
+    (gathered-passes row test table all c.loop-key.rows.items (start_of c.loop-key.last) entry
+    c.in-Some.ensures (sym c.is_between.ensures ∙ c.if-is_between.true) c.loop-key.invariant)
 
 pub loop-key-preserved : goal.loop-key-preserved
 loop-key-preserved c =
@@ -22,10 +23,13 @@ loop-key-preserved c =
     let table = c.args.table.now in
     let all = rows_between c.args.lo c.args.hi table in
     let entry : ℕ × Row = (c.in-Some.key, c.in-Some.row.now) in
-    gathered-fails row test table all c.loop-key.rows.items (start_of c.loop-key.last) entry c.in-Some.ensures (sym c.is_between.ensures ∙ c.if-is_between.false) c.loop-key.invariant
+    gathered-fails row test table all c.loop-key.rows.items (start_of c.loop-key.last) entry
+    c.in-Some.ensures (sym c.is_between.ensures ∙ c.if-is_between.false) c.loop-key.invariant
 
 pub returns : goal.returns
 returns c =
     c.new.ensures
-    ∙ gathered-ends (λ (entry : ℕ × Row). entry.1) (λ (entry : ℕ × Row). nat_le c.args.lo entry.0 && nat_le entry.0 c.args.hi) c.args.table.now
-    (rows_between c.args.lo c.args.hi c.args.table.now) c.loop-key.rows.items (start_of c.loop-key.last) c.in_default.ensures c.loop-key.invariant
+    ∙ gathered-ends (λ (entry : ℕ × Row). entry.1)
+    (λ (entry : ℕ × Row). nat_le c.args.lo entry.0 && nat_le entry.0 c.args.hi) c.args.table.now
+    (rows_between c.args.lo c.args.hi c.args.table.now) c.loop-key.rows.items
+    (start_of c.loop-key.last) c.in_default.ensures c.loop-key.invariant

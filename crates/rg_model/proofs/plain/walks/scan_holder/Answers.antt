@@ -6,14 +6,17 @@ use Rattle.rg_model.proofs.plain.walks.scan_holder.Goals as goal
 
 pub returns-then-is_held_between : goal.returns-then-is_held_between
 returns-then-is_held_between c =
-    owner-found (is_held_between c.args.session c.args.lo c.args.hi) c.args.locks.now (start_of c.loop-key.last) _ c.loop-key.invariant
-    (c.in-Some.key, c.in-Some.kept.now) c.in-Some.ensures (sym c.is_held_between.ensures ∙ c.if-is_held_between.true)
+    owner-found (is_held_between c.args.session c.args.lo c.args.hi) c.args.locks.now
+    (start_of c.loop-key.last) _ c.loop-key.invariant (c.in-Some.key, c.in-Some.kept.now)
+    c.in-Some.ensures (sym c.is_held_between.ensures ∙ c.if-is_held_between.true)
 
 pub loop-key-preserved : goal.loop-key-preserved
 loop-key-preserved c =
     let p = (is_held_between c.args.session c.args.lo c.args.hi) in
     owner-behind p c.args.locks.now (start_of c.loop-key.last) _ c.loop-key.invariant
-    (c.in-Some.key, c.in-Some.kept.now) c.in-Some.ensures (sym c.is_held_between.ensures ∙ c.if-is_held_between.false)
+    (c.in-Some.key, c.in-Some.kept.now) c.in-Some.ensures
+    (sym c.is_held_between.ensures ∙ c.if-is_held_between.false)
 
 pub returns : goal.returns
-returns c = owner-none (is_held_between c.args.session c.args.lo c.args.hi) c.args.locks.now (start_of c.loop-key.last) _ c.loop-key.invariant c.in_default.ensures
+returns c = owner-none (is_held_between c.args.session c.args.lo c.args.hi) c.args.locks.now
+    (start_of c.loop-key.last) _ c.loop-key.invariant c.in_default.ensures

@@ -6,4 +6,7 @@ use Rattle.rg_outside.proofs.counted.CountedVolume.read.Goals as goal
 pub returns-clause-made : goal.returns-clause-made
 returns-clause-made g c =
     rw (← c.self.view_is)
-    (made_one_counted (IsReadCall c.read.result) _ _ c.self.inside.calls c.saturating_add-self-inside.result (omega (arith, c.saturating_add-self-inside.ensures)) (λ lt. omega (arith, lt, c.saturating_add-self-inside.ensures)) c.self.invariant c.read.ensures.made)
+    (made_one_counted (IsReadCall c.read.result) _ _ c.self.inside.calls
+    c.saturating_add-self-inside.result (omega (arith, c.saturating_add-self-inside.ensures))
+    (λ lt. omega (arith, lt, c.saturating_add-self-inside.ensures)) c.self.invariant
+    c.read.ensures.made)

@@ -6,4 +6,8 @@ use Rattle.rg_outside.proofs.counted.CountedVolume.write.Goals as goal
 pub returns-clause-made : goal.returns-clause-made
 returns-clause-made g c =
     rw (← c.self.view_is)
-    (made_one_counted (IsWriteCall c.write.result c.args.set c.args.page c.args.from.now) _ _ c.self.inside.calls c.saturating_add-self-inside.result (omega (arith, c.saturating_add-self-inside.ensures)) (λ lt. omega (arith, lt, c.saturating_add-self-inside.ensures)) c.self.invariant c.write.ensures.made)
+    (made_one_counted (IsWriteCall c.write.result c.args.set c.args.page c.args.from.now) _ _
+    c.self.inside.calls c.saturating_add-self-inside.result
+    (omega (arith, c.saturating_add-self-inside.ensures))
+    (λ lt. omega (arith, lt, c.saturating_add-self-inside.ensures)) c.self.invariant
+    c.write.ensures.made)

@@ -4,4 +4,9 @@ use Rattle.rg_page.proofs.areas.Areas.len.Goals as goal
 
 pub returns : goal.returns
 returns c =
-    omega (arith, c.len.ensures, seen_count _ _ _ _ c.self.invariant c.self.view_is, c.self.inside.lengths.ok.0)
+    omega (
+      arith,
+      c.len.ensures,
+      seen_count _ _ _ _ c.self.invariant c.self.view_is,
+      c.self.inside.lengths.ok.0,
+    )

@@ -1,20 +1,28 @@
-use Rattle.std.proofs.Common.{◌≡◌, ◌++◌, length, get_or, set, arith, ◌∙◌, ap, sym, List, ℕ, take, drop}
+use Rattle.std.proofs.Common.{◌≡◌, ◌++◌, length, get_or, set, arith, ◌∙◌, ap, sym, List, ℕ, take}
+use Rattle.std.proofs.Common.{drop}
 use Rattle.std.specs.Option.{option_copied}
 use Rattle.std.proofs.lemmas.List.{get_or_default}
 use Rattle.rg_page.specs.Stretches.{stretches, bytes_of}
-use Rattle.rg_page.proofs.Buffer.{seen_count, seen_offset, seen_end, seen_length, seen_whole, seen_put, replaced, refilled, total-set, length-bytes_of}
+use Rattle.rg_page.proofs.Buffer.{seen_count, seen_offset, seen_end, seen_length, seen_whole}
+use Rattle.rg_page.proofs.Buffer.{seen_put, replaced, refilled, total-set, length-bytes_of}
 use Rattle.rg_page.proofs.areas.Areas.replace.Goals as goal
 
 pub index-requires : goal.index-requires
 index-requires c =
-    omega (arith, seen_count _ _ _ _ c.self.invariant c.self.view_is, c.requires.there, c.self.inside.lengths.ok.0)
+    omega (
+      arith,
+      seen_count _ _ _ _ c.self.invariant c.self.view_is,
+      c.requires.there,
+      c.self.inside.lengths.ok.0,
+    )
 
 pub put_row-requires-clause-whole : goal.put_row-requires-clause-whole
 put_row-requires-clause-whole c =
     let n : c.index.result.now ≡ get_or c.self.inside.lengths.items c.args.i 0 =
     c.index.ensures ∙ get_or_default c.self.inside.lengths.items c.args.i c.index.result.now 0
     (omega (arith, seen_count _ _ _ _ c.self.invariant c.self.view_is, c.requires.there)) in
-    let at = c.offset-at.ensures.stretches ∙ seen_offset _ _ _ _ c.self.invariant c.self.view_is c.args.i in
+    let at =
+    c.offset-at.ensures.stretches ∙ seen_offset _ _ _ _ c.self.invariant c.self.view_is c.args.i in
     omega (arith, n, at, seen_end _ _ _ _ c.self.invariant c.self.view_is c.args.i c.requires.there)
 
 pub put_row-requires-clause-within : goal.put_row-requires-clause-within
@@ -36,7 +44,12 @@ overflow_sub-self c =
 
 pub index_mut-requires : goal.index_mut-requires
 index_mut-requires c =
-    omega (arith, seen_count _ _ _ _ c.self.invariant c.self.view_is, c.requires.there, c.self.inside.lengths.ok.0)
+    omega (
+      arith,
+      seen_count _ _ _ _ c.self.invariant c.self.view_is,
+      c.requires.there,
+      c.self.inside.lengths.ok.0,
+    )
 
 pub invariant_of-self : goal.invariant_of-self
 invariant_of-self c =
@@ -50,7 +63,12 @@ invariant_of-self c =
     let sums = total-set ls c.args.i c.size_of-size.result
     (omega (arith, seen_count _ _ _ _ c.self.invariant c.self.view_is, c.requires.there)) in
     let long : length after ≡ c.self.inside.bytes.len =
-    omega (arith, c.put_row.ensures.long, ap (λ (xs : List ℕ). length xs) c.as_mut_slice.ensures.value, c.self.inside.bytes.ok.0) in
+    omega (
+      arith,
+      c.put_row.ensures.long,
+      ap (λ (xs : List ℕ). length xs) c.as_mut_slice.ensures.value,
+      c.self.inside.bytes.ok.0,
+    ) in
     let full = refilled c.self.inside.bytes after long in
     let end = seen_end _ _ _ _ c.self.invariant c.self.view_is c.args.i c.requires.there in
     record {
@@ -71,8 +89,14 @@ returns c =
     (omega (arith, seen_count _ _ _ _ c.self.invariant c.self.view_is, c.requires.there)) in
     let full : take c.self.inside.bytes.len (after ++ drop (length after) bs) ≡ after =
     refilled c.self.inside.bytes after
-    (omega (arith, c.put_row.ensures.long, ap (λ (xs : List ℕ). length xs) c.as_mut_slice.ensures.value, c.self.inside.bytes.ok.0)) in
-    let put = seen_put _ _ _ _ c.self.invariant c.self.view_is c.args.i c.requires.there _ after (bytes_of row) _ _
+    (omega (
+      arith,
+      c.put_row.ensures.long,
+      ap (λ (xs : List ℕ). length xs) c.as_mut_slice.ensures.value,
+      c.self.inside.bytes.ok.0,
+    )) in
+    let put = seen_put _ _ _ _ c.self.invariant c.self.view_is c.args.i c.requires.there _ after
+    (bytes_of row) _ _
     c.as_mut_slice.ensures.value c.offset-at.ensures.stretches n c.put_row.ensures in
     ap (stretches (set ls c.args.i c.size_of-size.result)) full
     ∙ replaced ls bs after c.args.i c.size_of-size.result (bytes_of row)

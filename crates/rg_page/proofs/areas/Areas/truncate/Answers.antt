@@ -8,7 +8,9 @@ invariant_of-self c = record {
   whole = c.self.invariant.whole;
   within = c.offset-self-inside.ensures.within;
   fills = ap total c.truncate.ensures.items
-      ∙ sym (c.offset-self-inside.ensures.stretches ∙ seen_offset _ _ _ _ c.self.invariant c.self.view_is c.args.n);
+      ∙ sym
+      (c.offset-self-inside.ensures.stretches
+      ∙ seen_offset _ _ _ _ c.self.invariant c.self.view_is c.args.n);
   room = omega (arith, c.self.invariant.room, c.truncate.ensures.capacity);
 }
 

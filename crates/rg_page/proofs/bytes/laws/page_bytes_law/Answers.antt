@@ -9,7 +9,8 @@ pub returns-clause-back : goal.returns-clause-back
 returns-clause-back c x fits = page_again x fits
 
 pub returns-clause-one : goal.returns-clause-one
-returns-clause-one c x y fits_x fits_y copy number same = one_spelling x y fits_x fits_y copy number same
+returns-clause-one c x y fits_x fits_y copy number same =
+    one_spelling x y fits_x fits_y copy number same
 
 pub returns-clause-zeros : goal.returns-clause-zeros
 returns-clause-zeros c x zeros = zeros_are_blank x zeros

@@ -6,7 +6,8 @@ abbrev pub invariant-loop-i : goal.invariant-loop-i
 invariant-loop-i l = record {
   within : l.i ≤ length l.fn.self.slots;
   at : l.at ≡ 32 + slots_size (take l.i l.fn.self.slots);
-  bytes : l.page ++ directory 32 (take l.i l.fn.self.slots) ≡ l.fn.page ++ directory 32 l.fn.self.slots;
+  bytes : l.page ++ directory 32 (take l.i l.fn.self.slots)
+      ≡ l.fn.page ++ directory 32 l.fn.self.slots;
   len : length l.page + 2 * l.i ≡ length l.fn.page + 2 * length l.fn.self.slots;
 }
 

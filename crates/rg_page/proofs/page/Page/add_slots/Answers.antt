@@ -1,4 +1,5 @@
-use Rattle.std.proofs.Common.{◌≡◌, ◌<◌, ℕ, ◌+◌, ◌∷◌, ◌++◌, [], List, length, take, ap, arith, append_assoc, sym, subst, ◌∙◌}
+use Rattle.std.proofs.Common.{◌≡◌, ◌<◌, ℕ, ◌+◌, ◌∷◌, ◌++◌, [], List, length, take, ap, arith}
+use Rattle.std.proofs.Common.{append_assoc, sym, subst, ◌∙◌}
 use Rattle.std.proofs.lemmas.List.{append-nil, take_more}
 use Rattle.rg_home.specs.Slot.{Slot, Free}
 use Rattle.rg_home.specs.Slots.{slot_at}
@@ -16,14 +17,17 @@ unfolding slots_bytes
 loop-i-init c = record { bytes = sym (append-nil c.args.page.now); len = c.requires; fits = tt }
 
 -- the slot is the next one
-next : (slots : List Slot) (i : ℕ) (s : Slot) → i < length slots → s ≡ slot_at slots i → take (i + 1) slots ≡ take i slots ++ s ∷ []
-next slots i s below is = take_more slots i Free below ∙ ap (λ (x : Slot). take i slots ++ x ∷ []) (sym is)
+next : (slots : List Slot) (i : ℕ) (s : Slot) → i < length slots → s ≡ slot_at slots i
+    → take (i + 1) slots ≡ take i slots ++ s ∷ []
+next slots i s below is =
+    take_more slots i Free below ∙ ap (λ (x : Slot). take i slots ++ x ∷ []) (sym is)
 
 pub add_slot-requires-clause-room : goal.add_slot-requires-clause-room
 add_slot-requires-clause-room c =
     let slots : List Slot = c.args.self.now.slots in
     let i : ℕ = c.loop-i.i in
-    let e = next slots i (shown c.slot.result) (omega (arith, c.loop-i-test.true, c.slot_count-i-end.ensures.count)) c.slot.ensures.slot in
+    let e = next slots i (shown c.slot.result)
+    (omega (arith, c.loop-i-test.true, c.slot_count-i-end.ensures.count)) c.slot.ensures.slot in
     omega (
       arith,
       c.loop-i.invariant.len,
@@ -40,14 +44,24 @@ loop-i-preserved c =
     let slots : List Slot = c.args.self.now.slots in
     let i : ℕ = c.loop-i.i in
     let s : Slot = shown c.slot.result in
-    let e = next slots i s (omega (arith, c.loop-i-test.true, c.slot_count-i-end.ensures.count)) c.slot.ensures.slot in
+    let e = next slots i s (omega (arith, c.loop-i-test.true, c.slot_count-i-end.ensures.count))
+    c.slot.ensures.slot in
     record {
       bytes =
           c.add_slot.ensures.bytes
           ∙ ap (λ (bytes : List ℕ). c.loop-i.page ++ bytes) c.fields_of.ensures.bytes
           ∙ ap (λ (bytes : List ℕ). bytes ++ slot_bytes s) c.loop-i.invariant.bytes
           ∙ append_assoc c.args.page.now (slots_bytes (take i slots)) (slot_bytes s)
-          ∙ ap (λ (bytes : List ℕ). c.args.page.now ++ bytes) (sym (ap slots_bytes e ∙ slots_bytes-more (take i slots) s));
-      len = omega (arith, c.add_slot.ensures.len, c.loop-i.invariant.len, c.fields_of.ensures.capacity, slots_size-more (take i slots) s, ap slots_size e);
-      fits = subst (AllByRecursion FitsSlot) (sym e) (slots_fit-more (take i slots) s c.loop-i.invariant.fits c.fields_of.ensures.fits);
+          ∙ ap (λ (bytes : List ℕ). c.args.page.now ++ bytes)
+          (sym (ap slots_bytes e ∙ slots_bytes-more (take i slots) s));
+      len = omega (
+        arith,
+        c.add_slot.ensures.len,
+        c.loop-i.invariant.len,
+        c.fields_of.ensures.capacity,
+        slots_size-more (take i slots) s,
+        ap slots_size e,
+      );
+      fits = subst (AllByRecursion FitsSlot) (sym e)
+          (slots_fit-more (take i slots) s c.loop-i.invariant.fits c.fields_of.ensures.fits);
     }

@@ -8,16 +8,23 @@ use Rattle.rg_page.specs.Laid.{laid}
 use Rattle.rg_page.specs.Packed.{packed_bytes, packed_slots}
 use Rattle.rg_page.proofs.BareSlots.{bare_used}
 use Rattle.rg_page.proofs.Lays.{length-map_bare}
-use Rattle.rg_page.proofs.Packing.{length-packed, packed_areas, packed_bare, packed_laid, packed_trimmed}
+use Rattle.rg_page.proofs.Packing.{length-packed, packed_areas, packed_bare, packed_laid}
+use Rattle.rg_page.proofs.Packing.{packed_trimmed}
 use Rattle.rg_page.proofs.page.Page.of_rows.Goals as goal
 
 pub headers_of-requires : goal.headers_of-requires
 headers_of-requires c =
-    omega (arith, used-length (packed_slots c.args.rows.now), length-packed c.args.rows.now, c.requires)
+    omega
+    (arith, used-length (packed_slots c.args.rows.now), length-packed c.args.rows.now, c.requires)
 
 pub of-summary-requires-clause-fits : goal.of-summary-requires-clause-fits
 of-summary-requires-clause-fits c =
-    omega (arith, ap used c.in_ok-headers_of.ensures.items, bare_used (packed_slots c.args.rows.now), c.requires)
+    omega (
+      arith,
+      ap used c.in_ok-headers_of.ensures.items,
+      bare_used (packed_slots c.args.rows.now),
+      c.requires,
+    )
 
 pub of-summary-requires-clause-trimmed : goal.of-summary-requires-clause-trimmed
 of-summary-requires-clause-trimmed c =
@@ -65,7 +72,10 @@ returns c =
     let others = c.pad_places.new.others.items in
     let is : c.summary.inside.headers.items ≡ map bare (packed_slots rows) =
     c.summary.view_is ∙ c.of-summary.ensures ∙ c.in_ok-headers_of.ensures.items in
-    let count : length others ≡ length rows = omega (arith, c.pad_places.ensures.count, c.pad_places.new.others.ok.0) in
-    let slots : laid c.summary.inside.headers.items others c.in_ok-areas_of.field-0 ≡ packed_slots rows =
-    rw (is, c.in_ok-areas_of.ensures.areas) (packed_laid rows others count c.in_ok-areas_of.ensures.shown) in
+    let count : length others ≡ length rows =
+    omega (arith, c.pad_places.ensures.count, c.pad_places.new.others.ok.0) in
+    let slots : laid c.summary.inside.headers.items others c.in_ok-areas_of.field-0
+    ≡ packed_slots rows =
+    rw (is, c.in_ok-areas_of.ensures.areas)
+    (packed_laid rows others count c.in_ok-areas_of.ensures.shown) in
     c.of.ensures ∙ ap (page_made c.args.copy c.args.number) slots

@@ -8,6 +8,7 @@ use Rattle.rg_page.proofs.page.Page.put_slots.Given as goal
 abbrev pub invariant-loop-i : goal.invariant-loop-i
 invariant-loop-i l = record {
   slots : (slots : List Slot) (begins : Begins l.fn.count l.fn.bytes slots)
-      → (l.self.slots ≡ trim (take l.i slots)) × (l.rest ≡ slots_bytes (drop l.i slots) ++ begins.rest);
+      → (l.self.slots ≡ trim (take l.i slots))
+      × (l.rest ≡ slots_bytes (drop l.i slots) ++ begins.rest);
   same : l.self ≡ record l.fn.self { slots = l.self.slots };
 }

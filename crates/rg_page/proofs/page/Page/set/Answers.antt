@@ -18,8 +18,10 @@ use Rattle.rg_page.proofs.page.Page.set.Goals as goal
 
 pub set-requires : goal.set-requires
 set-requires c =
-    let bare_is = seen_bare _ _ _ _ c.self.invariant (ap (λ (p : Content). p.slots) c.self.view_is) in
-    subst (λ (xs : List Slot). Fits (placed xs c.args.i c.args.header)) (sym bare_is) c.requires.fits
+    let bare_is =
+    seen_bare _ _ _ _ c.self.invariant (ap (λ (p : Content). p.slots) c.self.view_is) in
+    subst (λ (xs : List Slot). Fits (placed xs c.args.i c.args.header)) (sym bare_is)
+    c.requires.fits
 
 pub put_place-requires-clause-left : goal.put_place-requires-clause-left
 put_place-requires-clause-left c =
@@ -45,7 +47,8 @@ put_area-requires-clause-fits c =
     omega (
       arith,
       length-bytes_of row,
-      bytes_fit c.self.inside.summary c.args.i c.args.header c.self.invariant.trimmed c.self.inside.areas
+      bytes_fit c.self.inside.summary c.args.i c.args.header c.self.invariant.trimmed
+          c.self.inside.areas
           (bytes_of row) c.self.invariant.areas_are c.requires.area c.self.invariant.fits fit,
     )
 
@@ -54,7 +57,8 @@ put_area-requires-clause-left c =
     let left = is_left c.self.inside.summary c.args.i c.args.header c.self.invariant.trimmed in
     let e : c.len-left.result ≡ length (placed c.self.inside.summary c.args.i c.args.header) =
     c.len-left.ensures.count ∙ ap (λ (xs : List Slot). length xs) c.set.ensures in
-    let n : length c.self.inside.areas ≡ length c.self.inside.summary = areas_count _ _ c.self.invariant.areas_are in
+    let n : length c.self.inside.areas ≡ length c.self.inside.summary =
+    areas_count _ _ c.self.invariant.areas_are in
     rw (n, e) left
 
 pub invariant_of-self : goal.invariant_of-self
@@ -66,17 +70,24 @@ invariant_of-self c =
     let n : c.len-left.result ≡ length (placed headers c.args.i c.args.header) =
     c.len-left.ensures.count ∙ ap (λ (xs : List Slot). length xs) e in
     let others : c.put_place.new.others.items
-    ≡ take (length (placed headers c.args.i c.args.header)) (altered nowhere (λ _. c.args.other) c.self.inside.others.items c.args.i) =
+    ≡ take (length (placed headers c.args.i c.args.header)) (altered nowhere (λ _. c.args.other)
+    c.self.inside.others.items c.args.i) =
     c.put_place.ensures.items
-    ∙ ap (λ k. take k (altered nowhere (λ _. c.args.other) c.self.inside.others.items c.args.i)) n in
+    ∙ ap (λ k. take k (altered nowhere (λ _. c.args.other) c.self.inside.others.items c.args.i)) n
+    in
     let areas : c.put_area.new.areas
-    ≡ take (length (placed headers c.args.i c.args.header)) (altered [] (λ _. bytes) c.self.inside.areas c.args.i) =
-    c.put_area.ensures ∙ ap (λ k. take k (altered [] (λ _. bytes) c.self.inside.areas c.args.i)) n in
+    ≡ take (length (placed headers c.args.i c.args.header)) (altered [] (λ _. bytes)
+    c.self.inside.areas c.args.i) =
+    c.put_area.ensures
+    ∙ ap (λ k. take k (altered [] (λ _. bytes) c.self.inside.areas c.args.i)) n in
     record {
       places = ap (λ (xs : List Place). length xs) others
-          ∙ set_places headers c.self.inside.others.items c.self.inside.areas c.args.i c.args.header c.args.other bytes is.places is.areas_are c.requires.area
+          ∙ set_places headers c.self.inside.others.items c.self.inside.areas c.args.i c.args.header
+          c.args.other bytes is.places is.areas_are c.requires.area
           ∙ ap (λ (xs : List Slot). length xs) (sym e);
-      areas_are = rw (e, areas) (set_areas headers c.self.inside.others.items c.self.inside.areas c.args.i c.args.header c.args.other bytes is.places is.areas_are c.requires.area);
+      areas_are = rw (e, areas)
+          (set_areas headers c.self.inside.others.items c.self.inside.areas c.args.i c.args.header
+          c.args.other bytes is.places is.areas_are c.requires.area);
       headers_are = rw e (bare_placed headers c.args.i c.args.header
           ∙ ap (λ (xs : List Slot). placed xs c.args.i (bare c.args.header)) is.headers_are
           ∙ ap (placed headers c.args.i) c.requires.bare);
@@ -94,17 +105,27 @@ returns c =
     let n : c.len-left.result ≡ length (placed headers c.args.i c.args.header) =
     c.len-left.ensures.count ∙ ap (λ (xs : List Slot). length xs) e in
     let others : c.put_place.new.others.items
-    ≡ take (length (placed headers c.args.i c.args.header)) (altered nowhere (λ _. c.args.other) c.self.inside.others.items c.args.i) =
+    ≡ take (length (placed headers c.args.i c.args.header)) (altered nowhere (λ _. c.args.other)
+    c.self.inside.others.items c.args.i) =
     c.put_place.ensures.items
-    ∙ ap (λ k. take k (altered nowhere (λ _. c.args.other) c.self.inside.others.items c.args.i)) n in
+    ∙ ap (λ k. take k (altered nowhere (λ _. c.args.other) c.self.inside.others.items c.args.i)) n
+    in
     let areas : c.put_area.new.areas
-    ≡ take (length (placed headers c.args.i c.args.header)) (altered [] (λ _. bytes) c.self.inside.areas c.args.i) =
-    c.put_area.ensures ∙ ap (λ k. take k (altered [] (λ _. bytes) c.self.inside.areas c.args.i)) n in
+    ≡ take (length (placed headers c.args.i c.args.header)) (altered [] (λ _. bytes)
+    c.self.inside.areas c.args.i) =
+    c.put_area.ensures
+    ∙ ap (λ k. take k (altered [] (λ _. bytes) c.self.inside.areas c.args.i)) n in
     let slots : laid c.set.new.self c.put_place.new.others.items c.put_area.new.areas
     ≡ placed c.args.self.now.slots c.args.i (whole_slot c.args.header c.args.other bytes) =
     ap (λ (xs : List Slot). laid xs c.put_place.new.others.items c.put_area.new.areas) e
-    ∙ ap (λ (xs : List Place). laid (placed headers c.args.i c.args.header) xs c.put_area.new.areas) others
-    ∙ ap (λ (xs : List (List ℕ)). laid (placed headers c.args.i c.args.header) (take (length (placed headers c.args.i c.args.header)) (altered nowhere (λ _. c.args.other) c.self.inside.others.items c.args.i)) xs) areas
-    ∙ set_laid headers c.self.inside.others.items c.self.inside.areas c.args.i c.args.header c.args.other bytes is.places is.areas_are c.requires.area
-    ∙ ap (λ (p : Content). placed p.slots c.args.i (whole_slot c.args.header c.args.other bytes)) c.self.view_is in
+    ∙ ap (λ (xs : List Place). laid (placed headers c.args.i c.args.header) xs c.put_area.new.areas)
+    others
+    ∙ ap
+    (λ (xs : List (List ℕ)). laid (placed headers c.args.i c.args.header)
+    (take (length (placed headers c.args.i c.args.header))
+    (altered nowhere (λ _. c.args.other) c.self.inside.others.items c.args.i)) xs) areas
+    ∙ set_laid headers c.self.inside.others.items c.self.inside.areas c.args.i c.args.header
+    c.args.other bytes is.places is.areas_are c.requires.area
+    ∙ ap (λ (p : Content). placed p.slots c.args.i (whole_slot c.args.header c.args.other bytes))
+    c.self.view_is in
     with_slots _ c.args.self.now _ _ c.self.view_is slots

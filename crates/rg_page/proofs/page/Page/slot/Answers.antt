@@ -9,15 +9,30 @@ use Rattle.rg_page.proofs.page.Page.slot.Goals as goal
 
 pub index-requires : goal.index-requires
 index-requires c =
-    omega (arith, c.requires, c.self.invariant.places, c.self.inside.others.ok.0, seen_count _ _ _ _ c.self.invariant (ap (λ (p : Content). p.slots) c.self.view_is))
+    omega (
+      arith,
+      c.requires,
+      c.self.invariant.places,
+      c.self.inside.others.ok.0,
+      seen_count _ _ _ _ c.self.invariant (ap (λ (p : Content). p.slots) c.self.view_is),
+    )
 
 pub get-requires : goal.get-requires
 get-requires c =
-    omega (arith, c.requires, areas_count _ _ c.self.invariant.areas_are, seen_count _ _ _ _ c.self.invariant (ap (λ (p : Content). p.slots) c.self.view_is))
+    omega (
+      arith,
+      c.requires,
+      areas_count _ _ c.self.invariant.areas_are,
+      seen_count _ _ _ _ c.self.invariant (ap (λ (p : Content). p.slots) c.self.view_is),
+    )
 
 pub slot-requires : goal.slot-requires
 slot-requires c =
-    omega (arith, c.requires, seen_count _ _ _ _ c.self.invariant (ap (λ (p : Content). p.slots) c.self.view_is))
+    omega (
+      arith,
+      c.requires,
+      seen_count _ _ _ _ c.self.invariant (ap (λ (p : Content). p.slots) c.self.view_is),
+    )
 
 pub returns-clause-slot : goal.returns-clause-slot
 returns-clause-slot c =
@@ -27,8 +42,12 @@ returns-clause-slot c =
     omega (arith, c.requires, seen_count _ _ _ _ is seen) in
     c.slot.ensures.shown
     ∙ ap (whole_slot (slot_at c.self.inside.summary c.args.i) c.index.result.now) c.get.ensures
-    ∙ ap (λ (p : Place). whole_slot (slot_at c.self.inside.summary c.args.i) p (get_or c.self.inside.areas c.args.i [])) c.index.ensures
-    ∙ sym (laid_at c.self.inside.summary c.self.inside.others.items c.self.inside.areas c.args.i c.index.result.now is.places (areas_count _ _ is.areas_are) below)
+    ∙ ap
+    (λ (p : Place). whole_slot (slot_at c.self.inside.summary c.args.i) p
+    (get_or c.self.inside.areas c.args.i [])) c.index.ensures
+    ∙ sym
+    (laid_at c.self.inside.summary c.self.inside.others.items c.self.inside.areas c.args.i
+    c.index.result.now is.places (areas_count _ _ is.areas_are) below)
     ∙ ap (λ (xs : List Slot). slot_at xs c.args.i) seen
 
 pub returns-clause-spelled : goal.returns-clause-spelled

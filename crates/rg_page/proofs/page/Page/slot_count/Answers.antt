@@ -5,11 +5,17 @@ use Rattle.rg_page.proofs.page.Page.slot_count.Goals as goal
 
 pub returns-clause-count : goal.returns-clause-count
 returns-clause-count c =
-    c.len.ensures.count ∙ seen_count _ _ _ _ c.self.invariant (ap (λ (p : Content). p.slots) c.self.view_is)
+    c.len.ensures.count
+    ∙ seen_count _ _ _ _ c.self.invariant (ap (λ (p : Content). p.slots) c.self.view_is)
 
 pub returns-clause-fits : goal.returns-clause-fits
 returns-clause-fits c =
-    omega (arith, c.len.ensures.fits, seen_used _ _ _ _ c.self.invariant (ap (λ (p : Content). p.slots) c.self.view_is))
+    omega (
+      arith,
+      c.len.ensures.fits,
+      seen_used _ _ _ _ c.self.invariant (ap (λ (p : Content). p.slots) c.self.view_is),
+    )
 
 pub returns-clause-trimmed : goal.returns-clause-trimmed
-returns-clause-trimmed c = seen_trimmed _ _ _ _ c.self.invariant (ap (λ (p : Content). p.slots) c.self.view_is) c.len.ensures.trimmed
+returns-clause-trimmed c = seen_trimmed _ _ _ _ c.self.invariant
+    (ap (λ (p : Content). p.slots) c.self.view_is) c.len.ensures.trimmed

@@ -15,8 +15,10 @@ pub returns-clause-bytes : goal.returns-clause-bytes
 returns-clause-bytes c = c.into_page.ensures ∙ elim c.if-not-is_blank.branch [
   | then-not-is_blank w ↦
       ap padded w.page-is ∙ whole _ w.add_all.ensures.len ∙ w.add_all.ensures.bytes
-      ∙ ap (λ (b : Bool). bytes_if b c.args.self.now) (sym (sym c.is_blank.ensures ∙ w.if-not-is_blank.true))
+      ∙ ap (λ (b : Bool). bytes_if b c.args.self.now)
+      (sym (sym c.is_blank.ensures ∙ w.if-not-is_blank.true))
   | else-not-is_blank w ↦
       ap padded (w.page-is ∙ c.new-page.ensures)
-      ∙ ap (λ (b : Bool). bytes_if b c.args.self.now) (sym (sym c.is_blank.ensures ∙ w.if-not-is_blank.false))
+      ∙ ap (λ (b : Bool). bytes_if b c.args.self.now)
+      (sym (sym c.is_blank.ensures ∙ w.if-not-is_blank.false))
 ]

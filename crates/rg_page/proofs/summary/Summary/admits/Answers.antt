@@ -4,4 +4,7 @@ use Rattle.rg_page.proofs.Monotone.{not_admits}
 use Rattle.rg_page.proofs.summary.Summary.admits.Goals as goal
 
 pub returns-then-self-b : goal.returns-then-self-b
-returns-then-self-b c = rw (← c.self.view_is) (sym (not_admits (numbers_of c.args.live.now) c.args.b c.self.inside.headers.items c.requires.some (omega (arith, c.self.invariant.is_most))))
+returns-then-self-b c = rw (← c.self.view_is)
+    (sym
+    (not_admits (numbers_of c.args.live.now) c.args.b c.self.inside.headers.items c.requires.some
+    (omega (arith, c.self.invariant.is_most))))

@@ -5,4 +5,5 @@ use Rattle.rg_home.specs.Plan.{swept}
 use Rattle.rg_page.proofs.summary.Summary.first_purged.Given as goal
 
 abbrev pub invariant-loop-i : goal.invariant-loop-i
-invariant-loop-i l = (k : ℕ) → k < l.i → is_free (swept (numbers_of l.live) (slot_at l.self k)) ≡ false
+invariant-loop-i l =
+    (k : ℕ) → k < l.i → is_free (swept (numbers_of l.live) (slot_at l.self k)) ≡ false

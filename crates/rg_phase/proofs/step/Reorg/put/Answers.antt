@@ -19,22 +19,37 @@ prepare_switch-requires-clause-can g c =
     let inlet = c.args.inlet.now in
     let s = c.args.stage.now in
     let shade = c.in-Drafted.draft.shadow in
-    let made = subst (λ (m : Made). HasMade m inlet) (sym c.replace.ensures.value ∙ c.in-Drafted.is) (works_made c.args.self.now.made desk.shadow inlet desk.feed c.requires.works) in
+    let made = subst (λ (m : Made). HasMade m inlet) (sym c.replace.ensures.value ∙ c.in-Drafted.is)
+    (works_made c.args.self.now.made desk.shadow inlet desk.feed c.requires.works) in
     let ready = c.is_ready.ensures c.if-not-is_ready.false in
     subst (λ (x : Shade). CanPrepare look desk x) (sym c.into_shadow.ensures)
-    (can_prepare look desk inlet s c.in-Drafted.draft.options shade (record { stage = s; stage_is = c.requires.stage; granted = c.args.granted; drain = c.requires.drain }) c.requires.hears c.requires.stage c.requires.unswitched c.if-stage.false made
+    (can_prepare look desk inlet s c.in-Drafted.draft.options shade
+    (record {
+      stage = s;
+      stage_is = c.requires.stage;
+      granted = c.args.granted;
+      drain = c.requires.drain;
+    }) c.requires.hears c.requires.stage c.requires.unswitched c.if-stage.false made
     (omega (arith, c.backlog.ensures, c.if-backlog-gt0.false))
-    (subst (λ (n : ℕ). IsReady n (copy_capacity (look desk.volume).capacities (other_of desk.copy)) shade) c.other-copy.ensures.copy (subst (λ (n : ℕ). IsReady c.other-copy.result.0 n shade) c.other-copy.ensures.capacity ready)))
+    (subst
+    (λ (n : ℕ). IsReady n (copy_capacity (look desk.volume).capacities (other_of desk.copy)) shade)
+    c.other-copy.ensures.copy
+    (subst (λ (n : ℕ). IsReady c.other-copy.result.0 n shade) c.other-copy.ensures.capacity ready)))
 
 pub returns-in-Ok-clause-works : goal.returns-in-Ok-clause-works
 returns-in-Ok-clause-works g c =
     let desk = c.args.desk.now in
     let inlet = c.args.inlet.now in
     let options = c.in-Drafted.draft.options in
-    let made = subst (λ (m : Made). HasMade m inlet) (sym c.replace.ensures.value ∙ c.in-Drafted.is) (works_made c.args.self.now.made desk.shadow inlet desk.feed c.requires.works) in
-    let shade = subst (λ (x : Shade). IsDraftOf options x inlet.items inlet.taken) (sym c.into_shadow.ensures) made in
+    let made = subst (λ (m : Made). HasMade m inlet) (sym c.replace.ensures.value ∙ c.in-Drafted.is)
+    (works_made c.args.self.now.made desk.shadow inlet desk.feed c.requires.works) in
+    let shade = subst (λ (x : Shade). IsDraftOf options x inlet.items inlet.taken)
+    (sym c.into_shadow.ensures) made in
     let same = c.in-Ok.ensures.ok.same in (
-      subst (λ (o : Option PreparedSeen). IsWrittenOf options o inlet) (sym (ap (λ d. d.shadow) same))
-          (draft_stamped options c.into_shadow.result inlet.items inlet.taken (length desk.ground.log.records) shade),
-      added_is inlet.items c.prepare_switch.new.self.feed (c.requires.hears.items ∙ sym (ap (λ d. d.feed) same)),
+      subst (λ (o : Option PreparedSeen). IsWrittenOf options o inlet)
+          (sym (ap (λ d. d.shadow) same))
+          (draft_stamped options c.into_shadow.result inlet.items inlet.taken
+          (length desk.ground.log.records) shade),
+      added_is inlet.items c.prepare_switch.new.self.feed
+          (c.requires.hears.items ∙ sym (ap (λ d. d.feed) same)),
     )

@@ -20,7 +20,8 @@ book-requires-clause-next g c =
     let s = c.args.stage.now in
     let event = c.reload_event.result in
     let is = c.reload_event.ensures.event in
-    next_runs old s c.args.answer event c.requires.up c.requires.stage is.booked (reload_next s c.args.answer c.requires.step event is old.changes old.covered)
+    next_runs old s c.args.answer event c.requires.up c.requires.stage is.booked
+    (reload_next s c.args.answer c.requires.step event is old.changes old.covered)
 
 pub returns-clause-acts : goal.returns-clause-acts
 returns-clause-acts g c =
@@ -29,8 +30,16 @@ returns-clause-acts g c =
     let s = c.args.stage.now in
     let event = c.reload_event.result in
     let is = c.reload_event.ensures.event in
-    let next = next_runs old s c.args.answer event c.requires.up c.requires.stage is.booked (reload_next s c.args.answer c.requires.step event is old.changes old.covered) in
-    let capacity : c.other-other.result.1 ≡ copy_capacity (g.V.Volume.capacities old.volume) (other_of old.copy) = c.other-other.ensures.capacity in
-    acts_booked look old c.args.answer c.fill-filled.new.self.made c.args.inlet.now.taken old c.book.new.self event (runs_some old s c.requires.stage) (writes_none look old) next is.booked (λ stops. absurd (cc (stops, is.device)))
-    (space_at old.stage s _ (weigh_feed old.feed) event c.requires.stage (subst (λ (n : ℕ). HasPagesFor n (weigh_feed old.feed) s event) capacity (c.reload_event.ensures.space (weigh_feed old.feed))))
-    (told_page c.fill-filled.new.self.made old.stage c.args.inlet.now.taken c.fill-filled.result event c.fill-filled.ensures.filled c.reload_event.ensures.told) c.book.ensures
+    let next = next_runs old s c.args.answer event c.requires.up c.requires.stage is.booked
+    (reload_next s c.args.answer c.requires.step event is old.changes old.covered) in
+    let capacity : c.other-other.result.1
+    ≡ copy_capacity (g.V.Volume.capacities old.volume) (other_of old.copy) =
+    c.other-other.ensures.capacity in
+    acts_booked look old c.args.answer c.fill-filled.new.self.made c.args.inlet.now.taken old
+    c.book.new.self event (runs_some old s c.requires.stage) (writes_none look old) next is.booked
+    (λ stops. absurd (cc (stops, is.device)))
+    (space_at old.stage s _ (weigh_feed old.feed) event c.requires.stage
+    (subst (λ (n : ℕ). HasPagesFor n (weigh_feed old.feed) s event) capacity
+    (c.reload_event.ensures.space (weigh_feed old.feed))))
+    (told_page c.fill-filled.new.self.made old.stage c.args.inlet.now.taken c.fill-filled.result
+    event c.fill-filled.ensures.filled c.reload_event.ensures.told) c.book.ensures

@@ -19,7 +19,8 @@ use Rattle.rg_laws_utility.specs.CopyWeight.Weighed.{weigh_feed}
 pub commit_switch-requires-clause-can : goal.commit_switch-requires-clause-can
 commit_switch-requires-clause-can g c =
     subst (λ d. CanCommit d c.args.answer c.in-Ok.sides) (sym c.in-Ok.ensures.same)
-    (can_commit c.args.desk.now c.args.stage.now c.args.answer c.in-Ok.sides c.requires.stage c.requires.step c.in-Ok.ensures.sides)
+    (can_commit c.args.desk.now c.args.stage.now c.args.answer c.in-Ok.sides c.requires.stage
+    c.requires.step c.in-Ok.ensures.sides)
 
 pub returns-in-Ok-clause-acts : goal.returns-in-Ok-clause-acts
 returns-in-Ok-clause-acts g c =
@@ -33,20 +34,28 @@ returns-in-Ok-clause-acts g c =
     let up = ap (λ d. d.down) same ∙ c.requires.up in
     let stage = ap (λ d. d.stage) same ∙ c.requires.stage in
     subst (λ d. Acts look d answer Nothing c.args.inlet.now.taken new) same
-    (by_result c.commit_switch.result (MadeSwitch look mid answer sides new) (MadeFall look mid answer new) (Acts look mid answer Nothing c.args.inlet.now.taken new) c.commit_switch.ensures.ok c.commit_switch.ensures.err
+    (by_result c.commit_switch.result (MadeSwitch look mid answer sides new)
+    (MadeFall look mid answer new) (Acts look mid answer Nothing c.args.inlet.now.taken new)
+    c.commit_switch.ensures.ok c.commit_switch.ensures.err
     (λ made.
     acts_switched look mid answer Nothing c.args.inlet.now.taken new sides (runs_some mid s stage)
-    (made_runs mid s answer (events.Switched (other_of mid.copy) sides) up stage refl (switch_next s answer c.requires.step mid.changes mid.covered (events.Switched (other_of mid.copy) sides) refl)) made)
+    (made_runs mid s answer (events.Switched (other_of mid.copy) sides) up stage refl
+    (switch_next s answer c.requires.step mid.changes mid.covered
+    (events.Switched (other_of mid.copy) sides) refl)) made)
     (λ made.
     acts_fallen look mid answer Nothing c.args.inlet.now.taken new (runs_some mid s stage)
-    (made_runs mid s answer (events.Stop reasons.Device) up stage refl (switch_next s answer c.requires.step mid.changes mid.covered (events.Stop reasons.Device) refl)) made))
+    (made_runs mid s answer (events.Stop reasons.Device) up stage refl
+    (switch_next s answer c.requires.step mid.changes mid.covered (events.Stop reasons.Device)
+    refl)) made))
 
 pub returns-in-Ok-clause-works : goal.returns-in-Ok-clause-works
 returns-in-Ok-clause-works g c =
     let look = seen_volume g.V.Volume.told g.V.Volume.faults g.V.Volume.capacities in
     let mid = c.sides.new.desk in
     let new = c.commit_switch.new.self in
-    by_result c.commit_switch.result (MadeSwitch look mid c.args.answer c.in-Ok.sides new) (MadeFall look mid c.args.answer new) (new.shadow ≡ None) c.commit_switch.ensures.ok c.commit_switch.ensures.err
+    by_result c.commit_switch.result (MadeSwitch look mid c.args.answer c.in-Ok.sides new)
+    (MadeFall look mid c.args.answer new) (new.shadow ≡ None) c.commit_switch.ensures.ok
+    c.commit_switch.ensures.err
     (λ made. made.stays.shadow) (λ made. made.stays.shadow)
 
 pub returns-in-Err-clause-acts : goal.returns-in-Err-clause-acts
@@ -61,6 +70,9 @@ returns-in-Err-clause-acts g c =
     let stage = ap (λ d. d.stage) same ∙ c.requires.stage in
     let event = events.Stop reasons.NoMemory in
     subst (λ d. Acts look d answer c.args.self.now.made c.args.inlet.now.taken new) same
-    (acts_booked look mid answer c.args.self.now.made c.args.inlet.now.taken mid new event (runs_some mid s stage) (writes_none look mid)
-    (next_runs mid s answer event up stage refl (stop_next s mid.changes mid.covered answer)) refl (λ is. absurd (cc (is)))
-    (space_at mid.stage s (copy_capacity (g.V.Volume.capacities mid.volume) (other_of mid.copy)) (weigh_feed mid.feed) event stage tt) tt c.book.ensures)
+    (acts_booked look mid answer c.args.self.now.made c.args.inlet.now.taken mid new event
+    (runs_some mid s stage) (writes_none look mid)
+    (next_runs mid s answer event up stage refl (stop_next s mid.changes mid.covered answer)) refl
+    (λ is. absurd (cc (is)))
+    (space_at mid.stage s (copy_capacity (g.V.Volume.capacities mid.volume) (other_of mid.copy))
+    (weigh_feed mid.feed) event stage tt) tt c.book.ensures)

@@ -15,7 +15,9 @@ pub feed_page-requires-clause-can : goal.feed_page-requires-clause-can
 feed_page-requires-clause-can g c = record {
   stage = c.args.stage.now;
   stage_is = ap (λ d. d.stage) c.forget.ensures.desk ∙ c.requires.stage;
-  next = λ rows few. unload_next c.args.stage.now c.args.answer c.requires.step c.next_page-page.result c.next_page-page.ensures rows few c.forget.new.desk.changes c.forget.new.desk.covered;
+  next =
+      λ rows few. unload_next c.args.stage.now c.args.answer c.requires.step c.next_page-page.result
+      c.next_page-page.ensures rows few c.forget.new.desk.changes c.forget.new.desk.covered;
 }
 
 pub returns-in-Ok-clause-acts : goal.returns-in-Ok-clause-acts
@@ -28,10 +30,13 @@ returns-in-Ok-clause-acts g c =
     let page = c.next_page-page.result in
     let rows = c.in-Ok.field-0 in
     let made = c.in-Ok.ensures.made in
-    let plain = unload_next s answer c.requires.step page c.next_page-page.ensures rows made.few old.changes old.covered in
+    let plain = unload_next s answer c.requires.step page c.next_page-page.ensures rows made.few
+    old.changes old.covered in
     λ taken.
-    acts_copied look old answer c.forget.new.self.made taken mid c.feed_page.new.self page rows (runs_some old s c.requires.stage) (writes_forgotten look old mid c.forget.ensures.desk)
-    (made_runs old s answer (events.Unload page rows) c.requires.up c.requires.stage refl (plain_some _ plain)) made
+    acts_copied look old answer c.forget.new.self.made taken mid c.feed_page.new.self page rows
+    (runs_some old s c.requires.stage) (writes_forgotten look old mid c.forget.ensures.desk)
+    (made_runs old s answer (events.Unload page rows) c.requires.up c.requires.stage refl
+    (plain_some _ plain)) made
 
 pub returns-in-Err-clause-acts : goal.returns-in-Err-clause-acts
 returns-in-Err-clause-acts g c =
@@ -42,6 +47,10 @@ returns-in-Err-clause-acts g c =
     let answer = c.args.answer in
     let event = events.Stop reasons.NoMemory in
     λ taken.
-    acts_booked look old answer c.forget.new.self.made taken mid c.book.new.self event (runs_some old s c.requires.stage) (writes_forgotten look old mid (c.in-Err.ensures.err ∙ c.forget.ensures.desk))
-    (next_runs old s answer event c.requires.up c.requires.stage refl (stop_next s old.changes old.covered answer)) refl (λ is. absurd (cc (is)))
-    (space_at old.stage s (copy_capacity (g.V.Volume.capacities old.volume) (other_of old.copy)) (weigh_feed old.feed) event c.requires.stage tt) tt c.book.ensures
+    acts_booked look old answer c.forget.new.self.made taken mid c.book.new.self event
+    (runs_some old s c.requires.stage)
+    (writes_forgotten look old mid (c.in-Err.ensures.err ∙ c.forget.ensures.desk))
+    (next_runs old s answer event c.requires.up c.requires.stage refl
+    (stop_next s old.changes old.covered answer)) refl (λ is. absurd (cc (is)))
+    (space_at old.stage s (copy_capacity (g.V.Volume.capacities old.volume) (other_of old.copy))
+    (weigh_feed old.feed) event c.requires.stage tt) tt c.book.ensures

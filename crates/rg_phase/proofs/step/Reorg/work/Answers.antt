@@ -18,10 +18,18 @@ book-requires-clause-next g c =
     let s = c.args.stage.now in
     let event = c.next_event-event.result in
     let next =
-    subst (λ (n : ℕ). is_plain (turn_of n old.covered c.args.answer (numbers_of s) s.drain event) ≡ true) c.changes.ensures
-    (subst (λ (o : Option Session). is_plain (turn_of c.changes.result o c.args.answer (numbers_of s) s.drain event) ≡ true) c.holder.ensures c.next_event-event.ensures.next) in
-    let goes = or_stop_next old s c.args.answer event _ c.or_stop.result c.requires.up c.requires.stage c.requires.unswitched c.next_event-event.ensures.booked c.next_event-event.ensures.device next c.or_stop.ensures in
-    next_same look old c.make-made.new.desk c.args.answer c.or_stop.result (writes_shadow look old c.make-made.new.desk c.make-made.ensures.desk) goes.2
+    subst
+    (λ (n : ℕ). is_plain (turn_of n old.covered c.args.answer (numbers_of s) s.drain event) ≡ true)
+    c.changes.ensures
+    (subst
+    (λ (o : Option Session).
+    is_plain (turn_of c.changes.result o c.args.answer (numbers_of s) s.drain event) ≡ true)
+    c.holder.ensures c.next_event-event.ensures.next) in
+    let goes = or_stop_next old s c.args.answer event _ c.or_stop.result c.requires.up
+    c.requires.stage c.requires.unswitched c.next_event-event.ensures.booked
+    c.next_event-event.ensures.device next c.or_stop.ensures in
+    next_same look old c.make-made.new.desk c.args.answer c.or_stop.result
+    (writes_shadow look old c.make-made.new.desk c.make-made.ensures.desk) goes.2
 
 pub returns-clause-acts : goal.returns-clause-acts
 returns-clause-acts g c =
@@ -30,17 +38,32 @@ returns-clause-acts g c =
     let s = c.args.stage.now in
     let event = c.next_event-event.result in
     let next =
-    subst (λ (n : ℕ). is_plain (turn_of n old.covered c.args.answer (numbers_of s) s.drain event) ≡ true) c.changes.ensures
-    (subst (λ (o : Option Session). is_plain (turn_of c.changes.result o c.args.answer (numbers_of s) s.drain event) ≡ true) c.holder.ensures c.next_event-event.ensures.next) in
-    let goes = or_stop_next old s c.args.answer event _ c.or_stop.result c.requires.up c.requires.stage c.requires.unswitched c.next_event-event.ensures.booked c.next_event-event.ensures.device next c.or_stop.ensures in
-    acts_booked look old c.args.answer c.make-made.new.self.made c.make-made.new.inlet.taken c.make-made.new.desk c.book.new.self c.or_stop.result (runs_some old s c.requires.stage) (writes_shadow look old c.make-made.new.desk c.make-made.ensures.desk) goes.2 goes.0
+    subst
+    (λ (n : ℕ). is_plain (turn_of n old.covered c.args.answer (numbers_of s) s.drain event) ≡ true)
+    c.changes.ensures
+    (subst
+    (λ (o : Option Session).
+    is_plain (turn_of c.changes.result o c.args.answer (numbers_of s) s.drain event) ≡ true)
+    c.holder.ensures c.next_event-event.ensures.next) in
+    let goes = or_stop_next old s c.args.answer event _ c.or_stop.result c.requires.up
+    c.requires.stage c.requires.unswitched c.next_event-event.ensures.booked
+    c.next_event-event.ensures.device next c.or_stop.ensures in
+    acts_booked look old c.args.answer c.make-made.new.self.made c.make-made.new.inlet.taken
+    c.make-made.new.desk c.book.new.self c.or_stop.result (runs_some old s c.requires.stage)
+    (writes_shadow look old c.make-made.new.desk c.make-made.ensures.desk) goes.2 goes.0
     (λ is. absurd (cc (is, goes.1)))
-    (space_at old.stage s _ _ c.or_stop.result c.requires.stage (space_or_stop old.changes old.covered c.args.answer _ _ s event _ c.or_stop.result c.next_event-event.ensures.unfilled c.requires.unswitched next c.make-made.ensures.full c.or_stop.ensures))
-    (told_or_stop c.make-made.new.self.made old.stage s c.make-made.new.inlet.taken event _ c.or_stop.result c.requires.stage c.make-made.ensures.told c.or_stop.ensures)
+    (space_at old.stage s _ _ c.or_stop.result c.requires.stage
+    (space_or_stop old.changes old.covered c.args.answer _ _ s event _ c.or_stop.result
+    c.next_event-event.ensures.unfilled c.requires.unswitched next c.make-made.ensures.full
+    c.or_stop.ensures))
+    (told_or_stop c.make-made.new.self.made old.stage s c.make-made.new.inlet.taken event _
+    c.or_stop.result c.requires.stage c.make-made.ensures.told c.or_stop.ensures)
     c.book.ensures
 
 pub returns-clause-works : goal.returns-clause-works
 returns-clause-works g c =
     let mid = c.make-made.new.desk in
     let new = c.book.new.self in
-    works_on c.make-made.new.self.made new.stage mid.shadow new.shadow c.make-made.new.inlet mid.feed new.feed c.book.ensures.shadow (c.book.ensures.feed ∙ append-nil mid.feed) c.make-made.ensures.works
+    works_on c.make-made.new.self.made new.stage mid.shadow new.shadow c.make-made.new.inlet
+    mid.feed new.feed c.book.ensures.shadow (c.book.ensures.feed ∙ append-nil mid.feed)
+    c.make-made.ensures.works

@@ -27,17 +27,37 @@ returns-clause-acts g c =
     elim c.match-put.branch [
       | in-Ok w ↦
           let event = events.Written w.in-Ok.pages in
-          acts_booked look old answer c.put.new.self.made c.args.inlet.now.taken mid new event (runs_some old s stage) c.put.ensures.writes
-          (next_runs old s answer event up stage refl (written_next s answer c.args.granted c.requires.step old.changes w.in-Ok.pages old.covered)) refl (λ is. absurd (cc (is)))
-          (space_at old.stage s (copy_capacity (g.V.Volume.capacities old.volume) (other_of old.copy)) (weigh_feed old.feed) event stage tt) tt (subst (λ (e : Event). MadeStep look mid (Some answer) e [] new) w.event-is c.book.ensures)
+          acts_booked look old answer c.put.new.self.made c.args.inlet.now.taken mid new event
+          (runs_some old s stage) c.put.ensures.writes
+          (next_runs old s answer event up stage refl
+          (written_next s answer c.args.granted c.requires.step old.changes w.in-Ok.pages
+          old.covered)) refl (λ is. absurd (cc (is)))
+          (space_at old.stage s
+          (copy_capacity (g.V.Volume.capacities old.volume) (other_of old.copy))
+          (weigh_feed old.feed) event stage tt) tt
+          (subst (λ (e : Event). MadeStep look mid (Some answer) e [] new) w.event-is
+          c.book.ensures)
       | in-Err-Device w ↦
           let event = events.Stop reasons.Device in
-          acts_booked look old answer c.put.new.self.made c.args.inlet.now.taken mid new event (runs_some old s stage) c.put.ensures.writes
-          (next_runs old s answer event up stage refl (device_next s answer c.args.granted c.requires.step old.changes old.covered)) refl (λ is. c.put.ensures.device (w.in-Err-Device.is ∙ ap Err w.in-Err-Device.field-0-is))
-          (space_at old.stage s (copy_capacity (g.V.Volume.capacities old.volume) (other_of old.copy)) (weigh_feed old.feed) event stage tt) tt (subst (λ (e : Event). MadeStep look mid (Some answer) e [] new) w.event-is c.book.ensures)
+          acts_booked look old answer c.put.new.self.made c.args.inlet.now.taken mid new event
+          (runs_some old s stage) c.put.ensures.writes
+          (next_runs old s answer event up stage refl
+          (device_next s answer c.args.granted c.requires.step old.changes old.covered)) refl
+          (λ is. c.put.ensures.device (w.in-Err-Device.is ∙ ap Err w.in-Err-Device.field-0-is))
+          (space_at old.stage s
+          (copy_capacity (g.V.Volume.capacities old.volume) (other_of old.copy))
+          (weigh_feed old.feed) event stage tt) tt
+          (subst (λ (e : Event). MadeStep look mid (Some answer) e [] new) w.event-is
+          c.book.ensures)
       | in-Err-NoMemory w ↦
           let event = events.Stop reasons.NoMemory in
-          acts_booked look old answer c.put.new.self.made c.args.inlet.now.taken mid new event (runs_some old s stage) c.put.ensures.writes
-          (next_runs old s answer event up stage refl (stop_next s old.changes old.covered answer)) refl (λ is. absurd (cc (is)))
-          (space_at old.stage s (copy_capacity (g.V.Volume.capacities old.volume) (other_of old.copy)) (weigh_feed old.feed) event stage tt) tt (subst (λ (e : Event). MadeStep look mid (Some answer) e [] new) w.event-is c.book.ensures)
+          acts_booked look old answer c.put.new.self.made c.args.inlet.now.taken mid new event
+          (runs_some old s stage) c.put.ensures.writes
+          (next_runs old s answer event up stage refl (stop_next s old.changes old.covered answer))
+          refl (λ is. absurd (cc (is)))
+          (space_at old.stage s
+          (copy_capacity (g.V.Volume.capacities old.volume) (other_of old.copy))
+          (weigh_feed old.feed) event stage tt) tt
+          (subst (λ (e : Event). MadeStep look mid (Some answer) e [] new) w.event-is
+          c.book.ensures)
     ]

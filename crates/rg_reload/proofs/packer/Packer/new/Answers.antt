@@ -6,14 +6,17 @@ use Rattle.rg_reload.proofs.packer.Packer.new.Goals as goal
 
 pub invariant_of-result : goal.invariant_of-result
 invariant_of-result c =
-    let apart : AreApart c.into_vec-rows.result.items = subst AreApart (sym c.into_vec-rows.ensures) c.requires in
+    let apart : AreApart c.into_vec-rows.result.items =
+    subst AreApart (sym c.into_vec-rows.ensures) c.requires in
     record {
       few = omega arith;
       left = refl;
       pairs_are = search rules;
       room = grind (arith, common_steps);
       within = grind (arith, common_steps);
-      apart = (same_rows c.into_vec-rows.result.items c.sort_rows.new.rows.items c.sort_rows.ensures.permutation apart).0;
+      apart =
+          (same_rows c.into_vec-rows.result.items c.sort_rows.new.rows.items
+          c.sort_rows.ensures.permutation apart).0;
       filled_are = refl;
       made_is = grind (arith, common_steps);
     }

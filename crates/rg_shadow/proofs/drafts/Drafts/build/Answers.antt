@@ -7,5 +7,6 @@ returns-clause-ok c = record {
   tree = c.in_ok-draft.draft;
   is = c.set.ensures;
   built = c.in_ok-draft.ensures.built;
-  kept = λ rows kept. c.in_ok-draft.ensures.kept c.args.which rows (subst (IsKept c.args.which rows) (sym c.get.ensures) kept);
+  kept = λ rows kept. c.in_ok-draft.ensures.kept c.args.which rows
+      (subst (IsKept c.args.which rows) (sym c.get.ensures) kept);
 }

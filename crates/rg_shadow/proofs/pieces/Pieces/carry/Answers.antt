@@ -13,7 +13,9 @@ returns c =
     let sp = c.carry_out.new.space in
     let plan = c.args.plan.now in
     let after = option_copied c.args.after in
-    let changes = subst (λ (ps : List (List Slot)). ChangesHome (slot_of (slots_in old.space)) (slot_of ps) plan.home after) (sym c.carry_out.ensures.slots) c.requires.ready.carries.writes.changes in
+    let changes = subst
+    (λ (ps : List (List Slot)). ChangesHome (slot_of (slots_in old.space)) (slot_of ps) plan.home
+    after) (sym c.carry_out.ensures.slots) c.requires.ready.carries.writes.changes in
     record {
       has = c.carry_out.ensures.has;
       copy = c.carry_out.ensures.copy;
@@ -21,8 +23,10 @@ returns c =
       slots = c.carry_out.ensures.slots;
       positions = c.carry_out.ensures.positions;
       map_is = refl;
-      kept = c.follow.ensures.kept _ _ c.requires.whole.kept (sym c.requires.ready.carries.writes.before ∙ sym c.as_ref.ensures.value)
-          (listed_row (slot_of (slots_in old.space)) (slot_of (slots_in sp)) plan.home after changes);
+      kept = c.follow.ensures.kept _ _ c.requires.whole.kept
+          (sym c.requires.ready.carries.writes.before ∙ sym c.as_ref.ensures.value)
+          (listed_row (slot_of (slots_in old.space)) (slot_of (slots_in sp)) plan.home after
+          changes);
       built = c.follow.ensures.built;
       values = refl;
     }

@@ -13,30 +13,45 @@ use Rattle.rg_shadow.proofs.Planning.{few_slots, put_does}
 use Rattle.rg_shadow.proofs.pieces.Pieces.plan_put.Goals as goal
 
 pub returns-in_err-reserve-clause-whole : goal.returns-in_err-reserve-clause-whole
-returns-in_err-reserve-clause-whole c = c.reserve.ensures.whole (planned_whole c.args.self.now c.plan_put.new.space c.plan_put.ensures.same c.plan_put.ensures.has c.requires)
+returns-in_err-reserve-clause-whole c = c.reserve.ensures.whole
+    (planned_whole c.args.self.now c.plan_put.new.space c.plan_put.ensures.same
+    c.plan_put.ensures.has c.requires)
 
 pub returns-clause-whole : goal.returns-clause-whole
-returns-clause-whole c = c.reserve.ensures.whole (planned_whole c.args.self.now c.plan_put.new.space c.plan_put.ensures.same c.plan_put.ensures.has c.requires)
+returns-clause-whole c = c.reserve.ensures.whole
+    (planned_whole c.args.self.now c.plan_put.new.space c.plan_put.ensures.same
+    c.plan_put.ensures.has c.requires)
 
 pub returns-clause-fresh : goal.returns-clause-fresh
 returns-clause-fresh c =
     let sp = c.plan_put.new.space in
-    let whole = planned_whole c.args.self.now sp c.plan_put.ensures.same c.plan_put.ensures.has c.requires in
-    let small : row_size c.args.row.now ≤ 826 = omega (arith, c.size-size.ensures.size, c.size-size.ensures.high) in
-    let does = put_does (capacity_in sp) (slots_in sp) (few_slots sp c.plan_put.ensures.has) whole.proper c.args.row.now c.in_ok-plan.plan small c.in_ok-plan.ensures.plan in
-    ap (λ (s : Space ListFrames). row_at (slot_of (slots_in s)) c.in_ok-plan.plan.home) c.reserve.ensures.space ∙ sym does.1.writes.before ∙ does.0
+    let whole =
+    planned_whole c.args.self.now sp c.plan_put.ensures.same c.plan_put.ensures.has c.requires in
+    let small : row_size c.args.row.now ≤ 826 =
+    omega (arith, c.size-size.ensures.size, c.size-size.ensures.high) in
+    let does = put_does (capacity_in sp) (slots_in sp) (few_slots sp c.plan_put.ensures.has)
+    whole.proper c.args.row.now c.in_ok-plan.plan small c.in_ok-plan.ensures.plan in
+    ap (λ (s : Space ListFrames). row_at (slot_of (slots_in s)) c.in_ok-plan.plan.home)
+    c.reserve.ensures.space ∙ sym does.1.writes.before ∙ does.0
 
 pub returns-clause-ready : goal.returns-clause-ready
 returns-clause-ready c =
     let sp = c.plan_put.new.space in
-    let whole = planned_whole c.args.self.now sp c.plan_put.ensures.same c.plan_put.ensures.has c.requires in
-    let small : row_size c.args.row.now ≤ 826 = omega (arith, c.size-size.ensures.size, c.size-size.ensures.high) in
-    let does = put_does (capacity_in sp) (slots_in sp) (few_slots sp c.plan_put.ensures.has) whole.proper c.args.row.now c.in_ok-plan.plan small c.in_ok-plan.ensures.plan in
-    ready_at c.reserve.new.self sp (Some c.args.row.now) c.in_ok-plan.plan c.reserve.ensures.space does.1 c.in_ok-plan.ensures.hand c.in_ok-reserve.ensures.spare c.in_ok-reserve.ensures.room
+    let whole =
+    planned_whole c.args.self.now sp c.plan_put.ensures.same c.plan_put.ensures.has c.requires in
+    let small : row_size c.args.row.now ≤ 826 =
+    omega (arith, c.size-size.ensures.size, c.size-size.ensures.high) in
+    let does = put_does (capacity_in sp) (slots_in sp) (few_slots sp c.plan_put.ensures.has)
+    whole.proper c.args.row.now c.in_ok-plan.plan small c.in_ok-plan.ensures.plan in
+    ready_at c.reserve.new.self sp (Some c.args.row.now) c.in_ok-plan.plan c.reserve.ensures.space
+    does.1 c.in_ok-plan.ensures.hand c.in_ok-reserve.ensures.spare c.in_ok-reserve.ensures.room
 
 pub returns-in_err-plan-clause-refusal : goal.returns-in_err-plan-clause-refusal
 returns-in_err-plan-clause-refusal c =
     let sp = c.plan_put.new.space in
-    let small : row_size c.args.row.now ≤ 826 = omega (arith, c.size-size.ensures.size, c.size-size.ensures.high) in
+    let small : row_size c.args.row.now ≤ 826 =
+    omega (arith, c.size-size.ensures.size, c.size-size.ensures.high) in
     let p = err_from_is_err_and c.from_residual.result c.from_residual.ensures.1 in
-    rw (p.1, p.2) (put_full c.args.row.now (capacity_in sp) (slots_in sp) _ small (few_slots sp c.plan_put.ensures.has) c.in_err-plan.ensures.refusal)
+    rw (p.1, p.2)
+    (put_full c.args.row.now (capacity_in sp) (slots_in sp) _ small
+    (few_slots sp c.plan_put.ensures.has) c.in_err-plan.ensures.refusal)

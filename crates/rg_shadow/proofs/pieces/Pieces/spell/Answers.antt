@@ -8,7 +8,8 @@ returns-clause-whole c =
     let old = c.args.self.now in
     whole_slots old (record old { space = c.spell.new.space })
     (record {
-      slots = stamped_slots old.space c.spell.new.space c.args.number c.args.at.0 c.requires.low c.spell.ensures.stamps;
+      slots = stamped_slots old.space c.spell.new.space c.args.number c.args.at.0 c.requires.low
+          c.spell.ensures.stamps;
       targets = refl;
       drafts = same_drafts old.drafts;
       values = refl;

@@ -12,8 +12,10 @@ invariant_of-result c = record {
   has = c.requires.has;
   proper = c.requires.proper;
   below = c.requires.below;
-  mapped = pairs_mapped c.in_ok-map.map.targets c.args.pairs (row_at (slot_of (slots_in c.args.space))) c.requires.one_to_one c.requires.homes
-      (λ source. c.in_ok-map.ensures source ∙ ap (λ (ps : List (Place × Place)). target_in ps source) c.as_slice.ensures);
+  mapped = pairs_mapped c.in_ok-map.map.targets c.args.pairs
+      (row_at (slot_of (slots_in c.args.space))) c.requires.one_to_one c.requires.homes
+      (λ source. c.in_ok-map.ensures source
+      ∙ ap (λ (ps : List (Place × Place)). target_in ps source) c.as_slice.ensures);
   kept = c.new.ensures.kept _;
   values = tt;
 }

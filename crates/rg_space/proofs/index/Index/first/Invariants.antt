@@ -4,7 +4,8 @@ use Rattle.rg_home.specs.Plan.{admits}
 use Rattle.rg_space.proofs.index.Index.first.Given as goal
 
 abbrev pub invariant-loop-i : goal.invariant-loop-i
-invariant-loop-i l = (k : ℕ) → k < l.i → k < length l.self.pages → admits (numbers_of l.live) l.b (slice_index_or l.self.pages k []) ≡ false
+invariant-loop-i l = (k : ℕ) → k < l.i → k < length l.self.pages
+    → admits (numbers_of l.live) l.b (slice_index_or l.self.pages k []) ≡ false
 
 abbrev pub decreases-loop-i : goal.decreases-loop-i
 decreases-loop-i l = length l.self.pages - l.i

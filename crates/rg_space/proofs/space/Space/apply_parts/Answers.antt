@@ -23,9 +23,13 @@ loop-part-preserved g c =
       held = held_on p b last _ h.writes held.1;
       writes = writes_more p a b last i.writes h.writes;
       agree = λ x. h.agree (i.agree x);
-      gave = λ ps k. g.met.F.Frames.gave_more ps k c.args.self.now.frames c.loop-part.self.frames c.put.new.self.frames (i.gave ps k) (λ _. h.gave ps k);
+      gave = λ ps k. g.met.F.Frames.gave_more ps k c.args.self.now.frames c.loop-part.self.frames
+          c.put.new.self.frames (i.gave ps k) (λ _. h.gave ps k);
       pages = λ limit within fits.
-          applied_on limit c.args.tran.0 p (option_copied c.args.after) a b last _ _ _ parts e h.writes.keeps.copy
-          (h.pages limit (subst (Within limit b) (sym i.capacity) (within_on p limit c.args.self.now.capacity a b i.writes within)))
+          applied_on limit c.args.tran.0 p (option_copied c.args.after) a b last _ _ _ parts e
+          h.writes.keeps.copy
+          (h.pages limit
+          (subst (Within limit b) (sym i.capacity)
+          (within_on p limit c.args.self.now.capacity a b i.writes within)))
           (i.pages limit within fits);
     }

@@ -16,10 +16,13 @@ invariant-loop-part g l =
       held : AllHeld b (drop l.part-index l.parts);
       writes : Writes l.position.0 a b;
       agree : Agree a (index_of l.fn.self) → Agree b (index_of l.self);
-      gave : (pages : List Content) (n : ℕ) → g.F.Frames.gave pages n (frames_of l.fn.self) (frames_of l.self);
+      gave : (pages : List Content) (n : ℕ)
+          → g.F.Frames.gave pages n (frames_of l.fn.self) (frames_of l.self);
       pages : (limit : ℕ) → Within limit a (capacity_in l.fn.self)
           → AreApplicable limit a.copy l.tran.0 (option_copied l.after) l.position.0 a.pages l.parts
-          → AreApplicable limit b.copy l.tran.0 (option_copied l.after) l.position.0 b.pages (drop l.part-index l.parts)
-          × (wrote_all b.copy l.tran.0 (option_copied l.after) l.position.0 b.pages (drop l.part-index l.parts)
+          → AreApplicable limit b.copy l.tran.0 (option_copied l.after) l.position.0 b.pages
+          (drop l.part-index l.parts)
+          × (wrote_all b.copy l.tran.0 (option_copied l.after) l.position.0 b.pages
+          (drop l.part-index l.parts)
           ≡ wrote_all a.copy l.tran.0 (option_copied l.after) l.position.0 a.pages l.parts);
     }

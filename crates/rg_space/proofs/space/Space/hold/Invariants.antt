@@ -18,6 +18,7 @@ invariant-loop-part g l =
       least : a.reserved ≤ b.reserved;
       took : Took l.part-index a b;
       gave : g.F.Frames.gave a.pages a.forced (frames_of l.fn.self) (frames_of l.self);
-      ready : (s : Seen) → Later b s → AllReady s (capacity_in l.fn.self) (drop l.part-index l.parts)
+      ready : (s : Seen) → Later b s
+          → AllReady s (capacity_in l.fn.self) (drop l.part-index l.parts)
           → AllReady s (capacity_in l.fn.self) l.parts;
     }

@@ -14,8 +14,16 @@ use Rattle.rg_space.proofs.space.Space.plan_change.Goals as goal
 
 pub returns-in_default-found-clause-cause : goal.returns-in_default-found-clause-cause
 returns-in_default-found-clause-cause g c =
-    let s = g.F.Frames.seen c.home_of.new.frames in
-    (c.size-b.ensures.size, λ agree. subst (λ n. planned_change (numbers_of c.args.live.now) n c.args.self.now.capacity (slots_of s.pages) c.args.home ≡ None) c.size-b.ensures.size (sym (change_agrees (numbers_of c.args.live.now) c.size-b.result c.args.self.now.capacity s c.args.self.now.index c.args.home c.in_ok-seen.seen None c.in_ok-seen.ensures.seen (sym c.in_default-found.is ∙ c.in-Ok.ensures) agree)))
+    let s = g.F.Frames.seen c.home_of.new.frames in (
+      c.size-b.ensures.size,
+      λ agree. subst
+          (λ n. planned_change (numbers_of c.args.live.now) n c.args.self.now.capacity
+          (slots_of s.pages) c.args.home ≡ None) c.size-b.ensures.size
+          (sym
+          (change_agrees (numbers_of c.args.live.now) c.size-b.result c.args.self.now.capacity s
+          c.args.self.now.index c.args.home c.in_ok-seen.seen None c.in_ok-seen.ensures.seen
+          (sym c.in_default-found.is ∙ c.in-Ok.ensures) agree)),
+    )
 
 pub returns-clause-plan : goal.returns-clause-plan
 returns-clause-plan g c = λ agree.
@@ -23,15 +31,27 @@ returns-clause-plan g c = λ agree.
     let last = g.F.Frames.seen (frames_of c.hold.new.self) in
     let seen = c.in_ok-seen.seen in
     let live = numbers_of c.args.live.now in
-    let shown = home_stays _ b last c.args.home seen c.hold.ensures.took c.in_ok-seen.ensures.seen in
-    subst (λ n. Some (plan_of c.args.home seen.row c.in-Some.moves) ≡ planned_change live n (capacity_in c.hold.new.self) (slots_of last.pages) c.args.home) c.size-b.ensures.size
-    (subst (λ capacity. Some (plan_of c.args.home seen.row c.in-Some.moves) ≡ planned_change live c.size-b.result capacity (slots_of last.pages) c.args.home) (sym c.hold.ensures.capacity)
-    (change_agrees live c.size-b.result c.args.self.now.capacity last (index_of c.hold.new.self) c.args.home seen (Some c.in-Some.moves) shown
-    (subst (λ ps. Some c.in-Some.moves ≡ change_moves live c.size-b.result c.args.self.now.capacity ps c.args.home seen.other) (sym c.hold.ensures.summaries) (sym c.in-Some.is ∙ c.in-Ok.ensures)) agree))
+    let shown =
+    home_stays _ b last c.args.home seen c.hold.ensures.took c.in_ok-seen.ensures.seen in
+    subst
+    (λ n. Some (plan_of c.args.home seen.row c.in-Some.moves)
+    ≡ planned_change live n (capacity_in c.hold.new.self) (slots_of last.pages) c.args.home)
+    c.size-b.ensures.size (subst
+    (λ capacity. Some (plan_of c.args.home seen.row c.in-Some.moves)
+    ≡ planned_change live c.size-b.result capacity (slots_of last.pages) c.args.home)
+    (sym c.hold.ensures.capacity) (change_agrees live c.size-b.result c.args.self.now.capacity last
+    (index_of c.hold.new.self) c.args.home seen (Some c.in-Some.moves) shown
+    (subst
+    (λ ps. Some c.in-Some.moves
+    ≡ change_moves live c.size-b.result c.args.self.now.capacity ps c.args.home seen.other)
+    (sym c.hold.ensures.summaries) (sym c.in-Some.is ∙ c.in-Ok.ensures)) agree))
 
 pub returns-clause-hand : goal.returns-clause-hand
 returns-clause-hand g c =
     let last = g.F.Frames.seen (frames_of c.hold.new.self) in
-    let hand = subst (λ o. IfSome o Hands) (sym c.in-Ok.ensures ∙ c.in-Some.is) (hand_change (numbers_of c.args.live.now) c.size-b.result c.args.self.now.capacity c.args.self.now.index.pages c.args.home c.in_ok-seen.seen.other) in
-    let ready = subst (AllReady last (capacity_in c.hold.new.self)) c.as_slice.ensures c.in_ok-hold.ensures.ready in
+    let hand = subst (λ o. IfSome o Hands) (sym c.in-Ok.ensures ∙ c.in-Some.is)
+    (hand_change (numbers_of c.args.live.now) c.size-b.result c.args.self.now.capacity
+    c.args.self.now.index.pages c.args.home c.in_ok-seen.seen.other) in
+    let ready = subst (AllReady last (capacity_in c.hold.new.self)) c.as_slice.ensures
+    c.in_ok-hold.ensures.ready in
     record { purge = hand.purge last (capacity_in c.hold.new.self) ready; parts = ready }

@@ -11,6 +11,9 @@ returns-clause-plan g c = λ agree.
     let b = g.F.Frames.seen c.home_of.new.frames in
     let last = g.F.Frames.seen (frames_of c.hold_there.new.self) in
     let seen = c.in_ok-seen.seen in
-    let shown = home_stays _ b last c.args.home seen c.hold_there.ensures.took c.in_ok-seen.ensures.seen in
-    drop_agrees last (index_of c.hold_there.new.self) c.args.home seen c.new-3.result c.drop_row-parts.result shown (c.new-3.ensures ∙ c.new-2.ensures.items)
-    (subst (λ (x : Indexed). c.drop_row-parts.result ≡ drop_moves x.pages c.args.home seen.other) (sym c.hold_there.ensures.summaries) c.drop_row-parts.ensures) agree
+    let shown =
+    home_stays _ b last c.args.home seen c.hold_there.ensures.took c.in_ok-seen.ensures.seen in
+    drop_agrees last (index_of c.hold_there.new.self) c.args.home seen c.new-3.result
+    c.drop_row-parts.result shown (c.new-3.ensures ∙ c.new-2.ensures.items)
+    (subst (λ (x : Indexed). c.drop_row-parts.result ≡ drop_moves x.pages c.args.home seen.other)
+    (sym c.hold_there.ensures.summaries) c.drop_row-parts.ensures) agree

@@ -17,10 +17,15 @@ returns-clause-parts g c = λ agree.
     let h = c.hold_there.ensures in
     let first = c.in_ok-other.ensures in
     let stays = slot_stays _ b last c.args.home h.took first.held in
-    undo_agrees last index c.args.home (option_copied c.args.before) c.size_of-size.result (over_before c.args.parts.now) c.in_ok-other.other c.undo-undo.result
+    undo_agrees last index c.args.home (option_copied c.args.before) c.size_of-size.result
+    (over_before c.args.parts.now) c.in_ok-other.other c.undo-undo.result
     (c.undo-undo.ensures
-    ∙ ap (λ over. undo_moves c.args.self.now.index.pages c.args.home c.size_of-size.result over c.in_ok-other.other) c.over_before.ensures
-    ∙ ap (λ (x : Indexed). undo_moves x.pages c.args.home c.size_of-size.result (over_before c.args.parts.now) c.in_ok-other.other) (sym h.summaries))
+    ∙ ap
+    (λ over. undo_moves c.args.self.now.index.pages c.args.home c.size_of-size.result over
+    c.in_ok-other.other) c.over_before.ensures
+    ∙ ap
+    (λ (x : Indexed). undo_moves x.pages c.args.home c.size_of-size.result
+    (over_before c.args.parts.now) c.in_ok-other.other) (sym h.summaries))
     c.size_of-size.ensures
     (first.other ∙ ap pointed_to (sym stays))
     agree

@@ -19,5 +19,6 @@ invariant-loop-part g l =
       count : length b.pages ≡ length a.pages;
       idle : a.idle ≤ b.idle;
       agree : b.sure ≡ true → Agree a (index_of l.fn.self) → Agree b (index_of l.self);
-      goes : b.sure ≡ true → RedoGoes l.entry a.pages b.pages (take l.part-index (parts_of l.entry.kind));
+      goes : b.sure ≡ true
+          → RedoGoes l.entry a.pages b.pages (take l.part-index (parts_of l.entry.kind));
     }

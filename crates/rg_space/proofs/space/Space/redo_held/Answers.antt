@@ -27,7 +27,8 @@ loop-part-init g c =
       idle = λ h. omega arith;
       agree = λ h. h;
       gave = λ ps n. g.met.F.Frames.gave_none ps n (frames_of c.args.self.now);
-      redoes = redo_first entry.tran.0 (after_of entry.kind) entry.position.0 c.args.number a.pages c.parts-part-items.result.now c.requires.low;
+      redoes = redo_first entry.tran.0 (after_of entry.kind) entry.position.0 c.args.number a.pages
+          c.parts-part-items.result.now c.requires.low;
     }
 
 pub loop-part-preserved : goal.loop-part-preserved
@@ -52,10 +53,14 @@ loop-part-preserved g c =
       count = h.count ∙ i.count;
       idle = λ ahead. omega (arith, i.idle ahead, h.idle (omega (arith, ahead, i.forced)));
       agree = λ x. h.agree (i.agree x);
-      gave = λ ps n. g.met.F.Frames.gave_more ps n (frames_of c.args.self.now) (frames_of c.loop-part.self) (frames_of c.redo_part.new.self) (i.gave ps n) (λ _. h.gave ps n);
-      redoes = redo_next entry.tran.0 (after_of entry.kind) entry.position.0 c.args.number a.pages b.pages c.parts-part-items.result.now _ _ _ c.requires.low high
+      gave = λ ps n. g.met.F.Frames.gave_more ps n (frames_of c.args.self.now)
+          (frames_of c.loop-part.self) (frames_of c.redo_part.new.self) (i.gave ps n)
+          (λ _. h.gave ps n);
+      redoes = redo_next entry.tran.0 (after_of entry.kind) entry.position.0 c.args.number a.pages
+          b.pages c.parts-part-items.result.now _ _ _ c.requires.low high
           (g.met.F.Frames.numbered (frames_of c.loop-part.self) c.args.number c.requires.low high)
-          (next_part c.parts-part-items.result.now c.loop-part.part-index _ c.loop-part-test.true) i.redoes z.pages k.pages k.fits;
+          (next_part c.parts-part-items.result.now c.loop-part.part-index _ c.loop-part-test.true)
+          i.redoes z.pages k.pages k.fits;
     }
 
 pub returns-in-Err-clause-unfit : goal.returns-in-Err-clause-unfit
@@ -65,23 +70,39 @@ returns-in-Err-clause-unfit g c = λ fits.
     let entry = c.args.entry.now in
     let i = c.loop-part.invariant in
     let high : c.args.number ≤ length b.pages = omega (arith, i.count, c.requires.high) in
-    unfit_here entry.tran.0 (after_of entry.kind) entry.position.0 c.args.number a.pages b.pages c.parts-part-items.result.now _ _ _ c.requires.low high
+    unfit_here entry.tran.0 (after_of entry.kind) entry.position.0 c.args.number a.pages b.pages
+    c.parts-part-items.result.now _ _ _ c.requires.low high
     (g.met.F.Frames.numbered (frames_of c.loop-part.self) c.args.number c.requires.low high)
-    (next_part c.parts-part-items.result.now c.loop-part.part-index _ c.loop-part-test.true) i.redoes c.in-Err.ensures.unfit
-    (subst (AllFit entry.tran.0 (after_of entry.kind) entry.position.0 (content_at a.pages c.args.number)) (sym c.parts-part-items.ensures) fits)
+    (next_part c.parts-part-items.result.now c.loop-part.part-index _ c.loop-part-test.true)
+    i.redoes c.in-Err.ensures.unfit
+    (subst
+    (AllFit entry.tran.0 (after_of entry.kind) entry.position.0 (content_at a.pages c.args.number))
+    (sym c.parts-part-items.ensures) fits)
 
 pub returns-clause-pages : goal.returns-clause-pages
 returns-clause-pages g c =
     let a = g.F.Frames.seen (frames_of c.args.self.now) in
     let b = g.F.Frames.seen (frames_of c.loop-part.self) in
     let entry = c.args.entry.now in
-    subst (λ (ps : List Part). b.pages ≡ set a.pages (c.args.number - 1) (with_parts entry.tran.0 (after_of entry.kind) entry.position.0 (content_at a.pages c.args.number) ps)) c.parts-part-items.ensures
-    (redo_last entry.tran.0 (after_of entry.kind) entry.position.0 c.args.number a.pages b.pages c.parts-part-items.result.now _ (drop_all c.loop-part.part-index c.parts-part-items.result.now c.loop-part-test.false) c.loop-part.invariant.redoes)
+    subst
+    (λ (ps : List Part). b.pages
+    ≡ set a.pages (c.args.number - 1)
+    (with_parts entry.tran.0 (after_of entry.kind) entry.position.0
+    (content_at a.pages c.args.number) ps)) c.parts-part-items.ensures
+    (redo_last entry.tran.0 (after_of entry.kind) entry.position.0 c.args.number a.pages b.pages
+    c.parts-part-items.result.now _
+    (drop_all c.loop-part.part-index c.parts-part-items.result.now c.loop-part-test.false)
+    c.loop-part.invariant.redoes)
 
 pub returns-clause-fits : goal.returns-clause-fits
 returns-clause-fits g c =
     let a = g.F.Frames.seen (frames_of c.args.self.now) in
     let b = g.F.Frames.seen (frames_of c.loop-part.self) in
     let entry = c.args.entry.now in
-    subst (AllFit entry.tran.0 (after_of entry.kind) entry.position.0 (content_at a.pages c.args.number)) c.parts-part-items.ensures
-    (fits_last entry.tran.0 (after_of entry.kind) entry.position.0 c.args.number a.pages b.pages c.parts-part-items.result.now _ (drop_all c.loop-part.part-index c.parts-part-items.result.now c.loop-part-test.false) c.loop-part.invariant.redoes)
+    subst
+    (AllFit entry.tran.0 (after_of entry.kind) entry.position.0 (content_at a.pages c.args.number))
+    c.parts-part-items.ensures
+    (fits_last entry.tran.0 (after_of entry.kind) entry.position.0 c.args.number a.pages b.pages
+    c.parts-part-items.result.now _
+    (drop_all c.loop-part.part-index c.parts-part-items.result.now c.loop-part-test.false)
+    c.loop-part.invariant.redoes)

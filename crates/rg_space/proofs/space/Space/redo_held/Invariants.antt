@@ -22,6 +22,8 @@ invariant-loop-part g l =
       count : length b.pages ≡ length a.pages;
       idle : l.entry.position.0 ≤ a.forced → a.idle ≤ b.idle;
       agree : Agree a (index_of l.fn.self) → Agree b (index_of l.self);
-      gave : (pages : List Content) (n : ℕ) → g.F.Frames.gave pages n (frames_of l.fn.self) (frames_of l.self);
-      redoes : Redoes l.entry.tran.0 (after_of l.entry.kind) l.entry.position.0 l.number a.pages b.pages l.part-items (drop l.part-index l.part-items);
+      gave : (pages : List Content) (n : ℕ)
+          → g.F.Frames.gave pages n (frames_of l.fn.self) (frames_of l.self);
+      redoes : Redoes l.entry.tran.0 (after_of l.entry.kind) l.entry.position.0 l.number a.pages
+          b.pages l.part-items (drop l.part-index l.part-items);
     }

@@ -11,7 +11,9 @@ returns-in-Ok-clause-agree g c = λ agree.
     let is = c.of.ensures.made in
     let w = c.in-Ok.ensures.ok in
     let fits = c.in-Ok.ensures.fits in
-    let room = has_room a.pages _ agree c.args.part.now c.args.tran.0 (option_copied c.args.after) c.of.result (omega arith) (omega arith) is fits in
+    let room = has_room a.pages _ agree c.args.part.now c.args.tran.0 (option_copied c.args.after)
+    c.of.result (omega arith) (omega arith) is fits in
     ap (λ (ps : List Content). map (map bare) (slots_of ps)) w.pages
-    ∙ agree_set a.pages _ agree c.args.part.now c.args.tran.0 (option_copied c.args.after) c.args.position.0 c.of.result (omega arith) (omega arith) is
+    ∙ agree_set a.pages _ agree c.args.part.now c.args.tran.0 (option_copied c.args.after)
+    c.args.position.0 c.of.result (omega arith) (omega arith) is
     ∙ sym (c.note.ensures.pages room)

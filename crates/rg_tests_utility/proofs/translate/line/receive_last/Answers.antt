@@ -7,7 +7,10 @@ use Rattle.rg_translate.proofs.Replaying.{still-none}
 use Rattle.rg_tests_utility.proofs.translate.line.receive_last.Goals as goal
 
 pub returns-clause-lawful : goal.returns-clause-lawful
-returns-clause-lawful c = subst (λ (xs : List Item). Lawful (since_begin xs)) (sym (c.in_ok-hand_over.ensures.all ∙ c.hand_over.ensures.sent.items)) c.requires.ordered.lawful
+returns-clause-lawful c = subst (λ (xs : List Item). Lawful (since_begin xs))
+    (sym (c.in_ok-hand_over.ensures.all ∙ c.hand_over.ensures.sent.items)) c.requires.ordered.lawful
 
 pub returns-clause-none : goal.returns-clause-none
-returns-clause-none c = c.hand_over.ensures.grew.taken ∙ ap (still_taken c.hand_over.ensures.grew.more) c.requires.none ∙ still-none c.hand_over.ensures.grew.more
+returns-clause-none c =
+    c.hand_over.ensures.grew.taken ∙ ap (still_taken c.hand_over.ensures.grew.more) c.requires.none
+    ∙ still-none c.hand_over.ensures.grew.more

@@ -13,7 +13,9 @@ use Rattle.rg_tests_utility.proofs.translate.loading.loaded.Goals as goal
 pub new-requires : goal.new-requires
 new-requires c =
     let feed = since_begin c.args.inlet.now.items in
-    subst AreApart (sym (c.in_ok-rows.ensures ∙ ap copied_rows c.copies.ensures ∙ copied_rows-copies feed)) (copies_apart feed c.requires.lawful)
+    subst AreApart
+    (sym (c.in_ok-rows.ensures ∙ ap copied_rows c.copies.ensures ∙ copied_rows-copies feed))
+    (copies_apart feed c.requires.lawful)
 
 pub returns : goal.returns
 returns c =
@@ -21,8 +23,12 @@ returns c =
     let shadow = c.in_ok-shadow.shadow in
     let packer = c.in_ok-packer.packer in
     let feed = since_begin inlet.items in
-    let rows : c.in_ok-rows.rows ≡ copied_rows feed = c.in_ok-rows.ensures ∙ ap copied_rows c.copies.ensures ∙ copied_rows-copies feed in
+    let rows : c.in_ok-rows.rows ≡ copied_rows feed =
+    c.in_ok-rows.ensures ∙ ap copied_rows c.copies.ensures ∙ copied_rows-copies feed in
     let filled = c.fill_all.new.packer in
     let same : (source : Place) → source_rows shadow source ≡ row_in packer.rows source = λ source.
-    c.in_ok-shadow.ensures.rows.sources source ∙ ap (λ (homed : List (Place × Row)). row_in homed source) c.in_ok-fill_all.ensures.rows in
-    loaded shadow inlet packer.rows c.requires.lawful c.requires.none (subst (λ (xs : List (Place × Row)). IsPermutation xs packer.rows) rows c.in_ok-packer.ensures.rows) same
+    c.in_ok-shadow.ensures.rows.sources source
+    ∙ ap (λ (homed : List (Place × Row)). row_in homed source) c.in_ok-fill_all.ensures.rows in
+    loaded shadow inlet packer.rows c.requires.lawful c.requires.none
+    (subst (λ (xs : List (Place × Row)). IsPermutation xs packer.rows) rows
+    c.in_ok-packer.ensures.rows) same

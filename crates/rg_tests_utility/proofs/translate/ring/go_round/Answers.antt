@@ -7,4 +7,5 @@ use Rattle.rg_tests_utility.proofs.translate.ring.go_round.Goals as goal
 pub receive-requires-clause-later : goal.receive-requires-clause-later
 receive-requires-clause-later c =
     subst (λ (xs : List Item). AddsLater xs (sent_items c.pump-moved.new.self)) (sym c.requires.all)
-    (subst (AddsLater (sent_items c.args.outlet.now)) (sym c.pump-moved.ensures.same.items) c.in_ok-last.ensures.later)
+    (subst (AddsLater (sent_items c.args.outlet.now)) (sym c.pump-moved.ensures.same.items)
+    c.in_ok-last.ensures.later)

@@ -18,18 +18,22 @@ returns c =
     let filled = c.finish-space.ensures in
     let same : (source : Place) → source_rows shadow source ≡ row_in packer.rows source = λ source.
     ap (row_through (home_rows shadow)) (made.targets source)
-    ∙ ap (λ (pages : List Content). row_through (λ place. row_at (slot_of (slots_of pages)) place) (target_in c.finish-space.result.1 source)) made.pages
+    ∙ ap
+    (λ (pages : List Content). row_through (λ place. row_at (slot_of (slots_of pages)) place)
+    (target_in c.finish-space.result.1 source)) made.pages
     ∙ filled.rows source in
     record {
       copy = made.copy ∙ filled.space.copy_is;
       capacity = made.capacity ∙ filled.space.capacity_is;
       rows = record {
-        packed = λ place. ap (λ (pages : List Content). slot_of (slots_of pages) place) made.pages ∙ filled.slots place;
+        packed = λ place. ap (λ (pages : List Content). slot_of (slots_of pages) place) made.pages
+            ∙ filled.slots place;
         sources = same;
         pages = ap (λ (pages : List Content). length pages) made.pages ∙ filled.pages;
         claims =
             packed_claims packer.options packer.rows (shade_slots shadow)
-            (λ n. ap (λ (pages : List Content). page_at (slots_of pages) n) made.pages ∙ filled.space.rows_are.slots n);
+            (λ n. ap (λ (pages : List Content). page_at (slots_of pages) n) made.pages
+            ∙ filled.space.rows_are.slots n);
       };
       unsorted = all_unsorted shadow made.keys made.cluses made.cats;
     }

@@ -8,9 +8,13 @@ use Rattle.rg_btree.specs.Indexes.Listings.{entries_of}
 pub returns-in-Some : goal.returns-in-Some
 returns-in-Some c =
     let e : ℕ × Place = (c.args.cat, c.args.home) in
-    c.is_same.ensures ∙ ap (is_at e) (sym c.in-Some.is ∙ c.first_from.ensures) ∙ has-found e (entries_of c.args.self.now.cats) (IsRising-rising_part c.args.self.now.cats.entries)
+    c.is_same.ensures ∙ ap (is_at e) (sym c.in-Some.is ∙ c.first_from.ensures)
+    ∙ has-found e (entries_of c.args.self.now.cats)
+    (IsRising-rising_part c.args.self.now.cats.entries)
 
 pub returns-in-None : goal.returns-in-None
 returns-in-None c =
     let e : ℕ × Place = (c.args.cat, c.args.home) in
-    ap (is_at e) (sym c.in-None.is ∙ c.first_from.ensures) ∙ has-found e (entries_of c.args.self.now.cats) (IsRising-rising_part c.args.self.now.cats.entries)
+    ap (is_at e) (sym c.in-None.is ∙ c.first_from.ensures)
+    ∙ has-found e (entries_of c.args.self.now.cats)
+    (IsRising-rising_part c.args.self.now.cats.entries)

@@ -14,7 +14,8 @@ is_true false e = refl
 pub returns-then-is_of_unit : goal.returns-then-is_of_unit
 returns-then-is_of_unit c =
     let of_tran = (c.if-is_of_unit.ensures c.args.before.now c.requires).0 refl in
-    let unit = unit_is c.args.before.now c.args.self.now.units c.args.self.now.owed c.requires.units c.args.entry.now.tran.0 of_tran.some in
+    let unit = unit_is c.args.before.now c.args.self.now.units c.args.self.now.owed c.requires.units
+    c.args.entry.now.tran.0 of_tran.some in
     let undoing = ap (λ (u : Unit). u.undoing) c.unit.ensures.is ∙ unit.undoing in (
       λ is. (of_tran, sym undoing ∙ was_false c.unit.result.undoing is),
       λ follows. is_true c.unit.result.undoing (undoing ∙ follows.1),

@@ -5,4 +5,5 @@ use Rattle.rg_check.proofs.chain.chain.Chain.owed.Goals as goal
 
 pub returns-clause-owed : goal.returns-clause-owed
 returns-clause-owed c = λ before kept.
-    ap (λ (r : Running). r.owed) c.self.view_is ∙ owed_is before c.args.self.now.units c.args.self.now.owed kept.units no_unit
+    ap (λ (r : Running). r.owed) c.self.view_is
+    ∙ owed_is before c.args.self.now.units c.args.self.now.owed kept.units no_unit

@@ -8,7 +8,10 @@ use Rattle.rg_check.proofs.chain.chain.Chain.unit.Goals as goal
 pub returns-else-at-len-clause-unit : goal.returns-else-at-len-clause-unit
 returns-else-at-len-clause-unit c = λ before kept.
     let units = c.args.self.now.units in
-    let len : length c.self.inside.units.items ≡ length units = ap (λ (r : Running). length r.units) c.self.view_is in
+    let len : length c.self.inside.units.items ≡ length units =
+    ap (λ (r : Running). length r.units) c.self.view_is in
     let none : unit_at units c.args.tran.0 ≡ no_unit =
-    get_or-eq_default units no_unit {n = c.args.tran.0 - 1} (omega (arith, c.if-at-len.false, c.len.ensures, c.self.inside.units.ok.0, len)) in
-    subst (IsUnit before c.args.tran.0) (none ∙ sym c.none.ensures) (unit_is before units c.args.self.now.owed kept.units c.args.tran.0 c.requires)
+    get_or-eq_default units no_unit {n = c.args.tran.0 - 1}
+    (omega (arith, c.if-at-len.false, c.len.ensures, c.self.inside.units.ok.0, len)) in
+    subst (IsUnit before c.args.tran.0) (none ∙ sym c.none.ensures)
+    (unit_is before units c.args.self.now.owed kept.units c.args.tran.0 c.requires)

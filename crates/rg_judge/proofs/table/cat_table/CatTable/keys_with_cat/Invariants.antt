@@ -6,7 +6,8 @@ use Rattle.rg_judge.proofs.table.cat_table.CatTable.keys_with_cat.Given as goal
 
 -- the keys so far, and those that come
 abbrev pub invariant-loop-key : goal.invariant-loop-key
-invariant-loop-key l = l.keys.items ++ keys_from l.cat l.self (start_of l.last) ≡ keys_with_cat l.cat l.self
+invariant-loop-key l =
+    l.keys.items ++ keys_from l.cat l.self (start_of l.last) ≡ keys_with_cat l.cat l.self
 
 abbrev pub decreases-loop-key : goal.decreases-loop-key
 decreases-loop-key l = 2 ^ 64 - start_of l.last

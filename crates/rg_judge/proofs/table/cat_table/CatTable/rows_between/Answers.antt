@@ -7,7 +7,9 @@ pub returns-then-key-hi : goal.returns-then-key-hi
 returns-then-key-hi c =
     let from = start_from c.args.lo c.loop-key.last in
     c.new.ensures
-    ∙ rows-stop c.args.lo c.args.hi c.args.self.now c.loop-key.rows.items from c.loop-key.invariant.low c.loop-key.invariant.rows c.in-Some.key c.in-Some.row.now c.in-Some.ensures (omega (arith, c.if-key-hi.true))
+    ∙ rows-stop c.args.lo c.args.hi c.args.self.now c.loop-key.rows.items from
+    c.loop-key.invariant.low c.loop-key.invariant.rows c.in-Some.key c.in-Some.row.now
+    c.in-Some.ensures (omega (arith, c.if-key-hi.true))
 
 pub loop-key-preserved : goal.loop-key-preserved
 loop-key-preserved c =
@@ -16,11 +18,14 @@ loop-key-preserved c =
     record {
       low = omega (arith, low, c.loop-key.invariant.low);
       rows = rw (c.in_ok-push.ensures.items, c.in_ok-copy.ensures)
-          (rows-go c.args.lo c.args.hi c.args.self.now c.loop-key.rows.items from c.loop-key.invariant.low c.loop-key.invariant.rows c.in-Some.key c.in-Some.row.now c.in-Some.ensures (omega (arith, c.if-key-hi.false)));
+          (rows-go c.args.lo c.args.hi c.args.self.now c.loop-key.rows.items from
+          c.loop-key.invariant.low c.loop-key.invariant.rows c.in-Some.key c.in-Some.row.now
+          c.in-Some.ensures (omega (arith, c.if-key-hi.false)));
     }
 
 pub returns : goal.returns
 returns c =
     let from = start_from c.args.lo c.loop-key.last in
     c.new-2.ensures
-    ∙ rows-done c.args.lo c.args.hi c.args.self.now c.loop-key.rows.items from c.loop-key.invariant.rows c.in_default.ensures
+    ∙ rows-done c.args.lo c.args.hi c.args.self.now c.loop-key.rows.items from
+    c.loop-key.invariant.rows c.in_default.ensures

@@ -8,7 +8,8 @@ use Rattle.rg_judge.proofs.table.cat_table.CatTable.rows_between.Given as goal
 abbrev pub invariant-loop-key : goal.invariant-loop-key
 invariant-loop-key l = record {
   low : l.lo ≤ start_from l.lo l.last;
-  rows : l.rows.items ++ rows_from l.lo l.hi l.self (start_from l.lo l.last) ≡ rows_between l.lo l.hi l.self;
+  rows : l.rows.items ++ rows_from l.lo l.hi l.self (start_from l.lo l.last)
+      ≡ rows_between l.lo l.hi l.self;
 }
 
 abbrev pub decreases-loop-key : goal.decreases-loop-key

@@ -11,5 +11,6 @@ invariant_of-result c = λ n cat q.
     let locks = c.self.inside.locks in
     let owners = c.self.inside.held.owners in
     ap (λ (o : Owners). is_held_in o n cat q) c.end-2.ensures
-    ∙ held-ended table table locks owners c.self.invariant c.args.session (λ q kept there others. refl) n cat q
+    ∙ held-ended table table locks owners c.self.invariant c.args.session
+    (λ q kept there others. refl) n cat q
     ∙ sym (ap (λ (l : Locks). holds_cat (map.get l q) (map.get table q) n cat) c.end.ensures)

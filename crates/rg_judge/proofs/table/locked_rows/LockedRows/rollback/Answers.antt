@@ -14,6 +14,9 @@ invariant_of-result c = λ n cat q.
     let session = c.args.session in
     let after = put_back (map.entries (own_locks session locks)) table in
     ap (λ (o : Owners). is_held_in o n cat q) c.end.ensures
-    ∙ held-ended table after locks owners c.self.invariant session (put_back-elsewhere table locks session) n cat q
-    ∙ sym (ap (λ (l : Locks). holds_cat (map.get l q) (map.get c.in_ok-table.table q) n cat) c.in_ok-table.ensures.locks
-    ∙ ap (λ (t : Table). holds_cat (map.get (locks_without session locks) q) (map.get t q) n cat) c.in_ok-table.ensures.rows)
+    ∙ held-ended table after locks owners c.self.invariant session
+    (put_back-elsewhere table locks session) n cat q
+    ∙ sym (ap (λ (l : Locks). holds_cat (map.get l q) (map.get c.in_ok-table.table q) n cat)
+    c.in_ok-table.ensures.locks
+    ∙ ap (λ (t : Table). holds_cat (map.get (locks_without session locks) q) (map.get t q) n cat)
+    c.in_ok-table.ensures.rows)

@@ -11,7 +11,9 @@ returns-in-Some c =
     let locks = c.self.inside.locks in
     let held : ℕ × Session = (c.in-Some.field-0-0, c.in-Some.owner) in
     sym (scan_held locks c.args.session c.args.lo c.args.hi held
-    (subst (λ (found : Option (ℕ × Session)). IsFirstHeld locks c.args.session c.args.lo c.args.hi found) c.in-Some.is c.first_held.ensures))
+    (subst
+    (λ (found : Option (ℕ × Session)). IsFirstHeld locks c.args.session c.args.lo c.args.hi found)
+    c.in-Some.is c.first_held.ensures))
     ∙ ap (λ (r : Locked). scan_holder r.locks c.args.session c.args.lo c.args.hi) c.self.view_is
 
 pub returns-in-None : goal.returns-in-None

@@ -20,12 +20,21 @@ invariant_of-result c =
     let key = c.args.key in
     let row = c.args.row in
     let lock = map.get locks key in
-    let committed : option_copied c.committed_or-committed.result ≡ committed_or lock (map.get table key) =
-    c.committed_or-committed.ensures ∙ ap (committed_or lock) (c.get-present.ensures ∙ ap (λ (t : Table). map.get t key) c.rows.ensures) in
-    let is_noted : IsNoted owners new (owner_or lock session).0 key row (committed_or lock (map.get table key)) =
-    subst (λ (o : Session). IsNoted owners new o.0 key row (committed_or lock (map.get table key))) c.owner_or-owner.ensures
-    (subst (λ (r : Option Row). IsNoted owners new c.owner_or-owner.result.0 key r (committed_or lock (map.get table key))) c.as_ref.ensures.value
-    (subst (λ (r : Option Row). IsNoted owners new c.owner_or-owner.result.0 key (option_copied c.as_ref.result) r) committed c.in_ok-note.ensures)) in
+    let committed : option_copied c.committed_or-committed.result
+    ≡ committed_or lock (map.get table key) =
+    c.committed_or-committed.ensures
+    ∙ ap (committed_or lock)
+    (c.get-present.ensures ∙ ap (λ (t : Table). map.get t key) c.rows.ensures) in
+    let is_noted : IsNoted owners new (owner_or lock session).0 key row
+    (committed_or lock (map.get table key)) =
+    subst (λ (o : Session). IsNoted owners new o.0 key row (committed_or lock (map.get table key)))
+    c.owner_or-owner.ensures (subst
+    (λ (r : Option Row). IsNoted owners new c.owner_or-owner.result.0 key r
+    (committed_or lock (map.get table key))) c.as_ref.ensures.value
+    (subst
+    (λ (r : Option Row). IsNoted owners new c.owner_or-owner.result.0 key
+    (option_copied c.as_ref.result) r) committed c.in_ok-note.ensures)) in
     subst (λ (t : Table). AreHeld t c.lock.new.locks new) (sym c.in_ok-table.ensures.table)
-    (subst (λ (l : Locks). AreHeld (set_to table key row) l new) (sym (c.in_ok-lock.ensures ∙ ap (take_key locks session key) c.in_ok-table.ensures.before))
+    (subst (λ (l : Locks). AreHeld (set_to table key row) l new)
+    (sym (c.in_ok-lock.ensures ∙ ap (take_key locks session key) c.in_ok-table.ensures.before))
     (held-written table locks owners c.self.invariant session key row new is_noted))

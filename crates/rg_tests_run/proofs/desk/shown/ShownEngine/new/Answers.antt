@@ -12,8 +12,13 @@ invariant_of-result c = (
   λ up. record {
     state = at_rest map.empty 1;
     allowed = 4064 * length (space_pages c.in_ok-found.found.space);
-    shows = c.in_ok-engine.ensures.shows map.empty 1 (λ k. map.get-empty nat_cmp k ∙ sym (ap (λ (l : Listed). stored l.records k) (c.in_ok-found.ensures.log ∙ c.empty.ensures)));
+    shows = c.in_ok-engine.ensures.shows map.empty 1
+        (λ k. map.get-empty nat_cmp k
+        ∙ sym
+        (ap (λ (l : Listed). stored l.records k) (c.in_ok-found.ensures.log ∙ c.empty.ensures)));
   },
-  ap (λ (l : Listed). l.pages) (c.in_ok-engine.ensures.log ∙ c.in_ok-found.ensures.log ∙ c.empty.ensures) ∙ c.min-pages.ensures ∙ ap (λ n. min n 65536) c.capacity.ensures,
+  ap (λ (l : Listed). l.pages)
+      (c.in_ok-engine.ensures.log ∙ c.in_ok-found.ensures.log ∙ c.empty.ensures)
+      ∙ c.min-pages.ensures ∙ ap (λ n. min n 65536) c.capacity.ensures,
   c.in_ok-outlet.ensures.ring,
 )
