@@ -1,1 +1,1 @@
-pub mod UtilityLemmas
+pub mod Lines

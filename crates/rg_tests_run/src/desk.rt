@@ -18,8 +18,6 @@ enum Ask {
     Update { key: u64, size: u16 },
     Delete(u64),
     Select(u64),
-    Scan { lo: u64, hi: u64 },
-    Find(u64),
     Commit,
     Rollback,
 }
@@ -31,11 +29,7 @@ const DONE: i32 = 0;
 
 const ABSENT: i32 = 100;
 
-const DUPLICATE: i32 = -803;
-
 const HELD: i32 = -913;
-
-const FULL: i32 = 1;
 
 fn row(alloc: Global, key: u64, size: u16) -> Result<Row, Fail> {
     let mut bytes = Vec::new(alloc);
@@ -55,8 +49,6 @@ fn stmt_of(alloc: Global, ask: Ask) -> Result<Stmt, Fail> {
         Ask::Update { key, size } => Stmt::Update(row(alloc, key, size)?),
         Ask::Delete(key) => Stmt::Delete(key),
         Ask::Select(key) => Stmt::Select(key),
-        Ask::Scan { lo, hi } => Stmt::Scan { lo, hi },
-        Ask::Find(cat) => Stmt::Find(cat),
         Ask::Commit => Stmt::Commit,
         Ask::Rollback => Stmt::Rollback,
     };
@@ -65,11 +57,9 @@ fn stmt_of(alloc: Global, ask: Ask) -> Result<Stmt, Fail> {
 
 fn number_of(reply: &Reply) -> i32 {
     match reply {
-        Reply::Done | Reply::Found(_) | Reply::Listed(_) | Reply::Keyed(_) => DONE,
+        Reply::Done | Reply::Found(_) => DONE,
         Reply::Absent => ABSENT,
-        Reply::Duplicate => DUPLICATE,
         Reply::Held(_) => HELD,
-        Reply::Full { .. } => FULL,
         _ => -1,
     }
 }
@@ -104,43 +94,6 @@ fn insert(key: u64, size: u16) -> Ask {
 
 fn update(key: u64, size: u16) -> Ask {
     Ask::Update { key, size }
-}
-
-// A copy of one page has room for four of the widest rows and for nothing more. What a unit removed
-// has its room until the unit ends.
-#[test]
-fn answers_full(rt: HostRuntime) -> Result<(), Fail> {
-    let mut engine = ShownEngine::new(rt.alloc(), 1, 100)?;
-    let steps: [Step; 26] = [
-        (1, insert(1, 800), DONE),
-        (1, insert(2, 800), DONE),
-        (1, insert(3, 800), DONE),
-        (1, insert(4, 800), DONE),
-        (1, insert(5, 800), FULL),
-        (1, insert(5, 600), DONE),
-        (1, update(5, 700), FULL),
-        (1, Ask::Commit, DONE),
-        (2, Ask::Delete(1), DONE),
-        (2, insert(6, 800), FULL),
-        (3, insert(6, 800), FULL),
-        (3, insert(1, 0), HELD),
-        (2, Ask::Commit, DONE),
-        (3, insert(6, 800), DONE),
-        (3, Ask::Rollback, DONE),
-        (3, insert(7, 800), DONE),
-        (1, insert(7, 0), HELD),
-        (1, Ask::Find(1), HELD),
-        (3, Ask::Find(1), DONE),
-        (1, Ask::Find(2), DONE),
-        (3, Ask::Commit, DONE),
-        (1, Ask::Find(1), DONE),
-        (1, insert(7, 0), DUPLICATE),
-        (1, Ask::Select(6), ABSENT),
-        (1, Ask::Select(7), DONE),
-        (1, Ask::Scan { lo: 0, hi: 9 }, DONE),
-    ];
-    expect_steps(&rt, rt.alloc(), &mut engine, &steps)?;
-    Ok(())
 }
 
 // The changes that were sent since the last time: of each its position, the slot of its home on

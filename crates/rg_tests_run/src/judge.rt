@@ -1,6 +1,7 @@
 // Worked traces are legal, and each with one entry changed is refused at that entry.
 use crate::judge::stories::{Story, entry};
 use crate::judge::words::{row, said};
+use rg_base::copy::TableCopy;
 use rg_base::map::NumberMap;
 use rg_base::no_memory::NoMemory;
 use rg_base::table::Table;
@@ -57,7 +58,7 @@ fn judges_no_entries(rt: HostRuntime) -> Result<(), Fail> {
 // Sessions 1 to 99 in turn insert and read a row each, commit, and look for the next.
 fn long_trace(alloc: Global) -> Result<Vec<Entry>, NoMemory> {
     let mut trace = Vec::new(alloc);
-    trace.push(Entry::opened(1, 0, 0, 0, 0))?;
+    trace.push(Entry::opened(TableCopy::first(), 0, 0, 0, 0))?;
     for key in 0..25000u64 {
         let session = (key % 99) as u8 + 1;
         let kept = Reply::Found(row(alloc, key, key, key % 7)?);

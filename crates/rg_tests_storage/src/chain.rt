@@ -1,6 +1,7 @@
 ghost use Rattle.std.specs.Prelude.{IsTrue};
 ghost use Rattle.rg_image.specs.Kept.{AreEntries};
 
+use rg_base::copy::TableCopy;
 use rg_base::no_memory::NoMemory;
 use rg_base::part::{Part, Parts, SlotOp};
 use rg_base::place::Place;
@@ -209,7 +210,7 @@ fn keeps_what_an_opening_needs(rt: HostRuntime) -> Result<(), Fail> {
         return Err(Fail::from(NoMemory));
     };
     assert_eq!(rt; chain.greatest(), Tran(203));
-    assert_eq!(rt; (chain.copy(), chain.pages()), (2, 4));
+    assert_eq!(rt; (chain.copy(), chain.pages()), (TableCopy::second(), 4));
     assert_eq!(rt; (chain.owed(), chain.none_is_open()), (934, false));
     let rolled_back = chain.unit(Tran(201));
     assert_eq!(rt; (rolled_back.ended, rolled_back.left), (true, 0));
@@ -218,7 +219,7 @@ fn keeps_what_an_opening_needs(rt: HostRuntime) -> Result<(), Fail> {
     let none = Chain::new(rt.alloc());
     assert_eq!(rt;
         (none.greatest(), none.copy(), none.pages()),
-        (Tran(0), 1, 0)
+        (Tran(0), TableCopy::first(), 0)
     );
     assert!(rt; none.none_is_open());
     Ok(())

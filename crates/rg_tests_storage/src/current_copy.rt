@@ -4,9 +4,10 @@ ghost use Rattle.rg_page.specs.Bytes.Content.{FitsPage};
 ghost use Rattle.rg_record.specs.Applied.{parts_of};
 ghost use Rattle.rg_record.specs.declared.record.Record.{Record as TheRecord};
 ghost use Rattle.rg_space.specs.Carries.{AllThere};
-ghost use Rattle.rg_space.specs.Space.{InStep, frames_of, index_of, capacity_in};
+ghost use Rattle.rg_space.specs.Space.{InStep, frames_of, summaries_of, capacity_in};
 ghost use Rattle.rg_space.specs.Memory.{list_seen};
 
+use rg_base::copy::TableCopy;
 use rg_base::part::{Part, Parts, SlotOp};
 use rg_base::place::Place;
 use rg_base::position::Position;
@@ -108,9 +109,9 @@ fn all_there(count: u32, records: &[Record]) -> bool
 
 // The key of the row at slot 0 of a page, or 0.
 fn key_at(rt: &impl Abort, space: &mut Space<ListFrames>, page: u32) -> Result<u64, Fail>
-    requires step { InStep (list_seen (frames_of space.old)) (index_of space.old)
+    requires step { InStep (list_seen (frames_of space.old)) (summaries_of space.old)
         (capacity_in space.old) }
-    ensures step { InStep (list_seen (frames_of space.new)) (index_of space.new)
+    ensures step { InStep (list_seen (frames_of space.new)) (summaries_of space.new)
         (capacity_in space.new) }
 {
     match space.row_at(Place { page, slot: 0 })? {
@@ -133,7 +134,7 @@ fn page_at(alloc: Global, number: u8, position: u8) -> Result<Page, PageFault>
         ];
         bytes[..22].copy_from_slice(&head);
     }
-    Page::read(alloc, 2, u32::from(number), &bytes)
+    Page::read(alloc, TableCopy::second(), u32::from(number), &bytes)
 }
 
 // Two pages.
@@ -142,7 +143,7 @@ fn two_pages(alloc: Global, position: u8) -> Result<ListFrames, PageFault>
     ensures count { IfOk result (λ f. length f.pages.items ≡ 2) }
     ensures reserved { IfOk result (λ f. f.reserved.items ≡ []) }
 {
-    let mut frames = ListFrames::new(alloc, 2);
+    let mut frames = ListFrames::new(alloc, TableCopy::second());
     frames.push(page_at(alloc, 1, position)?)?;
     frames.push(page_at(alloc, 2, position)?)?;
     Ok(frames)

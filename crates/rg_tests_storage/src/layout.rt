@@ -1,5 +1,6 @@
 ghost use Rattle.std.specs.Prelude.{◌≡◌, length, IfOk, OnOk};
 
+use rg_base::copy::TableCopy;
 use rg_base::part::{Part, SlotOp};
 use rg_base::place::Place;
 use rg_base::position::Position;
@@ -60,7 +61,7 @@ fn two_pages(alloc: Global) -> Result<ListFrames, Fail>
     ensures pages { IfOk result (λ frames. length frames.pages.items ≡ 2) }
     ensures reserved { IfOk result (λ frames. length frames.reserved.items ≡ 0) }
 {
-    let mut frames = ListFrames::new(alloc, 1);
+    let mut frames = ListFrames::new(alloc, TableCopy::first());
     frames.reserve_page()?;
     frames.reserve_page()?;
     frames.add_page();
@@ -158,7 +159,7 @@ fn lays_out_two_pages(rt: HostRuntime) -> Result<(), Fail> {
 #[test]
 fn lays_out_no_pages(rt: HostRuntime) -> Result<(), Fail> {
     let alloc = rt.alloc();
-    let mut space = match Space::new(alloc, ListFrames::new(alloc, 1), 2) {
+    let mut space = match Space::new(alloc, ListFrames::new(alloc, TableCopy::first()), 2) {
         Ok(space) => space,
         Err((_, fault)) => return Err(fault.into()),
     };

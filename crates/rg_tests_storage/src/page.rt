@@ -2,6 +2,7 @@ ghost use Rattle.std.specs.Prelude.{◌≤◌, ◌+◌, length};
 
 mod bytes;
 
+use rg_base::copy::TableCopy;
 use rg_base::part::{Part, SlotOp};
 use rg_base::place::Place;
 use rg_base::position::Position;
@@ -119,7 +120,7 @@ fn sets_slots(rt: HostRuntime) -> Result<(), Fail> {
     let far = Place { page: 2, slot: 5 };
     let home = Place { page: 3, slot: 1 };
     let (row_29, row_40) = (row(rt.alloc(), 1, 3)?, row(rt.alloc(), 2, 14)?);
-    let mut page = Page::new(rt.alloc(), 1, 9)?;
+    let mut page = Page::new(rt.alloc(), TableCopy::first(), 9)?;
     let pointer = SlotOp::Pointer {
         capacity: 30,
         other: far,
@@ -199,7 +200,10 @@ fn sets_slots(rt: HostRuntime) -> Result<(), Fail> {
         assert_eq!(rt; got.as_str(), *want, "step {i}");
         assert_eq!(rt; page.position(), Position(100 + i as u64), "step {i}");
     }
-    assert_eq!(rt; (page.copy(), page.number(), page.free()), (1, 9, 4064));
+    assert_eq!(rt;
+        (page.copy(), page.number(), page.free()),
+        (TableCopy::first(), 9, 4064)
+    );
     Ok(())
 }
 
@@ -207,7 +211,7 @@ fn sets_slots(rt: HostRuntime) -> Result<(), Fail> {
 fn refuses_parts(rt: HostRuntime) -> Result<(), Fail> {
     let other = Place { page: 1, slot: 1 };
     let row_29 = row(rt.alloc(), 1, 3)?;
-    let mut page = Page::new(rt.alloc(), 2, 9)?;
+    let mut page = Page::new(rt.alloc(), TableCopy::second(), 9)?;
     assert_eq!(rt;
         set(&mut page, 0, SlotOp::Row { capacity: 29 }, Some(&row_29), 1),
         Ok(())
@@ -262,7 +266,7 @@ fn refuses_parts(rt: HostRuntime) -> Result<(), Fail> {
 #[test]
 fn fills_to_the_byte(rt: HostRuntime) -> Result<(), Fail> {
     let longest = row(rt.alloc(), 1, 800)?;
-    let mut page = Page::new(rt.alloc(), 1, 1)?;
+    let mut page = Page::new(rt.alloc(), TableCopy::first(), 1)?;
     for slot in 0..4 {
         let answer = set(
             &mut page,
@@ -295,7 +299,7 @@ fn fills_to_the_byte(rt: HostRuntime) -> Result<(), Fail> {
 
 #[test]
 fn has_225_slots(rt: HostRuntime) -> Result<(), Fail> {
-    let mut page = Page::new(rt.alloc(), 1, 1)?;
+    let mut page = Page::new(rt.alloc(), TableCopy::first(), 1)?;
     for (slot, capacity, want, free) in [
         (225, 0, Err(PartFault::Unfit), 4064),
         (224, 15, Err(PartFault::Unfit), 4064),
@@ -323,7 +327,7 @@ fn has_225_slots(rt: HostRuntime) -> Result<(), Fail> {
 
 #[test]
 fn keeps_rows_apart(rt: HostRuntime) -> Result<(), Fail> {
-    let mut page = Page::new(rt.alloc(), 1, 1)?;
+    let mut page = Page::new(rt.alloc(), TableCopy::first(), 1)?;
     // The lengths of the texts that lie in slots 0 to 7, and by which step.
     let mut plain: [(u64, u16); 8] = [(0, 0); 8];
     for i in 0..8 {
@@ -374,7 +378,7 @@ fn keeps_rows_apart(rt: HostRuntime) -> Result<(), Fail> {
 fn offers_room(rt: HostRuntime) -> Result<(), Fail> {
     let row_29 = row(rt.alloc(), 1, 3)?;
     let other = Place { page: 4, slot: 4 };
-    let mut page = Page::new(rt.alloc(), 1, 1)?;
+    let mut page = Page::new(rt.alloc(), TableCopy::first(), 1)?;
     for (slot, op, owner) in [
         (0, SlotOp::Row { capacity: 100 }, 9),
         (1, SlotOp::DeadRow { capacity: 200 }, 1),
@@ -456,15 +460,15 @@ fn keeps_pages<F: Frames>(rt: &impl Abort, frames: &mut F, row: &Row) -> Result<
 #[test]
 fn lists_pages(rt: HostRuntime) -> Result<(), Fail> {
     let row_29 = row(rt.alloc(), 5, 3)?;
-    let mut frames = ListFrames::new(rt.alloc(), 2);
+    let mut frames = ListFrames::new(rt.alloc(), TableCopy::second());
     assert_eq!(rt; frames.count(), 0);
-    frames.push(Page::new(rt.alloc(), 2, 1)?)?;
+    frames.push(Page::new(rt.alloc(), TableCopy::second(), 1)?)?;
     keeps_pages(&rt, &mut frames, &row_29)?;
     assert_eq!(rt; frames.count(), 3);
     for (number, want) in [(1, ""), (2, ""), (3, "Free, Row 40 (29)")] {
         assert!(rt; 1 <= number && number <= frames.count());
         let page = frames.with_page(number)?;
-        assert_eq!(rt; (page.copy(), page.number()), (2, number));
+        assert_eq!(rt; (page.copy(), page.number()), (TableCopy::second(), number));
         let got = picture(rt.alloc(), page)?;
         assert_eq!(rt; got.as_str(), want, "page {number}");
         assert_eq!(rt; page.position().0, if number == 3 { 6 } else { 0 });

@@ -1,6 +1,7 @@
 ghost use Rattle.std.specs.Prelude.{◌≡◌, true, length, IfOk, OnOk};
 ghost use Rattle.rg_undo.specs.Undoing.{AreChanges, is_change};
 
+use rg_base::copy::TableCopy;
 use rg_base::map::NumberMap;
 use rg_base::part::{Part, Parts, SlotOp};
 use rg_base::place::Place;
@@ -94,7 +95,7 @@ fn three_pages(alloc: Global) -> Result<ListFrames, Fail>
     ensures pages { IfOk result (λ frames. length frames.pages.items ≡ 3) }
     ensures reserved { IfOk result (λ frames. length frames.reserved.items ≡ 0) }
 {
-    let mut frames = ListFrames::new(alloc, 1);
+    let mut frames = ListFrames::new(alloc, TableCopy::first());
     frames.reserve_page()?;
     frames.reserve_page()?;
     frames.reserve_page()?;

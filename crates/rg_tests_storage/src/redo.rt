@@ -1,8 +1,9 @@
 ghost use Rattle.std.specs.Prelude.{IsTrue, length};
 ghost use Rattle.std.specs.List.{AllByRecursion};
-ghost use Rattle.rg_space.specs.Space.{InStep, frames_of, index_of, capacity_in};
+ghost use Rattle.rg_space.specs.Space.{InStep, frames_of, summaries_of, capacity_in};
 ghost use Rattle.rg_redo.specs.Redo.{CanRedo};
 
+use rg_base::copy::TableCopy;
 use rg_base::part::{Part, Parts, SlotOp};
 use rg_base::place::Place;
 use rg_base::position::Position;
@@ -100,9 +101,9 @@ fn all_can<F: Frames>(space: &Space<F>, records: &[Record], forced: Position) ->
 
 // Redoes a log whose pages are there.
 fn redo<F: Frames>(rt: &impl Abort, space: &mut Space<F>, log: &Log) -> Result<(), RedoFault>
-    requires step { InStep (F.seen (frames_of space.old)) (index_of space.old)
+    requires step { InStep (F.seen (frames_of space.old)) (summaries_of space.old)
         (capacity_in space.old) }
-    ensures step { InStep (F.seen (frames_of space.new)) (index_of space.new)
+    ensures step { InStep (F.seen (frames_of space.new)) (summaries_of space.new)
         (capacity_in space.new) }
 {
     space.let_go();
@@ -132,9 +133,9 @@ fn unfit(position: u64) -> Result<(), RedoFault> {
 }
 
 fn key_at<F: Frames>(rt: &impl Abort, space: &mut Space<F>, page: u32) -> Result<u64, Fail>
-    requires step { InStep (F.seen (frames_of space.old)) (index_of space.old)
+    requires step { InStep (F.seen (frames_of space.old)) (summaries_of space.old)
         (capacity_in space.old) }
-    ensures step { InStep (F.seen (frames_of space.new)) (index_of space.new)
+    ensures step { InStep (F.seen (frames_of space.new)) (summaries_of space.new)
         (capacity_in space.new) }
 {
     space.let_go();
@@ -151,7 +152,7 @@ fn expect_case<F: Frames>(
     space: &mut Space<F>,
     case: &Case,
 ) -> Result<(), Fail>
-    requires step { InStep (F.seen (frames_of space.old)) (index_of space.old)
+    requires step { InStep (F.seen (frames_of space.old)) (summaries_of space.old)
         (capacity_in space.old) }
 {
     let log = log_of(rt, alloc, case.steps)?;
@@ -202,9 +203,9 @@ fn redoes_logs(rt: HostRuntime) -> Result<(), Fail> {
         },
     ];
     for case in cases.iter() {
-        let mut frames = ListFrames::new(rt.alloc(), 1);
-        frames.push(Page::new(rt.alloc(), 1, 1)?)?;
-        let page = Page::new(rt.alloc(), 1, 2)?;
+        let mut frames = ListFrames::new(rt.alloc(), TableCopy::first());
+        frames.push(Page::new(rt.alloc(), TableCopy::first(), 1)?)?;
+        let page = Page::new(rt.alloc(), TableCopy::first(), 2)?;
         assert!(rt; page.number() == 2);
         frames.push(page)?;
         let mut space = match Space::new(rt.alloc(), frames, 2) {

@@ -1,7 +1,8 @@
 ghost use Rattle.std.specs.Prelude.{◌≡◌, ◌≤◌, ◌+◌};
 ghost use Rattle.rg_space.specs.Applied.{AllHeld};
-ghost use Rattle.rg_space.specs.Space.{InStep, frames_of, index_of, capacity_in, undos_in};
+ghost use Rattle.rg_space.specs.Space.{InStep, frames_of, summaries_of, capacity_in, undos_in};
 
+use rg_base::copy::TableCopy;
 use rg_base::part::{Part, Parts, SlotOp};
 use rg_base::place::Place;
 use rg_base::position::Position;
@@ -16,9 +17,9 @@ use rg_page::page::Page;
 use rg_page::summary::Summary;
 use rg_record::record::{Kind, Record};
 use rg_space::fault::{RedoFault, SpaceFault};
-use rg_space::index::Index;
 use rg_space::moves::{Moves, PartsRoom};
 use rg_space::space::Space;
+use rg_space::summaries::Summaries;
 use std::alloc::Global;
 use std::process::Abort;
 use std::test::Fail;
@@ -59,27 +60,31 @@ fn summary(rt: &impl Abort, alloc: Global, slots: &[(SlotOp, u32)]) -> Result<Su
     Ok(summary)
 }
 
-fn index(rt: &impl Abort, alloc: Global, pages: &[&[(SlotOp, u32)]]) -> Result<Index, Fail> {
-    let mut index = Index::new(alloc);
+fn summaries(
+    rt: &impl Abort,
+    alloc: Global,
+    pages: &[&[(SlotOp, u32)]],
+) -> Result<Summaries, Fail> {
+    let mut summaries = Summaries::new(alloc);
     for slots in pages {
-        assert!(rt; index.len() < 5 && index.room() == 0);
-        index.push(alloc, summary(rt, alloc, slots)?)?;
+        assert!(rt; summaries.len() < 5 && summaries.room() == 0);
+        summaries.push(alloc, summary(rt, alloc, slots)?)?;
     }
-    Ok(index)
+    Ok(summaries)
 }
 
 // Does to the summaries what parts say, in a record of this transaction.
-fn carry_out(rt: &impl Abort, index: &mut Index, parts: &[Part], tran: u32) {
+fn carry_out(rt: &impl Abort, summaries: &mut Summaries, parts: &[Part], tran: u32) {
     for part in parts {
         let header = Header::of(part.op, Tran(tran));
         let at = place(part.page, part.slot);
-        assert!(rt; 1 <= at.page && at.page <= index.len());
+        assert!(rt; 1 <= at.page && at.page <= summaries.len());
         assert!(rt;
-            index
+            summaries
                 .page(at.page)
                 .is_some_and(|page| page.fits(at.slot, &header))
         );
-        index.set(at, header);
+        summaries.set(at, header);
     }
 }
 
@@ -128,7 +133,7 @@ fn moves_text(alloc: Global, moves: &Moves) -> Result<String, Fail> {
 
 fn change_text(
     alloc: Global,
-    index: &Index,
+    summaries: &Summaries,
     live: &[Tran],
     other: Option<Place>,
     b: u16,
@@ -137,16 +142,16 @@ fn change_text(
     requires some { 1 ≤ b }
     requires size { b ≤ 826 }
 {
-    match index.change(alloc, live, HOME, other, b, capacity)? {
+    match summaries.change(alloc, live, HOME, other, b, capacity)? {
         None => Ok(format!(in alloc; "full")?),
         Some(moves) => moves_text(alloc, &moves),
     }
 }
 
 // Pages 1 and 2 have 122 and 4 bytes free, and no dead areas. Slot 0 of page 2 is an Over area.
-fn two_pages(rt: &impl Abort, alloc: Global) -> Result<Index, Fail> {
+fn two_pages(rt: &impl Abort, alloc: Global) -> Result<Summaries, Fail> {
     let long = (row(826), 0);
-    index(
+    summaries(
         rt,
         alloc,
         &[
@@ -157,9 +162,9 @@ fn two_pages(rt: &impl Abort, alloc: Global) -> Result<Index, Fail> {
 }
 
 // Page 1 has 204 bytes free, a dead area of 100 bytes by 7, and one of 300 bytes by 8 at its end.
-fn dead_page(rt: &impl Abort, alloc: Global) -> Result<Index, Fail> {
+fn dead_page(rt: &impl Abort, alloc: Global) -> Result<Summaries, Fail> {
     let long = (row(826), 0);
-    index(
+    summaries(
         rt,
         alloc,
         &[&[
@@ -176,7 +181,7 @@ fn dead_page(rt: &impl Abort, alloc: Global) -> Result<Index, Fail> {
 
 #[test]
 fn changes_rows(rt: HostRuntime) -> Result<(), Fail> {
-    let index = two_pages(&rt, rt.alloc())?;
+    let summaries = two_pages(&rt, rt.alloc())?;
     let over = Some(place(2, 0));
     for (other, b, capacity, want) in [
         (None, 26, 2, "1.0 Row 30"),
@@ -199,7 +204,7 @@ fn changes_rows(rt: HostRuntime) -> Result<(), Fail> {
         (None, 826, 3, "1.0 Pointer 30 to 3.0, 3.0 Over 826 of 1.0"),
     ] {
         assert!(rt; 1 <= b && b <= 826);
-        let got = change_text(rt.alloc(), &index, &[], other, b, capacity)?;
+        let got = change_text(rt.alloc(), &summaries, &[], other, b, capacity)?;
         assert_eq!(rt; got.as_str(), want, "{b} bytes");
     }
     Ok(())
@@ -207,7 +212,7 @@ fn changes_rows(rt: HostRuntime) -> Result<(), Fail> {
 
 #[test]
 fn purges_for_a_change(rt: HostRuntime) -> Result<(), Fail> {
-    let index = dead_page(&rt, rt.alloc())?;
+    let summaries = dead_page(&rt, rt.alloc())?;
     for (live, b, want) in [
         ([Tran(1), Tran(2)], 234, "1.0 Row 234"),
         ([Tran(1), Tran(2)], 235, "1.1 Free, 1.6 Free; 1.0 Row 235"),
@@ -232,7 +237,7 @@ fn purges_for_a_change(rt: HostRuntime) -> Result<(), Fail> {
         ),
     ] {
         assert!(rt; 1 <= b && b <= 826);
-        let got = change_text(rt.alloc(), &index, &live, None, b, 2)?;
+        let got = change_text(rt.alloc(), &summaries, &live, None, b, 2)?;
         assert_eq!(rt; got.as_str(), want, "{b} bytes, live {live:?}");
     }
     Ok(())
@@ -240,7 +245,7 @@ fn purges_for_a_change(rt: HostRuntime) -> Result<(), Fail> {
 
 #[test]
 fn puts_rows(rt: HostRuntime) -> Result<(), Fail> {
-    let index = dead_page(&rt, rt.alloc())?;
+    let summaries = dead_page(&rt, rt.alloc())?;
     for (live, b, capacity, want) in [
         ([Tran(1), Tran(2)], 186, 1, "1.7 Row 186"),
         (
@@ -266,7 +271,7 @@ fn puts_rows(rt: HostRuntime) -> Result<(), Fail> {
         ([Tran(8), Tran(7)], 187, 2, "2.0 Row 187"),
     ] {
         assert!(rt; 1 <= b && b <= 826);
-        let got = match index.put(rt.alloc(), &live, b, capacity)? {
+        let got = match summaries.put(rt.alloc(), &live, b, capacity)? {
             None => format!(in rt.alloc(); "full")?,
             Some((home, moves)) => {
                 let last = moves.parts.as_slice().last().copied().ok_or("no part")?;
@@ -285,7 +290,7 @@ fn puts_rows(rt: HostRuntime) -> Result<(), Fail> {
 
 #[test]
 fn drops_rows(rt: HostRuntime) -> Result<(), Fail> {
-    let index = two_pages(&rt, rt.alloc())?;
+    let summaries = two_pages(&rt, rt.alloc())?;
     let over = place(2, 0);
     for (home, other, want) in [
         (HOME, None, "1.0 DeadRow 30"),
@@ -301,11 +306,11 @@ fn drops_rows(rt: HostRuntime) -> Result<(), Fail> {
             "2.5 DeadPointer 448 to 1.0, 1.0 DeadOver 30 of 2.5",
         ),
     ] {
-        let parts = index.drop_row(PartsRoom::new(rt.alloc())?, home, other);
+        let parts = summaries.drop_row(PartsRoom::new(rt.alloc())?, home, other);
         let got = parts_text(rt.alloc(), parts.as_slice())?;
         assert_eq!(rt; got.as_str(), want);
         // The undoing of an insert does the same.
-        let undone = index.undo(PartsRoom::new(rt.alloc())?, home, None, None, other);
+        let undone = summaries.undo(PartsRoom::new(rt.alloc())?, home, None, None, other);
         let got = parts_text(rt.alloc(), undone.as_slice())?;
         assert_eq!(rt; got.as_str(), want);
     }
@@ -314,7 +319,7 @@ fn drops_rows(rt: HostRuntime) -> Result<(), Fail> {
 
 #[test]
 fn undoes_changes(rt: HostRuntime) -> Result<(), Fail> {
-    let index = two_pages(&rt, rt.alloc())?;
+    let summaries = two_pages(&rt, rt.alloc())?;
     let (first, second) = (Some(place(2, 0)), Some(place(2, 5)));
     for (before, over, other, want) in [
         (26, None, None, "1.0 Row 30"),
@@ -343,7 +348,7 @@ fn undoes_changes(rt: HostRuntime) -> Result<(), Fail> {
         ),
         (31, None, None, ""),
     ] {
-        let parts = index.undo(PartsRoom::new(rt.alloc())?, HOME, Some(before), over, other);
+        let parts = summaries.undo(PartsRoom::new(rt.alloc())?, HOME, Some(before), over, other);
         let got = parts_text(rt.alloc(), parts.as_slice())?;
         assert_eq!(rt; got.as_str(), want, "{before} bytes");
     }
@@ -360,7 +365,7 @@ fn goes_back_to_its_over_area(rt: HostRuntime) -> Result<(), Fail> {
         capacity: 27,
         other: place(2, 0),
     };
-    let mut index = index(
+    let mut summaries = summaries(
         &rt,
         rt.alloc(),
         &[
@@ -369,7 +374,7 @@ fn goes_back_to_its_over_area(rt: HostRuntime) -> Result<(), Fail> {
         ],
     )?;
     let (q, live) = (Some(place(2, 0)), [Tran(5)]);
-    let got = change_text(rt.alloc(), &index, &live, q, 726, 2)?;
+    let got = change_text(rt.alloc(), &summaries, &live, q, 726, 2)?;
     assert_eq!(rt; got.as_str(), "2.0 Over 826 of 1.0");
 
     let gone = Part {
@@ -377,8 +382,8 @@ fn goes_back_to_its_over_area(rt: HostRuntime) -> Result<(), Fail> {
         slot: 4,
         op: dead(826),
     };
-    carry_out(&rt, &mut index, &[gone], 9);
-    let moves = index
+    carry_out(&rt, &mut summaries, &[gone], 9);
+    let moves = summaries
         .change(rt.alloc(), &live, HOME, q, 776, 2)?
         .ok_or("full")?;
     let got = moves_text(rt.alloc(), &moves)?;
@@ -386,45 +391,45 @@ fn goes_back_to_its_over_area(rt: HostRuntime) -> Result<(), Fail> {
         got.as_str(),
         "1.4 Free; 1.0 Row 776, 2.0 DeadOver 826 of 1.0"
     );
-    carry_out(&rt, &mut index, moves.purge.as_slice(), 5);
-    carry_out(&rt, &mut index, moves.parts.as_slice(), 5);
+    carry_out(&rt, &mut summaries, moves.purge.as_slice(), 5);
+    carry_out(&rt, &mut summaries, moves.parts.as_slice(), 5);
 
-    let second = index.undo(PartsRoom::new(rt.alloc())?, HOME, Some(726), q, None);
+    let second = summaries.undo(PartsRoom::new(rt.alloc())?, HOME, Some(726), q, None);
     let got = parts_text(rt.alloc(), second.as_slice())?;
     assert_eq!(rt; got.as_str(), "1.0 Row 776");
-    carry_out(&rt, &mut index, second.as_slice(), 5);
-    let first = index.undo(PartsRoom::new(rt.alloc())?, HOME, Some(826), q, None);
+    carry_out(&rt, &mut summaries, second.as_slice(), 5);
+    let first = summaries.undo(PartsRoom::new(rt.alloc())?, HOME, Some(826), q, None);
     let got = parts_text(rt.alloc(), first.as_slice())?;
     assert_eq!(rt; got.as_str(), "1.0 Pointer 776 to 2.0, 2.0 Over 826 of 1.0");
     Ok(())
 }
 
 // The first page that admits, found by looking at each.
-fn walk(index: &Index, live: &[Tran], b: u16) -> u32
+fn walk(summaries: &Summaries, live: &[Tran], b: u16) -> u32
     requires some { 1 ≤ b }
     requires size { b ≤ 826 }
 {
-    for i in 0..index.len() {
-        if let Some(page) = index.page(i.saturating_add(1)) {
+    for i in 0..summaries.len() {
+        if let Some(page) = summaries.page(i.saturating_add(1)) {
             if page.admits(live, b) {
                 return i;
             }
         }
     }
-    index.len()
+    summaries.len()
 }
 
 // Page k, counted from 0, has k bytes that no slot takes, so a new slot of b bytes needs page b +
 // 18.
 #[test]
 fn finds_the_first_of_1000_pages(rt: HostRuntime) -> Result<(), Fail> {
-    let mut index = Index::new(rt.alloc());
+    let mut summaries = Summaries::new(rt.alloc());
     for k in 0..1000u16 {
         let slots = [(row(4046 - k), 0)];
-        assert!(rt; index.len() < 1000 && index.room() == 0);
-        index.push(rt.alloc(), summary(&rt, rt.alloc(), &slots)?)?;
+        assert!(rt; summaries.len() < 1000 && summaries.room() == 0);
+        summaries.push(rt.alloc(), summary(&rt, rt.alloc(), &slots)?)?;
     }
-    assert_eq!(rt; index.len(), 1000);
+    assert_eq!(rt; summaries.len(), 1000);
     for (page, capacity, owner, b, want) in [
         (1, 4046, 0, 26, 44),
         (1, 4046, 0, 826, 844),
@@ -448,9 +453,9 @@ fn finds_the_first_of_1000_pages(rt: HostRuntime) -> Result<(), Fail> {
             dead(capacity)
         };
         let part = Part { page, slot: 0, op };
-        carry_out(&rt, &mut index, &[part], owner);
-        assert_eq!(rt; index.first(&[Tran(3)], b), want, "{b} bytes");
-        assert_eq!(rt; walk(&index, &[Tran(3)], b), want, "{b} bytes");
+        carry_out(&rt, &mut summaries, &[part], owner);
+        assert_eq!(rt; summaries.first(&[Tran(3)], b), want, "{b} bytes");
+        assert_eq!(rt; walk(&summaries, &[Tran(3)], b), want, "{b} bytes");
     }
     Ok(())
 }
@@ -469,11 +474,11 @@ fn letters(alloc: Global, key: u64, count: u16) -> Result<Row, Fail> {
 
 // Carries a plan out.
 fn carry<F: Frames>(space: &mut Space<F>, plan: &Plan, after: Option<&Row>, position: u64)
-    requires step { InStep (F.seen (frames_of space.old)) (index_of space.old)
+    requires step { InStep (F.seen (frames_of space.old)) (summaries_of space.old)
         (capacity_in space.old) }
     requires purge { AllHeld (F.seen (frames_of space.old)) plan.now.purge }
     requires parts { AllHeld (F.seen (frames_of space.old)) plan.now.parts }
-    ensures step { InStep (F.seen (frames_of space.new)) (index_of space.new)
+    ensures step { InStep (F.seen (frames_of space.new)) (summaries_of space.new)
         (capacity_in space.new) }
     ensures spare { (F.seen (frames_of space.old)).spare ≤ (F.seen (frames_of space.new)).spare }
     ensures undos { undos_in space.new ≡ undos_in space.old }
@@ -489,9 +494,9 @@ fn put<F: Frames>(
     live: &[Tran],
 ) -> Result<Result<Place, SpaceFault>, Fail>
     requires spare { 5 ≤ (F.seen (frames_of space.old)).spare }
-    requires step { InStep (F.seen (frames_of space.old)) (index_of space.old)
+    requires step { InStep (F.seen (frames_of space.old)) (summaries_of space.old)
         (capacity_in space.old) }
-    ensures step { InStep (F.seen (frames_of space.new)) (index_of space.new)
+    ensures step { InStep (F.seen (frames_of space.new)) (summaries_of space.new)
         (capacity_in space.new) }
     ensures spare { (F.seen (frames_of space.old)).spare
         ≤ (F.seen (frames_of space.new)).spare + 5 }
@@ -509,9 +514,9 @@ fn put<F: Frames>(
 // The key of the row whose home is at this place, and the length of its text.
 fn shown<F: Frames>(space: &mut Space<F>, home: Place) -> Result<Option<(u64, usize)>, Fail>
     requires spare { 5 ≤ (F.seen (frames_of space.old)).spare }
-    requires step { InStep (F.seen (frames_of space.old)) (index_of space.old)
+    requires step { InStep (F.seen (frames_of space.old)) (summaries_of space.old)
         (capacity_in space.old) }
-    ensures step { InStep (F.seen (frames_of space.new)) (index_of space.new)
+    ensures step { InStep (F.seen (frames_of space.new)) (summaries_of space.new)
         (capacity_in space.new) }
     ensures spare { (F.seen (frames_of space.old)).spare
         ≤ (F.seen (frames_of space.new)).spare + 5 }
@@ -533,9 +538,9 @@ fn changes_and_undoes<F: Frames>(
 ) -> Result<(), Fail>
     requires spare { 50 ≤ (F.seen (frames_of space.old)).spare }
     requires undos { 2 ≤ undos_in space.old }
-    requires step { InStep (F.seen (frames_of space.old)) (index_of space.old)
+    requires step { InStep (F.seen (frames_of space.old)) (summaries_of space.old)
         (capacity_in space.old) }
-    ensures step { InStep (F.seen (frames_of space.new)) (index_of space.new)
+    ensures step { InStep (F.seen (frames_of space.new)) (summaries_of space.new)
         (capacity_in space.new) }
 {
     let plan = space.plan_change(home, after, &[])?;
@@ -557,7 +562,7 @@ fn changes_and_undoes<F: Frames>(
 // area that it left there is purged only for a put that finds its owner ended.
 #[test]
 fn plans_over_frames(rt: HostRuntime) -> Result<(), Fail> {
-    let frames = ListFrames::new(rt.alloc(), 1);
+    let frames = ListFrames::new(rt.alloc(), TableCopy::first());
     let mut space = match Space::new(rt.alloc(), frames, 2) {
         Ok(space) => space,
         Err((_, fault)) => return Err(fault.into()),
@@ -603,9 +608,9 @@ fn redo_one<F: Frames>(
     space: &mut Space<F>,
     entry: &Record,
 ) -> Result<(), RedoFault>
-    requires step { InStep (F.seen (frames_of space.old)) (index_of space.old)
+    requires step { InStep (F.seen (frames_of space.old)) (summaries_of space.old)
         (capacity_in space.old) }
-    ensures step { InStep (F.seen (frames_of space.new)) (index_of space.new)
+    ensures step { InStep (F.seen (frames_of space.new)) (summaries_of space.new)
         (capacity_in space.new) }
 {
     space.let_go();
@@ -619,9 +624,9 @@ fn redo_one<F: Frames>(
 // Page 2 has the second record already. The first one is redone on page 1 alone, and the second
 // there too.
 fn redo_each<F: Frames>(rt: &impl Abort, alloc: Global, space: &mut Space<F>) -> Result<(), Fail>
-    requires step { InStep (F.seen (frames_of space.old)) (index_of space.old)
+    requires step { InStep (F.seen (frames_of space.old)) (summaries_of space.old)
         (capacity_in space.old) }
-    ensures step { InStep (F.seen (frames_of space.new)) (index_of space.new)
+    ensures step { InStep (F.seen (frames_of space.new)) (summaries_of space.new)
         (capacity_in space.new) }
 {
     let at = place(2, 0);
@@ -700,7 +705,7 @@ fn redo_each<F: Frames>(rt: &impl Abort, alloc: Global, space: &mut Space<F>) ->
 #[test]
 fn redoes_records(rt: HostRuntime) -> Result<(), Fail> {
     let moved = letters(rt.alloc(), 9, 250)?;
-    let mut page = Page::new(rt.alloc(), 1, 2)?;
+    let mut page = Page::new(rt.alloc(), TableCopy::first(), 2)?;
     let part = Part {
         page: 2,
         slot: 0,
@@ -710,8 +715,8 @@ fn redoes_records(rt: HostRuntime) -> Result<(), Fail> {
         page.apply(&part, Tran(7), Some(&moved), Position(2)),
         Ok(())
     );
-    let mut frames = ListFrames::new(rt.alloc(), 1);
-    frames.push(Page::new(rt.alloc(), 1, 1)?)?;
+    let mut frames = ListFrames::new(rt.alloc(), TableCopy::first());
+    frames.push(Page::new(rt.alloc(), TableCopy::first(), 1)?)?;
     assert!(rt; page.number() == 2);
     frames.push(page)?;
     let mut space = match Space::new(rt.alloc(), frames, 2) {

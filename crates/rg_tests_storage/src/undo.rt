@@ -1,8 +1,9 @@
 ghost use Rattle.std.specs.Prelude.{◌≡◌, ◌≤◌, ◌<◌, ◌+◌, length, IfOk};
 ghost use Rattle.rg_space.specs.Applied.{AllHeld};
-ghost use Rattle.rg_space.specs.Space.{InStep, frames_of, index_of, capacity_in, undos_in};
+ghost use Rattle.rg_space.specs.Space.{InStep, frames_of, summaries_of, capacity_in, undos_in};
 ghost use Rattle.rg_undo.specs.Undoing.{AreChanges};
 
+use rg_base::copy::TableCopy;
 use rg_base::part::SlotOp;
 use rg_base::place::Place;
 use rg_base::position::Position;
@@ -41,11 +42,11 @@ fn carry<F: Frames>(
     after: Option<Row>,
     position: u64,
 ) -> Record
-    requires step { InStep (F.seen (frames_of space.old)) (index_of space.old)
+    requires step { InStep (F.seen (frames_of space.old)) (summaries_of space.old)
         (capacity_in space.old) }
     requires purge { AllHeld (F.seen (frames_of space.old)) plan.purge }
     requires parts { AllHeld (F.seen (frames_of space.old)) plan.parts }
-    ensures step { InStep (F.seen (frames_of space.new)) (index_of space.new)
+    ensures step { InStep (F.seen (frames_of space.new)) (summaries_of space.new)
         (capacity_in space.new) }
 {
     let Plan {
@@ -85,9 +86,9 @@ fn put<F: Frames>(
     row: Row,
     position: u64,
 ) -> Result<Option<Record>, Fail>
-    requires step { InStep (F.seen (frames_of space.old)) (index_of space.old)
+    requires step { InStep (F.seen (frames_of space.old)) (summaries_of space.old)
         (capacity_in space.old) }
-    ensures step { InStep (F.seen (frames_of space.new)) (index_of space.new)
+    ensures step { InStep (F.seen (frames_of space.new)) (summaries_of space.new)
         (capacity_in space.new) }
 {
     space.let_go();
@@ -109,9 +110,9 @@ fn change<F: Frames>(
     row: Row,
     position: u64,
 ) -> Result<Option<Record>, Fail>
-    requires step { InStep (F.seen (frames_of space.old)) (index_of space.old)
+    requires step { InStep (F.seen (frames_of space.old)) (summaries_of space.old)
         (capacity_in space.old) }
-    ensures step { InStep (F.seen (frames_of space.new)) (index_of space.new)
+    ensures step { InStep (F.seen (frames_of space.new)) (summaries_of space.new)
         (capacity_in space.new) }
 {
     space.let_go();
@@ -131,9 +132,9 @@ fn drop_row<F: Frames>(
     home: Place,
     position: u64,
 ) -> Result<Record, Fail>
-    requires step { InStep (F.seen (frames_of space.old)) (index_of space.old)
+    requires step { InStep (F.seen (frames_of space.old)) (summaries_of space.old)
         (capacity_in space.old) }
-    ensures step { InStep (F.seen (frames_of space.new)) (index_of space.new)
+    ensures step { InStep (F.seen (frames_of space.new)) (summaries_of space.new)
         (capacity_in space.new) }
 {
     space.let_go();
@@ -183,10 +184,10 @@ fn roll_back<F: Frames>(
     changes: Vec<Record>,
     position: u64,
 ) -> Result<Vec<Record>, Fail>
-    requires step { InStep (F.seen (frames_of space.old)) (index_of space.old)
+    requires step { InStep (F.seen (frames_of space.old)) (summaries_of space.old)
         (capacity_in space.old) }
     requires changes { AreChanges changes.items }
-    ensures step { InStep (F.seen (frames_of space.new)) (index_of space.new)
+    ensures step { InStep (F.seen (frames_of space.new)) (summaries_of space.new)
         (capacity_in space.new) }
 {
     let mut records = Vec::new(alloc);
@@ -247,9 +248,9 @@ fn compare_page<F: Frames>(
     rows: &[(Place, (u64, u16))],
     k: usize,
 ) -> Result<usize, Fail>
-    requires step { InStep (F.seen (frames_of space.old)) (index_of space.old)
+    requires step { InStep (F.seen (frames_of space.old)) (summaries_of space.old)
         (capacity_in space.old) }
-    ensures step { InStep (F.seen (frames_of space.new)) (index_of space.new)
+    ensures step { InStep (F.seen (frames_of space.new)) (summaries_of space.new)
         (capacity_in space.new) }
 {
     assert!(rt; space.frames().spare() >= 2);
@@ -271,9 +272,9 @@ fn compare<F: Frames>(
     space: &mut Space<F>,
     rows: &[(Place, (u64, u16))],
 ) -> Result<(), Fail>
-    requires step { InStep (F.seen (frames_of space.old)) (index_of space.old)
+    requires step { InStep (F.seen (frames_of space.old)) (summaries_of space.old)
         (capacity_in space.old) }
-    ensures step { InStep (F.seen (frames_of space.new)) (index_of space.new)
+    ensures step { InStep (F.seen (frames_of space.new)) (summaries_of space.new)
         (capacity_in space.new) }
 {
     space.let_go();
@@ -387,9 +388,9 @@ fn play_step<F: Frames>(
     space: &mut Space<F>,
     play: &mut Play,
 ) -> Result<(), Fail>
-    requires step { InStep (F.seen (frames_of space.old)) (index_of space.old)
+    requires step { InStep (F.seen (frames_of space.old)) (summaries_of space.old)
         (capacity_in space.old) }
-    ensures step { InStep (F.seen (frames_of space.new)) (index_of space.new)
+    ensures step { InStep (F.seen (frames_of space.new)) (summaries_of space.new)
         (capacity_in space.new) }
 {
     let at = play.draw(4) as usize;
@@ -436,9 +437,9 @@ fn play_steps<F: Frames>(
     space: &mut Space<F>,
     steps: u32,
 ) -> Result<(), Fail>
-    requires step { InStep (F.seen (frames_of space.old)) (index_of space.old)
+    requires step { InStep (F.seen (frames_of space.old)) (summaries_of space.old)
         (capacity_in space.old) }
-    ensures step { InStep (F.seen (frames_of space.new)) (index_of space.new)
+    ensures step { InStep (F.seen (frames_of space.new)) (summaries_of space.new)
         (capacity_in space.new) }
 {
     let mut play = Play::new(alloc)?;
@@ -451,7 +452,7 @@ fn play_steps<F: Frames>(
 
 #[test]
 fn plays_four_units(rt: HostRuntime) -> Result<(), Fail> {
-    let frames = ListFrames::new(rt.alloc(), 1);
+    let frames = ListFrames::new(rt.alloc(), TableCopy::first());
     let mut space = match Space::new(rt.alloc(), frames, 6) {
         Ok(space) => space,
         Err((_, fault)) => return Err(fault.into()),
@@ -469,9 +470,9 @@ fn move_row<F: Frames>(
     alloc: Global,
     space: &mut Space<F>,
 ) -> Result<Vec<Record>, Fail>
-    requires step { InStep (F.seen (frames_of space.old)) (index_of space.old)
+    requires step { InStep (F.seen (frames_of space.old)) (summaries_of space.old)
         (capacity_in space.old) }
-    ensures step { InStep (F.seen (frames_of space.new)) (index_of space.new)
+    ensures step { InStep (F.seen (frames_of space.new)) (summaries_of space.new)
         (capacity_in space.new) }
     ensures changes { IfOk result (λ changes. AreChanges changes.items) }
 {
@@ -501,7 +502,7 @@ fn text_len(row: Option<&Row>) -> Option<usize> {
 // The home names no place when the first Change is undone, so the area comes from the Change.
 #[test]
 fn goes_back_to_its_over_area(rt: HostRuntime) -> Result<(), Fail> {
-    let frames = ListFrames::new(rt.alloc(), 1);
+    let frames = ListFrames::new(rt.alloc(), TableCopy::first());
     let mut space = match Space::new(rt.alloc(), frames, 2) {
         Ok(space) => space,
         Err((_, fault)) => return Err(fault.into()),

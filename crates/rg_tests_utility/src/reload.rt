@@ -2,6 +2,7 @@ ghost use Rattle.std.specs.Prelude.{◌≤◌, IfOk, length};
 ghost use Rattle.rg_feed.specs.Fold.Lawful.{AreApart};
 
 use rg_base::control::{Deadline, Longlog, Maxro};
+use rg_base::copy::TableCopy;
 use rg_base::homes::Homes;
 use rg_base::no_memory::NoMemory;
 use rg_base::options::{DrainFor, Options};
@@ -86,7 +87,7 @@ fn packed_text(
     requires { length briefs.now ≤ 225 }
 {
     let rows = rows_of(alloc, briefs)?;
-    let mut packer = Packer::new(alloc, 2, rows, options, capacity)?;
+    let mut packer = Packer::new(alloc, TableCopy::second(), rows, options, capacity)?;
     filled_text(alloc, &mut packer)
 }
 
@@ -138,7 +139,7 @@ fn pairs_text(
     requires { length briefs.now ≤ 225 }
 {
     let rows = rows_of(alloc, briefs)?;
-    let mut packer = Packer::new(alloc, 2, rows, options, 9)?;
+    let mut packer = Packer::new(alloc, TableCopy::second(), rows, options, 9)?;
     filled_text(alloc, &mut packer)?;
     match packer.next_page() {
         Ok(None) => {}

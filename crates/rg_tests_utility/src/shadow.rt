@@ -3,6 +3,7 @@ ghost use Rattle.rg_feed.specs.Fold.Lawful.{AreApart};
 ghost use Rattle.rg_shadow.specs.declared.drafts.IndexStage.TheVariants.{Built};
 
 use rg_base::control::{Deadline, Longlog, Maxro};
+use rg_base::copy::TableCopy;
 use rg_base::homes::Homes;
 use rg_base::no_memory::NoMemory;
 use rg_base::options::{DrainFor, Options};
@@ -61,7 +62,7 @@ fn three_rows(alloc: Global) -> Result<Homes, NoMemory>
 
 // They are loaded into a copy of one page, in the order of keys 9, 4 and 5.
 fn loaded(rt: &impl Abort, alloc: Global) -> Result<Shadow, Fail> {
-    let mut packer = Packer::new(alloc, 2, three_rows(alloc)?, &OPTIONS, 1)?;
+    let mut packer = Packer::new(alloc, TableCopy::second(), three_rows(alloc)?, &OPTIONS, 1)?;
     assert!(rt; matches!(packer.next_page(), Ok(Some(_))));
     match packer.next_page() {
         Ok(None) => {}
@@ -129,7 +130,13 @@ fn one_a_page(rt: &impl Abort, alloc: Global) -> Result<Shadow, Fail> {
         pctfree: 99,
         ..OPTIONS
     };
-    let mut packer = Packer::new(alloc, 2, falling_rows(alloc, 200)?, &options, 200)?;
+    let mut packer = Packer::new(
+        alloc,
+        TableCopy::second(),
+        falling_rows(alloc, 200)?,
+        &options,
+        200,
+    )?;
     for _page in 0..200 {
         assert!(rt; matches!(packer.next_page(), Ok(Some(_))));
     }
@@ -269,7 +276,7 @@ fn read_back(rt: &impl Abort, alloc: Global, shadow: &mut Shadow, at: u64) -> Re
     assert!(rt; 1 <= shadow.count());
     let mut bytes = [1; PAGE_SIZE];
     shadow.spell(1, Position(at), &mut bytes);
-    Ok(Page::read(alloc, 2, 1, &bytes)?)
+    Ok(Page::read(alloc, TableCopy::second(), 1, &bytes)?)
 }
 
 #[test]

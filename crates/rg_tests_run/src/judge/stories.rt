@@ -4,6 +4,7 @@ use crate::judge::words::{
     row, said, step, step_as, switched, system, three_rows,
 };
 use rg_base::control::{Alteration, Command, Deadline, Longlog, Maxro};
+use rg_base::copy::TableCopy;
 use rg_base::no_memory::NoMemory;
 use rg_base::options::{DrainFor, Options};
 use rg_base::session::Session;
@@ -41,7 +42,16 @@ fn log(iteration: u64, took: u8, left: u64, verdict: Verdict) -> Event {
     }
 }
 
-fn started(options: Options, copy: u8, pages: u32) -> Entry {
+// The first copy, or the other one.
+fn first_unless(other: bool) -> TableCopy {
+    if other {
+        TableCopy::second()
+    } else {
+        TableCopy::first()
+    }
+}
+
+fn started(options: Options, copy: TableCopy, pages: u32) -> Entry {
     line(Event::Started {
         options,
         copy,
@@ -77,7 +87,7 @@ fn done_or(wrong: bool, other: Reply) -> Reply {
 }
 
 fn opened(wrong: bool) -> Entry {
-    Entry::opened(if wrong { 3 } else { 1 }, 0, 0, 0, 0)
+    Entry::opened(TableCopy::first(), u64::from(wrong), 0, 0, 0)
 }
 
 fn unload(page: u32, rows: u16) -> Entry {
@@ -88,7 +98,7 @@ fn reload(page: u32, rows: u16) -> Entry {
     step(0, Event::Reload { page, rows })
 }
 
-fn switch(old: Side, new: Side, copy: u8) -> Told {
+fn switch(old: Side, new: Side, copy: TableCopy) -> Told {
     tell(step(0, switched(copy, old, new)))
 }
 
@@ -109,7 +119,7 @@ fn clustering_before(alloc: Global, at: usize, wrong: bool) -> Told {
             done_or(wrong, Reply::Held(Session(2))),
         ),
         4 => tell(said(1, Stmt::Commit, done_or(wrong, Reply::NoMemory))),
-        5 => tell(started(options, if wrong { 2 } else { 1 }, 1)),
+        5 => tell(started(options, first_unless(wrong), 1)),
         6 => tell(unload(if wrong { 2 } else { 1 }, 3)),
         _ => tell(reload(1, if wrong { 4 } else { 3 })),
     }
@@ -119,14 +129,17 @@ fn clustering_before(alloc: Global, at: usize, wrong: bool) -> Told {
 fn clustering_switch(alloc: Global, wrong: bool) -> Told {
     let old = old_side(alloc)?;
     if wrong {
-        return switch(old, old_side(alloc)?, 2);
+        return switch(old, old_side(alloc)?, TableCopy::second());
     }
-    switch(old, clustered_side(alloc, false)?, 2)
+    switch(old, clustered_side(alloc, false)?, TableCopy::second())
 }
 
 fn clustering_shown(alloc: Global, wrong: bool) -> Told {
     let side = clustered_side(alloc, wrong)?;
-    tell(system(Event::Layout { copy: 2, side }))
+    tell(system(Event::Layout {
+        copy: TableCopy::second(),
+        side,
+    }))
 }
 
 fn clustering_scan(alloc: Global, wrong: bool) -> Told {
@@ -176,7 +189,7 @@ fn copied(alloc: Global, options: Options, at: usize, wrong: bool) -> Told {
         1 => insert(alloc, 1, (1, 10, 1), done_or(wrong, Reply::Absent)),
         2 => tell(said(1, Stmt::Commit, done_or(wrong, Reply::Drained))),
         4 if wrong => tell(line(Event::Active)),
-        4 => tell(started(options, 1, 1)),
+        4 => tell(started(options, TableCopy::first(), 1)),
         5 => tell(unload(1, if wrong { 226 } else { 1 })),
         6 => tell(reload(1, if wrong { 0 } else { 1 })),
         _ => tell(index_step(at.saturating_sub(7), wrong)),
@@ -275,7 +288,7 @@ fn locks_after(alloc: Global, at: usize, wrong: bool) -> Told {
             pick_reply(wrong, Reply::Device, Reply::Drained),
         )),
         10 => tell(said(1, Stmt::Select(1), pick_reply(wrong, Reply::Down, held))),
-        11 => tell(Entry::opened(1, if wrong { 2 } else { 1 }, 0, 0, 0)),
+        11 => tell(Entry::opened(TableCopy::first(), if wrong { 2 } else { 1 }, 0, 0, 0)),
         12 => found(alloc, 1, wrong),
         _ => Ok(None),
     }
@@ -366,7 +379,7 @@ fn rollback_steps(at: usize, wrong: bool) -> Told {
 
 fn rollback_switch(alloc: Global, wrong: bool) -> Told {
     let old = one_side(alloc)?;
-    switch(old, one_side(alloc)?, if wrong { 1 } else { 2 })
+    switch(old, one_side(alloc)?, first_unless(!wrong))
 }
 
 // Session 1 wrote before the utility started, and rolls back while the drain waits for it. The
@@ -383,9 +396,9 @@ fn rollback(alloc: Global, at: usize, wrong: bool) -> Told {
 fn empty_switch(alloc: Global, wrong: bool) -> Told {
     let old = empty_side(alloc)?;
     if wrong {
-        return switch(old, one_side(alloc)?, 2);
+        return switch(old, one_side(alloc)?, TableCopy::second());
     }
-    switch(old, empty_side(alloc)?, 2)
+    switch(old, empty_side(alloc)?, TableCopy::second())
 }
 
 // A utility over a table without rows.
@@ -407,7 +420,7 @@ fn empty(alloc: Global, at: usize, wrong: bool) -> Told {
     };
     match at {
         0 => tell(opened(wrong)),
-        1 => tell(started(defaults(), if wrong { 2 } else { 1 }, 0)),
+        1 => tell(started(defaults(), first_unless(wrong), 0)),
         2..=7 => tell(index_step(at.saturating_sub(2), wrong)),
         8 => tell(step(0, log(1, 0, 0, drain))),
         9 => tell(step(0, Event::Granted(writers))),
@@ -446,7 +459,7 @@ fn deadline(at: usize, wrong: bool) -> Told {
     let late = Event::Stop(StopReason::Deadline);
     match at {
         0 => tell(opened(wrong)),
-        1 => tell(started(options, if wrong { 2 } else { 1 }, 0)),
+        1 => tell(started(options, first_unless(wrong), 0)),
         2..=7 => tell(index_step(at.saturating_sub(2), wrong)),
         8 => tell(step_as(40, 10, Command::Nothing, log(1, 0, 0, next))),
         9 => tell(step_as(40, 10, alter(wrong), log(2, 0, 0, drain))),

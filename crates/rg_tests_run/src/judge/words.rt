@@ -1,5 +1,6 @@
 // The words in which traces are written.
 use rg_base::control::{Answer, Command, Deadline, Longlog, Maxro};
+use rg_base::copy::TableCopy;
 use rg_base::no_memory::NoMemory;
 use rg_base::options::{DrainFor, Options};
 use rg_base::place::Place;
@@ -183,7 +184,7 @@ pub fn clustered_side(alloc: Global, twice: bool) -> Result<Side, NoMemory> {
 }
 
 /// A switch.
-pub fn switched(copy: u8, old: Side, new: Side) -> Event {
+pub fn switched(copy: TableCopy, old: Side, new: Side) -> Event {
     Event::Switched {
         copy,
         sides: Sides { old, new },

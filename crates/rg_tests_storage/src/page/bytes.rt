@@ -1,4 +1,5 @@
 // The bytes of a page, written and read.
+use rg_base::copy::TableCopy;
 use rg_base::part::{Part, SlotOp};
 use rg_base::place::Place;
 use rg_base::position::Position;
@@ -38,7 +39,7 @@ fn set(page: &mut Page, i: u16, op: SlotOp, row: Option<&Row>) -> bool {
 fn full_page(rt: &impl Abort, alloc: Global) -> Result<Page, Fail> {
     let other = Place { page: 515, slot: 4 };
     let row = row(alloc)?;
-    let mut page = Page::new(alloc, 1, 2)?;
+    let mut page = Page::new(alloc, TableCopy::first(), 2)?;
     for (i, op) in [
         (0, SlotOp::Row { capacity: 31 }),
         (
@@ -118,16 +119,16 @@ fn writes_each_kind(rt: HostRuntime) -> Result<(), Fail> {
 
 #[test]
 fn reads_what_was_written(rt: HostRuntime) -> Result<(), Fail> {
-    let mut late = Page::new(rt.alloc(), 1, 2)?;
+    let mut late = Page::new(rt.alloc(), TableCopy::first(), 2)?;
     assert!(rt; set(&mut late, 0, SlotOp::DeadRow { capacity: 0 }, None));
     assert!(rt; set(&mut late, 0, SlotOp::Free, None));
     for page in [
         full_page(&rt, rt.alloc())?,
         late,
-        Page::new(rt.alloc(), 1, 2)?,
+        Page::new(rt.alloc(), TableCopy::first(), 2)?,
     ] {
         let bytes = written(&page);
-        let Ok(again) = Page::read(rt.alloc(), 1, 2, &bytes) else {
+        let Ok(again) = Page::read(rt.alloc(), TableCopy::first(), 2, &bytes) else {
             assert!(rt; false, "position {}", page.position().0);
             return Ok(());
         };
@@ -135,9 +136,9 @@ fn reads_what_was_written(rt: HostRuntime) -> Result<(), Fail> {
         assert_eq!(rt; again.slot_count(), page.slot_count());
         assert!(rt; written(&again) == bytes, "position {}", page.position().0);
         let blank = page.position() == Position(0);
-        for (copy, number) in [(2, 2), (1, 3)] {
+        for (copy, number) in [(TableCopy::second(), 2), (TableCopy::first(), 3)] {
             let other = Page::read(rt.alloc(), copy, number, &bytes);
-            assert_eq!(rt; other.is_ok(), blank, "page {number} of copy {copy}");
+            assert_eq!(rt; other.is_ok(), blank, "page {number} of {copy:?}");
         }
     }
     Ok(())
@@ -184,14 +185,19 @@ fn refuses_other_bytes(rt: HostRuntime) -> Result<(), Fail> {
         (4095, 33),
     ] {
         let other = with_byte(&bytes, at, byte);
-        let read = Page::read(rt.alloc(), 1, 2, &other);
+        let read = Page::read(rt.alloc(), TableCopy::first(), 2, &other);
         assert!(rt;
             matches!(read, Err(PageFault::NotAPage)),
             "byte {at} is {byte}"
         );
     }
     // The position alone may be another.
-    let read = Page::read(rt.alloc(), 1, 2, &with_byte(&bytes, 19, 10));
+    let read = Page::read(
+        rt.alloc(),
+        TableCopy::first(),
+        2,
+        &with_byte(&bytes, 19, 10),
+    );
     assert!(rt; read.is_ok());
     Ok(())
 }
@@ -199,7 +205,7 @@ fn refuses_other_bytes(rt: HostRuntime) -> Result<(), Fail> {
 #[test]
 fn refuses_a_free_slot_at_the_end(rt: HostRuntime) -> Result<(), Fail> {
     let mut bytes = [0; 4096];
-    let page = Page::new(rt.alloc(), 1, 2)?;
+    let page = Page::new(rt.alloc(), TableCopy::first(), 2)?;
     for (count, want) in [(0, true), (1, false)] {
         let (front, _) = bytes.split_at_mut(22);
         front.copy_from_slice(&[
@@ -227,7 +233,7 @@ fn refuses_a_free_slot_at_the_end(rt: HostRuntime) -> Result<(), Fail> {
             32 + 16 * count,
         ]);
         bytes[4095] = 32 * count;
-        let read = Page::read(rt.alloc(), 1, 2, &bytes);
+        let read = Page::read(rt.alloc(), TableCopy::first(), 2, &bytes);
         assert_eq!(rt; read.is_ok(), want, "{count} slots");
     }
     assert_eq!(rt; page.slot_count(), 0);

@@ -7,6 +7,7 @@ ghost use Rattle.rg_shadow.specs.declared.drafts.IndexStage.TheVariants.{Built, 
 ghost use Rattle.rg_translate.specs.Backlog.{SameItems};
 ghost use Rattle.rg_translate.specs.Caught.{Caught, SameCopy};
 
+use rg_base::copy::TableCopy;
 use rg_base::no_memory::NoMemory;
 use rg_base::options::Options;
 use rg_base::which::Which;
@@ -56,7 +57,7 @@ pub fn loaded(
     ensures { IfOk result (λ shadow. Caught shadow inlet.now) }
 {
     let rows = rows_of(alloc, inlet.copies())?;
-    let mut packer = Packer::new(alloc, 2, rows, options, capacity)?;
+    let mut packer = Packer::new(alloc, TableCopy::second(), rows, options, capacity)?;
     fill_all(&mut packer)?;
     let shadow = load(alloc, packer)?;
     Ok(shadow)

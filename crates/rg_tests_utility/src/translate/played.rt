@@ -7,13 +7,14 @@ ghost use Rattle.rg_feed.specs.Fold.Fold.{since_begin};
 ghost use Rattle.rg_feed.specs.Fold.Lawful.{Lawful};
 ghost use Rattle.rg_shadow.specs.Planned.{seen_in};
 ghost use Rattle.rg_shadow.specs.declared.drafts.IndexStage.TheVariants.{Built};
-ghost use Rattle.rg_space.specs.Space.{InStep, capacity_in, index_of};
+ghost use Rattle.rg_space.specs.Space.{InStep, capacity_in, summaries_of};
 ghost use Rattle.rg_translate.specs.Caught.{Caught};
 
 use crate::translate::line::{begun, options_with, receive_last, send_copy};
 use crate::translate::loading::{loaded, make_indexes, take_all};
 use crate::translate::same::is_copy_of;
 use crate::translate::writer::{Table, Writer, put, step};
+use rg_base::copy::TableCopy;
 use rg_base::options::Options;
 use rg_base::place::Place;
 use rg_base::position::Position;
@@ -32,9 +33,9 @@ use std::test::Fail;
 // A table without rows, which may have 24 pages.
 fn empty_table(alloc: Global) -> Result<Table, Fail>
     ensures { IfOk result (λ space.
-        InStep (seen_in space) (index_of space) (capacity_in space)) }
+        InStep (seen_in space) (summaries_of space) (capacity_in space)) }
 {
-    match Space::new(alloc, ListFrames::new(alloc, 1), 24) {
+    match Space::new(alloc, ListFrames::new(alloc, TableCopy::first()), 24) {
         Ok(space) => Ok(space),
         Err((_, fault)) => Err(fault.into()),
     }
@@ -42,8 +43,8 @@ fn empty_table(alloc: Global) -> Result<Table, Fail>
 
 // 300 rows that fill 8 pages. Their positions are 1 to 300.
 fn fill(alloc: Global, space: &mut Table, seed: u64) -> Result<(), Fail>
-    requires { InStep (seen_in space.old) (index_of space.old) (capacity_in space.old) }
-    ensures { InStep (seen_in space.new) (index_of space.new) (capacity_in space.new) }
+    requires { InStep (seen_in space.old) (summaries_of space.old) (capacity_in space.old) }
+    ensures { InStep (seen_in space.new) (summaries_of space.new) (capacity_in space.new) }
 {
     let mut writer = Writer::new(alloc, seed, 0);
     for k in 0..300u64 {
@@ -60,10 +61,10 @@ fn fill(alloc: Global, space: &mut Table, seed: u64) -> Result<(), Fail>
 
 // Copies the next page.
 fn copy_next(space: &mut Table, outlet: &mut FeedOut, copied: u32, last: u64) -> Result<(), Fail>
-    requires step { InStep (seen_in space.old) (index_of space.old) (capacity_in space.old) }
+    requires step { InStep (seen_in space.old) (summaries_of space.old) (capacity_in space.old) }
     requires ordered { Ordered last copied (sent_items outlet.old) }
     requires few { copied < 8 }
-    ensures step { InStep (seen_in space.new) (index_of space.new) (capacity_in space.new) }
+    ensures step { InStep (seen_in space.new) (summaries_of space.new) (capacity_in space.new) }
     ensures ring { outlet.new.ring ≡ outlet.old.ring }
     ensures ordered { OnOk result (Ordered last (copied + 1) (sent_items outlet.new)) }
 {
@@ -95,11 +96,11 @@ fn write_until(
     copied: u32,
     count: usize,
 ) -> Result<(), Fail>
-    requires step { InStep (seen_in space.old) (index_of space.old) (capacity_in space.old) }
+    requires step { InStep (seen_in space.old) (summaries_of space.old) (capacity_in space.old) }
     requires ring { outlet.old.ring ≡ inlet.old.ring }
     requires none { inlet.old.taken ≡ 0 }
     requires ordered { Ordered writer.old.last copied (sent_items outlet.old) }
-    ensures step { InStep (seen_in space.new) (index_of space.new) (capacity_in space.new) }
+    ensures step { InStep (seen_in space.new) (summaries_of space.new) (capacity_in space.new) }
     ensures ring { outlet.new.ring ≡ inlet.new.ring }
     ensures none { inlet.new.taken ≡ 0 }
     ensures ordered { OnOk result (Ordered writer.new.last copied (sent_items outlet.new)) }
@@ -118,8 +119,8 @@ fn write_until(
 
 // Copies all pages, with 222 changes before each and after the last.
 fn copy_all(alloc: Global, space: &mut Table, writer: &mut Writer) -> Result<FeedIn, Fail>
-    requires { InStep (seen_in space.old) (index_of space.old) (capacity_in space.old) }
-    ensures step { InStep (seen_in space.new) (index_of space.new) (capacity_in space.new) }
+    requires { InStep (seen_in space.old) (summaries_of space.old) (capacity_in space.old) }
+    ensures step { InStep (seen_in space.new) (summaries_of space.new) (capacity_in space.new) }
     ensures lawful { IfOk result (λ inlet. Lawful (since_begin inlet.items)) }
     ensures none { IfOk result (λ inlet. inlet.taken ≡ 0) }
 {
@@ -179,7 +180,7 @@ fn is_right(
     options: &Options,
     named: &[Place],
 ) -> Result<bool, Fail>
-    requires step { InStep (seen_in space.old) (index_of space.old) (capacity_in space.old) }
+    requires step { InStep (seen_in space.old) (summaries_of space.old) (capacity_in space.old) }
     requires lawful { Lawful (since_begin inlet.items) }
     requires none { inlet.taken ≡ 0 }
 {
@@ -191,7 +192,7 @@ fn is_right(
 // A table whose rows fill 8 pages.
 fn filled(alloc: Global, seed: u64) -> Result<Table, Fail>
     ensures { IfOk result (λ space.
-        InStep (seen_in space) (index_of space) (capacity_in space)) }
+        InStep (seen_in space) (summaries_of space) (capacity_in space)) }
 {
     let mut space = empty_table(alloc)?;
     fill(alloc, &mut space, seed)?;

@@ -2,7 +2,7 @@
 ghost use Rattle.std.specs.Prelude.{◌≡◌};
 ghost use Rattle.rg_shadow.specs.Planned.{seen_in};
 ghost use Rattle.rg_shadow.specs.declared.drafts.IndexStage.TheVariants.{Built};
-ghost use Rattle.rg_space.specs.Space.{InStep, capacity_in, index_of};
+ghost use Rattle.rg_space.specs.Space.{InStep, capacity_in, summaries_of};
 
 use crate::translate::writer::Table;
 use rg_base::place::Place;
@@ -58,8 +58,8 @@ fn add_pairs(
     page: u32,
     pairs: &mut Vec<Pair>,
 ) -> Result<(), Fail>
-    requires { InStep (seen_in table.old) (index_of table.old) (capacity_in table.old) }
-    ensures { InStep (seen_in table.new) (index_of table.new) (capacity_in table.new) }
+    requires { InStep (seen_in table.old) (summaries_of table.old) (capacity_in table.old) }
+    ensures { InStep (seen_in table.new) (summaries_of table.new) (capacity_in table.new) }
 {
     let homes = table.home_rows(page)?;
     add_homes(alloc, shadow, homes.as_slice(), pairs)
@@ -67,7 +67,7 @@ fn add_pairs(
 
 // The rows of the table with their targets.
 fn pairs_of(alloc: Global, table: &mut Table, shadow: &Shadow) -> Result<Vec<Pair>, Fail>
-    requires { InStep (seen_in table.old) (index_of table.old) (capacity_in table.old) }
+    requires { InStep (seen_in table.old) (summaries_of table.old) (capacity_in table.old) }
 {
     let mut pairs = Vec::new(alloc);
     for before in 0..table.count() {
@@ -83,8 +83,8 @@ fn is_same(a: &Row, b: &Row) -> bool {
 
 // Whether a row is that of its target.
 fn has_row(copy: &mut Table, pair: &Pair) -> Result<bool, Fail>
-    requires { InStep (seen_in copy.old) (index_of copy.old) (capacity_in copy.old) }
-    ensures { InStep (seen_in copy.new) (index_of copy.new) (capacity_in copy.new) }
+    requires { InStep (seen_in copy.old) (summaries_of copy.old) (capacity_in copy.old) }
+    ensures { InStep (seen_in copy.new) (summaries_of copy.new) (capacity_in copy.new) }
 {
     match copy.row_at(pair.target)? {
         Some(row) => Ok(is_same(&row, &pair.row)),
@@ -94,8 +94,8 @@ fn has_row(copy: &mut Table, pair: &Pair) -> Result<bool, Fail>
 
 // Whether each row is that of its target.
 fn have_rows(copy: &mut Table, pairs: &[Pair]) -> Result<bool, Fail>
-    requires { InStep (seen_in copy.old) (index_of copy.old) (capacity_in copy.old) }
-    ensures { InStep (seen_in copy.new) (index_of copy.new) (capacity_in copy.new) }
+    requires { InStep (seen_in copy.old) (summaries_of copy.old) (capacity_in copy.old) }
+    ensures { InStep (seen_in copy.new) (summaries_of copy.new) (capacity_in copy.new) }
 {
     for pair in pairs {
         if !has_row(copy, pair)? {
@@ -107,8 +107,8 @@ fn have_rows(copy: &mut Table, pairs: &[Pair]) -> Result<bool, Fail>
 
 // How many rows a table has.
 fn count_rows(table: &mut Table) -> Result<usize, Fail>
-    requires { InStep (seen_in table.old) (index_of table.old) (capacity_in table.old) }
-    ensures { InStep (seen_in table.new) (index_of table.new) (capacity_in table.new) }
+    requires { InStep (seen_in table.old) (summaries_of table.old) (capacity_in table.old) }
+    ensures { InStep (seen_in table.new) (summaries_of table.new) (capacity_in table.new) }
 {
     let mut count = 0usize;
     for before in 0..table.count() {
@@ -130,8 +130,8 @@ fn are_in_order(entries: &[(u64, Place)]) -> bool {
 
 // Whether this value is that of the row at this home.
 fn is_of_row(copy: &mut Table, which: Which, value: u64, home: Place) -> Result<bool, Fail>
-    requires { InStep (seen_in copy.old) (index_of copy.old) (capacity_in copy.old) }
-    ensures { InStep (seen_in copy.new) (index_of copy.new) (capacity_in copy.new) }
+    requires { InStep (seen_in copy.old) (summaries_of copy.old) (capacity_in copy.old) }
+    ensures { InStep (seen_in copy.new) (summaries_of copy.new) (capacity_in copy.new) }
 {
     match copy.row_at(home)? {
         Some(row) => Ok(value_of(which, &row) == value),
@@ -141,8 +141,8 @@ fn is_of_row(copy: &mut Table, which: Which, value: u64, home: Place) -> Result<
 
 // Whether each entry is that of the row at its home.
 fn are_of_rows(copy: &mut Table, which: Which, entries: &[(u64, Place)]) -> Result<bool, Fail>
-    requires { InStep (seen_in copy.old) (index_of copy.old) (capacity_in copy.old) }
-    ensures { InStep (seen_in copy.new) (index_of copy.new) (capacity_in copy.new) }
+    requires { InStep (seen_in copy.old) (summaries_of copy.old) (capacity_in copy.old) }
+    ensures { InStep (seen_in copy.new) (summaries_of copy.new) (capacity_in copy.new) }
 {
     for (value, home) in entries {
         if !is_of_row(copy, which, *value, *home)? {
@@ -155,8 +155,8 @@ fn are_of_rows(copy: &mut Table, which: Which, entries: &[(u64, Place)]) -> Resu
 // Whether a listing is that of the rows, of which there are so many: as many entries, in order,
 // each of a row. So none is left out.
 fn is_listing(copy: &mut Table, which: Which, listing: &Listing, count: usize) -> Result<bool, Fail>
-    requires { InStep (seen_in copy.old) (index_of copy.old) (capacity_in copy.old) }
-    ensures { InStep (seen_in copy.new) (index_of copy.new) (capacity_in copy.new) }
+    requires { InStep (seen_in copy.old) (summaries_of copy.old) (capacity_in copy.old) }
+    ensures { InStep (seen_in copy.new) (summaries_of copy.new) (capacity_in copy.new) }
 {
     let entries = listing.as_slice();
     if entries.len() != count || !are_in_order(entries) {
@@ -226,8 +226,8 @@ fn unnamed(alloc: Global, pairs: Vec<Pair>, named: &[Place]) -> Result<Vec<Pair>
 
 // Whether the three indexes list the rows, of which there are so many.
 fn do_list(copy: &mut Table, indexes: &Indexes, count: usize) -> Result<bool, Fail>
-    requires { InStep (seen_in copy.old) (index_of copy.old) (capacity_in copy.old) }
-    ensures { InStep (seen_in copy.new) (index_of copy.new) (capacity_in copy.new) }
+    requires { InStep (seen_in copy.old) (summaries_of copy.old) (capacity_in copy.old) }
+    ensures { InStep (seen_in copy.new) (summaries_of copy.new) (capacity_in copy.new) }
 {
     let keys = indexes.keys.listing()?;
     if !is_listing(copy, Which::Key, &keys, count)? {
@@ -243,8 +243,8 @@ fn do_list(copy: &mut Table, indexes: &Indexes, count: usize) -> Result<bool, Fa
 
 // Whether a new copy has these rows, and no others, and its indexes list them.
 fn is_made_of(copy: &mut Table, indexes: &Indexes, pairs: &[Pair]) -> Result<bool, Fail>
-    requires { InStep (seen_in copy.old) (index_of copy.old) (capacity_in copy.old) }
-    ensures { InStep (seen_in copy.new) (index_of copy.new) (capacity_in copy.new) }
+    requires { InStep (seen_in copy.old) (summaries_of copy.old) (capacity_in copy.old) }
+    ensures { InStep (seen_in copy.new) (summaries_of copy.new) (capacity_in copy.new) }
 {
     if !have_rows(copy, pairs)? {
         return Ok(false);
@@ -280,7 +280,7 @@ pub fn is_copy_of(
     shadow: Shadow,
     named: &[Place],
 ) -> Result<bool, Fail>
-    requires step { InStep (seen_in table.old) (index_of table.old) (capacity_in table.old) }
+    requires step { InStep (seen_in table.old) (summaries_of table.old) (capacity_in table.old) }
     requires keys { shadow.keys ≡ Built }
     requires cluses { shadow.cluses ≡ Built }
     requires cats { shadow.cats ≡ Built }

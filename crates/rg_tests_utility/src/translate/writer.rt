@@ -5,7 +5,7 @@ ghost use Rattle.rg_feed.specs.Ends.{sent_items};
 ghost use Rattle.rg_feed.specs.Fold.Fed.{Ordered};
 ghost use Rattle.rg_shadow.specs.Planned.{seen_in};
 ghost use Rattle.rg_space.specs.Applied.{AllHeld};
-ghost use Rattle.rg_space.specs.Space.{InStep, capacity_in, index_of};
+ghost use Rattle.rg_space.specs.Space.{InStep, capacity_in, summaries_of};
 ghost use Rattle.rg_undo.specs.Undoing.{AreChanges};
 
 use crate::translate::line::send_change;
@@ -84,10 +84,10 @@ impl Writer {
 
 // Carries a plan out by two records, and answers the second.
 fn carry(space: &mut Table, plan: Plan, unit: u32, after: Option<Row>, position: u64) -> Record
-    requires step { InStep (seen_in space.old) (index_of space.old) (capacity_in space.old) }
+    requires step { InStep (seen_in space.old) (summaries_of space.old) (capacity_in space.old) }
     requires purge { AllHeld (seen_in space.old) plan.purge }
     requires parts { AllHeld (seen_in space.old) plan.parts }
-    ensures step { InStep (seen_in space.new) (index_of space.new) (capacity_in space.new) }
+    ensures step { InStep (seen_in space.new) (summaries_of space.new) (capacity_in space.new) }
 {
     let Plan {
         home,
@@ -119,8 +119,8 @@ fn carry(space: &mut Table, plan: Plan, unit: u32, after: Option<Row>, position:
 
 /// Puts a row, if there is room for it.
 pub fn put(space: &mut Table, unit: u32, row: Row, position: u64) -> Result<Option<Record>, Fail>
-    requires step { InStep (seen_in space.old) (index_of space.old) (capacity_in space.old) }
-    ensures step { InStep (seen_in space.new) (index_of space.new) (capacity_in space.new) }
+    requires step { InStep (seen_in space.old) (summaries_of space.old) (capacity_in space.old) }
+    ensures step { InStep (seen_in space.new) (summaries_of space.new) (capacity_in space.new) }
 {
     match space.plan_put(&row, &[Tran(unit)]) {
         Ok(plan) => Ok(Some(carry(space, plan, unit, Some(row), position))),
@@ -137,8 +137,8 @@ fn change(
     row: Row,
     position: u64,
 ) -> Result<Option<Record>, Fail>
-    requires step { InStep (seen_in space.old) (index_of space.old) (capacity_in space.old) }
-    ensures step { InStep (seen_in space.new) (index_of space.new) (capacity_in space.new) }
+    requires step { InStep (seen_in space.old) (summaries_of space.old) (capacity_in space.old) }
+    ensures step { InStep (seen_in space.new) (summaries_of space.new) (capacity_in space.new) }
 {
     match space.plan_change(home, &row, &[Tran(unit)]) {
         Ok(plan) => Ok(Some(carry(space, plan, unit, Some(row), position))),
@@ -149,8 +149,8 @@ fn change(
 
 // Drops the row of a home.
 fn drop_row(space: &mut Table, unit: u32, home: Place, position: u64) -> Result<Record, Fail>
-    requires step { InStep (seen_in space.old) (index_of space.old) (capacity_in space.old) }
-    ensures step { InStep (seen_in space.new) (index_of space.new) (capacity_in space.new) }
+    requires step { InStep (seen_in space.old) (summaries_of space.old) (capacity_in space.old) }
+    ensures step { InStep (seen_in space.new) (summaries_of space.new) (capacity_in space.new) }
 {
     let plan = space.plan_drop(home)?;
     Ok(carry(space, plan, unit, None, position))
@@ -158,8 +158,8 @@ fn drop_row(space: &mut Table, unit: u32, home: Place, position: u64) -> Result<
 
 // The home that is drawn, with the key of its row, if there is one that is written.
 fn draw_home(space: &mut Table, writer: &mut Writer) -> Result<Option<(Place, u64)>, Fail>
-    requires step { InStep (seen_in space.old) (index_of space.old) (capacity_in space.old) }
-    ensures step { InStep (seen_in space.new) (index_of space.new) (capacity_in space.new) }
+    requires step { InStep (seen_in space.old) (summaries_of space.old) (capacity_in space.old) }
+    ensures step { InStep (seen_in space.new) (summaries_of space.new) (capacity_in space.new) }
     ensures last { writer.new.last ≡ writer.old.last }
 {
     let page = writer.draw(9) as u32;
@@ -184,8 +184,8 @@ fn write(
     writer: &mut Writer,
     position: u64,
 ) -> Result<Option<Record>, Fail>
-    requires step { InStep (seen_in space.old) (index_of space.old) (capacity_in space.old) }
-    ensures step { InStep (seen_in space.new) (index_of space.new) (capacity_in space.new) }
+    requires step { InStep (seen_in space.old) (summaries_of space.old) (capacity_in space.old) }
+    ensures step { InStep (seen_in space.new) (summaries_of space.new) (capacity_in space.new) }
     ensures last { writer.new.last ≡ writer.old.last }
 {
     let what = writer.draw(10);
@@ -278,9 +278,9 @@ fn undo(
     records: Vec<Record>,
     position: u64,
 ) -> Result<Vec<Change>, Fail>
-    requires step { InStep (seen_in space.old) (index_of space.old) (capacity_in space.old) }
+    requires step { InStep (seen_in space.old) (summaries_of space.old) (capacity_in space.old) }
     requires changes { AreChanges records.items }
-    ensures step { InStep (seen_in space.new) (index_of space.new) (capacity_in space.new) }
+    ensures step { InStep (seen_in space.new) (summaries_of space.new) (capacity_in space.new) }
 {
     if position >= 1_000_000 || records.len() >= 1_000_000 {
         return Err("too many changes".into());
@@ -298,9 +298,9 @@ pub fn step(
     writer: &mut Writer,
     copied: u32,
 ) -> Result<(), Fail>
-    requires step { InStep (seen_in space.old) (index_of space.old) (capacity_in space.old) }
+    requires step { InStep (seen_in space.old) (summaries_of space.old) (capacity_in space.old) }
     requires ordered { Ordered writer.old.last copied (sent_items outlet.old) }
-    ensures step { InStep (seen_in space.new) (index_of space.new) (capacity_in space.new) }
+    ensures step { InStep (seen_in space.new) (summaries_of space.new) (capacity_in space.new) }
     ensures ring { outlet.new.ring ≡ outlet.old.ring }
     ensures ordered { OnOk result (Ordered writer.new.last copied (sent_items outlet.new)) }
 {
@@ -325,9 +325,9 @@ fn step_write(
     writer: &mut Writer,
     copied: u32,
 ) -> Result<(), Fail>
-    requires step { InStep (seen_in space.old) (index_of space.old) (capacity_in space.old) }
+    requires step { InStep (seen_in space.old) (summaries_of space.old) (capacity_in space.old) }
     requires ordered { Ordered writer.old.last copied (sent_items outlet.old) }
-    ensures step { InStep (seen_in space.new) (index_of space.new) (capacity_in space.new) }
+    ensures step { InStep (seen_in space.new) (summaries_of space.new) (capacity_in space.new) }
     ensures ring { outlet.new.ring ≡ outlet.old.ring }
     ensures ordered { OnOk result (Ordered writer.new.last copied (sent_items outlet.new)) }
 {

@@ -10,7 +10,7 @@ use Rattle.rg_tests_storage.proofs.indexes.one_row.Goals as goal
 use Rattle.rg_btree.specs.Indexes.Listings.{AreListedAt, AreListings, entries_of}
 use Rattle.rg_btree.specs.declared.indexes.indexes.Indexes.{Indexes}
 use Rattle.rg_tests_storage.specs.declared.indexes.TheConstants.{HOME}
-use Rattle.rg_model.specs.Layout.{same_place}
+use Rattle.rg_base.specs.Place.{same_place}
 
 abbrev none : Place → Option Row
 none p = None

@@ -1,10 +1,10 @@
 use Rattle.std.proofs.Common.{◌≤◌, length}
-use Rattle.rg_space.specs.Space.{InStep, frames_of, index_of, capacity_in, undos_in}
+use Rattle.rg_space.specs.Space.{InStep, frames_of, summaries_of, capacity_in, undos_in}
 use Rattle.rg_tests_storage.proofs.undo.roll_back.Given as goal
 
 abbrev pub invariant-loop-rt : goal.invariant-loop-rt
 invariant-loop-rt g l = record {
-  step : InStep (g.F.Frames.seen (frames_of l.space)) (index_of l.space) (capacity_in l.space);
+  step : InStep (g.F.Frames.seen (frames_of l.space)) (summaries_of l.space) (capacity_in l.space);
   room : length l.work ≤ undos_in l.space;
 }
 

@@ -1,28 +1,19 @@
 // Openings over data pages, whatever version of a page the volume has.
-ghost use Rattle.std.specs.Prelude.{IfOk};
-ghost use Rattle.std.specs.List.{AllByRecursion};
-ghost use Rattle.rg_run.specs.Played.{IsPlayed};
-
+use crate::deck::play;
+use rg_base::copy::TableCopy;
 use rg_base::part::{Part, SlotOp};
 use rg_base::position::Position;
-use rg_base::row::Row;
-use rg_base::row_bytes::read_row;
-use rg_base::session::Session;
 use rg_base::set::Set;
 use rg_base::tran::Tran;
 use rg_log::open::open_log;
-use rg_mem::script::ScriptOperator;
 use rg_mem::volume::MemVolume;
 use rg_outside::volume::Volume;
 use rg_page::page::Page;
 use rg_record::record::Record;
 use rg_run::played::RunEnd;
-use rg_run::run::run;
 use rg_stmt::event::Event;
-use rg_stmt::line::Line;
-use rg_stmt::stmt::{Reply, Stmt};
+use rg_stmt::stmt::Reply;
 use std::alloc::Global;
-use std::process::Abort;
 use std::test::Fail;
 
 type Bytes = [u8; 4096];
@@ -30,65 +21,23 @@ type Bytes = [u8; 4096];
 // The number of calls that a volume takes.
 const CALLS: u32 = 1000;
 
-// A row of this key, with a text of so many letters.
-fn row(alloc: Global, key: u64, letters: u16) -> Result<Row, Fail> {
-    let mut bytes = Vec::new(alloc);
-    for number in [key, key, 1] {
-        bytes.extend_from_slice(&number.to_be_bytes())?;
-    }
-    bytes.extend_from_slice(&letters.to_be_bytes())?;
-    for _ in 0..letters {
-        bytes.push(b'x')?;
-    }
-    Ok(read_row(alloc, &bytes)?)
-}
-
-fn said(stmt: Stmt) -> Line
-    ensures { IsPlayed result }
-{
-    Line::Said {
-        session: Session(1),
-        stmt,
-    }
-}
-
 // Two rows, of which the first grows; a third, which is rolled back; and the second is deleted.
-fn deck(alloc: Global) -> Result<Vec<Line>, Fail>
-    ensures { IfOk result (λ lines. AllByRecursion IsPlayed lines.items) }
-{
-    let mut lines = Vec::new(alloc);
-    lines.push(said(Stmt::Insert(row(alloc, 1, 10)?)))?;
-    lines.push(said(Stmt::Insert(row(alloc, 2, 700)?)))?;
-    lines.push(said(Stmt::Update(row(alloc, 1, 400)?)))?;
-    lines.push(said(Stmt::Commit))?;
-    lines.push(said(Stmt::Insert(row(alloc, 3, 20)?)))?;
-    lines.push(said(Stmt::Rollback))?;
-    lines.push(said(Stmt::Delete(2)))?;
-    lines.push(said(Stmt::Commit))?;
-    Ok(lines)
-}
+const DECK: &[u8] = b"1 INSERT 1 1 1 xxxxxxxxxx\n1 INSERT 2 2 1 x~x~x~x~x~x~x~\n\
+    1 UPDATE 1 1 1 x~x~x~x~\n1 COMMIT\n1 INSERT 3 3 1 xxxxxxxxxxxxxxxxxxxx\n1 ROLLBACK\n\
+    1 DELETE 2\n1 COMMIT\n";
 
 // The keys 1 to 3, one after another.
-fn look(alloc: Global) -> Result<Vec<Line>, Fail>
-    ensures { IfOk result (λ lines. AllByRecursion IsPlayed lines.items) }
-{
-    let mut lines = Vec::new(alloc);
-    lines.push(said(Stmt::Select(1)))?;
-    lines.push(said(Stmt::Select(2)))?;
-    lines.push(said(Stmt::Select(3)))?;
-    Ok(lines)
-}
+const LOOK: &[u8] = b"1 SELECT 1\n1 SELECT 2\n1 SELECT 3\n";
 
 // A volume on which the deck was played.
 fn played(alloc: Global) -> Result<MemVolume, Fail> {
     let volume = MemVolume::new(alloc, 9, 4, 4, CALLS, CALLS, &[], None)?;
-    let operator = ScriptOperator::new(alloc, &[])?;
-    Ok(run(alloc, volume, operator, deck(alloc)?).volume)
+    Ok(play(alloc, volume, DECK)?.volume)
 }
 
 // Page 1 as these records leave it.
 fn version(alloc: Global, records: &[Record]) -> Result<Page, Fail> {
-    let mut page = Page::new(alloc, 1, 1)?;
+    let mut page = Page::new(alloc, TableCopy::first(), 1)?;
     for entry in records {
         for part in entry.parts() {
             let _ = page.apply(part, entry.tran, entry.after(), entry.position);
@@ -118,8 +67,7 @@ fn answers(alloc: Global, volume: &MemVolume, bytes: &Bytes) -> Result<(Vec<bool
     if image.capacity(Set::First) > 0 {
         image.write(Set::First, 1, bytes)?;
     }
-    let operator = ScriptOperator::new(alloc, &[])?;
-    let again = run(alloc, image, operator, look(alloc)?);
+    let again = play(alloc, image, LOOK)?;
     let mut found = Vec::new(alloc);
     for entry in again.trace.iter() {
         if let Event::Said { reply, .. } = &entry.event {
@@ -173,7 +121,7 @@ fn names_a_page_that_breaks_a_rule(rt: HostRuntime) -> Result<(), Fail> {
         assert_eq!(rt; (found.len(), end), (0, first), "byte {at} is {byte}");
     }
     // A page on which the third record does not fit any more.
-    let mut page = Page::new(alloc, 1, 1)?;
+    let mut page = Page::new(alloc, TableCopy::first(), 1)?;
     let part = Part {
         page: 1,
         slot: 5,

@@ -1,19 +1,11 @@
-// Operators that end the utility or hold it up at each step, and volumes of which each call fails.
+// Operators that end the utility at each step, and volumes of which each call fails.
 //
 // 1. TERM ends the utility at whichever answer it comes, but after the switch.
-// 2. An ALTER at each step can keep the drain from being asked.
-// 3. Whichever call of the volume fails, once, with the old page or the new one left, the trace is
+// 2. Whichever call of the volume fails, once, with the old page or the new one left, the trace is
 //    legal. The run ends down exactly where its last statement is answered so.
-use super::{CALLS, NEVER, WIDE_LOG, played};
-use rg_base::map::NumberMap;
-use rg_base::table::Table;
-use rg_base::verdict::Verdict;
-use rg_deck::read::{DECK_LIMIT, read_deck};
-use rg_judge::judge::judge;
-use rg_mem::script::ScriptOperator;
+use crate::deck::{MemPlayed, play_judged};
 use rg_mem::volume::{Failing, MemVolume};
-use rg_run::played::{Played, RunEnd};
-use rg_run::run::run;
+use rg_run::played::RunEnd;
 use rg_stmt::event::{Actor, Entry, Event};
 use rg_stmt::stmt::Reply;
 use std::alloc::{AllocError, Global};
@@ -27,10 +19,19 @@ const DECK: &[u8] = b"1 INSERT 1 10 1 a\n1 COMMIT\n1 UPDATE 1 99 1 z\n\
 
 const STEPS: u32 = 16;
 
-fn expect_legal(rt: &impl Abort, alloc: Global, trace: &[Entry]) -> Result<(), Fail> {
-    let start: Table = NumberMap::new(alloc);
-    assert_eq!(rt; judge(alloc, &start, trace)?, None);
-    Ok(())
+// The run of the deck over a volume of which these calls fail, with these answers. Its trace is
+// legal.
+fn played(
+    rt: &impl Abort,
+    alloc: Global,
+    failing: &[Failing],
+    answers: &[u8],
+) -> Result<MemPlayed, Fail> {
+    let volume = MemVolume::new(alloc, 64, 8, 8, 1000, 1000, failing, None)?;
+    let judged = play_judged(alloc, volume, DECK, answers)?;
+    assert_eq!(rt; judged.end.verdict, None);
+    let end = judged.end.end;
+    Ok(judged.ended(end))
 }
 
 // An operator who gives TERM at one answer.
@@ -50,10 +51,9 @@ fn is_step(entry: &Entry) -> bool {
 #[test]
 fn ends_at_every_answer(rt: HostRuntime) -> Result<(), Fail> {
     let alloc = rt.alloc();
-    let whole = played(alloc, WIDE_LOG, NEVER, DECK, b"")?;
+    let whole = played(&rt, alloc, &[], b"")?;
     for answer in 1..=STEPS {
-        let ended = played(alloc, WIDE_LOG, NEVER, DECK, &term_at(alloc, answer)?)?;
-        expect_legal(&rt, alloc, &ended.trace)?;
+        let ended = played(&rt, alloc, &[], &term_at(alloc, answer)?)?;
         assert_eq!(rt; ended.trace.len(), whole.trace.len());
         let mut step = 0u32;
         for (entry, before) in ended.trace.iter().zip(whole.trace.iter()) {
@@ -72,45 +72,6 @@ fn ends_at_every_answer(rt: HostRuntime) -> Result<(), Fail> {
         }
     }
     Ok(())
-}
-
-#[test]
-fn is_held_up_by_alter(rt: HostRuntime) -> Result<(), Fail> {
-    let alloc = rt.alloc();
-    let mut lines = Vec::new(alloc);
-    for _ in 0..STEPS {
-        lines.extend_from_slice(b"0 0 ALTER MAXRO DEFER\n")?;
-    }
-    let played = played(alloc, WIDE_LOG, NEVER, DECK, &lines)?;
-    expect_legal(&rt, alloc, &played.trace)?;
-    let mut iterations = 0u32;
-    for entry in played.trace.iter() {
-        if let Event::Log { verdict, .. } = &entry.event {
-            assert!(rt; !matches!(verdict, Verdict::Drain(_)));
-            iterations = iterations.saturating_add(1);
-        }
-    }
-    // The first eight steps copy, fill, sort and build.
-    assert_eq!(rt; iterations, 8);
-    Ok(())
-}
-
-// The deck over a volume of which one call fails.
-fn failing_at(
-    alloc: Global,
-    call: u64,
-    written: bool,
-) -> Result<Played<MemVolume, ScriptOperator>, Fail> {
-    if DECK.len() > DECK_LIMIT {
-        return Err("the deck is too long".into());
-    }
-    let Ok(lines) = read_deck(alloc, DECK) else {
-        return Err("the deck has a line outside the grammar".into());
-    };
-    let operator = ScriptOperator::new(alloc, &[])?;
-    let failing = [Failing { call, written }];
-    let volume = MemVolume::new(alloc, WIDE_LOG, 8, 8, CALLS, CALLS, &failing, None)?;
-    Ok(run(alloc, volume, operator, lines))
 }
 
 fn ends_down(trace: &[Entry]) -> bool {
@@ -134,12 +95,9 @@ fn is_legal_at_every_fault(rt: HostRuntime) -> Result<(), Fail> {
     let mut down = 0u32;
     for call in 1..=12 {
         for written in [false, true] {
-            let played = failing_at(alloc, call, written)?;
+            let played = played(&rt, alloc, &[Failing { call, written }], b"")?;
             let opened = matches!(played.end, RunEnd::Whole { .. } | RunEnd::Down);
             assert_eq!(rt; opened, call > 2, "call {call}");
-            if opened {
-                expect_legal(&rt, alloc, &played.trace)?;
-            }
             let is_down = matches!(played.end, RunEnd::Down);
             assert_eq!(rt; is_down, ends_down(&played.trace), "call {call}");
             if is_down {

@@ -7,11 +7,9 @@
 //    of the utility, has the same reply to each statement, and as many rows at each opening.
 ghost use Rattle.std.specs.Prelude.{◌≤◌};
 
-use rg_deck::read::{DECK_LIMIT, read_deck};
-use rg_mem::script::ScriptOperator;
+use crate::deck::play_judged;
+use rg_desk::run::Run;
 use rg_mem::volume::MemVolume;
-use rg_run::played::{Judged, Played};
-use rg_run::run::run_judged;
 use rg_stmt::event::{Entry, Event};
 use rg_stmt::stmt::Reply;
 use std::alloc::{AllocError, Global};
@@ -122,17 +120,9 @@ fn deck_of(alloc: Global, seed: u32) -> Result<Vec<u8>, AllocError> {
 
 // The trace of a deck over an empty table, and the first entry that is not legal.
 fn judged(alloc: Global, deck: &[u8]) -> Result<(Vec<Entry>, Option<usize>), Fail> {
-    if deck.len() > DECK_LIMIT {
-        return Err("the deck is too long".into());
-    }
-    let Ok(lines) = read_deck(alloc, deck) else {
-        return Err("the deck has a line outside the grammar".into());
-    };
-    let operator = ScriptOperator::new(alloc, &[])?;
     let volume = MemVolume::new(alloc, 1000, 256, 256, 30_000, 6_000, &[], None)?;
-    let Judged { played, verdict } = run_judged(alloc, volume, operator, lines);
-    let Played { trace, .. } = played;
-    Ok((trace, verdict))
+    let Run { trace, end, .. } = play_judged(alloc, volume, deck, b"")?;
+    Ok((trace, end.verdict))
 }
 
 // The deck without the lines of the utility, and without the statements that a drain refused.
