@@ -23,7 +23,7 @@ use Rattle.rg_restart.proofs.Exact.{sound_breaks_none}
 use Rattle.rg_log.specs.Open.{IsQuiet}
 use Rattle.rg_outside.specs.Calls.{Image, Told, read_of}
 use Rattle.rg_engine.specs.OnVolume.{IsTidyVolume}
-use Rattle.rg_engine.specs.Volume.{VolumeSeen}
+use Rattle.rg_outside.specs.Volume.{VolumeSeen}
 use Rattle.rg_stmt.specs.declared.event.Entry.{Entry}
 use Rattle.rg_stmt.specs.declared.line.Line.{Line}
 use Rattle.rg_gen.specs.Deck.{IsOfSessions, deck_of}

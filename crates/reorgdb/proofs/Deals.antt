@@ -12,7 +12,7 @@ use Rattle.rg_stmt.specs.declared.line.Line.{Line}
 use Rattle.rg_stmt.specs.declared.line.Line.TheVariants.{Death, Flush, Reorg, Said, Show, Step}
 use Rattle.rg_deck.specs.Grammar.{IsAdmitted, Lines}
 use Rattle.rg_deck.specs.declared.read.Admits.TheVariants.{Every}
-use Rattle.rg_engine.specs.Volume.{VolumeSeen}
+use Rattle.rg_outside.specs.Volume.{VolumeSeen}
 use Rattle.rg_gen.specs.Deck.{IsOfSessions, deck_of}
 use Rattle.rg_gen.proofs.Sessions.{each_of_sessions}
 use Rattle.rg_run.specs.Judged.{JudgesRun}
@@ -60,65 +60,64 @@ DealsWithBytes-lines tells volume volume_after outcome bytes lines trace text sp
 
 -- ---- what a run comes to, once its text was made, or there was no memory for it
 
-tells_run : (tells : Tells) (volume volume_after : VolumeSeen) (trace read : List Entry)
+tells_run : (tells : Tells) (volume volume_after : VolumeSeen) (trace : List Entry)
     (close : Close) (end : RunEnd) (verdict : Option ℕ) (made text : List ℕ)
     → end ≢ run_ends.NoMemory
-    → (end ≢ run_ends.NoMemory → IsTold tells volume volume_after trace verdict) → read ≡ trace
-    → text ≡ made → made ≡ run_text tells read close verdict
+    → (end ≢ run_ends.NoMemory → IsTold tells volume volume_after trace verdict)
+    → text ≡ made → made ≡ run_text tells trace close verdict
     → TellsRun tells volume volume_after trace close text
-tells_run tells volume volume_after trace read close end verdict made text ends told read_is same
-    is =
+tells_run tells volume volume_after trace close end verdict made text ends told same is =
     record {
       verdict = verdict;
       told = told ends;
-      is = same ∙ is ∙ ap (λ (es : List Entry). run_text tells es close verdict) read_is;
+      is = same ∙ is;
     }
 
 pub tells_whole : (tells : Tells) (volume volume_after : VolumeSeen) (lines : List Line)
-    (trace read shown : List Entry) (rows : ℕ) (end : RunEnd) (verdict : Option ℕ)
+    (trace : List Entry) (rows : ℕ) (end : RunEnd) (verdict : Option ℕ)
     (made : Result Bytes WantsMemory) (outcome : Outcome) (text : List ℕ)
-    → end ≡ Whole rows → read ≡ trace → shown ≡ trace
-    → IfOk made (λ p. p ≡ run_text tells read (closes.Rows rows) verdict)
+    → end ≡ Whole rows
+    → IfOk made (λ p. p ≡ run_text tells trace (closes.Rows rows) verdict)
     → IfOk made (λ p. (outcome ≡ Played) × (text ≡ p)) → OnErr made (outcome ≡ NoMemory)
     → Ends volume volume_after lines trace end
     → (end ≢ run_ends.NoMemory → IsTold tells volume volume_after trace verdict)
-    → DealsWithLines tells volume volume_after lines outcome shown text
-tells_whole tells volume volume_after lines trace read shown rows end verdict (Ok made) outcome text
-    is read_is same printed came none ends told =
+    → DealsWithLines tells volume volume_after lines outcome trace text
+tells_whole tells volume volume_after lines trace rows end verdict (Ok made) outcome text
+    is printed came none ends told =
     let whole : Ends volume volume_after lines trace (Whole rows) =
     subst (Ends volume volume_after lines trace) is ends in
     let run : TellsRun tells volume volume_after trace (closes.Rows rows) text =
-    tells_run tells volume volume_after trace read (closes.Rows rows) end verdict made text
-    (λ e. cc (e, is)) told read_is came.1 printed in
-    rw (came.0, same) (record { entries = whole.0; rows = rows; counted = whole.1; told = run })
-tells_whole tells volume volume_after lines trace read shown rows end verdict (Err e) outcome text
-    is read_is same printed came none ends told =
+    tells_run tells volume volume_after trace (closes.Rows rows) end verdict made text
+    (λ e. cc (e, is)) told came.1 printed in
+    rw (came.0) (record { entries = whole.0; rows = rows; counted = whole.1; told = run })
+tells_whole tells volume volume_after lines trace rows end verdict (Err e) outcome text
+    is printed came none ends told =
     let whole : Ends volume volume_after lines trace (Whole rows) =
     subst (Ends volume volume_after lines trace) is ends in
-    rw (none, same) (inr (TraceOfFront-whole lines trace whole.0))
+    rw (none) (inr (TraceOfFront-whole lines trace whole.0))
 
 pub tells_down : (tells : Tells) (volume volume_after : VolumeSeen) (lines : List Line)
-    (trace read shown : List Entry) (end : RunEnd) (verdict : Option ℕ)
+    (trace : List Entry) (end : RunEnd) (verdict : Option ℕ)
     (made : Result Bytes WantsMemory) (outcome : Outcome) (text : List ℕ)
-    → end ≡ Ended → read ≡ trace → shown ≡ trace
-    → IfOk made (λ p. p ≡ run_text tells read closes.Down verdict)
+    → end ≡ Ended
+    → IfOk made (λ p. p ≡ run_text tells trace closes.Down verdict)
     → IfOk made (λ p. (outcome ≡ Down) × (text ≡ p)) → OnErr made (outcome ≡ NoMemory)
     → Ends volume volume_after lines trace end
     → (end ≢ run_ends.NoMemory → IsTold tells volume volume_after trace verdict)
-    → DealsWithLines tells volume volume_after lines outcome shown text
-tells_down tells volume volume_after lines trace read shown end verdict (Ok made) outcome text is
-    read_is same printed came none ends told =
+    → DealsWithLines tells volume volume_after lines outcome trace text
+tells_down tells volume volume_after lines trace end verdict (Ok made) outcome text is
+    printed came none ends told =
     let down : Ends volume volume_after lines trace Ended =
     subst (Ends volume volume_after lines trace) is ends in
     let run : TellsRun tells volume volume_after trace closes.Down text =
-    tells_run tells volume volume_after trace read closes.Down end verdict made text
-    (λ e. cc (e, is)) told read_is came.1 printed in
-    rw (came.0, same) (inl (record { entries = down.0; down = down.1; told = run }))
-tells_down tells volume volume_after lines trace read shown end verdict (Err e) outcome text is
-    read_is same printed came none ends told =
+    tells_run tells volume volume_after trace closes.Down end verdict made text
+    (λ e. cc (e, is)) told came.1 printed in
+    rw (came.0) (inl (record { entries = down.0; down = down.1; told = run }))
+tells_down tells volume volume_after lines trace end verdict (Err e) outcome text is
+    printed came none ends told =
     let down : Ends volume volume_after lines trace Ended =
     subst (Ends volume volume_after lines trace) is ends in
-    rw (none, same) (inr (TraceOfFront-whole lines trace down.0))
+    rw (none) (inr (TraceOfFront-whole lines trace down.0))
 
 -- an opening was refused, so the trace is that of the lines before a death, where there is one
 at_death : (lines : List Line) (trace : List Entry) → EndsAtOpening lines trace → trace ≢ []
@@ -132,63 +131,63 @@ front_at : (lines : List Line) (trace : List Entry) → EndsAtDeath lines trace
 front_at lines trace dies = (dies.front, Death ∷ dies.rest, dies.joined, dies.entries)
 
 pub tells_stopped : (tells : Tells) (volume volume_after : VolumeSeen) (lines : List Line)
-    (trace read shown : List Entry) (end : RunEnd) (verdict : Option ℕ)
+    (trace : List Entry) (end : RunEnd) (verdict : Option ℕ)
     (made : Result Bytes WantsMemory) (outcome : Outcome) (text : List ℕ)
-    → end ≡ run_ends.DeviceAtOpening → trace ≢ [] → read ≡ trace → shown ≡ trace
-    → IfOk made (λ p. p ≡ run_text tells read closes.Down verdict)
+    → end ≡ run_ends.DeviceAtOpening → trace ≢ []
+    → IfOk made (λ p. p ≡ run_text tells trace closes.Down verdict)
     → IfOk made (λ p. (outcome ≡ Down) × (text ≡ p)) → OnErr made (outcome ≡ NoMemory)
     → Ends volume volume_after lines trace end → IsEnd volume volume_after trace end
     → (end ≢ run_ends.NoMemory → IsTold tells volume volume_after trace verdict)
-    → DealsWithLines tells volume volume_after lines outcome shown text
-tells_stopped tells volume volume_after lines trace read shown end verdict (Ok made) outcome text is
-    some read_is same printed came none ends is_end told =
+    → DealsWithLines tells volume volume_after lines outcome trace text
+tells_stopped tells volume volume_after lines trace end verdict (Ok made) outcome text is
+    some printed came none ends is_end told =
     let at : Ends volume volume_after lines trace run_ends.DeviceAtOpening =
     subst (Ends volume volume_after lines trace) is ends in
     let run : TellsRun tells volume volume_after trace closes.Down text =
-    tells_run tells volume volume_after trace read closes.Down end verdict made text
-    (λ e. cc (e, is)) told read_is came.1 printed in
+    tells_run tells volume volume_after trace closes.Down end verdict made text
+    (λ e. cc (e, is)) told came.1 printed in
     let failed : IsEnd volume volume_after trace run_ends.DeviceAtOpening =
     subst (IsEnd volume volume_after trace) is is_end in
-    rw (came.0, same) (inr ((at_death lines trace at some, run), failed.1))
-tells_stopped tells volume volume_after lines trace read shown end verdict (Err e) outcome text is
-    some read_is same printed came none ends is_end told =
+    rw (came.0) (inr ((at_death lines trace at some, run), failed.1))
+tells_stopped tells volume volume_after lines trace end verdict (Err e) outcome text is
+    some printed came none ends is_end told =
     let at : Ends volume volume_after lines trace run_ends.DeviceAtOpening =
     subst (Ends volume volume_after lines trace) is ends in
-    rw (none, same) (inr (front_at lines trace (at_death lines trace at some)))
+    rw (none) (inr (front_at lines trace (at_death lines trace at some)))
 
 pub tells_damaged : (tells : Tells) (volume volume_after : VolumeSeen) (lines : List Line)
-    (trace read shown : List Entry) (set : Set) (page : ℕ) (end : RunEnd) (verdict : Option ℕ)
+    (trace : List Entry) (set : Set) (page : ℕ) (end : RunEnd) (verdict : Option ℕ)
     (made : Result Bytes WantsMemory) (outcome : Outcome) (text : List ℕ)
-    → end ≡ run_ends.Damaged set page → trace ≢ [] → read ≡ trace → shown ≡ trace
-    → IfOk made (λ p. p ≡ run_text tells read (closes.Damaged set page) verdict)
+    → end ≡ run_ends.Damaged set page → trace ≢ []
+    → IfOk made (λ p. p ≡ run_text tells trace (closes.Damaged set page) verdict)
     → IfOk made (λ p. (outcome ≡ Damaged set page) × (text ≡ p)) → OnErr made (outcome ≡ NoMemory)
     → Ends volume volume_after lines trace end
     → (end ≢ run_ends.NoMemory → IsTold tells volume volume_after trace verdict)
-    → DealsWithLines tells volume volume_after lines outcome shown text
-tells_damaged tells volume volume_after lines trace read shown set page end verdict (Ok made)
-    outcome text is some read_is same printed came none ends told =
+    → DealsWithLines tells volume volume_after lines outcome trace text
+tells_damaged tells volume volume_after lines trace set page end verdict (Ok made)
+    outcome text is some printed came none ends told =
     let at : Ends volume volume_after lines trace (run_ends.Damaged set page) =
     subst (Ends volume volume_after lines trace) is ends in
     let run : TellsRun tells volume volume_after trace (closes.Damaged set page) text =
-    tells_run tells volume volume_after trace read (closes.Damaged set page) end verdict made text
-    (λ e. cc (e, is)) told read_is came.1 printed in
-    rw (came.0, same) (inr (at_death lines trace at some, run))
-tells_damaged tells volume volume_after lines trace read shown set page end verdict (Err e) outcome
-    text is some read_is same printed came none ends told =
+    tells_run tells volume volume_after trace (closes.Damaged set page) end verdict made text
+    (λ e. cc (e, is)) told came.1 printed in
+    rw (came.0) (inr (at_death lines trace at some, run))
+tells_damaged tells volume volume_after lines trace set page end verdict (Err e) outcome
+    text is some printed came none ends told =
     let at : Ends volume volume_after lines trace (run_ends.Damaged set page) =
     subst (Ends volume volume_after lines trace) is ends in
-    rw (none, same) (inr (front_at lines trace (at_death lines trace at some)))
+    rw (none) (inr (front_at lines trace (at_death lines trace at some)))
 
 -- the first opening found the page, so the volume is refused
 pub refuses_damaged : (tells : Tells) (volume volume_after : VolumeSeen) (lines : List Line)
-    (shown : List Entry) (set : Set) (page : ℕ) (made : Result Bytes WantsMemory)
+    (trace : List Entry) (set : Set) (page : ℕ) (made : Result Bytes WantsMemory)
     (outcome : Outcome) (text : List ℕ)
-    → shown ≡ [] → IfOk made (λ p. p ≡ damaged_text set page)
+    → trace ≡ [] → IfOk made (λ p. p ≡ damaged_text set page)
     → IfOk made (λ p. (outcome ≡ Damaged set page) × (text ≡ p)) → OnErr made (outcome ≡ NoMemory)
-    → DealsWithLines tells volume volume_after lines outcome shown text
-refuses_damaged tells volume volume_after lines shown set page (Ok made) outcome text same printed
+    → DealsWithLines tells volume volume_after lines outcome trace text
+refuses_damaged tells volume volume_after lines trace set page (Ok made) outcome text same printed
     came none = rw (came.0) (inl (same, came.1 ∙ printed))
-refuses_damaged tells volume volume_after lines shown set page (Err e) outcome text same printed
+refuses_damaged tells volume volume_after lines trace set page (Err e) outcome text same printed
     came none = rw (none) (inl same)
 
 -- what the judge says of a run that did not run out of memory

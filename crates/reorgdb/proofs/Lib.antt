@@ -4,3 +4,4 @@ mod Deals
 mod Pieces
 mod Shown
 mod Traces
+mod Starting

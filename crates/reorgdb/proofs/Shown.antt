@@ -1,15 +1,14 @@
 -- The layout of a run of one line, which asks for it: it is that of the copy which was opened, and
 -- right for the table that the log stored. Such a run does not end down.
-use Rattle.std.proofs.Common.{◌≡◌, ◌==◌, ◌&&◌, ℕ, zero, suc, Bool, true, false, not, List, [], ◌∷◌}
+use Rattle.std.proofs.Common.{◌≡◌, ◌==◌, ◌&&◌, ℕ, Bool, true, false, not, List, [], ◌∷◌}
 use Rattle.std.proofs.Common.{Some, None, Result, Ok, Err, IfOk, OnErr, refl, sym, ◌∙◌, ap, subst}
-use Rattle.std.proofs.Common.{arith, ◌⊎◌, ◌++◌, inl, inr}
-use Rattle.std.proofs.lemmas.Bool.{eqb-true}
-use Rattle.std.specs.List.{Contains}
+use Rattle.std.proofs.Common.{◌⊎◌, ◌++◌, inl, inr}
+use Rattle.std.proofs.lemmas.Bool.{eqb-true, and_parts}
 use Rattle.rg_base.specs.declared.bytes.Bytes.{Bytes}
 use Rattle.rg_base.specs.declared.no_memory.NoMemory.{NoMemory as WantsMemory}
 use Rattle.rg_desk.specs.Chronicle.{system_entry}
 use Rattle.rg_engine.specs.Layouts.{IsLayout}
-use Rattle.rg_engine.specs.Volume.{VolumeSeen}
+use Rattle.rg_outside.specs.Volume.{VolumeSeen}
 use Rattle.rg_model.specs.Committed.{committed_table}
 use Rattle.rg_model.specs.Layout.{is_right_side}
 use Rattle.rg_model.specs.Possible.{next_state}
@@ -25,6 +24,7 @@ use Rattle.rg_run.specs.Table.{Ends, EndsAt, EndsAtOpening, EndsWhole}
 use Rattle.rg_run.specs.declared.played.RunEnd.{RunEnd}
 use Rattle.rg_run.specs.declared.played.RunEnd.TheVariants as run_ends
 use Rattle.rg_run.specs.declared.played.RunEnd.TheVariants.{Whole, Down as Ended}
+use Rattle.rg_run.proofs.Joins.{only_is}
 use Rattle.rg_stmt.specs.declared.event.Actor.TheVariants.{System}
 use Rattle.rg_stmt.specs.declared.event.Entry.{Entry}
 use Rattle.rg_stmt.specs.declared.event.Event.{Event}
@@ -41,16 +41,8 @@ allowed : (b : Bool) (st new : State) → if_allowed b st ≡ Some new → (b �
 allowed true st new e = (refl, cc (e))
 allowed false st new e = absurd (cc (e))
 
-and_parts : (a b : Bool) → (a && b) ≡ true → (a ≡ true) × (b ≡ true)
-and_parts true b e = (refl, e)
-and_parts false b e = absurd (cc (e))
-
 clash : false ≡ true → ⊥
 clash e = absurd (cc (e))
-
-the_one : (x y : Table) → Contains (x ∷ []) y → y ≡ x
-the_one x y (zero, low, is) = sym is
-the_one x y (suc k, low, is) = absurd (omega (arith, low))
 
 -- the state that an opening leaves, of a table at rest
 opened_state : (start : Table) (copy rows : ℕ) (found : ℕ) (mid : State)
@@ -58,7 +50,7 @@ opened_state : (start : Table) (copy rows : ℕ) (found : ℕ) (mid : State)
 opened_state start copy rows found mid opens =
     opens.at_rest
     ∙ ap (λ table. at_rest table copy)
-    (the_one (committed_table (at_rest start found)) opens.table opens.left
+    (only_is (committed_table (at_rest start found)) opens.table opens.left
     ∙ committed-at_rest start found)
 
 module _ (start : Table) (found : ℕ) (first entry : Entry) (last : State)
@@ -205,27 +197,26 @@ layout_of before after trace rows text entries whole layout =
     }
 
 pub shows_whole : (before after : VolumeSeen) (words : List (List ℕ)) (source : Seen)
-    (trace read shown : List Entry) (rows : ℕ) (end : RunEnd) (text : Result Bytes WantsMemory)
+    (trace : List Entry) (rows : ℕ) (end : RunEnd) (text : Result Bytes WantsMemory)
     (outcome : Outcome) (print : List ℕ)
-    → end ≡ Whole rows → read ≡ trace → shown ≡ trace → IfOk text (λ p. IsLayoutText read p)
+    → end ≡ Whole rows → IfOk text (λ p. IsLayoutText trace p)
     → IfOk text (λ p. (outcome ≡ Shown) × (print ≡ p)) → OnErr text (outcome ≡ NoMemory)
     → Ends before after (Show ∷ []) trace end → IsShow words
-    → ShowsTo outcome words source source before after shown print
-shows_whole before after words source trace read shown rows end (Ok text) outcome print is read_is
-    same printed made none ends show =
+    → ShowsTo outcome words source source before after trace print
+shows_whole before after words source trace rows end (Ok text) outcome print is
+    printed made none ends show =
     let whole : Ends before after (Show ∷ []) trace (Whole rows) =
     subst (Ends before after (Show ∷ []) trace) is ends in
-    rw (made.0, made.1, same) (
+    rw (made.0, made.1) (
       show,
       refl,
-      layout_of before after trace rows text whole.0 whole.1
-          (subst (λ (es : List Entry). IsLayoutText es text) read_is printed),
+      layout_of before after trace rows text whole.0 whole.1 printed,
     )
-shows_whole before after words source trace read shown rows end (Err e) outcome print is read_is
-    same printed made none ends show =
+shows_whole before after words source trace rows end (Err e) outcome print is
+    printed made none ends show =
     let whole : Ends before after (Show ∷ []) trace (Whole rows) =
     subst (Ends before after (Show ∷ []) trace) is ends in
-    rw (none, same) (show, refl, inr (TraceOfFront-whole (Show ∷ []) trace whole.0))
+    rw (none) (show, refl, inr (TraceOfFront-whole (Show ∷ []) trace whole.0))
 
 -- no run of that one line ends down
 pub never_down : (before after : VolumeSeen) (trace : List Entry) (end : RunEnd) → end ≡ Ended
@@ -247,29 +238,29 @@ never_down before after trace end is ends =
     by_trace (first ∷ entry ∷ other ∷ more) down = down.0.1.1
 
 pub shows_device : (before after : VolumeSeen) (words : List (List ℕ)) (source : Seen)
-    (trace shown : List Entry) (end : RunEnd) (outcome : Outcome) (print : List ℕ)
-    → end ≡ run_ends.DeviceAtOpening → shown ≡ trace → outcome ≡ Device
+    (trace : List Entry) (end : RunEnd) (outcome : Outcome) (print : List ℕ)
+    → end ≡ run_ends.DeviceAtOpening → outcome ≡ Device
     → Ends before after (Show ∷ []) trace end → IsShow words
-    → ShowsTo outcome words source source before after shown print
-shows_device before after words source trace shown end outcome print is same made ends show =
+    → ShowsTo outcome words source source before after trace print
+shows_device before after words source trace end outcome print is made ends show =
     let at : Ends before after (Show ∷ []) trace run_ends.DeviceAtOpening =
     subst (Ends before after (Show ∷ []) trace) is ends in
-    rw (made, same) (show, refl, at_first trace at)
+    rw (made) (show, refl, at_first trace at)
 
 pub shows_damaged : (before after : VolumeSeen) (words : List (List ℕ)) (source : Seen)
-    (trace shown : List Entry) (set : Set) (page : ℕ) (end : RunEnd)
+    (trace : List Entry) (set : Set) (page : ℕ) (end : RunEnd)
     (text : Result Bytes WantsMemory) (outcome : Outcome) (print : List ℕ)
-    → end ≡ run_ends.Damaged set page → shown ≡ trace → IfOk text (λ p. p ≡ damaged_text set page)
+    → end ≡ run_ends.Damaged set page → IfOk text (λ p. p ≡ damaged_text set page)
     → IfOk text (λ p. (outcome ≡ Damaged set page) × (print ≡ p)) → OnErr text (outcome ≡ NoMemory)
     → Ends before after (Show ∷ []) trace end → IsShow words
-    → ShowsTo outcome words source source before after shown print
-shows_damaged before after words source trace shown set page end (Ok text) outcome print is same
+    → ShowsTo outcome words source source before after trace print
+shows_damaged before after words source trace set page end (Ok text) outcome print is
     printed made none ends show =
     let at : Ends before after (Show ∷ []) trace (run_ends.Damaged set page) =
     subst (Ends before after (Show ∷ []) trace) is ends in
-    rw (made.0, same) (show, refl, at_first trace at, made.1 ∙ printed)
-shows_damaged before after words source trace shown set page end (Err e) outcome print is same
+    rw (made.0) (show, refl, at_first trace at, made.1 ∙ printed)
+shows_damaged before after words source trace set page end (Err e) outcome print is
     printed made none ends show =
     let at : Ends before after (Show ∷ []) trace (run_ends.Damaged set page) =
     subst (Ends before after (Show ∷ []) trace) is ends in
-    rw (none, same) (show, refl, inl (at_first trace at))
+    rw (none) (show, refl, inl (at_first trace at))

@@ -1,13 +1,13 @@
 -- What holds of the trace of a call: that of its run, or none.
 use Rattle.std.proofs.Common.{◌≡◌, List, [], Option, Some, None, refl, sym, subst}
-use Rattle.rg_engine.specs.Volume.{VolumeSeen}
+use Rattle.rg_outside.specs.Volume.{VolumeSeen}
 use Rattle.rg_outside.specs.Calls.{Told}
-use Rattle.rg_outside.specs.Moments.{IfTold}
 use Rattle.rg_stmt.specs.declared.event.Entry.{Entry}
 use Rattle.rg_stmt.specs.declared.line.Line.{Line}
 use Rattle.rg_run.specs.Outside.{MakesOnly, WritesOwn}
 use Rattle.rg_run.specs.Whole.{Whole}
 use Rattle.rg_run.specs.declared.played.RunEnd.{RunEnd}
+use Rattle.rg_run.proofs.Fits.{told_all}
 use Rattle.reorgdb.specs.Traced.{Traced}
 
 -- of a run
@@ -36,10 +36,6 @@ run_traced {V} look old ran new lines made trace end same is whole =
     (subst (λ (v : V). Traced old (look v) made) (sym same)
     (whole_traced old (look ran) lines made end whole))
 
-told_each : (o : Option Told) (P : Told → Type 0) → ((t : Told) → P t) → IfTold o P
-told_each None P each = tt
-told_each (Some t) P each = each t
-
 nothing_made : (o : Option Told) → MakesOnly (WritesOwn []) o o
 nothing_made None = tt
 nothing_made (Some t) =
@@ -48,9 +44,9 @@ nothing_made (Some t) =
 nothing_traced : (v : VolumeSeen) → Traced v v []
 nothing_traced v = record {
   legal = tt;
-  opening = told_each v.told _ (λ t few before was. tt);
-  openings = told_each v.told _ (λ t few before was. tt);
-  fit = told_each v.told _ (λ t few before was. tt);
+  opening = told_all v.told _ (λ t few before was. tt);
+  openings = told_all v.told _ (λ t few before was. tt);
+  fit = told_all v.told _ (λ t few before was. tt);
   full = tt;
   course = tt;
   log_full = tt;

@@ -11,7 +11,7 @@ use Rattle.rg_gen.specs.Deck.{deck_of}
 use Rattle.rg_print.specs.Print.{damaged_text, print_layout_text}
 use Rattle.rg_print.specs.declared.print.Close.{Close}
 use Rattle.rg_print.specs.declared.print.Close.TheVariants as closes
-use Rattle.rg_engine.specs.Volume.{VolumeSeen}
+use Rattle.rg_outside.specs.Volume.{VolumeSeen}
 use Rattle.rg_run.specs.Outside.{FailsAfter, IsEnd}
 use Rattle.rg_run.specs.Played.{TraceOf, TraceOfFront}
 use Rattle.rg_run.specs.Table.{Begins, EndsAtDown, EndsWhole}

@@ -11,7 +11,7 @@ use Rattle.rg_outside.specs.Faults.{Rose}
 use Rattle.rg_print.specs.Print.{damaged_text, print_text}
 use Rattle.rg_print.specs.declared.print.Close.TheVariants as closes
 use Rattle.rg_engine.specs.OnVolume.{IsTidyVolume}
-use Rattle.rg_engine.specs.Volume.{VolumeSeen}
+use Rattle.rg_outside.specs.Volume.{VolumeSeen}
 use Rattle.rg_base.specs.declared.set.Set.{Set}
 use Rattle.rg_outside.specs.Calls.{Told, read_of}
 use Rattle.rg_laws_crash.specs.SoundVolume.Sound.{IsSound}

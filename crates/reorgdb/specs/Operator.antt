@@ -4,6 +4,7 @@ use Rattle.std.specs.declared.alloc.Global.{Global}
 use Rattle.std.specs.declared.vec.Vec.{Vec}
 use Rattle.rg_file.specs.declared.reading.FileFault.{FileFault}
 use Rattle.rg_file.specs.declared.reading.FileFault.TheVariants as files
+use Rattle.rg_file.specs.Pages.{IsShort}
 use Rattle.rg_mem.specs.Script.{Script}
 use Rattle.rg_opts.specs.Operator.{IsOperatorFile, RefusesFile}
 use Rattle.rg_opts.specs.declared.operator.OperatorFault.TheVariants as faults
@@ -22,6 +23,11 @@ RefusesScript bytes refusals.OperatorFile = ⊥
 RefusesScript bytes refusals.VolumeBusy = ⊥
 RefusesScript bytes (refusals.VolumeShort length) = ⊥
 RefusesScript bytes refusals.NoMemory = Unit {0}
+
+-- the length that a refusal names is that of a file that was cut
+abbrev pub NamesShort : Refusal → Type 0
+NamesShort (refusals.VolumeShort length) = IsShort length
+NamesShort refusal = Unit {0}
 
 -- What is chosen by what was found. Where there is no file no operator of one is, and `main` takes
 -- that of the clock.

@@ -6,7 +6,7 @@
 use Rattle.std.specs.Prelude.{ℕ, ◌≡◌, List, ◌++◌, false, Option, Some, None, codes}
 use Rattle.std.specs.Fmt.{decimal}
 use Rattle.std.specs.Option.{is_none}
-use Rattle.rg_engine.specs.Volume.{VolumeSeen}
+use Rattle.rg_outside.specs.Volume.{VolumeSeen}
 use Rattle.rg_gen.specs.Summary.{summary_text}
 use Rattle.rg_print.specs.Print.{print_text}
 use Rattle.rg_print.specs.declared.print.Close.{Close}

@@ -1,7 +1,7 @@
 -- What holds of the trace of each call, by what is known of the volume before and after it. The
 -- rules are those of a run; a call without a run has no entry, and left the volume as it was.
 use Rattle.std.specs.Prelude.{List, None}
-use Rattle.rg_engine.specs.Volume.{VolumeSeen}
+use Rattle.rg_outside.specs.Volume.{VolumeSeen}
 use Rattle.rg_image.specs.Rules.{limit_of}
 use Rattle.rg_log.specs.Kept.{log_pages}
 use Rattle.rg_outside.specs.Faults.{Rose}

@@ -10,7 +10,7 @@
 //     specs/Refusals.antt.
 ghost use Rattle.std.specs.Prelude.{◌≡◌, IfOk, IfErr};
 ghost use Rattle.reorgdb.specs.Giving.{GivesOutput};
-ghost use Rattle.reorgdb.specs.Operator.{Chooses, IsScriptOf, RefusesScript};
+ghost use Rattle.reorgdb.specs.Operator.{Chooses, IsScriptOf, NamesShort, RefusesScript};
 ghost use Rattle.reorgdb.specs.Refusals.{volume_refusal, refusal_status, refusal_text};
 
 use crate::giving::give_output;
@@ -96,7 +96,9 @@ pub fn settle<R: Files<File = File> + Drop>(
     alloc: Global,
     held: &io::Result<HeldDescriptors>,
     faults: &mut Faults,
-) -> Result<Start<R>, Refusal> {
+) -> Result<Start<R>, Refusal>
+    ensures { IfErr result NamesShort }
+{
     let found = read_file(&rt, alloc, OPERATOR, OPERATOR_LIMIT + 1, faults);
     let operator = script(alloc, found)?;
     let volume = volume(rt, held)?;
@@ -142,7 +144,9 @@ fn read_script(alloc: Global, bytes: &[u8]) -> Result<ScriptOperator, Refusal>
 fn volume<R: Files<File = File> + Drop>(
     rt: R,
     held: &io::Result<HeldDescriptors>,
-) -> Result<FileVolume<Folder<'static, R>, File>, Refusal> {
+) -> Result<FileVolume<Folder<'static, R>, File>, Refusal>
+    ensures { IfErr result NamesShort }
+{
     match held {
         Ok(_) => match open_volume(rt, ".", VOLUME) {
             Ok(volume) => Ok(volume),

@@ -1,23 +1,18 @@
 use crate::top::{Finished, reorg_alone, reorg_main};
 use outside::{BytesSink, BytesSource, RubbishSource};
-use rg_base::set::Set;
 use rg_mem::script::ScriptOperator;
 use rg_mem::volume::{Failing, MemVolume};
 use rg_outside::sink::{GiveFault, Sink};
 use rg_outside::source::Source;
-use rg_outside::volume::Volume;
 use std::alloc::{AllocError, Global};
 use std::test::Fail;
 
-mod crashes;
 mod deaths;
-mod decks;
 mod judged;
 mod layouts;
 mod openings;
 mod operators;
 mod outside;
-mod utility;
 
 const ALL: usize = usize::MAX;
 
@@ -73,20 +68,9 @@ fn call<S: Source, K: Sink>(
     source: &mut S,
     sink: &mut K,
 ) -> Result<Came, AllocError> {
-    call_over(alloc, 9, words, source, sink)
-}
-
-// A call over copies of so many pages.
-fn call_over<S: Source, K: Sink>(
-    alloc: Global,
-    pages: u32,
-    words: &[&str],
-    source: &mut S,
-    sink: &mut K,
-) -> Result<Came, AllocError> {
     let words = owned(alloc, words)?;
     let operator = silent(alloc)?;
-    let volume = volume(alloc, pages)?;
+    let volume = volume(alloc, 9)?;
     Ok(came(&reorg_alone(alloc, &words, source, sink, volume, operator)))
 }
 
@@ -124,46 +108,6 @@ fn plays_decks(rt: HostRuntime) -> Result<(), Fail> {
             let came = call(rt.alloc(), &PLAY, &mut source, &mut sink)?;
             assert_eq!(rt; came, (0, entries), "at {deck:?}");
             assert_eq!(rt; sink.held(), print);
-        }
-    }
-    Ok(())
-}
-
-// A deck that inserts a row, whose text is spelled by so many equal bytes, and selects it.
-fn deck_of(alloc: Global, byte: u8, count: usize) -> Result<Vec<u8>, AllocError> {
-    let mut deck = b"1 INSERT 1 2 3 ".to_vec(alloc)?;
-    for _ in 0..count {
-        deck.push(byte)?;
-    }
-    deck.extend_from_slice(b"\n1 SELECT 1")?;
-    Ok(deck)
-}
-
-#[test]
-fn bounds_words(rt: HostRuntime) -> Result<(), Fail> {
-    for (byte, count, status) in [
-        (b'x', 800, 0),
-        (b'x', 801, 2),
-        (b'-', 801, 0),
-        (b'-', 802, 2),
-    ] {
-        let deck = deck_of(rt.alloc(), byte, count)?;
-        let mut sink = whole(rt.alloc(), ALL);
-        let mut source = BytesSource::new(&deck, ALL, NEVER);
-        let came = call(rt.alloc(), &PLAY, &mut source, &mut sink)?;
-        if status == 0 {
-            assert_eq!(rt; came, (0, 3), "at {count} of {byte}");
-            let mut print = b"0 - OPENED copy=1 rows=0 pages=0\n1 1 OK\n2 1 ROW 1 2 3 ".to_vec(
-                rt.alloc(),
-            )?;
-            for _ in 0..count {
-                print.push(byte)?;
-            }
-            print.extend_from_slice(b"\nEND entries=3 rows=0\n")?;
-            assert_eq!(rt; sink.held(), print.as_slice());
-        } else {
-            assert_eq!(rt; came, (2, 0), "at {count} of {byte}");
-            assert_eq!(rt; sink.held(), b"REFUSED deck line 1\n".as_slice());
         }
     }
     Ok(())
@@ -383,52 +327,4 @@ fn played_over(alloc: Global, volume: MemVolume, deck: &[u8]) -> Result<MemVolum
     let mut source = BytesSource::new(deck, ALL, NEVER);
     let mut sink = whole(alloc, ALL);
     Ok(reorg_alone(alloc, &words, &mut source, &mut sink, volume, operator).volume)
-}
-
-// The write of the COMMIT fails, or its sync: the print says DOWN. The calls of the opening fail
-// before any line.
-#[test]
-fn ends_down(rt: HostRuntime) -> Result<(), Fail> {
-    let alloc = rt.alloc();
-    let deck = b"1 INSERT 1 10 1 a\n1 COMMIT\n1 SELECT 1\nL\n";
-    let down = b"0 - OPENED copy=1 rows=0 pages=0\n1 1 OK\n2 1 3 DEVICE\n3 1 4 DOWN\n4 - 4 DOWN\n\
-        END entries=5 DOWN\n"
-        .as_slice();
-    let device = b"REFUSED volume device\n".as_slice();
-    for (fails_at, entries, print) in [(1, 0, device), (2, 0, device), (3, 5, down), (4, 5, down)] {
-        let volume = volume_failing(alloc, 1, fails_at)?;
-        let (came, printed) = print_over(alloc, volume, deck)?;
-        assert_eq!(rt; came, (6, entries), "at {fails_at}");
-        assert_eq!(rt; printed.as_slice(), print, "at {fails_at}");
-    }
-    Ok(())
-}
-
-// The log's first page is no log page.
-#[test]
-fn refuses_a_torn_log(rt: HostRuntime) -> Result<(), Fail> {
-    let alloc = rt.alloc();
-    let mut torn = MemVolume::new(alloc, 9, 1, 1, 1000, 400, &[], None)?;
-    torn.write(Set::Log, 1, &[255; 4096])?;
-    let (came, printed) = print_over(alloc, torn, FIRST_DECK)?;
-    assert_eq!(rt; came, (5, 0));
-    assert_eq!(rt;
-        printed.as_slice(),
-        b"REFUSED volume damaged LOG 1\n".as_slice()
-    );
-    Ok(())
-}
-
-// A call goes on from what the call before it committed. Its open unit is gone.
-#[test]
-fn goes_on(rt: HostRuntime) -> Result<(), Fail> {
-    let alloc = rt.alloc();
-    let deck = b"1 INSERT 5 50 1 abc\n1 COMMIT\n2 DELETE 5\n3 INSERT 6 60 1 d\n4 COMMIT\n";
-    let used = played_over(alloc, volume(alloc, 1)?, deck)?;
-    let (came, printed) = print_over(alloc, used, b"1 SELECT 5\n1 SELECT 6\n")?;
-    let print = b"0 - OPENED copy=1 rows=1 pages=1\n1 1 ROW 5 50 1 abc\n2 1 100 NONE\n\
-        END entries=3 rows=1\n";
-    assert_eq!(rt; came, (0, 3));
-    assert_eq!(rt; printed.as_slice(), print.as_slice());
-    Ok(())
 }

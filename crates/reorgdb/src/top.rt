@@ -3,13 +3,13 @@ ghost use Rattle.std.specs.Prelude.{◌+◌, map, string_bytes};
 ghost use Rattle.reorgdb.specs.Answer.{seen, Concludes, Delivers, output_of};
 ghost use Rattle.reorgdb.specs.Contract.{Completes};
 ghost use Rattle.rg_run.specs.Asked.{HasAnswered, answers_in};
-ghost use Rattle.rg_engine.specs.Volume.{seen_volume};
 ghost use Rattle.reorgdb.specs.Reading.{TakesAtMost};
 ghost use Rattle.reorgdb.specs.Traced.{Traced};
 
 use crate::giving::give_output;
-use crate::work::{Work, carry_out};
+use crate::work::{Conclusion, carry_out};
 use rg_deck::read::DECK_LIMIT;
+use rg_desk::run::Run;
 use rg_outside::operator::Operator;
 use rg_outside::sink::Sink;
 use rg_outside::source::Source;
@@ -48,9 +48,7 @@ pub fn reorg_main<R: Threads + Wait + Clock + Sync, S: Source, K: Sink, V: Volum
     ensures completes { Completes (map string_bytes words.now)
         (seen S.left S.faults source.old) (seen S.left S.faults source.new)
         (seen K.contents K.faults sink.old) (seen K.contents K.faults sink.new)
-        (seen_volume V.told V.faults V.capacities volume)
-        (seen_volume V.told V.faults V.capacities result.volume)
-        result.status result.trace.items }
+        (V.seen volume) (V.seen result.volume) result.status result.trace.items }
     // The operator was asked for the entries that have its answer, and for no other.
     ensures asked { HasAnswered ((Operator-box operator).answers operator.value)
         (answers_in result.trace.items)
@@ -71,15 +69,19 @@ pub fn reorg_alone<S: Source, K: Sink, V: Volume + Send>(
     ensures completes { Completes (map string_bytes words.now)
         (seen S.left S.faults source.old) (seen S.left S.faults source.new)
         (seen K.contents K.faults sink.old) (seen K.contents K.faults sink.new)
-        (seen_volume V.told V.faults V.capacities volume)
-        (seen_volume V.told V.faults V.capacities result.volume)
-        result.status result.trace.items }
+        (V.seen volume) (V.seen result.volume) result.status result.trace.items }
     // The operator was asked for the entries that have its answer, and for no other.
     ensures asked { HasAnswered ((Operator-box operator).answers operator.value)
         (answers_in result.trace.items)
         ((Operator-box result.operator).answers result.operator.value) }
 {
-    let (status, trace, volume, operator) = answer(alloc, words, source, sink, volume, operator);
+    let run = answer(alloc, words, source, sink, volume, operator);
+    let Run {
+        volume,
+        operator,
+        trace,
+        end: status,
+    } = run;
     Finished {
         status,
         trace,
@@ -89,11 +91,11 @@ pub fn reorg_alone<S: Source, K: Sink, V: Volume + Send>(
 }
 
 // Gives the output, and returns the status.
-fn deliver<K: Sink, V, O>(sink: &mut K, work: &Work<V, O>) -> u8
-    ensures delivered { Delivers work.now.outcome (output_of work.now.outcome work.now.text)
+fn deliver<K: Sink>(sink: &mut K, told: &Conclusion) -> u8
+    ensures delivered { Delivers told.now.outcome (output_of told.now.outcome told.now.text)
         (seen K.contents K.faults sink.old) (seen K.contents K.faults sink.new) result }
 {
-    give_output(sink, work.output(), work.outcome.status())
+    give_output(sink, told.output(), told.outcome.status())
 }
 
 // Reads, plays and gives. The operator is of any type.
@@ -104,26 +106,17 @@ fn answer<S: Source, K: Sink, V: Volume, O: Operator>(
     sink: &mut K,
     volume: V,
     operator: O,
-) -> (u8, Vec<Entry>, V, O)
+) -> Run<V, O, u8>
     ensures concludes { Concludes (map string_bytes words.now)
         (seen S.left S.faults source.old) (seen S.left S.faults source.new)
         (seen K.contents K.faults sink.old) (seen K.contents K.faults sink.new)
-        (seen_volume V.told V.faults V.capacities volume)
-        (seen_volume V.told V.faults V.capacities result.2)
-        result.0 result.1.items }
-    ensures traced { Traced (seen_volume V.told V.faults V.capacities volume)
-        (seen_volume V.told V.faults V.capacities result.2) result.1.items }
+        (V.seen volume) (V.seen result.volume) result.end result.trace.items }
+    ensures traced { Traced (V.seen volume) (V.seen result.volume) result.trace.items }
     ensures bounded { TakesAtMost (DECK_LIMIT + 1) (S.left source.old) (S.left source.new) }
-    ensures asked { HasAnswered (O.answers operator) (answers_in result.1.items)
-        (O.answers result.3) }
+    ensures asked { HasAnswered (O.answers operator) (answers_in result.trace.items)
+        (O.answers result.operator) }
 {
     let work = carry_out(alloc, words, source, volume, operator);
-    let status = deliver(sink, &work);
-    let Work {
-        trace,
-        volume,
-        operator,
-        ..
-    } = work;
-    (status, trace, volume, operator)
+    let status = deliver(sink, &work.end);
+    work.ended(status)
 }

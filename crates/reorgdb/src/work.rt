@@ -11,7 +11,7 @@ ghost use Rattle.std.specs.Prelude.{ℕ, ◌≡◌, ◌≢◌, ◌≤◌, ◌+�
 ghost use Rattle.std.specs.Prelude.{OnErr, string_bytes};
 ghost use Rattle.std.specs.List.{AllByRecursion};
 ghost use Rattle.rg_stmt.specs.declared.line.Line.{Line};
-ghost use Rattle.rg_engine.specs.Volume.{VolumeSeen, seen_volume};
+ghost use Rattle.rg_outside.specs.Volume.{VolumeSeen};
 ghost use Rattle.rg_gen.specs.Deck.{deck_of};
 ghost use Rattle.rg_run.specs.Asked.{HasAnswered, answers_in};
 ghost use Rattle.rg_run.specs.Outside.{IsEnd};
@@ -32,12 +32,13 @@ use crate::telling::{Tells, run_text};
 use rg_base::bytes::Bytes;
 use rg_base::no_memory::NoMemory;
 use rg_deck::read::{DECK_LIMIT, DeckFault, read_deck};
+use rg_desk::run::Run;
 use rg_gen::make::{ROWS_LIMIT, make};
 use rg_outside::operator::Operator;
 use rg_outside::source::Source;
 use rg_outside::volume::Volume;
 use rg_print::print::{Close, print_layout};
-use rg_run::played::{Judged, Played, RunEnd};
+use rg_run::played::{Judged, JudgedEnd, Played, RunEnd};
 use rg_run::run::{run, run_judged};
 use rg_stmt::event::{Entry, Event};
 use rg_stmt::line::Line;
@@ -45,76 +46,34 @@ use rg_words::words;
 use rg_words::words::{Words, WordsFault};
 use std::alloc::Global;
 
-/// A call before its output is given: what it comes to, the trace, the text of the run or of the
-/// refusal of a deck, and the volume and the operator that it was given.
+/// What a call comes to before its output is given, and the text of the run or of the refusal of a
+/// deck.
 #[derive(Drop)]
-pub struct Work<V, O> {
+pub struct Conclusion {
     pub outcome: Outcome,
-    pub trace: Vec<Entry>,
     pub text: Bytes,
-    pub volume: V,
-    pub operator: O,
 }
 
-impl<V, O> Work<V, O> {
-    // The outcome with a trace, and no text. It takes no memory.
-    fn with_trace(
-        alloc: Global,
-        outcome: Outcome,
-        trace: Vec<Entry>,
-        volume: V,
-        operator: O,
-    ) -> Work<V, O>
-        ensures outcome { result.outcome ≡ outcome }
-        ensures trace { result.trace ≡ trace }
-        ensures volume { result.volume ≡ volume }
-        ensures operator { result.operator ≡ operator }
+impl Conclusion {
+    // The outcome, and no text. It takes no memory.
+    fn bare(alloc: Global, outcome: Outcome) -> Conclusion
+        ensures { result.outcome ≡ outcome }
     {
-        Work {
+        Conclusion {
             outcome,
-            trace,
             text: Bytes::new(Vec::new(alloc)),
-            volume,
-            operator,
         }
     }
 
-    // The outcome with a trace and its text, or out of memory where there was none for the text.
-    fn with_text(
-        alloc: Global,
-        outcome: Outcome,
-        text: Result<Bytes, NoMemory>,
-        trace: Vec<Entry>,
-        volume: V,
-        operator: O,
-    ) -> Work<V, O>
-        ensures ok { IfOk text
-            (λ made. (result.outcome ≡ outcome) × (result.text ≡ made)) }
+    // The outcome with its text, or out of memory where there was none for the text.
+    fn with_text(alloc: Global, outcome: Outcome, text: Result<Bytes, NoMemory>) -> Conclusion
+        ensures ok { IfOk text (λ made. (result.outcome ≡ outcome) × (result.text ≡ made)) }
         ensures err { OnErr text (result.outcome ≡ Outcome.NoMemory) }
-        ensures trace { result.trace ≡ trace }
-        ensures volume { result.volume ≡ volume }
-        ensures operator { result.operator ≡ operator }
     {
         match text {
-            Ok(text) => Work {
-                outcome,
-                trace,
-                text,
-                volume,
-                operator,
-            },
-            Err(_) => Work::with_trace(alloc, Outcome::NoMemory, trace, volume, operator),
+            Ok(text) => Conclusion { outcome, text },
+            Err(_) => Conclusion::bare(alloc, Outcome::NoMemory),
         }
-    }
-
-    // The outcome without a trace.
-    fn bare(alloc: Global, outcome: Outcome, volume: V, operator: O) -> Work<V, O>
-        ensures outcome { result.outcome ≡ outcome }
-        ensures trace { result.trace.items ≡ [] }
-        ensures volume { result.volume ≡ volume }
-        ensures operator { result.operator ≡ operator }
-    {
-        Work::with_trace(alloc, outcome, Vec::new(alloc), volume, operator)
     }
 
     /// The whole output.
@@ -132,6 +91,24 @@ impl<V, O> Work<V, O> {
     }
 }
 
+/// A call before its output is given.
+pub type Work<V, O> = Run<V, O, Conclusion>;
+
+// A call in which no volume was opened. It takes no memory.
+fn bare<V, O>(alloc: Global, outcome: Outcome, volume: V, operator: O) -> Work<V, O>
+    ensures outcome { result.end.outcome ≡ outcome }
+    ensures trace { result.trace.items ≡ [] }
+    ensures volume { result.volume ≡ volume }
+    ensures operator { result.operator ≡ operator }
+{
+    Run {
+        volume,
+        operator,
+        trace: Vec::new(alloc),
+        end: Conclusion::bare(alloc, outcome),
+    }
+}
+
 /// Reads the words. For `play` and `judge` it reads the whole deck and plays it, for `gen` it makes
 /// the deck and plays it, and for `layout` it opens the volume and makes its layout.
 pub fn carry_out<S: Source, V: Volume, O: Operator>(
@@ -141,17 +118,14 @@ pub fn carry_out<S: Source, V: Volume, O: Operator>(
     volume: V,
     operator: O,
 ) -> Work<V, O>
-    ensures comes { Comes result.outcome (map string_bytes words.now)
+    ensures comes { Comes result.end.outcome (map string_bytes words.now)
         (seen S.left S.faults source.old) (seen S.left S.faults source.new)
-        (seen_volume V.told V.faults V.capacities volume)
-        (seen_volume V.told V.faults V.capacities result.volume)
-        result.trace.items result.text }
-    ensures traced { Traced (seen_volume V.told V.faults V.capacities volume)
-        (seen_volume V.told V.faults V.capacities result.volume) result.trace.items }
+        (V.seen volume) (V.seen result.volume) result.trace.items result.end.text }
+    ensures traced { Traced (V.seen volume) (V.seen result.volume) result.trace.items }
     ensures bounded { TakesAtMost (DECK_LIMIT + 1) (S.left source.old) (S.left source.new) }
     ensures later { S.faults source.old ≤ S.faults source.new }
-    ensures finds { Finds result.outcome (seen_volume V.told V.faults V.capacities volume)
-        (seen_volume V.told V.faults V.capacities result.volume) result.trace.items }
+    ensures finds { Finds result.end.outcome (V.seen volume) (V.seen result.volume)
+        result.trace.items }
     ensures asked { HasAnswered (O.answers operator) (answers_in result.trace.items)
         (O.answers result.operator) }
 {
@@ -163,7 +137,7 @@ pub fn carry_out<S: Source, V: Volume, O: Operator>(
         Ok(Words::Gen { seed, rows }) => play_made(alloc, seed, rows, volume, operator),
         Ok(Words::Layout) => show_layout(alloc, volume, operator),
         Ok(Words::Threads { .. }) => unreachable!(),
-        Err(WordsFault::Unknown) => Work::bare(alloc, Outcome::Words, volume, operator),
+        Err(WordsFault::Unknown) => bare(alloc, Outcome::Words, volume, operator),
     }
 }
 
@@ -176,25 +150,22 @@ fn play_source<S: Source, V: Volume, O: Operator>(
     operator: O,
 ) -> Work<V, O>
     ensures plays { (words : List (List ℕ)) → AsksDeck tells words
-        → PlaysTo result.outcome words
+        → PlaysTo result.end.outcome words
         (seen S.left S.faults source.old) (seen S.left S.faults source.new)
-        (seen_volume V.told V.faults V.capacities volume)
-        (seen_volume V.told V.faults V.capacities result.volume)
-        result.trace.items result.text }
-    ensures traced { Traced (seen_volume V.told V.faults V.capacities volume)
-        (seen_volume V.told V.faults V.capacities result.volume) result.trace.items }
+        (V.seen volume) (V.seen result.volume) result.trace.items result.end.text }
+    ensures traced { Traced (V.seen volume) (V.seen result.volume) result.trace.items }
     ensures bounded { TakesAtMost (DECK_LIMIT + 1) (S.left source.old) (S.left source.new) }
     ensures later { S.faults source.old ≤ S.faults source.new }
-    ensures finds { Finds result.outcome (seen_volume V.told V.faults V.capacities volume)
-        (seen_volume V.told V.faults V.capacities result.volume) result.trace.items }
+    ensures finds { Finds result.end.outcome (V.seen volume) (V.seen result.volume)
+        result.trace.items }
     ensures asked { HasAnswered (O.answers operator) (answers_in result.trace.items)
         (O.answers result.operator) }
 {
     match read_source(alloc, source) {
         Ok(bytes) => play_bytes(alloc, tells, &bytes, volume, operator),
-        Err(ReadFault::Failed) => Work::bare(alloc, Outcome::Source, volume, operator),
-        Err(ReadFault::Long) => Work::bare(alloc, Outcome::Long, volume, operator),
-        Err(ReadFault::NoMemory) => Work::bare(alloc, Outcome::NoMemory, volume, operator),
+        Err(ReadFault::Failed) => bare(alloc, Outcome::Source, volume, operator),
+        Err(ReadFault::Long) => bare(alloc, Outcome::Long, volume, operator),
+        Err(ReadFault::NoMemory) => bare(alloc, Outcome::NoMemory, volume, operator),
     }
 }
 
@@ -206,20 +177,18 @@ fn play_bytes<V: Volume, O: Operator>(
     operator: O,
 ) -> Work<V, O>
     requires { length bytes.now ≤ DECK_LIMIT }
-    ensures deals { DealsWithBytes tells (seen_volume V.told V.faults V.capacities volume)
-        (seen_volume V.told V.faults V.capacities result.volume) bytes.now result.outcome
-        result.trace.items result.text }
-    ensures traced { Traced (seen_volume V.told V.faults V.capacities volume)
-        (seen_volume V.told V.faults V.capacities result.volume) result.trace.items }
-    ensures finds { Finds result.outcome (seen_volume V.told V.faults V.capacities volume)
-        (seen_volume V.told V.faults V.capacities result.volume) result.trace.items }
+    ensures deals { DealsWithBytes tells (V.seen volume)
+        (V.seen result.volume) bytes.now result.end.outcome result.trace.items result.end.text }
+    ensures traced { Traced (V.seen volume) (V.seen result.volume) result.trace.items }
+    ensures finds { Finds result.end.outcome (V.seen volume) (V.seen result.volume)
+        result.trace.items }
     ensures asked { HasAnswered (O.answers operator) (answers_in result.trace.items)
         (O.answers result.operator) }
 {
     match read_deck(alloc, bytes) {
         Ok(lines) => play_lines(alloc, tells, volume, operator, lines),
         Err(DeckFault::Line { number }) => refuse_line(alloc, number, volume, operator),
-        Err(DeckFault::NoMemory) => Work::bare(alloc, Outcome::NoMemory, volume, operator),
+        Err(DeckFault::NoMemory) => bare(alloc, Outcome::NoMemory, volume, operator),
     }
 }
 
@@ -234,13 +203,11 @@ fn play_made<V: Volume, O: Operator>(
     requires least { 1 ≤ rows }
     requires greatest { rows ≤ ROWS_LIMIT }
     ensures deals { DealsWithLines (Tells.Summary seed rows)
-        (seen_volume V.told V.faults V.capacities volume)
-        (seen_volume V.told V.faults V.capacities result.volume) (deck_of seed rows)
-        result.outcome result.trace.items result.text }
-    ensures traced { Traced (seen_volume V.told V.faults V.capacities volume)
-        (seen_volume V.told V.faults V.capacities result.volume) result.trace.items }
-    ensures finds { Finds result.outcome (seen_volume V.told V.faults V.capacities volume)
-        (seen_volume V.told V.faults V.capacities result.volume) result.trace.items }
+        (V.seen volume) (V.seen result.volume) (deck_of seed rows)
+        result.end.outcome result.trace.items result.end.text }
+    ensures traced { Traced (V.seen volume) (V.seen result.volume) result.trace.items }
+    ensures finds { Finds result.end.outcome (V.seen volume) (V.seen result.volume)
+        result.trace.items }
     ensures asked { HasAnswered (O.answers operator) (answers_in result.trace.items)
         (O.answers result.operator) }
 {
@@ -254,7 +221,7 @@ fn play_made<V: Volume, O: Operator>(
                 lines,
             )
         }
-        Err(_) => Work::bare(alloc, Outcome::NoMemory, volume, operator),
+        Err(_) => bare(alloc, Outcome::NoMemory, volume, operator),
     }
 }
 
@@ -267,13 +234,11 @@ fn play_lines<V: Volume, O: Operator>(
     lines: Vec<Line>,
 ) -> Work<V, O>
     requires { AllByRecursion IsPlayed lines.items }
-    ensures deals { DealsWithLines tells (seen_volume V.told V.faults V.capacities volume)
-        (seen_volume V.told V.faults V.capacities result.volume) lines.items result.outcome
-        result.trace.items result.text }
-    ensures traced { Traced (seen_volume V.told V.faults V.capacities volume)
-        (seen_volume V.told V.faults V.capacities result.volume) result.trace.items }
-    ensures finds { Finds result.outcome (seen_volume V.told V.faults V.capacities volume)
-        (seen_volume V.told V.faults V.capacities result.volume) result.trace.items }
+    ensures deals { DealsWithLines tells (V.seen volume)
+        (V.seen result.volume) lines.items result.end.outcome result.trace.items result.end.text }
+    ensures traced { Traced (V.seen volume) (V.seen result.volume) result.trace.items }
+    ensures finds { Finds result.end.outcome (V.seen volume) (V.seen result.volume)
+        result.trace.items }
     ensures asked { HasAnswered (O.answers operator) (answers_in result.trace.items)
         (O.answers result.operator) }
 {
@@ -293,21 +258,23 @@ fn run_lines<V: Volume, O: Operator>(
     lines: Vec<Line>,
 ) -> Judged<V, O>
     requires { AllByRecursion IsPlayed lines.items }
-    ensures whole { Whole (seen_volume V.told V.faults V.capacities volume)
-        (seen_volume V.told V.faults V.capacities result.played.volume) lines.items
-        result.played.trace.items result.played.end }
-    ensures asked { HasAnswered (O.answers operator) (answers_in result.played.trace.items)
-        (O.answers result.played.operator) }
-    ensures told { result.played.end ≢ RunEnd.NoMemory
-        → IsTold tells (seen_volume V.told V.faults V.capacities volume)
-        (seen_volume V.told V.faults V.capacities result.played.volume)
-        result.played.trace.items result.verdict }
+    ensures whole { Whole (V.seen volume) (V.seen result.volume) lines.items
+        result.trace.items result.end.end }
+    ensures asked { HasAnswered (O.answers operator) (answers_in result.trace.items)
+        (O.answers result.operator) }
+    ensures told { result.end.end ≢ RunEnd.NoMemory
+        → IsTold tells (V.seen volume) (V.seen result.volume)
+        result.trace.items result.end.verdict }
 {
     match tells {
-        Tells::Print { .. } => Judged {
-            played: run(alloc, volume, operator, lines),
-            verdict: None,
-        },
+        Tells::Print { .. } => {
+            let played = run(alloc, volume, operator, lines);
+            let end = JudgedEnd {
+                end: played.end,
+                verdict: None,
+            };
+            played.ended(end)
+        }
         Tells::Verdict | Tells::Summary { .. } => run_judged(alloc, volume, operator, lines),
     }
 }
@@ -315,20 +282,18 @@ fn run_lines<V: Volume, O: Operator>(
 // Opens the volume and makes its layout, which is that of a deck of one line.
 fn show_layout<V: Volume, O: Operator>(alloc: Global, volume: V, operator: O) -> Work<V, O>
     ensures shows { (words : List (List ℕ)) (source : Seen) → IsShow words
-        → ShowsTo result.outcome words source source
-        (seen_volume V.told V.faults V.capacities volume)
-        (seen_volume V.told V.faults V.capacities result.volume) result.trace.items result.text }
-    ensures traced { Traced (seen_volume V.told V.faults V.capacities volume)
-        (seen_volume V.told V.faults V.capacities result.volume) result.trace.items }
-    ensures finds { Finds result.outcome (seen_volume V.told V.faults V.capacities volume)
-        (seen_volume V.told V.faults V.capacities result.volume) result.trace.items }
+        → ShowsTo result.end.outcome words source source
+        (V.seen volume) (V.seen result.volume) result.trace.items result.end.text }
+    ensures traced { Traced (V.seen volume) (V.seen result.volume) result.trace.items }
+    ensures finds { Finds result.end.outcome (V.seen volume) (V.seen result.volume)
+        result.trace.items }
     ensures asked { HasAnswered (O.answers operator) (answers_in result.trace.items)
         (O.answers result.operator) }
 {
     let mut lines = Vec::new(alloc);
     match lines.push(Line::Show) {
         Ok(()) => print_shown(alloc, run(alloc, volume, operator, lines)),
-        Err(_) => Work::bare(alloc, Outcome::NoMemory, volume, operator),
+        Err(_) => bare(alloc, Outcome::NoMemory, volume, operator),
     }
 }
 
@@ -336,74 +301,90 @@ fn show_layout<V: Volume, O: Operator>(alloc: Global, volume: V, operator: O) ->
 fn refuse_line<V, O>(alloc: Global, line: u32, volume: V, operator: O) -> Work<V, O>
     ensures deals { (tells : Tells) (before after : VolumeSeen) (bytes : List ℕ)
         → IsRefusedAt bytes line
-        → DealsWithBytes tells before after bytes result.outcome result.trace.items
-        result.text }
+        → DealsWithBytes tells before after bytes result.end.outcome result.trace.items
+        result.end.text }
     ensures outcome { (before : VolumeSeen) (trace : List Entry)
-        → Finds result.outcome before before trace }
+        → Finds result.end.outcome before before trace }
     ensures trace { result.trace.items ≡ [] }
     ensures volume { result.volume ≡ volume }
     ensures operator { result.operator ≡ operator }
 {
     match deck_refusal(alloc, line) {
-        Ok(text) => Work {
-            outcome: Outcome::Deck { line },
-            trace: Vec::new(alloc),
-            text,
+        Ok(text) => Run {
             volume,
             operator,
+            trace: Vec::new(alloc),
+            end: Conclusion {
+                outcome: Outcome::Deck { line },
+                text,
+            },
         },
-        Err(_) => Work::bare(alloc, Outcome::NoMemory, volume, operator),
+        Err(_) => bare(alloc, Outcome::NoMemory, volume, operator),
     }
 }
 
 // The text of a run, by what is to be told of it.
 fn tell_run<V, O>(alloc: Global, tells: Tells, judged: Judged<V, O>) -> Work<V, O>
     ensures deals { (before after : VolumeSeen) (lines : List Line)
-        → Ends before after lines judged.played.trace.items judged.played.end
-        → IsEnd before after judged.played.trace.items judged.played.end
-        → (judged.played.end ≢ RunEnd.NoMemory
-        → IsTold tells before after judged.played.trace.items judged.verdict)
-        → DealsWithLines tells before after lines result.outcome result.trace.items result.text }
+        → Ends before after lines judged.trace.items judged.end.end
+        → IsEnd before after judged.trace.items judged.end.end
+        → (judged.end.end ≢ RunEnd.NoMemory
+        → IsTold tells before after judged.trace.items judged.end.verdict)
+        → DealsWithLines tells before after lines result.end.outcome result.trace.items
+        result.end.text }
     ensures finds { (before after : VolumeSeen)
-        → IsEnd before after judged.played.trace.items judged.played.end
-        → Finds result.outcome before after result.trace.items }
-    ensures trace { result.trace.items ≡ judged.played.trace.items }
-    ensures volume { result.volume ≡ judged.played.volume }
-    ensures operator { result.operator ≡ judged.played.operator }
+        → IsEnd before after judged.trace.items judged.end.end
+        → Finds result.end.outcome before after result.trace.items }
+    ensures trace { result.trace.items ≡ judged.trace.items }
+    ensures volume { result.volume ≡ judged.volume }
+    ensures operator { result.operator ≡ judged.operator }
 {
-    let Judged { played, verdict } = judged;
-    let Played {
-        volume,
-        operator,
-        trace,
-        end,
-    } = played;
+    let JudgedEnd { end, verdict } = judged.end;
+    let conclusion = conclude(alloc, tells, &judged.trace, end, verdict);
+    judged.ended(conclusion)
+}
+
+// What the trace of a run and its end come to.
+fn conclude(
+    alloc: Global,
+    tells: Tells,
+    trace: &[Entry],
+    end: RunEnd,
+    verdict: Option<usize>,
+) -> Conclusion
+    ensures deals { (before after : VolumeSeen) (lines : List Line)
+        → Ends before after lines trace.now end → IsEnd before after trace.now end
+        → (end ≢ RunEnd.NoMemory → IsTold tells before after trace.now verdict)
+        → DealsWithLines tells before after lines result.outcome trace.now result.text }
+    ensures finds { (before after : VolumeSeen) → IsEnd before after trace.now end
+        → Finds result.outcome before after trace.now }
+{
     match end {
-        RunEnd::NoMemory => Work::with_trace(alloc, Outcome::NoMemory, trace, volume, operator),
+        RunEnd::NoMemory => Conclusion::bare(alloc, Outcome::NoMemory),
         RunEnd::DeviceAtOpening => {
             // In the first opening nothing was played. After a death it is told what was.
             if trace.is_empty() {
-                return Work::with_trace(alloc, Outcome::Device, trace, volume, operator);
+                return Conclusion::bare(alloc, Outcome::Device);
             }
-            let text = run_text(alloc, tells, &trace, Close::Down, verdict);
-            Work::with_text(alloc, Outcome::Down, text, trace, volume, operator)
+            let text = run_text(alloc, tells, trace, Close::Down, verdict);
+            Conclusion::with_text(alloc, Outcome::Down, text)
         }
         RunEnd::Damaged { set, page } => {
             let outcome = Outcome::Damaged { set, page };
             if trace.is_empty() {
                 let text = damaged_refusal(alloc, set, page);
-                return Work::with_text(alloc, outcome, text, trace, volume, operator);
+                return Conclusion::with_text(alloc, outcome, text);
             }
-            let text = run_text(alloc, tells, &trace, Close::Damaged { set, page }, verdict);
-            Work::with_text(alloc, outcome, text, trace, volume, operator)
+            let text = run_text(alloc, tells, trace, Close::Damaged { set, page }, verdict);
+            Conclusion::with_text(alloc, outcome, text)
         }
         RunEnd::Down => {
-            let text = run_text(alloc, tells, &trace, Close::Down, verdict);
-            Work::with_text(alloc, Outcome::Down, text, trace, volume, operator)
+            let text = run_text(alloc, tells, trace, Close::Down, verdict);
+            Conclusion::with_text(alloc, Outcome::Down, text)
         }
         RunEnd::Whole { rows } => {
-            let text = run_text(alloc, tells, &trace, Close::Rows(rows), verdict);
-            Work::with_text(alloc, Outcome::Played, text, trace, volume, operator)
+            let text = run_text(alloc, tells, trace, Close::Rows(rows), verdict);
+            Conclusion::with_text(alloc, Outcome::Played, text)
         }
     }
 }
@@ -412,39 +393,39 @@ fn tell_run<V, O>(alloc: Global, tells: Tells, judged: Judged<V, O>) -> Work<V, 
 fn print_shown<V, O>(alloc: Global, played: Played<V, O>) -> Work<V, O>
     ensures shows { (before after : VolumeSeen) (words : List (List ℕ)) (source : Seen)
         → Ends before after (Line.Show ∷ []) played.trace.items played.end → IsShow words
-        → ShowsTo result.outcome words source source before after result.trace.items
-        result.text }
+        → ShowsTo result.end.outcome words source source before after result.trace.items
+        result.end.text }
     ensures finds { (before after : VolumeSeen)
         → Ends before after (Line.Show ∷ []) played.trace.items played.end
         → IsEnd before after played.trace.items played.end
-        → Finds result.outcome before after result.trace.items }
+        → Finds result.end.outcome before after result.trace.items }
     ensures trace { result.trace.items ≡ played.trace.items }
     ensures volume { result.volume ≡ played.volume }
     ensures operator { result.operator ≡ played.operator }
 {
-    let Played {
-        volume,
-        operator,
-        trace,
-        end,
-    } = played;
+    let conclusion = conclude_shown(alloc, &played.trace, played.end);
+    played.ended(conclusion)
+}
+
+// What the trace of a run of one line that asks for the layout, and its end, come to.
+fn conclude_shown(alloc: Global, trace: &[Entry], end: RunEnd) -> Conclusion
+    ensures shows { (before after : VolumeSeen) (words : List (List ℕ)) (source : Seen)
+        → Ends before after (Line.Show ∷ []) trace.now end → IsShow words
+        → ShowsTo result.outcome words source source before after trace.now result.text }
+    ensures finds { (before after : VolumeSeen)
+        → Ends before after (Line.Show ∷ []) trace.now end → IsEnd before after trace.now end
+        → Finds result.outcome before after trace.now }
+{
     match end {
-        RunEnd::NoMemory => Work::with_trace(alloc, Outcome::NoMemory, trace, volume, operator),
-        RunEnd::DeviceAtOpening | RunEnd::Down => Work::with_trace(
-            alloc,
-            Outcome::Device,
-            trace,
-            volume,
-            operator,
-        ),
+        RunEnd::NoMemory => Conclusion::bare(alloc, Outcome::NoMemory),
+        RunEnd::DeviceAtOpening | RunEnd::Down => Conclusion::bare(alloc, Outcome::Device),
         RunEnd::Damaged { set, page } => {
             let text = damaged_refusal(alloc, set, page);
-            let outcome = Outcome::Damaged { set, page };
-            Work::with_text(alloc, outcome, text, trace, volume, operator)
+            Conclusion::with_text(alloc, Outcome::Damaged { set, page }, text)
         }
         RunEnd::Whole { .. } => {
-            let text = layout_text(alloc, &trace);
-            Work::with_text(alloc, Outcome::Shown, text, trace, volume, operator)
+            let text = layout_text(alloc, trace);
+            Conclusion::with_text(alloc, Outcome::Shown, text)
         }
     }
 }

@@ -1,6 +1,9 @@
 pub mod Dashes
+pub mod Each
 pub mod FirstView
 pub mod MapView
+pub mod SamePlace
+pub mod Small
 pub mod Numerals
 pub mod Walk
 pub mod Fields

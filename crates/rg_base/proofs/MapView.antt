@@ -1,13 +1,12 @@
 -- What a `BTreeMap` does is what the finite map of its entries does.
-use Rattle.std.proofs.Common.{◌≡◌, ℕ, Bool, true, false, cond, List, [], ◌∷◌, ◌&&◌, Option, Some}
+use Rattle.std.proofs.Common.{◌≡◌, ℕ, Bool, true, false, cond, List, [], ◌∷◌, Option, Some}
 use Rattle.std.proofs.Common.{None, filter, length, refl, sym, ◌∙◌, ap}
 use Rattle.std.proofs.Math.Dec.{T}
 use Rattle.std.specs.Ordering.{nat_cmp, eq_by_cmp, is_eq, is_lt}
 use Rattle.std.specs.List.{AllByRecursion}
 use Rattle.std.specs.List.Sorted.{IsStrictlySortedBy}
 use Rattle.std.proofs.lemmas.Cmp.{eq_by_cmp_equiv, nat_cmp_total}
-use Rattle.std.specs.declared.cmp.Ordering.{Ordering}
-use Rattle.std.specs.declared.cmp.Ordering.TheVariants.{Less, Equal, Greater}
+use Rattle.std.specs.declared.cmp.Ordering.TheVariants.{Less}
 use Rattle.std.specs.FinMap as map
 use Rattle.std.specs.FinMap.{FinMap, find, is_sorted, same_map, nat_cmp-IsAntisymmetric}
 use Rattle.std.specs.FinMap.{get-from_entries, get-from_sorted, entries-from_sorted, from_sorted}
@@ -16,6 +15,7 @@ use Rattle.std.specs.FinMap.Entries.{below_all}
 use Rattle.std.specs.Map.{lookup, keys_of}
 use Rattle.std.specs.BTreeMap.{BTreeMap, get, is_at, Updates}
 use Rattle.rg_base.specs.Retained.{passes, retain_entries}
+use Rattle.rg_base.proofs.Small.{both_hold, cmp_one}
 
 find-lookup : {V : Type 0} (es : List (ℕ × V)) (q : ℕ)
     → find nat_cmp q es ≡ lookup (is_at (nat_cmp q)) es
@@ -26,18 +26,6 @@ find-lookup (e ∷ es) q =
 -- the key is asked for from either side
 other_way : (k q : ℕ) → is_at (nat_cmp k) q ≡ eq_by_cmp nat_cmp q k
 other_way k q = sym ((eq_by_cmp_equiv nat_cmp_total).symm q k)
-
-both_hold : (a b : Bool) → T a → T b → T (a && b)
-both_hold true b p q = q
-both_hold false b p q = absurd p
-
-equal_of : (o : Ordering) → is_eq o ≡ true → o ≡ Equal
-equal_of Less e = absurd (cc (e))
-equal_of Equal e = refl
-equal_of Greater e = absurd (cc (e))
-
-key_of : (q k : ℕ) → is_eq (nat_cmp q k) ≡ true → q ≡ k
-key_of q k e = nat_cmp-IsAntisymmetric q k (equal_of (nat_cmp q k) e)
 
 module _ {V : Type 0} where
   abbrev pub view : BTreeMap ℕ V → FinMap nat_cmp V
@@ -134,8 +122,8 @@ module _ {V : Type 0} where
       find-cond q (p e) e (filter p es)
       ∙ at_first (is_eq (nat_cmp q e.0)) (p e) test q e.1 (find nat_cmp q (filter p es))
       (find nat_cmp q es)
-      (λ same. ap (λ k. test k e.1) (key_of q e.0 same))
-      (λ same. ap (λ k. find nat_cmp k (filter p es)) (key_of q e.0 same)
+      (λ same. ap (λ k. test k e.1) (cmp_one q e.0 same))
+      (λ same. ap (λ k. find nat_cmp k (filter p es)) (cmp_one q e.0 same)
       ∙ find-above e.0 p es sorted.0)
       (find-filter test q es sorted.1)
 

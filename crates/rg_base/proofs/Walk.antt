@@ -3,18 +3,14 @@ use Rattle.std.proofs.Common.{◌≡◌, ◌≤◌, ◌<◌, ◌+◌, ◌&&◌, 
 use Rattle.std.proofs.Common.{true, false, cond, List, [], ◌∷◌, ◌++◌, filter, Option, Some, None}
 use Rattle.std.proofs.Common.{refl, sym, ◌∙◌, ap, subst, arith}
 use Rattle.std.proofs.Math.Dec.{T}
-use Rattle.std.specs.Ordering.{nat_cmp, eq_by_cmp, is_lt}
+use Rattle.std.specs.Ordering.{nat_cmp, is_lt}
 use Rattle.std.specs.FinMap as map
 use Rattle.std.specs.FinMap.{find, is_sorted, get-entries}
 use Rattle.std.specs.FinMap.Entries.{below_all}
 use Rattle.std.proofs.lemmas.Bool.Decides.{nat_tests}
+use Rattle.std.proofs.lemmas.Bool.{le-leb, lt-leb}
 use Rattle.rg_base.specs.First.{IsEmptyFrom, IsFirstFrom}
-
-at_or_behind : (a b : ℕ) → a ≤ b → nat_le a b ≡ true
-at_or_behind a b le = grind (arith, nat_tests)
-
-before : (a b : ℕ) → b < a → nat_le a b ≡ false
-before a b lt = grind (arith, nat_tests)
+use Rattle.rg_base.proofs.Small.{cmp_same, cmp_apart}
 
 first_of : (a b : Bool) → T (a && b) → T a
 first_of true b p = tt
@@ -26,12 +22,6 @@ second_of false b p = absurd p
 
 is_behind : (a b : ℕ) → T (is_lt (nat_cmp a b)) → a < b
 is_behind a b p = grind (arith, nat_tests)
-
-differs : (a b : ℕ) → (a ≡ b → ⊥) → eq_by_cmp nat_cmp a b ≡ false
-differs a b apart = grind (arith, nat_tests)
-
-same : (a : ℕ) → eq_by_cmp nat_cmp a a ≡ true
-same a = grind (arith, nat_tests)
 
 -- which of two numbers is below the other
 pub place : (a b : ℕ) → (a < b) ⊎ ((b ≡ a) ⊎ (b < a))
@@ -54,15 +44,15 @@ module _ {V : Type 0} where
   not_found q k [] le below = refl
   not_found q k (e ∷ es) le below =
       let lt = is_behind k e.0 (first_of _ (below_all nat_cmp k es) below) in
-      ap (λ b. cond b (Some e.1) (find nat_cmp q es)) (differs q e.0 (λ s. omega arith))
+      ap (λ b. cond b (Some e.1) (find nat_cmp q es)) (cmp_apart q e.0 (λ s. omega arith))
       ∙ not_found q k es le (second_of _ (below_all nat_cmp k es) below)
 
   at_head : (e : ℕ × V) (es : List (ℕ × V)) → find nat_cmp e.0 (e ∷ es) ≡ Some e.1
-  at_head e es = ap (λ b. cond b (Some e.1) (find nat_cmp e.0 es)) (same e.0)
+  at_head e es = ap (λ b. cond b (Some e.1) (find nat_cmp e.0 es)) (cmp_same e.0)
 
   past_head : (q : ℕ) (e : ℕ × V) (es : List (ℕ × V)) → (q ≡ e.0 → ⊥)
       → find nat_cmp q (e ∷ es) ≡ find nat_cmp q es
-  past_head q e es apart = ap (λ b. cond b (Some e.1) (find nat_cmp q es)) (differs q e.0 apart)
+  past_head q e es apart = ap (λ b. cond b (Some e.1) (find nat_cmp q es)) (cmp_apart q e.0 apart)
 
   module _ (p : ℕ × V → Bool) where
     -- the entries that pass, from a key on
@@ -76,7 +66,7 @@ module _ {V : Type 0} where
         let low : e.0 < from =
         by_contradiction (λ high. some_not_none e.1 _ (at_head e es) (none e.0 high)) in
         ap (λ b. cond (b && p e) (e ∷ passing_from from es) (passing_from from es))
-        (before from e.0 low)
+        (lt-leb from e.0 low)
         ∙ none_pass from es (λ q le. sym (past_head q e es (λ s. omega arith)) ∙ none q le) where
           by_contradiction : (from ≤ e.0 → ⊥) → e.0 < from
           by_contradiction h = grind (arith, h)
@@ -88,12 +78,12 @@ module _ {V : Type 0} where
     all_pass from to (e ∷ es) le below =
         let lt = is_behind to e.0 (first_of _ (below_all nat_cmp to es) below) in
         ap (λ b. cond (b && p e) (e ∷ passing_from from es) (passing_from from es))
-        (at_or_behind from e.0 (omega (arith, lt, le)))
+        (le-leb from e.0 (omega (arith, lt, le)))
         ∙ ap (λ rest. cond (p e) (e ∷ rest) rest)
         (all_pass from to es le (second_of _ (below_all nat_cmp to es) below))
         ∙ sym
         (ap (λ b. cond (b && p e) (e ∷ passing_from (to + 1) es) (passing_from (to + 1) es))
-        (at_or_behind (to + 1) e.0 (omega (arith, lt))))
+        (le-leb (to + 1) e.0 (omega (arith, lt))))
 
     -- an entry, where it passes
     abbrev pub passing : ℕ × V → List (ℕ × V)
@@ -131,18 +121,18 @@ module _ {V : Type 0} where
             → passing_from from (e ∷ es) ≡ passing (k, v) ++ passing_from (k + 1) (e ∷ es)
         by_place rest (inl below) =
             ap (λ b. cond (b && p e) (e ∷ passing_from from es) (passing_from from es))
-            (before from e.0 (low_of below))
+            (lt-leb from e.0 (low_of below))
             ∙ rest (sym (past_head k e es (λ s. omega (arith, below))) ∙ there)
             (λ q l b. sym (past_head q e es (λ s. omega (arith, low_of below))) ∙ none q l b)
             ∙ ap (λ es. passing (k, v) ++ es)
             (sym
             (ap (λ b. cond (b && p e) (e ∷ passing_from (k + 1) es) (passing_from (k + 1) es))
-            (before (k + 1) e.0 (omega (arith, below)))))
+            (lt-leb (k + 1) e.0 (omega (arith, below)))))
         by_place rest (inr (inl at)) =
             let is : e ≡ (k, v) = pair_of e k v at
             (sym (at_head e es) ∙ ap (λ q. find nat_cmp q (e ∷ es)) (sym at) ∙ there) in
             ap (λ b. cond (b && p e) (e ∷ passing_from from es) (passing_from from es))
-            (at_or_behind from e.0 (omega (arith, at, le)))
+            (le-leb from e.0 (omega (arith, at, le)))
             ∙ one_passes (p e) e (passing_from from es)
             ∙ ap (λ x. passing x ++ passing_from from es) is
             ∙ ap (λ es. passing (k, v) ++ es) (all_pass from k es le
@@ -150,7 +140,7 @@ module _ {V : Type 0} where
             (first_of (below_all nat_cmp e.0 es) _ sorted))
             ∙ sym
             (ap (λ b. cond (b && p e) (e ∷ passing_from (k + 1) es) (passing_from (k + 1) es))
-            (before (k + 1) e.0 (omega (arith, at)))))
+            (lt-leb (k + 1) e.0 (omega (arith, at)))))
         by_place rest (inr (inr above)) =
             absurd
             (some_not_none v _ there
@@ -187,29 +177,29 @@ module _ {V : Type 0} where
               → passing_from from (e ∷ es) ≡ passing_from to (e ∷ es)
           by_place rest (inl low) where_to =
               ap (λ b. cond (b && p e) (e ∷ passing_from from es) (passing_from from es))
-              (before from e.0 low)
+              (lt-leb from e.0 low)
               ∙ rest
               ∙ sym
               (ap (λ b. cond (b && p e) (e ∷ passing_from to es) (passing_from to es))
-              (before to e.0 (omega (arith, low, le))))
+              (lt-leb to e.0 (omega (arith, low, le))))
           by_place rest (inr high) (inl lt) =
               not_passing (nat_le from e.0) e (passing_from from es)
               (λ t. fail e.0 e.1 (at_least high) lt (at_head e es))
               ∙ rest
               ∙ sym
               (ap (λ b. cond (b && p e) (e ∷ passing_from to es) (passing_from to es))
-              (before to e.0 lt))
+              (lt-leb to e.0 lt))
             where
               at_least : (from ≡ e.0) ⊎ (from < e.0) → from ≤ e.0
               at_least (inl at) = omega (arith, at)
               at_least (inr lt) = omega (arith, lt)
           by_place rest (inr high) (inr ge) =
               ap (λ b. cond (b && p e) (e ∷ passing_from from es) (passing_from from es))
-              (at_or_behind from e.0 (at_least high))
+              (le-leb from e.0 (at_least high))
               ∙ ap (λ es. cond (p e) (e ∷ es) es) rest
               ∙ sym
               (ap (λ b. cond (b && p e) (e ∷ passing_from to es) (passing_from to es))
-              (at_or_behind to e.0 (to_least ge)))
+              (le-leb to e.0 (to_least ge)))
             where
               at_least : (from ≡ e.0) ⊎ (from < e.0) → from ≤ e.0
               at_least (inl at) = omega (arith, at)
@@ -252,7 +242,7 @@ module _ {V : Type 0} (p : ℕ × V → Bool) (m : map.FinMap nat_cmp V) where
   pub walk_begins : (es : List (ℕ × V)) → passing_from p 0 es ≡ filter p es
   walk_begins [] = refl
   walk_begins (e ∷ es) = ap (λ b. cond (b && p e) (e ∷ passing_from p 0 es) (passing_from p 0 es))
-      (at_or_behind 0 e.0 (omega arith)) ∙ ap (λ rest. cond (p e) (e ∷ rest) rest) (walk_begins es)
+      (le-leb 0 e.0 (omega arith)) ∙ ap (λ rest. cond (p e) (e ∷ rest) rest) (walk_begins es)
 
   -- keys from one to another of which none passes are passed over
   pub walk_skips : (from to : ℕ) → from ≤ to

@@ -2,9 +2,11 @@ pub mod Copies
 pub mod Field
 pub mod First
 pub mod Number
+pub mod Place
 pub mod Retained
 pub mod RowBytes
 pub mod Session
+pub mod Start
 pub mod Text
 pub mod Values
 pub mod Words

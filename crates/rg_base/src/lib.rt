@@ -8,6 +8,8 @@ pub mod bytes;
 pub mod change;
 /// What the operator answers.
 pub mod control;
+/// The two copies of a table.
+pub mod copy;
 /// The fields of a format.
 pub mod field;
 /// Rows with the places of their homes.
@@ -18,6 +20,8 @@ pub mod lock;
 pub mod map;
 /// Out of memory.
 pub mod no_memory;
+/// Calls whose answers a proof alone needs.
+pub mod note;
 /// Numbers, as words.
 pub mod number;
 /// The options of the utility, and what it drains.

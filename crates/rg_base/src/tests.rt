@@ -1,4 +1,5 @@
 use crate::bytes::Bytes;
+use crate::copy::TableCopy;
 use crate::field::{get_u16, get_u32, get_u64, put_u16, put_u32, put_u64};
 use crate::homes::Homes;
 use crate::map::NumberMap;
@@ -8,6 +9,7 @@ use crate::part::{Part, Parts, SlotOp};
 use crate::place::Place;
 use crate::row::Row;
 use crate::row_bytes::{read_row, write_row};
+use crate::set::Set;
 use crate::text::{Text, is_dashes};
 use std::alloc::Global;
 use std::test::Fail;
@@ -19,6 +21,23 @@ fn tens(alloc: Global, keys: &[u64]) -> Result<NumberMap<u64>, NoMemory> {
         map.insert(key, key.wrapping_mul(10))?;
     }
     Ok(map)
+}
+
+#[test]
+fn has_two_copies(rt: HostRuntime) {
+    let (first, second) = (TableCopy::first(), TableCopy::second());
+    assert_eq!(rt; (first.number(), second.number()), (1, 2));
+    assert_eq!(rt; (first.other(), second.other()), (second, first));
+    assert_eq!(rt; (first.set(), second.set()), (Set::First, Set::Second));
+    for (number, copy) in [
+        (0, None),
+        (1, Some(first)),
+        (2, Some(second)),
+        (3, None),
+        (255, None),
+    ] {
+        assert_eq!(rt; TableCopy::of(number), copy, "{number}");
+    }
 }
 
 #[test]

@@ -7,27 +7,30 @@ use Rattle.std.specs.Prelude.{IsSome, IsNone, MatchOption}
 use Rattle.std.specs.Option.{option_to_list}
 use Rattle.std.proofs.lemmas.List.{set_split, length-map, take-append-drop, append-nil}
 use Rattle.std.proofs.lemmas.List.{length-take-le, length-drop}
+use Rattle.std.proofs.Math.Seq.{split_at}
 use Rattle.rg_base.specs.declared.place.Place.{Place}
+use Rattle.rg_base.proofs.Each.{Each-map, Each-at, Each-take, Each-drop}
 use Rattle.rg_model.specs.Layout.{put_entry}
 use Rattle.rg_index.specs.Entries.{IsRising, has_entry, without_entry}
 use Rattle.rg_index.proofs.Lists.{rising_left, rising_right}
 use Rattle.rg_bulk.specs.Branch.{Branch, branch_of, first_of, joined, total}
-use Rattle.rg_bulk.specs.Shape.{EachOf, IsKid, IsNode, least_fill}
-use Rattle.rg_bulk.proofs.Filled.{EachOf-map, parent_may_be_kid}
-use Rattle.rg_bulk.proofs.Levels.{joined-append}
+use Rattle.std.specs.List.{AllByRecursion}
+use Rattle.rg_bulk.specs.Shape.{IsKid, IsNode, least_fill}
+use Rattle.rg_bulk.proofs.Filled.{parent_may_be_kid}
+use Rattle.rg_bulk.proofs.Levels.{joined-append, total-append}
 use Rattle.rg_btree.specs.Child.{IsChild}
 use Rattle.rg_btree.specs.Short.{IsShort}
 use Rattle.rg_btree.proofs.Chosen.{IsBetween, chosen, has_between, put_between, without_between}
-use Rattle.rg_btree.proofs.Kids.{IsReplaced, inner_of, branch_is, cut_one, drop_set, take_more_set}
-use Rattle.rg_btree.proofs.Kids.{kids_have_entries, firsts_rise, EachOf-at, EachOf-set, EachOf-take}
-use Rattle.rg_btree.proofs.Kids.{EachOf-drop, each_after, total_after, total-append, length_after}
+use Rattle.rg_btree.proofs.Kids.{IsReplaced, inner_of, branch_is, drop_set, take_more_set}
+use Rattle.rg_btree.proofs.Kids.{kids_have_entries, firsts_rise, Each-set}
+use Rattle.rg_btree.proofs.Kids.{each_after, total_after, length_after}
 use Rattle.rg_btree.proofs.Kids.{joined_after}
 
 -- what is known of the chosen child d
 pub record IsBelow (e : ℕ × Place) (h : ℕ) (kids : List Branch) (i : ℕ) (d shown : Branch)
     : Type 0 where
   pub low : i < length kids
-  pub each : EachOf (IsKid (h - 1)) kids
+  pub each : AllByRecursion (IsKid (h - 1)) kids
   pub kid : IsKid (h - 1) d
   pub rising : IsRising d.entries
   pub has : has_entry shown.entries e ≡ has_entry d.entries e
@@ -70,7 +73,7 @@ below e h keys kids kr dr shown seen i d node high view rising same at is =
     let low : i < length kids =
     subst (λ n. i < n) (length-map kids (λ kid. first_of kid.entries)) here.within in
     let cut : kids ≡ take i kids ++ ((d ∷ []) ++ drop (suc i) kids) =
-    cut_one kids i d low ∙ ap (λ k. take i kids ++ k ∷ drop (suc i) kids) (sym is) in
+    split_at kids i d low ∙ ap (λ k. take i kids ++ k ∷ drop (suc i) kids) (sym is) in
     let parts : IsRising (joined (take i kids) ++ (d.entries ++ joined (drop (suc i) kids))) =
     subst IsRising (joined-append (take i kids) (d ∷ drop (suc i) kids))
     (subst (λ ks. IsRising (joined ks)) cut rises) in
@@ -78,7 +81,7 @@ below e h keys kids kr dr shown seen i d node high view rising same at is =
     record {
       low = low;
       each = inner.each;
-      kid = subst (IsKid (h - 1)) (sym is) (EachOf-at (IsKid (h - 1)) kids i d low inner.each);
+      kid = subst (IsKid (h - 1)) (sym is) (Each-at (IsKid (h - 1)) kids i d low inner.each);
       rising = rising_left d.entries (joined (drop (suc i) kids))
           (rising_right (joined (take i kids)) (d.entries ++ joined (drop (suc i) kids)) parts);
       has = ap (λ es. has_entry es e)
@@ -99,7 +102,7 @@ below e h keys kids kr dr shown seen i d node high view rising same at is =
 -- the child has changed to `new`, with others behind it
 pub record IsRenewed (e : ℕ × Place) (h : ℕ) (kids : List Branch) (i : ℕ) (d shown new : Branch)
     (others after : List Branch) : Type 0 where
-  pub each : EachOf (IsKid (h - 1)) after
+  pub each : AllByRecursion (IsKid (h - 1)) after
   pub all : joined after
       ≡ joined (take i kids) ++ (joined (new ∷ others) ++ joined (drop (suc i) kids))
   pub count : length after ≡ length kids + length others
@@ -118,7 +121,7 @@ after_is kids i new others after low is =
 
 pub renewed : (e : ℕ × Place) (h : ℕ) (kids : List Branch) (i : ℕ) (d shown new : Branch)
     (others after : List Branch)
-    → IsBelow e h kids i d shown → EachOf (IsKid (h - 1)) (new ∷ others)
+    → IsBelow e h kids i d shown → AllByRecursion (IsKid (h - 1)) (new ∷ others)
     → after ≡ take (suc i) (set kids i new) ++ (others ++ drop (suc i) (set kids i new))
     → IsRenewed e h kids i d shown new others after
 renewed e h kids i d shown new others after at each is =
@@ -155,20 +158,20 @@ all_added e h kids i d shown new others after at now put =
 -- what a node is split into
 pub record IsSplit (b : ℕ) (before after : List Branch) (right : Option Branch) (node : Branch)
     : Type 0 where
-  pub each : EachOf (IsKid b) after
+  pub each : AllByRecursion (IsKid b) after
   pub some : 1 ≤ length after
   pub entries : joined (node ∷ option_to_list right) ≡ joined before
   pub height : node.height ≡ suc b
   pub fill : IsNone right → node.fill ≡ length before
-  pub kept : 112 ≤ length before → EachOf (IsKid (suc b)) (node ∷ option_to_list right)
-  pub split : IsSome right → EachOf (IsKid (suc b)) (node ∷ option_to_list right)
+  pub kept : 112 ≤ length before → AllByRecursion (IsKid (suc b)) (node ∷ option_to_list right)
+  pub split : IsSome right → AllByRecursion (IsKid (suc b)) (node ∷ option_to_list right)
   pub nodes : total (λ kid. kid.nodes) (node ∷ option_to_list right)
       ≡ total (λ kid. kid.nodes) before + 1 + length (option_to_list right)
   pub inners : total (λ kid. kid.inners) (node ∷ option_to_list right)
       ≡ total (λ kid. kid.inners) before + 1 + length (option_to_list right)
 
 pub split_is : (b : ℕ) (before after : List Branch) (right : Option Branch) (node : Branch)
-    → EachOf (IsKid b) before → 1 ≤ length before → length before ≤ 226
+    → AllByRecursion (IsKid b) before → 1 ≤ length before → length before ≤ 226
     → node ≡ branch_of (suc b) [] after
     → MatchOption right (after ≡ before)
     (λ other. (other ≡ branch_of (suc b) [] (drop 113 before)) × (after ≡ take 113 before)
@@ -179,7 +182,7 @@ split_is b before after None node each some most is same =
     let nodes = ap (λ n. n.nodes) whole in
     let inners = ap (λ n. n.inners) whole in
     record {
-      each = subst (EachOf (IsKid b)) (sym same) each;
+      each = subst (AllByRecursion (IsKid b)) (sym same) each;
       some = omega (arith, ap length same);
       entries = append-nil node.entries ∙ ap (λ n. n.entries) whole;
       height = ap (λ n. n.height) whole;
@@ -199,13 +202,13 @@ split_is b before after (Some other) node each some most is halves =
     let long = halves.2 in
     let first = length-take-le 113 before (omega arith) in
     let second = length-drop 113 before in
-    let both : EachOf (IsKid (suc b)) (node ∷ other ∷ []) = (
+    let both : AllByRecursion (IsKid (suc b)) (node ∷ other ∷ []) = (
       subst (IsKid (suc b)) (sym left)
-          (parent_may_be_kid b (take 113 before) (EachOf-take (IsKid b) 113 before each)
+          (parent_may_be_kid b (take 113 before) (Each-take (IsKid b) 113 before each)
           (omega arith)),
       (
         subst (IsKid (suc b)) (sym halves.0)
-            (parent_may_be_kid b (drop 113 before) (EachOf-drop (IsKid b) 113 before each)
+            (parent_may_be_kid b (drop 113 before) (Each-drop (IsKid b) 113 before each)
             (omega arith)),
         tt,
       ),
@@ -215,7 +218,7 @@ split_is b before after (Some other) node each some most is halves =
     let all_inners = ap (total (λ kid. kid.inners)) (sym (take-append-drop 113 before))
     ∙ total-append (λ kid. kid.inners) (take 113 before) (drop 113 before) in
     record {
-      each = subst (EachOf (IsKid b)) (sym halves.1) (EachOf-take (IsKid b) 113 before each);
+      each = subst (AllByRecursion (IsKid b)) (sym halves.1) (Each-take (IsKid b) 113 before each);
       some = omega (arith, ap length halves.1);
       entries = (λ i. (left i).entries ++ ((halves.0 i).entries ++ []))
           ∙ ap (λ es. joined (take 113 before) ++ es) (append-nil (joined (drop 113 before)))
@@ -239,10 +242,10 @@ still_full h shown kids before high level fill more is =
     omega arith
 
 pub at_level : (h : ℕ) (shown : Branch) (nodes : List Branch) → (h ≡ 0 → ⊥) → shown.height ≡ h
-    → EachOf (IsKid (suc (h - 1))) nodes → EachOf (IsKid shown.height) nodes
+    → AllByRecursion (IsKid (suc (h - 1))) nodes → AllByRecursion (IsKid shown.height) nodes
 at_level h shown nodes high level each =
     let up : suc (h - 1) ≡ shown.height = omega arith in
-    subst (λ k. EachOf (IsKid k) nodes) up each
+    subst (λ k. AllByRecursion (IsKid k) nodes) up each
 
 -- ---- after a removal
 
@@ -295,9 +298,9 @@ pub least_some : (h : ℕ) → 112 ≤ least_fill h
 least_some zero = omega arith
 least_some (suc h) = omega arith
 
-pub each_short : (h : ℕ) (kids : List Branch) (i : ℕ) (new : Branch) → EachOf (IsKid h) kids
-    → new.height ≡ h → least_fill h ≤ new.fill + 1 → EachOf (IsShort h) (set kids i new)
+pub each_short : (h : ℕ) (kids : List Branch) (i : ℕ) (new : Branch) → AllByRecursion (IsKid h) kids
+    → new.height ≡ h → least_fill h ≤ new.fill + 1 → AllByRecursion (IsShort h) (set kids i new)
 each_short h kids i new each level fill =
-    EachOf-set (IsShort h) kids i new (record { level = level; fill = fill })
-    (EachOf-map (IsKid h) (IsShort h)
+    Each-set (IsShort h) kids i new (record { level = level; fill = fill })
+    (Each-map (IsKid h) (IsShort h)
     (λ kid is. let full = is.fill in record { level = is.level; fill = omega arith }) kids each)

@@ -3,22 +3,23 @@ use Rattle.std.proofs.Common.{◌≡◌, ◌-◌, ◌<◌, suc, ℕ, true, false
 use Rattle.std.proofs.Common.{get_or, subst, arith}
 use Rattle.std.proofs.lemmas.Bool.{not-true, not-false}
 use Rattle.rg_base.specs.declared.place.Place.{Place}
+use Rattle.rg_base.proofs.Each.{Each-map}
 use Rattle.rg_model.specs.Layout.{is_entry_before}
-use Rattle.rg_index.specs.Entries.{Each}
+use Rattle.std.specs.List.{AllByRecursion}
 use Rattle.rg_index.specs.Split.{IsCutBy}
 use Rattle.rg_index.proofs.Found.{last_passes}
-use Rattle.rg_index.proofs.Lists.{Each-map}
 use Rattle.rg_btree.specs.Child.{IsChild}
 
 abbrev Cut : ℕ × Place → List (ℕ × Place) → ℕ → Type 0
 Cut e keys n = IsCutBy (λ x. not (is_entry_before e x)) keys n
 
 behind_cut : (e : ℕ × Place) (keys : List (ℕ × Place)) (n : ℕ) → Cut e keys n
-    → Each (λ key. is_entry_before e key ≡ true) (drop n keys)
+    → AllByRecursion (λ key. is_entry_before e key ≡ true) (drop n keys)
 behind_cut e keys n cut = Each-map (λ x. not (is_entry_before e x) ≡ false)
     (λ x. is_entry_before e x ≡ true) (λ x. not-false (is_entry_before e x)) (drop n keys) cut.2
 
-later : {X : Type 0} (P : X → Type 0) (xs : List X) → Each P xs → Each P (drop 1 xs)
+later : {X : Type 0} (P : X → Type 0) (xs : List X) → AllByRecursion P xs
+    → AllByRecursion P (drop 1 xs)
 later P [] each = tt
 later P (x ∷ xs) each = each.1
 

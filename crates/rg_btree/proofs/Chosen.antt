@@ -1,23 +1,26 @@
 -- An entry that belongs below one child is behind what the children before it have, and before what
 -- those behind it have.
-use Rattle.std.proofs.Common.{◌≡◌, ◌==◌, ◌&&◌, ◌||◌, ◌+◌, ◌<◌, zero, suc, ℕ, Bool, true, false, not}
+use Rattle.std.proofs.Common.{◌≡◌, ◌==◌, ◌&&◌, ◌||◌, ◌+◌, ◌<◌, zero, suc, ℕ, true, false, not}
 use Rattle.std.proofs.Common.{List, [], ◌∷◌, ◌++◌, length, take, drop, get_or, refl, sym, ◌∙◌, ap}
 use Rattle.std.proofs.Common.{subst, arith}
 use Rattle.std.specs.Prelude.{nat_le}
 use Rattle.std.proofs.lemmas.Bool.Decides.{nat_tests}
 use Rattle.std.proofs.lemmas.List.Elements.{filter-append}
+use Rattle.std.proofs.Math.Bool.{or-false}
+use Rattle.std.proofs.Math.Seq.{split_at}
 use Rattle.rg_base.specs.declared.place.Place.{Place}
+use Rattle.rg_base.proofs.Each.{Each-map, Each-at, Each-drop}
 use Rattle.rg_model.specs.Layout.{is_entry_before, same_entry, put_entry}
-use Rattle.rg_index.specs.Entries.{Each, IsRising, has_entry, without_entry}
+use Rattle.std.specs.List.{AllByRecursion}
+use Rattle.rg_index.specs.Entries.{IsRising, has_entry, without_entry}
 use Rattle.rg_index.proofs.Found.{rising_before}
-use Rattle.rg_index.proofs.Lists.{Each-map, rising_right, list_any-append, none_before, none_behind}
+use Rattle.rg_index.proofs.Lists.{rising_right, list_any-append, none_before, none_behind}
 use Rattle.rg_index.proofs.Lists.{put_behind, put_ahead, without_absent}
 use Rattle.rg_index.proofs.Order.{before_trans, before_asym}
 use Rattle.rg_bulk.specs.Branch.{Branch, first_of, joined}
-use Rattle.rg_bulk.specs.Shape.{EachOf}
 use Rattle.rg_bulk.proofs.Levels.{joined-append}
 use Rattle.rg_btree.specs.Child.{IsChild, firsts}
-use Rattle.rg_btree.proofs.Kids.{HasEntry, cut_one, EachOf-at, EachOf-drop, firsts-drop}
+use Rattle.rg_btree.proofs.Kids.{HasEntry, firsts-drop}
 
 abbrev pub zero_entry : ℕ × Place
 zero_entry = (0, record { page = 0; slot = 0 })
@@ -43,13 +46,14 @@ through x f e p q = go x.0 x.1.page x.1.slot f.0 f.1.page f.1.slot e.0 e.1.page 
 
 -- those before a list's first entry
 pub before_first : (xs es ys : List (ℕ × Place)) → 0 < length es → IsRising (xs ++ (es ++ ys))
-    → Each (λ x. is_entry_before x (first_of es) ≡ true) xs
+    → AllByRecursion (λ x. is_entry_before x (first_of es) ≡ true) xs
 before_first xs [] ys some rising = absurd (omega arith)
 before_first xs (e ∷ es) ys some rising = rising_before e xs (es ++ ys) rising
 
 -- a list whose first is behind an entry is all behind it
 all_behind : (e : ℕ × Place) (es ys : List (ℕ × Place)) → 0 < length es → IsRising (es ++ ys)
-    → is_entry_before e (first_of es) ≡ true → Each (λ y. is_entry_before e y ≡ true) (es ++ ys)
+    → is_entry_before e (first_of es) ≡ true
+    → AllByRecursion (λ y. is_entry_before e y ≡ true) (es ++ ys)
 all_behind e [] ys some rising first = absurd (omega arith)
 all_behind e (f ∷ es) ys some rising first = (
   first,
@@ -57,39 +61,42 @@ all_behind e (f ∷ es) ys some rising first = (
       (λ y p. before_trans e f y first p) (es ++ ys) rising.0,
 )
 
-behind_firsts : (e : ℕ × Place) (kids : List Branch) → EachOf HasEntry kids → IsRising (joined kids)
-    → Each (λ key. is_entry_before e key ≡ true) (firsts kids)
-    → Each (λ y. is_entry_before e y ≡ true) (joined kids)
+behind_firsts : (e : ℕ × Place) (kids : List Branch) → AllByRecursion HasEntry kids
+    → IsRising (joined kids)
+    → AllByRecursion (λ key. is_entry_before e key ≡ true) (firsts kids)
+    → AllByRecursion (λ y. is_entry_before e y ≡ true) (joined kids)
 behind_firsts e [] some rising each = tt
 behind_firsts e (kid ∷ kids) some rising each =
     all_behind e kid.entries (joined kids) some.0 rising each.0
 
 -- the child that a search chose
 pub record IsBetween (e : ℕ × Place) (front back : List Branch) : Type 0 where
-  pub early : Each (λ x. is_entry_before x e ≡ true) (joined front)
-  pub late : Each (λ y. is_entry_before e y ≡ true) (joined back)
+  pub early : AllByRecursion (λ x. is_entry_before x e ≡ true) (joined front)
+  pub late : AllByRecursion (λ y. is_entry_before e y ≡ true) (joined back)
 
-pub chosen : (e : ℕ × Place) (kids : List Branch) (i : ℕ) (d : Branch) → EachOf HasEntry kids
+pub chosen : (e : ℕ × Place) (kids : List Branch) (i : ℕ) (d : Branch)
+    → AllByRecursion HasEntry kids
     → IsRising (joined kids) → i < length kids → IsChild e (firsts kids) i
     → IsBetween e (take i kids) (drop (suc i) kids)
 chosen e kids i d some rising lt at =
-    let parts = subst (λ ks. IsRising (joined ks)) (cut_one kids i d lt) rising in
+    let parts = subst (λ ks. IsRising (joined ks)) (split_at kids i d lt) rising in
     let whole =
     subst IsRising (joined-append (take i kids) (get_or kids i d ∷ drop (suc i) kids)) parts in
     record {
       early = early i lt at.here whole;
-      late = behind_firsts e (drop (suc i) kids) (EachOf-drop HasEntry (suc i) kids some)
+      late = behind_firsts e (drop (suc i) kids) (Each-drop HasEntry (suc i) kids some)
           (rising_right (get_or kids i d).entries (joined (drop (suc i) kids))
           (rising_right (joined (take i kids)) (joined (get_or kids i d ∷ drop (suc i) kids))
           whole))
-          (subst (Each (λ key. is_entry_before e key ≡ true)) (firsts-drop (suc i) kids) at.behind);
+          (subst (AllByRecursion (λ key. is_entry_before e key ≡ true)) (firsts-drop (suc i) kids)
+          at.behind);
     }
   where
     early : (k : ℕ) → k < length kids
         → (0 < k → is_entry_before e (get_or (firsts kids) k zero_entry) ≡ false)
         →
         IsRising (joined (take k kids) ++ ((get_or kids k d).entries ++ joined (drop (suc k) kids)))
-        → Each (λ x. is_entry_before x e ≡ true) (joined (take k kids))
+        → AllByRecursion (λ x. is_entry_before x e ≡ true) (joined (take k kids))
     early zero low here rises = tt
     early (suc k) low here rises =
         let not_behind =
@@ -99,7 +106,7 @@ chosen e kids i d some rising lt at =
         (λ x p. through x (first_of (get_or kids (suc k) d).entries) e p not_behind)
         (joined (take (suc k) kids))
         (before_first (joined (take (suc k) kids)) (get_or kids (suc k) d).entries
-        (joined (drop (suc (suc k)) kids)) (EachOf-at HasEntry kids (suc k) d low some) rises)
+        (joined (drop (suc (suc k)) kids)) (Each-at HasEntry kids (suc k) d low some) rises)
 
 module _ (e : ℕ × Place) (front back : List Branch) (between : IsBetween e front back)
     (es : List (ℕ × Place)) where
@@ -117,11 +124,7 @@ module _ (e : ℕ × Place) (front back : List Branch) (between : IsBetween e fr
       ∙ (λ i. none_before e (joined front) between.early i
       || list_any-append (same_entry e) es (joined back) i)
       ∙ (λ i. has_entry es e || none_behind e (joined back) between.late i)
-      ∙ or_nothing (has_entry es e)
-    where
-      or_nothing : (a : Bool) → (a || false) ≡ a
-      or_nothing true = refl
-      or_nothing false = refl
+      ∙ or-false (has_entry es e)
 
   pub without_between : without_entry e (joined front ++ (es ++ joined back))
       ≡ joined front ++ (without_entry e es ++ joined back)

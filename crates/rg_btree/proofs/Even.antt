@@ -6,13 +6,15 @@ use Rattle.std.proofs.lemmas.Bool.Decides.{nat_tests}
 use Rattle.std.proofs.lemmas.List.{map-append, length-map, take-append-drop, append-nil}
 use Rattle.std.proofs.lemmas.List.{length-take-le, length-drop}
 use Rattle.rg_base.specs.declared.place.Place.{Place}
+use Rattle.rg_base.proofs.Each.{Each-append, Each-take, Each-drop}
 use Rattle.rg_bulk.specs.Branch.{Branch, branch_of, first_of, joined, total}
-use Rattle.rg_bulk.specs.Shape.{EachOf, IsKid, IsLeaf, IsNode}
-use Rattle.rg_bulk.proofs.Filled.{EachOf-append, height_is, parent_may_be_kid}
-use Rattle.rg_bulk.proofs.Levels.{joined-append}
+use Rattle.std.specs.List.{AllByRecursion}
+use Rattle.rg_bulk.specs.Shape.{IsKid, IsLeaf, IsNode}
+use Rattle.rg_bulk.proofs.Filled.{height_is, parent_may_be_kid}
+use Rattle.rg_bulk.proofs.Levels.{joined-append, total-append}
 use Rattle.rg_btree.specs.Child.{firsts}
 use Rattle.rg_btree.specs.Moved.{moved}
-use Rattle.rg_btree.proofs.Kids.{inner_of, branch_is, EachOf-take, EachOf-drop, total-append}
+use Rattle.rg_btree.proofs.Kids.{inner_of, branch_is}
 
 -- the height of what is seen is that of the node
 pub height_of : (h : ℕ) (keys : List (ℕ × Place)) (kids : List Branch) (shown : Branch)
@@ -43,7 +45,7 @@ leaf_kid h keys kids low full = subst (IsKid 0) (sym (leaf_is h keys kids low))
     })
 
 pub inner_kid : (h : ℕ) (keys : List (ℕ × Place)) (kids : List Branch) → (h ≡ 0 → ⊥)
-    → EachOf (IsKid (h - 1)) kids → 112 ≤ length kids → IsKid h (branch_of h keys kids)
+    → AllByRecursion (IsKid (h - 1)) kids → 112 ≤ length kids → IsKid h (branch_of h keys kids)
 inner_kid h keys kids high each full =
     let up : suc (h - 1) ≡ h = omega arith in
     subst (λ k. IsKid k (branch_of h keys kids)) up
@@ -90,7 +92,7 @@ shares_of least most a b al am bl bm sum fits =
 
 pub record IsPair (h : ℕ) (left_keys : List (ℕ × Place)) (left_kids : List Branch) (left : Branch)
     (right_keys : List (ℕ × Place)) (right_kids : List Branch) (right : Branch) : Type 0 where
-  pub each : EachOf (IsKid (h - 1)) (left_kids ++ right_kids)
+  pub each : AllByRecursion (IsKid (h - 1)) (left_kids ++ right_kids)
   pub keys_are : left_keys ++ right_keys ≡ firsts (left_kids ++ right_kids)
   pub left_same : length left_keys ≡ length left_kids
   pub right_same : length right_keys ≡ length right_kids
@@ -124,7 +126,7 @@ pair_of h left_keys left_kids lkr ldr left g right_keys right_kids rkr rdr right
     let nodes = total-append (λ kid. kid.nodes) left_kids right_kids in
     let inners = total-append (λ kid. kid.inners) left_kids right_kids in
     record {
-      each = EachOf-append (IsKid (h - 1)) left_kids right_kids a.each b.each;
+      each = Each-append (IsKid (h - 1)) left_kids right_kids a.each b.each;
       keys_are = (λ i. a.keys_are i ++ b.keys_are i)
           ∙ sym (map-append (λ kid. first_of kid.entries) left_kids right_kids);
       left_same = ap length a.keys_are ∙ length-map left_kids (λ kid. first_of kid.entries);
@@ -141,13 +143,13 @@ pair_of h left_keys left_kids lkr ldr left g right_keys right_kids rkr rdr right
 
 -- the two after their children were shared out
 pub record AreEven (h : ℕ) (all : List Branch) (nodes : List Branch) : Type 0 where
-  pub each : EachOf (IsKid h) nodes
+  pub each : AllByRecursion (IsKid h) nodes
   pub entries : joined nodes ≡ joined all
   pub node_count : total (λ kid. kid.nodes) nodes ≡ total (λ kid. kid.nodes) all + length nodes
   pub inner_count : total (λ kid. kid.inners) nodes ≡ total (λ kid. kid.inners) all + length nodes
 
 pub evened : (h : ℕ) (all : List Branch) (k : ℕ) (left right : Branch) → (h ≡ 0 → ⊥)
-    → EachOf (IsKid (h - 1)) all → 112 ≤ k → k ≤ length all → 112 ≤ length all - k
+    → AllByRecursion (IsKid (h - 1)) all → 112 ≤ k → k ≤ length all → 112 ≤ length all - k
     → left ≡ branch_of (suc (h - 1)) [] (take k all)
     → right ≡ branch_of (suc (h - 1)) [] (drop k all) → AreEven h all (left ∷ right ∷ [])
 evened h all k left right high each some within rest l r =
@@ -163,10 +165,10 @@ evened h all k left right high each some within rest l r =
     let inners = ap (total (λ kid. kid.inners)) (sym (take-append-drop k all))
     ∙ total-append (λ kid. kid.inners) (take k all) (drop k all) in
     let one = subst (IsKid (suc (h - 1))) (sym l)
-    (parent_may_be_kid (h - 1) (take k all) (EachOf-take (IsKid (h - 1)) k all each)
+    (parent_may_be_kid (h - 1) (take k all) (Each-take (IsKid (h - 1)) k all each)
     (omega arith)) in
     let two = subst (IsKid (suc (h - 1))) (sym r)
-    (parent_may_be_kid (h - 1) (drop k all) (EachOf-drop (IsKid (h - 1)) k all each)
+    (parent_may_be_kid (h - 1) (drop k all) (Each-drop (IsKid (h - 1)) k all each)
     (omega arith)) in
     record {
       each = (subst (λ n. IsKid n left) up one, (subst (λ n. IsKid n right) up two, tt));
@@ -177,7 +179,8 @@ evened h all k left right high each some within rest l r =
       inner_count = omega arith;
     }
 
-pub merged : (h : ℕ) (all : List Branch) (node : Branch) → (h ≡ 0 → ⊥) → EachOf (IsKid (h - 1)) all
+pub merged : (h : ℕ) (all : List Branch) (node : Branch) → (h ≡ 0 → ⊥)
+    → AllByRecursion (IsKid (h - 1)) all
     → 112 ≤ length all → node ≡ branch_of (suc (h - 1)) [] all → AreEven h all (node ∷ [])
 merged h all node high each some is =
     let up : suc (h - 1) ≡ h = omega arith in

@@ -5,13 +5,12 @@ use Rattle.std.proofs.Common.{None, refl, sym, ◌∙◌, ap, arith}
 use Rattle.std.proofs.lemmas.List.Folds.{find-append}
 use Rattle.std.specs.Option.{option_or}
 use Rattle.rg_base.specs.declared.place.Place.{Place}
+use Rattle.rg_base.proofs.Each.{Each-map}
 use Rattle.rg_model.specs.Layout.{is_entry_before}
-use Rattle.rg_index.specs.Entries.{Each}
+use Rattle.std.specs.List.{AllByRecursion}
 use Rattle.rg_index.specs.Split.{IsCutBy}
-use Rattle.rg_index.proofs.Lists.{Each-map}
 use Rattle.rg_index.proofs.Order.{before_asym}
 use Rattle.rg_bulk.specs.Branch.{Branch, first_of, joined}
-use Rattle.rg_bulk.specs.Shape.{EachOf}
 use Rattle.rg_bulk.proofs.Levels.{joined-append}
 use Rattle.rg_btree.specs.Child.{firsts}
 use Rattle.rg_btree.proofs.Below.{IsBelow}
@@ -21,7 +20,7 @@ use Rattle.rg_btree.proofs.Kids.{HasEntry, kids_have_entries}
 abbrev pub is_from : ℕ × Place → ℕ × Place → Bool
 is_from e x = not (is_entry_before x e)
 
-find_none : (p : ℕ × Place → Bool) (xs : List (ℕ × Place)) → Each (λ x. p x ≡ false) xs
+find_none : (p : ℕ × Place → Bool) (xs : List (ℕ × Place)) → AllByRecursion (λ x. p x ≡ false) xs
     → find p xs ≡ None
 find_none p [] each = refl
 find_none p (x ∷ xs) each = (λ i. cond (each.0 i) (Some x) (find p xs)) ∙ find_none p xs each.1
@@ -35,14 +34,15 @@ find_cut e (x ∷ es) (suc n) cut = (λ i. cond (not (cut.1.0 i)) (Some x) (find
     ∙ find_cut e es n (omega (arith, cut.0), cut.1.1, cut.2)
 
 -- the first of children that all pass
-next_first : (p : ℕ × Place → Bool) (kids : List Branch) (n : ℕ) → EachOf HasEntry kids
-    → Each (λ y. p y ≡ true) (joined (drop n kids))
+next_first : (p : ℕ × Place → Bool) (kids : List Branch) (n : ℕ) → AllByRecursion HasEntry kids
+    → AllByRecursion (λ y. p y ≡ true) (joined (drop n kids))
     → find p (joined (drop n kids)) ≡ slice_get (firsts kids) n
 next_first p [] zero some each = refl
 next_first p [] (suc n) some each = refl
 next_first p (kid ∷ kids) zero some each = go kid.entries some.0 each
   where
-    go : (es : List (ℕ × Place)) → 0 < length es → Each (λ y. p y ≡ true) (es ++ joined kids)
+    go : (es : List (ℕ × Place)) → 0 < length es
+        → AllByRecursion (λ y. p y ≡ true) (es ++ joined kids)
         → find p (es ++ joined kids) ≡ Some (first_of es)
     go [] lt each = absurd (omega arith)
     go (x ∷ es) lt each = λ i. cond (each.0 i) (Some x) (find p (es ++ joined kids))

@@ -1,17 +1,20 @@
 -- The children of a node: their entries, their first entries, and one of them that is replaced.
 use Rattle.std.proofs.Common.{◌≡◌, ◌+◌, ◌-◌, ◌<◌, zero, suc, ℕ, true, List, [], ◌∷◌, ◌++◌, length}
 use Rattle.std.proofs.Common.{take, drop, set, get_or, refl, sym, ◌∙◌, ap, subst, arith}
-use Rattle.std.proofs.Common.{length-append}
-use Rattle.std.proofs.lemmas.List.{map-append, set_split, take-append-drop}
+use Rattle.std.proofs.Common.{length-append, ◌≤◌, Option, Some, None}
+use Rattle.std.specs.Option.{option_to_list}
+use Rattle.std.proofs.lemmas.List.{map-append, set_split}
+use Rattle.std.proofs.Math.Seq.{split_at}
 use Rattle.rg_base.specs.declared.place.Place.{Place}
+use Rattle.rg_base.proofs.Each.{Each-left, Each-right, Each-map, Each-append}
 use Rattle.rg_model.specs.Layout.{is_entry_before}
-use Rattle.rg_index.specs.Entries.{Each, IsRising}
-use Rattle.rg_index.proofs.Lists.{Each-left, Each-right, rising_right}
+use Rattle.std.specs.List.{AllByRecursion}
+use Rattle.rg_index.specs.Entries.{IsRising}
+use Rattle.rg_index.proofs.Lists.{rising_right}
 use Rattle.rg_bulk.specs.Branch.{Branch, branch_of, first_of, joined, total}
-use Rattle.rg_bulk.specs.Shape.{EachOf, IsKid, IsInner, IsNode}
-use Rattle.rg_bulk.proofs.Filled.{EachOf-map, EachOf-append, EachOf-left, EachOf-right}
+use Rattle.rg_bulk.specs.Shape.{IsKid, IsInner, IsNode}
 use Rattle.rg_bulk.proofs.Filled.{kid_has_entry}
-use Rattle.rg_bulk.proofs.Levels.{joined-append}
+use Rattle.rg_bulk.proofs.Levels.{joined-append, total-append}
 use Rattle.rg_btree.specs.Child.{firsts}
 
 -- ---- a node that is no leaf
@@ -37,30 +40,26 @@ branch_is h keys kids high = ap (λ k. branch_of k keys kids) (above h high)
 abbrev pub HasEntry : Branch → Type 0
 HasEntry kid = 0 < length kid.entries
 
-pub kids_have_entries : (h : ℕ) (kids : List Branch) → EachOf (IsKid h) kids → EachOf HasEntry kids
+pub kids_have_entries : (h : ℕ) (kids : List Branch) → AllByRecursion (IsKid h) kids
+    → AllByRecursion HasEntry kids
 kids_have_entries h kids each =
-    EachOf-map (IsKid h) HasEntry (λ kid is. kid_has_entry h kid is) kids each
-
-pub total-append : (number : Branch → ℕ) (xs ys : List Branch)
-    → total number (xs ++ ys) ≡ total number xs + total number ys
-total-append number [] ys = omega arith
-total-append number (x ∷ xs) ys = let rest = total-append number xs ys in omega arith
+    Each-map (IsKid h) HasEntry (λ kid is. kid_has_entry h kid is) kids each
 
 -- an entry that stands before all of a list stands before its first, and so on for each child
-first_each : (P : ℕ × Place → Type 0) (es : List (ℕ × Place)) → 0 < length es → Each P es
+first_each : (P : ℕ × Place → Type 0) (es : List (ℕ × Place)) → 0 < length es → AllByRecursion P es
     → P (first_of es)
 first_each P [] some each = absurd (omega arith)
 first_each P (e ∷ es) some each = each.0
 
-pub firsts_each : (P : ℕ × Place → Type 0) (kids : List Branch) → EachOf HasEntry kids
-    → Each P (joined kids) → Each P (firsts kids)
+pub firsts_each : (P : ℕ × Place → Type 0) (kids : List Branch) → AllByRecursion HasEntry kids
+    → AllByRecursion P (joined kids) → AllByRecursion P (firsts kids)
 firsts_each P [] some each = tt
 firsts_each P (kid ∷ kids) some each = (
   first_each P kid.entries some.0 (Each-left P kid.entries (joined kids) each),
   firsts_each P kids some.1 (Each-right P kid.entries (joined kids) each),
 )
 
-pub firsts_rise : (kids : List Branch) → EachOf HasEntry kids → IsRising (joined kids)
+pub firsts_rise : (kids : List Branch) → AllByRecursion HasEntry kids → IsRising (joined kids)
     → IsRising (firsts kids)
 firsts_rise [] some rising = tt
 firsts_rise (kid ∷ kids) some rising = (
@@ -70,40 +69,19 @@ firsts_rise (kid ∷ kids) some rising = (
 )
   where
     behind : (es : List (ℕ × Place)) → 0 < length es → IsRising (es ++ joined kids)
-        → Each (λ later. is_entry_before (first_of es) later ≡ true) (joined kids)
+        → AllByRecursion (λ later. is_entry_before (first_of es) later ≡ true) (joined kids)
     behind [] lt rises = absurd (omega arith)
     behind (e ∷ es) lt rises =
         Each-right (λ later. is_entry_before e later ≡ true) es (joined kids) rises.0
 
 -- ---- one of a list
 
-pub cut_one : {X : Type 0} (xs : List X) (i : ℕ) (d : X) → i < length xs
-    → xs ≡ take i xs ++ get_or xs i d ∷ drop (suc i) xs
-cut_one [] i d lt = absurd (omega arith)
-cut_one (x ∷ xs) zero d lt = refl
-cut_one (x ∷ xs) (suc i) d lt = ap (λ ys. x ∷ ys) (cut_one xs i d (omega arith))
-
-pub EachOf-at : {X : Type 0} (P : X → Type 0) (xs : List X) (i : ℕ) (d : X) → i < length xs
-    → EachOf P xs → P (get_or xs i d)
-EachOf-at P [] i d lt each = absurd (omega arith)
-EachOf-at P (x ∷ xs) zero d lt each = each.0
-EachOf-at P (x ∷ xs) (suc i) d lt each = EachOf-at P xs i d (omega arith) each.1
-
-pub EachOf-set : {X : Type 0} (P : X → Type 0) (xs : List X) (i : ℕ) (x : X) → P x → EachOf P xs
-    → EachOf P (set xs i x)
-EachOf-set P [] i x one each = tt
-EachOf-set P (y ∷ xs) zero x one each = (one, each.1)
-EachOf-set P (y ∷ xs) (suc i) x one each = (each.0, EachOf-set P xs i x one each.1)
-
-pub EachOf-take : {X : Type 0} (P : X → Type 0) (n : ℕ) (xs : List X) → EachOf P xs
-    → EachOf P (take n xs)
-EachOf-take P n xs each =
-    EachOf-left P (take n xs) (drop n xs) (subst (EachOf P) (sym (take-append-drop n xs)) each)
-
-pub EachOf-drop : {X : Type 0} (P : X → Type 0) (n : ℕ) (xs : List X) → EachOf P xs
-    → EachOf P (drop n xs)
-EachOf-drop P n xs each =
-    EachOf-right P (take n xs) (drop n xs) (subst (EachOf P) (sym (take-append-drop n xs)) each)
+pub Each-set : {X : Type 0} (P : X → Type 0) (xs : List X) (i : ℕ) (x : X) → P x
+    → AllByRecursion P xs
+    → AllByRecursion P (set xs i x)
+Each-set P [] i x one each = tt
+Each-set P (y ∷ xs) zero x one each = (one, each.1)
+Each-set P (y ∷ xs) (suc i) x one each = (each.0, Each-set P xs i x one each.1)
 
 -- what stands before and behind one that is replaced
 pub take_set : {X : Type 0} (xs : List X) (i : ℕ) (x : X) → take i (set xs i x) ≡ take i xs
@@ -143,7 +121,7 @@ keys_renewed keys kids i d key low same front back first is =
     set_split keys i key (omega arith)
     ∙ (λ j. front j ++ (first j) ∷ back j)
     ∙ sym (map-append (λ kid. first_of kid.entries) (take i kids) (d ∷ drop (suc i) kids))
-    ∙ ap firsts (ap (λ k. take i kids ++ k ∷ drop (suc i) kids) is ∙ sym (cut_one kids i d low))
+    ∙ ap firsts (ap (λ k. take i kids ++ k ∷ drop (suc i) kids) is ∙ sym (split_at kids i d low))
 
 -- ---- some of a list's branches are replaced by others
 
@@ -153,13 +131,14 @@ pub record IsReplaced (front olds news back before after : List Branch) : Type 0
 
 module _ (front olds news back before after : List Branch)
     (swap : IsReplaced front olds news back before after) where
-  pub each_after : (P : Branch → Type 0) → EachOf P before → EachOf P news → EachOf P after
+  pub each_after : (P : Branch → Type 0) → AllByRecursion P before → AllByRecursion P news
+      → AllByRecursion P after
   each_after P each new =
-      let parts = subst (EachOf P) swap.was each in
-      let behind = EachOf-right P olds back (EachOf-right P front (olds ++ back) parts) in
-      subst (EachOf P) (sym swap.is)
-      (EachOf-append P front (news ++ back) (EachOf-left P front (olds ++ back) parts)
-      (EachOf-append P news back new behind))
+      let parts = subst (AllByRecursion P) swap.was each in
+      let behind = Each-right P olds back (Each-right P front (olds ++ back) parts) in
+      subst (AllByRecursion P) (sym swap.is)
+      (Each-append P front (news ++ back) (Each-left P front (olds ++ back) parts)
+      (Each-append P news back new behind))
 
   pub total_after : (number : Branch → ℕ)
       → total number after + total number olds ≡ total number before + total number news
@@ -189,3 +168,7 @@ module _ (front olds news back before after : List Branch)
   pub joined_after : joined after ≡ joined front ++ (joined news ++ joined back)
   joined_after = ap joined swap.is ∙ joined-append front (news ++ back)
       ∙ ap (λ es. joined front ++ es) (joined-append news back)
+
+pub at_most_one : (kid : Option Branch) → length (option_to_list kid) ≤ 1
+at_most_one None = omega arith
+at_most_one (Some kid) = omega arith

@@ -1,12 +1,12 @@
 -- Two children side by side become one, or two others.
 use Rattle.std.proofs.Common.{◌≡◌, ◌+◌, ◌<◌, zero, suc, ℕ, List, [], ◌∷◌, ◌++◌, length, take, drop}
 use Rattle.std.proofs.Common.{set, get_or, append_assoc, refl, sym, ◌∙◌, ap, subst, arith}
-use Rattle.std.specs.List.{remove}
+use Rattle.std.specs.List.{remove, AllByRecursion}
 use Rattle.std.proofs.lemmas.List.{append-nil}
 use Rattle.rg_base.specs.declared.place.Place.{Place}
+use Rattle.rg_base.proofs.Each.{Each-append}
 use Rattle.rg_bulk.specs.Branch.{Branch, joined, total}
-use Rattle.rg_bulk.specs.Shape.{EachOf, IsKid}
-use Rattle.rg_bulk.proofs.Filled.{EachOf-append}
+use Rattle.rg_bulk.specs.Shape.{IsKid}
 use Rattle.rg_btree.specs.Child.{firsts}
 use Rattle.rg_btree.proofs.Kids.{IsReplaced, take_set, drop_set, take_more_set, firsts-take}
 use Rattle.rg_btree.proofs.Kids.{firsts-drop, total_after, length_after, joined_after}
@@ -71,7 +71,7 @@ back_keys keys kids i new keys' kids' same k ks =
 pub record IsMended (h : ℕ) (before after : List Branch) (left right : Branch) (news : List Branch)
     : Type 0 where
   pub entries : joined after ≡ joined before
-  pub each : EachOf (IsKid h) after
+  pub each : AllByRecursion (IsKid h) after
   pub count : length after + 2 ≡ length before + length news
   pub nodes : total (λ kid. kid.nodes) after + (left.nodes + right.nodes)
       ≡ total (λ kid. kid.nodes) before + total (λ kid. kid.nodes) news
@@ -82,8 +82,10 @@ pub mended : (h : ℕ) (before : List Branch) (i : ℕ) (left right new : Branch
     (others kids' after : List Branch) → suc i < length before → left ≡ get_or before i left
     → right ≡ get_or before (suc i) right → kids' ≡ remove before (suc i)
     → after ≡ take (suc i) (set kids' i new) ++ (others ++ drop (suc i) (set kids' i new))
-    → EachOf (IsKid h) (take i before) → EachOf (IsKid h) (drop (suc (suc i)) before)
-    → EachOf (IsKid h) (new ∷ others) → joined (new ∷ others) ≡ left.entries ++ right.entries
+    → AllByRecursion (IsKid h) (take i before)
+    → AllByRecursion (IsKid h) (drop (suc (suc i)) before)
+    → AllByRecursion (IsKid h) (new ∷ others)
+    → joined (new ∷ others) ≡ left.entries ++ right.entries
     → IsMended h before after left right (new ∷ others)
 mended h before i left right new others kids' after low l r ks is front back each entries =
     let some : i < length kids' = omega (arith, length_removed before i low, ap length ks) in
@@ -112,9 +114,9 @@ mended h before i left right new others kids' after low l r ks is front back eac
           ∙ sym
           (joined_before (take i before) (left ∷ right ∷ []) (new ∷ others)
           (drop (suc (suc i)) before) before after swap);
-      each = subst (EachOf (IsKid h)) (sym now)
-          (EachOf-append (IsKid h) (take i before) ((new ∷ others) ++ drop (suc (suc i)) before)
-          front (EachOf-append (IsKid h) (new ∷ others) (drop (suc (suc i)) before) each back));
+      each = subst (AllByRecursion (IsKid h)) (sym now)
+          (Each-append (IsKid h) (take i before) ((new ∷ others) ++ drop (suc (suc i)) before)
+          front (Each-append (IsKid h) (new ∷ others) (drop (suc (suc i)) before) each back));
       count = omega arith;
       nodes = omega arith;
       inners = omega arith;

@@ -4,7 +4,7 @@ use Rattle.std.proofs.Common.{get_or}
 use Rattle.rg_base.specs.declared.place.Place.{Place}
 use Rattle.rg_model.specs.Layout.{is_entry_before}
 use Rattle.rg_bulk.specs.Branch.{Branch, first_of}
-use Rattle.rg_index.specs.Entries.{Each}
+use Rattle.std.specs.List.{AllByRecursion}
 
 -- the first entries of branches
 abbrev pub firsts : List Branch → List (ℕ × Place)
@@ -16,4 +16,4 @@ pub record IsChild (entry : ℕ × Place) (keys : List (ℕ × Place)) (i : ℕ)
   pub within : i < length keys
   pub here : 0 < i → is_entry_before entry (get_or keys i (0, record { page = 0; slot = 0 }))
       ≡ false
-  pub behind : Each (λ key. is_entry_before entry key ≡ true) (drop (suc i) keys)
+  pub behind : AllByRecursion (λ key. is_entry_before entry key ≡ true) (drop (suc i) keys)

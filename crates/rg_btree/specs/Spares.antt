@@ -4,7 +4,7 @@ use Rattle.std.specs.declared.vec.Vec.{Vec}
 use Rattle.std.specs.declared.alloc.Global.{Global}
 use Rattle.rg_base.specs.declared.place.Place.{Place}
 use Rattle.rg_bulk.specs.Branch.{Branch}
-use Rattle.rg_bulk.specs.Shape.{EachOf}
+use Rattle.std.specs.List.{AllByRecursion}
 
 -- how many there are for keys and for children, and how many of each the pool can hold
 pub record Spares : Type 0 where
@@ -20,4 +20,4 @@ pub record IsBuffer {X : Type 0} (wanted : ℕ) (buffer : Vec X Global) : Type 0
 
 -- each buffer is empty and has the room of a node
 abbrev pub AreBuffers : List (Vec (ℕ × Place) Global) → List (Vec Branch Global) → Type 0
-AreBuffers keys kids = EachOf (IsBuffer 257) keys × EachOf (IsBuffer 226) kids
+AreBuffers keys kids = AllByRecursion (IsBuffer 257) keys × AllByRecursion (IsBuffer 226) kids

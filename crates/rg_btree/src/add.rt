@@ -7,7 +7,8 @@ ghost use Rattle.std.specs.Option.{option_to_list};
 ghost use Rattle.rg_model.specs.Layout.{put_entry};
 ghost use Rattle.rg_index.specs.Entries.{IsRising, has_entry};
 ghost use Rattle.rg_bulk.specs.Branch.{branch_of, first_of, joined, total};
-ghost use Rattle.rg_bulk.specs.Shape.{EachOf, IsKid};
+ghost use Rattle.std.specs.List.{AllByRecursion};
+ghost use Rattle.rg_bulk.specs.Shape.{IsKid};
 ghost use Rattle.rg_btree.specs.Child.{IsChild, firsts};
 
 use crate::pool::Pool;
@@ -77,8 +78,8 @@ pub fn renew_kid(keys: &mut Vec<(u64, Place)>, kids: &mut Vec<Node>, at: usize, 
     requires count { length keys.old.items ≡ length kids.old.items }
     requires front { take at keys.old.items ≡ firsts (take at kids.old.items) }
     requires back { drop (suc at) keys.old.items ≡ firsts (drop (suc at) kids.old.items) }
-    requires some { EachOf (λ kid. 0 < length kid.entries) kids.old.items }
-    requires some_right { EachOf (λ kid. 0 < length kid.entries) (option_to_list right) }
+    requires some { AllByRecursion (λ kid. 0 < length kid.entries) kids.old.items }
+    requires some_right { AllByRecursion (λ kid. 0 < length kid.entries) (option_to_list right) }
     requires key_room { length keys.old.items < vec_capacity keys.old }
     requires kid_room { length kids.old.items < vec_capacity kids.old }
     ensures kids { kids.new.items ≡ take (suc at) kids.old.items
@@ -104,7 +105,7 @@ fn split_inner(
     requires inner { 0 < height }
     requires keys_are { keys.old.items ≡ firsts kids.old.items }
     requires most { length kids.old.items ≤ 226 }
-    requires each { EachOf (IsKid (height - 1)) kids.old.items }
+    requires each { AllByRecursion (IsKid (height - 1)) kids.old.items }
     requires key_room { 257 ≤ vec_capacity keys.old }
     requires kid_room { 226 ≤ vec_capacity kids.old }
     requires spare_keys { 0 < pool.old.keys }
@@ -149,9 +150,9 @@ pub fn add_below(
     ensures height { node.new.height ≡ node.old.height }
     ensures fill { IsNone result → node.old.fill ≤ node.new.fill }
     ensures kept { IsKid node.old.height node.old →
-        EachOf (IsKid node.old.height) (node.new ∷ option_to_list result) }
+        AllByRecursion (IsKid node.old.height) (node.new ∷ option_to_list result) }
     ensures split { IsSome result →
-        EachOf (IsKid node.old.height) (node.new ∷ option_to_list result) }
+        AllByRecursion (IsKid node.old.height) (node.new ∷ option_to_list result) }
     ensures pool_keys { pool.new.keys + total (λ kid. kid.nodes) (node.new ∷ option_to_list result)
         ≡ pool.old.keys + node.old.nodes }
     ensures pool_kids { pool.new.kids + total (λ kid. kid.inners) (node.new ∷ option_to_list result)

@@ -6,7 +6,8 @@ ghost use Rattle.std.specs.Prelude.{drop, slice_index_or as get_or, vec_capacity
 ghost use Rattle.std.specs.Option.{option_to_list};
 ghost use Rattle.rg_index.specs.Entries.{IsRising, has_entry, without_entry};
 ghost use Rattle.rg_bulk.specs.Branch.{Branch, joined, total};
-ghost use Rattle.rg_bulk.specs.Shape.{EachOf, IsKid, least_fill};
+ghost use Rattle.std.specs.List.{AllByRecursion};
+ghost use Rattle.rg_bulk.specs.Shape.{IsKid, least_fill};
 ghost use Rattle.rg_btree.specs.Child.{firsts};
 ghost use Rattle.rg_btree.specs.Short.{IsShort};
 
@@ -31,7 +32,7 @@ fn even_leaves(left: &mut Node, mut right: Node, pool: &mut Pool) -> Option<Node
     requires left_fill { 127 ≤ left.old.fill }
     requires right_fill { 127 ≤ right.fill }
     requires room { pool.old.keys < pool.old.key_room }
-    ensures each { EachOf (IsKid 0) (left.new ∷ option_to_list result) }
+    ensures each { AllByRecursion (IsKid 0) (left.new ∷ option_to_list result) }
     ensures entries { joined (left.new ∷ option_to_list result)
         ≡ left.old.entries ++ right.entries }
     ensures pool_keys { pool.new.keys + total (λ kid. kid.nodes) (left.new ∷ option_to_list result)
@@ -64,7 +65,7 @@ fn even_inners(left: &mut Node, mut right: Node, pool: &mut Pool) -> Option<Node
     requires both { 223 ≤ left.old.fill + right.fill }
     requires key_buffer { pool.old.keys < pool.old.key_room }
     requires kid_buffer { pool.old.kids < pool.old.kid_room }
-    ensures each { EachOf (IsKid left.old.height) (left.new ∷ option_to_list result) }
+    ensures each { AllByRecursion (IsKid left.old.height) (left.new ∷ option_to_list result) }
     ensures entries { joined (left.new ∷ option_to_list result)
         ≡ left.old.entries ++ right.entries }
     ensures pool_keys { pool.new.keys + total (λ kid. kid.nodes) (left.new ∷ option_to_list result)
@@ -100,7 +101,7 @@ fn even_out(left: &mut Node, right: Node, pool: &mut Pool) -> Option<Node>
     requires both { 2 * least_fill left.old.height ≤ left.old.fill + right.fill + 1 }
     requires key_buffer { pool.old.keys < pool.old.key_room }
     requires kid_buffer { 0 < left.old.height → pool.old.kids < pool.old.kid_room }
-    ensures each { EachOf (IsKid left.old.height) (left.new ∷ option_to_list result) }
+    ensures each { AllByRecursion (IsKid left.old.height) (left.new ∷ option_to_list result) }
     ensures entries { joined (left.new ∷ option_to_list result)
         ≡ left.old.entries ++ right.entries }
     ensures pool_keys { pool.new.keys + total (λ kid. kid.nodes) (left.new ∷ option_to_list result)
@@ -128,10 +129,10 @@ fn mend_kids(
     requires within { suc at < length kids.old.items }
     requires most { length kids.old.items ≤ 225 }
     requires keys_are { keys.old.items ≡ firsts kids.old.items }
-    requires short { EachOf (IsShort (height - 1)) kids.old.items }
-    requires some { EachOf (λ kid. 0 < length kid.entries) kids.old.items }
-    requires front { EachOf (IsKid (height - 1)) (take at kids.old.items) }
-    requires back { EachOf (IsKid (height - 1)) (drop (suc (suc at)) kids.old.items) }
+    requires short { AllByRecursion (IsShort (height - 1)) kids.old.items }
+    requires some { AllByRecursion (λ kid. 0 < length kid.entries) kids.old.items }
+    requires front { AllByRecursion (IsKid (height - 1)) (take at kids.old.items) }
+    requires back { AllByRecursion (IsKid (height - 1)) (drop (suc (suc at)) kids.old.items) }
     requires both { (d : Branch) → 2 * least_fill (height - 1)
         ≤ (get_or kids.old.items at d).fill + (get_or kids.old.items (suc at) d).fill + 1 }
     requires key_space { 257 ≤ vec_capacity keys.old }
@@ -139,7 +140,7 @@ fn mend_kids(
     requires key_buffer { pool.old.keys < pool.old.key_room }
     requires kid_buffer { 1 < height → pool.old.kids < pool.old.kid_room }
     ensures entries { joined kids.new.items ≡ joined kids.old.items }
-    ensures each { EachOf (IsKid (height - 1)) kids.new.items }
+    ensures each { AllByRecursion (IsKid (height - 1)) kids.new.items }
     ensures keys_are { keys.new.items ≡ firsts kids.new.items }
     ensures fewer { length kids.old.items ≤ length kids.new.items + 1 }
     ensures most { length kids.new.items ≤ 225 }
@@ -174,15 +175,15 @@ fn settle_kid(
     requires count { length keys.old.items ≡ length kids.old.items }
     requires front_keys { take at keys.old.items ≡ firsts (take at kids.old.items) }
     requires back_keys { drop (suc at) keys.old.items ≡ firsts (drop (suc at) kids.old.items) }
-    requires short { EachOf (IsShort (height - 1)) kids.old.items }
-    requires front { EachOf (IsKid (height - 1)) (take at kids.old.items) }
-    requires back { EachOf (IsKid (height - 1)) (drop (suc at) kids.old.items) }
+    requires short { AllByRecursion (IsShort (height - 1)) kids.old.items }
+    requires front { AllByRecursion (IsKid (height - 1)) (take at kids.old.items) }
+    requires back { AllByRecursion (IsKid (height - 1)) (drop (suc at) kids.old.items) }
     requires key_space { 257 ≤ vec_capacity keys.old }
     requires kid_space { 226 ≤ vec_capacity kids.old }
     requires key_buffer { pool.old.keys < pool.old.key_room }
     requires kid_buffer { 1 < height → pool.old.kids < pool.old.kid_room }
     ensures entries { joined kids.new.items ≡ joined kids.old.items }
-    ensures each { EachOf (IsKid (height - 1)) kids.new.items }
+    ensures each { AllByRecursion (IsKid (height - 1)) kids.new.items }
     ensures keys_are { keys.new.items ≡ firsts kids.new.items }
     ensures fewer { length kids.old.items ≤ length kids.new.items + 1 }
     ensures most { length kids.new.items ≤ 225 }

@@ -4,32 +4,14 @@ use Rattle.std.proofs.Common.{map, get_or, refl, sym, ◌∙◌, ap, subst, arit
 use Rattle.std.proofs.lemmas.List.{length-map}
 use Rattle.rg_base.specs.declared.place.Place.{Place}
 use Rattle.rg_bulk.specs.Branch.{Branch, branch_of, first_of, joined, total}
-use Rattle.rg_bulk.specs.Shape.{EachOf, IsKid, IsNode, IsRoot, least_fill, least_entries}
+use Rattle.std.specs.List.{AllByRecursion}
+use Rattle.rg_bulk.specs.Shape.{IsKid, IsNode, IsRoot, least_fill, least_entries}
 
 -- ---- each of a list
 
-pub EachOf-map : {X : Type 0} (P Q : X → Type 0) → ((x : X) → P x → Q x) → (xs : List X)
-    → EachOf P xs → EachOf Q xs
-EachOf-map P Q step [] each = tt
-EachOf-map P Q step (x ∷ xs) each = (step x each.0, EachOf-map P Q step xs each.1)
-
-pub EachOf-append : {X : Type 0} (P : X → Type 0) (xs ys : List X) → EachOf P xs → EachOf P ys
-    → EachOf P (xs ++ ys)
-EachOf-append P [] ys a b = b
-EachOf-append P (x ∷ xs) ys a b = (a.0, EachOf-append P xs ys a.1 b)
-
-pub EachOf-left : {X : Type 0} (P : X → Type 0) (xs ys : List X) → EachOf P (xs ++ ys) → EachOf P xs
-EachOf-left P [] ys each = tt
-EachOf-left P (x ∷ xs) ys each = (each.0, EachOf-left P xs ys each.1)
-
-pub EachOf-right : {X : Type 0} (P : X → Type 0) (xs ys : List X) → EachOf P (xs ++ ys)
-    → EachOf P ys
-EachOf-right P [] ys each = each
-EachOf-right P (x ∷ xs) ys each = EachOf-right P xs ys each.1
-
 -- ---- sums over children
 
-pub least_of_kids : (h : ℕ) (kids : List Branch) → EachOf (IsKid h) kids
+pub least_of_kids : (h : ℕ) (kids : List Branch) → AllByRecursion (IsKid h) kids
     → length kids * least_entries h ≤ length (joined kids)
 least_of_kids h [] each = grind arith
 least_of_kids h (kid ∷ kids) each =
@@ -42,7 +24,7 @@ least_of_kids h (kid ∷ kids) each =
     one_more : (m n a b c : ℕ) → m ≤ a → n * m ≤ b → c ≡ a + b → suc n * m ≤ c
     one_more m n a b c p q e = grind arith
 
-pub nodes_of_kids : (h : ℕ) (kids : List Branch) → EachOf (IsKid h) kids
+pub nodes_of_kids : (h : ℕ) (kids : List Branch) → AllByRecursion (IsKid h) kids
     → 126 * total (λ kid. kid.nodes) kids + 2 * length kids ≤ length (joined kids)
 nodes_of_kids h [] each = omega arith
 nodes_of_kids h (kid ∷ kids) each =
@@ -50,7 +32,7 @@ nodes_of_kids h (kid ∷ kids) each =
     let rest = nodes_of_kids h kids each.1 in
     omega (arith, length-append kid.entries (joined kids))
 
-pub inners_of_kids : (h : ℕ) (kids : List Branch) → EachOf (IsKid h) kids
+pub inners_of_kids : (h : ℕ) (kids : List Branch) → AllByRecursion (IsKid h) kids
     → 14208 * total (λ kid. kid.inners) kids + 128 * length kids ≤ length (joined kids)
 inners_of_kids h [] each = omega arith
 inners_of_kids h (kid ∷ kids) each =
@@ -59,7 +41,8 @@ inners_of_kids h (kid ∷ kids) each =
     omega (arith, length-append kid.entries (joined kids))
 
 -- a parent of enough children may be a child
-pub parent_may_be_kid : (h : ℕ) (kids : List Branch) → EachOf (IsKid h) kids → 112 ≤ length kids
+pub parent_may_be_kid : (h : ℕ) (kids : List Branch) → AllByRecursion (IsKid h) kids
+    → 112 ≤ length kids
     → IsKid (suc h) (branch_of (suc h) [] kids)
 parent_may_be_kid h kids each full =
     let nodes = nodes_of_kids h kids each in
@@ -103,7 +86,7 @@ first_key (suc h) keys kids key_room kid_room inner = (
     first_append [] ys lt = absurd (omega arith)
     first_append (x ∷ xs) ys lt = refl
 
-    first_of_first : (ks : List Branch) → EachOf (IsKid h) ks
+    first_of_first : (ks : List Branch) → AllByRecursion (IsKid h) ks
         → first_of (map (λ kid. first_of kid.entries) ks) ≡ first_of (joined ks)
     first_of_first [] each = refl
     first_of_first (k ∷ ks) each = first_append k.entries (joined ks) (kid_has_entry h k each.0)

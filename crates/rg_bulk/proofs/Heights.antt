@@ -3,7 +3,8 @@ use Rattle.std.proofs.Common.{◌≡◌, ◌+◌, ◌-◌, ◌<◌, ◌≤◌, z
 use Rattle.std.proofs.Common.{length-append, refl, subst, inl, inr, arith}
 use Rattle.std.proofs.lemmas.Bool.{cases_lt}
 use Rattle.rg_bulk.specs.Branch.{Branch, joined}
-use Rattle.rg_bulk.specs.Shape.{EachOf, IsKid, least_entries}
+use Rattle.std.specs.List.{AllByRecursion}
+use Rattle.rg_bulk.specs.Shape.{IsKid, least_entries}
 
 abbrev nine_more : ℕ → ℕ
 nine_more zero = 9
@@ -28,7 +29,8 @@ height_small h n le lt =
           absurd (omega arith)
     ]
 
-pub level_low : (h : ℕ) (level : List Branch) (n : ℕ) → EachOf (IsKid h) level → 0 < length level
+pub level_low : (h : ℕ) (level : List Branch) (n : ℕ) → AllByRecursion (IsKid h) level
+    → 0 < length level
     → length (joined level) ≡ n → n < 18446744073709551616 → h < 9
 level_low h [] n each some is lt = absurd (omega arith)
 level_low h (kid ∷ level) n each some is lt =

@@ -7,9 +7,11 @@ use Rattle.std.proofs.lemmas.List.{length_push}
 use Rattle.std.proofs.lemmas.Bool.{cases_lt}
 use Rattle.std.proofs.lemmas.List.Concat.{flat_map-append}
 use Rattle.rg_bulk.specs.Branch.{Branch, branch_of, joined, total}
-use Rattle.rg_bulk.specs.Shape.{EachOf, IsKid}
+use Rattle.std.specs.List.{AllByRecursion}
+use Rattle.rg_base.proofs.Each.{Each-append, Each-left, Each-right}
+use Rattle.rg_bulk.specs.Shape.{IsKid}
 use Rattle.rg_bulk.specs.Share.{IsShare}
-use Rattle.rg_bulk.proofs.Filled.{EachOf-append, EachOf-left, EachOf-right, parent_may_be_kid}
+use Rattle.rg_bulk.proofs.Filled.{parent_may_be_kid}
 
 pub joined-append : (xs ys : List Branch) → joined (xs ++ ys) ≡ joined xs ++ joined ys
 joined-append xs ys = flat_map-append (λ kid. kid.entries) xs ys
@@ -20,18 +22,18 @@ total-append number [] ys = omega arith
 total-append number (x ∷ xs) ys = let rest = total-append number xs ys in omega arith
 
 -- the first of a level, and those behind
-pub each_cut : (P : Branch → Type 0) (level : List Branch) (n : ℕ) → EachOf P level
-    → EachOf P (take n level) × EachOf P (drop n level)
+pub each_cut : (P : Branch → Type 0) (level : List Branch) (n : ℕ) → AllByRecursion P level
+    → AllByRecursion P (take n level) × AllByRecursion P (drop n level)
 each_cut P level n each =
-    let cut = subst (EachOf P) (sym (take-append-drop n level)) each in (
-      EachOf-left P (take n level) (drop n level) cut,
-      EachOf-right P (take n level) (drop n level) cut,
+    let cut = subst (AllByRecursion P) (sym (take-append-drop n level)) each in (
+      Each-left P (take n level) (drop n level) cut,
+      Each-right P (take n level) (drop n level) cut,
     )
 
 pub record IsStep (h : ℕ) (start above level : List Branch) : Type 0 where
   pub all : joined start ≡ joined above ++ joined level
-  pub full : EachOf (IsKid (suc h)) above
-  pub left : EachOf (IsKid h) level
+  pub full : AllByRecursion (IsKid (suc h)) above
+  pub left : AllByRecursion (IsKid h) level
   pub enough : 0 < length level → 112 ≤ length level
   pub begun : length above ≡ 0 → 225 < length level
   pub several : length level ≡ 0 → 2 ≤ length above
@@ -82,7 +84,7 @@ stepped h all above level size at shared some =
     total-append (λ kid. kid.inners) above (branch_of (suc h) [] (take size level) ∷ []) in
     record {
       all = at.all ∙ joined_on;
-      full = EachOf-append (IsKid (suc h)) above (branch_of (suc h) [] (take size level) ∷ [])
+      full = Each-append (IsKid (suc h)) above (branch_of (suc h) [] (take size level) ∷ [])
           at.full (parent_may_be_kid h (take size level) parts.0 (omega arith), tt);
       left = parts.1;
       enough = λ there. omega (arith, sizes.2 (omega arith));

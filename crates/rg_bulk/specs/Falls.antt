@@ -4,9 +4,10 @@ use Rattle.std.proofs.Common.{arith, subst, sym}
 use denote.Param.Weighed.{most}
 use Rattle.rg_base.specs.declared.place.Place.{Place}
 use Rattle.rg_bulk.specs.Branch.{Branch, branch_of}
-use Rattle.rg_bulk.specs.Shape.{EachOf, IsKid, IsNode}
+use Rattle.std.specs.List.{AllByRecursion}
+use Rattle.rg_bulk.specs.Shape.{IsKid, IsNode}
 
-most_kids : (h : ℕ) (kids : List Branch) → EachOf (IsKid h) kids →
+most_kids : (h : ℕ) (kids : List Branch) → AllByRecursion (IsKid h) kids →
     most (λ kid. kid.height + 1) kids ≤ suc h
 most_kids h [] each = omega arith
 most_kids h (kid ∷ kids) each =

@@ -1,12 +1,8 @@
 -- How full the nodes of a tree are.
-use Rattle.std.specs.Prelude.{ℕ, zero, suc, ◌≡◌, ◌+◌, ◌*◌, ◌≤◌, List, [], ◌∷◌, length, map}
+use Rattle.std.specs.Prelude.{ℕ, zero, suc, ◌≡◌, ◌+◌, ◌*◌, ◌≤◌, List, [], length, map}
 use Rattle.rg_base.specs.declared.place.Place.{Place}
 use Rattle.rg_bulk.specs.Branch.{Branch, first_of}
-
--- each element of the list is as P says
-abbrev pub EachOf : {X : Type 0} → (X → Type 0) → List X → Type 0
-EachOf P [] = Unit {0}
-EachOf P (x ∷ xs) = P x × EachOf P xs
+use Rattle.std.specs.List.{AllByRecursion}
 
 -- the fewest entries of a leaf, or children of an inner node, that is not the root
 abbrev pub least_fill : ℕ → ℕ
@@ -41,7 +37,7 @@ pub record IsInner (height : ℕ) (keys : List (ℕ × Place)) (kids : List Bran
   pub keys_are : keys ≡ map (λ kid. first_of kid.entries) kids
   pub fewest : 1 ≤ length kids
   pub most : length kids ≤ 225
-  pub each : EachOf (IsKid height) kids
+  pub each : AllByRecursion (IsKid height) kids
   pub key_space : 257 ≤ key_room
   pub kid_space : 226 ≤ kid_room
 

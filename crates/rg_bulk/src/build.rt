@@ -4,7 +4,8 @@
 ghost use Rattle.std.specs.Prelude.{◌≡◌, ◌≤◌, ◌<◌, ◌+◌, ◌-◌, ◌*◌, suc, [], length, take, drop};
 ghost use Rattle.std.specs.Prelude.{OnOk, IfOk};
 ghost use Rattle.rg_bulk.specs.Branch.{branch_of, joined, total};
-ghost use Rattle.rg_bulk.specs.Shape.{EachOf, IsKid};
+ghost use Rattle.std.specs.List.{AllByRecursion};
+ghost use Rattle.rg_bulk.specs.Shape.{IsKid};
 ghost use Rattle.rg_bulk.specs.Share.{IsShare};
 
 use crate::node::{KEY_ROOM, KID_ROOM, KIDS_LEAST, KIDS_MOST, LEAF_LEAST, LEAF_MOST, Node, Nodes};
@@ -32,7 +33,7 @@ fn leaves(alloc: Global, entries: &[(u64, Place)]) -> Result<VecDeque<Node>, NoM
     requires { 256 < length entries.now }
     ensures entries { IfOk result (λ level. joined level.items ≡ entries.now) }
     ensures several { IfOk result (λ level. 2 ≤ length level.items) }
-    ensures full { IfOk result (λ level. EachOf (IsKid 0) level.items) }
+    ensures full { IfOk result (λ level. AllByRecursion (IsKid 0) level.items) }
     ensures nodes { IfOk result (λ level. total (λ kid. kid.nodes) level.items
         ≡ length level.items) }
     ensures inners { IfOk result (λ level. total (λ kid. kid.inners) level.items ≡ 0) }
@@ -58,7 +59,7 @@ fn gather(
     requires several { 2 ≤ size }
     requires most { size ≤ 225 }
     requires there { size ≤ length level.old.items }
-    requires full { EachOf (IsKid height) level.old.items }
+    requires full { AllByRecursion (IsKid height) level.old.items }
     ensures rest { OnOk result (level.new.items ≡ drop size level.old.items) }
     ensures node { IfOk result (λ node.
         node ≡ branch_of (suc height) [] (take size level.old.items)) }
@@ -83,11 +84,11 @@ fn gather(
 fn parents(alloc: Global, height: u8, mut level: VecDeque<Node>) -> Result<VecDeque<Node>, NoMemory>
     requires low { height < 255 }
     requires many { 225 < length level.items }
-    requires full { EachOf (IsKid height) level.items }
+    requires full { AllByRecursion (IsKid height) level.items }
     ensures entries { IfOk result (λ above. joined above.items ≡ joined level.items) }
     ensures several { IfOk result (λ above. 2 ≤ length above.items) }
     ensures fewer { IfOk result (λ above. length above.items < length level.items) }
-    ensures full { IfOk result (λ above. EachOf (IsKid (suc height)) above.items) }
+    ensures full { IfOk result (λ above. AllByRecursion (IsKid (suc height)) above.items) }
     ensures nodes { IfOk result (λ above. total (λ kid. kid.nodes) above.items
         ≡ total (λ kid. kid.nodes) level.items + length above.items) }
     ensures inners { IfOk result (λ above. total (λ kid. kid.inners) above.items

@@ -14,15 +14,10 @@ use Rattle.std.proofs.lemmas.Bool.Decides.{nat_tests}
 use Rattle.std.proofs.lemmas.List.{get_or-set_same, get_or-set_other}
 use Rattle.rg_base.specs.declared.options.DrainState.{DrainState}
 use Rattle.rg_base.specs.declared.session.Class.{Class}
+use Rattle.rg_base.proofs.Small.{cmp_apart, both_hold as both_tests, cmp_equal, cmp_below}
 use Rattle.rg_claim.specs.ClaimState.{ClaimState}
 use Rattle.rg_model.specs.Claims.{first_session, is_holder, least_holder}
 use Rattle.rg_claim.specs.Slots.{entries_from, claims_of}
-
-apart : (q n : ℕ) → (q ≡ n → ⊥) → eq_by_cmp nat_cmp q n ≡ false
-apart q n differ = grind (arith, nat_tests)
-
-same : (q n : ℕ) → q ≡ n → eq_by_cmp nat_cmp q n ≡ true
-same q n is = grind (arith, nat_tests)
 
 -- no session before the first is found
 find_before : (slots : List (Option Class)) (n q : ℕ) → q < n
@@ -31,7 +26,7 @@ find_before [] n q lt = refl
 find_before (None ∷ slots) n q lt = find_before slots (suc n) q (omega arith)
 find_before (Some class ∷ slots) n q lt =
     ap (λ b. cond b (Some class) (find nat_cmp q (entries_from (suc n) slots)))
-    (apart q n (λ e. omega (arith, e))) ∙ find_before slots (suc n) q (omega arith)
+    (cmp_apart q n (λ e. omega (arith, e))) ∙ find_before slots (suc n) q (omega arith)
 
 -- what is found is what stands at the session's place
 find_at : (slots : List (Option Class)) (n k q : ℕ) → q ≡ n + k
@@ -41,34 +36,28 @@ find_at (None ∷ slots) n zero q e = find_before slots (suc n) q (omega arith)
 find_at (None ∷ slots) n (suc k) q e = find_at slots (suc n) k q (omega arith)
 find_at (Some class ∷ slots) n zero q e =
     ap (λ b. cond b (Some class) (find nat_cmp q (entries_from (suc n) slots)))
-    (same q n (omega arith))
+    (cmp_equal q n (omega arith))
 find_at (Some class ∷ slots) n (suc k) q e =
     ap (λ b. cond b (Some class) (find nat_cmp q (entries_from (suc n) slots)))
-    (apart q n (λ h. omega (arith, e, h))) ∙ find_at slots (suc n) k q (omega arith)
+    (cmp_apart q n (λ h. omega (arith, e, h))) ∙ find_at slots (suc n) k q (omega arith)
 
 both_hold : (a b : Bool) → a ≡ true → T b → T (a && b)
 both_hold true b p q = q
 both_hold false b p q = absurd (cc (p))
-
-both_true : (a b : Bool) → T a → T b → T (a && b)
-both_true true b p q = q
-both_true false b p q = absurd p
-
-below : (m n : ℕ) → m < n → is_lt (nat_cmp m n) ≡ true
-below m n lt = grind (arith, nat_tests)
 
 below_entries : (slots : List (Option Class)) (m n : ℕ) → m < n
     → T (below_all nat_cmp m (entries_from n slots))
 below_entries [] m n lt = tt
 below_entries (None ∷ slots) m n lt = below_entries slots m (suc n) (omega arith)
 below_entries (Some class ∷ slots) m n lt =
-    both_hold (is_lt (nat_cmp m n)) _ (below m n lt) (below_entries slots m (suc n) (omega arith))
+    both_hold (is_lt (nat_cmp m n)) _ (cmp_below m n lt)
+    (below_entries slots m (suc n) (omega arith))
 
 -- the sessions rise
 rising : (slots : List (Option Class)) (n : ℕ) → T (is_sorted nat_cmp (entries_from n slots))
 rising [] n = tt
 rising (None ∷ slots) n = rising slots (suc n)
-rising (Some class ∷ slots) n = both_true (below_all nat_cmp n (entries_from (suc n) slots)) _
+rising (Some class ∷ slots) n = both_tests (below_all nat_cmp n (entries_from (suc n) slots)) _
     (below_entries slots n (suc n) (omega arith)) (rising slots (suc n))
 
 -- the class of the session with this number
@@ -92,7 +81,7 @@ class_at-set : (slots : List (Option Class)) (k : ℕ) (class : Option Class) (q
     → k < length slots
     → class_at (set slots k class) q ≡ cond (eq_by_cmp nat_cmp q (suc k)) class (class_at slots q)
 class_at-set slots k class zero within =
-    ap (λ b. cond b class None) (sym (apart 0 (suc k) (λ e. omega (arith, e))))
+    ap (λ b. cond b class None) (sym (cmp_apart 0 (suc k) (λ e. omega (arith, e))))
 class_at-set slots k class (suc j) within = go (j == k) refl
   where
     go : (b : Bool) → (j == k) ≡ b
@@ -101,12 +90,12 @@ class_at-set slots k class (suc j) within = go (j == k) refl
     go true e =
         let is : j ≡ k = grind (arith, nat_tests) in
         ap (λ i. get_or (set slots k class) i None) is ∙ get_or-set_same slots k class None within
-        ∙ ap (λ b. cond b class (get_or slots j None)) (sym (same (suc j) (suc k) (ap suc is)))
+        ∙ ap (λ b. cond b class (get_or slots j None)) (sym (cmp_equal (suc j) (suc k) (ap suc is)))
     go false e =
         let differ : j ≢ k = grind (arith, nat_tests) in
         get_or-set_other slots k j class None differ
         ∙ ap (λ b. cond b class (get_or slots j None))
-        (sym (apart (suc j) (suc k) (λ h. differ (omega (arith, h)))))
+        (sym (cmp_apart (suc j) (suc k) (λ h. differ (omega (arith, h)))))
 
 any_default : (xs : List (Option Class)) (i : ℕ) (d : Option Class) → i < length xs
     → get_or xs i d ≡ get_or xs i None

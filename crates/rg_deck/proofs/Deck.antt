@@ -4,6 +4,7 @@ use Rattle.std.proofs.Common.{length, arith, rules, refl, ap, sym, ◌∙◌, ap
 use Rattle.std.specs.List.{AllByRecursion, AllZip}
 use Rattle.std.proofs.lemmas.List.{append-nil}
 use Rattle.std.proofs.lemmas.Slice.Zip.{AllZip-long}
+use Rattle.rg_opts.proofs.File.{cut_shorter}
 use Rattle.rg_stmt.specs.declared.line.Line.{Line}
 use Rattle.rg_deck.specs.Grammar.{IsTextOf, IsAdmitted, deck_text, EndsLine, LinesOf}
 use Rattle.rg_deck.specs.Grammar.{IsFirstOutside}
@@ -164,12 +165,6 @@ reads_more bytes rest line after texts (inl e) some (lacks, inr last) =
       ap (λ x. x ++ 10 ∷ []) (e ∙ ap (λ r. deck_text texts ++ r) last.0)
           ∙ append_assoc (deck_text texts) line (10 ∷ []) ∙ sym (deck_more texts line),
     )
-
-cut_shorter : (rest line after : List ℕ) → 0 < length rest → CutsLine rest line after
-    → length after + 1 ≤ length rest
-cut_shorter rest line after some (lacks, inl feed) =
-    omega (arith, ap length feed, length-append line (10 ∷ after))
-cut_shorter rest line after some (lacks, inr last) = omega (arith, ap length last.1)
 
 pub read_more : (admitted : Admits) (bytes rest line after : List ℕ) (lines : List Line)
     (number : ℕ) (taken : Line) → ReadSoFar admitted bytes rest lines number → 0 < length rest

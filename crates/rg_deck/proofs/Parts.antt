@@ -11,13 +11,14 @@ use Rattle.rg_stmt.specs.declared.line.Line.TheVariants.{Said}
 use Rattle.rg_stmt.specs.declared.stmt.Stmt.{Stmt}
 use Rattle.rg_stmt.specs.declared.stmt.Stmt.TheVariants.{Insert, Update, Delete, Select, Scan, Find}
 use Rattle.rg_stmt.specs.declared.stmt.Stmt.TheVariants.{Commit, Rollback}
-use Rattle.rg_deck.specs.Grammar.{IsRow, IsStmt, IsAdmitted, IsTextOf, stmt_words}
+use Rattle.rg_base.specs.Values.{FitsRow}
+use Rattle.rg_deck.specs.Grammar.{IsStmt, IsAdmitted, IsTextOf, stmt_words}
 use Rattle.rg_deck.specs.Reading.{BeginsWithNumber, row_spelling, stmt_spelling}
 use Rattle.rg_deck.specs.declared.read.Admits.TheVariants.{Statements}
 use Rattle.rg_deck.proofs.Words.{number_once}
 
 pub no_row_clus : (bytes rest : List ℕ) (key : ℕ) → BeginsWithNumber bytes key rest
-    → ((n : ℕ) (more : List ℕ) → BeginsWithNumber rest n more → ⊥) → (row : Row) → IsRow row
+    → ((n : ℕ) (more : List ℕ) → BeginsWithNumber rest n more → ⊥) → (row : Row) → FitsRow row
     → bytes ≢ row_spelling row
 no_row_clus bytes rest key a none row is e =
     let one = number_once bytes rest _ key row.key a is.key e in
@@ -25,7 +26,7 @@ no_row_clus bytes rest key a none row is e =
 
 pub no_row_cat : (bytes rest after : List ℕ) (key clus : ℕ) → BeginsWithNumber bytes key rest
     → BeginsWithNumber rest clus after
-    → ((n : ℕ) (more : List ℕ) → BeginsWithNumber after n more → ⊥) → (row : Row) → IsRow row
+    → ((n : ℕ) (more : List ℕ) → BeginsWithNumber after n more → ⊥) → (row : Row) → FitsRow row
     → bytes ≢ row_spelling row
 no_row_cat bytes rest after key clus a b none row is e =
     let one = number_once bytes rest _ key row.key a is.key e in
@@ -35,7 +36,7 @@ no_row_cat bytes rest after key clus a b none row is e =
 pub no_row_text : (bytes rest after word : List ℕ) (key clus cat : ℕ)
     → BeginsWithNumber bytes key rest → BeginsWithNumber rest clus after
     → BeginsWithNumber after cat word → ((text : List ℕ) → IsText text → word ≢ text_word text)
-    → (row : Row) → IsRow row → bytes ≢ row_spelling row
+    → (row : Row) → FitsRow row → bytes ≢ row_spelling row
 no_row_text bytes rest after word key clus cat a b d none row is e =
     let one = number_once bytes rest _ key row.key a is.key e in
     let two = number_once rest after _ clus row.clus b is.clus one.1 in

@@ -29,10 +29,12 @@ use Rattle.rg_stmt.specs.declared.line.Line.TheVariants.{Said, Reorg, Step, Flus
 use Rattle.rg_stmt.specs.declared.stmt.Stmt.{Stmt}
 use Rattle.rg_stmt.specs.declared.stmt.Stmt.TheVariants.{Insert, Update, Delete, Select, Scan, Find}
 use Rattle.rg_stmt.specs.declared.stmt.Stmt.TheVariants.{Commit, Rollback}
-use Rattle.rg_deck.specs.Grammar.{IsRow, IsStmt, IsLine, IsTextOf}
+use Rattle.rg_base.specs.Values.{FitsRow}
+use Rattle.rg_base.proofs.Numerals.{decimal_digits}
+use Rattle.rg_deck.specs.Grammar.{IsStmt, IsLine, IsTextOf}
 use Rattle.rg_deck.specs.Reading.{Lacks, IsLetter, FindsOptions, row_spelling, stmt_spelling}
 use Rattle.rg_deck.proofs.Bytes.{first_place, no_place, Lacks-append}
-use Rattle.rg_deck.proofs.Words.{Lacks-decimal, decimal_digits, number_once}
+use Rattle.rg_deck.proofs.Words.{Lacks-decimal, number_once}
 use Rattle.rg_deck.proofs.Parts.{text_said}
 
 -- the letter of a line of one letter
@@ -116,7 +118,7 @@ Lacks-parts a b la lb = Lacks-append 10 a (32 ∷ b) la ((λ e. omega arith), lb
 Lacks-number : (n : ℕ) → n < 2 ^ 64 → Lacks 10 (decimal n)
 Lacks-number n h = Lacks-decimal 10 n (omega arith) h
 
-Lacks-row : (row : Row) → IsRow row → Lacks 10 (row_spelling row)
+Lacks-row : (row : Row) → FitsRow row → Lacks 10 (row_spelling row)
 Lacks-row row is =
     Lacks-parts _ _ (Lacks-number row.key is.key)
     (Lacks-parts _ _ (Lacks-number row.clus is.clus)
@@ -162,7 +164,7 @@ same_text a b false false da db e = e
 text_word-injective : (a b : List ℕ) → text_word a ≡ text_word b → a ≡ b
 text_word-injective a b e = same_text a b (is_dashes a) (is_dashes b) refl refl e
 
-same_row : (a b : Row) → IsRow a → IsRow b → row_spelling a ≡ row_spelling b → a ≡ b
+same_row : (a b : Row) → FitsRow a → FitsRow b → row_spelling a ≡ row_spelling b → a ≡ b
 same_row a b ia ib e =
     let one = number_once (row_spelling a) _ _ a.key b.key (ia.key, refl) ib.key e in
     let two = number_once _ _ _ a.clus b.clus (ia.clus, refl) ib.clus one.1 in

@@ -12,9 +12,7 @@ use Rattle.std.specs.Prelude.{◌∷◌, ◌++◌, length, codes, IsTrue}
 use Rattle.std.specs.Fmt.{decimal}
 use Rattle.std.specs.List.{AllByRecursion, AllZip, flat_map, join_with_byte}
 use Rattle.rg_base.specs.Session.{IsSession}
-use Rattle.rg_base.specs.Text.{IsText}
 use Rattle.rg_base.specs.Words.{row_words}
-use Rattle.rg_base.specs.declared.row.Row.{Row}
 use Rattle.rg_opts.specs.Statement.{IsControlStatement}
 use Rattle.rg_stmt.specs.declared.line.Line.{Line}
 use Rattle.rg_stmt.specs.declared.line.Line.TheVariants.{Said, Reorg, Step, Flush, Show, Death}
@@ -23,6 +21,7 @@ use Rattle.rg_stmt.specs.declared.stmt.Stmt.TheVariants.{Insert, Update, Delete,
 use Rattle.rg_stmt.specs.declared.stmt.Stmt.TheVariants.{Commit, Rollback}
 use Rattle.rg_deck.specs.declared.read.Admits.{Admits}
 use Rattle.rg_deck.specs.declared.read.Admits.TheVariants.{Every, Statements}
+use Rattle.rg_base.specs.Values.{FitsRow}
 
 abbrev pub stmt_words : Stmt → List (List ℕ)
 stmt_words (Insert row) = codes "INSERT" ∷ row_words row
@@ -53,16 +52,9 @@ pub record IsTextOf (line : Line) (text : List ℕ) : Type 0 where
 abbrev pub deck_text : List (List ℕ) → List ℕ
 deck_text texts = flat_map (λ text. text ++ 10 ∷ []) texts
 
--- a row of the grammar
-pub record IsRow (row : Row) : Type 0 where
-  pub key : row.key < 2 ^ 64
-  pub clus : row.clus < 2 ^ 64
-  pub cat : row.cat < 2 ^ 64
-  pub text : IsText row.text
-
 abbrev pub IsStmt : Stmt → Type 0
-IsStmt (Insert row) = IsRow row
-IsStmt (Update row) = IsRow row
+IsStmt (Insert row) = FitsRow row
+IsStmt (Update row) = FitsRow row
 IsStmt (Delete key) = key < 2 ^ 64
 IsStmt (Select key) = key < 2 ^ 64
 IsStmt (Scan lo hi) = (lo < 2 ^ 64) × (hi < 2 ^ 64)

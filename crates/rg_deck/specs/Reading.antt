@@ -1,5 +1,5 @@
 -- What the parts of the reader find.
-use Rattle.std.specs.Prelude.{ℕ, ◌≡◌, ◌≢◌, ◌<◌, ◌^◌, ◌⊎◌, List, [], ◌∷◌, ◌++◌, length, slice_index}
+use Rattle.std.specs.Prelude.{ℕ, ◌≡◌, ◌≢◌, ◌<◌, ◌^◌, ◌⊎◌, List, [], ◌∷◌, ◌++◌}
 use Rattle.std.specs.Prelude.{Option, None, Some}
 use Rattle.std.specs.Fmt.{decimal}
 use Rattle.std.specs.List.{AllByRecursion, join_with_byte}
@@ -14,10 +14,6 @@ use Rattle.rg_deck.specs.Grammar.{IsTextOf, stmt_words, deck_text}
 -- the bytes have no such byte
 abbrev pub Lacks : ℕ → List ℕ → Type 0
 Lacks mark bytes = AllByRecursion (λ b. b ≢ mark) bytes
-
--- there is a byte, and no zero stands before another
-abbrev pub IsUnpadded : List ℕ → Type 0
-IsUnpadded word = (0 < length word) × (slice_index word 0 ≡ 48 → length word ≡ 1)
 
 -- a value that the bytes spell, or that they spell none
 abbrev pub Finds : {T : Type 0} → (T → Type 0) → (T → List ℕ) → List ℕ → Option T → Type 0

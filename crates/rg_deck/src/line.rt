@@ -7,7 +7,8 @@
 //    outside the grammar.
 ghost use Rattle.std.specs.Prelude.{◌≡◌, ◌≤◌, IfOk, IfSome, IfNone};
 ghost use Rattle.rg_base.specs.Session.{IsSession};
-ghost use Rattle.rg_deck.specs.Grammar.{IsRow, IsStmt, IsAdmitted, IsTextOf};
+ghost use Rattle.rg_base.specs.Values.{FitsRow};
+ghost use Rattle.rg_deck.specs.Grammar.{IsStmt, IsAdmitted, IsTextOf};
 ghost use Rattle.rg_deck.specs.Reading.{Finds, FindsBy, FindsOptions, IsLetter};
 ghost use Rattle.rg_deck.specs.Reading.{row_spelling, stmt_spelling};
 ghost use Rattle.rg_deck.specs.declared.read.Admits.TheVariants.{Statements};
@@ -26,7 +27,7 @@ use std::alloc::Global;
 use std::str;
 
 fn read_row(alloc: Global, bytes: &[u8]) -> Result<Option<Row>, NoMemory>
-    ensures { IfOk result (Finds IsRow row_spelling bytes.now) }
+    ensures { IfOk result (Finds FitsRow row_spelling bytes.now) }
 {
     let Some((key, rest)) = split_number(bytes) else {
         return Ok(None);

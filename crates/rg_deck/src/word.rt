@@ -5,14 +5,14 @@
 // 3. A text that is empty or has only `-` is written with one `-` more. So each text has one
 //    spelling, and no word is empty.
 ghost use Rattle.std.specs.Prelude.{ℕ, List, ◌≡◌, ◌≢◌, ◌<◌, ◌^◌, ◌++◌, ◌∷◌, ◌↔◌, MatchOption};
-ghost use Rattle.std.specs.Prelude.{SomeIff, IsTrue, IfOk, IfSome, IfNone};
+ghost use Rattle.std.specs.Prelude.{IsTrue, IfOk, IfSome, IfNone};
 ghost use Rattle.std.specs.Fmt.{decimal};
-ghost use Rattle.std.specs.Str.Parse.{AllDigits, digits_value};
 ghost use Rattle.rg_base.specs.Text.{IsText};
 ghost use Rattle.rg_base.specs.Words.{text_word};
-ghost use Rattle.rg_deck.specs.Reading.{Lacks, IsUnpadded, Finds, BeginsWithNumber, IsRange};
+ghost use Rattle.rg_deck.specs.Reading.{Lacks, Finds, BeginsWithNumber, IsRange};
 
 use rg_base::no_memory::NoMemory;
+use rg_base::number::read_digits;
 use rg_base::text::{TEXT_LIMIT, Text, is_dashes};
 use std::alloc::Global;
 
@@ -30,36 +30,11 @@ pub fn split_at_byte(bytes: &[u8], mark: u8) -> Option<(&[u8], &[u8])>
     None
 }
 
-// The number that digits stand for, where 64 bits hold it.
-#[tactic(auto, using(crate::proofs::Words::value_so_far))]
-fn value_of(digits: &[u8]) -> Option<u64>
-    ensures { SomeIff result (AllDigits 10 digits.now × (digits_value 10 digits.now < 2 ^ 64))
-        (digits_value 10 digits.now) }
-{
-    let mut value: u64 = 0;
-    for byte in digits {
-        let digit = char::from(*byte).to_digit(10)?;
-        value = value.checked_mul(10)?.checked_add(u64::from(digit))?;
-    }
-    Some(value)
-}
-
-// There is a byte, and no zero stands before another.
-fn is_unpadded(word: &[u8]) -> bool
-    ensures { IsTrue result ↔ IsUnpadded word.now }
-{
-    !word.is_empty() && (word[0] != b'0' || word.len() == 1)
-}
-
 // A number without a sign or a leading zero.
-#[tactic(auto, using(crate::proofs::Words::number_from_value, crate::proofs::Words::no_padded))]
 pub fn read_number(word: &[u8]) -> Option<u64>
     ensures { Finds (λ n. n < 2 ^ 64) decimal word.now result }
 {
-    if !is_unpadded(word) {
-        return None;
-    }
-    value_of(word)
+    read_digits(word)
 }
 
 // A number and what stands behind the space after it.

@@ -6,17 +6,17 @@ use Rattle.std.specs.Ordering.{nat_cmp, eq_by_cmp}
 use Rattle.std.specs.FinMap as fin
 use Rattle.std.specs.FinMap.{find, get-entries, get-remove, get-insert, get-retain_keys}
 use Rattle.std.specs.FinMap.{len-entries, len-remove, nat_cmp-IsAntisymmetric}
-use Rattle.std.proofs.lemmas.Bool.Decides.{nat_tests}
 use Rattle.std.proofs.lemmas.Cmp.{nat_cmp_total}
 use Rattle.rg_base.specs.declared.lock.Lock.{Lock}
 use Rattle.rg_base.specs.declared.row.Row.{Row}
 use Rattle.rg_base.specs.declared.session.Session.{Session}
+use Rattle.rg_base.proofs.Small.{cmp_same, cmp_one}
 use Rattle.rg_model.specs.Committed.{committed_table, locks_without, own_locks, put_back}
 use Rattle.rg_model.specs.Claims.{claim_classes, classes_needed}
 use Rattle.rg_model.specs.Held.{is_others}
 use Rattle.rg_model.specs.Plain.{after, after_answer, is_done, write_key}
 use Rattle.rg_model.specs.State.{State, Table, is_present, row_count}
-use Rattle.rg_model.proofs.Overlay.{get-committed, get-put_back, get-set_to, kept_or, key_of}
+use Rattle.rg_model.proofs.Overlay.{get-committed, get-put_back, get-set_to, kept_or}
 use Rattle.rg_stmt.specs.declared.stmt.Reply.{Reply}
 use Rattle.rg_stmt.specs.declared.stmt.Reply.TheVariants.{Device}
 use Rattle.rg_stmt.specs.declared.stmt.Stmt.{Stmt}
@@ -27,9 +27,6 @@ use Rattle.rg_desk.specs.Desk.{AreKeys, IsAmong}
 
 -- ---- a table has no more rows than its keys are among
 
-same_key : (k : ℕ) → eq_by_cmp nat_cmp k k ≡ true
-same_key k = grind (arith, nat_tests)
-
 first_there : (table : Table) (es : List (ℕ × Row)) → fin.entries table ≡ es
     → ((k : ℕ) → is_present table k ≡ true → ⊥) → length es ≡ 0
 first_there table [] is none = refl
@@ -38,7 +35,7 @@ first_there table (e ∷ es) is none =
     (none e.0
     (ap (λ (o : Option Row). is_some o)
     (get-entries table e.0 ∙ ap (find nat_cmp e.0) is
-    ∙ ap (λ (b : Bool). cond b (Some e.1) (find nat_cmp e.0 es)) (same_key e.0))))
+    ∙ ap (λ (b : Bool). cond b (Some e.1) (find nat_cmp e.0 es)) (cmp_same e.0))))
 
 gone : (table : Table) (k q : ℕ) → is_present (fin.remove table k) q ≡ true
     → (is_present table q ≡ true) × (q ≡ k → ⊥)
@@ -51,7 +48,7 @@ gone table k q there = go (eq_by_cmp nat_cmp q k) refl
     go true e = absurd (cc (sym at ∙ ap (λ (b : Bool). is_some (cond b None (fin.get table q))) e))
     go false e = (
       ap (λ (b : Bool). is_some (cond b None (fin.get table q))) (sym e) ∙ at,
-      λ same. absurd (cc (sym e ∙ ap (λ (x : ℕ). eq_by_cmp nat_cmp x k) same ∙ same_key k)),
+      λ same. absurd (cc (sym e ∙ ap (λ (x : ℕ). eq_by_cmp nat_cmp x k) same ∙ cmp_same k)),
     )
 
 behind_head : (k q : ℕ) (ks : List ℕ) → IsAmong (k ∷ ks) q → (q ≡ k → ⊥) → IsAmong ks q
@@ -114,7 +111,7 @@ few_with Rollback keys = omega arith
 
 at_or_else : {X : Type 0} (q key : ℕ) (x y : Option X) (b : Bool) → eq_by_cmp nat_cmp q key ≡ b
     → is_some (cond b x y) ≡ true → (q ≡ key) ⊎ (is_some y ≡ true)
-at_or_else q key x y true e there = inl (key_of q key e)
+at_or_else q key x y true e there = inl (cmp_one q key e)
 at_or_else q key x y false e there = inr there
 
 or_rest : (key q : ℕ) (keys : List ℕ) (P : Type 0) → (P → IsAmong keys q) → (q ≡ key) ⊎ P

@@ -14,6 +14,7 @@ use Rattle.std.proofs.lemmas.List.{take-append-le}
 use Rattle.std.specs.Cmp.Derive.{both_true}
 use Rattle.std.specs.FinMap as fin
 use Rattle.std.specs.FinMap.{len-empty}
+use Rattle.std.proofs.lemmas.Option.{same_Some}
 use Rattle.rg_laws_utility.specs.ByteAccount.Account.{allowed_of}
 use Rattle.rg_base.specs.declared.session.Class.{Class}
 use Rattle.rg_base.specs.declared.control.Answer.{Answer}
@@ -59,7 +60,8 @@ use Rattle.rg_engine.specs.OnVolume.{SoundThroughout}
 use Rattle.rg_engine.specs.Prepared.{IsPrepared, PreparedSeen}
 use Rattle.rg_engine.specs.Shows.{left_by}
 use Rattle.rg_engine.specs.Turned.{IsShade, LogsSwitch, Turns}
-use Rattle.rg_engine.specs.Volume.{IsCount, VolumeSeen}
+use Rattle.rg_engine.specs.Volume.{IsCount}
+use Rattle.rg_outside.specs.Volume.{VolumeSeen}
 use Rattle.rg_engine.specs.declared.engine.Engine.{Engine}
 use Rattle.rg_engine.specs.declared.origin.Origin.{Origin}
 use Rattle.rg_engine.specs.declared.prepared.Prepared.{Prepared}
@@ -74,13 +76,6 @@ pub by_result : {A B : Type 0} (r : Result A B) (P Q R : Type 0) → OnOk r P �
     → (Q → R) → R
 by_result (Ok a) P Q R ok err f g = f ok
 by_result (Err e) P Q R ok err f g = g err
-
-some_same : {A : Type 0} (x y : A) → Some x ≡ Some y → x ≡ y
-some_same {A} x y e = ap from e
-  where
-    from : Option A → A
-    from None = x
-    from (Some a) = a
 
 if_none : (n : ℕ) (b : Bool) → (n ≡ 0 → b ≡ true) → (if n == 0 then b else true) ≡ true
 if_none zero b is = is refl
@@ -104,10 +99,10 @@ module _ (d : Engine) (c : ChronicleState) (origin : Origin) (copy : ℕ)
     (pages_are : view.ground.pages ≡ slots_in d) (trace_is : view.trace ≡ c.trace)
     (old_is : old_records view ≡ take origin.records d.log.records) where
   s_is : can.stage ≡ s
-  s_is = some_same can.stage s (sym can.stage_is ∙ stage_is)
+  s_is = same_Some can.stage s (sym can.stage_is ∙ stage_is)
 
   p_is : can.shadow ≡ record { shade = p.shadow; records = p.records }
-  p_is = some_same can.shadow (record { shade = p.shadow; records = p.records })
+  p_is = same_Some can.shadow (record { shade = p.shadow; records = p.records })
       (sym can.shadow_is ∙ shadow_is)
 
   unswitched : s.switched ≡ false

@@ -1,6 +1,7 @@
 -- The entry of a flush.
 use Rattle.std.proofs.Common.{◌≡◌, ◌≤◌, ◌++◌, ℕ, Bool, true, false, not, List, [], ◌∷◌, Option}
 use Rattle.std.proofs.Common.{Some, None, refl, sym, ◌∙◌, ap, subst, arith}
+use Rattle.rg_base.specs.Copies.{set_of}
 use Rattle.rg_laws_utility.specs.ByteAccount.Account.{allowed_of}
 use Rattle.rg_base.specs.declared.position.Position.{Position}
 use Rattle.rg_model.specs.Possible.{next_state}
@@ -12,14 +13,14 @@ use Rattle.rg_stmt.specs.declared.event.Actor.TheVariants as actors
 use Rattle.rg_stmt.specs.declared.event.Event.{Event}
 use Rattle.rg_stmt.specs.declared.event.Event.TheVariants.{Clean, Flush, FlushDevice, FlushNoMemory}
 use Rattle.rg_log.specs.Kept.{Listed, log_pages}
-use Rattle.rg_laws_crash.specs.NewestPages.Tidy.{set_of}
 use Rattle.rg_desk.specs.Chronicle.{ChronicleState, IsRecorded, system_entry}
 use Rattle.rg_desk.specs.Desk.{IsDesk}
 use Rattle.rg_engine.specs.Engine.{seen_in}
 use Rattle.rg_engine.specs.Flushed.{CallsOwn, FlushIs, IsFlush, TellsFlush, WritesEither}
 use Rattle.rg_engine.specs.Left.{LeavesState}
 use Rattle.rg_engine.specs.OnVolume.{RestsOn}
-use Rattle.rg_engine.specs.Volume.{IsCount, LeavesIfTidy, VolumeSeen}
+use Rattle.rg_engine.specs.Volume.{IsCount, LeavesIfTidy}
+use Rattle.rg_outside.specs.Volume.{VolumeSeen}
 use Rattle.rg_engine.specs.declared.engine.Engine.{Engine}
 use Rattle.rg_engine.specs.declared.origin.Origin.{Origin}
 use Rattle.rg_laws_utility.specs.TraceStage.Tending.{IsSystem}

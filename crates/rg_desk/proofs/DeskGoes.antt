@@ -31,13 +31,12 @@ use Rattle.rg_outside.specs.Made.{WritesIn}
 use Rattle.rg_outside.specs.Moments.{IfTold}
 use Rattle.rg_model.specs.State.{State, Table, at_rest, row_count}
 use Rattle.rg_model.proofs.Members.{only_one}
-use Rattle.rg_model.proofs.Overlay.{committed-at_rest, key_of}
+use Rattle.rg_model.proofs.Overlay.{committed-at_rest}
 use Rattle.rg_model.proofs.RunPossible.{run_possible_start}
 use Rattle.rg_model.proofs.RunPush.{Run-push}
 use Rattle.rg_stmt.specs.Entries.{opened_entry, said_entry}
 use Rattle.rg_laws_utility.specs.TraceStage.Tending.{IsSystem}
 use Rattle.rg_record.specs.declared.record.Record.{Record}
-use Rattle.rg_laws_log.proofs.LogStateLemmas.Tables.{eqb-refl}
 use Rattle.rg_stmt.specs.declared.event.Actor.TheVariants as actors
 use Rattle.rg_stmt.specs.declared.event.Entry.{Entry}
 use Rattle.rg_stmt.specs.declared.event.Event.{Event}
@@ -56,13 +55,15 @@ use Rattle.rg_engine.specs.Answers.{IfFull, IfLogFull, Replies, forces, is_answe
 use Rattle.rg_engine.specs.Answers.{state_left}
 use Rattle.rg_engine.specs.Steps.{more_allowed, more_logged}
 use Rattle.rg_engine.specs.Stored.{Grows, IsStored}
-use Rattle.rg_engine.specs.Volume.{CallsLog, HasCalls, IsCount, LeavesIfTidy, VolumeSeen}
+use Rattle.rg_engine.specs.Volume.{CallsLog, HasCalls, IsCount, LeavesIfTidy}
+use Rattle.rg_outside.specs.Volume.{VolumeSeen}
 use Rattle.rg_engine.specs.Bytes.{taken_of}
 use Rattle.rg_desk.specs.Chronicle.{ChronicleState, IsEntry, IsRecorded, logged_after, logged_by}
 use Rattle.rg_desk.specs.Chronicle.{system_entry}
 use Rattle.rg_desk.specs.Desk.{AreKeys, IsAmong, IsBegun, IsDesk, is_reply}
 use Rattle.rg_engine.specs.Layouts.{IsLayout}
 use Rattle.rg_base.specs.Copies.{IsCopy}
+use Rattle.rg_base.proofs.Small.{cmp_one, nat_itself}
 use Rattle.rg_engine.specs.Engine.{ground_of}
 use Rattle.rg_engine.specs.Left.{LeavesState}
 use Rattle.rg_engine.specs.OnVolume.{CleanIfTidy, IsOn, IsOnVolume, RestsOn, WasAllTidy}
@@ -165,9 +166,9 @@ system_keeps st a FlushNoMemory is = refl
 system_keeps st a event is = absurd is
 
 -- the table that records store is one
-pub start_is : (records : List Record) (one other : Table) → IsStored records one
+pub same_table : (records : List Record) (one other : Table) → IsStored records one
     → IsStored records other → one ≡ other
-start_is records one other here there =
+same_table records one other here there =
     same_map nat_cmp_total nat_cmp-IsAntisymmetric one other (λ k. here k ∙ sym (there k))
 
 pub logged-push : (logged : ℕ) (entries : List Entry) (entry : Entry)
@@ -759,7 +760,7 @@ replied d c origin copy false marks seen desk session stmt reply next after seen
       room = answered.room;
       full = λ start stored.
           subst (λ (t : Table). IfFull reply (allowed_of t c.trace) (capacity_in d.space))
-          (start_is (take origin.records d.log.records) desk.start start desk.starts stored)
+          (same_table (take origin.records d.log.records) desk.start start desk.starts stored)
           answered.full;
       log = answered.log;
       log_full = log_full_so (ground_of d) session.0 stmt reply (logged_by 0 c.trace) answered.log
@@ -787,7 +788,7 @@ first_among table (e ∷ es) k there =
         → is_some (cond b (Some e.1) (map.find nat_cmp k es)) ≡ true
         → (is_some (map.find nat_cmp k es) ≡ true → IsAmong (keys_in es) k)
         → IsAmong (keys_in (e ∷ es)) k
-    by_test true same h rest = inl (key_of k e.0 same)
+    by_test true same h rest = inl (cmp_one k e.0 same)
     by_test false same h rest = inr (rest h)
 
 keys_count : (es : List (ℕ × Row)) → length (keys_in es) ≡ length es
@@ -815,7 +816,7 @@ desk_opened d c records copy pages used calls marks seen start is_copy shown sta
         table = committed_table (at_rest start copy);
         left = only_one (committed_table (at_rest start copy))
             (committed_table (at_rest start copy)) refl;
-        copy_left = ap (λ (b : Bool). b || (false && (copy == 3 - copy))) (eqb-refl copy);
+        copy_left = ap (λ (b : Bool). b || (false && (copy == 3 - copy))) (nat_itself copy);
         counted = ap map.len none;
         at_rest = refl;
       },

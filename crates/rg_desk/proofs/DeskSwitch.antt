@@ -74,7 +74,8 @@ use Rattle.rg_engine.specs.Shows.{Shows, left_by}
 use Rattle.rg_engine.specs.Stored.{IsStored}
 use Rattle.rg_engine.specs.Turned.{IsShade, LogsSwitch, Takes}
 use Rattle.rg_engine.specs.Utility.{SameButUtility}
-use Rattle.rg_engine.specs.Volume.{IsCount, LeavesIfTidy, VolumeSeen}
+use Rattle.rg_engine.specs.Volume.{IsCount, LeavesIfTidy}
+use Rattle.rg_outside.specs.Volume.{VolumeSeen}
 use Rattle.rg_engine.specs.declared.engine.Engine.{Engine}
 use Rattle.rg_engine.specs.declared.origin.Origin.{Origin}
 use Rattle.rg_engine.specs.declared.prepared.Prepared.{Prepared}

@@ -29,8 +29,8 @@ use Rattle.rg_model.specs.Utility.{new_utility, start_utility}
 use Rattle.rg_base.specs.declared.options.DrainState.{DrainState}
 use Rattle.rg_base.specs.declared.options.Options.{Options}
 use Rattle.rg_base.specs.declared.session.Session.{Session}
+use Rattle.rg_base.proofs.Small.{nat_itself}
 use Rattle.rg_feed.specs.declared.fold.item.Stage.{Stage}
-use Rattle.rg_laws_log.proofs.LogStateLemmas.Tables.{eqb-refl}
 use Rattle.rg_rules.specs.Stage.Booked.{Booked, drain_kept, is_fall, is_switch_turn, utility_kept}
 use Rattle.rg_rules.specs.Stage.Followed.{Followed}
 use Rattle.rg_rules.specs.Stage.NumbersOf.{numbers_of}
@@ -63,7 +63,8 @@ use Rattle.rg_engine.specs.Shows.{Shows}
 use Rattle.rg_engine.specs.Stored.{IsStored}
 use Rattle.rg_engine.specs.declared.units.OpenUnit.{OpenUnit}
 use Rattle.rg_engine.specs.Utility.{IsNew, SameButUtility, StartIs, StepsOn}
-use Rattle.rg_engine.specs.Volume.{IsCount, LeavesIfTidy, VolumeSeen}
+use Rattle.rg_engine.specs.Volume.{IsCount, LeavesIfTidy}
+use Rattle.rg_outside.specs.Volume.{VolumeSeen}
 use Rattle.rg_engine.specs.declared.engine.Engine.{Engine}
 use Rattle.rg_engine.specs.declared.origin.Origin.{Origin}
 use Rattle.rg_desk.proofs.DeskGoes.{allowed-push, begun-push, count_is, logged-push}
@@ -240,7 +241,7 @@ start_allows past st options copy pages up utility same =
     ap (λ (b : Bool). if_allowed (not b && (not (is_some st.utility) && (copy == st.copy))) new) up
     ∙ ap (λ (o : Option Utility). if_allowed (not (is_some o) && (copy == st.copy)) new) utility
     ∙ ap (λ (n : ℕ). if_allowed (copy == n) new) same
-    ∙ ap (λ (b : Bool). if_allowed b new) (eqb-refl copy)
+    ∙ ap (λ (b : Bool). if_allowed b new) (nat_itself copy)
 
 -- the state that the trace leads to shows the stage
 module _ (d : Engine) (c : ChronicleState) (origin : Origin) (copy : ℕ) (down : Bool)

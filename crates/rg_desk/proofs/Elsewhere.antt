@@ -15,7 +15,6 @@ use Rattle.rg_image.specs.Log.{SpellsFrom}
 use Rattle.rg_image.specs.Pack.{end_of, start}
 use Rattle.rg_image.specs.Rules.{copy_capacity}
 use Rattle.rg_log.specs.Kept.{LeavesLog, Listed, log_pages}
-use Rattle.rg_laws_crash.specs.NewestPages.Tidy.{set_of}
 use Rattle.rg_outside.specs.Calls.{Call, FailedRead, FailedSync, FailedWrite, Image, Read, Refused}
 use Rattle.rg_outside.specs.Calls.{Synced, Told, Wrote, effect_of}
 use Rattle.rg_outside.specs.Capacities.{Capacities, capacity_of}
@@ -30,14 +29,15 @@ use Rattle.rg_record.specs.declared.record.Record.{Record}
 use Rattle.rg_space.specs.Space.{capacity_in}
 use Rattle.rg_space.specs.declared.space.Space.{Space}
 use Rattle.rg_laws_crash.specs.SwitchRecord.Switched.{IsOldPage}
-use Rattle.rg_base.specs.Copies.{other_of}
+use Rattle.rg_base.specs.Copies.{other_of, set_of}
 use Rattle.rg_laws_crash.specs.PageVersions.Versions.{Epoch, IsOnVolume as IsOnPage}
 use Rattle.rg_desk.specs.Chronicle.{ChronicleState}
 use Rattle.rg_desk.specs.Desk.{IsDesk}
 use Rattle.rg_engine.specs.OnVolume.{HasCopies, IsMark, IsOn, IsSoundTidy, PartsIfTidy}
 use Rattle.rg_engine.specs.OnVolume.{SoundThroughout, WasAllTidy, mark_at}
 use Rattle.rg_engine.specs.Reopens.{IsCleanIn, PartsReopen}
-use Rattle.rg_engine.specs.Volume.{HasCalls, LeavesIfTidy, VolumeSeen, WasTidy}
+use Rattle.rg_engine.specs.Volume.{HasCalls, LeavesIfTidy, WasTidy}
+use Rattle.rg_outside.specs.Volume.{VolumeSeen}
 use Rattle.rg_engine.specs.declared.engine.Engine.{Engine}
 use Rattle.rg_engine.specs.declared.origin.Origin.{Origin}
 use Rattle.rg_engine.proofs.Copies.{copies_apart, copy_apart, put_apart, put_here}

@@ -99,14 +99,14 @@ use Rattle.rg_engine.specs.Stored.{Grows, IsStored}
 use Rattle.rg_engine.specs.Turned.{Turns}
 use Rattle.rg_engine.specs.Units.{unit_at, writes_in}
 use Rattle.rg_engine.specs.Utility.{IsNew, StartIs, StepsOn}
-use Rattle.rg_engine.specs.Volume.{VolumeSeen}
+use Rattle.rg_outside.specs.Volume.{VolumeSeen}
 use Rattle.rg_engine.specs.Wrote.{SameEngine}
 use Rattle.rg_engine.specs.declared.engine.Engine.{Engine}
 use Rattle.rg_engine.specs.declared.found.Found.{Found}
 use Rattle.rg_engine.specs.declared.origin.Origin.{Origin}
 use Rattle.rg_engine.specs.declared.units.OpenUnit.{OpenUnit}
 use Rattle.rg_engine.proofs.Answering.{up_if}
-use Rattle.rg_desk.proofs.DeskGoes.{account-push, old_same, start_is}
+use Rattle.rg_desk.proofs.DeskGoes.{account-push, old_same, same_table}
 use Rattle.rg_desk.proofs.DeskUtility.{state_shows}
 use Rattle.rg_engine.proofs.Keys.{same_or_not}
 use Rattle.rg_engine.proofs.Readying.{own_writes}
@@ -319,7 +319,7 @@ module _ (d : Engine) (c : ChronicleState) (origin : Origin) (copy : ℕ)
       → KeepsAccount origin next.log.records next.units (slots_in next) later stage fed
   said_account stage feed fed calls later runs grows later_is fed_is keeps = λ start stored.
       let had = keeps desk.start desk.starts in
-      let one = start_is (take origin.records d.log.records) desk.start start desk.starts
+      let one = same_table (take origin.records d.log.records) desk.start start desk.starts
       (subst (λ (rs : List Record). IsStored rs start)
       (old_same d c origin copy false marks seen desk next grows) stored) in
       let account : account_of desk.start later ≡ noted_after = ap (account_of desk.start) later_is
@@ -470,7 +470,7 @@ begun_account : (d : Engine) (c : ChronicleState) (origin : Origin) (copy : ℕ)
 begun_account d c origin copy marks seen desk old given s event calls feed keeps all none entries
     entries_are = λ start stored.
     let had = keeps start stored in
-    let one = start_is (take origin.records d.log.records) desk.start start desk.starts stored in
+    let one = same_table (take origin.records d.log.records) desk.start start desk.starts stored in
     let shows = desk.shown refl in
     let left : LogState = left_by shows.first d in
     let same = still_allowed start c.trace entries (utility_entry event None calls) (λ st a. refl)

@@ -16,3 +16,4 @@ pub mod WrittenCopy
 pub mod Still
 pub mod BothSides
 pub mod Recorded
+pub mod Asking

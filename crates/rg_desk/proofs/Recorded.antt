@@ -3,6 +3,7 @@ use Rattle.std.proofs.Common.{◌≡◌, ◌≤◌, ◌<◌, ◌+◌, ◌^◌, �
 use Rattle.std.proofs.Common.{◌++◌, drop, length, get_or, refl, sym, ap, arith}
 use Rattle.std.specs.List.{AllByRecursion}
 use Rattle.std.proofs.lemmas.List.Elements.{All-from_recursion}
+use Rattle.rg_laws_utility.proofs.TraceStageLemmas.Tended.{length_push}
 use Rattle.rg_base.proofs.Walk.{place}
 use Rattle.rg_stmt.specs.declared.event.Entry.{Entry}
 use Rattle.rg_desk.specs.Chronicle.{IsEntry, IsRecorded}
@@ -18,10 +19,6 @@ at_last [] x d zero e = refl
 at_last [] x d (suc n) e = absurd (omega arith)
 at_last (y ∷ xs) x d zero e = absurd (omega arith)
 at_last (y ∷ xs) x d (suc n) e = at_last xs x d n (omega arith)
-
-push_length : (xs : List Entry) (x : Entry) → length (xs ++ x ∷ []) ≡ length xs + 1
-push_length [] x = refl
-push_length (y ∷ xs) x = let e = push_length xs x in omega arith
 
 all_push : (P : Entry → Type 0) (xs : List Entry) (x : Entry) → AllByRecursion P xs → P x
     → AllByRecursion P (xs ++ x ∷ [])
@@ -69,7 +66,7 @@ recorded_push trace calls e was le is few = record {
         omega (arith, a, b, c)
     by_place i j d below lt (inr (inl same)) =
         by_last i j d below (sym same) (place i (length trace))
-    by_place i j d below lt (inr (inr past)) = let n = push_length trace e in
+    by_place i j d below lt (inr (inr past)) = let n = length_push trace e in
         absurd (omega (arith, lt, past, n))
 
 -- what holds of all entries holds of the later ones

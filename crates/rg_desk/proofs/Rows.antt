@@ -5,6 +5,7 @@ use Rattle.std.proofs.Common.{length-append}
 use Rattle.std.proofs.lemmas.Bool.Decides.{nat_tests}
 use Rattle.std.proofs.lemmas.List.{take-append-le}
 use Rattle.std.proofs.Math.Seq.{take-length}
+use Rattle.rg_base.specs.Copies.{set_of}
 use Rattle.rg_laws_utility.specs.ByteAccount.Account.{allowed_of}
 use Rattle.rg_base.specs.declared.position.Position.{Position}
 use Rattle.rg_base.specs.declared.session.Session.{Session}
@@ -12,7 +13,7 @@ use Rattle.rg_base.specs.declared.set.Set.TheVariants.{Log}
 use Rattle.rg_image.specs.Kept.{AreEntries}
 use Rattle.rg_image.specs.Log.{SpellsFrom, log_of}
 use Rattle.rg_image.specs.Pack.{end_of, start}
-use Rattle.rg_image.proofs.Decode.{contains_take, some_log}
+use Rattle.rg_image.proofs.Decode.{some_log}
 use Rattle.rg_image.proofs.Entries.{all_fit, are_values}
 use Rattle.rg_image.proofs.Pack.{front_page}
 use Rattle.rg_log.specs.Kept.{Listed}
@@ -26,7 +27,7 @@ use Rattle.rg_outside.specs.Moments.{EachCall, EachImage, HoldsThroughout, IfTol
 use Rattle.rg_outside.proofs.Frame.{no_calls}
 use Rattle.rg_outside.proofs.Run.{begins, weaken}
 use Rattle.rg_record.specs.declared.record.Record.{Record}
-use Rattle.rg_laws_crash.specs.NewestPages.Tidy.{set_of}
+use Rattle.rg_laws_crash.proofs.SoundVolumeLemmas.Closings.{front_entries}
 use Rattle.rg_stmt.specs.declared.event.Event.{Event}
 use Rattle.rg_stmt.specs.declared.stmt.Reply.{Reply}
 use Rattle.rg_stmt.specs.declared.stmt.Reply.TheVariants.{Device}
@@ -40,7 +41,8 @@ use Rattle.rg_engine.specs.Left.{LeavesState, StoresDuring, StoresLeft}
 use Rattle.rg_engine.specs.Shows.{Shows}
 use Rattle.rg_engine.specs.Steps.{IfDevice, IfUp, more_allowed}
 use Rattle.rg_engine.specs.Stored.{IsStored}
-use Rattle.rg_engine.specs.Volume.{HasCalls, Leaves, LeavesIfTidy, VolumeSeen, WasTidy}
+use Rattle.rg_engine.specs.Volume.{HasCalls, Leaves, LeavesIfTidy, WasTidy}
+use Rattle.rg_outside.specs.Volume.{VolumeSeen}
 use Rattle.rg_engine.specs.declared.engine.Engine.{Engine}
 use Rattle.rg_engine.specs.declared.origin.Origin.{Origin}
 use Rattle.rg_engine.specs.declared.units.OpenUnit.{OpenUnit}
@@ -92,12 +94,6 @@ module _ (K : Call → Type 0) (P : List Record → Type 0) (log later : Listed)
       (λ t. HoldsThroughout old.told (Some t) (EachImage Stored)) n calls has all_through leaves
 
 -- ---- the first records of a log
-
-pub front_entries : (rs more : List Record) → AreEntries (rs ++ more) → AreEntries rs
-front_entries rs more entries =
-    let front : take (length rs) (rs ++ more) ≡ rs =
-    take-append-le (length rs) rs more (omega arith) ∙ take-length rs in
-    subst AreEntries front (λ r c. entries r (contains_take (length rs) (rs ++ more) r c))
 
 pub front_set : (rs more : List Record) (pages : ℕ)
     → (1 ≤ length (rs ++ more) → (end_of start (rs ++ more)).page ≤ pages) → 1 ≤ length rs

@@ -21,7 +21,7 @@ use Rattle.rg_desk.specs.Desk.{IsDesk}
 use Rattle.rg_engine.specs.Flushed.{TellsFlush}
 use Rattle.rg_engine.specs.OnVolume.{IsOn, PartsIfTidy, SoundThroughout, WasAllTidy}
 use Rattle.rg_engine.specs.Reopens.{IsCleanIn, PartsReopen}
-use Rattle.rg_engine.specs.Volume.{VolumeSeen}
+use Rattle.rg_outside.specs.Volume.{VolumeSeen}
 use Rattle.rg_engine.specs.declared.engine.Engine.{Engine}
 use Rattle.rg_engine.specs.declared.origin.Origin.{Origin}
 use Rattle.rg_desk.proofs.DeskGoes.{desk_reopens, desk_rests}

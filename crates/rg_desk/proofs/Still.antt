@@ -11,7 +11,8 @@ use Rattle.rg_engine.specs.Left.{LeavesState}
 use Rattle.rg_engine.specs.OnVolume.{WasAllTidy}
 use Rattle.rg_engine.specs.Reopens.{IsCleanIn}
 use Rattle.rg_engine.specs.Stored.{IsStored}
-use Rattle.rg_engine.specs.Volume.{LeavesIfTidy, VolumeSeen}
+use Rattle.rg_engine.specs.Volume.{LeavesIfTidy}
+use Rattle.rg_outside.specs.Volume.{VolumeSeen}
 use Rattle.rg_engine.specs.Wrote.{SameEngine}
 use Rattle.rg_engine.specs.declared.engine.Engine.{Engine}
 use Rattle.rg_engine.specs.declared.origin.Origin.{Origin}

@@ -41,7 +41,7 @@ use Rattle.rg_engine.specs.Prepared.{IsPrepared}
 use Rattle.rg_engine.specs.Shows.{Shows}
 use Rattle.rg_engine.specs.Turned.{IsShade, LogsSwitch}
 use Rattle.rg_engine.specs.Units.{owed, unit_at}
-use Rattle.rg_engine.specs.Volume.{VolumeSeen}
+use Rattle.rg_outside.specs.Volume.{VolumeSeen}
 use Rattle.rg_engine.specs.declared.engine.Engine.{Engine}
 use Rattle.rg_engine.specs.declared.origin.Origin.{Origin}
 use Rattle.rg_engine.specs.declared.prepared.Prepared.{Prepared}

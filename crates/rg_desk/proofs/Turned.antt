@@ -1,5 +1,5 @@
 -- What an engine shows that turned to a new copy, and what of the copy is on the volume.
-use Rattle.std.proofs.Common.{◌≡◌, ◌≤◌, ◌<◌, ◌+◌, ◌*◌, ◌==◌, if◌then◌else◌, ℕ, suc, Bool, true}
+use Rattle.std.proofs.Common.{◌≡◌, ◌≤◌, ◌<◌, ◌+◌, ◌*◌, ℕ, suc}
 use Rattle.std.proofs.Common.{false, List, [], ◌∷◌, length, take, Option, Some, None, refl, sym}
 use Rattle.std.proofs.Common.{◌∙◌, ap, subst, arith, length-append}
 use Rattle.std.proofs.lemmas.List.{take_all}
@@ -10,7 +10,7 @@ use Rattle.rg_laws_crash.specs.NewCopy.Writing.{HasFirst}
 use Rattle.rg_base.specs.declared.options.DrainFor.TheVariants.{All}
 use Rattle.rg_base.specs.declared.options.DrainState.TheVariants.{Free, Granted}
 use Rattle.rg_base.specs.declared.position.Position.{Position}
-use Rattle.rg_base.specs.declared.set.Set.TheVariants.{First, Second, Log}
+use Rattle.rg_base.specs.declared.set.Set.TheVariants.{Log}
 use Rattle.rg_claim.proofs.Grants.{no_claim_under_all}
 use Rattle.rg_claim.specs.ClaimState.{ClaimState, no_claims}
 use Rattle.rg_claim.specs.Drains.{GrantIsKept}
@@ -23,7 +23,7 @@ use Rattle.rg_image.specs.Log.{Spells as LogSpells, SpellsFrom}
 use Rattle.rg_image.specs.Meaning.{current_of, stored}
 use Rattle.rg_laws_crash.specs.LogChain.Tells.{Tells}
 use Rattle.rg_image.specs.Rules.{ArePositions, copy_capacity, greatest_tran, limit_of}
-use Rattle.rg_image.specs.Rules.{owed as log_owed, used_pages}
+use Rattle.rg_image.specs.Rules.{owed as log_owed}
 use Rattle.rg_btree.specs.Indexes.Listings.{AreListings}
 use Rattle.rg_laws_log.specs.LogState.Consistent.{IsConsistent}
 use Rattle.rg_home.specs.Owners.{AllBelow}
@@ -31,7 +31,7 @@ use Rattle.rg_log.specs.Kept.{Listed, log_pages}
 use Rattle.rg_model.specs.State.{Claims, at_rest}
 use Rattle.rg_laws_crash.specs.NewestPages.Newest.{AreNewest}
 use Rattle.rg_laws_crash.specs.NewestPages.Steady.{IsSteady}
-use Rattle.rg_laws_crash.specs.NewestPages.Tidy.{set_of, switched_pages}
+use Rattle.rg_laws_crash.specs.NewestPages.Tidy.{switched_pages}
 use Rattle.rg_outside.proofs.Every.{told_weaken}
 use Rattle.rg_outside.proofs.Frame.{calls_weaken}
 use Rattle.rg_outside.proofs.Run.{at_last}
@@ -44,12 +44,14 @@ use Rattle.rg_record.specs.declared.record.Record.{Record}
 use Rattle.rg_shadow.specs.Shade.{shade_slots}
 use Rattle.rg_space.specs.Memory.{list_seen}
 use Rattle.rg_space.specs.Space.{capacity_in, frames_of}
+use Rattle.rg_space.proofs.Whole.{slots_count}
 use Rattle.rg_laws_crash.proofs.SwitchRecordLemmas.Switching.{switch_stores}
 use Rattle.rg_laws_crash.specs.SoundVolume.Reopens.{CanReopen, HasLowOwners}
 use Rattle.rg_laws_crash.specs.SwitchRecord.Laws.{IsTurned}
 use Rattle.rg_laws_crash.specs.SwitchRecord.Switched.{next_epoch, switch_to, switched}
-use Rattle.rg_base.specs.Copies.{other_of}
+use Rattle.rg_base.specs.Copies.{other_of, set_of}
 use Rattle.rg_laws_crash.specs.PageVersions.Versions.{Epoch, Spells, version}
+use Rattle.rg_laws_crash.proofs.NewestPagesLemmas.Capacity.{copy_within}
 use Rattle.rg_engine.specs.Bytes.{taken_of}
 use Rattle.rg_desk.specs.Chronicle.{ChronicleState}
 use Rattle.rg_engine.specs.Begins.{CanShow}
@@ -63,7 +65,8 @@ use Rattle.rg_engine.specs.Shows.{Shows}
 use Rattle.rg_engine.specs.Stored.{IsStored, StoresCommitted}
 use Rattle.rg_engine.specs.Turned.{IsShade, LogsSwitch, Takes}
 use Rattle.rg_engine.specs.Units.{owed, trans_of, unit_at}
-use Rattle.rg_engine.specs.Volume.{VolumeSeen, WasTidy}
+use Rattle.rg_engine.specs.Volume.{WasTidy}
+use Rattle.rg_outside.specs.Volume.{VolumeSeen}
 use Rattle.rg_engine.specs.declared.engine.Engine.{Engine}
 use Rattle.rg_engine.specs.declared.origin.Origin.{Origin}
 use Rattle.rg_engine.specs.declared.prepared.Prepared.{Prepared}
@@ -80,16 +83,6 @@ use Rattle.rg_desk.proofs.Switching.{none_reserved, units_owe}
 use Rattle.rg_engine.proofs.Throughout.{told_then}
 use Rattle.rg_desk.proofs.Turning.{HasBoth, both_now, copies_new, foot_new, leaves_then, parts_new}
 use Rattle.rg_desk.proofs.Turning.{parts_then}
-
-copy_within : (capacities : Capacities) (copy : ℕ)
-    → copy_capacity capacities copy ≤ capacity_of capacities (set_of copy)
-copy_within capacities copy = go (copy == 1)
-  where
-    go : (b : Bool)
-        → used_pages (if b then capacities.first else capacities.second)
-        ≤ capacity_of capacities (if b then First else Second)
-    go true = omega arith
-    go false = omega arith
 
 module _ (d : Engine) (c : ChronicleState) (origin : Origin) (copy : ℕ)
     (marks : List (Option Position)) (seen : VolumeSeen)
@@ -248,12 +241,8 @@ module _ (d : Engine) (c : ChronicleState) (origin : Origin) (copy : ℕ)
       (ap (λ (us : List (Option OpenUnit)). length us) units_same ∙ (desk.shown refl).by.places)
       top_same)
     where
-      count_of : (xs : List Content) → length (slots_of xs) ≡ length xs
-      count_of [] = refl
-      count_of (x ∷ xs) = ap suc (count_of xs)
-
       count : length (slots_in next) ≡ length p.shadow.pages
-      count = ap (λ (ps : List (List Slot)). length ps) slots ∙ count_of p.shadow.pages
+      count = ap (λ (ps : List (List Slot)). length ps) slots ∙ slots_count p.shadow.pages
 
   -- ---- what of it is on the volume
 

@@ -22,13 +22,11 @@ use Rattle.rg_image.specs.Log.{Spells, SpellsFrom, log_of}
 use Rattle.rg_image.specs.Meaning.{current_of}
 use Rattle.rg_image.specs.Pack.{end_of, start}
 use Rattle.rg_image.specs.Rules.{ArePositions, IsChain, IsTidyLog, copy_capacity, greatest_tran}
-use Rattle.rg_laws_log.proofs.LogStateLemmas.Tables.{eqb-refl}
 use Rattle.rg_log.proofs.Present.{log_tidy}
 use Rattle.rg_log.specs.Kept.{Listed, log_pages}
 use Rattle.rg_model.specs.Possible.{is_copy_left}
 use Rattle.rg_model.specs.State.{State}
 use Rattle.rg_laws_crash.proofs.NewestPagesLemmas.Steady.{steady_front}
-use Rattle.rg_laws_crash.specs.NewestPages.Tidy.{set_of}
 use Rattle.rg_outside.proofs.Every.{read_image, told_weaken}
 use Rattle.rg_outside.proofs.Frame.{both_throughout, calls_weaken}
 use Rattle.rg_outside.proofs.Run.{at_last, weaken}
@@ -46,10 +44,12 @@ use Rattle.rg_laws_crash.specs.SwitchRecord.Laws.{IsLeftSwitched, IsTurned}
 use Rattle.rg_laws_crash.specs.SwitchRecord.Switched.{AreOldPages, CanSwitch, HasNewCopy}
 use Rattle.rg_laws_crash.specs.SwitchRecord.Switched.{next_epoch, switch_to}
 use Rattle.rg_laws_crash.specs.SwitchRecord.Switched.{switched}
-use Rattle.rg_base.specs.Copies.{other_of}
+use Rattle.rg_base.specs.Copies.{other_of, set_of}
+use Rattle.rg_base.proofs.Small.{nat_itself}
 use Rattle.rg_laws_crash.specs.NewCopy.Anew.{anew_on}
 use Rattle.rg_laws_crash.specs.PageVersions.OnImage.{HasPages}
 use Rattle.rg_laws_crash.specs.PageVersions.Versions.{Epoch}
+use Rattle.rg_laws_crash.proofs.SoundVolumeLemmas.Closings.{front_entries}
 use Rattle.rg_desk.specs.Chronicle.{ChronicleState}
 use Rattle.rg_desk.specs.Desk.{IsDesk}
 use Rattle.rg_engine.specs.OnVolume.{BeganAt, GoesOnTidy, HasCopies, IsFooted, IsOn, IsSoundTidy}
@@ -58,7 +58,8 @@ use Rattle.rg_engine.specs.OnVolume.{SoundThroughout, WasAllTidy}
 use Rattle.rg_engine.specs.Prepared.{IsPrepared}
 use Rattle.rg_engine.specs.Reopens.{PartsReopen}
 use Rattle.rg_engine.specs.Turned.{IsShade, LogsSwitch}
-use Rattle.rg_engine.specs.Volume.{Leaves, LeavesIfTidy, VolumeSeen, WasTidy}
+use Rattle.rg_engine.specs.Volume.{Leaves, LeavesIfTidy, WasTidy}
+use Rattle.rg_outside.specs.Volume.{VolumeSeen}
 use Rattle.rg_engine.specs.declared.engine.Engine.{Engine}
 use Rattle.rg_engine.specs.declared.origin.Origin.{Origin}
 use Rattle.rg_engine.specs.declared.prepared.Prepared.{Prepared}
@@ -70,7 +71,7 @@ use Rattle.rg_engine.proofs.Leaving.{leaves_on}
 use Rattle.rg_engine.proofs.OnVolume.{tidy_on, tidy_then}
 use Rattle.rg_engine.proofs.Preparing.{copy_through}
 use Rattle.rg_engine.proofs.Reopening.{footed, sound_left}
-use Rattle.rg_desk.proofs.Rows.{front_entries, front_set}
+use Rattle.rg_desk.proofs.Rows.{front_set}
 use Rattle.rg_desk.proofs.Switching.{can_switch, front, is_turned, other_back}
 use Rattle.rg_engine.proofs.Throughout.{each_moment, told_then}
 
@@ -422,14 +423,14 @@ module _ (d : Engine) (c : ChronicleState) (origin : Origin) (copy : ℕ)
   module _ (after : State) (copy_is : after.copy ≡ copy) (doubt : after.copydoubt ≡ true) where
     first_left : (k : ℕ) → k ≡ copy → is_copy_left after k ≡ true
     first_left k same = ap (λ (b : Bool). b || (after.copydoubt && (k == 3 - after.copy)))
-        (ap (λ (n : ℕ). k == n) (copy_is ∙ sym same) ∙ eqb-refl k)
+        (ap (λ (n : ℕ). k == n) (copy_is ∙ sym same) ∙ nat_itself k)
 
     second_left : (k : ℕ) → k ≡ 3 - copy → is_copy_left after k ≡ true
     second_left k same = by_first (k == after.copy)
       where
         then : (after.copydoubt && (k == 3 - after.copy)) ≡ true
         then = ap (λ (b : Bool). b && (k == 3 - after.copy)) doubt
-            ∙ ap (λ (n : ℕ). k == n) (ap (λ (n : ℕ). 3 - n) copy_is ∙ sym same) ∙ eqb-refl k
+            ∙ ap (λ (n : ℕ). k == n) (ap (λ (n : ℕ). 3 - n) copy_is ∙ sym same) ∙ nat_itself k
 
         by_first : (b : Bool) → (b || (after.copydoubt && (k == 3 - after.copy))) ≡ true
         by_first true = refl

@@ -25,7 +25,6 @@ use Rattle.rg_image.specs.Meaning.{stored}
 use Rattle.rg_image.specs.Rules.{copy_capacity}
 use Rattle.rg_home.specs.Table.{IsTable}
 use Rattle.rg_log.specs.Kept.{Listed, log_pages}
-use Rattle.rg_laws_crash.specs.NewestPages.Tidy.{set_of}
 use Rattle.rg_model.specs.State.{at_rest}
 use Rattle.rg_outside.specs.Calls.{Call, FailedRead, FailedSync, FailedWrite, Read, Refused, Synced}
 use Rattle.rg_outside.specs.Calls.{Told, Wrote}
@@ -42,7 +41,7 @@ use Rattle.rg_shadow.specs.Shade.{Shade, shade_slots, stage_in}
 use Rattle.rg_shadow.specs.declared.drafts.IndexStage.TheVariants.{Built}
 use Rattle.rg_base.specs.declared.row.Row.{Row}
 use Rattle.rg_laws_crash.specs.SwitchRecord.Switched.{AreOldPages, HasNewCopy, IsPageOfCopy}
-use Rattle.rg_base.specs.Copies.{other_of}
+use Rattle.rg_base.specs.Copies.{other_of, set_of}
 use Rattle.rg_laws_utility.proofs.LockClaimsLemmas.Claiming.{claimed_begins, claimed_run}
 use Rattle.rg_laws_utility.specs.LockClaims.Unlocked.{AreClaimed}
 use Rattle.rg_engine.specs.CopyPages.Stamped.{stamped_all}
@@ -60,7 +59,8 @@ use Rattle.rg_engine.specs.Prepared.{AreMarksAt, IsMarkAt, IsMarkOf, IsPrepared,
 use Rattle.rg_engine.specs.Prepared.{WroteShadow}
 use Rattle.rg_engine.specs.Reopens.{IsCleanIn}
 use Rattle.rg_engine.specs.Stored.{IsStored}
-use Rattle.rg_engine.specs.Volume.{HasCalls, VolumeSeen}
+use Rattle.rg_engine.specs.Volume.{HasCalls}
+use Rattle.rg_outside.specs.Volume.{VolumeSeen}
 use Rattle.rg_engine.specs.declared.engine.Engine.{Engine}
 use Rattle.rg_engine.specs.declared.origin.Origin.{Origin}
 use Rattle.rg_engine.specs.declared.prepared.Prepared.{Prepared}

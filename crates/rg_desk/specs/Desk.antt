@@ -86,7 +86,10 @@ use Rattle.rg_engine.specs.Sends.{begin_items}
 use Rattle.rg_engine.specs.Shows.{Shows}
 use Rattle.rg_engine.specs.Stored.{IsStored}
 use Rattle.rg_engine.specs.Utility.{IsNew}
-use Rattle.rg_engine.specs.Volume.{CallsLog, HasCalls, IsCount, LeavesIfTidy, VolumeSeen, WasTidy}
+use Rattle.rg_engine.specs.Volume.{CallsLog, HasCalls, IsCount, LeavesIfTidy, WasTidy}
+use Rattle.rg_outside.specs.Told.{AddsAnswer, HandsOver}
+use Rattle.rg_outside.specs.Volume.{VolumeSeen}
+use Rattle.rg_desk.specs.declared.task.Task.{Task}
 use Rattle.rg_engine.specs.declared.engine.Engine.{Engine}
 use Rattle.rg_engine.specs.declared.origin.Origin.{Origin}
 use Rattle.rg_engine.specs.ChangeFeed.Sending.{AddsChanges, AreCopies}
@@ -409,6 +412,49 @@ pub record MadeStep {V O : Type 0} (look : V → VolumeSeen) (old : DeskState V 
     pub down : new.down ≡ old.down
     pub volume : new.volume ≡ old.volume
     pub stays : Stays look old new
+
+-- The utility's step begins: the desk is up, the utility is at this stage, and the operator has
+-- given this answer, which no entry has yet. There is room for one. The rest of what the step goes
+-- by is so as well.
+pub record IsTask {V O : Type 0} (look : V → VolumeSeen) (desk : DeskState V O) (task : Task)
+    : Type 0 where
+  pub up : desk.down ≡ false
+  pub stage : desk.stage ≡ Some task.stage
+  pub taken : HasTaken desk.changes task.stage
+  pub kept : desk.kept ≡ Some task.answer
+  pub room : 1 ≤ desk.spare
+  pub changes : task.changes ≡ desk.changes
+  pub holder : task.holder ≡ desk.covered
+  pub copy : task.copy ≡ other_of desk.copy
+  pub capacity :
+      task.capacity ≡ copy_capacity (look desk.volume).capacities (other_of desk.copy)
+
+-- a desk that is down, or where no utility runs, has made the entry that says so
+pub record RefusesStep {V O : Type 0} (look : V → VolumeSeen) (old new : DeskState V O) : Type 0
+  where
+    pub roomy : DeskState V O
+    pub same : roomy ≡ record old { spare = roomy.spare }
+    pub event : Event
+    pub is :
+        ((old.down ≡ true) × (event ≡ events.StepDown))
+        ⊎ ((old.down ≡ false) × (old.stage ≡ None) × (event ≡ events.Idle))
+    pub made : MadeStep look roomy None event [] new
+
+-- the operator was asked, and told how many changes are left
+pub record AsksStep {V O : Type 0} (look : V → VolumeSeen) (answers : O → Option (List Answer))
+    (last : O → Option ℕ) (old : DeskState V O) (task : Task) (new : DeskState V O) : Type 0 where
+  pub begun : IsTask look new task
+  pub same :
+      new ≡ record old { spare = new.spare; kept = Some task.answer; operator = new.operator }
+  pub answered : AddsAnswer (answers old.operator) task.answer (answers new.operator)
+  pub handed : HandsOver (left_to_take old) (answers new.operator) (last new.operator)
+
+-- how a step begins: with what it goes by, or with its only entry
+abbrev pub BeginsStep :
+    {V O : Type 0} → (look : V → VolumeSeen) → (answers : O → Option (List Answer))
+    → (last : O → Option ℕ) → (old new : DeskState V O) → Option Task → Type 0
+BeginsStep look answers last old new None = RefusesStep look old new
+BeginsStep look answers last old new (Some task) = AsksStep look answers last old task new
 
 -- What the items that a desk has sent are to its utility. They are in order. Until the copies are
 -- switched they lead to the rows of the table, at each place of a page that was copied or that the

@@ -12,12 +12,13 @@
 //    the operator's answer. Its event is the next one of the stage that the desk keeps.
 // 6. What a utility needs is sent to it: a Begin at its start, a copy of each page that it copies,
 //    and each change of a row since. Whoever has the other end receives it all with `hand_over`.
-ghost use Rattle.std.specs.Prelude.{◌≡◌, ◌≤◌, ◌++◌, [], ℕ, true, false, OnOk, OnErr, IfOk, IfErr};
+ghost use Rattle.std.specs.Prelude.{◌≡◌, ◌⊎◌, ◌≤◌, ◌++◌, [], ℕ, true, false, OnOk, OnErr, IfOk};
+ghost use Rattle.std.specs.Prelude.{IfErr};
 ghost use Rattle.std.specs.Prelude.{IfSome, Some, None, drop, length};
 ghost use Rattle.rg_home.specs.Pages.{slot_of};
 ghost use Rattle.rg_home.specs.Rows.{row_at};
 ghost use Rattle.rg_btree.specs.Indexes.Listings.{AreListings};
-ghost use Rattle.rg_space.specs.Space.{Agree, InStep, capacity_in, frames_of, index_of};
+ghost use Rattle.rg_space.specs.Space.{Agree, InStep, capacity_in, frames_of, summaries_of};
 ghost use Rattle.rg_base.specs.Session.{IsSession};
 ghost use Rattle.rg_model.specs.Possible.{next_state};
 ghost use Rattle.rg_model.specs.State.{State};
@@ -49,9 +50,9 @@ ghost use Rattle.rg_outside.specs.Moments.{IfTold};
 ghost use Rattle.rg_space.specs.Memory.{list_seen, space_pages};
 ghost use Rattle.rg_engine.specs.Engine.{HasPages, ground_of};
 ghost use Rattle.rg_engine.specs.Shows.{IsShown, Shows};
-ghost use Rattle.rg_engine.specs.Volume.{HasCalls, IsCount, LeavesIfTidy, seen_volume};
+ghost use Rattle.rg_engine.specs.Volume.{HasCalls, IsCount, LeavesIfTidy};
 ghost use Rattle.rg_engine.specs.Wrote.{SameEngine};
-ghost use Rattle.rg_desk.specs.Desk.{CanFeed, FeedIs, MadeCopy};
+ghost use Rattle.rg_desk.specs.Desk.{BeginsStep, CanFeed, FeedIs, MadeCopy};
 ghost use Rattle.rg_engine.specs.Sends.{begin_items};
 ghost use Rattle.rg_feed.specs.Ends.{Grew, SameReceived, sent_items};
 ghost use Rattle.rg_engine.specs.ChangeFeed.Sending.{AddsChanges, items_made};
@@ -61,8 +62,12 @@ ghost use Rattle.rg_rules.specs.Tally.Changed.{no_changes};
 ghost use Rattle.rg_laws_utility.specs.TraceStage.Tending.{NextBy, utility_entry};
 
 use crate::chronicle::Chronicle;
+use crate::run::Run;
+use crate::task::Task;
 use rg_base::control::Answer;
+use rg_base::copy::TableCopy;
 use rg_base::no_memory::NoMemory;
+use rg_base::note::note;
 use rg_base::options::Options;
 use rg_base::position::Position;
 use rg_base::session::Session;
@@ -74,7 +79,7 @@ use rg_engine::engine::Engine;
 use rg_engine::found::Found;
 use rg_engine::origin::Origin;
 use rg_engine::prepared::{PrepareCause, Prepared, forget, keep, new_side, prepare, take};
-use rg_engine::switch::{Old, other_of, turn};
+use rg_engine::switch::{Old, turn};
 use rg_engine::utility::{count_from, is_started, start_utility};
 use rg_feed::ends::feed;
 use rg_feed::fold::item::{Item, Stage};
@@ -96,13 +101,7 @@ use std::marker::Model;
 
 /// What an opening that was refused was handed, and why. The trace has the entries of earlier
 /// openings.
-#[derive(Drop)]
-pub struct OpenFault<V, O> {
-    pub volume: V,
-    pub operator: O,
-    pub trace: Vec<Entry>,
-    pub cause: OpenCause,
-}
+pub type OpenFault<V, O> = Run<V, O, OpenCause>;
 
 /// Why a volume is not opened.
 #[derive(Clone, Copy, Debug, PartialEq, Eq)]
@@ -123,7 +122,7 @@ pub struct Desk<V: Counts, O> {
     chronicle: Chronicle,
     origin: Origin,
     marks: Vec<Option<Position>>,
-    copy: u8,
+    copy: TableCopy,
     down: bool,
     stage: Option<Stage>,
     changes: Changes,
@@ -145,7 +144,6 @@ impl<V: Counts, O> Model for Desk<V, O> {
     ghost use Rattle.rg_feed.specs.Ends.{sent_items};
     ghost use Rattle.rg_model.specs.Claims.{least_holder};
     ghost use Rattle.rg_laws_utility.specs.TraceStage.Tending.{Tends};
-    ghost use Rattle.rg_engine.specs.Volume.{seen_volume};
 
     ghost Value = { DeskState V O };
 
@@ -177,11 +175,9 @@ impl<V: Counts, O> Model for Desk<V, O> {
     } };
 
     ghost invariant = { λ d. IsDesk d.engine d.chronicle d.origin d.copy d.down d.marks.items
-        (seen_volume V.told V.faults V.capacities d.volume)
-        × Tends d.chronicle.trace d.stage d.changes d.engine.set_aside
+        (V.seen d.volume) × Tends d.chronicle.trace d.stage d.changes d.engine.set_aside
         × KeepsPrepared d.shadow d.engine.log.records d.copy
-        (seen_volume V.told V.faults V.capacities d.volume)
-        × KeepsItems d.engine d.origin d.chronicle.trace d.down d.stage d.changes
+        (V.seen d.volume) × KeepsItems d.engine d.origin d.chronicle.trace d.down d.stage d.changes
         (sent_items d.outlet) };
 }
 
@@ -219,9 +215,9 @@ fn begin(
 ) -> Result<(Engine, Vec<Option<Position>>, Changes, FeedOut, FeedIn), NoMemory>
     requires begins { CanBegin (capacity_in found.space) (space_pages found.space) found.log
         found.top }
-    requires step { InStep (list_seen (frames_of found.space)) (index_of found.space)
+    requires step { InStep (list_seen (frames_of found.space)) (summaries_of found.space)
         (capacity_in found.space) }
-    requires agree { Agree (list_seen (frames_of found.space)) (index_of found.space) }
+    requires agree { Agree (list_seen (frames_of found.space)) (summaries_of found.space) }
     requires listings { AreListings (row_at (slot_of (space_pages found.space))) found.indexes }
     requires first { chronicle.old.trace ≡ [] }
     requires calls { chronicle.old.calls ≤ calls }
@@ -254,9 +250,9 @@ fn begin(
 
 // The number of calls up to now. It never falls, also where the volume does not report.
 fn calls_now<V: Counts>(volume: &V, chronicle: &Chronicle) -> u64
-    requires { HasCalls (seen_volume V.told V.faults V.capacities volume.now) chronicle.now.calls }
+    requires { HasCalls (V.seen volume.now) chronicle.now.calls }
     ensures least { chronicle.now.calls ≤ result }
-    ensures counted { IsCount (seen_volume V.told V.faults V.capacities volume.now) result }
+    ensures counted { IsCount (V.seen volume.now) result }
 {
     volume.calls().max(chronicle.calls())
 }
@@ -274,10 +270,9 @@ pub fn reply_to<V: Volume>(
 ) -> Reply
     requires session { IsSession session }
     requires shown { down.old ≡ false → IsShown engine.old }
-    requires pages { engine.old.log.pages ≡ log_pages (V.capacities volume.old) }
+    requires pages { engine.old.log.pages ≡ log_pages (V.seen volume.old).capacities }
     ensures replies { Replies down.old engine.old session stmt.now result engine.new down.new
-        (seen_volume V.told V.faults V.capacities volume.old)
-        (seen_volume V.told V.faults V.capacities volume.new) }
+        (V.seen volume.old) (V.seen volume.new) }
     ensures ring { outlet.new.ring ≡ outlet.old.ring }
     ensures adds { AddsChanges (sent_items outlet.old) (sent_items outlet.new) }
     ensures sent { down.new ≡ false → sent_items outlet.new
@@ -310,7 +305,7 @@ fn send_start(outlet: &mut FeedOut, event: &Event)
 }
 
 // The event of a layout, where the desk is up or down.
-fn tell_layout(engine: &mut Engine, copy: u8, down: bool) -> Event
+fn tell_layout(engine: &mut Engine, copy: TableCopy, down: bool) -> Event
     requires pages { down ≡ false → HasPages engine.old }
     ensures same { SameEngine engine.old engine.new }
     ensures ground { ground_of engine.new ≡ ground_of engine.old }
@@ -341,17 +336,16 @@ fn tell_flush<V: Volume>(
     engine: &mut Engine,
     marks: &mut Vec<Option<Position>>,
     volume: &mut V,
-    copy: u8,
+    copy: TableCopy,
     down: bool,
 ) -> Event
     requires pages { down ≡ false → HasPages engine.old }
-    requires set { engine.old.log.pages ≡ log_pages (V.capacities volume.old) }
-    requires counted { HasCalls (seen_volume V.told V.faults V.capacities volume.old) 0 }
+    requires set { engine.old.log.pages ≡ log_pages (V.seen volume.old).capacities }
+    requires counted { HasCalls (V.seen volume.old) 0 }
     requires is_on { down ≡ false → IsOnVolume copy engine.old.log engine.old.space
-        marks.old.items (seen_volume V.told V.faults V.capacities volume.old) }
+        marks.old.items (V.seen volume.old) }
     ensures { TellsFlush down copy marks.old.items marks.new.items
-        (seen_volume V.told V.faults V.capacities volume.old)
-        (seen_volume V.told V.faults V.capacities volume.new) engine.old result engine.new }
+        (V.seen volume.old) (V.seen volume.new) engine.old result engine.new }
 {
     if down {
         return Event::FlushDown;
@@ -376,22 +370,21 @@ impl<V: Counts, O: Operator> Desk<V, O> {
     ) -> Result<(Desk<V, O>, FeedIn), OpenFault<V, O>>
         requires begins { CanBegin (capacity_in found.space) (space_pages found.space) found.log
             found.top }
-        requires step { InStep (list_seen (frames_of found.space)) (index_of found.space)
+        requires step { InStep (list_seen (frames_of found.space)) (summaries_of found.space)
             (capacity_in found.space) }
-        requires agree { Agree (list_seen (frames_of found.space)) (index_of found.space) }
+        requires agree { Agree (list_seen (frames_of found.space)) (summaries_of found.space) }
         requires listings { AreListings (row_at (slot_of (space_pages found.space)))
             found.indexes }
         requires copy { IsCopy found.copy }
-        requires pages { found.log.pages ≡ log_pages (V.capacities volume) }
-        requires leaves { LeavesIfTidy (seen_volume V.told V.faults V.capacities volume)
-            found.log }
+        requires pages { found.log.pages ≡ log_pages (V.seen volume).capacities }
+        requires leaves { LeavesIfTidy (V.seen volume) found.log }
         requires is_on { IsOnVolume found.copy found.log found.space found.marks.items
-            (seen_volume V.told V.faults V.capacities volume) }
-        requires below { IfTold (V.told volume) (λ t. WasAllTidy (V.capacities volume) t
+            (V.seen volume) }
+        requires below { IfTold (V.seen volume).told (λ t. WasAllTidy (V.seen volume).capacities t
             → AllBelow found.top (slot_of (space_pages found.space))) }
         requires recorded { IsRecorded trace.items calls }
-        requires counted { HasCalls (seen_volume V.told V.faults V.capacities volume) calls }
-        ensures opens { IfOk result (λ made. Opens (seen_volume V.told V.faults V.capacities)
+        requires counted { HasCalls (V.seen volume) calls }
+        ensures opens { IfOk result (λ made. Opens V.seen
             volume operator found.log found.copy (capacity_in found.space)
             (space_pages found.space) made.0) }
         ensures contents { IfOk result
@@ -403,7 +396,7 @@ impl<V: Counts, O: Operator> Desk<V, O> {
           volume = volume;
           operator = operator;
           trace = fault.trace;
-          cause = OpenCause.NoMemory;
+          end = OpenCause.NoMemory;
         }) }
         ensures trace { IfErr result (λ fault. fault.trace.items ≡ trace.items) }
     {
@@ -433,11 +426,11 @@ impl<V: Counts, O: Operator> Desk<V, O> {
                 };
                 Ok((desk, inlet))
             }
-            Err(_) => Err(OpenFault {
+            Err(_) => Err(Run {
                 volume,
                 operator,
                 trace: chronicle.into_trace(),
-                cause: OpenCause::NoMemory,
+                end: OpenCause::NoMemory,
             }),
         }
     }
@@ -448,8 +441,7 @@ impl<V: Counts, O: Operator> Desk<V, O> {
     /// entry: handing out a copy of it too would take memory after the statement was done.
     pub fn exec(&mut self, session: Session, stmt: Stmt) -> Result<(), NoMemory>
         requires { IsSession session }
-        ensures made { OnOk result (MadeSaid (seen_volume V.told V.faults V.capacities)
-            self.old session stmt self.new) }
+        ensures made { OnOk result (MadeSaid V.seen self.old session stmt self.new) }
         ensures err { OnErr result (self.new ≡ self.old) }
     {
         if !self.changes.has_room(session) {
@@ -467,7 +459,7 @@ impl<V: Counts, O: Operator> Desk<V, O> {
             &mut self.outlet,
         );
         // That the records fit their set: what a crash leaves of the volume is sound by it.
-        let _ = self.engine.log.records();
+        note(&self.engine.log.records());
         self.changes.count(session, &stmt, &reply);
         let calls = calls_now(&self.volume, &self.chronicle);
         self.chronicle
@@ -480,7 +472,7 @@ impl<V: Counts, O: Operator> Desk<V, O> {
     /// so, and so it does where the desk is down.
     pub fn show(&mut self) -> Result<(), NoMemory>
         ensures made { OnOk result
-            (MadeLayout (seen_volume V.told V.faults V.capacities) self.old self.new) }
+            (MadeLayout V.seen self.old self.new) }
         ensures err { OnErr result (self.new ≡ self.old) }
     {
         self.chronicle.make_room()?;
@@ -496,12 +488,12 @@ impl<V: Counts, O: Operator> Desk<V, O> {
     /// call is refused and nothing was done.
     pub fn flush_one(&mut self) -> Result<(), NoMemory>
         ensures made { OnOk result
-            (MadeFlush (seen_volume V.told V.faults V.capacities) self.old self.new) }
+            (MadeFlush V.seen self.old self.new) }
         ensures err { OnErr result (self.new ≡ self.old) }
     {
         self.chronicle.make_room()?;
         // That the records fit their set: what a crash leaves of the volume is sound by it.
-        let _ = self.engine.log.records();
+        note(&self.engine.log.records());
         let event = tell_flush(
             &mut self.engine,
             &mut self.marks,
@@ -520,8 +512,7 @@ impl<V: Counts, O: Operator> Desk<V, O> {
     /// is refused and nothing was done.
     pub fn start(&mut self, options: Options) -> Result<bool, NoMemory>
         ensures made { IfOk result (λ started.
-            MadeStart (seen_volume V.told V.faults V.capacities) self.old options started
-            self.new) }
+            MadeStart V.seen self.old options started self.new) }
         ensures err { OnErr result (self.new ≡ self.old) }
     {
         self.outlet.reserve(1)?;
@@ -581,6 +572,48 @@ impl<V: Counts, O: Operator> Desk<V, O> {
         answer
     }
 
+    /// Begins a step of the utility. What was sent is received first, and the room for the step's
+    /// entry is taken: where there is no memory for either, nobody is asked, and the desk is as it
+    /// was. Where the desk is down, or no utility runs, the entry is made that says so, and none is
+    /// answered. Else the operator is asked once, and told how many changes are left. The step's
+    /// entry is to be made with the answer.
+    pub fn begin_step(&mut self, inlet: &mut FeedIn) -> Result<Option<Task>, NoMemory>
+        requires kept { self.old.kept ≡ None }
+        requires ring { self.old.ring ≡ inlet.old.ring }
+        ensures begins { IfOk result
+            (BeginsStep V.seen O.answers O.last self.old self.new) }
+        ensures grew { Grew inlet.old inlet.new }
+        ensures all { OnOk result (inlet.new.items ≡ self.old.feed) }
+        ensures heard { OnErr result
+            (SameReceived inlet.old inlet.new ⊎ (inlet.new.items ≡ self.old.feed)) }
+        ensures feed { self.old.down ≡ false → FeedIs self.old }
+        ensures ring { self.new.ring ≡ inlet.new.ring }
+        ensures err { OnErr result (self.new ≡ self.old) }
+    {
+        self.hand_over(inlet)?;
+        self.make_room()?;
+        if self.down() {
+            self.book(Event::StepDown, None);
+            return Ok(None);
+        }
+        let Some(stage) = self.stage() else {
+            self.book(Event::Idle, None);
+            return Ok(None);
+        };
+        let changes = self.changes();
+        let (copy, capacity) = self.other();
+        let holder = self.holder();
+        let answer = self.ask_operator(changes - stage.done);
+        Ok(Some(Task {
+            stage,
+            answer,
+            changes,
+            holder,
+            copy,
+            capacity,
+        }))
+    }
+
     /// Makes the entry of a step: IDLE where no utility runs, DOWN where the desk is down, else the
     /// utility's next event with the operator's answer. No event is booked so that copies a page,
     /// or that switches to the new copy or fails to. It takes no memory.
@@ -588,8 +621,7 @@ impl<V: Counts, O: Operator> Desk<V, O> {
         requires next { IsNextStep self.old answer event }
         requires kept { answer ≡ self.old.kept }
         requires room { 1 ≤ self.old.spare }
-        ensures { MadeStep (seen_volume V.told V.faults V.capacities) self.old answer event []
-            self.new }
+        ensures { MadeStep V.seen self.old answer event [] self.new }
     {
         match (self.down, self.stage, answer) {
             (false, Some(stage), Some(answer)) => self.book_step(stage, event, answer),
@@ -604,8 +636,7 @@ impl<V: Counts, O: Operator> Desk<V, O> {
         requires kept { self.old.kept ≡ Some answer }
         requires room { 1 ≤ self.old.spare }
         requires can { CanFeed self.old page answer }
-        ensures made { IfOk result (λ rows. MadeCopy (seen_volume V.told V.faults V.capacities)
-            self.old answer page rows self.new) }
+        ensures made { IfOk result (λ rows. MadeCopy V.seen self.old answer page rows self.new) }
         ensures err { OnErr result (self.new ≡ self.old) }
     {
         let Some(stage) = self.stage else {
@@ -632,8 +663,7 @@ impl<V: Counts, O: Operator> Desk<V, O> {
         requires next { NextBy false (Some stage) self.old.changes self.old.covered (Some answer)
             event }
         requires room { 1 ≤ self.old.spare }
-        ensures { MadeStep (seen_volume V.told V.faults V.capacities) self.old (Some answer) event
-            [] self.new }
+        ensures { MadeStep V.seen self.old (Some answer) event [] self.new }
     {
         self.stage = self
             .engine
@@ -649,16 +679,15 @@ impl<V: Counts, O: Operator> Desk<V, O> {
     /// call of the volume fails, no new copy is kept, and the desk goes on.
     pub fn prepare_switch(&mut self, alloc: Global, shadow: Shadow) -> Result<(), PrepareCause>
         requires up { self.old.down ≡ false }
-        requires can { CanPrepare (seen_volume V.told V.faults V.capacities) self.old shadow }
-        ensures ok { OnOk result (Prepares (seen_volume V.told V.faults V.capacities) self.old
+        requires can { CanPrepare V.seen self.old shadow }
+        ensures ok { OnOk result (Prepares V.seen self.old
             (written_seen (length self.old.ground.log.records) shadow) self.new) }
-        ensures err { OnErr result (Prepares (seen_volume V.told V.faults V.capacities) self.old
-            None self.new) }
+        ensures err { OnErr result (Prepares V.seen self.old None self.new) }
         ensures device { result ≡ Err PrepareCause.Device
-            → Rose (V.faults self.old.volume) (V.faults self.new.volume) }
+            → Rose (V.seen self.old.volume).faults (V.seen self.new.volume).faults }
     {
         forget(&mut self.shadow);
-        let copy = other_of(self.copy);
+        let copy = self.copy.other();
         match prepare(alloc, &mut self.engine, &mut self.volume, copy, shadow) {
             Ok(prepared) => {
                 keep(&mut self.shadow, prepared);
@@ -689,7 +718,7 @@ impl<V: Counts, O: Operator> Desk<V, O> {
         ensures sides { IfOk result (AreSides self.old) }
     {
         // That no session holds a claim that a granted drain covers: nobody has a lock then.
-        let _ = self.engine.claims.drain();
+        note(&self.engine.claims.drain());
         let old = self.engine.side()?;
         let new = new_side(&mut self.shadow)?;
         Ok(Sides { old, new })
@@ -700,8 +729,7 @@ impl<V: Counts, O: Operator> Desk<V, O> {
     pub fn take_shadow(&mut self) -> Option<Shadow>
         ensures same { self.new ≡ record self.old { shadow = None } }
         ensures shade { result ≡ shade_kept self.old.shadow }
-        ensures is { IfSome result (IsOtherCopy (seen_volume V.told V.faults V.capacities)
-            self.new) }
+        ensures is { IfSome result (IsOtherCopy V.seen self.new) }
     {
         take(&mut self.shadow)
     }
@@ -715,15 +743,13 @@ impl<V: Counts, O: Operator> Desk<V, O> {
         requires kept { self.old.kept ≡ Some answer }
         requires room { 1 ≤ self.old.spare }
         requires can { CanCommit self.old answer sides }
-        ensures ok { OnOk result (MadeSwitch (seen_volume V.told V.faults V.capacities) self.old
-            answer sides self.new) }
-        ensures err { OnErr result (MadeFall (seen_volume V.told V.faults V.capacities) self.old
-            answer self.new) }
+        ensures ok { OnOk result (MadeSwitch V.seen self.old answer sides self.new) }
+        ensures err { OnErr result (MadeFall V.seen self.old answer self.new) }
     {
         let (Some(stage), Some(prepared)) = (self.stage, self.shadow.take()) else {
             unreachable!()
         };
-        let copy = other_of(self.copy);
+        let copy = self.copy.other();
         let Prepared { shadow, marks, .. } = prepared;
         let turned = turn(&mut self.engine, &mut self.volume, copy, shadow);
         let calls = calls_now(&self.volume, &self.chronicle);
@@ -752,8 +778,7 @@ impl<V: Counts, O: Operator> Desk<V, O> {
         requires next { IsNextStep self.old None event }
         requires kept { self.old.kept ≡ None }
         requires room { 1 ≤ self.old.spare }
-        ensures { MadeStep (seen_volume V.told V.faults V.capacities) self.old None event []
-            self.new }
+        ensures { MadeStep V.seen self.old None event [] self.new }
     {
         keep_while_running(&self.stage, &mut self.shadow);
         let calls = calls_now(&self.volume, &self.chronicle);
@@ -783,12 +808,12 @@ impl<V: Counts, O: Operator> Desk<V, O> {
     }
 
     /// The other copy, and how many pages it may have.
-    pub fn other(&self) -> (u8, u32)
+    pub fn other(&self) -> (TableCopy, u32)
         ensures copy { result.0 ≡ other_of self.now.copy }
         ensures capacity { result.1
-            ≡ copy_capacity (V.capacities self.now.volume) (other_of self.now.copy) }
+            ≡ copy_capacity (V.seen self.now.volume).capacities (other_of self.now.copy) }
     {
-        let copy = other_of(self.copy);
+        let copy = self.copy.other();
         (copy, copy_pages(&self.volume, copy))
     }
 
@@ -831,10 +856,10 @@ impl<V: Counts, O: Operator> Desk<V, O> {
         requires { self.now.down ≡ false }
         ensures { EndsWithRows (old_records self.now) self.now.first_copy
             self.now.ground.log.pages
-            (seen_volume V.told V.faults V.capacities self.now.volume) self.now.trace result }
+            (V.seen self.now.volume) self.now.trace result }
     {
         // That the records fit their set: the clause on what a crash leaves needs it.
-        let _ = self.engine.log.records();
+        note(&self.engine.log.records());
         self.engine.committed_rows()
     }
 
@@ -847,16 +872,15 @@ impl<V: Counts, O: Operator> Desk<V, O> {
         ensures operator { result.1 ≡ self.operator }
         ensures trace { result.2.items ≡ self.older ++ self.trace }
         ensures recorded { IsRecorded result.2.items result.3 }
-        ensures counted { HasCalls (seen_volume V.told V.faults V.capacities self.volume)
-            result.3 }
+        ensures counted { HasCalls (V.seen self.volume) result.3 }
         ensures legal { LegalFrom (old_records self) self.trace }
         ensures left { LeavesTable (old_records self) self.first_copy self.ground.log.pages
-            (seen_volume V.told V.faults V.capacities self.volume) self.trace }
-        ensures tidy { GoesOnTidy (seen_volume V.told V.faults V.capacities self.volume) }
-        ensures sound { LeavesSoundIfTidy (seen_volume V.told V.faults V.capacities self.volume) }
+            (V.seen self.volume) self.trace }
+        ensures tidy { GoesOnTidy (V.seen self.volume) }
+        ensures sound { LeavesSoundIfTidy (V.seen self.volume) }
     {
         // That the records fit their set: the clauses on what is left of the volume need it.
-        let _ = self.engine.log.records();
+        note(&self.engine.log.records());
         let Desk {
             engine: _,
             chronicle,

@@ -5,3 +5,7 @@
 pub mod chronicle;
 /// The table as a deck sees it.
 pub mod desk;
+/// A run at its end.
+pub mod run;
+/// What a step of the utility goes by.
+pub mod task;

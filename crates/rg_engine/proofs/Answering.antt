@@ -39,7 +39,8 @@ use Rattle.rg_outside.specs.Moments.{EachImage}
 use Rattle.rg_outside.proofs.Frame.{no_calls}
 use Rattle.rg_outside.proofs.Run.{begins}
 use Rattle.rg_image.specs.Log.{SpellsFrom}
-use Rattle.rg_engine.specs.Volume.{CallsLog, Leaves, VolumeSeen}
+use Rattle.rg_engine.specs.Volume.{CallsLog, Leaves}
+use Rattle.rg_outside.specs.Volume.{VolumeSeen}
 use Rattle.rg_engine.specs.declared.units.OpenUnit.{OpenUnit}
 use Rattle.rg_engine.specs.declared.engine.Engine.{Engine}
 use Rattle.rg_engine.proofs.Moving.{moves_to, no_moves}

@@ -1,5 +1,5 @@
 -- What an opening found shows the table that the log stores.
-use Rattle.std.proofs.Common.{◌≡◌, ◌≤◌, ◌*◌, ℕ, zero, suc, List, [], ◌∷◌, Option, None, length}
+use Rattle.std.proofs.Common.{◌≡◌, ◌≤◌, ◌*◌, ℕ, suc, List, [], ◌∷◌, Option, None, length}
 use Rattle.std.proofs.Common.{take, drop, refl, sym, ◌∙◌, ap, subst, arith, append-nil}
 use Rattle.std.proofs.Math.Seq.{drop-length, take-length}
 use Rattle.std.specs.FinMap as fin
@@ -13,10 +13,10 @@ use Rattle.rg_claim.specs.ClaimState.{no_claims}
 use Rattle.rg_claim.specs.declared.claims.Claims.{Claims}
 use Rattle.rg_laws_pages.specs.ByteClaims.Claim.{claimed_all, holding}
 use Rattle.rg_home.specs.Able.{IsLive}
-use Rattle.rg_home.specs.Pages.{page_at, slot_of}
-use Rattle.rg_home.specs.Rows.{home_row, row_at}
+use Rattle.rg_home.specs.Pages.{slot_of}
+use Rattle.rg_home.specs.Rows.{row_at}
 use Rattle.rg_home.specs.Slot.{Slot}
-use Rattle.rg_home.specs.Slots.{slot_at}
+use Rattle.rg_home.proofs.NoPages.{row_none}
 use Rattle.rg_image.specs.Meaning.{stored}
 use Rattle.rg_index.specs.Listed.{IsListingOf, has_value}
 use Rattle.rg_btree.specs.Indexes.Listings.{AreListings, entries_of}
@@ -141,15 +141,6 @@ module _ (d : Engine) (top : ℕ) (can : CanShow (capacity_in d.space) (slots_in
       none_live t l = cc (l)
 
 -- ---- nothing was found
-
-page_none : (n : ℕ) → page_at [] n ≡ []
-page_none zero = refl
-page_none (suc n) = refl
-
--- no place has a row
-row_none : (p : Place) → row_at (slot_of []) p ≡ None
-row_none p =
-    ap (λ (slots : List Slot). home_row (slot_of []) (slot_at slots p.slot)) (page_none p.page)
 
 lists_none : (which : Which) (pages : List (List Slot)) (entries : List (ℕ × Place)) → pages ≡ []
     → entries ≡ [] → IsListingOf which (row_at (slot_of pages)) entries

@@ -25,7 +25,7 @@ use Rattle.rg_laws_log.specs.LogState.Act.{LogState, others, step}
 use Rattle.rg_laws_log.specs.LogState.Act.{Commit}
 use Rattle.rg_laws_log.proofs.LogStateLemmas.Live.{live_was}
 use Rattle.rg_laws_log.proofs.LogStateLemmas.Units.{stored_other}
-use Rattle.rg_space.specs.Space.{Agree, InStep, capacity_in, frames_of, index_of}
+use Rattle.rg_space.specs.Space.{Agree, InStep, capacity_in, frames_of, summaries_of}
 use Rattle.rg_stmt.specs.declared.stmt.Reply.TheVariants.{Done}
 use Rattle.rg_stmt.specs.declared.stmt.Stmt.TheVariants as stmts
 use Rattle.rg_laws_crash.specs.LogChain.Next.{AreNext}
@@ -92,9 +92,9 @@ module _ (st : State) (allowed : ℕ) (d new : Engine) (session : Session)
 
   pages : HasPages new
   pages = record {
-    step = subst (λ sp. InStep (list_seen (frames_of sp)) (index_of sp) (capacity_in sp))
+    step = subst (λ sp. InStep (list_seen (frames_of sp)) (summaries_of sp) (capacity_in sp))
         (sym space) shows.by.pages.step;
-    agree = subst (λ sp. Agree (list_seen (frames_of sp)) (index_of sp)) (sym space)
+    agree = subst (λ sp. Agree (list_seen (frames_of sp)) (summaries_of sp)) (sym space)
         shows.by.pages.agree;
   }
 

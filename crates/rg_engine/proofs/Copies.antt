@@ -15,9 +15,8 @@ use Rattle.rg_outside.proofs.Run.{at_last}
 use Rattle.rg_record.specs.declared.record.Record.{Record}
 use Rattle.rg_laws_crash.specs.PageVersions.Versions.{Epoch, IsOnVolume as IsOnPage}
 use Rattle.rg_laws_crash.proofs.PageVersionsLemmas.OnVolume.{stays_there}
-use Rattle.rg_laws_crash.specs.NewestPages.Tidy.{set_of}
 use Rattle.rg_laws_crash.specs.SwitchRecord.Switched.{IsOldPage}
-use Rattle.rg_base.specs.Copies.{other_of}
+use Rattle.rg_base.specs.Copies.{other_of, set_of}
 use Rattle.rg_engine.specs.OnVolume.{HasCopies}
 
 -- ---- three sets

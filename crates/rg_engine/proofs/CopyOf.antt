@@ -1,10 +1,12 @@
 -- The copy of a page.
-use Rattle.std.proofs.Common.{◌≡◌, ◌==◌, ◌≤◌, ◌+◌, ◌*◌, ℕ, suc, zero, Bool, List, [], ◌∷◌, Option}
-use Rattle.std.proofs.Common.{Some, None, if◌then◌else◌, length, refl, sym, ◌∙◌, ap, subst, arith}
+use Rattle.std.proofs.Common.{◌≡◌, ◌==◌, ◌≤◌, ◌+◌, ◌*◌, ℕ, suc, zero, Bool, List, Option}
+use Rattle.std.proofs.Common.{Some, None, if◌then◌else◌, length, sym, ◌∙◌, ap, subst, arith}
 use Rattle.std.proofs.Common.{length-append}
+use Rattle.std.proofs.lemmas.List.{get_or_past}
 use Rattle.rg_base.specs.declared.place.Place.{Place}
 use Rattle.rg_base.specs.declared.position.Position.{Position}
 use Rattle.rg_base.specs.declared.row.Row.{Row}
+use Rattle.rg_base.proofs.Small.{nat_itself}
 use Rattle.rg_feed.specs.Fold.Fold.{row_in, step_at}
 use Rattle.rg_feed.specs.Fold.Lawful.{IsWell}
 use Rattle.rg_feed.specs.declared.fold.item.Item.{Item}
@@ -12,9 +14,7 @@ use Rattle.rg_feed.specs.declared.fold.item.Item.TheVariants.{PageCopy}
 use Rattle.rg_home.specs.Pages.{page_at, slot_of}
 use Rattle.rg_home.specs.Rows.{home_row, row_at}
 use Rattle.rg_home.specs.Slot.{Free, Slot}
-use Rattle.rg_home.specs.Slots.{slot_at}
 use Rattle.rg_home.proofs.Slots.{used-length}
-use Rattle.rg_laws_log.proofs.LogStateLemmas.Tables.{eqb-refl}
 use Rattle.rg_page.specs.Content.{Content, slots_of}
 use Rattle.rg_space.specs.Homes.{home_with, homes_on, place_on, rows_from}
 use Rattle.rg_engine.specs.Engine.{seen_in, slots_in}
@@ -55,17 +55,11 @@ few_homes d shown page = omega (
   page_fits d shown page,
 )
 
-slot_past : (slots : List Slot) (i : ℕ) → length slots ≤ i → slot_at slots i ≡ Free
-slot_past [] zero past = refl
-slot_past [] (suc i) past = refl
-slot_past (x ∷ slots) zero past = absurd (omega (arith, past))
-slot_past (x ∷ slots) (suc i) past = slot_past slots i (omega (arith, past))
-
 pub none_high : (d : Engine) → IsShown d → (place : Place) → 225 ≤ place.slot
     → row_at (slot_of (slots_in d)) place ≡ None
 none_high d shown place high =
     ap (λ (s : Slot). home_row (slot_of (slots_in d)) s)
-    (slot_past (page_at (slots_in d) place.page) place.slot
+    (get_or_past (page_at (slots_in d) place.page) place.slot Free
     (omega (arith, high, page_fits d shown place.page)))
 
 homes_are : (d : Engine) (after : List Content) (page : ℕ) (item : Item) (position : Position)
@@ -102,7 +96,7 @@ copy_is d shown after page item position count is well rows same counted at =
       of_page = subst IsWell copied_is well;
       rows = λ place here.
           ap (λ (b : Bool). if b then row_in homes place else None)
-          (sym (ap (λ (n : ℕ). page == n) here ∙ eqb-refl page))
+          (sym (ap (λ (n : ℕ). page == n) here ∙ nat_itself page))
           ∙ ap (λ (x : Item). step_at place x None) (sym copied_is)
           ∙ rows place here
           ∙ ap (λ (ps : List Content). row_at (slot_of (slots_of ps)) place) same;

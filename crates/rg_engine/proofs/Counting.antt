@@ -1,5 +1,5 @@
 -- The number of committed rows, counted from lock to lock.
-use Rattle.std.proofs.Common.{◌≡◌, ◌≤◌, ◌+◌, ◌-◌, ◌&&◌, T, ℕ, zero, suc, Bool, true, false, cond}
+use Rattle.std.proofs.Common.{◌≡◌, ◌≤◌, ◌+◌, ◌-◌, ◌&&◌, ℕ, zero, suc, Bool, true, false, cond}
 use Rattle.std.proofs.Common.{List, [], ◌∷◌, ◌++◌, filter, length, Option, Some, None, refl, sym}
 use Rattle.std.proofs.Common.{◌∙◌, ap, arith}
 use Rattle.std.specs.Option.{is_some}
@@ -15,6 +15,7 @@ use Rattle.rg_base.specs.First.{IsFirstFrom}
 use Rattle.rg_base.specs.declared.lock.Lock.{Lock}
 use Rattle.rg_base.specs.declared.row.Row.{Row}
 use Rattle.rg_base.proofs.Walk.{passing_from, walk_begins, walk_ends, walk_goes}
+use Rattle.rg_base.proofs.Small.{true_of}
 use Rattle.rg_model.specs.Committed.{committed_table, put_back, set_to}
 use Rattle.rg_model.specs.State.{Locks, State, Table, is_present, row_count}
 use Rattle.rg_model.proofs.Overlay.{get-put_back, kept_or}
@@ -120,10 +121,6 @@ module _ (table : Table) where
       let present = emptied-present es in
       let kept = emptied-kept es in
       omega (arith, all, present, kept)
-
-true_of : (b : Bool) → T b → b ≡ true
-true_of true h = refl
-true_of false h = absurd h
 
 sorted_in : (locks : Locks) → is_sorted nat_cmp (fin.entries locks) ≡ true
 sorted_in locks = true_of (is_sorted nat_cmp (fin.entries locks)) (entries_sorted locks)

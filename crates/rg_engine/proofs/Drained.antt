@@ -12,6 +12,7 @@ use Rattle.rg_base.specs.declared.options.DrainFor.TheVariants.{Writers, All}
 use Rattle.rg_base.specs.declared.options.DrainState.{DrainState}
 use Rattle.rg_base.specs.declared.options.DrainState.TheVariants.{Granted}
 use Rattle.rg_base.specs.declared.session.Class.TheVariants.{Writer}
+use Rattle.rg_base.proofs.Small.{nat_itself}
 use Rattle.rg_claim.specs.Drains.{GrantIsKept}
 use Rattle.rg_home.specs.Able.{IsLive}
 use Rattle.rg_home.specs.Pages.{slot_of}
@@ -19,7 +20,6 @@ use Rattle.rg_home.specs.Rows.{row_at}
 use Rattle.rg_home.specs.Slot.{Slot}
 use Rattle.rg_image.specs.Meaning.{stored}
 use Rattle.rg_image.specs.Rules.{IsOpen}
-use Rattle.rg_laws_log.proofs.LogStateLemmas.Tables.{eqb-refl}
 use Rattle.rg_home.proofs.Tables.{table_same}
 use Rattle.rg_laws_log.specs.LogState.Act.{LogState}
 use Rattle.rg_home.specs.Table.{IsTable}
@@ -69,7 +69,7 @@ module _ (st : State) (allowed : ℕ) (d : Engine) (shows : Shows st allowed d)
     where
       go : (ws : List Write) → ((k : ℕ) → NoneHit (at_key k) ws) → ws ≡ []
       go [] none = refl
-      go (w ∷ ws) none = absurd (cc ((none w.key).0, eqb-refl w.key))
+      go (w ∷ ws) none = absurd (cc ((none w.key).0, nat_itself w.key))
 
   pub no_unit : (n : ℕ) → unit_at d.units n ≡ None
   no_unit n = go (unit_at d.units n) refl
@@ -96,7 +96,7 @@ module _ (st : State) (allowed : ℕ) (d : Engine) (shows : Shows st allowed d)
       go : (us : List ℕ) → ((t : ℕ) → IsLive us t → ⊥) → us ≡ []
       go [] none = refl
       go (u ∷ us) none =
-          absurd (none u (ap (λ (b : Bool). b || list_any (λ v. v == u) us) (eqb-refl u)))
+          absurd (none u (ap (λ (b : Bool). b || list_any (λ v. v == u) us) (nat_itself u)))
 
   pub all_closed : (t : ℕ) → IsOpen t d.log.records → ⊥
   all_closed t is = none_live t (shows.trails.tells.opens t is)

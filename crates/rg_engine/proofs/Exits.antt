@@ -21,7 +21,8 @@ use Rattle.rg_outside.specs.Moments.{EachImage, IfTold}
 use Rattle.rg_record.specs.declared.record.Record.{Record}
 use Rattle.rg_engine.specs.Shows.{KeyShown, Shows, left_by}
 use Rattle.rg_engine.specs.Stored.{IsStored}
-use Rattle.rg_engine.specs.Volume.{LeavesIfTidy, VolumeSeen, WasTidy}
+use Rattle.rg_engine.specs.Volume.{LeavesIfTidy, WasTidy}
+use Rattle.rg_outside.specs.Volume.{VolumeSeen}
 use Rattle.rg_engine.specs.declared.engine.Engine.{Engine}
 use Rattle.rg_engine.proofs.Settled.{now_stored}
 

@@ -2,6 +2,7 @@
 use Rattle.std.proofs.Common.{◌≡◌, ◌≤◌, ◌<◌, ◌⊎◌, inl, inr, ℕ, List, [], ◌∷◌, length, Option, Some}
 use Rattle.std.proofs.Common.{None, Result, Ok, take, refl, sym, ◌∙◌, ap, subst, arith, append-nil}
 use Rattle.std.proofs.Common.{length-append}
+use Rattle.rg_base.specs.Copies.{set_of}
 use Rattle.rg_base.proofs.Walk.{place}
 use Rattle.rg_base.specs.declared.position.Position.{Position}
 use Rattle.rg_base.specs.declared.set.Set.{Set}
@@ -30,7 +31,6 @@ use Rattle.rg_space.specs.Memory.{list_seen}
 use Rattle.rg_space.specs.Space.{capacity_in, frames_of}
 use Rattle.rg_stmt.specs.declared.event.Event.TheVariants.{Clean, Flush, FlushDevice, FlushNoMemory}
 use Rattle.rg_laws_crash.specs.PageVersions.Versions.{Epoch, Spells}
-use Rattle.rg_laws_crash.specs.NewestPages.Tidy.{set_of}
 use Rattle.rg_engine.specs.Engine.{seen_in}
 use Rattle.rg_engine.specs.Flushed.{CallsOwn, FitsSet, Flushes, ForcesLog, OnlyForces, ReadsAll}
 use Rattle.rg_engine.specs.Flushed.{WritesEither, WrotePage}
@@ -47,7 +47,8 @@ use Rattle.rg_laws_pages.specs.UndoRoom.Dead.{DeadNames}
 use Rattle.rg_outside.specs.Capacities.{Capacities}
 use Rattle.rg_laws_crash.specs.SoundVolume.Reopens.{CanReopen, HasLowOwners}
 use Rattle.rg_engine.specs.Shows.{Shows}
-use Rattle.rg_engine.specs.Volume.{CallsLog, HasCalls, Leaves, LeavesIfTidy, VolumeSeen}
+use Rattle.rg_engine.specs.Volume.{CallsLog, HasCalls, Leaves, LeavesIfTidy}
+use Rattle.rg_outside.specs.Volume.{VolumeSeen}
 use Rattle.rg_engine.specs.Wrote.{SameEngine}
 use Rattle.rg_engine.specs.declared.engine.Engine.{Engine}
 use Rattle.rg_engine.proofs.Leaving.{has_more, on_calls}
@@ -104,8 +105,8 @@ own_same copy a = record {
   capacities = refl;
 }
 
-rose_more : (a b c : ℕ) → a ≤ b → Rose b c → Rose a c
-rose_more a b c le rose = λ low. let more = rose low in omega (arith, le, more)
+pub rose_earlier : (a b c : ℕ) → a ≤ b → Rose b c → Rose a c
+rose_earlier a b c le rose = λ low. let more = rose low in omega (arith, le, more)
 
 -- ---- a log that is forced further
 
@@ -404,7 +405,7 @@ module _ (copy : ℕ) (d mid now : Engine) (before v : VolumeSeen) (same : SameE
       through = through_written;
       is_on = record { epoch = e; is_on = on_written };
       sound = sound_written;
-      is = rose_more before.faults v.faults w.faults f.calls.later rose;
+      is = rose_earlier before.faults v.faults w.faults f.calls.later rose;
     }
 
     -- the page was written, and is marked

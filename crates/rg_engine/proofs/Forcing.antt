@@ -15,7 +15,8 @@ use Rattle.rg_stmt.specs.declared.stmt.Stmt.TheVariants.{Commit}
 use Rattle.rg_engine.specs.Answers.{Asks, forces}
 use Rattle.rg_engine.specs.Stored.{Grows}
 use Rattle.rg_engine.specs.Units.{unit_at}
-use Rattle.rg_engine.specs.Volume.{CallsLog, Leaves, VolumeSeen}
+use Rattle.rg_engine.specs.Volume.{CallsLog, Leaves}
+use Rattle.rg_outside.specs.Volume.{VolumeSeen}
 use Rattle.rg_engine.specs.declared.units.OpenUnit.{OpenUnit}
 use Rattle.rg_engine.proofs.Leaving.{leaves_grown}
 

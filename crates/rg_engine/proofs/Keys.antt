@@ -1,18 +1,17 @@
 -- Keys and maps by key.
 use Rattle.std.proofs.Common.{◌≡◌, ◌==◌, ℕ, Bool, true, false, cond, Option, Some, refl, sym, ◌∙◌}
-use Rattle.std.proofs.Common.{ap, arith, ◌⊎◌, inl, inr, if◌then◌else◌}
+use Rattle.std.proofs.Common.{ap, ◌⊎◌, inl, inr, if◌then◌else◌}
 use Rattle.std.specs.Ordering.{nat_cmp, eq_by_cmp}
 use Rattle.std.specs.FinMap as fin
 use Rattle.std.specs.FinMap.{get-insert}
 use Rattle.std.proofs.lemmas.Cmp.{nat_cmp_total}
 use Rattle.std.proofs.lemmas.Bool.{eqb-true, eqb-false}
-use Rattle.std.proofs.lemmas.Bool.Decides.{nat_tests}
 use Rattle.rg_base.specs.declared.row.Row.{Row}
+use Rattle.rg_base.proofs.Small.{cmp_same, cmp_apart, nat_itself}
 use Rattle.rg_model.specs.Committed.{set_to}
 use Rattle.rg_model.specs.State.{Table}
-use Rattle.rg_model.proofs.Overlay.{get-set_to, key_of}
+use Rattle.rg_model.proofs.Overlay.{get-set_to}
 use Rattle.rg_laws_log.specs.LogState.Act.{set_at}
-use Rattle.rg_laws_log.proofs.LogStateLemmas.Tables.{eqb-refl}
 
 pub same_or_not : (q key : ℕ) → (q ≡ key) ⊎ (q ≡ key → ⊥)
 same_or_not q key = go (q == key) refl
@@ -20,16 +19,6 @@ same_or_not q key = go (q == key) refl
     go : (b : Bool) → (q == key) ≡ b → (q ≡ key) ⊎ (q ≡ key → ⊥)
     go true e = inl (eqb-true q key e)
     go false e = inr (eqb-false q key e)
-
-pub cmp_same : (key : ℕ) → eq_by_cmp nat_cmp key key ≡ true
-cmp_same key = grind (arith, nat_tests)
-
-pub cmp_apart : (q key : ℕ) → (q ≡ key → ⊥) → eq_by_cmp nat_cmp q key ≡ false
-cmp_apart q key n = go (eq_by_cmp nat_cmp q key) refl
-  where
-    go : (b : Bool) → eq_by_cmp nat_cmp q key ≡ b → b ≡ false
-    go true e = absurd (n (key_of q key e))
-    go false e = refl
 
 pub insert_here : {V : Type 0} (m : fin.FinMap nat_cmp V) (key : ℕ) (v : V)
     → fin.get (fin.insert m key v) key ≡ Some v
@@ -62,7 +51,7 @@ set_table table now key row same k = go (same_or_not k key)
         ∙ ap (λ (b : Bool). cond b row (fin.get table k))
         (ap (eq_by_cmp nat_cmp k) (sym e) ∙ cmp_same k)
         ∙ ap (λ (c : Bool). if c then row else now k)
-        (sym (ap (λ (n : ℕ). n == k) (sym e) ∙ eqb-refl k))
+        (sym (ap (λ (n : ℕ). n == k) (sym e) ∙ nat_itself k))
     go (inr n) =
         get-set_to table key row k
         ∙ ap (λ (b : Bool). cond b row (fin.get table k)) (cmp_apart k key n)

@@ -12,7 +12,8 @@ use Rattle.rg_outside.specs.Made.{WritesIn}
 use Rattle.rg_outside.specs.Moments.{EachCall, EachImage, IfTold, read_at}
 use Rattle.rg_record.specs.declared.record.Record.{Record}
 use Rattle.rg_engine.specs.Stored.{Grows}
-use Rattle.rg_engine.specs.Volume.{CallsLog, HasCalls, Leaves, LeavesIfTidy, VolumeSeen, WasTidy}
+use Rattle.rg_engine.specs.Volume.{CallsLog, HasCalls, Leaves, LeavesIfTidy, WasTidy}
+use Rattle.rg_outside.specs.Volume.{VolumeSeen}
 
 -- records that are appended leave what is spelled
 left_more : (told : Option Told) (pages low : ℕ) (rs more : List Record)

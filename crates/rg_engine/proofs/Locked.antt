@@ -7,11 +7,12 @@ use Rattle.std.specs.List.{list_any}
 use Rattle.std.specs.Option.{is_some}
 use Rattle.std.specs.Ordering.{nat_cmp, eq_by_cmp}
 use Rattle.std.proofs.lemmas.Bool.{eqb-true}
+use Rattle.std.proofs.Math.Bool.{or-true}
 use Rattle.rg_base.specs.declared.lock.Lock.{Lock}
 use Rattle.rg_base.specs.declared.session.Session.{Session}
+use Rattle.rg_base.proofs.Small.{nat_itself}
 use Rattle.rg_image.specs.Pack.{log_bytes}
 use Rattle.rg_laws_log.specs.LogState.Write.{HitBy, NoneHit, Write, at_key, kept_if, own_of}
-use Rattle.rg_laws_log.proofs.LogStateLemmas.Tables.{eqb-refl}
 use Rattle.rg_model.specs.Said.{has_locks}
 use Rattle.rg_model.specs.State.{Locks, State}
 use Rattle.rg_space.specs.Space.{capacity_in}
@@ -41,15 +42,11 @@ own_key t (w ∷ ws) some = go (w.written.owner == t) refl some (own_key t ws)
         → (1 ≤ length (own_of t ws) → OwnKey t ws) → OwnKey t (w ∷ ws)
     go true e some rest = record {
       k = w.key;
-      hit = λ none. absurd (cc (none.0, eqb-refl w.key));
-      by = λ u by. sym (by.0 (eqb-refl w.key)) ∙ eqb-true w.written.owner t e;
+      hit = λ none. absurd (cc (none.0, nat_itself w.key));
+      by = λ u by. sym (by.0 (nat_itself w.key)) ∙ eqb-true w.written.owner t e;
     }
     go false e some rest = let key = rest some in
         record { k = key.k; hit = λ none. key.hit none.1; by = λ u by. key.by u by.1 }
-
-or_true : (b : Bool) → (b || true) ≡ true
-or_true true = refl
-or_true false = refl
 
 owns : Session → ℕ × Lock → Bool
 owns session entry = entry.1.owner.0 == session.0
@@ -70,9 +67,9 @@ found_owned session (x ∷ es) k lock e own =
         let is : x.1 ≡ lock = cc (f) in
         ap (λ (b : Bool). b || list_any (λ (e : ℕ × Lock). e.1.owner.0 == session.0) es)
         (ap (λ (l : Lock). l.owner.0 == session.0) is ∙ ap (λ (n : ℕ). n == session.0) own
-        ∙ eqb-refl session.0)
+        ∙ nat_itself session.0)
     go false f rest = ap (λ (b : Bool). (x.1.owner.0 == session.0) || b) (rest f)
-        ∙ or_true (x.1.owner.0 == session.0)
+        ∙ or-true (x.1.owner.0 == session.0)
 
 module _ (st : State) (allowed : ℕ) (d : Engine) (session : Session) (shows : Shows st allowed d)
     (unit : OpenUnit) (has : unit_at d.units session.0 ≡ Some unit) where

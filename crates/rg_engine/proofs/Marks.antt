@@ -4,7 +4,7 @@ use Rattle.std.proofs.Common.{Option, Some, None, length, slice_index_or, refl, 
 use Rattle.std.proofs.Common.{arith, ◌⊎◌, inl, inr}
 use Rattle.rg_base.proofs.Walk.{place}
 use Rattle.rg_base.specs.declared.position.Position.{Position}
-use Rattle.rg_laws_log.proofs.LogStateLemmas.Tables.{eqb-refl}
+use Rattle.rg_base.proofs.Small.{nat_itself}
 use Rattle.rg_page.specs.Content.{Content, content_at}
 use Rattle.rg_engine.specs.Prepared.{AreMarksAt, IsMarkAt, IsMarkOf}
 use Rattle.rg_engine.specs.OnVolume.{AllCleanBefore, AreClean, is_clean, is_clean_at, mark_at}
@@ -78,4 +78,4 @@ all_clean pages marks marked q one high = go (mark_at marks q) (marked q one)
     go : (m : Option Position) → IsMarkOf pages q m → is_clean m (content_at pages q) ≡ true
     go None past = absurd (omega (arith, past, high))
     go (Some at) is = ap (λ (n : ℕ). n == (content_at pages q).position) is.1
-        ∙ eqb-refl (content_at pages q).position
+        ∙ nat_itself (content_at pages q).position

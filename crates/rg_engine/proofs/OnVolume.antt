@@ -6,6 +6,7 @@ use Rattle.std.proofs.Common.{length-append}
 use Rattle.std.proofs.lemmas.Bool.{eqb-false, eqb-true}
 use Rattle.std.proofs.lemmas.List.{take-append-le}
 use Rattle.std.specs.List.{AllByRecursion}
+use Rattle.rg_base.specs.Copies.{set_of}
 use Rattle.rg_base.specs.declared.position.Position.{Position}
 use Rattle.rg_base.specs.declared.set.Set.{Set}
 use Rattle.rg_base.specs.declared.set.Set.TheVariants.{Log}
@@ -31,7 +32,7 @@ use Rattle.rg_laws_crash.specs.PageVersions.Versions.{Epoch, IsOnVolume as IsOnP
 use Rattle.rg_laws_crash.specs.PageVersions.Versions.{version}
 use Rattle.rg_laws_crash.proofs.PageVersionsLemmas.Redo.{version_more}
 use Rattle.rg_laws_crash.specs.NewestPages.Newest.{IsNewest}
-use Rattle.rg_laws_crash.specs.NewestPages.Tidy.{set_of, switched_pages}
+use Rattle.rg_laws_crash.specs.NewestPages.Tidy.{switched_pages}
 use Rattle.rg_laws_crash.proofs.NewestPagesLemmas.Flush.{clean_newest, newest_written}
 use Rattle.rg_laws_crash.proofs.NewestPagesLemmas.Flush.{written_version}
 use Rattle.rg_laws_crash.proofs.NewestPagesLemmas.InMemory.{there_in}
@@ -39,7 +40,8 @@ use Rattle.rg_engine.specs.Newest.{HasNewest}
 use Rattle.rg_engine.specs.OnVolume.{AreMarks, BeganAt, HasCopies, IsMark, IsOn, IsTidyVolume}
 use Rattle.rg_engine.specs.OnVolume.{PartsIfTidy, WasAllTidy, is_clean, is_clean_at, mark_at}
 use Rattle.rg_engine.specs.Reopens.{PartsReopen}
-use Rattle.rg_engine.specs.Volume.{CallsLog, HasCalls, VolumeSeen}
+use Rattle.rg_engine.specs.Volume.{CallsLog, HasCalls}
+use Rattle.rg_outside.specs.Volume.{VolumeSeen}
 use Rattle.rg_engine.specs.Wrote.{SameEngine}
 use Rattle.rg_engine.specs.declared.engine.Engine.{Engine}
 use Rattle.rg_engine.proofs.Copies.{copies_keep, copies_more, copies_wrote, copy_apart}

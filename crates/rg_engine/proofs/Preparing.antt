@@ -11,7 +11,6 @@ use Rattle.rg_home.specs.Rows.{row_at}
 use Rattle.rg_image.specs.Meaning.{stored}
 use Rattle.rg_image.specs.Rules.{copy_capacity}
 use Rattle.rg_home.specs.Table.{IsTable}
-use Rattle.rg_laws_crash.specs.NewestPages.Tidy.{set_of}
 use Rattle.rg_outside.specs.Calls.{Call, FailedRead, FailedSync, FailedWrite, Image, Read, Refused}
 use Rattle.rg_outside.specs.Calls.{Synced, Told, Wrote, effect_of, is_same_page, read_of}
 use Rattle.rg_outside.specs.Capacities.{Capacities}
@@ -23,14 +22,15 @@ use Rattle.rg_page.specs.Content.{Content, content_at}
 use Rattle.rg_record.specs.declared.record.Record.{Record}
 use Rattle.rg_shadow.specs.Shade.{shade_slots}
 use Rattle.rg_laws_crash.specs.SwitchRecord.Switched.{HasNewCopy, IsOldPage}
-use Rattle.rg_base.specs.Copies.{other_of}
+use Rattle.rg_base.specs.Copies.{other_of, set_of}
 use Rattle.rg_laws_crash.specs.PageVersions.Versions.{Spells}
 use Rattle.rg_feed.specs.declared.fold.item.Stage.{Stage}
 use Rattle.rg_engine.specs.Prepared.{while_running}
 use Rattle.rg_engine.specs.Flushed.{WritesEither}
 use Rattle.rg_engine.specs.OnVolume.{WasAllTidy}
 use Rattle.rg_engine.specs.Prepared.{IsPrepared, KeepsPrepared, prepared_seen}
-use Rattle.rg_engine.specs.Volume.{HasCalls, VolumeSeen}
+use Rattle.rg_engine.specs.Volume.{HasCalls}
+use Rattle.rg_outside.specs.Volume.{VolumeSeen}
 use Rattle.rg_engine.specs.declared.prepared.Prepared.{Prepared}
 use Rattle.rg_engine.proofs.Copies.{copies_apart, copy_apart, put_apart}
 use Rattle.rg_engine.proofs.OnVolume.{tidy_on}

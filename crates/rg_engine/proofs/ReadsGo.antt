@@ -1,9 +1,8 @@
 -- How a statement that reads goes, from a state that the engine shows.
-use Rattle.std.proofs.Common.{◌≡◌, ◌==◌, ◌≤◌, ◌&&◌, ◌||◌, ◌+◌, ℕ, Bool, true, false, cond, List}
+use Rattle.std.proofs.Common.{◌≡◌, ◌≤◌, ◌&&◌, ◌||◌, ◌+◌, ℕ, Bool, true, false, cond, List}
 use Rattle.std.proofs.Common.{IsPermutation, IsSorted, Option, Some, None, length, refl, sym, ◌∙◌}
 use Rattle.std.proofs.Common.{ap, subst, arith}
 use Rattle.std.specs.Ordering.{nat_cmp}
-use Rattle.std.proofs.lemmas.Bool.Decides.{nat_tests}
 use Rattle.rg_base.specs.declared.lock.Lock.{Lock}
 use Rattle.rg_base.specs.declared.place.Place.{Place}
 use Rattle.rg_base.specs.declared.row.Row.{Row}
@@ -12,6 +11,7 @@ use Rattle.rg_home.specs.Pages.{slot_of}
 use Rattle.rg_home.specs.Rows.{row_at}
 use Rattle.rg_home.specs.Slot.{Slot}
 use Rattle.rg_base.specs.declared.which.Which.TheVariants.{Cat}
+use Rattle.rg_base.proofs.Small.{nat_turned}
 use Rattle.rg_index.specs.Entries.{entries_within, has_entry}
 use Rattle.rg_index.specs.Listed.{has_value}
 use Rattle.rg_btree.specs.Indexes.Listed.{listed_keys, listed_rows}
@@ -23,6 +23,7 @@ use Rattle.rg_layout.specs.Right.{IsRightFor}
 use Rattle.rg_laws_log.specs.LogState.Act.{LogState}
 use Rattle.rg_home.specs.Table.{IsTable}
 use Rattle.rg_lock.specs.First.{IsFirstHeld}
+use Rattle.rg_lock.proofs.ScanHeld.{scan_free, scan_held}
 use Rattle.rg_model.specs.Held.{find_holder, has_cat, holder, is_held_with_cat, is_others}
 use Rattle.rg_model.specs.Held.{scan_holder}
 use Rattle.rg_model.specs.Layout.{is_right_side}
@@ -42,7 +43,6 @@ use Rattle.rg_engine.specs.declared.engine.Engine.{Engine}
 use Rattle.rg_engine.proofs.Moving.{same_moves}
 use Rattle.rg_engine.proofs.NewestKept.{same_newest}
 use Rattle.rg_engine.proofs.Reopens.{same_clean, same_parts}
-use Rattle.rg_engine.proofs.LockWalk.{scan_free, scan_held}
 use Rattle.rg_engine.proofs.Same.{same_shows}
 use Rattle.rg_engine.proofs.Sessions.{left_consistent}
 use Rattle.rg_engine.proofs.Settled.{grows_same}
@@ -172,9 +172,7 @@ module _ (st : State) (allowed : ℕ) (d : Engine) (shows : Shows st allowed d)
 
   turned : (cat : ℕ) (found : Option Row) → has_value Cat cat found ≡ has_cat cat found
   turned cat None = refl
-  turned cat (Some row) = by_numbers cat row.cat where
-    by_numbers : (a b : ℕ) → (a == b) ≡ (b == a)
-    by_numbers a b = grind (arith, nat_tests)
+  turned cat (Some row) = nat_turned cat row.cat
 
   pub cat_none : (key cat : ℕ)
       → ((p : Place) → has_entry (entries_of d.indexes.keys) (key, p) ≡ false)

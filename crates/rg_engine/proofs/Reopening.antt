@@ -10,7 +10,6 @@ use Rattle.rg_image.specs.Log.{Spells, SpellsFrom, log_of}
 use Rattle.rg_image.specs.Meaning.{current_of}
 use Rattle.rg_image.specs.Pack.{end_of, start}
 use Rattle.rg_image.specs.Rules.{IsTidyLog, copy_capacity}
-use Rattle.rg_laws_log.proofs.LogStateLemmas.Tables.{eqb-refl}
 use Rattle.rg_log.specs.Kept.{Listed, log_pages}
 use Rattle.rg_log.specs.Present.{HasPart}
 use Rattle.rg_log.proofs.Present.{log_part, log_tidy}
@@ -25,7 +24,7 @@ use Rattle.rg_space.specs.declared.space.Space.{Space}
 use Rattle.rg_laws_crash.specs.PageVersions.OnImage.{HasPages}
 use Rattle.rg_laws_crash.specs.PageVersions.Versions.{Epoch}
 use Rattle.rg_laws_crash.specs.NewestPages.Steady.{IsSteady}
-use Rattle.rg_laws_crash.specs.NewestPages.Tidy.{AreSpare, AreTidyPages, set_of}
+use Rattle.rg_laws_crash.specs.NewestPages.Tidy.{AreSpare, AreTidyPages}
 use Rattle.rg_laws_crash.proofs.NewestPagesLemmas.Steady.{steady_front, tidy_goes_on}
 use Rattle.rg_laws_crash.specs.SoundVolume.Laws.{IsLeft}
 use Rattle.rg_laws_crash.specs.SoundVolume.Reopens.{AreTidyOwners}
@@ -35,14 +34,16 @@ use Rattle.rg_laws_crash.proofs.SoundVolumeLemmas.LogPages.{left_positions}
 use Rattle.rg_laws_crash.proofs.SoundVolumeLemmas.Owners.{image_owners}
 use Rattle.rg_laws_crash.proofs.SoundVolumeLemmas.Switched.{pages_front}
 use Rattle.rg_laws_crash.specs.SwitchRecord.Switched.{AreOldPages}
-use Rattle.rg_base.specs.Copies.{other_of}
+use Rattle.rg_base.specs.Copies.{other_of, set_of}
+use Rattle.rg_base.proofs.Small.{nat_itself}
 use Rattle.rg_engine.specs.OnVolume.{GoesOnTidy, HasCopies, HasTidyOthers, HasTidyOwners, IsFooted}
 use Rattle.rg_engine.specs.OnVolume.{IsOn, IsSoundTidy, IsTidyVolume, LeavesCopies}
 use Rattle.rg_engine.specs.OnVolume.{LeavesSoundIfTidy, RestsOn, WasAllTidy}
 use Rattle.rg_engine.specs.Reopens.{PartsReopen}
 use Rattle.rg_model.specs.Possible.{is_copy_left}
 use Rattle.rg_model.specs.State.{State}
-use Rattle.rg_engine.specs.Volume.{HasCalls, LeavesIfTidy, VolumeSeen, WasTidy}
+use Rattle.rg_engine.specs.Volume.{HasCalls, LeavesIfTidy, WasTidy}
+use Rattle.rg_outside.specs.Volume.{VolumeSeen}
 
 module _ (capacities : Capacities) (e : Epoch) (copy capacity : ℕ) (log : Listed)
     (foot : IsFooted capacities e copy capacity log) (pages : log.pages ≡ log_pages capacities)
@@ -267,7 +268,7 @@ module _ (e : Epoch) (copy : ℕ) (log : Listed) (space : Space ListFrames)
     where
       current : (c : ℕ) → c ≡ copy → is_copy_left st c ≡ true
       current c is = ap (λ (b : Bool). b || (st.copydoubt && (c == 3 - st.copy)))
-          (ap (λ (n : ℕ). c == n) (same ∙ sym is) ∙ eqb-refl c)
+          (ap (λ (n : ℕ). c == n) (same ∙ sym is) ∙ nat_itself c)
 
       go : (told : Option Told)
           → IfTold told

@@ -32,7 +32,7 @@ use Rattle.rg_laws_log.specs.LogState.Lawful.{Runs}
 use Rattle.rg_laws_log.specs.LogState.Records.{acts_of}
 use Rattle.rg_laws_log.specs.LogState.Write.{Write, first_write, own_of}
 use Rattle.rg_laws_log.proofs.LogStateLemmas.Own.{own_ended_other, own_first}
-use Rattle.rg_space.specs.Space.{Agree, InStep, capacity_in, frames_of, index_of}
+use Rattle.rg_space.specs.Space.{Agree, InStep, capacity_in, frames_of, summaries_of}
 use Rattle.rg_stmt.specs.declared.stmt.Reply.TheVariants.{Done}
 use Rattle.rg_stmt.specs.declared.stmt.Stmt.TheVariants.{Rollback}
 use Rattle.rg_engine.specs.Ended.{EndsSession, records_committed, rolled_record, LogsRolledBack}
@@ -247,9 +247,9 @@ module _ (st : State) (allowed : ℕ) (d : Engine) (session : Session) (shows : 
       (ap (λ (l : Listed). l.forced) ended.log ∙ logged.base.forced ∙ so.base.forced)
       (ap (λ sp. capacity_in sp) same_space ∙ so.capacity)
       (record {
-        step = subst (λ sp. InStep (list_seen (frames_of sp)) (index_of sp) (capacity_in sp))
+        step = subst (λ sp. InStep (list_seen (frames_of sp)) (summaries_of sp) (capacity_in sp))
             (sym same_space) so.pages.step;
-        agree = subst (λ sp. Agree (list_seen (frames_of sp)) (index_of sp)) (sym same_space)
+        agree = subst (λ sp. Agree (list_seen (frames_of sp)) (summaries_of sp)) (sym same_space)
             so.pages.agree;
       })
       (ap (λ sp. slots_in (record mid { space = sp })) same_space ∙ so.slots)

@@ -5,6 +5,7 @@ use Rattle.rg_laws_utility.specs.RecordChanges.Changed.{changes_at, changes_in, 
 use Rattle.rg_laws_utility.specs.RecordChanges.Laws.{WritesLoud}
 use Rattle.rg_laws_utility.specs.RecordChanges.Laws.{told_before, told_by}
 use Rattle.rg_laws_utility.proofs.RecordChangesLemmas.Counting.{undos_counted, undos_told}
+use Rattle.rg_laws_utility.proofs.RecordChangesLemmas.Counting.{undos_front}
 use Rattle.rg_base.specs.declared.change.Change.{Change}
 use Rattle.rg_base.specs.declared.place.Place.{Place}
 use Rattle.rg_base.specs.declared.row.Row.{Row}
@@ -22,7 +23,6 @@ use Rattle.rg_stmt.specs.declared.event.Entry.{Entry}
 use Rattle.rg_engine.specs.Ended.{rolled_record}
 use Rattle.rg_engine.specs.declared.units.OpenUnit.{OpenUnit}
 use Rattle.rg_engine.proofs.Moving.{AllLoud}
-use Rattle.rg_engine.proofs.UndoTrails.{undos_front}
 
 -- Undos and the record of the unit's end write no key
 undo_loud : (past : List Entry) (t u : ℕ) (k : Kind) → AreUndos t (act_of_kind [] u k ∷ [])

@@ -1,11 +1,11 @@
 -- What is stored as the log grows.
-use Rattle.std.proofs.Common.{◌≡◌, ◌≤◌, ◌+◌, ◌-◌, ◌⊎◌, inl, inr, ℕ, Bool, true, false, nat_le, List}
+use Rattle.std.proofs.Common.{◌≡◌, ◌≤◌, ◌+◌, ◌-◌, ◌⊎◌, inl, inr, ℕ, List}
 use Rattle.std.proofs.Common.{[], ◌∷◌, ◌++◌, length, take, drop, refl, sym, ◌∙◌, ap, subst, arith}
-use Rattle.std.proofs.Common.{append_assoc, append-nil, length-append, reverse, map}
-use Rattle.std.proofs.lemmas.List.{drop-append-le, map-append, reverse-append, take-append-drop}
+use Rattle.std.proofs.Common.{append_assoc, append-nil, length-append}
+use Rattle.std.proofs.lemmas.List.{drop-append-le, take-append-drop}
 use Rattle.std.proofs.lemmas.List.{take-append-le, take_all}
-use Rattle.std.proofs.lemmas.Bool.Decides.{nat_tests}
 use Rattle.std.proofs.Math.Seq.{take-append-add}
+use Rattle.rg_outside.proofs.Run.{order_cases}
 use Rattle.rg_image.specs.Meaning.{stored}
 use Rattle.rg_model.specs.State.{State}
 use Rattle.rg_record.specs.declared.record.Record.{Record}
@@ -14,21 +14,17 @@ use Rattle.rg_laws_log.specs.LogState.Act.{Purge, Change, Undo, Commit, RollBack
 use Rattle.rg_laws_log.specs.LogState.Closing.{AreUndos}
 use Rattle.rg_laws_log.specs.LogState.Consistent.{IsConsistent, stored_of}
 use Rattle.rg_laws_log.specs.LogState.Lawful.{Runs}
-use Rattle.rg_laws_log.specs.LogState.Records.{act_of, acts_of}
+use Rattle.rg_laws_log.specs.LogState.Records.{acts_of}
 use Rattle.rg_laws_log.proofs.LogStateLemmas.Runs.{runs_consistent, runs_joined, runs_shorter}
 use Rattle.rg_laws_log.proofs.LogStateLemmas.Runs.{state_joined}
 use Rattle.rg_laws_log.proofs.LogStateLemmas.Units.{stored_change, stored_rolled, stored_undo}
+use Rattle.rg_laws_log.proofs.StoredRowsLemmas.Stores.{acts_join}
 use Rattle.rg_log.specs.Kept.{Listed}
 use Rattle.rg_space.specs.Space.{capacity_in}
 use Rattle.rg_engine.specs.Shows.{Shows, ShowsBy, left_by, since}
 use Rattle.rg_engine.specs.Trails.{Trails}
 use Rattle.rg_engine.specs.Stored.{Grows, IsQuiet, IsSettled, StoresCommitted}
 use Rattle.rg_engine.specs.declared.engine.Engine.{Engine}
-
--- the acts of records after others come before theirs
-pub acts_join : (xs ys : List Record) → acts_of [] (xs ++ ys) ≡ acts_of [] ys ++ acts_of [] xs
-acts_join xs ys = ap reverse (map-append (act_of []) xs ys)
-    ∙ reverse-append (map (act_of []) xs) (map (act_of []) ys)
 
 -- a log that is as it was
 pub grows_same : (old new : Listed) → new ≡ old → Grows old new
@@ -147,16 +143,10 @@ module _ (st : State) (allowed : ℕ) (d : Engine) (shows : Shows st allowed d) 
           within = omega (arith, longer, within, forced);
           same = λ n low high k.
               subst (λ (xs : List Record). stored (take n xs) k ≡ stored xs k) (sym records)
-              (by_place n k (below n (length rs)) (omega (arith, low, forced)) ∙ sym (all_with k));
+              (by_place n k (order_cases n (length rs)) (omega (arith, low, forced))
+              ∙ sym (all_with k));
         }
       where
-        below : (n m : ℕ) → (n ≤ m) ⊎ (m ≤ n)
-        below n m = by_test (nat_le n m) refl
-          where
-            by_test : (b : Bool) → nat_le n m ≡ b → (n ≤ m) ⊎ (m ≤ n)
-            by_test true e = inl (grind (arith, nat_tests, e))
-            by_test false e = inr (grind (arith, nat_tests, e))
-
         by_place : (n k : ℕ) → (n ≤ length d.log.records) ⊎ (length d.log.records ≤ n)
             → d.log.forced ≤ n → stored (take n (d.log.records ++ more)) k ≡ stored d.log.records k
         by_place n k (inl low) from =

@@ -9,6 +9,7 @@ use Rattle.rg_base.specs.declared.part.Part.{Part}
 use Rattle.rg_base.specs.declared.part.SlotOp.TheVariants as Op
 use Rattle.rg_base.specs.declared.place.Place.{Place}
 use Rattle.rg_base.specs.declared.row.Row.{Row as TableRow}
+use Rattle.rg_base.proofs.Small.{nat_itself}
 use Rattle.rg_home.specs.Able.{RowFits, Undoable}
 use Rattle.rg_home.specs.Pages.{Sound, page_at, part_at, slot_of}
 use Rattle.rg_home.specs.Plan.{away, changed, fitting, from_over, is_ended, left_of, new_area}
@@ -23,7 +24,6 @@ use Rattle.rg_home.specs.declared.plan.Area.{Area}
 use Rattle.rg_home.specs.declared.plan.Fitting.{Fitting}
 use Rattle.rg_home.specs.declared.plan.Plan.{Plan}
 use Rattle.rg_home.proofs.Slots.{used-length}
-use Rattle.rg_laws_log.proofs.LogStateLemmas.Tables.{eqb-refl}
 use Rattle.rg_image.specs.Pack.{size_of}
 use Rattle.rg_record.specs.Fits.{Fits}
 use Rattle.rg_record.specs.Spelled.{AreFrees, IsFew, IsRecord, frees_on, greatest, is_free}
@@ -34,7 +34,7 @@ use Rattle.rg_record.specs.declared.record.Kind.TheVariants.{Purge, Switch}
 use Rattle.rg_record.specs.declared.record.Record.{Record}
 use Rattle.rg_record.proofs.Sizes.{record_size_high}
 use Rattle.rg_engine.specs.Bytes.{IsPurge, IsSpelled, kind_bytes}
-use Rattle.rg_engine.specs.Undoing.{is_undo}
+use Rattle.rg_image.specs.Rules.{is_undo}
 
 -- a record takes the bytes of its kind
 pub size_is : (entry : Record) → size_of entry ≡ kind_bytes entry.kind
@@ -65,7 +65,7 @@ all_free live n i (s ∷ slots) =
         →
         list_all (frees_on n) (cond b (part_at (record { page = n; slot = i }) Op.Free ∷ rest) rest)
         ≡ true
-    go true rest all = λ k. eqb-refl n k && all k
+    go true rest all = λ k. nat_itself n k && all k
     go false rest all = all
 
 purge_few : (live : List ℕ) (n i : ℕ) (slots : List Slot)

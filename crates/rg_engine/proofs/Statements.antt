@@ -7,6 +7,7 @@ use Rattle.rg_base.specs.declared.place.Place.{Place}
 use Rattle.rg_base.specs.declared.row.Row.{Row}
 use Rattle.rg_base.specs.declared.session.Session.{Session}
 use Rattle.rg_base.specs.declared.which.Which.TheVariants.{Key}
+use Rattle.rg_base.proofs.Small.{nat_itself}
 use Rattle.rg_home.specs.Able.{IsLive}
 use Rattle.rg_home.specs.Pages.{slot_of}
 use Rattle.rg_home.specs.Plan.{is_home}
@@ -27,7 +28,6 @@ use Rattle.rg_stmt.specs.declared.stmt.Stmt.{Stmt}
 use Rattle.rg_stmt.specs.declared.stmt.Stmt.TheVariants.{Delete, Insert, Select, Update}
 use Rattle.rg_laws_log.specs.LogState.Act.{LogState, is_in}
 use Rattle.rg_laws_log.proofs.LogStateLemmas.Own.{own_live}
-use Rattle.rg_laws_log.proofs.LogStateLemmas.Tables.{eqb-refl}
 use Rattle.rg_space.specs.Space.{capacity_in}
 use Rattle.rg_engine.specs.Bytes.{taken_of}
 use Rattle.rg_engine.specs.Engine.{ground_of, slots_in}
@@ -96,7 +96,7 @@ module _ (st : State) (allowed : ℕ) (d : Engine) (shows : Shows st allowed d)
           let listed : has_value Key key (row_at (slot_of s.pages) placed.1) ≡ false =
           sym (shows.by.indexes.keys key placed.1) ∙ none placed.1 in
           let has : (key == row.key) ≡ false = ap (has_value Key key) (sym placed.2) ∙ listed in
-          absurd (cc (has, ap (λ (k : ℕ). key == k) placed.0 ∙ eqb-refl key))
+          absurd (cc (has, ap (λ (k : ℕ). key == k) placed.0 ∙ nat_itself key))
 
   pub key_some : (key : ℕ) (p : Place) → has_entry (entries_of d.indexes.keys) (key, p) ≡ true
       → IsKeyAt st d key p

@@ -22,7 +22,8 @@ use Rattle.rg_laws_crash.specs.PageVersions.Versions.{Epoch}
 use Rattle.rg_engine.specs.OnVolume.{HasCopies, IsOn, IsSoundTidy, LeavesSoundIfTidy}
 use Rattle.rg_engine.specs.OnVolume.{SoundThroughout, WasAllTidy}
 use Rattle.rg_engine.specs.Reopens.{PartsReopen}
-use Rattle.rg_engine.specs.Volume.{CallsLog, HasCalls, Leaves, LeavesIfTidy, VolumeSeen, WasTidy}
+use Rattle.rg_engine.specs.Volume.{CallsLog, HasCalls, Leaves, LeavesIfTidy, WasTidy}
+use Rattle.rg_outside.specs.Volume.{VolumeSeen}
 use Rattle.rg_engine.proofs.Copies.{copies_more, copies_through}
 use Rattle.rg_engine.proofs.OnVolume.{both_tidy, tidy_on}
 use Rattle.rg_engine.proofs.Reopening.{footed, sound_left}

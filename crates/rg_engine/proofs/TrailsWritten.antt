@@ -4,12 +4,13 @@ use Rattle.std.proofs.Common.{Some, length, set, refl, sym, ◌∙◌, ap, subst
 use Rattle.std.proofs.Common.{if◌then◌else◌}
 use Rattle.std.specs.List.{AllByRecursion}
 use Rattle.std.proofs.lemmas.Bool.{ne_eqb}
+use Rattle.std.proofs.lemmas.Option.{same_Some}
 use Rattle.rg_base.specs.declared.part.Part.{Part}
 use Rattle.rg_base.specs.declared.row.Row.{Row}
 use Rattle.rg_check.proofs.ChainLemmas.Records.{greatest_more, none_above}
 use Rattle.rg_laws_crash.specs.LogChain.Next.{AreNext, IsNext}
 use Rattle.rg_laws_crash.specs.LogChain.Tells.{Tells}
-use Rattle.rg_laws_crash.proofs.LogChainLemmas.Appended.{bytes_more, count_more, ended_none}
+use Rattle.rg_laws_crash.proofs.LogChainLemmas.Appended.{count_more, ended_none}
 use Rattle.rg_laws_crash.proofs.LogChainLemmas.Appended.{ended_other, of_other, owed_none}
 use Rattle.rg_laws_crash.proofs.LogChainLemmas.Owing.{owes}
 use Rattle.rg_laws_crash.proofs.LogChainLemmas.Telling.{records_tell}
@@ -27,8 +28,10 @@ use Rattle.rg_laws_log.specs.LogState.Records.{acts_of}
 use Rattle.rg_laws_log.specs.LogState.Write.{Write, write_of}
 use Rattle.rg_laws_log.proofs.LogStateLemmas.Own.{own_other}
 use Rattle.rg_log.specs.Kept.{Listed}
+use Rattle.rg_log.proofs.Append.{log_bytes_more}
 use Rattle.rg_laws_crash.specs.NewestPages.Newest.{AllNear}
 use Rattle.rg_laws_crash.proofs.NewestPagesLemmas.Near.{there_near}
+use Rattle.rg_laws_crash.proofs.SoundVolumeLemmas.ClosingSteps.{raised_there}
 use Rattle.rg_record.specs.declared.record.Kind.TheVariants.{Purge as PurgeKind}
 use Rattle.rg_record.specs.declared.record.Record.{Record}
 use Rattle.rg_space.specs.Applied.{AllNext}
@@ -43,7 +46,7 @@ use Rattle.rg_engine.specs.Wrote.{purge_record, records_cleared, records_wrote}
 use Rattle.rg_engine.specs.declared.units.OpenUnit.{OpenUnit}
 use Rattle.rg_engine.proofs.Appended.{acts_wrote, more_wrote, wrote_more}
 use Rattle.rg_engine.proofs.Keys.{same_or_not}
-use Rattle.rg_engine.proofs.Parts.{free_within, raised_there}
+use Rattle.rg_engine.proofs.Parts.{free_within}
 use Rattle.rg_engine.proofs.Trails.{trail_cleared, trail_other, trail_written, unit_low, unit_open}
 use Rattle.rg_engine.proofs.Trails.{unit_trail}
 use Rattle.rg_engine.proofs.UnitSlots.{set_here, set_there}
@@ -71,7 +74,7 @@ cleared_bytes : (rs : List Record) (parts : List Part)
     → log_bytes rs ≤ log_bytes (records_cleared rs parts)
 cleared_bytes rs [] = omega arith
 cleared_bytes rs (x ∷ parts) =
-    omega (arith, bytes_more rs (purge_record (length rs + 1) (x ∷ parts)))
+    omega (arith, log_bytes_more rs (purge_record (length rs + 1) (x ∷ parts)))
 
 cleared_count : (rs : List Record) (parts : List Part) → AllThere (current_of rs).pages parts
     → (current_of (records_cleared rs parts)).pages ≡ (current_of rs).pages
@@ -243,7 +246,7 @@ module _ (limit : ℕ) (log now : Listed) (set_aside : ℕ) (units : List (Optio
   space = omega (arith, paid, room, ap log_bytes records)
 
   base_space : HasSpace log.pages base
-  base_space = omega (arith, space, bytes_more base e, owes.change base e is_of refl)
+  base_space = omega (arith, space, log_bytes_more base e, owes.change base e is_of refl)
 
   change_next : IsNext limit log.pages base e
   change_next = record {
@@ -308,14 +311,11 @@ module _ (limit : ℕ) (log now : Listed) (set_aside : ℕ) (units : List (Optio
         subst (λ (k : ℕ). log_bytes now.records + now.reserved ≤ limit_of k) (sym same_pages) room;
   }
     where
-      is_next : (u : OpenUnit) → Some next ≡ Some u → next ≡ u
-      is_next u f = cc (f)
-
       go : (m : ℕ) (u : OpenUnit) → unit_at (set units n (Some next)) m ≡ Some u
           → (m ≡ n) ⊎ (m ≡ n → ⊥) → IsTrail (base ++ e ∷ []) s_after u
       go m u has (inl f) =
           subst (IsTrail (base ++ e ∷ []) s_after)
-          (is_next u
+          (same_Some next u
           (sym (ap (unit_at (set units n (Some next))) f ∙ set_here units n (Some next) place)
           ∙ has))
           (trail_written base (step s (Purge plan.purge)) unit next w tran last refl mine)

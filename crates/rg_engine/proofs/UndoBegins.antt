@@ -14,8 +14,8 @@ use Rattle.rg_page.specs.declared.list.ListFrames.{ListFrames}
 use Rattle.rg_record.specs.declared.record.Record.{Record}
 use Rattle.rg_laws_log.specs.LogState.Act.{LogState, state}
 use Rattle.rg_laws_log.specs.LogState.Write.{Write, own_of}
-use Rattle.rg_space.specs.Indexed.{Indexed}
-use Rattle.rg_space.specs.Space.{Agree, InStep, capacity_in, frames_of, index_of, undos_in}
+use Rattle.rg_space.specs.Summarized.{Summarized}
+use Rattle.rg_space.specs.Space.{Agree, InStep, capacity_in, frames_of, summaries_of, undos_in}
 use Rattle.rg_undo.specs.Undoing.{is_change}
 use Rattle.rg_log.specs.Kept.{Listed}
 use Rattle.rg_engine.specs.Bytes.{taken_of}
@@ -66,12 +66,12 @@ pub undo_begins : (st : State) (allowed : ℕ) (d mid : Engine) (shows : Shows s
     → AreChain d.log.records unit.tran.0 unit.last.0
     (own_of unit.tran.0 (left_by shows.first d).writes) work
     → more ≡ length work → HasSpare more mid.indexes → SameEntries d.indexes mid.indexes
-    → frames_of mid.space ≡ frames_of d.space → index_of mid.space ≡ index_of d.space
+    → frames_of mid.space ≡ frames_of d.space → summaries_of mid.space ≡ summaries_of d.space
     → capacity_in mid.space ≡ capacity_in d.space → length work ≤ undos_in mid.space
     → mid.log ≡ d.log → mid.locks ≡ d.locks → mid.claims ≡ d.claims → mid.units ≡ d.units
     → mid.top ≡ d.top → mid.opened ≡ d.opened → mid.set_aside ≡ d.set_aside
     → IsUndoing d (left_by shows.first d) unit mid work unit.last.0 unit.last.0 0
-undo_begins st allowed d mid shows n unit work more has chain counts spare entries frames index
+undo_begins st allowed d mid shows n unit work more has chain counts spare entries frames summaries
     capacity rooms log locks claims units top opened set_aside =
     let one = shows.by.units.each n unit has in
     let trail = shows.trails.each n unit has in
@@ -94,16 +94,16 @@ undo_begins st allowed d mid shows n unit work more has chain counts spare entri
       capacity = capacity;
       pages = record {
         step =
-            subst (λ (k : ℕ). InStep (list_seen (frames_of mid.space)) (index_of mid.space) k)
+            subst (λ (k : ℕ). InStep (list_seen (frames_of mid.space)) (summaries_of mid.space) k)
             (sym capacity) (subst
-            (λ (x : Indexed). InStep (list_seen (frames_of mid.space)) x (capacity_in d.space))
-            (sym index)
+            (λ (x : Summarized). InStep (list_seen (frames_of mid.space)) x (capacity_in d.space))
+            (sym summaries)
             (subst
-            (λ (f : ListFrames). InStep (list_seen f) (index_of d.space) (capacity_in d.space))
+            (λ (f : ListFrames). InStep (list_seen f) (summaries_of d.space) (capacity_in d.space))
             (sym frames) shows.by.pages.step));
         agree =
-            subst (λ (x : Indexed). Agree (list_seen (frames_of mid.space)) x) (sym index)
-            (subst (λ (f : ListFrames). Agree (list_seen f) (index_of d.space)) (sym frames)
+            subst (λ (x : Summarized). Agree (list_seen (frames_of mid.space)) x) (sym summaries)
+            (subst (λ (f : ListFrames). Agree (list_seen f) (summaries_of d.space)) (sym frames)
             shows.by.pages.agree);
       };
       slots = ap (λ (f : ListFrames). slots_of (list_seen f).pages) frames ∙ shows.by.slots;

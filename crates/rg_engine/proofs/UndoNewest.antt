@@ -6,7 +6,7 @@ use Rattle.rg_record.specs.Applied.{parts_of}
 use Rattle.rg_record.specs.declared.record.Record.{Record}
 use Rattle.rg_redo.specs.Redo.{is_switch}
 use Rattle.rg_space.specs.Carries.{AllThere}
-use Rattle.rg_space.specs.Indexed.{Indexed}
+use Rattle.rg_space.specs.Summarized.{Summarized}
 use Rattle.rg_space.specs.Memory.{list_seen}
 use Rattle.rg_space.specs.Ready.{record_wrote}
 use Rattle.rg_space.specs.Space.{frames_of}
@@ -16,13 +16,14 @@ use Rattle.rg_laws_crash.proofs.NewestPagesLemmas.Near.{there_near}
 use Rattle.rg_engine.specs.Newest.{StayNewest}
 use Rattle.rg_engine.proofs.NewestKept.{record_stays}
 
-pub undo_stays : (rs : List Record) (a b : Space ListFrames) (index : Indexed) (position back : ℕ)
+pub undo_stays : (rs : List Record) (a b : Space ListFrames) (summaries : Summarized)
+    (position back : ℕ)
     (entry undo : Record)
-    → UndidChange position back (list_seen (frames_of a)) (list_seen (frames_of b)) index entry
+    → UndidChange position back (list_seen (frames_of a)) (list_seen (frames_of b)) summaries entry
     → undo ≡ undo_record position back (slots_of (list_seen (frames_of a)).pages) entry
     → position ≡ length rs + 1 → (list_seen (frames_of b)).copy ≡ (list_seen (frames_of a)).copy
     → StayNewest rs a (rs ++ undo ∷ []) b
-undo_stays rs a b index position back entry undo did is next copy =
+undo_stays rs a b summaries position back entry undo did is next copy =
     record_stays rs undo a b
     (there_near (length (list_seen (frames_of a)).pages) (parts_of undo.kind)
     (subst (λ (r : Record). AllThere (length (list_seen (frames_of a)).pages) (parts_of r.kind))

@@ -12,7 +12,7 @@ use Rattle.rg_home.specs.Rows.{ChangesHome, row_at}
 use Rattle.rg_home.specs.Slot.{Slot}
 use Rattle.rg_home.specs.Undo.{planned_undo, undone}
 use Rattle.rg_home.specs.Written.{Written}
-use Rattle.rg_home.proofs.Place.{same_place-refl}
+use Rattle.rg_base.proofs.SamePlace.{same_place-refl}
 use Rattle.rg_laws_crash.specs.LogChain.Next.{IsFirstBack, IsNext}
 use Rattle.rg_laws_crash.specs.LogChain.Tells.{Tells}
 use Rattle.rg_laws_crash.proofs.LogChainLemmas.Appended.{last_own, left_own}
@@ -38,7 +38,7 @@ use Rattle.rg_laws_log.specs.LogState.Write.{own_of}
 use Rattle.rg_laws_log.proofs.LogStateLemmas.Hits.{back_latest, latest_owner}
 use Rattle.rg_laws_log.proofs.LogStateLemmas.KeptUndo.{latest_undoable}
 use Rattle.rg_laws_log.proofs.LogStateLemmas.Own.{own_first, own_less}
-use Rattle.rg_laws_log.proofs.LogStateLemmas.Rolls.{undo_leaves}
+use Rattle.rg_laws_log.proofs.LogStateLemmas.Rolls.{undo_leaves, tail_is}
 use Rattle.rg_laws_log.proofs.LogStateLemmas.Runs.{runs_consistent}
 use Rattle.rg_space.specs.Space.{capacity_in}
 use Rattle.rg_undo.specs.Undoing.{later_of, undo_record, written_of}
@@ -94,9 +94,6 @@ next_undo now u t at (w ∷ ws) (r ∷ rs) own some chain = record {
   own_is = own;
   chain = chain.4;
 }
-
-tail_is : (v w : Write) (xs ws : List Write) → v ∷ xs ≡ w ∷ ws → xs ≡ ws
-tail_is v w xs ws e = cc (e)
 
 module _ (old : Engine) (s : LogState) (good : IsConsistent (capacity_in old.space) s)
     (trails : Trails old.log old.set_aside old.units s) (unit : OpenUnit) (now : Engine)

@@ -5,9 +5,11 @@
 -- 3. The records of Undos are of their unit. They leave the trail of each other unit.
 -- 4. The records tell the state that the Undos leave. So an undo may append the Undo of the latest
 --    Change that is left.
-use Rattle.std.proofs.Common.{◌≡◌, ◌≢◌, ℕ, List, [], ◌∷◌, ◌++◌, Some, length, refl, sym, ◌∙◌, ap}
+use Rattle.std.proofs.Common.{◌≡◌, ◌≢◌, ℕ, List, [], ◌∷◌, ◌++◌, length, refl, sym, ◌∙◌, ap}
 use Rattle.std.proofs.Common.{subst, arith}
 use Rattle.std.proofs.lemmas.List.{append-nil}
+use Rattle.std.proofs.lemmas.Option.{same_Some}
+use Rattle.rg_laws_utility.proofs.RecordChangesLemmas.Counting.{undos_front}
 use Rattle.rg_image.specs.Rules.{IsOfTran, IsOpen, last_position, of_tran}
 use Rattle.rg_record.specs.declared.record.Kind.{Kind}
 use Rattle.rg_record.specs.declared.record.Kind.TheVariants as kind
@@ -16,7 +18,7 @@ use Rattle.rg_laws_crash.specs.LogChain.Next.{AreNext, IsNext}
 use Rattle.rg_laws_crash.specs.LogChain.Tells.{Tells}
 use Rattle.rg_laws_crash.proofs.LogChainLemmas.Telling.{acts_first, push_append, records_tell}
 use Rattle.rg_laws_log.specs.LogState.Act.{Act, LogState, state}
-use Rattle.rg_laws_log.specs.LogState.Act.{Purge, Change, Undo, Commit, RollBack, Switch}
+use Rattle.rg_laws_log.specs.LogState.Act.{Purge, Change, Undo, Commit, Switch}
 use Rattle.rg_laws_log.specs.LogState.Closing.{AreUndos}
 use Rattle.rg_laws_log.specs.LogState.Consistent.{IsConsistent}
 use Rattle.rg_laws_log.specs.LogState.Lawful.{Runs}
@@ -34,9 +36,6 @@ use Rattle.rg_engine.proofs.Trails.{trail_other}
 
 -- ---- the Changes back from a position
 
-same_record : (a b : Record) → Some a ≡ Some b → a ≡ b
-same_record a b e = cc (e)
-
 pub chain_one : (records : List Record) (t last : ℕ) (ws : List Write) (xs ys : List Record)
     → AreChain records t last ws xs → AreChain records t last ws ys → xs ≡ ys
 chain_one records t last [] [] [] h g = refl
@@ -46,7 +45,7 @@ chain_one records t last (w ∷ ws) [] ys h g = absurd (cc (h.1))
 chain_one records t last (w ∷ ws) (x ∷ xs) [] h g = absurd (cc (g.1))
 chain_one records t last (w ∷ ws) (x ∷ xs) (y ∷ ys) h g =
     let same : change_record last t h.0 w ≡ change_record last t g.0 w =
-    same_record (change_record last t h.0 w) (change_record last t g.0 w) (sym h.3 ∙ g.3) in
+    same_Some (change_record last t h.0 w) (change_record last t g.0 w) (sym h.3 ∙ g.3) in
     let back : h.0 ≡ g.0 = ap (λ (r : Record). r.back.0) same in
     let rest : xs ≡ ys = chain_one records t h.0 ws xs ys h.4
     (subst (λ (b : ℕ). AreChain records t b ws ys) (sym back) g.4) in
@@ -71,16 +70,6 @@ next_more limit pages rs (x ∷ more) r are one = (
 abbrev pub AreOf : ℕ → List Record → Type 0
 AreOf t [] = Unit {0}
 AreOf t (r ∷ rs) = (r.tran.0 ≡ t) × AreOf t rs
-
-pub undos_front : (t : ℕ) (xs ys : List Act) → AreUndos t (xs ++ ys) → AreUndos t xs × AreUndos t ys
-undos_front t [] ys are = (tt, are)
-undos_front t (Undo u home after parts ∷ xs) ys are = let rest = undos_front t xs ys are.1 in
-    ((are.0, rest.0), rest.1)
-undos_front t (Purge parts ∷ xs) ys are = absurd are
-undos_front t (Change w ∷ xs) ys are = absurd are
-undos_front t (Commit u ∷ xs) ys are = absurd are
-undos_front t (RollBack u ∷ xs) ys are = absurd are
-undos_front t (Switch pages ∷ xs) ys are = absurd are
 
 undo_of : (t u : ℕ) (k : Kind) → AreUndos t (act_of_kind [] u k ∷ []) → u ≡ t
 undo_of t u (kind.Change home before after parts) are = absurd are

@@ -1,6 +1,7 @@
 -- What a write leaves of units.
 use Rattle.std.proofs.Common.{◌≡◌, ◌<◌, ◌≤◌, ◌+◌, ℕ, suc, false, List, [], ◌∷◌, ◌++◌, Option, Some}
 use Rattle.std.proofs.Common.{None, length, set, sym, ◌∙◌, ap, subst, ◌⊎◌, inl, inr, arith}
+use Rattle.std.proofs.lemmas.Option.{same_Some}
 use Rattle.rg_home.specs.Able.{IsLive}
 use Rattle.rg_record.specs.declared.record.Record.{Record}
 use Rattle.rg_laws_log.specs.LogState.Act.{LogState, is_in, step}
@@ -115,9 +116,6 @@ module _ (records base : List Record) (units : List (Option OpenUnit)) (s : LogS
         wrote = old.wrote;
       }
 
-  is_next : (u : OpenUnit) → Some next ≡ Some u → next ≡ u
-  is_next u e = cc (e)
-
   pub units_written : UnitsShown (base ++ entry ∷ []) after later
   units_written = record { each = each; apart = apart; all = all }
     where
@@ -127,7 +125,8 @@ module _ (records base : List Record) (units : List (Option OpenUnit)) (s : LogS
         where
           go : (m ≡ n) ⊎ (m ≡ n → ⊥) → UnitShown (base ++ entry ∷ []) after u
           go (inl e) = subst (UnitShown (base ++ entry ∷ []) after)
-              (is_next u (sym (ap (unit_at later) e ∙ set_here units n (Some next) place) ∙ has))
+              (same_Some next u
+              (sym (ap (unit_at later) e ∙ set_here units n (Some next) place) ∙ has))
               here
           go (inr a) = there m u a (sym (set_there units n m (Some next) a) ∙ has)
 
@@ -138,7 +137,8 @@ module _ (records base : List Record) (units : List (Option OpenUnit)) (s : LogS
           at : (q : ℕ) (u : OpenUnit) → q ≡ n → unit_at later q ≡ Some u → u.tran.0 ≡ unit.tran.0
           at q u f has = ap (λ (v : OpenUnit). v.tran.0)
               (sym
-              (is_next u (sym (ap (unit_at later) f ∙ set_here units n (Some next) place) ∙ has)))
+              (same_Some next u
+              (sym (ap (unit_at later) f ∙ set_here units n (Some next) place) ∙ has)))
               ∙ tran
 
           was : (q : ℕ) (u : OpenUnit) → (q ≡ n → ⊥) → unit_at later q ≡ Some u

@@ -1,5 +1,6 @@
 -- The Change record that stands at a position.
 use Rattle.std.proofs.Common.{◌≡◌, ℕ, List, Option, Some, sym, ◌∙◌, ap}
+use Rattle.std.proofs.lemmas.Option.{same_Some}
 use Rattle.rg_base.specs.declared.part.Part.{Part}
 use Rattle.rg_base.specs.declared.place.Place.{Place}
 use Rattle.rg_base.specs.declared.row.Row.{Row}
@@ -28,14 +29,11 @@ afters : (h g : Place) (b c : Option Row) (a d : Option Row) (p q : List Part)
     → Change h b a p ≡ Change g c d q → a ≡ d
 afters h g b c a d p q e = cc (e)
 
-is_one : (r s : Record) → Some r ≡ Some s → r ≡ s
-is_one r s e = cc (e)
-
 pub change_of : (at t back : ℕ) (w : Write) (entry : Record) (home : Place)
     (before after : Option Row) (parts : List Part) → Some entry ≡ Some (change_record at t back w)
     → entry.kind ≡ Change home before after parts → IsChangeOf back w entry home before after
 change_of at t back w entry home before after parts e k =
-    let same : entry ≡ change_record at t back w = is_one entry (change_record at t back w) e in
+    let same : entry ≡ change_record at t back w = same_Some entry (change_record at t back w) e in
     let kinds : Change home before after parts
     ≡ Change w.written.home w.written.before w.after w.written.parts =
     sym k ∙ ap (λ (r : Record). r.kind) same in

@@ -5,6 +5,7 @@ use Rattle.rg_base.specs.RowBytes.{row_size}
 use Rattle.rg_base.specs.declared.place.Place.{Place}
 use Rattle.rg_base.specs.declared.row.Row.{Row}
 use Rattle.rg_base.specs.declared.session.Session.{Session}
+use Rattle.rg_base.proofs.Small.{nat_itself}
 use Rattle.rg_home.specs.Pages.{slot_of}
 use Rattle.rg_home.specs.Plan.{is_home}
 use Rattle.rg_home.specs.Rows.{row_at}
@@ -21,7 +22,6 @@ use Rattle.rg_stmt.specs.declared.stmt.Reply.TheVariants.{Done, Full, LogFull, N
 use Rattle.rg_stmt.specs.declared.stmt.Stmt.{Stmt}
 use Rattle.rg_stmt.specs.declared.stmt.Stmt.TheVariants.{Insert, Update, Delete}
 use Rattle.rg_laws_log.specs.LogState.Write.{key_of, write_of}
-use Rattle.rg_laws_log.proofs.LogStateLemmas.Tables.{eqb-refl}
 use Rattle.rg_space.specs.Space.{capacity_in}
 use Rattle.rg_space.specs.declared.fault.SpaceFault.{SpaceFault}
 use Rattle.rg_space.specs.declared.fault.SpaceFault.TheVariants as faults
@@ -304,7 +304,7 @@ module _ (st : State) (allowed : ℕ) (d : Engine) (shows : Shows st allowed d) 
         left = tt;
         shows = shown;
         moves = wrote_moves (18 + row_size row) row.key (Some row) plan new plans refl
-            (alone_mid row.key alone) low w (Insert row) refl (eqb-refl row.key) (λ found. refl)
+            (alone_mid row.key alone) low w (Insert row) refl (nat_itself row.key) (λ found. refl)
             (λ table is_table found. ap (λ (r : Option Row). r ∷ found)
             (sym (put_before row plan absent alone small is)));
         capacity = wrote (Insert row) (18 + row_size row) row.key (Some row) plan new done shown w;
@@ -347,7 +347,7 @@ module _ (st : State) (allowed : ℕ) (d : Engine) (shows : Shows st allowed d) 
         left = tt;
         shows = shown;
         moves = wrote_moves (18 + row_size row) row.key (Some row) plan new plans refl
-            (alone_mid row.key alone) low w (Update row) refl (eqb-refl row.key) (λ found. refl)
+            (alone_mid row.key alone) low w (Update row) refl (nat_itself row.key) (λ found. refl)
             (λ table is_table found. ap (λ (r : Option Row). r ∷ found)
             (ap table key ∙ is_table.there home old (there_mid home old there)
             ∙ sym (change_before home old row plan there is_there alone key small is)));
@@ -392,7 +392,7 @@ module _ (st : State) (allowed : ℕ) (d : Engine) (shows : Shows st allowed d) 
         left = tt;
         shows = shown;
         moves = wrote_moves 0 key None plan new plans.1 same_key (alone_mid key alone) low w
-            (Delete key) refl (eqb-refl key) (λ found. refl)
+            (Delete key) refl (nat_itself key) (λ found. refl)
             (λ table is_table found. ap (λ (r : Option Row). r ∷ found)
             (ap table (sym of_key) ∙ is_table.there home old (there_mid home old there)
             ∙ sym plans.0));

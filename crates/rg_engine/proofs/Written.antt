@@ -41,7 +41,7 @@ use Rattle.rg_image.specs.Pack.{log_bytes}
 use Rattle.rg_image.specs.Rules.{limit_of}
 use Rattle.rg_laws_log.specs.PageBounds.Within.{IsWithin}
 use Rattle.rg_space.specs.Carries.{Carries, PlanNext, cleared}
-use Rattle.rg_space.specs.Space.{Agree, InStep, capacity_in, frames_of, index_of}
+use Rattle.rg_space.specs.Space.{Agree, InStep, capacity_in, frames_of, summaries_of}
 use Rattle.rg_engine.specs.Engine.{HasPages, slots_in}
 use Rattle.rg_space.specs.Memory.{list_seen}
 use Rattle.rg_engine.specs.Shows.{KeyShown, Shows, ShowsBy, UnitsShown, left_by}
@@ -173,9 +173,10 @@ module _ (st : State) (allowed more : ℕ) (old new : Engine) (session : Session
 
   middle_pages : HasPages wrote.middle
   middle_pages = record {
-    step = subst (λ sp. InStep (list_seen (frames_of sp)) (index_of sp) (capacity_in sp))
+    step = subst (λ sp. InStep (list_seen (frames_of sp)) (summaries_of sp) (capacity_in sp))
         (sym wrote.prepared.space) shows.by.pages.step;
-    agree = subst (λ sp. Agree (list_seen (frames_of sp)) (index_of sp)) (sym wrote.prepared.space)
+    agree =
+        subst (λ sp. Agree (list_seen (frames_of sp)) (summaries_of sp)) (sym wrote.prepared.space)
         shows.by.pages.agree;
   }
 

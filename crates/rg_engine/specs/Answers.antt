@@ -38,7 +38,8 @@ use Rattle.rg_engine.specs.Bytes.{most_needed, taken_of}
 use Rattle.rg_engine.specs.Steps.{IfDevice, IfUp, is_commit, more_allowed, more_logged}
 use Rattle.rg_engine.specs.Stored.{Grows}
 use Rattle.rg_engine.specs.Units.{unit_at}
-use Rattle.rg_engine.specs.Volume.{CallsLog, Leaves, VolumeSeen}
+use Rattle.rg_engine.specs.Volume.{CallsLog, Leaves}
+use Rattle.rg_outside.specs.Volume.{VolumeSeen}
 use Rattle.rg_engine.specs.declared.engine.Engine.{Engine}
 use Rattle.rg_engine.specs.declared.units.OpenUnit.{OpenUnit}
 

@@ -3,7 +3,7 @@ use Rattle.std.specs.Prelude.{List}
 use Rattle.rg_home.specs.Slot.{Slot}
 use Rattle.rg_page.specs.Content.{slots_of}
 use Rattle.rg_page.specs.Seen.{Seen}
-use Rattle.rg_space.specs.Space.{Agree, InStep, capacity_in, frames_of, index_of}
+use Rattle.rg_space.specs.Space.{Agree, InStep, capacity_in, frames_of, summaries_of}
 use Rattle.rg_space.specs.Memory.{list_seen}
 use Rattle.rg_engine.specs.Room.{Ground}
 use Rattle.rg_engine.specs.declared.engine.Engine.{Engine}
@@ -18,8 +18,8 @@ slots_in d = slots_of (seen_in d).pages
 
 -- summaries and pages are in step, and agree
 pub record HasPages (d : Engine) : Type 0 where
-  pub step : InStep (seen_in d) (index_of d.space) (capacity_in d.space)
-  pub agree : Agree (seen_in d) (index_of d.space)
+  pub step : InStep (seen_in d) (summaries_of d.space) (capacity_in d.space)
+  pub agree : Agree (seen_in d) (summaries_of d.space)
 
 -- what its writes are planned over
 abbrev pub ground_of : Engine → Ground

@@ -8,6 +8,7 @@
 -- 5. What a crash leaves at each moment of it is sound. Of the log it leaves a part that has all
 --    that was forced before.
 use Rattle.std.specs.Prelude.{◌≡◌, ◌≤◌, ◌⊎◌, ℕ, Bool, true, false, List, ◌∷◌, Option, Some, length}
+use Rattle.rg_base.specs.Copies.{set_of}
 use Rattle.rg_base.specs.declared.position.Position.{Position}
 use Rattle.rg_base.specs.declared.set.Set.{Set}
 use Rattle.rg_base.specs.declared.set.Set.TheVariants.{Log}
@@ -27,11 +28,11 @@ use Rattle.rg_stmt.specs.declared.event.Event.{Event}
 use Rattle.rg_stmt.specs.declared.event.Event.TheVariants.{Clean, Flush, FlushDevice, FlushDown}
 use Rattle.rg_stmt.specs.declared.event.Event.TheVariants.{FlushNoMemory}
 use Rattle.rg_laws_crash.specs.PageVersions.Versions.{Spells}
-use Rattle.rg_laws_crash.specs.NewestPages.Tidy.{set_of}
 use Rattle.rg_engine.specs.Engine.{seen_in}
 use Rattle.rg_engine.specs.OnVolume.{AreClean, IsLeastDirty, IsOnVolume, SoundThroughout, mark_at}
 use Rattle.rg_engine.specs.Shows.{Shows}
-use Rattle.rg_engine.specs.Volume.{CallsLog, Leaves, LeavesIfTidy, VolumeSeen}
+use Rattle.rg_engine.specs.Volume.{CallsLog, Leaves, LeavesIfTidy}
+use Rattle.rg_outside.specs.Volume.{VolumeSeen}
 use Rattle.rg_engine.specs.declared.engine.Engine.{Engine}
 
 -- a call that writes no page but of the log's set or of this one

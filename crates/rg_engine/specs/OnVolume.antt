@@ -37,12 +37,13 @@ use Rattle.rg_laws_crash.specs.SoundVolume.Reopens.{AreTidyOwners}
 use Rattle.rg_laws_crash.specs.SoundVolume.Sound.{IsSound}
 use Rattle.rg_laws_crash.specs.PageVersions.Versions.{Epoch, IsBegun, Spells, version}
 use Rattle.rg_laws_crash.specs.SwitchRecord.Switched.{AreOldPages}
-use Rattle.rg_base.specs.Copies.{other_of}
+use Rattle.rg_base.specs.Copies.{other_of, set_of}
 use Rattle.rg_laws_crash.specs.NewestPages.Steady.{IsSteady}
-use Rattle.rg_laws_crash.specs.NewestPages.Tidy.{AreTidyPages, set_of, switched_pages}
+use Rattle.rg_laws_crash.specs.NewestPages.Tidy.{AreTidyPages, switched_pages}
 use Rattle.rg_engine.specs.Newest.{HasNewest}
 use Rattle.rg_engine.specs.Reopens.{IsCleanIn, PartsReopen}
-use Rattle.rg_engine.specs.Volume.{VolumeSeen, WasTidy}
+use Rattle.rg_engine.specs.Volume.{WasTidy}
+use Rattle.rg_outside.specs.Volume.{VolumeSeen}
 use Rattle.rg_engine.specs.declared.engine.Engine.{Engine}
 
 -- no dead area of the pages of an image has a number that its log has not

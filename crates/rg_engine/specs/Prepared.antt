@@ -29,7 +29,7 @@ use Rattle.rg_engine.specs.CopyPages.Written.{LeavesCopy, ReadsCopy}
 use Rattle.rg_engine.specs.Flushed.{ForcesLog}
 use Rattle.rg_engine.specs.declared.engine.Engine.{Engine}
 use Rattle.rg_engine.specs.OnVolume.{WasAllTidy, mark_at}
-use Rattle.rg_engine.specs.Volume.{VolumeSeen}
+use Rattle.rg_outside.specs.Volume.{VolumeSeen}
 use Rattle.rg_engine.specs.declared.prepared.Prepared.{Prepared}
 use Rattle.rg_feed.specs.declared.fold.item.Stage.{Stage}
 use Rattle.rg_engine.specs.Answers.{forces}

@@ -20,7 +20,8 @@ use Rattle.rg_space.specs.Space.{capacity_in, frames_of}
 use Rattle.rg_laws_crash.specs.SwitchRecord.Switched.{switch_to}
 use Rattle.rg_engine.specs.Bytes.{taken_of}
 use Rattle.rg_engine.specs.Engine.{HasPages, seen_in}
-use Rattle.rg_engine.specs.Volume.{CallsLog, Leaves, VolumeSeen}
+use Rattle.rg_engine.specs.Volume.{CallsLog, Leaves}
+use Rattle.rg_outside.specs.Volume.{VolumeSeen}
 use Rattle.rg_engine.specs.declared.engine.Engine.{Engine}
 
 -- the record of a switch to this copy, of so many pages, was appended, and the log was forced

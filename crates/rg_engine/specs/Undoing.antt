@@ -2,7 +2,7 @@
 --
 -- 1. Its Changes are found from its last record back, and copied. They are undone in that order,
 --    the latest first.
-use Rattle.std.specs.Prelude.{◌≡◌, ◌≤◌, ◌+◌, ℕ, Bool, true, false, List, [], ◌∷◌, ◌++◌, Option}
+use Rattle.std.specs.Prelude.{◌≡◌, ◌≤◌, ◌+◌, ℕ, List, [], ◌∷◌, ◌++◌, Option}
 use Rattle.std.specs.Prelude.{Some, None, if◌then◌else◌, length}
 use Rattle.rg_base.specs.declared.place.Place.{Place}
 use Rattle.rg_base.specs.declared.row.Row.{Row}
@@ -10,11 +10,9 @@ use Rattle.rg_home.specs.Undo.{undone}
 use Rattle.rg_index.specs.Listed.{SetsRow}
 use Rattle.rg_btree.specs.Indexes.Listings.{AreListedAt, AreListings, HasSpare}
 use Rattle.rg_laws_log.specs.LogState.Write.{Write}
-use Rattle.rg_record.specs.declared.record.Kind.{Kind}
-use Rattle.rg_record.specs.declared.record.Kind.TheVariants.{Change, Undo, Commit, RolledBack}
-use Rattle.rg_record.specs.declared.record.Kind.TheVariants.{Purge, Switch}
+use Rattle.rg_record.specs.declared.record.Kind.TheVariants.{Change}
 use Rattle.rg_record.specs.declared.record.Record.{Record}
-use Rattle.rg_space.specs.Space.{capacity_in, index_of, undos_in}
+use Rattle.rg_space.specs.Space.{capacity_in, summaries_of, undos_in}
 use Rattle.rg_undo.specs.Undoing.{CanUndoChange, is_change, undo_record, written_of}
 use Rattle.rg_engine.specs.Bytes.{taken_of}
 use Rattle.rg_engine.specs.Engine.{HasPages, seen_in, slots_in}
@@ -69,14 +67,6 @@ pub record Unlists (old : Engine) (at next : ℕ) (new : Engine) : Type 0 where
       (t back : ℕ) (w : Write)
       → record_at old.log.records at ≡ Some (change_record at t back w) → next ≡ back
 
-abbrev pub is_undo : Kind → Bool
-is_undo (Change home before after parts) = false
-is_undo (Undo next home after parts) = true
-is_undo Commit = false
-is_undo RolledBack = false
-is_undo (Purge parts) = false
-is_undo (Switch copy pages) = false
-
 -- a record, where it is a Change
 abbrev pub change_in : Record → Option Record
 change_in entry = if is_change entry.kind then Some entry else None
@@ -97,7 +87,7 @@ pub record CanUndoNext (d : Engine) (work : List Record) (at : ℕ) : Type 0 whe
   pub later : List Record
   pub work_is : work ≡ change_record at unlist.t unlist.back unlist.write ∷ later
   pub able :
-      CanUndoChange (seen_in d) (index_of d.space)
+      CanUndoChange (seen_in d) (summaries_of d.space)
       (change_record at unlist.t unlist.back unlist.write)
   pub pages : HasPages d
   pub undos : length work ≤ undos_in d.space

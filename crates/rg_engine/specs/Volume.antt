@@ -8,28 +8,15 @@
 --    copy's set is a version that the forced records cover, or a page that is left over.
 -- 5. A mark says which version a page reads as: the one that it was read as or written as last. A
 --    page without a mark was neither.
-use Rattle.std.specs.Prelude.{◌≡◌, ◌≤◌, ◌+◌, ℕ, Option, length}
+use Rattle.std.specs.Prelude.{◌≡◌, ◌≤◌, ◌+◌, ℕ, length}
 use Rattle.rg_base.specs.declared.set.Set.TheVariants.{Log}
 use Rattle.rg_outside.specs.Calls.{Told}
-use Rattle.rg_outside.specs.Capacities.{Capacities}
 use Rattle.rg_outside.specs.Made.{WritesIn}
 use Rattle.rg_outside.specs.Moments.{EachCall, EachImage, IfTold, read_at}
+use Rattle.rg_outside.specs.Volume.{VolumeSeen}
 use Rattle.rg_image.specs.Log.{SpellsFrom}
 use Rattle.rg_image.specs.Rules.{IsTidyLog}
 use Rattle.rg_log.specs.Kept.{LeavesLog, Listed}
-
--- what a volume reports of its contents and calls, how often a call has failed, and how many pages
--- each set has
-pub record VolumeSeen : Type 0 where
-  pub told : Option Told
-  pub faults : ℕ
-  pub capacities : Capacities
-
--- the same, by the three members of its trait
-abbrev pub seen_volume :
-    {V : Type 0} → (V → Option Told) → (V → ℕ) → (V → Capacities) → V → VolumeSeen
-seen_volume told faults capacities v =
-    record { told = told v; faults = faults v; capacities = capacities v }
 
 -- calls that write no page of a copy
 pub record CallsLog (old new : VolumeSeen) : Type 0 where

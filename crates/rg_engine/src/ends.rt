@@ -12,7 +12,6 @@ ghost use Rattle.rg_engine.specs.Answers.{Asks, forces};
 ghost use Rattle.rg_engine.specs.Ended.{EndsSession, LogsCommit, LogsRolledBack};
 ghost use Rattle.rg_engine.specs.Shows.{IsShown};
 ghost use Rattle.rg_engine.specs.Steps.{Steps};
-ghost use Rattle.rg_engine.specs.Volume.{seen_volume};
 
 use crate::bytes::{END_BYTES, UNDO_BYTES};
 use crate::engine::Engine;
@@ -58,12 +57,11 @@ impl Engine {
     pub fn commit<V: Volume>(&mut self, volume: &mut V, session: Session) -> Reply
         requires session { IsSession session }
         requires shown { IsShown self.old }
-        requires pages { self.old.log.pages ≡ log_pages (V.capacities volume.old) }
+        requires pages { self.old.log.pages ≡ log_pages (V.seen volume.old).capacities }
         ensures steps { Steps self.old session Stmt.Commit result self.new }
         ensures asks { Asks (forces self.old.units session Stmt.Commit) result
             self.old.log self.new.log
-            (seen_volume V.told V.faults V.capacities volume.old)
-            (seen_volume V.told V.faults V.capacities volume.new) }
+            (V.seen volume.old) (V.seen volume.new) }
     {
         if self.units.get(session).is_none() {
             self.end(session);

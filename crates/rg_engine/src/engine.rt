@@ -15,7 +15,7 @@ ghost use Rattle.rg_record.specs.Spelled.{IsRecord};
 ghost use Rattle.rg_redo.specs.Redo.{is_switch};
 ghost use Rattle.rg_space.specs.Ready.{CanApply, CanApplyRecord, IsAtHand, AllReady};
 ghost use Rattle.rg_space.specs.Ready.{record_applied};
-ghost use Rattle.rg_space.specs.Space.{Agree, InStep, capacity_in, frames_of, index_of};
+ghost use Rattle.rg_space.specs.Space.{Agree, InStep, capacity_in, frames_of, summaries_of};
 ghost use Rattle.rg_page.specs.Content.{slots_of};
 ghost use Rattle.rg_model.specs.Held.{holder};
 ghost use Rattle.rg_model.specs.State.{Table, at_rest};
@@ -72,15 +72,15 @@ pub struct Engine {
 
 // Applies a record to the pages, and appends it. It takes no memory.
 fn make(space: &mut Space<ListFrames>, log: &mut Log, entry: Record)
-    requires step { InStep (list_seen (frames_of space.old)) (index_of space.old)
+    requires step { InStep (list_seen (frames_of space.old)) (summaries_of space.old)
         (capacity_in space.old) }
     requires spelled { IsRecord entry }
     requires next { entry.position.0 ≡ length log.old.records + 1 }
     requires room { kind_bytes entry.kind ≤ log.old.reserved }
-    ensures step { InStep (list_seen (frames_of space.new)) (index_of space.new)
+    ensures step { InStep (list_seen (frames_of space.new)) (summaries_of space.new)
         (capacity_in space.new) }
-    ensures agree { Agree (list_seen (frames_of space.old)) (index_of space.old)
-        → Agree (list_seen (frames_of space.new)) (index_of space.new) }
+    ensures agree { Agree (list_seen (frames_of space.old)) (summaries_of space.old)
+        → Agree (list_seen (frames_of space.new)) (summaries_of space.new) }
     ensures capacity { capacity_in space.new ≡ capacity_in space.old }
     ensures slots { CanApplyRecord (list_seen (frames_of space.old)) (capacity_in space.old) entry
         → slots_of (list_seen (frames_of space.new)).pages
@@ -104,14 +104,14 @@ fn make(space: &mut Space<ListFrames>, log: &mut Log, entry: Record)
 
 // Makes the Purge record of these parts, if there are any.
 fn clear(space: &mut Space<ListFrames>, log: &mut Log, purge: Parts)
-    requires step { InStep (list_seen (frames_of space.old)) (index_of space.old)
+    requires step { InStep (list_seen (frames_of space.old)) (summaries_of space.old)
         (capacity_in space.old) }
     requires purge { IsPurge purge }
     requires room { purge_bytes purge ≤ log.old.reserved }
-    ensures step { InStep (list_seen (frames_of space.new)) (index_of space.new)
+    ensures step { InStep (list_seen (frames_of space.new)) (summaries_of space.new)
         (capacity_in space.new) }
-    ensures agree { Agree (list_seen (frames_of space.old)) (index_of space.old)
-        → Agree (list_seen (frames_of space.new)) (index_of space.new) }
+    ensures agree { Agree (list_seen (frames_of space.old)) (summaries_of space.old)
+        → Agree (list_seen (frames_of space.new)) (summaries_of space.new) }
     ensures capacity { capacity_in space.new ≡ capacity_in space.old }
     ensures slots { CanApply (list_seen (frames_of space.old)) (capacity_in space.old) 0 None purge
         → slots_of (list_seen (frames_of space.new)).pages
@@ -158,8 +158,9 @@ impl Engine {
         top: u32,
     ) -> Result<Engine, NoMemory>
         requires begins { CanBegin (capacity_in space) (space_pages space) log top }
-        requires step { InStep (list_seen (frames_of space)) (index_of space) (capacity_in space) }
-        requires agree { Agree (list_seen (frames_of space)) (index_of space) }
+        requires step { InStep (list_seen (frames_of space)) (summaries_of space)
+            (capacity_in space) }
+        requires agree { Agree (list_seen (frames_of space)) (summaries_of space) }
         requires listings { AreListings (row_at (slot_of (space_pages space))) indexes }
         ensures shows { IfOk result (λ d. (start : Table) (copy : ℕ) → IsStored log.records start
             → Shows (at_rest start copy) (4064 * length (space_pages space)) d) }

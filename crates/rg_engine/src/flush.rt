@@ -9,30 +9,23 @@ ghost use Rattle.std.specs.Prelude.{◌≡◌, ◌≤◌, ℕ, OnErr, OnOk, leng
 ghost use Rattle.rg_log.specs.Kept.{log_pages};
 ghost use Rattle.rg_outside.specs.Faults.{Rose};
 ghost use Rattle.rg_page.specs.Content.{Content, content_at};
-ghost use Rattle.rg_laws_crash.specs.NewestPages.Tidy.{set_of};
 ghost use Rattle.rg_laws_crash.specs.PageVersions.Versions.{Spells};
 ghost use Rattle.rg_engine.specs.Engine.{HasPages, seen_in};
 ghost use Rattle.rg_engine.specs.Flushed.{Flushes, ForcesLog};
 ghost use Rattle.rg_engine.specs.OnVolume.{IsLeastDirty, IsNextDirty, IsOnVolume, is_clean};
 ghost use Rattle.rg_engine.specs.OnVolume.{mark_at};
-ghost use Rattle.rg_engine.specs.Volume.{HasCalls, seen_volume};
+ghost use Rattle.rg_engine.specs.Volume.{HasCalls};
 ghost use Rattle.rg_engine.specs.Wrote.{SameEngine};
 
 use crate::engine::Engine;
+use rg_base::copy::TableCopy;
 use rg_base::no_memory::NoMemory;
+use rg_base::note::note;
 use rg_base::position::Position;
-use rg_base::set::Set;
 use rg_log::fault::Device;
 use rg_outside::volume::Volume;
 use rg_record::buffer::PAGE_SIZE;
 use rg_stmt::event::Event;
-
-/// The set that a copy has its pages in.
-pub fn set_of(copy: u8) -> Set
-    ensures { result ≡ set_of copy }
-{
-    if copy == 1 { Set::First } else { Set::Second }
-}
 
 // The mark of a page, if it has one.
 fn mark_of(marks: &[Option<Position>], number: u32) -> Option<Position>
@@ -132,18 +125,17 @@ impl Engine {
     /// Forces the log, where it is not forced up to this position.
     pub fn force_to<V: Volume>(&mut self, volume: &mut V, position: Position) -> Result<(), Device>
         requires high { position.0 ≤ length self.old.log.records }
-        requires pages { self.old.log.pages ≡ log_pages (V.capacities volume.old) }
-        ensures forces { ForcesLog (seen_volume V.told V.faults V.capacities volume.old)
-            (seen_volume V.told V.faults V.capacities volume.new) self.old self.new }
+        requires pages { self.old.log.pages ≡ log_pages (V.seen volume.old).capacities }
+        ensures forces { ForcesLog (V.seen volume.old) (V.seen volume.new) self.old self.new }
         ensures ok { OnOk result (position.0 ≤ self.new.log.forced) }
-        ensures cause { OnErr result (Rose (V.faults volume.old) (V.faults volume.new)) }
+        ensures cause { OnErr result (Rose (V.seen volume.old).faults (V.seen volume.new).faults) }
     {
         if position.0 <= self.log.forced().0 {
             return Ok(());
         }
         let forced = self.log.force(volume);
         // That no more is forced than there is: a caller needs it where the call failed, too.
-        let _ = self.log.forced();
+        note(&self.log.forced());
         forced
     }
 
@@ -153,19 +145,18 @@ impl Engine {
         &mut self,
         marks: &mut Vec<Option<Position>>,
         volume: &mut V,
-        copy: u8,
+        copy: TableCopy,
         number: u32,
     ) -> Event
         requires pages { HasPages self.old }
-        requires set { self.old.log.pages ≡ log_pages (V.capacities volume.old) }
-        requires counted { HasCalls (seen_volume V.told V.faults V.capacities volume.old) 0 }
+        requires set { self.old.log.pages ≡ log_pages (V.seen volume.old).capacities }
+        requires counted { HasCalls (V.seen volume.old) 0 }
         requires is_on { IsOnVolume copy self.old.log self.old.space marks.old.items
-            (seen_volume V.told V.faults V.capacities volume.old) }
+            (V.seen volume.old) }
         requires dirty { IsLeastDirty (seen_in self.old).pages marks.old.items number }
         requires room { number ≤ length marks.old.items }
         ensures { Flushes copy marks.old.items marks.new.items
-            (seen_volume V.told V.faults V.capacities volume.old)
-            (seen_volume V.told V.faults V.capacities volume.new) self.old result self.new }
+            (V.seen volume.old) (V.seen volume.new) self.old result self.new }
     {
         let mut bytes = [0; PAGE_SIZE];
         let position = self.spell(number, &mut bytes);
@@ -174,7 +165,7 @@ impl Engine {
             Err(_) => return Event::FlushDevice,
         }
         set_mark(marks, number, None);
-        match volume.write(set_of(copy), number, &bytes) {
+        match volume.write(copy.set(), number, &bytes) {
             Ok(()) => {}
             Err(_) => return Event::FlushDevice,
         }
@@ -187,20 +178,19 @@ impl Engine {
         &mut self,
         marks: &mut Vec<Option<Position>>,
         volume: &mut V,
-        copy: u8,
+        copy: TableCopy,
     ) -> Event
         requires pages { HasPages self.old }
-        requires set { self.old.log.pages ≡ log_pages (V.capacities volume.old) }
-        requires counted { HasCalls (seen_volume V.told V.faults V.capacities volume.old) 0 }
+        requires set { self.old.log.pages ≡ log_pages (V.seen volume.old).capacities }
+        requires counted { HasCalls (V.seen volume.old) 0 }
         requires is_on { IsOnVolume copy self.old.log self.old.space marks.old.items
-            (seen_volume V.told V.faults V.capacities volume.old) }
+            (V.seen volume.old) }
         ensures { Flushes copy marks.old.items marks.new.items
-            (seen_volume V.told V.faults V.capacities volume.old)
-            (seen_volume V.told V.faults V.capacities volume.new) self.old result self.new }
+            (V.seen volume.old) (V.seen volume.new) self.old result self.new }
     {
         let Some(number) = self.next_dirty(marks.as_slice()) else {
             // That no more is forced than there is: what is clean reads as all records make it.
-            let _ = self.log.forced();
+            note(&self.log.forced());
             return Event::Clean;
         };
         match make_room(marks, number) {

@@ -6,10 +6,11 @@ ghost use Rattle.std.specs.Prelude.{◌≡◌, ◌≤◌, [], IfOk, length};
 ghost use Rattle.rg_home.specs.Pages.{slot_of};
 ghost use Rattle.rg_home.specs.Rows.{row_at};
 ghost use Rattle.rg_btree.specs.Indexes.Listings.{AreListings};
-ghost use Rattle.rg_space.specs.Space.{Agree, InStep, capacity_in, frames_of, index_of};
+ghost use Rattle.rg_space.specs.Space.{Agree, InStep, capacity_in, frames_of, summaries_of};
 ghost use Rattle.rg_engine.specs.Begins.{CanBegin};
 ghost use Rattle.rg_space.specs.Memory.{list_seen, space_pages};
 
+use rg_base::copy::TableCopy;
 use rg_base::no_memory::NoMemory;
 use rg_base::position::Position;
 use rg_btree::indexes::indexes::Indexes;
@@ -25,15 +26,15 @@ use std::alloc::Global;
 pub struct Found {
     pub log: Log,
     pub space: Space<ListFrames>,
-    pub copy: u8,
+    pub copy: TableCopy,
     pub indexes: Indexes,
     pub top: u32,
     pub marks: Vec<Option<Position>>,
 }
 
 impl Found {
-    /// What the opening of a log without records finds: copy 1 without pages, which may have
-    /// `capacity` of them.
+    /// What the opening of a log without records finds: the first copy without pages, which may
+    /// have `capacity` of them.
     pub fn empty(alloc: Global, capacity: u32, log: Log) -> Result<Found, NoMemory>
         requires empty { log.records ≡ [] }
         requires idle { log.reserved ≡ 0 }
@@ -41,9 +42,9 @@ impl Found {
         ensures begins { IfOk result (λ f.
             CanBegin (capacity_in f.space) (space_pages f.space) f.log f.top) }
         ensures step { IfOk result (λ f. InStep (list_seen (frames_of f.space))
-            (index_of f.space) (capacity_in f.space)) }
+            (summaries_of f.space) (capacity_in f.space)) }
         ensures agree { IfOk result (λ f. Agree (list_seen (frames_of f.space))
-            (index_of f.space)) }
+            (summaries_of f.space)) }
         ensures listings { IfOk result (λ f.
             AreListings (row_at (slot_of (space_pages f.space))) f.indexes) }
         ensures capacity { IfOk result (λ f. capacity_in f.space ≡ capacity) }
@@ -52,13 +53,14 @@ impl Found {
         ensures log { IfOk result (λ f. f.log ≡ log) }
         ensures marks { IfOk result (λ f. f.marks.items ≡ []) }
     {
-        let Ok(space) = Space::new(alloc, ListFrames::new(alloc, 1), capacity) else {
+        let Ok(space) = Space::new(alloc, ListFrames::new(alloc, TableCopy::first()), capacity)
+        else {
             return Err(NoMemory);
         };
         Ok(Found {
             log,
             space,
-            copy: 1,
+            copy: TableCopy::first(),
             indexes: Indexes::new(alloc)?,
             top: 0,
             marks: Vec::new(alloc),

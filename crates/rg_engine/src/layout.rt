@@ -14,6 +14,7 @@ ghost use Rattle.rg_stmt.specs.declared.event.Actor.TheVariants as actors;
 ghost use Rattle.rg_engine.specs.Layouts.{IsLayout};
 
 use crate::engine::Engine;
+use rg_base::copy::TableCopy;
 use rg_base::no_memory::NoMemory;
 use rg_layout::side::side;
 use rg_stmt::event::Event;
@@ -41,7 +42,7 @@ impl Engine {
     pub fn make_spare(&self) {}
 
     /// The event of a layout.
-    pub fn layout(&mut self, copy: u8) -> Event
+    pub fn layout(&mut self, copy: TableCopy) -> Event
         requires pages { HasPages self.old }
         ensures same { SameEngine self.old self.new }
         ensures is { IsLayout copy result }

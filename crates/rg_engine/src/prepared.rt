@@ -3,10 +3,10 @@
 // 1. It is kept with the mark of each of its pages, which reads as it was written.
 // 2. It has the rows of the table as long as the log has no more records than then.
 ghost use Rattle.std.specs.Prelude.{◌≡◌, ◌≤◌, IfOk, IfSome, None, Err, OnErr, OnOk, Some, length};
+ghost use Rattle.rg_base.specs.Copies.{set_of};
 ghost use Rattle.rg_claim.specs.Drains.{GrantIsKept};
 ghost use Rattle.rg_shadow.specs.Planned.{AreNumbered, AreOfCopy};
 ghost use Rattle.rg_log.specs.Kept.{log_pages};
-ghost use Rattle.rg_laws_crash.specs.NewestPages.Tidy.{set_of};
 ghost use Rattle.rg_outside.specs.Capacities.{capacity_of};
 ghost use Rattle.rg_outside.specs.Faults.{Rose};
 ghost use Rattle.rg_engine.specs.CopyPages.Stamped.{stamped_all};
@@ -14,11 +14,12 @@ ghost use Rattle.rg_engine.specs.Prepared.{shade_kept};
 ghost use Rattle.rg_engine.specs.Flushed.{FitsSet};
 ghost use Rattle.rg_engine.specs.Prepared.{AreMarksAt, IsBuilt, IsSideOfKept, IsWritten};
 ghost use Rattle.rg_engine.specs.Prepared.{WritesShadow, WroteShadow, prepared_seen};
-ghost use Rattle.rg_engine.specs.Volume.{seen_volume};
 
 use crate::copy_pages::write::write_copy;
 use crate::engine::Engine;
+use rg_base::copy::TableCopy;
 use rg_base::no_memory::NoMemory;
+use rg_base::note::note;
 use rg_base::position::Position;
 use rg_log::fault::Device;
 use rg_outside::volume::Volume;
@@ -100,23 +101,22 @@ pub fn marks_at(alloc: Global, count: u32, at: Position) -> Result<Vec<Option<Po
 pub fn write_shadow<V: Volume>(
     engine: &mut Engine,
     volume: &mut V,
-    copy: u8,
+    copy: TableCopy,
     shadow: &mut Shadow,
 ) -> Result<(), Device>
     requires copy { shadow.old.copy ≡ copy }
-    requires room { length shadow.old.pages ≤ capacity_of (V.capacities volume.old) (set_of copy) }
-    requires set { engine.old.log.pages ≡ log_pages (V.capacities volume.old) }
+    requires room { length shadow.old.pages
+        ≤ capacity_of (V.seen volume.old).capacities (set_of copy) }
+    requires set { engine.old.log.pages ≡ log_pages (V.seen volume.old).capacities }
     ensures stamped { OnOk result (shadow.new ≡ record shadow.old
         { pages = stamped_all (length engine.old.log.records) shadow.old.pages }) }
     ensures ok { OnOk result (WroteShadow copy
         (stamped_all (length engine.old.log.records) shadow.old.pages)
-        (seen_volume V.told V.faults V.capacities volume.old)
-        (seen_volume V.told V.faults V.capacities volume.new) engine.old engine.new) }
+        (V.seen volume.old) (V.seen volume.new) engine.old engine.new) }
     ensures err { OnErr result (WritesShadow copy
         (stamped_all (length engine.old.log.records) shadow.old.pages)
-        (seen_volume V.told V.faults V.capacities volume.old)
-        (seen_volume V.told V.faults V.capacities volume.new) engine.old engine.new) }
-    ensures cause { OnErr result (Rose (V.faults volume.old) (V.faults volume.new)) }
+        (V.seen volume.old) (V.seen volume.new) engine.old engine.new) }
+    ensures cause { OnErr result (Rose (V.seen volume.old).faults (V.seen volume.new).faults) }
 {
     let at = Position(engine.log.records().len() as u64);
     engine.force_to(volume, at)?;
@@ -132,31 +132,29 @@ pub fn prepare<V: Volume>(
     alloc: Global,
     engine: &mut Engine,
     volume: &mut V,
-    copy: u8,
+    copy: TableCopy,
     shadow: Shadow,
 ) -> Result<Prepared, PrepareCause>
     requires copy { shadow.copy ≡ copy }
-    requires room { shadow.capacity ≤ capacity_of (V.capacities volume.old) (set_of copy) }
-    requires set { engine.old.log.pages ≡ log_pages (V.capacities volume.old) }
+    requires room { shadow.capacity ≤ capacity_of (V.seen volume.old).capacities (set_of copy) }
+    requires set { engine.old.log.pages ≡ log_pages (V.seen volume.old).capacities }
     ensures grant { GrantIsKept engine.old.claims }
-    ensures fits { FitsSet (seen_volume V.told V.faults V.capacities volume.old) engine.old.log }
+    ensures fits { FitsSet (V.seen volume.old) engine.old.log }
     ensures numbered { AreNumbered shadow.pages }
     ensures of_copy { AreOfCopy shadow.copy shadow.pages }
     ensures ok { IfOk result (λ p. IsWritten copy shadow
-        (seen_volume V.told V.faults V.capacities volume.old)
-        (seen_volume V.told V.faults V.capacities volume.new) engine.old engine.new p) }
+        (V.seen volume.old) (V.seen volume.new) engine.old engine.new p) }
     ensures err { OnErr result (WritesShadow copy
         (stamped_all (length engine.old.log.records) shadow.pages)
-        (seen_volume V.told V.faults V.capacities volume.old)
-        (seen_volume V.told V.faults V.capacities volume.new) engine.old engine.new) }
+        (V.seen volume.old) (V.seen volume.new) engine.old engine.new) }
     ensures device { result ≡ Err PrepareCause.Device
-        → Rose (V.faults volume.old) (V.faults volume.new) }
+        → Rose (V.seen volume.old).faults (V.seen volume.new).faults }
 {
     let mut shadow = shadow;
     // That no session holds a claim that a granted drain covers: nobody has a lock then.
-    let _ = engine.claims.drain();
+    note(&engine.claims.drain());
     // That no more is forced than there is.
-    let _ = engine.log.forced();
+    note(&engine.log.forced());
     let records = engine.log.records().len();
     let count = shadow.count();
     let marks = match marks_at(alloc, count, Position(records as u64)) {

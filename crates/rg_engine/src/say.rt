@@ -15,7 +15,6 @@ ghost use Rattle.rg_laws_utility.specs.RecordChanges.Changed.{changes_in};
 ghost use Rattle.rg_engine.specs.Answers.{Answers, Asks, classes_in, forces};
 ghost use Rattle.rg_engine.specs.Shows.{IsShown};
 ghost use Rattle.rg_engine.specs.Steps.{IfUp, Steps, is_commit};
-ghost use Rattle.rg_engine.specs.Volume.{seen_volume};
 ghost use Rattle.rg_feed.specs.Ends.{sent_items};
 ghost use Rattle.rg_engine.specs.ChangeFeed.Sending.{AddsChanges, items_made};
 
@@ -102,12 +101,11 @@ impl Engine {
     fn answer_over<V: Volume>(&mut self, volume: &mut V, session: Session, stmt: &Stmt) -> Reply
         requires session { IsSession session }
         requires shown { IsShown self.old }
-        requires pages { self.old.log.pages ≡ log_pages (V.capacities volume.old) }
+        requires pages { self.old.log.pages ≡ log_pages (V.seen volume.old).capacities }
         ensures steps { Steps self.old session stmt.now result self.new }
         ensures asks { Asks (forces self.old.units session stmt.now) result
             self.old.log self.new.log
-            (seen_volume V.told V.faults V.capacities volume.old)
-            (seen_volume V.told V.faults V.capacities volume.new) }
+            (V.seen volume.old) (V.seen volume.new) }
     {
         if is_commit(stmt) {
             return self.commit(volume, session);
@@ -126,12 +124,11 @@ impl Engine {
     ) -> Reply
         requires session { IsSession session }
         requires shown { IsShown self.old }
-        requires pages { self.old.log.pages ≡ log_pages (V.capacities volume.old) }
+        requires pages { self.old.log.pages ≡ log_pages (V.seen volume.old).capacities }
         ensures answers { Answers self.old session stmt.now result self.new }
         ensures asks { Asks (forces self.old.units session stmt.now) result
             self.old.log self.new.log
-            (seen_volume V.told V.faults V.capacities volume.old)
-            (seen_volume V.told V.faults V.capacities volume.new) }
+            (V.seen volume.old) (V.seen volume.new) }
         ensures ring { outlet.new.ring ≡ outlet.old.ring }
         ensures adds { AddsChanges (sent_items outlet.old) (sent_items outlet.new) }
         ensures sent { IfUp result (sent_items outlet.new

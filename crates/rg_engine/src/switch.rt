@@ -8,13 +8,14 @@ ghost use Rattle.std.specs.Prelude.{◌≡◌, ◌≤◌, ◌⊎◌, OnErr, OnOk
 ghost use Rattle.rg_claim.specs.Drains.{GrantIsKept};
 ghost use Rattle.rg_log.specs.Kept.{log_pages};
 ghost use Rattle.rg_outside.specs.Faults.{Rose};
-ghost use Rattle.rg_base.specs.Copies.{IsCopy, other_of};
+ghost use Rattle.rg_base.specs.Copies.{IsCopy};
 ghost use Rattle.rg_engine.specs.Turned.{IsShade, LogsSwitch, Takes, Turns};
-ghost use Rattle.rg_engine.specs.Volume.{seen_volume};
 ghost use Rattle.rg_shadow.specs.declared.drafts.IndexStage.TheVariants.{Built};
 
 use crate::engine::Engine;
 use crate::records::{append, next_position};
+use rg_base::copy::TableCopy;
+use rg_base::note::note;
 use rg_base::position::Position;
 use rg_base::tran::Tran;
 use rg_btree::indexes::indexes::Indexes;
@@ -39,40 +40,30 @@ pub struct Old {
 pub fn turn<V: Volume>(
     engine: &mut Engine,
     volume: &mut V,
-    copy: u8,
+    copy: TableCopy,
     shadow: Shadow,
 ) -> Result<Old, Device>
     requires copy { IsCopy copy }
     requires room { 28 ≤ engine.old.log.reserved }
-    requires set { engine.old.log.pages ≡ log_pages (V.capacities volume.old) }
+    requires set { engine.old.log.pages ≡ log_pages (V.seen volume.old).capacities }
     requires keys { shadow.keys ≡ Built }
     requires cluses { shadow.cluses ≡ Built }
     requires cats { shadow.cats ≡ Built }
     ensures shade { IsShade shadow }
     ensures grant { GrantIsKept engine.old.claims }
     ensures ok { OnOk result (Turns copy shadow
-        (seen_volume V.told V.faults V.capacities volume.old)
-        (seen_volume V.told V.faults V.capacities volume.new) engine.old engine.new) }
+        (V.seen volume.old) (V.seen volume.new) engine.old engine.new) }
     ensures err { OnErr result (LogsSwitch copy (length shadow.pages)
-        (seen_volume V.told V.faults V.capacities volume.old)
-        (seen_volume V.told V.faults V.capacities volume.new) engine.old engine.new) }
-    ensures cause { OnErr result (Rose (V.faults volume.old) (V.faults volume.new)) }
+        (V.seen volume.old) (V.seen volume.new) engine.old engine.new) }
+    ensures cause { OnErr result (Rose (V.seen volume.old).faults (V.seen volume.new).faults) }
 {
     // That no session holds a claim that a granted drain covers: nobody has a lock then.
-    let _ = engine.claims.drain();
+    note(&engine.claims.drain());
     let count = shadow.count();
     match engine.log_switch(volume, copy, count) {
         Ok(()) => Ok(engine.take_copy(shadow)),
         Err(fault) => Err(fault),
     }
-}
-
-/// The other one of the two copies.
-pub fn other_of(copy: u8) -> u8
-    ensures is { result ≡ other_of copy }
-    ensures copy { IsCopy result }
-{
-    if copy == 1 { 2 } else { 1 }
 }
 
 impl Engine {
@@ -81,29 +72,31 @@ impl Engine {
     pub fn log_switch<V: Volume>(
         &mut self,
         volume: &mut V,
-        copy: u8,
+        copy: TableCopy,
         pages: u32,
     ) -> Result<(), Device>
         requires copy { IsCopy copy }
         requires room { 28 ≤ self.old.log.reserved }
-        requires set { self.old.log.pages ≡ log_pages (V.capacities volume.old) }
+        requires set { self.old.log.pages ≡ log_pages (V.seen volume.old).capacities }
         ensures logs { LogsSwitch copy pages
-            (seen_volume V.told V.faults V.capacities volume.old)
-            (seen_volume V.told V.faults V.capacities volume.new) self.old self.new }
+            (V.seen volume.old) (V.seen volume.new) self.old self.new }
         ensures ok { OnOk result (self.new.log.forced ≡ length self.new.log.records) }
-        ensures cause { OnErr result (Rose (V.faults volume.old) (V.faults volume.new)) }
+        ensures cause { OnErr result (Rose (V.seen volume.old).faults (V.seen volume.new).faults) }
     {
         let entry = Record {
             position: next_position(&self.log),
             tran: Tran(0),
             back: Position(0),
-            kind: Kind::Switch { copy, pages },
+            kind: Kind::Switch {
+                copy: copy.number(),
+                pages,
+            },
         };
         append(&mut self.log, entry);
         self.set_aside = 0;
         let forced = self.log.force(volume);
         // That the records fit their set: what a crash leaves of them is sound by it.
-        let _ = self.log.records();
+        note(&self.log.records());
         forced
     }
 

@@ -19,6 +19,7 @@ ghost use Rattle.rg_engine.specs.Utility.{StartIs, StepsOn};
 
 use crate::engine::Engine;
 use rg_base::control::Answer;
+use rg_base::copy::TableCopy;
 use rg_base::options::{DrainState, Options};
 use rg_feed::fold::item::Stage;
 use rg_log::fault::ReserveFault;
@@ -32,7 +33,7 @@ pub fn start_utility(
     engine: &mut Engine,
     stage: &mut Option<Stage>,
     options: Options,
-    copy: u8,
+    copy: TableCopy,
     down: bool,
 ) -> Event
     requires free { stage.old ≡ None → engine.old.set_aside ≡ 0 }

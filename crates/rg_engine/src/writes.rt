@@ -22,6 +22,7 @@ ghost use Rattle.rg_engine.specs.Wrote.{SameEngine};
 use crate::engine::Engine;
 use crate::units::OpenUnit;
 use rg_base::no_memory::NoMemory;
+use rg_base::note::note;
 use rg_base::place::Place;
 use rg_base::position::Position;
 use rg_base::row::Row;
@@ -130,7 +131,7 @@ impl Engine {
         let Some(unit) = self.unit_of(session) else {
             return Reply::NoMemory;
         };
-        let _size = row.size();
+        note(&row.size());
         match self.plan_put(unit.tran, &row) {
             Ok(plan) => self.write(session, unit, plan, row.key, Some(row)),
             Err(fault) => reply_of(fault),
@@ -148,7 +149,7 @@ impl Engine {
         let Some(unit) = self.unit_of(session) else {
             return Reply::NoMemory;
         };
-        let _size = row.size();
+        note(&row.size());
         match self.plan_change(unit.tran, home, &row) {
             Ok(plan) => self.write(session, unit, plan, row.key, Some(row)),
             Err(fault) => reply_of(fault),

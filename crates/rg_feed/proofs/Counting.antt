@@ -1,17 +1,13 @@
 -- Pieces of lists, one item more, and what was received, counted.
 use Rattle.std.proofs.Common.{◌≡◌, ℕ, ◌+◌, ◌<◌, zero, suc, List, [], ◌∷◌, ◌++◌, refl, sym, ◌∙◌, ap}
 use Rattle.std.proofs.Common.{drop, take, length, arith, length-append, add-one, append_assoc}
+use Rattle.std.proofs.lemmas.List.{append-nil}
+use Rattle.rg_base.proofs.Small.{take_suc}
 use Rattle.rg_feed.specs.declared.fold.item.Item.{Item}
 use Rattle.rg_feed.specs.declared.fold.item.Item.TheVariants.{Begin, PageCopy, Booked}
 use Rattle.rg_feed.specs.declared.fold.item.Item.TheVariants as items
 use Rattle.rg_feed.specs.Ends.{Grew, Joined, Pumped, Received, Sent, sent_items, still_taken}
 use Rattle.rg_feed.specs.Ends.{waiting}
-
-take_suc : {A : Type 0} (k : ℕ) (xs : List A) → take (suc k) xs ≡ take k xs ++ take 1 (drop k xs)
-take_suc zero [] = refl
-take_suc zero (x ∷ xs) = refl
-take_suc (suc k) [] = refl
-take_suc (suc k) (x ∷ xs) = ap (λ ys. x ∷ ys) (take_suc k xs)
 
 drop_suc : {A : Type 0} (k : ℕ) (xs : List A) → drop (suc k) xs ≡ drop 1 (drop k xs)
 drop_suc zero [] = refl
@@ -45,13 +41,9 @@ pumped-next a b c k first next = record {
   count = omega (arith, first.count, next.count);
 }
 
-append_nil : {A : Type 0} (xs : List A) → xs ++ [] ≡ xs
-append_nil [] = refl
-append_nil (x ∷ xs) = ap (λ ys. x ∷ ys) (append_nil xs)
-
 pub pumped-none : (a b c : Sent) (k : ℕ) → Pumped k a b → Pumped 0 b c → Pumped k a c
 pumped-none a b c k first next = record {
-  pushed = next.pushed ∙ append_nil b.pushed ∙ first.pushed;
+  pushed = next.pushed ∙ append-nil b.pushed ∙ first.pushed;
   pending = next.pending ∙ first.pending;
   count = omega (arith, first.count, next.count);
 }

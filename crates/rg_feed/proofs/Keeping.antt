@@ -1,6 +1,7 @@
 -- One item more is received: what the inlet keeps is that of the items with it.
 use Rattle.std.proofs.Common.{◌≡◌, ℕ, ◌-◌, ◌≤◌, zero, suc, List, [], ◌∷◌, ◌++◌, Option, Some, None}
 use Rattle.std.proofs.Common.{refl, sym, ◌∙◌, ap, drop, length, arith, length-append, length-drop}
+use Rattle.std.proofs.lemmas.List.{append-nil}
 use Rattle.rg_base.specs.declared.change.Change.{Change}
 use Rattle.rg_base.specs.declared.options.Options.{Options}
 use Rattle.rg_base.specs.declared.place.Place.{Place}
@@ -13,10 +14,6 @@ use Rattle.rg_feed.specs.declared.fold.item.Item.TheVariants as items
 use Rattle.rg_feed.specs.declared.fold.item.Stage.{Stage}
 use Rattle.rg_feed.proofs.FoldLemmas.Folds.{changes-append, page_copies-append, since-append}
 use Rattle.rg_feed.specs.Ends.{Keeps, taken_of}
-
-append_nil : {A : Type 0} (xs : List A) → xs ++ [] ≡ xs
-append_nil [] = refl
-append_nil (x ∷ xs) = ap (λ ys. x ∷ ys) (append_nil xs)
 
 drop-append : {A : Type 0} (k : ℕ) (xs ys : List A) → k ≤ length xs
     → drop k (xs ++ ys) ≡ drop k xs ++ ys
@@ -71,7 +68,7 @@ module _ (feed copies : List Item) (backlog : List Change) (stage : Option Stage
     same : changes (since_begin (feed ++ item ∷ [])) ≡ changes (since_begin feed)
     same = ap changes joins ∙ changes-append (since_begin feed) (item ∷ [])
         ∙ ap (λ cs. changes (since_begin feed) ++ cs) plain
-        ∙ append_nil (changes (since_begin feed))
+        ∙ append-nil (changes (since_begin feed))
 
     same_taken : taken_of (feed ++ item ∷ []) backlog ≡ taken_of feed backlog
     same_taken = ap (λ cs. length cs - length backlog) same
@@ -111,7 +108,7 @@ module _ (feed copies : List Item) (backlog : List Change) (stage : Option Stage
       copies = keeps.copies
           ∙ sym
           (ap page_copies joins_booked ∙ page_copies-append (since_begin feed) (Booked booked ∷ [])
-          ∙ append_nil (page_copies (since_begin feed)));
+          ∙ append-nil (page_copies (since_begin feed)));
       backlog = same_backlog (Booked booked) joins_booked refl keeps;
       stage = sym (stage-append None feed (Booked booked ∷ []));
     }
@@ -148,7 +145,7 @@ module _ (feed copies : List Item) (backlog : List Change) (stage : Option Stage
           ∙ sym
           (ap page_copies joins_change
           ∙ page_copies-append (since_begin feed) (items.Change change ∷ [])
-          ∙ append_nil (page_copies (since_begin feed)));
+          ∙ append-nil (page_copies (since_begin feed)));
       backlog = ap (λ cs. cs ++ change ∷ []) keeps.backlog
           ∙ sym
           (drop-append (taken_of feed backlog) (changes (since_begin feed)) (change ∷ [])

@@ -4,6 +4,7 @@ use Rattle.std.proofs.Common.{true, false, List, [], ◌∷◌, ◌++◌, ◌⊎
 use Rattle.std.proofs.Common.{arith, drop, get_or, length}
 use Rattle.std.proofs.lemmas.Bool.{and_parts, eqb-true, ne_eqb}
 use Rattle.std.proofs.lemmas.List.{at_drop_more}
+use Rattle.std.proofs.Math.Bool.{and-true}
 use Rattle.rg_base.specs.declared.change.Change.{Change}
 use Rattle.rg_feed.specs.Fold.Fold.{page_copies}
 use Rattle.rg_feed.specs.Fold.Lawful.{passes_over}
@@ -96,11 +97,7 @@ in_turn_at change page (Booked s ∷ xs) i d numbered within is = absurd (cc (nu
 pub more_numbered : (page : ℕ) (xs : List Item) (n : ℕ) (at : Position) (rows : List (Place × Row))
     → are_numbered page (xs ++ PageCopy n at rows ∷ [])
     ≡ (are_numbered page xs && n == page + length xs + 1)
-more_numbered page [] n at rows = go (n == page + 1) ∙ ap (λ m. n == m) (omega arith)
-  where
-    go : (b : Bool) → (b && true) ≡ b
-    go true = refl
-    go false = refl
+more_numbered page [] n at rows = and-true (n == page + 1) ∙ ap (λ m. n == m) (omega arith)
 more_numbered page (Begin o m ∷ xs) n at rows = refl
 more_numbered page (PageCopy m a more ∷ xs) n at rows =
     go (m == page + 1) (are_numbered (page + 1) xs) (n == page + suc (length xs) + 1)

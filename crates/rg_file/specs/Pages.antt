@@ -6,6 +6,8 @@ use Rattle.std.specs.Io.Seek.{MovesTo}
 use Rattle.rg_base.specs.declared.set.Set.{Set}
 use Rattle.rg_base.specs.declared.set.Set.TheVariants.{Log, First, Second}
 use Rattle.rg_outside.specs.Capacities.{Capacities}
+use Rattle.rg_file.specs.declared.folder.VolumeRefusal.{VolumeRefusal}
+use Rattle.rg_file.specs.declared.folder.VolumeRefusal.TheVariants as refusals
 
 -- the log has 8,192 pages, and each copy of the table 4,096
 abbrev pub file_capacities : Capacities
@@ -22,6 +24,11 @@ abbrev pub IsShort : ℕ → Type 0
 IsShort len =
     (0 < len)
     × (len < (file_capacities.log + file_capacities.first + file_capacities.second) * 4096)
+
+-- why a volume is refused: a length that is named is that of a file that was cut
+abbrev pub IsVolumeCause : VolumeRefusal → Type 0
+IsVolumeCause refusals.Busy = Unit {0}
+IsVolumeCause (refusals.Short length) = IsShort length
 
 -- a seek that succeeded
 abbrev pub went : Result (Unit {0}) (Unit {0})

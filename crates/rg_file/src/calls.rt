@@ -8,7 +8,8 @@ ghost use Rattle.std.specs.IoError.{error_kind};
 ghost use Rattle.std.specs.Io.KnownBytes.{Appends, Consumes, IsAtEnd, Keeps};
 ghost use Rattle.std.specs.Io.Seek.{MovesTo};
 ghost use Rattle.rg_outside.specs.Faults.{HasCause, Rose};
-ghost use Rattle.rg_file.specs.Calls.{raised, TakesNothing};
+ghost use Rattle.rg_outside.specs.Counts.{count_after};
+ghost use Rattle.rg_file.specs.Calls.{TakesNothing};
 
 use crate::faults::Faults;
 use rg_outside::source::Failed;
@@ -28,7 +29,7 @@ enum Fault {
 // Counts an error as a fault.
 fn count_error(error: Error, faults: &mut Faults) -> Fault
     ensures kind { (result ≡ Fault.Interrupted) ↔ (error_kind error ≡ ErrorKind.Interrupted) }
-    ensures raised { faults.new ≡ raised faults.old }
+    ensures raised { faults.new ≡ count_after faults.old }
     ensures later { faults.old ≤ faults.new }
     ensures rose { Rose faults.old faults.new }
 {
@@ -48,7 +49,7 @@ fn read_once<R: Read>(reader: &mut R, into: &mut [u8], faults: &mut Faults) -> R
         (λ n. 0 < length into.old → n ≡ 0 → IsAtEnd (R.remaining reader.new)) }
     ensures kept { OnErr result (Keeps (R.remaining reader.old) (R.remaining reader.new)) }
     ensures same_count { OnOk result (faults.new ≡ faults.old) }
-    ensures raised { OnErr result (faults.new ≡ raised faults.old) }
+    ensures raised { OnErr result (faults.new ≡ count_after faults.old) }
     ensures cause { HasCause faults.old faults.new result }
 {
     match reader.read(into) {
@@ -109,12 +110,12 @@ fn write_once<W: Write>(writer: &mut W, from: &[u8], faults: &mut Faults) -> Res
         (λ n. Appends (W.contents writer.old) (W.contents writer.new) (take n from.now)) }
     ensures refused { OnErr result (Keeps (W.contents writer.old) (W.contents writer.new)) }
     ensures nothing { IfOk result
-        (λ n. TakesNothing n (length from.now) → faults.new ≡ raised faults.old) }
+        (λ n. TakesNothing n (length from.now) → faults.new ≡ count_after faults.old) }
     ensures nothing_rose { IfOk result
         (λ n. TakesNothing n (length from.now) → Rose faults.old faults.new) }
     ensures same_count { IfOk result
         (λ n. ¬ (TakesNothing n (length from.now)) → faults.new ≡ faults.old) }
-    ensures raised { OnErr result (faults.new ≡ raised faults.old) }
+    ensures raised { OnErr result (faults.new ≡ count_after faults.old) }
     ensures cause { HasCause faults.old faults.new result }
 {
     match writer.write(from) {
@@ -160,7 +161,7 @@ fn seek_once<F: Seek>(file: &mut F, to: u64, faults: &mut Faults) -> Result<(), 
     ensures moved { MovesTo (F.stream_position file.old) (F.stream_position file.new) to result }
     ensures bytes { Keeps (F.stream_bytes file.old) (F.stream_bytes file.new) }
     ensures same_count { OnOk result (faults.new ≡ faults.old) }
-    ensures raised { OnErr result (faults.new ≡ raised faults.old) }
+    ensures raised { OnErr result (faults.new ≡ count_after faults.old) }
     ensures cause { HasCause faults.old faults.new result }
 {
     match file.seek(SeekFrom::Start(to)) {
@@ -191,7 +192,7 @@ pub fn seek_through<F: Seek>(file: &mut F, to: u64, faults: &mut Faults) -> Resu
 
 fn sync_once<F: OpenFile>(file: &F, faults: &mut Faults) -> Result<(), Fault>
     ensures same_count { OnOk result (faults.new ≡ faults.old) }
-    ensures raised { OnErr result (faults.new ≡ raised faults.old) }
+    ensures raised { OnErr result (faults.new ≡ count_after faults.old) }
     ensures cause { HasCause faults.old faults.new result }
 {
     match file.sync_all() {

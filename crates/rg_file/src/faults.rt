@@ -4,7 +4,7 @@
 //     of it, since what a system says of an error is its own.
 ghost use Rattle.std.specs.Prelude.{◌≡◌, ◌≤◌, Ok, IsErr, MatchResult};
 ghost use Rattle.rg_outside.specs.Faults.{HasCause, Rose};
-ghost use Rattle.rg_file.specs.Calls.{raised};
+ghost use Rattle.rg_outside.specs.Counts.{count_after};
 
 use rg_outside::source::Failed;
 use std::io::{self, Error};
@@ -43,7 +43,7 @@ impl Faults {
 
     /// Counts one fault more.
     pub fn raise(&mut self, error: Error)
-        ensures raised { self.new ≡ raised self.old }
+        ensures raised { self.new ≡ count_after self.old }
         ensures later { self.old ≤ self.new }
         ensures rose { Rose self.old self.new }
     {

@@ -11,8 +11,8 @@
 //     taken. It is used only once it is locked and still has no byte.
 // (5) A link that leads nowhere is no missing volume: the table that it named is out of reach, so
 //     each call of the volume fails, and nothing is made.
-ghost use Rattle.std.specs.Prelude.{◌↔◌, IsTrue};
-ghost use Rattle.rg_file.specs.Pages.{IsShort};
+ghost use Rattle.std.specs.Prelude.{◌↔◌, IfErr, IsTrue};
+ghost use Rattle.rg_file.specs.Pages.{IsShort, IsVolumeCause};
 ghost use Rattle.rg_file.specs.State.{IsLost};
 
 use crate::volume::{FileMaker, FileVolume, VOLUME_LENGTH, VolumeFile};
@@ -71,7 +71,9 @@ pub fn open_volume<'a, R: Files<File = File> + Drop>(
     rt: R,
     folder: &str,
     name: &'a str,
-) -> Result<FileVolume<Folder<'a, R>, File>, VolumeRefusal> {
+) -> Result<FileVolume<Folder<'a, R>, File>, VolumeRefusal>
+    ensures { IfErr result IsVolumeCause }
+{
     let folder = match lock(File::open(&rt, folder)) {
         Ok(folder) => Ok(folder),
         Err(TryLockError::WouldBlock) => return Err(VolumeRefusal::Busy),
@@ -105,7 +107,9 @@ fn lock(opened: io::Result<File>) -> Result<File, TryLockError> {
 }
 
 // What there is of the volume's file, once it is locked.
-fn open_file<R: Files<File = File>>(rt: &R, name: &str) -> Result<VolumeFile<File>, VolumeRefusal> {
+fn open_file<R: Files<File = File>>(rt: &R, name: &str) -> Result<VolumeFile<File>, VolumeRefusal>
+    ensures { IfErr result IsVolumeCause }
+{
     let opened = OpenOptions::new().read(true).write(true).open(rt, name);
     match lock(opened) {
         Ok(file) => of_length(file),
@@ -115,7 +119,9 @@ fn open_file<R: Files<File = File>>(rt: &R, name: &str) -> Result<VolumeFile<Fil
 }
 
 // A file that is locked, by its length. A pipe or a device is no volume.
-fn of_length(file: File) -> Result<VolumeFile<File>, VolumeRefusal> {
+fn of_length(file: File) -> Result<VolumeFile<File>, VolumeRefusal>
+    ensures { IfErr result IsVolumeCause }
+{
     match file.metadata() {
         Ok(found) if !found.is_file() => {
             Ok(VolumeFile::Lost {

@@ -134,11 +134,11 @@ impl<M: FileMaker<File = F>, F: Read + Write + Seek + OpenFile + Drop> Volume fo
     ghost use Rattle.std.specs.Prelude.{None};
     ghost use Rattle.rg_file.specs.State.{IsLost, IsNew, ReadsFrom, WritesInto};
 
-    ghost capacities = { λ _. file_capacities };
-
-    ghost told = { λ _. None };
-
-    ghost faults = { λ v. v.faults };
+    ghost seen = { λ v. record {
+      told = None;
+      faults = v.faults;
+      capacities = file_capacities;
+    } };
 
     fn capacity(&self, set: Set) -> u32 {
         match set {

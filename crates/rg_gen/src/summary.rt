@@ -118,7 +118,7 @@ fn show(shown: Shown, event: &Event) -> Shown
 {
     match event {
         Event::Layout { copy, side } => Shown {
-            copy: *copy,
+            copy: copy.number(),
             pages: side.pages,
             over: count_over(side.spots.as_slice()) as u64,
         },

@@ -1,5 +1,6 @@
 use crate::make::make;
 use crate::summary::summary;
+use rg_base::copy::TableCopy;
 use rg_base::place::Place;
 use rg_base::session::Session;
 use rg_stmt::event::{Actor, Entry, Event};
@@ -108,7 +109,7 @@ fn entry(actor: Actor, event: Event) -> Entry {
 fn sums_up(rt: HostRuntime) -> Result<(), Fail> {
     let alloc = rt.alloc();
     let mut trace = Vec::new(alloc);
-    trace.push(Entry::opened(1, 0, 0, 0, 0))?;
+    trace.push(Entry::opened(TableCopy::first(), 0, 0, 0, 0))?;
     let text = summary(alloc, 7, 2, &trace, true)?;
     assert_eq!(rt;
         text.as_slice(),
@@ -123,7 +124,7 @@ fn sums_up(rt: HostRuntime) -> Result<(), Fail> {
     ] {
         trace.push(Entry::said(Session(1), Stmt::Delete(1), reply, 0))?;
     }
-    for (copy, pages) in [(1, 4), (2, 5)] {
+    for (copy, pages) in [(TableCopy::first(), 4), (TableCopy::second(), 5)] {
         let side = side(alloc, pages)?;
         trace.push(entry(Actor::System, Event::Layout { copy, side }))?;
     }

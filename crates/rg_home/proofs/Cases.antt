@@ -5,10 +5,11 @@ use Rattle.rg_base.specs.declared.place.Place.{Place}
 use Rattle.rg_base.specs.declared.row.Row.{Row as TableRow}
 use Rattle.rg_home.specs.Slot.{Slot}
 use Rattle.rg_home.specs.Slot.{Free, Row, Pointer, Over, DeadRow, DeadPointer, DeadOver}
-use Rattle.rg_home.specs.Rows.{same_place, over_row, home_row, row_at, lies_at, IsOverOf}
+use Rattle.rg_base.specs.Place.{same_place}
+use Rattle.rg_home.specs.Rows.{over_row, home_row, row_at, lies_at, IsOverOf}
 use Rattle.rg_home.specs.Rows.{IsPointerTo, TiesAt, Tied, override, ChangesHome, is_plain}
 use Rattle.rg_home.specs.Rows.{plain_row}
-use Rattle.rg_home.proofs.Place.{same_place-true, same_place-refl}
+use Rattle.rg_base.proofs.SamePlace.{same_place-true, same_place-refl}
 use Rattle.rg_home.proofs.Frame.{Inside, frame}
 
 abbrev pub touched : List Place → Place → Bool

@@ -15,11 +15,12 @@ use Rattle.rg_home.specs.declared.plan.Area.{Area}
 use Rattle.rg_home.specs.declared.plan.Plan.{Plan}
 use Rattle.rg_home.specs.declared.plan.Fitting.{Fitting}
 use Rattle.rg_base.specs.declared.part.SlotOp.TheVariants as Op
-use Rattle.rg_home.specs.Rows.{same_place, is_dead, row_at, Tied}
+use Rattle.rg_base.specs.Place.{same_place}
+use Rattle.rg_home.specs.Rows.{is_dead, row_at, Tied}
 use Rattle.rg_home.specs.Pages.{page_at, slot_of, wrote, applied, FitsAll, TakesAll, Sound, part_at}
 use Rattle.rg_home.specs.Plan.{is_home, room, free, purged, fitting, purge_of, new_area, left_of}
 use Rattle.rg_home.specs.Plan.{to_new, from_over, away, changed, planned_change, planned_drop}
-use Rattle.rg_home.proofs.Place.{same_place-sym, same_place-refl}
+use Rattle.rg_base.proofs.SamePlace.{same_place-sym, same_place-refl}
 use Rattle.rg_home.proofs.Look.{wrote_same, wrote_other}
 use Rattle.rg_home.proofs.Writes.{wrote_there}
 use Rattle.rg_home.proofs.Range.{slot_below, page_within}

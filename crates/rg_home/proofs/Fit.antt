@@ -21,7 +21,7 @@ use Rattle.rg_home.specs.Plan.{area_on, purge_from, purge_of, planned_put, first
 use Rattle.rg_home.specs.Pages.{page_at, wrote, wrote_page, made, applied, FitsAll, Sound, place_of}
 use Rattle.rg_home.specs.Pages.{part_at}
 use Rattle.rg_home.proofs.Look.{wrote_same, wrote_other}
-use Rattle.rg_home.proofs.Offers.{used-trim, page_at-next}
+use Rattle.rg_home.proofs.Offers.{used-trim, page_at-next, capacity-swept}
 use Rattle.rg_home.proofs.Sweep.{spot, purge_look, slot_at-purged}
 
 -- trimmed slots that look alike are the same
@@ -196,16 +196,9 @@ takes_fits b slots s e fits t = go (list_any is_free slots) t (used-new slots s)
 pub used-swept : (live : List ℕ) (slots : List Slot) → used (purged live slots) ≤ used slots
 used-swept live slots = omega (arith, used-trim (map (swept live) slots), all live slots)
   where
-    one : (live : List ℕ) (s : Slot) → capacity_of (swept live s) ≤ capacity_of s
-    one live s = pick (is_ended live s) s
-      where
-        pick : (b : Bool) (s : Slot) → capacity_of (if b then Free else s) ≤ capacity_of s
-        pick true s = omega arith
-        pick false s = omega arith
-
     all : (live : List ℕ) (slots : List Slot) → used (map (swept live) slots) ≤ used slots
     all live [] = omega arith
-    all live (s ∷ slots) = omega (arith, one live s, all live slots)
+    all live (s ∷ slots) = omega (arith, capacity-swept live s, all live slots)
 
 module _ (owner : ℕ) (after : TableRow) (limit : ℕ) (live : List ℕ) (pages : List (List Slot))
     (sound : Sound pages) where

@@ -1,5 +1,6 @@
 -- Where the places that are touched are closed under names, all others keep their rows and ties.
 use Rattle.std.proofs.Common.{◌≡◌, Bool, true, false, refl, sym, ◌∙◌, ap, subst}
+use Rattle.std.proofs.lemmas.Bool.{false_from_ne_true}
 use Rattle.rg_base.specs.declared.place.Place.{Place}
 use Rattle.rg_home.specs.Slot.{Slot}
 use Rattle.rg_home.specs.Slot.{Free, Row, Pointer, Over, DeadRow, DeadPointer, DeadOver}
@@ -31,21 +32,17 @@ pointer_inside touched q (DeadRow a b) e i = absurd e
 pointer_inside touched q (DeadPointer a b d) e i = absurd e
 pointer_inside touched q (DeadOver a b d) e i = absurd e
 
-not_true : (b : Bool) → (b ≡ true → ⊥) → b ≡ false
-not_true true n = absurd (n refl)
-not_true false n = refl
-
 module _ (at after : Place → Slot) (touched : Place → Bool)
     (closed : (p : Place) → touched p ≡ true → Inside touched (at p))
     (same : (q : Place) → touched q ≡ false → after q ≡ at q) where
   frame_slot : (q : Place) (s : Slot) → touched q ≡ false → TiesAt at q s
       → (home_row after s ≡ home_row at s) × TiesAt after q s
   frame_slot q (Pointer c o) u t =
-      let out : touched o ≡ false = not_true (touched o)
+      let out : touched o ≡ false = false_from_ne_true (touched o)
       (λ (e : touched o ≡ true). absurd (cc (u, over_inside touched q (at o) t (closed o e)))) in
       (ap over_row (same o out), subst (λ (s : Slot). IsOverOf q s) (sym (same o out)) t)
   frame_slot q (Over c b h) u t =
-      let out : touched h ≡ false = not_true (touched h)
+      let out : touched h ≡ false = false_from_ne_true (touched h)
       (λ (e : touched h ≡ true). absurd (cc (u, pointer_inside touched q (at h) t (closed h e)))) in
       (refl, subst (λ (s : Slot). IsPointerTo q s) (sym (same h out)) t)
   frame_slot q Free u t = (refl, tt)

@@ -1,4 +1,3 @@
-pub mod Place
 pub mod Frame
 pub mod Look
 pub mod Cases
@@ -23,3 +22,5 @@ pub mod Whole
 pub mod Lies
 pub mod Tables
 pub mod Owners
+pub mod NotFree
+pub mod NoPages

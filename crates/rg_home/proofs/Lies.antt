@@ -10,7 +10,8 @@ use Rattle.rg_home.specs.Slots.{capacity_of}
 use Rattle.rg_home.specs.declared.plan.Plan.{Plan}
 use Rattle.rg_home.specs.declared.plan.Area.{Area}
 use Rattle.rg_home.specs.declared.plan.Fitting.{Fitting}
-use Rattle.rg_home.specs.Rows.{same_place, lies_at, Tied}
+use Rattle.rg_base.specs.Place.{same_place}
+use Rattle.rg_home.specs.Rows.{lies_at, Tied}
 use Rattle.rg_home.specs.Pages.{page_at, slot_of, wrote, applied, part_at}
 use Rattle.rg_home.specs.Plan.{is_home, fitting, new_area, left_of, in_over, to_new, from_over}
 use Rattle.rg_home.specs.Plan.{away, changed, planned_put, planned_change, planned_drop}

@@ -5,8 +5,9 @@ use Rattle.rg_base.specs.declared.place.Place.{Place}
 use Rattle.rg_base.specs.declared.row.Row.{Row as TableRow}
 use Rattle.rg_home.specs.Slot.{Slot}
 use Rattle.rg_home.specs.Slot.{Free, Row, Pointer, Over, DeadRow, DeadPointer, DeadOver}
-use Rattle.rg_home.specs.Rows.{same_place, IsOverOf, TiesAt, Tied, ChangesHome, is_plain, plain_row}
-use Rattle.rg_home.proofs.Place.{same_place-refl, apart}
+use Rattle.rg_base.specs.Place.{same_place}
+use Rattle.rg_home.specs.Rows.{IsOverOf, TiesAt, Tied, ChangesHome, is_plain, plain_row}
+use Rattle.rg_base.proofs.SamePlace.{same_place-refl, apart}
 use Rattle.rg_home.proofs.Frame.{Inside}
 use Rattle.rg_home.proofs.Cases.{touched, changes_home, ties_plain, ties_pointer, ties_over}
 use Rattle.rg_home.proofs.Cases.{row_plain, row_pointer, row_over, lies_over, lies_plain}

@@ -4,6 +4,7 @@ use Rattle.std.proofs.Common.{[], ◌∷◌, ◌++◌, map, take, length, get_or
 use Rattle.std.proofs.Common.{if◌then◌else◌, cond, arith}
 use Rattle.std.specs.List.{list_any, position_or_len}
 use Rattle.std.proofs.lemmas.List.{take_more}
+use Rattle.std.proofs.Math.Bool.{or-false, or-true}
 use Rattle.rg_home.specs.Slot.{Slot}
 use Rattle.rg_home.specs.Slot.{Free, Row, Pointer, Over, DeadRow, DeadPointer, DeadOver}
 use Rattle.rg_home.specs.Slots.{slot_at, is_free, trim, capacity_of, used, cut, cost}
@@ -25,7 +26,7 @@ pub used-trim : (slots : List Slot) → used (trim slots) ≤ used slots
 used-trim [] = omega arith
 used-trim (s ∷ slots) = omega (arith, used-cut s (trim slots), used-trim slots)
 
-capacity-swept : (live : List ℕ) (s : Slot) → capacity_of (swept live s) ≤ capacity_of s
+pub capacity-swept : (live : List ℕ) (s : Slot) → capacity_of (swept live s) ≤ capacity_of s
 capacity-swept live s = go (is_ended live s)
   where
     go : (b : Bool) → capacity_of (if b then Free else s) ≤ capacity_of s
@@ -76,13 +77,9 @@ module _ (live : List ℕ) (page : List Slot) (i : ℕ) (x : Slot) (below : i < 
       ap trim end ∙ trim-free xs in (
         omega (arith, ap used end, used-append xs (Free ∷ [])),
         ap used same,
-        ap (list_any is_free) end ∙ any-push xs Free true refl ∙ or_true (list_any is_free xs),
+        ap (list_any is_free) end ∙ any-push xs Free true refl ∙ or-true (list_any is_free xs),
         ap (list_any is_free) same,
       )
-    where
-      or_true : (b : Bool) → (b || true) ≡ true
-      or_true true = refl
-      or_true false = refl
 
   pub after_full : is_free (swept live x) ≡ false
       → (used (map (swept live) (take (i + 1) page))
@@ -101,17 +98,13 @@ module _ (live : List ℕ) (page : List Slot) (i : ℕ) (x : Slot) (below : i < 
       let kept : swept live x ≡ x = stays (is_ended live x) f in
       let size = ap used (ap (λ (s : Slot). xs ++ s ∷ []) kept) in
       let any : list_any is_free (xs ++ swept live x ∷ []) ≡ list_any is_free xs =
-      any-push xs (swept live x) false f ∙ or_false (list_any is_free xs) in (
+      any-push xs (swept live x) false f ∙ or-false (list_any is_free xs) in (
         omega (arith, ap used end, size, used-append xs (x ∷ [])),
         omega (arith, ap used same, size, used-append xs (x ∷ [])),
         ap (list_any is_free) end ∙ any,
         ap (list_any is_free) same ∙ any,
       )
     where
-      or_false : (b : Bool) → (b || false) ≡ b
-      or_false true = refl
-      or_false false = refl
-
       stays : (b : Bool) → is_free (if b then Free else x) ≡ false → (if b then Free else x) ≡ x
       stays true f = absurd (cc (f))
       stays false f = refl

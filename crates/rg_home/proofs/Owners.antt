@@ -6,9 +6,9 @@ use Rattle.rg_base.specs.declared.row.Row.{Row as TableRow}
 use Rattle.rg_home.specs.Slot.{Slot, Free, Row, Pointer, Over, DeadRow, DeadPointer, DeadOver}
 use Rattle.rg_base.specs.declared.part.Part.{Part}
 use Rattle.rg_base.specs.declared.part.SlotOp.{SlotOp}
-use Rattle.rg_home.specs.Rows.{same_place}
+use Rattle.rg_base.specs.Place.{same_place}
 use Rattle.rg_home.specs.Pages.{slot_of, wrote, made, applied, FitsAll, place_of}
-use Rattle.rg_home.proofs.Place.{same_place-true}
+use Rattle.rg_base.proofs.SamePlace.{same_place-true}
 use Rattle.rg_home.proofs.Writes.{wrote_here, wrote_there}
 use Rattle.rg_base.specs.declared.part.SlotOp.TheVariants as Op
 use Rattle.rg_home.specs.Owners.{AllBelow, OwnerBelow}

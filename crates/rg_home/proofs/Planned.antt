@@ -10,7 +10,8 @@ use Rattle.rg_home.specs.declared.plan.Plan.{Plan}
 use Rattle.rg_home.specs.declared.plan.Area.{Area}
 use Rattle.rg_home.specs.declared.plan.Fitting.{Fitting}
 use Rattle.rg_base.specs.declared.part.SlotOp.TheVariants as Op
-use Rattle.rg_home.specs.Rows.{same_place, is_dead, is_plain, plain_row, Tied, ChangesHome}
+use Rattle.rg_base.specs.Place.{same_place}
+use Rattle.rg_home.specs.Rows.{is_dead, is_plain, plain_row, Tied, ChangesHome}
 use Rattle.rg_home.specs.Pages.{page_at, slot_of, wrote, applied, part_at}
 use Rattle.rg_home.specs.Plan.{purged, purge_from, purge_of, first_free, takes, area_when, is_home}
 use Rattle.rg_home.specs.Plan.{area_on, new_area, first_page, fitting, left_of, in_over, to_new}

@@ -10,10 +10,12 @@ use Rattle.rg_home.proofs.Slots.{slot_at-trim}
 use Rattle.rg_base.specs.declared.part.Part.{Part}
 use Rattle.rg_base.specs.declared.part.SlotOp.{SlotOp}
 use Rattle.rg_base.specs.declared.part.SlotOp.TheVariants as Op
-use Rattle.rg_home.specs.Rows.{same_place, is_dead}
+use Rattle.rg_base.proofs.Small.{plus_suc}
+use Rattle.rg_base.specs.Place.{same_place}
+use Rattle.rg_home.specs.Rows.{is_dead}
 use Rattle.rg_home.specs.Pages.{slot_of, wrote, made, applied, place_of, part_at}
 use Rattle.rg_home.specs.Plan.{is_ended, swept, purged, purge_from, first_free}
-use Rattle.rg_home.proofs.Place.{same_place-true, apart}
+use Rattle.rg_base.proofs.SamePlace.{same_place-true, apart}
 use Rattle.rg_home.proofs.Purge.{Sweeps, Buried}
 use Rattle.rg_home.proofs.Writes.{wrote_here, wrote_there}
 
@@ -67,11 +69,8 @@ module _ (live : List ℕ) (n : ℕ) (low : 1 ≤ n) where
   frees_from at i [] h = tt
   frees_from at i (s ∷ slots) h = go (is_ended live s) refl
       (frees_from at (i + 1) slots
-      (λ k. h (suc k) ∙ ap (λ (j : ℕ). at (record { page = n; slot = j })) (shift i k)))
+      (λ k. h (suc k) ∙ ap (λ (j : ℕ). at (record { page = n; slot = j })) (plus_suc i k)))
     where
-      shift : (i k : ℕ) → i + suc k ≡ i + 1 + k
-      shift i k = omega arith
-
       go : (b : Bool) → is_ended live s ≡ b → Frees at (purge_from live n (i + 1) slots)
           → Frees at
           (if b
@@ -121,9 +120,6 @@ slot_apart n i j h = apart (spot n j) (spot n i) (λ e. h (ap (λ (p : Place). p
 
 plus_zero : (i : ℕ) → i + 0 ≡ i
 plus_zero i = omega arith
-
-plus_suc : (i k : ℕ) → i + suc k ≡ i + 1 + k
-plus_suc i k = omega arith
 
 below_more : (i j : ℕ) → j < i → j < i + 1
 below_more i j h = omega arith

@@ -15,7 +15,7 @@ use Rattle.rg_home.specs.Slot.{Free, Row, Pointer, Over, DeadRow, DeadPointer, D
 use Rattle.rg_home.specs.Slots.{capacity_of}
 use Rattle.rg_home.specs.declared.plan.Area.{Area}
 use Rattle.rg_home.specs.declared.plan.Fitting.{Fitting}
-use Rattle.rg_home.specs.Rows.{same_place}
+use Rattle.rg_base.specs.Place.{same_place}
 use Rattle.rg_home.specs.Pages.{page_at, slot_of, wrote_page, wrote, made, applied, place_of}
 use Rattle.rg_home.specs.Pages.{part_at, row_or_empty, TakesRow, TakesAll}
 use Rattle.rg_home.specs.Plan.{is_ended, purge_from, purge_of, room, free, fitting, new_area}
@@ -171,7 +171,7 @@ undo_takes by c pages can = undo_parts_takes pages c.home by (over_before c.part
 
 -- parts that hold their row leave each row within its area
 
-made_held : (owner : ℕ) (row : Option TableRow) (op : SlotOp) → TakesRow row op
+pub made_held : (owner : ℕ) (row : Option TableRow) (op : SlotOp) → TakesRow row op
     → Holds (made owner (row_or_empty row) op)
 made_held owner (Some row) (Op.Row c) h = h
 made_held owner (Some row) (Op.Over c o) h = h

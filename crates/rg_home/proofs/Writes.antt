@@ -5,7 +5,7 @@ use Rattle.rg_base.specs.declared.place.Place.{Place}
 use Rattle.rg_home.specs.Slot.{Slot}
 use Rattle.rg_home.specs.Slot.{Free}
 use Rattle.rg_home.specs.Slots.{slot_at}
-use Rattle.rg_home.specs.Rows.{same_place}
+use Rattle.rg_base.specs.Place.{same_place}
 use Rattle.rg_home.specs.Pages.{page_at, slot_of, wrote}
 use Rattle.rg_home.proofs.Cases.{touched, override_same, override_other}
 use Rattle.rg_home.proofs.Look.{slot_of-wrote}

@@ -6,16 +6,13 @@
 --    one place where it lies, and no two homes have the same Over area.
 -- 3. A write changes the row of its home alone. It moves no other row: an unload, an index, and the
 --    other units rely on finding each row where it was.
-use Rattle.std.specs.Prelude.{◌≡◌, ◌==◌, ◌&&◌, Bool, true, false, List, [], ◌∷◌, Option, Some, None}
+use Rattle.std.specs.Prelude.{◌≡◌, Bool, true, false, List, [], ◌∷◌, Option, Some, None}
 use Rattle.std.specs.Prelude.{if◌then◌else◌}
 use Rattle.rg_base.specs.declared.place.Place.{Place}
 use Rattle.rg_base.specs.declared.row.Row.{Row as TableRow}
 use Rattle.rg_home.specs.Slot.{Slot}
 use Rattle.rg_home.specs.Slot.{Row, Pointer, Over, DeadRow, DeadPointer, DeadOver}
-
--- two places are one
-abbrev pub same_place : Place → Place → Bool
-same_place p q = p.page == q.page && p.slot == q.slot
+use Rattle.rg_base.specs.Place.{same_place}
 
 -- the row that lies in an Over area
 abbrev pub over_row : Slot → Option TableRow

@@ -18,7 +18,8 @@ use Rattle.rg_home.specs.Slot.{Slot}
 use Rattle.rg_home.specs.Slot.{Pointer}
 use Rattle.rg_home.specs.Slots.{capacity_of}
 use Rattle.rg_home.specs.declared.plan.Plan.{Plan}
-use Rattle.rg_home.specs.Rows.{same_place, row_at}
+use Rattle.rg_base.specs.Place.{same_place}
+use Rattle.rg_home.specs.Rows.{row_at}
 use Rattle.rg_home.specs.Pages.{slot_of, applied, row_or_empty, place_of, part_at}
 use Rattle.rg_home.specs.Plan.{left_of, planned_drop}
 use Rattle.rg_home.specs.Written.{Written}

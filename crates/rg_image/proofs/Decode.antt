@@ -19,7 +19,7 @@ use Rattle.rg_record.specs.Spelling.{record_bytes, record_size}
 use Rattle.rg_record.proofs.Again.{record_again}
 use Rattle.rg_record.proofs.Rows.{number_front}
 use Rattle.rg_record.proofs.Sizes.{length-record_bytes}
-use Rattle.rg_image.specs.Form.{IsOpened, SpellsTo}
+use Rattle.rg_image.specs.Form.{IsOpened}
 use Rattle.rg_image.specs.Kept.{AllFit}
 use Rattle.rg_image.specs.Log.{read_records, records_of, is_used, log_pages, log_of, Spells}
 use Rattle.rg_image.specs.Log.{SpellsFrom}
@@ -266,7 +266,7 @@ log_is capacity rs i fit values high spells =
 
 -- the pages up to the first zero one are enough
 pub opened_log : (capacity : ℕ) (rs : List Record) (from page : ℕ) (i : Image)
-    → IsOpened rs from page → AreValues rs → page ≤ capacity → SpellsTo page rs i
+    → IsOpened rs from page → AreValues rs → page ≤ capacity → Spells page rs i
     → (page < capacity → i Log (page + 1) ≡ page_bytes (page + 1) []) → log_of capacity i ≡ rs
 opened_log capacity rs from page i is values le spells stop =
     pages_is i (page + 1) capacity 1 start rs (start_starts rs is.fit) is.fit values

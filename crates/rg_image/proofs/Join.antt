@@ -13,7 +13,8 @@ use Rattle.rg_outside.specs.Calls.{Image}
 use Rattle.rg_image.specs.Pack.{Spot, on_page, start, end_of, size_of, room, fitting}
 use Rattle.rg_image.specs.Page.{page_bytes}
 use Rattle.rg_image.specs.Kept.{Begins, IsPageStart, AllFit}
-use Rattle.rg_image.specs.Form.{IsOpened, SpellsTo}
+use Rattle.rg_image.specs.Log.{Spells}
+use Rattle.rg_image.specs.Form.{IsOpened}
 use Rattle.rg_image.proofs.Pack.{first_spot}
 use Rattle.rg_image.proofs.Step.{whole, outside}
 use Rattle.rg_image.proofs.Start.{next_start}
@@ -50,7 +51,7 @@ next_page_start rs more from page is there fit some end =
 pub spells_on : (rs more : List Record) (page : ℕ) (i : Image)
     → IsPageStart (rs ++ more) (length rs) page → AllFit (rs ++ more) → fitting 0 more ≡ length more
     → ((p : ℕ) → 1 ≤ p → p < page → i Log p ≡ page_bytes p (on_page p start rs))
-    → i Log page ≡ page_bytes page more → SpellsTo page (rs ++ more) i
+    → i Log page ≡ page_bytes page more → Spells page (rs ++ more) i
 spells_on rs more page i is fit all before here p low high =
     let n = length (rs ++ more) in
     let len : n ≡ length rs + length more = length-append rs more in

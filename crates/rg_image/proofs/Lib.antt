@@ -1,4 +1,5 @@
 pub mod Chains
+pub mod Current
 pub mod Decode
 pub mod Determined
 pub mod Entries

@@ -9,9 +9,9 @@ use Rattle.std.proofs.lemmas.Bool.Decides.{leb_tells}
 use Rattle.rg_base.specs.declared.set.Set.TheVariants.{Log}
 use Rattle.rg_outside.specs.Calls.{Image}
 use Rattle.rg_record.specs.declared.record.Record.{Record}
-use Rattle.rg_image.specs.Form.{IsOpened, SpellsTo}
+use Rattle.rg_image.specs.Form.{IsOpened}
 use Rattle.rg_image.specs.Kept.{AreEntries}
-use Rattle.rg_image.specs.Log.{log_of}
+use Rattle.rg_image.specs.Log.{log_of, Spells}
 use Rattle.rg_image.specs.Pack.{Spot, start, end_of, size_of, room, fitting}
 use Rattle.rg_image.specs.Page.{page_bytes}
 use Rattle.rg_image.specs.Rules.{IsNextPage, ArePages, NoPage, OnePage, HasLogPages}
@@ -90,7 +90,7 @@ next_opened rs (r ∷ more) from page bytes is next =
 pub record Known (i : Image) (page : ℕ) (rs : List Record) : Type 0 where
   pub from : ℕ
   pub opened : IsOpened rs from page
-  pub spells : SpellsTo page rs i
+  pub spells : Spells page rs i
   pub entries : AreEntries rs
 
 pub known : (i : Image) (page : ℕ) (rs : List Record) → ArePages i page rs → Known i page rs

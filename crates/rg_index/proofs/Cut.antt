@@ -3,15 +3,11 @@ use Rattle.std.proofs.Common.{◌≡◌, ◌<◌, ◌≤◌, zero, suc, ℕ, Boo
 use Rattle.std.proofs.Common.{take, drop, get_or, arith}
 use Rattle.std.specs.List.Sorted.{IsPartitionedBy, IsPartitionPoint}
 use Rattle.rg_base.specs.declared.place.Place.{Place}
+use Rattle.rg_base.proofs.Each.{Each-at}
 use Rattle.rg_model.specs.Layout.{is_entry_before}
-use Rattle.rg_index.specs.Entries.{Each, IsRising}
+use Rattle.std.specs.List.{AllByRecursion}
+use Rattle.rg_index.specs.Entries.{IsRising}
 use Rattle.rg_index.specs.Split.{IsCutBy}
-
-Each-at : {X : Type 0} (P : X → Type 0) (xs : List X) (i : ℕ) (d : X) → i < length xs → Each P xs
-    → P (get_or xs i d)
-Each-at P [] i d lt each = absurd (omega arith)
-Each-at P (x ∷ xs) zero d lt each = each.0
-Each-at P (x ∷ xs) (suc i) d lt each = Each-at P xs i d (omega arith) each.1
 
 -- a test that passes what is before each entry that passes
 pub partitioned : (p : ℕ × Place → Bool)
@@ -28,7 +24,7 @@ partitioned p down (x ∷ es) rising (suc i) (suc j) d le lt e =
 
 module _ {X : Type 0} (P : X → Type 0) where
   each_below : (xs : List X) (i : ℕ) → i ≤ length xs
-      → ((k : ℕ) (d : X) → 0 ≤ k → k < i → P (get_or xs k d)) → Each P (take i xs)
+      → ((k : ℕ) (d : X) → 0 ≤ k → k < i → P (get_or xs k d)) → AllByRecursion P (take i xs)
   each_below xs zero le all = tt
   each_below [] (suc i) le all = tt
   each_below (x ∷ xs) (suc i) le all = (
@@ -37,7 +33,7 @@ module _ {X : Type 0} (P : X → Type 0) where
   )
 
   each_from : (xs : List X) (i : ℕ) → ((k : ℕ) (d : X) → i ≤ k → k < length xs → P (get_or xs k d))
-      → Each P (drop i xs)
+      → AllByRecursion P (drop i xs)
   each_from [] zero all = tt
   each_from [] (suc i) all = tt
   each_from (x ∷ xs) zero all = (

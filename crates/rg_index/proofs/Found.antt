@@ -3,28 +3,30 @@ use Rattle.std.proofs.Common.{◌≡◌, ◌&&◌, ◌||◌, ◌+◌, ◌-◌, �
 use Rattle.std.proofs.Common.{cond, List, [], ◌∷◌, ◌++◌, not, length, take, drop, get_or, refl, sym}
 use Rattle.std.proofs.Common.{◌∙◌, ap, subst, arith}
 use Rattle.std.specs.Prelude.{nat_le}
-use Rattle.std.specs.List.{insert, remove}
+use Rattle.std.specs.List.{insert, remove, AllByRecursion}
 use Rattle.std.proofs.lemmas.List.{take-append-drop}
 use Rattle.std.proofs.lemmas.Bool.{and_right, not-false, not-true, or_right}
 use Rattle.std.proofs.lemmas.Bool.Decides.{nat_tests}
 use Rattle.std.proofs.lemmas.List.Elements.{filter-append}
+use Rattle.std.proofs.Math.Seq.{split_at}
 use Rattle.rg_base.specs.declared.place.Place.{Place}
+use Rattle.rg_base.proofs.Each.{Each-map}
 use Rattle.rg_model.specs.Layout.{is_entry_before, same_entry, put_entry}
-use Rattle.rg_index.specs.Entries.{Each, IsRising, has_entry, without_entry, is_within}
+use Rattle.rg_index.specs.Entries.{IsRising, has_entry, without_entry, is_within}
 use Rattle.rg_index.specs.Entries.{entries_within}
 use Rattle.rg_index.specs.Split.{IsCutBy}
 use Rattle.rg_index.proofs.Order.{before_trans, before_turned, same_itself}
-use Rattle.rg_index.proofs.Lists.{Each-map, list_any-append, put_behind, put_first, none_behind}
+use Rattle.rg_index.proofs.Lists.{list_any-append, put_behind, put_first, none_behind}
 use Rattle.rg_index.proofs.Lists.{none_before, without_absent, without_same, rising_right}
 
 -- what an entry is put at
 pub insert_is_put : (e : ℕ × Place) (es : List (ℕ × Place)) (n : ℕ)
     → IsCutBy (λ x. not (is_entry_before e x)) es n → insert es n e ≡ put_entry e es
 insert_is_put e es n cut =
-    let early : Each (λ x. is_entry_before e x ≡ false) (take n es) =
+    let early : AllByRecursion (λ x. is_entry_before e x ≡ false) (take n es) =
     Each-map (λ x. not (is_entry_before e x) ≡ true) (λ x. is_entry_before e x ≡ false)
     (λ x. not-true (is_entry_before e x)) (take n es) cut.1 in
-    let late : Each (λ x. is_entry_before e x ≡ true) (drop n es) =
+    let late : AllByRecursion (λ x. is_entry_before e x ≡ true) (drop n es) =
     Each-map (λ x. not (is_entry_before e x) ≡ false) (λ x. is_entry_before e x ≡ true)
     (λ x. not-false (is_entry_before e x)) (drop n es) cut.2 in
     sym
@@ -33,11 +35,12 @@ insert_is_put e es n cut =
 
 -- those before an entry of a list that rises
 pub rising_before : (x : ℕ × Place) (xs ys : List (ℕ × Place)) → IsRising (xs ++ x ∷ ys)
-    → Each (λ y. is_entry_before y x ≡ true) xs
+    → AllByRecursion (λ y. is_entry_before y x ≡ true) xs
 rising_before x [] ys rising = tt
 rising_before x (z ∷ xs) ys rising = (middle xs rising.0, rising_before x xs ys rising.1)
   where
-    middle : (zs : List (ℕ × Place)) → Each (λ later. is_entry_before z later ≡ true) (zs ++ x ∷ ys)
+    middle : (zs : List (ℕ × Place))
+        → AllByRecursion (λ later. is_entry_before z later ≡ true) (zs ++ x ∷ ys)
         → is_entry_before z x ≡ true
     middle [] each = each.0
     middle (w ∷ zs) each = middle zs each.1
@@ -45,7 +48,7 @@ rising_before x (z ∷ xs) ys rising = (middle xs rising.0, rising_before x xs y
 -- the last of those that are not behind an entry is another
 pub absent_at : (e x : ℕ × Place) (xs ys : List (ℕ × Place)) → IsRising (xs ++ x ∷ ys)
     → is_entry_before e x ≡ false → same_entry e x ≡ false
-    → Each (λ y. is_entry_before e y ≡ true) ys → has_entry (xs ++ x ∷ ys) e ≡ false
+    → AllByRecursion (λ y. is_entry_before e y ≡ true) ys → has_entry (xs ++ x ∷ ys) e ≡ false
 absent_at e x xs ys rising early other late =
     let x_before = before_turned e x early other in
     let front = none_before e xs
@@ -72,7 +75,7 @@ there_at e xs ys rising =
 abbrev no_entries : List (ℕ × Place)
 no_entries = []
 
-low_fails : (lo hi v : ℕ) → nat_le (v + 1) lo ≡ true → (nat_le lo v && nat_le v hi) ≡ false
+pub low_fails : (lo hi v : ℕ) → nat_le (v + 1) lo ≡ true → (nat_le lo v && nat_le v hi) ≡ false
 low_fails lo hi v p = grind (arith, nat_tests)
 
 low_passes : (lo v : ℕ) → nat_le (v + 1) lo ≡ false → nat_le lo v ≡ true
@@ -125,15 +128,8 @@ within_none lo hi es from to le low high =
 
 -- ---- what a search for an entry finds: n entries are not behind it
 
--- cut at the last of them
-middle : {X : Type 0} (xs : List X) (m : ℕ) (d : X) → m < length xs
-    → xs ≡ take m xs ++ get_or xs m d ∷ drop (suc m) xs
-middle [] m d lt = absurd (omega arith)
-middle (x ∷ xs) zero d lt = refl
-middle (x ∷ xs) (suc m) d lt = ap (λ ys. x ∷ ys) (middle xs m d (omega arith))
-
 pub last_passes : {X : Type 0} (P : X → Type 0) (xs : List X) (m : ℕ) (d : X) → m < length xs
-    → Each P (take (suc m) xs) → P (get_or xs m d)
+    → AllByRecursion P (take (suc m) xs) → P (get_or xs m d)
 last_passes P [] m d lt each = absurd (omega arith)
 last_passes P (x ∷ xs) zero d lt each = each.0
 last_passes P (x ∷ xs) (suc m) d lt each = last_passes P xs m d (omega arith) each.1
@@ -149,7 +145,7 @@ pub found_other : (e d : ℕ × Place) (es : List (ℕ × Place)) (m : ℕ) → 
     → has_entry es e ≡ false
 found_other e d es m rising cut other =
     let lt : m < length es = omega arith in
-    let at = middle es m d lt in
+    let at = split_at es m d lt in
     let early = last_passes (λ x. not (is_entry_before e x) ≡ true) es m d lt cut.1 in
     let late = Each-map (λ x. not (is_entry_before e x) ≡ false) (λ x. is_entry_before e x ≡ true)
     (λ x. not-false (is_entry_before e x)) (drop (suc m) es) cut.2 in
@@ -161,6 +157,6 @@ pub found_it : (e d : ℕ × Place) (es : List (ℕ × Place)) (m : ℕ) → IsR
     → get_or es m d ≡ e → (has_entry es e ≡ true) × (remove es m ≡ without_entry e es)
 found_it e d es m rising lt is =
     let at : es ≡ take m es ++ e ∷ drop (suc m) es =
-    middle es m d lt ∙ ap (λ x. take m es ++ x ∷ drop (suc m) es) is in
+    split_at es m d lt ∙ ap (λ x. take m es ++ x ∷ drop (suc m) es) is in
     let there = there_at e (take m es) (drop (suc m) es) (subst IsRising at rising) in
     (ap (λ xs. has_entry xs e) at ∙ there.0, sym (ap (without_entry e) at ∙ there.1))

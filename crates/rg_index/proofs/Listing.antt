@@ -2,7 +2,7 @@
 use Rattle.std.proofs.Common.{◌≡◌, ◌==◌, ◌&&◌, ◌||◌, ℕ, Bool, true, false, List, [], ◌∷◌, ◌++◌, not}
 use Rattle.std.proofs.Common.{Option, Some, None, refl, sym, ◌∙◌, ap, subst, inl, inr}
 use Rattle.std.proofs.Common.{if◌then◌else◌, arith}
-use Rattle.std.proofs.lemmas.Bool.{and_parts, eqb-true, cases_Bool, not-true}
+use Rattle.std.proofs.lemmas.Bool.{and_parts, cases_Bool, not-true}
 use Rattle.std.proofs.lemmas.Bool.Decides.{nat_tests}
 use Rattle.std.specs.List.{flat_map, list_all}
 use Rattle.std.specs.FinMap as fin
@@ -10,7 +10,9 @@ use Rattle.rg_base.specs.declared.place.Place.{Place}
 use Rattle.rg_base.specs.declared.row.Row.{Row}
 use Rattle.rg_base.specs.declared.which.Which.{Which}
 use Rattle.rg_stmt.specs.declared.layout.Spot.{Spot}
-use Rattle.rg_model.specs.Layout.{value_of, same_place, same_entry, put_entry, sorted_entries}
+use Rattle.rg_base.specs.Place.{same_place}
+use Rattle.rg_base.proofs.SamePlace.{same_place-true, same_place-refl, same_place-turned}
+use Rattle.rg_model.specs.Layout.{value_of, same_entry, put_entry, sorted_entries}
 use Rattle.rg_model.specs.Layout.{listing, listed_entry, homes, are_different}
 use Rattle.rg_model.specs.State.{Table}
 use Rattle.rg_index.specs.Entries.{IsRising, has_entry, without_entry}
@@ -18,33 +20,14 @@ use Rattle.rg_index.specs.Listed.{has_value, IsListingOf, SetsRow, spot_row}
 use Rattle.rg_index.proofs.Lists.{has_entry-put_entry, has_entry-without_entry, IsRising-put_entry}
 use Rattle.rg_index.proofs.Lists.{same_members}
 
-same_place_is : (p q : Place) → same_place p q ≡ true → p ≡ q
-same_place_is p q e =
-    let parts = and_parts (p.page == q.page) (p.slot == q.slot) e in
-    let page = eqb-true p.page q.page parts.0 in
-    let slot = eqb-true p.slot q.slot parts.1 in
-    λ i. record { page = page i; slot = slot i }
-
-same_place_turned : (p q : Place) → same_place p q ≡ same_place q p
-same_place_turned p q = go p.page p.slot q.page q.slot
-  where
-    go : (a b c d : ℕ) → (a == c && b == d) ≡ (c == a && d == b)
-    go a b c d = grind (arith, nat_tests)
-
 -- cases at the place of a change
 at_place : (p place : Place) (T : Place → Type 0) → T place → (same_place p place ≡ false → T p)
     → T p
 at_place p place T here other =
     elim (cases_Bool (same_place p place)) [
-      | inl same ↦ subst T (sym (same_place_is p place same)) here
+      | inl same ↦ subst T (sym (same_place-true p place same)) here
       | inr apart ↦ other apart
     ]
-
-same_place_itself : (p : Place) → same_place p p ≡ true
-same_place_itself p = go p.page p.slot
-  where
-    go : (a b : ℕ) → (a == a && b == b) ≡ true
-    go a b = grind (arith, nat_tests)
 
 -- ---- one row more, or fewer
 
@@ -64,7 +47,7 @@ more_rows which old new place row entries is none sets value p =
     ∙ at_place p place
     (λ q. ((value == value_of which row && same_place q place) || has_value which value (old q))
     ≡ has_value which value (new q))
-    ((λ i. (value == value_of which row && same_place_itself place i)
+    ((λ i. (value == value_of which row && same_place-refl place i)
     || has_value which value (none i))
     ∙ only (value == value_of which row) ∙ sym (ap (has_value which value) sets.set))
     (λ apart. (λ i. (value == value_of which row && apart i) || has_value which value (old p))
@@ -89,11 +72,11 @@ fewer_rows which old new place row entries is some sets value p =
     ∙ at_place p place
     (λ q. (not (value_of which row == value && same_place place q) && has_value which value (old q))
     ≡ has_value which value (new q))
-    ((λ i. not (value_of which row == value && same_place_itself place i)
+    ((λ i. not (value_of which row == value && same_place-refl place i)
     && has_value which value (some i))
     ∙ gone (value_of which row) value ∙ sym (ap (has_value which value) sets.set))
     (λ apart.
-    (λ i. not (value_of which row == value && (same_place_turned place p ∙ apart) i)
+    (λ i. not (value_of which row == value && (same_place-turned place p ∙ apart) i)
     && has_value which value (old p))
     ∙ rest (value_of which row == value) (has_value which value (old p))
     ∙ sym (ap (has_value which value) (sets.others p apart)))
@@ -172,11 +155,11 @@ has_entry-entries_of which table (spot ∷ spots) apart value p =
     ((has_value which value row && same_place q spot.place)
     || has_value which value (spot_row table spots q))
     ≡ has_value which value (if same_place q spot.place then row else spot_row table spots q))
-    ((λ i. (has_value which value row && same_place_itself spot.place i)
+    ((λ i. (has_value which value row && same_place-refl spot.place i)
     || has_value which value (no_spot table spots spot.place parts.0 i))
     ∙ only (has_value which value row)
     ∙ (λ i. has_value which value
-    (if sym (same_place_itself spot.place) i then row else spot_row table spots spot.place)))
+    (if sym (same_place-refl spot.place) i then row else spot_row table spots spot.place)))
     (λ other.
     (λ i. (has_value which value row && other i) || has_value which value (spot_row table spots p))
     ∙ rest (has_value which value row) (has_value which value (spot_row table spots p))

@@ -3,41 +3,25 @@ use Rattle.std.proofs.Common.{◌≡◌, ◌&&◌, ◌||◌, ℕ, Bool, true, fa
 use Rattle.std.proofs.Common.{filter, refl, sym, ◌∙◌, ap, subst, inl, inr}
 use Rattle.std.proofs.lemmas.Bool.{both_ways, or_cases, or_parts, false≢true, true≢false, or_left}
 use Rattle.std.proofs.lemmas.Bool.{cases_Bool}
-use Rattle.std.specs.List.{list_any}
+use Rattle.std.specs.List.{list_any, AllByRecursion}
+use Rattle.std.proofs.Math.Bool.{or_assoc}
 use Rattle.rg_base.specs.declared.place.Place.{Place}
+use Rattle.rg_base.proofs.Each.{Each-map, Each-left}
 use Rattle.rg_model.specs.Layout.{is_entry_before, same_entry, put_entry}
-use Rattle.rg_index.specs.Entries.{Each, IsRising, has_entry, without_entry}
+use Rattle.rg_index.specs.Entries.{IsRising, has_entry, without_entry}
 use Rattle.rg_index.specs.RisingPart.{rising_part}
 use Rattle.rg_index.proofs.Order.{before_trans, before_asym, before_apart, behind_apart}
 use Rattle.rg_index.proofs.Order.{before_turned, same_is, same_itself}
 
 -- ---- each element
 
-pub Each-map : {X : Type 0} (P Q : X → Type 0) → ((x : X) → P x → Q x) → (xs : List X) → Each P xs
-    → Each Q xs
-Each-map P Q step [] each = tt
-Each-map P Q step (x ∷ xs) each = (step x each.0, Each-map P Q step xs each.1)
-
-pub Each-append : {X : Type 0} (P : X → Type 0) (xs ys : List X) → Each P xs → Each P ys
-    → Each P (xs ++ ys)
-Each-append P [] ys a b = b
-Each-append P (x ∷ xs) ys a b = (a.0, Each-append P xs ys a.1 b)
-
-pub Each-left : {X : Type 0} (P : X → Type 0) (xs ys : List X) → Each P (xs ++ ys) → Each P xs
-Each-left P [] ys each = tt
-Each-left P (x ∷ xs) ys each = (each.0, Each-left P xs ys each.1)
-
-pub Each-right : {X : Type 0} (P : X → Type 0) (xs ys : List X) → Each P (xs ++ ys) → Each P ys
-Each-right P [] ys each = each
-Each-right P (x ∷ xs) ys each = Each-right P xs ys each.1
-
-pub filter_all : {X : Type 0} (p : X → Bool) (xs : List X) → Each (λ x. p x ≡ true) xs
+pub filter_all : {X : Type 0} (p : X → Bool) (xs : List X) → AllByRecursion (λ x. p x ≡ true) xs
     → filter p xs ≡ xs
 filter_all p [] each = refl
 filter_all p (x ∷ xs) each = (λ i. cond (each.0 i) (x ∷ filter p xs) (filter p xs))
     ∙ ap (λ ys. x ∷ ys) (filter_all p xs each.1)
 
-pub filter_none : {X : Type 0} (p : X → Bool) (xs : List X) → Each (λ x. p x ≡ false) xs
+pub filter_none : {X : Type 0} (p : X → Bool) (xs : List X) → AllByRecursion (λ x. p x ≡ false) xs
     → filter p xs ≡ []
 filter_none p [] each = refl
 filter_none p (x ∷ xs) each =
@@ -47,13 +31,10 @@ pub list_any-append : {X : Type 0} (p : X → Bool) (xs ys : List X)
     → list_any p (xs ++ ys) ≡ (list_any p xs || list_any p ys)
 list_any-append p [] ys = refl
 list_any-append p (x ∷ xs) ys =
-    ap (λ b. p x || b) (list_any-append p xs ys) ∙ or_grouped (p x) (list_any p xs) (list_any p ys)
-  where
-    or_grouped : (a b c : Bool) → (a || (b || c)) ≡ ((a || b) || c)
-    or_grouped true b c = refl
-    or_grouped false b c = refl
+    ap (λ b. p x || b) (list_any-append p xs ys)
+    ∙ sym (or_assoc (p x) (list_any p xs) (list_any p ys))
 
-pub list_any-none : {X : Type 0} (p : X → Bool) (xs : List X) → Each (λ x. p x ≡ false) xs
+pub list_any-none : {X : Type 0} (p : X → Bool) (xs : List X) → AllByRecursion (λ x. p x ≡ false) xs
     → list_any p xs ≡ false
 list_any-none p [] each = refl
 list_any-none p (x ∷ xs) each = (λ i. each.0 i || list_any p xs) ∙ list_any-none p xs each.1
@@ -77,13 +58,13 @@ rising_right (x ∷ xs) ys rising = rising_right xs ys rising.1
 
 -- what is behind an entry has none of those that are not behind it
 pub none_behind : (e : ℕ × Place) (es : List (ℕ × Place))
-    → Each (λ later. is_entry_before e later ≡ true) es → has_entry es e ≡ false
+    → AllByRecursion (λ later. is_entry_before e later ≡ true) es → has_entry es e ≡ false
 none_behind e es each = list_any-none (same_entry e) es
     (Each-map (λ later. is_entry_before e later ≡ true) (λ later. same_entry e later ≡ false)
     (before_apart e) es each)
 
 pub none_before : (e : ℕ × Place) (es : List (ℕ × Place))
-    → Each (λ earlier. is_entry_before earlier e ≡ true) es → has_entry es e ≡ false
+    → AllByRecursion (λ earlier. is_entry_before earlier e ≡ true) es → has_entry es e ≡ false
 none_before e es each = list_any-none (same_entry e) es
     (Each-map (λ earlier. is_entry_before earlier e ≡ true)
     (λ earlier. same_entry e earlier ≡ false) (behind_apart e) es each)
@@ -91,19 +72,22 @@ none_before e es each = list_any-none (same_entry e) es
 -- ---- adding
 
 pub put_behind : (e : ℕ × Place) (xs ys : List (ℕ × Place))
-    → Each (λ x. is_entry_before e x ≡ false) xs → put_entry e (xs ++ ys) ≡ xs ++ put_entry e ys
+    → AllByRecursion (λ x. is_entry_before e x ≡ false) xs
+    → put_entry e (xs ++ ys) ≡ xs ++ put_entry e ys
 put_behind e [] ys each = refl
 put_behind e (x ∷ xs) ys each =
     (λ i. cond (each.0 i) (e ∷ x ∷ (xs ++ ys)) (x ∷ put_entry e (xs ++ ys)))
     ∙ ap (λ zs. x ∷ zs) (put_behind e xs ys each.1)
 
-pub put_first : (e : ℕ × Place) (ys : List (ℕ × Place)) → Each (λ y. is_entry_before e y ≡ true) ys
+pub put_first : (e : ℕ × Place) (ys : List (ℕ × Place))
+    → AllByRecursion (λ y. is_entry_before e y ≡ true) ys
     → put_entry e ys ≡ e ∷ ys
 put_first e [] each = refl
 put_first e (y ∷ ys) each = λ i. cond (each.0 i) (e ∷ y ∷ ys) (y ∷ put_entry e ys)
 
 pub put_ahead : (e : ℕ × Place) (xs ys : List (ℕ × Place))
-    → Each (λ y. is_entry_before e y ≡ true) ys → put_entry e (xs ++ ys) ≡ put_entry e xs ++ ys
+    → AllByRecursion (λ y. is_entry_before e y ≡ true) ys
+    → put_entry e (xs ++ ys) ≡ put_entry e xs ++ ys
 put_ahead e [] ys each = put_first e ys each
 put_ahead e (x ∷ xs) ys each =
     elim (is_entry_before e x) as (λ b. cond b (e ∷ x ∷ (xs ++ ys)) (x ∷ put_entry e (xs ++ ys))
@@ -112,11 +96,13 @@ put_ahead e (x ∷ xs) ys each =
       | false ↦ ap (λ zs. x ∷ zs) (put_ahead e xs ys each)
     ]
 
-pub Each-put : (P : ℕ × Place → Type 0) (e : ℕ × Place) (es : List (ℕ × Place)) → P e → Each P es
-    → Each P (put_entry e es)
+pub Each-put : (P : ℕ × Place → Type 0) (e : ℕ × Place) (es : List (ℕ × Place)) → P e
+    → AllByRecursion P es
+    → AllByRecursion P (put_entry e es)
 Each-put P e [] one each = (one, tt)
 Each-put P e (x ∷ xs) one each =
-    elim (is_entry_before e x) as (λ b. Each P (cond b (e ∷ x ∷ xs) (x ∷ put_entry e xs))) [
+    elim (is_entry_before e x) as
+    (λ b. AllByRecursion P (cond b (e ∷ x ∷ xs) (x ∷ put_entry e xs))) [
       | true ↦ (one, each)
       | false ↦ (each.0, Each-put P e xs one each.1)
     ]
@@ -210,7 +196,8 @@ gone e es = has_entry-without_entry e es e ∙ (λ i. not (same_itself e i) && h
 -- ---- one list for one set of members
 
 -- what holds of each entry holds of one that the list has
-pub Each-has : (P : ℕ × Place → Type 0) (es : List (ℕ × Place)) (q : ℕ × Place) → Each P es
+pub Each-has : (P : ℕ × Place → Type 0) (es : List (ℕ × Place)) (q : ℕ × Place)
+    → AllByRecursion P es
     → has_entry es q ≡ true → P q
 Each-has P [] q each there = absurd (false≢true there)
 Each-has P (x ∷ xs) q each there =

@@ -4,7 +4,8 @@ use Rattle.std.specs.Prelude.{nat_le, not}
 use Rattle.std.proofs.lemmas.Bool.Decides.{nat_tests}
 use Rattle.rg_base.specs.declared.place.Place.{Place}
 use Rattle.std.proofs.lemmas.Bool.{eqb-true, and_parts}
-use Rattle.rg_model.specs.Layout.{is_entry_before, same_entry, same_place}
+use Rattle.rg_base.specs.Place.{same_place}
+use Rattle.rg_model.specs.Layout.{is_entry_before, same_entry}
 
 -- by three numbers
 abbrev before3 : ℕ → ℕ → ℕ → ℕ → ℕ → ℕ → Bool

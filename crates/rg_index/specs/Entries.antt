@@ -1,18 +1,13 @@
 -- The entries of an index, by value, page and slot.
 use Rattle.std.specs.Prelude.{ℕ, ◌≡◌, ◌&&◌, nat_le, not, Bool, true, List, [], ◌∷◌, filter}
-use Rattle.std.specs.List.{list_any}
+use Rattle.std.specs.List.{list_any, AllByRecursion}
 use Rattle.rg_base.specs.declared.place.Place.{Place}
 use Rattle.rg_model.specs.Layout.{is_entry_before, same_entry}
-
--- each element of the list is as P says
-abbrev pub Each : {X : Type 0} → (X → Type 0) → List X → Type 0
-Each P [] = Unit {0}
-Each P (x ∷ xs) = P x × Each P xs
 
 -- each entry is before all that come after it, so none stands twice
 abbrev pub IsRising : List (ℕ × Place) → Type 0
 IsRising [] = Unit {0}
-IsRising (e ∷ es) = Each (λ later. is_entry_before e later ≡ true) es × IsRising es
+IsRising (e ∷ es) = AllByRecursion (λ later. is_entry_before e later ≡ true) es × IsRising es
 
 -- the entry is one of the list
 abbrev pub has_entry : List (ℕ × Place) → ℕ × Place → Bool

@@ -6,7 +6,8 @@ use Rattle.rg_base.specs.declared.place.Place.{Place}
 use Rattle.rg_base.specs.declared.row.Row.{Row}
 use Rattle.rg_base.specs.declared.which.Which.{Which}
 use Rattle.rg_stmt.specs.declared.layout.Spot.{Spot}
-use Rattle.rg_model.specs.Layout.{value_of, same_place}
+use Rattle.rg_base.specs.Place.{same_place}
+use Rattle.rg_model.specs.Layout.{value_of}
 use Rattle.rg_model.specs.State.{Table}
 use Rattle.rg_index.specs.Entries.{has_entry}
 

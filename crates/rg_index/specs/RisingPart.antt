@@ -4,18 +4,19 @@ use Rattle.std.specs.Prelude.{ℕ, ◌≡◌, Bool, true, false, List, [], ◌�
 use Rattle.std.proofs.Common.{cond}
 use Rattle.rg_base.specs.declared.place.Place.{Place}
 use Rattle.rg_model.specs.Layout.{is_entry_before}
-use Rattle.rg_index.specs.Entries.{Each, IsRising}
+use Rattle.std.specs.List.{AllByRecursion}
+use Rattle.rg_index.specs.Entries.{IsRising}
 
 -- the entries that are behind each one kept before them
 abbrev pub rising_part : List (ℕ × Place) → List (ℕ × Place)
 rising_part [] = []
 rising_part (e ∷ es) = e ∷ filter (is_entry_before e) (rising_part es)
 
-pub Each-filter : {X : Type 0} (P : X → Type 0) (p : X → Bool) (xs : List X) → Each P xs →
-    Each P (filter p xs)
+pub Each-filter : {X : Type 0} (P : X → Type 0) (p : X → Bool) (xs : List X) → AllByRecursion P xs →
+    AllByRecursion P (filter p xs)
 Each-filter P p [] each = tt
 Each-filter P p (x ∷ xs) each =
-    elim (p x) as (λ b. Each P (cond b (x ∷ filter p xs) (filter p xs))) [
+    elim (p x) as (λ b. AllByRecursion P (cond b (x ∷ filter p xs) (filter p xs))) [
       | true ↦ (
         each.0,
         Each-filter P p xs each.1,
@@ -23,11 +24,12 @@ Each-filter P p (x ∷ xs) each =
       | false ↦ Each-filter P p xs each.1
     ]
 
-pub Each-passes : {X : Type 0} (p : X → Bool) (xs : List X) → Each (λ x. p x ≡ true) (filter p xs)
+pub Each-passes : {X : Type 0} (p : X → Bool) (xs : List X)
+    → AllByRecursion (λ x. p x ≡ true) (filter p xs)
 Each-passes p [] = tt
 Each-passes p (x ∷ xs) =
     elim (p x) as (λ b. p x ≡ b →
-    Each (λ x. p x ≡ true) (cond b (x ∷ filter p xs) (filter p xs))) [
+    AllByRecursion (λ x. p x ≡ true) (cond b (x ∷ filter p xs) (filter p xs))) [
       | true ↦ λ e. (
         e,
         Each-passes p xs,

@@ -15,7 +15,7 @@ use Rattle.rg_judge.specs.Refused.{IsFirstRefused, IsJudged}
 use Rattle.rg_judge.proofs.Judging.{legal_none}
 
 -- where no state is possible none is from there on
-none_from : (past entries : List Entry) → states_from past [] entries ≡ []
+pub none_from : (past entries : List Entry) → states_from past [] entries ≡ []
 none_from past [] = refl
 none_from past (e ∷ entries) = none_from (e ∷ past) entries
 

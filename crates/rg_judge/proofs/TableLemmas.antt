@@ -6,4 +6,3 @@ pub mod Listing
 pub mod HeldKept
 pub mod LeastHeld
 pub mod Ended
-pub mod ScanHeld

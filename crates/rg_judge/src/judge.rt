@@ -20,6 +20,7 @@ use crate::opened::rest;
 use crate::possibility::Possibility;
 use crate::table::cat_table::CatTable;
 use rg_base::no_memory::NoMemory;
+use rg_base::note::note;
 use rg_base::table::Table;
 use rg_model::plain::walks::copy_table;
 use rg_rules::tally::tally::Tally;
@@ -81,11 +82,10 @@ fn begin(alloc: Global, start: &Table, event: &Event) -> Result<Vec<Possibility>
     let mut states = Vec::new(alloc);
     match event {
         Event::Opened { copy, .. } => {
-            if *copy == 1 || *copy == 2 {
-                let table = CatTable::new(alloc, copy_table(alloc, start)?)?;
-                states.push(rest(alloc, table, *copy)?)?;
-                return Ok(states);
-            }
+            // That its number is 1 or 2.
+            note(&copy.number());
+            let table = CatTable::new(alloc, copy_table(alloc, start)?)?;
+            states.push(rest(alloc, table, *copy)?)?;
             Ok(states)
         }
         _ => Ok(states),

@@ -19,6 +19,7 @@ use crate::said::judge_said;
 use crate::step::judge_step;
 use crate::turn::progress::Progress;
 use rg_base::control::Answer;
+use rg_base::copy::TableCopy;
 use rg_base::no_memory::NoMemory;
 use rg_base::options::Options;
 use rg_rules::tally::tally::Tally;
@@ -30,7 +31,7 @@ use std::alloc::Global;
 fn judge_shown(
     alloc: Global,
     st: Possibility,
-    copy: u8,
+    copy: TableCopy,
     side: &Side,
 ) -> Result<Option<Possibility>, NoMemory>
     ensures { IfOk result (λ next. option_map state_of next
@@ -44,7 +45,12 @@ fn judge_shown(
 }
 
 // A utility starts where none runs, over the current copy.
-fn judge_started(mut st: Possibility, options: Options, copy: u8, pages: u32) -> Option<Possibility>
+fn judge_started(
+    mut st: Possibility,
+    options: Options,
+    copy: TableCopy,
+    pages: u32,
+) -> Option<Possibility>
     ensures { option_map state_of result ≡ state_started (state_of st) options copy pages }
 {
     let allowed = !st.down && (st.utility.is_none() && copy == st.copy);

@@ -14,6 +14,7 @@ use crate::possibility::Possibility;
 use crate::table::cat_table::CatTable;
 use crate::table::locked_rows::LockedRows;
 use crate::walk::{put_back, put_back_others};
+use rg_base::copy::TableCopy;
 use rg_base::no_memory::NoMemory;
 use rg_base::session::Session;
 use rg_claim::claims::Claims;
@@ -21,7 +22,7 @@ use rg_model::plain::walks::copy_table;
 use std::alloc::Global;
 
 /// A table and a copy that nobody uses.
-pub fn rest(alloc: Global, table: CatTable, copy: u8) -> Result<Possibility, NoMemory>
+pub fn rest(alloc: Global, table: CatTable, copy: TableCopy) -> Result<Possibility, NoMemory>
     ensures { IfOk result (λ st. state_of st ≡ at_rest table copy) }
 {
     Ok(Possibility {
@@ -35,17 +36,17 @@ pub fn rest(alloc: Global, table: CatTable, copy: u8) -> Result<Possibility, NoM
     })
 }
 
-fn is_copy_left(st: &Possibility, copy: u8) -> bool
+fn is_copy_left(st: &Possibility, copy: TableCopy) -> bool
     ensures { result ≡ is_copy_left (state_of st.now) copy }
 {
-    copy == st.copy || (st.copydoubt && copy == 3u8.saturating_sub(st.copy))
+    copy == st.copy || (st.copydoubt && copy == st.copy.other())
 }
 
 // The state that a table leaves, where it has as many rows.
 fn rest_with(
     alloc: Global,
     table: CatTable,
-    copy: u8,
+    copy: TableCopy,
     rows: u64,
 ) -> Result<Option<Possibility>, NoMemory>
     ensures { IfOk result (λ st. option_map state_of st
@@ -86,7 +87,7 @@ fn committed_with(alloc: Global, st: &Possibility, session: Session) -> Result<C
 pub fn judge_opened(
     alloc: Global,
     st: Possibility,
-    copy: u8,
+    copy: TableCopy,
     rows: u64,
 ) -> Result<(Option<Possibility>, Option<Possibility>), NoMemory>
     ensures { IfOk result (λ two.

@@ -6,6 +6,7 @@ ghost use Rattle.rg_model.specs.Said.{if_allowed};
 
 use crate::table::locked_rows::LockedRows;
 use crate::turn::progress::Progress;
+use rg_base::copy::TableCopy;
 use rg_base::session::Session;
 use rg_claim::claims::Claims;
 
@@ -16,7 +17,7 @@ pub struct Possibility {
     pub rows: LockedRows,
     pub claims: Claims,
     pub utility: Option<Progress>,
-    pub copy: u8,
+    pub copy: TableCopy,
     pub down: bool,
     pub doubt: Option<Session>,
     pub copydoubt: bool,

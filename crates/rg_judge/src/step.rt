@@ -22,6 +22,7 @@ use crate::turn::next_event::turn_of;
 use crate::turn::progress::Progress;
 use crate::turn::turn::Turn;
 use rg_base::control::Answer;
+use rg_base::copy::TableCopy;
 use rg_base::no_memory::NoMemory;
 use rg_base::options::DrainState;
 use rg_rules::tally::tally::Tally;
@@ -30,10 +31,10 @@ use rg_stmt::layout::Sides;
 use std::alloc::Global;
 
 // It goes to the other copy, with as many pages as were written.
-fn is_other_copy(st: &Possibility, copy: u8, pages: u32, shadow: u32, right: bool) -> bool
+fn is_other_copy(st: &Possibility, copy: TableCopy, pages: u32, shadow: u32, right: bool) -> bool
     ensures { result ≡ (copy == 3 - st.now.copy && (pages == shadow && right)) }
 {
-    copy == 3u8.saturating_sub(st.copy) && (pages == shadow && right)
+    copy == st.copy.other() && (pages == shadow && right)
 }
 
 // The copies are switched, where that is allowed.
@@ -42,7 +43,7 @@ fn switch(
     mut st: Possibility,
     tally: &Tally,
     u: Progress,
-    copy: u8,
+    copy: TableCopy,
     sides: &Sides,
     progress: Progress,
 ) -> Result<Option<Possibility>, NoMemory>
@@ -114,7 +115,7 @@ fn leave_turn(
             copy,
             sides,
             progress,
-        } => switch(alloc, st, tally, u, copy, sides, progress),
+        } => switch(alloc, st, tally, u, *copy, sides, progress),
         Turn::Stops => Ok(Some(stop(st))),
         Turn::Falls => Ok(Some(fall(st))),
     }

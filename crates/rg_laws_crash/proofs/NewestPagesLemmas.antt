@@ -1,3 +1,4 @@
+pub mod Capacity
 pub mod Flush
 pub mod InMemory
 pub mod Near

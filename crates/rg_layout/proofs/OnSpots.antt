@@ -1,54 +1,34 @@
 -- The spots of places that rise, where the slots of these places tie.
-use Rattle.std.proofs.Common.{◌≡◌, ◌==◌, Bool, true, false, not, List, [], ◌∷◌, ◌++◌, Option, Some}
-use Rattle.std.proofs.Common.{None, refl, sym, ap, subst, ◌∙◌, arith, map, inl, inr}
-use Rattle.std.specs.List.{list_all, flat_map}
-use Rattle.std.proofs.lemmas.Bool.{cases_Bool, and_parts, and_from, eqb-true, false≢true}
-use Rattle.std.proofs.lemmas.Bool.Decides.{nat_tests}
+use Rattle.std.proofs.Common.{◌≡◌, Bool, true, false, not, List, [], ◌∷◌, ◌++◌, Option, Some}
+use Rattle.std.proofs.Common.{None, refl, sym, ap, ◌∙◌, map}
+use Rattle.std.specs.List.{list_all, flat_map, AllByRecursion}
+use Rattle.std.proofs.lemmas.Bool.{and_from, false≢true}
 use Rattle.rg_base.specs.declared.place.Place.{Place}
 use Rattle.rg_base.specs.declared.row.Row.{Row as TableRow}
 use Rattle.rg_home.specs.Plan.{pointed_to}
 use Rattle.rg_home.specs.Rows.{row_at, home_row, Tied, TiesAt, IsOverOf}
 use Rattle.rg_home.specs.Slot.{Slot}
 use Rattle.rg_home.specs.Slot.{Free, Row, Pointer, Over, DeadRow, DeadPointer, DeadOver}
-use Rattle.rg_index.specs.Entries.{Each}
-use Rattle.rg_index.proofs.Lists.{Each-map, Each-append}
 use Rattle.rg_layout.proofs.Places.{Rise}
 use Rattle.rg_layout.specs.Spots.{spot_of, spot_at}
-use Rattle.rg_model.specs.Layout.{same_place, is_place_before, are_rising, are_different, homes}
+use Rattle.rg_base.specs.Place.{same_place}
+use Rattle.rg_base.proofs.Each.{Each-map, Each-append}
+use Rattle.rg_base.proofs.SamePlace.{apart}
+use Rattle.rg_model.specs.Layout.{is_place_before, are_rising, are_different, homes}
 use Rattle.rg_model.specs.Layout.{overs, one_place}
+use Rattle.rg_model.proofs.Before.{not_itself}
 use Rattle.rg_stmt.specs.declared.layout.Spot.{Spot}
 
 -- ---- places that are one
 
-pub place_is : (p q : Place) → same_place p q ≡ true → p ≡ q
-place_is p q e =
-    let parts = and_parts (p.page == q.page) (p.slot == q.slot) e in
-    let page = eqb-true p.page q.page parts.0 in
-    let slot = eqb-true p.slot q.slot parts.1 in
-    λ i. record { page = page i; slot = slot i }
-
-pub place_itself : (p : Place) → same_place p p ≡ true
-place_itself p = grind (arith, nat_tests)
-
-apart : (p q : Place) → is_place_before p q ≡ true → p ≡ q → ⊥
-apart p q before e = never p (subst (λ r. is_place_before p r ≡ true) (sym e) before)
-  where
-    never : (p : Place) → is_place_before p p ≡ true → ⊥
-    never p e = grind (arith, nat_tests, e)
-
-differ : (p q : Place) → (p ≡ q → ⊥) → same_place p q ≡ false
-differ p q ne = elim (cases_Bool (same_place p q)) [
-  | inl same ↦ absurd (ne (place_is p q same))
-  | inr other ↦ other
-]
-
-pub all_from : {X : Type 0} (p : X → Bool) (xs : List X) → Each (λ x. p x ≡ true) xs
+pub all_from : {X : Type 0} (p : X → Bool) (xs : List X) → AllByRecursion (λ x. p x ≡ true) xs
     → list_all p xs ≡ true
 all_from p [] each = refl
 all_from p (x ∷ xs) each = and_from (p x) (list_all p xs) each.0 (all_from p xs each.1)
 
-pub Each-joined : {X Y : Type 0} (P : Y → Type 0) (f : X → Y) (xs : List X) → Each (λ x. P (f x)) xs
-    → Each P (map f xs)
+pub Each-joined : {X Y : Type 0} (P : Y → Type 0) (f : X → Y) (xs : List X)
+    → AllByRecursion (λ x. P (f x)) xs
+    → AllByRecursion P (map f xs)
 Each-joined P f [] each = tt
 Each-joined P f (x ∷ xs) each = (each.0, Each-joined P f xs each.1)
 
@@ -64,25 +44,27 @@ module _ (at : Place → Slot) where
 
   pub each_spot : (Q : Place → Type 0) (S : Spot → Type 0)
       → ((p : Place) (row : TableRow) → Q p → row_at at p ≡ Some row → S (row_spot at p row))
-      → (ps : List Place) → Each Q ps → Each S (spots ps)
+      → (ps : List Place) → AllByRecursion Q ps → AllByRecursion S (spots ps)
   each_spot Q S step [] each = tt
   each_spot Q S step (p ∷ ps) each = Each-append S (spot_at at p) (spots ps)
       (one (row_at at p) refl) (each_spot Q S step ps each.1)
     where
-      one : (row : Option TableRow) → row_at at p ≡ row → Each S (spot_of p (pointed_to (at p)) row)
+      one : (row : Option TableRow) → row_at at p ≡ row
+          → AllByRecursion S (spot_of p (pointed_to (at p)) row)
       one None e = tt
       one (Some row) e = (step p row each.0 e, tt)
 
-  always : (ps : List Place) → Each (λ _. Unit {0}) ps
+  always : (ps : List Place) → AllByRecursion (λ _. Unit {0}) ps
   always [] = tt
   always (p ∷ ps) = (tt, always ps)
 
   pub every_spot : (S : Spot → Type 0)
       → ((p : Place) (row : TableRow) → row_at at p ≡ Some row → S (row_spot at p row))
-      → (ps : List Place) → Each S (spots ps)
+      → (ps : List Place) → AllByRecursion S (spots ps)
   every_spot S step ps = each_spot (λ _. Unit {0}) S (λ p row _ e. step p row e) ps (always ps)
 
-  each_home : (Q : Place → Type 0) (ps : List Place) → Each Q ps → Each Q (homes (spots ps))
+  each_home : (Q : Place → Type 0) (ps : List Place) → AllByRecursion Q ps
+      → AllByRecursion Q (homes (spots ps))
   each_home Q ps each = Each-joined Q (λ (s : Spot). s.place) (spots ps)
       (each_spot Q (λ s. Q s.place) (λ p row q e. q) ps each)
 
@@ -100,13 +82,13 @@ abbrev pub ForOver : (Place → Type 0) → Option Place → Type 0
 ForOver P None = Unit {0}
 ForOver P (Some o) = P o
 
-pub each_over : (P : Place → Type 0) (ss : List Spot) → Each (λ s. ForOver P s.over) ss
-    → Each P (overs ss)
+pub each_over : (P : Place → Type 0) (ss : List Spot) → AllByRecursion (λ s. ForOver P s.over) ss
+    → AllByRecursion P (overs ss)
 each_over P [] each = tt
 each_over P (s ∷ ss) each =
     Each-append P (one_place s.over) (overs ss) (one s.over each.0) (each_over P ss each.1)
   where
-    one : (o : Option Place) → ForOver P o → Each P (one_place o)
+    one : (o : Option Place) → ForOver P o → AllByRecursion P (one_place o)
     one None h = tt
     one (Some o) h = (h, tt)
 
@@ -157,10 +139,10 @@ over_kind at p (DeadOver c h u) row e ties = tt
 -- no two of the list are the same
 abbrev Differ : List Place → Type 0
 Differ [] = Unit {0}
-Differ (p ∷ ps) = Each (λ q. same_place p q ≡ false) ps × Differ ps
+Differ (p ∷ ps) = AllByRecursion (λ q. same_place p q ≡ false) ps × Differ ps
 
 differ-append : (xs ys : List Place) → Differ xs → Differ ys
-    → Each (λ x. Each (λ y. same_place x y ≡ false) ys) xs → Differ (xs ++ ys)
+    → AllByRecursion (λ x. AllByRecursion (λ y. same_place x y ≡ false) ys) xs → Differ (xs ++ ys)
 differ-append [] ys a b across = b
 differ-append (x ∷ xs) ys a b across = (
   Each-append (λ y. same_place x y ≡ false) xs ys a.0 across.0,
@@ -171,7 +153,7 @@ rise_differ : (ps : List Place) → Rise ps → Differ ps
 rise_differ [] rise = tt
 rise_differ (p ∷ ps) rise = (
   Each-map (λ q. is_place_before p q ≡ true) (λ q. same_place p q ≡ false)
-      (λ q before. differ p q (apart p q before)) ps rise.0,
+      (λ q before. apart p q (not_itself p q before)) ps rise.0,
   rise_differ ps rise.1,
 )
 
@@ -204,12 +186,12 @@ module _ (at : Place → Slot) (tied : Tied at) where
     where
       -- another home has another Over area
       later : (o : Place) → IsOverAt at p o
-          → Each (λ o'. same_place o o' ≡ false) (overs (spots at ps))
+          → AllByRecursion (λ o'. same_place o o' ≡ false) (overs (spots at ps))
       later o is = each_over (λ o'. same_place o o' ≡ false) (spots at ps) (each_spot at
           (λ q. is_place_before p q ≡ true) (λ s. ForOver (λ o'. same_place o o' ≡ false) s.over)
           (λ q row before e. for_over q (λ o'. same_place o o' ≡ false)
-          (λ o' is'. differ o o'
-          (λ same. apart p q before (sym is.home ∙ ap (λ x. owner (at x)) same ∙ is'.home)))
+          (λ o' is'. apart o o'
+          (λ same. not_itself p q before (sym is.home ∙ ap (λ x. owner (at x)) same ∙ is'.home)))
           (pointed_to (at q)) (over_at q row e))
           ps rise.0)
 
@@ -226,16 +208,16 @@ module _ (at : Place → Slot) (tied : Tied at) where
   pub all_differ : (ps : List Place) → Rise ps → Differ (homes (spots at ps) ++ overs (spots at ps))
   all_differ ps rise = differ-append (homes (spots at ps)) (overs (spots at ps))
       (rise_differ (homes (spots at ps)) (homes_rise at ps rise)) (overs_differ ps rise)
-      (Each-joined (λ x. Each (λ y. same_place x y ≡ false) (overs (spots at ps)))
+      (Each-joined (λ x. AllByRecursion (λ y. same_place x y ≡ false) (overs (spots at ps)))
       (λ (s : Spot). s.place) (spots at ps)
-      (every_spot at (λ s. Each (λ y. same_place s.place y ≡ false) (overs (spots at ps)))
+      (every_spot at (λ s. AllByRecursion (λ y. same_place s.place y ≡ false) (overs (spots at ps)))
       (λ p row e. Each-map (λ o. is_over (at o) ≡ true) (λ o. same_place p o ≡ false)
-      (λ o over. differ p o
+      (λ o over. apart p o
       (λ same. false≢true (sym (home_kind at (at p) row e) ∙ ap (λ x. is_over (at x)) same ∙ over)))
       (overs (spots at ps)) over_kinds)
       ps))
     where
-      over_kinds : Each (λ o. is_over (at o) ≡ true) (overs (spots at ps))
+      over_kinds : AllByRecursion (λ o. is_over (at o) ≡ true) (overs (spots at ps))
       over_kinds = each_over (λ o. is_over (at o) ≡ true) (spots at ps)
           (every_spot at (λ s. ForOver (λ o. is_over (at o) ≡ true) s.over)
           (λ p row e. for_over p (λ o. is_over (at o) ≡ true) (λ o is. is.kind) (pointed_to (at p))

@@ -1,28 +1,29 @@
 -- The places of all slots: they rise, they are on the pages, and each slot that is not Free has its
 -- place among them.
 use Rattle.std.proofs.Common.{◌≡◌, ◌<◌, ◌≤◌, ◌||◌, ℕ, zero, suc, true, false, List, [], ◌∷◌, ◌++◌}
-use Rattle.std.proofs.Common.{refl, sym, ap, subst, ◌∙◌, arith, length, get_or, inl, inr}
-use Rattle.std.specs.List.{list_any}
+use Rattle.std.proofs.Common.{refl, sym, ap, subst, ◌∙◌, arith, length, inl, inr}
+use Rattle.std.specs.List.{list_any, AllByRecursion}
 use Rattle.std.proofs.lemmas.Bool.{cases_lt, or_left, or_right}
 use Rattle.std.proofs.lemmas.Bool.Decides.{nat_tests}
 use Rattle.std.proofs.lemmas.List.Folds.{list_any-append}
+use Rattle.std.proofs.lemmas.List.{get_or_past}
 use Rattle.rg_base.specs.declared.place.Place.{Place}
 use Rattle.rg_home.specs.Pages.{page_at, slot_of}
 use Rattle.rg_home.specs.Slot.{Slot}
 use Rattle.rg_home.specs.Slot.{Free}
-use Rattle.rg_index.specs.Entries.{Each}
-use Rattle.rg_index.proofs.Lists.{Each-map, Each-append}
 use Rattle.rg_layout.specs.Spots.{places_on, places_to}
-use Rattle.rg_model.specs.Layout.{same_place, is_place_before}
+use Rattle.rg_base.specs.Place.{same_place}
+use Rattle.rg_base.proofs.Each.{Each-map, Each-append}
+use Rattle.rg_model.specs.Layout.{is_place_before}
 use Rattle.rg_space.specs.Homes.{place_on}
 
 -- each place is before all that come after it
 abbrev pub Rise : List Place → Type 0
 Rise [] = Unit {0}
-Rise (p ∷ ps) = Each (λ q. is_place_before p q ≡ true) ps × Rise ps
+Rise (p ∷ ps) = AllByRecursion (λ q. is_place_before p q ≡ true) ps × Rise ps
 
 rise-append : (xs ys : List Place) → Rise xs → Rise ys
-    → Each (λ x. Each (λ y. is_place_before x y ≡ true) ys) xs → Rise (xs ++ ys)
+    → AllByRecursion (λ x. AllByRecursion (λ y. is_place_before x y ≡ true) ys) xs → Rise (xs ++ ys)
 rise-append [] ys a b across = b
 rise-append (x ∷ xs) ys a b across = (
   Each-append (λ y. is_place_before x y ≡ true) xs ys a.0 across.0,
@@ -33,7 +34,7 @@ rise-append (x ∷ xs) ys a b across = (
 abbrev IsOn : ℕ → ℕ → Place → Type 0
 IsOn n i p = (p.page ≡ n) × (p.slot < i)
 
-on_page : (n i : ℕ) → Each (IsOn n i) (places_on n i)
+on_page : (n i : ℕ) → AllByRecursion (IsOn n i) (places_on n i)
 on_page n zero = tt
 on_page n (suc i) = Each-append (IsOn n (suc i)) (places_on n i) (place_on n i ∷ [])
     (Each-map (IsOn n i) (IsOn n (suc i)) (λ p on. (on.0, omega (arith, on.1))) (places_on n i)
@@ -49,14 +50,15 @@ before_on n i p on = go p.page p.slot on.0 on.1
 rise_on : (n i : ℕ) → Rise (places_on n i)
 rise_on n zero = tt
 rise_on n (suc i) = rise-append (places_on n i) (place_on n i ∷ []) (rise_on n i) (tt, tt)
-    (Each-map (IsOn n i) (λ x. Each (λ y. is_place_before x y ≡ true) (place_on n i ∷ []))
+    (Each-map (IsOn n i) (λ x. AllByRecursion (λ y. is_place_before x y ≡ true) (place_on n i ∷ []))
     (λ p on. (before_on n i p on, tt)) (places_on n i) (on_page n i))
 
 -- a place on one of the pages 1 to n
 abbrev pub IsWithin : ℕ → Place → Type 0
 IsWithin n p = (1 ≤ p.page) × (p.page ≤ n)
 
-pub all_within : (pages : List (List Slot)) (n : ℕ) → Each (IsWithin n) (places_to pages n)
+pub all_within : (pages : List (List Slot)) (n : ℕ)
+    → AllByRecursion (IsWithin n) (places_to pages n)
 all_within pages zero = tt
 all_within pages (suc n) =
     let count = length (page_at pages (suc n)) in
@@ -76,19 +78,14 @@ all_rise pages zero = tt
 all_rise pages (suc n) =
     let count = length (page_at pages (suc n)) in
     rise-append (places_to pages n) (places_on (suc n) count) (all_rise pages n)
-    (rise_on (suc n) count)
-    (Each-map (IsWithin n) (λ x. Each (λ y. is_place_before x y ≡ true) (places_on (suc n) count))
+    (rise_on (suc n) count) (Each-map (IsWithin n)
+    (λ x. AllByRecursion (λ y. is_place_before x y ≡ true) (places_on (suc n) count))
     (λ x w. Each-map (IsOn (suc n) count) (λ y. is_place_before x y ≡ true)
     (λ y on. before_page x.page x.slot y.page y.slot (omega (arith, w.1, on.0)))
     (places_on (suc n) count) (on_page (suc n) count))
     (places_to pages n) (all_within pages n))
 
 -- ---- the places of slots that are there
-
-past : {A : Type 0} (xs : List A) (n : ℕ) (d : A) → length xs ≤ n → get_or xs n d ≡ d
-past [] n d le = refl
-past (x ∷ xs) zero d le = absurd (omega arith)
-past (x ∷ xs) (suc n) d le = past xs n d (omega arith)
 
 -- a slot that is not Free is one of a page that is there
 pub record IsSlot (pages : List (List Slot)) (p : Place) : Type 0 where
@@ -102,7 +99,7 @@ is_slot pages p taken = record { low = low p.page within; high = high; slot = wi
     within : p.slot < length (page_at pages p.page)
     within = elim (cases_lt p.slot (length (page_at pages p.page))) [
       | inl lt ↦ lt
-      | inr le ↦ absurd (taken (past (page_at pages p.page) p.slot Free le))
+      | inr le ↦ absurd (taken (get_or_past (page_at pages p.page) p.slot Free le))
     ]
 
     low : (n : ℕ) → p.slot < length (page_at pages n) → 1 ≤ n
@@ -111,8 +108,8 @@ is_slot pages p taken = record { low = low p.page within; high = high; slot = wi
 
     high : p.page ≤ length pages
     high = elim (cases_lt (length pages) p.page) [
-      | inl lt ↦
-          (let none : page_at pages p.page ≡ [] = past ([] ∷ pages) p.page [] (omega arith) in
+      | inl lt ↦ (let none : page_at pages p.page ≡ [] =
+          get_or_past ([] ∷ pages) p.page [] (omega arith) in
           absurd (omega (arith, within, ap length none)))
       | inr le ↦ le
     ]

@@ -3,12 +3,13 @@ use Rattle.std.proofs.Common.{◌≡◌, ◌==◌, ◌||◌, ℕ, ◌+◌, Bool,
 use Rattle.std.proofs.Common.{Option, Some, None, refl, sym, ap, subst, ◌∙◌, arith, length, filter}
 use Rattle.std.proofs.Common.{inl, inr}
 use Rattle.std.specs.Prelude.{nat_le}
-use Rattle.std.specs.List.{list_any, list_all}
+use Rattle.std.specs.List.{list_any, list_all, AllByRecursion}
 use Rattle.std.specs.FinMap as fin
 use Rattle.std.specs.FinMap.{find, get-entries}
 use Rattle.std.specs.Ordering.{nat_cmp, eq_by_cmp}
 use Rattle.std.proofs.lemmas.Bool.{cases_Bool, and_from, eqb-true, eq-eqb, false≢true, le-leb}
 use Rattle.std.proofs.lemmas.Bool.Decides.{nat_tests}
+use Rattle.std.specs.Cmp.{unsigned_tied}
 use Rattle.rg_base.specs.declared.place.Place.{Place}
 use Rattle.rg_base.specs.declared.row.Row.{Row as TableRow}
 use Rattle.rg_base.specs.declared.which.Which.{Which}
@@ -18,24 +19,26 @@ use Rattle.rg_home.specs.Plan.{pointed_to}
 use Rattle.rg_home.specs.Rows.{row_at, home_row, Tied}
 use Rattle.rg_home.specs.Slot.{Slot}
 use Rattle.rg_home.specs.Slot.{Free}
-use Rattle.rg_index.specs.Entries.{Each, IsRising}
+use Rattle.rg_index.specs.Entries.{IsRising}
 use Rattle.rg_index.specs.Listed.{IsListingOf, spot_row}
 use Rattle.rg_index.specs.RisingPart.{IsRising-rising_part}
 use Rattle.rg_index.proofs.Listing.{listing_is}
-use Rattle.rg_index.proofs.Lists.{Each-map, Each-append}
 use Rattle.rg_index.proofs.Order.{same_itself}
 use Rattle.rg_btree.specs.Indexes.Listings.{entries_of}
 use Rattle.rg_btree.specs.declared.indexes.indexes.Indexes.{Indexes}
-use Rattle.rg_layout.proofs.OnSpots.{is_over, place_itself, spots, row_spot, every_spot, each_over}
+use Rattle.rg_layout.proofs.OnSpots.{is_over, spots, row_spot, every_spot, each_over}
 use Rattle.rg_layout.proofs.OnSpots.{ForOver, IsOverAt, over_at, for_over, all_differ, homes_differ}
-use Rattle.rg_layout.proofs.OnSpots.{different_from, homes_rise, rising_from, place_is, all_from}
+use Rattle.rg_layout.proofs.OnSpots.{different_from, homes_rise, rising_from, all_from}
 use Rattle.rg_layout.proofs.OnSpots.{Each-joined}
 use Rattle.rg_layout.proofs.Places.{Rise, IsWithin, all_rise, is_among, is_slot}
 use Rattle.rg_layout.specs.Right.{IsRightFor}
 use Rattle.rg_layout.specs.Spots.{places_to, spot_of, spots_of}
 use Rattle.rg_home.specs.Table.{IsTable}
 use Rattle.rg_model.specs.Layout as layout
-use Rattle.rg_model.specs.Layout.{same_place, is_place_before, homes, overs, is_on_page, has_clus}
+use Rattle.rg_base.specs.Place.{same_place}
+use Rattle.rg_base.proofs.Each.{Each-map, Each-append}
+use Rattle.rg_base.proofs.SamePlace.{same_place-true, same_place-refl}
+use Rattle.rg_model.specs.Layout.{is_place_before, homes, overs, is_on_page, has_clus}
 use Rattle.rg_model.specs.Layout.{are_spots_of, listing, is_listing, same_entry, is_right_side}
 use Rattle.rg_model.specs.Same.{same_list}
 use Rattle.rg_model.specs.State as state
@@ -54,7 +57,7 @@ on_page n p w =
     and_from (nat_le 1 p.page) (nat_le p.page n) (le-leb 1 p.page w.0) (le-leb p.page n w.1)
 
 within_pages : (pages : List (List Slot)) → Tied (slot_of pages)
-    → Each (λ p. is_on_page (length pages) p ≡ true)
+    → AllByRecursion (λ p. is_on_page (length pages) p ≡ true)
     (homes (spots_of pages) ++ overs (spots_of pages))
 within_pages pages tied =
     let at = slot_of pages in
@@ -80,12 +83,9 @@ within_pages pages tied =
 
 -- ---- the spots are the table's
 
-is_same : (a b : ℕ) → eq_by_cmp nat_cmp a b ≡ (a == b)
-is_same a b = grind (arith, nat_tests)
-
 -- an entry is found by its key
 entry_found : (es : List (ℕ × TableRow))
-    → Each (λ e. (row : TableRow) × (find nat_cmp e.0 es ≡ Some row)) es
+    → AllByRecursion (λ e. (row : TableRow) × (find nat_cmp e.0 es ≡ Some row)) es
 entry_found [] = tt
 entry_found (e ∷ es) = (
   here,
@@ -97,7 +97,7 @@ entry_found (e ∷ es) = (
     here = (
       e.1,
       ap (λ (b : Bool). cond b (Some e.1) (find nat_cmp e.0 es))
-          (is_same e.0 e.0 ∙ eq-eqb e.0 e.0 refl),
+          (unsigned_tied e.0 e.0 ∙ eq-eqb e.0 e.0 refl),
     )
 
     later : (x : ℕ × TableRow) → (row : TableRow) × (find nat_cmp x.0 es ≡ Some row)
@@ -116,7 +116,8 @@ none_some : (o : Option TableRow) (row : TableRow) → o ≡ Some row → o ≡ 
 none_some o row a b = absurd (cc (sym a ∙ b))
 
 -- a home is not among the places behind it
-none_behind : (home : Place) (qs : List Place) → Each (λ q. is_place_before home q ≡ true) qs
+none_behind : (home : Place) (qs : List Place)
+    → AllByRecursion (λ q. is_place_before home q ≡ true) qs
     → list_any (same_place home) qs ≡ false
 none_behind home [] each = refl
 none_behind home (q ∷ qs) each =
@@ -128,7 +129,7 @@ none_behind home (q ∷ qs) each =
 other_place : (rows : Place → Option TableRow) (home p : Place) (row : TableRow)
     → rows home ≡ Some row → (rows p ≡ Some row → ⊥) → same_place home p ≡ false
 other_place rows home p row there ne = elim (cases_Bool (same_place home p)) [
-  | inl same ↦ absurd (ne (ap rows (sym (place_is home p same)) ∙ there))
+  | inl same ↦ absurd (ne (ap rows (sym (same_place-true home p same)) ∙ there))
   | inr other ↦ other
 ]
 
@@ -165,8 +166,9 @@ module _ (at : Place → Slot) (keys : ℕ → Option TableRow) (is : IsTable (r
           → length (p ∷ []) + length rest ≡ cond (same_place home p || found) 1 0
       here e so_far =
           let gone : found ≡ false =
-          none_behind home ps (subst (λ h. Each (λ q. is_place_before h q ≡ true) ps) e rise.0) in
-          let same : same_place home p ≡ true = ap (same_place home) e ∙ place_itself home in
+          none_behind home ps
+          (subst (λ h. AllByRecursion (λ q. is_place_before h q ≡ true) ps) e rise.0) in
+          let same : same_place home p ≡ true = ap (same_place home) e ∙ same_place-refl home in
           let nothing : length rest ≡ 0 = so_far ∙ (λ i. cond (gone i) 1 0) in
           let one = one_if (same_place home p) found same in
           omega (arith, nothing, one)
@@ -244,13 +246,14 @@ spot_rows at table is q (p ∷ ps) = go (row_at at p) refl (spot_rows at table i
     go None e so_far = elim (same_place q p) as
         (λ b. same_place q p ≡ b → rest ≡ cond (b || found) (row_at at q) None) [
           | true ↦
-              λ same. (let none : row_at at q ≡ None = ap (row_at at) (place_is q p same) ∙ e in
+              λ same.
+              (let none : row_at at q ≡ None = ap (row_at at) (same_place-true q p same) ∙ e in
               so_far ∙ (λ i. cond found (none i) None) ∙ all_none found ∙ sym none)
           | false ↦ λ other. so_far
         ] refl
     go (Some r) e so_far = elim (same_place q p) as (λ b. same_place q p ≡ b
         → cond b (fin.get table r.key) rest ≡ cond (b || found) (row_at at q) None) [
-          | true ↦ λ same. is.there p r e ∙ sym (ap (row_at at) (place_is q p same) ∙ e)
+          | true ↦ λ same. is.there p r e ∙ sym (ap (row_at at) (same_place-true q p same) ∙ e)
           | false ↦ λ other. so_far
         ] refl
 

@@ -9,7 +9,7 @@ ghost use Rattle.rg_layout.specs.Right.{IsRightFor};
 ghost use Rattle.rg_layout.specs.Spots.{spots_of};
 ghost use Rattle.rg_page.specs.Content.{slots_of};
 ghost use Rattle.rg_page.specs.Seen.{Reads};
-ghost use Rattle.rg_space.specs.Space.{InStep, frames_of, index_of, capacity_in, undos_in};
+ghost use Rattle.rg_space.specs.Space.{InStep, frames_of, summaries_of, capacity_in, undos_in};
 ghost use Rattle.rg_space.specs.Took.{HasRisen};
 
 use crate::spots::all_spots;
@@ -24,15 +24,15 @@ use std::alloc::Global;
 // The spots of a space. All pages are let go.
 fn spots_in<F: Frames>(alloc: Global, space: &mut Space<F>) -> Result<Spots, SpaceFault>
     requires spare { 2 ≤ (F.seen (frames_of space.old)).spare }
-    requires step { InStep (F.seen (frames_of space.old)) (index_of space.old)
+    requires step { InStep (F.seen (frames_of space.old)) (summaries_of space.old)
         (capacity_in space.old) }
     ensures spots { IfOk result (λ spots. (F.seen (frames_of space.new)).sure ≡ true
         → spots ≡ spots_of (slots_of (F.seen (frames_of space.new)).pages)) }
-    ensures step { InStep (F.seen (frames_of space.new)) (index_of space.new)
+    ensures step { InStep (F.seen (frames_of space.new)) (summaries_of space.new)
         (capacity_in space.new) }
     ensures capacity { capacity_in space.new ≡ capacity_in space.old }
     ensures undos { undos_in space.new ≡ undos_in space.old }
-    ensures summaries { index_of space.new ≡ index_of space.old }
+    ensures summaries { summaries_of space.new ≡ summaries_of space.old }
     ensures reserved { (F.seen (frames_of space.new)).reserved
         ≡ (F.seen (frames_of space.old)).reserved }
     ensures reads { Reads (F.seen (frames_of space.old)) (F.seen (frames_of space.new)) }
@@ -69,7 +69,7 @@ pub fn side_of<F: Frames>(
     cats: &Tree,
 ) -> Result<Side, SpaceFault>
     requires spare { 2 ≤ (F.seen (frames_of space.old)).spare }
-    requires step { InStep (F.seen (frames_of space.old)) (index_of space.old)
+    requires step { InStep (F.seen (frames_of space.old)) (summaries_of space.old)
         (capacity_in space.old) }
     ensures pages { IfOk result (λ side. side.pages
         ≡ length (F.seen (frames_of space.new)).pages) }
@@ -82,11 +82,11 @@ pub fn side_of<F: Frames>(
     ensures right { IfOk result (λ side. (F.seen (frames_of space.new)).sure ≡ true
         → IsRightFor (slots_of (F.seen (frames_of space.new)).pages)
         (record { keys = keys.now; cluses = cluses.now; cats = cats.now }) side) }
-    ensures step { InStep (F.seen (frames_of space.new)) (index_of space.new)
+    ensures step { InStep (F.seen (frames_of space.new)) (summaries_of space.new)
         (capacity_in space.new) }
     ensures capacity { capacity_in space.new ≡ capacity_in space.old }
     ensures undos { undos_in space.new ≡ undos_in space.old }
-    ensures summaries { index_of space.new ≡ index_of space.old }
+    ensures summaries { summaries_of space.new ≡ summaries_of space.old }
     ensures reserved { (F.seen (frames_of space.new)).reserved
         ≡ (F.seen (frames_of space.old)).reserved }
     ensures reads { Reads (F.seen (frames_of space.old)) (F.seen (frames_of space.new)) }
@@ -117,7 +117,7 @@ pub fn side<F: Frames>(
     indexes: &Indexes,
 ) -> Result<Side, SpaceFault>
     requires spare { 2 ≤ (F.seen (frames_of space.old)).spare }
-    requires step { InStep (F.seen (frames_of space.old)) (index_of space.old)
+    requires step { InStep (F.seen (frames_of space.old)) (summaries_of space.old)
         (capacity_in space.old) }
     ensures pages { IfOk result (λ side. side.pages
         ≡ length (F.seen (frames_of space.new)).pages) }
@@ -129,11 +129,11 @@ pub fn side<F: Frames>(
     // Where frames are not sure, pages may have changed between two slots.
     ensures right { IfOk result (λ side. (F.seen (frames_of space.new)).sure ≡ true
         → IsRightFor (slots_of (F.seen (frames_of space.new)).pages) indexes.now side) }
-    ensures step { InStep (F.seen (frames_of space.new)) (index_of space.new)
+    ensures step { InStep (F.seen (frames_of space.new)) (summaries_of space.new)
         (capacity_in space.new) }
     ensures capacity { capacity_in space.new ≡ capacity_in space.old }
     ensures undos { undos_in space.new ≡ undos_in space.old }
-    ensures summaries { index_of space.new ≡ index_of space.old }
+    ensures summaries { summaries_of space.new ≡ summaries_of space.old }
     ensures reserved { (F.seen (frames_of space.new)).reserved
         ≡ (F.seen (frames_of space.old)).reserved }
     ensures reads { Reads (F.seen (frames_of space.old)) (F.seen (frames_of space.new)) }

@@ -1,5 +1,5 @@
 -- What is left as a session's locks are taken off one by one.
-use Rattle.std.proofs.Common.{◌≡◌, ℕ, zero, suc, ◌<◌, ◌-◌, Bool, true, false, cond, not, Option}
+use Rattle.std.proofs.Common.{◌≡◌, ℕ, zero, suc, ◌<◌, ◌-◌, Bool, true, false, cond, Option}
 use Rattle.std.proofs.Common.{Some, None, refl, sym, ◌∙◌, ap, arith}
 use Rattle.std.specs.FinMap as map
 use Rattle.std.specs.FinMap.{same_map, nat_cmp-IsAntisymmetric, get-empty, get-remove, len-remove}
@@ -7,20 +7,17 @@ use Rattle.std.specs.FinMap.{empty_of_len}
 use Rattle.std.specs.Option.{is_some}
 use Rattle.std.specs.Ordering.{nat_cmp, eq_by_cmp}
 use Rattle.std.proofs.lemmas.Cmp.{nat_cmp_total}
-use Rattle.std.proofs.lemmas.Bool.Decides.{Decides-eqb}
 use Rattle.std.proofs.lemmas.Option.{none-some}
 use Rattle.rg_base.specs.declared.lock.Lock.{Lock}
 use Rattle.rg_base.specs.declared.row.Row.{Row}
 use Rattle.rg_base.specs.declared.session.Session.{Session}
+use Rattle.rg_base.proofs.Small.{cmp_one}
 use Rattle.rg_model.specs.Committed.{locks_without}
 use Rattle.rg_model.specs.Held.{is_others}
 use Rattle.rg_model.specs.State.{Locks}
-use Rattle.rg_model.proofs.Overlay.{key_of, get-without}
+use Rattle.rg_model.proofs.Overlay.{get-without}
+use Rattle.rg_model.proofs.Ends.{own_key}
 use Rattle.rg_lock.specs.Released.{Releases}
-
-own_lock : (session : Session) (row : Option Row)
-    → is_others session (Some (record { owner = session; row = row })) ≡ false
-own_lock session row = ap not ((Decides-eqb session.0 session.0).1 refl)
 
 at_key : (session : Session) (own : Lock) (b : Bool) (there : Option Lock)
     → is_others session (Some own) ≡ false → (b ≡ true → there ≡ Some own)
@@ -48,8 +45,8 @@ module _ (session : Session) (old new : Locks) where
       ∙ ap (λ lock. cond (is_others session lock) lock None)
       (get-remove nat_cmp_total old released.0 q)
       ∙ at_key session own (eq_by_cmp nat_cmp q released.0) (map.get old q)
-      (own_lock session released.1)
-      (λ same. ap (map.get old) (key_of q released.0 same) ∙ releases.0)
+      (own_key session released.1)
+      (λ same. ap (map.get old) (cmp_one q released.0 same) ∙ releases.0)
       ∙ sym (get-without session old q))
 
   -- there is one lock less

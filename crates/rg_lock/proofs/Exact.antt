@@ -1,18 +1,20 @@
 -- Each session's list keeps exactly the keys that it has locked, each once, whatever changes.
-use Rattle.std.proofs.Common.{◌≡◌, ◌==◌, ◌&&◌, ◌||◌, ℕ, Bool, true, false, cond, not, inl, inr}
-use Rattle.std.proofs.Common.{List, [], ◌∷◌, ◌++◌, Option, Some, None, refl, sym, ◌∙◌, ap, arith}
+use Rattle.std.proofs.Common.{◌≡◌, ◌==◌, ◌&&◌, ◌||◌, ℕ, Bool, true, false, cond, not}
+use Rattle.std.proofs.Common.{List, [], ◌∷◌, ◌++◌, Option, Some, None, refl, sym, ◌∙◌, ap}
 use Rattle.std.specs.declared.alloc.Global.{Global}
 use Rattle.std.specs.declared.vec.Vec.{Vec}
 use Rattle.std.specs.FinMap as map
 use Rattle.std.specs.FinMap.{get-insert, get-remove, get-empty}
 use Rattle.std.specs.List.{list_any}
-use Rattle.std.specs.Ordering.{nat_cmp, eq_by_cmp}
+use Rattle.std.specs.Ordering.{nat_cmp}
 use Rattle.std.proofs.lemmas.Cmp.{nat_cmp_total}
-use Rattle.std.proofs.lemmas.Bool.{cases_eq, ne_eqb, eqb-true}
-use Rattle.std.proofs.lemmas.Bool.Decides.{nat_tests, Decides-eqb}
+use Rattle.std.proofs.lemmas.Bool.{eqb-true, and_parts, not-true}
+use Rattle.std.proofs.lemmas.Bool.Decides.{Decides-eqb}
 use Rattle.std.proofs.lemmas.List.Folds.{list_any-append}
+use Rattle.std.proofs.Math.Bool.{or-false, and-true, and-false, or-true}
 use Rattle.rg_base.specs.declared.lock.Lock.{Lock}
 use Rattle.rg_base.specs.declared.session.Session.{Session}
+use Rattle.rg_base.proofs.Small.{nat_turned, cmp_turned}
 use Rattle.rg_model.specs.Held.{is_others}
 use Rattle.rg_model.specs.State.{Locks}
 use Rattle.rg_lock.specs.Owned.{keys_in, IsAppended, SameKeys, is_listed, IsExact, stands_once}
@@ -24,30 +26,9 @@ use Rattle.rg_lock.proofs.KeyLists.{listed-appended}
 abbrev is_own : Session → Option Lock → Bool
 is_own session found = not (is_others session found)
 
-swapped : (a b : ℕ) → (a == b) ≡ (b == a)
-swapped a b = elim (cases_eq a b) [
-  | inl same ↦ (Decides-eqb a b).1 same ∙ sym ((Decides-eqb b a).1 (sym same))
-  | inr apart ↦ ne_eqb a b apart ∙ sym (ne_eqb b a (λ e. apart (sym e)))
-]
-
-is_key : (k key : ℕ) → eq_by_cmp nat_cmp k key ≡ (key == k)
-is_key k key = grind (arith, nat_tests)
-
 not_not : (b : Bool) → not (not b) ≡ b
 not_not true = refl
 not_not false = refl
-
-and_false : (b : Bool) → (b && false) ≡ false
-and_false true = refl
-and_false false = refl
-
-and_true : (b : Bool) → (b && true) ≡ b
-and_true true = refl
-and_true false = refl
-
-or_false : (b : Bool) → (b || false) ≡ b
-or_false true = refl
-or_false false = refl
 
 -- where there are no locks and no keys
 pub exact-empty : (lists : List (Vec ℕ Global)) → ((n : ℕ) → keys_in lists n ≡ [])
@@ -74,11 +55,11 @@ inserted_at : (session : Session) (fresh : Lock) (b : Bool) (there : Option Lock
     ≡ is_own session (cond b (Some fresh) there)
 inserted_at session fresh true there none =
     ap (λ found. is_own session found || ((session.0 == fresh.owner.0) && true)) (none refl)
-    ∙ and_true (session.0 == fresh.owner.0) ∙ swapped session.0 fresh.owner.0
+    ∙ and-true (session.0 == fresh.owner.0) ∙ nat_turned session.0 fresh.owner.0
     ∙ sym (not_not (fresh.owner.0 == session.0))
 inserted_at session fresh false there none =
-    ap (λ (b : Bool). is_own session there || b) (and_false (session.0 == fresh.owner.0))
-    ∙ or_false (is_own session there)
+    ap (λ (b : Bool). is_own session there || b) (and-false (session.0 == fresh.owner.0))
+    ∙ or-false (is_own session there)
 
 -- a lock is put in for a key that had none, and the key is listed
 pub exact-inserted : (locks : Locks) (old new : List (Vec ℕ Global)) (fresh : Lock) (key : ℕ)
@@ -89,14 +70,15 @@ exact-inserted locks old new fresh key appended none exact session k =
     ∙ ap (λ (b : Bool). b || ((session.0 == fresh.owner.0) && (key == k))) (exact session k)
     ∙ inserted_at session fresh (key == k) (map.get locks k)
     (λ same. ap (map.get locks) (sym (eqb-true key k same)) ∙ none)
-    ∙ sym (ap (λ (b : Bool). is_own session (cond b (Some fresh) (map.get locks k))) (is_key k key))
+    ∙ sym
+    (ap (λ (b : Bool). is_own session (cond b (Some fresh) (map.get locks k))) (cmp_turned k key))
     ∙ sym (ap (is_own session) (get-insert nat_cmp_total locks key fresh k))
 
 -- one key more at the end
 once_more : (a e o l : Bool)
     → (not (a || (e || false)) && (o && not l)) ≡ ((not a && o) && not (e || l))
 once_more true e o l = refl
-once_more false true o l = sym (and_false o)
+once_more false true o l = sym (and-false o)
 once_more false false true l = refl
 once_more false false false l = refl
 
@@ -113,7 +95,7 @@ once-append (x ∷ xs) key =
     (list_any (λ other. other == key) xs)
     ∙ ap
     (λ (e : Bool). (not (list_any (λ other. other == x) xs) && stands_once xs)
-    && not (e || list_any (λ other. other == key) xs)) (swapped key x)
+    && not (e || list_any (λ other. other == key) xs)) (nat_turned key x)
 
 appended_once : (b : Bool) (keys : List ℕ) (key : ℕ) → stands_once keys ≡ true
     → (b ≡ true → list_any (λ other. other == key) keys ≡ false)
@@ -132,18 +114,10 @@ once-inserted locks old new session key appended none exact once number =
     ap (λ n. list_any (λ other. other == key) (keys_in old n)) (eqb-true number session.0 same)
     ∙ exact session key ∙ ap (is_own session) none)
 
-both_parts : (a b : Bool) → (a && b) ≡ true → (a ≡ true) × (b ≡ true)
-both_parts true b e = (refl, e)
-both_parts false b e = absurd (cc (e))
-
-not_true : (b : Bool) → not b ≡ true → b ≡ false
-not_true true e = absurd (cc (e))
-not_true false e = refl
-
 shorter_once : (b : Bool) (keys : List ℕ) (key : ℕ)
     → stands_once (cond b (keys ++ key ∷ []) keys) ≡ true → stands_once keys ≡ true
 shorter_once true keys key once =
-    (both_parts (stands_once keys) (not (list_any (λ other. other == key) keys))
+    (and_parts (stands_once keys) (not (list_any (λ other. other == key) keys))
     (sym (once-append keys key) ∙ once)).0
 shorter_once false keys key once = once
 
@@ -162,8 +136,8 @@ module _ (locks : Locks) (old new : List (Vec ℕ Global)) (session : Session) (
 
   -- the key is listed no more
   gone : list_any (λ other. other == key) (keys_in new session.0) ≡ false
-  gone = not_true (list_any (λ other. other == key) (keys_in new session.0))
-      (both_parts (stands_once (keys_in new session.0))
+  gone = not-true (list_any (λ other. other == key) (keys_in new session.0))
+      (and_parts (stands_once (keys_in new session.0))
       (not (list_any (λ other. other == key) (keys_in new session.0)))
       (sym (once-append (keys_in new session.0) key) ∙ sym (ap stands_once own_list)
       ∙ once session.0)).1
@@ -176,10 +150,7 @@ module _ (locks : Locks) (old new : List (Vec ℕ Global)) (session : Session) (
       ∙ ap (λ (b : Bool). is_listed new session key || (b && (key == key)))
       ((Decides-eqb session.0 session.0).1 refl)
       ∙ ap (λ (b : Bool). is_listed new session key || b) ((Decides-eqb key key).1 refl)
-      ∙ or_true (is_listed new session key) where
-        or_true : (b : Bool) → (b || true) ≡ true
-        or_true true = refl
-        or_true false = refl
+      ∙ or-true (is_listed new session key)
 
   owner_is : (found : Option Lock) → is_own session found ≡ true → (other : Session)
       → (other.0 == session.0) ≡ false → is_own other found ≡ false
@@ -187,7 +158,7 @@ module _ (locks : Locks) (old new : List (Vec ℕ Global)) (session : Session) (
   owner_is (Some kept) own other apart =
       let mine : kept.owner.0 ≡ session.0 =
       eqb-true kept.owner.0 session.0 (sym (not_not (kept.owner.0 == session.0)) ∙ own) in
-      not_not (kept.owner.0 == other.0) ∙ ap (λ n. n == other.0) mine ∙ swapped session.0 other.0
+      not_not (kept.owner.0 == other.0) ∙ ap (λ n. n == other.0) mine ∙ nat_turned session.0 other.0
       ∙ apart
 
   before_is : (other : Session) (k : ℕ)
@@ -201,7 +172,7 @@ module _ (locks : Locks) (old new : List (Vec ℕ Global)) (session : Session) (
       ap (λ n. list_any (λ listed. listed == key) (keys_in new n)) (eqb-true other.0 session.0 same)
       ∙ gone
   at_key other false apart =
-      sym (or_false (is_listed new other key))
+      sym (or-false (is_listed new other key))
       ∙ sym (ap (λ (b : Bool). is_listed new other key || (b && (key == key))) apart)
       ∙ before_is other key
       ∙ owner_is (map.get locks key) was_own other apart
@@ -212,15 +183,15 @@ module _ (locks : Locks) (old new : List (Vec ℕ Global)) (session : Session) (
       let here : key ≡ k = eqb-true key k same in
       ap (is_listed new other) (sym here) ∙ at_key other (other.0 == session.0) refl
   removed_at other k false apart =
-      sym (or_false (is_listed new other k))
-      ∙ sym (ap (λ (b : Bool). is_listed new other k || b) (and_false (other.0 == session.0)))
+      sym (or-false (is_listed new other k))
+      ∙ sym (ap (λ (b : Bool). is_listed new other k || b) (and-false (other.0 == session.0)))
       ∙ sym (ap (λ (b : Bool). is_listed new other k || ((other.0 == session.0) && b)) apart)
       ∙ before_is other k
 
   pub exact-removed : IsExact (map.remove locks key) new
   exact-removed other k =
       removed_at other k (key == k) refl
-      ∙ sym (ap (λ (b : Bool). is_own other (cond b None (map.get locks k))) (is_key k key))
+      ∙ sym (ap (λ (b : Bool). is_own other (cond b None (map.get locks k))) (cmp_turned k key))
       ∙ sym (ap (is_own other) (get-remove nat_cmp_total locks key k))
 
 -- a session without keys has no locks

@@ -6,10 +6,11 @@ use Rattle.std.specs.List.{list_any}
 use Rattle.std.specs.Option.{option_to_list}
 use Rattle.std.specs.declared.alloc.Global.{Global}
 use Rattle.std.specs.declared.vec.Vec.{Vec}
-use Rattle.std.proofs.lemmas.Bool.{or_cases, or_left, or_right, ne_eqb}
+use Rattle.std.proofs.lemmas.Bool.{or_cases, or_left, or_right, ne_eqb, and_parts, and_from}
 use Rattle.std.proofs.lemmas.Bool.Decides.{nat_tests, Decides-eqb}
 use Rattle.std.proofs.lemmas.List.{append-nil, nil_from_length}
 use Rattle.std.proofs.lemmas.List.Folds.{list_any-append}
+use Rattle.std.proofs.Math.Bool.{or-false}
 use Rattle.rg_base.specs.declared.session.Session.{Session}
 use Rattle.rg_lock.specs.Owned.{keys_in, IsAppended, SameKeys, is_listed}
 
@@ -49,24 +50,12 @@ keys_in-read (first ∷ lists) zero list within read = λ i. (sym read i).items
 keys_in-read (first ∷ lists) (suc number) list within read =
     keys_in-read lists number list (omega arith) read
 
-both_true : (a b : Bool) → a ≡ true → b ≡ true → (a && b) ≡ true
-both_true true b first second = second
-both_true false b first second = absurd (cc (first))
-
-both : (a b : Bool) → (a && b) ≡ true → (a ≡ true) × (b ≡ true)
-both true b e = (refl, e)
-both false b e = absurd (cc (e))
-
-or_false : (b : Bool) → (b || false) ≡ b
-or_false true = refl
-or_false false = refl
-
 has-appended : (b : Bool) (key k : ℕ) (keys : List ℕ)
     → list_any (λ listed. listed == k) (cond b (keys ++ key ∷ []) keys)
     ≡ (list_any (λ listed. listed == k) keys || (b && (key == k)))
 has-appended true key k keys = list_any-append (λ listed. listed == k) keys (key ∷ [])
-    ∙ ap (λ last. list_any (λ listed. listed == k) keys || last) (or_false (key == k))
-has-appended false key k keys = sym (or_false (list_any (λ listed. listed == k) keys))
+    ∙ ap (λ last. list_any (λ listed. listed == k) keys || last) (or-false (key == k))
+has-appended false key k keys = sym (or-false (list_any (λ listed. listed == k) keys))
 
 module _ (shorter longer : List (Vec ℕ Global)) (number key : ℕ)
     (appended : IsAppended shorter longer number key) where
@@ -87,7 +76,7 @@ module _ (shorter longer : List (Vec ℕ Global)) (number key : ℕ)
   listed_at_end session same =
       listed-appended session key
       ∙ or_right (is_listed shorter session key) ((session.0 == number) && (key == key))
-      (both_true (session.0 == number) (key == key) ((Decides-eqb session.0 number).1 same)
+      (and_from (session.0 == number) (key == key) ((Decides-eqb session.0 number).1 same)
       ((Decides-eqb key key).1 refl))
 
   -- all but the key is listed without it
@@ -98,7 +87,7 @@ module _ (shorter longer : List (Vec ℕ Global)) (number key : ℕ)
       (sym (listed-appended session k) ∙ listed)) [
         | inl before ↦ before
         | inr last ↦
-            let parts = both (session.0 == number) (key == k) last in
+            let parts = and_parts (session.0 == number) (key == k) last in
             absurd
             (other ((Decides-eqb session.0 number).0 parts.0) ((Decides-eqb key k).0 parts.1))
       ]

@@ -1,3 +1,4 @@
 pub mod Exact
 pub mod Ended
 pub mod KeyLists
+pub mod ScanHeld

@@ -44,7 +44,7 @@ forced_more rs forced from page r entry is =
       entries = entries_more rs r entry is.entries;
     }
 
-log_bytes_more : (rs : List Record) (r : Record)
+pub log_bytes_more : (rs : List Record) (r : Record)
     → log_bytes (rs ++ r ∷ []) ≡ log_bytes rs + size_of r
 log_bytes_more [] r = omega arith
 log_bytes_more (x ∷ rs) r = omega (arith, log_bytes_more rs r)

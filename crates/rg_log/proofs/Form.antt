@@ -1,6 +1,6 @@
 -- The form of a log page.
 use Rattle.std.proofs.Common.{◌≡◌, ℕ, ◌-◌, ◌<◌, ◌^◌, Bool, true, false, not, List, [], ◌∷◌, ◌++◌}
-use Rattle.std.proofs.Common.{length, take, drop, replicate, refl, sym, ◌∙◌, subst, ap, arith}
+use Rattle.std.proofs.Common.{length, take, drop, replicate, sym, ◌∙◌, subst, ap, arith}
 use Rattle.std.specs.List.{flat_map}
 use Rattle.std.proofs.lemmas.List.{take-append-drop}
 use Rattle.byteorder.specs.Endian.{big_number}
@@ -50,10 +50,6 @@ pub form_read : (page count : ℕ) (bytes body : List ℕ) (found rs : List Reco
 form_read page count bytes body found rs small number is_body read form =
     let s = form_stands page count bytes body rs small number is_body form in
     subst (IsForm page bytes) (sym (read.1 rs s.0 s.1)) form
-
-pub was_true : (b : Bool) → not b ≡ false → b ≡ true
-was_true true e = refl
-was_true false e = absurd cc
 
 pub not_both : (b : Bool) → b ≡ true → not b ≡ true → ⊥
 not_both true e n = absurd cc

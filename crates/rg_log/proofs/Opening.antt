@@ -13,6 +13,7 @@ use Rattle.rg_log.specs.Open.{IsCertain, IsQuiet}
 use Rattle.rg_outside.specs.Moments.{EachCall, IfTold}
 use Rattle.rg_outside.specs.declared.source.Failed.{Failed}
 use Rattle.rg_outside.proofs.Failing.{read_reads}
+use Rattle.rg_outside.proofs.Single.{anything}
 use Rattle.rg_record.specs.declared.record.Record.{Record}
 use Rattle.std.proofs.Common.{⊎_elim}
 use Rattle.std.proofs.lemmas.List.Elements.{Contains-append_cases}
@@ -108,14 +109,10 @@ pub only_read : (old mid new : Option Told) (result : Result (Unit {0}) Failed)
 only_read old mid new result so_far made =
     one_call IsQuiet old mid new (IsReadCall result) so_far made (read_quiet result)
 
-known : (told : Option Told) → IfTold told (λ t. Unit {0})
-known None = tt
-known (Some t) = tt
-
 after_sync : (old new : Option Told) (x : Unit {0}) (call : Call) → IsSyncCall (Ok x) call
     → Made old call new → IfTold new IsCertain
 after_sync old new x Synced is made =
-    told_after (λ t. Unit {0}) IsCertain old new Synced (known old) made
+    told_after (λ t. Unit {0}) IsCertain old new Synced (anything old) made
     (λ t u s p bytes left. one_only (read_of t.first t.calls s p) bytes left)
 after_sync old new x _ is made = absurd is
 

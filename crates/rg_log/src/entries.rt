@@ -10,6 +10,7 @@ ghost use Rattle.rg_log.specs.Read.{IsNoEntry, AreRead, AreNone, IsFormRead};
 use crate::page::{count_fitting, fill_page};
 use rg_base::field::get_u16;
 use rg_base::no_memory::NoMemory;
+use rg_base::note::note;
 use rg_record::buffer::PAGE_SIZE;
 use rg_record::fault::RecordFault;
 use rg_record::read::read_record;
@@ -36,7 +37,7 @@ fn entry_at(alloc: Global, bytes: &[u8]) -> Result<(Record, &[u8]), RecordFault>
     let (front, rest) = rest.split_at(size);
     match read_record(alloc, front) {
         Ok(entry) => {
-            let _size = entry.size();
+            note(&entry.size());
             Ok((entry, rest))
         }
         Err(fault) => Err(fault),

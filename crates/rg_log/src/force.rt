@@ -33,17 +33,19 @@ pub fn force_page<V: Volume>(
     requires some { from < end }
     requires within { end ≤ length records.now }
     requires end { end ≡ from + fitting 0 (drop from records.now) }
-    requires high { page ≤ log_pages (V.capacities volume.old) }
+    requires high { page ≤ log_pages (V.seen volume.old).capacities }
 
     ensures moments { (low : ℕ) → from ≤ low
-        → KeepsLog (V.told volume.old) (V.told volume.new) (log_pages (V.capacities volume.old))
-        records.now low }
+        → KeepsLog (V.seen volume.old).told (V.seen volume.new).told
+        (log_pages (V.seen volume.old).capacities) records.now low }
     ensures durable { OnOk result ((low : ℕ) → from ≤ low
-        → LeavesLog (V.told volume.old) (log_pages (V.capacities volume.old)) records.now low
-        → LeavesLog (V.told volume.new) (log_pages (V.capacities volume.old)) records.now end) }
-    ensures only { EachCall (V.told volume.old) (V.told volume.new) (WritesIn Log) }
-    ensures capacities { V.capacities volume.new ≡ V.capacities volume.old }
-    ensures cause { HasCause (V.faults volume.old) (V.faults volume.new) result }
+        → LeavesLog (V.seen volume.old).told (log_pages (V.seen volume.old).capacities)
+        records.now low
+        → LeavesLog (V.seen volume.new).told (log_pages (V.seen volume.old).capacities)
+        records.now end) }
+    ensures only { EachCall (V.seen volume.old).told (V.seen volume.new).told (WritesIn Log) }
+    ensures capacities { (V.seen volume.new).capacities ≡ (V.seen volume.old).capacities }
+    ensures cause { HasCause (V.seen volume.old).faults (V.seen volume.new).faults result }
 {
     let bytes = fill_page(&records[from..end], page);
     volume.write(Set::Log, page, &bytes)?;

@@ -250,19 +250,20 @@ impl Log {
     // Forces one page more.
     fn step<V: Volume>(&mut self, volume: &mut V) -> Result<(), Failed>
         requires more { self.old.forced < length self.old.records }
-        requires pages { self.old.pages ≡ log_pages (V.capacities volume.old) }
+        requires pages { self.old.pages ≡ log_pages (V.seen volume.old).capacities }
         ensures kept { self.new ≡ record self.old { forced = self.new.forced } }
         ensures further { self.old.forced ≤ self.new.forced }
         ensures within { self.new.forced ≤ length self.old.records }
         ensures ok { OnOk result (self.old.forced < self.new.forced) }
-        ensures moments { KeepsLog (V.told volume.old) (V.told volume.new) self.old.pages
+        ensures moments { KeepsLog (V.seen volume.old).told (V.seen volume.new).told self.old.pages
             self.old.records self.old.forced }
-        ensures ahead { LeavesLog (V.told volume.old) self.old.pages self.old.records
+        ensures ahead { LeavesLog (V.seen volume.old).told self.old.pages self.old.records
             self.old.forced
-            → LeavesLog (V.told volume.new) self.old.pages self.old.records self.new.forced }
-        ensures only { EachCall (V.told volume.old) (V.told volume.new) (WritesIn LogSet) }
-        ensures capacities { V.capacities volume.new ≡ V.capacities volume.old }
-        ensures cause { HasCause (V.faults volume.old) (V.faults volume.new) result }
+            → LeavesLog (V.seen volume.new).told self.old.pages self.old.records self.new.forced }
+        ensures only { EachCall (V.seen volume.old).told (V.seen volume.new).told
+            (WritesIn LogSet) }
+        ensures capacities { (V.seen volume.new).capacities ≡ (V.seen volume.old).capacities }
+        ensures cause { HasCause (V.seen volume.old).faults (V.seen volume.new).faults result }
     {
         let records = self.records.as_slice();
         let (from, page) = next_page(records, self.forced, self.from, self.page);
@@ -276,27 +277,28 @@ impl Log {
 
     /// Puts all records on the volume for good. Where none is missing it makes no call.
     pub fn force<V: Volume>(&mut self, volume: &mut V) -> Result<(), Device>
-        requires { self.old.pages ≡ log_pages (V.capacities volume.old) }
+        requires { self.old.pages ≡ log_pages (V.seen volume.old).capacities }
         ensures kept { self.new ≡ record self.old { forced = self.new.forced } }
         ensures further { self.old.forced ≤ self.new.forced }
         ensures ok { OnOk result (self.new.forced ≡ length self.old.records) }
         // At Ok the log of each image that a crash may leave is the list of the records.
         ensures log { OnOk result
-            (LeavesLog (V.told volume.old) self.old.pages self.old.records self.old.forced
-            → IfTold (V.told volume.new)
+            (LeavesLog (V.seen volume.old).told self.old.pages self.old.records self.old.forced
+            → IfTold (V.seen volume.new).told
             (EachImage (λ i. log_of self.old.pages i ≡ self.old.records))) }
         // At each moment, and whatever fails, it is a part of them, no less than was forced.
-        ensures moments { KeepsLog (V.told volume.old) (V.told volume.new) self.old.pages
+        ensures moments { KeepsLog (V.seen volume.old).told (V.seen volume.new).told self.old.pages
             self.old.records self.old.forced }
-        ensures ahead { LeavesLog (V.told volume.old) self.old.pages self.old.records
+        ensures ahead { LeavesLog (V.seen volume.old).told self.old.pages self.old.records
             self.old.forced
-            → LeavesLog (V.told volume.new) self.old.pages self.old.records self.new.forced }
+            → LeavesLog (V.seen volume.new).told self.old.pages self.old.records self.new.forced }
         // No page of another set is written.
-        ensures only { EachCall (V.told volume.old) (V.told volume.new) (WritesIn LogSet) }
+        ensures only { EachCall (V.seen volume.old).told (V.seen volume.new).told
+            (WritesIn LogSet) }
         ensures none { self.old.forced ≡ length self.old.records → volume.new ≡ volume.old }
-        ensures capacities { V.capacities volume.new ≡ V.capacities volume.old }
+        ensures capacities { (V.seen volume.new).capacities ≡ (V.seen volume.old).capacities }
         // It fails only where a call of the volume did.
-        ensures cause { HasCause (V.faults volume.old) (V.faults volume.new) result }
+        ensures cause { HasCause (V.seen volume.old).faults (V.seen volume.new).faults result }
     {
         while self.count_forced() < self.count() {
             match self.step(volume) {

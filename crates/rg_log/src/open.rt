@@ -98,24 +98,24 @@ fn read_next(
 /// Reads the log of a volume.
 pub fn open_log<V: Volume>(alloc: Global, volume: &mut V) -> Result<Log, LogFault>
     ensures state { IfOk result (λ log. (log.forced ≡ length log.records) × (log.reserved ≡ 0)
-        × (log.pages ≡ log_pages (V.capacities volume.old))) }
+        × (log.pages ≡ log_pages (V.seen volume.old).capacities)) }
     // All log pages have the form, and these are their records.
-    ensures log { IfOk result (λ log. IfTold (V.told volume.new)
+    ensures log { IfOk result (λ log. IfTold (V.seen volume.new).told
         (λ t. HasLogPages log.pages (read_of t.first t.calls) log.records)) }
     // A crash leaves what was read.
-    ensures sure { OnOk result (IfTold (V.told volume.new) IsCertain) }
+    ensures sure { OnOk result (IfTold (V.seen volume.new).told IsCertain) }
     // Where it read tidy, whatever a crash leaves spells these records: this is what `force` asks
     // to go on from.
-    ensures leaves { IfOk result (λ log. ReadsTidy (V.told volume.old) log.pages
-        → LeavesLog (V.told volume.new) log.pages log.records log.forced) }
+    ensures leaves { IfOk result (λ log. ReadsTidy (V.seen volume.old).told log.pages
+        → LeavesLog (V.seen volume.new).told log.pages log.records log.forced) }
     // The page that is named is the first that has not.
     ensures fault { IfErr result
-        (IsLogFault (V.told volume.new) (log_pages (V.capacities volume.old))
-        (V.faults volume.old) (V.faults volume.new)) }
+        (IsLogFault (V.seen volume.new).told (log_pages (V.seen volume.old).capacities)
+        (V.seen volume.old).faults (V.seen volume.new).faults) }
     // No page is written.
-    ensures only { EachCall (V.told volume.old) (V.told volume.new) IsQuiet }
-    ensures capacities { V.capacities volume.new ≡ V.capacities volume.old }
-    ensures later { V.faults volume.old ≤ V.faults volume.new }
+    ensures only { EachCall (V.seen volume.old).told (V.seen volume.new).told IsQuiet }
+    ensures capacities { (V.seen volume.new).capacities ≡ (V.seen volume.old).capacities }
+    ensures later { (V.seen volume.old).faults ≤ (V.seen volume.new).faults }
 {
     match volume.sync() {
         Err(_) => return Err(LogFault::Device),

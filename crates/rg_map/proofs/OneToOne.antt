@@ -4,9 +4,10 @@ use Rattle.std.specs.FinMap as map
 use Rattle.std.specs.FinMap.{get-empty}
 use Rattle.std.proofs.lemmas.Option.{none-some}
 use Rattle.rg_base.specs.declared.place.Place.{Place}
-use Rattle.rg_model.specs.Layout.{same_place}
+use Rattle.rg_base.specs.Place.{same_place}
+use Rattle.rg_base.proofs.SamePlace.{same_place-true}
 use Rattle.rg_map.specs.Mapping.{place_cmp, Targets, IsOneToOne, IsFree}
-use Rattle.rg_map.proofs.Places.{get-put, get-taken, same_place-true}
+use Rattle.rg_map.proofs.Places.{get-put, get-taken}
 
 pub one-empty : IsOneToOne map.empty
 one-empty a b target at_a at_b = absurd (none-some target (sym (get-empty place_cmp a) ∙ at_a))

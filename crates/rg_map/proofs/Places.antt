@@ -1,44 +1,26 @@
 -- The order of places, and the targets that entries give.
-use Rattle.std.proofs.Common.{◌≡◌, ◌==◌, ◌&&◌, ℕ, true, cond, List, [], ◌∷◌, Option, Some, None}
-use Rattle.std.proofs.Common.{map as each, refl, sym, ◌∙◌, ap, arith}
+use Rattle.std.proofs.Common.{◌≡◌, ◌==◌, ◌&&◌, ℕ, cond, List, [], ◌∷◌, Option, Some, None}
+use Rattle.std.proofs.Common.{map as each, refl, sym, ◌∙◌, ap}
 use Rattle.std.specs.Ordering.{nat_cmp, eq_by_cmp, is_eq}
-use Rattle.std.specs.Cmp.{IsTotalOrder, then_total, on_total, tied_then}
+use Rattle.std.specs.Cmp.{IsTotalOrder, then_total, on_total, tied_then, unsigned_tied}
 use Rattle.std.specs.FinMap as map
 use Rattle.std.specs.FinMap.{find, same_map, get-insert, get-remove, get-from_entries}
 use Rattle.std.specs.Map.{lookup}
 use Rattle.std.proofs.lemmas.Cmp.{nat_cmp_total}
-use Rattle.std.proofs.lemmas.Bool.{eqb-true, and_parts}
-use Rattle.std.proofs.lemmas.Bool.Decides.{nat_tests}
 use Rattle.rg_base.specs.declared.place.Place.{Place}
-use Rattle.rg_model.specs.Layout.{same_place}
+use Rattle.rg_base.specs.Place.{same_place}
+use Rattle.rg_base.proofs.SamePlace.{same_place-true, same_place-turned}
 use Rattle.rg_map.specs.Mapping.{place_cmp, Targets, at_place, targets_of}
 
 pub place_total : IsTotalOrder place_cmp
 place_total = then_total (on_total (λ (p : Place). p.page) nat_cmp_total)
     (on_total (λ (p : Place). p.slot) nat_cmp_total)
 
-nat_tied : (a b : ℕ) → is_eq (nat_cmp a b) ≡ (a == b)
-nat_tied a b = grind (arith, nat_tests)
-
-pub nat_turned : (a b : ℕ) → (a == b) ≡ (b == a)
-nat_turned a b = grind (arith, nat_tests)
-
 -- places tie where they are the same
 pub tied : (p q : Place) → eq_by_cmp place_cmp p q ≡ same_place p q
 tied p q = sym (tied_then (nat_cmp p.page q.page) (nat_cmp p.slot q.slot))
-    ∙ ap (λ b. b && is_eq (nat_cmp p.slot q.slot)) (nat_tied p.page q.page)
-    ∙ ap (λ b. (p.page == q.page) && b) (nat_tied p.slot q.slot)
-
-pub same_place-true : (p q : Place) → same_place p q ≡ true → p ≡ q
-same_place-true p q e =
-    let parts = and_parts (p.page == q.page) (p.slot == q.slot) e in
-    let page = eqb-true p.page q.page parts.0 in
-    let slot = eqb-true p.slot q.slot parts.1 in
-    λ i. record { page = page i; slot = slot i }
-
-pub same_place-turned : (p q : Place) → same_place p q ≡ same_place q p
-same_place-turned p q = ap (λ b. b && (p.slot == q.slot)) (nat_turned p.page q.page)
-    ∙ ap (λ b. (q.page == p.page) && b) (nat_turned p.slot q.slot)
+    ∙ ap (λ b. b && is_eq (nat_cmp p.slot q.slot)) (unsigned_tied p.page q.page)
+    ∙ ap (λ b. (p.page == q.page) && b) (unsigned_tied p.slot q.slot)
 
 pub place_antisymmetric : map.IsAntisymmetric place_cmp
 place_antisymmetric p q e = same_place-true p q (sym (tied p q) ∙ ap is_eq e)

@@ -3,12 +3,14 @@ use Rattle.std.proofs.Common.{◌≡◌, ◌==◌, ◌&&◌, ◌||◌, ℕ, Bool
 use Rattle.std.proofs.Common.{Some, refl, sym, ◌∙◌, ap}
 use Rattle.std.specs.List.{list_any, AllByRecursion, IsDistinct}
 use Rattle.std.specs.Map.{keys_of, values_of}
-use Rattle.std.proofs.lemmas.Bool.{and_from, and_parts, eqb-true, eq-eqb}
+use Rattle.std.proofs.lemmas.Bool.{and_from, and_parts, eqb-true, eq-eqb, or_right}
 use Rattle.std.proofs.lemmas.Option.{none-some, same_Some}
 use Rattle.rg_base.specs.declared.place.Place.{Place}
-use Rattle.rg_model.specs.Layout.{same_place}
+use Rattle.rg_base.proofs.Small.{nat_turned}
+use Rattle.rg_base.specs.Place.{same_place}
+use Rattle.rg_base.proofs.SamePlace.{same_place-true}
 use Rattle.rg_map.specs.Mapping.{IsFree, IsTarget, targets_of}
-use Rattle.rg_map.proofs.Places.{found_at, get-targets, nat_turned, same_place-true}
+use Rattle.rg_map.proofs.Places.{found_at, get-targets}
 
 same_place-refl : (p : Place) → same_place p p ≡ true
 same_place-refl p = and_from (p.page == p.page) (p.slot == p.slot) (eq-eqb p.page p.page refl)
@@ -27,10 +29,6 @@ found_among : (es : List ((ℕ × ℕ) × Place)) (key : ℕ × ℕ) (target : P
 found_among [] key target e = absurd (none-some target e)
 found_among (x ∷ es) key target e = go (same_key key x.0) e (found_among es key target)
   where
-    or_true : (b c : Bool) → c ≡ true → (b || c) ≡ true
-    or_true true c f = refl
-    or_true false c f = f
-
     go : (b : Bool) → cond b (Some x.1) (found_at es key) ≡ Some target
         → (found_at es key ≡ Some target
         → list_any (λ value. same_place value target) (values_of es) ≡ true)
@@ -38,7 +36,7 @@ found_among (x ∷ es) key target e = go (same_key key x.0) e (found_among es ke
         ≡ true
     go true f rest = ap (λ b. b || list_any (λ value. same_place value target) (values_of es))
         (ap (λ place. same_place place target) (same_Some x.1 target f) ∙ same_place-refl target)
-    go false f rest = or_true (same_place x.1 target) _ (rest f)
+    go false f rest = or_right (same_place x.1 target) _ (rest f)
 
 pub free_of : (es : List ((ℕ × ℕ) × Place)) (target : Place)
     → list_any (λ value. same_place value target) (values_of es) ≡ false

@@ -1,8 +1,12 @@
+// The rules of the mapping table.
+//
+// 1. Each place in the old copy has at most one target in the new one.
+// 2. A change of the target of one place leaves the targets of all others.
 ghost use Rattle.std.specs.Prelude.{◌≡◌, Some, None, if◌then◌else◌};
 ghost use Rattle.std.specs.FinMap as map;
 ghost use Rattle.rg_base.specs.declared.place.Place.{Place};
 ghost use Rattle.rg_map.specs.Mapping.{Targets};
-ghost use Rattle.rg_model.specs.Layout.{same_place};
+ghost use Rattle.rg_base.specs.Place.{same_place};
 
 /// A change of the target of one source leaves the others.
 pub fn changes_are_at_one_place()

@@ -12,7 +12,7 @@ ghost use Rattle.std.specs.FinMap as map;
 ghost use Rattle.std.specs.HashMap.{IsUnique, values};
 ghost use Rattle.std.specs.List.{list_any};
 ghost use Rattle.rg_map.specs.Mapping.{IsFree, IsOneToOne, IsTarget};
-ghost use Rattle.rg_model.specs.Layout.{same_place};
+ghost use Rattle.rg_base.specs.Place.{same_place};
 
 use rg_base::no_memory::NoMemory;
 use rg_base::place::Place;

@@ -10,6 +10,7 @@ use Rattle.rg_outside.specs.Calls.{Image, Call, Read, Synced, FailedRead, Failed
 use Rattle.rg_outside.specs.Calls.{left_of}
 use Rattle.rg_outside.specs.Moments.{IfTold, SamePages}
 use Rattle.rg_outside.specs.Capacities.{Capacities}
+use Rattle.rg_outside.specs.Volume.{VolumeSeen}
 use Rattle.rg_mem.specs.Listed.{calls_of, image_of, write_call}
 use Rattle.rg_mem.specs.declared.volume.Failing.{Failing}
 use Rattle.rg_mem.specs.declared.volume.MemVolume.{MemVolume}
@@ -37,6 +38,10 @@ contents_left m set page = left_of (shown m).first (shown m).calls set page
 -- it reports no more once the counter of calls past the room stands at its end
 abbrev pub told_of : MemVolume → Option Told
 told_of m = if nat_lt m.past (2 ^ 64 - 1) then Some (shown m) else None
+
+-- what it reports
+abbrev pub seen_of : MemVolume → VolumeSeen
+seen_of m = record { told = told_of m; faults = m.faults; capacities = capacities_of m }
 
 own :
     (t : Bool) (m : MemVolume)

@@ -1,6 +1,7 @@
 -- Which calls fail, and how many did.
-use Rattle.std.specs.Prelude.{ℕ, ◌+◌, ◌-◌, ◌^◌, min, ◌==◌, Bool, List, if◌then◌else◌}
+use Rattle.std.specs.Prelude.{ℕ, ◌==◌, Bool, List, if◌then◌else◌}
 use Rattle.std.specs.List.{list_any}
+use Rattle.rg_outside.specs.Counts.{count_after}
 
 -- the numbers of the calls that fail, how many calls were made, and how many faults there were
 pub record Tally : Type 0 where
@@ -11,10 +12,6 @@ pub record Tally : Type 0 where
 -- before the first call
 abbrev pub tally_before : List ℕ → Tally
 tally_before failing = record { failing = failing; made = 0; faults = 0 }
-
--- one more, or the same at the type's end
-abbrev pub count_after : ℕ → ℕ
-count_after n = min (n + 1) (2 ^ 64 - 1)
 
 -- whether the next call is one of those that fail
 abbrev pub next_fails : Tally → Bool

@@ -1,5 +1,11 @@
+// The calls that a thing in memory was asked for.
+//
+// 1. A call fails exactly where its number, from 1, is among those that it was made with.
+// 2. Each failed call is one more fault, and so is each fault of another cause.
+// 3. Both counts stand still at the end of their type.
 ghost use Rattle.std.specs.Prelude.{◌≡◌, ◌≤◌, IfOk};
-ghost use Rattle.rg_mem.specs.Tally.{tally_before, count_after, next_fails, after_call};
+ghost use Rattle.rg_outside.specs.Counts.{count_after};
+ghost use Rattle.rg_mem.specs.Tally.{tally_before, next_fails, after_call};
 
 use std::alloc::{AllocError, Global};
 use std::marker::Model;

@@ -1,6 +1,12 @@
+// An operator with a script.
+//
+// 1. Its lines are the answers to its questions, in their order.
+// 2. Behind the last line it answers that line again without its command. With no line it answers
+//    moment 0 and estimate 0, and wants nothing.
+// 3. It keeps what it was told last of the work that is left.
 ghost use Rattle.std.specs.Prelude.{◌≡◌, IfOk};
 ghost use Rattle.rg_outside.specs.Told.{AddsAnswer, HandsOver};
-ghost use Rattle.rg_mem.specs.Tally.{count_after};
+ghost use Rattle.rg_outside.specs.Counts.{count_after};
 ghost use Rattle.rg_mem.specs.Script.{answer_at, told_answers, told_left};
 
 use rg_base::control::{Answer, Command};

@@ -11,7 +11,7 @@ ghost use Rattle.std.specs.Prelude.{slice_index_or, ◌∷◌, ◌++◌, length,
 ghost use Rattle.std.specs.Prelude.{OnErr};
 ghost use Rattle.std.specs.Prelude.{is_err};
 ghost use Rattle.std.specs.Prelude.{IsTrue, min, vec_len, vec_capacity, if◌then◌else◌, ◌↔◌};
-ghost use Rattle.rg_mem.specs.Tally.{count_after};
+ghost use Rattle.rg_outside.specs.Counts.{count_after};
 ghost use Rattle.rg_mem.specs.Listed.{failed_in, is_failed_note, writes_needed, noted_write};
 ghost use Rattle.rg_mem.specs.Listed.{zero_page};
 ghost use Rattle.rg_mem.specs.Listed.{pick_at};
@@ -407,16 +407,13 @@ impl Volume for MemVolume {
     ghost use Rattle.rg_outside.specs.Faults.{HasCause};
     ghost use Rattle.rg_outside.specs.Made.{Made, MadeRead, MadeWrite, MadeSync};
     ghost use Rattle.rg_outside.specs.Moments.{IfTold};
-    ghost use Rattle.rg_mem.specs.Shown.{capacities_of, told_of, own_capacities, next_read};
+    ghost use Rattle.rg_mem.specs.Shown.{capacities_of, told_of, seen_of, own_capacities};
+    ghost use Rattle.rg_mem.specs.Shown.{next_read};
     ghost use Rattle.rg_mem.specs.Failed.{own_faults};
     ghost use Rattle.rg_mem.specs.Whole.{own_pages};
     ghost use Rattle.rg_mem.specs.Shown.{next_write, next_sync, fails, write_fails, KeepsAs};
 
-    ghost capacities = { capacities_of };
-
-    ghost told = { told_of };
-
-    ghost faults = { λ m. m.faults };
+    ghost seen = { seen_of };
 
     fn capacity(&self, set: Set) -> u32 {
         match set {

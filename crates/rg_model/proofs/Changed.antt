@@ -1,30 +1,21 @@
 -- Maps after changes at one key.
 use Rattle.std.proofs.Common.{◌≡◌, ◌==◌, ℕ, Bool, true, false, cond, not, Option, Some, None, refl}
-use Rattle.std.proofs.Common.{sym, ◌∙◌, ap, arith}
+use Rattle.std.proofs.Common.{sym, ◌∙◌, ap}
 use Rattle.std.specs.FinMap as map
 use Rattle.std.specs.FinMap.{FinMap, same_map, nat_cmp-IsAntisymmetric, get-insert, get-remove}
 use Rattle.std.specs.Option.{is_some}
 use Rattle.std.specs.Ordering.{nat_cmp, eq_by_cmp}
 use Rattle.std.proofs.lemmas.Cmp.{nat_cmp_total}
-use Rattle.std.proofs.lemmas.Bool.Decides.{nat_tests}
 use Rattle.rg_base.specs.Retained.{passes, retain_entries}
 use Rattle.rg_base.specs.declared.lock.Lock.{Lock}
 use Rattle.rg_base.specs.declared.session.Class.{Class}
 use Rattle.rg_base.specs.declared.session.Class.TheVariants.{Reader}
 use Rattle.rg_base.specs.declared.session.Session.{Session}
+use Rattle.rg_base.proofs.Small.{cmp_same, cmp_one, none_of}
 use Rattle.rg_model.specs.Claims.{claim_with}
 use Rattle.rg_model.specs.Committed.{locks_without}
 use Rattle.rg_model.specs.Held.{is_others}
 use Rattle.rg_model.specs.State.{Claims, Locks}
-use Rattle.rg_model.proofs.Overlay.{key_of}
-
-none_of : {V : Type 0} (o : Option V) → is_some o ≡ false → o ≡ None
-none_of None e = refl
-none_of (Some x) e = absurd (cc (e))
-
-pub absent_of : (b : Bool) → not b ≡ true → b ≡ false
-absent_of true e = absurd (cc (e))
-absent_of false e = refl
 
 module _ {V : Type 0} (m : FinMap nat_cmp V) (k : ℕ) where
   at_removed : (v : V) (q : ℕ) (b : Bool) → (b ≡ true → map.get m q ≡ None)
@@ -39,7 +30,7 @@ module _ {V : Type 0} (m : FinMap nat_cmp V) (k : ℕ) where
       (λ q. get-remove nat_cmp_total (map.insert m k v) k q
       ∙ ap (λ o. cond (eq_by_cmp nat_cmp q k) None o) (get-insert nat_cmp_total m k v q)
       ∙ at_removed v q (eq_by_cmp nat_cmp q k)
-      (λ e. ap (map.get m) (key_of q k e) ∙ none_of (map.get m k) absent))
+      (λ e. ap (map.get m) (cmp_one q k e) ∙ none_of (map.get m k) absent))
 
   at_twice : (v w : V) (o : Option V) (b : Bool)
       → cond b (Some w) (cond b (Some v) o) ≡ cond b (Some w) o
@@ -66,14 +57,11 @@ module _ {V : Type 0} (m : FinMap nat_cmp V) (k : ℕ) where
   insert-held v there = same_map nat_cmp_total nat_cmp-IsAntisymmetric (map.insert m k v) m
       (λ q. get-insert nat_cmp_total m k v q
       ∙ at_same (map.get m q) v (eq_by_cmp nat_cmp q k)
-      (λ e. ap (map.get m) (key_of q k e) ∙ there))
+      (λ e. ap (map.get m) (cmp_one q k e) ∙ there))
 
   pub contains_key-insert : (v : V) → map.contains_key (map.insert m k v) k ≡ true
   contains_key-insert v = ap is_some
-      (get-insert nat_cmp_total m k v k ∙ ap (λ b. cond b (Some v) (map.get m k)) (same k))
-    where
-      same : (n : ℕ) → eq_by_cmp nat_cmp n n ≡ true
-      same n = grind (arith, nat_tests)
+      (get-insert nat_cmp_total m k v k ∙ ap (λ b. cond b (Some v) (map.get m k)) (cmp_same k))
 
   -- the value from before is given back
   pub given_back : (v : V) (before : Option V) (mid new : FinMap nat_cmp V) → mid ≡ map.insert m k v
@@ -97,7 +85,7 @@ pub claim-held : (claims : Claims) (k : ℕ) → map.contains_key claims k ≡ t
 claim-held claims k there = same_map nat_cmp_total nat_cmp-IsAntisymmetric _ claims
     (λ q. get-insert nat_cmp_total claims k (claim_with (map.get claims k) Reader) q
     ∙ at_claim (map.get claims k) (map.get claims q) (eq_by_cmp nat_cmp q k) there
-    (λ e. ap (map.get claims) (key_of q k e)))
+    (λ e. ap (map.get claims) (cmp_one q k e)))
 
 owned : (session : Session) (key : ℕ) (found : Option Lock)
     → passes (λ _ kept. not (kept.owner.0 == session.0)) key found ≡ is_others session found

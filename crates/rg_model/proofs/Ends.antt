@@ -1,21 +1,20 @@
 -- The end of a unit, lock by lock.
-use Rattle.std.proofs.Common.{◌≡◌, ◌==◌, ℕ, Bool, true, false, cond, not, Option, Some, None, refl}
-use Rattle.std.proofs.Common.{sym, ◌∙◌, ap, arith}
+use Rattle.std.proofs.Common.{◌≡◌, ℕ, Bool, true, false, cond, not, Option, Some, None, refl}
+use Rattle.std.proofs.Common.{sym, ◌∙◌, ap}
 use Rattle.std.specs.Ordering.{nat_cmp, eq_by_cmp}
 use Rattle.std.specs.FinMap as map
 use Rattle.std.specs.FinMap.{same_map, nat_cmp-IsAntisymmetric, get-remove, get-entries}
 use Rattle.std.specs.FinMap.{get-retain_keys}
 use Rattle.std.proofs.lemmas.Cmp.{nat_cmp_total}
-use Rattle.std.proofs.lemmas.Bool.Decides.{nat_tests}
 use Rattle.rg_base.specs.declared.lock.Lock.{Lock}
 use Rattle.rg_base.specs.declared.row.Row.{Row}
 use Rattle.rg_base.specs.declared.session.Session.{Session}
+use Rattle.rg_base.proofs.Small.{nat_itself, cmp_one}
 use Rattle.rg_model.specs.Committed.{set_to, put_back, committed_table, locks_without, own_locks}
 use Rattle.rg_model.specs.Held.{is_others}
 use Rattle.rg_model.specs.Plain.{after_rollback}
 use Rattle.rg_model.specs.State.{State, Table, Locks}
 use Rattle.rg_model.proofs.Overlay.{kept_or, get-set_to, get-put_back, get-committed, get-without}
-use Rattle.rg_model.proofs.Overlay.{key_of}
 
 pub get-own : (session : Session) (locks : Locks) (q : ℕ)
     → map.get (own_locks session locks) q
@@ -34,11 +33,9 @@ get-put_own session locks table q =
     ∙ ap (λ found. kept_or found (map.get table q))
     (sym (get-entries (own_locks session locks) q) ∙ get-own session locks q)
 
-own_key : (session : Session) (row : Option Row)
+pub own_key : (session : Session) (row : Option Row)
     → is_others session (Some (record { owner = session; row = row })) ≡ false
-own_key session row = rw (same session.0) refl where
-  same : (n : ℕ) → (n == n) ≡ true
-  same n = grind (arith, nat_tests)
+own_key session row = rw (nat_itself session.0) refl
 
 -- without a lock of the session, at the lock's key and at any other
 without_at : (session : Session) (lock : Option Lock) (b : Bool) (found : Option Lock)
@@ -60,7 +57,7 @@ module _ (session : Session) (locks : Locks) (key : ℕ) (row : Option Row)
     (is : map.get locks key ≡ Some (record { owner = session; row = row })) where
   at_key : (q : ℕ) → eq_by_cmp nat_cmp q key ≡ true
       → map.get locks q ≡ Some (record { owner = session; row = row })
-  at_key q e = ap (map.get locks) (key_of q key e) ∙ is
+  at_key q e = ap (map.get locks) (cmp_one q key e) ∙ is
 
   -- a lock of the session less, and the others are the same
   pub without-remove : locks_without session (map.remove locks key) ≡ locks_without session locks

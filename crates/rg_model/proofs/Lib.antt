@@ -1,16 +1,18 @@
-pub mod Changed
 mod ClusteringRestored
 mod DeadlineAndAlter
 mod DrainGivenUp
 mod EmptyReorg
-pub mod Ends
 mod LongLog
+mod RollbackUnderTheDrain
+mod Traces
+pub mod Allowed
+pub mod Before
+pub mod Changed
+pub mod Ends
 pub mod Members
 pub mod OneState
 pub mod Overlay
-mod RollbackUnderTheDrain
 pub mod RunPossible
 pub mod RunPush
-mod Traces
 pub mod Turned
 pub mod Walked

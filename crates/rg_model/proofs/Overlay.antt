@@ -1,10 +1,8 @@
 -- What the committed table has at each key.
 use Rattle.std.proofs.Common.{◌≡◌, ℕ, Bool, true, false, cond, List, [], ◌∷◌, Option, Some, None}
 use Rattle.std.proofs.Common.{refl, sym, ◌∙◌, ap}
-use Rattle.std.specs.Ordering.{nat_cmp, eq_by_cmp, is_eq}
+use Rattle.std.specs.Ordering.{nat_cmp, eq_by_cmp}
 use Rattle.std.specs.Option.{is_some}
-use Rattle.std.specs.declared.cmp.Ordering.{Ordering}
-use Rattle.std.specs.declared.cmp.Ordering.TheVariants.{Less, Equal, Greater}
 use Rattle.std.specs.FinMap as map
 use Rattle.std.specs.FinMap.{find, same_map, nat_cmp-IsAntisymmetric, get-empty, get-insert}
 use Rattle.std.specs.FinMap.{get-remove, get-entries, get-retain_keys}
@@ -12,6 +10,7 @@ use Rattle.std.proofs.lemmas.Cmp.{nat_cmp_total}
 use Rattle.rg_base.specs.declared.lock.Lock.{Lock}
 use Rattle.rg_base.specs.declared.row.Row.{Row}
 use Rattle.rg_base.specs.declared.session.Session.{Session}
+use Rattle.rg_base.proofs.Small.{cmp_one}
 use Rattle.rg_model.specs.Committed.{set_to, put_back, committed_table, locks_without}
 use Rattle.rg_model.specs.Held.{is_others}
 use Rattle.rg_model.specs.Plain.{lock_key, write_key}
@@ -74,14 +73,6 @@ same_kept (Some kept) lock_q row_key row_q new_row fresh true same_lock same_row
     rw (same_lock refl) refl
 same_kept (Some kept) lock_q row_key row_q new_row fresh false same_lock same_row keeps = refl
 
-equal_of : (o : Ordering) → is_eq o ≡ true → o ≡ Equal
-equal_of Less e = absurd (cc (e))
-equal_of Equal e = refl
-equal_of Greater e = absurd (cc (e))
-
-pub key_of : (q key : ℕ) → eq_by_cmp nat_cmp q key ≡ true → q ≡ key
-key_of q key e = nat_cmp-IsAntisymmetric q key (equal_of (nat_cmp q key) e)
-
 -- a write keeps what is committed
 pub committed-written : (st : State) (session : Session) (key : ℕ) (row : Option Row)
     → committed_table (write_key st session key row) ≡ committed_table st
@@ -97,8 +88,8 @@ committed-written st session key row = same_map nat_cmp_total nat_cmp-IsAntisymm
     (map.get st.locks q)))) (get-set_to st.table key row q)
     ∙ same_kept (map.get st.locks key) (map.get st.locks q) (map.get st.table key)
     (map.get st.table q) row (record { owner = session; row = map.get st.table key })
-    (eq_by_cmp nat_cmp q key)
-    (λ e. ap (map.get st.locks) (key_of q key e)) (λ e. ap (map.get st.table) (key_of q key e)) refl
+    (eq_by_cmp nat_cmp q key) (λ e. ap (map.get st.locks) (cmp_one q key e))
+    (λ e. ap (map.get st.table) (cmp_one q key e)) refl
     ∙ sym (get-committed st q))
 
 pub get-without : (session : Session) (locks : Locks) (q : ℕ)

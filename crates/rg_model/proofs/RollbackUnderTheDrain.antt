@@ -6,6 +6,7 @@ use Rattle.std.proofs.Common.{◌∙◌, ap, length}
 use Rattle.std.specs.FinMap as map
 use Rattle.std.specs.FinMap.{len-remove, get-entries}
 use Rattle.std.proofs.lemmas.Cmp.{nat_cmp_total}
+use Rattle.std.proofs.lemmas.List.{nil_from_length}
 use Rattle.rg_base.specs.declared.options.DrainFor.TheVariants.{Writers, All}
 use Rattle.rg_base.specs.declared.options.DrainState.{DrainState}
 use Rattle.rg_base.specs.declared.options.DrainState.TheVariants.{Asked, Granted}
@@ -22,7 +23,7 @@ use Rattle.rg_model.specs.Run.{Run}
 use Rattle.rg_model.specs.State as model
 use Rattle.rg_model.specs.State.{State}
 use Rattle.rg_model.specs.Utility.{new_utility}
-use Rattle.rg_model.proofs.Traces.{defaults, session, row, at, step, line, said, beside, no_items}
+use Rattle.rg_model.proofs.Traces.{defaults, session, row, at, step, line, said, beside}
 
 abbrev past : List Entry
 past =
@@ -72,7 +73,7 @@ module _
     -- the claim went with the unit
     no_claims : map.entries (map.remove claims 1) ≡ []
     no_claims =
-        no_items _
+        nil_from_length _
         (sym (map.len-entries (map.remove claims 1))
         ∙ len-remove nat_cmp_total claims 1
         ∙ ap (λ (b : Bool). cond b (map.len claims - 1) (map.len claims)) has_claim

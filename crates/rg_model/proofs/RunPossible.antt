@@ -1,13 +1,14 @@
 -- Each run ends in one of the states that its entries allow.
-use Rattle.std.proofs.Common.{◌≡◌, ◌==◌, ◌&&◌, ℕ, Bool, true, false, List, [], ◌∷◌, Option, Some}
-use Rattle.std.proofs.Common.{None, refl, sym, ◌∙◌, ap, subst, arith, if◌then◌else◌}
+use Rattle.std.proofs.Common.{◌≡◌, ◌==◌, ℕ, Bool, true, false, List, [], ◌∷◌, Option, Some}
+use Rattle.std.proofs.Common.{None, refl, sym, ◌∙◌, ap, subst, if◌then◌else◌}
 use Rattle.std.specs.FinMap as fin
 use Rattle.std.specs.List.{Contains, flat_map}
-use Rattle.std.proofs.lemmas.Bool.Decides.{nat_tests}
 use Rattle.std.proofs.lemmas.Slice.Eq.{bytes_eq-Decides}
+use Rattle.std.proofs.lemmas.Bool.{and_from}
 use Rattle.rg_base.specs.declared.control.Answer.{Answer}
 use Rattle.rg_base.specs.declared.row.Row.{Row}
 use Rattle.rg_base.specs.declared.session.Session.{Session}
+use Rattle.rg_base.proofs.Small.{nat_itself}
 use Rattle.rg_stmt.specs.declared.event.Actor.{Actor}
 use Rattle.rg_stmt.specs.declared.event.Actor.TheVariants as actors
 use Rattle.rg_stmt.specs.declared.event.Entry.{Entry}
@@ -29,11 +30,8 @@ use Rattle.rg_model.specs.Same.{same_list, same_number, same_row, same_reply}
 use Rattle.rg_model.specs.State.{State, Table, at_rest}
 use Rattle.rg_model.proofs.Members.{only_one, Contains-map_filter, Contains-flat_map}
 
-pub same_number-refl : (a : ℕ) → (a == a) ≡ true
-same_number-refl a = grind (arith, nat_tests)
-
 pub same_row-refl : (r : Row) → same_row r r ≡ true
-same_row-refl r = rw (same_number-refl r.key, same_number-refl r.clus, same_number-refl r.cat)
+same_row-refl r = rw (nat_itself r.key, nat_itself r.clus, nat_itself r.cat)
     ((bytes_eq-Decides r.text r.text).1 refl)
 
 same_list-refl : {X : Type 0} (same : X → X → Bool) → ((x : X) → same x x ≡ true) → (xs : List X)
@@ -45,23 +43,20 @@ pub same_reply-refl : (r : Reply) → same_reply r r ≡ true
 same_reply-refl Done = refl
 same_reply-refl (Found row) = same_row-refl row
 same_reply-refl (Listed rows) = same_list-refl same_row same_row-refl rows
-same_reply-refl (Keyed keys) = same_list-refl same_number same_number-refl keys
+same_reply-refl (Keyed keys) = same_list-refl same_number nat_itself keys
 same_reply-refl Absent = refl
 same_reply-refl Duplicate = refl
-same_reply-refl (Held owner) = same_number-refl owner.0
-same_reply-refl (Victim owner) = same_number-refl owner.0
+same_reply-refl (Held owner) = nat_itself owner.0
+same_reply-refl (Victim owner) = nat_itself owner.0
 same_reply-refl Drained = refl
-same_reply-refl (Full need) = same_number-refl need
-same_reply-refl (LogFull need left) = rw (same_number-refl need) (same_number-refl left)
+same_reply-refl (Full need) = nat_itself need
+same_reply-refl (LogFull need left) = rw (nat_itself need) (nat_itself left)
 same_reply-refl Device = refl
 same_reply-refl Down = refl
 same_reply-refl NoMemory = refl
 
 is_chosen : (b : Bool) (st new : State) → b ≡ true → new ≡ st → if_allowed b st ≡ Some new
 is_chosen b st new passes e = rw (passes, e) refl
-
-both : (a b : Bool) → a ≡ true → b ≡ true → (a && b) ≡ true
-both a b e f = rw e f
 
 same_as : (reply plain : Reply) → reply ≡ plain → same_reply reply plain ≡ true
 same_as reply plain e = ap (same_reply reply) (sym e) ∙ same_reply-refl reply
@@ -80,9 +75,9 @@ answers_is st new session stmt NoMemory a = is_chosen _ st new a.0 a.1
 answers_is st new session stmt (Victim owner) a =
     is_chosen _ _ new (same_as (Held owner) (plain_reply st session stmt) (sym a.0)) a.1
 answers_is st new session stmt (Full need) a = is_chosen _ st new
-    (both (may_want_room stmt) (is_done (plain_reply st session stmt)) a.0 a.1) a.2
+    (and_from (may_want_room stmt) (is_done (plain_reply st session stmt)) a.0 a.1) a.2
 answers_is st new session stmt (LogFull need left) a = is_chosen _ st new
-    (both (may_want_log stmt) (is_done (plain_reply st session stmt)) a.0 a.1) a.2
+    (and_from (may_want_log stmt) (is_done (plain_reply st session stmt)) a.0 a.1) a.2
 answers_is st new session stmt Device a = a
 answers_is st new session stmt Drained a = absurd a
 answers_is st new session stmt Down a = absurd a
@@ -150,7 +145,7 @@ among_opened st new copy rows r =
     rw (r.copy_left, r.at_rest)
     (Contains-map_filter (λ table. at_rest table copy) (λ table. fin.len table == rows)
     (tables_left st st.doubt) r.table r.left
-    (ap (λ n. n == rows) r.counted ∙ same_number-refl rows))
+    (ap (λ n. n == rows) r.counted ∙ nat_itself rows))
 
 among_after :
     (past : List Entry) (answer : Option Answer) (actor : Actor) (event : Event) (st new : State)

@@ -1,8 +1,8 @@
 -- The words in which the worked traces are written.
-use Rattle.std.proofs.Common.{◌≡◌, ℕ, List, [], ◌∷◌, Some, None, false, refl, sym, ◌∙◌, arith}
-use Rattle.std.proofs.Common.{length}
+use Rattle.std.proofs.Common.{◌≡◌, ℕ, [], ◌∷◌, Some, None, false, sym, ◌∙◌}
 use Rattle.std.specs.Ordering.{nat_cmp}
 use Rattle.std.specs.FinMap as map
+use Rattle.std.proofs.lemmas.List.{nil_from_length}
 use Rattle.rg_base.specs.declared.control.Answer.{Answer}
 use Rattle.rg_base.specs.declared.control.Command.{Command}
 use Rattle.rg_base.specs.declared.control.Command.TheVariants.{Nothing}
@@ -83,13 +83,9 @@ beside table locks claims drain utility = record {
   copydoubt = false;
 }
 
-pub no_items : {X : Type 0} (xs : List X) → length xs ≡ 0 → xs ≡ []
-no_items [] e = refl
-no_items (x ∷ xs) e = absurd (omega (arith, e))
-
 -- an empty map has no entries
 pub entries-empty : (X : Type 0) → map.entries (map.empty {K = ℕ} {X = X} {R = nat_cmp}) ≡ []
-entries-empty X = no_items _ (sym (map.len-entries map.empty) ∙ map.len-empty nat_cmp X)
+entries-empty X = nil_from_length _ (sym (map.len-entries map.empty) ∙ map.len-empty nat_cmp X)
 
 pub len-empty : (X : Type 0) → map.len (map.empty {K = ℕ} {X = X} {R = nat_cmp}) ≡ 0
 len-empty X = map.len-empty nat_cmp X

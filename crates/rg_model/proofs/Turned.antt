@@ -1,24 +1,18 @@
 -- A table that becomes another one, key by key.
-use Rattle.std.proofs.Common.{◌≡◌, ◌≤◌, ◌<◌, ◌+◌, ◌⊎◌, inl, inr, ℕ, true, false, cond, refl, sym}
+use Rattle.std.proofs.Common.{◌≡◌, ◌≤◌, ◌<◌, ◌+◌, ◌⊎◌, inl, inr, ℕ, cond, refl, sym}
 use Rattle.std.proofs.Common.{◌∙◌, ap, arith}
 use Rattle.std.specs.Ordering.{nat_cmp, eq_by_cmp}
 use Rattle.std.specs.FinMap as map
 use Rattle.std.specs.FinMap.{same_map, nat_cmp-IsAntisymmetric}
 use Rattle.std.proofs.lemmas.Cmp.{nat_cmp_total}
-use Rattle.std.proofs.lemmas.Bool.Decides.{nat_tests}
 use Rattle.rg_base.proofs.Walk.{place}
+use Rattle.rg_base.proofs.Small.{cmp_same, cmp_apart}
 use Rattle.rg_model.specs.State.{Table}
 
 -- below this key it is the one that it becomes, and from there on the one that it was
 pub record IsTurned (before after : Table) (from : ℕ) (now : Table) : Type 0 where
   pub done : (key : ℕ) → key < from → map.get now key ≡ map.get after key
   pub left : (key : ℕ) → from ≤ key → map.get now key ≡ map.get before key
-
-apart : (q k : ℕ) → (q ≡ k → ⊥) → eq_by_cmp nat_cmp q k ≡ false
-apart q k differ = grind (arith, nat_tests)
-
-same : (k : ℕ) → eq_by_cmp nat_cmp k k ≡ true
-same k = grind (arith, nat_tests)
 
 pub turned-begins : (before after : Table) → IsTurned before after 0 before
 turned-begins before after =
@@ -62,10 +56,10 @@ module _ (before after now : Table) (from k : ℕ) (turned : IsTurned before aft
       where
         other : (key : ℕ) → (key ≡ k → ⊥) → map.get new key ≡ map.get now key
         other key differ =
-            is key ∙ ap (λ b. cond b (map.get after k) (map.get now key)) (apart key k differ)
+            is key ∙ ap (λ b. cond b (map.get after k) (map.get now key)) (cmp_apart key k differ)
 
         at_it : map.get new k ≡ map.get after k
-        at_it = is k ∙ ap (λ b. cond b (map.get after k) (map.get now k)) (same k)
+        at_it = is k ∙ ap (λ b. cond b (map.get after k) (map.get now k)) (cmp_same k)
 
         by_place : (key : ℕ) → key < k + 1 → (key < k) ⊎ ((k ≡ key) ⊎ (k < key))
             → map.get new key ≡ map.get after key

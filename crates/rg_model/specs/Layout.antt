@@ -14,9 +14,7 @@ use Rattle.rg_stmt.specs.declared.layout.Side.{Side}
 use Rattle.rg_stmt.specs.declared.layout.Spot.{Spot}
 use Rattle.rg_model.specs.Same.{same_list}
 use Rattle.rg_model.specs.State.{Table, row_of, entries_of}
-
-abbrev pub same_place : Place → Place → Bool
-same_place a b = a.page == b.page && a.slot == b.slot
+use Rattle.rg_base.specs.Place.{same_place}
 
 -- by page, then by slot
 abbrev pub is_place_before : Place → Place → Bool

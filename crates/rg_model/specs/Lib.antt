@@ -13,7 +13,6 @@ pub mod Right
 pub mod Run
 pub mod Said
 pub mod Same
-pub mod Start
 pub mod State
 pub mod Turn
 pub mod Utility

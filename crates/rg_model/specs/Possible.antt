@@ -59,14 +59,10 @@ state_started st options copy pages =
     if_allowed (not st.down && (not (is_some st.utility) && (copy == st.copy)))
     (start_utility st options pages)
 
--- it is refused where none runs
-abbrev pub state_not_started : State → Option State
-state_not_started st = if_allowed (not st.down && not (is_some st.utility)) st
-
 abbrev pub state_active : State → Option State
 state_active st = if_allowed (not st.down && is_some st.utility) st
 
--- a step finds no utility
+-- no utility runs: a start is refused, or a step finds none
 abbrev pub state_idle : State → Option State
 state_idle st = if_allowed (not st.down && not (is_some st.utility)) st
 
@@ -96,9 +92,9 @@ next_state past answer actors.System event st = None
 next_state past answer actors.Utility (events.Started options copy pages) st =
     state_started st options copy pages
 next_state past answer actors.Utility events.Active st = state_active st
-next_state past answer actors.Utility (events.StartLogFull need left) st = state_not_started st
+next_state past answer actors.Utility (events.StartLogFull need left) st = state_idle st
 next_state past answer actors.Utility events.StartDown st = state_down st
-next_state past answer actors.Utility events.StartNoMemory st = state_not_started st
+next_state past answer actors.Utility events.StartNoMemory st = state_idle st
 next_state past answer actors.Utility events.Idle st = state_idle st
 next_state past answer actors.Utility events.StepDown st = state_down st
 next_state past answer actors.Utility event st = state_after_step past answer event st st.utility

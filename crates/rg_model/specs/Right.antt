@@ -12,7 +12,8 @@ use Rattle.rg_stmt.specs.declared.layout.Side.{Side}
 use Rattle.rg_stmt.specs.declared.layout.Sides.{Sides}
 use Rattle.rg_stmt.specs.declared.layout.Spot.{Spot}
 use Rattle.rg_model.specs.Changes.{changes}
-use Rattle.rg_model.specs.Layout.{same_place, is_right_side}
+use Rattle.rg_base.specs.Place.{same_place}
+use Rattle.rg_model.specs.Layout.{is_right_side}
 use Rattle.rg_model.specs.Packed.{packed_spots, packed_pages}
 use Rattle.rg_model.specs.Quiet.{is_quiet}
 use Rattle.rg_model.specs.Same.{same_list}

@@ -16,6 +16,7 @@ ghost use Rattle.rg_model.specs.State.{at_rest};
 
 use crate::plain::parts::{drop_locks, give_back, is_others, set_row};
 use crate::plain::walks::{find_holder, keys_with_cat, rolled_back, rows_between, scan_holder};
+use rg_base::copy::TableCopy;
 use rg_base::lock::Lock;
 use rg_base::map::NumberMap;
 use rg_base::no_memory::NoMemory;
@@ -36,12 +37,12 @@ pub struct PlainState {
     pub table: NumberMap<Row>,
     pub locks: NumberMap<Lock>,
     pub claims: NumberMap<Class>,
-    pub copy: u8,
+    pub copy: TableCopy,
 }
 
 impl PlainState {
     /// An empty table that nobody uses. It takes no memory.
-    pub fn new(alloc: Global, copy: u8) -> PlainState
+    pub fn new(alloc: Global, copy: TableCopy) -> PlainState
         ensures { state_of result ≡ at_rest map.empty copy }
     {
         PlainState {

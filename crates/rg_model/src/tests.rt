@@ -1,4 +1,5 @@
 use crate::plain::PlainState;
+use rg_base::copy::TableCopy;
 use rg_base::row::Row;
 use rg_base::session::{Class, Session};
 use rg_base::text::Text;
@@ -111,7 +112,7 @@ fn expect_steps(
 
 // The keys 1 to 3, with 10 times the key as their `clus`.
 fn plain_with_three(rt: &impl Abort, alloc: Global) -> Result<PlainState, AllocError> {
-    let mut plain = PlainState::new(alloc, 1);
+    let mut plain = PlainState::new(alloc, TableCopy::first());
     let steps: [Step; 4] = [
         (1, insert(1, 10), 0, NONE, (1, 1)),
         (1, insert(2, 20), 0, NONE, (2, 1)),
@@ -126,7 +127,7 @@ fn plain_with_three(rt: &impl Abort, alloc: Global) -> Result<PlainState, AllocE
 // up.
 #[test]
 fn answers_at_one_key(rt: HostRuntime) -> Result<(), Fail> {
-    let mut plain = PlainState::new(rt.alloc(), 1);
+    let mut plain = PlainState::new(rt.alloc(), TableCopy::first());
     let steps: [Step; 24] = [
         (1, Ask::Select(5), 100, NONE, (0, 0)),
         (1, insert(5, 50), 0, NONE, (1, 1)),
@@ -186,7 +187,7 @@ fn scans_ranges(rt: HostRuntime) -> Result<(), Fail> {
 
 #[test]
 fn finds_under_locks(rt: HostRuntime) -> Result<(), Fail> {
-    let mut plain = PlainState::new(rt.alloc(), 1);
+    let mut plain = PlainState::new(rt.alloc(), TableCopy::first());
     let insert = |key, cat| Ask::Insert { key, clus: 0, cat };
     let steps: [Step; 16] = [
         (1, insert(1, 9), 0, NONE, (1, 1)),

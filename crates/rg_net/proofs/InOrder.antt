@@ -3,19 +3,21 @@ use Rattle.std.proofs.Common.{◌≡◌, ◌==◌, ◌&&◌, ◌||◌, nat_le, �
 use Rattle.std.proofs.Common.{cond, List, [], ◌∷◌, Option, Some, None, map, refl, sym, ◌∙◌, ap}
 use Rattle.std.proofs.Common.{subst, arith, ◌⊎◌, inl, inr}
 use Rattle.std.specs.BTreeMap.{BTreeMap, is_at}
-use Rattle.std.specs.Cmp.{tied_then}
+use Rattle.std.specs.Cmp.{tied_then, unsigned_tied}
 use Rattle.std.specs.List.{All, AllByRecursion, Contains, list_all}
 use Rattle.std.specs.List.Sorted.{IsStrictlySortedBy}
 use Rattle.std.specs.Map.{keys_of, lookup, values_of}
 use Rattle.std.specs.Ordering.{is_eq, nat_cmp, ordering_then}
 use Rattle.std.specs.declared.cmp.Ordering.{Ordering}
 use Rattle.std.specs.declared.cmp.Ordering.TheVariants.{Less, Equal, Greater}
-use Rattle.std.proofs.lemmas.Bool.{and_from, and_parts, eqb-true, eq-eqb}
+use Rattle.std.proofs.lemmas.Bool.{and_from, and_parts, eqb-true, eq-eqb, or_right}
 use Rattle.std.proofs.lemmas.Bool.Decides.{nat_tests}
 use Rattle.std.proofs.lemmas.Option.{none-some, same_Some}
 use Rattle.rg_base.specs.declared.change.Change.{Change}
 use Rattle.rg_base.specs.declared.place.Place.{Place}
-use Rattle.rg_model.specs.Layout.{are_rising, is_place_before, same_place}
+use Rattle.rg_base.specs.Place.{same_place}
+use Rattle.rg_base.proofs.SamePlace.{same_place-true, same_place-turned}
+use Rattle.rg_model.specs.Layout.{are_rising, is_place_before}
 use Rattle.rg_net.specs.ByHome.{HasLast, key_cmp, place_of}
 use Rattle.rg_feed.specs.Fold.Last.{last_at, later_of}
 
@@ -27,20 +29,10 @@ found es key = lookup (is_at (key_cmp key)) es
 
 -- the order of keys
 
-nat_tied : (a b : ℕ) → is_eq (nat_cmp a b) ≡ (a == b)
-nat_tied a b = grind (arith, nat_tests)
-
 key_tied : (a b : ℕ × ℕ) → is_eq (key_cmp a b) ≡ same_place (place_of a) (place_of b)
 key_tied a b = sym (tied_then (nat_cmp a.0 b.0) (nat_cmp a.1 b.1))
-    ∙ ap (λ c. c && is_eq (nat_cmp a.1 b.1)) (nat_tied a.0 b.0)
-    ∙ ap (λ c. (a.0 == b.0) && c) (nat_tied a.1 b.1)
-
-same_place-true : (p q : Place) → same_place p q ≡ true → p ≡ q
-same_place-true p q e =
-    let parts = and_parts (p.page == q.page) (p.slot == q.slot) e in
-    let page = eqb-true p.page q.page parts.0 in
-    let slot = eqb-true p.slot q.slot parts.1 in
-    λ i. record { page = page i; slot = slot i }
+    ∙ ap (λ c. c && is_eq (nat_cmp a.1 b.1)) (unsigned_tied a.0 b.0)
+    ∙ ap (λ c. (a.0 == b.0) && c) (unsigned_tied a.1 b.1)
 
 key_of-tied : (a b : ℕ × ℕ) → is_eq (key_cmp a b) ≡ true → a ≡ b
 key_of-tied a b e =
@@ -52,10 +44,6 @@ less_page a b e = grind (arith, nat_tests)
 
 equal_page : (a b : ℕ) → nat_cmp a b ≡ Equal → (a == b) ≡ true
 equal_page a b e = grind (arith, nat_tests)
-
-or_right : (b c : Bool) → c ≡ true → (b || c) ≡ true
-or_right true c e = refl
-or_right false c e = e
 
 -- a lower key is of a place before
 key_before : (a b : ℕ × ℕ) → key_cmp a b ≡ Less → is_place_before (place_of a) (place_of b) ≡ true
@@ -71,13 +59,6 @@ key_before a b e = go (nat_cmp a.0 b.0) refl e
 key_itself : (a : ℕ × ℕ) → is_eq (key_cmp a a) ≡ true
 key_itself a =
     key_tied a a ∙ and_from (a.0 == a.0) (a.1 == a.1) (eq-eqb a.0 a.0 refl) (eq-eqb a.1 a.1 refl)
-
-nat_turned : (a b : ℕ) → (a == b) ≡ (b == a)
-nat_turned a b = grind (arith, nat_tests)
-
-same_place-turned : (p q : Place) → same_place p q ≡ same_place q p
-same_place-turned p q = ap (λ b. b && (p.slot == q.slot)) (nat_turned p.page q.page)
-    ∙ ap (λ b. (q.page == p.page) && b) (nat_turned p.slot q.slot)
 
 -- a key below all of these is not among them
 none_behind : (es : Entries) (first : ℕ × ℕ)

@@ -38,7 +38,7 @@ Answers-append (l ∷ ls) [] line answer each is = absurd each
 Answers-append (l ∷ ls) (a ∷ more) line answer each is =
     (each.0, Answers-append ls more line answer each.1 is)
 
-cut_shorter : (bytes line rest : List ℕ) → 0 < length bytes → CutsLine bytes line rest
+pub cut_shorter : (bytes line rest : List ℕ) → 0 < length bytes → CutsLine bytes line rest
     → length rest + 1 ≤ length bytes
 cut_shorter bytes line rest some (none, inl e) =
     omega (arith, ap length e, length-append line (10 ∷ rest))

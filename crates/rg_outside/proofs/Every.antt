@@ -1,9 +1,9 @@
 -- What holds of each image that a crash may leave, over one more call.
-use Rattle.std.proofs.Common.{◌≡◌, ◌≢◌, ◌⊎◌, inl, inr, ⊎_elim, ℕ, ◌-◌, ◌==◌, ◌&&◌, Bool, true}
+use Rattle.std.proofs.Common.{◌≡◌, ◌≢◌, ◌⊎◌, inl, inr, ⊎_elim, ℕ, ◌-◌, ◌==◌, Bool, true}
 use Rattle.std.proofs.Common.{false, List, [], ◌∷◌, ◌++◌, Option, Some, None, Result, Ok, Err, refl}
 use Rattle.std.proofs.Common.{sym, subst, arith, if◌then◌else◌}
 use Rattle.std.specs.List.{AllByRecursion, Contains}
-use Rattle.std.proofs.lemmas.Bool.{cases_eq, eqb-true}
+use Rattle.std.proofs.lemmas.Bool.{cases_eq, eqb-true, and_parts}
 use Rattle.rg_base.specs.declared.set.Set.{Set}
 use Rattle.rg_base.specs.declared.set.Set.TheVariants.{Log, First, Second}
 use Rattle.rg_outside.specs.Calls.{Image, Call, Read, Wrote, Synced, FailedRead, FailedWrite}
@@ -31,16 +31,11 @@ same_sets First First e = refl
 same_sets Second Second e = refl
 same_sets _ _ e = absurd (cc (e))
 
-both : (a b : Bool) → (a && b) ≡ true → (a ≡ true) × (b ≡ true)
-both true true e = (refl, refl)
-both true false e = absurd (cc (e))
-both false b e = absurd (cc (e))
-
 -- a fact of a page is a fact of each page that is the same
 pub at_same : (set s : Set) (page p : ℕ) (P : Set → ℕ → Type 0) → is_same_page set page s p ≡ true
     → P set page → P s p
 at_same set s page p P same here =
-    let parts = both (is_same_set set s) (page == p) same in
+    let parts = and_parts (is_same_set set s) (page == p) same in
     subst (λ q. P s q) (eqb-true page p parts.1)
     (subst (λ t. P t page) (same_sets set s parts.0) here)
 

@@ -10,7 +10,7 @@ use Rattle.rg_outside.specs.Moments.{moment, IfTold, HoldsSince, Throughout, Hol
 one_more_cases : (c n : ℕ) → c ≤ suc n → (c ≤ n) ⊎ (c ≡ suc n)
 one_more_cases c n le = elim (cases_eq c (suc n)) [ inl e ↦ inr e | inr ne ↦ inl (omega arith) ]
 
-order_cases : (c n : ℕ) → (c ≤ n) ⊎ (n ≤ c)
+pub order_cases : (c n : ℕ) → (c ≤ n) ⊎ (n ≤ c)
 order_cases c n =
     elim (cases_eq (c - n) 0) [ inl e ↦ inl (omega arith) | inr ne ↦ inr (omega arith) ]
 

@@ -25,7 +25,7 @@ pub each_both : (P Q R : Image → Type 0) (told : Option Told) → IfTold told 
 each_both P Q R None p q go = tt
 each_both P Q R (Some t) p q go = λ i is. go i (p i is) (q i is)
 
-anything : (told : Option Told) → IfTold told (λ t. Unit {0})
+pub anything : (told : Option Told) → IfTold told (λ t. Unit {0})
 anything None = tt
 anything (Some t) = tt
 

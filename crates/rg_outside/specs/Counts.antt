@@ -1,10 +1,16 @@
 -- A volume whose calls are counted from some moment on.
-use Rattle.std.specs.Prelude.{ℕ, ◌≡◌, ◌-◌, ◌^◌, nat_lt, Bool, true, false, Option, Some, None}
+use Rattle.std.specs.Prelude.{ℕ, ◌≡◌, ◌+◌, ◌-◌, ◌^◌, min, nat_lt, Bool, true, false, Option, Some}
+use Rattle.std.specs.Prelude.{None}
 use Rattle.std.specs.Prelude.{length}
 use Rattle.rg_outside.specs.Calls.{Told}
 use Rattle.rg_outside.specs.Capacities.{Capacities}
 use Rattle.rg_outside.specs.Made.{CountsFailed}
 use Rattle.rg_outside.specs.Moments.{IfTold, HasWholePages}
+use Rattle.rg_outside.specs.Volume.{VolumeSeen}
+
+-- one more, or the same at the end of the type that counts
+abbrev pub count_after : ℕ → ℕ
+count_after n = min (n + 1) (2 ^ 64 - 1)
 
 -- the volume, and the calls since the count began
 pub record CountedCalls (V : Type 0) : Type 0 where
@@ -20,6 +26,14 @@ counted_if false t n = None
 abbrev pub counted : Option Told → ℕ → Option Told
 counted None n = None
 counted (Some t) n = counted_if (nat_lt n (2 ^ 64 - 1)) t n
+
+-- what is seen of it
+abbrev pub counted_seen : VolumeSeen → (calls : ℕ) → VolumeSeen
+counted_seen look calls = record {
+  told = counted look.told calls;
+  faults = look.faults;
+  capacities = look.capacities;
+}
 
 -- what holds of all but the start holds of what is reported so
 pub told_counted : (P : Told → Type 0) (told : Option Told) (n : ℕ)

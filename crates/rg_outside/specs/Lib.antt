@@ -6,3 +6,4 @@ pub mod Made
 pub mod Moments
 pub mod Pair
 pub mod Told
+pub mod Volume

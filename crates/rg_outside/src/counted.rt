@@ -16,7 +16,7 @@ use std::marker::Model;
 pub trait Counts: Volume {
     /// The number of calls since then. It stays at 2 ^ 64 - 1 once it stands there.
     fn calls(&self) -> u64
-        ensures { IfTold (Self.told self.now) (λ t. length t.calls ≡ t.start + result) };
+        ensures { IfTold (Self.seen self.now).told (λ t. length t.calls ≡ t.start + result) };
 }
 
 /// A volume with a counter. It is known as long as the volume below is and the counter is not at
@@ -36,7 +36,7 @@ impl<V: Volume> Model for Counted<V> {
 
     ghost view = { λ c. record { volume = c.volume; calls = c.calls } };
 
-    ghost invariant = { λ c. IfTold (V.told c.volume) (λ t. c.calls ≤ length t.calls) };
+    ghost invariant = { λ c. IfTold (V.seen c.volume).told (λ t. c.calls ≤ length t.calls) };
 }
 
 impl<V: Volume> Counted<V> {
@@ -50,7 +50,7 @@ impl<V: Volume> Counted<V> {
     /// The volume below. Of a known one no more calls were counted than it has had.
     pub fn into_volume(self) -> V
         ensures volume { result ≡ self.volume }
-        ensures counted { IfTold (V.told result) (λ t. self.calls ≤ length t.calls) }
+        ensures counted { IfTold (V.seen result).told (λ t. self.calls ≤ length t.calls) }
     {
         let Counted { volume, calls: _ } = self;
         volume
@@ -58,14 +58,10 @@ impl<V: Volume> Counted<V> {
 }
 
 impl<V: Volume> Volume for Counted<V> {
-    ghost use Rattle.rg_outside.specs.Counts.{counted, counted_capacities, counted_faults};
+    ghost use Rattle.rg_outside.specs.Counts.{counted_seen, counted_capacities, counted_faults};
     ghost use Rattle.rg_outside.specs.Counts.{counted_pages};
 
-    ghost capacities = { λ c. V.capacities c.volume };
-
-    ghost told = { λ c. counted (V.told c.volume) c.calls };
-
-    ghost faults = { λ c. V.faults c.volume };
+    ghost seen = { λ c. counted_seen (V.seen c.volume) c.calls };
 
     fn capacity(&self, set: Set) -> u32 {
         self.volume.capacity(set)
@@ -87,12 +83,13 @@ impl<V: Volume> Volume for Counted<V> {
     }
 
     ghost told_capacities = { λ c. counted_capacities
-        (V.told c.volume) (V.capacities c.volume) c.calls (V.told_capacities c.volume) };
+        (V.seen c.volume).told (V.seen c.volume).capacities c.calls (V.told_capacities c.volume) };
 
     ghost told_faults = { λ c. counted_faults
-        (V.told c.volume) (V.faults c.volume) c.calls (V.told_faults c.volume) };
+        (V.seen c.volume).told (V.seen c.volume).faults c.calls (V.told_faults c.volume) };
 
-    ghost whole_pages = { λ c. counted_pages (V.told c.volume) c.calls (V.whole_pages c.volume) };
+    ghost whole_pages = { λ c. counted_pages
+        (V.seen c.volume).told c.calls (V.whole_pages c.volume) };
 }
 
 impl<V: Volume> Counts for Counted<V> {

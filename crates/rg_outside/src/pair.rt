@@ -1,3 +1,7 @@
+// Two pages of one set, written and made durable.
+//
+// 1. Between the calls each of both pages may read as the old or as the new one after a crash.
+// 2. Once the sync is done, both read as the new one.
 ghost use Rattle.std.specs.Prelude.{◌≡◌, ◌≢◌, ◌⊎◌, OnOk, OnErr};
 ghost use Rattle.rg_outside.specs.Capacities.{IsPage};
 ghost use Rattle.rg_outside.specs.Faults.{Rose};
@@ -20,27 +24,27 @@ pub fn write_pair<V: Volume>(
     other: u32,
     other_bytes: &[u8; 4096],
 ) -> Result<(), Failed>
-    requires page { IsPage (V.capacities volume.old) set page }
-    requires other { IsPage (V.capacities volume.old) set other }
+    requires page { IsPage (V.seen volume.old).capacities set page }
+    requires other { IsPage (V.seen volume.old).capacities set other }
     requires apart { page ≢ other }
-    requires sure { IsSure (V.told volume.old) set page }
-    requires other_sure { IsSure (V.told volume.old) set other }
+    requires sure { IsSure (V.seen volume.old).told set page }
+    requires other_sure { IsSure (V.seen volume.old).told set other }
 
     // At Ok a crash leaves both.
-    ensures both { OnOk result (IfTold (V.told volume.new)
+    ensures both { OnOk result (IfTold (V.seen volume.new).told
         (EachImage (HasBoth set page bytes.now other other_bytes.now))) }
     // At each moment a crash leaves of each page the old content or the new one.
-    ensures moments { HoldsThroughout (V.told volume.old) (V.told volume.new)
+    ensures moments { HoldsThroughout (V.seen volume.old).told (V.seen volume.new).told
         (EachImage (HasOldOrNew set
-        page (page_at (V.told volume.old) set page) bytes.now
-        other (page_at (V.told volume.old) set other) other_bytes.now)) }
+        page (page_at (V.seen volume.old).told set page) bytes.now
+        other (page_at (V.seen volume.old).told set other) other_bytes.now)) }
     // No other page is written.
-    ensures only { EachCall (V.told volume.old) (V.told volume.new)
+    ensures only { EachCall (V.seen volume.old).told (V.seen volume.new).told
         (λ call. WritesOnly set page bytes.now call ⊎ WritesOnly set other other_bytes.now call) }
-    ensures capacities { V.capacities volume.new ≡ V.capacities volume.old }
+    ensures capacities { (V.seen volume.new).capacities ≡ (V.seen volume.old).capacities }
     // It fails only where a call of the volume did, which shows in the list of a known volume.
-    ensures cause { OnErr result (Rose (V.faults volume.old) (V.faults volume.new)) }
-    ensures shows { OnErr result (FaultShows (V.told volume.old) (V.told volume.new)) }
+    ensures cause { OnErr result (Rose (V.seen volume.old).faults (V.seen volume.new).faults) }
+    ensures shows { OnErr result (FaultShows (V.seen volume.old).told (V.seen volume.new).told) }
 {
     volume.write(set, page, bytes)?;
     volume.write(set, other, other_bytes)?;

@@ -102,11 +102,11 @@ impl Volume for Slate {
     ghost use Rattle.std.specs.Prelude.{None};
     ghost use Rattle.rg_outside.specs.Capacities.{Capacities};
 
-    ghost capacities = { λ v. record { log = v.pages; first = v.pages; second = v.pages } };
-
-    ghost told = { λ _. None };
-
-    ghost faults = { λ v. v.faults };
+    ghost seen = { λ v. record {
+      told = None;
+      faults = v.faults;
+      capacities = record { log = v.pages; first = v.pages; second = v.pages };
+    } };
 
     fn capacity(&self, _set: Set) -> u32 {
         self.pages
@@ -167,8 +167,8 @@ impl Operator for Steady {
 
 // The page's first byte, after it was written and read again.
 fn write_and_read<V: Volume>(volume: &mut V, set: Set, page: u32, byte: u8) -> Result<u8, Failed>
-    requires { IsPage (V.capacities volume.old) set page }
-    ensures { V.capacities volume.new ≡ V.capacities volume.old }
+    requires { IsPage (V.seen volume.old).capacities set page }
+    ensures { (V.seen volume.new).capacities ≡ (V.seen volume.old).capacities }
 {
     volume.write(set, page, &[byte; 4096])?;
     let mut into = [0; 4096];

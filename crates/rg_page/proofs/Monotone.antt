@@ -8,7 +8,8 @@ use Rattle.rg_home.specs.Slot.{Free, Row, Pointer, Over, DeadRow, DeadPointer, D
 use Rattle.rg_home.specs.Slots.{is_free, trim, capacity_of, used, cut, cost}
 use Rattle.rg_home.proofs.Slots.{free_is, cut-full}
 use Rattle.rg_home.specs.Plan.{is_ended, swept, purged, free, takes, admits}
-use Rattle.rg_home.proofs.Offers.{used-trim}
+use Rattle.rg_home.proofs.Offers.{capacity-swept}
+use Rattle.rg_home.proofs.Fit.{used-swept}
 use Rattle.rg_page.specs.Ceiling.{spared, ceiling}
 
 swept_free : (live : List ℕ) (s : Slot) → is_free s ≡ true → swept live s ≡ Free
@@ -19,17 +20,6 @@ swept_free live (Over a b d) e = absurd (cc (e))
 swept_free live (DeadRow a b) e = absurd (cc (e))
 swept_free live (DeadPointer a b d) e = absurd (cc (e))
 swept_free live (DeadOver a b d) e = absurd (cc (e))
-
-capacity-swept : (live : List ℕ) (s : Slot) → capacity_of (swept live s) ≤ capacity_of s
-capacity-swept live s = go (is_ended live s)
-  where
-    go : (b : Bool) → capacity_of (if b then Free else s) ≤ capacity_of s
-    go true = omega arith
-    go false = omega arith
-
-used_all : (live : List ℕ) (slots : List Slot) → used (map (swept live) slots) ≤ used slots
-used_all live [] = omega arith
-used_all live (s ∷ slots) = omega (arith, capacity-swept live s, used_all live slots)
 
 spared_small : (b : Bool) → spared b ≤ 18
 spared_small true = omega arith
@@ -74,15 +64,12 @@ module _ (s : Slot) (r p : List Slot) (u : used p ≤ used r)
       full true g = absurd (cc (f g, e))
       full false g = g
 
-pub used_purged : (live : List ℕ) (slots : List Slot) → used (purged live slots) ≤ used slots
-used_purged live slots = omega (arith, used-trim (map (swept live) slots), used_all live slots)
-
 -- a purge offers no less
 pub purged_offers : (live : List ℕ) (slots : List Slot)
     → used (purged live slots) + spared (list_any is_free slots)
     ≤ used slots + spared (list_any is_free (purged live slots))
 purged_offers live [] = omega arith
-purged_offers live (s ∷ slots) = more s slots (purged live slots) (used_purged live slots)
+purged_offers live (s ∷ slots) = more s slots (purged live slots) (used-swept live slots)
     (purged_offers live slots) (swept live s) (is_free (swept live s)) refl
     (λ e. ap is_free (swept_free live s e)) (capacity-swept live s)
 

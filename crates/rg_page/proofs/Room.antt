@@ -1,17 +1,13 @@
 -- Whether a slot that is set fits its page.
 use Rattle.std.proofs.Common.{◌≡◌, ◌≤◌, ◌<◌, ℕ, zero, suc, ◌+◌, ◌-◌, ◌*◌, List, [], ◌∷◌, length}
-use Rattle.std.proofs.Common.{take, get_or, ap, subst, arith, true, false, inl, inr, nat_le}
-use Rattle.std.proofs.lemmas.Bool.{cases_lt, le-leb}
+use Rattle.std.proofs.Common.{take, get_or, ap, subst, arith, true, false, inl, inr}
+use Rattle.std.proofs.lemmas.Bool.{cases_lt}
 use Rattle.std.proofs.lemmas.List.{take_all}
 use Rattle.rg_home.specs.Slot.{Slot}
 use Rattle.rg_home.specs.Slots.{capacity_of, is_free, used, placed, put, Fits, IsTrimmed}
 use Rattle.rg_home.proofs.Offers.{used-trim}
 use Rattle.rg_home.proofs.Slots.{put-set}
 use Rattle.rg_home.proofs.Steps.{set_used, set_unfit, past_used, past_unfit, past_free}
-
--- a test that holds
-pub true_leb : (a b : ℕ) → a ≤ b → nat_le a b ≡ true
-true_leb a b h = le-leb a b h
 
 module _ (slots : List Slot) (i : ℕ) (s : Slot) (trimmed : IsTrimmed slots)
     (fits : Fits slots) where

@@ -10,6 +10,7 @@ ghost use Rattle.rg_page.specs.Listed.{IsList, stamped};
 use crate::areas::push_within;
 use crate::frames::{Device, FrameFault, Frames};
 use crate::page::{Page, PartFault};
+use rg_base::copy::TableCopy;
 use rg_base::no_memory::NoMemory;
 use rg_base::part::Part;
 use rg_base::position::Position;
@@ -21,7 +22,7 @@ use std::alloc::Global;
 #[derive(Drop)]
 pub struct ListFrames {
     alloc: Global,
-    copy: u8,
+    copy: TableCopy,
     pages: Vec<Page>,
     reserved: Vec<Page>,
     ghost is_list: { IsList copy pages reserved },
@@ -29,7 +30,7 @@ pub struct ListFrames {
 
 impl ListFrames {
     /// No pages, of this copy.
-    pub fn new(alloc: Global, copy: u8) -> ListFrames
+    pub fn new(alloc: Global, copy: TableCopy) -> ListFrames
         ensures pages { result.pages.items ≡ [] }
         ensures reserved { result.reserved.items ≡ [] }
         ensures copy { result.copy ≡ copy }

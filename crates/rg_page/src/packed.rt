@@ -13,6 +13,7 @@ use crate::areas::{Areas, push_within};
 use crate::header::Header;
 use crate::page::{Page, pad_places};
 use crate::summary::Summary;
+use rg_base::copy::TableCopy;
 use rg_base::no_memory::NoMemory;
 use rg_base::part::SlotOp;
 use rg_base::place::Place;
@@ -24,7 +25,7 @@ impl Page {
     /// The page with these rows, in slots from 0 on, and with position 0.
     pub fn of_rows(
         alloc: Global,
-        copy: u8,
+        copy: TableCopy,
         number: u32,
         rows: &[(Place, Row)],
     ) -> Result<Page, NoMemory>

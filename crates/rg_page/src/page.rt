@@ -25,6 +25,7 @@ use crate::areas::{Areas, push_within};
 use crate::header::Header;
 use crate::slot::Slot;
 use crate::summary::Summary;
+use rg_base::copy::TableCopy;
 use rg_base::no_memory::NoMemory;
 use rg_base::part::{Part, SlotOp};
 use rg_base::place::Place;
@@ -47,7 +48,7 @@ pub enum PartFault {
 /// that changed it, and its slots.
 #[derive(Drop)]
 pub struct Page {
-    copy: u8,
+    copy: TableCopy,
     number: u32,
     position: u64,
     summary: Summary,
@@ -73,7 +74,7 @@ impl Model for Page {
 
 impl Page {
     /// The page without slots and with position 0. It takes the room that any later content needs.
-    pub fn new(alloc: Global, copy: u8, number: u32) -> Result<Page, NoMemory>
+    pub fn new(alloc: Global, copy: TableCopy, number: u32) -> Result<Page, NoMemory>
         ensures { IfOk result (λ page. page ≡ empty copy number) }
     {
         Ok(Page {
@@ -88,7 +89,7 @@ impl Page {
 
     /// The page with position 0 whose slots have these headers, places and bytes.
     pub(crate) fn of(
-        copy: u8,
+        copy: TableCopy,
         number: u32,
         summary: Summary,
         others: Vec<Place>,
@@ -112,8 +113,8 @@ impl Page {
         }
     }
 
-    /// The copy that it is of, 1 or 2.
-    pub fn copy(&self) -> u8
+    /// The copy that it is of.
+    pub fn copy(&self) -> TableCopy
         ensures { result ≡ self.now.copy }
     {
         self.copy

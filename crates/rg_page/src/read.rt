@@ -16,6 +16,7 @@ use crate::bytes::entry::Entry;
 use crate::bytes::fault::PageFault;
 use crate::bytes::read::{head_at, slot_at};
 use crate::page::Page;
+use rg_base::copy::TableCopy;
 use rg_base::part::Part;
 use rg_base::position::Position;
 use rg_record::buffer::PAGE_SIZE;
@@ -70,7 +71,7 @@ impl Page {
     /// content needs.
     pub fn read(
         alloc: Global,
-        copy: u8,
+        copy: TableCopy,
         number: u32,
         from: &[u8; PAGE_SIZE],
     ) -> Result<Page, PageFault>

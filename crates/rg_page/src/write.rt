@@ -6,7 +6,8 @@ ghost use Rattle.std.specs.Prelude.{◌≡◌, ◌≤◌, ◌<◌, ◌^◌, ◌+
 ghost use Rattle.std.specs.List.{AllByRecursion};
 ghost use Rattle.rg_base.specs.RowBytes.{row_of, row_size};
 ghost use Rattle.rg_home.specs.Slots.{capacity_of};
-ghost use Rattle.rg_record.specs.Fits.{FitsPlace, FitsRow};
+ghost use Rattle.rg_base.specs.Values.{FitsRow};
+ghost use Rattle.rg_record.specs.Fits.{FitsPlace};
 ghost use Rattle.rg_page.specs.Bytes.Content.{FitsPage, FitsSlot};
 ghost use Rattle.rg_page.specs.Bytes.PageBytes.{directory, fields_bytes, filled_bytes, is_blank};
 ghost use Rattle.rg_page.specs.Bytes.PageBytes.{page_bytes, slot_bytes, slots_bytes, slots_size};
@@ -17,6 +18,7 @@ use crate::bytes::entry::Head;
 use crate::bytes::write::{Fields, add_head, add_slot, add_zeros};
 use crate::page::Page;
 use crate::slot::Slot;
+use rg_base::note::note;
 use rg_base::place::Place;
 use rg_record::buffer::{Buffer, PAGE_SIZE};
 
@@ -150,9 +152,9 @@ impl Page {
         ensures number { self.now.number < 2 ^ 32 }
         ensures position { self.now.position < 2 ^ 64 }
     {
-        let _copy = self.copy();
-        let _number = self.number();
-        let _position = self.position().0;
+        note(&self.copy().number());
+        note(&self.number());
+        note(&self.position().0);
     }
 
     // Adds its head, its slots, zeros and the directory.
@@ -164,8 +166,9 @@ impl Page {
     {
         let count = self.slot_count();
         let free = self.free();
+        let copy = self.copy().number();
         let head = Head {
-            copy: self.copy(),
+            copy,
             count,
             number: self.number(),
             position: self.position().0,
@@ -183,7 +186,7 @@ impl Page {
         ensures fits { FitsPage self.now }
     {
         self.numbers_fit();
-        let _count = self.slot_count();
+        note(&self.slot_count());
         let mut page = Buffer::new();
         if !self.is_blank() {
             self.add_all(&mut page);

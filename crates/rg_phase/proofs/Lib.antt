@@ -7,3 +7,4 @@ pub mod Stops
 pub mod Drafting
 pub mod Receiving
 pub mod Switchable
+pub mod Beginning

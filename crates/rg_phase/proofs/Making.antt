@@ -11,24 +11,24 @@ use Rattle.rg_desk.specs.Desk.{Prepares}
 use Rattle.rg_engine.specs.Flushed.{CallsOwn, WritesEither}
 use Rattle.rg_engine.specs.Prepared.{PreparedSeen}
 use Rattle.rg_engine.specs.Room.{Ground}
-use Rattle.rg_engine.specs.Volume.{CallsLog, VolumeSeen}
+use Rattle.rg_engine.proofs.Flushing.{own_calls}
+use Rattle.rg_outside.specs.Volume.{VolumeSeen}
 use Rattle.rg_feed.specs.declared.fold.item.Item.{Item}
 use Rattle.rg_feed.specs.declared.fold.item.Item.TheVariants.{PageCopy}
 use Rattle.rg_feed.specs.declared.fold.item.Stage.{Stage}
 use Rattle.rg_model.specs.Turn.{Turn, turn_of}
-use Rattle.rg_laws_crash.specs.NewestPages.Tidy.{set_of}
 use Rattle.rg_outside.specs.Calls.{Call, FailedRead, FailedSync, FailedWrite, Read, Refused, Synced}
 use Rattle.rg_outside.specs.Calls.{Wrote}
 use Rattle.rg_outside.specs.Faults.{Rose}
 use Rattle.rg_outside.specs.Made.{WritesIn}
-use Rattle.rg_outside.proofs.Frame.{calls_weaken, no_calls}
+use Rattle.rg_outside.proofs.Frame.{no_calls}
 use Rattle.rg_laws_utility.specs.CopyWeight.Weighed.{weigh_feed}
 use Rattle.rg_rules.specs.Stage.NumbersOf.{numbers_of}
 use Rattle.rg_stmt.specs.declared.event.Entry.{Entry}
 use Rattle.rg_stmt.specs.declared.event.Event.{Event}
 use Rattle.rg_stmt.specs.declared.event.Event.TheVariants as events
 use Rattle.rg_stmt.specs.declared.layout.Sides.{Sides}
-use Rattle.rg_base.specs.Copies.{other_of}
+use Rattle.rg_base.specs.Copies.{other_of, set_of}
 use Rattle.rg_laws_utility.specs.TraceStage.Tending.{FollowsBy, NextBy, is_booked, is_plain}
 use Rattle.rg_laws_utility.specs.TraceStage.Tending.{utility_entry}
 use Rattle.rg_laws_utility.specs.Course.Loading.{Loading, loading_after}
@@ -82,23 +82,6 @@ runs_on false None next changes covered answer event follows runs =
 runs_on false (Some s) next changes covered answer event follows runs = refl
 
 -- ---- calls
-
-log_either : (set : ℕ) (call : Call) → WritesIn Log call → WritesEither (set_of set) call
-log_either set (Wrote s p b) is = inl is
-log_either set (FailedWrite s p b reads) is = inl is
-log_either set Read is = tt
-log_either set Synced is = tt
-log_either set FailedRead is = tt
-log_either set FailedSync is = tt
-log_either set Refused is = tt
-
-log_own : (copy : ℕ) (old new : VolumeSeen) → CallsLog old new → CallsOwn copy old new
-log_own copy old new calls = record {
-  only = calls_weaken (WritesIn Log) (WritesEither (set_of copy)) old.told new.told
-      (log_either copy) calls.only;
-  later = calls.later;
-  capacities = calls.capacities;
-}
 
 -- nothing is called
 still_own : {V : Type 0} (look : V → VolumeSeen) (copy : ℕ) (v w : V) → w ≡ v
@@ -343,8 +326,10 @@ module _ {V O : Type 0} (look : V → VolumeSeen) where
         first_copy = made.stays.first_copy;
         old_same = made.stays.old_same;
       };
-      only =
-          (runs, log_own (other_of old.copy) (look old.volume) (look new.volume) made.stays.calls);
+      only = (
+        runs,
+        own_calls (other_of old.copy) (look old.volume) (look new.volume) made.stays.calls,
+      );
     }
 
     -- the record of the switch could not be forced
@@ -381,6 +366,8 @@ module _ {V O : Type 0} (look : V → VolumeSeen) where
         first_copy = made.stays.first_copy;
         old_same = made.stays.old_same;
       };
-      only =
-          (runs, log_own (other_of old.copy) (look old.volume) (look new.volume) made.stays.calls);
+      only = (
+        runs,
+        own_calls (other_of old.copy) (look old.volume) (look new.volume) made.stays.calls,
+      );
     }

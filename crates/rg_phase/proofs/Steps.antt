@@ -7,7 +7,7 @@ use Rattle.rg_base.specs.declared.control.Answer.{Answer}
 use Rattle.rg_base.specs.declared.session.Session.{Session}
 use Rattle.rg_base.specs.declared.verdict.StopReason.TheVariants as reasons
 use Rattle.rg_desk.specs.Desk.{DeskState, IsNextStep}
-use Rattle.rg_engine.specs.Volume.{VolumeSeen}
+use Rattle.rg_outside.specs.Volume.{VolumeSeen}
 use Rattle.rg_feed.specs.declared.fold.item.Stage.{Stage}
 use Rattle.rg_model.specs.Turn.{Turn, turn_of}
 use Rattle.rg_shadow.specs.declared.fault.ShadowFault.{ShadowFault}
@@ -36,20 +36,6 @@ same_room {V} {O} old mid room kept =
     (λ (o : O).
     let d : DeskState V O = record old { spare = mid.spare; kept = None; operator = o } in d)
     (sym (ap (λ (d : DeskState V O). d.operator) room))
-
-pub same_asked : {V O : Type 0} (old mid asked : DeskState V O) (answer : Answer)
-    → mid ≡ record old { spare = mid.spare }
-    → asked ≡ record mid { kept = Some answer; operator = asked.operator }
-    → asked ≡ record old { spare = asked.spare; kept = Some answer; operator = asked.operator }
-same_asked {V} {O} old mid asked answer room same =
-    same
-    ∙ ap
-    (λ (m : DeskState V O).
-    let d : DeskState V O = record m { kept = Some answer; operator = asked.operator } in d) room
-    ∙ ap
-    (λ (n : ℕ). let d : DeskState V O =
-    record old { spare = n; kept = Some answer; operator = asked.operator } in d)
-    (sym (ap (λ (d : DeskState V O). d.spare) same))
 
 -- ---- the next event
 

@@ -3,6 +3,7 @@ use Rattle.std.proofs.Common.{◌≡◌, ◌==◌, ◌&&◌, ◌≤◌, ◌<◌,
 use Rattle.std.proofs.Common.{Option, Some, if◌then◌else◌, refl, sym, ◌∙◌, ap, subst, arith}
 use Rattle.std.proofs.lemmas.Bool.Decides.{nat_tests}
 use Rattle.std.specs.Option.{is_some}
+use Rattle.std.proofs.lemmas.Bool.{ltb-true}
 use Rattle.rg_base.specs.declared.control.Answer.{Answer}
 use Rattle.rg_base.specs.declared.options.DrainFor.{DrainFor}
 use Rattle.rg_base.specs.declared.options.DrainFor.TheVariants as what
@@ -14,8 +15,8 @@ use Rattle.rg_base.specs.declared.step.Step.TheVariants as steps
 use Rattle.rg_base.specs.declared.verdict.DrainVerdict.{DrainVerdict}
 use Rattle.rg_base.specs.declared.verdict.DrainVerdict.TheVariants as waits
 use Rattle.rg_base.specs.declared.verdict.StopReason.TheVariants as reasons
+use Rattle.rg_base.proofs.Small.{nat_itself}
 use Rattle.rg_feed.specs.declared.fold.item.Stage.{Stage}
-use Rattle.rg_laws_log.proofs.LogStateLemmas.Tables.{eqb-refl}
 use Rattle.rg_model.specs.Same.{same_reason}
 use Rattle.rg_model.specs.State.{Utility}
 use Rattle.rg_model.specs.Turn.{Turn, Runs, Stops, alter, early_stop, end_turn, is_term, step_of}
@@ -248,16 +249,14 @@ left_to_copy u d e = by_unload (nat_lt u.copied u.pages) e
     by_unload false e =
         absurd (later (nat_lt u.reloaded u.unloaded) (nat_lt u.sorted 3) (nat_lt u.built 3) e)
 
-below : (a b : ℕ) → nat_lt a b ≡ true → a < b
-below a b e = grind (arith, nat_tests, e)
-
 pub unload_more : (s : Stage) (answer : Answer) → MakesStep s answer steps.Unload
     → s.copied < s.pages
 unload_more s answer makes =
     subst (λ (n : ℕ). n < s.pages) (alter_copied (numbers_of s) answer.command)
     (subst (λ (n : ℕ). (alter (numbers_of s) answer.command).copied < n)
     (alter_pages (numbers_of s) answer.command)
-    (below (alter (numbers_of s) answer.command).copied (alter (numbers_of s) answer.command).pages
+    (ltb-true (alter (numbers_of s) answer.command).copied
+    (alter (numbers_of s) answer.command).pages
     (left_to_copy (alter (numbers_of s) answer.command) s.drain makes.step_is)))
 
 within : (rows : ℕ) → rows ≤ 225 → nat_le rows 225 ≡ true
@@ -270,7 +269,7 @@ unload_next s answer makes page is rows few all blocker =
     let u = alter (numbers_of s) answer.command in
     let here : (page == u.copied + 1) ≡ true =
     ap (λ (n : ℕ). page == n + 1) (alter_copied (numbers_of s) answer.command)
-    ∙ ap (λ (n : ℕ). page == n) (sym is) ∙ eqb-refl page in
+    ∙ ap (λ (n : ℕ). page == n) (sym is) ∙ nat_itself page in
     ap is_plain (turn_is s answer steps.Unload makes all blocker (events.Unload page rows))
     ∙ ap
     (λ (b : Bool). is_plain

@@ -16,7 +16,7 @@ use Rattle.rg_translate.proofs.RightCopyLemmas.Taking.{caught_claims, same_slots
 use Rattle.rg_desk.specs.Desk.{AreSides, CanCommit, CanPrepare, DeskState, HasCurrent, HasDrain}
 use Rattle.rg_desk.specs.Desk.{IsNewSide}
 use Rattle.rg_engine.specs.Prepared.{PreparedSeen}
-use Rattle.rg_engine.specs.Volume.{VolumeSeen}
+use Rattle.rg_outside.specs.Volume.{VolumeSeen}
 use Rattle.rg_feed.specs.Ends.{Received}
 use Rattle.rg_feed.specs.Fold.Fed.{Fed, Progress}
 use Rattle.rg_feed.specs.Fold.Fold.{changes, since_begin}

@@ -23,7 +23,8 @@ use Rattle.rg_base.specs.declared.verdict.StopReason.TheVariants as reasons
 use Rattle.rg_laws_utility.specs.Course.Loading.{IsLoaded, loading_after, loading_of}
 use Rattle.rg_desk.specs.Desk.{DeskState, FeedIs, left_to_take, old_records}
 use Rattle.rg_engine.specs.Flushed.{CallsOwn}
-use Rattle.rg_engine.specs.Volume.{IsCount, VolumeSeen}
+use Rattle.rg_engine.specs.Volume.{IsCount}
+use Rattle.rg_outside.specs.Volume.{VolumeSeen}
 use Rattle.rg_feed.specs.declared.fold.item.Stage.{Stage}
 use Rattle.rg_image.specs.Rules.{copy_capacity}
 use Rattle.rg_model.specs.Packed.{page_count}

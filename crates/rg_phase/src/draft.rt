@@ -15,11 +15,14 @@ ghost use Rattle.rg_reload.specs.Reloading.{Fills};
 ghost use Rattle.rg_shadow.specs.Shade.{is_built_stage, stage_in, with_stage};
 ghost use Rattle.rg_shadow.specs.declared.drafts.IndexStage.TheVariants.{Sorted, Built};
 
+use rg_base::copy::TableCopy;
 use rg_base::homes::Homes;
 use rg_base::no_memory::NoMemory;
+use rg_base::note::note;
 use rg_base::options::Options;
 use rg_base::place::Place;
 use rg_base::which::Which;
+use rg_desk::task::Task;
 use rg_feed::inlet::FeedIn;
 use rg_reload::fault::ReloadFault;
 use rg_reload::packer::{Filled, Packer};
@@ -37,7 +40,7 @@ use std::alloc::Global;
 pub struct Packing {
     pub packer: Packer,
     pub options: Options,
-    copy: u8,
+    copy: TableCopy,
     capacity: u32,
     ghost of_copy: { packer.copy ≡ copy },
     ghost within: { packer.capacity ≡ capacity },
@@ -49,7 +52,7 @@ pub struct Packing {
 pub struct Draft {
     pub shadow: Shadow,
     pub options: Options,
-    copy: u8,
+    copy: TableCopy,
     capacity: u32,
     ghost of_copy: { shadow.copy ≡ copy },
     ghost within: { shadow.capacity ≡ capacity },
@@ -57,28 +60,23 @@ pub struct Draft {
 
 impl Packing {
     /// A packer of the rows of all copies that were received. No change was taken yet.
-    pub fn begin(
-        alloc: Global,
-        inlet: &FeedIn,
-        copy: u8,
-        options: &Options,
-        capacity: u32,
-    ) -> Result<Packing, NoMemory>
+    pub fn begin(alloc: Global, inlet: &FeedIn, task: &Task) -> Result<Packing, NoMemory>
         requires lawful { Lawful (since_begin inlet.now.items) }
         requires none { inlet.now.taken ≡ 0 }
         ensures packing { IfOk result (λ p. IsPackingOf p.options p.packer inlet.now.items
             inlet.now.taken) }
-        ensures options { IfOk result (λ p. p.options ≡ options.now) }
-        ensures copy { IfOk result (λ p. p.packer.copy ≡ copy) }
-        ensures capacity { IfOk result (λ p. p.packer.capacity ≡ capacity) }
+        ensures options { IfOk result (λ p. p.options ≡ task.now.stage.options) }
+        ensures copy { IfOk result (λ p. p.packer.copy ≡ task.now.copy) }
+        ensures capacity { IfOk result (λ p. p.packer.capacity ≡ task.now.capacity) }
     {
         let rows = rows_of(alloc, inlet.copies())?;
-        let packer = Packer::new(alloc, copy, rows, options, capacity)?;
+        let options = &task.stage.options;
+        let packer = Packer::new(alloc, task.copy, rows, options, task.capacity)?;
         Ok(Packing {
             packer,
             options: *options,
-            copy,
-            capacity,
+            copy: task.copy,
+            capacity: task.capacity,
         })
     }
 
@@ -120,7 +118,7 @@ impl Packing {
         }
         let shadow = load(alloc, packer)?;
         // That each source leads to a row of its own: what is made in the new copy goes by it.
-        let _ = shadow.target(Place { page: 0, slot: 0 });
+        note(&shadow.target(Place { page: 0, slot: 0 }));
         Ok(Draft {
             shadow,
             options,
@@ -132,7 +130,7 @@ impl Packing {
 
 impl Draft {
     /// A new copy as it was handed back.
-    pub fn of(shadow: Shadow, options: Options, copy: u8, capacity: u32) -> Draft
+    pub fn of(shadow: Shadow, options: Options, copy: TableCopy, capacity: u32) -> Draft
         requires copy { shadow.copy ≡ copy }
         requires capacity { shadow.capacity ≡ capacity }
         ensures shadow { result.shadow ≡ shadow }
@@ -194,7 +192,7 @@ impl Draft {
         let most = u32::from(count);
         let took = catch_up(alloc, &mut self.shadow, inlet, most)?;
         // That each source leads to a row of its own, as before.
-        let _ = self.shadow.target(Place { page: 0, slot: 0 });
+        note(&self.shadow.target(Place { page: 0, slot: 0 }));
         if took == most {
             Ok(())
         } else {
@@ -210,7 +208,7 @@ impl Draft {
     }
 
     /// Whether it is this copy, of so many pages at most, and its indexes are built.
-    pub fn is_ready(&self, copy: u8, capacity: u32) -> bool
+    pub fn is_ready(&self, copy: TableCopy, capacity: u32) -> bool
         ensures { result ≡ true → IsReady copy capacity self.now.shadow }
     {
         self.copy == copy

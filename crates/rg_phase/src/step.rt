@@ -17,9 +17,8 @@ ghost use Rattle.std.specs.Prelude.{◌≡◌, ◌≤◌, ◌+◌, ℕ, List, fa
 ghost use Rattle.std.specs.Prelude.{IfErr, IfOk, length};
 ghost use Rattle.rg_base.specs.declared.options.DrainState.TheVariants.{Granted};
 ghost use Rattle.rg_base.specs.declared.step.Step.TheVariants as steps;
-ghost use Rattle.rg_desk.specs.Desk.{HasDrain, HasTaken};
+ghost use Rattle.rg_desk.specs.Desk.{HasDrain, IsTask};
 ghost use Rattle.rg_engine.specs.Prepared.{while_running};
-ghost use Rattle.rg_engine.specs.Volume.{seen_volume};
 ghost use Rattle.rg_feed.specs.Fold.Fold.{changes, since_begin};
 ghost use Rattle.rg_feed.specs.Fold.Lawful.{Lawful};
 ghost use Rattle.rg_image.specs.Rules.{copy_capacity};
@@ -39,15 +38,14 @@ ghost use Rattle.rg_base.specs.Copies.{other_of};
 use crate::draft::{Draft, Packing};
 use crate::made::Made;
 use crate::next::{next_event, or_stop, reload_event, step_now};
-use rg_base::control::Answer;
 use rg_base::no_memory::NoMemory;
 use rg_base::options::DrainFor;
 use rg_base::step::Step;
 use rg_base::verdict::StopReason;
 use rg_base::which::Which;
 use rg_desk::desk::Desk;
+use rg_desk::task::Task;
 use rg_engine::prepared::PrepareCause;
-use rg_feed::fold::item::Stage;
 use rg_feed::inlet::FeedIn;
 use rg_outside::counted::Counts;
 use rg_outside::operator::Operator;
@@ -98,29 +96,19 @@ impl Reorg {
         requires kept { desk.old.kept ≡ None }
         requires ring { desk.old.ring ≡ inlet.old.ring }
         requires works { Works self.old.made desk.old.shadow inlet.old desk.old.feed }
-        ensures stepped { OnOk result (Stepped (seen_volume V.told V.faults V.capacities)
+        ensures stepped { OnOk result (Stepped V.seen
             O.answers O.last desk.old self.new.made inlet.new.taken desk.new) }
         ensures ring { desk.new.ring ≡ inlet.new.ring }
         ensures works { Works self.new.made desk.new.shadow inlet.new desk.new.feed }
         ensures err { OnErr result (desk.new ≡ desk.old) }
     {
-        desk.hand_over(inlet)?;
-        desk.make_room()?;
-        if desk.down() {
-            desk.book(Event::StepDown, None);
-            return Ok(());
-        }
-        let stage = match desk.stage() {
-            Some(stage) => stage,
-            None => {
-                desk.book(Event::Idle, None);
-                return Ok(());
+        match desk.begin_step(inlet)? {
+            None => Ok(()),
+            Some(task) => {
+                self.act(alloc, desk, inlet, &task);
+                Ok(())
             }
-        };
-        let all = desk.changes();
-        let answer = desk.ask_operator(all - stage.done);
-        self.act(alloc, desk, inlet, &stage, answer);
-        Ok(())
+        }
     }
 
     // Makes the entry of a step of the utility that runs.
@@ -129,53 +117,39 @@ impl Reorg {
         alloc: Global,
         desk: &mut Desk<V, O>,
         inlet: &mut FeedIn,
-        stage: &Stage,
-        answer: Answer,
+        task: &Task,
     )
-        requires up { desk.old.down ≡ false }
-        requires stage { desk.old.stage ≡ Some stage.now }
-        requires taken { HasTaken desk.old.changes stage.now }
-        requires kept { desk.old.kept ≡ Some answer }
-        requires room { 1 ≤ desk.old.spare }
+        requires begun { IsTask V.seen desk.old task.now }
         requires hears { Hears desk.old inlet.old }
         requires works { Works self.old.made desk.old.shadow inlet.old desk.old.feed }
-        ensures acts { Acts (seen_volume V.told V.faults V.capacities) desk.old answer
-            self.new.made inlet.new.taken desk.new }
+        ensures acts { Acts V.seen desk.old task.now.answer self.new.made inlet.new.taken desk.new }
         ensures ring { inlet.new.ring ≡ inlet.old.ring }
         ensures works { Works self.new.made desk.new.shadow inlet.new desk.new.feed }
     {
-        match step_now(stage, &answer) {
-            None => end(desk, stage, answer),
-            Some(Step::Unload) => self.unload(desk, stage, answer),
-            Some(Step::Reload) => self.reload(alloc, desk, inlet, stage, answer),
-            Some(Step::Write(granted)) => self.write(alloc, desk, inlet, stage, granted, answer),
-            Some(Step::Switch) => self.switch(desk, inlet, stage, answer),
-            Some(_) => self.work(alloc, desk, inlet, stage, answer),
+        match step_now(&task.stage, &task.answer) {
+            None => end(desk, task),
+            Some(Step::Unload) => self.unload(desk, task),
+            Some(Step::Reload) => self.reload(alloc, desk, inlet, task),
+            Some(Step::Write(granted)) => self.write(alloc, desk, inlet, task, granted),
+            Some(Step::Switch) => self.switch(desk, inlet, task),
+            Some(_) => self.work(alloc, desk, inlet, task),
         }
     }
 
     // Makes the entry of UNLOAD, and sends the copy of the page.
-    fn unload<V: Counts, O: Operator>(
-        &mut self,
-        desk: &mut Desk<V, O>,
-        stage: &Stage,
-        answer: Answer,
-    )
-        requires up { desk.old.down ≡ false }
-        requires stage { desk.old.stage ≡ Some stage.now }
-        requires step { MakesStep stage.now answer steps.Unload }
-        requires kept { desk.old.kept ≡ Some answer }
-        requires room { 1 ≤ desk.old.spare }
-        ensures acts { (taken : ℕ) → Acts (seen_volume V.told V.faults V.capacities) desk.old
-            answer self.new.made taken desk.new }
+    fn unload<V: Counts, O: Operator>(&mut self, desk: &mut Desk<V, O>, task: &Task)
+        requires begun { IsTask V.seen desk.old task.now }
+        requires step { MakesStep task.now.stage task.now.answer steps.Unload }
+        ensures acts { (taken : ℕ)
+            → Acts V.seen desk.old task.now.answer self.new.made taken desk.new }
         ensures made { self.new.made ≡ Nothing }
         ensures shadow { desk.new.shadow ≡ None }
     {
         self.forget(desk);
-        let page = next_page(stage);
-        match desk.feed_page(page, answer) {
+        let page = next_page(&task.stage);
+        match desk.feed_page(page, task.answer) {
             Ok(_) => {}
-            Err(_) => desk.book(Event::Stop(StopReason::NoMemory), Some(answer)),
+            Err(_) => desk.book(Event::Stop(StopReason::NoMemory), Some(task.answer)),
         }
     }
 
@@ -185,24 +159,19 @@ impl Reorg {
         alloc: Global,
         desk: &mut Desk<V, O>,
         inlet: &mut FeedIn,
-        stage: &Stage,
-        answer: Answer,
+        task: &Task,
     )
-        requires up { desk.old.down ≡ false }
-        requires stage { desk.old.stage ≡ Some stage.now }
-        requires step { MakesStep stage.now answer steps.Reload }
-        requires kept { desk.old.kept ≡ Some answer }
-        requires room { 1 ≤ desk.old.spare }
+        requires begun { IsTask V.seen desk.old task.now }
+        requires step { MakesStep task.now.stage task.now.answer steps.Reload }
         requires hears { Hears desk.old inlet.old }
         requires works { Works self.old.made desk.old.shadow inlet.old desk.old.feed }
-        ensures acts { Acts (seen_volume V.told V.faults V.capacities) desk.old answer
-            self.new.made inlet.new.taken desk.new }
+        ensures acts { Acts V.seen desk.old task.now.answer self.new.made inlet.new.taken desk.new }
         ensures inlet { inlet.new ≡ inlet.old }
         ensures works { Works self.new.made desk.new.shadow inlet.new desk.new.feed }
     {
-        let (all, other) = (desk.changes(), desk.other());
-        let filled = self.fill(alloc, inlet, stage, other, all);
-        desk.book(reload_event(stage, other.1, filled), Some(answer));
+        let filled = self.fill(alloc, inlet, task);
+        let event = reload_event(&task.stage, task.capacity, filled);
+        desk.book(event, Some(task.answer));
     }
 
     // Makes the entry of a step that calls no volume and fills no page.
@@ -211,25 +180,19 @@ impl Reorg {
         alloc: Global,
         desk: &mut Desk<V, O>,
         inlet: &mut FeedIn,
-        stage: &Stage,
-        answer: Answer,
+        task: &Task,
     )
-        requires up { desk.old.down ≡ false }
-        requires stage { desk.old.stage ≡ Some stage.now }
-        requires unswitched { stage.now.switched ≡ false }
-        requires taken { HasTaken desk.old.changes stage.now }
-        requires kept { desk.old.kept ≡ Some answer }
-        requires room { 1 ≤ desk.old.spare }
+        requires begun { IsTask V.seen desk.old task.now }
+        requires unswitched { task.now.stage.switched ≡ false }
         requires hears { Hears desk.old inlet.old }
         requires works { Works self.old.made desk.old.shadow inlet.old desk.old.feed }
-        ensures acts { Acts (seen_volume V.told V.faults V.capacities) desk.old answer
-            self.new.made inlet.new.taken desk.new }
+        ensures acts { Acts V.seen desk.old task.now.answer self.new.made inlet.new.taken desk.new }
         ensures ring { inlet.new.ring ≡ inlet.old.ring }
         ensures works { Works self.new.made desk.new.shadow inlet.new desk.new.feed }
     {
-        let event = next_event(stage, desk.changes(), desk.holder(), &answer);
-        let made = self.make(alloc, desk, inlet, stage, &event);
-        desk.book(or_stop(event, made), Some(answer));
+        let event = next_event(&task.stage, task.changes, task.holder, &task.answer);
+        let made = self.make(alloc, desk, inlet, task, &event);
+        desk.book(or_stop(event, made), Some(task.answer));
     }
 
     // Makes what goes with an event: a list, an index, or changes. At GIVEUP the new copy is taken
@@ -239,27 +202,26 @@ impl Reorg {
         alloc: Global,
         desk: &mut Desk<V, O>,
         inlet: &mut FeedIn,
-        stage: &Stage,
+        task: &Task,
         event: &Event,
     ) -> Result<(), ShadowFault>
-        requires stage { desk.old.stage ≡ Some stage.now }
-        requires unswitched { stage.now.switched ≡ false }
+        requires begun { IsTask V.seen desk.old task.now }
+        requires unswitched { task.now.stage.switched ≡ false }
         requires unfilled { is_filling event.now ≡ false }
         requires hears { Hears desk.old inlet.old }
         requires works { Works self.old.made desk.old.shadow inlet.old desk.old.feed }
         ensures desk { desk.new ≡ record desk.old { shadow = desk.new.shadow } }
         ensures ring { inlet.new.ring ≡ inlet.old.ring }
         ensures works { Works self.new.made desk.new.shadow inlet.new desk.new.feed }
-        ensures told { OnOk result (IsAsMade self.new.made (Some stage.now) inlet.new.taken
+        ensures told { OnOk result (IsAsMade self.new.made (Some task.now.stage) inlet.new.taken
             event.now) }
         ensures full { IfErr result (IsFullOf
-            (copy_capacity (V.capacities desk.old.volume) (other_of desk.old.copy))
+            (copy_capacity (V.seen desk.old.volume).capacities (other_of desk.old.copy))
             (weigh_feed desk.old.feed)) }
     {
         match event {
             Event::Sort(which) => {
-                let (all, other) = (desk.changes(), desk.other());
-                self.sort(alloc, inlet, stage, other, all, *which)?;
+                self.sort(alloc, inlet, task, *which)?;
                 Ok(())
             }
             Event::Build(which) => {
@@ -267,11 +229,10 @@ impl Reorg {
                 Ok(())
             }
             Event::Log { took, .. } | Event::Last { took, .. } => {
-                let (all, other) = (desk.changes(), desk.other());
-                self.take(alloc, inlet, stage, other, all, *took)
+                self.take(alloc, inlet, task, *took)
             }
             Event::GiveUp(_) => {
-                self.take_back(desk);
+                self.take_back(desk, task);
                 Ok(())
             }
             _ => Ok(()),
@@ -282,16 +243,9 @@ impl Reorg {
 // What is made without a desk. Whatever new copy the desk keeps, all that it has sent is received.
 impl Reorg {
     // Packs the rows of all copies, if nothing is made. No change was taken yet.
-    fn pack(
-        &mut self,
-        alloc: Global,
-        inlet: &FeedIn,
-        stage: &Stage,
-        other: (u8, u32),
-        all: u64,
-    ) -> Result<(), NoMemory>
+    fn pack(&mut self, alloc: Global, inlet: &FeedIn, task: &Task) -> Result<(), NoMemory>
         requires lawful { Lawful (since_begin inlet.now.items) }
-        requires counted { length (changes (since_begin inlet.now.items)) ≡ all }
+        requires counted { length (changes (since_begin inlet.now.items)) ≡ task.now.changes }
         ensures made { HasMade self.old.made inlet.now → HasMade self.new.made inlet.now }
         ensures works { KeepsWorks self.old.made inlet.now self.new.made inlet.now }
     {
@@ -299,31 +253,23 @@ impl Reorg {
             Made::Nothing => {}
             _ => return Ok(()),
         }
-        if inlet.backlog() as u64 != all {
+        if inlet.backlog() as u64 != task.changes {
             return Err(NoMemory);
         }
-        let (copy, capacity) = other;
-        let packing = Packing::begin(alloc, inlet, copy, &stage.options, capacity)?;
+        let packing = Packing::begin(alloc, inlet, task)?;
         self.made = Made::Packing(packing);
         Ok(())
     }
 
     // Fills the next page of the new copy.
-    fn fill(
-        &mut self,
-        alloc: Global,
-        inlet: &FeedIn,
-        stage: &Stage,
-        other: (u8, u32),
-        all: u64,
-    ) -> Result<Filled, ReloadFault>
+    fn fill(&mut self, alloc: Global, inlet: &FeedIn, task: &Task) -> Result<Filled, ReloadFault>
         requires lawful { Lawful (since_begin inlet.now.items) }
-        requires counted { length (changes (since_begin inlet.now.items)) ≡ all }
+        requires counted { length (changes (since_begin inlet.now.items)) ≡ task.now.changes }
         ensures works { KeepsWorks self.old.made inlet.now self.new.made inlet.now }
         ensures filled { IfOk result
             (λ filled. IsFilled self.new.made filled.page filled.rows) }
     {
-        self.pack(alloc, inlet, stage, other, all)?;
+        self.pack(alloc, inlet, task)?;
         match &mut self.made {
             Made::Packing(packing) => packing.fill(),
             _ => Err(ReloadFault::NoMemory),
@@ -354,18 +300,16 @@ impl Reorg {
         &mut self,
         alloc: Global,
         inlet: &FeedIn,
-        stage: &Stage,
-        other: (u8, u32),
-        all: u64,
+        task: &Task,
         which: Which,
     ) -> Result<(), NoMemory>
         requires lawful { Lawful (since_begin inlet.now.items) }
-        requires counted { length (changes (since_begin inlet.now.items)) ≡ all }
+        requires counted { length (changes (since_begin inlet.now.items)) ≡ task.now.changes }
         requires made { HasMade self.old.made inlet.now }
         ensures works { KeepsWorks self.old.made inlet.now self.new.made inlet.now }
         ensures sorted { OnOk result (IsAt which Sorted self.new.made) }
     {
-        self.pack(alloc, inlet, stage, other, all)?;
+        self.pack(alloc, inlet, task)?;
         self.load(alloc, inlet)?;
         match &mut self.made {
             Made::Drafted(draft) => draft.sort(which),
@@ -386,27 +330,25 @@ impl Reorg {
     }
 
     // Makes the next changes in the new copy, exactly so many, beyond those that the stage counts.
-    // It may have `other.1` pages, and is dropped where that fails.
+    // It is dropped where that fails.
     fn take(
         &mut self,
         alloc: Global,
         inlet: &mut FeedIn,
-        stage: &Stage,
-        other: (u8, u32),
-        all: u64,
+        task: &Task,
         count: u8,
     ) -> Result<(), ShadowFault>
         requires lawful { Lawful (since_begin inlet.old.items) }
-        requires counted { length (changes (since_begin inlet.old.items)) ≡ all }
+        requires counted { length (changes (since_begin inlet.old.items)) ≡ task.now.changes }
         requires made { HasMade self.old.made inlet.old }
         ensures ring { inlet.new.ring ≡ inlet.old.ring }
         ensures items { inlet.new.items ≡ inlet.old.items }
         ensures works { KeepsWorks self.old.made inlet.old self.new.made inlet.new }
-        ensures taken { OnOk result (inlet.new.taken ≡ stage.now.done + count) }
-        ensures full { IfErr result (IsFullOf other.1 (weigh_feed inlet.old.items)) }
+        ensures taken { OnOk result (inlet.new.taken ≡ task.now.stage.done + count) }
+        ensures full { IfErr result (IsFullOf task.now.capacity (weigh_feed inlet.old.items)) }
     {
         let left = inlet.backlog() as u64;
-        if all.saturating_sub(left) != stage.done {
+        if task.changes.saturating_sub(left) != task.stage.done {
             return Err(ShadowFault::NoMemory);
         }
         if count == 0 {
@@ -415,7 +357,7 @@ impl Reorg {
         match mem::replace(&mut self.made, Made::Nothing) {
             Made::Drafted(draft) => {
                 let mut draft = draft;
-                draft.take(alloc, inlet, count, other.1)?;
+                draft.take(alloc, inlet, count, task.capacity)?;
                 self.made = Made::Drafted(draft);
                 Ok(())
             }
@@ -430,18 +372,18 @@ impl Reorg {
 // What is made of the new copy that the desk keeps.
 impl Reorg {
     // Takes the new copy back from the desk, if it keeps one.
-    fn take_back<V: Counts, O: Operator>(&mut self, desk: &mut Desk<V, O>)
+    fn take_back<V: Counts, O: Operator>(&mut self, desk: &mut Desk<V, O>, task: &Task)
+        requires begun { IsTask V.seen desk.old task.now }
         ensures desk { desk.new ≡ record desk.old { shadow = None } }
         ensures works { (inlet : Received) (feed : List Item)
             → Works self.old.made desk.old.shadow inlet feed
             → Works self.new.made None inlet feed }
     {
-        let (copy, capacity) = desk.other();
         let Some(shadow) = desk.take_shadow() else {
             return;
         };
         if let Made::Written(options) = self.made {
-            self.made = Made::Drafted(Draft::of(shadow, options, copy, capacity));
+            self.made = Made::Drafted(Draft::of(shadow, options, task.copy, task.capacity));
         }
     }
 
@@ -451,27 +393,22 @@ impl Reorg {
         alloc: Global,
         desk: &mut Desk<V, O>,
         inlet: &FeedIn,
-        stage: &Stage,
+        task: &Task,
         granted: DrainFor,
-        answer: Answer,
     )
-        requires up { desk.old.down ≡ false }
-        requires stage { desk.old.stage ≡ Some stage.now }
-        requires step { MakesStep stage.now answer (steps.Write granted) }
-        requires kept { desk.old.kept ≡ Some answer }
-        requires room { 1 ≤ desk.old.spare }
+        requires begun { IsTask V.seen desk.old task.now }
+        requires step { MakesStep task.now.stage task.now.answer (steps.Write granted) }
         requires hears { Hears desk.old inlet.now }
         requires works { Works self.old.made desk.old.shadow inlet.now desk.old.feed }
-        ensures acts { Acts (seen_volume V.told V.faults V.capacities) desk.old answer
-            self.new.made inlet.now.taken desk.new }
+        ensures acts { Acts V.seen desk.old task.now.answer self.new.made inlet.now.taken desk.new }
         ensures works { Works self.new.made desk.new.shadow inlet.now desk.new.feed }
     {
-        let event = match self.put(alloc, desk, inlet, stage, granted) {
+        let event = match self.put(alloc, desk, inlet, task, granted) {
             Ok(pages) => Event::Written { pages },
             Err(PrepareCause::Device) => Event::Stop(StopReason::Device),
             Err(PrepareCause::NoMemory) => Event::Stop(StopReason::NoMemory),
         };
-        desk.book(event, Some(answer));
+        desk.book(event, Some(task.answer));
     }
 
     // Writes the new copy, and says how many pages it has. It is dropped where that fails.
@@ -480,18 +417,17 @@ impl Reorg {
         alloc: Global,
         desk: &mut Desk<V, O>,
         inlet: &FeedIn,
-        stage: &Stage,
+        task: &Task,
         granted: DrainFor,
     ) -> Result<u32, PrepareCause>
-        requires up { desk.old.down ≡ false }
-        requires stage { desk.old.stage ≡ Some stage.now }
-        requires unswitched { stage.now.switched ≡ false }
-        requires drain { stage.now.drain ≡ Granted granted }
+        requires begun { IsTask V.seen desk.old task.now }
+        requires unswitched { task.now.stage.switched ≡ false }
+        requires drain { task.now.stage.drain ≡ Granted granted }
         requires hears { Hears desk.old inlet.now }
         requires works { Works self.old.made desk.old.shadow inlet.now desk.old.feed }
-        ensures writes { Writes (seen_volume V.told V.faults V.capacities) desk.old desk.new }
+        ensures writes { Writes V.seen desk.old desk.new }
         ensures device { result ≡ Err PrepareCause.Device
-            → Rose (V.faults desk.old.volume) (V.faults desk.new.volume) }
+            → Rose (V.seen desk.old.volume).faults (V.seen desk.new.volume).faults }
         ensures works { Works self.new.made desk.new.shadow inlet.now desk.new.feed }
     {
         let draft = match mem::replace(&mut self.made, Made::Nothing) {
@@ -501,8 +437,11 @@ impl Reorg {
                 return Err(PrepareCause::NoMemory);
             }
         };
-        let (copy, capacity) = desk.other();
-        if inlet.backlog() > 0 || stage.copied != stage.pages || !draft.is_ready(copy, capacity) {
+        let stage = &task.stage;
+        if inlet.backlog() > 0 || stage.copied != stage.pages {
+            return Err(PrepareCause::NoMemory);
+        }
+        if !draft.is_ready(task.copy, task.capacity) {
             return Err(PrepareCause::NoMemory);
         }
         let (pages, options) = (draft.count(), draft.options);
@@ -516,31 +455,21 @@ impl Reorg {
     }
 
     // Makes the entry of the switch.
-    fn switch<V: Counts, O: Operator>(
-        &mut self,
-        desk: &mut Desk<V, O>,
-        inlet: &FeedIn,
-        stage: &Stage,
-        answer: Answer,
-    )
-        requires up { desk.old.down ≡ false }
-        requires stage { desk.old.stage ≡ Some stage.now }
-        requires step { MakesStep stage.now answer steps.Switch }
-        requires kept { desk.old.kept ≡ Some answer }
-        requires room { 1 ≤ desk.old.spare }
+    fn switch<V: Counts, O: Operator>(&mut self, desk: &mut Desk<V, O>, inlet: &FeedIn, task: &Task)
+        requires begun { IsTask V.seen desk.old task.now }
+        requires step { MakesStep task.now.stage task.now.answer steps.Switch }
         requires hears { Hears desk.old inlet.now }
         requires works { Works self.old.made desk.old.shadow inlet.now desk.old.feed }
-        ensures acts { Acts (seen_volume V.told V.faults V.capacities) desk.old answer
-            self.new.made inlet.now.taken desk.new }
+        ensures acts { Acts V.seen desk.old task.now.answer self.new.made inlet.now.taken desk.new }
         ensures works { Works self.new.made desk.new.shadow inlet.now desk.new.feed }
     {
-        match self.sides(desk, inlet, stage) {
+        match self.sides(desk, inlet, task) {
             Ok(sides) => {
                 // The old copy is dropped.
-                let _ = desk.commit_switch(sides, answer);
+                let _ = desk.commit_switch(sides, task.answer);
                 self.made = Made::Nothing;
             }
-            Err(_) => desk.book(Event::Stop(StopReason::NoMemory), Some(answer)),
+            Err(_) => desk.book(Event::Stop(StopReason::NoMemory), Some(task.answer)),
         }
     }
 
@@ -550,20 +479,20 @@ impl Reorg {
         &self,
         desk: &mut Desk<V, O>,
         inlet: &FeedIn,
-        stage: &Stage,
+        task: &Task,
     ) -> Result<Sides, NoMemory>
-        requires up { desk.old.down ≡ false }
+        requires begun { IsTask V.seen desk.old task.now }
         requires drained { HasDrain desk.old }
-        requires stage { desk.old.stage ≡ Some stage.now }
-        requires unswitched { stage.now.switched ≡ false }
+        requires unswitched { task.now.stage.switched ≡ false }
         requires hears { Hears desk.old inlet.now }
         requires works { Works self.now.made desk.old.shadow inlet.now desk.old.feed }
         ensures same { desk.new ≡ desk.old }
-        ensures sides { IfOk result (AreSidesToSwitch desk.old stage.entry.now) }
+        ensures sides { IfOk result (AreSidesToSwitch desk.old task.entry.now.stage) }
     {
         let Made::Written(options) = self.made else {
             return Err(NoMemory);
         };
+        let stage = &task.stage;
         if inlet.backlog() > 0 || stage.copied != stage.pages || !desk.is_current() {
             return Err(NoMemory);
         }
@@ -579,18 +508,14 @@ impl Reorg {
 }
 
 // Makes the entry of a step after the switch, or of one at which the operator ends the utility.
-fn end<V: Counts, O: Operator>(desk: &mut Desk<V, O>, stage: &Stage, answer: Answer)
-    requires up { desk.old.down ≡ false }
-    requires stage { desk.old.stage ≡ Some stage.now }
-    requires taken { HasTaken desk.old.changes stage.now }
-    requires over { IsOver stage.now answer }
-    requires kept { desk.old.kept ≡ Some answer }
-    requires room { 1 ≤ desk.old.spare }
+fn end<V: Counts, O: Operator>(desk: &mut Desk<V, O>, task: &Task)
+    requires begun { IsTask V.seen desk.old task.now }
+    requires over { IsOver task.now.stage task.now.answer }
     ensures acts { (made : Made) (taken : ℕ)
-        → Acts (seen_volume V.told V.faults V.capacities) desk.old answer made taken desk.new }
+        → Acts V.seen desk.old task.now.answer made taken desk.new }
     ensures feed { desk.new.feed ≡ desk.old.feed }
     ensures shadow { desk.new.shadow ≡ while_running desk.new.stage desk.old.shadow }
 {
-    let event = next_event(stage, desk.changes(), desk.holder(), &answer);
-    desk.book(event, Some(answer));
+    let event = next_event(&task.stage, task.changes, task.holder, &task.answer);
+    desk.book(event, Some(task.answer));
 }

@@ -1,26 +1,42 @@
+// The texts of layouts.
+//
+// 1. A layout is one line for the whole and one for its side. A switch has two sides, the old one first.
+// 2. A side's line has its pages, its rows and how many of them were moved.
+// 3. A full print adds a line for each spot and one for each listing of an index.
 ghost use Rattle.std.specs.Prelude.{◌≡◌, ◌++◌, OnOk, count_by, flat_map};
 ghost use Rattle.rg_print.specs.Layout.{is_over, layout_text, listing_line, over_text, place_text};
 ghost use Rattle.rg_print.specs.Layout.{side_details, side_line, side_text, spot_line};
 ghost use Rattle.rg_print.specs.Layout.{switched_text, which_text};
 
 use crate::push::{push, push_named, push_word};
+use rg_base::copy::TableCopy;
 use rg_base::no_memory::NoMemory;
 use rg_base::place::Place;
 use rg_base::which::Which;
 use rg_stmt::layout::{Listing, Side, Sides, Spot, Spots};
 use std::io::Write;
 
-pub fn push_layout(out: &mut Vec<u8>, full: bool, copy: u8, side: &Side) -> Result<(), NoMemory>
+pub fn push_layout(
+    out: &mut Vec<u8>,
+    full: bool,
+    copy: TableCopy,
+    side: &Side,
+) -> Result<(), NoMemory>
     ensures { OnOk result (out.new.items ≡ out.old.items ++ layout_text full copy side.now) }
 {
-    push_named(out, b"LAYOUT copy=", u64::from(copy))?;
+    push_named(out, b"LAYOUT copy=", u64::from(copy.number()))?;
     push_side(out, full, "NOW", side)
 }
 
-pub fn push_switched(out: &mut Vec<u8>, full: bool, copy: u8, sides: &Sides) -> Result<(), NoMemory>
+pub fn push_switched(
+    out: &mut Vec<u8>,
+    full: bool,
+    copy: TableCopy,
+    sides: &Sides,
+) -> Result<(), NoMemory>
     ensures { OnOk result (out.new.items ≡ out.old.items ++ switched_text full copy sides.now) }
 {
-    push_named(out, b"SWITCHED copy=", u64::from(copy))?;
+    push_named(out, b"SWITCHED copy=", u64::from(copy.number()))?;
     push_side(out, full, "OLD", &sides.old)?;
     push_side(out, full, "NEW", &sides.new)
 }

@@ -15,6 +15,7 @@ use crate::utility::{
     drain_name, push_last, push_log, push_reload, push_started, push_unload, stop_words,
 };
 use rg_base::bytes::Bytes;
+use rg_base::copy::TableCopy;
 use rg_base::no_memory::NoMemory;
 use rg_base::set::Set;
 use rg_stmt::event::{Actor, Entry, Event};
@@ -45,7 +46,7 @@ pub fn print(alloc: Global, trace: &[Entry], full: bool, close: Close) -> Result
 
 /// The layout of a copy alone, in full: no entry's number stands before it, and no last line
 /// follows.
-pub fn print_layout(alloc: Global, copy: u8, side: &Side) -> Result<Bytes, NoMemory>
+pub fn print_layout(alloc: Global, copy: TableCopy, side: &Side) -> Result<Bytes, NoMemory>
     ensures { IfOk result (λ text. text ≡ print_layout_text copy side.now) }
 {
     let mut out = Vec::new(alloc);
@@ -121,9 +122,10 @@ fn push_event(out: &mut Vec<u8>, full: bool, event: &Event) -> Result<(), NoMemo
     }
 }
 
-fn push_opened(out: &mut Vec<u8>, copy: u8, rows: u64, pages: u32) -> Result<(), NoMemory>
+fn push_opened(out: &mut Vec<u8>, copy: TableCopy, rows: u64, pages: u32) -> Result<(), NoMemory>
     ensures { OnOk result (out.new.items ≡ out.old.items ++ opened_text copy rows pages) }
 {
+    let copy = copy.number();
     write!(out, "OPENED copy={copy} rows={rows} pages={pages}").map_err(|_| NoMemory)
 }
 

@@ -1,5 +1,6 @@
 use crate::print::{Close, print, print_layout};
 use rg_base::control::{Deadline, Longlog, Maxro};
+use rg_base::copy::TableCopy;
 use rg_base::no_memory::NoMemory;
 use rg_base::options::{DrainFor, Options};
 use rg_base::place::Place;
@@ -98,7 +99,7 @@ const OPTIONS: Options = Options {
 
 // What is printed of these events, which the utility makes after an opening.
 fn printed(alloc: Global, events: Vec<Event>, full: bool) -> Result<Vec<u8>, NoMemory> {
-    let mut trace = vec![in alloc; Entry::opened(1, 30, 4, 500, 6)]?;
+    let mut trace = vec![in alloc; Entry::opened(TableCopy::first(), 30, 4, 500, 6)]?;
     for event in events {
         trace.push(Entry {
             actor: Actor::Utility,
@@ -126,7 +127,7 @@ fn prints_the_utility(rt: HostRuntime) -> Result<(), Fail> {
     let events = vec![in alloc;
         Event::Started {
             options: OPTIONS,
-            copy: 2,
+            copy: TableCopy::second(),
             pages: 7,
         },
         Event::Active,
@@ -278,14 +279,14 @@ fn moved_side(alloc: Global) -> Result<Side, AllocError> {
 
 fn layouts(alloc: Global) -> Result<Vec<Event>, AllocError> {
     let switched = Event::Switched {
-        copy: 2,
+        copy: TableCopy::second(),
         sides: Sides {
             old: old_side(alloc)?,
             new: moved_side(alloc)?,
         },
     };
     let shown = Event::Layout {
-        copy: 2,
+        copy: TableCopy::second(),
         side: moved_side(alloc)?,
     };
     Ok(vec![in alloc; switched, shown]?)
@@ -344,7 +345,7 @@ END entries=3 rows=3
 #[test]
 fn prints_a_layout_alone(rt: HostRuntime) -> Result<(), Fail> {
     let side = moved_side(rt.alloc())?;
-    let text = print_layout(rt.alloc(), 1, &side)?;
+    let text = print_layout(rt.alloc(), TableCopy::first(), &side)?;
     let want = b"LAYOUT copy=1
   NOW pages=30 rows=1 over=1
   SPOT 2.0 8 9 OVER 30.4

@@ -1,15 +1,18 @@
+// The texts of the utility's phases: each is one line of words and decimal numbers.
 ghost use Rattle.std.specs.Prelude.{◌≡◌, ◌++◌, OnOk};
 ghost use Rattle.rg_print.specs.Utility.{drain_text, last_text, log_text, reload_text};
 ghost use Rattle.rg_print.specs.Utility.{started_text, stop_text, unload_text, verdict_text};
 
+use rg_base::copy::TableCopy;
 use rg_base::no_memory::NoMemory;
 use rg_base::options::DrainFor;
 use rg_base::verdict::{StopReason, Verdict};
 use std::io::Write;
 
-pub fn push_started(out: &mut Vec<u8>, copy: u8, pages: u32) -> Result<(), NoMemory>
+pub fn push_started(out: &mut Vec<u8>, copy: TableCopy, pages: u32) -> Result<(), NoMemory>
     ensures { OnOk result (out.new.items ≡ out.old.items ++ started_text copy pages) }
 {
+    let copy = copy.number();
     write!(out, "STARTED copy={copy} pages={pages}").map_err(|_| NoMemory)
 }
 

@@ -4,6 +4,7 @@ use Rattle.std.proofs.Common.{Option, Some, None, refl, sym, ap, subst, ◌∙�
 use Rattle.std.specs.List.{AllByRecursion}
 use Rattle.std.proofs.lemmas.Bool.{le-ltb}
 use Rattle.std.proofs.lemmas.List.{append-nil, drop_at, take_at, length-append}
+use Rattle.std.proofs.lemmas.Option.{same_Some}
 use Rattle.rg_base.specs.declared.part.Part.{Part}
 use Rattle.rg_base.specs.declared.part.SlotOp.{SlotOp}
 use Rattle.rg_base.specs.declared.part.SlotOp.TheVariants as slot_op
@@ -173,9 +174,6 @@ record_again entry fits =
 some_none : (entry : Record) → Some entry ≡ None → ⊥
 some_none entry e = absurd cc
 
-some_one : (a b : Record) → Some a ≡ Some b → a ≡ b
-some_one a b e = cc
-
 -- where nothing is read, no record stands
 pub nothing_read : (bytes : List ℕ) → record_at bytes ≡ None → NoRecordHas bytes
 nothing_read bytes none entry fits is spelled =
@@ -186,7 +184,7 @@ pub only_read : (bytes : List ℕ) (read : Record) → record_at bytes ≡ Some 
     → (IsRecord read → record_bytes read ≡ bytes → ⊥) → NoRecordHas bytes
 only_read bytes read e other entry fits is spelled =
     let same : entry ≡ read =
-    some_one entry read (sym (record_again entry fits) ∙ ap record_at spelled ∙ e) in
+    same_Some entry read (sym (record_again entry fits) ∙ ap record_at spelled ∙ e) in
     other (subst IsRecord same is) (ap record_bytes (sym same) ∙ spelled)
 
 -- a refusal that reading gives says that no record stands there
@@ -198,4 +196,4 @@ refused bytes NoMemory none = tt
 -- equal bytes are of equal records
 pub one_record : (a b : Record) → Fits a → Fits b → record_bytes a ≡ record_bytes b → a ≡ b
 one_record a b fits_a fits_b e =
-    some_one a b (sym (record_again a fits_a) ∙ ap record_at e ∙ record_again b fits_b)
+    same_Some a b (sym (record_again a fits_a) ∙ ap record_at e ∙ record_again b fits_b)

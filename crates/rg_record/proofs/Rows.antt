@@ -1,11 +1,11 @@
 -- Which bytes are those of a row.
-use Rattle.std.proofs.Common.{◌≡◌, ◌≤◌, ◌<◌, ◌^◌, ℕ, suc, zero, ◌+◌, ◌-◌, Bool, true, false, ◌&&◌}
+use Rattle.std.proofs.Common.{◌≡◌, ◌≤◌, ◌<◌, ◌^◌, ℕ, suc, zero, ◌+◌, ◌-◌, true, false}
 use Rattle.std.proofs.Common.{eqb, leb, List, [], ◌∷◌, ◌++◌, length, take, drop, get_or, Some, None}
 use Rattle.std.proofs.Common.{refl, sym, ap, subst, ◌∙◌, arith, length-append}
 use Rattle.std.specs.Int.{w16, from_be_bytes}
 use Rattle.std.specs.List.{list_all, AllByRecursion}
 use Rattle.std.proofs.lemmas.List.{append_assoc, drop_at, length-drop, length-take-le, get_or-drop}
-use Rattle.std.proofs.lemmas.Bool.{leb-true, eqb-true, le-leb, eq-eqb, ne_eqb}
+use Rattle.std.proofs.lemmas.Bool.{leb-true, eqb-true, le-leb, eq-eqb, ne_eqb, and_parts, and_from}
 use Rattle.byteorder.specs.Endian.{big_number}
 use Rattle.byteorder.specs.Numbers.{big_number-reads_back, big_from-take}
 use Rattle.rg_base.specs.declared.row.Row.{Row}
@@ -17,33 +17,25 @@ use Rattle.rg_base.specs.RowBytes.{row_bytes, row_of, HasLength, RowFaultIs}
 use Rattle.rg_base.specs.Text.{IsLetter}
 use Rattle.rg_base.proofs.Fields.{length-field, field_of_2, small_drop, small_take}
 use Rattle.rg_base.proofs.RowBytes.{length-row_bytes, row_of-row_bytes}
-use Rattle.rg_record.specs.Fits.{FitsRow}
+use Rattle.rg_base.specs.Values.{FitsRow}
 use Rattle.rg_record.specs.Reading.{is_letter, is_row, refusal, row_in, Refuses}
 use Rattle.rg_record.specs.declared.fault.RecordFault.TheVariants.{NotARecord}
-
-both : (a b : Bool) → a ≡ true → b ≡ true → (a && b) ≡ true
-both a b ea eb = rw (ea, eb) refl
-
-both_true : (a b : Bool) → (a && b) ≡ true → (a ≡ true) × (b ≡ true)
-both_true true true e = (refl, refl)
-both_true true false e = absurd cc
-both_true false b e = absurd cc
 
 letters : (text : List ℕ) → AllByRecursion IsLetter text → list_all is_letter text ≡ true
 letters [] all = refl
 letters (b ∷ text) all =
-    both (is_letter b) (list_all is_letter text)
-    (both _ _ (le-leb 33 b all.0.0) (le-leb b 126 all.0.1)) (letters text all.1)
+    and_from (is_letter b) (list_all is_letter text)
+    (and_from _ _ (le-leb 33 b all.0.0) (le-leb b 126 all.0.1)) (letters text all.1)
 
 letter_in : (text : List ℕ) (i : ℕ) → i < length text → list_all is_letter text ≡ true
     → IsLetter (get_or text i 0)
 letter_in [] i lt all = absurd (omega arith)
 letter_in (b ∷ text) zero lt all =
-    let one = both_true (is_letter b) (list_all is_letter text) all in
-    let ends = both_true (leb 33 b) (leb b 126) one.0 in
+    let one = and_parts (is_letter b) (list_all is_letter text) all in
+    let ends = and_parts (leb 33 b) (leb b 126) one.0 in
     (leb-true 33 b ends.0, leb-true b 126 ends.1)
 letter_in (b ∷ text) (suc i) lt all =
-    letter_in text i (omega arith) (both_true (is_letter b) (list_all is_letter text) all).1
+    letter_in text i (omega arith) (and_parts (is_letter b) (list_all is_letter text) all).1
 
 -- the number that a field in front gives
 pub number_front : (n x : ℕ) (rest bytes : List ℕ) → x < 256 ^ n → bytes ≡ field n x ++ rest
@@ -79,8 +71,8 @@ is_row-row_bytes row fits =
     let small : length all ≤ 826 = omega (arith, len, short) in
     let all_letters : list_all is_letter (drop 26 all) ≡ true =
     ap (list_all is_letter) d26 ∙ letters row.text fits.text.letters in
-    both _ _ (le-leb 26 (length all) long)
-    (both _ _ (le-leb (length all) 826 small) (both _ _ (eq-eqb _ _ number) all_letters))
+    and_from _ _ (le-leb 26 (length all) long)
+    (and_from _ _ (le-leb (length all) 826 small) (and_from _ _ (eq-eqb _ _ number) all_letters))
 
 -- a row that is read is the one that the bytes show
 pub row_read : (row : Row) (bytes : List ℕ) → FitsRow row → row_bytes row ≡ bytes
@@ -108,9 +100,9 @@ record Tests (bytes : List ℕ) : Type 0 where
 tests : (bytes : List ℕ) → is_row bytes ≡ true → Tests bytes
 unfolding is_row
 tests bytes is =
-    let a = both_true _ _ is in
-    let b = both_true _ _ a.1 in
-    let c = both_true _ _ b.1 in
+    let a = and_parts _ _ is in
+    let b = and_parts _ _ a.1 in
+    let c = and_parts _ _ b.1 in
     record {
       long = leb-true _ _ a.0;
       short = leb-true _ _ b.0;

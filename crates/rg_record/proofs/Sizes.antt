@@ -1,10 +1,11 @@
 -- How many bytes the pieces of a record have.
-use Rattle.std.proofs.Common.{◌≡◌, ◌≤◌, ◌<◌, ℕ, suc, zero, ◌+◌, ◌*◌, Bool, true, false, ◌&&◌, eqb}
+use Rattle.std.proofs.Common.{◌≡◌, ◌≤◌, ◌<◌, ℕ, suc, zero, ◌+◌, ◌*◌, true, eqb}
 use Rattle.std.proofs.Common.{List, [], ◌∷◌, ◌++◌, length, drop, get_or, Option, Some, None, refl}
 use Rattle.std.proofs.Common.{ap, ◌∙◌, arith, length-append, append_assoc}
 use Rattle.std.specs.List.{list_all}
 use Rattle.std.proofs.lemmas.List.{drop_more}
 use Rattle.std.proofs.Math.Seq.{drop-nil}
+use Rattle.std.proofs.lemmas.Bool.{and_parts}
 use Rattle.rg_base.specs.declared.part.Part.{Part}
 use Rattle.rg_base.specs.declared.part.SlotOp.{SlotOp}
 use Rattle.rg_base.specs.declared.part.SlotOp.TheVariants as slot_op
@@ -57,18 +58,13 @@ free_size (slot_op.DeadRow capacity) e = absurd cc
 free_size (slot_op.DeadPointer capacity other) e = absurd cc
 free_size (slot_op.DeadOver capacity other) e = absurd cc
 
-both_true : (a b : Bool) → (a && b) ≡ true → (a ≡ true) × (b ≡ true)
-both_true true true e = (refl, refl)
-both_true true false e = absurd cc
-both_true false b e = absurd cc
-
 all_frees_size : (page : ℕ) (parts : List Part) → list_all (frees_on page) parts ≡ true
     → parts_size parts ≡ 7 * length parts
 unfolding parts_size
 all_frees_size page [] e = refl
 all_frees_size page (part ∷ parts) e =
-    let both = both_true (frees_on page part) (list_all (frees_on page) parts) e in
-    let free = both_true (is_free part.op) (eqb part.page page) both.0 in
+    let both = and_parts (frees_on page part) (list_all (frees_on page) parts) e in
+    let free = and_parts (is_free part.op) (eqb part.page page) both.0 in
     omega (arith, free_size part.op free.0, all_frees_size page parts both.1)
 
 pub frees_size : (parts : List Part) → AreFrees parts → parts_size parts ≡ 7 * length parts

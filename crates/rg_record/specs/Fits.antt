@@ -7,11 +7,11 @@ use Rattle.rg_base.specs.declared.part.SlotOp.{SlotOp}
 use Rattle.rg_base.specs.declared.part.SlotOp.TheVariants as slot_op
 use Rattle.rg_base.specs.declared.place.Place.{Place}
 use Rattle.rg_base.specs.declared.row.Row.{Row}
-use Rattle.rg_base.specs.Text.{IsText}
 use Rattle.rg_record.specs.declared.record.Kind.{Kind}
 use Rattle.rg_record.specs.declared.record.Kind.TheVariants.{Change, Undo, Commit, RolledBack}
 use Rattle.rg_record.specs.declared.record.Kind.TheVariants.{Purge, Switch}
 use Rattle.rg_record.specs.declared.record.Record.{Record}
+use Rattle.rg_base.specs.Values.{FitsRow}
 
 pub record FitsPlace (place : Place) : Type 0 where
   pub page : place.page < 2 ^ 32
@@ -30,12 +30,6 @@ pub record FitsPart (part : Part) : Type 0 where
   pub page : part.page < 2 ^ 32
   pub slot : part.slot < 2 ^ 16
   pub op : FitsOp part.op
-
-pub record FitsRow (row : Row) : Type 0 where
-  pub key : row.key < 2 ^ 64
-  pub clus : row.clus < 2 ^ 64
-  pub cat : row.cat < 2 ^ 64
-  pub text : IsText row.text
 
 abbrev pub FitsOption : Option Row → Type 0
 FitsOption None = Unit {0}

@@ -1,7 +1,8 @@
 // A clause that names each record ranges over all numbers and all texts. These calls do nothing at
 // run time that matters; they say of a value what its type keeps, so that such a clause applies.
 ghost use Rattle.std.specs.List.{AllByRecursion};
-ghost use Rattle.rg_record.specs.Fits.{FitsPlace, FitsOp, FitsPart, FitsRow, FitsOption, FitsKind};
+ghost use Rattle.rg_base.specs.Values.{FitsRow};
+ghost use Rattle.rg_record.specs.Fits.{FitsPlace, FitsOp, FitsPart, FitsOption, FitsKind};
 ghost use Rattle.rg_record.specs.Fits.{Fits};
 
 use crate::record::{Kind, Record};

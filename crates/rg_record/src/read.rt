@@ -16,6 +16,7 @@ use crate::fault::RecordFault;
 use crate::fits::row_fits;
 use crate::record::{Kind, Record};
 use byteorder::{BigEndian, ByteOrder};
+use rg_base::note::note;
 use rg_base::part::{Part, Parts, SlotOp};
 use rg_base::place::Place;
 use rg_base::position::Position;
@@ -289,7 +290,7 @@ pub fn read_record(alloc: Global, bytes: &[u8]) -> Result<Record, RecordFault>
         return Err(RecordFault::NotARecord);
     }
     let mut again = Buffer::new();
-    let _size = entry.size();
+    note(&entry.size());
     entry.add_to(&mut again);
     if again.as_slice() != bytes {
         return Err(RecordFault::NotARecord);

@@ -10,6 +10,7 @@ use crate::buffer::Buffer;
 use crate::record::{Kind, Record};
 use rg_base::bytes::Bytes;
 use rg_base::no_memory::NoMemory;
+use rg_base::note::note;
 use rg_base::part::{Part, SlotOp};
 use rg_base::place::Place;
 use rg_base::row::Row;
@@ -170,7 +171,7 @@ pub fn write_record(alloc: Global, entry: &Record) -> Result<Bytes, NoMemory>
     ensures { IfOk result (λ bytes. bytes ≡ record_bytes entry.now) }
 {
     let mut out = Buffer::new();
-    let _size = entry.size();
+    note(&entry.size());
     entry.add_to(&mut out);
     Ok(Bytes::new(out.as_slice().to_vec(alloc)?))
 }

@@ -3,20 +3,14 @@
 -- 1. What is said of the records that are left and of the pages as they are now holds of all
 -- records
 --    and of the pages at the beginning.
-use Rattle.std.proofs.Common.{◌≡◌, ◌<◌, ◌+◌, ℕ, suc, Bool, List, ◌∷◌, drop, get_or, length, map}
-use Rattle.std.proofs.Common.{cond, refl, sym, ◌∙◌, ap, subst, inl, inr, arith, drop-cons}
+use Rattle.std.proofs.Common.{◌≡◌, ◌<◌, ◌+◌, ℕ, Bool, List, ◌∷◌, drop, get_or, length, map}
+use Rattle.std.proofs.Common.{cond, refl, sym, ◌∙◌, ap, subst, inl, inr}
 use Rattle.std.specs.List.{All, AllByRecursion}
+use Rattle.std.proofs.lemmas.List.{drop_more}
 use Rattle.rg_page.specs.Content.{Content}
 use Rattle.rg_record.specs.declared.record.Record.{Record}
 use Rattle.rg_space.specs.Redo.{RedoFits, redone}
 use Rattle.rg_redo.specs.Redo.{AllRedoFit, FailsAt, is_switch, redone_all, since_last}
-
--- the first of the records that are left
-pub next_record : (rs : List Record) (i : ℕ) (d : Record) → i < length rs
-    → drop i rs ≡ get_or rs i d ∷ drop (i + 1) rs
-next_record rs i d below =
-    let e : i + 1 ≡ suc i = omega arith in
-    rw e (drop-cons rs i d below)
 
 -- what stands after the last Switch so far, and after the next record
 pub since_next : (rs : List Record) (from i : ℕ) (d : Record) → i < length rs
@@ -26,7 +20,7 @@ pub since_next : (rs : List Record) (from i : ℕ) (d : Record) → i < length r
 since_next rs from i d below so b is =
     ap (λ (c : Bool). since_last (cond c (drop (i + 1) rs) (drop from rs)) (drop (i + 1) rs))
     (sym is)
-    ∙ ap (since_last (drop from rs)) (sym (next_record rs i d below))
+    ∙ ap (since_last (drop from rs)) (sym (drop_more rs i d below))
     ∙ so
 
 -- what holds of the records that are left, from the pages as they are

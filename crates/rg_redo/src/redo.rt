@@ -7,7 +7,8 @@
 ghost use Rattle.std.specs.Prelude.{◌≡◌, ◌≤◌, true, length, drop, OnOk, IfErr};
 ghost use Rattle.std.specs.List.{AllByRecursion};
 ghost use Rattle.rg_page.specs.Seen.{Keeps};
-ghost use Rattle.rg_space.specs.Space.{Agree, InStep, frames_of, index_of, capacity_in, undos_in};
+ghost use Rattle.rg_space.specs.Space.{Agree, InStep, frames_of, summaries_of, capacity_in};
+ghost use Rattle.rg_space.specs.Space.{undos_in};
 ghost use Rattle.rg_redo.specs.Redo.{AllRedoFit, CanRedo, IsRedoFault, is_switch, redone_all};
 ghost use Rattle.rg_redo.specs.Redo.{since_switch};
 
@@ -52,7 +53,7 @@ fn redo_each<F: Frames>(space: &mut Space<F>, records: &[Record]) -> Result<(), 
     requires can { AllByRecursion (CanRedo (length (F.seen (frames_of space.old)).pages)
         (F.seen (frames_of space.old)).forced) records.now }
     requires idle { 1 ≤ (F.seen (frames_of space.old)).idle }
-    requires step { InStep (F.seen (frames_of space.old)) (index_of space.old)
+    requires step { InStep (F.seen (frames_of space.old)) (summaries_of space.old)
         (capacity_in space.old) }
     ensures pages { OnOk result ((F.seen (frames_of space.new)).sure ≡ true
         → (F.seen (frames_of space.new)).pages
@@ -61,7 +62,7 @@ fn redo_each<F: Frames>(space: &mut Space<F>, records: &[Record]) -> Result<(), 
         → AllRedoFit records.now (F.seen (frames_of space.old)).pages) }
     ensures fault { IfErr result (λ fault. IsRedoFault fault records.now
         (F.seen (frames_of space.old)) (F.seen (frames_of space.new))) }
-    ensures step { InStep (F.seen (frames_of space.new)) (index_of space.new)
+    ensures step { InStep (F.seen (frames_of space.new)) (summaries_of space.new)
         (capacity_in space.new) }
     ensures capacity { capacity_in space.new ≡ capacity_in space.old }
     ensures undos { undos_in space.new ≡ undos_in space.old }
@@ -74,8 +75,8 @@ fn redo_each<F: Frames>(space: &mut Space<F>, records: &[Record]) -> Result<(), 
         ≡ length (F.seen (frames_of space.old)).pages }
     ensures idle { (F.seen (frames_of space.old)).idle ≤ (F.seen (frames_of space.new)).idle }
     ensures agree { (F.seen (frames_of space.new)).sure ≡ true
-        → Agree (F.seen (frames_of space.old)) (index_of space.old)
-        → Agree (F.seen (frames_of space.new)) (index_of space.new) }
+        → Agree (F.seen (frames_of space.old)) (summaries_of space.old)
+        → Agree (F.seen (frames_of space.new)) (summaries_of space.new) }
 {
     let mut at = 0;
     while at < records.len() {
@@ -99,7 +100,7 @@ pub fn redo_all<F: Frames>(space: &mut Space<F>, log: &Log) -> Result<(), RedoFa
     requires can { AllByRecursion (CanRedo (length (F.seen (frames_of space.old)).pages)
         (F.seen (frames_of space.old)).forced) (since_switch log.now.records) }
     requires idle { 1 ≤ (F.seen (frames_of space.old)).idle }
-    requires step { InStep (F.seen (frames_of space.old)) (index_of space.old)
+    requires step { InStep (F.seen (frames_of space.old)) (summaries_of space.old)
         (capacity_in space.old) }
     ensures pages { OnOk result ((F.seen (frames_of space.new)).sure ≡ true
         → (F.seen (frames_of space.new)).pages
@@ -108,7 +109,7 @@ pub fn redo_all<F: Frames>(space: &mut Space<F>, log: &Log) -> Result<(), RedoFa
         → AllRedoFit (since_switch log.now.records) (F.seen (frames_of space.old)).pages) }
     ensures fault { IfErr result (λ fault. IsRedoFault fault (since_switch log.now.records)
         (F.seen (frames_of space.old)) (F.seen (frames_of space.new))) }
-    ensures step { InStep (F.seen (frames_of space.new)) (index_of space.new)
+    ensures step { InStep (F.seen (frames_of space.new)) (summaries_of space.new)
         (capacity_in space.new) }
     ensures capacity { capacity_in space.new ≡ capacity_in space.old }
     ensures undos { undos_in space.new ≡ undos_in space.old }
@@ -121,8 +122,8 @@ pub fn redo_all<F: Frames>(space: &mut Space<F>, log: &Log) -> Result<(), RedoFa
         ≡ length (F.seen (frames_of space.old)).pages }
     ensures idle { (F.seen (frames_of space.old)).idle ≤ (F.seen (frames_of space.new)).idle }
     ensures agree { (F.seen (frames_of space.new)).sure ≡ true
-        → Agree (F.seen (frames_of space.old)) (index_of space.old)
-        → Agree (F.seen (frames_of space.new)) (index_of space.new) }
+        → Agree (F.seen (frames_of space.old)) (summaries_of space.old)
+        → Agree (F.seen (frames_of space.new)) (summaries_of space.new) }
 {
     let records = log.records();
     let (_, since) = records.split_at(count_switched(records));

@@ -7,7 +7,7 @@ use Rattle.rg_base.specs.declared.place.Place.{Place}
 use Rattle.rg_base.specs.declared.row.Row.{Row}
 use Rattle.rg_feed.specs.Fold.Fold.{row_in}
 use Rattle.rg_feed.specs.Fold.Lawful.{AreApart}
-use Rattle.rg_model.specs.Layout.{same_place}
+use Rattle.rg_base.specs.Place.{same_place}
 
 -- a slot below this one
 abbrev pub IsBelow : ℕ → Place × Row → Type 0

@@ -1,30 +1,21 @@
 -- Rows in order, with different keys, are the rows in clustering order.
-use Rattle.std.proofs.Common.{◌≡◌, ℕ, zero, suc, ◌+◌, ◌==◌, ◌&&◌, ◌||◌, ◌≤◌, ◌<◌, ◌⊎◌, inl, inr}
+use Rattle.std.proofs.Common.{◌≡◌, ℕ, zero, suc, ◌+◌, ◌==◌, ◌&&◌, ◌||◌, ◌<◌, ◌⊎◌, inl, inr}
 use Rattle.std.proofs.Common.{nat_lt, nat_cmp, is_lt, cond, Less, Equal, Greater, Bool, true, false}
 use Rattle.std.proofs.Common.{List, [], ◌∷◌, if◌then◌else◌, get_or, refl, sym, ap, subst, ◌∙◌}
 use Rattle.std.proofs.Common.{arith}
-use Rattle.std.proofs.lemmas.Bool.{eqb-true}
-use Rattle.std.proofs.lemmas.Bool.Decides.{nat_tests}
+use Rattle.std.proofs.lemmas.Bool.{eqb-true, eqb-false, ltb-false, ltb-true, lt-ltb}
 use Rattle.std.proofs.lemmas.List.Sorted.{Contains-permutation, IsPermutation-sym}
 use Rattle.std.specs.List.{AllByRecursion, Contains}
 use Rattle.std.specs.List.Sorted.{IsPermutation}
 use Rattle.std.specs.Ordering.{ordering_then}
 use Rattle.rg_base.specs.declared.place.Place.{Place}
 use Rattle.rg_base.specs.declared.row.Row.{Row}
+use Rattle.rg_base.proofs.Small.{nat_itself}
 use Rattle.rg_model.specs.Packed.{clustered_rows, is_row_before, put_row}
 use Rattle.rg_reload.specs.Moved.{rows_in}
 use Rattle.rg_reload.specs.Order.{HaveOtherKeys, IsInOrder, order_cmp, order_key}
 
 -- the test of two rows
-
-below : (a b : ℕ) → nat_lt a b ≡ true → a < b
-below a b e = grind (arith, nat_tests)
-
-is_below : (a b : ℕ) → a < b → nat_lt a b ≡ true
-is_below a b h = grind (arith, nat_tests)
-
-same : (a : ℕ) → (a == a) ≡ true
-same a = grind (arith, nat_tests)
 
 abbrev pub Before : Row → Row → Type 0
 Before a b = (a.clus < b.clus) ⊎ ((a.clus ≡ b.clus) × (a.key < b.key))
@@ -35,16 +26,16 @@ told a b e = go (nat_lt a.clus b.clus) refl (a.clus == b.clus) refl (nat_lt a.ke
     go : (x : Bool) → nat_lt a.clus b.clus ≡ x → (y : Bool) → (a.clus == b.clus) ≡ y → (z : Bool)
         → nat_lt a.key b.key ≡ z
         → (x || (y && z)) ≡ true → (a.clus < b.clus) ⊎ ((a.clus ≡ b.clus) × (a.key < b.key))
-    go true p y q z r f = inl (below a.clus b.clus p)
-    go false p true q true r f = inr (eqb-true a.clus b.clus q, below a.key b.key r)
+    go true p y q z r f = inl (ltb-true a.clus b.clus p)
+    go false p true q true r f = inr (eqb-true a.clus b.clus q, ltb-true a.key b.key r)
     go false p true q false r f = absurd (cc (f))
     go false p false q z r f = absurd (cc (f))
 
 from_told : (a b : Row) → Before a b → is_row_before a b ≡ true
 from_told a b (inl h) =
-    ap (λ (x : Bool). x || (a.clus == b.clus && nat_lt a.key b.key)) (is_below a.clus b.clus h)
+    ap (λ (x : Bool). x || (a.clus == b.clus && nat_lt a.key b.key)) (lt-ltb a.clus b.clus h)
 from_told a b (inr h) = go (nat_lt a.clus b.clus) (a.clus == b.clus) (nat_lt a.key b.key)
-    (ap (λ (n : ℕ). a.clus == n) (sym h.0) ∙ same a.clus) (is_below a.key b.key h.1)
+    (ap (λ (n : ℕ). a.clus == n) (sym h.0) ∙ nat_itself a.clus) (lt-ltb a.key b.key h.1)
   where
     go : (x y z : Bool) → y ≡ true → z ≡ true → (x || (y && z)) ≡ true
     go true y z p q = refl
@@ -71,12 +62,6 @@ never_both a b p q = go (told a b p) (told b a q)
     go (inr x) (inl y) = omega (arith, x.0, y)
     go (inr x) (inr y) = omega (arith, x.1, y.1)
 
-above : (a b : ℕ) → nat_lt a b ≡ false → b ≤ a
-above a b e = grind (arith, nat_tests)
-
-differ : (a b : ℕ) → (a == b) ≡ false → a ≡ b → ⊥
-differ a b e f = grind (arith, nat_tests)
-
 -- of two rows with different keys one is before the other
 other_way : (a b : Row) → is_row_before a b ≡ false → (b.key == a.key) ≡ false
     → is_row_before b a ≡ true
@@ -88,9 +73,12 @@ other_way a b e f = from_told b a
         → (x || (y && z)) ≡ false → Before b a
     go true p y q z r g = absurd (cc (g))
     go false p true q true r g = absurd (cc (g))
-    go false p true q false r g = inr
-        (sym (eqb-true a.clus b.clus q), omega (arith, above a.key b.key r, differ b.key a.key f))
-    go false p false q z r g = inl (omega (arith, above a.clus b.clus p, differ a.clus b.clus q))
+    go false p true q false r g = inr (
+      sym (eqb-true a.clus b.clus q),
+      omega (arith, ltb-false a.key b.key r, eqb-false b.key a.key f),
+    )
+    go false p false q z r g =
+        inl (omega (arith, ltb-false a.clus b.clus p, eqb-false a.clus b.clus q))
 
 -- lists in which each row is before all later ones
 
@@ -124,12 +112,12 @@ neighbours x y e f =
     go false a true b true c s d g = absurd (cc (g))
     go false a true b false c s d g = inr (
       sym (eqb-true y.1.clus x.1.clus b),
-      omega (arith, above y.1.key x.1.key c, differ y.1.key x.1.key f),
+      omega (arith, ltb-false y.1.key x.1.key c, eqb-false y.1.key x.1.key f),
     )
     go false a false b r c s d g =
-        inl (omega (arith, above y.1.clus x.1.clus a, differ y.1.clus x.1.clus b))
+        inl (omega (arith, ltb-false y.1.clus x.1.clus a, eqb-false y.1.clus x.1.clus b))
 
-rest_in_order : (x : Place × Row) (rows : List (Place × Row)) → IsInOrder (x ∷ rows)
+pub rest_in_order : (x : Place × Row) (rows : List (Place × Row)) → IsInOrder (x ∷ rows)
     → IsInOrder rows
 rest_in_order x rows w = λ k d l h.
     let e : suc k + 1 ≡ suc (k + 1) = omega arith in
@@ -189,7 +177,7 @@ abbrev pub Has : Row → List Row → Type 0
 Has x [] = ⊥
 Has x (y ∷ ys) = (x ≡ y) ⊎ Has x ys
 
-all_has : (P : Row → Type 0) (x : Row) (xs : List Row) → AllByRecursion P xs → Has x xs → P x
+pub all_has : (P : Row → Type 0) (x : Row) (xs : List Row) → AllByRecursion P xs → Has x xs → P x
 all_has P x [] h k = absurd k
 all_has P x (y ∷ ys) h (inl e) = subst P (sym e) h.0
 all_has P x (y ∷ ys) h (inr k) = all_has P x ys h.1 k

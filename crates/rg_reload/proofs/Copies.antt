@@ -1,11 +1,12 @@
 -- The pages of a new copy, as they are added.
-use Rattle.std.proofs.Common.{◌≡◌, ℕ, zero, suc, ◌+◌, ◌==◌, ◌≤◌, ◌<◌, Bool, true, false, List, []}
+use Rattle.std.proofs.Common.{◌≡◌, ℕ, zero, suc, ◌+◌, ◌==◌, Bool, true, false, List, []}
 use Rattle.std.proofs.Common.{◌∷◌, ◌++◌, if◌then◌else◌, length, get_or, refl, sym, ap, subst, ◌∙◌}
 use Rattle.std.proofs.Common.{arith, append-nil}
-use Rattle.std.proofs.lemmas.Bool.{eqb-true}
-use Rattle.std.proofs.lemmas.Bool.Decides.{nat_tests}
+use Rattle.std.proofs.lemmas.Bool.{eqb-true, eqb-false}
+use Rattle.rg_space.proofs.Took.{past_page}
 use Rattle.rg_base.specs.declared.place.Place.{Place}
 use Rattle.rg_base.specs.declared.row.Row.{Row as TableRow}
+use Rattle.rg_base.proofs.Small.{nat_itself, nat_apart_turned}
 use Rattle.rg_home.specs.Pages.{page_at}
 use Rattle.rg_home.specs.Slot.{Slot}
 use Rattle.rg_home.specs.Slots.{Fits}
@@ -29,11 +30,6 @@ get-old [] x (suc k) e = refl
 get-old (y ∷ pages) x zero e = refl
 get-old (y ∷ pages) x (suc k) e = get-old pages x k (λ f. e (ap suc f))
 
-get-past : (pages : List Content) (k : ℕ) → length pages ≤ k → get_or (slots_of pages) k [] ≡ []
-get-past [] k h = refl
-get-past (y ∷ pages) zero h = absurd (omega arith)
-get-past (y ∷ pages) (suc k) h = get-past pages k (omega arith)
-
 pub page_at-new : (pages : List Content) (x : Content) (n : ℕ) → n ≡ length pages + 1
     → page_at (slots_of (pages ++ x ∷ [])) n ≡ x.slots
 page_at-new pages x zero e = absurd (omega arith)
@@ -44,11 +40,6 @@ pub page_at-old : (pages : List Content) (x : Content) (n : ℕ) → (n ≡ leng
 page_at-old pages x zero e = refl
 page_at-old pages x (suc k) e = get-old pages x k (λ f. e (omega arith))
 
-pub page_at-past : (pages : List Content) (n : ℕ) → length pages < n
-    → page_at (slots_of pages) n ≡ []
-page_at-past pages zero h = absurd (omega arith)
-page_at-past pages (suc k) h = get-past pages k (omega arith)
-
 position-add : (pages : List Content) (x : Content) (n : ℕ) → x.position ≡ 0
     → (content_at pages n).position ≡ 0 → (content_at (pages ++ x ∷ []) n).position ≡ 0
 position-add pages x zero e f = refl
@@ -56,9 +47,6 @@ position-add [] x (suc zero) e f = e
 position-add [] x (suc (suc n)) e f = refl
 position-add (y ∷ pages) x (suc zero) e f = f
 position-add (y ∷ pages) x (suc (suc n)) e f = position-add pages x (suc n) e f
-
-decided : (a b : ℕ) → (a == b) ≡ false → a ≡ b → ⊥
-decided a b e f = grind (arith, nat_tests)
 
 -- an empty page has no row
 pub rows-pad : (pages : List Content) (x : Content) (rows : List Moved) → x.position ≡ 0
@@ -74,14 +62,14 @@ rows-pad pages x rows e f h = record {
     within n true t =
         subst Fits (sym (page_at-new pages x n (eqb-true n (length pages + 1) t) ∙ f)) (omega arith)
     within n false t =
-        subst Fits (sym (page_at-old pages x n (decided n (length pages + 1) t))) (h.fits n)
+        subst Fits (sym (page_at-old pages x n (eqb-false n (length pages + 1) t))) (h.fits n)
 
     go : (n : ℕ) (b : Bool) → (n == length pages + 1) ≡ b
         → page_at (slots_of (pages ++ x ∷ [])) n ≡ slots_on n rows
     go n true t =
         let same : n ≡ length pages + 1 = eqb-true n (length pages + 1) t in
-        page_at-new pages x n same ∙ f ∙ sym (page_at-past pages n (omega arith)) ∙ h.slots n
-    go n false t = page_at-old pages x n (decided n (length pages + 1) t) ∙ h.slots n
+        page_at-new pages x n same ∙ f ∙ sym (past_page pages n (omega arith)) ∙ h.slots n
+    go n false t = page_at-old pages x n (eqb-false n (length pages + 1) t) ∙ h.slots n
 
 -- the slots of rows that were moved
 
@@ -96,16 +84,13 @@ slots_on-append n (m ∷ a) b = go (m.target.page == n) (slots_on-append n a b)
     go true e = ap (λ (s : List Slot). row_slot m.row ∷ s) e
     go false e = e
 
-same_number : (n : ℕ) → (n == n) ≡ true
-same_number n = grind (arith, nat_tests)
-
 pub slots_on-here : (page slot : ℕ) (rows : List (Place × TableRow))
     → slots_on page (moved_on page slot rows) ≡ row_slots rows
 slots_on-here page slot [] = refl
 slots_on-here page slot (x ∷ rows) =
     ap
     (λ (b : Bool). if b then row_slot x.1 ∷ slots_on page (moved_on page (slot + 1) rows)
-    else slots_on page (moved_on page (slot + 1) rows)) (same_number page)
+    else slots_on page (moved_on page (slot + 1) rows)) (nat_itself page)
     ∙ ap (λ (s : List Slot). row_slot x.1 ∷ s) (slots_on-here page (slot + 1) rows)
 
 pub slots_on-other : (n page slot : ℕ) (rows : List (Place × TableRow)) → (page == n) ≡ false
@@ -116,9 +101,6 @@ slots_on-other n page slot (x ∷ rows) e =
     (λ (b : Bool). if b then row_slot x.1 ∷ slots_on n (moved_on page (slot + 1) rows)
     else slots_on n (moved_on page (slot + 1) rows)) e
     ∙ slots_on-other n page (slot + 1) rows e
-
-other_number : (a b : ℕ) → (a == b) ≡ false → (b == a) ≡ false
-other_number a b e = grind (arith, nat_tests)
 
 -- the next page, with rows
 pub rows-fill : (pages : List Content) (copy number : ℕ) (rows : List Moved)
@@ -143,7 +125,7 @@ rows-fill pages copy number rows taken e f h = record {
         subst Fits
         (sym
         (page_at-old pages (page_of copy number (row_slots taken)) n
-        (λ q. decided n number t (q ∙ sym e)))) (h.fits n)
+        (λ q. eqb-false n number t (q ∙ sym e)))) (h.fits n)
 
     go : (n : ℕ) (b : Bool) → (n == number) ≡ b
         → page_at (slots_of (pages ++ page_of copy number (row_slots taken) ∷ [])) n
@@ -153,14 +135,14 @@ rows-fill pages copy number rows taken e f h = record {
         page_at-new pages (page_of copy number (row_slots taken)) n (same ∙ e)
         ∙ sym (slots_on-append n rows (moved_on number 0 taken)
         ∙ ap (λ (s : List Slot). s ++ slots_on n (moved_on number 0 taken))
-        (sym (h.slots n) ∙ page_at-past pages n (omega arith))
+        (sym (h.slots n) ∙ past_page pages n (omega arith))
         ∙ ap (λ (k : ℕ). slots_on k (moved_on number 0 taken)) same
         ∙ slots_on-here number 0 taken)
     go n false t =
         page_at-old pages (page_of copy number (row_slots taken)) n
-        (λ f. decided n number t (f ∙ sym e))
+        (λ f. eqb-false n number t (f ∙ sym e))
         ∙ h.slots n
         ∙ sym (slots_on-append n rows (moved_on number 0 taken)
         ∙ ap (λ (s : List Slot). slots_on n rows ++ s)
-        (slots_on-other n number 0 taken (other_number n number t))
+        (slots_on-other n number 0 taken (nat_apart_turned n number t))
         ∙ append-nil (slots_on n rows))

@@ -4,6 +4,7 @@ use Rattle.std.proofs.Common.{ap, subst, ◌∙◌, arith, vec_capacity, length-
 use Rattle.std.proofs.lemmas.List.{length-drop, length-take-le, take-append-drop}
 use Rattle.std.specs.declared.vec.Vec.{Vec}
 use Rattle.std.specs.declared.alloc.Global.{Global}
+use Rattle.rg_space.proofs.Took.{past_page}
 use Rattle.rg_base.specs.declared.place.Place.{Place}
 use Rattle.rg_base.specs.declared.row.Row.{Row}
 use Rattle.rg_model.specs.Packed.{page_at, page_count}
@@ -17,7 +18,7 @@ use Rattle.rg_reload.specs.Pages.{HasRows, page_of, row_slots, slots_on}
 use Rattle.rg_reload.specs.Reloading.{Reloading, IsReloading, placed_rows, rows_left}
 use Rattle.rg_reload.specs.declared.packer.NewCopy.{NewCopy}
 use Rattle.rg_reload.specs.declared.packer.NewCopy.TheVariants.{Filling}
-use Rattle.rg_reload.proofs.Copies.{page_at-past, rows-fill, slots_on-append, slots_on-here}
+use Rattle.rg_reload.proofs.Copies.{rows-fill, slots_on-append, slots_on-here}
 use Rattle.rg_reload.proofs.Taken.{length-row_slots}
 use Rattle.rg_reload.proofs.Numbers.{page_at-next, page_count-more}
 use Rattle.rg_reload.proofs.Steps.{NextPage, next_page_of, closed, page_taken-high, page_taken-low}
@@ -127,7 +128,7 @@ page_rows p pairs frames h i =
     ∙ ap (λ (m : List Moved). (placed_rows p ++ first) ++ m) next.left in
     let none : slots_on page (placed_rows p) ≡ [] =
     sym (i.made_is.rows_are.slots page)
-    ∙ page_at-past frames.pages.items page
+    ∙ past_page frames.pages.items page
     (omega (arith, i.made_is.pages, page_at-next p.options.freepage p.filled)) in
     let one : slots_on page packed
     ≡ (slots_on page (placed_rows p) ++ slots_on page first) ++ slots_on page rest =

@@ -3,12 +3,12 @@ use Rattle.std.proofs.Common.{◌≡◌, ℕ, zero, suc, ◌+◌, ◌-◌, ◌/�
 use Rattle.std.proofs.Common.{false, nat_le, List, [], ◌∷◌, Some, None, if◌then◌else◌, refl, sym}
 use Rattle.std.proofs.Common.{ap, subst, ◌∙◌, arith}
 use Rattle.std.proofs.Math.Nat.{div-mul-le_self}
-use Rattle.std.proofs.lemmas.Bool.{eqb-true}
-use Rattle.std.proofs.lemmas.Bool.Decides.{nat_tests}
+use Rattle.std.proofs.lemmas.Bool.{eqb-true, eqb-false, ne_eqb}
 use Rattle.std.proofs.lemmas.Nat.{le-div}
 use Rattle.rg_base.specs.declared.options.Options.{Options}
 use Rattle.rg_base.specs.declared.place.Place.{Place}
 use Rattle.rg_base.specs.declared.row.Row.{Row}
+use Rattle.rg_base.proofs.Small.{nat_itself, nat_pair_itself}
 use Rattle.rg_feed.specs.Fold.Fold.{row_in}
 use Rattle.rg_feed.specs.Fold.Lawful.{AreApart}
 use Rattle.rg_home.specs.Slot.{Slot}
@@ -52,29 +52,13 @@ other_slot n m a b h = go (n == m) (a == b) refl
     go true false e = refl
     go false false e = refl
 
-itself : (n a : ℕ) → (n == n && a == a) ≡ true
-itself n a = grind (arith, nat_tests)
-
-differ : (a b : ℕ) → (a == b) ≡ false → a ≡ b → ⊥
-differ a b e f = grind (arith, nat_tests)
-
-equal : (a : ℕ) → (a == a) ≡ true
-equal a = grind (arith, nat_tests)
-
-unequal : (a b : ℕ) → (a ≡ b → ⊥) → (a == b) ≡ false
-unequal a b h = go (a == b) refl
-  where
-    go : (t : Bool) → (a == b) ≡ t → t ≡ false
-    go true e = absurd (h (eqb-true a b e))
-    go false e = refl
-
 -- a look-up in a list that begins with a row at (m, a)
 found : (m a : ℕ) (row : Row) (rest : List (Place × Row))
     → row_in ((record { page = m; slot = a }, row) ∷ rest) (record { page = m; slot = a })
     ≡ Some row
 found m a row rest =
     ap (λ (t : Bool). if t then Some row else row_in rest (record { page = m; slot = a }))
-    (itself m a)
+    (nat_pair_itself m a)
 
 past_page : (m a n b : ℕ) (row : Row) (rest : List (Place × Row)) → (m ≡ n → ⊥)
     → row_in ((record { page = m; slot = a }, row) ∷ rest) (record { page = n; slot = b })
@@ -94,12 +78,12 @@ past_slot m a n b row rest h =
 on_page : (m a : ℕ) (x : Place × Row) (rest : List Moved)
     → slots_on m (moved_to m a x ∷ rest) ≡ row_slot x.1 ∷ slots_on m rest
 on_page m a x rest =
-    ap (λ (t : Bool). if t then row_slot x.1 ∷ slots_on m rest else slots_on m rest) (equal m)
+    ap (λ (t : Bool). if t then row_slot x.1 ∷ slots_on m rest else slots_on m rest) (nat_itself m)
 
 off_page : (m a n : ℕ) (x : Place × Row) (rest : List Moved) → (m ≡ n → ⊥)
     → slots_on n (moved_to m a x ∷ rest) ≡ slots_on n rest
 off_page m a n x rest h =
-    ap (λ (t : Bool). if t then row_slot x.1 ∷ slots_on n rest else slots_on n rest) (unequal m n h)
+    ap (λ (t : Bool). if t then row_slot x.1 ∷ slots_on n rest else slots_on n rest) (ne_eqb m n h)
 
 -- nothing lies on a page before the one that is being filled
 pub record Nothing (n : ℕ) (rows : List Moved) : Type 0 where
@@ -231,8 +215,8 @@ lies_there options k slot free n (x ∷ rows) h =
         (lies_here options (k + 1) 1 (4064 - area_of x.1) rows))
     go false false q e f = lies_skip n 0 (page_at options.freepage (k + 1)) 0 x
         (moved_from options (k + 1) 1 (4064 - area_of x.1) rows)
-        (differ (page_at options.freepage (k + 1)) n q)
-        (f (differ (page_at options.freepage (k + 1)) n q))
+        (eqb-false (page_at options.freepage (k + 1)) n q)
+        (f (eqb-false (page_at options.freepage (k + 1)) n q))
 
 -- each slot of each page has the row that was moved there
 pub packed_lie : (options : Options) (rows : List (Place × Row)) (p : Place)
@@ -257,7 +241,8 @@ packed_lie options rows p = go (page_at options.freepage 0 == p.page) refl
         (subst (λ (m : ℕ). Lies m 0 (packed_rows options rows))
         (eqb-true (page_at options.freepage 0) p.page e) (lies_here options 0 0 0 rows))
     go false e =
-        packed (lies_there options 0 0 0 p.page rows (differ (page_at options.freepage 0) p.page e))
+        packed
+        (lies_there options 0 0 0 p.page rows (eqb-false (page_at options.freepage 0) p.page e))
 
 -- no row goes to a slot before the next one
 fresh : (options : Options) (k slot free s : ℕ) (rows : List (Place × Row)) → s < slot

@@ -1,13 +1,11 @@
 -- The old place of each row leads to its new one.
-use Rattle.std.proofs.Common.{◌≡◌, ◌==◌, ◌&&◌, ◌||◌, ℕ, ◌+◌, ◌-◌, Bool, true, false, nat_le, List}
+use Rattle.std.proofs.Common.{◌≡◌, ◌==◌, ◌||◌, ℕ, ◌+◌, ◌-◌, Bool, true, false, nat_le, List}
 use Rattle.std.proofs.Common.{[], ◌∷◌, Option, Some, None, if◌then◌else◌, is_some, refl, sym, ap}
 use Rattle.std.proofs.Common.{subst, ◌∙◌, arith}
-use Rattle.std.proofs.lemmas.Bool.Decides.{nat_tests}
 use Rattle.std.specs.List.{AllByRecursion, list_any}
 use Rattle.rg_base.specs.declared.options.Options.{Options}
 use Rattle.rg_base.specs.declared.place.Place.{Place}
 use Rattle.rg_base.specs.declared.row.Row.{Row}
-use Rattle.rg_feed.proofs.FoldLemmas.Places.{one_place, place_itself}
 use Rattle.rg_feed.specs.Fold.Fold.{row_in}
 use Rattle.rg_feed.specs.Fold.Lawful.{AreApart}
 use Rattle.rg_home.specs.Able.{Holds, Proper}
@@ -16,7 +14,9 @@ use Rattle.rg_home.specs.Rows.{Tied, TiesAt, home_row, row_at}
 use Rattle.rg_home.specs.Slot.{Slot}
 use Rattle.rg_home.specs.Slots.{IsTrimmed, slot_at, trim}
 use Rattle.rg_home.specs.Owners.{AllBelow, OwnerBelow}
-use Rattle.rg_model.specs.Layout.{same_place}
+use Rattle.rg_base.specs.Place.{same_place}
+use Rattle.rg_base.proofs.SamePlace.{same_place-true, same_place-refl, same_place-turned}
+use Rattle.rg_base.proofs.SamePlace.{same_place-sym}
 use Rattle.rg_model.specs.Packed.{area_of, free_part, page_at}
 use Rattle.rg_page.specs.Content.{Content, slots_of}
 use Rattle.rg_reload.specs.Moved.{AreOneToOne, AreOther, AreTargets, Moved, moved_from, moved_to}
@@ -59,7 +59,7 @@ there (m ∷ rows) p t e f =
     go a true q e f rest = absurd (cc (f))
     go true false q e f rest =
         let same : m.target ≡ t = cc (e) in
-        absurd (cc (q, ap (same_place m.target) (sym same), place_itself m.target))
+        absurd (cc (q, ap (same_place m.target) (sym same), same_place-refl m.target))
     go false false q e f rest = rest e f
 
 through : (rows : List Moved) → AreApart (new_homes rows) → (p : Place)
@@ -78,7 +78,8 @@ through (m ∷ rows) w p = go (same_place m.source p) (through rows w.1 p)
             → (if b then Some m.row else row_in (new_homes rows) t) ≡ row_in (new_homes rows) t
         at true q = absurd
             (there rows p t e
-            (subst (λ (u : Place). row_in (new_homes rows) u ≡ None) (one_place m.target t q) w.0))
+            (subst (λ (u : Place). row_in (new_homes rows) u ≡ None) (same_place-true m.target t q)
+            w.0))
         at false q = refl
 
     go : (b : Bool)
@@ -88,7 +89,7 @@ through (m ∷ rows) w p = go (same_place m.source p) (through rows w.1 p)
         (if b then Some m.target else target_in (pairs_of rows) p)
         ≡ (if b then Some m.row else row_in (old_homes rows) p)
     go true e = ap (λ (t : Bool). if t then Some m.row else row_in (new_homes rows) m.target)
-        (place_itself m.target)
+        (same_place-refl m.target)
     go false e = later (target_in (pairs_of rows) p) refl ∙ e
 
 row_through-same : (f g : Place → Option Row) → ((p : Place) → f p ≡ g p) → (o : Option Place)
@@ -168,20 +169,13 @@ below_is options rows pages h = λ p.
     subst (OwnerBelow 0) (sym (slot_is options rows pages h p))
     (below_with (row_in (new_homes (packed_rows options rows)) p))
 
-turned : (a b : Place) → same_place a b ≡ same_place b a
-turned a b = ap (λ t. t && a.slot == b.slot) (even a.page b.page)
-    ∙ ap (λ t. b.page == a.page && t) (even a.slot b.slot)
-  where
-    even : (m n : ℕ) → (m == n) ≡ (n == m)
-    even m n = grind (arith, nat_tests)
-
 targets_of : (rows : List Moved) (place : Place)
     → list_any (λ (pair : Place × Place). same_place place pair.1) (pairs_of rows)
     ≡ is_some (row_in (new_homes rows) place)
 targets_of [] place = refl
 targets_of (m ∷ rows) place =
     ap (λ t. t || list_any (λ (pair : Place × Place). same_place place pair.1) (pairs_of rows))
-    (turned place m.target)
+    (same_place-turned place m.target)
     ∙ go (same_place m.target place) (targets_of rows place)
   where
     go : (b : Bool)
@@ -214,15 +208,6 @@ source_is options rows pages h p =
 
 -- one to one
 
-other_way : (a b : Place) → same_place a b ≡ false → same_place b a ≡ false
-other_way a b e = go (same_place b a) refl
-  where
-    go : (t : Bool) → same_place b a ≡ t → t ≡ false
-    go false q = refl
-    go true q = absurd
-        (cc
-        (e, subst (λ (c : Place). same_place a c ≡ true) (sym (one_place b a q)) (place_itself a)))
-
 others : (m : Moved) (rows : List Moved) → row_in (old_homes rows) m.source ≡ None
     → row_in (new_homes rows) m.target ≡ None
     → AllByRecursion (AreOther (m.source, m.target)) (pairs_of rows)
@@ -239,7 +224,7 @@ others m (x ∷ rows) e f =
     go true b p q e f rest = absurd (cc (e))
     go false true p q e f rest = absurd (cc (f))
     go false false p q e f rest =
-        ((other_way x.source m.source p, other_way x.target m.target q), rest e f)
+        ((same_place-sym x.source m.source p, same_place-sym x.target m.target q), rest e f)
 
 one_to_one_all : (rows : List Moved) → AreApart (old_homes rows) → AreApart (new_homes rows)
     → AreOneToOne (pairs_of rows)

@@ -12,7 +12,7 @@ use Rattle.std.specs.List.{AllByRecursion, list_any}
 use Rattle.rg_base.specs.declared.options.Options.{Options}
 use Rattle.rg_base.specs.declared.place.Place.{Place}
 use Rattle.rg_base.specs.declared.row.Row.{Row}
-use Rattle.rg_model.specs.Layout.{same_place}
+use Rattle.rg_base.specs.Place.{same_place}
 use Rattle.rg_model.specs.Packed.{area_of, free_part, home_spot, page_at}
 use Rattle.rg_stmt.specs.declared.layout.Spot.{Spot}
 

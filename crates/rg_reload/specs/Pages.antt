@@ -3,8 +3,7 @@
 -- 1. A page has a Row slot for each row that lies on it, in their order, and no other slot. Each
 --    area is as long as its row.
 -- 2. No record has changed a page: its position is 0.
-use Rattle.std.specs.Prelude.{◌≡◌, ℕ, ◌==◌, List, [], ◌∷◌, if◌then◌else◌, true, Option, Some, None}
-use Rattle.std.specs.Prelude.{length}
+use Rattle.std.specs.Prelude.{◌≡◌, ℕ, ◌==◌, List, [], ◌∷◌, if◌then◌else◌, Option, Some, None}
 use Rattle.rg_base.specs.RowBytes.{row_size}
 use Rattle.rg_base.specs.declared.place.Place.{Place}
 use Rattle.rg_base.specs.declared.row.Row.{Row as TableRow}
@@ -13,8 +12,6 @@ use Rattle.rg_home.specs.Slot.{Slot}
 use Rattle.rg_home.specs.Slot.{Free, Row}
 use Rattle.rg_home.specs.Slots.{Fits}
 use Rattle.rg_page.specs.Content.{Content, content_at, slots_of}
-use Rattle.rg_page.specs.Seen.{Seen}
-use Rattle.rg_page.specs.declared.list.ListFrames.{ListFrames}
 use Rattle.rg_reload.specs.Moved.{Moved}
 
 -- a row at home
@@ -46,19 +43,3 @@ pub record HasRows (pages : List Content) (rows : List Moved) : Type 0 where
   pub slots : (n : ℕ) → page_at (slots_of pages) n ≡ slots_on n rows
   pub fits : (n : ℕ) → Fits (page_at (slots_of pages) n)
   pub positions : (n : ℕ) → (content_at pages n).position ≡ 0
-
--- what is seen of frames that keep all pages
-abbrev pub frames_seen : ListFrames → Seen
-frames_seen f = record {
-  copy = f.copy;
-  pages = f.pages.items;
-  held = λ _. true;
-  reserved = length f.reserved.items;
-  limit = 4294967295;
-  forced = 18446744073709551616;
-  spare = 4294967295;
-  idle = 4294967295;
-  faults = 0;
-  sure = true;
-  fixed = λ _. true;
-}

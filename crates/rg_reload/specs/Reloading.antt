@@ -18,13 +18,14 @@ use Rattle.rg_page.specs.Content.{slots_of}
 use Rattle.rg_page.specs.declared.list.ListFrames.{ListFrames}
 use Rattle.rg_reload.specs.Moved.{Moved, moved_from, moved_on, packed_rows, page_taken}
 use Rattle.rg_reload.specs.Moved.{pages_filled, pairs_of}
-use Rattle.rg_reload.specs.Pages.{HasRows, frames_seen, slots_on}
+use Rattle.rg_space.specs.Memory.{list_seen}
+use Rattle.rg_reload.specs.Pages.{HasRows, slots_on}
 use Rattle.rg_reload.specs.declared.fault.ReloadFault.{ReloadFault}
 use Rattle.rg_reload.specs.declared.fault.ReloadFault.TheVariants.{NoSpace, NoMemory}
 use Rattle.rg_reload.specs.declared.packer.Filled.{Filled}
 use Rattle.rg_reload.specs.declared.packer.NewCopy.{NewCopy}
 use Rattle.rg_reload.specs.declared.packer.NewCopy.TheVariants.{Filling, Whole, Spent}
-use Rattle.rg_space.specs.Space.{Agree, InStep, capacity_in, frames_of, index_of}
+use Rattle.rg_space.specs.Space.{Agree, InStep, capacity_in, frames_of, summaries_of}
 use Rattle.rg_space.specs.declared.space.Space.{Space}
 
 -- the copy, its capacity in pages, the options that it is packed by, its rows with their old
@@ -81,8 +82,8 @@ space_slots space place = slot_of (slots_of (frames_of space).pages.items) place
 -- the space of the new copy, which has these rows
 pub record IsCopy (copy capacity count : ℕ) (rows : List Moved) (space : Space ListFrames)
     : Type 0 where
-  pub step : InStep (frames_seen (frames_of space)) (index_of space) (capacity_in space)
-  pub agree : Agree (frames_seen (frames_of space)) (index_of space)
+  pub step : InStep (list_seen (frames_of space)) (summaries_of space) (capacity_in space)
+  pub agree : Agree (list_seen (frames_of space)) (summaries_of space)
   pub capacity_is : capacity_in space ≡ capacity
   pub copy_is : (frames_of space).copy ≡ copy
   pub pages : length (frames_of space).pages.items ≡ count

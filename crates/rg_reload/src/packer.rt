@@ -28,6 +28,7 @@ use crate::order::{drop_rows, sort_rows};
 use crate::pad::{add_empty, count_pages};
 use crate::page::{add_pairs, count_taken, page_with};
 use crate::pairs::Pairs;
+use rg_base::copy::TableCopy;
 use rg_base::homes::Homes;
 use rg_base::no_memory::NoMemory;
 use rg_base::options::Options;
@@ -58,7 +59,7 @@ enum NewCopy {
 #[derive(Drop)]
 pub struct Packer {
     alloc: Global,
-    copy: u8,
+    copy: TableCopy,
     capacity: u32,
     options: Options,
     rows: Vec<(Place, Row)>,
@@ -85,7 +86,7 @@ impl Packer {
     /// have `capacity` pages.
     pub fn new(
         alloc: Global,
-        copy: u8,
+        copy: TableCopy,
         rows: Homes,
         options: &Options,
         capacity: u32,

@@ -7,6 +7,7 @@ ghost use Rattle.rg_model.specs.Packed.{page_count};
 ghost use Rattle.rg_reload.specs.Moved.{Moved};
 ghost use Rattle.rg_reload.specs.Pages.{HasRows};
 
+use rg_base::copy::TableCopy;
 use rg_base::no_memory::NoMemory;
 use rg_page::frames::Frames;
 use rg_page::list::ListFrames;
@@ -29,7 +30,7 @@ pub fn count_pages(freepage: u8, filled: u64) -> u64
 pub fn add_empty(
     alloc: Global,
     frames: &mut ListFrames,
-    copy: u8,
+    copy: TableCopy,
     count: u32,
 ) -> Result<(), NoMemory>
     requires copy { frames.old.copy ≡ copy }

@@ -10,6 +10,7 @@ ghost use Rattle.rg_model.specs.Packed.{area_of, free_part};
 ghost use Rattle.rg_reload.specs.Moved.{moved_on, page_taken, pairs_of};
 ghost use Rattle.rg_reload.specs.Pages.{page_of, row_slots};
 
+use rg_base::copy::TableCopy;
 use rg_base::no_memory::NoMemory;
 use rg_base::options::Options;
 use rg_base::place::Place;
@@ -61,7 +62,7 @@ pub fn count_taken(options: &Options, rows: &[(Place, Row)]) -> usize
 /// The page with these rows, in slots from 0 on.
 pub fn page_with(
     alloc: Global,
-    copy: u8,
+    copy: TableCopy,
     number: u32,
     rows: &[(Place, Row)],
 ) -> Result<Page, NoMemory>

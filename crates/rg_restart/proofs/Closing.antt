@@ -11,13 +11,14 @@ use Rattle.rg_home.specs.Able.{Proper}
 use Rattle.rg_image.specs.Pack.{log_bytes}
 use Rattle.rg_page.specs.Bare.{numbers_of}
 use Rattle.rg_page.specs.Content.{Content}
-use Rattle.rg_space.specs.Space.{InStep, capacity_in, frames_of, index_of}
+use Rattle.rg_space.specs.Space.{InStep, capacity_in, frames_of, summaries_of}
 use Rattle.rg_check.specs.PageTests.Turns.{WereUndone}
 use Rattle.rg_home.specs.Slot.{Slot}
 use Rattle.rg_home.specs.Undo.{undone, undone_all}
 use Rattle.rg_home.specs.Written.{Written}
 use Rattle.rg_laws_log.specs.StoredRows.Keyed.{AllTakeBack}
 use Rattle.rg_laws_log.specs.LogState.Tested.{all_of}
+use Rattle.rg_laws_log.proofs.LogStateLemmas.Testing.{undone_join}
 use Rattle.rg_log.specs.Kept.{Listed}
 use Rattle.rg_page.specs.declared.list.ListFrames.{ListFrames}
 use Rattle.rg_laws_pages.specs.UndoRoom.Needed.{NeededInTurn}
@@ -27,11 +28,11 @@ use Rattle.rg_check.specs.PageTests.Breach.{BreaksOf}
 use Rattle.rg_undo.specs.Undoing.{written_of}
 use Rattle.rg_undo.specs.Unit.{undo_records, writes_of}
 use Rattle.rg_check.specs.OpenUnits.Unended.{left_of, owed_for}
+use Rattle.rg_check.proofs.OpenUnitsLemmas.Opens.{owed_append}
 use Rattle.rg_engine.specs.Bytes.{kind_bytes, taken_of}
 use Rattle.rg_space.specs.Memory.{list_seen, space_pages}
 use Rattle.rg_engine.specs.Newest.{StayNewest}
-use Rattle.rg_engine.specs.Undoing.{is_undo}
-use Rattle.rg_image.specs.Rules.{last_position, of_tran}
+use Rattle.rg_image.specs.Rules.{last_position, of_tran, is_undo}
 use Rattle.rg_laws_crash.specs.SoundVolume.Closing.{all_closed, closed_by, end_back, rolled_back}
 use Rattle.rg_laws_crash.specs.SoundVolume.Left.{IsLacking, lefts_of, writes_left}
 use Rattle.rg_restart.specs.Closed.{AllAtMost, ClosedAll, ClosedUnit, Closes, ClosesUnit, IsInStep}
@@ -104,11 +105,6 @@ needed_join : (cs ds : List Written) (pages : List (List Slot)) → NeededInTurn
 needed_join [] ds pages n m = m
 needed_join (c ∷ cs) ds pages n m = (n.0, needed_join cs ds (undone pages c) n.1 m)
 
-undone_join : (cs ds : List Written) (pages : List (List Slot))
-    → undone_all pages (cs ++ ds) ≡ undone_all (undone_all pages cs) ds
-undone_join [] ds pages = refl
-undone_join (c ∷ cs) ds pages = undone_join cs ds (undone pages c)
-
 pub undid_join : (a b c : Space ListFrames) (xs ys : List Written) → Undid a b xs → Undid b c ys
     → Undid a c (xs ++ ys)
 undid_join a b c xs ys one two = record {
@@ -158,11 +154,6 @@ lacking_before pages entries after place lacks = record {
 
 -- ---- unit by unit
 
-owed_join : (ts us : List ℕ) (rs : List Record)
-    → owed_for (ts ++ us) rs ≡ owed_for ts rs + owed_for us rs
-owed_join [] us rs = omega arith
-owed_join (t ∷ ts) us rs = omega (arith, owed_join ts us rs)
-
 lefts_join : (ts us : List ℕ) (rs : List Record)
     → lefts_of (ts ++ us) rs ≡ lefts_of ts rs ++ lefts_of us rs
 lefts_join [] us rs = refl
@@ -211,7 +202,7 @@ closes_more t ts rs a b c log mid later so closed = record {
       (undid_join a b c (all_of (writes_left ts rs)) (writes_of (left_of t rs)) so.undid
       closed.undid);
   took = took_most (ts ++ t ∷ []) (owed_for ts rs + (911 * length (left_of t rs) + 23))
-      (owed_for (ts ++ t ∷ []) rs) log later (omega (arith, owed_join ts (t ∷ []) rs))
+      (owed_for (ts ++ t ∷ []) rs) log later (omega (arith, owed_append ts (t ∷ []) rs))
       (took_join ts (t ∷ []) (ts ++ t ∷ []) (owed_for ts rs) (911 * length (left_of t rs) + 23) log
       mid later (λ top low. both_low top ts (t ∷ []) low) so.took closed.took);
   records = closed.records
@@ -311,11 +302,11 @@ one_undo tran undo log later is of high records reserved taken pages forced = re
 -- the undo of a unit's Changes, over pages in memory
 pub undone_unit : (tran position back : ℕ) (rs : List Record) (old new : Space ListFrames)
     (entries undos : List Record) → IsInStep old → Proper (space_pages old)
-    → InStep (list_seen (frames_of new)) (index_of new) (capacity_in new)
+    → InStep (list_seen (frames_of new)) (summaries_of new) (capacity_in new)
     → capacity_in new ≡ capacity_in old
     → entries ≡ left_of tran rs
     → WereUndone position back (list_seen (frames_of old)) (list_seen (frames_of new))
-    (index_of new) entries undos
+    (summaries_of new) entries undos
     → Undid old new (writes_of (left_of tran rs))
     × (undos ≡ undo_records position back (space_pages old) (left_of tran rs))
 undone_unit tran position back rs old new entries undos has proper step capacity is were = (
@@ -378,7 +369,8 @@ pub next_room : (ts us : List ℕ) (t : ℕ) (rs : List Record) (all : List ℕ)
     → all ≡ ts ++ t ∷ us → owed_for all rs ≤ old → old ≤ now + owed_for ts rs
     → 911 * length (left_of t rs) + 23 ≤ now
 next_room ts us t rs all old now is room reserved =
-    omega (arith, room, reserved, ap (λ (xs : List ℕ). owed_for xs rs) is, owed_join ts (t ∷ us) rs)
+    omega
+    (arith, room, reserved, ap (λ (xs : List ℕ). owed_for xs rs) is, owed_append ts (t ∷ us) rs)
 
 -- a unit lacks something, or is closed
 pub closes_some : (t : ℕ) (ts us : List ℕ) (rs : List Record) (a b c : Space ListFrames)

@@ -2,14 +2,16 @@
 use Rattle.std.proofs.Common.{◌≡◌, ◌≤◌, ◌<◌, ◌+◌, ◌++◌, ℕ, zero, suc, List, [], ◌∷◌, length, map}
 use Rattle.std.proofs.Common.{inl, inr, refl, sym, ◌∙◌, ap, subst, arith}
 use Rattle.std.proofs.lemmas.List.{map-append}
+use Rattle.rg_base.specs.Copies.{set_of}
 use Rattle.rg_base.specs.declared.place.Place.{Place}
 use Rattle.rg_base.specs.declared.set.Set.{Set}
 use Rattle.rg_home.specs.Slot.{Slot}
 use Rattle.rg_home.specs.Undo.{undone, undone_all}
 use Rattle.rg_home.specs.Written.{Written}
 use Rattle.rg_image.specs.Pack.{log_bytes}
-use Rattle.rg_image.specs.Rules.{BreaksChain, BreaksSpace, IsChain, limit_of, owed}
+use Rattle.rg_image.specs.Rules.{BreaksChain, BreaksSpace, limit_of, owed}
 use Rattle.rg_image.proofs.Determined.{not_both, same_records}
+use Rattle.rg_image.proofs.Chains.{kept_or_broken}
 use Rattle.rg_laws_log.specs.LogState.Tested.{all_of}
 use Rattle.rg_log.specs.Kept.{log_pages}
 use Rattle.rg_outside.specs.Calls.{Image}
@@ -29,7 +31,7 @@ use Rattle.rg_check.specs.OpenUnits.Unended.{left_of, open_in}
 use Rattle.rg_laws_crash.specs.SoundVolume.Left.{IsLacking, lefts_of, writes_left}
 use Rattle.rg_laws_crash.specs.SoundVolume.Pages.{BreaksFit, BreaksRows, BreaksRule, BreaksSlots}
 use Rattle.rg_laws_crash.specs.SoundVolume.Pages.{CanClose, Fit, IsMatched, KeepsRules, copy_of}
-use Rattle.rg_laws_crash.specs.SoundVolume.Pages.{count_of, redone_of, set_of, undone_of}
+use Rattle.rg_laws_crash.specs.SoundVolume.Pages.{count_of, redone_of, undone_of}
 use Rattle.rg_laws_crash.specs.SoundVolume.Pages.BreaksFit.{Unfit}
 use Rattle.rg_laws_crash.specs.SoundVolume.Pages.BreaksSlots.{Untied, Lacking}
 use Rattle.rg_laws_crash.specs.SoundVolume.Pages.BreaksRows.{Twin, Strange, Missing}
@@ -97,11 +99,6 @@ breaks_or_keeps base rs set page keeps (OnSlots s p fit breaks) =
 breaks_or_keeps base rs set page keeps (OnRows s p fit closes breaks) =
     rows_or_match rs (undone_of base rs) s p keeps.matched breaks
 
-chain_or_breaks : (capacities : Capacities) (rs : List Record) (page : ℕ) → IsChain capacities rs
-    → BreaksChain capacities rs page → ⊥
-chain_or_breaks capacities rs page chain breaks =
-    breaks.broken (chain breaks.before breaks.after breaks.entry breaks.whole)
-
 -- bytes spell one data page
 pub page_one : (copy last n : ℕ) (bytes : List ℕ) (x y : Content) → IsDataPage copy last n bytes x
     → IsDataPage copy last n bytes y → x ≡ y
@@ -150,7 +147,7 @@ sound_breaks_none capacities i set page rs base sound (LogPage p broken) =
     not_both (log_pages capacities) p i rs sound.log.pages broken
 sound_breaks_none capacities i set page rs base sound (Chain others p has breaks) =
     let same : others ≡ rs = same_records (log_pages capacities) i others rs has sound.log.pages in
-    chain_or_breaks capacities rs p sound.log.chain
+    kept_or_broken capacities rs p sound.log.chain
     (subst (λ (xs : List Record). BreaksChain capacities xs p) same breaks)
 sound_breaks_none capacities i set page rs base sound (Space others p has chain breaks) =
     let same : others ≡ rs = same_records (log_pages capacities) i others rs has sound.log.pages in

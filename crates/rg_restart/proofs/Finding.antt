@@ -19,6 +19,7 @@ use Rattle.rg_image.specs.Rules.{greatest_tran, owed}
 use Rattle.rg_btree.specs.Indexes.Listings.{AreListings}
 use Rattle.rg_home.specs.Table.{IsTable}
 use Rattle.rg_laws_log.specs.LogState.Tested.{OwnersBelow, all_of}
+use Rattle.rg_laws_log.proofs.LogStateLemmas.Opens.{owners_join}
 use Rattle.rg_log.specs.Kept.{Listed}
 use Rattle.rg_page.specs.Bare.{bare}
 use Rattle.rg_page.specs.Content.{Content, slots_of}
@@ -26,7 +27,7 @@ use Rattle.rg_page.specs.Seen.{Seen}
 use Rattle.rg_page.specs.declared.list.ListFrames.{ListFrames}
 use Rattle.rg_redo.specs.CurrentCopy.Rebuilt.{AreSoundPages, IsRebuilt}
 use Rattle.rg_record.specs.declared.record.Record.{Record}
-use Rattle.rg_space.specs.Indexed.{Indexed}
+use Rattle.rg_space.specs.Summarized.{Summarized}
 use Rattle.rg_space.specs.Space.{capacity_in, frames_of}
 use Rattle.rg_space.specs.declared.space.Space.{Space}
 use Rattle.rg_check.specs.PageTests.Looked.{LeftAsItWas}
@@ -78,11 +79,6 @@ most_of top (t ∷ ts) all =
 
 pub open_most : (rs : List Record) → AllAtMost (greatest_tran rs) (open_in rs)
 open_most rs = most_of (greatest_tran rs) (open_in rs) (λ t there. (listed_is rs t there).1)
-
-owners_join : (top : ℕ) (xs ys : List Written) → OwnersBelow top xs → OwnersBelow top ys
-    → OwnersBelow top (xs ++ ys)
-owners_join top [] ys all more = more
-owners_join top (x ∷ xs) ys all more = (all.0, owners_join top xs ys all.1 more)
 
 owners_of : (top t : ℕ) (cs : List Written) → t ≤ top
     → AllByRecursion (λ (c : Written). c.owner ≡ t) cs → OwnersBelow top cs
@@ -214,7 +210,7 @@ looked_same a b has left = record {
   in_step = record {
     step = left.step;
     agree = ap (λ (cs : List Content). map (map bare) (slots_of cs)) (left.looked.reads.same refl)
-        ∙ has.agree ∙ ap (λ (i : Indexed). i.pages) (sym left.summaries);
+        ∙ has.agree ∙ ap (λ (i : Summarized). i.pages) (sym left.summaries);
   };
   slots = ap slots_of (left.looked.reads.same refl);
   contents = left.looked.reads.same refl;

@@ -1,13 +1,15 @@
 -- What is found of a volume, from what each step says.
 use Rattle.std.proofs.Common.{◌≡◌, ◌≤◌, ◌+◌, ◌⊎◌, ℕ, List, Option, length, inl, inr, sym, ◌∙◌, ap}
 use Rattle.std.proofs.Common.{subst, arith}
+use Rattle.rg_base.specs.Copies.{set_of}
 use Rattle.rg_base.specs.declared.position.Position.{Position}
 use Rattle.rg_base.specs.declared.set.Set.{Set}
 use Rattle.rg_base.specs.declared.set.Set.TheVariants.{Log}
 use Rattle.rg_check.specs.Chain.Kept.{IsKept}
 use Rattle.rg_check.specs.Chain.Running.{Running}
 use Rattle.rg_engine.specs.OnVolume.{IsOn, WasAllTidy}
-use Rattle.rg_engine.specs.Volume.{LeavesIfTidy, VolumeSeen, WasTidy}
+use Rattle.rg_engine.specs.Volume.{LeavesIfTidy, WasTidy}
+use Rattle.rg_outside.specs.Volume.{VolumeSeen}
 use Rattle.rg_desk.specs.declared.desk.OpenCause.{OpenCause}
 use Rattle.rg_desk.specs.declared.desk.OpenCause.TheVariants.{Damaged, Device, NoMemory}
 use Rattle.rg_engine.specs.declared.found.Found.{Found}
@@ -28,7 +30,7 @@ use Rattle.rg_outside.specs.Calls.{Image, Told, read_of}
 use Rattle.rg_outside.specs.Capacities.{Capacities}
 use Rattle.rg_outside.specs.Faults.{Rose}
 use Rattle.rg_outside.specs.Moments.{EachCall, EachImage, IfTold}
-use Rattle.rg_outside.proofs.Every.{told_weaken}
+use Rattle.rg_outside.proofs.Every.{told_weaken, told_both}
 use Rattle.rg_outside.proofs.Frame.{calls_join}
 use Rattle.rg_laws_crash.specs.NewestPages.Tidy.{opened_epoch}
 use Rattle.rg_redo.specs.CurrentCopy.Laws.{CoversAll}
@@ -40,12 +42,12 @@ use Rattle.rg_restart.specs.Found.{Finds, MayFind, Refuses, ReopensFrom}
 use Rattle.rg_restart.specs.Opening.{BreaksLog, CallsQuiet, GoesOnTidy, IsRefused, Looks, cause_of}
 use Rattle.rg_page.specs.Content.{Content}
 use Rattle.rg_restart.specs.Data.{AreTakenAsIs, IsDataFault, MarksPages, TakesPages, switch_of}
-use Rattle.rg_laws_crash.specs.SoundVolume.Pages.{BreaksRule, copy_of, count_of, set_of}
+use Rattle.rg_laws_crash.specs.SoundVolume.Pages.{BreaksRule, copy_of, count_of}
 use Rattle.rg_restart.specs.declared.data.LastSwitch.{LastSwitch}
 use Rattle.rg_laws_crash.specs.SoundVolume.Sound.{HasSoundLog, IsSoundBy, TakesBase}
 use Rattle.rg_restart.specs.Sound.{IsDamage, IsFirstBad, MarksBase}
 use Rattle.rg_restart.specs.Sound.IsDamage.{LogPage, Chain, Space, BadPage, OnPages}
-use Rattle.rg_restart.proofs.Reading.{both_told, quiet_image}
+use Rattle.rg_restart.proofs.Reading.{quiet_image}
 use Rattle.rg_restart.proofs.Reopening.{found_below, found_low, reopens_from}
 use Rattle.rg_restart.proofs.Standing.{IsKnown, certain_on, is_on, known, low}
 use Rattle.rg_restart.proofs.Switches.{takes_base}
@@ -143,7 +145,7 @@ module _ (old mid : VolumeSeen) (log : Listed) (quiet : CallsQuiet old mid)
           (λ t. IsDamage new.capacities (read_of t.first t.calls) (set_of (copy_of log.records))
           page) new.told
           (λ t both. BadPage log.records page (sound_log (read_of t.first t.calls) both.0) both.1)
-          (both_told
+          (told_both
           (λ t. HasLogPages (log_pages mid.capacities) (read_of t.first t.calls) log.records)
           (λ t. IsFirstBad log.records (read_of t.first t.calls) page) new.told
           (has_then new.told only) bad);
@@ -169,7 +171,7 @@ module _ (old mid : VolumeSeen) (log : Listed) (quiet : CallsQuiet old mid)
           (λ t. HasLogPages (log_pages mid.capacities) (read_of t.first t.calls) log.records
           × TakesBase log.records (read_of t.first t.calls) base)
       both =
-          both_told
+          told_both
           (λ t. HasLogPages (log_pages mid.capacities) (read_of t.first t.calls) log.records)
           (λ t. TakesBase log.records (read_of t.first t.calls) base) new.told
           (has_then new.told only) takes

@@ -4,14 +4,15 @@ use Rattle.std.proofs.Common.{take, drop, sym, ◌∙◌, ap, subst, refl, arith
 use Rattle.std.specs.Prelude.{IfOk, Result, Ok, Err}
 use Rattle.std.proofs.Math.Seq.{take-length}
 use Rattle.std.proofs.lemmas.Bool.Decides.{nat_tests}
+use Rattle.rg_base.specs.Copies.{set_of}
 use Rattle.rg_base.specs.declared.position.Position.{Position}
 use Rattle.rg_desk.specs.Desk.{DeskState, Opens}
-use Rattle.rg_engine.specs.Volume.{VolumeSeen}
+use Rattle.rg_outside.specs.Volume.{VolumeSeen}
 use Rattle.rg_engine.specs.declared.found.Found.{Found}
 use Rattle.rg_image.specs.Rules.{copy_capacity}
 use Rattle.rg_log.specs.Kept.{Listed}
 use Rattle.rg_laws_crash.specs.NewestPages.Newest.{page_in}
-use Rattle.rg_laws_crash.specs.NewestPages.Tidy.{opened_epoch, set_of, switched_at, switched_pages}
+use Rattle.rg_laws_crash.specs.NewestPages.Tidy.{opened_epoch, switched_at, switched_pages}
 use Rattle.rg_laws_crash.proofs.NewestPagesLemmas.InMemory.{there_in}
 use Rattle.rg_laws_crash.proofs.NewestPagesLemmas.Switching.{switched_pages_low}
 use Rattle.rg_outside.specs.Calls.{Image, Told, read_of}
@@ -26,10 +27,10 @@ use Rattle.rg_laws_crash.specs.SoundVolume.Sound.{IsSoundBy, TakesBase}
 use Rattle.rg_laws_crash.specs.PageVersions.Versions.{Epoch, Spells, redone_by, taken_if}
 use Rattle.rg_laws_crash.specs.PageVersions.Versions.{taken_past, version}
 use Rattle.rg_laws_crash.proofs.PageVersionsLemmas.Redo.{numbers_stay}
+use Rattle.rg_laws_crash.proofs.NewestPagesLemmas.Steady.{unnamed_same}
 use Rattle.rg_restart.specs.Found.{Finds}
 use Rattle.rg_restart.specs.Opening.{AreMadeOf, CallsQuiet, Looks, NoneNames, OpensStored}
 use Rattle.rg_restart.specs.Opening.{ReadsSound, StandAsRead}
-use Rattle.rg_restart.proofs.Reopening.{unnamed_same}
 
 -- records that do not name a page leave it as it is
 unnamed_by : (rs : List Record) (x : Content) → NoneNames x.number rs → redone_by rs x ≡ x

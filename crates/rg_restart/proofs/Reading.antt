@@ -1,22 +1,19 @@
 -- What calls that write nothing leave of what a volume reads.
-use Rattle.std.proofs.Common.{◌≡◌, ◌==◌, ◌≤◌, ◌<◌, ◌+◌, ◌⊎◌, ◌++◌, ◌&&◌, nat_le, nat_lt, ℕ, zero}
+use Rattle.std.proofs.Common.{◌≡◌, ◌≤◌, ◌<◌, ◌+◌, ◌⊎◌, ◌++◌, ◌&&◌, nat_le, nat_lt, ℕ, zero}
 use Rattle.std.proofs.Common.{suc, Bool, true, false, List, [], ◌∷◌, length, get_or, Option, Some}
-use Rattle.std.proofs.Common.{None, if◌then◌else◌, inl, inr, refl, sym, ◌∙◌, ap, subst, arith}
+use Rattle.std.proofs.Common.{None, inl, inr, refl, sym, ◌∙◌, ap, subst, arith}
 use Rattle.std.proofs.Common.{length-append}
 use Rattle.std.proofs.Math.Seq.{get_or-append_seam}
 use Rattle.std.proofs.lemmas.List.{get_or_append_left}
 use Rattle.std.specs.List.{AllByRecursion}
 use Rattle.std.proofs.lemmas.Bool.Decides.{leb_tells}
+use Rattle.rg_base.specs.Copies.{set_of}
 use Rattle.rg_base.specs.declared.position.Position.{Position}
 use Rattle.rg_base.specs.declared.set.Set.{Set}
-use Rattle.rg_base.specs.declared.set.Set.TheVariants.{First, Second}
-use Rattle.rg_image.specs.Rules.{copy_capacity, used_pages}
 use Rattle.rg_log.specs.Open.{IsQuiet}
 use Rattle.rg_log.proofs.Ready.{quiet_reads}
 use Rattle.rg_outside.specs.Calls.{Image, Told, read_of}
-use Rattle.rg_outside.specs.Capacities.{Capacities, capacity_of}
 use Rattle.rg_outside.specs.Moments.{EachCall, IfTold}
-use Rattle.rg_laws_crash.specs.SoundVolume.Pages.{set_of}
 use Rattle.rg_page.specs.Content.{Content, content_at, empty}
 use Rattle.rg_page.specs.Reading.{IsNone, NoPageHas}
 use Rattle.rg_page.specs.declared.list.ListFrames.{ListFrames}
@@ -41,12 +38,6 @@ quiet_image P (Some before) (Some after) each has =
     subst (λ (t : Told). P (read_of t.first t.calls)) (sym each.3)
     (subst P (sym ((λ i s p. quiet_reads each.0.first each.1 each.0.calls s p each.4 i)))
     (subst (λ (t : Told). P (read_of t.first t.calls)) was has))
-
--- both hold
-pub both_told : (P Q : Told → Type 0) (told : Option Told) → IfTold told P → IfTold told Q
-    → IfTold told (λ t. P t × Q t)
-both_told P Q None p q = tt
-both_told P Q (Some t) p q = (p, q)
 
 -- the pages before the last one, and the last one
 at_front : (base : List Content) (page : Content) (n : ℕ) → n ≤ length base
@@ -250,17 +241,6 @@ taken_fits copy last switch n bytes y taken =
       taken.data_page.number,
       taken.data_page.position,
     )
-
--- a copy's pages are within its set
-pub copy_within : (capacities : Capacities) (copy : ℕ)
-    → copy_capacity capacities copy ≤ capacity_of capacities (set_of copy)
-copy_within capacities copy = by_test (copy == 1)
-  where
-    by_test : (b : Bool)
-        → used_pages (if b then capacities.first else capacities.second)
-        ≤ capacity_of capacities (if b then First else Second)
-    by_test true = omega arith
-    by_test false = omega arith
 
 -- what was taken would be taken as it is
 taken_again : (copy last : ℕ) (switch : LastSwitch) (n : ℕ) (bytes : List ℕ) (y : Content)

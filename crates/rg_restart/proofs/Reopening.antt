@@ -24,7 +24,7 @@ use Rattle.rg_laws_crash.specs.NewestPages.Newest.{AreNewest, page_in}
 use Rattle.rg_laws_crash.specs.NewestPages.Tidy.{opened_epoch, switched_at, switched_pages}
 use Rattle.rg_laws_crash.proofs.NewestPagesLemmas.InMemory.{past_in, there_in}
 use Rattle.rg_laws_crash.proofs.NewestPagesLemmas.Near.{past_there}
-use Rattle.rg_laws_crash.proofs.NewestPagesLemmas.Steady.{steady_opened}
+use Rattle.rg_laws_crash.proofs.NewestPagesLemmas.Steady.{steady_opened, unnamed_same}
 use Rattle.rg_laws_crash.proofs.NewestPagesLemmas.Switching.{has_switched}
 use Rattle.rg_outside.specs.Capacities.{Capacities}
 use Rattle.rg_page.specs.Content.{Content, content_at, empty, slots_of}
@@ -46,7 +46,7 @@ use Rattle.rg_space.specs.declared.space.Space.{Space}
 use Rattle.rg_page.specs.declared.list.ListFrames.{ListFrames}
 use Rattle.rg_laws_crash.specs.PageVersions.Versions.{EachFits, IsBegun, names, taken_if}
 use Rattle.rg_laws_crash.specs.PageVersions.Versions.{taken_past}
-use Rattle.rg_laws_crash.proofs.PageVersionsLemmas.Parts.{passed_fits, step}
+use Rattle.rg_laws_crash.proofs.PageVersionsLemmas.Parts.{passed_fits}
 use Rattle.rg_restart.specs.Data.{AreTakenAsIs, switch_of}
 use Rattle.rg_restart.specs.Found.{Finds, IsClosed, IsLogOf, MayFind, ReopensFrom}
 use Rattle.rg_restart.proofs.LowOwners.{low_begins, low_taken, newest_all_below}
@@ -63,14 +63,6 @@ all_to_each (entry ∷ rs) pages k low fit = (
       (all_to_each rs (map (redone entry) pages) k
       (omega (arith, low, length-map pages (redone entry))) fit.1),
 )
-
--- a record with no part on a page fits it, and changes nothing of it
-pub unnamed_same : (entry : Record) (x : Content) → names x.number entry ≡ false
-    → redone entry x ≡ x
-unnamed_same entry x unnamed = elim (step entry x) [
-  | inl passed ↦ passed.same
-  | inr gained ↦ absurd (cc (gained.named, unnamed))
-]
 
 unnamed_fits : (entry : Record) (x : Content) → names x.number entry ≡ false → RedoFits entry x
 unnamed_fits entry x unnamed = passed_fits entry x (λ named. absurd (cc (named, unnamed)))

@@ -33,25 +33,25 @@ use Rattle.rg_laws_crash.specs.PageVersions.Versions.{Epoch, IsOnVolume as IsOnP
 use Rattle.rg_laws_crash.specs.PageVersions.Versions.{taken_if, taken_past, version}
 use Rattle.rg_laws_crash.proofs.PageVersionsLemmas.Redo.{version_more}
 use Rattle.rg_laws_crash.specs.NewestPages.OpenLaws.{IsOpened}
-use Rattle.rg_laws_crash.specs.NewestPages.Tidy.{AreSpare, opened_epoch, set_of}
+use Rattle.rg_laws_crash.specs.NewestPages.Tidy.{AreSpare, opened_epoch}
 use Rattle.rg_laws_crash.proofs.NewestPagesLemmas.Opening.{opening_marks, opening_stands}
 use Rattle.rg_laws_crash.proofs.NewestPagesLemmas.Steady.{opened_past}
 use Rattle.rg_laws_crash.proofs.NewestPagesLemmas.Switching.{has_switched}
 use Rattle.rg_engine.specs.Newest.{HasNewest}
 use Rattle.rg_engine.specs.OnVolume.{HasCopies, IsMark, IsOn, IsTidyVolume, WasAllTidy, mark_at}
 use Rattle.rg_engine.specs.Reopens.{PartsReopen}
-use Rattle.rg_engine.specs.Volume.{VolumeSeen}
+use Rattle.rg_outside.specs.Volume.{VolumeSeen}
 use Rattle.rg_engine.proofs.Copies.{copies_more}
 use Rattle.rg_laws_crash.specs.SwitchRecord.Switched.{AreOldPages, IsOldPage}
-use Rattle.rg_base.specs.Copies.{other_of}
+use Rattle.rg_base.specs.Copies.{other_of, set_of}
 use Rattle.rg_restart.specs.declared.data.LastSwitch.{LastSwitch}
 use Rattle.rg_restart.specs.Data.{IsMarked, IsTaken, MarksPages, mark_if, switch_of}
 use Rattle.rg_restart.specs.Found.{ReopensFrom}
 use Rattle.rg_laws_crash.specs.SoundVolume.Pages.{copy_of, count_of}
 use Rattle.rg_laws_crash.specs.SoundVolume.Reopens.{AreTidyOwners, HasLowOwners, IsBelow}
 use Rattle.rg_laws_crash.specs.SoundVolume.Sound.{TakesBase}
+use Rattle.rg_laws_crash.proofs.NewestPagesLemmas.Capacity.{copy_within}
 use Rattle.rg_restart.proofs.Exact.{page_one}
-use Rattle.rg_restart.proofs.Reading.{copy_within}
 use Rattle.rg_restart.proofs.Switches.{page_taken}
 
 -- ---- what a crash leaves

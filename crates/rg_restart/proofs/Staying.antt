@@ -4,7 +4,7 @@ use Rattle.std.proofs.Common.{◌∷◌, length, refl, sym, ◌∙◌, ap, subst
 use Rattle.std.proofs.Common.{append-nil, length-append}
 use Rattle.std.specs.List.{AllByRecursion}
 use Rattle.std.proofs.lemmas.Bool.{cases_lt}
-use Rattle.rg_image.specs.Rules.{ArePositions}
+use Rattle.rg_image.specs.Rules.{ArePositions, is_undo}
 use Rattle.rg_image.proofs.Sound.{more_positions}
 use Rattle.rg_page.specs.Content.{Content, content_at}
 use Rattle.rg_page.specs.Listed.{list_numbered}
@@ -32,7 +32,6 @@ use Rattle.rg_laws_crash.proofs.NewestPagesLemmas.Records.{each_newest, rebuilt_
 use Rattle.rg_laws_crash.proofs.NewestPagesLemmas.Steady.{steady_more, steady_opened}
 use Rattle.rg_laws_crash.proofs.NewestPagesLemmas.Switching.{has_switched}
 use Rattle.rg_engine.specs.Newest.{HasNewest, StayNewest}
-use Rattle.rg_engine.specs.Undoing.{is_undo}
 use Rattle.rg_engine.proofs.NewestKept.{end_stays, newest_same}
 use Rattle.rg_laws_crash.specs.SoundVolume.Closing.{rolled_back}
 use Rattle.rg_restart.specs.Closed.{AreUndosFrom}

@@ -1,16 +1,16 @@
 -- The rows of a log so far, and those of the records that are left.
 --
 -- 1. What is said of the records that are left, over the rows so far, holds of all records.
-use Rattle.std.proofs.Common.{◌≡◌, ◌==◌, ◌≤◌, ◌<◌, ◌+◌, ◌-◌, ◌&&◌, ◌||◌, ℕ, suc, Bool, true, false}
-use Rattle.std.proofs.Common.{cond, if◌then◌else◌, List, ◌∷◌, Option, Some, None, drop, get_or}
-use Rattle.std.proofs.Common.{length, refl, sym, ◌∙◌, ap, arith, drop-cons}
+use Rattle.std.proofs.Common.{◌≡◌, ◌==◌, ◌≤◌, ◌+◌, ◌-◌, ◌&&◌, ◌||◌, ℕ, Bool, true, false}
+use Rattle.std.proofs.Common.{cond, if◌then◌else◌, List, ◌∷◌, Option, Some, None}
+use Rattle.std.proofs.Common.{refl, sym, ◌∙◌, ap, arith}
 use Rattle.std.specs.FinMap as map
 use Rattle.std.specs.FinMap.{get-insert, len-insert, len-remove}
 use Rattle.std.specs.Option.{is_some}
 use Rattle.std.proofs.lemmas.Cmp.{nat_cmp_total}
-use Rattle.std.specs.Ordering.{eq_by_cmp, nat_cmp}
-use Rattle.std.proofs.lemmas.Bool.Decides.{nat_tests}
+use Rattle.std.specs.Ordering.{nat_cmp}
 use Rattle.rg_base.specs.declared.row.Row.{Row}
+use Rattle.rg_base.proofs.Small.{cmp_turned}
 use Rattle.rg_image.specs.Meaning.{is_commit, is_committed, last_made, made_of, or_before, row_made}
 use Rattle.rg_model.specs.Committed.{set_to}
 use Rattle.rg_model.specs.State.{Table}
@@ -18,21 +18,10 @@ use Rattle.rg_model.proofs.Overlay.{get-set_to}
 use Rattle.rg_record.specs.declared.record.Record.{Record}
 use Rattle.rg_restart.specs.Stored.{made_by, made_over}
 
--- the first of the records that are left
-pub next_record : (rs : List Record) (i : ℕ) (d : Record) → i < length rs
-    → drop i rs ≡ get_or rs i d ∷ drop (i + 1) rs
-next_record rs i d below =
-    let e : i + 1 ≡ suc i = omega arith in
-    rw e (drop-cons rs i d below)
-
--- a key set, by another key
-turned : (q key : ℕ) → eq_by_cmp nat_cmp q key ≡ (key == q)
-turned q key = grind (arith, nat_tests)
-
 pub key_set : (table : Table) (key : ℕ) (row : Option Row) (q : ℕ)
     → map.get (set_to table key row) q ≡ (if key == q then row else map.get table q)
 key_set table key row q =
-    get-set_to table key row q ∙ ap (λ (b : Bool). cond b row (map.get table q)) (turned q key)
+    get-set_to table key row q ∙ ap (λ (b : Bool). cond b row (map.get table q)) (cmp_turned q key)
 
 -- and at most one row more
 pub set_few : (table : Table) (key : ℕ) (row : Option Row)
@@ -66,7 +55,7 @@ pub note_so : (m : map.FinMap nat_cmp Bool) (t tran : ℕ) (b : Bool) → b ≡ 
 note_so m t tran b is =
     ap (λ (o : Option Bool). is_some o)
     (get-insert nat_cmp_total m t true tran
-    ∙ ap (λ (c : Bool). cond c (Some true) (map.get m tran)) (turned tran t))
+    ∙ ap (λ (c : Bool). cond c (Some true) (map.get m tran)) (cmp_turned tran t))
     ∙ by_test (t == tran) (map.get m tran)
     ∙ ap (λ (x : Bool). map.contains_key m tran || (x && (t == tran))) (sym is)
 

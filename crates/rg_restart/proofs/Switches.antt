@@ -1,6 +1,7 @@
 -- The last Switch of a log, by its position and by its pages. The pages that are taken by it are
 -- those of a sound volume.
 use Rattle.std.proofs.Common.{◌≡◌, ℕ, if◌then◌else◌, List, [], ◌∷◌, length, refl, sym, ◌∙◌, ap}
+use Rattle.rg_base.specs.Copies.{set_of}
 use Rattle.rg_laws_crash.specs.NewestPages.OpenLaws.{IsTakenPage}
 use Rattle.rg_laws_crash.specs.NewestPages.Tidy.{switch_pages, switched_at, switched_from}
 use Rattle.rg_laws_crash.specs.NewestPages.Tidy.{switched_pages, switched_pages_from}
@@ -12,7 +13,7 @@ use Rattle.rg_record.specs.declared.record.Kind.TheVariants.{Purge, Switch}
 use Rattle.rg_record.specs.declared.record.Record.{Record}
 use Rattle.rg_redo.specs.Redo.{is_switch}
 use Rattle.rg_laws_crash.specs.PageVersions.Versions.{taken_past}
-use Rattle.rg_laws_crash.specs.SoundVolume.Pages.{copy_of, count_of, set_of}
+use Rattle.rg_laws_crash.specs.SoundVolume.Pages.{copy_of, count_of}
 use Rattle.rg_laws_crash.specs.SoundVolume.Sound.{TakesBase}
 use Rattle.rg_restart.specs.declared.data.LastSwitch.{LastSwitch}
 use Rattle.rg_restart.specs.Data.{IsDataPage, IsTaken, TakesPages, switch_after, switch_from}

@@ -10,7 +10,8 @@ use Rattle.rg_outside.specs.Moments.{EachCall, EachImage, IfTold, read_at}
 use Rattle.rg_image.specs.Log.{SpellsFrom}
 use Rattle.rg_outside.proofs.Every.{told_weaken}
 use Rattle.rg_engine.specs.OnVolume.{IsTidyVolume, WasAllTidy}
-use Rattle.rg_engine.specs.Volume.{Leaves, LeavesIfTidy, VolumeSeen, WasTidy}
+use Rattle.rg_engine.specs.Volume.{Leaves, LeavesIfTidy, WasTidy}
+use Rattle.rg_outside.specs.Volume.{VolumeSeen}
 use Rattle.rg_engine.proofs.Leaving.{began}
 use Rattle.rg_engine.proofs.OnVolume.{tidy_on}
 use Rattle.rg_restart.specs.Opening.{GoesOnTidy}

@@ -12,9 +12,10 @@ use Rattle.rg_record.specs.declared.record.Kind.{Kind}
 use Rattle.rg_record.specs.declared.record.Kind.TheVariants.{Change, Undo, Commit, RolledBack}
 use Rattle.rg_record.specs.declared.record.Kind.TheVariants.{Purge, Switch}
 use Rattle.rg_record.specs.declared.record.Record.{Record}
-use Rattle.rg_undo.specs.Undoing.{written_in, written_of}
+use Rattle.rg_undo.specs.Undoing.{written_of}
 use Rattle.rg_undo.specs.Unit.{undo_records, writes_of}
-use Rattle.rg_engine.specs.Undoing.{is_undo}
+use Rattle.rg_undo.proofs.Undoing.{owner_is}
+use Rattle.rg_image.specs.Rules.{is_undo}
 use Rattle.rg_engine.proofs.Spelled.{undo_few}
 use Rattle.rg_restart.specs.Closed.{AreUndosFrom}
 
@@ -37,14 +38,6 @@ pub undos_below : (top position tran : ℕ) (undos : List Record) → tran ≤ t
 undos_below top position tran [] low are = tt
 undos_below top position tran (undo ∷ undos) low are =
     (omega (arith, are.3, low), undos_below top (position + 1) tran undos low are.4)
-
-owner_is : (t : ℕ) (kind : Kind) → (written_in t kind).owner ≡ t
-owner_is t (Change home before after parts) = refl
-owner_is t (Undo next home after parts) = refl
-owner_is t Commit = refl
-owner_is t RolledBack = refl
-owner_is t (Purge parts) = refl
-owner_is t (Switch copy pages) = refl
 
 -- each Change had what it needs, so each undo has a spelling
 pub undos_from : (position back tran : ℕ) (slots : List (List Slot)) (entries : List Record)

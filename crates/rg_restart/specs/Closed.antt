@@ -18,20 +18,20 @@ use Rattle.rg_page.specs.declared.list.ListFrames.{ListFrames}
 use Rattle.rg_laws_pages.specs.UndoRoom.Needed.{NeededInTurn}
 use Rattle.rg_record.specs.declared.record.Record.{Record}
 use Rattle.rg_record.specs.Spelled.{IsRecord}
-use Rattle.rg_space.specs.Space.{Agree, InStep, capacity_in, frames_of, index_of}
+use Rattle.rg_space.specs.Space.{Agree, InStep, capacity_in, frames_of, summaries_of}
 use Rattle.rg_space.specs.declared.space.Space.{Space}
 use Rattle.rg_undo.specs.Unit.{writes_of}
 use Rattle.rg_check.specs.OpenUnits.Unended.{left_of, owed_for}
 use Rattle.rg_space.specs.Memory.{list_seen, space_pages}
 use Rattle.rg_engine.specs.Newest.{StayNewest}
-use Rattle.rg_engine.specs.Undoing.{is_undo}
+use Rattle.rg_image.specs.Rules.{is_undo}
 use Rattle.rg_laws_crash.specs.SoundVolume.Closing.{all_closed, closed_by}
 use Rattle.rg_laws_crash.specs.SoundVolume.Left.{IsLacking, lefts_of, writes_left}
 
 -- summaries and pages are in step, and agree
 pub record IsInStep (space : Space ListFrames) : Type 0 where
-  pub step : InStep (list_seen (frames_of space)) (index_of space) (capacity_in space)
-  pub agree : Agree (list_seen (frames_of space)) (index_of space)
+  pub step : InStep (list_seen (frames_of space)) (summaries_of space) (capacity_in space)
+  pub agree : Agree (list_seen (frames_of space)) (summaries_of space)
 
 -- these writes had what they need, each at its turn, and were undone
 pub record Undid (old new : Space ListFrames) (cs : List Written) : Type 0 where

@@ -10,11 +10,13 @@
 --    or memory ran out. The page is that of the first rule that is broken.
 use Rattle.std.specs.Prelude.{◌≡◌, ◌≤◌, ◌⊎◌, ℕ, false, List, length, drop}
 use Rattle.std.specs.List.{AllByRecursion}
+use Rattle.rg_base.specs.Copies.{set_of}
 use Rattle.rg_base.specs.declared.set.Set.TheVariants.{Log}
 use Rattle.rg_desk.specs.Desk.{DeskState, Opens}
 use Rattle.rg_engine.specs.OnVolume.{IsOnVolume, WasAllTidy}
 pub use Rattle.rg_engine.specs.OnVolume.{GoesOnTidy}
-use Rattle.rg_engine.specs.Volume.{LeavesIfTidy, VolumeSeen}
+use Rattle.rg_engine.specs.Volume.{LeavesIfTidy}
+use Rattle.rg_outside.specs.Volume.{VolumeSeen}
 use Rattle.rg_desk.specs.declared.desk.OpenCause.{OpenCause}
 use Rattle.rg_desk.specs.declared.desk.OpenCause.TheVariants.{Damaged, Device, NoMemory}
 use Rattle.rg_engine.specs.declared.found.Found.{Found}
@@ -27,7 +29,7 @@ use Rattle.rg_log.specs.Open.{IsQuiet}
 use Rattle.rg_log.specs.declared.fault.LogFault.{LogFault}
 use Rattle.rg_log.specs.declared.fault.LogFault.TheVariants as log_faults
 use Rattle.rg_laws_crash.specs.NewestPages.Newest.{page_in}
-use Rattle.rg_laws_crash.specs.NewestPages.Tidy.{opened_epoch, set_of, switched_at, switched_pages}
+use Rattle.rg_laws_crash.specs.NewestPages.Tidy.{opened_epoch, switched_at, switched_pages}
 use Rattle.rg_outside.specs.Calls.{Image, read_of}
 use Rattle.rg_outside.specs.Capacities.{Capacities}
 use Rattle.rg_outside.specs.Faults.{Rose}

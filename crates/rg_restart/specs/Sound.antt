@@ -3,6 +3,7 @@
 -- 1. It is a page of the first rule that is broken. Of the data pages it is the first one that
 --    breaks theirs.
 use Rattle.std.specs.Prelude.{ℕ, List, Option, length}
+use Rattle.rg_base.specs.Copies.{set_of}
 use Rattle.rg_base.specs.declared.position.Position.{Position}
 use Rattle.rg_base.specs.declared.set.Set.{Set}
 use Rattle.rg_base.specs.declared.set.Set.TheVariants.{Log}
@@ -12,7 +13,7 @@ use Rattle.rg_outside.specs.Calls.{Image}
 use Rattle.rg_outside.specs.Capacities.{Capacities}
 use Rattle.rg_page.specs.Content.{Content}
 use Rattle.rg_record.specs.declared.record.Record.{Record}
-use Rattle.rg_laws_crash.specs.SoundVolume.Pages.{BreaksRule, copy_of, count_of, set_of}
+use Rattle.rg_laws_crash.specs.SoundVolume.Pages.{BreaksRule, copy_of, count_of}
 use Rattle.rg_laws_crash.specs.SoundVolume.Sound.{HasSoundLog, TakesBase}
 use Rattle.rg_restart.specs.Data.{IsFirstBroken, MarksPages, switch_of}
 

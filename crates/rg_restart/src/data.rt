@@ -12,6 +12,7 @@ ghost use Rattle.rg_outside.specs.Moments.{EachCall, IfTold};
 ghost use Rattle.rg_restart.specs.Data.{AreBase, AreTakenAsIs, IsDataFault, IsMarked, IsTaken};
 ghost use Rattle.rg_restart.specs.Data.{IsUntaken, MarksPages, TakesPages, switch_after, switch_of};
 
+use rg_base::copy::TableCopy;
 use rg_base::position::Position;
 use rg_base::set::Set;
 use rg_desk::desk::OpenCause;
@@ -82,7 +83,7 @@ fn is_left_over(switch: LastSwitch, number: u32, position: u64) -> bool
 // What is taken of a page of these bytes.
 fn take_page(
     alloc: Global,
-    copy: u8,
+    copy: TableCopy,
     number: u32,
     last: u64,
     switch: LastSwitch,
@@ -112,25 +113,25 @@ fn take_page(
 pub fn read_pages<V: Volume>(
     alloc: Global,
     volume: &mut V,
-    copy: u8,
+    copy: TableCopy,
     set: Set,
     count: u32,
     last: u64,
     switch: LastSwitch,
 ) -> Result<ReadPages, OpenCause>
-    requires { count ≤ capacity_of (V.capacities volume.old) set }
+    requires { count ≤ capacity_of (V.seen volume.old).capacities set }
     ensures base { IfOk result (λ read. AreBase copy last count read.frames) }
     ensures as_is { IfOk result (λ read. AreTakenAsIs copy switch read.frames.pages.items) }
-    ensures takes { IfOk result (λ read. IfTold (V.told volume.new) (λ t.
+    ensures takes { IfOk result (λ read. IfTold (V.seen volume.new).told (λ t.
         TakesPages copy last switch set count (read_of t.first t.calls)
         read.frames.pages.items)) }
-    ensures marks { IfOk result (λ read. IfTold (V.told volume.new) (λ t.
+    ensures marks { IfOk result (λ read. IfTold (V.seen volume.new).told (λ t.
         MarksPages copy last switch set count (read_of t.first t.calls) read.marks.items)) }
-    ensures refused { IfErr result (IsDataFault copy last set count (V.told volume.new)
-        (V.faults volume.old) (V.faults volume.new)) }
-    ensures only { EachCall (V.told volume.old) (V.told volume.new) IsQuiet }
-    ensures capacities { V.capacities volume.new ≡ V.capacities volume.old }
-    ensures later { V.faults volume.old ≤ V.faults volume.new }
+    ensures refused { IfErr result (IsDataFault copy last set count (V.seen volume.new).told
+        (V.seen volume.old).faults (V.seen volume.new).faults) }
+    ensures only { EachCall (V.seen volume.old).told (V.seen volume.new).told IsQuiet }
+    ensures capacities { (V.seen volume.new).capacities ≡ (V.seen volume.old).capacities }
+    ensures later { (V.seen volume.old).faults ≤ (V.seen volume.new).faults }
 {
     let mut frames = ListFrames::new(alloc, copy);
     let mut marks = Vec::new(alloc);

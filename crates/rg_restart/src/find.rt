@@ -8,6 +8,7 @@
 // 4. No call of a volume is made. After a refusal all that was found is to be dropped.
 ghost use Rattle.std.specs.Prelude.{◌≡◌, ◌≤◌, ◌+◌, ◌==◌, ℕ, length, take, if◌then◌else◌, IfOk};
 ghost use Rattle.std.specs.Prelude.{IfErr, OnOk, None};
+ghost use Rattle.rg_base.specs.Copies.{set_of};
 ghost use Rattle.rg_base.specs.declared.set.Set.TheVariants.{Log as LogSet};
 ghost use Rattle.rg_engine.specs.Newest.{StayNewest};
 ghost use Rattle.rg_home.specs.Able.{Proper};
@@ -30,12 +31,13 @@ ghost use Rattle.rg_restart.specs.Found.{StoresFew};
 ghost use Rattle.rg_shadow.specs.Valued.{AreReadFrom};
 ghost use Rattle.rg_laws_crash.specs.SoundVolume.Pages.{BreaksFit, BreaksRows, BreaksRule};
 ghost use Rattle.rg_laws_crash.specs.SoundVolume.Pages.{BreaksSlots, IsMatched, copy_of, count_of};
-ghost use Rattle.rg_laws_crash.specs.SoundVolume.Pages.{page_of, set_of};
+ghost use Rattle.rg_laws_crash.specs.SoundVolume.Pages.{page_of};
 
 use crate::close::close_units;
 use crate::data::ReadPages;
 use crate::stored::stored_rows;
 use rg_base::no_memory::NoMemory;
+use rg_base::note::note;
 use rg_base::place::Place;
 use rg_base::position::Position;
 use rg_base::set::Set;
@@ -50,7 +52,6 @@ use rg_check::page_tests::stored::{Standing, not_stored};
 use rg_check::page_tests::twice::twice;
 use rg_check::page_tests::untied::untied;
 use rg_desk::desk::OpenCause;
-use rg_engine::flush::set_of;
 use rg_engine::found::Found;
 use rg_image::sizes::last_page;
 use rg_log::log::Log;
@@ -217,7 +218,7 @@ pub fn find(
     let ReadPages { frames, marks } = read;
     let mut log = log;
     let (count, copy) = (log.records().len(), chain.copy());
-    let set = set_of(copy);
+    let set = copy.set();
     let mut space = redo_log(alloc, &log, frames, capacity)?;
     close_open(alloc, &mut space, &mut log, chain, set)?;
     match_stored(alloc, &mut space, &log, count, set)?;
@@ -225,7 +226,7 @@ pub fn find(
         return Err(OpenCause::NoMemory);
     };
     // That the records fit their set: that the log can be opened again needs it.
-    let _ = log.records();
+    note(&log.records());
     Ok(Found {
         log,
         space,

@@ -9,7 +9,7 @@
 ghost use Rattle.std.specs.Prelude.{◌≡◌, [], IfOk, IfErr};
 ghost use Rattle.rg_check.specs.Chain.Kept.{IsKept};
 ghost use Rattle.rg_desk.specs.Chronicle.{IsRecorded};
-ghost use Rattle.rg_engine.specs.Volume.{HasCalls, seen_volume};
+ghost use Rattle.rg_engine.specs.Volume.{HasCalls};
 ghost use Rattle.rg_image.specs.Rules.{HasSpace, IsChain};
 ghost use Rattle.rg_log.specs.Kept.{log_pages};
 ghost use Rattle.rg_redo.specs.CurrentCopy.Laws.{CoversAll};
@@ -24,7 +24,7 @@ use rg_check::chain::chain::Chain;
 use rg_check::chain::names::copy_pages;
 use rg_check::chain::test::{LogTest, test_log};
 use rg_desk::desk::{Desk, OpenCause, OpenFault};
-use rg_engine::flush::set_of;
+use rg_desk::run::Run;
 use rg_engine::found::Found;
 use rg_feed::inlet::FeedIn;
 use rg_log::fault::LogFault;
@@ -52,13 +52,13 @@ fn cause_of(fault: LogFault) -> OpenCause
 
 // Tests the records of a log, and keeps what was learned of them.
 fn sound_log<V: Volume>(alloc: Global, volume: &V, log: &Log) -> Result<Chain, OpenCause>
-    ensures chain { IfOk result (λ chain. IsChain (V.capacities volume.now) log.now.records) }
-    ensures space { IfOk result (λ chain. HasSpace (log_pages (V.capacities volume.now))
+    ensures chain { IfOk result (λ chain. IsChain (V.seen volume.now).capacities log.now.records) }
+    ensures space { IfOk result (λ chain. HasSpace (log_pages (V.seen volume.now).capacities)
         log.now.records) }
     ensures kept { IfOk result (λ chain. IsKept log.now.records chain) }
-    ensures covers { IfOk result (λ chain. CoversAll (V.capacities volume.now)
+    ensures covers { IfOk result (λ chain. CoversAll (V.seen volume.now).capacities
         log.now.records) }
-    ensures refused { IfErr result (BreaksLog (V.capacities volume.now) log.now.records) }
+    ensures refused { IfErr result (BreaksLog (V.seen volume.now).capacities log.now.records) }
 {
     match test_log(alloc, volume, log.records()) {
         Err(NoMemory) => Err(OpenCause::NoMemory),
@@ -70,12 +70,10 @@ fn sound_log<V: Volume>(alloc: Global, volume: &V, log: &Log) -> Result<Chain, O
 
 // What is found of a volume.
 fn look<V: Volume>(alloc: Global, volume: &mut V) -> Result<Found, OpenCause>
-    requires { GoesOnTidy (seen_volume V.told V.faults V.capacities volume.old) }
-    ensures looks { IfOk result (Looks (seen_volume V.told V.faults V.capacities volume.old)
-        (seen_volume V.told V.faults V.capacities volume.new)) }
+    requires { GoesOnTidy (V.seen volume.old) }
+    ensures looks { IfOk result (Looks (V.seen volume.old) (V.seen volume.new)) }
     ensures refused { IfErr result
-        (IsRefused (seen_volume V.told V.faults V.capacities volume.old)
-        (seen_volume V.told V.faults V.capacities volume.new)) }
+        (IsRefused (V.seen volume.old) (V.seen volume.new)) }
 {
     let log = match open_log(alloc, volume) {
         Ok(log) => log,
@@ -85,7 +83,7 @@ fn look<V: Volume>(alloc: Global, volume: &mut V) -> Result<Found, OpenCause>
     let (copy, count) = (chain.copy(), chain.pages());
     let last = log.records().len() as u64;
     let switch = switch_of(log.records());
-    let read = read_pages(alloc, volume, copy, set_of(copy), count, last, switch)?;
+    let read = read_pages(alloc, volume, copy, copy.set(), count, last, switch)?;
     let capacity = copy_pages(volume, copy);
     find(alloc, log, &chain, read, capacity)
 }
@@ -102,28 +100,26 @@ pub fn open_desk<V: Counts, O: Operator>(
     trace: Vec<Entry>,
     calls: u64,
 ) -> Result<(Desk<V, O>, FeedIn), OpenFault<V, O>>
-    requires tidy { GoesOnTidy (seen_volume V.told V.faults V.capacities volume) }
+    requires tidy { GoesOnTidy (V.seen volume) }
     requires recorded { IsRecorded trace.items calls }
-    requires counted { HasCalls (seen_volume V.told V.faults V.capacities volume) calls }
-    ensures opens { IfOk result (λ made. OpensStored (seen_volume V.told V.faults V.capacities)
-        (seen_volume V.told V.faults V.capacities volume) operator made.0) }
+    requires counted { HasCalls (V.seen volume) calls }
+    ensures opens { IfOk result (λ made. OpensStored V.seen (V.seen volume) operator made.0) }
     ensures older { IfOk result (λ made. made.0.older ≡ trace.items) }
     ensures ring { IfOk result (λ made. made.0.ring ≡ made.1.ring) }
     ensures received { IfOk result (λ made. made.1.items ≡ []) }
     ensures refused { IfErr result (λ fault. IsRefused
-        (seen_volume V.told V.faults V.capacities volume)
-        (seen_volume V.told V.faults V.capacities fault.volume) fault.cause) }
+        (V.seen volume) (V.seen fault.volume) fault.end) }
     ensures operator { IfErr result (λ fault. fault.operator ≡ operator) }
     ensures trace { IfErr result (λ fault. fault.trace.items ≡ trace.items) }
 {
     let mut volume = volume;
     match look(alloc, &mut volume) {
         Ok(found) => Desk::new(alloc, volume, operator, trace, calls, found),
-        Err(cause) => Err(OpenFault {
+        Err(end) => Err(Run {
             volume,
             operator,
             trace,
-            cause,
+            end,
         }),
     }
 }

@@ -3,6 +3,7 @@ use Rattle.std.proofs.Common.{◌≡◌, ◌≤◌, ◌+◌, ◌⊎◌, inl, inr
 use Rattle.std.proofs.Common.{◌++◌, Option, Some, None, length, refl, sym, ◌∙◌, ap, subst, arith}
 use Rattle.std.proofs.Common.{append_assoc, append-nil}
 use Rattle.rg_base.specs.declared.control.Answer.{Answer}
+use Rattle.rg_base.proofs.Each.{Each-append}
 use Rattle.std.specs.List.{Contains}
 use Rattle.rg_desk.specs.Chronicle.{IsRecorded}
 use Rattle.rg_desk.specs.Desk.{DeskState, EndsDown, EndsWithRows, LeavesTable, LegalFrom}
@@ -11,9 +12,12 @@ use Rattle.rg_engine.specs.Tabled.{EndsIn}
 use Rattle.rg_engine.specs.Left.{StoresLeft}
 use Rattle.rg_engine.specs.OnVolume.{IsSoundTidy, LeavesSoundIfTidy, WasAllTidy}
 use Rattle.rg_engine.specs.Stored.{IsStored}
-use Rattle.rg_engine.specs.Volume.{HasCalls, VolumeSeen, WasTidy}
+use Rattle.rg_engine.proofs.Flushing.{rose_earlier}
+use Rattle.rg_engine.specs.Volume.{HasCalls, WasTidy}
+use Rattle.rg_outside.specs.Volume.{VolumeSeen}
 use Rattle.rg_desk.specs.declared.desk.OpenCause.{OpenCause}
 use Rattle.rg_desk.specs.declared.desk.OpenCause.TheVariants as causes
+use Rattle.rg_desk.proofs.DeskGoes.{same_table}
 use Rattle.rg_image.specs.Log.{log_of}
 use Rattle.rg_image.specs.Meaning.{current_of}
 use Rattle.rg_image.specs.Rules.{HasLogPages}
@@ -55,12 +59,11 @@ use Rattle.rg_run.specs.declared.played.RunEnd.{RunEnd}
 use Rattle.rg_run.specs.declared.played.RunEnd.TheVariants as ends
 use Rattle.rg_run.proofs.Asking.{answered_all}
 use Rattle.rg_run.proofs.Fullness.{smaller_least}
-use Rattle.rg_run.proofs.Going.{made_now, made_on, same_table, was_tidy, whole_run}
+use Rattle.rg_run.proofs.Going.{made_now, made_on, was_tidy, whole_run}
 use Rattle.rg_run.proofs.Joins.{own_quiet}
 use Rattle.rg_run.proofs.Opening.{copy_first, counted_first, found_first, old_first, opened_first}
 use Rattle.rg_run.proofs.Opening.{opening_then, pages_first, read_first_log, stores_first}
-use Rattle.rg_run.proofs.Openings.{all_join}
-use Rattle.rg_run.proofs.Plays.{goes_opened, rose_earlier}
+use Rattle.rg_run.proofs.Plays.{goes_opened}
 
 -- one line more is played since the last opening
 pub going_on : {V O : Type 0} {answers : O → Option (List Answer)} (look : V → VolumeSeen)
@@ -75,7 +78,7 @@ going_on look first old new lines line alive step going = record {
   opened = going.opened;
   opening = going.opening;
   found = going.found;
-  alive = all_join IsAlive going.back (line ∷ []) going.alive (alive, tt);
+  alive = Each-append IsAlive going.back (line ∷ []) going.alive (alive, tt);
   counted = going.counted;
   log_room = going.log_room;
   came = by_came going.came;

@@ -5,7 +5,8 @@ use Rattle.rg_base.specs.declared.control.Answer.{Answer}
 use Rattle.rg_desk.specs.Desk.{DeskState, LegalFrom, old_records}
 use Rattle.rg_engine.specs.OnVolume.{IsTidyVolume, WasAllTidy}
 use Rattle.rg_engine.specs.Stored.{IsStored}
-use Rattle.rg_engine.specs.Volume.{VolumeSeen, WasTidy}
+use Rattle.rg_engine.specs.Volume.{WasTidy}
+use Rattle.rg_outside.specs.Volume.{VolumeSeen}
 use Rattle.rg_image.specs.Log.{log_of}
 use Rattle.rg_image.specs.Meaning.{stored}
 use Rattle.rg_log.specs.Kept.{log_pages}

@@ -4,14 +4,15 @@ use Rattle.std.proofs.Common.{◌++◌, Option, Some, None, length, drop, refl, 
 use Rattle.std.proofs.Common.{arith, length-append}
 use Rattle.std.proofs.Math.Seq.{drop-append-add}
 use Rattle.std.proofs.lemmas.List.Sums.{count_by-le-length}
+use Rattle.rg_base.specs.Copies.{set_of}
 use Rattle.rg_base.specs.declared.control.Answer.{Answer}
 use Rattle.rg_base.specs.declared.options.Options.{Options}
 use Rattle.rg_base.specs.declared.position.Position.{Position}
 use Rattle.rg_base.specs.declared.verdict.StopReason.TheVariants as reasons
 use Rattle.rg_engine.specs.Layouts.{IsLayout}
 use Rattle.rg_engine.specs.Flushed.{FlushIs, WrotePage}
-use Rattle.rg_engine.specs.Volume.{IsCount, VolumeSeen}
-use Rattle.rg_laws_crash.specs.NewestPages.Tidy.{set_of}
+use Rattle.rg_engine.specs.Volume.{IsCount}
+use Rattle.rg_outside.specs.Volume.{VolumeSeen}
 use Rattle.rg_outside.specs.Calls.{Call, Told, faults_of, is_failed}
 use Rattle.rg_outside.specs.Faults.{Rose}
 use Rattle.rg_outside.specs.Made.{CountsFailed}

@@ -10,12 +10,13 @@ use Rattle.rg_laws_utility.proofs.ByteAccountLemmas.Reached.{feed_is_allowed}
 use Rattle.rg_base.specs.declared.control.Answer.{Answer}
 use Rattle.rg_base.specs.declared.options.Options.{Options}
 use Rattle.rg_base.specs.declared.verdict.StopReason.TheVariants as reasons
+use Rattle.rg_base.proofs.Small.{nat_some}
 use Rattle.rg_laws_utility.specs.Course.Loading.{Loading, loading_after, loading_in}
 use Rattle.rg_engine.specs.Answers.{IfFull}
 use Rattle.rg_desk.specs.Desk.{DeskState, FeedIs, old_records}
 use Rattle.rg_engine.specs.Layouts.{IsLayout}
 use Rattle.rg_engine.specs.Stored.{IsStored}
-use Rattle.rg_engine.specs.Volume.{VolumeSeen}
+use Rattle.rg_outside.specs.Volume.{VolumeSeen}
 use Rattle.rg_feed.specs.declared.fold.item.Stage.{Stage}
 use Rattle.rg_home.specs.Pages.{slot_of}
 use Rattle.rg_home.specs.Rows.{row_at}
@@ -165,9 +166,6 @@ allowed_step answer (Stop reasons.NoSpace) least allowed None is stops = stops r
 allowed_step answer (Stop reasons.NoSpace) least allowed (Some l) is stops = tt
 allowed_step answer event least allowed loading is stops = tt
 
-some_sorted : (n : ℕ) → (n == 0) ≡ false → 1 ≤ n
-some_sorted n is = grind (arith, nat_tests, is)
-
 -- what was sent weighs no more than the entries have allowed
 pub space_allowed : {V O : Type 0} (desk : DeskState V O) (s : Stage) (capacity : ℕ) (start : Table)
     → FeedIs desk → desk.stage ≡ Some s → ShowsLoading (Some s) desk.copy desk.trace
@@ -177,7 +175,7 @@ pub space_allowed : {V O : Type 0} (desk : DeskState V O) (s : Stage) (capacity 
 space_allowed desk s capacity start feed stage shown space none stored =
     let rows = row_at (slot_of desk.ground.pages) in
     let loaded = (shown space.0).1
-    (some_sorted s.sorted (sorted (s.sorted == 0) refl (sym (shown space.0).0 ∙ none))) in
+    (nat_some s.sorted (sorted (s.sorted == 0) refl (sym (shown space.0).0 ∙ none))) in
     let reaches =
     subst (λ (o : Option Stage). ReachesBy rows o (allowed_of start desk.trace) desk.feed) stage
     (feed.reaches start stored) in

@@ -3,18 +3,22 @@ use Rattle.std.proofs.Common.{◌≡◌, ◌==◌, ◌||◌, ◌≤◌, ◌+◌,
 use Rattle.std.proofs.Common.{List, [], ◌∷◌, ◌++◌, Option, Some, None, length, refl, sym, ◌∙◌, ap}
 use Rattle.std.proofs.Common.{subst, arith}
 use Rattle.rg_base.specs.declared.control.Answer.{Answer}
-use Rattle.std.specs.FinMap.{same_map, nat_cmp-IsAntisymmetric}
 use Rattle.std.specs.List.{AllByRecursion, Contains}
 use Rattle.std.proofs.lemmas.Bool.{eqb-true}
-use Rattle.std.specs.Cmp.{nat_cmp_total}
 use Rattle.std.specs.Option.{is_some}
+use Rattle.std.proofs.Math.Bool.{or-false}
+use Rattle.rg_judge.proofs.Exactly.{none_from}
 use Rattle.rg_desk.specs.Chronicle.{IsEntry, IsRecorded}
 use Rattle.rg_desk.specs.Desk.{DeskState, LegalFrom, old_records}
+use Rattle.rg_desk.proofs.DeskGoes.{same_table}
 use Rattle.rg_base.specs.Copies.{IsCopy}
+use Rattle.rg_base.proofs.Each.{Each-append}
 use Rattle.rg_engine.specs.OnVolume.{IsTidyVolume, WasAllTidy}
 use Rattle.rg_engine.specs.Stored.{IsStored}
-use Rattle.rg_engine.specs.Volume.{HasCalls, VolumeSeen}
+use Rattle.rg_engine.specs.Volume.{HasCalls}
+use Rattle.rg_outside.specs.Volume.{VolumeSeen}
 use Rattle.rg_engine.proofs.Leaving.{began}
+use Rattle.rg_engine.proofs.Flushing.{rose_earlier}
 use Rattle.rg_image.specs.Rules.{limit_of}
 use Rattle.rg_log.specs.Kept.{log_pages}
 use Rattle.rg_model.specs.Legal.{IsActor, Legal, asks}
@@ -46,23 +50,13 @@ use Rattle.rg_run.specs.Played.{Goes, TraceOf, first_of}
 use Rattle.rg_run.proofs.Joins.{device_join, first_join, log_join, own_left, own_right, run_again}
 use Rattle.rg_run.proofs.Joins.{trace_join}
 use Rattle.rg_run.proofs.Fits.{fit_join, fit_on}
-use Rattle.rg_run.proofs.Openings.{all_join, found_by, found_on, openings_on, part_opened}
+use Rattle.rg_run.proofs.Openings.{found_by, found_on, openings_on, part_opened}
 use Rattle.rg_run.proofs.Openings.{parts_more}
-use Rattle.rg_run.proofs.Plays.{device_more, rose_earlier, rose_later}
+use Rattle.rg_run.proofs.Plays.{device_more, rose_later}
 
 -- ---- tables
 
--- two tables that the same records store are one
-pub same_table : (records : List Record) (a b : Table) → IsStored records a → IsStored records b
-    → a ≡ b
-same_table records a b one other =
-    same_map nat_cmp_total nat_cmp-IsAntisymmetric a b (λ k. one k ∙ sym (other k))
-
 -- ---- the first entry
-
-none_from : (past entries : List Entry) → states_from past [] entries ≡ []
-none_from past [] = refl
-none_from past (e ∷ es) = none_from (e ∷ past) es
 
 is_one : (copy : ℕ) → (copy == 1 || copy == 2) ≡ true → IsCopy copy
 is_one copy e = by_first (copy == 1) refl
@@ -122,11 +116,8 @@ legal_whole old (e ∷ es) lines count last of known recorded runs = (
         runs.run.0) known.0.is runs.run.1
 
     same_copy : known.0.copy ≡ runs.copy
-    same_copy = eqb-true known.0.copy runs.copy (by_or (known.0.copy == runs.copy) opened.copy_left)
-      where
-        by_or : (b : Bool) → (b || false) ≡ true → b ≡ true
-        by_or true e = refl
-        by_or false e = e
+    same_copy = eqb-true known.0.copy runs.copy
+        (sym (or-false (known.0.copy == runs.copy)) ∙ opened.copy_left)
 
     before : states_before runs.start e.event ≡ at_rest runs.start runs.copy ∷ []
     before =
@@ -471,7 +462,7 @@ module _ {V O : Type 0} {answers : O → Option (List Answer)} (look : V → Vol
             × AreOpeningsSince capacities t.start t desk.trace)
             (λ t. AreOpeningsSince capacities t.start t trace) (look base.volume).told
             (λ t both.
-            all_join (λ entry. IfOpened (IsOpeningThen capacities t.start t entry) entry.event)
+            Each-append (λ entry. IfOpened (IsOpeningThen capacities t.start t entry) entry.event)
             base.older desk.trace both.0 both.1)
             (told_both (λ t. AreOpeningsSince capacities t.start t base.older)
             (λ t. AreOpeningsSince capacities t.start t desk.trace) (look base.volume).told

@@ -1,8 +1,10 @@
 -- Parts of a trace, one after the other.
-use Rattle.std.proofs.Common.{◌≡◌, ◌==◌, ◌||◌, inl, inr, ℕ, zero, suc, Bool, true, false, List, []}
+use Rattle.std.proofs.Common.{◌≡◌, ◌==◌, inl, inr, ℕ, zero, suc, List, []}
 use Rattle.std.proofs.Common.{◌∷◌, ◌++◌, Some, refl, sym, ◌∙◌, ap, subst, arith}
 use Rattle.std.specs.List.{AllZip, Contains}
 use Rattle.std.proofs.lemmas.Bool.{eqb-true}
+use Rattle.std.proofs.Math.Bool.{or-false}
+use Rattle.rg_base.specs.Copies.{set_of}
 use Rattle.rg_desk.specs.Chronicle.{logged_after}
 use Rattle.rg_engine.specs.Flushed.{WritesEither}
 use Rattle.rg_log.specs.Open.{IsQuiet}
@@ -12,7 +14,6 @@ use Rattle.rg_model.specs.Run.{Allows, Reopens, Run}
 use Rattle.rg_model.specs.State.{State, Table, at_rest, row_count}
 use Rattle.rg_model.proofs.Overlay.{committed-at_rest}
 use Rattle.rg_model.proofs.RunPush.{behind}
-use Rattle.rg_laws_crash.specs.NewestPages.Tidy.{set_of}
 use Rattle.rg_outside.specs.Calls.{Call}
 use Rattle.rg_stmt.specs.declared.event.Entry.{Entry}
 use Rattle.rg_stmt.specs.declared.event.Event.{Event}
@@ -23,6 +24,7 @@ use Rattle.rg_run.proofs.Pasts.{IfRuns, SameSince, SameUnits, goes_alike, units_
 use Rattle.rg_run.specs.LogFull.{IsLogFullFrom, IsLogFullOnlyFrom}
 use Rattle.rg_run.specs.Outside.{IsDeviceOnlyIf, WritesOf, WritesOwn}
 use Rattle.rg_run.specs.Played.{EntryOf, IsOpenedEntry, TraceOf, first_of}
+use Rattle.rg_run.proofs.Spaces.{opened_event}
 
 -- ---- entries
 
@@ -53,11 +55,6 @@ pub first_join : (xs : List Line) (olds news : List Entry) → TraceOf xs olds
     → first_of (olds ++ news) ≡ first_of olds
 first_join xs [] news of = absurd of
 first_join xs (a ∷ olds) news of = refl
-
--- the event of an opening
-opened_event : (e : Entry) (is : IsOpenedEntry e)
-    → e.event ≡ events.Opened is.copy is.rows is.pages is.used
-opened_event e is = ap (λ (x : Entry). x.event) is.is
 
 -- what was counted before an opening does not count after it
 log_from : (limit logged : ℕ) (lines : List Line) (part : List Entry) → TraceOf lines part
@@ -167,11 +164,7 @@ run_again first begun older (e ∷ es) lines mid last table copy before reopens 
         (sym opened.at_rest) tt
 
     same_copy : is.copy ≡ copy
-    same_copy = eqb-true is.copy copy (by_or (is.copy == copy) opened.copy_left)
-      where
-        by_or : (b : Bool) → (b || false) ≡ true → b ≡ true
-        by_or true e = refl
-        by_or false e = e
+    same_copy = eqb-true is.copy copy (sym (or-false (is.copy == copy)) ∙ opened.copy_left)
 
     same_table : opened.table ≡ table
     same_table = only_is (committed_table (at_rest table copy)) opened.table opened.left

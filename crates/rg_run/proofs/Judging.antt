@@ -8,7 +8,7 @@ use Rattle.rg_desk.specs.Desk.{LegalFrom}
 use Rattle.rg_engine.specs.OnVolume.{IsTidyVolume}
 use Rattle.rg_engine.specs.Stored.{IsStored}
 use Rattle.rg_engine.specs.Tabled.{EndsWithTable}
-use Rattle.rg_engine.specs.Volume.{VolumeSeen}
+use Rattle.rg_outside.specs.Volume.{VolumeSeen}
 use Rattle.rg_judge.specs.Refused.{IsFirstRefused, IsJudged}
 use Rattle.rg_judge.proofs.Exactly.{legal-take}
 use Rattle.rg_log.specs.Kept.{log_pages}

@@ -4,7 +4,8 @@ use Rattle.std.proofs.Common.{arith}
 use Rattle.std.proofs.Math.Seq.{take-length}
 use Rattle.rg_desk.specs.Desk.{DeskState, old_records}
 use Rattle.rg_engine.specs.Stored.{IsStored}
-use Rattle.rg_engine.specs.Volume.{IsCount, VolumeSeen}
+use Rattle.rg_engine.specs.Volume.{IsCount}
+use Rattle.rg_outside.specs.Volume.{VolumeSeen}
 use Rattle.rg_image.specs.Log.{log_of}
 use Rattle.rg_image.specs.Meaning.{stored}
 use Rattle.rg_image.specs.Pack.{log_bytes}

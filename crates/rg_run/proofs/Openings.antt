@@ -6,7 +6,7 @@ use Rattle.rg_base.specs.declared.control.Answer.{Answer}
 use Rattle.rg_base.specs.declared.options.Options.{Options}
 use Rattle.rg_engine.specs.Layouts.{IsLayout}
 use Rattle.rg_engine.specs.Stored.{IsStored}
-use Rattle.rg_engine.specs.Volume.{VolumeSeen}
+use Rattle.rg_outside.specs.Volume.{VolumeSeen}
 use Rattle.rg_image.specs.Log.{log_of}
 use Rattle.rg_log.specs.Kept.{log_pages}
 use Rattle.rg_model.specs.State.{Table}
@@ -27,11 +27,6 @@ use Rattle.rg_run.specs.Parts.AreParts.{Next, One}
 use Rattle.rg_run.specs.Played.{EntryOf, IsFlushed, IsStartEvent, IsStepEvent, TraceOf, first_of}
 
 -- ---- lists
-
-pub all_join : {A : Type 0} (P : A → Type 0) (xs ys : List A) → AllByRecursion P xs
-    → AllByRecursion P ys → AllByRecursion P (xs ++ ys)
-all_join P [] ys all more = more
-all_join P (x ∷ xs) ys all more = (all.0, all_join P xs ys all.1 more)
 
 pub all_weaken : {A : Type 0} (P Q : A → Type 0) (xs : List A) → ((x : A) → P x → Q x)
     → AllByRecursion P xs → AllByRecursion Q xs

@@ -8,10 +8,10 @@ use Rattle.std.proofs.Common.{◌≡◌, ◌+◌, ◌-◌, ◌==◌, ◌&&◌, n
 use Rattle.std.proofs.Common.{[], ◌∷◌, Option, Some, None, refl, sym, ◌∙◌, ap, subst}
 use Rattle.std.specs.FinMap as map
 use Rattle.std.specs.List.{list_all}
+use Rattle.rg_desk.proofs.DeskUtility.{layout_system}
 use Rattle.rg_base.specs.declared.control.Answer.{Answer}
 use Rattle.rg_base.specs.declared.options.DrainState.TheVariants.{Free}
 use Rattle.rg_base.specs.declared.options.Options.{Options}
-use Rattle.rg_engine.specs.Layouts.{IsLayout}
 use Rattle.rg_model.specs.Changes.{changes, changes_after, changes_of, is_rollback, is_unit_end}
 use Rattle.rg_model.specs.Changes.{is_write, unit_writes, unit_writes_after}
 use Rattle.rg_model.specs.Claims.{least_holder}
@@ -208,12 +208,6 @@ flushed_system events.FlushDevice is = tt
 flushed_system events.FlushDown is = tt
 flushed_system events.FlushNoMemory is = tt
 flushed_system event is = absurd is
-
-layout_system : (copy : ℕ) (event : Event) → IsLayout copy event → IsSystem event
-layout_system copy (events.Layout shown side) is = tt
-layout_system copy events.LayoutNoMemory is = tt
-layout_system copy events.LayoutDown is = tt
-layout_system copy event is = absurd is
 
 system_any : (past other : List Entry) (event : Event) (st new : State) → IsSystem event
     → Allows past None actors.System event st new → Allows other None actors.System event st new

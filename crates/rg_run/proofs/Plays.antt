@@ -2,7 +2,6 @@
 use Rattle.std.proofs.Common.{◌≡◌, ◌==◌, ◌≤◌, ◌⊎◌, inl, inr, ◌||◌, ◌*◌, ℕ, Bool, true, false, List}
 use Rattle.std.proofs.Common.{[], ◌∷◌, ◌++◌, Option, Some, None, if◌then◌else◌, length, refl, sym}
 use Rattle.std.proofs.Common.{◌∙◌, ap, subst, arith, IfSome}
-use Rattle.std.specs.Prelude.{Result, Ok, Err, IfOk}
 use Rattle.std.specs.List.{AllZip}
 use Rattle.std.specs.Option.{is_some}
 use Rattle.rg_base.specs.declared.control.Answer.{Answer}
@@ -32,7 +31,7 @@ use Rattle.rg_stmt.specs.declared.stmt.Reply.TheVariants.{Duplicate, Held, Victi
 use Rattle.rg_stmt.specs.declared.stmt.Reply.TheVariants.{LogFull, Device, Down, NoMemory}
 use Rattle.rg_stmt.specs.declared.stmt.Stmt.{Stmt}
 use Rattle.rg_stmt.specs.Entries.{said_entry}
-use Rattle.rg_base.specs.Copies.{IsCopy, other_of}
+use Rattle.rg_base.specs.Copies.{IsCopy, other_of, set_of}
 use Rattle.rg_image.specs.Rules.{copy_capacity, limit_of}
 use Rattle.rg_engine.specs.Answers.{IfLogFull, is_device}
 use Rattle.rg_laws_utility.specs.ByteAccount.Account.{allowed_of}
@@ -46,8 +45,9 @@ use Rattle.rg_engine.specs.Layouts.{IsLayout}
 use Rattle.rg_desk.specs.Desk.{MadeLayout, MadeSaid, MadeStart, Stays, left_to_take, old_records}
 use Rattle.rg_model.specs.Utility.{starts_utility}
 use Rattle.rg_engine.specs.Flushed.{FlushIs, WritesEither}
-use Rattle.rg_engine.specs.Volume.{IsCount, VolumeSeen}
-use Rattle.rg_laws_crash.specs.NewestPages.Tidy.{set_of}
+use Rattle.rg_engine.proofs.Flushing.{rose_earlier}
+use Rattle.rg_engine.specs.Volume.{IsCount}
+use Rattle.rg_outside.specs.Volume.{VolumeSeen}
 use Rattle.rg_outside.specs.Capacities.{Capacities}
 use Rattle.rg_outside.specs.Faults.{Rose}
 use Rattle.rg_outside.specs.Moments.{EachCall, IfTold}
@@ -265,9 +265,6 @@ rose_wider a b c d low high rose = λ few. let lt = rose (omega (arith, few, hig
 
 pub rose_later : (a b c : ℕ) → b ≤ c → Rose a b → Rose a c
 rose_later a b c le rose = λ low. let lt = rose (omega (arith, low, le)) in omega (arith, lt, le)
-
-pub rose_earlier : (a b c : ℕ) → a ≤ b → Rose b c → Rose a c
-rose_earlier a b c le rose = λ low. let lt = rose low in omega (arith, lt, le)
 
 -- the other copy is a copy
 other_is : (copy : ℕ) → IsCopy (other_of copy)
@@ -808,12 +805,6 @@ goes_opened {V} {O} look answers desk opened copy counted room idle = record {
     capacities = refl;
   };
 }
-
--- what a result that is no refusal says
-pub ok_weaken : {A B : Type 0} (P Q : A → Type 0) (result : Result A B) → ((x : A) → P x → Q x)
-    → IfOk result P → IfOk result Q
-ok_weaken P Q (Ok x) f p = f x p
-ok_weaken P Q (Err e) f p = p
 
 -- the new copy that a desk keeps is no matter of its entries
 pub goes_dropped : {V O : Type 0} {answers : O → Option (List Answer)} (look : V → VolumeSeen)

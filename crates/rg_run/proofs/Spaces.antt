@@ -53,7 +53,7 @@ space_on old new entries entry same all one =
     (space_push old None entries entry all one)
 
 -- what was told before an opening is not told after it
-opened_event : (e : Entry) (is : IsOpenedEntry e)
+pub opened_event : (e : Entry) (is : IsOpenedEntry e)
     → e.event ≡ events.Opened is.copy is.rows is.pages is.used
 opened_event e is = ap (λ (x : Entry). x.event) is.is
 

@@ -5,7 +5,8 @@ use Rattle.rg_base.specs.declared.control.Answer.{Answer}
 use Rattle.rg_desk.specs.Desk.{DeskState, old_records}
 use Rattle.rg_engine.specs.OnVolume.{GoesOnTidy, IsSoundTidy, IsTidyVolume, WasAllTidy}
 use Rattle.rg_desk.specs.Chronicle.{IsRecorded}
-use Rattle.rg_engine.specs.Volume.{HasCalls, IsCount, VolumeSeen, WasTidy, seen_volume}
+use Rattle.rg_engine.specs.Volume.{HasCalls, IsCount, WasTidy}
+use Rattle.rg_outside.specs.Volume.{VolumeSeen}
 use Rattle.rg_desk.specs.declared.desk.OpenCause.{OpenCause}
 use Rattle.rg_desk.specs.declared.desk.OpenCause.TheVariants as causes
 use Rattle.rg_image.specs.Meaning.{stored}
@@ -14,7 +15,7 @@ use Rattle.rg_log.specs.Kept.{log_pages}
 use Rattle.rg_log.specs.Open.{IsQuiet}
 use Rattle.rg_outside.specs.Calls.{Told, read_of}
 use Rattle.rg_outside.specs.Capacities.{Capacities}
-use Rattle.rg_outside.specs.Counts.{CountedCalls, counted, told_counted}
+use Rattle.rg_outside.specs.Counts.{CountedCalls, counted, counted_seen, told_counted}
 use Rattle.rg_outside.specs.Faults.{Rose}
 use Rattle.rg_outside.specs.Moments.{EachCall, EachImage, IfTold}
 use Rattle.rg_outside.proofs.Frame.{calls_join, calls_weaken}
@@ -61,34 +62,33 @@ none_recorded trace none = subst (λ (es : List Entry). IsRecorded es 0) (sym no
       few = omega arith;
     })
 
-module _ {V : Type 0} (told : V → Option Told) (faults : V → ℕ) (capacities : V → Capacities)
-    (volume : V) where
+module _ {V : Type 0} (seen : V → VolumeSeen) (volume : V) where
   -- what is seen of the volume as it was counted
   abbrev look : CountedCalls V → VolumeSeen
-  look = seen_volume (λ c. counted (told c.volume) c.calls) (λ c. faults c.volume)
-      (λ c. capacities c.volume)
+  look c = counted_seen (seen c.volume) c.calls
 
   -- no call was counted yet
   pub begun_tidy : (begun : CountedCalls V) → begun ≡ record { volume = volume; calls = 0 }
       → GoesOnTidy (look begun)
   begun_tidy begun is =
-      subst (λ (x : CountedCalls V). GoesOnTidy (look x)) (sym is) (go (told volume))
+      subst (λ (x : CountedCalls V). GoesOnTidy (look x)) (sym is) (go (seen volume).told)
     where
       go : (o : Option Told)
           → IfTold (counted o 0)
           (λ t. (t.start ≤ length t.calls)
-          × (WasTidy (log_pages (capacities volume)) t
-          → IsTidyLog (log_pages (capacities volume)) (read_of t.first t.calls))
-          × (WasAllTidy (capacities volume) t
-          → IsTidyVolume (capacities volume) (read_of t.first t.calls)))
+          × (WasTidy (log_pages (seen volume).capacities) t
+          → IsTidyLog (log_pages (seen volume).capacities) (read_of t.first t.calls))
+          × (WasAllTidy (seen volume).capacities t
+          → IsTidyVolume (seen volume).capacities (read_of t.first t.calls)))
       go None = tt
       go (Some t) = (
         omega arith,
         λ tidy. subst
-            (λ (k : ℕ). IsTidyLog (log_pages (capacities volume))
+            (λ (k : ℕ). IsTidyLog (log_pages (seen volume).capacities)
             (read_of t.first (drop k t.calls))) (none_left (length t.calls)) tidy,
         λ tidy.
-            subst (λ (k : ℕ). IsTidyVolume (capacities volume) (read_of t.first (drop k t.calls)))
+            subst
+            (λ (k : ℕ). IsTidyVolume (seen volume).capacities (read_of t.first (drop k t.calls)))
             (none_left (length t.calls)) tidy,
       )
         where
@@ -98,7 +98,7 @@ module _ {V : Type 0} (told : V → Option Told) (faults : V → ℕ) (capacitie
   pub begun_counted : (begun : CountedCalls V) → begun ≡ record { volume = volume; calls = 0 }
       → HasCalls (look begun) 0
   begun_counted begun is =
-      subst (λ (x : CountedCalls V). HasCalls (look x) 0) (sym is) (go (told volume))
+      subst (λ (x : CountedCalls V). HasCalls (look x) 0) (sym is) (go (seen volume).told)
     where
       go : (o : Option Told) → IfTold (counted o 0) (λ t. t.start + 0 ≤ length t.calls)
       go None = tt
@@ -107,23 +107,24 @@ module _ {V : Type 0} (told : V → Option Told) (faults : V → ℕ) (capacitie
   module _ (below : V) (begun : CountedCalls V)
       (begins : begun ≡ record { volume = volume; calls = 0 }) where
     abbrev old : VolumeSeen
-    old = seen_volume told faults capacities volume
+    old = seen volume
 
     abbrev new : VolumeSeen
-    new = seen_volume told faults capacities below
+    new = seen below
 
     begun_faults : (look begun).faults ≡ old.faults
-    begun_faults = ap (λ (x : CountedCalls V). faults x.volume) begins
+    begun_faults = ap (λ (x : CountedCalls V). (seen x.volume).faults) begins
 
     begun_capacities : (look begun).capacities ≡ old.capacities
-    begun_capacities = ap (λ (x : CountedCalls V). capacities x.volume) begins
+    begun_capacities = ap (λ (x : CountedCalls V). (seen x.volume).capacities) begins
 
     -- a run whose opening was refused
-    pub whole_refused : (law : (v : V) → IfTold (told v) (CountsFailed (faults v))) (n : ℕ)
+    pub whole_refused : (law : (v : V) → IfTold (seen v).told (CountsFailed (seen v).faults))
+        (n : ℕ)
         → IfTold new.told (λ t. n ≤ length t.calls)
         → (lines : List Line) (trace : List Entry) (cause : OpenCause) → trace ≡ []
         → IsRefused (look begun)
-        (record { told = counted new.told n; faults = new.faults; capacities = new.capacities })
+        (counted_seen new n)
         cause
         → Whole old new lines trace (end_of cause)
     whole_refused law n le lines trace cause none refused =
@@ -167,7 +168,7 @@ module _ {V : Type 0} (told : V → Option Told) (faults : V → ℕ) (capacitie
 
         end_is : (cause : OpenCause)
             → IsCause (look begun)
-            (record { told = counted new.told n; faults = new.faults; capacities = new.capacities })
+            (counted_seen new n)
             cause
             → IsEnd old new [] (end_of cause)
         end_is (causes.Damaged set page) because = (
@@ -184,48 +185,38 @@ module _ {V : Type 0} (told : V → Option Told) (faults : V → ℕ) (capacitie
               (λ start count t is. is) le
               (subst (λ (x : CountedCalls V). EachCall (look x).told (counted new.told n) IsQuiet)
               begins refused.calls.only) (failed_after IsQuiet (look begun)
-              (record {
-                told = counted new.told n;
-                faults = new.faults;
-                capacities = new.capacities;
-              }) 0 refused.calls.only
+              (counted_seen new n) 0 refused.calls.only
               (subst (λ (x : CountedCalls V). IsCount (look x) 0) (sym begins)
-              (none_yet (told volume)))
+              (none_yet (seen volume).told))
               (subst (λ (x : CountedCalls V). IfTold (look x).told (CountsFailed (look x).faults))
               (sym begins)
-              (told_counted (CountsFailed (faults volume)) (told volume) 0 (law volume)))
-              (told_counted (CountsFailed (faults below)) (told below) n (law below)) because),
+              (told_counted (CountsFailed (seen volume).faults) (seen volume).told 0 (law volume)))
+              (told_counted (CountsFailed (seen below).faults) (seen below).told n (law below))
+              because),
         )
         end_is causes.NoMemory because = tt
 
     module _ (ended : CountedCalls V) (ends : below ≡ ended.volume)
-        (le : IfTold (told below) (λ t. ended.calls ≤ length t.calls)) {O : Type 0} (operator : O)
+        (le : IfTold (seen below).told (λ t. ended.calls ≤ length t.calls)) {O : Type 0}
+        (operator : O)
         (desk : DeskState (CountedCalls V) O)
         (opens : OpensStored look (look begun) operator desk) where
-      abbrev counted_seen : VolumeSeen
-      counted_seen = record {
-        told = counted new.told ended.calls;
-        faults = new.faults;
-        capacities = new.capacities;
-      }
+      abbrev counted_new : VolumeSeen
+      counted_new = counted_seen new ended.calls
 
       pages : desk.ground.log.pages ≡ log_pages old.capacities
       pages = pages_first look (look begun) operator desk opens ∙ ap log_pages begun_capacities
 
-      seen_is : look ended ≡ counted_seen
-      seen_is = ap
-          (λ (v : V). let s : VolumeSeen = record {
-            told = counted (told v) ended.calls;
-            faults = faults v;
-            capacities = capacities v;
-          } in s) (sym ends)
+      seen_is : look ended ≡ counted_new
+      seen_is = ap (λ (v : V). counted_seen (seen v) ended.calls) (sym ends)
 
       module _ {answers : O → Option (List Answer)} (lines : List Line) (operator_left : O)
           (trace : List Entry) (end : RunEnd)
           (run : IsRun look answers desk lines (look ended) operator_left trace end) where
         made : EachCall (counted old.told 0) (counted new.told ended.calls) (WritesOwn trace)
         made =
-            counted_calls told (WritesOwn trace) volume below begun ended begins ends
+            counted_calls (λ v. (seen v).told) (WritesOwn trace) volume below begun ended begins
+            ends
             (calls_join (WritesOwn trace) (look begun).told (look desk.volume).told
             (look ended).told
             (calls_weaken IsQuiet (WritesOwn trace) (look begun).told (look desk.volume).told
@@ -239,7 +230,7 @@ module _ {V : Type 0} (told : V → Option Told) (faults : V → ℕ) (capacitie
             (subst (λ (x : CountedCalls V). EachCall (look x).told (look desk.volume).told IsQuiet)
             begins opens.calls.only)
             (subst
-            (λ (v : V). EachCall (look desk.volume).told (counted (told v) ended.calls)
+            (λ (v : V). EachCall (look desk.volume).told (counted (seen v).told ended.calls)
             (WritesOwn trace)) (sym ends) run.made.calls)
             (subst
             (λ (c : Capacities). IfTold (look desk.volume).told
@@ -247,9 +238,10 @@ module _ {V : Type 0} (told : V → Option Told) (faults : V → ℕ) (capacitie
             begun_capacities (read_first_log look (look begun) operator desk opens))
 
         kept : new.capacities ≡ old.capacities
-        kept = ap capacities ends ∙ run.made.capacities ∙ opens.calls.capacities ∙ begun_capacities
+        kept = ap (λ (v : V). (seen v).capacities) ends ∙ run.made.capacities
+            ∙ opens.calls.capacities ∙ begun_capacities
 
-        run_seen : IsRun look answers desk lines counted_seen operator_left trace end
+        run_seen : IsRun look answers desk lines counted_new operator_left trace end
         run_seen =
             subst (λ (v : VolumeSeen). IsRun look answers desk lines v operator_left trace end)
             seen_is run

@@ -7,8 +7,8 @@
 -- 4. The current copy is that of the last opening or switch.
 -- 5. Of failed calls this is said while the calls can be counted.
 use Rattle.std.specs.Prelude.{◌≡◌, ◌≤◌, ◌<◌, ◌+◌, ◌-◌, ◌^◌, ℕ, List, [], ◌∷◌, length}
+use Rattle.rg_base.specs.Copies.{set_of}
 use Rattle.rg_base.specs.declared.verdict.StopReason.TheVariants as reasons
-use Rattle.rg_laws_crash.specs.NewestPages.Tidy.{set_of}
 use Rattle.rg_outside.specs.Calls.{Call, Told, Wrote, faults_of}
 use Rattle.rg_outside.specs.Moments.{faults_at, moment}
 use Rattle.rg_stmt.specs.declared.event.Entry.{Entry}

@@ -6,7 +6,7 @@
 use Rattle.std.specs.Prelude.{◌≡◌, ◌⊎◌, ℕ, List, [], ◌∷◌, Option, None, Result, Ok}
 use Rattle.rg_base.specs.declared.no_memory.NoMemory.{NoMemory as WantsMemory}
 use Rattle.rg_engine.specs.OnVolume.{IsTidyVolume}
-use Rattle.rg_engine.specs.Volume.{VolumeSeen}
+use Rattle.rg_outside.specs.Volume.{VolumeSeen}
 use Rattle.rg_judge.specs.Refused.{IsJudged}
 use Rattle.rg_model.specs.State.{Table}
 use Rattle.rg_outside.specs.Calls.{read_of}

@@ -10,15 +10,15 @@
 --    so many can be counted.
 use Rattle.std.specs.Prelude.{◌≡◌, ◌⊎◌, ◌<◌, ◌-◌, ◌^◌, ◌++◌, ℕ, List, [], ◌∷◌, Option, Some, length}
 use Rattle.std.specs.List.{AllByRecursion}
+use Rattle.rg_base.specs.Copies.{set_of}
 use Rattle.rg_base.specs.declared.set.Set.TheVariants.{First, Second}
 use Rattle.rg_base.specs.declared.verdict.StopReason.TheVariants as reasons
 use Rattle.rg_engine.specs.Flushed.{WritesEither}
 use Rattle.rg_engine.specs.OnVolume.{IsTidyVolume}
-use Rattle.rg_engine.specs.Volume.{VolumeSeen}
+use Rattle.rg_outside.specs.Volume.{VolumeSeen}
 use Rattle.rg_desk.specs.declared.desk.OpenCause.{OpenCause}
 use Rattle.rg_desk.specs.declared.desk.OpenCause.TheVariants as causes
 use Rattle.rg_log.specs.Open.{IsQuiet}
-use Rattle.rg_laws_crash.specs.NewestPages.Tidy.{set_of}
 use Rattle.rg_image.specs.Log.{log_of}
 use Rattle.rg_outside.specs.Calls.{Call, Told, read_of}
 use Rattle.rg_record.specs.declared.record.Record.{Record}

@@ -15,7 +15,8 @@ use Rattle.rg_desk.specs.Desk.{DeskState, LegalFrom, old_records}
 use Rattle.rg_base.specs.Copies.{IsCopy}
 use Rattle.rg_engine.specs.OnVolume.{IsSoundTidy, WasAllTidy}
 use Rattle.rg_engine.specs.Stored.{IsStored}
-use Rattle.rg_engine.specs.Volume.{HasCalls, VolumeSeen, WasTidy}
+use Rattle.rg_engine.specs.Volume.{HasCalls, WasTidy}
+use Rattle.rg_outside.specs.Volume.{VolumeSeen}
 use Rattle.rg_image.specs.Log.{log_of}
 use Rattle.rg_image.specs.Rules.{limit_of}
 use Rattle.rg_log.specs.Kept.{log_pages}

@@ -16,17 +16,17 @@ use Rattle.rg_stmt.specs.Entries.{opened_entry, said_entry}
 use Rattle.rg_desk.specs.Chronicle.{system_entry}
 use Rattle.rg_desk.specs.Desk.{DeskState, old_records}
 use Rattle.rg_engine.specs.Layouts.{IsLayout}
-use Rattle.rg_base.specs.Copies.{IsCopy}
+use Rattle.rg_base.specs.Copies.{IsCopy, set_of}
 use Rattle.rg_desk.specs.Desk.{is_reply}
 use Rattle.rg_laws_utility.specs.Course.Loading.{IsLoaded, loading_in, loading_of}
 use Rattle.rg_engine.specs.Stored.{IsStored}
-use Rattle.rg_engine.specs.Volume.{IsCount, VolumeSeen}
+use Rattle.rg_engine.specs.Volume.{IsCount}
+use Rattle.rg_outside.specs.Volume.{VolumeSeen}
 use Rattle.rg_model.specs.State.{Table}
 use Rattle.rg_feed.specs.declared.fold.item.Stage.{Stage}
 use Rattle.rg_rules.specs.Stage.NumbersOf.{numbers_of}
 use Rattle.rg_outside.specs.Faults.{Rose}
 use Rattle.rg_engine.specs.Flushed.{WritesEither}
-use Rattle.rg_laws_crash.specs.NewestPages.Tidy.{set_of}
 use Rattle.rg_outside.specs.Calls.{Call}
 use Rattle.rg_outside.specs.Moments.{EachCall, IfTold}
 use Rattle.rg_image.specs.Rules.{limit_of}

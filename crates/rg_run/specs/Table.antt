@@ -22,7 +22,7 @@ use Rattle.rg_laws_utility.specs.Course.OnCourse.{IsOnCourse}
 use Rattle.rg_desk.specs.Desk.{LegalFrom}
 use Rattle.rg_engine.specs.OnVolume.{IsSoundTidy, IsTidyVolume}
 use Rattle.rg_engine.specs.Stored.{IsStored}
-use Rattle.rg_engine.specs.Volume.{VolumeSeen}
+use Rattle.rg_outside.specs.Volume.{VolumeSeen}
 use Rattle.rg_image.specs.Log.{log_of}
 use Rattle.rg_image.specs.Rules.{IsTidyLog}
 use Rattle.rg_log.specs.Kept.{log_pages}

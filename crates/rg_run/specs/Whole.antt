@@ -1,6 +1,6 @@
 -- All that is said of a run, by what is known of its volume before and after it.
 use Rattle.std.specs.Prelude.{◌≤◌, List, None}
-use Rattle.rg_engine.specs.Volume.{VolumeSeen}
+use Rattle.rg_outside.specs.Volume.{VolumeSeen}
 use Rattle.rg_image.specs.Rules.{limit_of}
 use Rattle.rg_log.specs.Kept.{log_pages}
 use Rattle.rg_outside.specs.Faults.{Rose}

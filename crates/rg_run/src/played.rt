@@ -4,7 +4,7 @@
 // 2. Of a run that was judged it is also said which entry is the first that is not legal, if there
 //    is one.
 use rg_base::set::Set;
-use rg_stmt::event::Entry;
+use rg_desk::run::Run;
 
 /// How a run ended.
 #[derive(Clone, Copy, Debug, PartialEq, Eq)]
@@ -23,19 +23,16 @@ pub enum RunEnd {
     NoMemory,
 }
 
-/// What a run leaves that was judged: what the run leaves, and the number of the first entry of its
-/// trace that is not legal, if there is one. Where memory ran out nothing was judged.
-#[derive(Drop)]
-pub struct Judged<V, O> {
-    pub played: Played<V, O>,
+/// How a run ended whose trace was judged, and the number of the first entry of the trace that is
+/// not legal, if there is one. Where memory ran out nothing was judged.
+#[derive(Clone, Copy, Debug, PartialEq, Eq)]
+pub struct JudgedEnd {
+    pub end: RunEnd,
     pub verdict: Option<usize>,
 }
 
 /// What a run leaves: the volume and the operator that it was handed, its trace, and how it ended.
-#[derive(Drop)]
-pub struct Played<V, O> {
-    pub volume: V,
-    pub operator: O,
-    pub trace: Vec<Entry>,
-    pub end: RunEnd,
-}
+pub type Played<V, O> = Run<V, O, RunEnd>;
+
+/// The same of a run whose trace was judged.
+pub type Judged<V, O> = Run<V, O, JudgedEnd>;

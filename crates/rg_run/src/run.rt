@@ -14,7 +14,6 @@ ghost use Rattle.std.specs.List.{AllByRecursion};
 ghost use Rattle.rg_stmt.specs.declared.line.Line.{Line};
 ghost use Rattle.rg_desk.specs.Desk.{DeskState};
 ghost use Rattle.rg_engine.specs.OnVolume.{LeavesSoundIfTidy};
-ghost use Rattle.rg_engine.specs.Volume.{seen_volume};
 ghost use Rattle.rg_outside.specs.Faults.{Rose};
 ghost use Rattle.rg_outside.specs.Moments.{IfTold};
 ghost use Rattle.rg_feed.specs.Ends.{Received};
@@ -33,11 +32,12 @@ ghost use Rattle.rg_run.specs.Played.{Goes, IsPlayed};
 ghost use Rattle.rg_run.specs.Table.{FitCalls, AreOpenings, Ends, IsAllowedRun, IsLegalRun};
 ghost use Rattle.rg_run.specs.Table.{IsOpening, IsRunOnCourse, KeepsSound};
 
-use crate::played::{Judged, Played, RunEnd};
+use crate::played::{Judged, JudgedEnd, Played, RunEnd};
 use rg_base::no_memory::NoMemory;
 use rg_base::options::Options;
 use rg_base::table::Table;
 use rg_desk::desk::{Desk, OpenCause, OpenFault};
+use rg_desk::run::Run;
 use rg_feed::inlet::FeedIn;
 use rg_judge::judge::judge;
 use rg_outside::counted::{Counted, Counts};
@@ -61,45 +61,36 @@ pub fn run<V: Volume, O: Operator>(
     lines: Vec<Line>,
 ) -> Played<V, O>
     requires { AllByRecursion IsPlayed lines.items }
-    ensures ends { Ends (seen_volume V.told V.faults V.capacities volume)
-        (seen_volume V.told V.faults V.capacities result.volume) lines.items
+    ensures ends { Ends (V.seen volume) (V.seen result.volume) lines.items
         result.trace.items result.end }
-    ensures legal { IsLegalRun (seen_volume V.told V.faults V.capacities volume)
-        (seen_volume V.told V.faults V.capacities result.volume) result.trace.items }
-    ensures opening { IsOpening (seen_volume V.told V.faults V.capacities volume)
-        (seen_volume V.told V.faults V.capacities result.volume) result.trace.items }
-    ensures openings { AreOpenings (seen_volume V.told V.faults V.capacities volume)
-        (seen_volume V.told V.faults V.capacities result.volume) result.trace.items }
-    ensures fit { FitCalls (seen_volume V.told V.faults V.capacities volume)
-        (seen_volume V.told V.faults V.capacities result.volume) result.trace.items }
+    ensures legal { IsLegalRun (V.seen volume) (V.seen result.volume) result.trace.items }
+    ensures opening { IsOpening (V.seen volume) (V.seen result.volume) result.trace.items }
+    ensures openings { AreOpenings (V.seen volume) (V.seen result.volume) result.trace.items }
+    ensures fit { FitCalls (V.seen volume) (V.seen result.volume) result.trace.items }
     // FULL comes, and STOP NOSPACE once a list is sorted, only where the entries have allowed 3,221
     // bytes for each page of the smaller copy.
-    ensures full { IsAllowedRun 3221 (seen_volume V.told V.faults V.capacities volume)
-        (seen_volume V.told V.faults V.capacities result.volume) result.trace.items }
+    ensures full { IsAllowedRun 3221 (V.seen volume) (V.seen result.volume) result.trace.items }
     // Each part of the trace tells how a utility is caught up at its switch, and when it ends.
-    ensures course { IsRunOnCourse (seen_volume V.told V.faults V.capacities volume)
-        (seen_volume V.told V.faults V.capacities result.volume) result.trace.items }
-    ensures log_full { IsLogFullOnlyFrom (limit_of (log_pages (V.capacities volume))) 0
+    ensures course { IsRunOnCourse (V.seen volume) (V.seen result.volume) result.trace.items }
+    ensures log_full { IsLogFullOnlyFrom (limit_of (log_pages (V.seen volume).capacities)) 0
         result.trace.items }
-    ensures space { AreForSpace (V.capacities volume) None result.trace.items }
-    ensures device { IsDeviceOnlyIf (Rose (V.faults volume) (V.faults result.volume))
+    ensures space { AreForSpace (V.seen volume).capacities None result.trace.items }
+    ensures device { IsDeviceOnlyIf (Rose (V.seen volume).faults (V.seen result.volume).faults)
         result.trace.items }
-    ensures end { IsEnd (seen_volume V.told V.faults V.capacities volume)
-        (seen_volume V.told V.faults V.capacities result.volume) result.trace.items result.end }
-    ensures sound { KeepsSound (seen_volume V.told V.faults V.capacities volume)
-        (seen_volume V.told V.faults V.capacities result.volume) result.trace.items }
+    ensures end { IsEnd (V.seen volume) (V.seen result.volume) result.trace.items result.end }
+    ensures sound { KeepsSound (V.seen volume) (V.seen result.volume) result.trace.items }
     // No page is written but those of the log and of the copies that were opened, and from the
     // start of a utility on those of both copies.
-    ensures only { MakesOnly (WritesOwn result.trace.items) (V.told volume)
-        (V.told result.volume) }
-    ensures later { V.faults volume ≤ V.faults result.volume }
+    ensures only { MakesOnly (WritesOwn result.trace.items) (V.seen volume).told
+        (V.seen result.volume).told }
+    ensures later { (V.seen volume).faults ≤ (V.seen result.volume).faults }
     // The operator was asked for the entries that have its answer, and for no other.
     ensures asked { HasAnswered (O.answers operator) (answers_in result.trace.items)
         (O.answers result.operator) }
 {
     match open_desk(alloc, Counted::new(volume), operator, Vec::new(alloc), 0) {
-        Ok((desk, inlet)) => play(alloc, desk, inlet, lines).uncounted(),
-        Err(fault) => refused(fault).uncounted(),
+        Ok((desk, inlet)) => uncounted(play(alloc, desk, inlet, lines)),
+        Err(fault) => uncounted(refused(fault)),
     }
 }
 
@@ -112,67 +103,65 @@ pub fn run_judged<V: Volume, O: Operator>(
     lines: Vec<Line>,
 ) -> Judged<V, O>
     requires { AllByRecursion IsPlayed lines.items }
-    ensures whole { Whole (seen_volume V.told V.faults V.capacities volume)
-        (seen_volume V.told V.faults V.capacities result.played.volume) lines.items
-        result.played.trace.items result.played.end }
+    ensures whole { Whole (V.seen volume) (V.seen result.volume) lines.items
+        result.trace.items result.end.end }
     // The operator was asked for the entries that have its answer, and for no other.
-    ensures asked { HasAnswered (O.answers operator) (answers_in result.played.trace.items)
-        (O.answers result.played.operator) }
-    ensures judged { JudgesRun (seen_volume V.told V.faults V.capacities volume)
-        (seen_volume V.told V.faults V.capacities result.played.volume)
-        result.played.trace.items result.played.end result.verdict }
+    ensures asked { HasAnswered (O.answers operator) (answers_in result.trace.items)
+        (O.answers result.operator) }
+    ensures judged { JudgesRun (V.seen volume) (V.seen result.volume)
+        result.trace.items result.end.end result.end.verdict }
 {
     match open_desk(alloc, Counted::new(volume), operator, Vec::new(alloc), 0) {
         Ok((desk, inlet)) => {
             let mut desk = desk;
             let start = desk.table();
-            settle(alloc, start, play(alloc, desk, inlet, lines).uncounted())
+            settle(alloc, start, uncounted(play(alloc, desk, inlet, lines)))
         }
-        Err(fault) => Judged {
-            played: refused(fault).uncounted(),
-            verdict: None,
-        },
+        Err(fault) => {
+            let played = uncounted(refused(fault));
+            let end = JudgedEnd {
+                end: played.end,
+                verdict: None,
+            };
+            played.ended(end)
+        }
     }
 }
 
 // Has the trace of a run judged.
 fn settle<V, O>(alloc: Global, start: Result<Table, NoMemory>, played: Played<V, O>) -> Judged<V, O>
-    ensures settled { Settles start played.trace.items played.end result.played.end result.verdict }
-    ensures trace { result.played.trace ≡ played.trace }
-    ensures volume { result.played.volume ≡ played.volume }
-    ensures operator { result.played.operator ≡ played.operator }
+    ensures settled { Settles start played.trace.items played.end result.end.end
+        result.end.verdict }
+    ensures trace { result.trace ≡ played.trace }
+    ensures volume { result.volume ≡ played.volume }
+    ensures operator { result.operator ≡ played.operator }
 {
     let Ok(table) = start else {
         return unjudged(played);
     };
     match judge(alloc, &table, &played.trace) {
-        Ok(verdict) => Judged { played, verdict },
+        Ok(verdict) => {
+            let end = JudgedEnd {
+                end: played.end,
+                verdict,
+            };
+            played.ended(end)
+        }
         Err(_) => unjudged(played),
     }
 }
 
 // A run whose trace could not be judged.
 fn unjudged<V, O>(played: Played<V, O>) -> Judged<V, O>
-    ensures end { result.played.end ≡ RunEnd.NoMemory }
-    ensures trace { result.played.trace ≡ played.trace }
-    ensures volume { result.played.volume ≡ played.volume }
-    ensures operator { result.played.operator ≡ played.operator }
+    ensures end { result.end.end ≡ RunEnd.NoMemory }
+    ensures trace { result.trace ≡ played.trace }
+    ensures volume { result.volume ≡ played.volume }
+    ensures operator { result.operator ≡ played.operator }
 {
-    let Played {
-        volume,
-        operator,
-        trace,
-        ..
-    } = played;
-    Judged {
-        played: Played {
-            volume,
-            operator,
-            trace,
-            end: RunEnd::NoMemory,
-        },
+    played.ended(JudgedEnd {
+        end: RunEnd::NoMemory,
         verdict: None,
-    }
+    })
 }
 
 // The end of a run whose opening was refused.
@@ -191,43 +180,32 @@ fn refused<V, O>(fault: OpenFault<V, O>) -> Played<V, O>
     ensures volume { result.volume ≡ fault.volume }
     ensures operator { result.operator ≡ fault.operator }
     ensures trace { result.trace.items ≡ fault.trace.items }
-    ensures end { result.end ≡ end_of fault.cause }
+    ensures end { result.end ≡ end_of fault.end }
 {
-    let OpenFault {
-        volume,
-        operator,
-        trace,
-        cause,
-    } = fault;
-    Played {
-        volume,
-        operator,
-        trace,
-        end: end_of(cause),
-    }
+    let end = end_of(fault.end);
+    fault.ended(end)
 }
 
-impl<V: Volume, O> Played<Counted<V>, O> {
-    // The same, with the volume that was counted.
-    fn uncounted(self) -> Played<V, O>
-        ensures trace { result.trace ≡ self.trace }
-        ensures end { result.end ≡ self.end }
-        ensures volume { result.volume ≡ self.volume.volume }
-        ensures counted { IfTold (V.told result.volume) (λ t. self.volume.calls ≤ length t.calls) }
-        ensures operator { result.operator ≡ self.operator }
-    {
-        let Played {
-            volume,
-            operator,
-            trace,
-            end,
-        } = self;
-        Played {
-            volume: volume.into_volume(),
-            operator,
-            trace,
-            end,
-        }
+// The same run, with the volume that was counted.
+fn uncounted<V: Volume, O>(run: Played<Counted<V>, O>) -> Played<V, O>
+    ensures trace { result.trace ≡ run.trace }
+    ensures end { result.end ≡ run.end }
+    ensures volume { result.volume ≡ run.volume.volume }
+    ensures counted { IfTold (V.seen result.volume).told
+        (λ t. run.volume.calls ≤ length t.calls) }
+    ensures operator { result.operator ≡ run.operator }
+{
+    let Run {
+        volume,
+        operator,
+        trace,
+        end,
+    } = run;
+    Run {
+        volume: volume.into_volume(),
+        operator,
+        trace,
+        end,
     }
 }
 
@@ -236,12 +214,12 @@ fn close<V: Counts, O: Operator>(desk: Desk<V, O>, end: RunEnd) -> Played<V, O>
     ensures trace { result.trace.items ≡ desk.older ++ desk.trace }
     ensures end { result.end ≡ end }
     ensures left { LeavesRun desk result.trace.items }
-    ensures sound { LeavesSoundIfTidy (seen_volume V.told V.faults V.capacities desk.volume) }
+    ensures sound { LeavesSoundIfTidy (V.seen desk.volume) }
     ensures volume { result.volume ≡ desk.volume }
     ensures operator { result.operator ≡ desk.operator }
 {
     let (volume, operator, trace, _) = desk.into_parts();
-    Played {
+    Run {
         volume,
         operator,
         trace,
@@ -257,16 +235,14 @@ fn reopen<V: Counts, O: Operator>(
     inlet: &mut FeedIn,
 ) -> Result<Desk<V, O>, Played<V, O>>
     ensures goes { IfOk result (λ next. (first : DeskState V O) (lines : List Line)
-        → Going (seen_volume V.told V.faults V.capacities) O.answers first lines desk
-        → Going (seen_volume V.told V.faults V.capacities) O.answers first
+        → Going V.seen O.answers first lines desk → Going V.seen O.answers first
         (lines ++ Line.Death ∷ []) next) }
     ensures kept { IfOk result (λ next. next.kept ≡ None) }
     ensures shadow { IfOk result (λ next. next.shadow ≡ None) }
     ensures ring { IfOk result (λ next. next.ring ≡ inlet.new.ring) }
     ensures ends { IfErr result (λ played. (first : DeskState V O) (lines rest : List Line)
-        → Going (seen_volume V.told V.faults V.capacities) O.answers first lines desk
-        → IsRun (seen_volume V.told V.faults V.capacities) O.answers first
-        (lines ++ Line.Death ∷ rest) (seen_volume V.told V.faults V.capacities played.volume)
+        → Going V.seen O.answers first lines desk → IsRun V.seen O.answers first
+        (lines ++ Line.Death ∷ rest) (V.seen played.volume)
         played.operator played.trace.items played.end) }
 {
     let (volume, operator, trace, calls) = desk.into_parts();
@@ -286,8 +262,7 @@ fn start<V: Counts, O: Operator>(
     options: Options,
 ) -> Result<(), NoMemory>
     ensures goes { OnOk result ((first : DeskState V O) (lines : List Line)
-        → Goes (seen_volume V.told V.faults V.capacities) O.answers first lines desk.old
-        → Goes (seen_volume V.told V.faults V.capacities) O.answers first
+        → Goes V.seen O.answers first lines desk.old → Goes V.seen O.answers first
         (lines ++ Line.Reorg options ∷ []) desk.new) }
     ensures kept { OnOk result (desk.new.kept ≡ desk.old.kept) }
     ensures ring { OnOk result (desk.new.ring ≡ desk.old.ring) }
@@ -314,9 +289,8 @@ fn play<V: Counts, O: Operator>(
     requires kept { desk.kept ≡ None }
     requires ring { desk.ring ≡ inlet.ring }
     requires shadow { desk.shadow ≡ None }
-    requires going { Going (seen_volume V.told V.faults V.capacities) O.answers desk [] desk }
-    ensures { IsRun (seen_volume V.told V.faults V.capacities) O.answers desk lines.items
-        (seen_volume V.told V.faults V.capacities result.volume)
+    requires going { Going V.seen O.answers desk [] desk }
+    ensures { IsRun V.seen O.answers desk lines.items (V.seen result.volume)
         result.operator result.trace.items result.end }
 {
     let (mut desk, mut inlet) = (desk, inlet);
@@ -348,17 +322,15 @@ fn play_line<V: Counts, O: Operator>(
     requires ring { desk.ring ≡ inlet.old.ring }
     requires works { Works reorg.old.made desk.shadow inlet.old desk.feed }
     ensures goes { IfOk result (λ next. (first : DeskState V O) (lines : List Line)
-        → Going (seen_volume V.told V.faults V.capacities) O.answers first lines desk
-        → Going (seen_volume V.told V.faults V.capacities) O.answers first
+        → Going V.seen O.answers first lines desk → Going V.seen O.answers first
         (lines ++ line ∷ []) next) }
     ensures kept { IfOk result (λ next. next.kept ≡ None) }
     ensures ring { IfOk result (λ next. next.ring ≡ inlet.new.ring) }
     ensures works { IfOk result
         (λ next. Works reorg.new.made next.shadow inlet.new next.feed) }
     ensures ends { IfErr result (λ played. (first : DeskState V O) (lines rest : List Line)
-        → Going (seen_volume V.told V.faults V.capacities) O.answers first lines desk
-        → IsRun (seen_volume V.told V.faults V.capacities) O.answers first (lines ++ line ∷ rest)
-        (seen_volume V.told V.faults V.capacities played.volume)
+        → Going V.seen O.answers first lines desk
+        → IsRun V.seen O.answers first (lines ++ line ∷ rest) (V.seen played.volume)
         played.operator played.trace.items played.end) }
 {
     let mut desk = desk;

@@ -8,7 +8,7 @@ use Rattle.rg_page.specs.Listed.{list_numbered, list_of_copy}
 use Rattle.rg_page.specs.Seen.{Reads}
 use Rattle.rg_page.specs.declared.list.ListFrames.{ListFrames}
 use Rattle.rg_space.specs.Applied.{AllHeld}
-use Rattle.rg_space.specs.Space.{Agree, frames_of, index_of}
+use Rattle.rg_space.specs.Space.{Agree, frames_of, summaries_of}
 use Rattle.rg_space.specs.declared.space.Space.{Space}
 use Rattle.rg_shadow.specs.Planned.{AreNumbered, AreOfCopy, pages_in, seen_in}
 
@@ -27,7 +27,7 @@ all_of_copy space n low high =
     list_of_copy f.copy f.pages f.reserved f.is_list n low high
 
 pub agree_later : (old new : Space ListFrames) → Reads (seen_in old) (seen_in new)
-    → (index_of new).pages ≡ (index_of old).pages
-    → Agree (seen_in old) (index_of old) → Agree (seen_in new) (index_of new)
+    → (summaries_of new).pages ≡ (summaries_of old).pages
+    → Agree (seen_in old) (summaries_of old) → Agree (seen_in new) (summaries_of new)
 agree_later old new reads same agree =
     ap (λ (ps : List Content). map (map bare) (slots_of ps)) (reads.same refl) ∙ agree ∙ sym same

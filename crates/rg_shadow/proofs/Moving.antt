@@ -3,19 +3,21 @@ use Rattle.std.proofs.Common.{◌≡◌, ◌≤◌, ◌+◌, Bool, true, false, 
 use Rattle.std.proofs.Common.{refl, sym, ◌∙◌, ap, subst, arith}
 use Rattle.std.specs.Prelude.{IsSomeAnd}
 use Rattle.std.specs.FinMap as map
+use Rattle.std.proofs.lemmas.Option.{same_Some}
 use Rattle.rg_base.specs.declared.place.Place.{Place}
 use Rattle.rg_base.specs.declared.row.Row.{Row}
 use Rattle.rg_base.specs.declared.which.Which.{Which}
+use Rattle.rg_base.proofs.Small.{not_both}
 use Rattle.rg_laws_pages.specs.ByteClaims.Claim.{claimed_all, nobody}
 use Rattle.rg_laws_pages.specs.ByteClaims.Weight.{weight}
-use Rattle.rg_feed.proofs.FoldLemmas.Places.{one_place, place_itself}
 use Rattle.rg_feed.specs.Fold.Fed.{SetsRow}
 use Rattle.rg_home.specs.Pages.{row_or_empty, slot_of}
 use Rattle.rg_home.specs.Plan.{pages_after}
 use Rattle.rg_home.specs.Rows.{ChangesHome}
 use Rattle.rg_map.specs.Mapping.{IsTarget, Targets}
-use Rattle.rg_map.proofs.Places.{get-put, get-taken, same_place-turned}
-use Rattle.rg_model.specs.Layout.{same_place}
+use Rattle.rg_map.proofs.Places.{get-put, get-taken}
+use Rattle.rg_base.specs.Place.{same_place}
+use Rattle.rg_base.proofs.SamePlace.{same_place-true, same_place-refl, same_place-turned}
 use Rattle.rg_reload.specs.Moved.{row_through}
 use Rattle.rg_shadow.specs.Pieces.{IsMapped}
 use Rattle.rg_shadow.specs.Planned.{AreUnlogged}
@@ -23,14 +25,8 @@ use Rattle.rg_shadow.specs.Shade.{Applies, Shade, home_rows, plan_at, plan_for, 
 use Rattle.rg_shadow.specs.Shade.{stage_in, target_of}
 use Rattle.rg_shadow.specs.declared.drafts.IndexStage.TheVariants.{Built}
 
-pub not_both : (b : Bool) → b ≡ true → b ≡ false → ⊥
-not_both b t f = cc (t, f)
-
 pub none_some : (o : Option Place) (x : Place) → o ≡ None → o ≡ Some x → ⊥
 none_some o x e f = cc (e, f)
-
-pub some_same : (x y : Place) → Some x ≡ Some y → x ≡ y
-some_same x y e = cc (e)
 
 -- the target of a source that has this row at t
 abbrev pub moved : Place → Option Row → Option Place
@@ -40,7 +36,7 @@ moved t (Some row) = Some t
 moved-some : (t x : Place) (after : Option Row) → moved t after ≡ Some x
     → (t ≡ x) × (is_some after ≡ true)
 moved-some t x None e = absurd (cc (e))
-moved-some t x (Some row) e = (some_same t x e, refl)
+moved-some t x (Some row) e = (same_Some t x e, refl)
 
 moved-is : (t : Place) (after : Option Row) → is_some after ≡ true → moved t after ≡ Some t
 moved-is t None e = absurd (cc (e))
@@ -64,7 +60,7 @@ module _ (old new : Targets) (rows more : Place → Option Row) (source t : Plac
   at_source : (s x : Place) → same_place source s ≡ true → map.get new s ≡ Some x
       → (t ≡ x) × (is_some after ≡ true)
   at_source s x h e =
-      moved-some t x after (sym m.target.here ∙ ap (map.get new) (one_place source s h) ∙ e)
+      moved-some t x after (sym m.target.here ∙ ap (map.get new) (same_place-true source s h) ∙ e)
 
   -- a target of another source is another place
   pub apart_from : (s x : Place) → same_place source s ≡ false → map.get old s ≡ Some x
@@ -72,7 +68,8 @@ module _ (old new : Targets) (rows more : Place → Option Row) (source t : Plac
   apart_from s x h e = go (same_place t x) refl
     where
       go : (b : Bool) → same_place t x ≡ b → same_place t x ≡ false
-      go true f = absurd (m.alone s h (e ∙ ap (λ (p : Place). Some p) (sym (one_place t x f))))
+      go true f =
+          absurd (m.alone s h (e ∙ ap (λ (p : Place). Some p) (sym (same_place-true t x f))))
       go false f = f
 
   pub mapped : IsMapped old rows → IsMapped new more
@@ -89,7 +86,7 @@ module _ (old new : Targets) (rows more : Place → Option Row) (source t : Plac
 
       single : (s u x : Place) → map.get new s ≡ Some x → map.get new u ≡ Some x → (b : Bool)
           → same_place source s ≡ b → (d : Bool) → same_place source u ≡ d → s ≡ u
-      single s u x e f true h true k = sym (one_place source s h) ∙ one_place source u k
+      single s u x e f true h true k = sym (same_place-true source s h) ∙ same_place-true source u k
       single s u x e f true h false k = absurd (crossed s u x h k e f)
       single s u x e f false h true k = absurd (crossed u s x k h f e)
       single s u x e f false h false k =
@@ -106,7 +103,7 @@ module _ (old new : Targets) (rows more : Place → Option Row) (source t : Plac
       sources : (x : Place) → is_some (more x) ≡ true → (b : Bool) → same_place t x ≡ b
           → IsTarget new x
       sources x e true h =
-          let is = one_place t x h in (
+          let is = same_place-true t x h in (
             source,
             m.target.here
                 ∙ moved-is t after (ap is_some (sym m.row.here) ∙ ap (λ p. is_some (more p)) is ∙ e)
@@ -119,8 +116,8 @@ module _ (old new : Targets) (rows more : Place → Option Row) (source t : Plac
             where
               off : (b : Bool) → same_place source s ≡ b → same_place source s ≡ false
               off true k =
-                  let is = m.only x (ap (map.get old) (one_place source s k) ∙ f) in
-                  absurd (not_both (same_place t x) (ap (same_place t) is ∙ place_itself t) h)
+                  let is = m.only x (ap (map.get old) (same_place-true source s k) ∙ f) in
+                  absurd (not_both (same_place t x) (ap (same_place t) is ∙ same_place-refl t) h)
               off false k = k
 
   pub source_set : SetsRow (λ s. row_through rows (map.get old s))
@@ -206,7 +203,7 @@ pub put_in : (old new : Targets) (rows more : Place → Option Row) (source t : 
 put_in old new rows more source t row was none fresh is sets = record {
   target = record {
     here = ap (λ ts. map.get ts source) is ∙ get-put old source t source
-        ∙ ap (λ b. cond b (Some t) (map.get old source)) (place_itself source);
+        ∙ ap (λ b. cond b (Some t) (map.get old source)) (same_place-refl source);
     others = λ q h. ap (λ ts. map.get ts q) is ∙ get-put old source t q
         ∙ ap (λ b. cond b (Some t) (map.get old q)) (sym (same_place-turned source q) ∙ h);
   };
@@ -222,14 +219,14 @@ pub taken_out : (old new : Targets) (rows more : Place → Option Row) (source t
 taken_out old new rows more source t was there is sets = record {
   target = record {
     here = ap (λ ts. map.get ts source) is ∙ get-taken old source source
-        ∙ ap (λ b. cond b None (map.get old source)) (place_itself source);
+        ∙ ap (λ b. cond b None (map.get old source)) (same_place-refl source);
     others = λ q h. ap (λ ts. map.get ts q) is ∙ get-taken old source q
         ∙ ap (λ b. cond b None (map.get old q)) (sym (same_place-turned source q) ∙ h);
   };
   row = sets;
   alone = λ s h e. not_both (same_place source s)
-      (ap (same_place source) (was.single s source t e there) ∙ place_itself source) h;
-  only = λ x e. some_same x t (sym e ∙ there);
+      (ap (same_place source) (was.single s source t e there) ∙ same_place-refl source) h;
+  only = λ x e. same_Some x t (sym e ∙ there);
 }
 
 pub replaced : (old new : Targets) (rows more : Place → Option Row) (source t : Place) (row : Row)
@@ -243,6 +240,6 @@ replaced old new rows more source t row was there is sets = record {
   };
   row = sets;
   alone = λ s h e. not_both (same_place source s)
-      (ap (same_place source) (was.single s source t e there) ∙ place_itself source) h;
-  only = λ x e. some_same x t (sym e ∙ there);
+      (ap (same_place source) (was.single s source t e there) ∙ same_place-refl source) h;
+  only = λ x e. same_Some x t (sym e ∙ there);
 }

@@ -6,12 +6,13 @@ use Rattle.std.proofs.Math.Seq.{drop-cons}
 use Rattle.std.proofs.lemmas.List.{take-append-drop}
 use Rattle.std.specs.List.{AllByRecursion, list_any}
 use Rattle.std.specs.FinMap as map
+use Rattle.std.proofs.lemmas.Bool.{or_right}
 use Rattle.rg_base.specs.declared.place.Place.{Place}
 use Rattle.rg_base.specs.declared.row.Row.{Row}
-use Rattle.rg_feed.proofs.FoldLemmas.Places.{one_place, place_itself}
 use Rattle.rg_map.specs.Mapping.{Targets}
-use Rattle.rg_map.proofs.Places.{get-put, same_place-turned}
-use Rattle.rg_model.specs.Layout.{same_place}
+use Rattle.rg_map.proofs.Places.{get-put}
+use Rattle.rg_base.specs.Place.{same_place}
+use Rattle.rg_base.proofs.SamePlace.{same_place-true, same_place-refl, same_place-turned}
 use Rattle.rg_reload.specs.Moved.{AreOneToOne, AreOther, AreTargets, target_in}
 use Rattle.rg_shadow.specs.Pieces.{IsMapped}
 
@@ -43,7 +44,7 @@ free_target (p ∷ ps) x all source e = go (same_place p.0 source) e (free_targe
         → (target_in ps source ≡ Some x.1 → ⊥) → ⊥
     go true f rest =
         let is : p.1 ≡ x.1 = cc (f) in
-        cc (all.0.1, ap (same_place p.1) (sym is), place_itself p.1)
+        cc (all.0.1, ap (same_place p.1) (sym is), same_place-refl p.1)
     go false f rest = rest f
 
 -- one more pair
@@ -65,7 +66,7 @@ target-push (p ∷ ps) x source e =
     go b true h k f rest = absurd (cc (f))
     go true false h k f rest =
         let off : same_place source x.0 ≡ false =
-        ap (λ q. same_place q x.0) (sym (one_place p.0 source h)) ∙ k in
+        ap (λ q. same_place q x.0) (sym (same_place-true p.0 source h)) ∙ k in
         sym (ap (λ t. cond t (Some x.1) (Some p.1)) off)
     go false false h k f rest = rest f
 
@@ -105,7 +106,7 @@ not_target p (q ∷ ps) all source e = go (same_place q.0 source) e (not_target 
         → (target_in ps source ≡ Some p.1 → ⊥) → ⊥
     go true f rest =
         let is : q.1 ≡ p.1 = cc (f) in
-        cc (all.0.1, ap (same_place p.1) is, place_itself p.1)
+        cc (all.0.1, ap (same_place p.1) is, same_place-refl p.1)
     go false f rest = rest f
 
 single : (ps : List (Place × Place)) → AreOneToOne ps → (a b t : Place) → target_in ps a ≡ Some t
@@ -118,7 +119,7 @@ single (p ∷ ps) one a b t e f =
         → (if x then Some p.1 else target_in ps a) ≡ Some t
         → (if y then Some p.1 else target_in ps b) ≡ Some t
         → (target_in ps a ≡ Some t → target_in ps b ≡ Some t → a ≡ b) → a ≡ b
-    go true true h k e f rest = sym (one_place p.0 a h) ∙ one_place p.0 b k
+    go true true h k e f rest = sym (same_place-true p.0 a h) ∙ same_place-true p.0 b k
     go true false h k e f rest = absurd (not_target p ps one.0 b (f ∙ sym e))
     go false true h k e f rest = absurd (not_target p ps one.0 a (e ∙ sym f))
     go false false h k e f rest = rest e f
@@ -128,10 +129,6 @@ is_target : (ps : List (Place × Place)) (source t : Place) → target_in ps sou
 is_target [] source t e = absurd (cc (e))
 is_target (p ∷ ps) source t e = go (same_place p.0 source) e (is_target ps source t)
   where
-    either : (x y : Bool) → y ≡ true → (x || y) ≡ true
-    either true y h = refl
-    either false y h = h
-
     go : (b : Bool) → (if b then Some p.1 else target_in ps source) ≡ Some t
         → (target_in ps source ≡ Some t
         → list_any (λ (pair : Place × Place). same_place t pair.1) ps ≡ true)
@@ -139,8 +136,8 @@ is_target (p ∷ ps) source t e = go (same_place p.0 source) e (is_target ps sou
     go true f rest =
         let is : p.1 ≡ t = cc (f) in
         ap (λ b. b || list_any (λ (pair : Place × Place). same_place t pair.1) ps)
-        (ap (same_place t) is ∙ place_itself t)
-    go false f rest = either (same_place t p.1)
+        (ap (same_place t) is ∙ same_place-refl t)
+    go false f rest = or_right (same_place t p.1)
         (list_any (λ (pair : Place × Place). same_place t pair.1) ps) (rest f)
 
 has_source : (ps : List (Place × Place)) → AreOneToOne ps → (t : Place)
@@ -152,7 +149,7 @@ has_source (p ∷ ps) one t e = go (same_place t p.1) refl e (has_source ps one.
     found : (source : Place) → (b : Bool) → same_place p.0 source ≡ b → target_in ps source ≡ Some t
         → (if b then Some p.1 else target_in ps source) ≡ Some t
     found source true h f =
-        absurd (cc (not_source p ps one.0, ap (target_in ps) (one_place p.0 source h), f))
+        absurd (cc (not_source p ps one.0, ap (target_in ps) (same_place-true p.0 source h), f))
     found source false h f = f
 
     go : (b : Bool) → same_place t p.1 ≡ b
@@ -162,8 +159,8 @@ has_source (p ∷ ps) one t e = go (same_place t p.1) refl e (has_source ps one.
         → (source : Place) × (target_in (p ∷ ps) source ≡ Some t)
     go true h f rest = (
       p.0,
-      ap (λ b. if b then Some p.1 else target_in ps p.0) (place_itself p.0)
-          ∙ ap (λ (q : Place). Some q) (sym (one_place t p.1 h)),
+      ap (λ b. if b then Some p.1 else target_in ps p.0) (same_place-refl p.0)
+          ∙ ap (λ (q : Place). Some q) (sym (same_place-true t p.1 h)),
     )
     go false h f rest = let (source, is) = rest f in
         (source, found source (same_place p.0 source) refl is)

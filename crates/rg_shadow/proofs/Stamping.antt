@@ -7,7 +7,7 @@ use Rattle.rg_page.specs.Content.{Content, content_at, empty, slots_of}
 use Rattle.rg_page.specs.Listed.{stamped}
 use Rattle.rg_page.specs.declared.list.ListFrames.{ListFrames}
 use Rattle.rg_space.proofs.Whole.{slots_count}
-use Rattle.rg_space.specs.Space.{index_of}
+use Rattle.rg_space.specs.Space.{summaries_of}
 use Rattle.rg_space.specs.declared.space.Space.{Space}
 use Rattle.rg_shadow.specs.Planned.{HasPages, Stamps, pages_in, seen_in, slots_in}
 
@@ -41,7 +41,7 @@ stamped_slots old new n at low is = ap slots_of is.pages ∙ slots-stamped (page
 
 -- pages and summaries are in step, and agree
 pub still_has : (old new : Space ListFrames) (n at : ℕ) → 1 ≤ n → Stamps n at old new
-    → index_of new ≡ index_of old
+    → summaries_of new ≡ summaries_of old
     → (seen_in new).reserved ≡ (seen_in old).reserved → HasPages old → HasPages new
 still_has old new n at low is same reserved has =
     let count =

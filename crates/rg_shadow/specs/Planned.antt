@@ -15,14 +15,14 @@ use Rattle.rg_page.specs.Content.{Content, content_at, slots_of}
 use Rattle.rg_page.specs.Listed.{stamped}
 use Rattle.rg_page.specs.Seen.{Seen}
 use Rattle.rg_page.specs.declared.list.ListFrames.{ListFrames}
-use Rattle.rg_reload.specs.Pages.{frames_seen}
+use Rattle.rg_space.specs.Memory.{list_seen}
 use Rattle.rg_shadow.specs.declared.fault.ShadowFault.{ShadowFault}
 use Rattle.rg_shadow.specs.declared.fault.ShadowFault.TheVariants.{NoSpace, NoMemory}
-use Rattle.rg_space.specs.Space.{Agree, InStep, capacity_in, frames_of, index_of}
+use Rattle.rg_space.specs.Space.{Agree, InStep, capacity_in, frames_of, summaries_of}
 use Rattle.rg_space.specs.declared.space.Space.{Space}
 
 abbrev pub seen_in : Space ListFrames → Seen
-seen_in space = frames_seen (frames_of space)
+seen_in space = list_seen (frames_of space)
 
 abbrev pub pages_in : Space ListFrames → List Content
 pages_in space = (frames_of space).pages.items
@@ -47,8 +47,8 @@ slots_in space = slots_of (pages_in space)
 
 -- summaries and pages are in step, and agree
 pub record HasPages (space : Space ListFrames) : Type 0 where
-  pub step : InStep (seen_in space) (index_of space) (capacity_in space)
-  pub agree : Agree (seen_in space) (index_of space)
+  pub step : InStep (seen_in space) (summaries_of space) (capacity_in space)
+  pub agree : Agree (seen_in space) (summaries_of space)
 
 -- the pages are the same
 pub record SameSpace (old new : Space ListFrames) : Type 0 where

@@ -24,7 +24,8 @@ use Rattle.rg_home.specs.Slot.{Slot}
 use Rattle.rg_home.specs.declared.plan.Plan.{Plan}
 use Rattle.rg_map.specs.Mapping.{Targets}
 use Rattle.rg_home.specs.Table.{IsTable}
-use Rattle.rg_model.specs.Layout.{is_right_side, same_place}
+use Rattle.rg_base.specs.Place.{same_place}
+use Rattle.rg_model.specs.Layout.{is_right_side}
 use Rattle.rg_model.specs.State.{Table, row_of}
 use Rattle.rg_page.specs.Content.{Content, slots_of}
 use Rattle.rg_reload.specs.Moved.{row_through}

@@ -30,6 +30,7 @@ use crate::plans::{carry_out, plan_change, plan_drop, plan_put};
 use crate::sort::{read_pages, sorted_list};
 use crate::spell::spell;
 use rg_base::no_memory::NoMemory;
+use rg_base::note::note;
 use rg_base::place::Place;
 use rg_base::position::Position;
 use rg_base::row::Row;
@@ -163,7 +164,7 @@ impl Pieces {
             (put_plan row.now (capacity_in self.new.space) (slots_in self.new.space))
             (capacity_in self.new.space) (slots_in self.new.space)) }
     {
-        let _size = row.size();
+        note(&row.size());
         let plan = plan_put(&mut self.space, row)?;
         self.reserve()?;
         Ok(plan)
@@ -184,7 +185,7 @@ impl Pieces {
             (change_plan row.now (capacity_in self.new.space) (slots_in self.new.space) home)
             (capacity_in self.new.space) (slots_in self.new.space)) }
     {
-        let _size = row.size();
+        note(&row.size());
         let plan = plan_change(&mut self.space, home, row)?;
         self.reserve()?;
         Ok(plan)

@@ -13,7 +13,7 @@ use Rattle.rg_page.specs.Changed.{changed}
 use Rattle.rg_page.specs.Content.{Content, content_at, slots_of}
 use Rattle.rg_page.specs.Seen.{set_content}
 use Rattle.rg_page.proofs.BareSlots.{bare_wrote, bare_page_at, bare_placed, bare_used}
-use Rattle.rg_space.specs.Indexed.{HasRoom}
+use Rattle.rg_space.specs.Summarized.{HasRoom}
 use Rattle.rg_space.proofs.Took.{page_slots}
 
 -- setting a slot of a page is a write to the slots of all
@@ -35,14 +35,14 @@ slots_set pages x owner after position low high =
     length-slots [] = refl
     length-slots (p ∷ pages) = omega (arith, length-slots pages)
 
-module _ (pages : List Content) (index : List (List Slot))
-    (agree : map (map bare) (slots_of pages) ≡ index) where
-  pub agree_page : (n : ℕ) → page_at index n ≡ map bare (content_at pages n).slots
+module _ (pages : List Content) (summaries : List (List Slot))
+    (agree : map (map bare) (slots_of pages) ≡ summaries) where
+  pub agree_page : (n : ℕ) → page_at summaries n ≡ map bare (content_at pages n).slots
   agree_page n =
       ap (λ (ix : List (List Slot)). page_at ix n) (sym agree) ∙ bare_page_at (slots_of pages) n
       ∙ ap (map bare) (page_slots pages n)
 
-  pub agree_count : length index ≡ length pages
+  pub agree_count : length summaries ≡ length pages
   agree_count = ap (λ (ix : List (List Slot)). length ix) (sym agree) ∙ go pages
     where
       go : (pages : List Content) → length (map (map bare) (slots_of pages)) ≡ length pages
@@ -54,7 +54,7 @@ module _ (pages : List Content) (index : List (List Slot))
       → x.page ≤ length pages
       → ((row : TableRow) → header ≡ bare (made owner row x.op))
       → PartFits x.page (content_at pages x.page).slots owner after x
-      → HasRoom index (place_of x) header
+      → HasRoom summaries (place_of x) header
   has_room x owner after header low high is fits =
       let slots : List Slot = (content_at pages x.page).slots in
       let s : Slot = made owner (row_or_empty after) x.op in
@@ -71,11 +71,11 @@ module _ (pages : List Content) (index : List (List Slot))
       → 1 ≤ x.page → x.page ≤ length pages
       → ((row : TableRow) → header ≡ bare (made owner row x.op))
       → map (map bare) (slots_of (set_content pages x owner after position))
-      ≡ wrote index (place_of x) header
+      ≡ wrote summaries (place_of x) header
   agree_set x owner after position header low high is =
       ap (map (map bare)) (slots_set pages x owner after position low high)
       ∙ bare_wrote (slots_of pages) (place_of x) (made owner (row_or_empty after) x.op)
       ∙ ap
       (λ (ix : List (List Slot)). wrote ix (place_of x)
       (bare (made owner (row_or_empty after) x.op))) agree
-      ∙ ap (wrote index (place_of x)) (sym (is (row_or_empty after)))
+      ∙ ap (wrote summaries (place_of x)) (sym (is (row_or_empty after)))

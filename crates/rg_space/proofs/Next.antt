@@ -12,9 +12,9 @@ use Rattle.rg_base.specs.declared.part.SlotOp.{SlotOp}
 use Rattle.rg_base.specs.declared.part.SlotOp.TheVariants as Op
 use Rattle.rg_base.specs.declared.place.Place.{Place}
 use Rattle.rg_base.specs.declared.row.Row.{Row as TableRow}
-use Rattle.rg_home.specs.Able.{IsHomeOf, IsAreaOf, AreaHolds, RowFits, Undoable}
+use Rattle.rg_home.specs.Able.{IsAreaOf, AreaHolds, RowFits, Undoable}
 use Rattle.rg_home.specs.Pages.{page_at, slot_of, part_at}
-use Rattle.rg_home.specs.Plan.{admits, first_page, area_when, area_on, new_area, is_ended, is_home}
+use Rattle.rg_home.specs.Plan.{admits, first_page, area_on, new_area, is_ended, is_home}
 use Rattle.rg_home.specs.Plan.{purge_from, purge_of, left_of, takes, fitting, planned_put, to_new}
 use Rattle.rg_home.specs.Plan.{from_over, away, changed, planned_change, planned_drop}
 use Rattle.rg_home.specs.Rows.{Tied}
@@ -28,6 +28,7 @@ use Rattle.rg_home.specs.declared.plan.Fitting.{Fitting}
 use Rattle.rg_home.specs.declared.plan.Plan.{Plan}
 use Rattle.rg_home.proofs.Moves.{pointed}
 use Rattle.rg_home.proofs.Range.{page_within}
+use Rattle.rg_home.proofs.NotFree.{home_full, home_of_full, area_page}
 use Rattle.rg_space.specs.Applied.{AllNext}
 use Rattle.rg_space.specs.Carries.{AllFree, AllThere, PlanNext}
 
@@ -59,11 +60,6 @@ there_next_all n (x ∷ parts) h = (omega (arith, h.1), there_next_all n parts h
 abbrev pub AreaNext : (n : ℕ) → Area → Type 0
 AreaNext n area = (1 ≤ area.place.page) × (area.place.page ≤ n + 1)
 
-when_page : (live : List ℕ) (n : ℕ) (slots : List Slot) (t : Bool)
-    → (area_when live n slots t).place.page ≡ n
-when_page live n slots true = refl
-when_page live n slots false = refl
-
 pub new_next : (live : List ℕ) (b capacity : ℕ) (pages : List (List Slot))
     → IfSome (new_area live b capacity pages) (AreaNext (length pages))
 new_next live b capacity pages = go (nat_lt (first_page live b pages) capacity)
@@ -76,7 +72,7 @@ new_next live b capacity pages = go (nat_lt (first_page live b pages) capacity)
     go true =
         let is : (area_on live b (first_page live b pages + 1)
         (page_at pages (first_page live b pages + 1))).place.page ≡ first_page live b pages + 1 =
-        when_page live (first_page live b pages + 1) (page_at pages (first_page live b pages + 1))
+        area_page live (first_page live b pages + 1) (page_at pages (first_page live b pages + 1))
         (takes b (page_at pages (first_page live b pages + 1))) in (
           omega (arith, is),
           omega (arith, is, prefix_len-le-length (λ (x : List Slot). not (admits live b x)) pages),
@@ -121,7 +117,7 @@ purge_there live pages (suc k) true = elim (cases_lt k (length pages)) [
       (sym (past pages k above)) tt
 ]
 
-purge_from_frees : (live : List ℕ) (n i : ℕ) (slots : List Slot)
+pub purge_from_frees : (live : List ℕ) (n i : ℕ) (slots : List Slot)
     → AllFree (purge_from live n i slots)
 purge_from_frees live n i [] = tt
 purge_from_frees live n i (s ∷ slots) = go (is_ended live s) (purge_from_frees live n (i + 1) slots)
@@ -164,15 +160,6 @@ put_next live b capacity pages =
 is_there : (pages : List (List Slot)) (p : Place) (s : Slot) → slot_of pages p ≡ s
     → is_free s ≡ false → (1 ≤ p.page) × (p.page ≤ length pages)
 is_there pages p s e full = page_within pages p.page p.slot (ap is_free e ∙ full)
-
-home_full : (s : Slot) → is_home s ≡ true → is_free s ≡ false
-home_full (Row c x) is = refl
-home_full (Pointer c o) is = refl
-home_full Free is = absurd (cc (is))
-home_full (Over a b d) is = absurd (cc (is))
-home_full (DeadRow a b) is = absurd (cc (is))
-home_full (DeadPointer a b d) is = absurd (cc (is))
-home_full (DeadOver a b d) is = absurd (cc (is))
 
 module _ (pages : List (List Slot)) (tied : Tied (slot_of pages)) (home : Place) where
   -- the Over area that a home names
@@ -328,15 +315,6 @@ module _ (pages : List (List Slot)) (tied : Tied (slot_of pages)) (home : Place)
       (subst (λ (n : ℕ). (row_size row ≤ n) ⊎ AreaHolds by (slot_of pages) home (row_size row) over)
       (ap capacity_of e) fits)
       (nat_le (row_size row) (capacity_of s)) refl
-
-home_of_full : (by : Option ℕ) (s : Slot) → IsHomeOf by s → is_free s ≡ false
-home_of_full by (Row c x) is = refl
-home_of_full by (Pointer c o) is = refl
-home_of_full by (DeadRow c u) is = refl
-home_of_full by (DeadPointer c o u) is = refl
-home_of_full by Free is = absurd is
-home_of_full by (Over a b d) is = absurd is
-home_of_full by (DeadOver a b d) is = absurd is
 
 module _ (by : Option ℕ) (c : Written) (pages : List (List Slot)) (tied : Tied (slot_of pages))
     (can : Undoable by (slot_of pages) c) where

@@ -28,7 +28,7 @@ use Rattle.rg_space.specs.Planned.{plan_of, plan_of_change, plan_of_put, size_in
 use Rattle.rg_page.specs.Content.{slots_of}
 use Rattle.rg_page.specs.Seen.{Seen}
 use Rattle.rg_space.specs.AtHome.{IsAtHome}
-use Rattle.rg_space.specs.Indexed.{Indexed}
+use Rattle.rg_space.specs.Summarized.{Summarized}
 use Rattle.rg_space.specs.Space.{Agree}
 use Rattle.rg_space.specs.declared.moves.Moves.{Moves}
 use Rattle.rg_space.specs.declared.read.AtHome.{AtHome}
@@ -286,41 +286,44 @@ undo_here pages home (Some row) over =
 
 -- the same, where the summaries agree with the pages
 
-pub put_agrees :
-    (live : List ℕ) (b capacity : ℕ) (s : Seen) (index : Indexed) (put : Option (Place × Moves))
-    → IsPut put live b index.pages (new_area live b capacity index.pages) → Agree s index
+pub put_agrees : (live : List ℕ) (b capacity : ℕ) (s : Seen) (summaries : Summarized)
+    (put : Option (Place × Moves))
+    → IsPut put live b summaries.pages (new_area live b capacity summaries.pages)
+    → Agree s summaries
     → plan_of_put put
     ≡ planned_put live b (slots_of s.pages) (new_area live b capacity (slots_of s.pages))
-put_agrees live b capacity s index put is agree =
+put_agrees live b capacity s summaries put is agree =
     put_here live b capacity (slots_of s.pages) put
     (subst (λ ps. IsPut put live b ps (new_area live b capacity ps)) (sym agree) is)
 
-pub change_agrees : (live : List ℕ) (b capacity : ℕ) (s : Seen) (index : Indexed) (home : Place)
+pub change_agrees : (live : List ℕ) (b capacity : ℕ) (s : Seen) (summaries : Summarized)
+    (home : Place)
     (at : AtHome) (m : Option Moves) → IsAtHome s home at
-    → m ≡ change_moves live b capacity index.pages home at.other → Agree s index
+    → m ≡ change_moves live b capacity summaries.pages home at.other → Agree s summaries
     → plan_of_change home at.row m ≡ planned_change live b capacity (slots_of s.pages) home
-change_agrees live b capacity s index home at m is e agree =
+change_agrees live b capacity s summaries home at m is e agree =
     both (plan_of_change home) is.row
     (e ∙ both (λ ps o. change_moves live b capacity ps home o) (sym agree) is.other)
     ∙ change_here live b capacity (slots_of s.pages) home
 
 pub drop_agrees :
-    (s : Seen) (index : Indexed) (home : Place) (at : AtHome) (purge parts : List Part)
-    → IsAtHome s home at → purge ≡ [] → parts ≡ drop_moves index.pages home at.other → Agree s index
+    (s : Seen) (summaries : Summarized) (home : Place) (at : AtHome) (purge parts : List Part)
+    → IsAtHome s home at → purge ≡ [] → parts ≡ drop_moves summaries.pages home at.other
+    → Agree s summaries
     → plan_at home at.row purge parts
     ≡ planned_drop (slots_of s.pages) home (slot_of (slots_of s.pages) home)
-drop_agrees s index home at purge parts is none e agree =
+drop_agrees s summaries home at purge parts is none e agree =
     ap (λ ps. plan_at home at.row ps parts) none
     ∙ both (λ row ps. plan_at home row [] ps) is.row
     (e ∙ both (λ ps o. drop_moves ps home o) (sym agree) is.other)
     ∙ drop_here (slots_of s.pages) home
 
-pub undo_agrees : (s : Seen) (index : Indexed) (home : Place) (before : Option TableRow)
+pub undo_agrees : (s : Seen) (summaries : Summarized) (home : Place) (before : Option TableRow)
     (size : Option ℕ) (over other : Option Place) (parts : List Part)
-    → parts ≡ undo_moves index.pages home size over other → size ≡ size_in before
-    → other ≡ pointed_to (slot_of (slots_of s.pages) home) → Agree s index
+    → parts ≡ undo_moves summaries.pages home size over other → size ≡ size_in before
+    → other ≡ pointed_to (slot_of (slots_of s.pages) home) → Agree s summaries
     → parts ≡ undo_parts (slots_of s.pages) home over before (slot_of (slots_of s.pages) home)
-undo_agrees s index home before size over other parts is sized e agree =
+undo_agrees s summaries home before size over other parts is sized e agree =
     is ∙ ap (λ ps. undo_moves ps home size over other) (sym agree)
     ∙ both (λ n o. undo_moves (heads (slots_of s.pages)) home n over o) sized e
     ∙ undo_here (slots_of s.pages) home before over

@@ -1,4 +1,4 @@
--- A page of the index set, as the code does it.
+-- A page of the summaries is set, as the code does it.
 use Rattle.std.proofs.Common.{◌≡◌, ◌≤◌, ◌-◌, List, get_or, set, sym, ◌∙◌, ap, length, arith}
 use Rattle.rg_home.specs.Slot.{Slot}
 use Rattle.rg_base.specs.declared.place.Place.{Place}

@@ -17,11 +17,12 @@ page_here : (pages : List Content) (n : ℕ)
     → get_or (map (map bare) (slots_of pages)) n [] ≡ map bare (content_at pages (suc n)).slots
 page_here pages n = bare_page_at (slots_of pages) (suc n) ∙ ap (map bare) (page_slots pages (suc n))
 
-one_suc : (a b : List Content) (n : ℕ) (index : List (List Slot)) (summary : List Slot)
+one_suc : (a b : List Content) (n : ℕ) (summaries : List (List Slot)) (summary : List Slot)
     → n < length a → b ≡ a
-    → index ≡ take n (map (map bare) (slots_of a)) → summary ≡ map bare (content_at b (suc n)).slots
-    → index ++ summary ∷ [] ≡ take (suc n) (map (map bare) (slots_of b))
-one_suc a b n index summary low same so_far is =
+    → summaries ≡ take n (map (map bare) (slots_of a))
+    → summary ≡ map bare (content_at b (suc n)).slots
+    → summaries ++ summary ∷ [] ≡ take (suc n) (map (map bare) (slots_of b))
+one_suc a b n summaries summary low same so_far is =
     ap (λ r. r ++ summary ∷ [])
     (so_far ∙ ap (λ (ps : List Content). take n (map (map bare) (slots_of ps))) (sym same))
     ∙ ap (λ (s : List Slot). take n (map (map bare) (slots_of b)) ++ s ∷ [])
@@ -30,13 +31,14 @@ one_suc a b n index summary low same so_far is =
     (take-suc (map (map bare) (slots_of b)) n []
     (omega (arith, low, count_heads (slots_of b), slots_count b, ap length same)))
 
-pub one_more : (a b : List Content) (n : ℕ) (index : List (List Slot)) (summary : List Slot)
+pub one_more : (a b : List Content) (n : ℕ) (summaries : List (List Slot)) (summary : List Slot)
     → n < length a → b ≡ a
-    → index ≡ take n (map (map bare) (slots_of a)) → summary ≡ map bare (content_at b (n + 1)).slots
-    → index ++ summary ∷ [] ≡ take (n + 1) (map (map bare) (slots_of b))
-one_more a b n index summary low same so_far is =
-    subst (λ m. index ++ summary ∷ [] ≡ take m (map (map bare) (slots_of b))) (sym e)
-    (one_suc a b n index summary low same so_far
+    → summaries ≡ take n (map (map bare) (slots_of a))
+    → summary ≡ map bare (content_at b (n + 1)).slots
+    → summaries ++ summary ∷ [] ≡ take (n + 1) (map (map bare) (slots_of b))
+one_more a b n summaries summary low same so_far is =
+    subst (λ m. summaries ++ summary ∷ [] ≡ take m (map (map bare) (slots_of b))) (sym e)
+    (one_suc a b n summaries summary low same so_far
     (subst (λ m. summary ≡ map bare (content_at b m).slots) e is))
   where
     e : n + 1 ≡ suc n

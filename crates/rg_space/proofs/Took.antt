@@ -2,6 +2,7 @@
 use Rattle.std.proofs.Common.{◌≡◌, ◌≤◌, ◌<◌, ℕ, zero, suc, ◌+◌, inl, inr, List, [], ◌∷◌, Option}
 use Rattle.std.proofs.Common.{Some, None, map, length, get_or, refl, sym, ap, subst, ◌∙◌, arith}
 use Rattle.std.proofs.lemmas.Bool.{cases_lt}
+use Rattle.std.proofs.lemmas.Option.{same_Some}
 use Rattle.rg_base.specs.declared.place.Place.{Place}
 use Rattle.rg_home.specs.Pages.{page_at}
 use Rattle.rg_home.specs.Plan.{pointed_to}
@@ -95,7 +96,7 @@ slot_same a b p e =
     (page_slots b.pages p.page ∙ ap (λ (x : Content). x.slots) e ∙ sym (page_slots a.pages p.page))
 
 -- a place of no page
-past_page : (pages : List Content) (n : ℕ) → length pages < n → page_at (slots_of pages) n ≡ []
+pub past_page : (pages : List Content) (n : ℕ) → length pages < n → page_at (slots_of pages) n ≡ []
 past_page pages n above =
     page_slots pages n ∙ ap (λ (x : Content). x.slots) (none (empty 0 0 ∷ pages) n (omega arith))
   where
@@ -134,14 +135,7 @@ row_there at home o s e is = ap (home_row at) e ∙ go s is
     go : (s : Slot) → pointed_to s ≡ Some o → home_row at s ≡ over_row (at o)
     go Free n = absurd (cc (n))
     go (Row c row) n = absurd (cc (n))
-    go (Pointer c p) n = ap (λ q. over_row (at q)) (some_same p o n)
-      where
-        some_same : (p q : Place) → Some p ≡ Some q → p ≡ q
-        some_same p q e = ap (λ (x : Option Place). from x) e
-          where
-            from : Option Place → Place
-            from None = p
-            from (Some x) = x
+    go (Pointer c p) n = ap (λ q. over_row (at q)) (same_Some p o n)
     go (Over c row h) n = absurd (cc (n))
     go (DeadRow c u) n = absurd (cc (n))
     go (DeadPointer c p u) n = absurd (cc (n))

@@ -1,4 +1,4 @@
-pub mod Indexed
+pub mod Summarized
 pub mod Tops
 pub mod Moves
 pub mod Glimpse

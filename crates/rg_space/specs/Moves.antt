@@ -6,7 +6,7 @@ use Rattle.rg_base.specs.declared.part.SlotOp.TheVariants as Op
 use Rattle.rg_base.specs.declared.place.Place.{Place}
 use Rattle.rg_home.specs.Pages.{page_at, slot_of, part_at}
 use Rattle.rg_home.specs.Plan.{new_area, fitting, purge_of}
-use Rattle.rg_home.specs.Rows.{same_place}
+use Rattle.rg_base.specs.Place.{same_place}
 use Rattle.rg_home.specs.Slot.{Slot}
 use Rattle.rg_home.specs.Slots.{capacity_of}
 use Rattle.rg_home.specs.declared.plan.Area.{Area}

@@ -7,14 +7,14 @@ use Rattle.std.specs.Prelude.{◌≡◌, ◌≤◌, ℕ, map, length}
 use Rattle.rg_page.specs.Bare.{bare}
 use Rattle.rg_page.specs.Content.{slots_of}
 use Rattle.rg_page.specs.Seen.{Seen}
-use Rattle.rg_space.specs.Indexed.{Indexed}
+use Rattle.rg_space.specs.Summarized.{Summarized}
 use Rattle.rg_space.specs.declared.space.Space.{Space}
 
 abbrev pub frames_of : {F : Type 0} → Space F → F
 frames_of space = space.frames
 
-abbrev pub index_of : {F : Type 0} → Space F → Indexed
-index_of space = space.index
+abbrev pub summaries_of : {F : Type 0} → Space F → Summarized
+summaries_of space = space.summaries
 
 abbrev pub capacity_in : {F : Type 0} → Space F → ℕ
 capacity_in space = space.capacity
@@ -28,12 +28,12 @@ abbrev pub undos_in : {F : Type 0} → Space F → ℕ
 undos_in space = length space.undos.items
 
 -- the summaries are those of the pages
-abbrev pub Agree : Seen → Indexed → Type 0
-Agree seen index = map (map bare) (slots_of seen.pages) ≡ index.pages
+abbrev pub Agree : Seen → Summarized → Type 0
+Agree seen summaries = map (map bare) (slots_of seen.pages) ≡ summaries.pages
 
 -- the numbers of pages are in step, whatever the pages hold
-pub record InStep (seen : Seen) (index : Indexed) (capacity : ℕ) : Type 0 where
-  pub count : length index.pages ≡ length seen.pages
-  pub room : index.room ≡ seen.reserved
+pub record InStep (seen : Seen) (summaries : Summarized) (capacity : ℕ) : Type 0 where
+  pub count : length summaries.pages ≡ length seen.pages
+  pub room : summaries.room ≡ seen.reserved
   pub few : length seen.pages ≤ capacity
   pub limit : capacity ≤ seen.limit

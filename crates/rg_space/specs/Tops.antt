@@ -14,9 +14,9 @@ Bounds pages tops = (k : ℕ) → k < length pages
 abbrev pub Raised : List ℕ → List ℕ → Type 0
 Raised before after = (k : ℕ) → slice_index_or before k 0 ≤ slice_index_or after k 0
 
--- what an index keeps: as many tops as there are blocks, and room for the spare summaries, which
+-- what summaries keep: as many tops as there are blocks, and room for the spare ones, which
 -- are empty
-pub record IsIndex (pages : Vec (List Slot) Global) (tops : Vec ℕ Global)
+pub record AreSummaries (pages : Vec (List Slot) Global) (tops : Vec ℕ Global)
     (spare : Vec (List Slot) Global) : Type 0 where
   pub few : length pages.items + length spare.items < 2 ^ 32
   pub blocks : length pages.items ≤ 256 * length tops.items

@@ -2,7 +2,7 @@
 #![tactic(auto)]
 
 /// The summaries of all pages.
-pub mod index;
+pub mod summaries;
 /// Plans, as the summaries tell them.
 pub mod moves;
 

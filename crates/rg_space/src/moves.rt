@@ -16,7 +16,7 @@ ghost use Rattle.rg_page.specs.Bare.{numbers_of};
 ghost use Rattle.rg_space.specs.Moves.{IsPut, home_moves, over_moves, new_moves, change_moves};
 ghost use Rattle.rg_space.specs.Moves.{drop_moves, undo_moves, left_by, back_moves, points_to};
 
-use crate::index::Index;
+use crate::summaries::Summaries;
 use rg_base::no_memory::NoMemory;
 use rg_base::part::{Part, Parts, SlotOp};
 use rg_base::place::Place;
@@ -80,7 +80,7 @@ impl PartsRoom {
     }
 }
 
-impl Index {
+impl Summaries {
     /// Where a new area of `b` bytes comes to lie, or none where a page above `capacity` is needed.
     pub fn area(&self, live: &[Tran], b: u16, capacity: u32) -> Option<Area>
         requires some { 1 ≤ b }

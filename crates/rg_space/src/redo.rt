@@ -17,7 +17,8 @@ ghost use Rattle.rg_record.specs.Applied.{parts_of, after_of};
 ghost use Rattle.rg_space.specs.Carries.{AllThere};
 ghost use Rattle.rg_space.specs.Redo.{with_part, with_parts, AllFit, redone, redone_on, RedoFits};
 ghost use Rattle.rg_space.specs.Redo.{HasRedoCause};
-ghost use Rattle.rg_space.specs.Space.{Agree, InStep, frames_of, index_of, capacity_in, undos_in};
+ghost use Rattle.rg_space.specs.Space.{Agree, InStep, frames_of, summaries_of, capacity_in};
+ghost use Rattle.rg_space.specs.Space.{undos_in};
 
 use crate::fault::RedoFault;
 use crate::space::Space;
@@ -46,9 +47,9 @@ impl<F: Frames> Space<F> {
         requires low { 1 ≤ number }
         requires high { number ≤ length (F.seen (frames_of self.old)).pages }
         requires held { (F.seen (frames_of self.old)).held number ≡ true }
-        requires step { InStep (F.seen (frames_of self.old)) (index_of self.old)
+        requires step { InStep (F.seen (frames_of self.old)) (summaries_of self.old)
             (capacity_in self.old) }
-        ensures step { InStep (F.seen (frames_of self.new)) (index_of self.new)
+        ensures step { InStep (F.seen (frames_of self.new)) (summaries_of self.new)
             (capacity_in self.new) }
         ensures capacity { capacity_in self.new ≡ capacity_in self.old }
         ensures undos { undos_in self.new ≡ undos_in self.old }
@@ -73,8 +74,8 @@ impl<F: Frames> Space<F> {
             ≡ length (F.seen (frames_of self.old)).pages }
         ensures idle { entry.now.position.0 ≤ (F.seen (frames_of self.old)).forced
             → (F.seen (frames_of self.old)).idle ≤ (F.seen (frames_of self.new)).idle }
-        ensures agree { Agree (F.seen (frames_of self.old)) (index_of self.old)
-            → Agree (F.seen (frames_of self.new)) (index_of self.new) }
+        ensures agree { Agree (F.seen (frames_of self.old)) (summaries_of self.old)
+            → Agree (F.seen (frames_of self.new)) (summaries_of self.new) }
         ensures gave { (pages : List Content) (n : ℕ) → F.gave pages n (frames_of self.old)
             (frames_of self.new) }
     {
@@ -89,9 +90,9 @@ impl<F: Frames> Space<F> {
         requires low { 1 ≤ number }
         requires high { number ≤ length (F.seen (frames_of self.old)).pages }
         requires held { (F.seen (frames_of self.old)).held number ≡ true }
-        requires step { InStep (F.seen (frames_of self.old)) (index_of self.old)
+        requires step { InStep (F.seen (frames_of self.old)) (summaries_of self.old)
             (capacity_in self.old) }
-        ensures step { InStep (F.seen (frames_of self.new)) (index_of self.new)
+        ensures step { InStep (F.seen (frames_of self.new)) (summaries_of self.new)
             (capacity_in self.new) }
         ensures capacity { capacity_in self.new ≡ capacity_in self.old }
         ensures undos { undos_in self.new ≡ undos_in self.old }
@@ -115,8 +116,8 @@ impl<F: Frames> Space<F> {
             ≡ length (F.seen (frames_of self.old)).pages }
         ensures idle { entry.now.position.0 ≤ (F.seen (frames_of self.old)).forced
             → (F.seen (frames_of self.old)).idle ≤ (F.seen (frames_of self.new)).idle }
-        ensures agree { Agree (F.seen (frames_of self.old)) (index_of self.old)
-            → Agree (F.seen (frames_of self.new)) (index_of self.new) }
+        ensures agree { Agree (F.seen (frames_of self.old)) (summaries_of self.old)
+            → Agree (F.seen (frames_of self.new)) (summaries_of self.new) }
         ensures gave { (pages : List Content) (n : ℕ) → F.gave pages n (frames_of self.old)
             (frames_of self.new) }
     {
@@ -134,7 +135,7 @@ impl<F: Frames> Space<F> {
         requires low { 1 ≤ number }
         requires high { number ≤ length (F.seen (frames_of self.old)).pages }
         requires spare { 1 ≤ (F.seen (frames_of self.old)).spare }
-        requires step { InStep (F.seen (frames_of self.old)) (index_of self.old)
+        requires step { InStep (F.seen (frames_of self.old)) (summaries_of self.old)
             (capacity_in self.old) }
         ensures position { IfOk result (λ position. position.0
             ≡ (content_at (F.seen (frames_of self.new)).pages number).position) }
@@ -142,11 +143,11 @@ impl<F: Frames> Space<F> {
         ensures reads { Reads (F.seen (frames_of self.old)) (F.seen (frames_of self.new)) }
         ensures cause { OnErr result (Rose (F.seen (frames_of self.old)).faults
             (F.seen (frames_of self.new)).faults) }
-        ensures step { InStep (F.seen (frames_of self.new)) (index_of self.new)
+        ensures step { InStep (F.seen (frames_of self.new)) (summaries_of self.new)
             (capacity_in self.new) }
         ensures capacity { capacity_in self.new ≡ capacity_in self.old }
         ensures undos { undos_in self.new ≡ undos_in self.old }
-        ensures summaries { index_of self.new ≡ index_of self.old }
+        ensures summaries { summaries_of self.new ≡ summaries_of self.old }
         ensures reserved { (F.seen (frames_of self.new)).reserved
             ≡ (F.seen (frames_of self.old)).reserved }
         ensures idle { (F.seen (frames_of self.old)).idle ≤ (F.seen (frames_of self.new)).idle }
@@ -164,7 +165,7 @@ impl<F: Frames> Space<F> {
         requires low { 1 ≤ number }
         requires high { number ≤ length (F.seen (frames_of self.old)).pages }
         requires idle { 1 ≤ (F.seen (frames_of self.old)).idle }
-        requires step { InStep (F.seen (frames_of self.old)) (index_of self.old)
+        requires step { InStep (F.seen (frames_of self.old)) (summaries_of self.old)
             (capacity_in self.old) }
         ensures pages { OnOk result ((F.seen (frames_of self.new)).sure ≡ true
             → (F.seen (frames_of self.new)).pages
@@ -174,7 +175,7 @@ impl<F: Frames> Space<F> {
         ensures cause { IfErr result (λ fault. HasRedoCause fault
             (RedoFits entry.now (content_at (F.seen (frames_of self.old)).pages number))
             (F.seen (frames_of self.old)) (F.seen (frames_of self.new))) }
-        ensures step { InStep (F.seen (frames_of self.new)) (index_of self.new)
+        ensures step { InStep (F.seen (frames_of self.new)) (summaries_of self.new)
             (capacity_in self.new) }
         ensures capacity { capacity_in self.new ≡ capacity_in self.old }
         ensures undos { undos_in self.new ≡ undos_in self.old }
@@ -188,8 +189,8 @@ impl<F: Frames> Space<F> {
         ensures idle { entry.now.position.0 ≤ (F.seen (frames_of self.old)).forced
             → (F.seen (frames_of self.old)).idle ≤ (F.seen (frames_of self.new)).idle }
         ensures agree { (F.seen (frames_of self.new)).sure ≡ true
-            → Agree (F.seen (frames_of self.old)) (index_of self.old)
-            → Agree (F.seen (frames_of self.new)) (index_of self.new) }
+            → Agree (F.seen (frames_of self.old)) (summaries_of self.old)
+            → Agree (F.seen (frames_of self.new)) (summaries_of self.new) }
         ensures gave { F.gave (F.seen (frames_of self.old)).pages
             (F.seen (frames_of self.old)).forced (frames_of self.old) (frames_of self.new) }
     {
@@ -213,7 +214,7 @@ impl<F: Frames> Space<F> {
             (parts_of entry.now.kind) }
         requires idle { 1 ≤ (F.seen (frames_of self.old)).idle }
         requires forced { entry.now.position.0 ≤ (F.seen (frames_of self.old)).forced }
-        requires step { InStep (F.seen (frames_of self.old)) (index_of self.old)
+        requires step { InStep (F.seen (frames_of self.old)) (summaries_of self.old)
             (capacity_in self.old) }
         ensures pages { OnOk result ((F.seen (frames_of self.new)).sure ≡ true
             → (F.seen (frames_of self.new)).pages
@@ -223,7 +224,7 @@ impl<F: Frames> Space<F> {
         ensures cause { IfErr result (λ fault. HasRedoCause fault
             (All (RedoFits entry.now) (F.seen (frames_of self.old)).pages)
             (F.seen (frames_of self.old)) (F.seen (frames_of self.new))) }
-        ensures step { InStep (F.seen (frames_of self.new)) (index_of self.new)
+        ensures step { InStep (F.seen (frames_of self.new)) (summaries_of self.new)
             (capacity_in self.new) }
         ensures capacity { capacity_in self.new ≡ capacity_in self.old }
         ensures undos { undos_in self.new ≡ undos_in self.old }
@@ -236,8 +237,8 @@ impl<F: Frames> Space<F> {
             ≡ length (F.seen (frames_of self.old)).pages }
         ensures idle { (F.seen (frames_of self.old)).idle ≤ (F.seen (frames_of self.new)).idle }
         ensures agree { (F.seen (frames_of self.new)).sure ≡ true
-            → Agree (F.seen (frames_of self.old)) (index_of self.old)
-            → Agree (F.seen (frames_of self.new)) (index_of self.new) }
+            → Agree (F.seen (frames_of self.old)) (summaries_of self.old)
+            → Agree (F.seen (frames_of self.new)) (summaries_of self.new) }
     {
         for part in entry.parts() {
             match self.redo_page(part.page, entry) {

@@ -29,14 +29,15 @@ ghost use Rattle.rg_space.specs.Applied.{grown, wrote_part, wrote_all};
 ghost use Rattle.rg_space.specs.Took.{Took, HasRisen, IsRisen, IsHeldAt, slot_in};
 ghost use Rattle.rg_space.specs.Ready.{IsReady, AllReady, IsAtHand, HasCause, CanApplyRecord};
 ghost use Rattle.rg_space.specs.Ready.{record_applied, record_wrote};
-ghost use Rattle.rg_space.specs.Space.{Agree, InStep, frames_of, index_of, capacity_in, undos_in};
+ghost use Rattle.rg_space.specs.Space.{Agree, InStep, capacity_in, frames_of, summaries_of};
+ghost use Rattle.rg_space.specs.Space.{undos_in};
 ghost use Rattle.rg_space.specs.Space.{with_frames};
 
 use crate::fault::SpaceFault;
 use crate::homes::{homes_of, values_of};
-use crate::index::Index;
 use crate::moves::{PartsRoom, over_before, size_of};
 use crate::read::{hold_at, home_of, is_there, pointer_of};
+use crate::summaries::Summaries;
 use crate::survey::survey;
 use rg_base::homes::Homes;
 use rg_base::no_memory::NoMemory;
@@ -58,7 +59,7 @@ use std::alloc::Global;
 pub struct Space<F> {
     alloc: Global,
     frames: F,
-    index: Index,
+    summaries: Summaries,
     capacity: u32,
     undos: Vec<PartsRoom>,
 }
@@ -71,12 +72,12 @@ impl<F: Frames> Space<F> {
         requires limit { capacity ≤ (F.seen frames).limit }
         requires idle { 1 ≤ (F.seen frames).idle }
         requires none { (F.seen frames).reserved ≡ 0 }
-        ensures step { IfOk result (λ space. InStep (F.seen (frames_of space)) (index_of space)
+        ensures step { IfOk result (λ space. InStep (F.seen (frames_of space)) (summaries_of space)
             (capacity_in space)) }
         ensures capacity { IfOk result (λ space. capacity_in space ≡ capacity) }
         ensures undos { IfOk result (λ space. undos_in space ≡ 0) }
         ensures agree { IfOk result (λ space. (F.seen (frames_of space)).sure ≡ true
-            → Agree (F.seen (frames_of space)) (index_of space)) }
+            → Agree (F.seen (frames_of space)) (summaries_of space)) }
         ensures reads { IfOk result (λ space. Reads (F.seen frames) (F.seen (frames_of space))) }
         ensures idle { IfOk result (λ space. (F.seen frames).idle
             ≤ (F.seen (frames_of space)).idle) }
@@ -89,12 +90,12 @@ impl<F: Frames> Space<F> {
             (F.seen refused.0)) }
     {
         let mut frames = frames;
-        let mut index = Index::new(alloc);
-        match survey(alloc, &mut frames, &mut index) {
+        let mut summaries = Summaries::new(alloc);
+        match survey(alloc, &mut frames, &mut summaries) {
             Ok(()) => Ok(Space {
                 alloc,
                 frames,
-                index,
+                summaries,
                 capacity,
                 undos: Vec::new(alloc),
             }),
@@ -112,15 +113,15 @@ impl<F: Frames> Space<F> {
     /// The row whose home is at this place, if there is one. Its pages are held.
     pub fn row_at(&mut self, home: Place) -> Result<Option<Row>, SpaceFault>
         requires spare { 2 ≤ (F.seen (frames_of self.old)).spare }
-        requires step { InStep (F.seen (frames_of self.old)) (index_of self.old)
+        requires step { InStep (F.seen (frames_of self.old)) (summaries_of self.old)
             (capacity_in self.old) }
         ensures row { IfOk result (λ row. row ≡ row_at
             (slot_in (F.seen (frames_of self.new))) home) }
-        ensures step { InStep (F.seen (frames_of self.new)) (index_of self.new)
+        ensures step { InStep (F.seen (frames_of self.new)) (summaries_of self.new)
             (capacity_in self.new) }
         ensures capacity { capacity_in self.new ≡ capacity_in self.old }
         ensures undos { undos_in self.new ≡ undos_in self.old }
-        ensures summaries { index_of self.new ≡ index_of self.old }
+        ensures summaries { summaries_of self.new ≡ summaries_of self.old }
         ensures reserved { (F.seen (frames_of self.new)).reserved
             ≡ (F.seen (frames_of self.old)).reserved }
         ensures took { Took 2 (F.seen (frames_of self.old)) (F.seen (frames_of self.new)) }
@@ -138,16 +139,16 @@ impl<F: Frames> Space<F> {
     /// wherever it lies. All pages are let go, before each row and at the end.
     pub fn home_rows(&mut self, page: u32) -> Result<Homes, SpaceFault>
         requires spare { 2 ≤ (F.seen (frames_of self.old)).spare }
-        requires step { InStep (F.seen (frames_of self.old)) (index_of self.old)
+        requires step { InStep (F.seen (frames_of self.old)) (summaries_of self.old)
             (capacity_in self.old) }
         // Where frames are not sure, the page may have changed between two of its rows.
         ensures rows { IfOk result (λ rows. (F.seen (frames_of self.new)).sure ≡ true
             → rows ≡ homes_on (slots_of (F.seen (frames_of self.new)).pages) page) }
-        ensures step { InStep (F.seen (frames_of self.new)) (index_of self.new)
+        ensures step { InStep (F.seen (frames_of self.new)) (summaries_of self.new)
             (capacity_in self.new) }
         ensures capacity { capacity_in self.new ≡ capacity_in self.old }
         ensures undos { undos_in self.new ≡ undos_in self.old }
-        ensures summaries { index_of self.new ≡ index_of self.old }
+        ensures summaries { summaries_of self.new ≡ summaries_of self.old }
         ensures reserved { (F.seen (frames_of self.new)).reserved
             ≡ (F.seen (frames_of self.old)).reserved }
         ensures reads { Reads (F.seen (frames_of self.old)) (F.seen (frames_of self.new)) }
@@ -167,16 +168,16 @@ impl<F: Frames> Space<F> {
     /// end.
     pub fn home_values(&mut self, page: u32) -> Result<Vec<(Place, Values)>, SpaceFault>
         requires spare { 2 ≤ (F.seen (frames_of self.old)).spare }
-        requires step { InStep (F.seen (frames_of self.old)) (index_of self.old)
+        requires step { InStep (F.seen (frames_of self.old)) (summaries_of self.old)
             (capacity_in self.old) }
         // Where frames are not sure, the page may have changed between two of its rows.
         ensures values { IfOk result (λ values. (F.seen (frames_of self.new)).sure ≡ true
             → values.items ≡ values_on (slots_of (F.seen (frames_of self.new)).pages) page) }
-        ensures step { InStep (F.seen (frames_of self.new)) (index_of self.new)
+        ensures step { InStep (F.seen (frames_of self.new)) (summaries_of self.new)
             (capacity_in self.new) }
         ensures capacity { capacity_in self.new ≡ capacity_in self.old }
         ensures undos { undos_in self.new ≡ undos_in self.old }
-        ensures summaries { index_of self.new ≡ index_of self.old }
+        ensures summaries { summaries_of self.new ≡ summaries_of self.old }
         ensures reserved { (F.seen (frames_of self.new)).reserved
             ≡ (F.seen (frames_of self.old)).reserved }
         ensures reads { Reads (F.seen (frames_of self.old)) (F.seen (frames_of self.new)) }
@@ -221,17 +222,17 @@ impl<F: Frames> Space<F> {
         requires low { 1 ≤ number }
         requires high { number ≤ length (F.seen (frames_of self.old)).pages }
         requires spare { 1 ≤ (F.seen (frames_of self.old)).spare }
-        requires step { InStep (F.seen (frames_of self.old)) (index_of self.old)
+        requires step { InStep (F.seen (frames_of self.old)) (summaries_of self.old)
             (capacity_in self.old) }
         ensures* read { sem 𝓛 (follows_so (the_row F.row) (the_row F.row) self.entry.ghost_name none
             (λ _ _. ⊤) (λ space.
             IfOk result (λ page. page.now ≡ content_at (F.seen (frames_of space)).pages number)
             × OnOk result (Held number (F.seen (frames_of self.old)) (F.seen (frames_of space)))
             × OnErr result (Failed (F.seen (frames_of self.old)) (F.seen (frames_of space)))
-            × InStep (F.seen (frames_of space)) (index_of space) (capacity_in space)
+            × InStep (F.seen (frames_of space)) (summaries_of space) (capacity_in space)
             × (capacity_in space ≡ capacity_in self.old)
             × (undos_in space ≡ undos_in self.old)
-            × (index_of space ≡ index_of self.old)
+            × (summaries_of space ≡ summaries_of self.old)
             × F.gave (F.seen (frames_of self.old)).pages (F.seen (frames_of self.old)).forced
             (frames_of self.old) (frames_of space))) }
     {
@@ -241,15 +242,15 @@ impl<F: Frames> Space<F> {
     // Reserves a page, and a summary for it.
     fn reserve(&mut self) -> Result<(), SpaceFault>
         requires spare { 1 ≤ (F.seen (frames_of self.old)).spare }
-        requires none { (index_of self.old).room ≡ 0 }
+        requires none { (summaries_of self.old).room ≡ 0 }
         requires below { length (F.seen (frames_of self.old)).pages < capacity_in self.old }
-        requires step { InStep (F.seen (frames_of self.old)) (index_of self.old)
+        requires step { InStep (F.seen (frames_of self.old)) (summaries_of self.old)
             (capacity_in self.old) }
-        ensures step { InStep (F.seen (frames_of self.new)) (index_of self.new)
+        ensures step { InStep (F.seen (frames_of self.new)) (summaries_of self.new)
             (capacity_in self.new) }
         ensures capacity { capacity_in self.new ≡ capacity_in self.old }
         ensures undos { undos_in self.new ≡ undos_in self.old }
-        ensures summaries { (index_of self.new).pages ≡ (index_of self.old).pages }
+        ensures summaries { (summaries_of self.new).pages ≡ (summaries_of self.old).pages }
         ensures reserved { OnOk result (1 ≤ (F.seen (frames_of self.new)).reserved) }
         ensures least { (F.seen (frames_of self.old)).reserved
             ≤ (F.seen (frames_of self.new)).reserved }
@@ -259,13 +260,13 @@ impl<F: Frames> Space<F> {
         ensures gave { F.gave (F.seen (frames_of self.old)).pages
             (F.seen (frames_of self.old)).forced (frames_of self.old) (frames_of self.new) }
     {
-        if self.index.reserve(self.alloc).is_err() {
+        if self.summaries.reserve(self.alloc).is_err() {
             return Err(SpaceFault::NoMemory);
         }
         match self.frames.reserve_page() {
             Ok(()) => Ok(()),
             Err(fault) => {
-                self.index.give_back();
+                self.summaries.give_back();
                 Err(match fault {
                     FrameFault::Device => SpaceFault::Device,
                     FrameFault::NoMemory => SpaceFault::NoMemory,
@@ -278,13 +279,13 @@ impl<F: Frames> Space<F> {
     // sees that one is reserved.
     fn hold_page(&mut self, number: u32) -> Result<(), SpaceFault>
         requires spare { 1 ≤ (F.seen (frames_of self.old)).spare }
-        requires step { InStep (F.seen (frames_of self.old)) (index_of self.old)
+        requires step { InStep (F.seen (frames_of self.old)) (summaries_of self.old)
             (capacity_in self.old) }
-        ensures step { InStep (F.seen (frames_of self.new)) (index_of self.new)
+        ensures step { InStep (F.seen (frames_of self.new)) (summaries_of self.new)
             (capacity_in self.new) }
         ensures capacity { capacity_in self.new ≡ capacity_in self.old }
         ensures undos { undos_in self.new ≡ undos_in self.old }
-        ensures summaries { (index_of self.new).pages ≡ (index_of self.old).pages }
+        ensures summaries { (summaries_of self.new).pages ≡ (summaries_of self.old).pages }
         ensures ready { OnOk result (IsReady (F.seen (frames_of self.new))
             (capacity_in self.new) number) }
         ensures least { (F.seen (frames_of self.old)).reserved
@@ -307,7 +308,7 @@ impl<F: Frames> Space<F> {
         if number > self.capacity {
             return Ok(());
         }
-        if self.index.room() != 0 {
+        if self.summaries.room() != 0 {
             return Ok(());
         }
         self.reserve()
@@ -316,13 +317,13 @@ impl<F: Frames> Space<F> {
     // Holds the pages of parts, and reserves the next one where a part needs it.
     fn hold(&mut self, parts: &[Part]) -> Result<(), SpaceFault>
         requires spare { length parts.now ≤ (F.seen (frames_of self.old)).spare }
-        requires step { InStep (F.seen (frames_of self.old)) (index_of self.old)
+        requires step { InStep (F.seen (frames_of self.old)) (summaries_of self.old)
             (capacity_in self.old) }
-        ensures step { InStep (F.seen (frames_of self.new)) (index_of self.new)
+        ensures step { InStep (F.seen (frames_of self.new)) (summaries_of self.new)
             (capacity_in self.new) }
         ensures capacity { capacity_in self.new ≡ capacity_in self.old }
         ensures undos { undos_in self.new ≡ undos_in self.old }
-        ensures summaries { (index_of self.new).pages ≡ (index_of self.old).pages }
+        ensures summaries { (summaries_of self.new).pages ≡ (summaries_of self.old).pages }
         ensures ready { OnOk result (AllReady (F.seen (frames_of self.new))
             (capacity_in self.new) parts.now) }
         ensures least { (F.seen (frames_of self.old)).reserved
@@ -343,14 +344,15 @@ impl<F: Frames> Space<F> {
     /// The plan of a new row. Its pages are held, and a new one is reserved.
     pub fn plan_put(&mut self, row: &Row, live: &[Tran]) -> Result<Plan, SpaceFault>
         requires spare { 5 ≤ (F.seen (frames_of self.old)).spare }
-        requires step { InStep (F.seen (frames_of self.old)) (index_of self.old)
+        requires step { InStep (F.seen (frames_of self.old)) (summaries_of self.old)
             (capacity_in self.old) }
-        ensures step { InStep (F.seen (frames_of self.new)) (index_of self.new)
+        ensures step { InStep (F.seen (frames_of self.new)) (summaries_of self.new)
             (capacity_in self.new) }
         ensures capacity { capacity_in self.new ≡ capacity_in self.old }
         ensures undos { undos_in self.new ≡ undos_in self.old }
-        ensures summaries { (index_of self.new).pages ≡ (index_of self.old).pages }
-        ensures plan { IfOk result (λ plan. Agree (F.seen (frames_of self.new)) (index_of self.new)
+        ensures summaries { (summaries_of self.new).pages ≡ (summaries_of self.old).pages }
+        ensures plan { IfOk result (λ plan.
+            Agree (F.seen (frames_of self.new)) (summaries_of self.new)
             → Some plan ≡ planned_put (numbers_of live.now) (row_size row.now)
             (slots_of (F.seen (frames_of self.new)).pages)
             (new_area (numbers_of live.now) (row_size row.now) (capacity_in self.new)
@@ -360,7 +362,7 @@ impl<F: Frames> Space<F> {
             ≤ (F.seen (frames_of self.new)).reserved }
         ensures took { Took 5 (F.seen (frames_of self.old)) (F.seen (frames_of self.new)) }
         ensures cause { IfErr result (λ fault. HasCause fault (row_size row.now)
-            (Agree (F.seen (frames_of self.new)) (index_of self.new)
+            (Agree (F.seen (frames_of self.new)) (summaries_of self.new)
             → planned_put (numbers_of live.now) (row_size row.now)
             (slots_of (F.seen (frames_of self.new)).pages)
             (new_area (numbers_of live.now) (row_size row.now) (capacity_in self.new)
@@ -370,7 +372,7 @@ impl<F: Frames> Space<F> {
             (F.seen (frames_of self.old)).forced (frames_of self.old) (frames_of self.new) }
     {
         let b = row.size();
-        let Ok(found) = self.index.put(self.alloc, live, b, self.capacity) else {
+        let Ok(found) = self.summaries.put(self.alloc, live, b, self.capacity) else {
             return Err(SpaceFault::NoMemory);
         };
         let Some(put) = found else {
@@ -389,14 +391,15 @@ impl<F: Frames> Space<F> {
     /// and a new one is reserved.
     pub fn plan_change(&mut self, home: Place, row: &Row, live: &[Tran]) -> Result<Plan, SpaceFault>
         requires spare { 5 ≤ (F.seen (frames_of self.old)).spare }
-        requires step { InStep (F.seen (frames_of self.old)) (index_of self.old)
+        requires step { InStep (F.seen (frames_of self.old)) (summaries_of self.old)
             (capacity_in self.old) }
-        ensures step { InStep (F.seen (frames_of self.new)) (index_of self.new)
+        ensures step { InStep (F.seen (frames_of self.new)) (summaries_of self.new)
             (capacity_in self.new) }
         ensures capacity { capacity_in self.new ≡ capacity_in self.old }
         ensures undos { undos_in self.new ≡ undos_in self.old }
-        ensures summaries { (index_of self.new).pages ≡ (index_of self.old).pages }
-        ensures plan { IfOk result (λ plan. Agree (F.seen (frames_of self.new)) (index_of self.new)
+        ensures summaries { (summaries_of self.new).pages ≡ (summaries_of self.old).pages }
+        ensures plan { IfOk result (λ plan.
+            Agree (F.seen (frames_of self.new)) (summaries_of self.new)
             → Some plan ≡ planned_change (numbers_of live.now) (row_size row.now)
             (capacity_in self.new) (slots_of (F.seen (frames_of self.new)).pages) home) }
         ensures hand { IfOk result (IsAtHand (F.seen (frames_of self.new)) (capacity_in self.new)) }
@@ -404,7 +407,7 @@ impl<F: Frames> Space<F> {
             ≤ (F.seen (frames_of self.new)).reserved }
         ensures took { Took 5 (F.seen (frames_of self.old)) (F.seen (frames_of self.new)) }
         ensures cause { IfErr result (λ fault. HasCause fault (row_size row.now)
-            (Agree (F.seen (frames_of self.new)) (index_of self.new)
+            (Agree (F.seen (frames_of self.new)) (summaries_of self.new)
             → planned_change (numbers_of live.now) (row_size row.now) (capacity_in self.new)
             (slots_of (F.seen (frames_of self.new)).pages) home
             ≡ None) (F.seen (frames_of self.old)) (F.seen (frames_of self.new))) }
@@ -414,7 +417,7 @@ impl<F: Frames> Space<F> {
         let b = row.size();
         let seen = home_of(&mut self.frames, self.alloc, home)?;
         let Ok(found) = self
-            .index
+            .summaries
             .change(self.alloc, live, home, seen.other, b, self.capacity)
         else {
             return Err(SpaceFault::NoMemory);
@@ -435,14 +438,15 @@ impl<F: Frames> Space<F> {
     /// and reserves no page.
     pub fn plan_drop(&mut self, home: Place) -> Result<Plan, SpaceFault>
         requires spare { 5 ≤ (F.seen (frames_of self.old)).spare }
-        requires step { InStep (F.seen (frames_of self.old)) (index_of self.old)
+        requires step { InStep (F.seen (frames_of self.old)) (summaries_of self.old)
             (capacity_in self.old) }
-        ensures step { InStep (F.seen (frames_of self.new)) (index_of self.new)
+        ensures step { InStep (F.seen (frames_of self.new)) (summaries_of self.new)
             (capacity_in self.new) }
         ensures capacity { capacity_in self.new ≡ capacity_in self.old }
         ensures undos { undos_in self.new ≡ undos_in self.old }
-        ensures summaries { index_of self.new ≡ index_of self.old }
-        ensures plan { IfOk result (λ plan. Agree (F.seen (frames_of self.new)) (index_of self.new)
+        ensures summaries { summaries_of self.new ≡ summaries_of self.old }
+        ensures plan { IfOk result (λ plan.
+            Agree (F.seen (frames_of self.new)) (summaries_of self.new)
             → plan ≡ planned_drop (slots_of (F.seen (frames_of self.new)).pages) home
             (slot_of (slots_of (F.seen (frames_of self.new)).pages) home)) }
         ensures none { IfOk result (λ plan. plan.purge ≡ []) }
@@ -460,7 +464,7 @@ impl<F: Frames> Space<F> {
         let Ok(room) = PartsRoom::new(self.alloc) else {
             return Err(SpaceFault::NoMemory);
         };
-        let parts = self.index.drop_row(room, home, seen.other);
+        let parts = self.summaries.drop_row(room, home, seen.other);
         self.hold_there(parts.as_slice())?;
         Ok(Plan {
             home,
@@ -475,7 +479,7 @@ impl<F: Frames> Space<F> {
         ensures room { OnOk result (undos_in self.old + more ≡ undos_in self.new) }
         ensures least { undos_in self.old ≤ undos_in self.new }
         ensures frames { frames_of self.new ≡ frames_of self.old }
-        ensures index { index_of self.new ≡ index_of self.old }
+        ensures summaries { summaries_of self.new ≡ summaries_of self.old }
         ensures capacity { capacity_in self.new ≡ capacity_in self.old }
     {
         for _i in 0..more {
@@ -488,12 +492,12 @@ impl<F: Frames> Space<F> {
     // Holds the pages of parts that are there. It takes no memory.
     fn hold_there(&mut self, parts: &[Part]) -> Result<(), SpaceFault>
         requires spare { length parts.now ≤ (F.seen (frames_of self.old)).spare }
-        requires step { InStep (F.seen (frames_of self.old)) (index_of self.old)
+        requires step { InStep (F.seen (frames_of self.old)) (summaries_of self.old)
             (capacity_in self.old) }
-        ensures step { InStep (F.seen (frames_of self.new)) (index_of self.new)
+        ensures step { InStep (F.seen (frames_of self.new)) (summaries_of self.new)
             (capacity_in self.new) }
         ensures capacity { capacity_in self.new ≡ capacity_in self.old }
-        ensures summaries { index_of self.new ≡ index_of self.old }
+        ensures summaries { summaries_of self.new ≡ summaries_of self.old }
         ensures undos { undos_in self.new ≡ undos_in self.old }
         ensures held { OnOk result (AllHeld (F.seen (frames_of self.new)) parts.now) }
         ensures reserved { (F.seen (frames_of self.new)).reserved
@@ -520,15 +524,16 @@ impl<F: Frames> Space<F> {
         parts: &[Part],
     ) -> Result<Parts, SpaceFault>
         requires spare { 5 ≤ (F.seen (frames_of self.old)).spare }
-        requires step { InStep (F.seen (frames_of self.old)) (index_of self.old)
+        requires step { InStep (F.seen (frames_of self.old)) (summaries_of self.old)
             (capacity_in self.old) }
         requires room { 1 ≤ undos_in self.old }
-        ensures step { InStep (F.seen (frames_of self.new)) (index_of self.new)
+        ensures step { InStep (F.seen (frames_of self.new)) (summaries_of self.new)
             (capacity_in self.new) }
         ensures capacity { capacity_in self.new ≡ capacity_in self.old }
-        ensures summaries { index_of self.new ≡ index_of self.old }
+        ensures summaries { summaries_of self.new ≡ summaries_of self.old }
         ensures undos { undos_in self.new + 1 ≡ undos_in self.old }
-        ensures parts { IfOk result (λ undo. Agree (F.seen (frames_of self.new)) (index_of self.new)
+        ensures parts { IfOk result (λ undo.
+            Agree (F.seen (frames_of self.new)) (summaries_of self.new)
             → undo ≡ undo_parts (slots_of (F.seen (frames_of self.new)).pages) home
             (over_before parts.now) (option_copied before.entry)
             (slot_of (slots_of (F.seen (frames_of self.new)).pages) home)) }
@@ -548,15 +553,18 @@ impl<F: Frames> Space<F> {
         };
         let size = size_of(before);
         let other = pointer_of(&mut self.frames, home)?;
-        let undo = self.index.undo(room, home, size, over_before(parts), other);
+        let undo = self
+            .summaries
+            .undo(room, home, size, over_before(parts), other);
         self.hold_there(undo.as_slice())?;
         Ok(undo)
     }
 
     // Adds page `number`, where it is the next one, within the capacity, and reserved.
     fn grow(&mut self, number: u32)
-        requires { InStep (F.seen (frames_of self.old)) (index_of self.old) (capacity_in self.old) }
-        ensures step { InStep (F.seen (frames_of self.new)) (index_of self.new)
+        requires { InStep (F.seen (frames_of self.old)) (summaries_of self.old)
+            (capacity_in self.old) }
+        ensures step { InStep (F.seen (frames_of self.new)) (summaries_of self.new)
             (capacity_in self.new) }
         ensures capacity { capacity_in self.new ≡ capacity_in self.old }
         ensures undos { undos_in self.new ≡ undos_in self.old }
@@ -565,8 +573,8 @@ impl<F: Frames> Space<F> {
             → number ≤ limit → (F.seen (frames_of self.new)).pages
             ≡ grown (F.seen (frames_of self.old)).copy (F.seen (frames_of self.old)).pages number }
         ensures writes { Writes 0 (F.seen (frames_of self.old)) (F.seen (frames_of self.new)) }
-        ensures agree { Agree (F.seen (frames_of self.old)) (index_of self.old)
-            → Agree (F.seen (frames_of self.new)) (index_of self.new) }
+        ensures agree { Agree (F.seen (frames_of self.old)) (summaries_of self.old)
+            → Agree (F.seen (frames_of self.new)) (summaries_of self.new) }
         ensures gave { (pages : List Content) (n : ℕ) → F.gave pages n (frames_of self.old)
             (frames_of self.new) }
     {
@@ -576,11 +584,11 @@ impl<F: Frames> Space<F> {
         if number > self.capacity {
             return;
         }
-        if self.index.room() == 0 {
+        if self.summaries.room() == 0 {
             return;
         }
         self.frames.add_page();
-        self.index.add();
+        self.summaries.add();
     }
 
     /// Sets a slot of a page that is held, if the part fits it.
@@ -594,9 +602,9 @@ impl<F: Frames> Space<F> {
         requires low { 1 ≤ part.now.page }
         requires high { part.now.page ≤ length (F.seen (frames_of self.old)).pages }
         requires held { (F.seen (frames_of self.old)).held part.now.page ≡ true }
-        requires step { InStep (F.seen (frames_of self.old)) (index_of self.old)
+        requires step { InStep (F.seen (frames_of self.old)) (summaries_of self.old)
             (capacity_in self.old) }
-        ensures step { InStep (F.seen (frames_of self.new)) (index_of self.new)
+        ensures step { InStep (F.seen (frames_of self.new)) (summaries_of self.new)
             (capacity_in self.new) }
         ensures capacity { capacity_in self.new ≡ capacity_in self.old }
         ensures undos { undos_in self.new ≡ undos_in self.old }
@@ -609,8 +617,8 @@ impl<F: Frames> Space<F> {
             (content_at (F.seen (frames_of self.old)).pages part.now.page).slots tran.0
             (option_copied after.entry) part.now → ⊥) }
         ensures err { OnErr result (F.seen (frames_of self.new) ≡ F.seen (frames_of self.old)) }
-        ensures agree { Agree (F.seen (frames_of self.old)) (index_of self.old)
-            → Agree (F.seen (frames_of self.new)) (index_of self.new) }
+        ensures agree { Agree (F.seen (frames_of self.old)) (summaries_of self.old)
+            → Agree (F.seen (frames_of self.new)) (summaries_of self.new) }
         ensures gave { (pages : List Content) (n : ℕ) → F.gave pages n (frames_of self.old)
             (frames_of self.new) }
     {
@@ -620,7 +628,7 @@ impl<F: Frames> Space<F> {
                     page: part.page,
                     slot: part.slot,
                 };
-                self.index.note(place, Header::of(part.op, tran));
+                self.summaries.note(place, Header::of(part.op, tran));
                 Ok(())
             }
             Err(fault) => Err(fault),
@@ -629,10 +637,10 @@ impl<F: Frames> Space<F> {
 
     // Sets a slot of a page that is there.
     fn set(&mut self, part: &Part, tran: Tran, after: Option<&Row>, position: Position)
-        requires step { InStep (F.seen (frames_of self.old)) (index_of self.old)
+        requires step { InStep (F.seen (frames_of self.old)) (summaries_of self.old)
             (capacity_in self.old) }
         requires held { IsHeldAt (F.seen (frames_of self.old)) part.now.page }
-        ensures step { InStep (F.seen (frames_of self.new)) (index_of self.new)
+        ensures step { InStep (F.seen (frames_of self.new)) (summaries_of self.new)
             (capacity_in self.new) }
         ensures capacity { capacity_in self.new ≡ capacity_in self.old }
         ensures undos { undos_in self.new ≡ undos_in self.old }
@@ -646,8 +654,8 @@ impl<F: Frames> Space<F> {
             ≡ length (F.seen (frames_of self.old)).pages }
         ensures writes { Writes position.0 (F.seen (frames_of self.old))
             (F.seen (frames_of self.new)) }
-        ensures agree { Agree (F.seen (frames_of self.old)) (index_of self.old)
-            → Agree (F.seen (frames_of self.new)) (index_of self.new) }
+        ensures agree { Agree (F.seen (frames_of self.old)) (summaries_of self.old)
+            → Agree (F.seen (frames_of self.new)) (summaries_of self.new) }
         ensures gave { (pages : List Content) (n : ℕ) → F.gave pages n (frames_of self.old)
             (frames_of self.new) }
     {
@@ -663,10 +671,10 @@ impl<F: Frames> Space<F> {
 
     // Applies one part. A page that is the next one is added.
     fn put(&mut self, part: &Part, tran: Tran, after: Option<&Row>, position: Position)
-        requires step { InStep (F.seen (frames_of self.old)) (index_of self.old)
+        requires step { InStep (F.seen (frames_of self.old)) (summaries_of self.old)
             (capacity_in self.old) }
         requires held { IsHeldAt (F.seen (frames_of self.old)) part.now.page }
-        ensures step { InStep (F.seen (frames_of self.new)) (index_of self.new)
+        ensures step { InStep (F.seen (frames_of self.new)) (summaries_of self.new)
             (capacity_in self.new) }
         ensures capacity { capacity_in self.new ≡ capacity_in self.old }
         ensures undos { undos_in self.new ≡ undos_in self.old }
@@ -678,8 +686,8 @@ impl<F: Frames> Space<F> {
             (option_copied after.entry) position.0 (F.seen (frames_of self.old)).pages part.now }
         ensures writes { Writes position.0 (F.seen (frames_of self.old))
             (F.seen (frames_of self.new)) }
-        ensures agree { Agree (F.seen (frames_of self.old)) (index_of self.old)
-            → Agree (F.seen (frames_of self.new)) (index_of self.new) }
+        ensures agree { Agree (F.seen (frames_of self.old)) (summaries_of self.old)
+            → Agree (F.seen (frames_of self.new)) (summaries_of self.new) }
         ensures gave { (pages : List Content) (n : ℕ) → F.gave pages n (frames_of self.old)
             (frames_of self.new) }
     {
@@ -696,10 +704,10 @@ impl<F: Frames> Space<F> {
         after: Option<&Row>,
         position: Position,
     )
-        requires step { InStep (F.seen (frames_of self.old)) (index_of self.old)
+        requires step { InStep (F.seen (frames_of self.old)) (summaries_of self.old)
             (capacity_in self.old) }
         requires held { AllHeld (F.seen (frames_of self.old)) parts.now }
-        ensures step { InStep (F.seen (frames_of self.new)) (index_of self.new)
+        ensures step { InStep (F.seen (frames_of self.new)) (summaries_of self.new)
             (capacity_in self.new) }
         ensures capacity { capacity_in self.new ≡ capacity_in self.old }
         ensures undos { undos_in self.new ≡ undos_in self.old }
@@ -711,8 +719,8 @@ impl<F: Frames> Space<F> {
             (option_copied after.entry) position.0 (F.seen (frames_of self.old)).pages parts.now }
         ensures writes { Writes position.0 (F.seen (frames_of self.old))
             (F.seen (frames_of self.new)) }
-        ensures agree { Agree (F.seen (frames_of self.old)) (index_of self.old)
-            → Agree (F.seen (frames_of self.new)) (index_of self.new) }
+        ensures agree { Agree (F.seen (frames_of self.old)) (summaries_of self.old)
+            → Agree (F.seen (frames_of self.new)) (summaries_of self.new) }
         ensures gave { (pages : List Content) (n : ℕ) → F.gave pages n (frames_of self.old)
             (frames_of self.new) }
     {
@@ -724,10 +732,10 @@ impl<F: Frames> Space<F> {
     /// Applies a record whose pages are held, and reserved where they are new. It takes no memory
     /// and asks no device.
     pub fn apply(&mut self, entry: &Record)
-        requires step { InStep (F.seen (frames_of self.old)) (index_of self.old)
+        requires step { InStep (F.seen (frames_of self.old)) (summaries_of self.old)
             (capacity_in self.old) }
         requires held { AllHeld (F.seen (frames_of self.old)) (parts_of entry.now.kind) }
-        ensures step { InStep (F.seen (frames_of self.new)) (index_of self.new)
+        ensures step { InStep (F.seen (frames_of self.new)) (summaries_of self.new)
             (capacity_in self.new) }
         ensures capacity { capacity_in self.new ≡ capacity_in self.old }
         ensures undos { undos_in self.new ≡ undos_in self.old }
@@ -749,8 +757,8 @@ impl<F: Frames> Space<F> {
             → AllReady (F.seen (frames_of self.new)) (capacity_in self.old) parts }
         ensures writes { Writes entry.now.position.0 (F.seen (frames_of self.old))
             (F.seen (frames_of self.new)) }
-        ensures agree { Agree (F.seen (frames_of self.old)) (index_of self.old)
-            → Agree (F.seen (frames_of self.new)) (index_of self.new) }
+        ensures agree { Agree (F.seen (frames_of self.old)) (summaries_of self.old)
+            → Agree (F.seen (frames_of self.new)) (summaries_of self.new) }
         ensures gave { (pages : List Content) (n : ℕ) → F.gave pages n (frames_of self.old)
             (frames_of self.new) }
     {
@@ -759,12 +767,13 @@ impl<F: Frames> Space<F> {
 
     /// Lets all pages go.
     pub fn let_go(&mut self)
-        requires { InStep (F.seen (frames_of self.old)) (index_of self.old) (capacity_in self.old) }
-        ensures step { InStep (F.seen (frames_of self.new)) (index_of self.new)
+        requires { InStep (F.seen (frames_of self.old)) (summaries_of self.old)
+            (capacity_in self.old) }
+        ensures step { InStep (F.seen (frames_of self.new)) (summaries_of self.new)
             (capacity_in self.new) }
         ensures capacity { capacity_in self.new ≡ capacity_in self.old }
         ensures undos { undos_in self.new ≡ undos_in self.old }
-        ensures summaries { index_of self.new ≡ index_of self.old }
+        ensures summaries { summaries_of self.new ≡ summaries_of self.old }
         ensures let_go { LetGo (F.seen (frames_of self.old)) (F.seen (frames_of self.new)) }
         ensures gave { (pages : List Content) (n : ℕ) → F.gave pages n (frames_of self.old)
             (frames_of self.new) }

@@ -8,7 +8,7 @@ ghost use Rattle.rg_space.specs.Took.{HasRisen};
 ghost use Rattle.rg_space.specs.Space.{Agree};
 
 use crate::fault::SpaceFault;
-use crate::index::Index;
+use crate::summaries::Summaries;
 use rg_page::frames::Frames;
 use rg_page::summary::Summary;
 use std::alloc::Global;
@@ -59,17 +59,21 @@ fn next_summary<F: Frames>(
     summary_of(alloc, frames, number)
 }
 
-/// Adds the summary of each page to an empty index.
-pub fn survey<F: Frames>(alloc: Global, frames: &mut F, index: &mut Index) -> Result<(), SpaceFault>
+/// Adds the summary of each page to summaries of no page.
+pub fn survey<F: Frames>(
+    alloc: Global,
+    frames: &mut F,
+    summaries: &mut Summaries,
+) -> Result<(), SpaceFault>
     requires idle { 1 ≤ (F.seen frames.old).idle }
-    requires empty { index.old ≡ record { pages = []; room = 0 } }
+    requires empty { summaries.old ≡ record { pages = []; room = 0 } }
     ensures reads { Reads (F.seen frames.old) (F.seen frames.new) }
     ensures reserved { (F.seen frames.new).reserved ≡ (F.seen frames.old).reserved }
     ensures idle { (F.seen frames.old).idle ≤ (F.seen frames.new).idle }
-    ensures count { OnOk result (length index.new.pages ≡ length (F.seen frames.new).pages) }
-    ensures room { OnOk result (index.new.room ≡ 0) }
+    ensures count { OnOk result (length summaries.new.pages ≡ length (F.seen frames.new).pages) }
+    ensures room { OnOk result (summaries.new.room ≡ 0) }
     ensures agree { OnOk result ((F.seen frames.new).sure ≡ true
-        → Agree (F.seen frames.new) index.new) }
+        → Agree (F.seen frames.new) summaries.new) }
     ensures cause { IfErr result (λ fault. HasRisen fault (F.seen frames.old) (F.seen frames.new)) }
     ensures gave { F.gave (F.seen frames.old).pages
         (F.seen frames.old).forced frames.old frames.new }
@@ -78,7 +82,7 @@ pub fn survey<F: Frames>(alloc: Global, frames: &mut F, index: &mut Index) -> Re
     let mut n = 0;
     while n < count {
         let summary = next_summary(alloc, frames, n + 1)?;
-        match index.push(alloc, summary) {
+        match summaries.push(alloc, summary) {
             Ok(()) => {}
             Err(_) => return Err(SpaceFault::NoMemory),
         }

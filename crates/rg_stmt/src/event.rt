@@ -1,8 +1,14 @@
+// The events of a run.
+//
+// 1. A run is a list of events, each made by the system, a session or the utility.
+// 2. Each event is atomic: nothing of another actor stands between its beginning and its end.
+// 3. A refusal is an event too, and says what was wanted and what there was.
 ghost use Rattle.std.specs.Prelude.{◌≡◌};
 
 use crate::layout::{Side, Sides};
 use crate::stmt::{Reply, Stmt};
 use rg_base::control::Answer;
+use rg_base::copy::TableCopy;
 use rg_base::options::{DrainFor, Options};
 use rg_base::session::Session;
 use rg_base::verdict::{StopReason, Verdict};
@@ -22,7 +28,7 @@ pub enum Event {
     /// The volume was opened: which copy of the table is current, how many committed rows and pages
     /// it has, and how many bytes of the log are used.
     Opened {
-        copy: u8,
+        copy: TableCopy,
         rows: u64,
         pages: u32,
         used: u32,
@@ -35,7 +41,7 @@ pub enum Event {
     /// The utility started, over this copy and so many pages.
     Started {
         options: Options,
-        copy: u8,
+        copy: TableCopy,
         pages: u32,
     },
     /// A control statement came while a utility ran.
@@ -91,7 +97,7 @@ pub enum Event {
     },
     /// The new copy is current.
     Switched {
-        copy: u8,
+        copy: TableCopy,
         sides: Sides,
     },
     /// The utility is over.
@@ -112,7 +118,7 @@ pub enum Event {
     FlushNoMemory,
     /// The layout was shown.
     Layout {
-        copy: u8,
+        copy: TableCopy,
         side: Side,
     },
     /// A layout in which a call of the volume failed.
@@ -138,7 +144,7 @@ impl Entry {
     ghost use Rattle.rg_stmt.specs.Entries.{opened_entry, said_entry};
 
     /// The entry of an opening, at the end of which the volume had been called `calls` times.
-    pub fn opened(copy: u8, rows: u64, pages: u32, used: u32, calls: u64) -> Entry
+    pub fn opened(copy: TableCopy, rows: u64, pages: u32, used: u32, calls: u64) -> Entry
         ensures { result ≡ opened_entry copy rows pages used calls }
     {
         Entry {

@@ -1,17 +1,18 @@
 use crate::event::{Actor, Entry, Event};
 use crate::stmt::{Reply, Stmt};
+use rg_base::copy::TableCopy;
 use rg_base::session::Session;
 
 #[test]
 fn makes_entries(rt: HostRuntime) {
-    let opened = Entry::opened(2, 30, 4, 500, 6);
-    let (copy, rows, pages, used) = match opened.event {
+    let opened = Entry::opened(TableCopy::second(), 30, 4, 500, 6);
+    let (copy, rows, pages, used) = match &opened.event {
         Event::Opened {
             copy,
             rows,
             pages,
             used,
-        } => (copy, rows, pages, used),
+        } => (copy.number(), *rows, *pages, *used),
         _ => (0, 0, 0, 0),
     };
     assert_eq!(rt; (copy, rows, pages, used), (2, 30, 4, 500));

@@ -32,7 +32,7 @@ loaded shadow inlet rows lawful none permuted same place =
 
 -- items that are no Begin stand behind those before
 
-since-later : (before more : List Item) → AllByRecursion IsLater more
+pub since-later : (before more : List Item) → AllByRecursion IsLater more
     → since before more ≡ before ++ more
 since-later before [] later = append-nil before
   where
@@ -49,7 +49,7 @@ since-later before (Booked s ∷ more) later =
 
 -- without their changes they leave each row
 
-none_done : (place : Place) (row : Option Row) (more : List Item) → AllByRecursion IsLater more
+pub none_done : (place : Place) (row : Option Row) (more : List Item) → AllByRecursion IsLater more
     → fold_from place row (up_to more 0) ≡ row
 none_done place row [] later = refl
 none_done place row (Begin o n ∷ more) later = absurd later.0
@@ -57,7 +57,7 @@ none_done place row (PageCopy n at rows ∷ more) later = absurd later.0
 none_done place row (items.Change c ∷ more) later = none_done place row more later.1
 none_done place row (Booked s ∷ more) later = none_done place row more later.1
 
-same_so_far : (place : Place) (row : Option Row) (feed more : List Item) (k : ℕ)
+pub same_so_far : (place : Place) (row : Option Row) (feed more : List Item) (k : ℕ)
     → k ≤ length (changes feed) → AllByRecursion IsLater more
     → fold_from place row (up_to (feed ++ more) k) ≡ fold_from place row (up_to feed k)
 same_so_far place row [] more k few later =

@@ -14,9 +14,10 @@ use Rattle.rg_feed.specs.Fold.Fed.{SetsRow}
 use Rattle.rg_feed.specs.Fold.Fold.{changes, fold_to, since_begin}
 use Rattle.rg_feed.specs.Fold.Last.{applied_at, changed_at, last_at, later_of}
 use Rattle.rg_feed.specs.Fold.Lawful.{Lawful}
-use Rattle.rg_feed.proofs.FoldLemmas.Batches.{batch}
-use Rattle.rg_feed.proofs.FoldLemmas.Places.{one_place, place_itself}
-use Rattle.rg_model.specs.Layout.{are_rising, is_place_before, same_place}
+use Rattle.rg_feed.proofs.FoldLemmas.Batches.{batch, both_none}
+use Rattle.rg_base.specs.Place.{same_place}
+use Rattle.rg_base.proofs.SamePlace.{same_place-true, same_place-refl}
+use Rattle.rg_model.specs.Layout.{are_rising, is_place_before}
 use Rattle.rg_feed.specs.Ends.{Received}
 use Rattle.rg_shadow.specs.Shade.{Applies, Shade, source_rows, target_of}
 use Rattle.rg_translate.specs.Backlog.{next_changes, to_make}
@@ -37,7 +38,7 @@ sets_changed old new change sets place = go (same_place change.home place) refl
   where
     go : (b : Bool) → same_place change.home place ≡ b
         → new place ≡ (if b then change.after else old place)
-    go true same = ap new (sym (one_place change.home place same)) ∙ sets.here
+    go true same = ap new (sym (same_place-true change.home place same)) ∙ sets.here
     go false other = sets.others place other
 
 -- one change more is made
@@ -60,11 +61,6 @@ made_more cs i change after start old new within is same rows applies place =
     ∙ applied_at-append place (take i cs) (change ∷ []) (source_rows start place))
 
 -- places that changes do not name
-
-both_none : (later earlier : Option Change) → later_of later earlier ≡ None
-    → (later ≡ None) × (earlier ≡ None)
-both_none None earlier e = (refl, e)
-both_none (Some change) earlier e = absurd (cc (e))
 
 off_home : (change : Change) (b : Bool) → (if b then Some change else None) ≡ None → b ≡ false
 off_home change true e = absurd (cc (e))
@@ -115,7 +111,7 @@ unmoved_fewer old new cs ds none unmoved = record {
 pub none_named : (cs : List Change) → ((place : Place) → last_at place cs ≡ None) → cs ≡ []
 none_named [] none = refl
 none_named (c ∷ cs) none =
-    absurd (cc (sym (place_itself c.home) ∙ (parts_of c.home c cs (none c.home)).1))
+    absurd (cc (sym (same_place-refl c.home) ∙ (parts_of c.home c cs (none c.home)).1))
 
 -- homes that rise
 
@@ -198,7 +194,7 @@ stays_more cs i change after start old new within is behind stays applies rise s
 
     go : (b : Bool) → same_place change.home source ≡ b → target_of new source ≡ Some target
     go true same =
-        let here : change.home ≡ source = one_place change.home source same in
+        let here : change.home ≡ source = same_place-true change.home source same in
         let had : target_of old change.home ≡ Some target =
         behind change.home none ∙ ap (target_of start) here ∙ e in
         let has : is_some after ≡ true =
@@ -282,7 +278,7 @@ last_of_home (c ∷ cs) change rise (zero, within, is) =
     subst (λ (x : Change). last_at x.home (c ∷ cs) ≡ Some x) is
     (ap (λ o. later_of o (if same_place c.home c.home then Some c else None))
     (none_later c.home cs parts.0)
-    ∙ ap (λ (b : Bool). if b then Some c else None) (place_itself c.home))
+    ∙ ap (λ (b : Bool). if b then Some c else None) (same_place-refl c.home))
 last_of_home (c ∷ cs) change rise (suc k, within, is) =
     let parts =
     and_parts (list_all (λ later. is_place_before c.home later) (map (λ (x : Change). x.home) cs))

@@ -3,6 +3,7 @@ use Rattle.std.proofs.Common.{◌≡◌, ℕ, ◌+◌, ◌<◌, zero, suc, Bool,
 use Rattle.std.proofs.Common.{refl, sym, ◌∙◌, ap, add-one, arith, drop, if◌then◌else◌, length}
 use Rattle.std.proofs.Common.{length-drop, take}
 use Rattle.rg_base.specs.declared.change.Change.{Change}
+use Rattle.rg_base.proofs.Small.{take_suc}
 use Rattle.rg_feed.specs.Ends.{Received}
 use Rattle.rg_feed.specs.Fold.Fold.{changes, since_begin}
 use Rattle.rg_feed.specs.Fold.Lawful.{kept, passes_over}
@@ -11,12 +12,6 @@ use Rattle.rg_translate.specs.Backlog.{to_make}
 
 pub some_left : {A : Type 0} (k : ℕ) (xs : List A) → drop k xs ≡ [] → k < length xs → ⊥
 some_left k xs e some = omega (arith, length-drop k xs, ap length e)
-
-take_suc : {A : Type 0} (k : ℕ) (xs : List A) → take (suc k) xs ≡ take k xs ++ take 1 (drop k xs)
-take_suc zero [] = refl
-take_suc zero (x ∷ xs) = refl
-take_suc (suc k) [] = refl
-take_suc (suc k) (x ∷ xs) = ap (λ ys. x ∷ ys) (take_suc k xs)
 
 nothing : {A : Type 0} (k : ℕ) → drop {A = A} k [] ≡ []
 nothing zero = refl

@@ -11,8 +11,9 @@ use Rattle.rg_base.specs.declared.row.Row.{Row}
 use Rattle.rg_laws_pages.specs.ByteClaims.Claim.{claimed_all, nobody}
 use Rattle.rg_laws_pages.specs.ByteClaims.Weight.{weight}
 use Rattle.rg_feed.specs.Fold.Last.{last_at, later_of}
-use Rattle.rg_feed.proofs.FoldLemmas.Places.{one_place, place_itself}
-use Rattle.rg_model.specs.Layout.{are_rising, is_place_before, same_place}
+use Rattle.rg_base.specs.Place.{same_place}
+use Rattle.rg_base.proofs.SamePlace.{same_place-true, same_place-refl}
+use Rattle.rg_model.specs.Layout.{are_rising, is_place_before}
 use Rattle.rg_laws_utility.specs.CopyWeight.Weighed.{weigh_changes}
 use Rattle.rg_shadow.specs.Shade.{Applies, Refuses, Shade, shade_slots}
 use Rattle.rg_shadow.specs.declared.fault.ShadowFault.{ShadowFault}
@@ -118,7 +119,7 @@ others_without place other (c ∷ cs) apart =
     go (same_place c.home place) refl (others_without place other cs apart)
   where
     off : same_place c.home place ≡ true → same_place c.home other ≡ false
-    off e = ap (λ (p : Place). same_place p other) (one_place c.home place e) ∙ apart
+    off e = ap (λ (p : Place). same_place p other) (same_place-true c.home place e) ∙ apart
 
     plain : (o : Option Change) → o ≡ later_of o None
     plain None = refl
@@ -147,7 +148,7 @@ net_weighs (c ∷ net) cs rise last =
     sym (last c.home)
     ∙ ap (λ (o : Option Change). later_of o (if same_place c.home c.home then Some c else None))
     none
-    ∙ ap (λ (b : Bool). if b then Some c else None) (place_itself c.home) in
+    ∙ ap (λ (b : Bool). if b then Some c else None) (same_place-refl c.home) in
     omega (
       arith,
       without_last c.home cs c own,
@@ -162,7 +163,7 @@ net_weighs (c ∷ net) cs rise last =
     same : (place : Place) → last_at c.home net ≡ None → (b : Bool) → same_place c.home place ≡ b
         → last_at place net ≡ last_at place (without c.home cs)
     same place none true e =
-        let is : c.home ≡ place = one_place c.home place e in
+        let is : c.home ≡ place = same_place-true c.home place e in
         ap (λ (p : Place). last_at p net) (sym is) ∙ none
         ∙ sym (ap (λ (p : Place). last_at p (without c.home cs)) (sym is) ∙ none_without c.home cs)
     same place none false e =

@@ -1,5 +1,6 @@
 -- A Change that is undone.
-use Rattle.std.proofs.Common.{◌≡◌, ◌≤◌, ℕ, List, Option, None, map, length, sym, ap, subst, ◌∙◌}
+use Rattle.std.proofs.Common.{◌≡◌, ◌≤◌, ℕ, List, Option, None, map, length, refl, sym, ap, subst}
+use Rattle.std.proofs.Common.{◌∙◌}
 use Rattle.std.proofs.Common.{arith}
 use Rattle.rg_base.specs.declared.part.Part.{Part}
 use Rattle.rg_base.specs.declared.place.Place.{Place}
@@ -13,11 +14,13 @@ use Rattle.rg_page.specs.Bare.{bare}
 use Rattle.rg_page.specs.Content.{Content, slots_of}
 use Rattle.rg_page.specs.Seen.{Seen}
 use Rattle.rg_laws_pages.proofs.UndoRoomLemmas.Next.{undo_fits}
-use Rattle.rg_record.specs.declared.record.Kind.TheVariants.{Change}
+use Rattle.rg_record.specs.declared.record.Kind.{Kind}
+use Rattle.rg_record.specs.declared.record.Kind.TheVariants.{Change, Undo, Commit, RolledBack}
+use Rattle.rg_record.specs.declared.record.Kind.TheVariants.{Purge, Switch}
 use Rattle.rg_record.specs.declared.record.Record.{Record}
 use Rattle.rg_space.specs.Applied.{AllHeld, wrote_all}
 use Rattle.rg_space.specs.Carries.{AllThere}
-use Rattle.rg_space.specs.Indexed.{Indexed}
+use Rattle.rg_space.specs.Summarized.{Summarized}
 use Rattle.rg_space.specs.Ready.{CanApply}
 use Rattle.rg_space.specs.Space.{Agree}
 use Rattle.rg_space.proofs.Carried.{there_ready}
@@ -50,9 +53,9 @@ module _ (s : Seen) (capacity : ℕ) (c : Written) (parts : List Part)
 
 -- A plan of its undo, once it is applied: a are the frames before, m those with the pages of the
 -- plan held, z those after.
-module _ (a m z : Seen) (ai mi zi : Indexed) (capacity : ℕ) (entry : Record) (home : Place)
+module _ (a m z : Seen) (ai mi zi : Summarized) (capacity : ℕ) (entry : Record) (home : Place)
     (before after b : Option TableRow) (parts ps undo : List Part)
-    (same : m.pages ≡ a.pages) (index : mi ≡ ai) (can : CanUndoChange a ai entry)
+    (same : m.pages ≡ a.pages) (summaries : mi ≡ ai) (can : CanUndoChange a ai entry)
     (is : entry.kind ≡ Change home before after parts) (few : length m.pages ≤ capacity)
     (held : AllHeld m undo) (is_b : b ≡ before) (is_ps : ps ≡ parts)
     (plan : Agree m mi
@@ -66,7 +69,7 @@ module _ (a m z : Seen) (ai mi zi : Indexed) (capacity : ℕ) (entry : Record) (
 
   agree : Agree m mi
   agree = ap (λ (pages : List Content). map (map bare) (slots_of pages)) same ∙ can.agree
-      ∙ sym (ap (λ (i : Indexed). i.pages) index)
+      ∙ sym (ap (λ (i : Summarized). i.pages) summaries)
 
   proper : Proper (slots_of m.pages)
   proper = subst (λ (pages : List Content). Proper (slots_of pages)) (sym same) can.proper
@@ -126,3 +129,13 @@ module _ (a m z : Seen) (ai mi zi : Indexed) (capacity : ℕ) (entry : Record) (
         ∙ ap (λ (pages : List Content). length pages) same;
     agree = agreed agree;
   }
+
+-- ---- what a record wrote
+
+pub owner_is : (t : ℕ) (kind : Kind) → (written_in t kind).owner ≡ t
+owner_is t (Change home before after parts) = refl
+owner_is t (Undo next home after parts) = refl
+owner_is t Commit = refl
+owner_is t RolledBack = refl
+owner_is t (Purge parts) = refl
+owner_is t (Switch copy pages) = refl

@@ -14,7 +14,7 @@ use Rattle.rg_page.specs.Seen.{Seen}
 use Rattle.rg_laws_pages.proofs.UndoRoomLemmas.Next.{UnitUndone, undo_proper, undo_keeps_all}
 use Rattle.rg_laws_pages.proofs.UndoRoomLemmas.Next.{undo_all}
 use Rattle.rg_record.specs.declared.record.Record.{Record}
-use Rattle.rg_space.specs.Indexed.{Indexed}
+use Rattle.rg_space.specs.Summarized.{Summarized}
 use Rattle.rg_undo.specs.Undoing.{written_of, undo_record, CanUndoChange, UndidChange, IfFirst}
 use Rattle.rg_undo.specs.Undoing.{later_of}
 use Rattle.rg_undo.specs.Unit.{writes_of, undo_records, change_back, changes_back, CanUndoUnit}
@@ -24,7 +24,7 @@ use Rattle.rg_undo.proofs.Wrote.{wrote_more, there_more}
 
 -- what is left to undo, and what is done, of these Changes: a are the frames before the first, b
 -- those now
-pub record Goes (a b : Seen) (bi : Indexed) (entries left done : List Record)
+pub record Goes (a b : Seen) (bi : Summarized) (entries left done : List Record)
     (position back at now : ℕ) : Type 0 where
   pub can : CanUndoUnit b bi left
   pub rest : undone_all (slots_of b.pages) (writes_of left)
@@ -35,13 +35,13 @@ pub record Goes (a b : Seen) (bi : Indexed) (entries left done : List Record)
   pub records : done ++ undo_records at now (slots_of b.pages) left
       ≡ undo_records position back (slots_of a.pages) entries
 
-pub goes_first : (a : Seen) (ai : Indexed) (entries : List Record) (position back : ℕ)
+pub goes_first : (a : Seen) (ai : Summarized) (entries : List Record) (position back : ℕ)
     → CanUndoUnit a ai entries → Goes a a ai entries entries [] position back position back
 goes_first a ai entries position back can =
     record { can = can; rest = refl; count = refl; wrote = refl; there = tt; records = refl }
 
 -- the first of those that are left is undone
-module _ (a b z : Seen) (bi zi : Indexed) (entries : List Record) (entry : Record)
+module _ (a b z : Seen) (bi zi : Summarized) (entries : List Record) (entry : Record)
     (left done after : List Record) (position back at now : ℕ)
     (g : Goes a b bi entries (entry ∷ left) done position back at now) where
   pub first_can : CanUndoChange b bi entry
@@ -80,7 +80,7 @@ module _ (a b z : Seen) (bi zi : Indexed) (entries : List Record) (entry : Recor
 
 -- once none is left
 pub goes_last :
-    (a z : Seen) (ai zi : Indexed) (entries left done : List Record) (position back at now : ℕ)
+    (a z : Seen) (ai zi : Summarized) (entries left done : List Record) (position back at now : ℕ)
     → CanUndoUnit a ai entries → left ≡ [] → Goes a z zi entries left done position back at now
     → UndidUnit position back a z zi entries
 goes_last a z ai zi entries left done position back at now can none g = record {
@@ -107,7 +107,7 @@ goes_last a z ai zi entries left done position back at now can none g = record {
     all = undo_all (writes_of entries) (slots_of a.pages) can.proper can.can
 
 -- one step of the loop, whatever is left
-pub goes_step : (a b z : Seen) (bi zi : Indexed) (entries work later done after : List Record)
+pub goes_step : (a b z : Seen) (bi zi : Summarized) (entries work later done after : List Record)
     (position back at now : ℕ)
     → 1 ≤ length work → later ≡ later_of work
     → IfFirst work

@@ -15,7 +15,7 @@ use Rattle.rg_record.specs.declared.record.Kind.TheVariants.{Change, Undo, Commi
 use Rattle.rg_record.specs.declared.record.Kind.TheVariants.{Purge, Switch}
 use Rattle.rg_record.specs.declared.record.Record.{Record}
 use Rattle.rg_space.specs.Carries.{AllThere}
-use Rattle.rg_space.specs.Indexed.{Indexed}
+use Rattle.rg_space.specs.Summarized.{Summarized}
 use Rattle.rg_space.specs.Ready.{record_wrote}
 use Rattle.rg_space.specs.Space.{Agree}
 
@@ -60,15 +60,15 @@ undo_record position back slots entry = record {
 }
 
 -- the summaries agree with the pages, which are proper, and this Change can be undone
-pub record CanUndoChange (s : Seen) (index : Indexed) (entry : Record) : Type 0 where
-  pub agree : Agree s index
+pub record CanUndoChange (s : Seen) (summaries : Summarized) (entry : Record) : Type 0 where
+  pub agree : Agree s summaries
   pub proper : Proper (slots_of s.pages)
   pub can : Undoable None (slot_of (slots_of s.pages)) (written_of entry)
 
 -- This Change was undone, by the record at this position, on the pages that there were. These are
 -- now as that record writes them, with their positions.
 pub record UndidChange
-    (position back : ℕ) (a b : Seen) (index : Indexed) (entry : Record) : Type 0 where
+    (position back : ℕ) (a b : Seen) (summaries : Summarized) (entry : Record) : Type 0 where
   pub slots : slots_of b.pages ≡ undone (slots_of a.pages) (written_of entry)
   pub wrote :
       b.pages
@@ -77,7 +77,7 @@ pub record UndidChange
       AllThere (length a.pages)
       (parts_of (undo_record position back (slots_of a.pages) entry).kind)
   pub count : length b.pages ≡ length a.pages
-  pub agree : Agree b index
+  pub agree : Agree b summaries
 
 -- the first of these records, if there is one, is so
 abbrev pub IfFirst : List Record → (Record → Type 0) → Type 0

@@ -11,7 +11,7 @@ use Rattle.rg_home.specs.Written.{Written}
 use Rattle.rg_page.specs.Content.{slots_of}
 use Rattle.rg_page.specs.Seen.{Seen}
 use Rattle.rg_record.specs.declared.record.Record.{Record}
-use Rattle.rg_space.specs.Indexed.{Indexed}
+use Rattle.rg_space.specs.Summarized.{Summarized}
 use Rattle.rg_space.specs.Space.{Agree}
 use Rattle.rg_undo.specs.Undoing.{written_of, undo_record}
 use Rattle.rg_undo.specs.Wrote.{wrote_each, AllOnPages}
@@ -43,8 +43,8 @@ changes_back position (entry ∷ entries) =
     change_back position entry ∷ changes_back (position + 1) entries
 
 -- the summaries agree with the pages, which are proper, and each of these Changes can be undone
-pub record CanUndoUnit (s : Seen) (index : Indexed) (entries : List Record) : Type 0 where
-  pub agree : Agree s index
+pub record CanUndoUnit (s : Seen) (summaries : Summarized) (entries : List Record) : Type 0 where
+  pub agree : Agree s summaries
   pub proper : Proper (slots_of s.pages)
   pub can : AllUndoable None (slot_of (slots_of s.pages)) (writes_of entries)
 
@@ -52,7 +52,7 @@ pub record CanUndoUnit (s : Seen) (index : Indexed) (entries : List Record) : Ty
 -- are now as those records write them, with their positions. At each place is the row from before
 -- the Changes.
 pub record UndidUnit
-    (position back : ℕ) (a b : Seen) (index : Indexed) (entries : List Record) : Type 0 where
+    (position back : ℕ) (a b : Seen) (summaries : Summarized) (entries : List Record) : Type 0 where
   pub slots : slots_of b.pages ≡ undone_all (slots_of a.pages) (writes_of entries)
   pub wrote :
       b.pages
@@ -64,4 +64,4 @@ pub record UndidUnit
       ≡ taken_back (writes_of entries) p (row_at (slot_of (slots_of a.pages)) p)
   pub proper : Proper (slots_of b.pages)
   pub count : length b.pages ≡ length a.pages
-  pub agree : Agree b index
+  pub agree : Agree b summaries

@@ -6,7 +6,7 @@
 ghost use Rattle.std.specs.Prelude.{◌≡◌, ◌≤◌, ◌+◌, true, IfOk, IfErr, OnOk};
 ghost use Rattle.rg_page.specs.Content.{slots_of};
 ghost use Rattle.rg_page.specs.Seen.{Keeps};
-ghost use Rattle.rg_space.specs.Space.{InStep, frames_of, index_of, capacity_in, undos_in};
+ghost use Rattle.rg_space.specs.Space.{InStep, frames_of, summaries_of, capacity_in, undos_in};
 ghost use Rattle.rg_space.specs.Took.{IsRisen};
 ghost use Rattle.rg_undo.specs.Undoing.{is_change, undo_record, CanUndoChange, UndidChange};
 
@@ -24,19 +24,19 @@ pub fn undo_one<F: Frames>(
     back: Position,
 ) -> Result<Record, SpaceFault>
     requires spare { 5 ≤ (F.seen (frames_of space.old)).spare }
-    requires step { InStep (F.seen (frames_of space.old)) (index_of space.old)
+    requires step { InStep (F.seen (frames_of space.old)) (summaries_of space.old)
         (capacity_in space.old) }
     requires room { 1 ≤ undos_in space.old }
     requires change { is_change entry.kind ≡ true }
     ensures undo { IfOk result (λ undo. (F.seen (frames_of space.new)).sure ≡ true
-        → CanUndoChange (F.seen (frames_of space.old)) (index_of space.old) entry
+        → CanUndoChange (F.seen (frames_of space.old)) (summaries_of space.old) entry
         → undo ≡ undo_record position.0 back.0
         (slots_of (F.seen (frames_of space.old)).pages) entry) }
     ensures undone { OnOk result ((F.seen (frames_of space.new)).sure ≡ true
-        → CanUndoChange (F.seen (frames_of space.old)) (index_of space.old) entry
+        → CanUndoChange (F.seen (frames_of space.old)) (summaries_of space.old) entry
         → UndidChange position.0 back.0 (F.seen (frames_of space.old))
-        (F.seen (frames_of space.new)) (index_of space.new) entry) }
-    ensures step { InStep (F.seen (frames_of space.new)) (index_of space.new)
+        (F.seen (frames_of space.new)) (summaries_of space.new) entry) }
+    ensures step { InStep (F.seen (frames_of space.new)) (summaries_of space.new)
         (capacity_in space.new) }
     ensures capacity { capacity_in space.new ≡ capacity_in space.old }
     ensures undos { undos_in space.new + 1 ≡ undos_in space.old }

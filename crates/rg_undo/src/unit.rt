@@ -8,7 +8,7 @@ ghost use Rattle.std.specs.Prelude.{◌≡◌, ◌≤◌, ◌<◌, ◌+◌, ◌^
 ghost use Rattle.std.specs.Prelude.{IfErr, OnOk, vec_len, vec_capacity};
 ghost use Rattle.rg_page.specs.Content.{slots_of};
 ghost use Rattle.rg_page.specs.Seen.{Keeps};
-ghost use Rattle.rg_space.specs.Space.{InStep, frames_of, index_of, capacity_in, undos_in};
+ghost use Rattle.rg_space.specs.Space.{InStep, frames_of, summaries_of, capacity_in, undos_in};
 ghost use Rattle.rg_space.specs.Took.{HasRisen, IsRisen};
 ghost use Rattle.rg_undo.specs.Undoing.{AreChanges, undo_record, CanUndoChange, UndidChange};
 ghost use Rattle.rg_undo.specs.Undoing.{IfFirst, later_of};
@@ -87,7 +87,7 @@ fn undo_latest<F: Frames>(
     requires some { 1 ≤ length work.old }
     requires free { vec_len records.old < vec_capacity records.old }
     requires spare { 5 ≤ (F.seen (frames_of space.old)).spare }
-    requires step { InStep (F.seen (frames_of space.old)) (index_of space.old)
+    requires step { InStep (F.seen (frames_of space.old)) (summaries_of space.old)
         (capacity_in space.old) }
     requires room { length work.old ≤ undos_in space.old }
     ensures left { work.new ≡ later_of work.old }
@@ -95,16 +95,16 @@ fn undo_latest<F: Frames>(
     ensures free { vec_capacity records.old ≤ vec_capacity records.new }
     ensures undo { (F.seen (frames_of space.new)).sure ≡ true
         → IfFirst work.old (λ entry.
-        CanUndoChange (F.seen (frames_of space.old)) (index_of space.old) entry
+        CanUndoChange (F.seen (frames_of space.old)) (summaries_of space.old) entry
         → OnOk result (records.new.items ≡ records.old.items
         ++ undo_record position.0 back.0 (slots_of (F.seen (frames_of space.old)).pages) entry
         ∷ [])) }
     ensures undone { (F.seen (frames_of space.new)).sure ≡ true
         → IfFirst work.old (λ entry.
-        CanUndoChange (F.seen (frames_of space.old)) (index_of space.old) entry
+        CanUndoChange (F.seen (frames_of space.old)) (summaries_of space.old) entry
         → OnOk result (UndidChange position.0 back.0 (F.seen (frames_of space.old))
-        (F.seen (frames_of space.new)) (index_of space.new) entry)) }
-    ensures step { InStep (F.seen (frames_of space.new)) (index_of space.new)
+        (F.seen (frames_of space.new)) (summaries_of space.new) entry)) }
+    ensures step { InStep (F.seen (frames_of space.new)) (summaries_of space.new)
         (capacity_in space.new) }
     ensures capacity { capacity_in space.new ≡ capacity_in space.old }
     ensures room { length work.new ≤ undos_in space.new }
@@ -138,23 +138,23 @@ pub fn undo_unit<F: Frames>(
 ) -> Result<UnitUndo, SpaceFault>
     requires changes { AreChanges changes.items }
     requires spare { 5 ≤ (F.seen (frames_of space.old)).spare }
-    requires step { InStep (F.seen (frames_of space.old)) (index_of space.old)
+    requires step { InStep (F.seen (frames_of space.old)) (summaries_of space.old)
         (capacity_in space.old) }
     requires few { position.0 + length changes.items < 2 ^ 64 }
     // So each page that it changes stays idle. Where that is not so, the caller takes the steps of
     // `UndoWork` itself, and forces the log between two of them.
     requires forced { position.0 + length changes.items ≤ (F.seen (frames_of space.old)).forced }
     ensures records { IfOk result (λ undo. (F.seen (frames_of space.new)).sure ≡ true
-        → CanUndoUnit (F.seen (frames_of space.old)) (index_of space.old) changes.items
+        → CanUndoUnit (F.seen (frames_of space.old)) (summaries_of space.old) changes.items
         → undo.records.items ≡ undo_records position.0 back.0
         (slots_of (F.seen (frames_of space.old)).pages) changes.items) }
     ensures changes { IfOk result (λ undo.
         undo.changes.items ≡ changes_back position.0 changes.items) }
     ensures undone { OnOk result ((F.seen (frames_of space.new)).sure ≡ true
-        → CanUndoUnit (F.seen (frames_of space.old)) (index_of space.old) changes.items
+        → CanUndoUnit (F.seen (frames_of space.old)) (summaries_of space.old) changes.items
         → UndidUnit position.0 back.0 (F.seen (frames_of space.old))
-        (F.seen (frames_of space.new)) (index_of space.new) changes.items) }
-    ensures step { InStep (F.seen (frames_of space.new)) (index_of space.new)
+        (F.seen (frames_of space.new)) (summaries_of space.new) changes.items) }
+    ensures step { InStep (F.seen (frames_of space.new)) (summaries_of space.new)
         (capacity_in space.new) }
     ensures capacity { capacity_in space.new ≡ capacity_in space.old }
     ensures keeps { Keeps (F.seen (frames_of space.old)) (F.seen (frames_of space.new)) }

@@ -10,7 +10,7 @@ ghost use Rattle.std.specs.Prelude.{◌≡◌, ◌≤◌, ◌<◌, ◌+◌, ◌^
 ghost use Rattle.std.specs.Prelude.{None, IsNone, IfOk, IfErr, OnOk};
 ghost use Rattle.rg_page.specs.Content.{slots_of};
 ghost use Rattle.rg_page.specs.Seen.{Keeps};
-ghost use Rattle.rg_space.specs.Space.{InStep, frames_of, index_of, capacity_in, undos_in};
+ghost use Rattle.rg_space.specs.Space.{InStep, frames_of, summaries_of, capacity_in, undos_in};
 ghost use Rattle.rg_space.specs.Took.{IsRisen};
 ghost use Rattle.rg_undo.specs.Undoing.{AreChanges, undo_record, CanUndoChange, UndidChange};
 ghost use Rattle.rg_undo.specs.Undoing.{IfFirst, later_of};
@@ -53,7 +53,7 @@ impl UndoWork {
             ≤ undos_in space.new) }
         ensures least { undos_in space.old ≤ undos_in space.new }
         ensures frames { frames_of space.new ≡ frames_of space.old }
-        ensures index { index_of space.new ≡ index_of space.old }
+        ensures summaries { summaries_of space.new ≡ summaries_of space.old }
         ensures capacity { capacity_in space.new ≡ capacity_in space.old }
     {
         for _ in &changes {
@@ -88,22 +88,22 @@ impl UndoWork {
         back: Position,
     ) -> Result<Option<Record>, SpaceFault>
         requires spare { 5 ≤ (F.seen (frames_of space.old)).spare }
-        requires step { InStep (F.seen (frames_of space.old)) (index_of space.old)
+        requires step { InStep (F.seen (frames_of space.old)) (summaries_of space.old)
             (capacity_in space.old) }
         requires room { length self.old ≤ undos_in space.old }
         ensures none { IfOk result (λ undo. IsNone undo ↔ (self.old ≡ [])) }
         ensures left { self.new ≡ later_of self.old }
         ensures undo { (F.seen (frames_of space.new)).sure ≡ true
             → IfFirst self.old (λ entry.
-            CanUndoChange (F.seen (frames_of space.old)) (index_of space.old) entry
+            CanUndoChange (F.seen (frames_of space.old)) (summaries_of space.old) entry
             → IfOk result (λ undo. undo ≡ Some (undo_record position.0 back.0
             (slots_of (F.seen (frames_of space.old)).pages) entry))) }
         ensures undone { (F.seen (frames_of space.new)).sure ≡ true
             → IfFirst self.old (λ entry.
-            CanUndoChange (F.seen (frames_of space.old)) (index_of space.old) entry
+            CanUndoChange (F.seen (frames_of space.old)) (summaries_of space.old) entry
             → OnOk result (UndidChange position.0 back.0 (F.seen (frames_of space.old))
-            (F.seen (frames_of space.new)) (index_of space.new) entry)) }
-        ensures step { InStep (F.seen (frames_of space.new)) (index_of space.new)
+            (F.seen (frames_of space.new)) (summaries_of space.new) entry)) }
+        ensures step { InStep (F.seen (frames_of space.new)) (summaries_of space.new)
             (capacity_in space.new) }
         ensures capacity { capacity_in space.new ≡ capacity_in space.old }
         ensures room { length self.new ≤ undos_in space.new }

@@ -1,6 +1,7 @@
 ghost use Rattle.std.specs.Prelude.{◌≡◌, length, IfOk, OnOk};
 
 use crate::unload::unload;
+use rg_base::copy::TableCopy;
 use rg_base::part::{Part, SlotOp};
 use rg_base::place::Place;
 use rg_base::position::Position;
@@ -29,7 +30,7 @@ fn two_pages(alloc: Global) -> Result<ListFrames, Fail>
     ensures pages { IfOk result (λ frames. length frames.pages.items ≡ 2) }
     ensures reserved { IfOk result (λ frames. length frames.reserved.items ≡ 0) }
 {
-    let mut frames = ListFrames::new(alloc, 1);
+    let mut frames = ListFrames::new(alloc, TableCopy::first());
     frames.reserve_page()?;
     frames.reserve_page()?;
     frames.add_page();

@@ -14,7 +14,7 @@ ghost use Rattle.rg_home.specs.Rows.{row_at};
 ghost use Rattle.rg_page.specs.Content.{slots_of};
 ghost use Rattle.rg_page.specs.Seen.{Reads};
 ghost use Rattle.rg_space.specs.Homes.{homes_on};
-ghost use Rattle.rg_space.specs.Space.{InStep, capacity_in, frames_of, index_of, undos_in};
+ghost use Rattle.rg_space.specs.Space.{InStep, capacity_in, frames_of, summaries_of, undos_in};
 ghost use Rattle.rg_space.specs.Took.{HasRisen, slot_in};
 
 use rg_base::position::Position;
@@ -31,7 +31,7 @@ pub fn unload<F: Frames>(
     position: Position,
 ) -> Result<Item, SpaceFault>
     requires spare { 2 ≤ (F.seen (frames_of space.old)).spare }
-    requires step { InStep (F.seen (frames_of space.old)) (index_of space.old)
+    requires step { InStep (F.seen (frames_of space.old)) (summaries_of space.old)
         (capacity_in space.old) }
     // Where frames are not sure, the page may have changed between two of its rows.
     ensures copy { IfOk result (λ item. (F.seen (frames_of space.new)).sure ≡ true
@@ -44,11 +44,11 @@ pub fn unload<F: Frames>(
     ensures rows { IfOk result (λ item. (F.seen (frames_of space.new)).sure ≡ true
         → (place : Place) → place.page ≡ page
         → step_at place item None ≡ row_at (slot_in (F.seen (frames_of space.new))) place) }
-    ensures step { InStep (F.seen (frames_of space.new)) (index_of space.new)
+    ensures step { InStep (F.seen (frames_of space.new)) (summaries_of space.new)
         (capacity_in space.new) }
     ensures capacity { capacity_in space.new ≡ capacity_in space.old }
     ensures undos { undos_in space.new ≡ undos_in space.old }
-    ensures summaries { index_of space.new ≡ index_of space.old }
+    ensures summaries { summaries_of space.new ≡ summaries_of space.old }
     ensures reserved { (F.seen (frames_of space.new)).reserved
         ≡ (F.seen (frames_of space.old)).reserved }
     ensures reads { Reads (F.seen (frames_of space.old)) (F.seen (frames_of space.new)) }

@@ -6,8 +6,8 @@ use Rattle.std.specs.Ordering.{nat_cmp}
 use Rattle.std.proofs.lemmas.Bool.{cases_order, eq-eqb, ne_eqb}
 use Rattle.std.proofs.lemmas.List.Sorted.{IsNonDecreasingBy-from_sort}
 use Rattle.std.proofs.lemmas.List.Sums.{sum_by-cons}
-use Rattle.rg_index.specs.Entries.{Each}
-use Rattle.rg_index.proofs.Lists.{Each-map}
+use Rattle.std.specs.List.{AllByRecursion}
+use Rattle.rg_base.proofs.Each.{Each-map}
 
 -- how often a number stands in a list
 abbrev pub count : ℕ → List ℕ → ℕ
@@ -32,7 +32,7 @@ count-other k x xs ne = count-cons k x xs
     plus_none : (n : ℕ) → 0 + n ≡ n
     plus_none n = omega arith
 
-pub count-above : (k : ℕ) (xs : List ℕ) → Each (λ x. k < x) xs → count k xs ≡ 0
+pub count-above : (k : ℕ) (xs : List ℕ) → AllByRecursion (λ x. k < x) xs → count k xs ≡ 0
 count-above k [] each = refl
 count-above k (x ∷ xs) each =
     count-other k x xs (λ e. omega (arith, e, each.0)) ∙ count-above k xs each.1
@@ -40,9 +40,10 @@ count-above k (x ∷ xs) each =
 -- no number is below one before it
 abbrev pub Ascend : List ℕ → Type 0
 Ascend [] = Unit {0}
-Ascend (x ∷ xs) = Each (λ y. x ≤ y) xs × Ascend xs
+Ascend (x ∷ xs) = AllByRecursion (λ y. x ≤ y) xs × Ascend xs
 
-each_at : (P : ℕ → Type 0) (xs : List ℕ) → ((j : ℕ) → j < length xs → P (get_or xs j 0)) → Each P xs
+each_at : (P : ℕ → Type 0) (xs : List ℕ) → ((j : ℕ) → j < length xs → P (get_or xs j 0))
+    → AllByRecursion P xs
 each_at P [] at = tt
 each_at P (x ∷ xs) at = (at 0 (omega arith), each_at P xs (λ j lt. at (suc j) (omega arith)))
 
@@ -58,7 +59,7 @@ pub sorted_ascend : (xs : List ℕ) → IsSorted nat_cmp xs → Ascend xs
 sorted_ascend xs sorted = ascend_from xs (IsNonDecreasingBy-from_sort (λ x. x) xs sorted)
 
 -- a number below all of a list doesn't stand in it
-lower : (k x : ℕ) (xs : List ℕ) → k < x → Each (λ y. x ≤ y) xs → count k (x ∷ xs) ≡ 0
+lower : (k x : ℕ) (xs : List ℕ) → k < x → AllByRecursion (λ y. x ≤ y) xs → count k (x ∷ xs) ≡ 0
 lower k x xs lt each =
     count-above k (x ∷ xs) (lt, Each-map (λ y. x ≤ y) (λ y. k < y) (λ y le. omega arith) xs each)
 

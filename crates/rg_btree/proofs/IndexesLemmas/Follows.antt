@@ -4,10 +4,12 @@ use Rattle.std.proofs.Common.{ap, subst, arith}
 use Rattle.std.specs.Prelude.{◌==◌, ◌&&◌, not, if◌then◌else◌}
 use Rattle.std.proofs.lemmas.Bool.{eqb-true}
 use Rattle.std.proofs.lemmas.Bool.Decides.{nat_tests}
+use Rattle.std.proofs.Math.Bool.{and-false}
 use Rattle.rg_base.specs.declared.place.Place.{Place}
 use Rattle.rg_base.specs.declared.row.Row.{Row}
 use Rattle.rg_base.specs.declared.which.Which.{Which}
-use Rattle.rg_model.specs.Layout.{put_entry, value_of, same_entry, same_place}
+use Rattle.rg_base.specs.Place.{same_place}
+use Rattle.rg_model.specs.Layout.{put_entry, value_of, same_entry}
 use Rattle.rg_index.specs.Entries.{has_entry, without_entry}
 use Rattle.rg_index.specs.Listed.{IsListingOf, SetsRow, has_value}
 use Rattle.rg_index.proofs.Listing.{more_rows, fewer_rows}
@@ -75,12 +77,8 @@ other_absent which xs ys home row before value more listed b v apart e =
     ∙ has_entry-without_entry (value, home) xs (more, home)
     ∙ ap (λ (t : Bool). not (same_entry (value, home) (more, home)) && t)
     (listed more ∙ ap (has_value which more) b ∙ differs (more == value_of which row) refl)
-    ∙ none (not (same_entry (value, home) (more, home)))
+    ∙ and-false (not (same_entry (value, home) (more, home)))
   where
     differs : (t : Bool) → (more == value_of which row) ≡ t → t ≡ false
     differs true f = absurd (apart (eqb-true more (value_of which row) f ∙ sym v))
     differs false f = refl
-
-    none : (t : Bool) → (t && false) ≡ false
-    none true = refl
-    none false = refl

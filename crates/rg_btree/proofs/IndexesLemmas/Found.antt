@@ -1,29 +1,33 @@
 -- The keys with a `cat` are the keys of the rows that the index by `cat` lists, sorted.
-use Rattle.std.proofs.Common.{◌≡◌, ◌==◌, ◌&&◌, ◌||◌, ◌<◌, ◌≤◌, ◌⊎◌, T, ℕ, suc, Bool, true, false}
+use Rattle.std.proofs.Common.{◌≡◌, ◌==◌, ◌&&◌, ◌||◌, ◌<◌, ◌≤◌, ◌⊎◌, ℕ, suc, Bool, true, false}
 use Rattle.std.proofs.Common.{cond, List, [], ◌∷◌, map, filter, IsPermutation, IsSorted, Option}
 use Rattle.std.proofs.Common.{Some, None, refl, sym, ◌∙◌, ap, subst, inl, inr, arith}
 use Rattle.std.specs.Prelude.{nat_le}
 use Rattle.std.specs.FinMap.{find, is_sorted, get-entries, entries_sorted}
 use Rattle.std.specs.FinMap.Entries.{below_all}
-use Rattle.std.specs.List.{cons_option}
-use Rattle.std.specs.Ordering.{nat_cmp, eq_by_cmp, is_lt}
+use Rattle.std.specs.List.{cons_option, AllByRecursion}
+use Rattle.std.specs.Ordering.{nat_cmp, is_lt}
 use Rattle.std.proofs.lemmas.Bool.{and_parts, eqb-true, eqb-false, cases_Bool}
 use Rattle.std.proofs.lemmas.Bool.Decides.{nat_tests}
 use Rattle.std.proofs.lemmas.List.Sorted.{sum_by-IsPermutation}
+use Rattle.std.specs.Cmp.{unsigned_tied}
 use Rattle.rg_base.specs.declared.place.Place.{Place}
 use Rattle.rg_base.specs.declared.row.Row.{Row}
 use Rattle.rg_base.specs.declared.which.Which.TheVariants.{Cat}
-use Rattle.rg_index.specs.Entries.{Each, IsRising, has_entry, is_within, entries_within}
+use Rattle.rg_base.proofs.Small.{nat_turned, true_of}
+use Rattle.rg_index.specs.Entries.{IsRising, has_entry, is_within, entries_within}
 use Rattle.rg_index.specs.Listed.{IsListingOf, has_value}
 use Rattle.rg_index.specs.RisingPart.{IsRising-filter, Each-filter, Each-passes}
-use Rattle.rg_index.proofs.Lists.{Each-map, none_behind}
-use Rattle.rg_index.proofs.Order.{same_is}
+use Rattle.rg_index.proofs.Lists.{none_behind}
+use Rattle.rg_index.proofs.Order.{same_is, same_itself}
 use Rattle.rg_btree.proofs.IndexesLemmas.Counts.{count, count-same, count-other, count-above}
 use Rattle.rg_btree.proofs.IndexesLemmas.Counts.{Ascend, same_counts, sorted_ascend}
 use Rattle.rg_btree.proofs.IndexesLemmas.Members.{IsRowOf, each_row}
 use Rattle.rg_btree.specs.Indexes.Listed.{listed_rows, listed_keys}
 use Rattle.rg_home.specs.Table.{IsTable}
-use Rattle.rg_model.specs.Layout.{same_entry, same_place}
+use Rattle.rg_base.specs.Place.{same_place}
+use Rattle.rg_base.proofs.Each.{Each-map}
+use Rattle.rg_model.specs.Layout.{same_entry}
 use Rattle.rg_model.specs.Plain.{keys_with_cat}
 use Rattle.rg_model.specs.State.{Table, row_of, entries_of}
 
@@ -34,9 +38,6 @@ target cat (Some row) = cond (row.cat == cat) 1 0
 
 -- ---- the keys of the table's entries
 
-is_key : (a b : ℕ) → eq_by_cmp nat_cmp a b ≡ (a == b)
-is_key a b = grind (arith, nat_tests)
-
 less : (a b : ℕ) → is_lt (nat_cmp a b) ≡ true → a < b
 less a b e = grind (arith, nat_tests)
 
@@ -45,12 +46,12 @@ module _ (cat : ℕ) where
   keys_in es = map (λ entry. entry.0) (filter (λ entry. entry.1.cat == cat) es)
 
   above-keys : (k : ℕ) (es : List (ℕ × Row)) → below_all nat_cmp k es ≡ true
-      → Each (λ x. k < x) (keys_in es)
+      → AllByRecursion (λ x. k < x) (keys_in es)
   above-keys k [] below = tt
   above-keys k (e ∷ es) below =
       let parts = and_parts (is_lt (nat_cmp k e.0)) (below_all nat_cmp k es) below in
       let rest = above-keys k es parts.1 in
-      elim (e.1.cat == cat) as (λ b. Each (λ x. k < x)
+      elim (e.1.cat == cat) as (λ b. AllByRecursion (λ x. k < x)
       (map (λ (entry : ℕ × Row). entry.0)
       (cond b (e ∷ filter (λ (entry : ℕ × Row). entry.1.cat == cat) es)
       (filter (λ (entry : ℕ × Row). entry.1.cat == cat) es)))) [
@@ -88,7 +89,7 @@ module _ (cat : ℕ) where
       keys b = map (λ (entry : ℕ × Row). entry.0) (cond b (e ∷ kept) kept)
 
       step : find nat_cmp k (e ∷ es) ≡ cond (k == e.0) (Some e.1) (find nat_cmp k es)
-      step = ap (λ (b : Bool). cond b (Some e.1) (find nat_cmp k es)) (is_key k e.0)
+      step = ap (λ (b : Bool). cond b (Some e.1) (find nat_cmp k es)) (unsigned_tied k e.0)
 
       with_key : (b : Bool) → k ≡ e.0 → count k (map (λ (entry : ℕ × Row). entry.0) kept) ≡ 0
           → count k (map (λ (entry : ℕ × Row). entry.0) (cond b (e ∷ kept) kept)) ≡ cond b 1 0
@@ -109,7 +110,7 @@ module _ (cat : ℕ) where
       go (inl same) rest =
           let here = eqb-true k e.0 same in
           let none = count-above k (keys_in es)
-          (subst (λ n. Each (λ x. n < x) (keys_in es)) (sym here)
+          (subst (λ n. AllByRecursion (λ x. n < x) (keys_in es)) (sym here)
           (above-keys e.0 es
           (and_parts (below_all nat_cmp e.0 es) (is_sorted nat_cmp es) sorted).0)) in
           with_key (e.1.cat == cat) here none
@@ -127,7 +128,8 @@ module _ (cat : ℕ) where
         ap (λ (r : Option Row). map (λ (row : Row). row.key) (cons_option r (listed_rows rows es)))
         at
 
-    count-none : (k : ℕ) → keys k ≡ None → (es : List (ℕ × Place)) → Each (IsRowOf Cat rows) es
+    count-none : (k : ℕ) → keys k ≡ None → (es : List (ℕ × Place))
+        → AllByRecursion (IsRowOf Cat rows) es
         → count k (listed_keys rows es) ≡ 0
     count-none k none [] each = refl
     count-none k none (e ∷ es) each =
@@ -141,7 +143,8 @@ module _ (cat : ℕ) where
         some_none row e = absurd (cc (e))
 
     count-some : (k : ℕ) (p : Place) (row : Row) → rows p ≡ Some row → row.key ≡ k
-        → (es : List (ℕ × Place)) → Each (IsRowOf Cat rows) es → Each (λ e. e.0 ≡ cat) es
+        → (es : List (ℕ × Place)) → AllByRecursion (IsRowOf Cat rows) es
+        → AllByRecursion (λ e. e.0 ≡ cat) es
         → IsRising es
         → count k (listed_keys rows es) ≡ cond (has_entry es (cat, p)) 1 0
     count-some k p row there key [] each value rising = refl
@@ -170,9 +173,6 @@ module _ (cat : ℕ) where
             ap suc (rest ∙ zero_if (has_entry es (cat, p)) gone)
             ∙ sym (one_if (same_entry (cat, p) e) (has_entry es (cat, p)) same)
           where
-            same_itself : (a : ℕ × Place) → same_entry a a ≡ true
-            same_itself a = grind (arith, nat_tests)
-
             zero_if : (b : Bool) → b ≡ false → ◌≡◌ {A = ℕ} (cond b 1 0) 0
             zero_if b e = λ i. cond (e i) 1 0
 
@@ -229,10 +229,10 @@ module _ (cat : ℕ) where
         some : List (ℕ × Place)
         some = entries_within cat cat es
 
-        each : Each (IsRowOf Cat rows) some
+        each : AllByRecursion (IsRowOf Cat rows) some
         each = Each-filter (IsRowOf Cat rows) (is_within cat cat) es (each_row Cat rows es lists)
 
-        value : Each (λ e. e.0 ≡ cat) some
+        value : AllByRecursion (λ e. e.0 ≡ cat) some
         value = Each-map (λ e. is_within cat cat e ≡ true) (λ e. e.0 ≡ cat) (λ e w. at_value e.0 w)
             some (Each-passes (is_within cat cat) es)
           where
@@ -247,10 +247,8 @@ module _ (cat : ℕ) where
             count-some k p row placed.2 placed.0 some each value
             (IsRising-filter (is_within cat cat) es rising)
             ∙ ap (λ (b : Bool). cond b 1 0)
-            (has-within es p ∙ lists cat p ∙ ap (has_value Cat cat) placed.2 ∙ turned cat row.cat)
-          where
-            turned : (a b : ℕ) → (a == b) ≡ (b == a)
-            turned a b = grind (arith, nat_tests)
+            (has-within es p ∙ lists cat p ∙ ap (has_value Cat cat) placed.2
+            ∙ nat_turned cat row.cat)
 
 -- the keys of those rows, sorted
 pub keys-found : (cat : ℕ) (rows : Place → Option Row) (table : Table) (es : List (ℕ × Place))
@@ -266,9 +264,5 @@ keys-found cat rows table es is rising lists keys same sorted =
     ∙ ap (target cat) (get-entries table k)
     ∙ sym (count-keys cat k (entries_of table) in_order))
   where
-    true_of : (b : Bool) → T b → b ≡ true
-    true_of true h = refl
-    true_of false h = absurd h
-
     in_order : is_sorted nat_cmp (entries_of table) ≡ true
     in_order = true_of (is_sorted nat_cmp (entries_of table)) (entries_sorted table)

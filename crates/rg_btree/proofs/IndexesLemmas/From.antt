@@ -6,9 +6,12 @@ use Rattle.std.specs.Prelude.{nat_le}
 use Rattle.std.proofs.lemmas.Bool.{cases_Bool, or_left, or_right}
 use Rattle.std.proofs.lemmas.Bool.Decides.{nat_tests}
 use Rattle.rg_base.specs.declared.place.Place.{Place}
-use Rattle.rg_model.specs.Layout.{same_entry, same_place, is_entry_before, is_place_before}
-use Rattle.rg_index.specs.Entries.{Each, IsRising, has_entry}
-use Rattle.rg_index.proofs.Lists.{Each-map, none_behind, list_any-none}
+use Rattle.rg_base.specs.Place.{same_place}
+use Rattle.rg_base.proofs.Each.{Each-map}
+use Rattle.rg_model.specs.Layout.{same_entry, is_entry_before, is_place_before}
+use Rattle.std.specs.List.{AllByRecursion}
+use Rattle.rg_index.specs.Entries.{IsRising, has_entry}
+use Rattle.rg_index.proofs.Lists.{none_behind, list_any-none}
 use Rattle.rg_index.proofs.Order.{before_total, before_trans, behind_apart, before_apart, same_is}
 use Rattle.rg_index.proofs.Order.{same_itself}
 
@@ -82,7 +85,7 @@ found_there key (x ∷ es) e is = go (nat_le key x.0) is (found_there key es e)
         (subst (λ y. same_entry e y ≡ true) same (same_itself e)))
     go false is rest = or_right (same_entry e x) (has_entry es e) (rest is)
 
-above_none : (key : ℕ) (es : List (ℕ × Place)) → Each (λ e. key < e.0) es → (p : Place)
+above_none : (key : ℕ) (es : List (ℕ × Place)) → AllByRecursion (λ e. key < e.0) es → (p : Place)
     → has_entry es (key, p) ≡ false
 above_none key es above p = list_any-none (same_entry (key, p)) es
     (Each-map (λ e. key < e.0) (λ e. same_entry (key, p) e ≡ false)

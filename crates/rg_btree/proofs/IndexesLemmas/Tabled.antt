@@ -7,23 +7,25 @@ use Rattle.std.specs.FinMap as fin
 use Rattle.std.specs.FinMap.{find, is_sorted, same_map, nat_cmp-IsAntisymmetric, get-from_sorted}
 use Rattle.std.specs.FinMap.{entries-from_sorted, len-entries}
 use Rattle.std.specs.FinMap.Entries.{below_all}
-use Rattle.std.specs.List.{cons_option}
-use Rattle.std.specs.Ordering.{nat_cmp, eq_by_cmp, is_lt}
+use Rattle.std.specs.List.{cons_option, AllByRecursion}
+use Rattle.std.specs.Ordering.{nat_cmp, is_lt}
 use Rattle.std.proofs.lemmas.Bool.{and_from, eqb-true, eq-eqb, cases_lt, true≢false}
-use Rattle.std.proofs.lemmas.Bool.Decides.{nat_tests}
 use Rattle.std.proofs.lemmas.Cmp.{nat_cmp_total}
+use Rattle.std.specs.Cmp.{unsigned_tied}
 use Rattle.rg_base.specs.declared.place.Place.{Place}
 use Rattle.rg_base.specs.declared.row.Row.{Row}
 use Rattle.rg_base.specs.declared.which.Which.TheVariants.{Key}
-use Rattle.rg_index.specs.Entries.{Each, IsRising, has_entry, is_within, entries_within}
+use Rattle.rg_index.specs.Entries.{IsRising, has_entry, is_within, entries_within}
 use Rattle.rg_index.specs.Listed.{IsListingOf, has_value}
 use Rattle.rg_btree.proofs.IndexesLemmas.Members.{IsRowOf, each_row, row_there, same_value}
-use Rattle.rg_btree.proofs.IndexesLemmas.Members.{not_itself}
 use Rattle.rg_btree.specs.Indexes.Listed.{with_value, keyed_rows, listed_rows}
 use Rattle.rg_home.specs.Table.{IsTable}
-use Rattle.rg_model.specs.Layout.{same_place, is_entry_before}
+use Rattle.rg_base.specs.Place.{same_place}
+use Rattle.rg_base.proofs.Small.{cmp_below}
+use Rattle.rg_model.specs.Layout.{is_entry_before}
 use Rattle.rg_model.specs.Plain.{rows_between}
 use Rattle.rg_model.specs.State.{Table, row_of, entries_of, row_count}
+use Rattle.rg_model.proofs.Before.{not_itself}
 
 module _ (rows : Place → Option Row) where
   keyed-row : (e : ℕ × Place) (es : List (ℕ × Place)) (row : Row) → rows e.1 ≡ Some row
@@ -35,7 +37,7 @@ module _ (rows : Place → Option Row) where
       → listed_rows rows (e ∷ es) ≡ row ∷ listed_rows rows es
   listed-row e es row is = ap (λ (r : Option Row). cons_option r (listed_rows rows es)) is
 
-  length-keyed : (es : List (ℕ × Place)) → Each (IsRowOf Key rows) es
+  length-keyed : (es : List (ℕ × Place)) → AllByRecursion (IsRowOf Key rows) es
       → length (keyed_rows rows es) ≡ length es
   length-keyed [] each = refl
   length-keyed (e ∷ es) each = ap length (keyed-row e es each.0.row each.0.is)
@@ -46,19 +48,17 @@ module _ (rows : Place → Option Row) where
   abbrev AreKeys : (ℕ → Option Row) → Type 0
   AreKeys keys = IsTable rows keys
 
-  below-keyed : (k : ℕ) (es : List (ℕ × Place)) → Each (IsRowOf Key rows) es
-      → Each (λ e. k < e.0) es → below_all nat_cmp k (keyed_rows rows es) ≡ true
+  below-keyed : (k : ℕ) (es : List (ℕ × Place)) → AllByRecursion (IsRowOf Key rows) es
+      → AllByRecursion (λ e. k < e.0) es → below_all nat_cmp k (keyed_rows rows es) ≡ true
   below-keyed k [] each above = refl
   below-keyed k (e ∷ es) each above =
       ap (below_all nat_cmp k) (keyed-row e es each.0.row each.0.is)
       ∙ and_from (is_lt (nat_cmp k e.0)) (below_all nat_cmp k (keyed_rows rows es))
-      (lower k e.0 above.0) (below-keyed k es each.1 above.1)
-    where
-      lower : (a b : ℕ) → a < b → is_lt (nat_cmp a b) ≡ true
-      lower a b lt = grind (arith, nat_tests)
+      (cmp_below k e.0 above.0) (below-keyed k es each.1 above.1)
 
   sorted-keyed : (keys : ℕ → Option Row) → AreKeys keys → (es : List (ℕ × Place))
-      → Each (IsRowOf Key rows) es → IsRising es → is_sorted nat_cmp (keyed_rows rows es) ≡ true
+      → AllByRecursion (IsRowOf Key rows) es → IsRising es
+      → is_sorted nat_cmp (keyed_rows rows es) ≡ true
   sorted-keyed keys is [] each rising = refl
   sorted-keyed keys is (e ∷ es) each rising =
       ap (is_sorted nat_cmp) (keyed-row e es each.0.row each.0.is)
@@ -68,8 +68,9 @@ module _ (rows : Place → Option Row) where
       (sorted-keyed keys is es each.1 rising.1)
     where
       -- two entries with one value would be two homes of one key
-      above : (later : List (ℕ × Place)) → Each (IsRowOf Key rows) later
-          → Each (λ l. is_entry_before e l ≡ true) later → Each (λ l. e.0 < l.0) later
+      above : (later : List (ℕ × Place)) → AllByRecursion (IsRowOf Key rows) later
+          → AllByRecursion (λ l. is_entry_before e l ≡ true) later
+          → AllByRecursion (λ l. e.0 < l.0) later
       above [] each before = tt
       above (l ∷ later) rest before = (one (cases_lt e.0 l.0), above later rest.1 before.1)
         where
@@ -84,9 +85,6 @@ module _ (rows : Place → Option Row) where
 
   -- ---- what is found by a key
 
-  is_key : (a b : ℕ) → eq_by_cmp nat_cmp a b ≡ (a == b)
-  is_key a b = grind (arith, nat_tests)
-
   abbrev Absent : ℕ → List (ℕ × Place) → Type 0
   Absent q es =
       (find nat_cmp q (keyed_rows rows es) ≡ None) × ((p : Place) → has_entry es (q, p) ≡ false)
@@ -98,7 +96,7 @@ module _ (rows : Place → Option Row) where
     there : rows place ≡ Some row
     key : row.key ≡ q
 
-  find-keyed : (q : ℕ) (es : List (ℕ × Place)) → Each (IsRowOf Key rows) es
+  find-keyed : (q : ℕ) (es : List (ℕ × Place)) → AllByRecursion (IsRowOf Key rows) es
       → Absent q es ⊎ IsFound q es
   find-keyed q [] each = inl (refl, λ p. refl)
   find-keyed q (e ∷ es) each = go (q == e.0) refl (find-keyed q es each.1)
@@ -107,7 +105,7 @@ module _ (rows : Place → Option Row) where
           ≡ cond (q == e.0) (Some each.0.row) (find nat_cmp q (keyed_rows rows es))
       step = ap (find nat_cmp q) (keyed-row e es each.0.row each.0.is)
           ∙ ap (λ (b : Bool). cond b (Some each.0.row) (find nat_cmp q (keyed_rows rows es)))
-          (is_key q e.0)
+          (unsigned_tied q e.0)
 
       go : (b : Bool) → (q == e.0) ≡ b → Absent q es ⊎ IsFound q es
           → Absent q (e ∷ es) ⊎ IsFound q (e ∷ es)
@@ -172,7 +170,7 @@ count-keyed rows table es is rising lists =
     ∙ length-keyed rows es (each_row Key rows es lists)
 
 between-keyed : (rows : Place → Option Row) (lo hi : ℕ) (es : List (ℕ × Place))
-    → Each (IsRowOf Key rows) es
+    → AllByRecursion (IsRowOf Key rows) es
     → map (λ entry. entry.1)
     (filter (λ entry. nat_le lo entry.0 && nat_le entry.0 hi) (keyed_rows rows es))
     ≡ listed_rows rows (entries_within lo hi es)

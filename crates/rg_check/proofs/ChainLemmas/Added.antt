@@ -5,9 +5,9 @@ use Rattle.rg_record.specs.declared.record.Record.{Record}
 use Rattle.rg_record.specs.Spelled.{IsRecord}
 use Rattle.rg_image.specs.Meaning.{Current, current_after}
 use Rattle.rg_image.specs.Rules.{KindFollows}
+use Rattle.rg_image.proofs.Current.{current_more}
 use Rattle.rg_check.specs.Chain.Running.{Running, owed_unit, unit_at, unit_after, put_unit}
 use Rattle.rg_check.specs.Chain.Kept.{AreUnits, IsKept}
-use Rattle.rg_check.proofs.ChainLemmas.Records.{current_more}
 use Rattle.rg_check.proofs.ChainLemmas.Puts.{units_put, units_stay}
 
 module _ (before : List Record) (old mid : Running) (kept : IsKept before old) (entry : Record)

@@ -9,7 +9,6 @@ use Rattle.rg_record.specs.declared.record.Kind.{Kind}
 use Rattle.rg_record.specs.declared.record.Kind.TheVariants.{Change, Undo, Commit, RolledBack}
 use Rattle.rg_record.specs.declared.record.Kind.TheVariants.{Purge, Switch}
 use Rattle.rg_record.specs.declared.record.Record.{Record}
-use Rattle.rg_image.specs.Meaning.{Current, current_after, current_from}
 use Rattle.rg_image.specs.Rules.{Done, of_tran, last_position, greatest_tran, but_first, done_by}
 use Rattle.rg_image.specs.Rules.{done_after}
 
@@ -43,11 +42,6 @@ pub greatest_more : (rs : List Record) (entry : Record)
     → greatest_tran (rs ++ entry ∷ []) ≡ max (greatest_tran rs) entry.tran.0
 greatest_more [] entry = omega arith
 greatest_more (r ∷ rs) entry = omega (arith, greatest_more rs entry)
-
-pub current_more : (now : Current) (rs : List Record) (entry : Record)
-    → current_from now (rs ++ entry ∷ []) ≡ current_after (current_from now rs) entry.kind
-current_more now [] entry = refl
-current_more now (r ∷ rs) entry = current_more (current_after now r.kind) rs entry
 
 pub any_more : (p : Record → Bool) (rs : List Record) (entry : Record)
     → list_any p (rs ++ entry ∷ []) ≡ (list_any p rs || p entry)

@@ -4,6 +4,7 @@ use Rattle.std.proofs.Common.{◌∷◌, ◌++◌, length, Option, Some, refl, s
 use Rattle.std.proofs.Common.{if◌then◌else◌}
 use Rattle.std.specs.List.{list_any}
 use Rattle.std.proofs.lemmas.List.{get_or_append_left, get_or_push, length-append}
+use Rattle.std.proofs.Math.Bool.{or-false, or-true}
 use Rattle.rg_base.specs.declared.place.Place.{Place}
 use Rattle.rg_base.specs.declared.row.Row.{Row}
 use Rattle.rg_record.specs.declared.record.Kind.{Kind}
@@ -19,14 +20,6 @@ use Rattle.rg_check.specs.Chain.Running.{owed_unit, unit_after}
 use Rattle.rg_check.specs.Chain.Kept.{done_of, AreDone, IsUnit}
 use Rattle.rg_check.proofs.ChainLemmas.Records.{own_record, other_record, last_more, done_more}
 use Rattle.rg_check.proofs.ChainLemmas.Records.{any_more, of_tran_few, done_few}
-
-or_false : (b : Bool) → (b || false) ≡ b
-or_false true = refl
-or_false false = refl
-
-or_true : (b : Bool) → (b || true) ≡ true
-or_true true = refl
-or_true false = refl
 
 -- more records leave the Changes that are not undone where they are
 pub done_append : (before more : List Record) (top : ℕ) (done : List Done) → AreDone before top done
@@ -115,8 +108,8 @@ module _ (before : List Record) (entry : Record)
       done_kind unit is k of_kind in
       record {
         last = last_is;
-        ended = sym (ended_is unit is k of_kind ∙ or_false unit.ended);
-        undoing = sym (undoing_is unit is k of_kind ∙ or_false unit.undoing);
+        ended = sym (ended_is unit is k of_kind ∙ or-false unit.ended);
+        undoing = sym (undoing_is unit is k of_kind ∙ or-false unit.undoing);
         done = subst (AreDone now entry.position.0) (sym d) (
           omega (arith, position),
           omega (arith, position, longer),
@@ -140,8 +133,8 @@ module _ (before : List Record) (entry : Record)
       let u = undone before unit.top next.0 home after (not_undone tran before) is.done follows.1 in
       record {
         last = last_is;
-        ended = sym (ended_is unit is k of_kind ∙ or_false unit.ended);
-        undoing = sym (undoing_is unit is k of_kind ∙ or_true unit.undoing);
+        ended = sym (ended_is unit is k of_kind ∙ or-false unit.ended);
+        undoing = sym (undoing_is unit is k of_kind ∙ or-true unit.undoing);
         done = subst (AreDone now next.0) (sym d)
             (done_append before (entry ∷ []) next.0 (but_first (not_undone tran before)) u.0);
         left = omega (arith, is.left, u.1, ap (λ (l : List Done). length l) d);
@@ -152,8 +145,8 @@ module _ (before : List Record) (entry : Record)
       let d : not_undone tran now ≡ not_undone tran before = done_kind unit is Commit of_kind in
       record {
         last = last_is;
-        ended = sym (ended_is unit is Commit of_kind ∙ or_true unit.ended);
-        undoing = sym (undoing_is unit is Commit of_kind ∙ or_false unit.undoing);
+        ended = sym (ended_is unit is Commit of_kind ∙ or-true unit.ended);
+        undoing = sym (undoing_is unit is Commit of_kind ∙ or-false unit.undoing);
         done = subst (AreDone now unit.top) (sym d)
             (done_append before (entry ∷ []) unit.top (not_undone tran before) is.done);
         left = omega (arith, is.left, ap (λ (l : List Done). length l) d);
@@ -164,8 +157,8 @@ module _ (before : List Record) (entry : Record)
       let d : not_undone tran now ≡ not_undone tran before = done_kind unit is RolledBack of_kind in
       record {
         last = last_is;
-        ended = sym (ended_is unit is RolledBack of_kind ∙ or_true unit.ended);
-        undoing = sym (undoing_is unit is RolledBack of_kind ∙ or_false unit.undoing);
+        ended = sym (ended_is unit is RolledBack of_kind ∙ or-true unit.ended);
+        undoing = sym (undoing_is unit is RolledBack of_kind ∙ or-false unit.undoing);
         done = subst (AreDone now unit.top) (sym d)
             (done_append before (entry ∷ []) unit.top (not_undone tran before) is.done);
         left = omega (arith, is.left, ap (λ (l : List Done). length l) d);

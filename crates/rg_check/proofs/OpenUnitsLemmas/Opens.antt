@@ -6,10 +6,11 @@ use Rattle.std.proofs.Common.{◌≡◌, ◌≤◌, ⊎_elim, ℕ, zero, suc, �
 use Rattle.std.proofs.Common.{false, if◌then◌else◌, List, [], ◌∷◌, ◌++◌, length, refl, sym, ◌∙◌, ap}
 use Rattle.std.proofs.Common.{subst, arith}
 use Rattle.std.specs.List.{All, AllByRecursion, Contains}
-use Rattle.std.proofs.lemmas.Bool.{cases_lt, eqb-false, ne_eqb, or_from, or_parts}
+use Rattle.std.proofs.lemmas.Bool.{cases_lt, ne_eqb, or_from, or_parts}
 use Rattle.std.proofs.lemmas.List.Elements.{All-append, All-cons, All-contains, All-map, All-nil}
 use Rattle.std.proofs.lemmas.List.Elements.{All-weaker, Contains-append_left, Contains-append_right}
 use Rattle.std.proofs.lemmas.List.Elements.{Contains-push, recursion_from_All}
+use Rattle.rg_base.proofs.Small.{nat_some}
 use Rattle.rg_home.specs.Written.{Written}
 use Rattle.rg_record.specs.declared.record.Record.{Record}
 use Rattle.rg_image.specs.Rules.{of_tran, greatest_tran, is_ended, not_undone, owed_to, IsOpen}
@@ -26,17 +27,13 @@ is_closed t rs = is_ended t rs || (length (of_tran t rs) == 0)
 abbrev pub IsListed : ℕ → List Record → ℕ → Type 0
 IsListed n rs t = IsOpen t rs × (t ≤ n)
 
-some_if : (n : ℕ) → (n == 0) ≡ false → 1 ≤ n
-some_if zero e = absurd (eqb-false 0 0 e refl)
-some_if (suc n) e = omega arith
-
 one_listed : (n : ℕ) (rs : List Record) (b : Bool) → is_closed (suc n) rs ≡ b
     → All (IsListed (suc n) rs) (if b then [] else suc n ∷ [])
 one_listed n rs true is = All-nil (IsListed (suc n) rs)
 one_listed n rs false is =
     let parts = or_parts (is_ended (suc n) rs) (length (of_tran (suc n) rs) == 0) is in
     All-cons (IsListed (suc n) rs) (suc n) []
-    ((omega arith, some_if (length (of_tran (suc n) rs)) parts.1, parts.0), omega arith)
+    ((omega arith, nat_some (length (of_tran (suc n) rs)) parts.1, parts.0), omega arith)
     (All-nil (IsListed (suc n) rs))
 
 pub all_listed : (n : ℕ) (rs : List Record) → All (IsListed n rs) (open_to n rs)
@@ -55,8 +52,8 @@ listed_is rs t there = All-contains (IsListed (greatest_tran rs) rs) (open_in rs
 
 -- ---- each open transaction is listed
 
-not_closed : (t : ℕ) (rs : List Record) → IsOpen t rs → is_closed t rs ≡ false
-not_closed t rs is_open =
+pub open_not_closed : (t : ℕ) (rs : List Record) → IsOpen t rs → is_closed t rs ≡ false
+open_not_closed t rs is_open =
     or_from (is_ended t rs) (length (of_tran t rs) == 0) is_open.2
     (ne_eqb (length (of_tran t rs)) 0 (λ e. omega (arith, e, is_open.1)))
 
@@ -69,7 +66,7 @@ listed_to (suc n) rs t is_open le =
     (λ last. let same : suc n ≡ t = omega (arith, le, last) in
     Contains-append_right (open_to n rs) (if is_closed (suc n) rs then [] else suc n ∷ []) t
     (subst (λ (b : Bool). Contains (if b then [] else suc n ∷ []) t)
-    (sym (ap (λ (u : ℕ). is_closed u rs) same ∙ not_closed t rs is_open))
+    (sym (ap (λ (u : ℕ). is_closed u rs) same ∙ open_not_closed t rs is_open))
     (subst (λ (u : ℕ). Contains (suc n ∷ []) u) same (Contains-push [] (suc n)))))
     (cases_lt t (suc n))
 
@@ -83,7 +80,7 @@ open_is_listed rs t is_open =
 
 -- ---- what they owe
 
-owed_append : (xs ys : List ℕ) (rs : List Record)
+pub owed_append : (xs ys : List ℕ) (rs : List Record)
     → owed_for (xs ++ ys) rs ≡ owed_for xs rs + owed_for ys rs
 owed_append [] ys rs = omega arith
 owed_append (t ∷ xs) ys rs = omega (arith, owed_append xs ys rs)

@@ -6,11 +6,12 @@ use Rattle.std.specs.FinMap.{get-insert}
 use Rattle.std.specs.Option.{is_some}
 use Rattle.std.specs.Ordering.{eq_by_cmp, nat_cmp}
 use Rattle.std.proofs.lemmas.Bool.{cases_lt}
-use Rattle.std.proofs.lemmas.Bool.Decides.{nat_tests}
 use Rattle.std.proofs.lemmas.Cmp.{nat_cmp_total}
+use Rattle.std.proofs.lemmas.Option.{same_Some}
 use Rattle.rg_base.specs.First.{IsFirstFrom}
 use Rattle.rg_base.specs.declared.place.Place.{Place}
 use Rattle.rg_base.specs.declared.row.Row.{Row as TableRow}
+use Rattle.rg_base.proofs.Small.{cmp_same, cmp_one}
 use Rattle.rg_home.specs.Pages.{slot_of}
 use Rattle.rg_home.specs.Rows.{home_row, row_at}
 use Rattle.rg_home.specs.Slot.{Slot}
@@ -19,13 +20,7 @@ use Rattle.rg_check.specs.PageTests.Keys.{Notes, noted}
 use Rattle.rg_check.specs.PageTests.Places.{Says}
 use Rattle.rg_check.specs.PageTests.StoredRows.{AllHaveHomes, AreNoted, AreSound, IsIn, IsNoted}
 use Rattle.rg_check.specs.PageTests.StoredRows.{IsStoredAt, SomeHasNone, StoredRows}
-use Rattle.rg_check.proofs.PageTestsLemmas.Says.{none_some, says_both, some_is}
-
-same : (a b : ℕ) → eq_by_cmp nat_cmp a b ≡ true → a ≡ b
-same a b t = grind (arith, nat_tests)
-
-itself : (a : ℕ) → eq_by_cmp nat_cmp a a ≡ true
-itself a = grind (arith, nat_tests)
+use Rattle.rg_check.proofs.PageTestsLemmas.Says.{none_some, says_both}
 
 -- ---- one place is noted
 
@@ -53,15 +48,16 @@ module _ (homes : Place → Option TableRow) (p : Place) (before : Notes) where
       go : (k : ℕ) (q : Place) (t : Bool) → eq_by_cmp nat_cmp k row.key ≡ t
           → cond t (Some p) (map.get before k) ≡ Some q
           → (r : TableRow) × (homes q ≡ Some r) × (r.key ≡ k)
-      go k q true t e = (row, ap homes (sym (some_is p q e)) ∙ is, sym (same k row.key t))
+      go k q true t e = (row, ap homes (sym (same_Some p q e)) ∙ is, sym (cmp_one k row.key t))
       go k q false t e = h k q e
 
   noted_here : (o : Option TableRow) → homes p ≡ o → IsNoted homes (noted before p o) p
   noted_here None is row at = absurd (none_some row (sym is ∙ at))
   noted_here (Some r) is row at = λ none. none_some p (sym none ∙ get_noted r row.key
       ∙ ap (λ (t : Bool). cond t (Some p) (map.get before row.key))
-      (subst (λ (x : TableRow). eq_by_cmp nat_cmp x.key r.key ≡ true) (some_is r row (sym is ∙ at))
-      (itself r.key)))
+      (subst (λ (x : TableRow). eq_by_cmp nat_cmp x.key r.key ≡ true)
+      (same_Some r row (sym is ∙ at))
+      (cmp_same r.key)))
 
 module _ (homes : Place → Option TableRow) (p : Place) (before after : Notes)
     (is : after ≡ noted before p (homes p)) where
@@ -91,7 +87,8 @@ pub stored_says :
     → Says b (map.get stored row.key ≡ Some row) → Says b (IsStoredAt stored homes p)
 stored_says stored homes p row b is says =
     says_both b (map.get stored row.key ≡ Some row) (IsStoredAt stored homes p)
-    (λ h r at. subst (λ (x : TableRow). map.get stored x.key ≡ Some x) (some_is row r (sym is ∙ at))
+    (λ h r at. subst (λ (x : TableRow). map.get stored x.key ≡ Some x)
+    (same_Some row r (sym is ∙ at))
     h) (λ h. h row is) says
 
 pub free_stored : (stored : StoredRows) (pages : List (List Slot)) (p : Place)
@@ -155,7 +152,8 @@ module _ (stored : StoredRows) (homes : Place → Option TableRow) (notes : Note
       go (Some p) e =
           let found = sound k p e in
           let is : found.0 ≡ row =
-          some_is found.0 row (sym (each p found.0 found.1) ∙ ap (map.get stored) found.2 ∙ at) in (
+          same_Some found.0 row
+          (sym (each p found.0 found.1) ∙ ap (map.get stored) found.2 ∙ at) in (
             ap (λ (x : TableRow). x.key) (sym is) ∙ found.2,
             p,
             found.1 ∙ ap (λ (x : TableRow). Some x) is,

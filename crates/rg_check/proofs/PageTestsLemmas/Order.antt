@@ -1,19 +1,18 @@
 -- Places in order, and rules that hold of places so far.
-use Rattle.std.proofs.Common.{◌≡◌, ◌≤◌, ◌<◌, inl, inr, true, false, ℕ, zero, suc, ◌+◌, List, []}
-use Rattle.std.proofs.Common.{◌∷◌, Option, Some, None, length, get_or, refl, sym, ap, subst, ◌∙◌}
+use Rattle.std.proofs.Common.{◌≡◌, ◌≤◌, ◌<◌, inl, inr, true, false, ℕ, ◌+◌, List, []}
+use Rattle.std.proofs.Common.{◌∷◌, Option, Some, None, length, sym, ap, subst, ◌∙◌}
 use Rattle.std.proofs.Common.{arith}
 use Rattle.std.specs.Option.{is_some}
 use Rattle.std.proofs.lemmas.Bool.{cases_lt}
+use Rattle.std.proofs.lemmas.List.{get_or_past}
 use Rattle.rg_base.specs.declared.place.Place.{Place}
+use Rattle.rg_base.proofs.SamePlace.{place_is}
 use Rattle.rg_home.specs.Pages.{page_at, slot_of}
 use Rattle.rg_home.specs.Slot.{Slot}
 use Rattle.rg_home.specs.Slot.{Free}
 use Rattle.rg_home.specs.Slots.{slot_at}
 use Rattle.rg_space.specs.Homes.{place_on}
 use Rattle.rg_check.specs.PageTests.Places.{IsBefore, IsLeastBreach, IsLeastOnPage}
-
-place_is : (p q : Place) → p.page ≡ q.page → p.slot ≡ q.slot → p ≡ q
-place_is p q page slot = λ i. record { page = page i; slot = slot i }
 
 pub before_trans : (p q r : Place) → IsBefore p q → IsBefore q r → IsBefore p r
 before_trans p q r (inl a) (inl b) = inl (omega arith)
@@ -48,19 +47,15 @@ order p q = elim (cases_lt p.page q.page) [
 
 -- ---- slots that are not there
 
-past : {A : Type 0} (xs : List A) (n : ℕ) (d : A) → length xs ≤ n → get_or xs n d ≡ d
-past [] n d le = refl
-past (x ∷ xs) zero d le = absurd (omega arith)
-past (x ∷ xs) (suc n) d le = past xs n d (omega arith)
-
 pub no_slot : (pages : List (List Slot)) (p : Place) → length (page_at pages p.page) ≤ p.slot
     → slot_of pages p ≡ Free
-no_slot pages p le = past (page_at pages p.page) p.slot Free le
+no_slot pages p le = get_or_past (page_at pages p.page) p.slot Free le
 
 pub no_page : (pages : List (List Slot)) (p : Place) → length pages < p.page
     → slot_of pages p ≡ Free
 no_page pages p above =
-    ap (λ (slots : List Slot). slot_at slots p.slot) (past ([] ∷ pages) p.page [] (omega arith))
+    ap (λ (slots : List Slot). slot_at slots p.slot)
+    (get_or_past ([] ∷ pages) p.page [] (omega arith))
 
 pub page_zero : (pages : List (List Slot)) (p : Place) → p.page ≡ 0 → slot_of pages p ≡ Free
 page_zero pages p e = ap (λ (n : ℕ). slot_at (page_at pages n) p.slot) e

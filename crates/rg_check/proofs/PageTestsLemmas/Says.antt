@@ -1,10 +1,9 @@
 -- What a test says.
-use Rattle.std.proofs.Common.{◌≡◌, Bool, true, false, Option, Some, None, Result, Ok, Err, IfOk}
+use Rattle.std.proofs.Common.{◌≡◌, Bool, true, false, Some, None, Result, Ok, Err, IfOk}
 use Rattle.std.proofs.Common.{refl, ap, subst}
-use Rattle.std.specs.Option.{is_some}
 use Rattle.rg_base.specs.declared.place.Place.{Place}
-use Rattle.rg_home.specs.Rows.{same_place}
-use Rattle.rg_home.proofs.Place.{same_place-true, same_place-refl}
+use Rattle.rg_base.specs.Place.{same_place}
+use Rattle.rg_base.proofs.SamePlace.{same_place-true, same_place-refl}
 use Rattle.rg_check.specs.PageTests.Places.{Says}
 
 pub says_yes : (b : Bool) (P : Type 0) → b ≡ true → Says b P → P
@@ -24,19 +23,8 @@ says_place p q = go (same_place p q) refl
     go true e = same_place-true p q e
     go false e = λ f. cc (e, same_place-refl q, ap (λ (r : Place). same_place r q) f)
 
-pub some_is : {A : Type 0} (x y : A) → Some x ≡ Some y → x ≡ y
-some_is {A} x y e = ap (λ (o : Option A). from o) e
-  where
-    from : Option A → A
-    from None = x
-    from (Some z) = z
-
 pub none_some : {A : Type 0} (x : A) → None ≡ Some x → ⊥
 none_some x e = cc (e)
-
-pub none_of : {A : Type 0} (o : Option A) → is_some o ≡ false → o ≡ None
-none_of None e = refl
-none_of (Some x) e = absurd (cc (e))
 
 pub ok_map : {A E : Type 0} (r : Result A E) (P Q : A → Type 0) → ((x : A) → P x → Q x) → IfOk r P
     → IfOk r Q

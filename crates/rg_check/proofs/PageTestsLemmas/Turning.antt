@@ -13,7 +13,7 @@ use Rattle.rg_laws_pages.proofs.UndoRoomLemmas.Next.{undo_proper}
 use Rattle.rg_record.specs.Applied.{parts_of}
 use Rattle.rg_record.specs.declared.record.Record.{Record}
 use Rattle.rg_space.specs.Carries.{AllThere}
-use Rattle.rg_space.specs.Indexed.{Indexed}
+use Rattle.rg_space.specs.Summarized.{Summarized}
 use Rattle.rg_space.specs.Ready.{record_wrote}
 use Rattle.rg_space.specs.Space.{Agree}
 use Rattle.rg_undo.specs.Undoing.{CanUndoChange, UndidChange, later_of, undo_record, written_of}
@@ -26,13 +26,13 @@ use Rattle.rg_check.specs.PageTests.Turns.{IsProper, LacksAt, WasUndone, WereUnd
 -- ---- one turn: a are the frames before, m those that were tested, z those once it is undone, and
 -- y those once all pages are let go
 
-module _ (a m : Seen) (ai mi : Indexed) (entry : Record) (same : m.pages ≡ a.pages)
-    (index : mi ≡ ai) (proper : IsProper a ai)
+module _ (a m : Seen) (ai mi : Summarized) (entry : Record) (same : m.pages ≡ a.pages)
+    (summaries : mi ≡ ai) (proper : IsProper a ai)
     (needed : Needed (slots_of m.pages) (written_of entry)) where
   pub turn_can : CanUndoChange m mi entry
   turn_can = record {
     agree = ap (λ (pages : List Content). map (map bare) (slots_of pages)) same ∙ proper.agree
-        ∙ sym (ap (λ (i : Indexed). i.pages) index);
+        ∙ sym (ap (λ (i : Summarized). i.pages) summaries);
     proper = subst (λ (pages : List Content). Proper (slots_of pages)) (sym same) proper.proper;
     can = needed.0;
   }
@@ -41,8 +41,8 @@ module _ (a m : Seen) (ai mi : Indexed) (entry : Record) (same : m.pages ≡ a.p
   needed_here =
       subst (λ (pages : List Content). Needed (slots_of pages) (written_of entry)) same needed
 
-  module _ (z y : Seen) (zi yi : Indexed) (position back : ℕ) (copy : m.copy ≡ a.copy)
-      (pages : y.pages ≡ z.pages) (summaries : yi ≡ zi)
+  module _ (z y : Seen) (zi yi : Summarized) (position back : ℕ) (copy : m.copy ≡ a.copy)
+      (pages : y.pages ≡ z.pages) (same_summaries : yi ≡ zi)
       (undid : UndidChange position back m z zi entry) (undo : Record)
       (made : undo ≡ undo_record position back (slots_of m.pages) entry) where
     slots : slots_of y.pages ≡ undone (slots_of a.pages) (written_of entry)
@@ -67,7 +67,7 @@ module _ (a m : Seen) (ai mi : Indexed) (entry : Record) (same : m.pages ≡ a.p
         count = ap (λ (ps : List Content). length ps) pages ∙ undid.count
             ∙ ap (λ (ps : List Content). length ps) same;
         agree = ap (λ (ps : List Content). map (map bare) (slots_of ps)) pages ∙ undid.agree
-            ∙ sym (ap (λ (i : Indexed). i.pages) summaries);
+            ∙ sym (ap (λ (i : Summarized). i.pages) same_summaries);
       };
       proper = subst Proper (sym slots)
           (undo_proper (written_of entry) (slots_of a.pages) proper.proper needed_here.0);
@@ -77,7 +77,7 @@ module _ (a m : Seen) (ai mi : Indexed) (entry : Record) (same : m.pages ≡ a.p
 -- ---- all turns
 
 -- what has been done of these Changes: a are the frames before the first, b those now
-pub record SoFar (position back : ℕ) (a b : Seen) (index : Indexed)
+pub record SoFar (position back : ℕ) (a b : Seen) (summaries : Summarized)
     (entries left undos : List Record) (at now : ℕ) : Type 0 where
   pub done : List Record
   pub is : entries ≡ done ++ left
@@ -86,14 +86,14 @@ pub record SoFar (position back : ℕ) (a b : Seen) (index : Indexed)
   pub wrote : b.pages ≡ wrote_each a.copy a.pages undos
   pub there : AllOnPages (length a.pages) undos
   pub proper : Proper (slots_of b.pages)
-  pub agree : Agree b index
+  pub agree : Agree b summaries
   pub count : length b.pages ≡ length a.pages
   pub made : undos ++ undo_records at now (slots_of b.pages) left
       ≡ undo_records position back (slots_of a.pages) entries
 
-pub so_far_first : (position back : ℕ) (a : Seen) (index : Indexed) (entries : List Record)
-    → IsProper a index → SoFar position back a a index entries entries [] position back
-so_far_first position back a index entries p = record {
+pub so_far_first : (position back : ℕ) (a : Seen) (summaries : Summarized) (entries : List Record)
+    → IsProper a summaries → SoFar position back a a summaries entries entries [] position back
+so_far_first position back a summaries entries p = record {
   done = [];
   is = refl;
   needed = tt;
@@ -134,7 +134,7 @@ pub none_taken : (work : List Record) → None ≡ first_of work → work ≡ []
 none_taken [] first = refl
 none_taken (x ∷ work) first = absurd (cc (first))
 
-module _ (position back : ℕ) (a b : Seen) (bi : Indexed) (entries work later undos : List Record)
+module _ (position back : ℕ) (a b : Seen) (bi : Summarized) (entries work later undos : List Record)
     (entry : Record) (at now : ℕ) (work_is : work ≡ entry ∷ later)
     (s : SoFar position back a b bi entries work undos at now) where
   g : SoFar position back a b bi entries (entry ∷ later) undos at now
@@ -143,7 +143,8 @@ module _ (position back : ℕ) (a b : Seen) (bi : Indexed) (entries work later u
   pub so_far_proper : IsProper b bi
   so_far_proper = record { agree = s.agree; proper = s.proper }
 
-  module _ (z : Seen) (zi : Indexed) (undo : Record) (after : List Record) (copy : b.copy ≡ a.copy)
+  module _ (z : Seen) (zi : Summarized) (undo : Record) (after : List Record)
+      (copy : b.copy ≡ a.copy)
       (was : WasUndone at now b z zi entry undo) (pushed : after ≡ undos ++ undo ∷ []) where
     pub so_far_more : SoFar position back a z zi entries later after (at + 1) at
     so_far_more = record {
@@ -185,8 +186,8 @@ module _ (position back : ℕ) (a b : Seen) (bi : Indexed) (entries work later u
         breach;
   }
 
-pub so_far_last :
-    (position back : ℕ) (a b : Seen) (bi : Indexed) (entries work undos : List Record) (at now : ℕ)
+pub so_far_last : (position back : ℕ) (a b : Seen) (bi : Summarized)
+    (entries work undos : List Record) (at now : ℕ)
     → work ≡ [] → SoFar position back a b bi entries work undos at now
     → WereUndone position back a b bi entries undos
 so_far_last position back a b bi entries work undos at now none s = record {

@@ -8,8 +8,11 @@ use Rattle.std.specs.Ordering.{eq_by_cmp, nat_cmp}
 use Rattle.std.proofs.lemmas.Bool.{cases_lt}
 use Rattle.std.proofs.lemmas.Bool.Decides.{nat_tests}
 use Rattle.std.proofs.lemmas.Cmp.{nat_cmp_total}
+use Rattle.std.proofs.lemmas.Option.{same_Some}
 use Rattle.rg_base.specs.declared.place.Place.{Place}
 use Rattle.rg_base.specs.declared.row.Row.{Row as TableRow}
+use Rattle.rg_base.proofs.Small.{cmp_one}
+use Rattle.rg_base.proofs.SamePlace.{place_is}
 use Rattle.rg_home.specs.Pages.{page_at, slot_of}
 use Rattle.rg_home.specs.Rows.{home_row, row_at}
 use Rattle.rg_home.specs.Slot.{Slot}
@@ -22,12 +25,9 @@ use Rattle.rg_check.specs.PageTests.Twins.{is_before, lesser}
 use Rattle.rg_check.proofs.PageTestsLemmas.Order.{before_trans, no_page, no_slot, not_before, order}
 use Rattle.rg_check.proofs.PageTestsLemmas.Order.{page_zero}
 use Rattle.rg_check.proofs.PageTestsLemmas.Order.Ordered.{Before, Same, After}
-use Rattle.rg_check.proofs.PageTestsLemmas.Says.{none_some, some_is}
+use Rattle.rg_check.proofs.PageTestsLemmas.Says.{none_some}
 
 -- ---- places before the next one
-
-place_is : (p q : Place) → p.page ≡ q.page → p.slot ≡ q.slot → p ≡ q
-place_is p q page slot = λ i. record { page = page i; slot = slot i }
 
 pub before_next : (n i : ℕ) (q : Place) → IsBefore q (place_on n (i + 1))
     → IsBefore q (place_on n i) ⊎ (q ≡ place_on n i)
@@ -125,7 +125,7 @@ module _ (homes : Place → Option TableRow) where
     back p h q r other b at it key = h q r other (wide q b) at it key
 
     the_row : (q : Place) (r : TableRow) → q ≡ e → homes q ≡ Some r → row ≡ r
-    the_row q r s at = some_is row r (sym is ∙ ap homes (sym s) ∙ at)
+    the_row q r s at = same_Some row r (sym is ∙ ap homes (sym s) ∙ at)
 
     -- no other key is changed
     has_none_next : (k : ℕ) → (row.key ≡ k → ⊥) → HasNone homes e k → HasNone homes f k
@@ -157,9 +157,6 @@ module _ (homes : Place → Option TableRow) where
             subst (IsFirstOf homes f k) (sym (get-insert nat_cmp_total notes row.key e k))
             (go (eq_by_cmp nat_cmp k row.key) refl)
           where
-            same : (a b : ℕ) → eq_by_cmp nat_cmp a b ≡ true → a ≡ b
-            same a b t = grind (arith, nat_tests)
-
             differ : (a b : ℕ) → eq_by_cmp nat_cmp a b ≡ false → b ≡ a → ⊥
             differ a b t s = grind (arith, nat_tests)
 
@@ -172,8 +169,8 @@ module _ (homes : Place → Option TableRow) where
                 → IsFirstOf homes f k (cond t (Some e) (map.get notes k))
             go true t = (
               here_before n i,
-              (row, is, sym (same k row.key t)),
-              subst (HasNone homes e) (sym (same k row.key t)) none_so_far,
+              (row, is, sym (cmp_one k row.key t)),
+              subst (HasNone homes e) (sym (cmp_one k row.key t)) none_so_far,
             )
             go false t = kept_on (differ k row.key t) (map.get notes k) (kept.firsts k)
 

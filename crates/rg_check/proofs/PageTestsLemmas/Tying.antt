@@ -1,16 +1,18 @@
 -- Whether what a place names names it.
 use Rattle.std.proofs.Common.{◌≡◌, ℕ, Bool, true, false, List, Some, None, if◌then◌else◌, refl, sym}
 use Rattle.std.proofs.Common.{◌∙◌, ap, subst}
+use Rattle.std.proofs.lemmas.Option.{same_Some}
 use Rattle.rg_base.specs.declared.place.Place.{Place}
 use Rattle.rg_home.specs.Able.{IsAreaOf}
-use Rattle.rg_home.specs.Rows.{IsOverOf, IsPointerTo, TiesAt, same_place}
+use Rattle.rg_base.specs.Place.{same_place}
+use Rattle.rg_home.specs.Rows.{IsOverOf, IsPointerTo, TiesAt}
 use Rattle.rg_home.specs.Slot.{Slot}
 use Rattle.rg_home.specs.Slot.{Free, Row, Pointer, Over, DeadRow, DeadPointer, DeadOver}
 use Rattle.rg_check.specs.PageTests.Outline.{outline_of}
 use Rattle.rg_check.specs.PageTests.Places.{Says}
 use Rattle.rg_check.specs.PageTests.Ties.{DeadTiesAt, IsTiedAt, asked_of, is_open, is_over_of}
 use Rattle.rg_check.specs.PageTests.Ties.{is_pointer_to, is_area_of, names_back}
-use Rattle.rg_check.proofs.PageTestsLemmas.Says.{says_both, says_place, some_is, none_some}
+use Rattle.rg_check.proofs.PageTestsLemmas.Says.{says_both, says_place, none_some}
 
 pub over_says : (p : Place) (s : Slot) → Says (is_over_of p (outline_of s)) (IsOverOf p s)
 over_says p Free = λ h. h
@@ -62,12 +64,13 @@ module _ (live : List ℕ) (at : Place → Slot) (p : Place) where
   ties_asked (Row c r) q e = absurd (none_some q e)
   ties_asked (Pointer c o) q e =
       says_both (is_over_of p (outline_of (at q))) (IsOverOf p (at q)) (Both (Pointer c o))
-      (λ h. (subst (λ (r : Place). IsOverOf p (at r)) (sym (some_is o q e)) h, tt))
-      (λ b. subst (λ (r : Place). IsOverOf p (at r)) (some_is o q e) b.0) (over_says p (at q))
+      (λ h. (subst (λ (r : Place). IsOverOf p (at r)) (sym (same_Some o q e)) h, tt))
+      (λ b. subst (λ (r : Place). IsOverOf p (at r)) (same_Some o q e) b.0) (over_says p (at q))
   ties_asked (Over c r h) q e =
       says_both (is_pointer_to p (outline_of (at q))) (IsPointerTo p (at q)) (Both (Over c r h))
-      (λ i. (subst (λ (r : Place). IsPointerTo p (at r)) (sym (some_is h q e)) i, tt))
-      (λ b. subst (λ (r : Place). IsPointerTo p (at r)) (some_is h q e) b.0) (pointer_says p (at q))
+      (λ i. (subst (λ (r : Place). IsPointerTo p (at r)) (sym (same_Some h q e)) i, tt))
+      (λ b. subst (λ (r : Place). IsPointerTo p (at r)) (same_Some h q e) b.0)
+      (pointer_says p (at q))
   ties_asked (DeadRow c u) q e = absurd (none_some q e)
   ties_asked (DeadPointer c o u) q e = go (is_open live u) refl e
     where
@@ -75,8 +78,8 @@ module _ (live : List ℕ) (at : Place → Slot) (p : Place) where
           → Says (is_area_of p (outline_of (at q))) (Both (DeadPointer c o u))
       go true is_live f = says_both (is_area_of p (outline_of (at q))) (IsAreaOf None p (at q))
           (Both (DeadPointer c o u))
-          (λ h. (tt, λ l. subst (λ (r : Place). IsAreaOf None p (at r)) (sym (some_is o q f)) h))
-          (λ b. subst (λ (r : Place). IsAreaOf None p (at r)) (some_is o q f) (b.1 is_live))
+          (λ h. (tt, λ l. subst (λ (r : Place). IsAreaOf None p (at r)) (sym (same_Some o q f)) h))
+          (λ b. subst (λ (r : Place). IsAreaOf None p (at r)) (same_Some o q f) (b.1 is_live))
           (area_says p (at q))
       go false is_live f = absurd (none_some q f)
   ties_asked (DeadOver c h u) q e = absurd (none_some q e)

@@ -1,7 +1,7 @@
 -- What a call that only looks at pages leaves.
 use Rattle.std.specs.Prelude.{◌≡◌, ◌≤◌}
 use Rattle.rg_page.specs.Seen.{Seen, Reads}
-use Rattle.rg_space.specs.Space.{InStep, index_of, capacity_in, undos_in}
+use Rattle.rg_space.specs.Space.{InStep, summaries_of, capacity_in, undos_in}
 use Rattle.rg_space.specs.declared.space.Space.{Space}
 
 -- pages were read, and may be held; none was reserved
@@ -13,9 +13,9 @@ pub record Looked (a b : Seen) : Type 0 where
 -- a space before and after, with what is seen of its frames: it is as it was, and all pages are let
 -- go
 pub record LeftAsItWas {F : Type 0} (before after : Space F) (a b : Seen) : Type 0 where
-  pub step : InStep b (index_of after) (capacity_in after)
+  pub step : InStep b (summaries_of after) (capacity_in after)
   pub capacity : capacity_in after ≡ capacity_in before
   pub undos : undos_in after ≡ undos_in before
-  pub summaries : index_of after ≡ index_of before
+  pub summaries : summaries_of after ≡ summaries_of before
   pub looked : Looked a b
   pub spare : b.spare ≡ b.idle

@@ -1,5 +1,5 @@
 -- How the home rows stand to the stored rows, which a map has by key.
-use Rattle.std.specs.Prelude.{◌≡◌, ◌+◌, ℕ, Bool, true, false, Option, Some, None}
+use Rattle.std.specs.Prelude.{◌≡◌, ℕ, Bool, true, false, Option, Some, None}
 use Rattle.std.specs.FinMap as map
 use Rattle.std.specs.Ordering.{nat_cmp}
 use Rattle.rg_base.specs.declared.place.Place.{Place}
@@ -60,11 +60,6 @@ pub record NotesPage
   pub grows : (k : ℕ) → IsIn before k → IsIn after k
   pub sound : AreSound homes before → AreSound homes after
   pub page : named ≡ None → (p : Place) → p.page ≡ n → IsNoted homes after p
-
--- the key that a walk over keys starts from, after the last key
-abbrev pub start_of : Option ℕ → ℕ
-start_of None = 0
-start_of (Some key) = key + 1
 
 -- each stored key is noted, or some is not
 abbrev pub AreNoted : StoredRows → Notes → Bool → Type 0

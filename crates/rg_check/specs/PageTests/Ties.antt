@@ -8,7 +8,8 @@ use Rattle.std.specs.Prelude.{◌==◌, ℕ, List, Option, Some, None, Bool, tru
 use Rattle.std.specs.List.{list_any}
 use Rattle.rg_base.specs.declared.place.Place.{Place}
 use Rattle.rg_home.specs.Able.{IsAreaOf, IsLive}
-use Rattle.rg_home.specs.Rows.{TiesAt, same_place}
+use Rattle.rg_base.specs.Place.{same_place}
+use Rattle.rg_home.specs.Rows.{TiesAt}
 use Rattle.rg_home.specs.Slot.{Slot}
 use Rattle.rg_home.specs.Slot.{Free, Row, Pointer, Over, DeadRow, DeadPointer, DeadOver}
 use Rattle.rg_check.specs.declared.page_tests.outline.Outline.{Outline}

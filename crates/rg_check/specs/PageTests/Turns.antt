@@ -10,7 +10,7 @@ use Rattle.rg_page.specs.Content.{slots_of}
 use Rattle.rg_page.specs.Seen.{Seen}
 use Rattle.rg_laws_pages.specs.UndoRoom.Needed.{Needed, NeededInTurn}
 use Rattle.rg_record.specs.declared.record.Record.{Record}
-use Rattle.rg_space.specs.Indexed.{Indexed}
+use Rattle.rg_space.specs.Summarized.{Summarized}
 use Rattle.rg_space.specs.Space.{Agree}
 use Rattle.rg_undo.specs.Undoing.{undo_record, written_of, UndidChange}
 use Rattle.rg_undo.specs.Unit.{undo_records, writes_of}
@@ -22,28 +22,29 @@ use Rattle.rg_check.specs.declared.page_tests.turns.Turn.{Turn}
 use Rattle.rg_check.specs.declared.page_tests.turns.Turn.TheVariants as Is
 
 -- the summaries agree with the pages, which are proper
-pub record IsProper (s : Seen) (index : Indexed) : Type 0 where
-  pub agree : Agree s index
+pub record IsProper (s : Seen) (summaries : Summarized) : Type 0 where
+  pub agree : Agree s summaries
   pub proper : Proper (slots_of s.pages)
 
 -- a Change had what it needs and was undone, by this record
 pub record WasUndone
-    (position back : ℕ) (a b : Seen) (index : Indexed) (entry undo : Record) : Type 0 where
+    (position back : ℕ) (a b : Seen) (summaries : Summarized) (entry undo : Record) : Type 0 where
   pub needed : Needed (slots_of a.pages) (written_of entry)
-  pub undid : UndidChange position back a b index entry
+  pub undid : UndidChange position back a b summaries entry
   pub proper : Proper (slots_of b.pages)
   pub made : undo ≡ undo_record position back (slots_of a.pages) entry
 
 -- what one turn does
-abbrev pub TurnIs : (position back : ℕ) → (a b : Seen) → Indexed → Record → Turn → Type 0
-TurnIs position back a b index entry (Is.Undone undo) = WasUndone position back a b index entry undo
-TurnIs position back a b index entry (Is.Breach place) =
+abbrev pub TurnIs : (position back : ℕ) → (a b : Seen) → Summarized → Record → Turn → Type 0
+TurnIs position back a b summaries entry (Is.Undone undo) =
+    WasUndone position back a b summaries entry undo
+TurnIs position back a b summaries entry (Is.Breach place) =
     BreaksOf (slots_of a.pages) (written_of entry) (Some place)
 
 -- Each of these Changes had what it needs at its turn, and all were undone, by these records. The
 -- pages are as these write them, with their positions, and as many as before.
 pub record WereUndone
-    (position back : ℕ) (a b : Seen) (index : Indexed) (entries undos : List Record)
+    (position back : ℕ) (a b : Seen) (summaries : Summarized) (entries undos : List Record)
     : Type 0 where
   pub needed : NeededInTurn (slots_of a.pages) (writes_of entries)
   pub slots : slots_of b.pages ≡ undone_all (slots_of a.pages) (writes_of entries)
@@ -51,7 +52,7 @@ pub record WereUndone
   pub there : AllOnPages (length a.pages) undos
   pub proper : Proper (slots_of b.pages)
   pub count : length b.pages ≡ length a.pages
-  pub agree : Agree b index
+  pub agree : Agree b summaries
   pub made : undos ≡ undo_records position back (slots_of a.pages) entries
 
 -- the first ones of these Changes had what they need, and were undone; the next one lacks it, and
@@ -66,10 +67,11 @@ pub record LacksAt (a : Seen) (entries : List Record) (place : Place) : Type 0 w
       BreaksOf (undone_all (slots_of a.pages) (writes_of done)) (written_of entry) (Some place)
 
 -- what all turns do
-abbrev pub OutcomeIs : (position back : ℕ) → (a b : Seen) → Indexed → List Record → Outcome → Type 0
-OutcomeIs position back a b index entries (Undone undos) =
-    WereUndone position back a b index entries undos.items
-OutcomeIs position back a b index entries (Breach place) = LacksAt a entries place
+abbrev pub OutcomeIs : (position back : ℕ) → (a b : Seen) → Summarized → List Record → Outcome
+    → Type 0
+OutcomeIs position back a b summaries entries (Undone undos) =
+    WereUndone position back a b summaries entries undos.items
+OutcomeIs position back a b summaries entries (Breach place) = LacksAt a entries place
 
 -- the first of these records, if there is one
 abbrev pub first_of : List Record → Option Record

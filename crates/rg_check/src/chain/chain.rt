@@ -4,7 +4,7 @@
 // 3. No transaction is open where nothing is owed.
 ghost use Rattle.std.specs.Prelude.{◌≡◌, ◌≤◌, ◌<◌, ◌+◌, ◌-◌, ◌*◌, ◌^◌, ◌++◌, ◌∷◌, [], ◌↔◌, IsTrue};
 ghost use Rattle.std.specs.Prelude.{OnOk, false, length, List, ℕ, nat_le, if◌then◌else◌, sum_by};
-ghost use Rattle.rg_record.specs.Spelled.{IsRecord};
+ghost use Rattle.rg_record.specs.Spelled.{IsKind, IsRecord};
 ghost use Rattle.rg_image.specs.Meaning.{Current, raised, current_after};
 ghost use Rattle.rg_image.specs.Rules.{Done, has_undo, Undoes, IsOfTran, IsOpen, KindFollows};
 ghost use Rattle.rg_image.specs.Rules.{IsChained, owed};
@@ -14,6 +14,7 @@ ghost use Rattle.rg_check.specs.Chain.Running.{owed_unit, put_unit, unit_at};
 use crate::chain::names::names_pages;
 use crate::chain::same::is_same_option;
 use crate::chain::unit::Unit;
+use rg_base::copy::TableCopy;
 use rg_base::no_memory::NoMemory;
 use rg_base::part::Part;
 use rg_base::place::Place;
@@ -29,7 +30,7 @@ use std::marker::Model;
 #[derive(Drop)]
 pub struct Chain {
     units: Vec<Unit>,
-    copy: u8,
+    copy: TableCopy,
     pages: u32,
     owed: u64,
 }
@@ -87,7 +88,7 @@ impl Chain {
     {
         Chain {
             units: Vec::new(alloc),
-            copy: 1,
+            copy: TableCopy::first(),
             pages: 0,
             owed: 0,
         }
@@ -100,8 +101,8 @@ impl Chain {
         Tran(self.units.len() as u32)
     }
 
-    /// The current copy: that of the last Switch, or 1.
-    pub fn copy(&self) -> u8
+    /// The current copy: that of the last Switch, or the first.
+    pub fn copy(&self) -> TableCopy
         ensures { result ≡ self.now.current.copy }
     {
         self.copy
@@ -185,14 +186,14 @@ impl Chain {
             }
             Kind::RolledBack => self.is_of_unit(entry),
             Kind::Purge { .. } => true,
-            Kind::Switch { copy, .. } => *copy != self.copy && self.none_is_open(),
+            Kind::Switch { copy, .. } => *copy != self.copy.number() && self.none_is_open(),
         }
     }
 
     /// Whether the record follows from those before it.
     pub fn follows<V: Volume>(&self, volume: &V, before: &[Record], entry: &Record) -> bool
         requires { IsKept before.now self.now }
-        ensures { IsTrue result ↔ IsChained (V.capacities volume.now) before.now entry.now }
+        ensures { IsTrue result ↔ IsChained (V.seen volume.now).capacities before.now entry.now }
     {
         entry.position.0 == before.len() as u64 + 1
             && self.kind_follows(before, entry)
@@ -222,6 +223,7 @@ impl Chain {
 
     // The current copy and its pages after a record.
     fn turn(&mut self, kind: &Kind)
+        requires { IsKind kind.now }
         ensures { self.new ≡ record self.old { current = current_after self.old.current kind.now } }
     {
         match kind {
@@ -230,7 +232,10 @@ impl Chain {
             }
             Kind::Commit | Kind::RolledBack => {}
             Kind::Switch { copy, pages } => {
-                self.copy = *copy;
+                let Some(turned) = TableCopy::of(*copy) else {
+                    unreachable!()
+                };
+                self.copy = turned;
                 self.pages = *pages;
             }
         }

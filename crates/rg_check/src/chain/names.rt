@@ -4,8 +4,8 @@ ghost use Rattle.std.specs.Prelude.{◌≡◌, ◌≤◌, ◌↔◌, IsTrue};
 ghost use Rattle.std.specs.List.{AllByRecursion};
 ghost use Rattle.rg_image.specs.Rules.{IsPageOf, PlaceIn, PartIn, copy_capacity, NamesPages};
 
+use rg_base::copy::TableCopy;
 use rg_base::part::{Part, SlotOp};
-use rg_base::set::Set;
 use rg_outside::volume::Volume;
 use rg_record::record::Kind;
 
@@ -43,17 +43,27 @@ fn parts_in(pages: u32, parts: &[Part]) -> bool
 }
 
 /// How many pages the set of a copy has in use.
-pub fn copy_pages<V: Volume>(volume: &V, copy: u8) -> u32
-    ensures { result ≡ copy_capacity (V.capacities volume.now) copy }
+pub fn copy_pages<V: Volume>(volume: &V, copy: TableCopy) -> u32
+    ensures { result ≡ copy_capacity (V.seen volume.now).capacities copy }
 {
-    let set = if copy == 1 { Set::First } else { Set::Second };
-    volume.capacity(set).min(65536)
+    volume.capacity(copy.set()).min(65536)
+}
+
+// The same of a copy by its number. A number that no copy has counts as that of the second one:
+// a record with such a number has no spelling.
+fn numbered_pages<V: Volume>(volume: &V, number: u8) -> u32
+    ensures { result ≡ copy_capacity (V.seen volume.now).capacities number }
+{
+    match TableCopy::of(number) {
+        Some(copy) => copy_pages(volume, copy),
+        None => copy_pages(volume, TableCopy::second()),
+    }
 }
 
 /// Whether each page that the record names is within the set of the current copy, and the number of
 /// pages of a Switch within the set of its own copy.
-pub fn names_pages<V: Volume>(volume: &V, copy: u8, kind: &Kind) -> bool
-    ensures { IsTrue result ↔ NamesPages (V.capacities volume.now) copy kind.now }
+pub fn names_pages<V: Volume>(volume: &V, copy: TableCopy, kind: &Kind) -> bool
+    ensures { IsTrue result ↔ NamesPages (V.seen volume.now).capacities copy kind.now }
 {
     let pages = copy_pages(volume, copy);
     match kind {
@@ -62,6 +72,6 @@ pub fn names_pages<V: Volume>(volume: &V, copy: u8, kind: &Kind) -> bool
         }
         Kind::Commit | Kind::RolledBack => true,
         Kind::Purge { parts } => parts_in(pages, parts.as_slice()),
-        Kind::Switch { copy, pages } => *pages <= copy_pages(volume, *copy),
+        Kind::Switch { copy, pages } => *pages <= numbered_pages(volume, *copy),
     }
 }

@@ -40,7 +40,7 @@ pub enum Walk {
 fn walk_over<V: Volume>(alloc: Global, volume: &V, records: &[Record]) -> Result<Walk, NoMemory>
     requires entries { AreEntries records.now }
     requires few { length records.now < 2 ^ 32 }
-    ensures { IfOk result (IsWalk (V.capacities volume.now) records.now) }
+    ensures { IfOk result (IsWalk (V.seen volume.now).capacities records.now) }
 {
     let mut chain = Chain::new(alloc);
     for (at, entry) in records.iter().enumerate() {
@@ -55,7 +55,7 @@ fn walk_over<V: Volume>(alloc: Global, volume: &V, records: &[Record]) -> Result
 
 // The most bytes that the log of a volume may have used and reserved.
 fn limit<V: Volume>(volume: &V) -> u32
-    ensures { result ≡ limit_of (used_pages (V.capacities volume.now).log) }
+    ensures { result ≡ limit_of (used_pages (V.seen volume.now).capacities.log) }
 {
     let pages = volume.capacity(Set::Log).min(65536);
     2270 * pages.saturating_sub(1)
@@ -69,7 +69,7 @@ pub fn test_log<V: Volume>(
 ) -> Result<LogTest, NoMemory>
     requires entries { AreEntries records.now }
     requires last { (end_of start records.now).page ≤ 65536 }
-    ensures { IfOk result (IsLogTest (V.capacities volume.now) records.now) }
+    ensures { IfOk result (IsLogTest (V.seen volume.now).capacities records.now) }
 {
     match walk_over(alloc, volume, records)? {
         Walk::Broken(at) => {

@@ -8,7 +8,7 @@
 ghost use Rattle.std.specs.Prelude.{◌≡◌, ◌≤◌, true, length, IfOk, IfErr};
 ghost use Rattle.std.specs.Option.{option_copied};
 ghost use Rattle.rg_page.specs.Content.{slots_of};
-ghost use Rattle.rg_space.specs.Space.{InStep, frames_of, index_of, capacity_in};
+ghost use Rattle.rg_space.specs.Space.{InStep, frames_of, summaries_of, capacity_in};
 ghost use Rattle.rg_space.specs.Took.{slot_in, IsRisen};
 ghost use Rattle.rg_undo.specs.Undoing.{is_change, written_of};
 ghost use Rattle.rg_check.specs.PageTests.Breach.{BreaksOf, IsBreach};
@@ -68,7 +68,7 @@ pub fn breach_of<F: Frames>(
 ) -> Result<Option<Place>, SpaceFault>
     requires change { is_change entry.now.kind ≡ true }
     requires spare { 2 ≤ (F.seen (frames_of space.old)).spare }
-    requires step { InStep (F.seen (frames_of space.old)) (index_of space.old)
+    requires step { InStep (F.seen (frames_of space.old)) (summaries_of space.old)
         (capacity_in space.old) }
     ensures breach { IfOk result (λ breach. (F.seen (frames_of space.new)).sure ≡ true
         → BreaksOf (slots_of (F.seen (frames_of space.new)).pages) (written_of entry.now)

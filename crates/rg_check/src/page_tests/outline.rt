@@ -2,7 +2,7 @@
 // stays lent.
 ghost use Rattle.std.specs.Prelude.{◌≡◌, ◌≤◌, true, length, IfOk, IfErr, OnOk};
 ghost use Rattle.rg_home.specs.Pages.{page_at};
-ghost use Rattle.rg_home.specs.Rows.{same_place};
+ghost use Rattle.rg_base.specs.Place.{same_place};
 ghost use Rattle.rg_home.specs.Slots.{slot_at};
 ghost use Rattle.rg_page.specs.Content.{slots_of};
 ghost use Rattle.rg_space.specs.Took.{Took, slot_in, IsRisen};

@@ -11,13 +11,14 @@ ghost use Rattle.std.specs.Option.{option_copied, option_map};
 ghost use Rattle.rg_base.specs.First.{IsFirstFrom};
 ghost use Rattle.rg_base.specs.declared.place.Place.{Place as ThePlace};
 ghost use Rattle.rg_home.specs.Rows.{row_at};
-ghost use Rattle.rg_space.specs.Space.{InStep, frames_of, index_of, capacity_in};
+ghost use Rattle.rg_space.specs.Space.{InStep, frames_of, summaries_of, capacity_in};
 ghost use Rattle.rg_space.specs.Took.{slot_in, HasRisen};
 ghost use Rattle.rg_check.specs.PageTests.Keys.{noted};
 ghost use Rattle.rg_check.specs.PageTests.Looked.{Looked, LeftAsItWas};
 ghost use Rattle.rg_check.specs.PageTests.Places.{IsLeastBreach, IsLeastOnPage, Says};
 ghost use Rattle.rg_check.specs.PageTests.StoredRows.{AreNoted, AreSound, IsNoted, IsStoredAt};
-ghost use Rattle.rg_check.specs.PageTests.StoredRows.{NotesPage, Stands, start_of};
+ghost use Rattle.rg_base.specs.Start.{start_of};
+ghost use Rattle.rg_check.specs.PageTests.StoredRows.{NotesPage, Stands};
 
 use crate::page_tests::outline::slot_count_of;
 use crate::page_tests::rows::{is_same, row_of};
@@ -201,7 +202,7 @@ pub fn not_stored<F: Frames>(
     stored: &NumberMap<Row>,
 ) -> Result<Standing, SpaceFault>
     requires spare { 2 ≤ (F.seen (frames_of space.old)).spare }
-    requires step { InStep (F.seen (frames_of space.old)) (index_of space.old)
+    requires step { InStep (F.seen (frames_of space.old)) (summaries_of space.old)
         (capacity_in space.old) }
     ensures stands { IfOk result (λ standing. (F.seen (frames_of space.new)).sure ≡ true
         → Stands stored.now (row_at (slot_in (F.seen (frames_of space.new)))) standing) }

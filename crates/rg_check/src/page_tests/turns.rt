@@ -7,7 +7,7 @@
 ghost use Rattle.std.specs.Prelude.{◌≡◌, ◌≤◌, ◌<◌, ◌+◌, ◌^◌, true, length, IfOk, IfErr, OnOk};
 ghost use Rattle.std.specs.Prelude.{IfSome};
 ghost use Rattle.rg_page.specs.Seen.{Keeps};
-ghost use Rattle.rg_space.specs.Space.{InStep, frames_of, index_of, capacity_in, undos_in};
+ghost use Rattle.rg_space.specs.Space.{InStep, frames_of, summaries_of, capacity_in, undos_in};
 ghost use Rattle.rg_space.specs.Took.{HasRisen};
 ghost use Rattle.rg_undo.specs.Undoing.{AreChanges, is_change, later_of};
 ghost use Rattle.rg_check.specs.PageTests.Turns.{IsProper, OutcomeIs, TurnIs, first_of};
@@ -87,13 +87,13 @@ pub fn take_turn<F: Frames>(
 ) -> Result<Turn, SpaceFault>
     requires change { is_change entry.kind ≡ true }
     requires spare { 5 ≤ (F.seen (frames_of space.old)).spare }
-    requires step { InStep (F.seen (frames_of space.old)) (index_of space.old)
+    requires step { InStep (F.seen (frames_of space.old)) (summaries_of space.old)
         (capacity_in space.old) }
     ensures turn { IfOk result (λ turn. (F.seen (frames_of space.new)).sure ≡ true
-        → IsProper (F.seen (frames_of space.old)) (index_of space.old)
+        → IsProper (F.seen (frames_of space.old)) (summaries_of space.old)
         → TurnIs position.0 back.0 (F.seen (frames_of space.old))
-        (F.seen (frames_of space.new)) (index_of space.new) entry turn) }
-    ensures step { InStep (F.seen (frames_of space.new)) (index_of space.new)
+        (F.seen (frames_of space.new)) (summaries_of space.new) entry turn) }
+    ensures step { InStep (F.seen (frames_of space.new)) (summaries_of space.new)
         (capacity_in space.new) }
     ensures capacity { capacity_in space.new ≡ capacity_in space.old }
     ensures undos { undos_in space.old ≤ undos_in space.new }
@@ -136,16 +136,16 @@ pub fn undo_tested<F: Frames>(
 ) -> Result<Outcome, SpaceFault>
     requires changes { AreChanges changes.items }
     requires spare { 5 ≤ (F.seen (frames_of space.old)).spare }
-    requires step { InStep (F.seen (frames_of space.old)) (index_of space.old)
+    requires step { InStep (F.seen (frames_of space.old)) (summaries_of space.old)
         (capacity_in space.old) }
     requires few { position.0 + length changes.items < 2 ^ 64 }
     // So each page that it changes stays idle.
     requires forced { position.0 + length changes.items ≤ (F.seen (frames_of space.old)).forced }
     ensures outcome { IfOk result (λ outcome. (F.seen (frames_of space.new)).sure ≡ true
-        → IsProper (F.seen (frames_of space.old)) (index_of space.old)
+        → IsProper (F.seen (frames_of space.old)) (summaries_of space.old)
         → OutcomeIs position.0 back.0 (F.seen (frames_of space.old))
-        (F.seen (frames_of space.new)) (index_of space.new) changes.items outcome) }
-    ensures step { InStep (F.seen (frames_of space.new)) (index_of space.new)
+        (F.seen (frames_of space.new)) (summaries_of space.new) changes.items outcome) }
+    ensures step { InStep (F.seen (frames_of space.new)) (summaries_of space.new)
         (capacity_in space.new) }
     ensures capacity { capacity_in space.new ≡ capacity_in space.old }
     ensures keeps { Keeps (F.seen (frames_of space.old)) (F.seen (frames_of space.new)) }

@@ -9,7 +9,7 @@ ghost use Rattle.std.specs.Prelude.{◌≡◌, ◌≤◌, ◌+◌, true, length,
 ghost use Rattle.std.specs.FinMap as map;
 ghost use Rattle.rg_home.specs.Rows.{row_at};
 ghost use Rattle.rg_space.specs.Homes.{place_on};
-ghost use Rattle.rg_space.specs.Space.{InStep, frames_of, index_of, capacity_in};
+ghost use Rattle.rg_space.specs.Space.{InStep, frames_of, summaries_of, capacity_in};
 ghost use Rattle.rg_space.specs.Took.{slot_in, HasRisen};
 ghost use Rattle.rg_check.specs.PageTests.Keys.{IsAlone, first_noted, noted_by};
 ghost use Rattle.rg_check.specs.PageTests.Looked.{Looked, LeftAsItWas};
@@ -135,7 +135,7 @@ fn twice_in<F: Frames>(alloc: Global, frames: &mut F) -> Result<Option<Place>, S
 /// are let go.
 pub fn twice<F: Frames>(alloc: Global, space: &mut Space<F>) -> Result<Option<Place>, SpaceFault>
     requires spare { 2 ≤ (F.seen (frames_of space.old)).spare }
-    requires step { InStep (F.seen (frames_of space.old)) (index_of space.old)
+    requires step { InStep (F.seen (frames_of space.old)) (summaries_of space.old)
         (capacity_in space.old) }
     ensures least { IfOk result (λ place. (F.seen (frames_of space.new)).sure ≡ true
         → IsLeastBreach (IsAlone (row_at (slot_in (F.seen (frames_of space.new))))) place) }

@@ -9,7 +9,7 @@
 //    one state of the pages where frames are sure.
 ghost use Rattle.std.specs.Prelude.{◌≡◌, ◌≤◌, true, length, IfOk, IfErr};
 ghost use Rattle.rg_page.specs.Bare.{numbers_of};
-ghost use Rattle.rg_space.specs.Space.{InStep, frames_of, index_of, capacity_in};
+ghost use Rattle.rg_space.specs.Space.{InStep, frames_of, summaries_of, capacity_in};
 ghost use Rattle.rg_space.specs.Took.{slot_in, IsRisen};
 ghost use Rattle.rg_check.specs.PageTests.Looked.{Looked, LeftAsItWas};
 ghost use Rattle.rg_check.specs.PageTests.Places.{IsLeastBreach, IsLeastOnPage, Says};
@@ -134,7 +134,7 @@ fn untied_in<F: Frames>(frames: &mut F, live: &[Tran]) -> Result<Option<Place>, 
 /// lets all pages go.
 pub fn untied<F: Frames>(space: &mut Space<F>, live: &[Tran]) -> Result<Option<Place>, SpaceFault>
     requires spare { 2 ≤ (F.seen (frames_of space.old)).spare }
-    requires step { InStep (F.seen (frames_of space.old)) (index_of space.old)
+    requires step { InStep (F.seen (frames_of space.old)) (summaries_of space.old)
         (capacity_in space.old) }
     ensures least { IfOk result (λ place. (F.seen (frames_of space.new)).sure ≡ true
         → IsLeastBreach (IsTiedAt (numbers_of live.now)

@@ -9,6 +9,7 @@ use Rattle.rg_base.specs.declared.place.Place.{Place}
 use Rattle.rg_base.specs.declared.position.Position.{Position}
 use Rattle.rg_base.specs.declared.row.Row.{Row}
 use Rattle.rg_base.specs.declared.session.Session.{Session}
+use Rattle.rg_base.proofs.Small.{nat_itself}
 use Rattle.rg_feed.specs.Fold.Fold.{copied_rows, page_copies, row_in, since, since_begin}
 use Rattle.rg_feed.specs.Fold.Lawful.{AreRowsOf}
 use Rattle.rg_feed.specs.declared.fold.item.Item.{Item}
@@ -17,7 +18,6 @@ use Rattle.rg_feed.specs.declared.fold.item.Stage.{Stage}
 use Rattle.rg_feed.specs.declared.fold.item.Item.TheVariants as items
 use Rattle.rg_feed.proofs.FoldLemmas.Feeding.{later_ordered}
 use Rattle.rg_feed.proofs.FoldLemmas.Folds.{page_copies-append, since-append}
-use Rattle.rg_laws_log.proofs.LogStateLemmas.Tables.{eqb-refl}
 use Rattle.rg_model.specs.Utility.{starts_utility}
 use Rattle.rg_laws_utility.proofs.QuietKeysLemmas.Louder.{none_hushed}
 use Rattle.rg_model.specs.Changes.{changes, unit_writes, writes_after}
@@ -144,7 +144,7 @@ said_units past session stmt reply writes later n was own others true e =
     ap later (sym same) ∙ own ∙ ap (λ (m : ℕ). writes_after stmt reply (writes m)) same
     ∙ ap (writes_after stmt reply) was
 said_units past session stmt reply writes later n was own others false e =
-    others n (λ same. absurd (cc (e, ap (λ (m : ℕ). session.0 == m) same, eqb-refl session.0)))
+    others n (λ same. absurd (cc (e, ap (λ (m : ℕ). session.0 == m) same, nat_itself session.0)))
     ∙ was
 
 pub said_kept : (rows new : Rows) (writes later : ℕ → ℕ) (past : List Entry) (stage : Option Stage)

@@ -1,7 +1,7 @@
 -- The changes of records, one record after the other.
 use Rattle.std.proofs.Common.{◌≡◌, ◌<◌, ◌+◌, ◌++◌, ℕ, List, [], ◌∷◌, Option, length, take, drop}
 use Rattle.std.proofs.Common.{get_or, refl, sym, ◌∙◌, ap, append_assoc}
-use Rattle.std.proofs.lemmas.List.{drop_more, take_more}
+use Rattle.std.proofs.lemmas.List.{drop_more, take_more, append-nil}
 use Rattle.rg_base.specs.declared.change.Change.{Change}
 use Rattle.rg_base.specs.declared.row.Row.{Row}
 use Rattle.rg_laws_utility.specs.RecordChanges.Changed.{changes_at, changes_in, rows_after}
@@ -9,10 +9,6 @@ use Rattle.rg_feed.specs.declared.fold.item.Item.{Item}
 use Rattle.rg_feed.specs.declared.fold.item.Item.TheVariants as items
 use Rattle.rg_record.specs.declared.record.Record.{Record}
 use Rattle.rg_feed.specs.SentItems.Keeps.{sent_changes}
-
-append_none : {A : Type 0} (xs : List A) → xs ++ [] ≡ xs
-append_none [] = refl
-append_none (x ∷ xs) = ap (λ ys. x ∷ ys) (append_none xs)
 
 changes_in-append : (xs ys : List Record) → changes_in (xs ++ ys) ≡ changes_in xs ++ changes_in ys
 changes_in-append [] ys = refl
@@ -51,7 +47,7 @@ sent_next records i entry base before after low is so_far adds =
     ∙ ap (λ (xs : List Item). base ++ xs)
     (sym (sent_changes-append (changes_in (take i records)) (changes_at entry.position entry.kind))
     ∙ ap (λ (cs : List Change). sent_changes (changes_in (take i records) ++ cs))
-    (sym (append_none (changes_at entry.position entry.kind)))
+    (sym (append-nil (changes_at entry.position entry.kind)))
     ∙ ap sent_changes (sym (changes_in-append (take i records) (entry ∷ [])))
     ∙ ap (λ (r : Record). sent_changes (changes_in (take i records ++ r ∷ []))) is
     ∙ ap (λ (rs : List Record). sent_changes (changes_in rs)) (sym (take_more records i entry low)))

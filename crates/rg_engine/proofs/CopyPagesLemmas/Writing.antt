@@ -1,6 +1,7 @@
 -- A new copy is written page by page, and then synced.
 use Rattle.std.proofs.Common.{◌≡◌, ◌≤◌, ◌+◌, ℕ, List, length, Option, Some, None, Result, Ok, Err}
 use Rattle.std.proofs.Common.{OnOk, sym, ◌∙◌, ap, subst, arith}
+use Rattle.rg_base.specs.Copies.{set_of}
 use Rattle.rg_base.specs.declared.set.Set.{Set}
 use Rattle.rg_outside.proofs.Brings.{write_only}
 use Rattle.rg_outside.proofs.Failing.{sync_reads}
@@ -20,7 +21,6 @@ use Rattle.rg_laws_crash.proofs.NewCopyLemmas.Writing.{first_reads, old_througho
 use Rattle.rg_shadow.specs.Planned.{AreNumbered, AreOfCopy}
 use Rattle.rg_shadow.specs.Shade.{Shade}
 use Rattle.rg_laws_crash.specs.SwitchRecord.Switched.{AreOldPages}
-use Rattle.rg_laws_crash.specs.NewestPages.Tidy.{set_of}
 use Rattle.rg_laws_crash.specs.PageVersions.Versions.{Spells}
 use Rattle.rg_laws_crash.specs.NewCopy.Writing.{ArePagesOf, HasFirst, IsWriteOf, WritesCopy}
 use Rattle.rg_engine.specs.CopyPages.Stamped.{stamped_all, stamped_first}

@@ -3,7 +3,7 @@ use Rattle.std.proofs.Common.{◌≡◌, ℕ, ◌+◌, ◌≤◌, zero, suc, Boo
 use Rattle.std.proofs.Common.{Some, None, refl, ◌∙◌, ap, if◌then◌else◌, arith, drop, take, length}
 use Rattle.rg_base.specs.declared.change.Change.{Change}
 use Rattle.rg_base.specs.declared.place.Place.{Place}
-use Rattle.rg_model.specs.Layout.{same_place}
+use Rattle.rg_base.specs.Place.{same_place}
 use Rattle.rg_feed.specs.Fold.Last.{applied_at, changed_at, last_at, later_of}
 use Rattle.rg_feed.specs.Fold.Fold.{changes, fold_to, since_begin}
 use Rattle.rg_feed.specs.Fold.Lawful.{Lawful, kept, passes_over}
@@ -54,7 +54,7 @@ batch feed (suc n) k (change ∷ rest) lawful e within place =
 
 -- a place that none names
 
-both_none : (later earlier : Option Change) → later_of later earlier ≡ None
+pub both_none : (later earlier : Option Change) → later_of later earlier ≡ None
     → (later ≡ None) × (earlier ≡ None)
 both_none None earlier e = (refl, e)
 both_none (Some change) earlier e = absurd (cc (e))

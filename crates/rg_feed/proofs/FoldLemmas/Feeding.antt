@@ -4,12 +4,15 @@ use Rattle.std.proofs.Common.{Option, Some, None, refl, sym, ◌∙◌, ap, subs
 use Rattle.std.proofs.Common.{length, length-append, inl, inr, ◌⊎◌}
 use Rattle.std.specs.List.{AllByRecursion}
 use Rattle.std.proofs.lemmas.Bool.{cases_lt, eq-eqb, eqb-true, ne_eqb}
+use Rattle.std.proofs.lemmas.List.{append-nil}
 use Rattle.rg_base.specs.declared.change.Change.{Change}
 use Rattle.rg_base.specs.declared.options.Options.{Options}
 use Rattle.rg_base.specs.declared.place.Place.{Place}
 use Rattle.rg_base.specs.declared.position.Position.{Position}
 use Rattle.rg_base.specs.declared.row.Row.{Row}
-use Rattle.rg_model.specs.Layout.{same_place}
+use Rattle.rg_base.specs.Place.{same_place}
+use Rattle.rg_base.proofs.SamePlace.{same_place-true}
+use Rattle.rg_base.proofs.Each.{Each-map}
 use Rattle.rg_feed.specs.Fold.Last.{last_at, later_of}
 use Rattle.rg_feed.specs.Fold.Fold.{changes, fold_at, row_in, since_begin}
 use Rattle.rg_feed.specs.Fold.Lawful.{AreRowsOf, InOrder, IsWell, Lawful}
@@ -18,13 +21,8 @@ use Rattle.rg_feed.specs.declared.fold.item.Item.{Item}
 use Rattle.rg_feed.specs.declared.fold.item.Item.TheVariants.{Begin, PageCopy, Booked}
 use Rattle.rg_feed.specs.declared.fold.item.Item.TheVariants as items
 use Rattle.rg_feed.specs.declared.fold.item.Stage.{Stage}
-use Rattle.rg_feed.proofs.FoldLemmas.Folds.{all-push, all-weaker, changes-append, fold_at-push}
+use Rattle.rg_feed.proofs.FoldLemmas.Folds.{all-push, changes-append, fold_at-push}
 use Rattle.rg_feed.proofs.FoldLemmas.Folds.{lawful-push, since-append}
-use Rattle.rg_feed.proofs.FoldLemmas.Places.{one_place}
-
-append_nil : {A : Type 0} (xs : List A) → xs ++ [] ≡ xs
-append_nil [] = refl
-append_nil (x ∷ xs) = ap (λ ys. x ∷ ys) (append_nil xs)
 
 later_of-assoc : (a b c : Option Change) → later_of (later_of a b) c ≡ later_of a (later_of b c)
 later_of-assoc None b c = refl
@@ -80,10 +78,10 @@ module _ (last later copied more : ℕ) (feed : List Item) (item : Item)
       let xs = since_begin feed in record {
         lawful = subst Lawful (sym joins)
             (lawful-push xs item ordered.lawful well
-            (all-weaker (IsBelow last copied) (λ x. InOrder x item) order xs ordered.below));
+            (Each-map (IsBelow last copied) (λ x. InOrder x item) order xs ordered.below));
         below = subst (AllByRecursion (IsBelow later more)) (sym joins)
             (all-push (IsBelow later more) xs item
-            (all-weaker (IsBelow last copied) (IsBelow later more) rises xs ordered.below) below);
+            (Each-map (IsBelow last copied) (IsBelow later more) rises xs ordered.below) below);
       }
 
 below_rises : (last later copied more : ℕ) → last ≤ later → copied ≤ more → (x : Item)
@@ -98,7 +96,7 @@ pub later_ordered : (last later copied : ℕ) (feed : List Item) → Ordered las
     → last ≤ later → Ordered later copied feed
 later_ordered last later copied feed ordered h = record {
   lawful = ordered.lawful;
-  below = all-weaker (IsBelow last copied) (IsBelow later copied)
+  below = Each-map (IsBelow last copied) (IsBelow later copied)
       (below_rises last later copied copied h (omega arith)) (since_begin feed) ordered.below;
 }
 
@@ -141,7 +139,7 @@ module _ (old new : Place → Option Row) (was_quiet is_quiet : ℕ → Bool) (p
     where
       go : (b : Bool) → same_place change.home place ≡ b
           → (if b then change.after else fold_at feed place) ≡ new place
-      go true is = sym sets.here ∙ ap new (one_place change.home place is)
+      go true is = sym sets.here ∙ ap new (same_place-true change.home place is)
       go false is = e ∙ sym (sets.others place is)
 
   change_none : (place : Place) (row : Row) → new place ≡ Some row
@@ -150,7 +148,8 @@ module _ (old new : Place → Option Row) (was_quiet is_quiet : ℕ → Bool) (p
       → later_of (if b then Some change else None) (last_at place (changes (since_begin feed)))
       ≡ None
   change_none place row e quiet true is =
-      absurd (quiet.1 (becomes row (sym sets.here ∙ ap new (one_place change.home place is) ∙ e)))
+      absurd
+      (quiet.1 (becomes row (sym sets.here ∙ ap new (same_place-true change.home place is) ∙ e)))
   change_none place row e quiet false is =
       fed.unnamed place row (sym (sets.others place is) ∙ e) quiet.0
 
@@ -192,7 +191,7 @@ same_changes : (feed : List Item) (item : Item)
     → since_begin (feed ++ item ∷ []) ≡ since_begin feed ++ item ∷ [] → changes (item ∷ []) ≡ []
     → changes (since_begin (feed ++ item ∷ [])) ≡ changes (since_begin feed)
 same_changes feed item joins none = ap changes joins ∙ changes-append (since_begin feed) (item ∷ [])
-    ∙ ap (λ cs. changes (since_begin feed) ++ cs) none ∙ append_nil (changes (since_begin feed))
+    ∙ ap (λ cs. changes (since_begin feed) ++ cs) none ∙ append-nil (changes (since_begin feed))
 
 module _ (row_at : Place → Option Row) (is_quiet : ℕ → Bool) (progress : Progress)
     (feed : List Item) (at : Position) (rows : List (Place × Row)) where

@@ -75,11 +75,6 @@ pub all-push : {A : Type 0} (P : A → Type 0) (xs : List A) (x : A) → AllByRe
 all-push P [] x each here = (here, tt)
 all-push P (y ∷ xs) x each here = (each.0, all-push P xs x each.1 here)
 
-pub all-weaker : {A : Type 0} (P Q : A → Type 0) → ((x : A) → P x → Q x) → (xs : List A)
-    → AllByRecursion P xs → AllByRecursion Q xs
-all-weaker P Q weaker [] each = tt
-all-weaker P Q weaker (x ∷ xs) each = (weaker x each.0, all-weaker P Q weaker xs each.1)
-
 pub lawful-push : (feed : List Item) (item : Item) → Lawful feed → IsWell item
     → AllByRecursion (λ earlier. InOrder earlier item) feed → Lawful (feed ++ item ∷ [])
 lawful-push [] item lawful well order = (well, tt, tt)

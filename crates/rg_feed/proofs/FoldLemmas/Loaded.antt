@@ -2,11 +2,12 @@
 use Rattle.std.proofs.Common.{◌≡◌, ◌==◌, ◌||◌, ℕ, zero, suc, Bool, true, false, List, [], ◌∷◌, ◌++◌}
 use Rattle.std.proofs.Common.{Option, Some, None, refl, sym, ◌∙◌, ap, if◌then◌else◌, arith}
 use Rattle.std.specs.List.{AllByRecursion, Contains}
-use Rattle.std.proofs.lemmas.Bool.{eqb-true, eqb-false, ne_eqb, or_parts}
+use Rattle.std.proofs.lemmas.Bool.{eqb-true, or_parts}
 use Rattle.rg_base.specs.declared.place.Place.{Place}
 use Rattle.rg_base.specs.declared.position.Position.{Position}
 use Rattle.rg_base.specs.declared.row.Row.{Row}
-use Rattle.rg_model.specs.Layout.{same_place}
+use Rattle.rg_base.proofs.Small.{nat_apart_turned}
+use Rattle.rg_base.specs.Place.{same_place}
 use Rattle.rg_feed.specs.Fold.Fold.{copied_rows, fold_from, fold_to, row_in, since_begin, up_to}
 use Rattle.rg_feed.specs.Fold.Lawful.{AreApart, AreRowsOf, InOrder, Lawful}
 use Rattle.rg_feed.specs.declared.fold.item.Item.{Item}
@@ -18,7 +19,7 @@ abbrev or_row : Option Row → Option Row → Option Row
 or_row None other = other
 or_row (Some row) other = Some row
 
-row_in-append : (place : Place) (xs ys : List (Place × Row))
+pub row_in-append : (place : Place) (xs ys : List (Place × Row))
     → row_in (xs ++ ys) place ≡ or_row (row_in xs place) (row_in ys place)
 row_in-append place [] ys = refl
 row_in-append place (x ∷ xs) ys = go (same_place x.0 place) (row_in-append place xs ys)
@@ -29,7 +30,7 @@ row_in-append place (x ∷ xs) ys = go (same_place x.0 place) (row_in-append pla
     go true rest = refl
     go false rest = rest
 
-or_none : (row : Option Row) → or_row row None ≡ row
+pub or_none : (row : Option Row) → or_row row None ≡ row
 or_none None = refl
 or_none (Some row) = refl
 
@@ -42,9 +43,6 @@ elsewhere page (x ∷ xs) place of_page e =
     let off : (x.0.page == place.page) ≡ false = ap (λ n. n == place.page) of_page.0 ∙ e in
     rw off (elsewhere page xs place of_page.2 e)
 
-turned : (m n : ℕ) → (m == n) ≡ false → (n == m) ≡ false
-turned m n e = ne_eqb n m (λ is. eqb-false m n e (sym is))
-
 -- no copy of the page comes later
 
 copied_once : (page : ℕ) (at : Position) (rows : List (Place × Row)) (feed : List Item)
@@ -53,7 +51,7 @@ copied_once : (page : ℕ) (at : Position) (rows : List (Place × Row)) (feed : 
 copied_once page at rows [] lawful order = refl
 copied_once page at rows (Begin o n ∷ xs) lawful order = absurd lawful.0
 copied_once page at rows (PageCopy n b more ∷ xs) lawful order =
-    rw (turned page n order.0) (copied_once page at rows xs lawful.2 order.1)
+    rw (nat_apart_turned page n order.0) (copied_once page at rows xs lawful.2 order.1)
 copied_once page at rows (items.Change c ∷ xs) lawful order =
     copied_once page at rows xs lawful.2 order.1
 copied_once page at rows (Booked s ∷ xs) lawful order = copied_once page at rows xs lawful.2 order.1
@@ -126,7 +124,7 @@ join_apart (x ∷ xs) ys a b off = (
   join_apart xs ys a.1 b (λ y in_xs. off y (in_more y x xs in_xs)),
 )
 
-page_apart : (page : ℕ) (rows : List (Place × Row)) → AreRowsOf page rows → AreApart rows
+pub page_apart : (page : ℕ) (rows : List (Place × Row)) → AreRowsOf page rows → AreApart rows
 page_apart page [] of_page = tt
 page_apart page (x ∷ xs) of_page = (of_page.1, page_apart page xs of_page.2)
 

@@ -8,11 +8,11 @@ use Rattle.std.proofs.lemmas.List.Sorted.{sum_by-IsPermutation}
 use Rattle.std.proofs.lemmas.List.Sums.{sum_by-cons}
 use Rattle.rg_base.specs.declared.place.Place.{Place}
 use Rattle.rg_base.specs.declared.row.Row.{Row}
-use Rattle.rg_model.specs.Layout.{same_place}
+use Rattle.rg_base.specs.Place.{same_place}
+use Rattle.rg_base.proofs.SamePlace.{same_place-true, same_place-refl}
 use Rattle.rg_feed.specs.Fold.Fold.{row_in}
 use Rattle.rg_feed.specs.Fold.Lawful.{AreApart}
 use Rattle.rg_feed.proofs.FoldLemmas.Loaded.{in_more}
-use Rattle.rg_feed.proofs.FoldLemmas.Places.{one_place, place_itself}
 
 -- how often a place stands among rows
 
@@ -56,15 +56,17 @@ apart_once (x ∷ xs) apart place = go (same_place x.0 place) refl (apart_once x
   where
     go : (b : Bool) → same_place x.0 place ≡ b → times place xs ≤ 1
         → (if b then 1 else 0) + times place xs ≤ 1
-    go true e rest = omega
-        (arith, none_counted place xs (ap (row_in xs) (sym (one_place x.0 place e)) ∙ apart.0))
+    go true e rest = omega (
+      arith,
+      none_counted place xs (ap (row_in xs) (sym (same_place-true x.0 place e)) ∙ apart.0),
+    )
     go false e rest = omega (arith, rest)
 
 once_apart : (xs : List (Place × Row)) → ((place : Place) → times place xs ≤ 1) → AreApart xs
 once_apart [] most = tt
 once_apart (x ∷ xs) most = (
   counted_none x.0 xs
-      (here (ap (λ (b : Bool). (if b then 1 else 0) + times x.0 xs) (place_itself x.0))),
+      (here (ap (λ (b : Bool). (if b then 1 else 0) + times x.0 xs) (same_place-refl x.0))),
   once_apart xs (λ place. fewer place (same_place x.0 place) (most place)),
 )
   where
@@ -103,7 +105,7 @@ find place row (x ∷ xs) e = go (same_place x.0 place) refl (find place row xs)
         → (y : Place × Row) × Contains xs y × (y.0 ≡ place) × (y.1 ≡ row))
         → (if b then Some x.1 else row_in xs place) ≡ Some row
         → (y : Place × Row) × Contains (x ∷ xs) y × (y.0 ≡ place) × (y.1 ≡ row)
-    go true f rest g = (x, (0, omega arith, refl), one_place x.0 place f, cc (g))
+    go true f rest g = (x, (0, omega arith, refl), same_place-true x.0 place f, cc (g))
     go false f rest g = let found = rest g in
         (found.0, in_more found.0 x xs found.1, found.2, found.3)
 
@@ -112,13 +114,13 @@ is_found : (x : Place × Row) (xs : List (Place × Row)) → AreApart xs → Con
 is_found x [] apart (k, within, is) = absurd (omega (arith, within))
 is_found x (y ∷ ys) apart (zero, within, is) =
     subst (λ (z : Place × Row). (if same_place z.0 x.0 then Some z.1 else row_in ys x.0) ≡ Some x.1)
-    (sym is) (ap (λ (b : Bool). if b then Some x.1 else row_in ys x.0) (place_itself x.0))
+    (sym is) (ap (λ (b : Bool). if b then Some x.1 else row_in ys x.0) (same_place-refl x.0))
 is_found x (y ∷ ys) apart (suc k, within, is) =
     go (same_place y.0 x.0) refl (is_found x ys apart.1 (k, omega (arith, within), is))
   where
     go : (b : Bool) → same_place y.0 x.0 ≡ b → row_in ys x.0 ≡ Some x.1
         → (if b then Some y.1 else row_in ys x.0) ≡ Some x.1
-    go true f g = absurd (cc (g, apart.0, ap (row_in ys) (one_place y.0 x.0 f)))
+    go true f g = absurd (cc (g, apart.0, ap (row_in ys) (same_place-true y.0 x.0 f)))
     go false f g = g
 
 row_kept : (xs ys : List (Place × Row)) (place : Place) (row : Row) → IsPermutation xs ys

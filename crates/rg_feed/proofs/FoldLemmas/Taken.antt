@@ -8,7 +8,9 @@ use Rattle.rg_base.specs.declared.change.Change.{Change}
 use Rattle.rg_base.specs.declared.place.Place.{Place}
 use Rattle.rg_base.specs.declared.position.Position.{Position}
 use Rattle.rg_base.specs.declared.row.Row.{Row}
-use Rattle.rg_model.specs.Layout.{same_place}
+use Rattle.rg_base.specs.Place.{same_place}
+use Rattle.rg_base.proofs.SamePlace.{same_place-true}
+use Rattle.rg_base.proofs.Each.{Each-drop}
 use Rattle.rg_feed.specs.Fold.Last.{changed_at}
 use Rattle.rg_feed.specs.Fold.Fold.{changes, fold_at, fold_from, fold_to, row_in, since_begin}
 use Rattle.rg_feed.specs.Fold.Fold.{up_to}
@@ -17,7 +19,7 @@ use Rattle.rg_feed.specs.declared.fold.item.Item.{Item}
 use Rattle.rg_feed.specs.declared.fold.item.Item.TheVariants.{Begin, PageCopy, Booked}
 use Rattle.rg_feed.specs.declared.fold.item.Item.TheVariants as items
 use Rattle.rg_feed.proofs.FoldLemmas.Folds.{fold_at-since_begin}
-use Rattle.rg_feed.proofs.FoldLemmas.Places.{either_way, one_place}
+use Rattle.rg_feed.proofs.FoldLemmas.Places.{either_way}
 
 -- a copy of this page is among the items
 abbrev pub has_copy : List Item → ℕ → Bool
@@ -86,19 +88,13 @@ changes_above n at rows (PageCopy m a more ∷ xs) order = changes_above n at ro
 changes_above n at rows (items.Change c ∷ xs) order = (order.0, changes_above n at rows xs order.1)
 changes_above n at rows (Booked s ∷ xs) order = changes_above n at rows xs order.1
 
-all-drop : {A : Type 0} (P : A → Type 0) (k : ℕ) (xs : List A) → AllByRecursion P xs
-    → AllByRecursion P (drop k xs)
-all-drop P zero xs each = each
-all-drop P (suc k) [] each = tt
-all-drop P (suc k) (x ∷ xs) each = all-drop P k xs each.1
-
 k_above : (n : ℕ) (at : Position) (rows : List (Place × Row)) (feed : List Item) (k : ℕ)
     (change : Change) (rest : List Change) → AllByRecursion (InOrder (PageCopy n at rows)) feed
     → drop k (changes feed) ≡ change ∷ rest → at.0 < change.position.0
 k_above n at rows feed k change rest order e =
     let P : Change → Type 0 = λ c. at.0 < c.position.0 in
     (subst (AllByRecursion P) e
-    (all-drop P k (changes feed) (changes_above n at rows feed order))).0
+    (Each-drop P k (changes feed) (changes_above n at rows feed order))).0
 
 none_left : {A : Type 0} {x : A} {rest : List A} (k : ℕ) → drop k [] ≡ x ∷ rest → ⊥
 none_left zero e = cc (e)
@@ -133,7 +129,7 @@ first_change place row change feed lawful order =
         → fold_from place (if b then change.after else row) (up_to feed 0)
         ≡ (if has_copy feed change.home.page then fold_from place row (up_to feed 0)
         else (if b then change.after else fold_from place row (up_to feed 0)))
-    go true e = here (has_copy feed change.home.page) (one_place change.home place e) refl
+    go true e = here (has_copy feed change.home.page) (same_place-true change.home place e) refl
     go false e =
         sym (either_way (has_copy feed change.home.page) (fold_from place row (up_to feed 0)))
 

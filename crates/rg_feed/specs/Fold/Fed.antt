@@ -9,7 +9,7 @@ use Rattle.std.specs.Prelude.{◌≡◌, ℕ, ◌<◌, ◌≤◌, Bool, true, fa
 use Rattle.std.specs.List.{AllByRecursion}
 use Rattle.rg_base.specs.declared.place.Place.{Place}
 use Rattle.rg_base.specs.declared.row.Row.{Row}
-use Rattle.rg_model.specs.Layout.{same_place}
+use Rattle.rg_base.specs.Place.{same_place}
 use Rattle.rg_feed.specs.Fold.Last.{last_at}
 use Rattle.rg_feed.specs.Fold.Fold.{fold_at, since_begin, changes}
 use Rattle.rg_feed.specs.Fold.Lawful.{Lawful}

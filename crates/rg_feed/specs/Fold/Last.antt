@@ -3,7 +3,7 @@ use Rattle.std.specs.Prelude.{List, [], ◌∷◌, Option, Some, None, if◌then
 use Rattle.rg_base.specs.declared.change.Change.{Change}
 use Rattle.rg_base.specs.declared.place.Place.{Place}
 use Rattle.rg_base.specs.declared.row.Row.{Row}
-use Rattle.rg_model.specs.Layout.{same_place}
+use Rattle.rg_base.specs.Place.{same_place}
 
 -- the later of two changes that may be there
 abbrev pub later_of : Option Change → Option Change → Option Change

@@ -3,6 +3,7 @@ use Rattle.std.proofs.Common.{◌≡◌, ◌&&◌, ◌+◌, ◌-◌, nat_le, ℕ
 use Rattle.std.proofs.Common.{◌∷◌, filter, Option, Some, None, refl, ◌∙◌, ap, arith}
 use Rattle.std.specs.List.{list_all}
 use Rattle.std.proofs.lemmas.Bool.Decides.{nat_tests}
+use Rattle.std.proofs.lemmas.Bool.{and_parts}
 use Rattle.rg_base.specs.declared.options.Options.{Options}
 use Rattle.rg_base.specs.declared.row.Row.{Row}
 use Rattle.rg_stmt.specs.declared.event.Entry.{Entry}
@@ -56,15 +57,11 @@ pair_trans : (a b c : Spot) → is_clustered_pair a b ≡ true → is_clustered_
     → is_clustered_pair a c ≡ true
 pair_trans a b c ab bc = grind (arith, nat_tests, ab, bc)
 
-both_true : (a b : Bool) → (a && b) ≡ true → (a ≡ true) × (b ≡ true)
-both_true true b e = (refl, e)
-both_true false b e = absurd (cc (e))
-
 all_behind : (a b : Spot) (spots : List Spot) → is_clustered_pair a b ≡ true
     → list_all (is_clustered_pair b) spots ≡ true → list_all (is_clustered_pair a) spots ≡ true
 all_behind a b [] ab all = refl
 all_behind a b (c ∷ spots) ab all =
-    let parts = both_true (is_clustered_pair b c) (list_all (is_clustered_pair b) spots) all in
+    let parts = and_parts (is_clustered_pair b c) (list_all (is_clustered_pair b) spots) all in
     rw (pair_trans a b c ab parts.0) (all_behind a b spots ab parts.1)
 
 -- all lie at home, each not before the last one

@@ -4,6 +4,7 @@ use Rattle.std.proofs.Common.{None, refl, sym, ◌∙◌, ap}
 use Rattle.std.specs.Ordering.{nat_cmp}
 use Rattle.std.specs.FinMap as map
 use Rattle.std.specs.FinMap.{get-empty, get-entries, get-retain_keys, nat_cmp-IsAntisymmetric}
+use Rattle.std.proofs.lemmas.Bool.{eqb-true}
 use Rattle.rg_base.specs.declared.lock.Lock.{Lock}
 use Rattle.rg_base.specs.declared.session.Session.{Session}
 use Rattle.rg_model.specs.Committed.{locks_without, own_locks, put_back}
@@ -12,7 +13,6 @@ use Rattle.rg_model.specs.State.{Table, Locks}
 use Rattle.rg_model.proofs.Overlay.{get-put_back, get-without, kept_or}
 use Rattle.rg_judge.specs.Table.Owners.{Owners, has_in, holds_cat, AreHeld}
 use Rattle.rg_judge.proofs.TableLemmas.Replaced.{get-dropped}
-use Rattle.rg_judge.proofs.TableLemmas.ByTest.{equal_of}
 
 -- without locks no session holds a key
 pub held-none : (table : Table) (locks : Locks) (owners : Owners) → locks ≡ map.empty
@@ -47,7 +47,7 @@ module _ (table after : Table) (locks : Locks) (owners : Owners) (are : AreHeld 
               by true at = refl
               by false at = sym
                   (ap (λ b. b && (has_cat cat (map.get after q) || has_cat cat kept.row))
-                  (ap (λ m. kept.owner.0 == m) (sym (equal_of session.0 n e)) ∙ at))
+                  (ap (λ m. kept.owner.0 == m) (sym (eqb-true session.0 n e)) ∙ at))
 
         others_stay : (found : Option Lock) → map.get locks q ≡ found → (session.0 == n) ≡ false
             → holds_cat found (map.get table q) n cat
@@ -58,7 +58,7 @@ module _ (table after : Table) (locks : Locks) (owners : Owners) (are : AreHeld 
               → holds_cat (Some kept) (map.get table q) n cat
               ≡ holds_cat (cond (not b) (Some kept) None) (map.get after q) n cat
           by true at = ap (λ b. b && (has_cat cat (map.get table q) || has_cat cat kept.row))
-              (ap (λ m. m == n) (equal_of kept.owner.0 session.0 at) ∙ e)
+              (ap (λ m. m == n) (eqb-true kept.owner.0 session.0 at) ∙ e)
           by false at =
               sym (ap (λ o. holds_cat (Some kept) o n cat) (elsewhere q kept is (ap not at)))
 

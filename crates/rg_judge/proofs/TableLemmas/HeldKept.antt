@@ -2,9 +2,12 @@
 use Rattle.std.proofs.Common.{◌≡◌, ◌==◌, ◌&&◌, ◌||◌, ℕ, Bool, true, false, not, cond, Option, Some}
 use Rattle.std.proofs.Common.{None, is_some, refl, sym, ◌∙◌, ap}
 use Rattle.std.specs.FinMap as map
+use Rattle.std.proofs.Math.Bool.{and-true, and-false}
+use Rattle.std.proofs.lemmas.Bool.{eqb-true}
 use Rattle.rg_base.specs.declared.lock.Lock.{Lock}
 use Rattle.rg_base.specs.declared.row.Row.{Row}
 use Rattle.rg_base.specs.declared.session.Session.{Session}
+use Rattle.rg_base.proofs.Small.{cmp_turned, second_true}
 use Rattle.rg_lock.specs.Taken.{take_key}
 use Rattle.rg_model.specs.Committed.{set_to}
 use Rattle.rg_model.specs.Held.{has_cat}
@@ -16,7 +19,6 @@ use Rattle.rg_judge.specs.Table.Owners.{committed_or, AreHeld, AreKnown, IsNoted
 use Rattle.rg_judge.specs.Table.Sets.{Sets, is_key_in}
 use Rattle.rg_judge.specs.declared.table.key_sets.KeySets.{KeySets}
 use Rattle.rg_judge.proofs.TableLemmas.Replaced.{get-replaced, get-put}
-use Rattle.rg_judge.proofs.TableLemmas.ByTest.{agree, and_false, equal_of}
 
 -- a key that was struck by two `cat`s and listed by two has the latter
 mixed : (hc hr hp was : Bool) → (was ≡ true → (hp || hc) ≡ true)
@@ -59,8 +61,8 @@ module _ (old : Owners) (number key : ℕ) (present committed row : Option Row) 
       by_key at true e =
           mixed (has_cat cat committed) (has_cat cat row) (has_cat cat present) (is_key_in s0 cat q)
           (λ is. known cat
-          (ap (is_held_in old number cat) (equal_of key q e) ∙ sym (were cat q) ∙ is))
-      by_key at false e = were cat q ∙ ap (λ m. is_held_in old m cat q) (equal_of number n at)
+          (ap (is_held_in old number cat) (eqb-true key q e) ∙ sym (were cat q) ∙ is))
+      by_key at false e = were cat q ∙ ap (λ m. is_held_in old m cat q) (eqb-true number n at)
 
       by_number : (b : Bool) → (number == n) ≡ b
           → has_in (cond b (Some sets) (map.get old n)) cat q
@@ -73,10 +75,6 @@ module _ (old : Owners) (number key : ℕ) (present committed row : Option Row) 
 lock_or : Option Lock → Lock → Lock
 lock_or None fresh = fresh
 lock_or (Some kept) fresh = kept
-
-second_true : (a b : Bool) → (a && b) ≡ true → b ≡ true
-second_true true b e = e
-second_true false b e = absurd (cc (e))
 
 module _ (table : Table) (locks : Locks) (owners : Owners) (are : AreHeld table locks owners)
     (session : Session) (key : ℕ) where
@@ -106,7 +104,7 @@ module _ (table : Table) (locks : Locks) (owners : Owners) (are : AreHeld table 
     taken_by None e q = get-put locks key fresh q
     taken_by (Some kept) e q = by_key (key == q) refl where
       by_key : (b : Bool) → (key == q) ≡ b → map.get locks q ≡ cond b (Some kept) (map.get locks q)
-      by_key true at = ap (map.get locks) (sym (equal_of key q at)) ∙ e
+      by_key true at = ap (map.get locks) (sym (eqb-true key q at)) ∙ e
       by_key false at = refl
 
     get-taken : (q : ℕ)
@@ -146,7 +144,7 @@ module _ (table : Table) (locks : Locks) (owners : Owners) (are : AreHeld table 
         ∙ ap
         (λ o. holds_cat
         (cond (key == q) (Some (lock_or (map.get locks key) fresh)) (map.get locks q)) o n cat)
-        (get-set_to table key row q ∙ ap (λ b. cond b row (map.get table q)) (agree q key)))
+        (get-set_to table key row q ∙ ap (λ b. cond b row (map.get table q)) (cmp_turned q key)))
       where
         by_key : (b : Bool) → (key == q) ≡ b
             → cond (((owner_or (map.get locks key) session).0 == n) && b)
@@ -161,21 +159,18 @@ module _ (table : Table) (locks : Locks) (owners : Owners) (are : AreHeld table 
             (has_cat cat row
             || has_cat cat (committed_or (map.get locks key) (map.get table key)))
             (is_held_in owners n cat q))
-            (and_true ((owner_or (map.get locks key) session).0 == n))
+            (and-true ((owner_or (map.get locks key) session).0 == n))
             ∙ ap
             (cond ((owner_or (map.get locks key) session).0 == n)
             (has_cat cat row
             || has_cat cat (committed_or (map.get locks key) (map.get table key))))
-            (ap (is_held_in owners n cat) (sym (equal_of key q e)) ∙ are n cat key)
-            ∙ at_key (map.get locks key) (map.get table key) n cat refl where
-              and_true : (b : Bool) → (b && true) ≡ b
-              and_true true = refl
-              and_true false = refl
+            (ap (is_held_in owners n cat) (sym (eqb-true key q e)) ∙ are n cat key)
+            ∙ at_key (map.get locks key) (map.get table key) n cat refl
         by_key false e =
             ap
             (λ b. cond b
             (has_cat cat row
             || has_cat cat (committed_or (map.get locks key) (map.get table key)))
             (is_held_in owners n cat q))
-            (and_false ((owner_or (map.get locks key) session).0 == n))
+            (and-false ((owner_or (map.get locks key) session).0 == n))
             ∙ are n cat q

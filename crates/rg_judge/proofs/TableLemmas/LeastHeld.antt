@@ -3,19 +3,19 @@ use Rattle.std.proofs.Common.{◌≡◌, ◌==◌, ◌&&◌, ◌||◌, ◌≤◌
 use Rattle.std.proofs.Common.{true, false, not, cond, [], ◌∷◌, ◌++◌, Option, Some, None, refl, sym}
 use Rattle.std.proofs.Common.{◌∙◌, ap, arith}
 use Rattle.std.specs.FinMap as map
-use Rattle.std.proofs.lemmas.Bool.Decides.{nat_tests}
+use Rattle.std.proofs.lemmas.Bool.{ltb-false, eq-eqb, ltb-true, eqb-true}
 use Rattle.rg_base.specs.First.{IsEmptyFrom, IsFirstFrom}
 use Rattle.rg_base.specs.declared.lock.Lock.{Lock}
 use Rattle.rg_base.specs.declared.session.Session.{Session}
 use Rattle.rg_base.proofs.Walk.{passing_from, place, walk_begins, walk_skips, walk_goes, walk_fails}
 use Rattle.rg_base.proofs.Walk.{first_at}
+use Rattle.rg_base.proofs.Small.{second_true}
 use Rattle.rg_model.specs.Held.{first_owner, find_holder, has_cat, is_held_with_cat, owner_of}
 use Rattle.rg_model.specs.State.{Table, Locks, row_of}
 use Rattle.rg_judge.specs.Table.Owners.{Owners, has_in, is_held_in, holds_cat, lesser, AreHeld}
 use Rattle.rg_judge.specs.Table.Owners.{IsHeldByOther, IsLeastHeld}
 use Rattle.rg_judge.specs.Table.Sets.{is_key_in, IsFirstIn}
 use Rattle.rg_judge.specs.declared.table.key_sets.KeySets.{KeySets}
-use Rattle.rg_judge.proofs.TableLemmas.ByTest.{equal_of, same}
 
 -- the least key among the sessions below a number
 abbrev pub IsLeastBefore : Owners → (own cat from : ℕ) → Option ℕ → Type 0
@@ -24,12 +24,6 @@ IsLeastBefore owners own cat from None =
 IsLeastBefore owners own cat from (Some key) =
     IsHeldByOther owners own cat key
     × ((n q : ℕ) → n < from → q < key → (n == own) ≡ false → is_held_in owners n cat q ≡ false)
-
-below_of : (a b : ℕ) → nat_lt a b ≡ true → a < b
-below_of a b e = grind (arith, nat_tests)
-
-not_below_of : (a b : ℕ) → nat_lt a b ≡ false → b ≤ a
-not_below_of a b e = grind (arith, nat_tests)
 
 module _ (owners : Owners) (own cat : ℕ) where
   pub least-begins : IsLeastBefore owners own cat 0 None
@@ -74,11 +68,11 @@ module _ (owners : Owners) (own cat : ℕ) where
       pub least-stays : number ≡ own → (least : Option ℕ) → IsLeastBefore owners own cat from least
           → IsLeastBefore owners own cat (number + 1) least
       least-stays is_own None is = λ n q lt other. rest n q lt (λ low. is n q low other)
-          (λ e. absurd (cc (sym other ∙ same n own (sym e ∙ is_own))))
+          (λ e. absurd (cc (sym other ∙ eq-eqb n own (sym e ∙ is_own))))
       least-stays is_own (Some key) is = (
         is.0,
         λ n q lt below other. rest n q lt (λ low. is.1 n q low below other)
-            (λ e. absurd (cc (sym other ∙ same n own (sym e ∙ is_own)))),
+            (λ e. absurd (cc (sym other ∙ eq-eqb n own (sym e ∙ is_own)))),
       )
 
       here : (n q : ℕ) → number ≡ n → is_key_in sets.sets cat q ≡ false
@@ -111,14 +105,14 @@ module _ (owners : Owners) (own cat : ℕ) where
         by : (c : Bool) → nat_lt b a ≡ c
             → IsLeastBefore owners own cat (number + 1) (Some (cond c b a))
         by true e =
-            let less : b < a = below_of b a e in (
+            let less : b < a = ltb-true b a e in (
               held_here apart b in_it.1,
               λ n q lt below other. rest n q lt
                   (λ low. is.1 n q low (omega (arith, below, less)) other)
                   (λ e. here n q e (in_it.2 q (omega arith) below)),
             )
         by false e =
-            let least : a ≤ b = not_below_of b a e in (
+            let least : a ≤ b = ltb-false b a e in (
               is.0,
               λ n q lt below other. rest n q lt (λ low. is.1 n q low below other)
                   (λ e. here n q e (in_it.2 q (omega arith) (omega (arith, below, least)))),
@@ -135,10 +129,6 @@ not_and_true false b e h = h
 first_true : (a b : Bool) → (a && b) ≡ true → a ≡ true
 first_true true b e = refl
 first_true false b e = absurd (cc (e))
-
-second_true : (a b : Bool) → (a && b) ≡ true → b ≡ true
-second_true true b e = e
-second_true false b e = absurd (cc (e))
 
 -- a lock that blocks the session
 record Blocks (table : Table) (session : Session) (cat key : ℕ) (found : Option Lock) : Type 0 where
@@ -158,7 +148,7 @@ module _ (table : Table) (locks : Locks) (owners : Owners) (are : AreHeld table 
       sym
       (are v.owner.0 cat q ∙ ap (λ o. holds_cat o (row_of table q) v.owner.0 cat) there
       ∙ ap (λ b. b && (has_cat cat (row_of table q) || has_cat cat v.row))
-      (same v.owner.0 v.owner.0 refl))
+      (eq-eqb v.owner.0 v.owner.0 refl))
       ∙ out other)
 
   blocks_by : (key n : ℕ) (found : Option Lock) → map.get locks key ≡ found
@@ -166,7 +156,7 @@ module _ (table : Table) (locks : Locks) (owners : Owners) (are : AreHeld table 
       → Blocks table session cat key found
   blocks_by key n None is other holds = absurd (cc (holds))
   blocks_by key n (Some v) is other holds =
-      let owner : v.owner.0 ≡ n = equal_of v.owner.0 n (first_true (v.owner.0 == n) _ holds) in
+      let owner : v.owner.0 ≡ n = eqb-true v.owner.0 n (first_true (v.owner.0 == n) _ holds) in
       record {
         lock = v;
         there = refl;

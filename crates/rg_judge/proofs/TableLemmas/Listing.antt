@@ -3,7 +3,8 @@ use Rattle.std.proofs.Common.{◌≡◌, ◌==◌, ◌&&◌, ◌≤◌, ◌<◌,
 use Rattle.std.proofs.Common.{[], ◌∷◌, ◌++◌, map, Option, Some, None, refl, sym, ◌∙◌, ap}
 use Rattle.std.proofs.Common.{append-nil, arith}
 use Rattle.std.specs.FinMap as fin
-use Rattle.std.proofs.lemmas.Bool.Decides.{nat_tests}
+use Rattle.std.proofs.Math.Bool.{and-false}
+use Rattle.std.proofs.lemmas.Bool.{le-leb, lt-leb}
 use Rattle.rg_base.specs.First.{IsEmptyFrom, IsFirstFrom}
 use Rattle.rg_base.specs.declared.row.Row.{Row}
 use Rattle.rg_base.proofs.Walk.{walk_begins, walk_skips, walk_fails, first_at}
@@ -23,12 +24,6 @@ record Found (cat : ℕ) (o : Option Row) : Type 0 where
 found : (cat : ℕ) (o : Option Row) → has_cat cat o ≡ true → Found cat o
 found cat None e = absurd (cc (e))
 found cat (Some row) e = record { row = row; there = refl; has = e }
-
-within : (a b : ℕ) → a ≤ b → nat_le a b ≡ true
-within a b le = grind (arith, nat_tests)
-
-beyond : (a b : ℕ) → b < a → nat_le a b ≡ false
-beyond a b lt = grind (arith, nat_tests)
 
 module _ (cat : ℕ) (rows : Table) (sets : Sets) (are : AreCats rows sets) where
   test : ℕ × Row → Bool
@@ -72,14 +67,11 @@ module _ (lo hi : ℕ) (rows : Table) where
 
   low_fails : (q : ℕ) (v : Row) → q < lo → between (q, v) ≡ false
   unfolding between
-  low_fails q v lt = ap (λ b. b && nat_le q hi) (beyond lo q lt)
+  low_fails q v lt = ap (λ b. b && nat_le q hi) (lt-leb lo q lt)
 
   high_fails : (q : ℕ) (v : Row) → hi < q → between (q, v) ≡ false
   unfolding between
-  high_fails q v gt = ap (λ b. nat_le lo q && b) (beyond q hi gt) ∙ and_false (nat_le lo q) where
-    and_false : (b : Bool) → (b && false) ≡ false
-    and_false true = refl
-    and_false false = refl
+  high_fails q v gt = ap (λ b. nat_le lo q && b) (lt-leb q hi gt) ∙ and-false (nat_le lo q)
 
   pub rows-begin : rows_from lo hi rows lo ≡ rows_between lo hi rows
   unfolding between
@@ -99,7 +91,7 @@ module _ (lo hi : ℕ) (rows : Table) where
         gathered-passes (λ (entry : ℕ × Row). entry.1)
         (λ (entry : ℕ × Row). nat_le lo entry.0 && nat_le entry.0 hi) rows (rows_between lo hi rows)
         done from (key, row) is
-        (rw (within lo key (omega (arith, low, is.0)), within key hi le) refl) so_far
+        (rw (le-leb lo key (omega (arith, low, is.0)), le-leb key hi le) refl) so_far
 
     pub rows-stop : hi < key → done ≡ rows_between lo hi rows
     unfolding between

@@ -4,10 +4,13 @@ use Rattle.std.proofs.Common.{is_some, refl, sym, ◌∙◌, ap}
 use Rattle.std.specs.FinMap as map
 use Rattle.std.specs.FinMap.{get-insert, get-remove}
 use Rattle.std.proofs.lemmas.Cmp.{nat_cmp_total}
+use Rattle.std.proofs.Math.Bool.{and-false}
+use Rattle.std.proofs.lemmas.Bool.{eqb-true}
 use Rattle.rg_base.specs.First.{IsEmptyFrom, IsFirstFrom}
+use Rattle.rg_base.proofs.Small.{cmp_turned}
 use Rattle.rg_judge.specs.Table.Sets.{Set, Sets, has_key, IsFirstIn, IsPutIn, IsTakenOut}
 use Rattle.rg_judge.proofs.TableLemmas.Replaced.{get-replaced, get-dropped}
-use Rattle.rg_judge.proofs.TableLemmas.ByTest.{agree, equal_of, some_or, none_or, and_false}
+use Rattle.rg_judge.proofs.TableLemmas.ByTest.{some_or, none_or}
 
 module _ (old : Sets) (number : ℕ) where
   module _ (key : ℕ) where
@@ -21,10 +24,10 @@ module _ (old : Sets) (number : ℕ) where
             ≡ ((b && (key == q)) || has_key (map.get old n) q)
         by_number true e =
             ap is_some (get-insert nat_cmp_total set key tt q)
-            ∙ ap (λ c. is_some (cond c (Some tt) (map.get set q))) (agree q key)
+            ∙ ap (λ c. is_some (cond c (Some tt) (map.get set q))) (cmp_turned q key)
             ∙ some_or (key == q) tt (map.get set q)
             ∙ ap (λ h. (key == q) || h)
-            (is q ∙ ap (λ m. has_key (map.get old m) q) (equal_of number n e))
+            (is q ∙ ap (λ m. has_key (map.get old m) q) (eqb-true number n e))
         by_number false e = refl
 
     pub taken_out : (set : Set) → map.get old number ≡ Some set
@@ -37,10 +40,10 @@ module _ (old : Sets) (number : ℕ) where
             ≡ (not (b && (key == q)) && has_key (map.get old n) q)
         by_number true e =
             ap is_some (get-remove nat_cmp_total set key q)
-            ∙ ap (λ c. is_some (cond c None (map.get set q))) (agree q key)
+            ∙ ap (λ c. is_some (cond c None (map.get set q))) (cmp_turned q key)
             ∙ none_or (key == q) (map.get set q)
             ∙ ap (λ h. not (key == q) && has_key h q)
-            (sym there ∙ ap (map.get old) (equal_of number n e))
+            (sym there ∙ ap (map.get old) (eqb-true number n e))
         by_number false e = refl
 
     pub taken_none : map.get old number ≡ None → IsTakenOut old (map.remove old number) number key
@@ -51,9 +54,9 @@ module _ (old : Sets) (number : ℕ) where
             → has_key (cond b None (map.get old n)) q
             ≡ (not (b && (key == q)) && has_key (map.get old n) q)
         by_number true e =
-            sym (and_false (not (key == q)))
+            sym (and-false (not (key == q)))
             ∙ ap (λ h. not (key == q) && has_key h q)
-            (sym none ∙ ap (map.get old) (equal_of number n e))
+            (sym none ∙ ap (map.get old) (eqb-true number n e))
         by_number false e = refl
 
 module _ (sets : Sets) (number from : ℕ) where

@@ -7,6 +7,6 @@ use Rattle.rg_judge.specs.declared.turn.turn.Turn.TheVariants.{Runs, Switches, S
 -- a turn
 abbrev pub turn_seen : Turn → model.Turn
 turn_seen (Runs u drain) = model.Runs (utility_of u) drain
-turn_seen (Switches copy sides u) = model.Switches copy sides.now (utility_of u)
+turn_seen (Switches copy sides u) = model.Switches copy.now sides.now (utility_of u)
 turn_seen Stops = model.Stops
 turn_seen Falls = model.Falls

@@ -1,7 +1,7 @@
 // Sets of keys, by numbers.
 // A key is put into the set of a number, taken out of it, and found in it, in logarithmic time.
 ghost use Rattle.std.specs.Prelude.{◌≡◌, ℕ, false, OnOk};
-ghost use Rattle.rg_model.specs.Start.{start_of};
+ghost use Rattle.rg_base.specs.Start.{start_of};
 ghost use Rattle.std.specs.FinMap as map;
 ghost use Rattle.std.specs.Option.{option_copied};
 ghost use Rattle.rg_judge.specs.Table.Cats.{IsListed, IsStruck};

@@ -275,7 +275,7 @@ pub fn switch_copies<'a>(u: Progress, event: &'a Event) -> Option<Turn<'a>>
 {
     match event {
         Event::Switched { copy, sides } => Some(Turn::Switches {
-            copy: *copy,
+            copy,
             sides,
             progress: Progress {
                 switched: true,

@@ -6,6 +6,7 @@ ghost use Rattle.rg_judge.specs.Turn.TurnOf.{turn_seen};
 ghost use Rattle.rg_model.specs.Turn.{early_stop, next_iteration, space_stop, turn_if};
 
 use crate::turn::progress::Progress;
+use rg_base::copy::TableCopy;
 use rg_base::no_memory::NoMemory;
 use rg_base::options::DrainState;
 use rg_base::verdict::StopReason;
@@ -20,7 +21,7 @@ pub enum Turn<'a> {
     Runs(Progress, DrainState),
     /// The other copy with these layouts, and the utility with these numbers.
     Switches {
-        copy: u8,
+        copy: &'a TableCopy,
         sides: &'a Sides,
         progress: Progress,
     },

@@ -25,11 +25,11 @@ use Rattle.rg_record.specs.declared.record.Kind.TheVariants.{Change, Undo, Commi
 use Rattle.rg_record.specs.declared.record.Kind.TheVariants.{Purge, Switch}
 use Rattle.rg_record.specs.declared.record.Record.{Record}
 use Rattle.rg_image.specs.Meaning.{Current, current_after, current_of, raised}
-use Rattle.rg_image.specs.Pack.{log_bytes, size_of}
 use Rattle.rg_image.specs.Rules.{Done, IsOpen, but_first, done_after, done_by, greatest_tran}
 use Rattle.rg_image.specs.Rules.{has_undo, is_end, is_ended, is_undo, last_position, not_undone}
 use Rattle.rg_image.specs.Rules.{of_tran, owed, owed_by, owed_to}
-use Rattle.rg_check.proofs.ChainLemmas.Records.{any_more, current_more, done_more, greatest_more}
+use Rattle.rg_image.proofs.Current.{current_more}
+use Rattle.rg_check.proofs.ChainLemmas.Records.{any_more, done_more, greatest_more}
 use Rattle.rg_check.proofs.ChainLemmas.Records.{last_more, none_above, other_record, own_record}
 use Rattle.rg_laws_crash.specs.NewestPages.Newest.{AllNear}
 use Rattle.rg_undo.specs.Undoing.{later_of, written_in, written_of}
@@ -40,19 +40,10 @@ pub or_false : (b c : Bool) → c ≡ false → (b || c) ≡ b
 or_false true c e = refl
 or_false false c e = e
 
-pub or_true : (b c : Bool) → c ≡ true → (b || c) ≡ true
-or_true true c e = refl
-or_true false c e = e
-
 pub left_more : (done rs : List Record) (entry : Record)
     → left_after done (rs ++ entry ∷ []) ≡ left_by (left_after done rs) entry
 left_more done [] entry = refl
 left_more done (r ∷ rs) entry = left_more (left_by done r) rs entry
-
-pub bytes_more : (rs : List Record) (entry : Record)
-    → log_bytes (rs ++ entry ∷ []) ≡ log_bytes rs + size_of entry
-bytes_more [] entry = omega arith
-bytes_more (r ∷ rs) entry = omega (arith, bytes_more rs entry)
 
 -- ---- its own transaction
 
@@ -137,10 +128,6 @@ module _ (rs : List Record) (t : ℕ) (none : of_tran t rs ≡ []) where
   owed_by_none = ap
       (λ (l : List Record). if list_any (λ r. is_end r.kind) l || (length l == 0) then 0
       else 911 * length (done_after [] l) + 23) none
-
-pub none_of : {A : Type 0} (xs : List A) → length xs ≡ 0 → xs ≡ []
-none_of [] e = refl
-none_of (x ∷ xs) e = absurd (omega (arith, e))
 
 -- ---- what is not undone is what is left
 

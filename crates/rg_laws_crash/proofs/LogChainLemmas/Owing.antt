@@ -2,8 +2,9 @@
 use Rattle.std.proofs.Common.{◌≡◌, ◌≤◌, ◌+◌, ◌*◌, ◌==◌, ⊎_elim, ℕ, zero, suc, Bool, true, false}
 use Rattle.std.proofs.Common.{if◌then◌else◌, List, [], ◌∷◌, ◌++◌, length, take, refl, sym, ◌∙◌, ap}
 use Rattle.std.proofs.Common.{subst, arith}
-use Rattle.std.proofs.lemmas.List.{append-nil}
-use Rattle.std.proofs.lemmas.Bool.{cases_lt, eqb-false, eqb-true, or_from}
+use Rattle.std.proofs.lemmas.List.{append-nil, nil_from_length}
+use Rattle.std.proofs.lemmas.Bool.{cases_lt, eqb-true, or_from, or_right}
+use Rattle.rg_base.proofs.Small.{nat_some}
 use Rattle.rg_record.specs.declared.record.Kind.{Kind}
 use Rattle.rg_record.specs.declared.record.Kind.TheVariants.{Change, Undo, Commit, RolledBack}
 use Rattle.rg_record.specs.declared.record.Kind.TheVariants.{Purge, Switch}
@@ -15,8 +16,8 @@ use Rattle.rg_check.specs.OpenUnits.Unended.{left_of}
 use Rattle.rg_check.proofs.OpenUnitsLemmas.Lefts.{left_count}
 use Rattle.rg_laws_crash.specs.LogChain.Laws.{Owes}
 use Rattle.rg_laws_crash.specs.LogChain.Next.{AreNext}
-use Rattle.rg_laws_crash.proofs.LogChainLemmas.Appended.{done_none, done_own, ended_own, none_of}
-use Rattle.rg_laws_crash.proofs.LogChainLemmas.Appended.{or_true, owed_by_ended, owed_by_going}
+use Rattle.rg_laws_crash.proofs.LogChainLemmas.Appended.{done_none, done_own, ended_own}
+use Rattle.rg_laws_crash.proofs.LogChainLemmas.Appended.{owed_by_ended, owed_by_going}
 use Rattle.rg_laws_crash.proofs.LogChainLemmas.Appended.{owed_by_none, owed_none, owed_own}
 use Rattle.rg_laws_crash.proofs.LogChainLemmas.Appended.{some_own}
 use Rattle.rg_laws_crash.proofs.LogChainLemmas.Telling.{push_append}
@@ -56,10 +57,6 @@ undo_count back (change ∷ done) RolledBack is some = absurd (cc (is))
 undo_count back (change ∷ done) (Purge parts) is some = absurd (cc (is))
 undo_count back (change ∷ done) (Switch copy pages) is some = absurd (cc (is))
 
-some_of : (n : ℕ) → (n == 0) ≡ false → 1 ≤ n
-some_of zero e = absurd (eqb-false 0 0 e refl)
-some_of (suc n) e = omega arith
-
 module _ (rs : List Record) (entry : Record) where
   abbrev tran : ℕ
   tran = entry.tran.0
@@ -91,7 +88,7 @@ module _ (rs : List Record) (entry : Record) where
           → owed now ≡ owed rs + 911 + (if b then 23 else 0)
       go true e =
           let none : of_tran tran rs ≡ [] =
-          none_of (of_tran tran rs) (eqb-true (length (of_tran tran rs)) 0 e) in
+          nil_from_length (of_tran tran rs) (eqb-true (length (of_tran tran rs)) 0 e) in
           omega (
             arith,
             owed_own rs entry of.some,
@@ -103,7 +100,7 @@ module _ (rs : List Record) (entry : Record) where
         arith,
         owed_own rs entry of.some,
         more,
-        owed_by_going tran rs of.going (some_of (length (of_tran tran rs)) e),
+        owed_by_going tran rs of.going (nat_some (length (of_tran tran rs)) e),
       )
 
   -- where Changes are left there are records
@@ -115,7 +112,7 @@ module _ (rs : List Record) (entry : Record) where
         arith,
         some,
         ap (λ (l : List Done). length l)
-            (done_none rs tran (none_of (of_tran tran rs) (omega (arith, lt)))),
+            (done_none rs tran (nil_from_length (of_tran tran rs) (omega (arith, lt)))),
       )))
       (λ le. le) (cases_lt (length (of_tran tran rs)) 1)
 
@@ -138,7 +135,7 @@ module _ (rs : List Record) (entry : Record) where
         arith,
         owed_own rs entry of.some,
         owed_by_ended tran now
-            (ended_own rs entry tran refl ∙ or_true (is_ended tran rs) (is_end entry.kind) is),
+            (ended_own rs entry tran refl ∙ or_right (is_ended tran rs) (is_end entry.kind) is),
         owed_by_going tran rs of.going some,
         left_count tran rs,
       )

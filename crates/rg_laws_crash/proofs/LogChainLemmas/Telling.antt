@@ -4,7 +4,7 @@ use Rattle.std.proofs.Common.{List, [], ◌∷◌, ◌++◌, length, map, Option
 use Rattle.std.proofs.Common.{ap, subst, arith}
 use Rattle.std.specs.List.{list_any}
 use Rattle.std.proofs.lemmas.List.{append_assoc, append-nil, reverse-append}
-use Rattle.std.proofs.lemmas.Bool.{cases_eq}
+use Rattle.std.proofs.lemmas.Bool.{cases_eq, or_right}
 use Rattle.rg_base.specs.declared.part.Part.{Part}
 use Rattle.rg_base.specs.declared.place.Place.{Place}
 use Rattle.rg_base.specs.declared.position.Position.{Position}
@@ -43,7 +43,7 @@ use Rattle.rg_laws_crash.specs.LogChain.Next.{AreNext, IsLinked, IsNext, Links}
 use Rattle.rg_laws_crash.specs.LogChain.Tells.{Tells}
 use Rattle.rg_laws_crash.proofs.LogChainLemmas.Appended.{applied_count, count_more, ended_none}
 use Rattle.rg_laws_crash.proofs.LogChainLemmas.Appended.{ended_own, left_none, left_other, left_own}
-use Rattle.rg_laws_crash.proofs.LogChainLemmas.Appended.{open_before, open_other, or_false, or_true}
+use Rattle.rg_laws_crash.proofs.LogChainLemmas.Appended.{open_before, open_other, or_false}
 use Rattle.rg_laws_crash.proofs.LogChainLemmas.Appended.{some_own, undo_none, undo_other, undo_own}
 
 -- the writes but the first
@@ -220,7 +220,7 @@ module _ (limit : ℕ) (rs : List Record) (entry : Record) (s : LogState) (tells
         ⊎_elim
         (λ same. subst (λ (v : ℕ). has_undo v now ≡ is_in v (tran ∷ s.rolling)) (sym same)
         (undo_own rs entry tran refl
-        ∙ or_true (has_undo tran rs) (is_undo entry.kind) (ap is_undo is)
+        ∙ or_right (has_undo tran rs) (is_undo entry.kind) (ap is_undo is)
         ∙ sym (live_same s.rolling tran)))
         (λ n. other_rolling u n l ∙ sym (in_others s.rolling tran u n)) (cases_eq u tran)
 
@@ -263,7 +263,7 @@ module _ (limit : ℕ) (rs : List Record) (entry : Record) (s : LogState) (tells
     not_open : IsOpen tran now → ⊥
     not_open opened = ended
         (sym opened.2 ∙ ended_own rs entry tran refl
-        ∙ or_true (is_ended tran rs) (is_end entry.kind) ends)
+        ∙ or_right (is_ended tran rs) (is_end entry.kind) ends)
       where
         ended : false ≡ true → ⊥
         ended e = cc (e)

@@ -4,6 +4,7 @@ use Rattle.std.proofs.Common.{subst, arith, length-append}
 use Rattle.std.proofs.Math.Seq.{take-length}
 use Rattle.std.proofs.lemmas.Bool.{cases_lt}
 use Rattle.std.proofs.lemmas.List.{take-append-le}
+use Rattle.rg_base.specs.Copies.{set_of}
 use Rattle.rg_laws_crash.specs.NewCopy.Forcing.{IsEither, IsForcing}
 use Rattle.rg_image.proofs.Decode.{contains_take}
 use Rattle.rg_image.proofs.Pack.{front_page}
@@ -13,7 +14,6 @@ use Rattle.rg_image.specs.Pack.{end_of, start}
 use Rattle.rg_image.specs.Rules.{ArePositions, copy_capacity}
 use Rattle.rg_laws_log.specs.LogState.Act.{LogState}
 use Rattle.rg_log.specs.Kept.{log_pages}
-use Rattle.rg_laws_crash.specs.NewestPages.Tidy.{set_of}
 use Rattle.rg_outside.specs.Calls.{Image}
 use Rattle.rg_outside.specs.Capacities.{Capacities}
 use Rattle.rg_page.specs.Content.{Content}

@@ -2,10 +2,10 @@
 use Rattle.std.proofs.Common.{◌≡◌, ◌≤◌, ◌+◌, inl, inr, ℕ, true, false, if◌then◌else◌, List, length}
 use Rattle.std.proofs.Common.{Option, Ok, refl, sym, subst, arith}
 use Rattle.std.proofs.lemmas.Bool.{cases_eq}
+use Rattle.rg_base.specs.Copies.{set_of}
 use Rattle.rg_laws_crash.specs.NewCopy.Writing.{ArePagesOf, AreWritten, HasFirst, IsWriteOf}
 use Rattle.rg_laws_crash.specs.NewCopy.Writing.{WritesCopy}
 use Rattle.rg_base.specs.declared.set.Set.{Set}
-use Rattle.rg_laws_crash.specs.NewestPages.Tidy.{set_of}
 use Rattle.rg_outside.proofs.Every.{Turns, at_same, put_here, put_other, sync_each}
 use Rattle.rg_outside.proofs.Every.{sync_each_settles, told_both, told_weaken, write_reads}
 use Rattle.rg_outside.proofs.Frame.{calls_each}

@@ -3,6 +3,7 @@ use Rattle.std.proofs.Common.{◌≡◌, ◌≤◌, ◌<◌, ◌==◌, ℕ, fals
 use Rattle.std.proofs.Common.{arith, ne_eqb}
 use Rattle.std.proofs.lemmas.Bool.{or_from}
 use Rattle.std.specs.List.{list_any}
+use Rattle.rg_redo.proofs.CurrentCopyLemmas.Covering.{more_there}
 use Rattle.rg_base.specs.declared.part.Part.{Part}
 use Rattle.rg_base.specs.declared.row.Row.{Row}
 use Rattle.rg_home.specs.Pages.{FitsAll, made, place_of, row_or_empty, wrote}
@@ -37,16 +38,10 @@ pub can_near : (s : Seen) (capacity owner : ℕ) (after : Option Row) (parts : L
 can_near s capacity owner after parts can = next_near (length s.pages) owner capacity
     (row_or_empty after) (slots_of s.pages) parts can.next can.fits
 
--- of more pages, too
-there_more : (a b : ℕ) (parts : List Part) → a ≤ b → AllThere a parts → AllThere b parts
-there_more a b [] le there = tt
-there_more a b (x ∷ parts) le there =
-    (there.0, omega (arith, there.1, le), there_more a b parts le there.2)
-
 pub on_pages_more : (a b : ℕ) (rs : List Record) → a ≤ b → AllOnPages a rs → AllOnPages b rs
 on_pages_more a b [] le on = tt
 on_pages_more a b (entry ∷ rs) le on =
-    (there_more a b (parts_of entry.kind) le on.0, on_pages_more a b rs le on.1)
+    (more_there a b (parts_of entry.kind) le on.0, on_pages_more a b rs le on.1)
 
 -- none is on a page past them
 pub past_there : (count page : ℕ) (parts : List Part) → count < page → AllThere count parts

@@ -3,6 +3,7 @@ use Rattle.std.proofs.Common.{◌≡◌, ◌≤◌, ◌<◌, ◌&&◌, nat_lt, i
 use Rattle.std.proofs.Common.{length, refl, sym, ◌∙◌, ap, subst, arith}
 use Rattle.std.proofs.lemmas.Bool.{cases_lt}
 use Rattle.std.specs.List.{AllByRecursion}
+use Rattle.rg_base.specs.Copies.{set_of}
 use Rattle.rg_image.specs.Meaning.{current_of}
 use Rattle.rg_image.specs.Rules.{copy_capacity}
 use Rattle.rg_outside.specs.Calls.{Image}
@@ -20,7 +21,7 @@ use Rattle.rg_laws_crash.proofs.PageVersionsLemmas.OnVolume.{begins_there, begun
 use Rattle.rg_laws_crash.specs.NewestPages.Laws.{CanRedoFrom}
 use Rattle.rg_laws_crash.specs.NewestPages.Newest.{AreNewest}
 use Rattle.rg_laws_crash.specs.NewestPages.OpenLaws.{IsCutAtSwitch, IsMark, IsOpened, IsTakenPage}
-use Rattle.rg_laws_crash.specs.NewestPages.Tidy.{AreSpare, IsSpare, opened_epoch, set_of}
+use Rattle.rg_laws_crash.specs.NewestPages.Tidy.{AreSpare, IsSpare, opened_epoch}
 use Rattle.rg_laws_crash.specs.NewestPages.Tidy.{switched_at, switched_pages}
 use Rattle.rg_laws_crash.proofs.NewestPagesLemmas.Flush.{base_version, version_early}
 use Rattle.rg_laws_crash.proofs.NewestPagesLemmas.InMemory.{past_in, there_in}

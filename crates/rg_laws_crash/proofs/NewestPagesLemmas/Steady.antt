@@ -5,9 +5,11 @@ use Rattle.std.proofs.Common.{subst, arith, append_assoc, append-nil, length-tak
 use Rattle.std.proofs.lemmas.Bool.{or_from}
 use Rattle.std.proofs.lemmas.List.{drop-append-le, take-append-drop, take-take}
 use Rattle.std.specs.List.{AllByRecursion, list_any}
+use Rattle.rg_base.specs.Copies.{set_of}
 use Rattle.rg_base.specs.declared.part.Part.{Part}
 use Rattle.rg_image.specs.Meaning.{Current, current_after, current_from, current_of, raised}
 use Rattle.rg_image.specs.Rules.{ArePositions, copy_capacity}
+use Rattle.rg_image.proofs.Current.{raised_least}
 use Rattle.rg_outside.specs.Calls.{Image}
 use Rattle.rg_outside.specs.Capacities.{Capacities}
 use Rattle.rg_page.specs.Content.{Content, empty}
@@ -23,10 +25,10 @@ use Rattle.rg_laws_crash.specs.PageVersions.Versions.{Epoch, IsOnVolume, Spells,
 use Rattle.rg_laws_crash.specs.PageVersions.Versions.{version}
 use Rattle.rg_laws_crash.proofs.PageVersionsLemmas.Parts.{step}
 use Rattle.rg_laws_crash.specs.NewestPages.Steady.{IsSteady}
-use Rattle.rg_laws_crash.specs.NewestPages.Tidy.{IsSpare, opened_epoch, set_of, switched_at}
+use Rattle.rg_laws_crash.specs.NewestPages.Tidy.{IsSpare, opened_epoch, switched_at}
 use Rattle.rg_laws_crash.specs.NewestPages.Tidy.{switched_from}
 use Rattle.rg_laws_crash.proofs.NewestPagesLemmas.InMemory.{past_in}
-use Rattle.rg_laws_crash.proofs.NewestPagesLemmas.Switching.{has_switched, raised_least}
+use Rattle.rg_laws_crash.proofs.NewestPagesLemmas.Switching.{has_switched}
 
 -- ---- records without a Switch
 
@@ -208,7 +210,8 @@ after_past now entry p past = go entry.kind past
     go (Switch copy pages) past = refl
 
 -- a record that does not name it changes nothing of it
-unnamed_same : (entry : Record) (x : Content) → names x.number entry ≡ false → redone entry x ≡ x
+pub unnamed_same : (entry : Record) (x : Content) → names x.number entry ≡ false
+    → redone entry x ≡ x
 unnamed_same entry x unnamed = elim (step entry x) [
   | inl passed ↦ passed.same
   | inr gained ↦ absurd (cc (gained.named, unnamed))

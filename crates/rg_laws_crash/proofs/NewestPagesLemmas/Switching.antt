@@ -1,9 +1,9 @@
 -- The last Switch of a log: the records after it, and its pages.
-use Rattle.std.proofs.Common.{◌≡◌, ◌≤◌, ◌+◌, ℕ, zero, suc, max, Bool, true, false, if◌then◌else◌}
+use Rattle.std.proofs.Common.{◌≡◌, ◌≤◌, ◌+◌, ℕ, zero, suc, Bool, true, false, if◌then◌else◌}
 use Rattle.std.proofs.Common.{List, [], ◌∷◌, length, drop, refl, sym, ◌∙◌, ap, arith}
-use Rattle.rg_base.specs.declared.part.Part.{Part}
-use Rattle.rg_image.specs.Meaning.{Current, current_after, current_from, current_of, raised}
+use Rattle.rg_image.specs.Meaning.{Current, current_after, current_from, current_of}
 use Rattle.rg_image.specs.Rules.{ArePositions}
+use Rattle.rg_image.proofs.Current.{raised_least}
 use Rattle.rg_record.specs.declared.record.Kind.{Kind}
 use Rattle.rg_record.specs.declared.record.Kind.TheVariants.{Change, Undo, Commit, RolledBack}
 use Rattle.rg_record.specs.declared.record.Kind.TheVariants.{Purge, Switch}
@@ -53,10 +53,6 @@ has_switched rs positions = record {
 }
 
 -- ---- its pages
-
-pub raised_least : (parts : List Part) (pages : ℕ) → pages ≤ raised pages parts
-raised_least [] pages = omega arith
-raised_least (x ∷ parts) pages = omega (arith, raised_least parts (max pages x.page))
 
 after_low : (kept : ℕ) (now : Current) (kind : Kind) → kept ≤ now.pages
     → switch_pages kept kind ≤ (current_after now kind).pages

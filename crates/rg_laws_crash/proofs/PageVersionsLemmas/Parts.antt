@@ -3,10 +3,11 @@
 use Rattle.std.proofs.Common.{◌≡◌, ◌≤◌, ◌<◌, ◌==◌, ◌||◌, ◌⊎◌, inl, inr, ℕ, nat_lt, Bool, true}
 use Rattle.std.proofs.Common.{false, if◌then◌else◌, List, [], ◌∷◌, Option, refl, sym, ◌∙◌, ap}
 use Rattle.std.proofs.Common.{subst, arith}
-use Rattle.std.proofs.lemmas.Bool.{eqb-false, ltb-true, ltb-false}
+use Rattle.std.proofs.lemmas.Bool.{ltb-true, ltb-false}
 use Rattle.std.specs.List.{list_any}
 use Rattle.rg_base.specs.declared.part.Part.{Part}
 use Rattle.rg_base.specs.declared.row.Row.{Row}
+use Rattle.rg_base.proofs.Small.{nat_itself}
 use Rattle.rg_page.specs.Changed.{changed}
 use Rattle.rg_page.specs.Content.{Content}
 use Rattle.rg_record.specs.Applied.{after_of, parts_of}
@@ -19,13 +20,6 @@ clash f = cc (f)
 
 differ : false ≡ true → ⊥
 differ f = cc (f)
-
-eqb-refl : (n : ℕ) → (n == n) ≡ true
-eqb-refl n = go (n == n) refl
-  where
-    go : (b : Bool) → (n == n) ≡ b → (n == n) ≡ true
-    go true e = e
-    go false e = absurd (eqb-false n n e refl)
 
 module _ (owner : ℕ) (after : Option Row) (position : ℕ) where
   part_number : (page : Content) (x : Part)
@@ -132,7 +126,7 @@ module _ (owner : ℕ) (after : Option Row) (position : ℕ) where
           ap (λ b. if b then changed page x owner after position else page) e in
           let other : x.page ≡ page.number → ⊥ =
           λ is.
-          absurd (differ (sym e ∙ subst (λ n. (x.page == n) ≡ true) is (eqb-refl x.page))) in (
+          absurd (differ (sym e ∙ subst (λ n. (x.page == n) ≡ true) is (nat_itself x.page))) in (
             λ is. absurd (other is),
             subst (λ (c : Content). AllFit owner after position c parts) (sym same)
                 (rest

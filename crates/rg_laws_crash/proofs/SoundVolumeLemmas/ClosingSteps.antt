@@ -32,6 +32,7 @@ use Rattle.rg_laws_log.specs.LogState.Stored.{stored_at}
 use Rattle.rg_laws_log.specs.LogState.Tested.{all_of}
 use Rattle.rg_laws_log.proofs.LogStateLemmas.Live.{live_more}
 use Rattle.rg_log.specs.Kept.{log_pages}
+use Rattle.rg_log.proofs.Append.{log_bytes_more}
 use Rattle.rg_laws_crash.specs.NewestPages.Newest.{AllNear}
 use Rattle.rg_laws_crash.proofs.NewestPagesLemmas.Near.{there_near}
 use Rattle.rg_outside.specs.Capacities.{Capacities}
@@ -44,9 +45,8 @@ use Rattle.rg_laws_pages.proofs.UndoRoomLemmas.Parts.{in_turn}
 use Rattle.rg_laws_pages.proofs.UndoRoomLemmas.Shape.{ReusesOf}
 use Rattle.rg_laws_pages.proofs.UndoRoomLemmas.Size.{reuses_length}
 use Rattle.rg_record.specs.Applied.{parts_of}
-use Rattle.rg_record.specs.declared.record.Kind.{Kind}
-use Rattle.rg_record.specs.declared.record.Kind.TheVariants.{Change, Commit, Purge, RolledBack}
-use Rattle.rg_record.specs.declared.record.Kind.TheVariants.{Switch, Undo}
+use Rattle.rg_record.specs.declared.record.Kind.TheVariants.{Change, RolledBack}
+use Rattle.rg_record.specs.declared.record.Kind.TheVariants.{Undo}
 use Rattle.rg_record.specs.declared.record.Record.{Record}
 use Rattle.rg_record.proofs.Sizes.{record_size_high}
 use Rattle.rg_space.specs.Carries.{AllThere}
@@ -54,14 +54,15 @@ use Rattle.rg_space.specs.Ready.{record_wrote}
 use Rattle.rg_space.proofs.Next.{undo_there}
 use Rattle.rg_space.proofs.Whole.{slots_count}
 use Rattle.rg_check.specs.PageTests.Ties.{DeadTiesAt}
-use Rattle.rg_undo.specs.Undoing.{later_of, undo_record, written_in, written_of}
+use Rattle.rg_undo.specs.Undoing.{later_of, undo_record, written_of}
 use Rattle.rg_undo.specs.Unit.{writes_of}
+use Rattle.rg_undo.proofs.Undoing.{owner_is}
 use Rattle.rg_check.specs.OpenUnits.Unended.{left_of, open_in}
 use Rattle.rg_check.proofs.OpenUnitsLemmas.Lefts.{left_is_of}
 use Rattle.rg_laws_crash.specs.PageVersions.Versions.{Epoch}
 use Rattle.rg_laws_log.specs.PageBounds.Within.{IsWithin}
 use Rattle.rg_laws_log.proofs.PageBoundsLemmas.Within.{undo_within}
-use Rattle.rg_laws_crash.proofs.LogChainLemmas.Appended.{bytes_more, copy_more, count_more}
+use Rattle.rg_laws_crash.proofs.LogChainLemmas.Appended.{copy_more, count_more}
 use Rattle.rg_laws_crash.proofs.LogChainLemmas.Appended.{done_is_left, done_of, last_own, left_own}
 use Rattle.rg_laws_crash.proofs.LogChainLemmas.Owing.{owes}
 use Rattle.rg_laws_crash.specs.SoundVolume.Closing.{rolled_back}
@@ -108,19 +109,12 @@ same_matched rs entry slots takes is = record {
 }
 
 -- parts on pages that are there raise nothing
-raised_there : (count : ℕ) (parts : List Part) → AllThere count parts → raised count parts ≡ count
+pub raised_there : (count : ℕ) (parts : List Part) → AllThere count parts
+    → raised count parts ≡ count
 raised_there count [] there = refl
 raised_there count (x ∷ parts) there =
     let most : max count x.page ≡ count = omega (arith, there.1) in
     ap (λ (n : ℕ). raised n parts) most ∙ raised_there count parts there.2
-
-owner_is : (t : ℕ) (kind : Kind) → (written_in t kind).owner ≡ t
-owner_is t (Change home before after parts) = refl
-owner_is t (Undo next home after parts) = refl
-owner_is t Commit = refl
-owner_is t RolledBack = refl
-owner_is t (Purge parts) = refl
-owner_is t (Switch copy pages) = refl
 
 -- fewer units have fewer dead homes
 fewer_ties : (t : ℕ) (ts : List ℕ) (at : Place → Slot) (p : Place) (s : Slot)
@@ -209,8 +203,13 @@ module _ (rs : List Record) (t : ℕ) (ts : List ℕ) (are : open_in rs ≡ t �
         ))
 
     undo_space : (capacity : ℕ) → IsEntry entry → HasSpace capacity rs → HasSpace capacity now
-    undo_space capacity is space = omega
-        (arith, undo_owed, bytes_more rs entry, record_size_high entry is.spelled is.fits, space)
+    undo_space capacity is space = omega (
+      arith,
+      undo_owed,
+      log_bytes_more rs entry,
+      record_size_high entry is.spelled is.fits,
+      space,
+    )
 
     -- where the write can be undone
     module _ (tied : Tied (slot_of pages)) (can : Undoable None (slot_of pages) c) where
@@ -392,7 +391,7 @@ module _ (rs : List Record) (t : ℕ) (ts : List ℕ) (are : open_in rs ≡ t �
 
   end_space : (capacity : ℕ) → IsEntry end → HasSpace capacity rs → HasSpace capacity ended
   end_space capacity is space =
-      omega (arith, end_owed, bytes_more rs end, record_size_high end is.spelled is.fits, space)
+      omega (arith, end_owed, log_bytes_more rs end, record_size_high end is.spelled is.fits, space)
 
   end_count : count_of ended ≡ count_of rs
   end_count = count_more rs end RolledBack refl

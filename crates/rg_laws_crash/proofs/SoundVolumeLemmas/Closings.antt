@@ -98,7 +98,7 @@ module _ (P : List Record → Type 0) where
 
 -- ---- records that are spelled
 
-front_entries : (xs ys : List Record) → AreEntries (xs ++ ys) → AreEntries xs
+pub front_entries : (xs ys : List Record) → AreEntries (xs ++ ys) → AreEntries xs
 front_entries xs ys are entry there = are entry (Contains-append_left xs ys entry there)
 
 next_entry : (rs more : List Record) (x : Record) → AreEntries (rs ++ x ∷ more) → IsEntry x

@@ -14,17 +14,18 @@ use Rattle.rg_base.specs.declared.place.Place.{Place}
 use Rattle.rg_base.specs.declared.row.Row.{Row as TableRow}
 use Rattle.rg_home.specs.Able.{IsAreaOf, Proper, Undoable}
 use Rattle.rg_home.specs.Pages.{applied, made, part_at, place_of, row_or_empty, slot_of, wrote}
-use Rattle.rg_home.specs.Plan.{left_of, planned_drop}
-use Rattle.rg_home.specs.Rows.{Tied, same_place}
+use Rattle.rg_home.specs.Plan.{planned_drop}
+use Rattle.rg_base.specs.Place.{same_place}
+use Rattle.rg_home.specs.Rows.{Tied}
 use Rattle.rg_home.specs.Slot.{Slot}
 use Rattle.rg_home.specs.Slot.{DeadOver, DeadPointer, DeadRow, Free, Over, Pointer, Row}
 use Rattle.rg_home.specs.Slots.{capacity_of}
-use Rattle.rg_home.specs.Undo.{back_from, lies_in, over_before, undo_parts, undo_row, undone}
+use Rattle.rg_home.specs.Undo.{over_before, undo_parts, undo_row, undone}
 use Rattle.rg_home.specs.Written.{Written}
 use Rattle.rg_home.proofs.Moves.{pointed}
-use Rattle.rg_home.proofs.Place.{same_place-true}
+use Rattle.rg_base.proofs.SamePlace.{same_place-true}
 use Rattle.rg_home.proofs.Writes.{wrote_here, wrote_there}
-use Rattle.rg_laws_pages.proofs.UndoRoomLemmas.Dead.{AllAlive, Alive}
+use Rattle.rg_laws_pages.proofs.UndoRoomLemmas.Dead.{AllAlive, Alive, alive_row}
 use Rattle.rg_laws_pages.proofs.UndoRoomLemmas.Keep.{Turns, area_any, area_one, home_area}
 use Rattle.rg_laws_pages.proofs.UndoRoomLemmas.Next.{in_turn_weaker, reuses}
 use Rattle.rg_laws_pages.proofs.UndoRoomLemmas.Parts.{InTurn}
@@ -140,26 +141,6 @@ module _ (live : List ℕ) (t : ℕ) (home : Place) (after : TableRow) where
       (ties_wrote live t home pages home (DeadPointer c o t) r.0 r.1 makes ties)
 
 -- ---- the plan
-
-alive_left : (pages : List (List Slot)) (home : Place) (s : Slot) → AllAlive (left_of pages home s)
-alive_left pages home (Pointer c o) = (tt, tt)
-alive_left pages home Free = tt
-alive_left pages home (Row c b) = tt
-alive_left pages home (Over c b h) = tt
-alive_left pages home (DeadRow c u) = tt
-alive_left pages home (DeadPointer c o u) = tt
-alive_left pages home (DeadOver c h u) = tt
-
-alive_back : (pages : List (List Slot)) (home q : Place) (s : Slot) (b : Bool)
-    → AllAlive (back_from pages home q s b)
-alive_back pages home q s true = (tt, tt)
-alive_back pages home q s false = (tt, (tt, alive_left pages home s))
-
-alive_row : (pages : List (List Slot)) (home : Place) (over : Option Place) (s : Slot) (b : Bool)
-    → AllAlive (undo_row pages home over s b)
-alive_row pages home over s true = (tt, alive_left pages home s)
-alive_row pages home None s false = tt
-alive_row pages home (Some q) s false = alive_back pages home q s (lies_in q s)
 
 module _ (live : List ℕ) (t : ℕ) (home : Place) (after : TableRow) (pages : List (List Slot))
     (tied : Tied (slot_of pages)) (ties : DeadTies live (slot_of pages)) where

@@ -13,11 +13,12 @@ use Rattle.std.proofs.lemmas.Bool.{cases_lt, lt-ltb}
 use Rattle.std.proofs.lemmas.List.{ext_get_or, get_or-map, length-map}
 use Rattle.std.proofs.lemmas.List.Elements.{All-from_get_or, All-map}
 use Rattle.std.proofs.lemmas.List.FromFn.{get_or-map-range_with_len, length-map-range_with_len}
+use Rattle.rg_base.specs.Copies.{set_of}
 use Rattle.rg_image.specs.Rules.{ArePositions, copy_capacity}
 use Rattle.rg_laws_crash.specs.NewestPages.Newest.{IsNewest, page_in}
 use Rattle.rg_laws_crash.specs.NewestPages.OpenLaws.{IsTakenPage}
 use Rattle.rg_laws_crash.specs.NewestPages.Steady.{IsSteady}
-use Rattle.rg_laws_crash.specs.NewestPages.Tidy.{set_of, switched_at, switched_pages}
+use Rattle.rg_laws_crash.specs.NewestPages.Tidy.{switched_at, switched_pages}
 use Rattle.rg_laws_crash.proofs.NewestPagesLemmas.InMemory.{there_in}
 use Rattle.rg_laws_crash.proofs.NewestPagesLemmas.Steady.{steady_front}
 use Rattle.rg_laws_crash.proofs.NewestPagesLemmas.Switching.{has_switched}

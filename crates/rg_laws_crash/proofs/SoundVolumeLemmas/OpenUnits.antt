@@ -5,19 +5,19 @@
 use Rattle.std.proofs.Common.{◌≡◌, ◌≤◌, ◌==◌, ◌||◌, ◌++◌, inl, inr, ℕ, zero, suc, Bool, true, false}
 use Rattle.std.proofs.Common.{not, if◌then◌else◌, filter, List, [], ◌∷◌, length, refl, sym, ◌∙◌, ap}
 use Rattle.std.proofs.Common.{subst, arith}
-use Rattle.std.proofs.lemmas.Bool.{cases_eq, ne_eqb, or_from}
+use Rattle.std.proofs.lemmas.Bool.{cases_eq, ne_eqb, or_from, or_right}
 use Rattle.std.proofs.lemmas.List.Elements.{filter-append}
 use Rattle.std.specs.List.{AllByRecursion, Contains, list_any}
+use Rattle.rg_base.proofs.Small.{nat_itself}
 use Rattle.rg_check.proofs.ChainLemmas.Records.{greatest_more}
 use Rattle.rg_home.specs.Written.{Written}
 use Rattle.rg_image.specs.Rules.{IsOpen, greatest_tran, is_end, is_ended, of_tran}
 use Rattle.rg_laws_log.specs.LogState.Tested.{all_of}
-use Rattle.rg_laws_log.proofs.LogStateLemmas.Tables.{eqb-refl}
 use Rattle.rg_record.specs.declared.record.Record.{Record}
 use Rattle.rg_undo.specs.Unit.{writes_of}
 use Rattle.rg_check.specs.OpenUnits.Unended.{left_of, open_in, open_to}
-use Rattle.rg_check.proofs.OpenUnitsLemmas.Opens.{is_closed, listed_is}
-use Rattle.rg_laws_crash.proofs.LogChainLemmas.Appended.{ended_own, left_other, of_other, or_true}
+use Rattle.rg_check.proofs.OpenUnitsLemmas.Opens.{is_closed, listed_is, open_not_closed}
+use Rattle.rg_laws_crash.proofs.LogChainLemmas.Appended.{ended_own, left_other, of_other}
 use Rattle.rg_laws_crash.proofs.LogChainLemmas.Appended.{some_own}
 use Rattle.rg_laws_crash.specs.SoundVolume.Left.{writes_left}
 use Rattle.rg_laws_crash.proofs.SoundVolumeLemmas.Reopening.{AreApart, open_apart}
@@ -32,10 +32,6 @@ others_stay t [] apart = refl
 others_stay t (u ∷ ts) apart =
     ap (λ (b : Bool). if not b then u ∷ filter (is_other t) ts else filter (is_other t) ts)
     (ne_eqb u t apart.0) ∙ ap (λ (us : List ℕ). u ∷ us) (others_stay t ts apart.1)
-
-open_not_closed : (t : ℕ) (rs : List Record) → IsOpen t rs → is_closed t rs ≡ false
-open_not_closed t rs is = or_from (is_ended t rs) (length (of_tran t rs) == 0) is.2
-    (ne_eqb (length (of_tran t rs)) 0 (λ e. omega (arith, e, is.1)))
 
 open_same : (now rs : List Record) (n : ℕ) → ((u : ℕ) → is_closed u now ≡ is_closed u rs)
     → open_to n now ≡ open_to n rs
@@ -110,7 +106,7 @@ module _ (rs : List Record) (t : ℕ) (ts : List ℕ) (are : open_in rs ≡ t �
     module _ (ends : is_end entry.kind ≡ true) where
       closed_own : is_closed t now ≡ true
       closed_own = ap (λ (b : Bool). b || (length (of_tran t now) == 0))
-          (ended_own rs entry t own ∙ or_true (is_ended t rs) (is_end entry.kind) ends)
+          (ended_own rs entry t own ∙ or_right (is_ended t rs) (is_end entry.kind) ends)
 
       less_one : (n : ℕ)
           → (if is_closed n now then [] else n ∷ [])
@@ -126,7 +122,7 @@ module _ (rs : List Record) (t : ℕ) (ts : List ℕ) (are : open_in rs ≡ t �
           gone true same = refl
           gone false same = sym
               (ap (λ (c : Bool). if not c then n ∷ [] else [])
-              (ap (λ (v : ℕ). v == t) same ∙ eqb-refl t))
+              (ap (λ (v : ℕ). v == t) same ∙ nat_itself t))
 
           stays : (b : Bool) → (n ≡ t → ⊥)
               → (if b then [] else n ∷ []) ≡ filter (is_other t) (if b then [] else n ∷ [])
@@ -148,7 +144,7 @@ module _ (rs : List Record) (t : ℕ) (ts : List ℕ) (are : open_in rs ≡ t �
           ap (λ (n : ℕ). open_to n now) same_top ∙ less_to (greatest_tran rs)
           ∙ ap (filter (is_other t)) are
           ∙ ap (λ (c : Bool). if not c then t ∷ filter (is_other t) ts else filter (is_other t) ts)
-          (eqb-refl t)
+          (nat_itself t)
           ∙ others_stay t ts first_apart
 
       pub end_writes : all_of (writes_left (open_in now) now) ≡ all_of (writes_left ts rs)

@@ -10,6 +10,7 @@ use Rattle.std.proofs.Common.{arith}
 use Rattle.std.proofs.lemmas.Bool.{cases_eq}
 use Rattle.std.proofs.lemmas.List.{take-take}
 use Rattle.std.specs.List.{AllByRecursion}
+use Rattle.rg_base.specs.Copies.{set_of}
 use Rattle.rg_base.specs.declared.part.Part.{Part}
 use Rattle.rg_base.specs.declared.part.SlotOp.{SlotOp}
 use Rattle.rg_base.specs.declared.part.SlotOp.TheVariants as Op
@@ -20,7 +21,6 @@ use Rattle.rg_home.proofs.Slots.{slot_at-placed_other, slot_at-placed_same}
 use Rattle.rg_image.specs.Rules.{greatest_tran}
 use Rattle.rg_home.specs.Owners.{OwnerBelow}
 use Rattle.rg_laws_crash.specs.NewestPages.OpenLaws.{IsTakenPage}
-use Rattle.rg_laws_crash.specs.NewestPages.Tidy.{set_of}
 use Rattle.rg_outside.specs.Calls.{Image}
 use Rattle.rg_outside.specs.Capacities.{Capacities}
 use Rattle.rg_page.specs.Changed.{changed}

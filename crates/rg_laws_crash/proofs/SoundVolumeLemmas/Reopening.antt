@@ -1,17 +1,18 @@
 -- A log whose records tell the state can be opened: the tests of an opening hold of the newest
 -- pages.
 use Rattle.std.proofs.Common.{◌≡◌, ◌≤◌, ◌<◌, ◌==◌, ◌||◌, ◌++◌, inl, inr, ℕ, zero, suc, Bool, true}
-use Rattle.std.proofs.Common.{false, not, if◌then◌else◌, List, [], ◌∷◌, get_or, length, map, None}
-use Rattle.std.proofs.Common.{Some, refl, sym, ◌∙◌, ap, subst, arith, append-nil}
+use Rattle.std.proofs.Common.{false, not, if◌then◌else◌, List, [], ◌∷◌, get_or, length, map}
+use Rattle.std.proofs.Common.{refl, sym, ◌∙◌, ap, subst, arith, append-nil}
 use Rattle.std.proofs.lemmas.Bool.{cases_eq, eqb-false}
 use Rattle.std.proofs.lemmas.List.Elements.{All-weaker, recursion_from_All}
 use Rattle.std.specs.List.{AllByRecursion, Contains}
 use Rattle.rg_base.specs.declared.place.Place.{Place}
-use Rattle.rg_home.specs.Able.{CanUndo as CanUndoAll, IsAreaOf, IsLive}
+use Rattle.rg_home.specs.Able.{CanUndo as CanUndoAll, IsLive}
 use Rattle.rg_home.specs.Pages.{slot_of}
 use Rattle.rg_home.specs.Slot.{Slot}
 use Rattle.rg_home.specs.Slot.{DeadOver, DeadPointer, DeadRow, Free, Over, Pointer, Row}
 use Rattle.rg_home.specs.Written.{Written}
+use Rattle.rg_home.proofs.NotFree.{any_owner}
 use Rattle.rg_image.specs.Meaning.{stored}
 use Rattle.rg_image.specs.Rules.{HasSpace, IsChain, IsOpen, greatest_tran, is_ended, of_tran}
 use Rattle.rg_laws_log.specs.LogState.Act.{LogState, not_of}
@@ -144,19 +145,10 @@ owners_in live ts at (w ∷ ws) up can = (up w.written.owner can.1, owners_in li
 
 -- ---- a dead home of an open unit names its area
 
-of_any : (owner : ℕ) (home : Place) (s : Slot) → IsAreaOf (Some owner) home s → IsAreaOf None home s
-of_any owner home (Over capacity row other) is = is
-of_any owner home (DeadOver capacity other by) is = (is.0, tt)
-of_any owner home Free is = is
-of_any owner home (Row capacity row) is = is
-of_any owner home (Pointer capacity other) is = is
-of_any owner home (DeadRow capacity by) is = is
-of_any owner home (DeadPointer capacity other by) is = is
-
 dead_ties : (live ts : List ℕ) (at : Place → Slot) (p : Place) (s : Slot)
     → ((t : ℕ) → IsLive ts t → IsLive live t) → DeadNamed live at p s → DeadTiesAt ts at p s
 dead_ties live ts at p (DeadPointer capacity other owner) down named =
-    λ there. of_any owner p (at other) (named (down owner there))
+    λ there. any_owner owner p (at other) (named (down owner there))
 dead_ties live ts at p Free down named = tt
 dead_ties live ts at p (Row capacity row) down named = tt
 dead_ties live ts at p (Pointer capacity other) down named = tt

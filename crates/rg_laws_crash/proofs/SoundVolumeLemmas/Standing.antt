@@ -8,12 +8,13 @@ use Rattle.std.proofs.lemmas.List.{drop-append-le, length-map}
 use Rattle.rg_base.specs.declared.part.Part.{Part}
 use Rattle.rg_base.specs.declared.part.SlotOp.TheVariants as Op
 use Rattle.rg_base.specs.declared.row.Row.{Row as TableRow}
-use Rattle.rg_home.specs.Pages.{FitsAll, PartFits, TakesAll, applied, made, page_at, part_at}
+use Rattle.rg_home.specs.Pages.{FitsAll, PartFits, TakesAll, applied, made, page_at}
 use Rattle.rg_home.specs.Pages.{place_of, row_or_empty, wrote}
-use Rattle.rg_home.specs.Plan.{is_ended, purge_from}
+use Rattle.rg_home.specs.Plan.{purge_from}
 use Rattle.rg_home.specs.Slot.{Slot}
 use Rattle.rg_home.specs.Slots.{Fits, placed}
-use Rattle.rg_image.specs.Meaning.{Current, current_after, current_from, current_of, raised}
+use Rattle.rg_image.specs.Meaning.{Current, current_after, current_of, raised}
+use Rattle.rg_image.proofs.Current.{current_more}
 use Rattle.rg_laws_log.specs.LogState.Act.{LogState, step}
 use Rattle.rg_laws_log.specs.LogState.ByPage.{FitsOn, Where}
 use Rattle.rg_laws_log.specs.LogState.Consistent.{IsConsistent}
@@ -39,22 +40,12 @@ use Rattle.rg_space.specs.Ready.{record_wrote}
 use Rattle.rg_space.specs.Redo.{AllFit, RedoFits, redone}
 use Rattle.rg_space.proofs.Took.{page_slots}
 use Rattle.rg_space.proofs.Whole.{fitting_all, slots_all}
+use Rattle.rg_space.proofs.Next.{purge_from_frees}
 use Rattle.rg_laws_crash.specs.PageVersions.Versions.{EachFits, Epoch, redone_by}
 use Rattle.rg_laws_crash.specs.SoundVolume.Pages.{count_of}
 use Rattle.rg_laws_crash.specs.SoundVolume.Reopens.{IsRedone, Stands}
 
 -- ---- a purge, by any transaction
-
-purge_frees : (live : List ℕ) (n i : ℕ) (slots : List Slot) → AllFree (purge_from live n i slots)
-purge_frees live n i [] = tt
-purge_frees live n i (s ∷ slots) = go (is_ended live s) (purge_frees live n (i + 1) slots)
-  where
-    go : (b : Bool) → AllFree (purge_from live n (i + 1) slots)
-        → AllFree
-        (if b then part_at (record { page = n; slot = i }) Op.Free ∷ purge_from live n (i + 1) slots
-        else purge_from live n (i + 1) slots)
-    go true rest = (refl, rest)
-    go false rest = rest
 
 fits_free : (t u : ℕ) (row : TableRow) (limit : ℕ) (pages : List (List Slot)) (parts : List Part)
     → AllFree parts → FitsAll t row limit pages parts → FitsAll u row limit pages parts
@@ -89,7 +80,7 @@ applies limit s t kind.RolledBack other lawful fits = record { pages = refl; fit
 applies limit s t (kind.Purge parts) other lawful fits =
     let purge : List Part = purge_from lawful.more lawful.page 0 (page_at s.pages lawful.page) in
     let free : AllFree parts = subst AllFree (sym lawful.is)
-    (purge_frees lawful.more lawful.page 0 (page_at s.pages lawful.page)) in
+    (purge_from_frees lawful.more lawful.page 0 (page_at s.pages lawful.page)) in
     let row : TableRow = row_or_empty None in
     record {
       pages = ap (applied 0 row s.pages) lawful.is
@@ -140,11 +131,6 @@ after_raises now kind.Commit other = refl
 after_raises now kind.RolledBack other = refl
 after_raises now (kind.Purge parts) other = refl
 after_raises now (kind.Switch copy count) other = absurd (cc (other))
-
-current_push : (now : Current) (rs : List Record) (entry : Record)
-    → current_from now (rs ++ entry ∷ []) ≡ current_after (current_from now rs) entry.kind
-current_push now [] entry = refl
-current_push now (x ∷ rs) entry = current_push (current_after now x.kind) rs entry
 
 -- ---- it fits each page
 
@@ -218,7 +204,7 @@ module _ (limit : ℕ) (e : Epoch) (rs : List Record) (entry : Record) (was : Se
       (parts_of entry.kind) (length was.pages) (omega arith) near
       ∙ ap (λ (n : ℕ). raised n (parts_of entry.kind)) redone.count
       ∙ after_raises (current_of rs) entry.kind other
-      ∙ ap (λ (c : Current). c.pages) (sym (current_push (record { copy = 1; pages = 0 }) rs entry))
+      ∙ ap (λ (c : Current). c.pages) (sym (current_more (record { copy = 1; pages = 0 }) rs entry))
 
   fits : (p : ℕ) → 1 ≤ p → EachFits (drop e.from (rs ++ entry ∷ [])) (e.base p)
   fits p one =

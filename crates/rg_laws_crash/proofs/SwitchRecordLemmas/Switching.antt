@@ -1,10 +1,11 @@
 -- A log that ends with a Switch.
-use Rattle.std.proofs.Common.{◌≡◌, ◌≢◌, ◌≤◌, ◌<◌, ◌+◌, ◌&&◌, max, nat_lt, inl, inr, ℕ, suc, Bool}
+use Rattle.std.proofs.Common.{◌≡◌, ◌≢◌, ◌≤◌, ◌<◌, ◌+◌, ◌&&◌, max, nat_lt, inl, inr, ℕ, Bool}
 use Rattle.std.proofs.Common.{true, false, List, [], ◌∷◌, ◌++◌, length, drop, take, refl, sym, ◌∙◌}
 use Rattle.std.proofs.Common.{ap, subst, arith, length-append}
 use Rattle.std.proofs.Math.Seq.{drop-length, take-length}
 use Rattle.std.proofs.lemmas.Bool.{cases_lt, le-ltb}
 use Rattle.std.specs.List.{AllByRecursion}
+use Rattle.rg_base.specs.Copies.{set_of}
 use Rattle.rg_check.proofs.ChainLemmas.Records.{greatest_more}
 use Rattle.rg_check.proofs.ChainLemmas.Walks.{chain_more}
 use Rattle.rg_laws_crash.proofs.LogChainLemmas.Appended.{copy_more, count_more, open_before}
@@ -33,11 +34,11 @@ use Rattle.rg_laws_crash.proofs.NewestPagesLemmas.Switching.{has_switched}
 use Rattle.rg_laws_crash.specs.NewestPages.Laws.{CanRedoFrom}
 use Rattle.rg_laws_crash.specs.NewestPages.Newest.{AreNewest, IsNewest, page_in}
 use Rattle.rg_laws_crash.specs.NewestPages.OpenLaws.{IsCutAtSwitch, IsOpened}
-use Rattle.rg_laws_crash.specs.NewestPages.Tidy.{AreSpare, set_of, switched_at, switched_from}
+use Rattle.rg_laws_crash.specs.NewestPages.Tidy.{AreSpare, switched_at, switched_from}
 use Rattle.rg_laws_crash.specs.NewestPages.Tidy.{switched_pages, switched_pages_from, switch_pages}
 use Rattle.rg_outside.specs.Calls.{Image}
 use Rattle.rg_outside.specs.Capacities.{Capacities}
-use Rattle.rg_page.specs.Content.{Content, content_at, empty, slots_of}
+use Rattle.rg_page.specs.Content.{Content, content_at, empty}
 use Rattle.rg_page.specs.Seen.{Seen}
 use Rattle.rg_record.specs.Applied.{parts_of}
 use Rattle.rg_record.specs.declared.record.Kind.TheVariants.{Switch}
@@ -47,6 +48,7 @@ use Rattle.rg_laws_crash.proofs.SoundVolumeLemmas.Reopening.{stands_reopens}
 use Rattle.rg_laws_crash.specs.SoundVolume.Reopens.{CanReopen, HasLowOwners, IsBelow, Stands}
 use Rattle.rg_space.proofs.Took.{page_slots}
 use Rattle.rg_space.specs.Carries.{AllThere}
+use Rattle.rg_space.proofs.Whole.{slots_count}
 use Rattle.rg_laws_crash.specs.PageVersions.Versions.{EachFits, Epoch, IsBegun, Spells, taken}
 use Rattle.rg_laws_crash.specs.PageVersions.Versions.{taken_if}
 use Rattle.rg_laws_crash.specs.SwitchRecord.Laws.{HasSwitched, IsLeftSwitched, IsTurned}
@@ -164,12 +166,8 @@ module _ (capacities : Capacities) (limit : ℕ) (rs : List Record) (copy : ℕ)
     opens = λ t is. absurd (none_open t is);
     rolling = λ t live. absurd (none_live t live);
     own = λ t live. absurd (none_live t live);
-    count = count_now ∙ sym (slots_length pages) ∙ ap (λ xs. length xs) can.slots;
+    count = count_now ∙ sym (slots_count pages) ∙ ap (λ xs. length xs) can.slots;
   }
-    where
-      slots_length : (xs : List Content) → length (slots_of xs) ≡ length xs
-      slots_length [] = refl
-      slots_length (x ∷ xs) = ap suc (slots_length xs)
 
   -- ---- the pages
 

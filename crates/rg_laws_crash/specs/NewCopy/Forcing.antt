@@ -7,6 +7,7 @@
 -- 3. The copy that was current stands in its set as it did: each of its pages there is an old one
 --    (`VersionsAreOld`).
 use Rattle.std.specs.Prelude.{◌≡◌, ◌≤◌, ◌⊎◌, ℕ, List, length, take}
+use Rattle.rg_base.specs.Copies.{set_of}
 use Rattle.rg_image.specs.Kept.{AreEntries}
 use Rattle.rg_image.specs.Log.{Spells}
 use Rattle.rg_image.specs.Pack.{end_of, start}
@@ -14,7 +15,7 @@ use Rattle.rg_image.specs.Rules.{ArePositions, copy_capacity}
 use Rattle.rg_laws_log.specs.LogState.Act.{LogState}
 use Rattle.rg_log.specs.Kept.{log_pages}
 use Rattle.rg_laws_crash.specs.NewestPages.Steady.{IsSteady}
-use Rattle.rg_laws_crash.specs.NewestPages.Tidy.{set_of, switched_pages}
+use Rattle.rg_laws_crash.specs.NewestPages.Tidy.{switched_pages}
 use Rattle.rg_outside.specs.Calls.{Image}
 use Rattle.rg_outside.specs.Capacities.{Capacities}
 use Rattle.rg_page.specs.Content.{Content}

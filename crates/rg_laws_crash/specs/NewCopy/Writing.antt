@@ -8,8 +8,8 @@
 -- 4. Once all were written and a sync succeeded, whatever a crash leaves has the new copy
 --    (`SyncLeavesCopy`).
 use Rattle.std.specs.Prelude.{◌≡◌, ◌≤◌, ◌+◌, ℕ, List, length, Option, Ok}
+use Rattle.rg_base.specs.Copies.{set_of}
 use Rattle.rg_base.specs.declared.set.Set.{Set}
-use Rattle.rg_laws_crash.specs.NewestPages.Tidy.{set_of}
 use Rattle.rg_outside.specs.Calls.{Call, FailedWrite, Image, Told, Wrote, read_of}
 use Rattle.rg_outside.specs.Capacities.{Capacities, capacity_of}
 use Rattle.rg_outside.specs.Made.{MadeSync, MadeWrite}

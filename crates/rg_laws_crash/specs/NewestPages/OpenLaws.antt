@@ -10,6 +10,7 @@
 -- 4. A page that was taken as it is shows the version that its position numbers (`OpeningMarks`).
 use Rattle.std.specs.Prelude.{◌≡◌, ◌≤◌, ℕ, List, drop, length}
 use Rattle.std.specs.List.{AllByRecursion}
+use Rattle.rg_base.specs.Copies.{set_of}
 use Rattle.rg_image.specs.Meaning.{current_of}
 use Rattle.rg_image.specs.Rules.{ArePositions, copy_capacity}
 use Rattle.rg_outside.specs.Calls.{Image}
@@ -24,7 +25,7 @@ use Rattle.rg_laws_crash.specs.PageVersions.OnImage.{HasPages}
 use Rattle.rg_laws_crash.specs.PageVersions.Versions.{Spells, taken_past, version}
 use Rattle.rg_laws_crash.specs.NewestPages.Laws.{CanRedoFrom}
 use Rattle.rg_laws_crash.specs.NewestPages.Newest.{AreNewest}
-use Rattle.rg_laws_crash.specs.NewestPages.Tidy.{AreSpare, opened_epoch, set_of, switched_at}
+use Rattle.rg_laws_crash.specs.NewestPages.Tidy.{AreSpare, opened_epoch, switched_at}
 use Rattle.rg_laws_crash.specs.NewestPages.Tidy.{switched_pages}
 
 -- the log has the position of the last Switch, or it is 0; the records since then are those past it

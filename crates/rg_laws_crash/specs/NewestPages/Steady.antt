@@ -12,6 +12,7 @@
 --    (`OpenedPast`).
 use Rattle.std.specs.Prelude.{◌≡◌, ◌≤◌, ◌<◌, ◌++◌, ℕ, false, List, [], ◌∷◌, drop, length, take}
 use Rattle.std.specs.List.{AllByRecursion}
+use Rattle.rg_base.specs.Copies.{set_of}
 use Rattle.rg_image.specs.Meaning.{current_of}
 use Rattle.rg_image.specs.Rules.{ArePositions, copy_capacity}
 use Rattle.rg_outside.specs.Calls.{Image}
@@ -21,7 +22,7 @@ use Rattle.rg_record.specs.declared.record.Record.{Record}
 use Rattle.rg_redo.specs.Redo.{is_switch}
 use Rattle.rg_laws_crash.specs.PageVersions.OnImage.{HasPages}
 use Rattle.rg_laws_crash.specs.PageVersions.Versions.{Epoch}
-use Rattle.rg_laws_crash.specs.NewestPages.Tidy.{AreSpare, opened_epoch, set_of, switched_at}
+use Rattle.rg_laws_crash.specs.NewestPages.Tidy.{AreSpare, opened_epoch, switched_at}
 
 -- since the copy became current no Switch is in the log: it is still that copy
 pub record IsSteady (e : Epoch) (rs : List Record) : Type 0 where

@@ -4,9 +4,8 @@
 --    Switch is in the log.
 -- 2. The current copy began at the last Switch, with as many pages as that counts. An opening has
 --    it begin with the pages that it took.
-use Rattle.std.specs.Prelude.{◌≡◌, ◌≤◌, ◌<◌, ◌==◌, ◌⊎◌, ℕ, List, [], ◌∷◌, if◌then◌else◌}
-use Rattle.rg_base.specs.declared.set.Set.{Set}
-use Rattle.rg_base.specs.declared.set.Set.TheVariants.{First, Second}
+use Rattle.std.specs.Prelude.{◌≡◌, ◌≤◌, ◌<◌, ◌⊎◌, ℕ, List, [], ◌∷◌, if◌then◌else◌}
+use Rattle.rg_base.specs.Copies.{set_of}
 use Rattle.rg_image.specs.Log.{log_of}
 use Rattle.rg_image.specs.Meaning.{current_of}
 use Rattle.rg_image.specs.Rules.{copy_capacity, used_pages}
@@ -20,10 +19,6 @@ use Rattle.rg_record.specs.declared.record.Record.{Record}
 use Rattle.rg_redo.specs.Redo.{is_switch}
 use Rattle.rg_laws_crash.specs.PageVersions.Versions.{Epoch, Spells}
 use Rattle.rg_laws_crash.specs.NewestPages.Newest.{page_in}
-
--- the set that a copy has its pages in
-abbrev pub set_of : (copy : ℕ) → Set
-set_of copy = if copy == 1 then First else Second
 
 -- the position of the last Switch of these records, else this one
 abbrev pub switched_from : (at : ℕ) → List Record → ℕ

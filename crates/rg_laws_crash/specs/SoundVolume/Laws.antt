@@ -7,6 +7,7 @@
 --    Where the records tell the state, and it has what is stored, the log can be opened
 --    (`StandsReopens`). So it is after each of several (`AppendedReopen`).
 use Rattle.std.specs.Prelude.{◌≡◌, ◌≤◌, ◌+◌, ◌++◌, ℕ, false, List, [], ◌∷◌, length, take}
+use Rattle.rg_base.specs.Copies.{set_of}
 use Rattle.rg_image.specs.Kept.{AreEntries}
 use Rattle.rg_image.specs.Log.{Spells}
 use Rattle.rg_image.specs.Meaning.{current_of, stored}
@@ -19,7 +20,7 @@ use Rattle.rg_laws_log.specs.LogState.Records.{act_of, acts_of}
 use Rattle.rg_log.specs.Kept.{log_pages}
 use Rattle.rg_laws_crash.specs.NewestPages.Newest.{AllNear}
 use Rattle.rg_laws_crash.specs.NewestPages.Steady.{IsSteady}
-use Rattle.rg_laws_crash.specs.NewestPages.Tidy.{set_of, switched_pages}
+use Rattle.rg_laws_crash.specs.NewestPages.Tidy.{switched_pages}
 use Rattle.rg_outside.specs.Calls.{Image}
 use Rattle.rg_outside.specs.Capacities.{Capacities}
 use Rattle.rg_record.specs.Applied.{parts_of}

@@ -9,6 +9,7 @@
 -- 4. *Stored rows.* After undo the home rows are the stored rows. The page of the least place is
 --    named whose row is not stored; where there is none, the last log page.
 use Rattle.std.specs.Prelude.{◌≡◌, ℕ, List, length, take, Option, Some, None}
+use Rattle.rg_base.specs.Copies.{set_of}
 use Rattle.rg_base.specs.declared.place.Place.{Place}
 use Rattle.rg_base.specs.declared.row.Row.{Row as TableRow}
 use Rattle.rg_base.specs.declared.set.Set.{Set}
@@ -21,7 +22,6 @@ use Rattle.rg_image.specs.Meaning.{current_of, stored}
 use Rattle.rg_image.specs.Pack.{end_of, start}
 use Rattle.rg_laws_log.specs.LogState.Tested.{all_of}
 use Rattle.rg_page.specs.Content.{Content, slots_of}
-pub use Rattle.rg_laws_crash.specs.NewestPages.Tidy.{set_of}
 use Rattle.rg_laws_pages.specs.UndoRoom.Needed.{NeededInTurn}
 use Rattle.rg_redo.specs.CurrentCopy.Rebuilt.{rebuilt_pages}
 use Rattle.rg_record.specs.declared.record.Record.{Record}

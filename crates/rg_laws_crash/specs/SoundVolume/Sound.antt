@@ -7,6 +7,7 @@
 --    from before it, is left over, and is taken as empty.
 -- 3. Then come the rules on what the records make of these pages.
 use Rattle.std.specs.Prelude.{◌≡◌, ◌≤◌, ℕ, List, length}
+use Rattle.rg_base.specs.Copies.{set_of}
 use Rattle.rg_image.specs.Rules.{HasLogPages, HasSpace, IsChain}
 use Rattle.rg_log.specs.Kept.{log_pages}
 use Rattle.rg_laws_crash.specs.NewestPages.OpenLaws.{IsTakenPage}
@@ -14,7 +15,7 @@ use Rattle.rg_outside.specs.Calls.{Image}
 use Rattle.rg_outside.specs.Capacities.{Capacities}
 use Rattle.rg_page.specs.Content.{Content, content_at}
 use Rattle.rg_record.specs.declared.record.Record.{Record}
-use Rattle.rg_laws_crash.specs.SoundVolume.Pages.{KeepsRules, copy_of, count_of, set_of}
+use Rattle.rg_laws_crash.specs.SoundVolume.Pages.{KeepsRules, copy_of, count_of}
 
 -- the log has these records, and keeps its rules
 pub record HasSoundLog (capacities : Capacities) (i : Image) (rs : List Record) : Type 0 where

@@ -6,12 +6,13 @@
 --    a position that the log did not have before the Switch.
 -- 3. The copy begins with these pages just as an opening of that log has it begin (`opened_epoch`).
 use Rattle.std.specs.Prelude.{◌≡◌, ◌≢◌, ◌≤◌, ◌<◌, ◌+◌, ◌++◌, ℕ, List, [], ◌∷◌, length}
+use Rattle.rg_base.specs.Copies.{set_of}
 use Rattle.rg_image.specs.Meaning.{current_of, stored}
 use Rattle.rg_image.specs.Rules.{ArePositions, HasSpace, IsOpen, copy_capacity, greatest_tran}
 use Rattle.rg_laws_log.specs.LogState.Act.{LogState}
 use Rattle.rg_laws_log.specs.LogState.Consistent.{IsClean, IsConsistent, stored_of}
 use Rattle.rg_log.specs.Kept.{log_pages}
-use Rattle.rg_laws_crash.specs.NewestPages.Tidy.{opened_epoch, set_of}
+use Rattle.rg_laws_crash.specs.NewestPages.Tidy.{opened_epoch}
 use Rattle.rg_outside.specs.Calls.{Image}
 use Rattle.rg_outside.specs.Capacities.{Capacities}
 use Rattle.rg_page.specs.Content.{Content, content_at, slots_of}

@@ -3,8 +3,9 @@
 use Rattle.std.proofs.Common.{◌++◌, ◌≡◌, inl, inr, ◌⊎◌, ◌||◌, ◌&&◌, ◌==◌, ℕ, ◌≤◌, nat_le, suc, Bool}
 use Rattle.std.proofs.Common.{true, false, not, List, [], ◌∷◌, Option, Some, None, refl, sym, ◌∙◌}
 use Rattle.std.proofs.Common.{ap, subst, if◌then◌else◌, arith}
-use Rattle.std.proofs.lemmas.Bool.{eqb-true, eqb-false, leb-false}
+use Rattle.std.proofs.lemmas.Bool.{eqb-true, eqb-false, leb-false, or_cases}
 use Rattle.std.specs.List.{list_any}
+use Rattle.std.proofs.Math.Bool.{or_assoc}
 use Rattle.rg_base.specs.declared.place.Place.{Place}
 use Rattle.rg_base.specs.declared.row.Row.{Row as TableRow}
 use Rattle.rg_base.specs.declared.part.Part.{Part}
@@ -121,14 +122,6 @@ kept_both f t (d ∷ ws) = go (f d.written.owner) refl (d.written.owner == t) (k
         ∙ ap (λ (ds : List Write). d ∷ ds) rest
         ∙ ap (λ (b : Bool). kept_if (not (b || false)) d (kept_of (λ u. not (f u || u == t)) ws))
         (sym e)
-
-assoc : (a b c : Bool) → (a || (b || c)) ≡ ((a || b) || c)
-assoc true b c = refl
-assoc false b c = refl
-
-either_true : (a b : Bool) → (a || b) ≡ true → (a ≡ true) ⊎ (b ≡ true)
-either_true true b e = inl refl
-either_true false b e = inr e
 
 not_in_more : (u t : ℕ) (us : List ℕ) → is_in u (t ∷ us) ≡ false
     → (is_in u us ≡ false) × (u ≡ t → ⊥)
@@ -288,7 +281,7 @@ module _ (limit : ℕ) (first : LogState) (old acts : List Act)
   agrees_commit : (t : ℕ) → IsLive (state first acts).live t
       → is_in t (state first acts).rolling ≡ false → AgreesWith first old (Commit t ∷ acts)
   agrees_commit t lives steady = record {
-    ended = λ u e. ended u (either_true (u == t) (has_commit u (acts ++ old)) e);
+    ended = λ u e. ended u (or_cases (u == t) (has_commit u (acts ++ old)) e);
     rows = rows;
   }
     where
@@ -313,8 +306,8 @@ module _ (limit : ℕ) (first : LogState) (old acts : List Act)
       rows f may k =
           last_same (λ u. f u || (u == t || has_commit u (acts ++ old)))
           (λ u. (f u || u == t) || has_commit u (acts ++ old))
-          (λ u. assoc (f u) (u == t) (has_commit u (acts ++ old))) k (acts ++ old)
-          ∙ agrees.rows (λ u. f u || u == t) (λ u y. before u (either_true (f u) (u == t) y)) k
+          (λ u. sym (or_assoc (f u) (u == t) (has_commit u (acts ++ old)))) k (acts ++ old)
+          ∙ agrees.rows (λ u. f u || u == t) (λ u y. before u (or_cases (f u) (u == t) y)) k
           ∙ ap (λ (ws : List Write). gone_back (at_key k) ws ((state first acts).now k))
           (sym (kept_both f t (state first acts).writes))
         where

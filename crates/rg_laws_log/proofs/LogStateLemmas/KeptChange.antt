@@ -5,9 +5,10 @@ use Rattle.std.proofs.lemmas.Bool.{eqb-true, leb-true, leb-false}
 use Rattle.std.specs.List.{list_any}
 use Rattle.rg_base.specs.declared.place.Place.{Place}
 use Rattle.rg_home.specs.Slot.{Slot, Free, Row, Pointer, Over, DeadRow, DeadPointer, DeadOver}
-use Rattle.rg_home.specs.Rows.{same_place, row_at}
+use Rattle.rg_base.specs.Place.{same_place}
+use Rattle.rg_home.specs.Rows.{row_at}
 use Rattle.rg_home.specs.Pages.{slot_of, applied, row_or_empty}
-use Rattle.rg_home.proofs.Place.{same_place-true}
+use Rattle.rg_base.proofs.SamePlace.{same_place-true}
 use Rattle.rg_home.specs.Written.{Written}
 use Rattle.rg_home.specs.Able.{IsLive}
 use Rattle.rg_laws_pages.specs.UndoRoom.Dead.{DeadNamed}

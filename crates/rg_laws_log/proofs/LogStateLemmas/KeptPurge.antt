@@ -12,7 +12,7 @@ use Rattle.rg_home.proofs.Purge.{buried_rows}
 use Rattle.rg_home.proofs.Planned.{purge_buries}
 use Rattle.rg_laws_pages.proofs.UndoRoomLemmas.Ends.{purge_ends}
 use Rattle.rg_laws_pages.proofs.UndoRoomLemmas.Dead.{names_purged}
-use Rattle.rg_laws_pages.proofs.UndoRoomLemmas.Ready.{ready_purged, ready_begun}
+use Rattle.rg_laws_pages.proofs.UndoRoomLemmas.Ready.{ready_purged, ready_begun, can_ends}
 use Rattle.rg_laws_log.specs.LogState.Write.{at_home, Back, written_of}
 use Rattle.rg_laws_log.specs.LogState.Act.{LogState, step, Purge}
 use Rattle.rg_laws_log.specs.LogState.Lawful.{MayPurge}
@@ -20,7 +20,7 @@ use Rattle.rg_laws_log.specs.LogState.Consistent.{base_of, IsConsistent}
 use Rattle.rg_home.proofs.Tables.{table_same}
 use Rattle.rg_home.proofs.Whole.{applied_within}
 use Rattle.rg_home.proofs.Owners.{applied_below}
-use Rattle.rg_laws_log.proofs.LogStateLemmas.Parts.{ends_fewer, can_purged, page_past}
+use Rattle.rg_laws_log.proofs.LogStateLemmas.Parts.{ends_fewer, page_past}
 use Rattle.rg_laws_log.proofs.LogStateLemmas.Kept.{Kept}
 
 module _ (limit : ℕ) (s : LogState) (g : IsConsistent limit s) where
@@ -60,7 +60,7 @@ module _ (limit : ℕ) (s : LogState) (g : IsConsistent limit s) where
               few = applied_within 0 (row_or_empty None) limit s.pages _ fits g.few;
               ready = record {
                 proper = ready.proper;
-                can = can_purged s.live (slot_of s.pages) _ (written_of s.writes) ended g.ready.can;
+                can = can_ends s.live (slot_of s.pages) _ (written_of s.writes) ended g.ready.can;
                 apart = g.ready.apart;
                 back = λ p. refl;
               };

@@ -4,9 +4,11 @@ use Rattle.std.proofs.Common.{Some, None, refl, sym, subst, if◌then◌else◌,
 use Rattle.std.proofs.lemmas.Bool.{eqb-true}
 use Rattle.std.specs.List.{list_any}
 use Rattle.rg_base.specs.declared.place.Place.{Place}
-use Rattle.rg_home.specs.Rows.{same_place, row_at}
+use Rattle.rg_base.specs.Place.{same_place}
+use Rattle.rg_home.specs.Rows.{row_at}
 use Rattle.rg_home.specs.Pages.{slot_of, applied, FitsAll, row_or_empty}
-use Rattle.rg_home.proofs.Place.{same_place-refl}
+use Rattle.rg_base.proofs.SamePlace.{same_place-refl}
+use Rattle.rg_base.proofs.Small.{nat_itself}
 use Rattle.rg_home.specs.Written.{Written}
 use Rattle.rg_home.specs.Able.{Undoable, IsLive, CanUndo}
 use Rattle.rg_home.specs.Undo.{planned_undo, undone}
@@ -22,7 +24,7 @@ use Rattle.rg_laws_log.specs.LogState.Act.{LogState, set_at, now_undone, step, U
 use Rattle.rg_laws_log.specs.LogState.Consistent.{base_of, IsConsistent}
 use Rattle.rg_laws_log.proofs.LogStateLemmas.Hits.{some_is, latest_owner, back_less, back_latest}
 use Rattle.rg_laws_log.proofs.LogStateLemmas.Hits.{one_less, key_less, latest_key}
-use Rattle.rg_laws_log.proofs.LogStateLemmas.Tables.{eqb-refl, table_set}
+use Rattle.rg_laws_log.proofs.LogStateLemmas.Tables.{table_set}
 use Rattle.rg_laws_log.proofs.LogStateLemmas.Maps.{map_latest, map_less}
 use Rattle.rg_home.proofs.Owners.{applied_below}
 use Rattle.rg_laws_log.proofs.LogStateLemmas.Kept.{Kept, own_base}
@@ -89,7 +91,7 @@ module _ (limit : ℕ) (s : LogState) (g : IsConsistent limit s) where
           let row = back_latest t (at_home c.home) s.writes w (row_at (slot_of s.pages) c.home)
           (g.one_home c.home) e (same_place-refl c.home) (g.homes c.home) in
           let key = back_latest t (at_key w.key) s.writes w (s.now w.key) (g.one_key w.key) e
-          (eqb-refl w.key) (g.keys w.key) in
+          (nat_itself w.key) (g.keys w.key) in
           let rows : (p : Place)
           → row_at (slot_of (undone s.pages c)) p
           ≡ (if same_place p c.home then c.before else row_at (slot_of s.pages) p) =

@@ -4,17 +4,17 @@ use Rattle.std.proofs.Common.{ap, subst, if◌then◌else◌}
 use Rattle.std.proofs.lemmas.Bool.{eqb-true}
 use Rattle.std.specs.List.{list_any}
 use Rattle.rg_base.specs.declared.place.Place.{Place}
+use Rattle.rg_base.proofs.Small.{nat_itself}
 use Rattle.rg_home.specs.Slot.{Slot}
 use Rattle.rg_home.specs.Slot.{Free, Row, Pointer, Over, DeadRow, DeadPointer, DeadOver}
 use Rattle.rg_home.specs.Able.{IsLive}
 use Rattle.rg_laws_pages.specs.UndoRoom.Dead.{DeadNamed, DeadNames}
 use Rattle.rg_laws_log.specs.LogState.Act.{is_in, others}
-use Rattle.rg_laws_log.proofs.LogStateLemmas.Tables.{eqb-refl}
 
 -- one unit more
 
 pub live_same : (us : List ℕ) (t : ℕ) → IsLive (t ∷ us) t
-live_same us t = ap (λ (b : Bool). b || list_any (λ v. v == t) us) (eqb-refl t)
+live_same us t = ap (λ (b : Bool). b || list_any (λ v. v == t) us) (nat_itself t)
 
 pub live_more : (us : List ℕ) (t u : ℕ) → IsLive us u → IsLive (t ∷ us) u
 live_more us t u l = go (t == u)

@@ -4,12 +4,13 @@ use Rattle.std.proofs.Common.{◌∙◌, ap, if◌then◌else◌}
 use Rattle.rg_base.specs.declared.place.Place.{Place}
 use Rattle.rg_base.specs.declared.row.Row.{Row as TableRow}
 use Rattle.rg_home.specs.Slot.{Slot}
-use Rattle.rg_home.specs.Rows.{same_place, row_at}
+use Rattle.rg_base.specs.Place.{same_place}
+use Rattle.rg_home.specs.Rows.{row_at}
 use Rattle.rg_home.specs.Pages.{slot_of, row_or_empty}
 use Rattle.rg_home.specs.Written.{Written}
 use Rattle.rg_home.specs.Able.{IsLive, CanUndo, HomeOf, Proper}
 use Rattle.rg_home.specs.Undo.{taken_back}
-use Rattle.rg_home.proofs.Place.{same_place-true}
+use Rattle.rg_base.proofs.SamePlace.{same_place-true}
 use Rattle.rg_home.proofs.Fit.{applied_sound}
 use Rattle.rg_home.proofs.Takes.{applied_held}
 use Rattle.rg_laws_pages.specs.UndoRoom.Ready.{Ready}

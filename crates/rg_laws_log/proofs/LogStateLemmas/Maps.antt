@@ -1,10 +1,11 @@
 -- What undo reads of a list of writes: the same lists, by unit, as those of the undo of units.
 use Rattle.std.proofs.Common.{◌≡◌, ◌==◌, ℕ, Bool, true, false, not, List, [], ◌∷◌, Option, Some}
 use Rattle.std.proofs.Common.{None, refl, sym, ◌∙◌, ap, subst}
+use Rattle.std.proofs.lemmas.Bool.{eq-eqb}
 use Rattle.rg_base.specs.declared.place.Place.{Place}
 use Rattle.rg_base.specs.declared.row.Row.{Row as TableRow}
-use Rattle.rg_home.specs.Rows.{same_place}
-use Rattle.rg_home.proofs.Place.{same_place-true, same_place-refl}
+use Rattle.rg_base.specs.Place.{same_place}
+use Rattle.rg_base.proofs.SamePlace.{same_place-true, same_place-refl}
 use Rattle.rg_home.specs.Written.{Written}
 use Rattle.rg_home.specs.Able.{HomeOf}
 use Rattle.rg_laws_pages.specs.UndoRoom.Ready.{latest, less, without, only}
@@ -12,7 +13,6 @@ use Rattle.rg_laws_log.specs.LogState.Write.{Write, at_home, at_key, Either, Bac
 use Rattle.rg_laws_log.specs.LogState.Write.{latest_if, latest_of, less_if, less_of, kept_if}
 use Rattle.rg_laws_log.specs.LogState.Write.{kept_of, written_of, AllOfKey, IsOf}
 use Rattle.rg_laws_log.specs.LogState.Act.{not_of}
-use Rattle.rg_laws_log.proofs.LogStateLemmas.Tables.{eqb-refl}
 use Rattle.rg_laws_pages.specs.UndoRoom.Ready as R
 
 module _ (t : ℕ) where
@@ -83,9 +83,6 @@ home_by_key t k h r [] e of one ok back = tt
 home_by_key t k h r (d ∷ ws) e of one ok back =
     go (same_place h d.written.home) refl back (home_by_key t k h r ws e of.1 one.1 ok.1)
   where
-    same_key : (n m : ℕ) → n ≡ m → (n == m) ≡ true
-    same_key n m e = subst (λ (x : ℕ). (n == x) ≡ true) e (eqb-refl n)
-
     row_key : (x : Option TableRow) → Some r ≡ x → IsOf d.key x → d.key ≡ k
     row_key x f o = sym (subst (IsOf d.key) (sym f) o) ∙ e
 
@@ -96,6 +93,6 @@ home_by_key t k h r (d ∷ ws) e of one ok back =
         → (same_place h d.written.home ≡ true → d.written.owner ≡ t) × HitBy t (at_home h) ws
     go true g k2 rest =
         let owner : d.written.owner ≡ t =
-        of.0 (same_key d.key k (row_key d.after k2.0 ok.0.after)) in
+        of.0 (eq-eqb d.key k (row_key d.after k2.0 ok.0.after)) in
         (λ f. owner, subst (λ (u : ℕ). HitBy u (at_home h) ws) owner (one.0 g))
     go false g k2 rest = ((λ f. absurd (cc (f, g))), rest k2)

@@ -87,10 +87,10 @@ gone_order hit (t ∷ ts) ws x covers one =
 
 -- owners
 
-low_joined : (top : ℕ) (xs ys : List Written) → OwnersBelow top xs → OwnersBelow top ys
+pub owners_join : (top : ℕ) (xs ys : List Written) → OwnersBelow top xs → OwnersBelow top ys
     → OwnersBelow top (xs ++ ys)
-low_joined top [] ys a b = b
-low_joined top (c ∷ xs) ys a b = (a.0, low_joined top xs ys a.1 b)
+owners_join top [] ys a b = b
+owners_join top (c ∷ xs) ys a b = (a.0, owners_join top xs ys a.1 b)
 
 low_kept : (f : ℕ → Bool) (top : ℕ) (ws : List Write) → OwnersBelow top (written_of ws)
     → OwnersBelow top (written_of (kept_of f ws))
@@ -105,7 +105,7 @@ low_kept f top (w ∷ ws) a = go (f w.written.owner) (low_kept f top ws a.1)
 low_order : (top : ℕ) (ts : List ℕ) (ws : List Write) → OwnersBelow top (written_of ws)
     → OwnersBelow top (all_of (units_of ts ws))
 low_order top [] ws a = tt
-low_order top (t ∷ ts) ws a = low_joined top (written_of (kept_of (λ u. u == t) ws))
+low_order top (t ∷ ts) ws a = owners_join top (written_of (kept_of (λ u. u == t) ws))
     (all_of (units_of ts (kept_of (not_of t) ws))) (low_kept (λ u. u == t) top ws a)
     (low_order top ts (kept_of (not_of t) ws) (low_kept (not_of t) top ws a))
 

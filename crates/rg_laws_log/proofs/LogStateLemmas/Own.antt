@@ -3,13 +3,13 @@ use Rattle.std.proofs.Common.{◌≡◌, ◌==◌, ℕ, Bool, true, false, not, 
 use Rattle.std.proofs.Common.{sym, ◌∙◌, ap, subst}
 use Rattle.std.proofs.lemmas.Bool.{eqb-true}
 use Rattle.rg_base.specs.declared.place.Place.{Place}
+use Rattle.rg_base.proofs.Small.{nat_itself}
 use Rattle.rg_home.specs.Slot.{Slot}
 use Rattle.rg_home.specs.Able.{IsLive, CanUndo}
 use Rattle.rg_laws_log.specs.LogState.Write.{Write, latest_if, latest_of, less_if, less_of, kept_if}
 use Rattle.rg_laws_log.specs.LogState.Write.{kept_of, own_of, first_write, written_of}
 use Rattle.rg_laws_log.specs.LogState.Act.{not_of}
 use Rattle.rg_laws_log.proofs.LogStateLemmas.Hits.{some_is}
-use Rattle.rg_laws_log.proofs.LogStateLemmas.Tables.{eqb-refl}
 
 -- a number differs
 pub eqb-not : (n m : ℕ) → (n ≡ m → ⊥) → (n == m) ≡ false
@@ -22,7 +22,7 @@ eqb-not n m h = go (n == m) refl
 pub own_more : (w : Write) (ws : List Write)
     → own_of w.written.owner (w ∷ ws) ≡ w ∷ own_of w.written.owner ws
 own_more w ws =
-    ap (λ (b : Bool). kept_if b w (own_of w.written.owner ws)) (eqb-refl w.written.owner)
+    ap (λ (b : Bool). kept_if b w (own_of w.written.owner ws)) (nat_itself w.written.owner)
 
 pub own_other : (u : ℕ) (w : Write) (ws : List Write) → (w.written.owner ≡ u → ⊥)
     → own_of u (w ∷ ws) ≡ own_of u ws

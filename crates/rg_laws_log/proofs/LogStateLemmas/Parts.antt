@@ -8,9 +8,8 @@ use Rattle.rg_base.specs.declared.row.Row.{Row as TableRow}
 use Rattle.rg_home.specs.Slot.{Slot, Free, Row, Pointer, Over, DeadRow, DeadPointer, DeadOver}
 use Rattle.rg_home.specs.Pages.{page_at, wrote, applied, part_at}
 use Rattle.rg_home.specs.Plan.{is_ended, purge_from}
-use Rattle.rg_home.specs.Written.{Written}
-use Rattle.rg_home.specs.Able.{IsLive, CanUndo}
-use Rattle.rg_laws_pages.proofs.UndoRoomLemmas.Ends.{Ends, Ended, ends_keep}
+use Rattle.rg_home.specs.Able.{IsLive}
+use Rattle.rg_laws_pages.proofs.UndoRoomLemmas.Ends.{Ends, Ended}
 use Rattle.rg_base.specs.declared.part.SlotOp.TheVariants as Op
 
 -- a purge made while more units were counted as live is one by the live units
@@ -40,15 +39,6 @@ ends_fewer live more f at after ended = record { each = λ q. go q (ended.each q
     go : (q : Place) → Ends more (at q) (after q) → Ends live (at q) (after q)
     go q (inl e) = inl e
     go q (inr e) = inr (ended_fewer live more f (at q) e.0, e.1)
-
-pub can_purged : (live : List ℕ) (at after : Place → Slot) (cs : List Written) → Ended live at after
-    → CanUndo live at cs → CanUndo live after cs
-can_purged live at after [] ended can = tt
-can_purged live at after (c ∷ cs) ended can = (
-  ends_keep live c.owner can.1 at after c ended can.0,
-  can.1,
-  can_purged live at after cs ended can.2,
-)
 
 -- a purge's parts take nothing from their record
 pub purge_same : (t u : ℕ) (x y : TableRow) (live : List ℕ) (n i : ℕ) (slots : List Slot)

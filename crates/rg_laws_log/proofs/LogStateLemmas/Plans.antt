@@ -1,7 +1,7 @@
 -- The writes of a put, a change and a drop are such as the invariant asks for, on the pages that
 -- their purge leaves.
 use Rattle.std.proofs.Common.{◌≡◌, inl, ℕ, ◌≤◌, true, List, [], ◌∷◌, length, Option, Some, None}
-use Rattle.std.proofs.Common.{IfSome, refl, sym, ◌∙◌, ap, subst, arith}
+use Rattle.std.proofs.Common.{IfSome, refl, sym, ap, subst, arith}
 use Rattle.rg_base.specs.declared.place.Place.{Place}
 use Rattle.rg_base.specs.declared.row.Row.{Row as TableRow}
 use Rattle.rg_home.specs.Slot.{Slot, Free, Row, Pointer, Over, DeadRow, DeadPointer, DeadOver}
@@ -9,12 +9,12 @@ use Rattle.rg_base.specs.declared.part.Part.{Part}
 use Rattle.rg_base.specs.declared.part.SlotOp.{SlotOp}
 use Rattle.rg_home.specs.declared.plan.Plan.{Plan}
 use Rattle.rg_home.specs.declared.plan.Area.{Area}
-use Rattle.rg_home.specs.Rows.{home_row, row_at, Tied, ChangesHome}
+use Rattle.rg_home.specs.Rows.{home_row, row_at, ChangesHome}
 use Rattle.rg_home.specs.Pages.{slot_of, applied, made, FitsAll, TakesRow, TakesAll, row_or_empty}
 use Rattle.rg_home.specs.Pages.{part_at}
 use Rattle.rg_home.specs.Plan.{is_home, purge_of, new_area, planned_put, planned_change}
 use Rattle.rg_home.specs.Plan.{planned_drop}
-use Rattle.rg_home.proofs.Purge.{Buried, buried_rows, buried_lies, buried_alive}
+use Rattle.rg_home.proofs.Purge.{Buried, buried_rows, buried_alive}
 use Rattle.rg_home.proofs.Writes.{wrote_here}
 use Rattle.rg_home.proofs.Planned.{Does, IsOpen, purge_buries, new_open, put_does, change_does}
 use Rattle.rg_home.proofs.Planned.{drop_does}
@@ -31,22 +31,13 @@ use Rattle.rg_laws_pages.proofs.UndoRoomLemmas.Write.{Writes}
 use Rattle.rg_laws_pages.proofs.UndoRoomLemmas.Plans.{IsOurs, change_ours, drop_ours}
 use Rattle.rg_home.proofs.ChangeFits.{PartsFit, change_fits, drop_fits}
 use Rattle.rg_laws_pages.proofs.UndoRoomLemmas.Ready.{ready_purged, own_kept}
-use Rattle.rg_laws_pages.proofs.UndoRoomLemmas.Steps.{both, home_alive}
+use Rattle.rg_laws_pages.proofs.UndoRoomLemmas.Steps.{both, home_alive, does_then}
 use Rattle.rg_laws_pages.specs.UndoRoom.Laws.{change_of}
 use Rattle.rg_laws_pages.proofs.UndoRoomLemmas.Dead.{OwnDead, own_home, AllAlive, names_alive}
 use Rattle.rg_laws_pages.proofs.UndoRoomLemmas.Dead.{alive_change, drop_names}
 use Rattle.rg_laws_log.specs.LogState.Lawful.{Makes}
 use Rattle.rg_base.specs.RowBytes.{row_size}
 use Rattle.rg_base.specs.declared.part.SlotOp.TheVariants as Op
-
-does_then : (at mid after : Place → Slot) (home : Place) (row : Option TableRow) → Tied at
-    → Buried at mid → ChangesHome at after home row → ChangesHome mid after home row
-does_then at mid after home row tied buried c = record {
-  here = c.here;
-  others = λ q n. c.others q n ∙ sym (buried_rows at mid buried tied q);
-  lie = λ q n. c.lie q n ∙ sym (buried_lies at mid buried q);
-  tied = c.tied;
-}
 
 -- what a unit writes holds its row
 op_takes : (t : ℕ) (after : TableRow) (op : SlotOp) → Holds (made t after op)

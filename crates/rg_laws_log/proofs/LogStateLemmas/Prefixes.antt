@@ -1,13 +1,13 @@
 -- Every prefix of a lawful log: the invariant, the stored rows, and what an opening meets.
 use Rattle.std.proofs.lemmas.List.{append-nil}
-use Rattle.std.proofs.Common.{◌≡◌, ◌||◌, ◌==◌, ℕ, zero, suc, Bool, true, false, not, List, [], ◌∷◌}
+use Rattle.std.proofs.Common.{◌≡◌, ◌||◌, ◌==◌, ℕ, Bool, true, false, not, List, [], ◌∷◌}
 use Rattle.std.proofs.Common.{Option, Some, None, refl, sym, ◌∙◌, ap, subst, if◌then◌else◌, arith}
 use Rattle.rg_base.specs.declared.place.Place.{Place}
 use Rattle.rg_base.specs.declared.row.Row.{Row as TableRow}
 use Rattle.rg_home.specs.Slot.{Slot, Free}
-use Rattle.rg_home.specs.Slots.{slot_at}
-use Rattle.rg_home.specs.Rows.{same_place, home_row, row_at}
-use Rattle.rg_home.specs.Pages.{page_at, slot_of}
+use Rattle.rg_base.specs.Place.{same_place}
+use Rattle.rg_home.specs.Rows.{row_at}
+use Rattle.rg_home.specs.Pages.{slot_of}
 use Rattle.rg_laws_pages.specs.UndoRoom.Ready.{only}
 use Rattle.rg_laws_pages.specs.UndoRoom.Dead.{DeadNamed}
 use Rattle.rg_laws_pages.specs.UndoRoom.Needed.{NotNone, InsertsAreThere, NeededInTurn}
@@ -25,22 +25,13 @@ use Rattle.rg_laws_log.specs.LogState.Stored.{has_commit, last_of, stored_at, Ma
 use Rattle.rg_laws_log.proofs.LogStateLemmas.Hits.{back_kept, key_kept}
 use Rattle.rg_laws_log.proofs.LogStateLemmas.Tables.{table_back, gone_taken}
 use Rattle.rg_home.proofs.Tables.{table_same}
+use Rattle.rg_home.proofs.NoPages.{row_none, slot_none}
 use Rattle.rg_laws_log.proofs.LogStateLemmas.Maps.{map_only}
 use Rattle.rg_laws_log.proofs.LogStateLemmas.Keeps.{keeps}
 use Rattle.rg_laws_log.proofs.LogStateLemmas.Agrees.{agrees_keeps, kept_all}
-use Rattle.rg_home.proofs.Place.{same_place-refl}
+use Rattle.rg_base.proofs.SamePlace.{same_place-refl}
 
 -- the empty log
-
-page_none : (n : ℕ) → page_at [] n ≡ []
-page_none zero = refl
-page_none (suc n) = refl
-
-slot_none : (p : Place) → slot_of [] p ≡ Free
-slot_none p = ap (λ (slots : List Slot). slot_at slots p.slot) (page_none p.page)
-
-row_none : (p : Place) → row_at (slot_of []) p ≡ None
-row_none p = ap (home_row (slot_of [])) (slot_none p)
 
 named_none : (live : List ℕ) (at : Place → Slot) (p : Place) (s : Slot) → s ≡ Free
     → DeadNamed live at p s

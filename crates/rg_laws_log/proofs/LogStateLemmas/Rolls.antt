@@ -130,7 +130,7 @@ undos_join t pages [] acts more = refl
 undos_join t pages (w ∷ ws) acts more = undos_join t (undone pages w.written) ws
     (Undo t w.written.home w.written.before (planned_undo pages w.written).parts ∷ acts) more
 
-tail_is : (v w : Write) (xs ws : List Write) → v ∷ xs ≡ w ∷ ws → xs ≡ ws
+pub tail_is : (v w : Write) (xs ws : List Write) → v ∷ xs ≡ w ∷ ws → xs ≡ ws
 tail_is v w xs ws e = cc (e)
 
 module _ (limit : ℕ) (first : LogState) (t : ℕ) where

@@ -4,20 +4,14 @@ use Rattle.std.proofs.Common.{sym, ◌∙◌, ap, subst, if◌then◌else◌}
 use Rattle.std.proofs.lemmas.Bool.{eqb-true, eqb-false}
 use Rattle.rg_base.specs.declared.place.Place.{Place}
 use Rattle.rg_base.specs.declared.row.Row.{Row as TableRow}
-use Rattle.rg_home.specs.Rows.{same_place}
-use Rattle.rg_home.proofs.Place.{same_place-true, same_place-refl}
+use Rattle.rg_base.specs.Place.{same_place}
+use Rattle.rg_base.proofs.SamePlace.{same_place-true, same_place-refl}
+use Rattle.rg_base.proofs.Small.{nat_itself}
 use Rattle.rg_home.specs.Undo.{taken_back}
 use Rattle.rg_laws_log.specs.LogState.Write.{Write, at_home, at_key, Either, Back, gone_back}
 use Rattle.rg_laws_log.specs.LogState.Write.{written_of, IsOf, AllOfKey}
 use Rattle.rg_home.specs.Table.{IsTable}
 use Rattle.rg_laws_log.proofs.LogStateLemmas.Hits.{back_first}
-
-pub eqb-refl : (n : ℕ) → (n == n) ≡ true
-eqb-refl n = go (n == n) refl
-  where
-    go : (b : Bool) → (n == n) ≡ b → (n == n) ≡ true
-    go true e = e
-    go false e = absurd (eqb-false n n e refl)
 
 some_row : (a b : TableRow) → Some a ≡ Some b → a ≡ b
 some_row a b e = cc (e)
@@ -119,7 +113,7 @@ table_back (w ∷ ws) rows keys tab hs ks of =
     (table_set rows keys w.written.home w.key w.after w.written.before tab
     (first_after (at_home w.written.home) w ws (rows w.written.home)
     (same_place-refl w.written.home) (hs w.written.home))
-    (first_after (at_key w.key) w ws (keys w.key) (eqb-refl w.key) (ks w.key))
+    (first_after (at_key w.key) w ws (keys w.key) (nat_itself w.key) (ks w.key))
     of.0.after of.0.before _ (λ p. refl) _ (λ k. refl))
     (λ p. back_first 0 (at_home p) w ws (rows p) (at_home p w) refl (hs p))
     (λ k. back_first 0 (at_key k) w ws (keys k) (at_key k w) refl (ks k))

@@ -91,10 +91,10 @@ tested_clean limit pages units stored top t below = record {
 
 -- where some are undone already, the rest passes
 
-all_undone : (xs ys : List Written) (pages : List (List Slot))
+pub undone_join : (xs ys : List Written) (pages : List (List Slot))
     → undone_all pages (xs ++ ys) ≡ undone_all (undone_all pages xs) ys
-all_undone [] ys pages = refl
-all_undone (c ∷ xs) ys pages = all_undone xs ys (undone pages c)
+undone_join [] ys pages = refl
+undone_join (c ∷ xs) ys pages = undone_join xs ys (undone pages c)
 
 low_rest : (top : ℕ) (xs ys : List Written) → OwnersBelow top (xs ++ ys) → OwnersBelow top ys
 low_rest top [] ys low = low
@@ -112,5 +112,5 @@ tested_rest limit pages units rest xs stored top e t =
       owners = low_rest top xs (all_of rest) (subst (OwnersBelow top) e t.owners);
       needed = two.1;
       rows = subst (λ (ps : List (List Slot)). IsTable (row_at (slot_of ps)) stored)
-          (ap (undone_all pages) e ∙ all_undone xs (all_of rest) pages) t.rows;
+          (ap (undone_all pages) e ∙ undone_join xs (all_of rest) pages) t.rows;
     }

@@ -9,9 +9,9 @@ use Rattle.rg_base.specs.RowBytes.{row_size}
 use Rattle.rg_base.specs.declared.part.SlotOp.TheVariants as Op
 use Rattle.rg_base.specs.declared.place.Place.{Place}
 use Rattle.rg_base.specs.declared.row.Row.{Row as TableRow}
-use Rattle.rg_home.specs.Able.{AreaHolds, IsAreaOf, IsHomeOf, Proper, RowFits, Undoable}
+use Rattle.rg_home.specs.Able.{AreaHolds, Proper, RowFits, Undoable}
 use Rattle.rg_home.specs.Pages.{page_at, part_at, slot_of}
-use Rattle.rg_home.specs.Plan.{area_on, area_when, away, changed, first_page, fitting, from_over}
+use Rattle.rg_home.specs.Plan.{area_on, away, changed, first_page, fitting, from_over}
 use Rattle.rg_home.specs.Plan.{in_over, is_ended, is_home, left_of, new_area, planned_change}
 use Rattle.rg_home.specs.Plan.{planned_drop, planned_put, purge_from, purge_of, takes, to_home}
 use Rattle.rg_home.specs.Plan.{to_new}
@@ -26,28 +26,11 @@ use Rattle.rg_home.specs.declared.plan.Area.{Area}
 use Rattle.rg_home.specs.declared.plan.Fitting.{Fitting}
 use Rattle.rg_home.specs.declared.plan.Plan.{Plan}
 use Rattle.rg_home.proofs.Range.{page_within}
+use Rattle.rg_home.proofs.NotFree.{home_full, home_of_full, area_full, area_page}
 use Rattle.rg_image.specs.Rules.{IsPageOf, PartIn}
 use Rattle.rg_laws_log.specs.PageBounds.Within.{IsWithin}
 
 -- ---- slots that are not Free
-
-home_full : (s : Slot) → is_home s ≡ true → is_free s ≡ false
-home_full Free is = absurd (cc (is))
-home_full (Row capacity row) is = refl
-home_full (Pointer capacity other) is = refl
-home_full (Over capacity row home) is = refl
-home_full (DeadRow capacity owner) is = refl
-home_full (DeadPointer capacity other owner) is = refl
-home_full (DeadOver capacity home owner) is = refl
-
-home_of_full : (by : Option ℕ) (s : Slot) → IsHomeOf by s → is_free s ≡ false
-home_of_full by Free is = absurd is
-home_of_full by (Row capacity row) is = refl
-home_of_full by (Pointer capacity other) is = refl
-home_of_full by (Over capacity row home) is = refl
-home_of_full by (DeadRow capacity owner) is = refl
-home_of_full by (DeadPointer capacity other owner) is = refl
-home_of_full by (DeadOver capacity home owner) is = refl
 
 over_full : (home : Place) (s : Slot) → IsOverOf home s → is_free s ≡ false
 over_full home Free is = absurd is
@@ -57,15 +40,6 @@ over_full home (Over capacity row other) is = refl
 over_full home (DeadRow capacity owner) is = refl
 over_full home (DeadPointer capacity other owner) is = refl
 over_full home (DeadOver capacity other owner) is = refl
-
-area_full : (by : Option ℕ) (home : Place) (s : Slot) → IsAreaOf by home s → is_free s ≡ false
-area_full by home Free is = absurd is
-area_full by home (Row capacity row) is = refl
-area_full by home (Pointer capacity other) is = refl
-area_full by home (Over capacity row other) is = refl
-area_full by home (DeadRow capacity owner) is = refl
-area_full by home (DeadPointer capacity other owner) is = refl
-area_full by home (DeadOver capacity other owner) is = refl
 
 ended_full : (live : List ℕ) (s : Slot) → is_ended live s ≡ true → is_free s ≡ false
 ended_full live Free is = absurd (cc (is))
@@ -77,11 +51,6 @@ ended_full live (DeadPointer capacity other owner) is = refl
 ended_full live (DeadOver capacity home owner) is = refl
 
 -- ---- a new area
-
-area_page : (live : List ℕ) (n : ℕ) (slots : List Slot) (t : Bool)
-    → (area_when live n slots t).place.page ≡ n
-area_page live n slots true = refl
-area_page live n slots false = refl
 
 pub area_within : (live : List ℕ) (b limit : ℕ) (pages : List (List Slot)) (area : Area)
     → new_area live b limit pages ≡ Some area → IsPageOf limit area.place.page

@@ -1,11 +1,12 @@
 -- What a log stores, by its records and by their acts.
 use Rattle.std.proofs.Common.{◌≡◌, ◌≤◌, ◌==◌, ◌&&◌, ◌||◌, ◌++◌, ℕ, Bool, true, false, List, [], ◌∷◌}
-use Rattle.std.proofs.Common.{Option, None, Some, refl, sym, ◌∙◌, ap, subst, if◌then◌else◌, arith}
+use Rattle.std.proofs.Common.{Option, None, Some, refl, sym, ◌∙◌, ap, subst, if◌then◌else◌}
 use Rattle.std.proofs.Common.{append_assoc, append-nil, reverse, map}
-use Rattle.std.proofs.lemmas.Bool.Decides.{nat_tests}
 use Rattle.std.proofs.lemmas.List.{map-append, reverse-append}
+use Rattle.std.proofs.Math.Bool.{or-false, or_assoc}
 use Rattle.rg_base.specs.declared.place.Place.{Place}
 use Rattle.rg_base.specs.declared.row.Row.{Row}
+use Rattle.rg_base.proofs.Small.{nat_turned}
 use Rattle.rg_home.specs.Slot.{Slot}
 use Rattle.rg_home.specs.Written.{Written}
 use Rattle.rg_image.specs.Meaning.{has_key, is_commit, is_committed, last_made, made_of, or_before}
@@ -28,7 +29,7 @@ use Rattle.rg_laws_log.specs.StoredRows.Keyed.{AllTakeBack, TakesBack, TransBelo
 use Rattle.rg_laws_log.specs.StoredRows.Keyed.{keyed_acts, keyed_of}
 
 -- the acts of records after others come before theirs
-acts_join : (xs ys : List Record) → acts_of [] (xs ++ ys) ≡ acts_of [] ys ++ acts_of [] xs
+pub acts_join : (xs ys : List Record) → acts_of [] (xs ++ ys) ≡ acts_of [] ys ++ acts_of [] xs
 acts_join xs ys = ap reverse (map-append (act_of []) xs ys)
     ∙ reverse-append (map (act_of []) xs) (map (act_of []) ys)
 
@@ -109,10 +110,6 @@ of_key_parts (Commit u ∷ xs) ys are = of_key_parts xs ys are
 of_key_parts (RollBack u ∷ xs) ys are = of_key_parts xs ys are
 of_key_parts (Switch pages ∷ xs) ys are = of_key_parts xs ys are
 
-or_none : (b : Bool) → (b || false) ≡ b
-or_none true = refl
-or_none false = refl
-
 or_same : (b c : Bool) → b ≡ c → (b || c) ≡ c
 or_same true c e = e
 or_same false c e = refl
@@ -121,7 +118,7 @@ named : (k : ℕ) (before after : Option Row) → IsOf (key_of before after) bef
     → NotBoth before after → (has_key k before || has_key k after) ≡ (key_of before after == k)
 named k None None of some = absurd some
 named k None (Some y) of some = refl
-named k (Some x) None of some = or_none (x.key == k)
+named k (Some x) None of some = or-false (x.key == k)
 named k (Some x) (Some y) of some = or_same (x.key == k) (y.key == k) (ap (λ (n : ℕ). n == k) of)
 
 if_both : (c h : Bool) (after : Option Row)
@@ -183,15 +180,12 @@ commit_join t (Undo u home after parts ∷ xs) ys = commit_join t xs ys
 commit_join t (RollBack u ∷ xs) ys = commit_join t xs ys
 commit_join t (Switch pages ∷ xs) ys = commit_join t xs ys
 
-turned : (n m : ℕ) → (n == m) ≡ (m == n)
-turned n m = grind (arith, nat_tests)
-
 one_commit : (t : ℕ) (kind : Kind) (entry : Record)
     → (is_commit kind && (entry.tran.0 == t))
     ≡ has_commit t (act_of [] (record entry { kind = kind }) ∷ [])
 one_commit t (kinds.Change home before after parts) entry = refl
 one_commit t (kinds.Undo next home after parts) entry = refl
-one_commit t kinds.Commit entry = turned entry.tran.0 t ∙ sym (or_none (t == entry.tran.0))
+one_commit t kinds.Commit entry = nat_turned entry.tran.0 t ∙ sym (or-false (t == entry.tran.0))
 one_commit t kinds.RolledBack entry = refl
 one_commit t (kinds.Purge parts) entry = refl
 one_commit t (kinds.Switch copy pages) entry = refl
@@ -221,7 +215,7 @@ both_made counts k t home before after None None = sym (if_none (counts t))
 both_made counts k t home before after None (Some y) = sym (if_both (counts t) (y.key == k) after)
 both_made counts k t home before after (Some x) None = sym (if_both (counts t) (x.key == k) after)
     ∙ ap (λ (h : Bool). if counts t then (if h then Some after else None) else None)
-    (sym (or_none (x.key == k)))
+    (sym (or-false (x.key == k)))
 both_made counts k t home before after (Some x) (Some y) = go (counts t) (x.key == k) (y.key == k)
   where
     go : (c a b : Bool)
@@ -271,7 +265,7 @@ keyed_commit t u (kinds.Change home before after parts) =
     (keyed_ends t u home before after after)
     ∙ keyed_ends t u home before after before)
 keyed_commit t u (kinds.Undo next home after parts) = refl
-keyed_commit t u kinds.Commit = turned u t ∙ sym (or_none (t == u))
+keyed_commit t u kinds.Commit = nat_turned u t ∙ sym (or-false (t == u))
 keyed_commit t u kinds.RolledBack = refl
 keyed_commit t u (kinds.Purge parts) = refl
 keyed_commit t u (kinds.Switch copy pages) = refl
@@ -342,11 +336,7 @@ committed_join : (xs ys : List Record) (t : ℕ)
 committed_join [] ys t = refl
 committed_join (e ∷ xs) ys t =
     ap (λ (b : Bool). (is_commit e.kind && (e.tran.0 == t)) || b) (committed_join xs ys t)
-    ∙ or_join (is_commit e.kind && (e.tran.0 == t)) (is_committed xs t) (is_committed ys t)
-  where
-    or_join : (a b c : Bool) → (a || (b || c)) ≡ ((a || b) || c)
-    or_join true b c = refl
-    or_join false b c = refl
+    ∙ sym (or_assoc (is_commit e.kind && (e.tran.0 == t)) (is_committed xs t) (is_committed ys t))
 
 all_committed : (old more : List Record) (t : ℕ)
     → is_committed (old ++ more) t ≡ has_commit t (acts_of [] more ++ keyed_acts old)

@@ -12,7 +12,7 @@ use Rattle.std.specs.Prelude.{if◌then◌else◌}
 use Rattle.rg_base.specs.declared.place.Place.{Place}
 use Rattle.rg_base.specs.declared.row.Row.{Row as TableRow}
 use Rattle.rg_base.specs.declared.part.Part.{Part}
-use Rattle.rg_home.specs.Rows.{same_place}
+use Rattle.rg_base.specs.Place.{same_place}
 use Rattle.rg_home.specs.Written.{Written}
 use Rattle.rg_laws_pages.specs.UndoRoom.Laws.{change_of}
 

@@ -3,7 +3,7 @@ use Rattle.std.proofs.Common.{◌≡◌, ◌==◌, ◌||◌, ◌⊎◌, inl, inr
 use Rattle.std.proofs.Common.{nat_le, zero, suc, List, [], ◌∷◌, get_or, refl, ◌∙◌, ap}
 use Rattle.std.proofs.Common.{if◌then◌else◌, arith}
 use Rattle.std.specs.List.{list_any}
-use Rattle.std.proofs.lemmas.Bool.{eqb-true, leb-true, le-leb}
+use Rattle.std.proofs.lemmas.Bool.{eqb-true, leb-true, le-leb, or_right, or_cases}
 use Rattle.rg_home.specs.Slot.{Slot}
 use Rattle.rg_home.specs.Slot.{Free, Row, Pointer, Over, DeadRow, DeadPointer, DeadOver}
 use Rattle.rg_home.specs.Slots.{slot_at}
@@ -14,14 +14,6 @@ or_left : (a b : Bool) → a ≡ true → (a || b) ≡ true
 or_left true b e = refl
 or_left false b e = absurd (cc (e))
 
-or_right : (a b : Bool) → b ≡ true → (a || b) ≡ true
-or_right true b e = refl
-or_right false b e = e
-
-either : (a b : Bool) → (a || b) ≡ true → (a ≡ true) ⊎ (b ≡ true)
-either true b e = inl refl
-either false b e = inr e
-
 pub covers : (live : List ℕ) (next : ℕ) → Covers (holding live next) live
 covers live next t e = or_left (list_any (λ u. u == t) live) (nat_le next t) e
 
@@ -29,7 +21,7 @@ covers live next t e = or_left (list_any (λ u. u == t) live) (nat_le next t) e
 pub begins : (live : List ℕ) (next : ℕ)
     → Fewer (holding live next) (holding (next ∷ live) (next + 1))
 begins live next t e =
-    go (either ((next == t) || list_any (λ u. u == t) live) (nat_le (next + 1) t) e)
+    go (or_cases ((next == t) || list_any (λ u. u == t) live) (nat_le (next + 1) t) e)
   where
     any : Bool
     any = list_any (λ u. u == t) live
@@ -41,7 +33,7 @@ begins live next t e =
 
     go : (((next == t) || list_any (λ u. u == t) live) ≡ true) ⊎ (nat_le (next + 1) t ≡ true)
         → holding live next t ≡ true
-    go (inl a) = first (either (next == t) (list_any (λ u. u == t) live) a)
+    go (inl a) = first (or_cases (next == t) (list_any (λ u. u == t) live) a)
     go (inr b) = or_right (list_any (λ u. u == t) live) (nat_le next t)
         (le-leb next t (omega (arith, leb-true (next + 1) t b)))
 
@@ -49,7 +41,7 @@ begins live next t e =
 pub ends : (live rest : List ℕ) (next : ℕ)
     → ((t : ℕ) → list_any (λ u. u == t) rest ≡ true → list_any (λ u. u == t) live ≡ true)
     → Fewer (holding live next) (holding rest next)
-ends live rest next fewer t e = go (either (list_any (λ u. u == t) rest) (nat_le next t) e)
+ends live rest next fewer t e = go (or_cases (list_any (λ u. u == t) rest) (nat_le next t) e)
   where
     go : (list_any (λ u. u == t) rest ≡ true) ⊎ (nat_le next t ≡ true) → holding live next t ≡ true
     go (inl a) = or_left (list_any (λ u. u == t) live) (nat_le next t) (fewer t a)

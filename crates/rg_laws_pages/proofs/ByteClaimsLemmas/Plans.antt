@@ -15,7 +15,8 @@ use Rattle.rg_home.specs.declared.plan.Plan.{Plan}
 use Rattle.rg_home.specs.declared.plan.Area.{Area}
 use Rattle.rg_home.specs.declared.plan.Fitting.{Fitting}
 use Rattle.rg_base.specs.declared.part.SlotOp.TheVariants as Op
-use Rattle.rg_home.specs.Rows.{same_place, Tied, is_dead}
+use Rattle.rg_base.specs.Place.{same_place}
+use Rattle.rg_home.specs.Rows.{Tied, is_dead}
 use Rattle.rg_home.specs.Pages.{page_at, slot_of, wrote, applied, Sound, part_at}
 use Rattle.rg_home.specs.Plan.{purged, purge_of, first_free, takes, area_when, area_on, new_area}
 use Rattle.rg_home.specs.Plan.{first_page, fitting, room, free, is_home, left_of, in_over, to_new}

@@ -4,8 +4,9 @@ use Rattle.std.proofs.Common.{List, [], ◌∷◌, ◌++◌, get_or, refl, sym, 
 use Rattle.std.proofs.lemmas.Bool.{cases_eq}
 use Rattle.rg_home.specs.Slot.{Slot}
 use Rattle.rg_base.specs.declared.place.Place.{Place}
-use Rattle.rg_home.specs.Rows.{same_place}
-use Rattle.rg_home.proofs.Place.{same_place-true}
+use Rattle.rg_base.proofs.Small.{plus_suc}
+use Rattle.rg_base.specs.Place.{same_place}
+use Rattle.rg_base.proofs.SamePlace.{same_place-true}
 use Rattle.rg_laws_pages.specs.ByteClaims.Claim.{claim_of, claimed, claimed_all}
 use Rattle.rg_laws_pages.specs.ByteClaims.Weight.{places, pages_from, total}
 
@@ -46,12 +47,9 @@ term_row f n i (suc m) zero h =
     nought i = omega arith
 term_row f n i (suc m) (suc j) h = omega (
   arith,
-  ap (λ (k : ℕ). f (record { page = n; slot = k })) (shift i j),
+  ap (λ (k : ℕ). f (record { page = n; slot = k })) (plus_suc i j),
   term_row f n (i + 1) m j (omega arith),
 )
-  where
-    shift : (i j : ℕ) → i + suc j ≡ i + 1 + j
-    shift i j = omega arith
 
 pub term : (f : Place → ℕ) (n k j i : ℕ) → j < k → i < 225
     → f (record { page = n + j; slot = i }) ≤ total (pages_from n k) f
@@ -75,11 +73,8 @@ term f n (suc k) (suc j) i h l =
       arith,
       total-append (places n 0 225) (pages_from (n + 1) k) f,
       term f (n + 1) k j i (omega arith) l,
-      ap (λ (x : ℕ). f (record { page = x; slot = i })) (shift n j),
+      ap (λ (x : ℕ). f (record { page = x; slot = i })) (plus_suc n j),
     )
-  where
-    shift : (n j : ℕ) → n + suc j ≡ n + 1 + j
-    shift n j = omega arith
 
 -- bounds on the places of some pages alone
 
@@ -189,28 +184,22 @@ module _ (h : ℕ → Bool) where
     ap (λ (k : ℕ). f (record { page = n; slot = k })) (nought i),
     row_claims f n (i + 1) m []
         (λ k.
-        omega (arith, b (suc k), ap (λ (j : ℕ). f (record { page = n; slot = j })) (shift i k))),
+        omega (arith, b (suc k), ap (λ (j : ℕ). f (record { page = n; slot = j })) (plus_suc i k))),
   )
     where
       nought : (i : ℕ) → i + 0 ≡ i
       nought i = omega arith
-
-      shift : (i k : ℕ) → i + suc k ≡ i + 1 + k
-      shift i k = omega arith
   row_claims f n i (suc m) (s ∷ slots) b = omega (
     arith,
     b zero,
     ap (λ (k : ℕ). f (record { page = n; slot = k })) (nought i),
     row_claims f n (i + 1) m slots
         (λ k.
-        omega (arith, b (suc k), ap (λ (j : ℕ). f (record { page = n; slot = j })) (shift i k))),
+        omega (arith, b (suc k), ap (λ (j : ℕ). f (record { page = n; slot = j })) (plus_suc i k))),
   )
     where
       nought : (i : ℕ) → i + 0 ≡ i
       nought i = omega arith
-
-      shift : (i k : ℕ) → i + suc k ≡ i + 1 + k
-      shift i k = omega arith
 
   pub pages_claim : (f : Place → ℕ) (n k : ℕ) (pages : List (List Slot))
       → ((j i : ℕ) → f (record { page = n + j; slot = i }) ≤ claim_at (get_or pages j []) i)
@@ -229,7 +218,7 @@ module _ (h : ℕ → Bool) where
             )),
         pages_claim f (n + 1) k []
             (λ j i. omega
-            (arith, b (suc j) i, ap (λ (x : ℕ). f (record { page = x; slot = i })) (shift n j))),
+            (arith, b (suc j) i, ap (λ (x : ℕ). f (record { page = x; slot = i })) (plus_suc n j))),
       )
     where
       nought : (n : ℕ) → n + 0 ≡ n
@@ -237,9 +226,6 @@ module _ (h : ℕ → Bool) where
 
       start : (i : ℕ) → 0 + i ≡ i
       start i = omega arith
-
-      shift : (n j : ℕ) → n + suc j ≡ n + 1 + j
-      shift n j = omega arith
   pages_claim f n (suc k) (p ∷ pages) b =
       omega (
         arith,
@@ -253,7 +239,7 @@ module _ (h : ℕ → Bool) where
             )),
         pages_claim f (n + 1) k pages
             (λ j i. omega
-            (arith, b (suc j) i, ap (λ (x : ℕ). f (record { page = x; slot = i })) (shift n j))),
+            (arith, b (suc j) i, ap (λ (x : ℕ). f (record { page = x; slot = i })) (plus_suc n j))),
       )
     where
       nought : (n : ℕ) → n + 0 ≡ n
@@ -261,6 +247,3 @@ module _ (h : ℕ → Bool) where
 
       start : (i : ℕ) → 0 + i ≡ i
       start i = omega arith
-
-      shift : (n j : ℕ) → n + suc j ≡ n + 1 + j
-      shift n j = omega arith

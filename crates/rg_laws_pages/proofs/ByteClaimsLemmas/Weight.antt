@@ -8,10 +8,11 @@ use Rattle.rg_base.specs.declared.row.Row.{Row as TableRow}
 use Rattle.rg_home.specs.Slot.{Free, Row, Pointer, Over, DeadRow, DeadPointer, DeadOver}
 use Rattle.rg_home.specs.Slots.{slot_at, is_free}
 use Rattle.rg_home.proofs.Slots.{used-length}
-use Rattle.rg_home.specs.Rows.{same_place, over_row, home_row, row_at, IsOverOf, TiesAt, Tied}
+use Rattle.rg_base.specs.Place.{same_place}
+use Rattle.rg_home.specs.Rows.{over_row, home_row, row_at, IsOverOf, TiesAt, Tied}
 use Rattle.rg_home.specs.Rows.{ChangesHome}
 use Rattle.rg_home.specs.Pages.{page_at, slot_of, Sound}
-use Rattle.rg_home.proofs.Place.{same_place-true, same_place-refl}
+use Rattle.rg_base.proofs.SamePlace.{same_place-true, same_place-refl}
 use Rattle.rg_home.proofs.Range.{slot_below, page_within}
 use Rattle.rg_laws_pages.specs.ByteClaims.Claim.{claimed_all}
 use Rattle.rg_laws_pages.specs.ByteClaims.Weight.{places, pages_from, total, weight, rows_weight}

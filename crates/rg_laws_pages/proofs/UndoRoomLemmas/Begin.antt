@@ -1,20 +1,12 @@
 -- The empty table space, and one without live units.
-use Rattle.std.proofs.Common.{◌≡◌, ℕ, zero, suc, List, [], refl, sym, ap, subst, arith}
-use Rattle.rg_base.specs.declared.place.Place.{Place}
+use Rattle.std.proofs.Common.{ℕ, List, [], refl, sym, subst, arith}
 use Rattle.rg_home.specs.Slot.{Slot}
-use Rattle.rg_home.specs.Slot.{Free}
-use Rattle.rg_home.specs.Slots.{slot_at, Fits, IsTrimmed}
+use Rattle.rg_home.specs.Slots.{Fits, IsTrimmed}
 use Rattle.rg_home.specs.Rows.{row_at, TiesAt}
-use Rattle.rg_home.specs.Pages.{page_at, slot_of}
+use Rattle.rg_home.specs.Pages.{slot_of}
 use Rattle.rg_home.specs.Able.{Holds, Proper}
+use Rattle.rg_home.proofs.NoPages.{slot_none, page_none}
 use Rattle.rg_laws_pages.specs.UndoRoom.Ready.{Ready}
-
-page_none : (n : ℕ) → page_at [] n ≡ []
-page_none zero = refl
-page_none (suc n) = refl
-
-slot_none : (p : Place) → slot_of [] p ≡ Free
-slot_none p = ap (λ (slots : List Slot). slot_at slots p.slot) (page_none p.page)
 
 pub proper_empty : Proper []
 proper_empty = record {

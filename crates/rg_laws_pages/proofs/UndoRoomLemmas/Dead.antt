@@ -12,11 +12,12 @@ use Rattle.rg_home.specs.declared.plan.Area.{Area}
 use Rattle.rg_home.specs.declared.plan.Fitting.{Fitting}
 use Rattle.rg_base.specs.declared.part.SlotOp.{SlotOp}
 use Rattle.rg_base.specs.declared.part.SlotOp.TheVariants as Op
-use Rattle.rg_home.specs.Rows.{same_place, Tied}
+use Rattle.rg_base.specs.Place.{same_place}
+use Rattle.rg_home.specs.Rows.{Tied}
 use Rattle.rg_home.specs.Pages.{page_at, slot_of, wrote, made, applied, place_of, part_at}
 use Rattle.rg_home.specs.Plan.{left_of, fitting, new_area, to_new, from_over, away, changed}
 use Rattle.rg_home.specs.Plan.{planned_change, planned_drop}
-use Rattle.rg_home.proofs.Place.{same_place-true}
+use Rattle.rg_base.proofs.SamePlace.{same_place-true}
 use Rattle.rg_home.proofs.Writes.{wrote_here, wrote_there}
 use Rattle.rg_home.proofs.Moves.{pointed}
 use Rattle.rg_home.specs.Able.{IsHomeOf, IsAreaOf, IsLive}
@@ -208,7 +209,8 @@ module _ (live : List ℕ) (t : ℕ) (home : Place) (after : TableRow) where
 
 -- the plans
 
-alive_left : (pages : List (List Slot)) (home : Place) (s : Slot) → AllAlive (left_of pages home s)
+pub alive_left : (pages : List (List Slot)) (home : Place) (s : Slot)
+    → AllAlive (left_of pages home s)
 alive_left pages home (Pointer c o) = (tt, tt)
 alive_left pages home Free = tt
 alive_left pages home (Row c b) = tt
@@ -217,12 +219,13 @@ alive_left pages home (DeadRow c u) = tt
 alive_left pages home (DeadPointer c o u) = tt
 alive_left pages home (DeadOver c h u) = tt
 
-alive_back : (pages : List (List Slot)) (home q : Place) (s : Slot) (b : Bool)
+pub alive_back : (pages : List (List Slot)) (home q : Place) (s : Slot) (b : Bool)
     → AllAlive (back_from pages home q s b)
 alive_back pages home q s true = (tt, tt)
 alive_back pages home q s false = (tt, (tt, alive_left pages home s))
 
-alive_row : (pages : List (List Slot)) (home : Place) (over : Option Place) (s : Slot) (b : Bool)
+pub alive_row : (pages : List (List Slot)) (home : Place) (over : Option Place) (s : Slot)
+    (b : Bool)
     → AllAlive (undo_row pages home over s b)
 alive_row pages home over s true = (tt, alive_left pages home s)
 alive_row pages home None s false = tt

@@ -11,10 +11,11 @@ use Rattle.rg_home.specs.Slots.{slot_at, capacity_of}
 use Rattle.rg_base.specs.declared.part.Part.{Part}
 use Rattle.rg_base.specs.declared.part.SlotOp.{SlotOp}
 use Rattle.rg_base.specs.declared.part.SlotOp.TheVariants as Op
-use Rattle.rg_home.specs.Rows.{same_place}
+use Rattle.rg_base.proofs.Small.{plus_suc}
+use Rattle.rg_base.specs.Place.{same_place}
 use Rattle.rg_home.specs.Pages.{page_at, slot_of, wrote, made, applied, place_of, part_at}
 use Rattle.rg_home.specs.Plan.{is_ended, purge_from, purge_of}
-use Rattle.rg_home.proofs.Place.{same_place-true}
+use Rattle.rg_base.proofs.SamePlace.{same_place-true}
 use Rattle.rg_home.proofs.Writes.{wrote_here, wrote_there}
 use Rattle.rg_home.specs.Written.{Written}
 use Rattle.rg_home.specs.Able.{IsHomeOf, IsAreaOf, Undoable, IsLive, Holds, AllHold}
@@ -67,11 +68,8 @@ module _ (live : List ℕ) where
   frees_from n low at i [] h = tt
   frees_from n low at i (s ∷ slots) h = go (is_ended live s) refl
       (frees_from n low at (i + 1) slots
-      (λ k. h (suc k) ∙ ap (λ (j : ℕ). at (record { page = n; slot = j })) (shift i k)))
+      (λ k. h (suc k) ∙ ap (λ (j : ℕ). at (record { page = n; slot = j })) (plus_suc i k)))
     where
-      shift : (i k : ℕ) → i + suc k ≡ i + 1 + k
-      shift i k = omega arith
-
       nought : (i : ℕ) → i + 0 ≡ i
       nought i = omega arith
 

@@ -4,8 +4,9 @@ use Rattle.std.proofs.Common.{◌∙◌, ap, subst}
 use Rattle.rg_base.specs.declared.place.Place.{Place}
 use Rattle.rg_base.specs.declared.row.Row.{Row as TableRow}
 use Rattle.rg_home.specs.Slot.{Slot}
-use Rattle.rg_home.specs.Rows.{same_place, row_at, ChangesHome}
-use Rattle.rg_home.proofs.Place.{same_place-true}
+use Rattle.rg_base.specs.Place.{same_place}
+use Rattle.rg_home.specs.Rows.{row_at, ChangesHome}
+use Rattle.rg_base.proofs.SamePlace.{same_place-true}
 use Rattle.rg_home.specs.Written.{Written}
 use Rattle.rg_home.specs.Able.{HomeOf}
 use Rattle.rg_laws_pages.specs.UndoRoom.Keyed.{LockedRow, Keyed}

@@ -5,8 +5,8 @@ use Rattle.std.proofs.lemmas.Bool.{eqb-true, eqb-false}
 use Rattle.rg_base.specs.declared.place.Place.{Place}
 use Rattle.rg_base.specs.declared.row.Row.{Row as TableRow}
 use Rattle.rg_home.specs.Slot.{Slot}
-use Rattle.rg_home.specs.Rows.{same_place}
-use Rattle.rg_home.proofs.Place.{same_place-true}
+use Rattle.rg_base.specs.Place.{same_place}
+use Rattle.rg_base.proofs.SamePlace.{same_place-true}
 use Rattle.rg_home.specs.Written.{Written}
 use Rattle.rg_home.specs.Undo.{taken_back}
 use Rattle.rg_home.specs.Able.{Undoable, CanUndo, HomeOf, Apart}

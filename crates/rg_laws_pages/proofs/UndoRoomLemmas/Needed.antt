@@ -7,10 +7,11 @@ use Rattle.rg_home.specs.Slot.{Slot}
 use Rattle.rg_home.specs.Slot.{Free, Row, Pointer, Over, DeadRow, DeadPointer, DeadOver}
 use Rattle.rg_home.specs.Slots.{capacity_of}
 use Rattle.rg_base.specs.declared.part.Part.{Part}
-use Rattle.rg_home.specs.Rows.{same_place, over_row, row_at, home_row, Tied}
+use Rattle.rg_base.specs.Place.{same_place}
+use Rattle.rg_home.specs.Rows.{over_row, row_at, home_row, Tied}
 use Rattle.rg_home.specs.Pages.{slot_of, wrote, made, applied, place_of, row_or_empty}
 use Rattle.rg_home.specs.Plan.{is_home}
-use Rattle.rg_home.proofs.Place.{same_place-true}
+use Rattle.rg_base.proofs.SamePlace.{same_place-true}
 use Rattle.rg_home.proofs.Writes.{wrote_here, wrote_there}
 use Rattle.rg_home.proofs.Moves.{pointed}
 use Rattle.rg_home.specs.Written.{Written}

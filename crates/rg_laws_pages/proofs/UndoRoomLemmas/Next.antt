@@ -6,9 +6,10 @@ use Rattle.rg_base.specs.declared.place.Place.{Place}
 use Rattle.rg_base.specs.declared.row.Row.{Row as TableRow}
 use Rattle.rg_home.specs.Slot.{Slot}
 use Rattle.rg_base.specs.declared.part.Part.{Part}
-use Rattle.rg_home.specs.Rows.{lies_at, same_place, row_at, ChangesHome}
+use Rattle.rg_base.specs.Place.{same_place}
+use Rattle.rg_home.specs.Rows.{lies_at, row_at, ChangesHome}
 use Rattle.rg_home.specs.Pages.{slot_of, FitsAll, row_or_empty}
-use Rattle.rg_home.proofs.Place.{same_place-true}
+use Rattle.rg_base.proofs.SamePlace.{same_place-true}
 use Rattle.rg_home.proofs.Fit.{applied_sound}
 use Rattle.rg_home.specs.Written.{Written}
 use Rattle.rg_home.specs.Able.{Owned, AreaHolds, RowFits, Undoable, AllUndoable, Proper}

@@ -8,10 +8,11 @@ use Rattle.rg_base.specs.declared.place.Place.{Place}
 use Rattle.rg_base.specs.declared.row.Row.{Row as TableRow}
 use Rattle.rg_home.specs.Slot.{Slot}
 use Rattle.rg_base.specs.declared.part.Part.{Part}
-use Rattle.rg_home.specs.Rows.{same_place, row_at, ChangesHome}
+use Rattle.rg_base.specs.Place.{same_place}
+use Rattle.rg_home.specs.Rows.{row_at, ChangesHome}
 use Rattle.rg_home.specs.Pages.{slot_of, made, applied, FitsAll}
 use Rattle.rg_home.specs.Plan.{purge_of}
-use Rattle.rg_home.proofs.Place.{same_place-true, apart}
+use Rattle.rg_base.proofs.SamePlace.{same_place-true, apart}
 use Rattle.rg_home.proofs.Purge.{buried_tied, buried_rows}
 use Rattle.rg_home.proofs.Planned.{purge_buries}
 use Rattle.rg_home.proofs.Fit.{applied_sound, purge_sound}
@@ -36,7 +37,7 @@ use Rattle.rg_laws_pages.proofs.UndoRoomLemmas.Lists.{can_without, apart_without
 
 -- a purge
 
-can_ends : (live : List ℕ) (at after : Place → Slot) (cs : List Written) → Ended live at after
+pub can_ends : (live : List ℕ) (at after : Place → Slot) (cs : List Written) → Ended live at after
     → CanUndo live at cs → CanUndo live after cs
 can_ends live at after [] ended can = tt
 can_ends live at after (c ∷ cs) ended can = (

@@ -11,15 +11,17 @@ use Rattle.rg_home.specs.Slots.{capacity_of, is_free}
 use Rattle.rg_base.specs.declared.part.Part.{Part}
 use Rattle.rg_base.specs.declared.part.SlotOp.{SlotOp}
 use Rattle.rg_base.specs.declared.part.SlotOp.TheVariants as Op
-use Rattle.rg_home.specs.Rows.{same_place, lies_at, is_plain, plain_row, Tied, TiesAt, ChangesHome}
+use Rattle.rg_base.specs.Place.{same_place}
+use Rattle.rg_home.specs.Rows.{lies_at, is_plain, plain_row, Tied, TiesAt, ChangesHome}
 use Rattle.rg_home.specs.Rows.{IsPointerTo}
 use Rattle.rg_home.specs.Pages.{slot_of, wrote, made, applied, part_at}
-use Rattle.rg_home.proofs.Place.{same_place-refl, same_place-sym, apart}
+use Rattle.rg_base.proofs.SamePlace.{same_place-refl, same_place-sym, apart}
 use Rattle.rg_home.proofs.Writes.{page_low, wrote_here, wrote_there, wrote_off, wrote_off2}
 use Rattle.rg_home.proofs.Writes.{wrote_off3}
 use Rattle.rg_home.proofs.Moves.{pointed, stays, leaves_home, goes_over}
 use Rattle.rg_home.proofs.Planned.{away_from, pointer_home, over_part}
 use Rattle.rg_home.specs.Able.{IsHomeOf, IsAreaOf, Holds}
+use Rattle.rg_home.proofs.NotFree.{home_of_full, area_full}
 use Rattle.rg_laws_pages.proofs.UndoRoomLemmas.Parts.{Each}
 use Rattle.rg_laws_pages.proofs.UndoRoomLemmas.Keep.{Turns, home_area}
 
@@ -41,24 +43,6 @@ reuse_turns t home p s s2 r = go r.3
         ⊎ (IsAreaOf None home s × IsAreaOf (Some t) home s2) → Turns t home p s s2
     go (inl h) = inr (inl (h.0, h.1, h.2, omega (arith, r.1)))
     go (inr h) = inr (inr (h.0, h.1, omega (arith, r.1)))
-
-pub home_full : (by : Option ℕ) (s : Slot) → IsHomeOf by s → is_free s ≡ false
-home_full by (Row c b) h = refl
-home_full by (Pointer c p) h = refl
-home_full by (DeadRow c u) h = refl
-home_full by (DeadPointer c p u) h = refl
-home_full by Free h = absurd h
-home_full by (Over c b p) h = absurd h
-home_full by (DeadOver c p u) h = absurd h
-
-pub area_full : (by : Option ℕ) (home : Place) (s : Slot) → IsAreaOf by home s → is_free s ≡ false
-area_full by home (Over c b p) h = refl
-area_full by home (DeadOver c p u) h = refl
-area_full by home Free h = absurd h
-area_full by home (Row c b) h = absurd h
-area_full by home (Pointer c p) h = absurd h
-area_full by home (DeadRow c u) h = absurd h
-area_full by home (DeadPointer c p u) h = absurd h
 
 pub full_low : (pages : List (List Slot)) (p : Place) → is_free (slot_of pages p) ≡ false
     → 1 ≤ p.page
@@ -100,7 +84,7 @@ module _ (by : Option ℕ) (t : ℕ) (after : TableRow) (pages : List (List Slot
       → capacity_of (made t after op) ≡ capacity_of s → Holds (made t after op)
       → Whole (part_at home op ∷ []) (plain_row (made t after op)) (lies_at home (made t after op))
   one_home s op e is plain gone mine same holds =
-      let full : is_free (slot_of pages home) ≡ false = ap is_free e ∙ home_full by s is in
+      let full : is_free (slot_of pages home) ≡ false = ap is_free e ∙ home_of_full by s is in
       let low = full_low pages home full in (
         (
           low,
@@ -187,7 +171,7 @@ module _ (by : Option ℕ) (t : ℕ) (after : TableRow) (pages : List (List Slot
       (part_at home (Op.Pointer (capacity_of s) q)
       ∷ part_at q (Op.Over (capacity_of (slot_of pages q)) home) ∷ []) (Some after) (Some q)
   to_plain q s e is plain area l =
-      let full : is_free (slot_of pages home) ≡ false = ap is_free e ∙ home_full by s is in
+      let full : is_free (slot_of pages home) ≡ false = ap is_free e ∙ home_of_full by s is in
       let low = full_low pages home full in
       let fullq = area_full by home (slot_of pages q) area in
       let lowq = full_low pages q fullq in

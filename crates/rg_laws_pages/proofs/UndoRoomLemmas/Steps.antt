@@ -43,7 +43,7 @@ home_alive by (DeadRow a b) e = absurd (cc (e))
 home_alive by (DeadPointer a b d) e = absurd (cc (e))
 home_alive by (DeadOver a b d) e = absurd (cc (e))
 
-does_then : (at mid after : Place → Slot) (home : Place) (row : Option TableRow) → Tied at
+pub does_then : (at mid after : Place → Slot) (home : Place) (row : Option TableRow) → Tied at
     → Buried at mid → ChangesHome at after home row → ChangesHome mid after home row
 does_then at mid after home row tied buried c = record {
   here = c.here;

@@ -11,9 +11,10 @@ use Rattle.rg_home.specs.Slots.{capacity_of}
 use Rattle.rg_base.specs.declared.part.Part.{Part}
 use Rattle.rg_base.specs.declared.part.SlotOp.{SlotOp}
 use Rattle.rg_base.specs.declared.part.SlotOp.TheVariants as Op
-use Rattle.rg_home.specs.Rows.{same_place, Tied}
+use Rattle.rg_base.specs.Place.{same_place}
+use Rattle.rg_home.specs.Rows.{Tied}
 use Rattle.rg_home.specs.Pages.{slot_of, made, part_at}
-use Rattle.rg_home.proofs.Place.{same_place-sym}
+use Rattle.rg_base.proofs.SamePlace.{same_place-sym}
 use Rattle.rg_home.proofs.Writes.{page_low}
 use Rattle.rg_home.proofs.Moves.{pointed, differ}
 use Rattle.rg_home.proofs.Planned.{away_from}

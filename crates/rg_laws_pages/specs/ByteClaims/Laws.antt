@@ -11,7 +11,8 @@ use Rattle.rg_base.specs.RowBytes.{row_size}
 use Rattle.rg_base.specs.declared.place.Place.{Place}
 use Rattle.rg_base.specs.declared.row.Row.{Row as TableRow}
 use Rattle.rg_home.specs.Slot.{Slot}
-use Rattle.rg_home.specs.Rows.{same_place, ChangesHome}
+use Rattle.rg_base.specs.Place.{same_place}
+use Rattle.rg_home.specs.Rows.{ChangesHome}
 use Rattle.rg_home.specs.Pages.{slot_of, applied, Sound}
 use Rattle.rg_home.specs.Plan.{is_home, new_area, pages_after, planned_put, planned_change}
 use Rattle.rg_home.specs.Plan.{planned_drop, purge_of}

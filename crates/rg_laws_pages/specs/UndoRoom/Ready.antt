@@ -12,7 +12,8 @@ use Rattle.std.specs.Prelude.{None}
 use Rattle.rg_base.specs.declared.place.Place.{Place}
 use Rattle.rg_base.specs.declared.row.Row.{Row as TableRow}
 use Rattle.rg_home.specs.Slot.{Slot}
-use Rattle.rg_home.specs.Rows.{same_place, row_at}
+use Rattle.rg_base.specs.Place.{same_place}
+use Rattle.rg_home.specs.Rows.{row_at}
 use Rattle.rg_home.specs.Pages.{slot_of}
 use Rattle.rg_home.specs.Written.{Written}
 use Rattle.rg_home.specs.Undo.{taken_back}

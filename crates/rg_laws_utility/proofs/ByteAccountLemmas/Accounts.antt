@@ -4,8 +4,9 @@ use Rattle.std.proofs.Common.{Option, Some, None, is_some, refl, ◌∙◌, ap, 
 use Rattle.std.proofs.lemmas.Bool.Decides.{nat_tests}
 use Rattle.rg_base.specs.declared.control.Answer.{Answer}
 use Rattle.rg_base.specs.declared.row.Row.{Row}
+use Rattle.rg_base.proofs.Small.{nat_itself}
 use Rattle.rg_laws_pages.specs.ByteClaims.Weight.{weight}
-use Rattle.rg_model.proofs.RunPossible.{same_number-refl, says_is}
+use Rattle.rg_model.proofs.RunPossible.{says_is}
 use Rattle.rg_model.specs.Run.{Allows}
 use Rattle.rg_model.specs.State.{State, Utility, row_of}
 use Rattle.rg_stmt.specs.declared.event.Actor.{Actor}
@@ -58,7 +59,7 @@ account_push past first a (e ∷ entries) entry =
 
 found_more : (found : ℕ → ℕ) (n more : ℕ) → found_with found n more n ≡ found n + more
 found_more found n more =
-    ap (λ (b : Bool). if b then found n + more else found n) (same_number-refl n)
+    ap (λ (b : Bool). if b then found n + more else found n) (nat_itself n)
 
 pub found_goes :
     (st : State) (a : Account) (n : ℕ) (stmt : Stmt) (reply : Reply) (found : List (Option Row))

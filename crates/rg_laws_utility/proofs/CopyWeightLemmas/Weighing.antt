@@ -15,8 +15,8 @@ use Rattle.rg_laws_pages.proofs.ByteClaimsLemmas.Total.{total-append, total-le, 
 use Rattle.rg_feed.specs.Fold.Fed.{SetsRow}
 use Rattle.rg_feed.specs.Fold.Fold.{row_in}
 use Rattle.rg_feed.specs.Fold.Lawful.{AreRowsOf}
-use Rattle.rg_home.specs.Rows.{same_place}
-use Rattle.rg_home.proofs.Place.{apart, same_place-refl, same_place-sym, same_place-true}
+use Rattle.rg_base.specs.Place.{same_place}
+use Rattle.rg_base.proofs.SamePlace.{apart, same_place-refl, same_place-sym, same_place-true}
 use Rattle.rg_laws_utility.specs.CopyWeight.Weighed.{weigh_pages, weigh_rows}
 use Rattle.rg_feed.specs.SentItems.Keeps.{Rows}
 

@@ -4,6 +4,7 @@ use Rattle.std.proofs.Common.{◌++◌, Option, Some, None, is_some, if◌then�
 use Rattle.std.proofs.Common.{subst, arith}
 use Rattle.std.specs.FinMap as map
 use Rattle.std.specs.List.{AllByRecursion}
+use Rattle.std.proofs.lemmas.Bool.{and_parts}
 use Rattle.rg_base.specs.declared.control.Answer.{Answer}
 use Rattle.rg_base.specs.declared.options.DrainFor.{DrainFor}
 use Rattle.rg_base.specs.declared.options.DrainFor.TheVariants as what
@@ -21,7 +22,6 @@ use Rattle.rg_model.specs.Changes.{changes, changes_after, changes_of}
 use Rattle.rg_model.specs.Claims.{has_class, is_covered, least_holder}
 use Rattle.rg_model.specs.Possible.{next_state, state_after_step}
 use Rattle.rg_model.specs.Run.{Allows, Run}
-use Rattle.rg_model.specs.Said.{if_allowed}
 use Rattle.rg_model.specs.State.{State, Table, Utility, at_rest}
 use Rattle.rg_model.specs.Turn.{Turn, Runs, Switches, Stops, Falls, turn_of}
 use Rattle.rg_model.specs.Utility.{start_utility, state_by_turn, state_of_turn, state_stepped}
@@ -29,27 +29,13 @@ use Rattle.rg_laws_utility.specs.Course.Switching.{AreCaughtUp, IsCaughtUp, goes
 use Rattle.rg_laws_utility.specs.Course.Switching.{lasts_for, lasts_in, left_after, loads, over_in}
 use Rattle.rg_laws_utility.specs.Course.Switching.{taken_in}
 use Rattle.rg_model.specs.Run.{behind}
+use Rattle.rg_model.proofs.Allowed.{allowed_is, allowed_was, some_is}
 use Rattle.rg_laws_utility.proofs.CourseLemmas.Granting.{GrantIf, turn_grants}
 use Rattle.rg_laws_utility.proofs.CourseLemmas.Told.{run_parts, run_tells, tells_at_first}
 use Rattle.rg_laws_utility.proofs.CourseLemmas.Quieted.{Leaves, NoWriter, said_quiet}
 use Rattle.rg_laws_utility.proofs.CourseLemmas.Turning.{IsOnWay, IsTurning, Takes, Asks, Taken}
 use Rattle.rg_laws_utility.proofs.CourseLemmas.Turning.{Leads, LeadsIf, way_leads}
 use Rattle.rg_laws_utility.proofs.CourseLemmas.Writers.{AreWriters, writers_after, writers_at_rest}
-
-some_is : (st new : State) → Some st ≡ Some new → new ≡ st
-some_is st new e = cc (sym e)
-
-allowed_is : (b : Bool) (st new : State) → if_allowed b st ≡ Some new → new ≡ st
-allowed_is true st new e = some_is st new e
-allowed_is false st new e = absurd (cc (e))
-
-allowed_was : (b : Bool) (st new : State) → if_allowed b st ≡ Some new → b ≡ true
-allowed_was true st new e = refl
-allowed_was false st new e = absurd (cc e)
-
-both : (a b : Bool) → (a && b) ≡ true → (a ≡ true) × (b ≡ true)
-both true b e = (refl, e)
-both false b e = absurd (cc e)
 
 -- how many LAST follow a grant, where the trace has made so many changes
 abbrev lasts_after : (all : ℕ) → Utility → ℕ
@@ -165,8 +151,8 @@ module _ (all : ℕ) (past : List Entry) (st new : State) (u : Utility) (n : ℕ
       → next_state past answer actors.Utility event st ≡ Some new → Next all event new n
   utility_next answer (events.Started options copy pages) goes e = absurd
       (none st.utility is.utility
-      (both (not (is_some st.utility)) (copy == st.copy)
-      (both (not st.down) (not (is_some st.utility) && copy == st.copy)
+      (and_parts (not (is_some st.utility)) (copy == st.copy)
+      (and_parts (not st.down) (not (is_some st.utility) && copy == st.copy)
       (allowed_was _ (start_utility st options pages) new e)).1).0)
     where
       none : (o : Option Utility) → o ≡ Some u → not (is_some o) ≡ true → ⊥
@@ -234,8 +220,8 @@ module _ (all : ℕ) (past : List Entry) (st new : State) (u : Utility) (n : ℕ
       none : Next all (events.Started options copy pages) new n → ⊥
       none next = absurd
           (taken st.utility is.utility
-          (both (not (is_some st.utility)) (copy == st.copy)
-          (both (not st.down) (not (is_some st.utility) && copy == st.copy)
+          (and_parts (not (is_some st.utility)) (copy == st.copy)
+          (and_parts (not st.down) (not (is_some st.utility) && copy == st.copy)
           (allowed_was _ (start_utility st options pages) new allowed)).1).0)
         where
           taken : (o : Option Utility) → o ≡ Some u → not (is_some o) ≡ true → ⊥

@@ -3,6 +3,7 @@ use Rattle.std.proofs.Common.{◌≡◌, ◌≤◌, ◌+◌, ◌==◌, ◌&&◌,
 use Rattle.std.proofs.Common.{List, [], ◌∷◌, ◌++◌, Option, Some, None, is_some, cond, if◌then◌else◌}
 use Rattle.std.proofs.Common.{refl, sym, ◌∙◌, ap, subst, arith}
 use Rattle.std.specs.List.{AllByRecursion}
+use Rattle.std.proofs.lemmas.Bool.{and_parts, not-true}
 use Rattle.rg_base.specs.declared.control.Answer.{Answer}
 use Rattle.rg_base.specs.declared.control.Maxro.TheVariants.{Within}
 use Rattle.rg_base.specs.declared.options.DrainFor.{DrainFor}
@@ -21,7 +22,6 @@ use Rattle.rg_model.specs.Claims.{least_holder}
 use Rattle.rg_model.specs.Legal.{asks}
 use Rattle.rg_model.specs.Possible.{next_state, state_after_step}
 use Rattle.rg_model.specs.Run.{Allows, Run}
-use Rattle.rg_model.specs.Said.{if_allowed}
 use Rattle.rg_model.specs.State.{State, Table, Utility, at_rest}
 use Rattle.rg_model.specs.Run.{behind}
 use Rattle.rg_laws_utility.proofs.CourseLemmas.Resting.{IsRest, rests, rests_at_first}
@@ -34,6 +34,7 @@ use Rattle.rg_base.specs.declared.verdict.DrainVerdict.{DrainVerdict}
 use Rattle.rg_base.specs.declared.verdict.DrainVerdict.TheVariants as waits
 use Rattle.rg_model.specs.Utility.{new_utility, start_utility, state_by_turn, state_of_turn}
 use Rattle.rg_model.specs.Utility.{state_stepped, stop_utility}
+use Rattle.rg_model.proofs.Allowed.{allowed_is, allowed_was, some_is}
 use Rattle.rg_laws_utility.specs.Course.Course.{AreInTime, EndsAfter, IsCalmStep, IsOver, calm}
 use Rattle.rg_laws_utility.specs.Course.Course.{is_end, is_hindered, step_count, steps_after}
 use Rattle.rg_laws_utility.specs.Course.Course.{steps_in}
@@ -46,21 +47,6 @@ record IsCalmState (most : ℕ) (st : State) (u : Utility) (n : ℕ) : Type 0 wh
   pub utility : st.utility ≡ Some u
   pub up : st.down ≡ false
   pub phase : Phase most u st.drain n
-
-some_is : (a b : State) → Some a ≡ Some b → b ≡ a
-some_is a b e = cc (sym e)
-
-allowed_is : (b : Bool) (st new : State) → if_allowed b st ≡ Some new → new ≡ st
-allowed_is true st new e = some_is st new e
-allowed_is false st new e = absurd (cc e)
-
-allowed_was : (b : Bool) (st new : State) → if_allowed b st ≡ Some new → b ≡ true
-allowed_was true st new e = refl
-allowed_was false st new e = absurd (cc e)
-
-both : (a b : Bool) → (a && b) ≡ true → (a ≡ true) × (b ≡ true)
-both true b e = (refl, e)
-both false b e = absurd (cc e)
 
 -- ---- one step
 
@@ -309,17 +295,13 @@ starts : (past : List Entry) (answer : Option Answer) (actor : Actor) (st new : 
 starts past answer (actors.Session session) st new options copy pages e = absurd (cc e)
 starts past answer actors.System st new options copy pages e = absurd (cc e)
 starts past answer actors.Utility st new options copy pages e = (
-  up st.down
-      (both (not st.down) (not (is_some st.utility) && copy == st.copy)
+  not-true st.down
+      (and_parts (not st.down) (not (is_some st.utility) && copy == st.copy)
       (allowed_was (not st.down && (not (is_some st.utility) && copy == st.copy))
       (start_utility st options pages) new e)).0,
   allowed_is (not st.down && (not (is_some st.utility) && copy == st.copy))
       (start_utility st options pages) new e,
 )
-  where
-    up : (b : Bool) → not b ≡ true → b ≡ false
-    up true e = absurd (cc e)
-    up false e = refl
 
 from_start : (d : DrainFor) → steps_after d ≡ 6 + tail d
 from_start what.Writers = refl
@@ -331,8 +313,8 @@ started_idle : (past : List Entry) (answer : Option Answer) (actor : Actor) (st 
 started_idle past answer (actors.Session session) st new options copy pages e = absurd (cc e)
 started_idle past answer actors.System st new options copy pages e = absurd (cc e)
 started_idle past answer actors.Utility st new options copy pages e = none st.utility
-    (both (not (is_some st.utility)) (copy == st.copy)
-    (both (not st.down) (not (is_some st.utility) && copy == st.copy)
+    (and_parts (not (is_some st.utility)) (copy == st.copy)
+    (and_parts (not st.down) (not (is_some st.utility) && copy == st.copy)
     (allowed_was (not st.down && (not (is_some st.utility) && copy == st.copy))
     (start_utility st options pages) new e)).1).0
   where

@@ -23,6 +23,7 @@ use Rattle.rg_model.specs.Verdict.{drain_verdict, is_late, retry_verdict, wait_v
 use Rattle.rg_stmt.specs.declared.event.Event.{Event}
 use Rattle.rg_stmt.specs.declared.event.Event.TheVariants as events
 use Rattle.rg_laws_utility.proofs.CourseLemmas.Phases.{IsBuilt}
+use Rattle.rg_laws_utility.proofs.CourseLemmas.Steps.{same_asked}
 
 -- the drain was asked for this, and nobody is in its way; what is left of the utility
 pub record IsGrant (u v : Utility) (d : DrainFor) (drain : DrainState) (blocker : Option Session)
@@ -44,7 +45,8 @@ module _ (u : Utility) (d : DrainFor) (drain : DrainState) (blocker : Option Ses
   GrantIf (Some Falls) = ⊥
 
 -- a verdict that grants names nobody
-nobody_named : (options : Options) (asked failed : ℕ) (blocker : Option Session) (now estimate : ℕ)
+pub nobody_named : (options : Options) (asked failed : ℕ) (blocker : Option Session)
+    (now estimate : ℕ)
     → drain_verdict options asked failed blocker now estimate ≡ waits.Granted → blocker ≡ None
 nobody_named options asked failed blocker now estimate e =
     go (is_late options.deadline now estimate) blocker e
@@ -65,12 +67,6 @@ nobody_named options asked failed blocker now estimate e =
     go true blocker e = absurd (cc e)
     go false None e = refl
     go false (Some session) e = absurd (waited session (nat_le (asked + options.wait) now) e)
-
-same_asked : (a b : DrainFor) → same_drain a b ≡ true → a ≡ b
-same_asked what.Writers what.Writers e = refl
-same_asked what.All what.All e = refl
-same_asked what.Writers what.All e = absurd (cc e)
-same_asked what.All what.Writers e = absurd (cc e)
 
 module _ (all : ℕ) (blocker : Option Session) (answer : Answer) (d : DrainFor) where
   abbrev granted : Event

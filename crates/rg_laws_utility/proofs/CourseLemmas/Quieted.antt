@@ -4,9 +4,11 @@ use Rattle.std.proofs.Common.{List, Option, Some, None, refl, sym, ◌∙◌, ap
 use Rattle.std.specs.FinMap as map
 use Rattle.std.specs.FinMap.{get-insert, get-remove}
 use Rattle.std.proofs.lemmas.Cmp.{nat_cmp_total}
+use Rattle.std.specs.Cmp.{unsigned_tied}
 use Rattle.rg_base.specs.declared.session.Class.{Class}
 use Rattle.rg_base.specs.declared.session.Class.TheVariants.{Reader, Writer}
 use Rattle.rg_base.specs.declared.session.Session.{Session}
+use Rattle.rg_base.proofs.Small.{not_both}
 use Rattle.rg_stmt.specs.declared.event.Actor.TheVariants as actors
 use Rattle.rg_stmt.specs.declared.event.Entry.{Entry}
 use Rattle.rg_stmt.specs.declared.event.Event.TheVariants as events
@@ -22,9 +24,11 @@ use Rattle.rg_model.specs.Claims.{claim_classes, claim_with, classes_needed, has
 use Rattle.rg_model.specs.Claims.{is_drained}
 use Rattle.rg_model.specs.Plain.{after, is_done, plain_reply}
 use Rattle.rg_model.specs.Run.{MayAnswer, Says}
-use Rattle.rg_model.specs.Said.{if_allowed, may_want_log, state_failed, state_refused}
+use Rattle.rg_model.specs.Said.{may_want_log, state_failed, state_refused}
 use Rattle.rg_model.specs.State.{Claims, State}
-use Rattle.rg_laws_utility.proofs.CourseLemmas.Writers.{AreWriters, IsWriter, same_test}
+use Rattle.rg_model.proofs.Allowed.{allowed_is, some_is}
+use Rattle.rg_laws_utility.proofs.CourseLemmas.Writers.{AreWriters}
+use Rattle.rg_laws_utility.proofs.LockClaimsLemmas.Writing.{IsWriter}
 
 -- no session holds Writer
 abbrev pub NoWriter : Claims → Type 0
@@ -35,17 +39,6 @@ pub record Leaves (st new : State) : Type 0 where
   pub utility : new.utility ≡ st.utility
   pub drain : new.drain ≡ st.drain
   pub free : NoWriter new.claims
-
-apart : (b : Bool) → b ≡ true → b ≡ false → ⊥
-apart true e f = absurd (cc (f))
-apart false e f = absurd (cc (e))
-
-some_is : (st new : State) → Some st ≡ Some new → new ≡ st
-some_is st new e = cc (sym e)
-
-allowed_is : (b : Bool) (st new : State) → if_allowed b st ≡ Some new → new ≡ st
-allowed_is true st new e = some_is st new e
-allowed_is false st new e = absurd (cc (e))
 
 -- ---- the claims
 
@@ -61,7 +54,7 @@ free_read claims session free n =
     (get-insert nat_cmp_total claims session.0 (claim_with (map.get claims session.0) Reader) n
     ∙ ap
     (λ (b : Bool). cond b (Some (claim_with (map.get claims session.0) Reader)) (map.get claims n))
-    (same_test n session.0))
+    (unsigned_tied n session.0))
     ∙ go (n == session.0)
   where
     go : (b : Bool)
@@ -76,7 +69,7 @@ free_without : (claims : Claims) (session : Session) → NoWriter claims
 free_without claims session free n =
     ap (λ (o : Option Class). has_class o Writer)
     (get-remove nat_cmp_total claims session.0 n
-    ∙ ap (λ (b : Bool). cond b None (map.get claims n)) (same_test n session.0))
+    ∙ ap (λ (b : Bool). cond b None (map.get claims n)) (unsigned_tied n session.0))
     ∙ go (n == session.0)
   where
     go : (b : Bool) → has_class (cond b None (map.get claims n)) Writer ≡ false
@@ -182,7 +175,7 @@ module _ (st new : State) (session : Session) (free : NoWriter st.claims) where
         no_write reply reads = refl
 
         go : (b : Bool) → may_want_log stmt ≡ b → Quiet stmt reply
-        go true e = absurd (apart (is_drained st session stmt) (writes_drained stmt e) admitted)
+        go true e = absurd (not_both (is_drained st session stmt) (writes_drained stmt e) admitted)
         go false e = (no_write reply e, may_answer stmt reply e m)
 
     says_quiet : (stmt : Stmt) (reply : Reply) → Says st session stmt reply new → Quiet stmt reply
@@ -215,7 +208,7 @@ module _ (st new : State) (session : Session) (free : NoWriter st.claims) where
             → unit_writes session.0 past ≡ 0
         none (inl is) = is
         none (inr is) =
-            absurd (apart (has_class (map.get st.claims session.0) Writer) is (free session.0))
+            absurd (not_both (has_class (map.get st.claims session.0) Writer) is (free session.0))
 
         go : (w r : Bool) → w ≡ false
             → (if w then 1 else (if r then unit_writes session.0 past else 0)) ≡ 0

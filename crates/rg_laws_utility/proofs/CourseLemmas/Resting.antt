@@ -12,21 +12,14 @@ use Rattle.rg_model.specs.Changes.{changes}
 use Rattle.rg_model.specs.Claims.{least_holder}
 use Rattle.rg_model.specs.Possible.{state_after_step}
 use Rattle.rg_model.specs.Run.{Allows, Run}
-use Rattle.rg_model.specs.Said.{if_allowed}
 use Rattle.rg_model.specs.State.{State, Table, Utility, at_rest}
 use Rattle.rg_model.specs.Turn.{Turn, Runs, Switches, Stops, Falls, turn_of}
 use Rattle.rg_model.specs.Utility.{start_utility, state_by_turn, state_stepped, stop_utility}
+use Rattle.rg_model.proofs.Allowed.{allowed_is, some_is}
 use Rattle.rg_laws_utility.proofs.TraceStageLemmas.Keeping.{said_keeps}
 
 abbrev pub IsRest : State → Type 0
 IsRest st = st.utility ≡ None → st.drain ≡ Free
-
-some_is : (st new : State) → Some st ≡ Some new → new ≡ st
-some_is st new e = cc (sym e)
-
-allowed_is : (b : Bool) (st new : State) → if_allowed b st ≡ Some new → new ≡ st
-allowed_is true st new e = some_is st new e
-allowed_is false st new e = absurd (cc (e))
 
 module _ (past : List Entry) (st new : State) (rest : IsRest st) where
   same : new ≡ st → IsRest new

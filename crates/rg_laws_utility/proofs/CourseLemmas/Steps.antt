@@ -3,6 +3,7 @@ use Rattle.std.proofs.Common.{◌≡◌, ◌≤◌, ◌<◌, ◌+◌, ◌-◌, �
 use Rattle.std.proofs.Common.{Option, Some, None, nat_lt, nat_le, min, if◌then◌else◌, refl, sym}
 use Rattle.std.proofs.Common.{◌∙◌, ap, subst, arith}
 use Rattle.std.proofs.lemmas.Bool.Decides.{nat_tests}
+use Rattle.std.proofs.lemmas.Bool.{and_parts, ltb-false, eq-eqb, ltb-true, eqb-true}
 use Rattle.rg_base.specs.declared.control.Deadline.{Deadline}
 use Rattle.rg_base.specs.declared.control.Deadline.TheVariants.{Never, At}
 use Rattle.rg_base.specs.declared.control.Maxro.{Maxro}
@@ -53,19 +54,6 @@ module _ (most n : ℕ) (event : Event) where
   leads_if true turn leads = leads refl
   leads_if false turn leads = tt
 
-both : (a b : Bool) → (a && b) ≡ true → (a ≡ true) × (b ≡ true)
-both true b e = (refl, e)
-both false b e = absurd (cc e)
-
-equal : (a b : ℕ) → (a == b) ≡ true → a ≡ b
-equal a b e = grind (arith, nat_tests)
-
-test : (a b : ℕ) → a ≡ b → (a == b) ≡ true
-test a b e = grind (arith, nat_tests)
-
-below : (a b : ℕ) → nat_lt a b ≡ true → a < b
-below a b e = grind (arith, nat_tests)
-
 early_leads : (most n : ℕ) (event : Event) → is_hindered event ≡ false
     → LeadsIf most n event (early_stop event)
 early_leads most n (events.Stop reason) e = absurd (cc e)
@@ -84,11 +72,11 @@ module _ (most n : ℕ) (u : Utility) (steady : IsCalm most u) (early : IsEarly 
   unload_leads (events.Unload page rows) e more =
       leads_if most n (events.Unload page rows) _ _ (λ is.
       let next : page ≡ u.copied + 1 =
-      equal page (u.copied + 1) (both (page == u.copied + 1) (nat_le rows 225) is).0 in
+      eqb-true page (u.copied + 1) (and_parts (page == u.copied + 1) (nat_le rows 225) is).0 in
       let left : n + (u.copied + (u.sorted + u.built)) ≡ u.pages + (6 + tail u.options.drain) =
       early.left in
       let (low, s, b) : (u.copied < u.pages) × (u.sorted ≤ 3) × (u.built ≤ 3) =
-      (below u.copied u.pages more, early.sorted, early.built) in (
+      (ltb-true u.copied u.pages more, early.sorted, early.built) in (
         n - 1,
         omega arith,
         Early
@@ -142,7 +130,7 @@ module _ (most n : ℕ) (u : Utility) (steady : IsCalm most u) (early : IsEarly 
       let left : n + (u.copied + (u.sorted + u.built)) ≡ u.pages + (6 + tail u.options.drain) =
       early.left in
       let (low, c, b) : (u.sorted < 3) × (u.copied ≤ u.pages) × (u.built ≤ 3) =
-      (below u.sorted 3 more, early.copied, early.built) in (
+      (ltb-true u.sorted 3 more, early.copied, early.built) in (
         n - 1,
         omega arith,
         Early
@@ -178,7 +166,7 @@ module _ (most n : ℕ) (u : Utility) (steady : IsCalm most u) (early : IsEarly 
           (if b then next_iteration 0 (record u { built = 3 })
           else record u { built = u.built + 1 }) drains.Free)
       built true is =
-          let two : u.built ≡ 2 = equal u.built 2 is in
+          let two : u.built ≡ 2 = eqb-true u.built 2 is in
           let (c, s) : (u.copied ≤ u.pages) × (u.sorted ≤ 3) = (early.copied, early.sorted) in (
             n - 1,
             omega arith,
@@ -201,7 +189,7 @@ module _ (most n : ℕ) (u : Utility) (steady : IsCalm most u) (early : IsEarly 
           )
       built false is =
           let (low, c, s) : (u.built < 3) × (u.copied ≤ u.pages) × (u.sorted ≤ 3) =
-          (below u.built 3 more, early.copied, early.sorted) in (
+          (ltb-true u.built 3 more, early.copied, early.sorted) in (
             n - 1,
             omega arith,
             Early
@@ -252,7 +240,7 @@ asks_drain options most left size gave_up message maxro none =
     go false false c d e f = absurd (cc e)
     go false true false d e f = absurd (cc f)
 
-same_asked : (a b : DrainFor) → same_drain a b ≡ true → a ≡ b
+pub same_asked : (a b : DrainFor) → same_drain a b ≡ true → a ≡ b
 same_asked what.Writers what.Writers e = refl
 same_asked what.All what.All e = refl
 same_asked what.Writers what.All e = absurd (cc e)
@@ -263,13 +251,10 @@ same_as_drain : (verdict : Verdict) (d : DrainFor) → same_verdict verdict (ver
 same_as_drain (verdicts.Drain a) d e = ap verdicts.Drain (same_asked a d e)
 same_as_drain verdict d e = absurd (cc e)
 
-not_below : (a b : ℕ) → nat_lt a b ≡ false → b ≤ a
-not_below a b e = grind (arith, nat_tests)
-
 -- no change is taken where there is none
 none_taken : (took a b : ℕ) → (took == min 64 (a - b)) ≡ true → a ≡ 0 → took ≡ 0
 none_taken took a b e zero_is =
-    equal took (min 64 (a - b)) e ∙ ap (λ (x : ℕ). min 64 (x - b)) zero_is ∙ none b
+    eqb-true took (min 64 (a - b)) e ∙ ap (λ (x : ℕ). min 64 (x - b)) zero_is ∙ none b
   where
     nothing : (b : ℕ) → 0 - b ≡ 0
     nothing b = omega arith
@@ -284,12 +269,12 @@ module _ (most n : ℕ) (u : Utility) (steady : IsCalm most u) (built : IsBuilt 
   log_leads (events.Log iteration took left verdict) e early =
       leads_if most n (events.Log iteration took left verdict) _ _ (λ is.
       let next : Utility = record u { done = u.done + took } in
-      let one = both (iteration == u.iteration)
+      let one = and_parts (iteration == u.iteration)
       (took == min 64 (u.target - u.done)
       && (left == 0 - (u.done + took) && same_verdict verdict (log_verdict left calm next))) is in
-      let two = both (took == min 64 (u.target - u.done))
+      let two = and_parts (took == min 64 (u.target - u.done))
       (left == 0 - (u.done + took) && same_verdict verdict (log_verdict left calm next)) one.1 in
-      let three = both (left == 0 - (u.done + took))
+      let three = and_parts (left == 0 - (u.done + took))
       (same_verdict verdict (log_verdict left calm next)) two.1 in
       let took_is : took ≡ 0 = none_taken took u.target u.done two.0 steady.target in
       let done_is : u.done ≡ 0 = steady.done in
@@ -303,9 +288,9 @@ module _ (most n : ℕ) (u : Utility) (steady : IsCalm most u) (built : IsBuilt 
       let (c, s, b) : (u.copied ≤ u.pages) × (u.sorted ≤ 3) × (u.built ≤ 3) =
       (early.copied, early.sorted, early.built) in
       let (c2, s2, b2) : (u.pages ≤ u.copied) × (3 ≤ u.sorted) × (3 ≤ u.built) = (
-        not_below u.copied u.pages built.copied,
-        not_below u.sorted 3 built.sorted,
-        not_below u.built 3 built.built,
+        ltb-false u.copied u.pages built.copied,
+        ltb-false u.sorted 3 built.sorted,
+        ltb-false u.built 3 built.built,
       ) in
       let low : 6 ≤ tail u.options.drain = tail_left u.options.drain in
       subst
@@ -333,7 +318,7 @@ module _ (most n : ℕ) (u : Utility) (steady : IsCalm most u) (built : IsBuilt 
           → log_verdict left calm (record u { done = u.done + took })
           ≡ verdicts.Drain u.options.drain
       at_target left took reached =
-          go (u.done + took == u.target) (test (u.done + took) u.target reached)
+          go (u.done + took == u.target) (eq-eqb (u.done + took) u.target reached)
         where
           go : (b : Bool) → b ≡ true
               → (if b then iteration_verdict u.options left u.size u.gave_up u.message 0 0
@@ -356,11 +341,11 @@ module _ (most n : ℕ) (u : Utility) (steady : IsCalm most u) (built : IsBuilt 
       → n + 2 ≡ tail d → LeadsIf most n event (last_turn 0 u (drains.Granted d) event)
   last_leads d (events.Last took left) e unwritten at =
       leads_if most n (events.Last took left) _ _ (λ is.
-      let two = both (took == min 64 (0 - u.done)) (left == 0 - (u.done + took)) is in
+      let two = and_parts (took == min 64 (0 - u.done)) (left == 0 - (u.done + took)) is in
       let took_is : took ≡ 0 = none_taken took 0 u.done two.0 refl in
       let done_is : u.done ≡ 0 = steady.done in
       let now_is : u.done + took ≡ 0 = omega arith in
-      let left_at : left ≡ 0 - (u.done + took) = equal left (0 - (u.done + took)) two.1 in
+      let left_at : left ≡ 0 - (u.done + took) = eqb-true left (0 - (u.done + took)) two.1 in
       let left_is : left ≡ 0 = omega arith in
       let low : 6 ≤ tail d = tail_left d in (
         n - 1,
@@ -378,7 +363,7 @@ module _ (most n : ℕ) (u : Utility) (steady : IsCalm most u) (built : IsBuilt 
               sorted = built.sorted;
               built = built.built;
             }) unswitched
-            (Writes d refl (test left 0 left_is) unwritten (omega arith)),
+            (Writes d refl (eq-eqb left 0 left_is) unwritten (omega arith)),
       ))
   last_leads d event e unwritten at = space_leads most n event e
 

@@ -11,12 +11,12 @@ use Rattle.rg_model.specs.Changes.{changes}
 use Rattle.rg_model.specs.Claims.{least_holder}
 use Rattle.rg_model.specs.Possible.{state_after_step}
 use Rattle.rg_model.specs.Run.{Allows, Run}
-use Rattle.rg_model.specs.Said.{if_allowed}
 use Rattle.rg_model.specs.State.{State, Table, Utility, at_rest}
 use Rattle.rg_model.specs.Turn.{Turn, Runs, Switches, Stops, Falls, turn_of}
 use Rattle.rg_model.specs.Utility.{new_utility, start_utility, state_by_turn, state_stepped}
 use Rattle.rg_model.specs.Utility.{stop_utility}
 use Rattle.rg_model.specs.Run.{behind}
+use Rattle.rg_model.proofs.Allowed.{allowed_is, some_is}
 use Rattle.rg_laws_utility.proofs.TraceStageLemmas.Keeping.{said_keeps}
 use Rattle.rg_laws_utility.specs.Course.Switching.{over_after, over_in, taken_after, taken_in}
 use Rattle.rg_laws_utility.proofs.CourseLemmas.Taken.{Shows, ShowsTaken, turn_leads}
@@ -40,13 +40,6 @@ run_parts past (entry ∷ before) after st new run =
 -- a utility that runs has taken so many changes, and its LAST is over or not
 abbrev pub Tells : (taken : ℕ) → (over : Bool) → State → Type 0
 Tells taken over st = (u : Utility) → st.utility ≡ Some u → (u.done ≡ taken) × (u.last ≡ over)
-
-some_is : (st new : State) → Some st ≡ Some new → new ≡ st
-some_is st new e = cc (sym e)
-
-allowed_is : (b : Bool) (st new : State) → if_allowed b st ≡ Some new → new ≡ st
-allowed_is true st new e = some_is st new e
-allowed_is false st new e = absurd (cc (e))
 
 one_utility : (o : Option Utility) (u v : Utility) → o ≡ Some u → o ≡ Some v → v ≡ u
 one_utility o u v e f = cc (e, f)

@@ -1,8 +1,9 @@
 -- What a step makes of the utility between a grant and the switch.
-use Rattle.std.proofs.Common.{◌≡◌, ◌+◌, ◌-◌, ◌==◌, ◌&&◌, ℕ, Bool, true, false, not, Option, Some}
+use Rattle.std.proofs.Common.{◌≡◌, ◌+◌, ◌-◌, ◌==◌, ℕ, Bool, true, false, not, Option, Some}
 use Rattle.std.proofs.Common.{None, nat_lt, nat_le, min, if◌then◌else◌, refl, sym, ◌∙◌, ap, subst}
 use Rattle.std.proofs.Common.{arith}
 use Rattle.std.proofs.lemmas.Bool.Decides.{nat_tests}
+use Rattle.std.proofs.lemmas.Bool.{and_parts, eqb-false, eqb-true}
 use Rattle.rg_base.specs.declared.control.Answer.{Answer}
 use Rattle.rg_base.specs.declared.control.Command.{Command}
 use Rattle.rg_base.specs.declared.control.Command.TheVariants as commands
@@ -62,16 +63,6 @@ module _ (all n : ℕ) (event : Event) where
   leads_if true turn leads = leads refl
   leads_if false turn leads = tt
 
-both : (a b : Bool) → (a && b) ≡ true → (a ≡ true) × (b ≡ true)
-both true b e = (refl, e)
-both false b e = absurd (cc e)
-
-equal : (a b : ℕ) → (a == b) ≡ true → a ≡ b
-equal a b e = grind (arith, nat_tests)
-
-unequal : (a b : ℕ) → (a == b) ≡ false → a ≡ b → ⊥
-unequal a b e f = absurd (grind (arith, nat_tests))
-
 early_leads : (all n : ℕ) (event : Event) → LeadsIf all n event (early_stop event)
 early_leads all n (events.Stop reasons.Device) = (refl, refl)
 early_leads all n (events.Stop reasons.NoMemory) = (refl, refl)
@@ -102,10 +93,12 @@ module _ (all n : ℕ) (u : Utility) (built : IsBuilt u) (unswitched : u.switche
       leads_if all n (events.Last took left) _ _ (λ is. (
         refl,
         λ goes.
-            let two = both (took == min 64 (all - u.done)) (left == all - (u.done + took)) is in
-            let took_is : took ≡ min 64 (all - u.done) = equal took (min 64 (all - u.done)) two.0 in
+            let two =
+            and_parts (took == min 64 (all - u.done)) (left == all - (u.done + took)) is in
+            let took_is : took ≡ min 64 (all - u.done) =
+            eqb-true took (min 64 (all - u.done)) two.0 in
             let left_is : left ≡ (all - u.done) - took =
-            equal left (all - (u.done + took)) two.1 ∙ minus_minus all u.done took in
+            eqb-true left (all - (u.done + took)) two.1 ∙ minus_minus all u.done took in
             let led = go (left == 0) refl took_is left_is in
             (refl, led.0, led.1, led.2),
       ))
@@ -117,7 +110,7 @@ module _ (all n : ℕ) (u : Utility) (built : IsBuilt u) (unswitched : u.switche
           (drains.Granted d) m
       go true e took_is left_is = (
         0,
-        at ∙ at_most took (all - u.done) took_is (sym left_is ∙ equal left 0 e),
+        at ∙ at_most took (all - u.done) took_is (sym left_is ∙ eqb-true left 0 e),
         record {
           built = record {
             copied = built.copied;
@@ -131,7 +124,7 @@ module _ (all n : ℕ) (u : Utility) (built : IsBuilt u) (unswitched : u.switche
       )
       go false e took_is left_is = (
         lasts_for ((all - u.done) - took),
-        at ∙ more took (all - u.done) took_is (λ none. unequal left 0 e (left_is ∙ none)),
+        at ∙ more took (all - u.done) took_is (λ none. eqb-false left 0 e (left_is ∙ none)),
         record {
           built = record {
             copied = built.copied;

@@ -1,9 +1,11 @@
 -- Which keys are not quiet after an entry, and after a trace.
-use Rattle.std.proofs.Common.{◌≡◌, ◌&&◌, ℕ, Bool, true, false, List, [], ◌∷◌, Some, refl, sym}
+use Rattle.std.proofs.Common.{◌≡◌, ℕ, Bool, true, false, List, [], ◌∷◌, Some, sym}
 use Rattle.std.proofs.Common.{subst}
 use Rattle.std.specs.FinMap as map
+use Rattle.std.proofs.lemmas.Bool.{false_from_ne_true}
 use Rattle.rg_base.specs.declared.lock.Lock.{Lock}
 use Rattle.rg_base.specs.declared.session.Session.{Session}
+use Rattle.rg_base.proofs.Small.{second_true}
 use Rattle.rg_model.specs.Quiet.{is_quiet, is_quiet_by}
 use Rattle.rg_model.specs.Run.{Run}
 use Rattle.rg_model.specs.State.{State, Table, at_rest}
@@ -41,16 +43,12 @@ quiet_in_run table copy trace st run =
 
 -- ---- entries
 
-second : (a b : Bool) → (a && b) ≡ true → b ≡ true
-second true b e = e
-second false b e = absurd (cc (e))
-
 hushed_by : (past : List Entry) (key : ℕ) (actor : Actor) (event : Event) (before : Bool)
     → starts_utility event ≡ false → is_quiet_by key actor event past before ≡ true → before ≡ true
 hushed_by past key actor (events.Started options copy pages) before other quiet =
     absurd (cc (other))
 hushed_by past key (actors.Session session) (events.Said stmt reply) before other quiet =
-    second _ before quiet
+    second_true _ before quiet
 hushed_by past key actor event before other quiet = quiet
 
 pub none_hushed : (past : List Entry) (entry : Entry) → starts_utility entry.event ≡ false
@@ -60,19 +58,14 @@ none_hushed past entry other key quiet =
 
 -- ---- statements
 
--- what cannot be true is false
-false_is : (b : Bool) → (b ≡ true → ⊥) → b ≡ false
-false_is true never = absurd (never refl)
-false_is false never = refl
-
 pub said_loud : (past : List Entry) (entry : Entry) (st : State) (session : Session) (stmt : Stmt)
     (reply : Reply) → entry.actor ≡ actors.Session session → entry.event ≡ events.Said stmt reply
     → QuietFree past st → IsLoudAfter (entry ∷ past) st stmt reply
 said_loud past entry st session stmt reply actor event free = record {
-  locked = λ key lock has. false_is (is_quiet key (entry ∷ past))
+  locked = λ key lock has. false_from_ne_true (is_quiet key (entry ∷ past))
       (λ quiet. locked_no key lock has
       ((quiet_stays past entry session stmt reply key actor event quiet).before));
-  written = λ write key names. false_is (is_quiet key (entry ∷ past))
+  written = λ write key names. false_from_ne_true (is_quiet key (entry ∷ past))
       (λ quiet. absurd
       (cc ((quiet_stays past entry session stmt reply key actor event quiet).other write, names)));
 }

@@ -14,23 +14,23 @@ use Rattle.rg_laws_log.specs.LogState.Records.{act_of_kind, act_of, acts_of}
 use Rattle.rg_laws_log.specs.LogState.Write.{Write, less_of, own_of}
 use Rattle.rg_laws_log.proofs.LogStateLemmas.Own.{own_less}
 use Rattle.rg_laws_log.proofs.LogStateLemmas.Runs.{runs_rest, runs_shorter, state_joined}
+use Rattle.rg_laws_log.proofs.StoredRowsLemmas.Stores.{acts_join}
 use Rattle.rg_record.specs.declared.record.Record.{Record}
 use Rattle.rg_record.specs.declared.record.Kind.{Kind}
 use Rattle.rg_record.specs.declared.record.Kind.TheVariants as kind
 use Rattle.rg_laws_utility.specs.RecordChanges.Changed.{changes_at, changes_in}
 use Rattle.rg_laws_utility.specs.RecordChanges.Laws.{told_before, told_by}
-use Rattle.rg_laws_utility.proofs.RecordChangesLemmas.Moving.{acts_join}
 
-rest_are : (t : ℕ) (more acts : List Act) → AreUndos t (more ++ acts)
+pub undos_front : (t : ℕ) (more acts : List Act) → AreUndos t (more ++ acts)
     → AreUndos t more × AreUndos t acts
-rest_are t [] acts are = (tt, are)
-rest_are t (Undo u home after parts ∷ more) acts are =
-    ((are.0, (rest_are t more acts are.1).0), (rest_are t more acts are.1).1)
-rest_are t (Purge parts ∷ more) acts are = absurd are
-rest_are t (ChangeAct w ∷ more) acts are = absurd are
-rest_are t (Commit u ∷ more) acts are = absurd are
-rest_are t (RollBack u ∷ more) acts are = absurd are
-rest_are t (Switch pages ∷ more) acts are = absurd are
+undos_front t [] acts are = (tt, are)
+undos_front t (Undo u home after parts ∷ more) acts are =
+    ((are.0, (undos_front t more acts are.1).0), (undos_front t more acts are.1).1)
+undos_front t (Purge parts ∷ more) acts are = absurd are
+undos_front t (ChangeAct w ∷ more) acts are = absurd are
+undos_front t (Commit u ∷ more) acts are = absurd are
+undos_front t (RollBack u ∷ more) acts are = absurd are
+undos_front t (Switch pages ∷ more) acts are = absurd are
 
 -- one record
 one_undo : (limit : ℕ) (s : LogState) (t u : ℕ) (position : Position) (k : Kind)
@@ -57,7 +57,7 @@ undos_counted limit s t (entry ∷ records) are runs =
     let act = act_of [] entry in
     let joined : acts_of [] (entry ∷ records) ≡ acts_of [] records ++ act ∷ [] =
     acts_join (entry ∷ []) records in
-    let each = rest_are t (acts_of [] records) (act ∷ []) (subst (AreUndos t) joined are) in
+    let each = undos_front t (acts_of [] records) (act ∷ []) (subst (AreUndos t) joined are) in
     let all : Runs limit s (acts_of [] records ++ act ∷ []) = subst (Runs limit s) joined runs in
     let one = one_undo limit s t entry.tran.0 entry.position entry.kind each.1
     (runs_shorter limit s (acts_of [] records) (act ∷ []) all).0 in
@@ -107,7 +107,7 @@ undos_told limit s t (entry ∷ records) are runs =
     let act = act_of [] entry in
     let joined : acts_of [] (entry ∷ records) ≡ acts_of [] records ++ act ∷ [] =
     acts_join (entry ∷ []) records in
-    let each = rest_are t (acts_of [] records) (act ∷ []) (subst (AreUndos t) joined are) in
+    let each = undos_front t (acts_of [] records) (act ∷ []) (subst (AreUndos t) joined are) in
     let all : Runs limit s (acts_of [] records ++ act ∷ []) = subst (Runs limit s) joined runs in
     let one = one_told limit s t entry.tran.0 entry.position entry.kind each.1
     (runs_shorter limit s (acts_of [] records) (act ∷ []) all).0 in

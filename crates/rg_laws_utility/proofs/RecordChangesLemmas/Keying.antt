@@ -7,6 +7,8 @@ use Rattle.rg_base.specs.declared.part.Part.{Part}
 use Rattle.rg_base.specs.declared.place.Place.{Place}
 use Rattle.rg_base.specs.declared.position.Position.{Position}
 use Rattle.rg_base.specs.declared.row.Row.{Row}
+use Rattle.rg_base.proofs.Each.{Each-append}
+use Rattle.rg_base.proofs.Small.{nat_itself}
 use Rattle.rg_laws_log.specs.LogState.Act.{LogState, not_of, step}
 use Rattle.rg_laws_log.specs.LogState.Consistent.{IsConsistent}
 use Rattle.rg_laws_log.specs.LogState.Lawful.{Lawful, MayUndo, Runs}
@@ -16,7 +18,7 @@ use Rattle.rg_laws_log.specs.LogState.Write.{latest_of, write_of}
 use Rattle.rg_laws_log.proofs.LogStateLemmas.Free.{free_kept, free_less}
 use Rattle.rg_laws_log.proofs.LogStateLemmas.Hits.{latest_key, some_is}
 use Rattle.rg_laws_log.proofs.LogStateLemmas.Runs.{runs_consistent, runs_rest, runs_shorter}
-use Rattle.rg_laws_log.proofs.LogStateLemmas.Tables.{eqb-refl}
+use Rattle.rg_laws_log.proofs.StoredRowsLemmas.Stores.{acts_join}
 use Rattle.rg_model.specs.Quiet.{is_quiet}
 use Rattle.rg_record.specs.declared.record.Record.{Record}
 use Rattle.rg_record.specs.declared.record.Kind.{Kind}
@@ -25,7 +27,6 @@ use Rattle.rg_feed.specs.SentItems.Keeps.{IsLoud}
 use Rattle.rg_stmt.specs.declared.event.Entry.{Entry}
 use Rattle.rg_laws_utility.specs.RecordChanges.Changed.{changes_at, changes_in}
 use Rattle.rg_laws_utility.specs.RecordChanges.Laws.{WritesLoud}
-use Rattle.rg_laws_utility.proofs.RecordChangesLemmas.Moving.{acts_join}
 
 -- the key of a row, where rows are of this key
 key_is : (k : ℕ) (o : Option Row) → IsOf k o → (row : Row) → o ≡ Some row → row.key ≡ k
@@ -43,11 +44,6 @@ latest_hit hit t (d ∷ ws) w e none =
         → (latest_of t ws ≡ Some w → hit w ≡ false) → hit w ≡ false
     go true e rest = subst (λ (v : Write). hit v ≡ false) (some_is d w e) none.0
     go false e rest = rest e
-
-all_join : {A : Type 0} (P : A → Type 0) (xs ys : List A) → AllByRecursion P xs
-    → AllByRecursion P ys → AllByRecursion P (xs ++ ys)
-all_join P [] ys first second = second
-all_join P (x ∷ xs) ys first second = (first.0, all_join P xs ys first.1 second)
 
 module _ (past : List Entry) where
   -- whatever is hit is not quiet
@@ -89,7 +85,7 @@ module _ (past : List Entry) where
             λ row e. key_is w.key w.written.before of_key.before row (sym may.row ∙ e),
             hits w.key
                 (λ none. absurd
-                (cc (latest_hit (at_key w.key) t s.writes w may.latest none, eqb-refl w.key))),
+                (cc (latest_hit (at_key w.key) t s.writes w may.latest none, nat_itself w.key))),
           ),
           tt,
         )
@@ -122,7 +118,7 @@ changes_loud limit s (entry ∷ records) past good runs hits writes =
     let rest : Runs limit (step s act) (acts_of [] records) =
     runs_rest limit s (acts_of [] records) (act ∷ []) all in
     let mid : IsConsistent limit (step s act) = runs_consistent limit s good (act ∷ []) one in
-    all_join (IsLoud past) (changes_at entry.position entry.kind) (changes_in records)
+    Each-append (IsLoud past) (changes_at entry.position entry.kind) (changes_in records)
     (kind_keys past limit s good hits entry.position entry.tran.0 entry.kind one.0 writes.0)
     (changes_loud limit (step s act) records past mid rest
     (kind_hits past limit s good hits entry.tran.0 entry.kind one.0 writes.0) writes.1)

@@ -1,21 +1,19 @@
 -- The changes of lawful records move the rows, in order.
-use Rattle.std.proofs.Common.{◌≡◌, ◌==◌, ◌&&◌, ◌≤◌, ◌+◌, ◌++◌, ℕ, zero, suc, true, false, List, []}
+use Rattle.std.proofs.Common.{◌≡◌, ◌≤◌, ◌+◌, ◌++◌, ℕ, suc, true, List, []}
 use Rattle.std.proofs.Common.{◌∷◌, Option, Some, None, length, refl, sym, ◌∙◌, ap, subst, arith}
-use Rattle.std.specs.Prelude.{map, reverse}
-use Rattle.std.proofs.lemmas.Bool.Decides.{nat_tests}
-use Rattle.std.proofs.lemmas.List.{map-append, reverse-append}
 use Rattle.rg_base.specs.declared.change.Change.{Change}
 use Rattle.rg_base.specs.declared.part.Part.{Part}
 use Rattle.rg_base.specs.declared.place.Place.{Place}
 use Rattle.rg_base.specs.declared.position.Position.{Position}
 use Rattle.rg_base.specs.declared.row.Row.{Row}
-use Rattle.rg_home.specs.Pages.{page_at, slot_of}
-use Rattle.rg_home.specs.Rows.{ChangesHome, home_row, row_at, same_place}
+use Rattle.rg_home.specs.Pages.{slot_of}
+use Rattle.rg_base.proofs.SamePlace.{same_place-sym}
+use Rattle.rg_home.specs.Rows.{ChangesHome, row_at}
 use Rattle.rg_home.specs.Slot.{Slot}
-use Rattle.rg_home.specs.Slots.{slot_at}
 use Rattle.rg_home.specs.Undo.{planned_undo, undone}
 use Rattle.rg_home.proofs.Planned.{purge_buries}
 use Rattle.rg_home.proofs.Purge.{buried_rows}
+use Rattle.rg_home.proofs.NoPages.{row_none}
 use Rattle.rg_laws_pages.proofs.UndoRoomLemmas.Next.{undo_does}
 use Rattle.rg_laws_log.specs.LogState.Act.{LogState, state, step}
 use Rattle.rg_laws_log.specs.LogState.Act.{Purge, Change as ChangeAct, Undo, Switch}
@@ -27,16 +25,13 @@ use Rattle.rg_laws_log.proofs.LogStateLemmas.Hits.{latest_owner}
 use Rattle.rg_laws_log.proofs.LogStateLemmas.KeptUndo.{latest_undoable}
 use Rattle.rg_laws_log.proofs.LogStateLemmas.Runs.{runs_consistent, runs_rest, runs_shorter}
 use Rattle.rg_laws_log.proofs.LogStateLemmas.Runs.{state_joined}
+use Rattle.rg_laws_log.proofs.StoredRowsLemmas.Stores.{acts_join}
 use Rattle.rg_record.specs.declared.record.Record.{Record}
 use Rattle.rg_record.specs.declared.record.Kind.{Kind}
 use Rattle.rg_record.specs.declared.record.Kind.TheVariants as kind
 use Rattle.rg_feed.specs.SentItems.Keeps.{AreAbove, MovesRows, Rows}
 use Rattle.rg_laws_utility.specs.RecordChanges.Changed.{changes_at, changes_in}
 use Rattle.rg_laws_utility.specs.RecordChanges.Laws.{AreNumbered}
-
-pub acts_join : (xs ys : List Record) → acts_of [] (xs ++ ys) ≡ acts_of [] ys ++ acts_of [] xs
-acts_join xs ys = ap reverse (map-append (act_of []) xs ys)
-    ∙ reverse-append (map (act_of []) xs) (map (act_of []) ys)
 
 -- the rows of a state
 abbrev pub rows_of : LogState → Rows
@@ -61,15 +56,6 @@ moves_join (change ∷ made) more a b c first second =
 
 -- ---- one record
 
-turned : (p q : Place) → same_place p q ≡ false → same_place q p ≡ false
-turned p q apart = by_numbers p.page q.page p.slot q.slot apart
-  where
-    swap : (a b : ℕ) → (b == a) ≡ (a == b)
-    swap a b = grind (arith, nat_tests)
-
-    by_numbers : (a b c d : ℕ) → (a == b && c == d) ≡ false → (b == a && d == c) ≡ false
-    by_numbers a b c d e = (λ i. swap a b i && swap c d i) ∙ e
-
 one_move : (position : Position) (home : Place) (after : Option Row) (old new : List (List Slot))
     → ChangesHome (slot_of old) (slot_of new) home after
     → MovesRows (record { position = position; home = home; after = after } ∷ [])
@@ -78,7 +64,7 @@ one_move position home after old new changes = (
   row_at (slot_of new),
   record {
     here = changes.here;
-    others = λ place apart. changes.others place (turned home place apart);
+    others = λ place apart. changes.others place (same_place-sym home place apart);
   },
   λ place. refl,
 )
@@ -123,19 +109,11 @@ module _ (limit : ℕ) (s : LogState) (good : IsConsistent limit s) (position : 
       → rows_of (step s (Switch [])) place ≡ rows_of s place
   switch_moves may place = go (rows_of s place) refl
     where
-      none_at : (n : ℕ) → page_at [] n ≡ []
-      none_at zero = refl
-      none_at (suc n) = refl
-
-      nothing_there : (place : Place) → row_at (slot_of []) place ≡ None
-      nothing_there place = ap (home_row (slot_of []))
-          (ap (λ (slots : List Slot). slot_at slots place.slot) (none_at place.page))
-
       go : (o : Option Row) → rows_of s place ≡ o → row_at (slot_of []) place ≡ rows_of s place
-      go None e = nothing_there place ∙ sym e
+      go None e = row_none place ∙ sym e
       go (Some row) e =
           let placed = may.table.placed row.key row (good.table.there place row e) in
-          absurd (cc (placed.2, nothing_there placed.1))
+          absurd (cc (placed.2, row_none placed.1))
 
   kind_moves : (t : ℕ) (k : Kind) → Lawful limit s (act_of_kind [] t k)
       → MovesRows (changes_at position k) (rows_of s) (rows_of (step s (act_of_kind [] t k)))

@@ -2,7 +2,6 @@
 use Rattle.std.proofs.Common.{◌≡◌, ◌==◌, ℕ, Bool, true, false, not, List, Option, Some, None, refl}
 use Rattle.std.proofs.Common.{sym, ◌∙◌, ap, if◌then◌else◌, inl, inr, ◌⊎◌}
 use Rattle.std.specs.FinMap as map
-use Rattle.std.specs.Option.{unwrap_or}
 use Rattle.std.proofs.lemmas.Bool.{eqb-true}
 use Rattle.rg_base.specs.declared.control.Answer.{Answer}
 use Rattle.rg_base.specs.declared.lock.Lock.{Lock}
@@ -13,6 +12,7 @@ use Rattle.rg_base.specs.declared.step.Step.{Step}
 use Rattle.rg_base.specs.declared.step.Step.TheVariants as steps
 use Rattle.rg_base.specs.declared.verdict.DrainVerdict.{DrainVerdict}
 use Rattle.rg_base.specs.declared.verdict.DrainVerdict.TheVariants as waits
+use Rattle.rg_base.proofs.Small.{not_both}
 use Rattle.rg_stmt.specs.declared.event.Actor.TheVariants as actors
 use Rattle.rg_stmt.specs.declared.event.Entry.{Entry}
 use Rattle.rg_stmt.specs.declared.event.Event.{Event}
@@ -33,18 +33,12 @@ use Rattle.rg_model.specs.Plain.{plain_reply, unless_held}
 use Rattle.rg_model.specs.Possible.{next_state, state_after_step}
 use Rattle.rg_model.specs.Quiet.{names_key}
 use Rattle.rg_model.specs.Run.{Says}
-use Rattle.rg_model.specs.Said.{has_locks, if_allowed, state_failed, state_refused}
+use Rattle.rg_model.specs.Said.{has_locks, state_failed, state_refused}
 use Rattle.rg_model.specs.State.{State, Utility}
 use Rattle.rg_model.specs.Turn.{Turn, Falls, Runs, Stops, Switches, alter, is_term, step_of}
 use Rattle.rg_model.specs.Turn.{turn_at, turn_of, wait_turn}
 use Rattle.rg_model.specs.Utility.{state_by_turn, state_stepped}
-
-some_is : (st new : State) → Some st ≡ Some new → new ≡ st
-some_is st new e = sym (ap (λ o. unwrap_or o st) e)
-
-allowed_is : (b : Bool) (st new : State) → if_allowed b st ≡ Some new → new ≡ st
-allowed_is true st new e = some_is st new e
-allowed_is false st new e = absurd (cc (e))
+use Rattle.rg_model.proofs.Allowed.{allowed_is, some_is}
 
 -- the locks and the claims are the same
 pub record SameHeld (st new : State) : Type 0 where
@@ -271,24 +265,20 @@ no_change : (b : Bool) → is_lookup (change_reply b) ≡ false
 no_change true = refl
 no_change false = refl
 
-apart : (b : Bool) → b ≡ true → b ≡ false → ⊥
-apart true e f = absurd (cc (f))
-apart false e f = absurd (cc (e))
-
 module _ (st : State) (session : Session) where
   -- a statement that looks up leaves the locks
   looked : (stmt : Stmt) → is_lookup (plain_reply st session stmt) ≡ true
       → (after st session stmt).locks ≡ st.locks
   looked (Insert row) e = absurd
-      (apart _ e
+      (not_both _ e
       (no_lookup (holder st.locks session row.key) _
       (no_insert (map.contains_key st.table row.key))))
   looked (Update row) e = absurd
-      (apart _ e
+      (not_both _ e
       (no_lookup (holder st.locks session row.key) _
       (no_change (map.contains_key st.table row.key))))
   looked (Delete key) e = absurd
-      (apart _ e
+      (not_both _ e
       (no_lookup (holder st.locks session key) _ (no_change (map.contains_key st.table key))))
   looked (Select key) e = refl
   looked (Scan lo hi) e = refl

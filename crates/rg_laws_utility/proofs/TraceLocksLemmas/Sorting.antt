@@ -2,10 +2,9 @@
 use Rattle.std.proofs.Common.{◌≡◌, ◌&&◌, Bool, true, false, List, [], ◌∷◌, refl, sym, ◌∙◌, ap}
 use Rattle.std.proofs.Common.{subst, inl, inr, ◌⊎◌, arith}
 use Rattle.std.specs.List.{AllByRecursion, list_all}
-use Rattle.std.proofs.lemmas.Bool.Decides.{nat_tests}
-use Rattle.rg_base.specs.declared.place.Place.{Place}
 use Rattle.rg_stmt.specs.declared.layout.Spot.{Spot}
 use Rattle.rg_model.specs.Layout.{are_rising, homes, is_place_before}
+use Rattle.rg_model.proofs.Before.{never_both}
 use Rattle.rg_laws_utility.specs.TraceLocks.Laws.{SameRising}
 use Rattle.rg_laws_utility.specs.TraceLocks.Rising.{HaveSame, InTurn, IsBelow, IsMember}
 
@@ -61,9 +60,6 @@ below_apart a b (inr h) (inr k) = let l = h.1 in let m = k.1 in omega arith
 abbrev pub LiesBefore : Spot → Spot → Type 0
 LiesBefore a b = is_place_before a.place b.place ≡ true
 
-places_apart : (a b : Place) → is_place_before a b ≡ true → is_place_before b a ≡ true → ⊥
-places_apart a b e f = grind (arith, nat_tests)
-
 each_lies : (spot : Spot) (spots : List Spot)
     → list_all (λ later. is_place_before spot.place later) (homes spots) ≡ true
     → AllByRecursion (LiesBefore spot) spots
@@ -93,6 +89,6 @@ pub same_spots : SameRising
 same_spots =
     record {
       by_key = λ a b v w same. same_rising IsBelow below_apart a b v w same;
-      by_place = λ a b v w same. same_rising LiesBefore (λ x y. places_apart x.place y.place) a b
+      by_place = λ a b v w same. same_rising LiesBefore (λ x y. never_both x.place y.place) a b
           (in_turn a v) (in_turn b w) same;
     }

@@ -7,6 +7,7 @@ use Rattle.std.proofs.lemmas.Bool.{eqb-true}
 use Rattle.std.proofs.lemmas.Bool.Decides.{nat_tests}
 use Rattle.rg_base.specs.declared.options.Options.{Options}
 use Rattle.rg_base.specs.declared.row.Row.{Row}
+use Rattle.rg_base.proofs.Small.{nat_itself}
 use Rattle.rg_stmt.specs.declared.event.Entry.{Entry}
 use Rattle.rg_stmt.specs.declared.layout.Side.{Side}
 use Rattle.rg_stmt.specs.declared.layout.Sides.{Sides}
@@ -19,7 +20,6 @@ use Rattle.rg_model.specs.Right.{are_clustered, are_quiet_right, is_at_home, is_
 use Rattle.rg_model.specs.Right.{is_packed, is_right_switch, quiet_spots, same_home_spot}
 use Rattle.rg_model.specs.Same.{same_list}
 use Rattle.rg_model.specs.State.{State, Table}
-use Rattle.rg_model.proofs.RunPossible.{same_number-refl}
 use Rattle.rg_laws_utility.specs.TraceLocks.Rising.{InTurn, IsBelow}
 use Rattle.rg_laws_utility.specs.TraceLocks.Switched.{IsHome, IsPackedSide, QuietRise}
 
@@ -50,10 +50,10 @@ quiet_test past spots q = rw (all_test IsHome is_at_home home_test (quiet_spots 
 spot_same : (s : Spot) → IsHome s → same_home_spot s s ≡ true
 spot_same s e = rw (
   home_test s e,
-  same_number-refl s.place.page,
-  same_number-refl s.place.slot,
-  same_number-refl s.key,
-  same_number-refl s.clus,
+  nat_itself s.place.page,
+  nat_itself s.place.slot,
+  nat_itself s.key,
+  nat_itself s.clus,
 ) refl
 
 list_same : (spots : List Spot) → AllByRecursion IsHome spots
@@ -61,7 +61,7 @@ list_same : (spots : List Spot) → AllByRecursion IsHome spots
 list_same [] w = refl
 list_same (s ∷ ss) w = rw (spot_same s w.0) (list_same ss w.1)
 
-packed_homes : (options : Options) (k slot free : ℕ) (rows : List Row)
+pub packed_homes : (options : Options) (k slot free : ℕ) (rows : List Row)
     → AllByRecursion IsHome (spots_from options k slot free rows)
 packed_homes options k slot free [] = tt
 packed_homes options k slot free (row ∷ rows) =
@@ -82,7 +82,7 @@ packed_homes options k slot free (row ∷ rows) =
 pub packed_test : (options : Options) (table : Table) (side : Side)
     → IsPackedSide options table side → is_packed options table side ≡ true
 packed_test options table side p =
-    rw (p.pages, p.spots, same_number-refl (packed_pages options table))
+    rw (p.pages, p.spots, nat_itself (packed_pages options table))
     (list_same (packed_spots options table) (packed_homes options 0 0 0 _))
 
 pub right_switch : (past : List Entry) (st : State) (options : Options) (sides : Sides)

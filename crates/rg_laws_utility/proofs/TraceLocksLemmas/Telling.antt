@@ -11,6 +11,7 @@ use Rattle.std.proofs.lemmas.Bool.Decides.{nat_tests}
 use Rattle.rg_base.specs.declared.control.Answer.{Answer}
 use Rattle.rg_base.specs.declared.lock.Lock.{Lock}
 use Rattle.rg_base.specs.declared.session.Session.{Session}
+use Rattle.rg_base.proofs.Small.{nat_turned, cmp_turned}
 use Rattle.rg_stmt.specs.declared.event.Actor.{Actor}
 use Rattle.rg_stmt.specs.declared.event.Actor.TheVariants as actors
 use Rattle.rg_stmt.specs.declared.event.Entry.{Entry}
@@ -31,9 +32,6 @@ use Rattle.rg_laws_utility.specs.TraceLocks.Told.{LocksTold, QuietFree, left_of}
 use Rattle.rg_laws_utility.proofs.TraceLocksLemmas.Allowed.{Ended, Moved, Stayed, Wrote, moved}
 use Rattle.rg_laws_utility.proofs.TraceLocksLemmas.Allowed.{system_held, utility_held}
 use Rattle.rg_laws_utility.proofs.TraceLocksLemmas.Allowed.{utility_opens_not}
-
-same_way : (a b : ℕ) → (a == b) ≡ (b == a)
-same_way a b = grind (arith, nat_tests)
 
 -- what the trace tells after one more entry, by its actor and event
 abbrev pub ToldBy : Actor → Event → List Entry → State → Type 0
@@ -120,9 +118,9 @@ module _ (past : List Entry) (st new : State) where
             → not (b || is_among over kept.owner.0)
             ≡ left_of (cond (not (kept.owner.0 == session.0)) (Some kept) None) over
         go true e = ap (λ (b : Bool). left_of (cond (not b) (Some kept) None) over)
-            (sym (same_way kept.owner.0 session.0 ∙ e))
+            (sym (nat_turned kept.owner.0 session.0 ∙ e))
         go false e = ap (λ (b : Bool). left_of (cond (not b) (Some kept) None) over)
-            (sym (same_way kept.owner.0 session.0 ∙ e))
+            (sym (nat_turned kept.owner.0 session.0 ∙ e))
 
     told_ended : Ended st new session stmt reply → LocksTold past st
         → ToldBy (actors.Session session) (events.Said stmt reply) past new
@@ -153,9 +151,6 @@ module _ (past : List Entry) (st new : State) where
       where
         fresh : Lock
         fresh = record { owner = session; row = map.get st.table wrote.key }
-
-        same_test : (q k : ℕ) → eq_by_cmp nat_cmp q k ≡ (k == q)
-        same_test q k = grind (arith, nat_tests)
 
         by_key : (b : Bool) (o : Option Lock) (over : List ℕ)
             → left_of (cond b (Some fresh) o) over
@@ -189,7 +184,7 @@ module _ (past : List Entry) (st new : State) where
             go None e =
                 ap (λ o. left_of o over)
                 (get-insert nat_cmp_total st.locks wrote.key fresh key
-                ∙ ap (λ b. cond b (Some fresh) (map.get st.locks key)) (same_test key wrote.key))
+                ∙ ap (λ b. cond b (Some fresh) (map.get st.locks key)) (cmp_turned key wrote.key))
                 ∙ by_key (wrote.key == key) (map.get st.locks key) over
             go (Some kept) e = own_lock kept e key over (wrote.key == key) refl
 

@@ -1,12 +1,11 @@
 -- A drain is granted only where it was asked, and no session is in its way.
-use Rattle.std.proofs.Common.{◌≡◌, ◌+◌, if◌then◌else◌, inl, inr, nat_le, nat_lt, ℕ, Bool, true}
+use Rattle.std.proofs.Common.{◌≡◌, ◌+◌, if◌then◌else◌, inl, inr, ℕ, Bool, true}
 use Rattle.std.proofs.Common.{false, Option, Some, None, refl, sym, subst}
 use Rattle.rg_base.specs.declared.control.Answer.{Answer}
 use Rattle.rg_base.specs.declared.options.DrainFor.{DrainFor}
 use Rattle.rg_base.specs.declared.options.DrainFor.TheVariants as what
 use Rattle.rg_base.specs.declared.options.DrainState.{DrainState}
 use Rattle.rg_base.specs.declared.options.DrainState.TheVariants as drains
-use Rattle.rg_base.specs.declared.options.Options.{Options}
 use Rattle.rg_base.specs.declared.session.Session.{Session}
 use Rattle.rg_base.specs.declared.step.Step.{Step}
 use Rattle.rg_base.specs.declared.step.Step.TheVariants as steps
@@ -23,13 +22,14 @@ use Rattle.rg_model.specs.Turn.{Turn, Runs, Switches, Stops, Falls, alter, build
 use Rattle.rg_model.specs.Turn.{end_turn, is_term, last_turn, log_turn, reload_turn, sort_turn}
 use Rattle.rg_model.specs.Turn.{space_stop, step_of, switch_turn, term_turn, turn_at, turn_if}
 use Rattle.rg_model.specs.Turn.{turn_of, unload_turn, verdict_turn, wait_turn, write_turn}
-use Rattle.rg_model.specs.Verdict.{drain_verdict, is_late, is_slow, retry_verdict, wait_verdict}
+use Rattle.rg_model.specs.Verdict.{drain_verdict, is_slow}
 use Rattle.rg_rules.specs.Stage.Booked.{drain_kept}
 use Rattle.rg_rules.specs.Stage.Followed.{Followed}
 use Rattle.rg_stmt.specs.declared.event.Event.{Event}
 use Rattle.rg_stmt.specs.declared.event.Event.TheVariants as events
 use Rattle.rg_laws_utility.specs.TraceStage.Tending.{MayDrain}
 use Rattle.rg_laws_utility.proofs.TraceStageLemmas.Turning.{IsAt, step_at}
+use Rattle.rg_laws_utility.proofs.CourseLemmas.Granting.{nobody_named}
 
 -- the drain that a turn leaves may be in force
 abbrev pub MayLeave : (old : DrainState) → (blocker : Option Session) → Turn → Type 0
@@ -139,31 +139,6 @@ module _ (old : DrainState) (blocker : Option Session) where
   term_leaves (events.Stop reasons.NoMemory) = tt
   term_leaves event = tt
 
--- a drain is granted where nobody is in its way
-nobody : (options : Options) (asked failed : ℕ) (blocker : Option Session) (now estimate : ℕ)
-    → drain_verdict options asked failed blocker now estimate ≡ waits.Granted → blocker ≡ None
-nobody options asked failed None now estimate e = refl
-nobody options asked failed (Some session) now estimate e =
-    late (is_late options.deadline now estimate) e
-  where
-    retried : (b : Bool) → (if b then waits.Stop reasons.Drain else waits.GiveUp) ≡ waits.Granted
-        → Some session ≡ None
-    retried true e = absurd (cc (e))
-    retried false e = absurd (cc (e))
-
-    waited : (b : Bool)
-        → (if b then retry_verdict options failed else waits.Wait session) ≡ waits.Granted
-        → Some session ≡ None
-    waited true e = retried (nat_lt options.retry (failed + 1)) e
-    waited false e = absurd (cc (e))
-
-    late : (b : Bool)
-        → (if b then waits.Stop reasons.Deadline
-        else wait_verdict options asked failed (Some session) now) ≡ waits.Granted
-        → Some session ≡ None
-    late true e = absurd (cc (e))
-    late false e = waited (nat_le (asked + options.wait) now) e
-
 at_leaves : (drain : DrainState) (blocker : Option Session) (u : Utility) (step : Step)
     → IsAt step u drain → (all : ℕ) (answer : Answer) (event : Event)
     → MayLeaveIf drain blocker (turn_at step all blocker answer u drain event)
@@ -176,7 +151,7 @@ at_leaves drain blocker u steps.Log at all answer event =
 at_leaves drain blocker u (steps.Wait asked) at all answer event =
     wait_leaves drain blocker all answer u asked
     (drain_verdict u.options u.asked u.failed blocker answer.now answer.estimate) event at
-    (nobody u.options u.asked u.failed blocker answer.now answer.estimate)
+    (nobody_named u.options u.asked u.failed blocker answer.now answer.estimate)
 at_leaves drain blocker u steps.Last at all answer event = last_leaves drain blocker all u event
 at_leaves drain blocker u (steps.Write granted) at all answer event =
     write_leaves drain blocker answer u granted event

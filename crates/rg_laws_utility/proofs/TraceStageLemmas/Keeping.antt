@@ -14,7 +14,7 @@ use Rattle.rg_model.specs.Claims.{claim_classes, classes_needed}
 use Rattle.rg_model.specs.Plain.{after, after_answer, after_rollback, is_done, plain_reply}
 use Rattle.rg_model.specs.Possible.{next_state, state_after_step}
 use Rattle.rg_model.specs.Run.{Allows, Run, Says}
-use Rattle.rg_model.specs.Said.{has_locks, if_allowed, state_failed, state_refused}
+use Rattle.rg_model.specs.Said.{has_locks, state_failed, state_refused}
 use Rattle.rg_model.specs.State.{State, Utility}
 use Rattle.rg_model.specs.Turn.{Turn, alter, is_term, step_of, turn_at, turn_of, wait_turn}
 use Rattle.rg_model.specs.Verdict.{drain_verdict}
@@ -30,6 +30,7 @@ use Rattle.rg_stmt.specs.declared.stmt.Stmt.TheVariants.{Insert, Update, Delete,
 use Rattle.rg_stmt.specs.declared.stmt.Stmt.TheVariants.{Commit, Rollback}
 use Rattle.rg_laws_utility.specs.TraceStage.Tending.{IsRefusedEvent, IsSystem}
 use Rattle.rg_model.specs.Run.{behind}
+use Rattle.rg_model.proofs.Allowed.{allowed_is, some_is}
 
 -- ---- the last entry
 
@@ -59,13 +60,6 @@ Keeps old new = (new.utility ≡ old.utility) × (new.drain ≡ old.drain)
 
 pub same_keeps : (old new : State) → new ≡ old → Keeps old new
 same_keeps old new e = (ap (λ (st : State). st.utility) e, ap (λ (st : State). st.drain) e)
-
-some_is : (a b : State) → Some a ≡ Some b → b ≡ a
-some_is a b e = cc (e)
-
-pub allowed_is : (b : Bool) (a new : State) → if_allowed b a ≡ Some new → new ≡ a
-allowed_is true a new e = some_is a new e
-allowed_is false a new e = absurd (cc (e))
 
 answer_keeps : (st : State) (session : Session) (stmt : Stmt) (reply : Reply)
     → Keeps st (after_answer st session stmt reply)

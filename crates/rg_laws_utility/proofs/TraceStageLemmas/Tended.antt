@@ -33,13 +33,15 @@ use Rattle.rg_laws_utility.specs.TraceStage.Tending.{IsRefusedEvent, IsSystem, I
 use Rattle.rg_laws_utility.specs.TraceStage.Tending.{aside_for}
 use Rattle.rg_laws_utility.specs.TraceStage.Tending.{system_entry, utility_entry}
 use Rattle.rg_model.specs.Run.{behind}
-use Rattle.rg_laws_utility.proofs.TraceStageLemmas.Keeping.{allowed_is, behind_push, refused_is}
+use Rattle.rg_model.proofs.Allowed.{allowed_is}
+use Rattle.rg_laws_utility.proofs.TraceStageLemmas.Keeping.{behind_push, refused_is}
 use Rattle.rg_laws_utility.proofs.TraceStageLemmas.Keeping.{refused_plain, run_pop, said_keeps}
 use Rattle.rg_laws_utility.proofs.TraceStageLemmas.Keeping.{step_next, system_changes, system_keeps}
 use Rattle.rg_laws_utility.proofs.TraceStageLemmas.Keeping.{system_writes, turn_plain}
 use Rattle.rg_laws_utility.proofs.TraceStageLemmas.Keeping.{utility_changes, utility_writes}
 
-length_push : (trace : List Entry) (entry : Entry) → length (trace ++ entry ∷ []) ≡ length trace + 1
+pub length_push : (trace : List Entry) (entry : Entry)
+    → length (trace ++ entry ∷ []) ≡ length trace + 1
 length_push trace entry = length-append trace (entry ∷ [])
 
 within_grow : (all more entries : ℕ) (stage : Option Stage) → all ≤ more

@@ -12,8 +12,8 @@ fn page_of(byte: u8) -> Page {
 
 // The first byte of a page as it reads, where its last is the same.
 fn byte_at<V: Volume>(volume: &mut V, set: Set, page: u32) -> Option<u8>
-    requires { IsPage (V.capacities volume.old) set page }
-    ensures { V.capacities volume.new ≡ V.capacities volume.old }
+    requires { IsPage (V.seen volume.old).capacities set page }
+    ensures { (V.seen volume.new).capacities ≡ (V.seen volume.old).capacities }
 {
     let mut into = page_of(255);
     match volume.read(set, page, &mut into) {
@@ -24,8 +24,8 @@ fn byte_at<V: Volume>(volume: &mut V, set: Set, page: u32) -> Option<u8>
 
 // Three writes of page 1 and two of page 2, and a sync between that fails as the fourth call.
 fn write_five<V: Volume>(volume: &mut V) -> bool
-    requires { IsPage (V.capacities volume.old) Set.First 2 }
-    ensures { V.capacities volume.new ≡ V.capacities volume.old }
+    requires { IsPage (V.seen volume.old).capacities Set.First 2 }
+    ensures { (V.seen volume.new).capacities ≡ (V.seen volume.old).capacities }
 {
     let first = volume.write(Set::First, 1, &page_of(1)).is_ok();
     let second = volume.write(Set::First, 2, &page_of(11)).is_ok();

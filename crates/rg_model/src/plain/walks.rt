@@ -7,7 +7,7 @@ ghost use Rattle.rg_model.specs.Committed.{set_to, put_back, own_locks};
 ghost use Rattle.rg_model.specs.Held.{is_others, has_cat, is_held_between, is_held_with_cat};
 ghost use Rattle.rg_model.specs.Held.{scan_holder, find_holder};
 ghost use Rattle.rg_model.specs.Plain.{rows_between, keys_with_cat};
-ghost use Rattle.rg_model.specs.Start.{start_of};
+ghost use Rattle.rg_base.specs.Start.{start_of};
 
 use crate::plain::parts::{is_others, set_row};
 use rg_base::lock::Lock;

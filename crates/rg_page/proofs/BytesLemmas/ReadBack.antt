@@ -1,8 +1,8 @@
 -- What a spelling is read as: the page that it spells.
-use Rattle.std.proofs.Common.{◌≡◌, ◌<◌, ◌≤◌, ◌+◌, ◌-◌, ◌^◌, ◌&&◌, ◌==◌, ℕ, suc, Bool, true, false}
+use Rattle.std.proofs.Common.{◌≡◌, ◌<◌, ◌≤◌, ◌+◌, ◌-◌, ◌^◌, ◌==◌, ℕ, suc, Bool, true, false}
 use Rattle.std.proofs.Common.{List, [], ◌∷◌, ◌++◌, length, replicate, take, nat_lt, Option, Some}
 use Rattle.std.proofs.Common.{None, refl, sym, ◌∙◌, ap, arith, append_assoc, length-append}
-use Rattle.std.proofs.lemmas.Bool.{eqb-true, le-ltb}
+use Rattle.std.proofs.lemmas.Bool.{eqb-true, le-ltb, and_parts}
 use Rattle.std.proofs.lemmas.List.{drop_at, take_at, length-replicate}
 use Rattle.std.specs.List.{AllByRecursion}
 use Rattle.rg_base.specs.declared.place.Place.{Place}
@@ -15,7 +15,8 @@ use Rattle.rg_base.proofs.RowBytes.{length-row_bytes}
 use Rattle.rg_home.specs.Pages.{TakesRow}
 use Rattle.rg_home.specs.Slot.{Slot, Free, Row, Pointer, Over, DeadRow, DeadPointer, DeadOver}
 use Rattle.rg_home.specs.Slots.{capacity_of, used}
-use Rattle.rg_record.specs.Fits.{FitsPlace, FitsRow}
+use Rattle.rg_base.specs.Values.{FitsRow}
+use Rattle.rg_record.specs.Fits.{FitsPlace}
 use Rattle.rg_record.specs.Reading.{place_at}
 use Rattle.rg_record.specs.Reading.{row_in as row_read}
 use Rattle.rg_record.specs.Spelling.{place_bytes}
@@ -310,15 +311,11 @@ no_slots : (slots : List Slot) → length slots ≡ 0 → slots ≡ []
 no_slots [] none = refl
 no_slots (s ∷ slots) none = absurd (omega (arith, none))
 
-both : (a b : Bool) → (a && b) ≡ true → (a ≡ true) × (b ≡ true)
-both true b e = (refl, e)
-both false b e = absurd (cc (e))
-
 -- what is known of a blank page
 blank_is : (x : Content) → is_blank x ≡ true
     → x ≡ record { copy = x.copy; number = x.number; position = 0; slots = [] }
 blank_is x blank =
-    let parts = both (x.position == 0) (length x.slots == 0) blank in
+    let parts = and_parts (x.position == 0) (length x.slots == 0) blank in
     let position : x.position ≡ 0 = eqb-true x.position 0 parts.0 in
     let slots : x.slots ≡ [] = no_slots x.slots (eqb-true (length x.slots) 0 parts.1) in
     ap

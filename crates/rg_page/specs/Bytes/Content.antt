@@ -4,7 +4,8 @@ use Rattle.std.specs.List.{AllByRecursion}
 use Rattle.rg_base.specs.RowBytes.{row_size}
 use Rattle.rg_home.specs.Slot.{Slot, Free, Row, Pointer, Over, DeadRow, DeadPointer, DeadOver}
 use Rattle.rg_home.specs.Slots.{Fits, IsTrimmed}
-use Rattle.rg_record.specs.Fits.{FitsPlace, FitsRow}
+use Rattle.rg_base.specs.Values.{FitsRow}
+use Rattle.rg_record.specs.Fits.{FitsPlace}
 
 -- The copy that it is of, its number from 1, the position of the last record that changed it, and
 -- its slots.

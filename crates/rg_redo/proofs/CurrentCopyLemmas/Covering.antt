@@ -12,6 +12,7 @@ use Rattle.rg_base.specs.declared.part.Part.{Part}
 use Rattle.rg_image.specs.Kept.{AreEntries}
 use Rattle.rg_image.specs.Meaning.{Current, current_after, current_from, current_of, raised}
 use Rattle.rg_image.specs.Rules.{IsChain, NamesPages, PartIn, copy_capacity}
+use Rattle.rg_image.proofs.Current.{current_more, raised_least}
 use Rattle.rg_outside.specs.Capacities.{Capacities}
 use Rattle.rg_record.specs.Applied.{parts_of}
 use Rattle.rg_record.specs.Spelled.{IsKind}
@@ -24,10 +25,6 @@ use Rattle.rg_space.specs.Carries.{AllThere}
 use Rattle.rg_redo.specs.CurrentCopy.Laws.{CoversAll}
 
 -- a number that is raised to the pages of parts
-
-raised_least : (parts : List Part) (pages : ℕ) → pages ≤ raised pages parts
-raised_least [] pages = omega arith
-raised_least (x ∷ parts) pages = omega (arith, raised_least parts (max pages x.page))
 
 raised_within : (capacity : ℕ) (parts : List Part) (pages : ℕ)
     → AllByRecursion (PartIn capacity) parts → pages ≤ capacity → raised pages parts ≤ capacity
@@ -44,7 +41,7 @@ raised_there capacity n (x ∷ parts) pages all high = (
   raised_there capacity n parts (max pages x.page) all.1 high,
 )
 
-more_there : (m n : ℕ) (parts : List Part) → m ≤ n → AllThere m parts → AllThere n parts
+pub more_there : (m n : ℕ) (parts : List Part) → m ≤ n → AllThere m parts → AllThere n parts
 more_there m n [] few there = tt
 more_there m n (x ∷ parts) few there =
     (there.0, omega (arith, there.1), more_there m n parts few there.2)
@@ -54,11 +51,6 @@ abbrev Named : Capacities → Current → List Record → Type 0
 Named capacities now [] = Unit {0}
 Named capacities now (entry ∷ rs) = (NamesPages capacities now.copy entry.kind × IsKind entry.kind)
     × Named capacities (current_after now entry.kind) rs
-
-current_more : (now : Current) (rs : List Record) (entry : Record)
-    → current_from now (rs ++ entry ∷ []) ≡ current_after (current_from now rs) entry.kind
-current_more now [] entry = refl
-current_more now (r ∷ rs) entry = current_more (current_after now r.kind) rs entry
 
 named_from : (capacities : Capacities) (whole before rs : List Record) → whole ≡ before ++ rs
     → IsChain capacities whole → AreEntries whole → Named capacities (current_of before) rs

@@ -14,7 +14,7 @@ use Rattle.rg_record.specs.Applied.{parts_of}
 use Rattle.rg_record.specs.declared.record.Record.{Record}
 use Rattle.rg_redo.specs.Redo.{AllRedoFit, CanRedo, is_switch, redone_all, since_last, since_switch}
 use Rattle.rg_space.specs.Carries.{AllThere}
-use Rattle.rg_space.specs.Space.{Agree, InStep, capacity_in, frames_of, index_of}
+use Rattle.rg_space.specs.Space.{Agree, InStep, capacity_in, frames_of, summaries_of}
 use Rattle.rg_space.specs.declared.space.Space.{Space}
 use Rattle.rg_redo.specs.CurrentCopy.Rebuilt.{AreSoundPages, CanRebuild, IsRebuilt}
 use Rattle.rg_space.specs.Memory.{list_seen}
@@ -64,8 +64,8 @@ pub is_rebuilt :
     → (list_seen (frames_of space)).pages ≡ redone_all (since_switch rs) begun
     → AllRedoFit (since_switch rs) begun
     → length (list_seen (frames_of space)).pages ≡ length begun
-    → InStep (list_seen (frames_of space)) (index_of space) (capacity_in space)
-    → Agree (list_seen (frames_of space)) (index_of space) → IsRebuilt base rs space
+    → InStep (list_seen (frames_of space)) (summaries_of space) (capacity_in space)
+    → Agree (list_seen (frames_of space)) (summaries_of space) → IsRebuilt base rs space
 is_rebuilt base rs begun space are spelled pages fit same step agree =
     let fits : AllRedoFit (since_switch rs) base = subst (AllRedoFit (since_switch rs)) are fit in
     let so : (list_seen (frames_of space)).pages ≡ redone_all (since_switch rs) base =

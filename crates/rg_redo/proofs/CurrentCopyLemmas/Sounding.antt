@@ -3,21 +3,21 @@
 -- 1. A page is sound or not by itself. So a redo is looked at page by page, and on a page part by
 --    part.
 use Rattle.std.proofs.Common.{◌≡◌, ◌==◌, ◌⊎◌, ℕ, zero, suc, nat_lt, Bool, true, false, List, []}
-use Rattle.std.proofs.Common.{◌∷◌, Option, Some, None, map, get_or, inl, inr, refl, sym, subst}
+use Rattle.std.proofs.Common.{◌∷◌, Option, map, get_or, inl, inr, refl, sym, subst}
 use Rattle.std.proofs.Common.{arith, if◌then◌else◌}
 use Rattle.std.specs.List.{All, AllByRecursion}
 use Rattle.std.proofs.lemmas.Bool.{cases_eq, eqb-true, ltb-true}
 use Rattle.std.proofs.lemmas.List.Elements.{All-head, All-tail}
 use Rattle.rg_base.specs.declared.part.Part.{Part}
-use Rattle.rg_base.specs.declared.part.SlotOp.{SlotOp}
 use Rattle.rg_base.specs.declared.part.SlotOp.TheVariants as Op
 use Rattle.rg_base.specs.declared.row.Row.{Row as TableRow}
 use Rattle.rg_home.specs.Able.{Holds}
-use Rattle.rg_home.specs.Pages.{PartFits, TakesRow, made, page_at, row_or_empty}
+use Rattle.rg_home.specs.Pages.{PartFits, made, page_at, row_or_empty}
 use Rattle.rg_home.specs.Slot.{Slot}
 use Rattle.rg_home.specs.Slots.{Fits, IsTrimmed, placed, put, slot_at}
 use Rattle.rg_home.proofs.Slots.{slot_at-placed_same, slot_at-placed_other}
 use Rattle.rg_home.proofs.Steps.{trim-trim}
+use Rattle.rg_home.proofs.Takes.{made_held}
 use Rattle.rg_page.specs.Changed.{changed}
 use Rattle.rg_page.specs.Content.{Content, slots_of}
 use Rattle.rg_record.specs.Applied.{parts_of, after_of}
@@ -81,18 +81,6 @@ all_sound pages are = each_sound pages (λ k. record {
 
 -- a slot that is set
 
-made_holds : (owner : ℕ) (row : Option TableRow) (op : SlotOp) → TakesRow row op
-    → Holds (made owner (row_or_empty row) op)
-made_holds owner (Some row) (Op.Row c) h = h
-made_holds owner (Some row) (Op.Over c o) h = h
-made_holds owner None (Op.Row c) h = absurd h
-made_holds owner None (Op.Over c o) h = absurd h
-made_holds owner row Op.Free h = tt
-made_holds owner row (Op.Pointer c o) h = tt
-made_holds owner row (Op.DeadRow c) h = tt
-made_holds owner row (Op.DeadPointer c o) h = tt
-made_holds owner row (Op.DeadOver c o) h = tt
-
 placed_holds : (slots : List Slot) (i : ℕ) (s : Slot) → Holds s
     → ((j : ℕ) → Holds (slot_at slots j)) → (j : ℕ) → (j ≡ i) ⊎ (j ≡ i → ⊥)
     → Holds (slot_at (placed slots i s) j)
@@ -126,7 +114,7 @@ module _ (owner : ℕ) (after : Option TableRow) (position : ℕ) where
           let part : PartFits page.number page.slots owner after x =
           fits (eqb-true x.page page.number e) in
           placed_sound page.slots x.slot (made owner (row_or_empty after) x.op) part.fits
-          (made_holds owner after x.op part.row) sound
+          (made_held owner after x.op part.row) sound
 
   parts_sound : (parts : List Part) (page : Content) → AllFit owner after position page parts
       → SoundPage page.slots

@@ -16,7 +16,7 @@ use Rattle.rg_record.specs.Applied.{parts_of}
 use Rattle.rg_record.specs.declared.record.Record.{Record}
 use Rattle.rg_redo.specs.Redo.{AllRedoFit, FailsAt, redone_all, since_switch}
 use Rattle.rg_space.specs.Carries.{AllThere}
-use Rattle.rg_space.specs.Space.{Agree, InStep, capacity_in, frames_of, index_of}
+use Rattle.rg_space.specs.Space.{Agree, InStep, capacity_in, frames_of, summaries_of}
 use Rattle.rg_space.specs.declared.space.Space.{Space}
 use Rattle.rg_space.specs.Memory.{list_seen}
 use Rattle.rg_redo.specs.declared.current_copy.rebuilt.Rebuilt.{Rebuilt}
@@ -34,8 +34,8 @@ pub record AreSoundPages (pages : List (List Slot)) : Type 0 where
 -- the space of the pages that the records of a log make of these: each record fits
 pub record IsRebuilt (base : List Content) (rs : List Record) (space : Space ListFrames) : Type 0
   where
-    pub step : InStep (list_seen (frames_of space)) (index_of space) (capacity_in space)
-    pub agree : Agree (list_seen (frames_of space)) (index_of space)
+    pub step : InStep (list_seen (frames_of space)) (summaries_of space) (capacity_in space)
+    pub agree : Agree (list_seen (frames_of space)) (summaries_of space)
     pub pages : (list_seen (frames_of space)).pages ≡ rebuilt_pages base rs
     pub count_is : length (list_seen (frames_of space)).pages ≡ length base
     pub fit : AllRedoFit (since_switch rs) base

@@ -6,13 +6,14 @@
 ghost use Rattle.std.specs.Prelude.{◌≡◌, ◌≤◌, [], IfOk, length};
 ghost use Rattle.std.specs.List.{AllByRecursion};
 ghost use Rattle.rg_page.specs.Bytes.Content.{FitsPage};
-ghost use Rattle.rg_space.specs.Space.{Agree, InStep, capacity_in, frames_of, index_of};
+ghost use Rattle.rg_space.specs.Space.{Agree, InStep, capacity_in, frames_of, summaries_of};
 ghost use Rattle.rg_redo.specs.CurrentCopy.Rebuilt.{CanRebuild, IsOfCopy, RebuiltIs};
 ghost use Rattle.rg_space.specs.Memory.{list_seen};
 
 use crate::fault::RedoFault;
 use crate::redo::redo_all;
 use rg_base::no_memory::NoMemory;
+use rg_base::note::note;
 use rg_base::position::Position;
 use rg_log::log::Log;
 use rg_page::list::ListFrames;
@@ -37,9 +38,9 @@ pub fn space_over(
     requires reserved { frames.reserved.items ≡ [] }
     requires few { length frames.pages.items ≤ capacity }
     requires limit { capacity ≤ 65536 }
-    ensures step { IfOk result (λ s. InStep (list_seen (frames_of s)) (index_of s)
+    ensures step { IfOk result (λ s. InStep (list_seen (frames_of s)) (summaries_of s)
         (capacity_in s)) }
-    ensures agree { IfOk result (λ s. Agree (list_seen (frames_of s)) (index_of s)) }
+    ensures agree { IfOk result (λ s. Agree (list_seen (frames_of s)) (summaries_of s)) }
     ensures capacity { IfOk result (λ s. capacity_in s ≡ capacity) }
     ensures pages { IfOk result (λ s. (list_seen (frames_of s)).pages ≡ frames.pages.items) }
     ensures copy { IfOk result (λ s. (frames_of s).copy ≡ frames.copy) }
@@ -69,7 +70,7 @@ pub fn rebuild(
 {
     let mut space = space_over(alloc, frames, capacity)?;
     // The records of a log are entries, so each position fits its field.
-    let _records = log.records();
+    note(&log.records());
     match redo_all(&mut space, log) {
         Ok(()) => Ok(Rebuilt::Pages(space)),
         Err(RedoFault::Unfit { position }) => Ok(Rebuilt::Unfit { position }),

@@ -1,25 +1,19 @@
 -- A map that is copied, key by key.
-use Rattle.std.proofs.Common.{◌≡◌, ◌≤◌, ◌<◌, ◌+◌, ◌⊎◌, inl, inr, ℕ, true, false, cond, Some, None}
+use Rattle.std.proofs.Common.{◌≡◌, ◌≤◌, ◌<◌, ◌+◌, ◌⊎◌, inl, inr, ℕ, cond, Some, None}
 use Rattle.std.proofs.Common.{sym, ◌∙◌, ap, arith}
-use Rattle.std.specs.Ordering.{nat_cmp, eq_by_cmp}
+use Rattle.std.specs.Ordering.{nat_cmp}
 use Rattle.std.specs.FinMap as map
 use Rattle.std.specs.FinMap.{same_map, nat_cmp-IsAntisymmetric, get-insert, get-empty}
 use Rattle.std.proofs.lemmas.Cmp.{nat_cmp_total}
-use Rattle.std.proofs.lemmas.Bool.Decides.{nat_tests}
 use Rattle.rg_base.specs.First.{IsEmptyFrom, IsFirstFrom}
 use Rattle.rg_base.proofs.Walk.{place}
+use Rattle.rg_base.proofs.Small.{cmp_same, cmp_apart}
 
 -- below this key it is the map, and from there on it is empty
 pub record IsCopied (whole : map.FinMap nat_cmp ℕ) (from : ℕ) (copy : map.FinMap nat_cmp ℕ)
     : Type 0 where
   pub done : (key : ℕ) → key < from → map.get copy key ≡ map.get whole key
   pub left : (key : ℕ) → from ≤ key → map.get copy key ≡ None
-
-apart : (q k : ℕ) → (q ≡ k → ⊥) → eq_by_cmp nat_cmp q k ≡ false
-apart q k differ = grind (arith, nat_tests)
-
-same : (k : ℕ) → eq_by_cmp nat_cmp k k ≡ true
-same k = grind (arith, nat_tests)
 
 pub copied-begins : (whole : map.FinMap nat_cmp ℕ) → IsCopied whole 0 map.empty
 copied-begins whole =
@@ -48,11 +42,11 @@ module _ (whole copy : map.FinMap nat_cmp ℕ) (from : ℕ) (copied : IsCopied w
 
     other : (key : ℕ) → (key ≡ k → ⊥) → map.get (map.insert copy k v) key ≡ map.get copy key
     other key differ = get-insert nat_cmp_total copy k v key
-        ∙ ap (λ b. cond b (Some v) (map.get copy key)) (apart key k differ)
+        ∙ ap (λ b. cond b (Some v) (map.get copy key)) (cmp_apart key k differ)
 
     at_it : map.get (map.insert copy k v) k ≡ map.get whole k
     at_it = get-insert nat_cmp_total copy k v k
-        ∙ ap (λ b. cond b (Some v) (map.get copy k)) (same k) ∙ sym first.1
+        ∙ ap (λ b. cond b (Some v) (map.get copy k)) (cmp_same k) ∙ sym first.1
 
     -- one key more
     pub copied-set : IsCopied whole (k + 1) (map.insert copy k v)

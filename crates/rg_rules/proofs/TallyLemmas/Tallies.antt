@@ -8,8 +8,11 @@ use Rattle.std.specs.Option.{unwrap_or}
 use Rattle.std.specs.Ordering.{nat_cmp, eq_by_cmp}
 use Rattle.std.proofs.lemmas.Cmp.{nat_cmp_total}
 use Rattle.std.proofs.lemmas.Bool.Decides.{nat_tests}
+use Rattle.std.proofs.Math.Bool.{and-true, and-false, or-true}
+use Rattle.std.proofs.lemmas.Bool.{le-leb, lt-leb, eqb-true}
 use Rattle.rg_base.specs.declared.control.Answer.{Answer}
 use Rattle.rg_base.specs.declared.session.Session.{Session}
+use Rattle.rg_base.proofs.Small.{nat_itself, cmp_turned, cmp_one}
 use Rattle.rg_stmt.specs.declared.event.Actor.{Actor}
 use Rattle.rg_stmt.specs.declared.event.Actor.TheVariants as actors
 use Rattle.rg_stmt.specs.declared.event.Entry.{Entry}
@@ -21,7 +24,6 @@ use Rattle.rg_stmt.specs.declared.stmt.Stmt.{Stmt}
 use Rattle.rg_stmt.specs.declared.stmt.Stmt.TheVariants as stmts
 use Rattle.rg_model.specs.Changes.{is_write, is_rollback, is_unit_end, unit_writes, changes}
 use Rattle.rg_model.specs.Quiet.{is_among, is_locked_in, is_quiet, names_key, is_write_of}
-use Rattle.rg_model.proofs.Overlay.{key_of}
 use Rattle.rg_rules.specs.Tally.Tallied.{IsNumbered, IsTallied, is_kept, is_open, is_stirred}
 use Rattle.rg_rules.specs.Tally.Tallied.{is_unit, key_written, tally_after, tally_said, tally_write}
 use Rattle.rg_rules.specs.Tally.Tallied.{tally_end, tally_quiet, tally_rollback, unit_of}
@@ -54,9 +56,6 @@ tallied-none tally changes count writes units writers started first = record {
 at_once : (b : Bool) (v w : ℕ) (o : Option ℕ) → (b ≡ true → v ≡ w) → cond b v w ≡ w
 at_once true v w o e = e refl
 at_once false v w o e = refl
-
-is_same : (a b : ℕ) → eq_by_cmp nat_cmp a b ≡ (b == a)
-is_same a b = grind (arith, nat_tests)
 
 -- a write is not the end of a unit, nor a rollback
 write_goes_on : (stmt : Stmt) (reply : Reply) → is_write stmt reply ≡ true
@@ -97,42 +96,15 @@ names_none stmt reply key e = ap (λ (b : Bool). b && names_key key stmt) e
 plus_none : (a b : ℕ) → a ≡ b → a ≡ b + 0
 plus_none a b e = omega (arith, e)
 
-sym_same : (a b : ℕ) → (a == b) ≡ (b == a)
-sym_same a b = grind (arith, nat_tests)
-
-is_at : (a b : ℕ) → (a == b) ≡ true → a ≡ b
-is_at a b e = grind (arith, nat_tests)
-
 same_unit : (count number : ℕ) (o : Option ℕ) → number < count
     → is_unit (Some (unwrap_or o count)) number ≡ is_unit o number
 same_unit count number None below = grind (arith, nat_tests, below)
 same_unit count number (Some unit) below = refl
 
-is_itself : (n : ℕ) → (n == n) ≡ true
-is_itself n = grind (arith, nat_tests)
-
-le_true : (a b : ℕ) → a ≤ b → nat_le a b ≡ true
-le_true a b le = grind (arith, nat_tests, le)
-
-le_false : (a b : ℕ) → b < a → nat_le a b ≡ false
-le_false a b lt = grind (arith, nat_tests, lt)
-
-or_true : (b : Bool) → (b || true) ≡ true
-or_true true = refl
-or_true false = refl
-
-and_true : (b : Bool) → (b && true) ≡ b
-and_true true = refl
-and_true false = refl
-
-never : (b : Bool) → (b && false) ≡ false
-never true = refl
-never false = refl
-
 -- a unit that is open has been held, or begins now
 is_held : (first count : ℕ) (held o : Option ℕ) → first ≤ count → is_kept first held o ≡ true
     → is_kept first held (Some (unwrap_or o count)) ≡ true
-is_held first count held None le kept = ap (λ b. b || is_unit held count) (le_true first count le)
+is_held first count held None le kept = ap (λ b. b || is_unit held count) (le-leb first count le)
 is_held first count held (Some unit) le kept = kept
 
 more : (count : ℕ) (o : Option ℕ) → IsNumbered count o → IsNumbered (count + 1) o
@@ -177,7 +149,7 @@ module _ (past : List Entry) (tally : Tally) (is : IsTallied past tally) where
       ≡ cond (session.0 == q) 0 (unit_writes q past)
   ended_writes session q =
       ap (λ o. unwrap_or o 0) (get-remove nat_cmp_total tally.writes session.0 q)
-      ∙ ap (λ b. unwrap_or (cond b None (map.get tally.writes q)) 0) (is_same q session.0)
+      ∙ ap (λ b. unwrap_or (cond b None (map.get tally.writes q)) 0) (cmp_turned q session.0)
       ∙ none_at q (session.0 == q)
 
   same_either : (b : Bool) (n : ℕ) → n ≡ cond b n n
@@ -194,8 +166,8 @@ module _ (past : List Entry) (tally : Tally) (is : IsTallied past tally) where
       (get-insert nat_cmp_total tally.writes session.0 (writes_of tally session.0 + 1) q)
       ∙
       ap (λ b. unwrap_or (cond b (Some (writes_of tally session.0 + 1)) (map.get tally.writes q)) 0)
-      (is_same q session.0)
-      ∙ more_at session q (session.0 == q) (is_at session.0 q)
+      (cmp_turned q session.0)
+      ∙ more_at session q (session.0 == q) (eqb-true session.0 q)
       ∙ ap (λ b. cond (session.0 == q) (cond b 0 (unit_writes q past + 1)) (unit_writes q past))
       (sym (goes refl))
   writes_by session key q false true u goes ends = ended_writes session q
@@ -208,7 +180,7 @@ module _ (past : List Entry) (tally : Tally) (is : IsTallied past tally) where
   open_over : (session number : ℕ) (over : List ℕ) (w : ℕ) (b : Bool) → (session == w) ≡ b
       → (not (is_among over w) && is_unit (cond b None (map.get tally.units w)) number)
       ≡ (not (b || is_among over w) && is_unit (map.get tally.units w) number)
-  open_over session number over w true e = never (not (is_among over w))
+  open_over session number over w true e = and-false (not (is_among over w))
   open_over session number over w false e = refl
 
   open_without : (session : ℕ) (over : List ℕ) (o : Option Writer)
@@ -217,7 +189,7 @@ module _ (past : List Entry) (tally : Tally) (is : IsTallied past tally) where
   open_without session over (Some w) =
       ap (λ o. not (is_among over w.session) && is_unit o w.unit)
       (get-remove nat_cmp_total tally.units session w.session
-      ∙ ap (λ b. cond b None (map.get tally.units w.session)) (is_same w.session session))
+      ∙ ap (λ b. cond b None (map.get tally.units w.session)) (cmp_turned w.session session))
       ∙ open_over session w.unit over w.session (session == w.session) refl
 
   ended_writers : (session q : ℕ) (over : List ℕ)
@@ -232,7 +204,7 @@ module _ (past : List Entry) (tally : Tally) (is : IsTallied past tally) where
       ≡ is_unit (map.get tally.units w) number
   unit_at session number w true e below =
       same_unit tally.count number (map.get tally.units session) below
-      ∙ ap (λ s. is_unit (map.get tally.units s) number) (sym (key_of w session e))
+      ∙ ap (λ s. is_unit (map.get tally.units s) number) (sym (cmp_one w session e))
   unit_at session number w false e below = refl
 
   open_still : (session : ℕ) (over : List ℕ) (o : Option Writer)
@@ -255,9 +227,9 @@ module _ (past : List Entry) (tally : Tally) (is : IsTallied past tally) where
       ap (λ o. not (is_among over session) && is_unit o (unit_of tally session))
       (get-insert nat_cmp_total tally.units session (unit_of tally session) session
       ∙ ap (λ b. cond b (Some (unit_of tally session)) (map.get tally.units session))
-      (is_same session session ∙ is_itself session))
-      ∙ ap (λ b. not (is_among over session) && b) (is_itself (unit_of tally session))
-      ∙ and_true (not (is_among over session))
+      (cmp_turned session session ∙ nat_itself session))
+      ∙ ap (λ b. not (is_among over session) && b) (nat_itself (unit_of tally session))
+      ∙ and-true (not (is_among over session))
 
   written_at : (session q : ℕ) (over : List ℕ) (b : Bool)
       → is_open over (map.insert tally.units session (unit_of tally session))
@@ -278,7 +250,7 @@ module _ (past : List Entry) (tally : Tally) (is : IsTallied past tally) where
       ap (is_open over (map.insert tally.units session.0 (unit_of tally session.0)))
       (get-insert nat_cmp_total tally.writers key (writer_of session.0) q
       ∙ ap (λ b. cond b (Some (writer_of session.0)) (map.get tally.writers q))
-      (is_same q key ∙ sym (at refl)))
+      (cmp_turned q key ∙ sym (at refl)))
       ∙ written_at session.0 q over n
       ∙ ap
       (λ b. cond b (is_locked_in q (session.0 ∷ over) past)
@@ -304,7 +276,7 @@ module _ (past : List Entry) (tally : Tally) (is : IsTallied past tally) where
       && not (is_stirred tally (cond b (Some (writer_of session)) (map.get tally.writers q))))
       ≡ (not b && is_quiet q past)
   stirred_at session q true =
-      ap (λ b. tally.started && not b) (stirred_itself session) ∙ never tally.started
+      ap (λ b. tally.started && not b) (stirred_itself session) ∙ and-false tally.started
   stirred_at session q false = is.quiet q
 
   quiet_by : (session : Session) (key q : ℕ) (w r u n : Bool) → (w ≡ true → n ≡ (key == q))
@@ -314,7 +286,7 @@ module _ (past : List Entry) (tally : Tally) (is : IsTallied past tally) where
       ap (λ o. tally.started && not (is_stirred tally o))
       (get-insert nat_cmp_total tally.writers key (writer_of session.0) q
       ∙ ap (λ b. cond b (Some (writer_of session.0)) (map.get tally.writers q))
-      (is_same q key ∙ sym (at refl)))
+      (cmp_turned q key ∙ sym (at refl)))
       ∙ stirred_at session.0 q n
   quiet_by session key q false true u n at none =
       is.quiet q ∙ ap (λ b. not b && is_quiet q past) (sym (none refl))
@@ -378,7 +350,7 @@ module _ (past : List Entry) (tally : Tally) (is : IsTallied past tally) where
       (cond b (Some (unit_of tally session)) (map.get tally.units q)) ≡ true
   kept_at session q true e =
       ap (λ s. is_kept tally.first (map.get tally.held s) (Some (unit_of tally session)))
-      (key_of q session e)
+      (cmp_one q session e)
       ∙ is_held tally.first tally.count (map.get tally.held session) (map.get tally.units session)
       is.first (is.kept session)
   kept_at session q false e = is.kept q
@@ -409,7 +381,7 @@ module _ (past : List Entry) (tally : Tally) (is : IsTallied past tally) where
   open_none over None = refl
   open_none over (Some w) =
       ap (λ o. not (is_among over w.session) && is_unit o w.unit) (get-empty nat_cmp w.session)
-      ∙ never (not (is_among over w.session))
+      ∙ and-false (not (is_among over w.session))
 
   -- at the start of a utility a key is stirred where it is locked
   stirred_open : (o : Option Writer) → IsNumbered tally.count (unit_written o)
@@ -417,12 +389,12 @@ module _ (past : List Entry) (tally : Tally) (is : IsTallied past tally) where
       ≡ is_open [] tally.units o
   stirred_open None below = refl
   stirred_open (Some w) below = ap (λ b. b || is_unit (map.get tally.units w.session) w.unit)
-      (le_false tally.count w.unit below)
+      (lt-leb tally.count w.unit below)
 
   kept_itself : (o : Option ℕ) → is_kept tally.count o o ≡ true
   kept_itself None = refl
   kept_itself (Some unit) =
-      ap (λ b. nat_le tally.count unit || b) (is_itself unit) ∙ or_true (nat_le tally.count unit)
+      ap (λ b. nat_le tally.count unit || b) (nat_itself unit) ∙ or-true (nat_le tally.count unit)
 
   goes_said : (session : Session) (stmt : Stmt) (reply : Reply) (answer : Option Answer) (calls : ℕ)
       → IsTallied

@@ -11,6 +11,7 @@ use crate::stage::follow::next_stage;
 use crate::stage::start::started;
 use crate::stage::step::{is_terminated, step_for, with_alter};
 use rg_base::control::{Alteration, Answer, Command, Deadline, Longlog, Maxro};
+use rg_base::copy::TableCopy;
 use rg_base::options::{DrainFor, Options};
 use rg_base::session::Session;
 use rg_base::step::Step;
@@ -81,7 +82,7 @@ fn event_at(
         Step::Last => last_event(stage, all, last_batch(stage, all)),
         Step::Write(_) => Event::Written { pages: 0 },
         Step::Switch => Event::Switched {
-            copy: 2,
+            copy: TableCopy::second(),
             sides: Sides {
                 old: empty_side(alloc),
                 new: empty_side(alloc),
@@ -164,7 +165,10 @@ impl Run {
 // The event in words. The layouts of a switch are left out.
 fn words_of(alloc: Global, event: &Event) -> Result<String, AllocError> {
     match event {
-        Event::Switched { copy, .. } => format!(in alloc; "Switched {copy}"),
+        Event::Switched { copy, .. } => {
+            let number = copy.number();
+            format!(in alloc; "Switched {number}")
+        },
         _ => format!(in alloc; "{event:?}"),
     }
 }

@@ -6,6 +6,7 @@ use Rattle.std.proofs.lemmas.Bool.{eqb-true}
 use Rattle.rg_base.specs.declared.options.Options.{Options}
 use Rattle.rg_base.specs.declared.place.Place.{Place}
 use Rattle.rg_base.specs.declared.row.Row.{Row}
+use Rattle.rg_base.proofs.Small.{plus_suc}
 use Rattle.rg_laws_pages.specs.ByteClaims.Claim.{claimed, claimed_all, nobody}
 use Rattle.rg_laws_pages.specs.ByteClaims.Weight.{weight}
 use Rattle.rg_home.specs.Pages.{page_at as slots_at}
@@ -69,14 +70,11 @@ claims_on ms (p ∷ pages) n same =
     omega (
       arith,
       ap (claimed nobody) (same zero ∙ ap (λ (x : ℕ). slots_on x ms) (nought n)),
-      claims_on ms pages (n + 1) (λ j. same (suc j) ∙ ap (λ (x : ℕ). slots_on x ms) (shift n j)),
+      claims_on ms pages (n + 1) (λ j. same (suc j) ∙ ap (λ (x : ℕ). slots_on x ms) (plus_suc n j)),
     )
   where
     nought : (n : ℕ) → n + 0 ≡ n
     nought n = omega arith
-
-    shift : (n j : ℕ) → n + suc j ≡ n + 1 + j
-    shift n j = omega arith
 
 weigh_from : (options : Options) (k slot free : ℕ) (rows : List (Place × Row))
     → weigh_moved (moved_from options k slot free rows) ≡ weigh_rows rows

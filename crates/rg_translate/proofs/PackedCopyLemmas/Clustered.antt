@@ -1,6 +1,6 @@
 -- The rows of a table in order are its rows in clustering order.
-use Rattle.std.proofs.Common.{◌≡◌, ◌==◌, ◌⊎◌, T, inl, inr, ℕ, Bool, true, false, cond, List, []}
-use Rattle.std.proofs.Common.{◌∷◌, ◌++◌, Option, Some, None, if◌then◌else◌, map, refl, sym, ◌∙◌, ap}
+use Rattle.std.proofs.Common.{◌≡◌, ◌==◌, ◌⊎◌, inl, inr, ℕ, Bool, true, false, cond, List, []}
+use Rattle.std.proofs.Common.{◌∷◌, ◌++◌, Option, Some, if◌then◌else◌, map, refl, sym, ◌∙◌, ap}
 use Rattle.std.proofs.Common.{subst, arith}
 use Rattle.std.specs.FinMap.{find, is_sorted, entries_sorted, get-entries}
 use Rattle.std.specs.FinMap.Entries.{below_all}
@@ -12,33 +12,20 @@ use Rattle.std.proofs.lemmas.Bool.Decides.{nat_tests}
 use Rattle.std.proofs.lemmas.List.Sorted.{IsPermutation-cons, IsPermutation-middle}
 use Rattle.std.proofs.lemmas.List.Sorted.{IsPermutation-refl, IsPermutation-sym}
 use Rattle.std.proofs.lemmas.List.Sorted.{IsPermutation-trans}
+use Rattle.std.proofs.lemmas.Option.{same_Some}
 use Rattle.rg_base.specs.declared.place.Place.{Place}
 use Rattle.rg_base.specs.declared.row.Row.{Row}
+use Rattle.rg_base.proofs.Small.{cmp_same, nat_itself, true_of}
 use Rattle.rg_feed.specs.Fold.Fold.{row_in}
 use Rattle.rg_feed.specs.Fold.Lawful.{AreApart}
-use Rattle.rg_layout.proofs.OnSpots.{place_is, place_itself}
 use Rattle.rg_home.specs.Table.{IsTable}
-use Rattle.rg_model.specs.Layout.{same_place}
+use Rattle.rg_base.specs.Place.{same_place}
+use Rattle.rg_base.proofs.SamePlace.{same_place-true, same_place-refl}
 use Rattle.rg_model.specs.Packed.{clustered_rows}
 use Rattle.rg_model.specs.State.{Table, entries_of, row_of}
 use Rattle.rg_reload.specs.Moved.{rows_in}
 use Rattle.rg_reload.specs.Order.{HaveOtherKeys, IsInOrder}
-use Rattle.rg_reload.proofs.Clustered.{Has, clustered_is}
-
-same_number : (n : ℕ) → (n == n) ≡ true
-same_number n = grind (arith, nat_tests)
-
-same_some : {A : Type 0} (a b : A) → Some a ≡ Some b → a ≡ b
-same_some {A} a b e = ap from e
-  where
-    from : Option A → A
-    from None = a
-    from (Some x) = x
-
-all_has : (P : Row → Type 0) (x : Row) (xs : List Row) → AllByRecursion P xs → Has x xs → P x
-all_has P x [] h k = absurd k
-all_has P x (y ∷ ys) h (inl e) = subst P (sym e) h.0
-all_has P x (y ∷ ys) h (inr k) = all_has P x ys h.1 k
+use Rattle.rg_reload.proofs.Clustered.{Has, clustered_is, all_has}
 
 -- ---- lists with different keys and the same rows
 
@@ -47,7 +34,7 @@ IsOther row later = (later.key == row.key) ≡ false
 
 never_other : (row other : Row) → other ≡ row → IsOther row other → ⊥
 never_other row other e is =
-    absurd (cc (sym is ∙ ap (λ (r : Row). r.key == row.key) e, same_number row.key))
+    absurd (cc (sym is ∙ ap (λ (r : Row). r.key == row.key) e, nat_itself row.key))
 
 record Split (x : Row) (ys : List Row) : Type 0 where
   pub before : List Row
@@ -132,13 +119,13 @@ each_row : (rows : List (Place × Row)) → AreApart rows
     → AllByRecursion (λ y. row_in rows y.0 ≡ Some y.1) rows
 each_row [] apart = tt
 each_row (x ∷ rows) apart = (
-  ap (λ (b : Bool). if b then Some x.1 else row_in rows x.0) (place_itself x.0),
+  ap (λ (b : Bool). if b then Some x.1 else row_in rows x.0) (same_place-refl x.0),
   later rows (each_row rows apart.1),
 )
   where
     one : (y : Place × Row) → row_in rows y.0 ≡ Some y.1 → (c : Bool) → same_place x.0 y.0 ≡ c
         → (if c then Some x.1 else row_in rows y.0) ≡ Some y.1
-    one y e true same = absurd (cc (apart.0, ap (row_in rows) (place_is x.0 y.0 same), e))
+    one y e true same = absurd (cc (apart.0, ap (row_in rows) (same_place-true x.0 y.0 same), e))
     one y e false other = e
 
     later : (ys : List (Place × Row)) → AllByRecursion (λ y. row_in rows y.0 ≡ Some y.1) ys
@@ -158,7 +145,7 @@ others_are (x ∷ rows) apart once = (all rows (each_row rows apart.1), others_a
   where
     more : (p : Place) (row : Row) → row_in rows p ≡ Some row → (c : Bool) → same_place x.0 p ≡ c
         → (if c then Some x.1 else row_in rows p) ≡ Some row
-    more p row e true same = absurd (cc (apart.0, ap (row_in rows) (place_is x.0 p same), e))
+    more p row e true same = absurd (cc (apart.0, ap (row_in rows) (same_place-true x.0 p same), e))
     more p row e false other = e
 
     less : IsOnce (row_in rows)
@@ -166,7 +153,7 @@ others_are (x ∷ rows) apart once = (all rows (each_row rows apart.1), others_a
         (more q other f (same_place x.0 q) refl) same
 
     here : row_in (x ∷ rows) x.0 ≡ Some x.1
-    here = ap (λ (b : Bool). if b then Some x.1 else row_in rows x.0) (place_itself x.0)
+    here = ap (λ (b : Bool). if b then Some x.1 else row_in rows x.0) (same_place-refl x.0)
 
     one : (y : Place × Row) → row_in rows y.0 ≡ Some y.1 → (c : Bool) → (y.1.key == x.1.key) ≡ c
         → (y.1.key == x.1.key) ≡ false
@@ -204,16 +191,13 @@ place_has (x ∷ rows) p r e = go (place_has rows p r) (same_place x.0 p) e
   where
     go : (row_in rows p ≡ Some r → Has r (rows_in rows)) → (c : Bool)
         → (if c then Some x.1 else row_in rows p) ≡ Some r → Has r (rows_in (x ∷ rows))
-    go rest true f = inl (sym (same_some x.1 r f))
+    go rest true f = inl (sym (same_Some x.1 r f))
     go rest false f = inr (rest f)
 
 -- ---- the entries of a table
 
 abbrev values : List (ℕ × Row) → List Row
 values es = map (λ e. e.1) es
-
-key_same : (k : ℕ) → eq_by_cmp nat_cmp k k ≡ true
-key_same k = grind (arith, nat_tests)
 
 key_apart : (a b : ℕ) → is_lt (nat_cmp a b) ≡ true → eq_by_cmp nat_cmp b a ≡ false
 key_apart a b lt = grind (arith, nat_tests)
@@ -226,7 +210,7 @@ each_found : (es : List (ℕ × Row)) → is_sorted nat_cmp es ≡ true
 each_found [] sorted = tt
 each_found (e ∷ es) sorted =
     let parts = and_parts (below_all nat_cmp e.0 es) (is_sorted nat_cmp es) sorted in (
-      ap (λ (b : Bool). cond b (Some e.1) (find nat_cmp e.0 es)) (key_same e.0),
+      ap (λ (b : Bool). cond b (Some e.1) (find nat_cmp e.0 es)) (cmp_same e.0),
       later es parts.0 (each_found es parts.1),
     )
   where
@@ -264,7 +248,7 @@ find_has (x ∷ es) k r e = go (find_has es k r) (eq_by_cmp nat_cmp k x.0) e
   where
     go : (find nat_cmp k es ≡ Some r → Has r (values es)) → (b : Bool)
         → cond b (Some x.1) (find nat_cmp k es) ≡ Some r → Has r (values (x ∷ es))
-    go rest true f = inl (sym (same_some x.1 r f))
+    go rest true f = inl (sym (same_Some x.1 r f))
     go rest false f = inr (rest f)
 
 record IsKeyed (all : List (ℕ × Row)) (r : Row) : Type 0 where
@@ -277,10 +261,6 @@ has_key all [] r each has = absurd has
 has_key all (e ∷ es) r each (inl same) =
     record { key = e.0; is = each.0 ∙ ap (λ (x : Row). Some x) (sym same) }
 has_key all (e ∷ es) r each (inr has) = has_key all es r each.1 has
-
-true_of : (b : Bool) → T b → b ≡ true
-true_of true h = refl
-true_of false h = absurd h
 
 module _ (rows : List (Place × Row)) (t : Table) (apart : AreApart rows)
     (is : IsTable (row_in rows) (row_of t)) where

@@ -1,9 +1,8 @@
 -- Packed rows lie at home, in clustering order, and so do the quiet ones among them.
-use Rattle.std.proofs.Common.{◌≡◌, ◌==◌, ◌≤◌, ◌<◌, ◌+◌, ◌-◌, ◌⊎◌, inl, inr, nat_le, nat_lt, nat_cmp}
-use Rattle.std.proofs.Common.{is_lt, cond, Less, Equal, Greater, ℕ, suc, Bool, true, false, List}
-use Rattle.std.proofs.Common.{[], ◌∷◌, if◌then◌else◌, get_or, refl, sym, subst, ◌∙◌, arith}
-use Rattle.std.proofs.lemmas.Bool.{eqb-true}
-use Rattle.std.proofs.lemmas.Bool.Decides.{nat_tests}
+use Rattle.std.proofs.Common.{◌≡◌, ◌==◌, ◌<◌, ◌+◌, ◌-◌, ◌⊎◌, inl, inr, nat_le, nat_lt, nat_cmp}
+use Rattle.std.proofs.Common.{is_lt, cond, Less, Equal, Greater, ℕ, Bool, true, false, List}
+use Rattle.std.proofs.Common.{[], ◌∷◌, if◌then◌else◌, refl, sym, ◌∙◌, arith}
+use Rattle.std.proofs.lemmas.Bool.{eqb-true, eqb-false, ltb-false}
 use Rattle.std.specs.List.{AllByRecursion}
 use Rattle.std.specs.Ordering.{ordering_then}
 use Rattle.rg_base.specs.declared.options.Options.{Options}
@@ -14,9 +13,10 @@ use Rattle.rg_model.specs.Quiet.{is_quiet}
 use Rattle.rg_model.specs.Right.{are_quiet_right, quiet_spots}
 use Rattle.rg_laws_utility.specs.TraceLocks.Rising.{InTurn, IsBelow}
 use Rattle.rg_laws_utility.specs.TraceLocks.Switched.{IsHome}
-use Rattle.rg_laws_utility.proofs.TraceLocksLemmas.Switching.{quiet_test}
+use Rattle.rg_laws_utility.proofs.TraceLocksLemmas.Switching.{quiet_test, packed_homes}
 use Rattle.rg_reload.specs.Moved.{rows_in}
 use Rattle.rg_reload.specs.Order.{HaveOtherKeys, IsInOrder, order_cmp, order_key}
+use Rattle.rg_reload.proofs.Clustered.{rest_in_order}
 use Rattle.rg_stmt.specs.declared.event.Entry.{Entry}
 use Rattle.rg_stmt.specs.declared.layout.Spot.{Spot}
 
@@ -31,12 +31,6 @@ below_trans a b c (inl x) (inl y) = inl (omega (arith, x, y))
 below_trans a b c (inl x) (inr y) = inl (omega (arith, x, y.0))
 below_trans a b c (inr x) (inl y) = inl (omega (arith, x.0, y))
 below_trans a b c (inr x) (inr y) = inr (x.0 ∙ y.0, omega (arith, x.1, y.1))
-
-above : (a b : ℕ) → nat_lt a b ≡ false → b ≤ a
-above a b e = grind (arith, nat_tests)
-
-differ : (a b : ℕ) → (a == b) ≡ false → a ≡ b → ⊥
-differ a b e f = grind (arith, nat_tests)
 
 neighbours : (x y : Place × Row) → is_lt (order_cmp (order_key y) (order_key x)) ≡ false
     → (y.1.key == x.1.key) ≡ false → Below x.1 y.1
@@ -54,19 +48,10 @@ neighbours x y e f =
     go false a true b true c s d g = absurd (cc (g))
     go false a true b false c s d g = inr (
       sym (eqb-true y.1.clus x.1.clus b),
-      omega (arith, above y.1.key x.1.key c, differ y.1.key x.1.key f),
+      omega (arith, ltb-false y.1.key x.1.key c, eqb-false y.1.key x.1.key f),
     )
     go false a false b r c s d g =
-        inl (omega (arith, above y.1.clus x.1.clus a, differ y.1.clus x.1.clus b))
-
-rest_in_order : (x : Place × Row) (rows : List (Place × Row)) → IsInOrder (x ∷ rows)
-    → IsInOrder rows
-rest_in_order x rows w = λ k d l h.
-    let e : suc k + 1 ≡ suc (k + 1) = omega arith in
-    subst
-    (λ (n : ℕ). is_lt (order_cmp (order_key (get_or (x ∷ rows) n d)) (order_key (get_or rows k d)))
-    ≡ false) e
-    (w (suc k) d (omega arith) (omega (arith, h)))
+        inl (omega (arith, ltb-false y.1.clus x.1.clus a, eqb-false y.1.clus x.1.clus b))
 
 all_above : (a b : Row) (rows : List Row) → Below a b → AllByRecursion (Below b) rows
     → AllByRecursion (Below a) rows
@@ -137,27 +122,9 @@ spots_turn options k slot free (row ∷ rows) w =
       next,
     )
 
-spots_home : (options : Options) (k slot free : ℕ) (rows : List Row)
-    → AllByRecursion IsHome (spots_from options k slot free rows)
-spots_home options k slot free [] = tt
-spots_home options k slot free (row ∷ rows) =
-    go (nat_le (free_part options + area_of row) free)
-    (spots_home options k (slot + 1) (free - area_of row) rows)
-    (spots_home options (k + 1) 1 (4064 - area_of row) rows)
-  where
-    go : (b : Bool)
-        → AllByRecursion IsHome (spots_from options k (slot + 1) (free - area_of row) rows)
-        → AllByRecursion IsHome (spots_from options (k + 1) 1 (4064 - area_of row) rows)
-        → AllByRecursion IsHome (if b then home_spot (page_at options.freepage k) slot row
-        ∷ spots_from options k (slot + 1) (free - area_of row) rows
-        else home_spot (page_at options.freepage (k + 1)) 0 row
-        ∷ spots_from options (k + 1) 1 (4064 - area_of row) rows)
-    go true here next = (refl, here)
-    go false here next = (refl, next)
-
 -- ---- the quiet ones among them
 
-all_quiet : (P : Spot → Type 0) (past : List Entry) (spots : List Spot) → AllByRecursion P spots
+pub all_quiet : (P : Spot → Type 0) (past : List Entry) (spots : List Spot) → AllByRecursion P spots
     → AllByRecursion P (quiet_spots past spots)
 all_quiet P past [] all = tt
 all_quiet P past (s ∷ spots) all = go (is_quiet s.key past) (all_quiet P past spots all.1)
@@ -185,5 +152,5 @@ packed_quiet options rows past order keys =
     quiet_test past spots (record {
       rise =
           turn_quiet past spots (spots_turn options 0 0 0 (rows_in rows) (in_turn rows order keys));
-      homes = all_quiet IsHome past spots (spots_home options 0 0 0 (rows_in rows));
+      homes = all_quiet IsHome past spots (packed_homes options 0 0 0 (rows_in rows));
     })

@@ -1,18 +1,12 @@
 -- The rows at the homes of a new copy are a table where the rows of its sources are.
 use Rattle.std.proofs.Common.{◌≡◌, ℕ, Option, Some, None, is_some, sym, ◌∙◌, ap}
+use Rattle.std.proofs.lemmas.Option.{same_Some}
 use Rattle.rg_base.specs.declared.place.Place.{Place}
 use Rattle.rg_base.specs.declared.row.Row.{Row}
 use Rattle.rg_home.specs.Table.{IsTable}
 use Rattle.rg_reload.specs.Moved.{row_through}
 use Rattle.rg_shadow.specs.Pieces.{IsMapped}
 use Rattle.rg_shadow.specs.Shade.{Shade, home_rows, source_rows, target_of}
-
-same_some : {A : Type 0} (a b : A) → Some a ≡ Some b → a ≡ b
-same_some {A} a b e = ap from e
-  where
-    from : Option A → A
-    from None = a
-    from (Some x) = x
 
 module _ (s : Shade) (rows : Place → Option Row) (keys : ℕ → Option Row)
     (mapped : IsMapped s.targets (home_rows s))
@@ -54,7 +48,7 @@ module _ (s : Shade) (rows : Place → Option Row) (keys : ℕ → Option Row)
     once = λ p q row other e f keys_same.
         let one = from_source p row e in
         let two = from_source q other f in
-        same_some p q
+        same_Some p q
         (sym one.target
         ∙ ap (target_of s) (is.once one.source two.source row other one.row_is two.row_is keys_same)
         ∙ two.target);

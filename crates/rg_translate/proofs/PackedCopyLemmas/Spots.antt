@@ -2,6 +2,7 @@
 use Rattle.std.proofs.Common.{◌≡◌, ◌||◌, ◌⊎◌, inl, inr, Bool, true, false, List, [], ◌∷◌, ◌++◌}
 use Rattle.std.proofs.Common.{Option, Some, None, if◌then◌else◌, length, refl, sym, ◌∙◌, ap, subst}
 use Rattle.std.specs.List.{flat_map, list_any}
+use Rattle.std.proofs.lemmas.Option.{same_Some}
 use Rattle.rg_base.specs.declared.options.Options.{Options}
 use Rattle.rg_base.specs.declared.place.Place.{Place}
 use Rattle.rg_base.specs.declared.row.Row.{Row}
@@ -13,9 +14,11 @@ use Rattle.rg_home.specs.Rows.{home_row}
 use Rattle.rg_home.specs.Slot.{Slot}
 use Rattle.rg_home.specs.Slot.{Free}
 use Rattle.rg_layout.specs.Spots.{places_to, spot_at, spot_of, spots_of}
-use Rattle.rg_layout.proofs.OnSpots.{homes_rise, place_is, place_itself, rising_from}
+use Rattle.rg_layout.proofs.OnSpots.{homes_rise, rising_from}
 use Rattle.rg_layout.proofs.Places.{all_rise, is_among}
-use Rattle.rg_model.specs.Layout.{are_rising, homes, same_place}
+use Rattle.rg_base.specs.Place.{same_place}
+use Rattle.rg_base.proofs.SamePlace.{same_place-true, same_place-refl}
+use Rattle.rg_model.specs.Layout.{are_rising, homes}
 use Rattle.rg_model.specs.Packed.{home_spot, spots_from}
 use Rattle.rg_laws_utility.specs.TraceLocks.Rising.{IsMember}
 use Rattle.rg_laws_utility.proofs.TraceLocksLemmas.Sorting.{same_spots}
@@ -46,13 +49,6 @@ of_either x (y ∷ xs) ys (inr is) = go (of_either x xs ys is)
     go (inl one) = inl (inr one)
     go (inr other) = inr other
 
-same_some : {A : Type 0} (a b : A) → Some a ≡ Some b → a ≡ b
-same_some {A} a b e = ap from e
-  where
-    from : Option A → A
-    from None = a
-    from (Some x) = x
-
 -- ---- the spots of moved rows
 
 -- the row at a place is among the moved ones
@@ -66,11 +62,11 @@ moved_row (m ∷ ms) p r e = go (moved_row ms p r) (same_place m.target p) refl 
         → (if b then Some m.row else row_in (new_homes ms) p) ≡ Some r
         → IsMember (home_spot p.page p.slot r) (moved_spots (m ∷ ms))
     go rest true same f =
-        let at : m.target ≡ p = place_is m.target p same in
+        let at : m.target ≡ p = same_place-true m.target p same in
         inl
         (sym
         (ap (λ (q : Place). home_spot q.page q.slot m.row) at
-        ∙ ap (home_spot p.page p.slot) (same_some m.row r f)))
+        ∙ ap (home_spot p.page p.slot) (same_Some m.row r f)))
     go rest false other f = inr (rest f)
 
 -- a spot of a moved row, and the row at its place
@@ -87,7 +83,7 @@ row_moved (m ∷ ms) x apart (inl is) = record {
   place = m.target;
   row = m.row;
   row_is = ap (λ (b : Bool). if b then Some m.row else row_in (new_homes ms) m.target)
-      (place_itself m.target);
+      (same_place-refl m.target);
   spot_is = is;
 }
 row_moved (m ∷ ms) x apart (inr is) =
@@ -102,7 +98,7 @@ row_moved (m ∷ ms) x apart (inr is) =
     by_test : (p : Place) (r : Row) → row_in (new_homes ms) p ≡ Some r → (c : Bool)
         → same_place m.target p ≡ c → (if c then Some m.row else row_in (new_homes ms) p) ≡ Some r
     by_test p r f true same =
-        absurd (cc (apart.0, ap (row_in (new_homes ms)) (place_is m.target p same), f))
+        absurd (cc (apart.0, ap (row_in (new_homes ms)) (same_place-true m.target p same), f))
     by_test p r f false other = f
 
 homes_moved : (ms : List Moved) → homes (moved_spots ms) ≡ targets ms
@@ -153,7 +149,7 @@ module _ (ms : List Moved) (pages : List (List Slot))
           → same_place p q ≡ b → (b || list_any (same_place p) ps) ≡ true
           → IsMember x (flat_map (spot_at at) (q ∷ ps))
       go rest true same f = of_left x (spot_at at q) (flat_map (spot_at at) ps)
-          (subst (λ (r : Place). IsMember x (spot_at at r)) (place_is p q same) here)
+          (subst (λ (r : Place). IsMember x (spot_at at r)) (same_place-true p q same) here)
       go rest false other f = of_right x (spot_at at q) (flat_map (spot_at at) ps) (rest f)
 
   taken : (p : Place) (r : Row) → row_in (new_homes ms) p ≡ Some r → slot_of pages p ≡ Free → ⊥

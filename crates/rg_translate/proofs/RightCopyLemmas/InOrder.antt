@@ -1,24 +1,27 @@
 -- Packed rows in order: of two of them, the one at the lower place does not come after the other.
 use Rattle.std.proofs.Common.{◌≡◌, ◌==◌, ◌≤◌, ◌<◌, ◌+◌, ◌-◌, ◌⊎◌, inl, inr, nat_le, nat_lt, nat_cmp}
-use Rattle.std.proofs.Common.{is_lt, cond, Less, Equal, Greater, ℕ, suc, Bool, true, false, List}
-use Rattle.std.proofs.Common.{[], ◌∷◌, Option, Some, None, if◌then◌else◌, get_or, map, refl, sym}
+use Rattle.std.proofs.Common.{is_lt, cond, Less, Equal, Greater, ℕ, Bool, true, false, List}
+use Rattle.std.proofs.Common.{[], ◌∷◌, Some, if◌then◌else◌, map, refl, sym}
 use Rattle.std.proofs.Common.{subst, ◌∙◌, ap, arith}
-use Rattle.std.proofs.lemmas.Bool.{and_parts, eqb-true}
-use Rattle.std.proofs.lemmas.Bool.Decides.{nat_tests}
+use Rattle.std.proofs.lemmas.Bool.{and_parts, eqb-true, eqb-false, ltb-false}
 use Rattle.std.specs.List.{AllByRecursion, list_all}
 use Rattle.std.specs.Ordering.{ordering_then}
+use Rattle.std.proofs.lemmas.Option.{same_Some}
 use Rattle.rg_base.specs.declared.options.Options.{Options}
 use Rattle.rg_base.specs.declared.place.Place.{Place}
 use Rattle.rg_base.specs.declared.row.Row.{Row}
 use Rattle.rg_feed.specs.Fold.Fold.{row_in}
-use Rattle.rg_layout.proofs.OnSpots.{place_is}
-use Rattle.rg_model.specs.Layout.{are_rising, is_place_before, same_place}
+use Rattle.rg_base.specs.Place.{same_place}
+use Rattle.rg_base.proofs.SamePlace.{same_place-true}
+use Rattle.rg_model.specs.Layout.{are_rising, is_place_before}
 use Rattle.rg_model.specs.Packed.{area_of, free_part, page_at}
+use Rattle.rg_model.proofs.Before.{never_itself, never_both}
 use Rattle.rg_laws_utility.specs.TraceLocks.Rising.{InTurn, IsMember}
 use Rattle.rg_laws_utility.proofs.TraceLocksLemmas.Sorting.{later_member}
 use Rattle.rg_reload.specs.Moved.{Moved, moved_from, moved_to, new_homes, packed_rows, rows_in}
 use Rattle.rg_reload.specs.Order.{IsInOrder, order_cmp, order_key}
 use Rattle.rg_reload.proofs.Rising.{targets, targets_rise}
+use Rattle.rg_reload.proofs.Clustered.{rest_in_order}
 
 -- ---- rows in order
 
@@ -31,12 +34,6 @@ not_after-trans a b c (inl x) (inl y) = inl (omega (arith, x, y))
 not_after-trans a b c (inl x) (inr y) = inl (omega (arith, x, y.0))
 not_after-trans a b c (inr x) (inl y) = inl (omega (arith, x.0, y))
 not_after-trans a b c (inr x) (inr y) = inr (x.0 ∙ y.0, omega (arith, x.1, y.1))
-
-above : (a b : ℕ) → nat_lt a b ≡ false → b ≤ a
-above a b e = grind (arith, nat_tests)
-
-differ : (a b : ℕ) → (a == b) ≡ false → a ≡ b → ⊥
-differ a b e f = grind (arith, nat_tests)
 
 neighbours : (x y : Place × Row) → is_lt (order_cmp (order_key y) (order_key x)) ≡ false
     → NotAfter x.1 y.1
@@ -53,18 +50,9 @@ neighbours x y e =
     go true a q b r c s g = absurd (cc (g))
     go false a true b true c s g = absurd (cc (g))
     go false a true b false c s g =
-        inr (sym (eqb-true y.1.clus x.1.clus b), above y.1.key x.1.key c)
+        inr (sym (eqb-true y.1.clus x.1.clus b), ltb-false y.1.key x.1.key c)
     go false a false b r c s g =
-        inl (omega (arith, above y.1.clus x.1.clus a, differ y.1.clus x.1.clus b))
-
-rest_in_order : (x : Place × Row) (rows : List (Place × Row)) → IsInOrder (x ∷ rows)
-    → IsInOrder rows
-rest_in_order x rows w = λ k d l h.
-    let e : suc k + 1 ≡ suc (k + 1) = omega arith in
-    subst
-    (λ (n : ℕ). is_lt (order_cmp (order_key (get_or (x ∷ rows) n d)) (order_key (get_or rows k d)))
-    ≡ false) e
-    (w (suc k) d (omega arith) (omega (arith, h)))
+        inl (omega (arith, ltb-false y.1.clus x.1.clus a, eqb-false y.1.clus x.1.clus b))
 
 all_further : (a b : Row) (rows : List Row) → NotAfter a b → AllByRecursion (NotAfter b) rows
     → AllByRecursion (NotAfter a) rows
@@ -85,19 +73,6 @@ in_turn (x ∷ y ∷ rows) w =
 abbrev places : List (Place × Row) → List Place
 places rows = map (λ homed. homed.0) rows
 
-never_itself : (p : Place) → is_place_before p p ≡ true → ⊥
-never_itself p e = grind (arith, nat_tests)
-
-never_both : (p q : Place) → is_place_before p q ≡ true → is_place_before q p ≡ true → ⊥
-never_both p q e f = grind (arith, nat_tests)
-
-same_some : {A : Type 0} (a b : A) → Some a ≡ Some b → a ≡ b
-same_some {A} a b e = ap from e
-  where
-    from : Option A → A
-    from None = a
-    from (Some x) = x
-
 has_row : (rows : List (Place × Row)) (p : Place) (row : Row) → row_in rows p ≡ Some row
     → IsMember row (rows_in rows)
 has_row [] p row e = absurd (cc (e))
@@ -105,7 +80,7 @@ has_row (x ∷ rows) p row e = go (has_row rows p row) (same_place x.0 p) e
   where
     go : (row_in rows p ≡ Some row → IsMember row (rows_in rows)) → (b : Bool)
         → (if b then Some x.1 else row_in rows p) ≡ Some row → IsMember row (rows_in (x ∷ rows))
-    go rest true f = inl (sym (same_some x.1 row f))
+    go rest true f = inl (sym (same_Some x.1 row f))
     go rest false f = inr (rest f)
 
 -- a row's place is behind one that is before all
@@ -123,7 +98,7 @@ place_behind place (x ∷ rows) all p row e =
         → (b : Bool) → same_place x.0 p ≡ b → (if b then Some x.1 else row_in rows p) ≡ Some row
         → is_place_before place p ≡ true
     go first rest true same f =
-        subst (λ r. is_place_before place r ≡ true) (place_is x.0 p same) first
+        subst (λ r. is_place_before place r ≡ true) (same_place-true x.0 p same) first
     go first rest false other f = rest f
 
 placed_in_order : (rows : List (Place × Row)) → InTurn NotAfter (rows_in rows)
@@ -144,15 +119,16 @@ placed_in_order (x ∷ rows) w rise p q row other e f before =
         → NotAfter row other
     go first rest true a d true b g = absurd
         (never_itself p
-        (subst (λ r. is_place_before p r ≡ true) (sym (place_is x.0 q b) ∙ place_is x.0 p a)
+        (subst (λ r. is_place_before p r ≡ true)
+        (sym (same_place-true x.0 q b) ∙ same_place-true x.0 p a)
         before))
     go first rest true a d false b g =
-        subst (λ r. NotAfter r other) (same_some x.1 row d)
+        subst (λ r. NotAfter r other) (same_Some x.1 row d)
         (later_member NotAfter x.1 other (rows_in rows) w.0 (has_row rows q other g))
     go first rest false a d true b g =
         absurd
         (never_both p q before
-        (subst (λ r. is_place_before r p ≡ true) (place_is x.0 q b)
+        (subst (λ r. is_place_before r p ≡ true) (same_place-true x.0 q b)
         (place_behind x.0 rows first p row d)))
     go first rest false a d false b g = rest d g
 

@@ -2,6 +2,7 @@
 use Rattle.std.proofs.Common.{◌≡◌, ℕ, Bool, true, List, Option, Some, None, is_some, length, take}
 use Rattle.std.proofs.Common.{refl, sym, ◌∙◌, ap, arith}
 use Rattle.std.proofs.Math.Seq.{take-length}
+use Rattle.std.proofs.lemmas.Option.{same_Some}
 use Rattle.rg_base.specs.declared.change.Change.{Change}
 use Rattle.rg_base.specs.declared.options.Options.{Options}
 use Rattle.rg_base.specs.declared.place.Place.{Place}
@@ -26,13 +27,6 @@ use Rattle.rg_shadow.specs.Shade.{Shade, home_rows, lies_in, shade_slots, source
 use Rattle.rg_stmt.specs.declared.layout.Spot.{Spot}
 use Rattle.rg_translate.specs.RightCopy.Caught.{IsCaughtUp}
 
-same_some : {A : Type 0} (a b : A) → Some a ≡ Some b → a ≡ b
-same_some {A} a b e = ap from e
-  where
-    from : Option A → A
-    from None = a
-    from (Some x) = x
-
 -- a spot of one of these rows, which lies at home
 pub record IsAmong (rows : List (Place × TableRow)) (spot : Spot) : Type 0 where
   pub row : TableRow
@@ -55,7 +49,7 @@ lies_home : (at : Place → Slot) (home : Place) (slot : Slot) (row : TableRow) 
 lies_home at home Free row is e lies = refl
 lies_home at home (Row c r) row is e lies = refl
 lies_home at home (Pointer c other) row is e lies =
-    let itself : at other ≡ Pointer c other = ap at (same_some other home lies) ∙ is in
+    let itself : at other ≡ Pointer c other = ap at (same_Some other home lies) ∙ is in
     absurd (cc (sym (ap over_row itself) ∙ e))
 lies_home at home (Over c r h) row is e lies = refl
 lies_home at home (DeadRow c u) row is e lies = refl

@@ -7,7 +7,6 @@ use Rattle.std.proofs.lemmas.Bool.Decides.{nat_tests}
 use Rattle.rg_base.specs.declared.place.Place.{Place}
 use Rattle.rg_base.specs.declared.row.Row.{Row}
 use Rattle.rg_feed.specs.Fold.Fold.{row_in}
-use Rattle.rg_index.specs.Entries.{Each}
 use Rattle.rg_model.specs.Layout.{is_place_before}
 use Rattle.rg_model.specs.Quiet.{is_quiet}
 use Rattle.rg_model.specs.Right.{are_clustered, are_quiet_right, is_at_home, is_clustered_pair}
@@ -18,18 +17,9 @@ use Rattle.rg_stmt.specs.declared.event.Entry.{Entry}
 use Rattle.rg_stmt.specs.declared.layout.Spot.{Spot}
 use Rattle.rg_translate.proofs.RightCopyLemmas.InOrder.{NotAfter}
 use Rattle.rg_translate.proofs.RightCopyLemmas.Lying.{IsAmong}
+use Rattle.rg_translate.proofs.PackedCopyLemmas.Quiet.{all_quiet}
 
 -- ---- the quiet ones among spots
-
-all_quiet : (P : Spot → Type 0) (past : List Entry) (spots : List Spot) → AllByRecursion P spots
-    → AllByRecursion P (quiet_spots past spots)
-all_quiet P past [] all = tt
-all_quiet P past (s ∷ spots) all = go (is_quiet s.key past) (all_quiet P past spots all.1)
-  where
-    go : (b : Bool) → AllByRecursion P (quiet_spots past spots)
-        → AllByRecursion P (if b then s ∷ quiet_spots past spots else quiet_spots past spots)
-    go true rest = (all.0, rest)
-    go false rest = rest
 
 turn_quiet : (R : Spot → Spot → Type 0) (past : List Entry) (spots : List Spot) → InTurn R spots
     → InTurn R (quiet_spots past spots)
@@ -43,7 +33,8 @@ turn_quiet R past (s ∷ spots) w = go (is_quiet s.key past) (turn_quiet R past 
 
 -- what holds of each spot whose key is quiet holds of the quiet spots
 each_quiet : (P : Spot → Type 0) (past : List Entry) (spots : List Spot)
-    → Each (λ s. is_quiet s.key past ≡ true → P s) spots → AllByRecursion P (quiet_spots past spots)
+    → AllByRecursion (λ s. is_quiet s.key past ≡ true → P s) spots
+    → AllByRecursion P (quiet_spots past spots)
 each_quiet P past [] each = tt
 each_quiet P past (s ∷ spots) each = go (is_quiet s.key past) refl (each_quiet P past spots each.1)
   where
@@ -97,7 +88,8 @@ module _ (rows : List (Place × Row))
       (home_test s among.0.home) (at_home spots among.1)
 
   pub quiet_right : (past : List Entry) (spots : List Spot)
-      → Each (λ s. is_quiet s.key past ≡ true → IsAmong rows s) spots → InTurn LiesBefore spots
+      → AllByRecursion (λ s. is_quiet s.key past ≡ true → IsAmong rows s) spots
+      → InTurn LiesBefore spots
       → are_quiet_right past spots ≡ true
   quiet_right past spots each w =
       let among = each_quiet (IsAmong rows) past spots each in

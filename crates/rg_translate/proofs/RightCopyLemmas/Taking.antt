@@ -1,11 +1,11 @@
 -- A new copy is loaded, batches of changes are taken, indexes are made, and more is received.
-use Rattle.std.proofs.Common.{◌≡◌, ◌==◌, ℕ, ◌+◌, ◌≤◌, ◌*◌, ◌&&◌, ◌||◌, nat_le, zero, suc, Bool}
+use Rattle.std.proofs.Common.{◌≡◌, ◌==◌, ℕ, ◌+◌, ◌≤◌, ◌*◌, ◌&&◌, ◌||◌, nat_le, Bool}
 use Rattle.std.proofs.Common.{List, [], ◌∷◌, ◌++◌, Option, Some, None, if◌then◌else◌, refl, sym}
-use Rattle.std.proofs.Common.{subst, ◌∙◌, ap, append_assoc, arith, drop, length, take}
+use Rattle.std.proofs.Common.{subst, ◌∙◌, ap, arith, drop, length, take}
 use Rattle.std.specs.List.{AllByRecursion}
 use Rattle.std.specs.List.Sorted.{IsPermutation}
 use Rattle.std.proofs.Math.Seq.{take-add}
-use Rattle.std.proofs.lemmas.List.{append-nil, take-append-le}
+use Rattle.std.proofs.lemmas.List.{take-append-le}
 use Rattle.rg_base.specs.declared.change.Change.{Change}
 use Rattle.rg_base.specs.declared.options.Options.{Options}
 use Rattle.rg_base.specs.declared.place.Place.{Place}
@@ -13,8 +13,8 @@ use Rattle.rg_base.specs.declared.row.Row.{Row}
 use Rattle.rg_base.specs.declared.which.Which.{Which}
 use Rattle.rg_base.specs.declared.which.Which.TheVariants.{Key, Clus, Cat}
 use Rattle.rg_laws_pages.specs.ByteClaims.Claim.{claimed_all, nobody}
-use Rattle.rg_feed.specs.Fold.Fold.{changes, copied_rows, fold_from, fold_to, since, since_begin}
-use Rattle.rg_feed.specs.Fold.Fold.{step_at, up_to}
+use Rattle.rg_feed.specs.Fold.Fold.{changes, copied_rows, fold_from, fold_to, since_begin}
+use Rattle.rg_feed.specs.Fold.Fold.{up_to}
 use Rattle.rg_feed.specs.Fold.Last.{last_at, later_of}
 use Rattle.rg_feed.specs.Fold.Lawful.{Lawful, kept, passes_over}
 use Rattle.rg_feed.specs.declared.fold.item.Item.{Item}
@@ -23,11 +23,12 @@ use Rattle.rg_feed.specs.declared.fold.item.Item.TheVariants as items
 use Rattle.rg_feed.proofs.FoldLemmas.Folds.{changes-append, since-append}
 use Rattle.rg_feed.proofs.FoldLemmas.Loaded.{copies_apart, load}
 use Rattle.rg_feed.proofs.FoldLemmas.Permuted.{same_rows}
+use Rattle.rg_feed.proofs.FoldLemmas.Batches.{both_none}
 use Rattle.rg_home.specs.Pages.{slot_of}
 use Rattle.rg_home.specs.Rows.{lies_at, row_at}
 use Rattle.rg_home.specs.Slot.{Slot}
 use Rattle.rg_translate.specs.Load.Loaded.{IsPacked}
-use Rattle.rg_model.specs.Layout.{same_place}
+use Rattle.rg_base.specs.Place.{same_place}
 use Rattle.rg_page.specs.Content.{Content, slots_of}
 use Rattle.rg_laws_utility.specs.CopyWeight.Weighed.{weigh_changes, weigh_feed}
 use Rattle.rg_laws_utility.proofs.CopyWeightLemmas.Bounding.{first_kept}
@@ -43,6 +44,7 @@ use Rattle.rg_translate.proofs.Making.{unmoved_none}
 use Rattle.rg_translate.proofs.Taking.{kept-append}
 use Rattle.rg_translate.proofs.Weighing.{weigh-append}
 use Rattle.rg_translate.specs.RightCopy.Caught.{IsCaughtUp}
+use Rattle.rg_translate.proofs.Later.{same_so_far, since-later}
 
 -- ---- the load
 
@@ -64,11 +66,6 @@ loaded options rows s feed lawful permuted packed mapped =
     }
 
 -- ---- a batch
-
-both_none : (later earlier : Option Change) → later_of later earlier ≡ None
-    → (later ≡ None) × (earlier ≡ None)
-both_none None earlier e = (refl, e)
-both_none (Some change) earlier e = absurd (cc (e))
 
 -- a place that none of these changes names
 named_before : (place : Place) (xs ys : List Change) → last_at place (xs ++ ys) ≡ None
@@ -165,43 +162,6 @@ stage_made options rows first s feed taken Cat stage h = record {
 
 -- ---- more items
 
--- items that are no Begin stand behind those before
-since_later : (before more : List Item) → AllByRecursion IsLater more
-    → since before more ≡ before ++ more
-since_later before [] later = sym (append-nil before)
-since_later before (Begin o n ∷ more) later = absurd later.0
-since_later before (PageCopy n at rows ∷ more) later = absurd later.0
-since_later before (items.Change c ∷ more) later =
-    since_later (before ++ items.Change c ∷ []) more later.1
-    ∙ append_assoc before (items.Change c ∷ []) more
-since_later before (Booked s ∷ more) later =
-    since_later (before ++ Booked s ∷ []) more later.1 ∙ append_assoc before (Booked s ∷ []) more
-
--- without their changes they leave each row
-none_done : (place : Place) (row : Option Row) (more : List Item) → AllByRecursion IsLater more
-    → fold_from place row (up_to more 0) ≡ row
-none_done place row [] later = refl
-none_done place row (Begin o n ∷ more) later = absurd later.0
-none_done place row (PageCopy n at rows ∷ more) later = absurd later.0
-none_done place row (items.Change c ∷ more) later = none_done place row more later.1
-none_done place row (Booked s ∷ more) later = none_done place row more later.1
-
-same_so_far : (place : Place) (row : Option Row) (feed more : List Item) (k : ℕ)
-    → k ≤ length (changes feed) → AllByRecursion IsLater more
-    → fold_from place row (up_to (feed ++ more) k) ≡ fold_from place row (up_to feed k)
-same_so_far place row [] more k few later =
-    let none : k ≡ 0 = omega (arith, few) in
-    ap (λ k. fold_from place row (up_to more k)) none ∙ none_done place row more later
-    ∙ sym (ap (λ k. fold_from place row (up_to [] k)) none)
-same_so_far place row (Begin o n ∷ xs) more k few later = same_so_far place None xs more k few later
-same_so_far place row (PageCopy n at rows ∷ xs) more k few later =
-    same_so_far place (step_at place (PageCopy n at rows) row) xs more k few later
-same_so_far place row (items.Change c ∷ xs) more zero few later =
-    same_so_far place row xs more zero (omega arith) later
-same_so_far place row (items.Change c ∷ xs) more (suc k) few later =
-    same_so_far place (step_at place (items.Change c) row) xs more k (omega (arith, few)) later
-same_so_far place row (Booked s ∷ xs) more k few later = same_so_far place row xs more k few later
-
 -- what is added passes nothing over
 later_passes : (xs more : List Item) (change : Change) → AllByRecursion IsLater more
     → passes_over (xs ++ more) change ≡ passes_over xs change
@@ -232,7 +192,7 @@ pub more_received : (options : Options) (rows : List (Place × Row)) (first s : 
 more_received options rows first s feed more taken adds within h =
     let since_is : since_begin more ≡ since_begin feed ++ adds.more =
     ap since_begin adds.items ∙ since-append [] feed adds.more
-    ∙ since_later (since_begin feed) adds.more adds.later in
+    ∙ since-later (since_begin feed) adds.more adds.later in
     let same : take taken (changes (since_begin more)) ≡ take taken (changes (since_begin feed)) =
     ap (λ xs. take taken (changes xs)) since_is
     ∙ ap (take taken) (changes-append (since_begin feed) adds.more)

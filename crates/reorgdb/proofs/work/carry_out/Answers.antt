@@ -1,5 +1,4 @@
 use Rattle.std.proofs.Common.{Result, OnErr, map, string_bytes, refl, subst}
-use Rattle.rg_engine.specs.Volume.{seen_volume}
 use Rattle.rg_words.specs.Spelling.{IsAdmitted, Spells}
 use Rattle.rg_words.specs.declared.words.Admits.TheVariants.{Gen as UpToGen}
 use Rattle.rg_words.specs.declared.words.Words.{Words}
@@ -14,9 +13,10 @@ pub returns-in-Ok-Layout-clause-comes : goal.returns-in-Ok-Layout-clause-comes
 returns-in-Ok-Layout-clause-comes g c =
     let words = map string_bytes c.args.words.now in
     let source = seen g.S.Source.left g.S.Source.faults c.args.source.now in
-    let look = seen_volume g.V.Volume.told g.V.Volume.faults g.V.Volume.capacities in
-    comes_shown c.show_layout.result.outcome words source source (look c.args.volume)
-    (look c.show_layout.result.volume) c.show_layout.result.trace.items c.show_layout.result.text
+    let look = g.V.Volume.seen in
+    comes_shown c.show_layout.result.end.outcome words source source (look c.args.volume)
+    (look c.show_layout.result.volume) c.show_layout.result.trace.items
+    c.show_layout.result.end.text
     (c.show_layout.ensures.shows words source
     (subst (λ (asked : Words). Spells asked words) c.in-Ok-Layout.field-0-is
     c.in-Ok-Layout.ensures.command.0))
@@ -40,5 +40,5 @@ returns-in-Err-Unknown-clause-asked g c = none_asked g.O.Operator.answers c.args
 
 pub returns-in-Err-Unknown-clause-traced : goal.returns-in-Err-Unknown-clause-traced
 returns-in-Err-Unknown-clause-traced g c =
-    none_traced (seen_volume g.V.Volume.told g.V.Volume.faults g.V.Volume.capacities) c.args.volume
+    none_traced g.V.Volume.seen c.args.volume
     c.bare.result.volume c.bare.result.trace.items c.bare.ensures.volume c.bare.ensures.trace

@@ -1,5 +1,4 @@
 use Rattle.std.proofs.Common.{sym, subst}
-use Rattle.rg_engine.specs.Volume.{seen_volume}
 use Rattle.reorgdb.specs.Answer.{DealsWithLines, Finds}
 use Rattle.reorgdb.proofs.Asked.{run_asked}
 use Rattle.reorgdb.proofs.Traces.{run_traced}
@@ -7,36 +6,38 @@ use Rattle.reorgdb.proofs.work.play_lines.Goals as goal
 
 pub returns-clause-deals : goal.returns-clause-deals
 returns-clause-deals g c =
-    let look = seen_volume g.V.Volume.told g.V.Volume.faults g.V.Volume.capacities in
+    let look = g.V.Volume.seen in
     let ran = c.run_lines.result in
     let made = c.tell_run.result in
     subst
     (λ (v : g.row.V.Denot). DealsWithLines c.args.tells (look c.args.volume) (look v)
-    c.args.lines.items made.outcome made.trace.items made.text) (sym c.tell_run.ensures.volume)
-    (c.tell_run.ensures.deals (look c.args.volume) (look ran.played.volume) c.args.lines.items
+    c.args.lines.items made.end.outcome made.trace.items made.end.text)
+    (sym c.tell_run.ensures.volume)
+    (c.tell_run.ensures.deals (look c.args.volume) (look ran.volume) c.args.lines.items
     c.run_lines.ensures.whole.ends c.run_lines.ensures.whole.is_end c.run_lines.ensures.told)
 
 pub returns-clause-traced : goal.returns-clause-traced
 returns-clause-traced g c =
-    let look = seen_volume g.V.Volume.told g.V.Volume.faults g.V.Volume.capacities in
+    let look = g.V.Volume.seen in
     let ran = c.run_lines.result in
-    run_traced look (look c.args.volume) ran.played.volume c.tell_run.result.volume
-    c.args.lines.items ran.played.trace.items c.tell_run.result.trace.items ran.played.end
+    run_traced look (look c.args.volume) ran.volume c.tell_run.result.volume
+    c.args.lines.items ran.trace.items c.tell_run.result.trace.items ran.end.end
     c.tell_run.ensures.volume c.tell_run.ensures.trace c.run_lines.ensures.whole
 
 pub returns-clause-finds : goal.returns-clause-finds
 returns-clause-finds g c =
-    let look = seen_volume g.V.Volume.told g.V.Volume.faults g.V.Volume.capacities in
+    let look = g.V.Volume.seen in
     let ran = c.run_lines.result in
     let made = c.tell_run.result in
-    subst (λ (v : g.row.V.Denot). Finds made.outcome (look c.args.volume) (look v) made.trace.items)
+    subst
+    (λ (v : g.row.V.Denot). Finds made.end.outcome (look c.args.volume) (look v) made.trace.items)
     (sym c.tell_run.ensures.volume)
-    (c.tell_run.ensures.finds (look c.args.volume) (look ran.played.volume)
+    (c.tell_run.ensures.finds (look c.args.volume) (look ran.volume)
     c.run_lines.ensures.whole.is_end)
 
 pub returns-clause-asked : goal.returns-clause-asked
 returns-clause-asked g c =
     let ran = c.run_lines.result in
-    run_asked g.O.Operator.answers c.args.operator ran.played.operator c.tell_run.result.operator
-    ran.played.trace.items c.tell_run.result.trace.items c.tell_run.ensures.operator
+    run_asked g.O.Operator.answers c.args.operator ran.operator c.tell_run.result.operator
+    ran.trace.items c.tell_run.result.trace.items c.tell_run.ensures.operator
     c.tell_run.ensures.trace c.run_lines.ensures.asked

@@ -1,6 +1,5 @@
 use Rattle.std.proofs.Common.{List, sym, subst}
 use Rattle.std.specs.List.{AllByRecursion}
-use Rattle.rg_engine.specs.Volume.{seen_volume}
 use Rattle.rg_run.specs.Played.{IsPlayed}
 use Rattle.rg_stmt.specs.declared.line.Line.{Line}
 use Rattle.reorgdb.specs.Answer.{DealsWithLines}
@@ -16,11 +15,11 @@ play_lines-requires g c = subst (λ (ls : List Line). AllByRecursion IsPlayed ls
 
 pub returns-in-Ok-clause-deals : goal.returns-in-Ok-clause-deals
 returns-in-Ok-clause-deals g c =
-    let look = seen_volume g.V.Volume.told g.V.Volume.faults g.V.Volume.capacities in
+    let look = g.V.Volume.seen in
     let made = c.play_lines.result in
     subst
     (λ (ls : List Line). DealsWithLines (Summary c.args.seed c.args.rows) (look c.args.volume)
-    (look made.volume) ls made.outcome made.trace.items made.text) c.in-Ok.ensures
+    (look made.volume) ls made.end.outcome made.trace.items made.end.text) c.in-Ok.ensures
     c.play_lines.ensures.deals
 
 pub returns-in-Err-clause-asked : goal.returns-in-Err-clause-asked
@@ -29,5 +28,5 @@ returns-in-Err-clause-asked g c = none_asked g.O.Operator.answers c.args.operato
 
 pub returns-in-Err-clause-traced : goal.returns-in-Err-clause-traced
 returns-in-Err-clause-traced g c =
-    none_traced (seen_volume g.V.Volume.told g.V.Volume.faults g.V.Volume.capacities) c.args.volume
+    none_traced g.V.Volume.seen c.args.volume
     c.bare.result.volume c.bare.result.trace.items c.bare.ensures.volume c.bare.ensures.trace

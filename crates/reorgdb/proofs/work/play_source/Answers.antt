@@ -1,5 +1,4 @@
 use Rattle.std.proofs.Common.{ℕ, List, subst}
-use Rattle.rg_engine.specs.Volume.{seen_volume}
 use Rattle.reorgdb.specs.Answer.{DealsWithBytes, seen}
 use Rattle.reorgdb.proofs.Asked.{none_asked}
 use Rattle.reorgdb.proofs.Deals.{plays_read}
@@ -8,12 +7,12 @@ use Rattle.reorgdb.proofs.work.play_source.Goals as goal
 
 pub returns-in-Ok-clause-plays : goal.returns-in-Ok-clause-plays
 returns-in-Ok-clause-plays g c words asked =
-    let look = seen_volume g.V.Volume.told g.V.Volume.faults g.V.Volume.capacities in
+    let look = g.V.Volume.seen in
     let made = c.play_bytes.result in
-    plays_read made.outcome c.args.tells words
+    plays_read made.end.outcome c.args.tells words
     (seen g.S.Source.left g.S.Source.faults c.args.source.now)
     (seen g.S.Source.left g.S.Source.faults c.read_source.new.source) (look c.args.volume)
-    (look made.volume) c.in-Ok.bytes.items made.trace.items made.text asked
+    (look made.volume) c.in-Ok.bytes.items made.trace.items made.end.text asked
     (record {
       short = c.in-Ok.ensures.short;
       taken = c.in-Ok.ensures.read;
@@ -21,7 +20,8 @@ returns-in-Ok-clause-plays g c words asked =
     })
     (subst
     (λ (bytes : List ℕ). DealsWithBytes c.args.tells (look c.args.volume) (look made.volume) bytes
-    made.outcome made.trace.items made.text) c.deref.ensures.value c.play_bytes.ensures.deals)
+    made.end.outcome made.trace.items made.end.text) c.deref.ensures.value
+    c.play_bytes.ensures.deals)
 
 pub returns-in-Err-Failed-clause-asked : goal.returns-in-Err-Failed-clause-asked
 returns-in-Err-Failed-clause-asked g c = none_asked g.O.Operator.answers c.args.operator
@@ -39,17 +39,17 @@ returns-in-Err-NoMemory-clause-asked g c = none_asked g.O.Operator.answers c.arg
 
 pub returns-in-Err-Failed-clause-traced : goal.returns-in-Err-Failed-clause-traced
 returns-in-Err-Failed-clause-traced g c =
-    none_traced (seen_volume g.V.Volume.told g.V.Volume.faults g.V.Volume.capacities) c.args.volume
+    none_traced g.V.Volume.seen c.args.volume
     c.bare.result.volume c.bare.result.trace.items c.bare.ensures.volume c.bare.ensures.trace
 
 pub returns-in-Err-Long-clause-traced : goal.returns-in-Err-Long-clause-traced
 returns-in-Err-Long-clause-traced g c =
-    none_traced (seen_volume g.V.Volume.told g.V.Volume.faults g.V.Volume.capacities) c.args.volume
+    none_traced g.V.Volume.seen c.args.volume
     c.bare-in-Err-Long.result.volume c.bare-in-Err-Long.result.trace.items
     c.bare-in-Err-Long.ensures.volume c.bare-in-Err-Long.ensures.trace
 
 pub returns-in-Err-NoMemory-clause-traced : goal.returns-in-Err-NoMemory-clause-traced
 returns-in-Err-NoMemory-clause-traced g c =
-    none_traced (seen_volume g.V.Volume.told g.V.Volume.faults g.V.Volume.capacities) c.args.volume
+    none_traced g.V.Volume.seen c.args.volume
     c.bare-in-Err-NoMemory.result.volume c.bare-in-Err-NoMemory.result.trace.items
     c.bare-in-Err-NoMemory.ensures.volume c.bare-in-Err-NoMemory.ensures.trace

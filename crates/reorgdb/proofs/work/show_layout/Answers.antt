@@ -1,5 +1,4 @@
 use Rattle.std.proofs.Common.{◌≡◌, ◌++◌, List, [], ◌∷◌, sym, subst}
-use Rattle.rg_engine.specs.Volume.{seen_volume}
 use Rattle.rg_run.specs.Outside.{IsEnd}
 use Rattle.rg_run.specs.Table.{Ends}
 use Rattle.rg_run.specs.Whole.{Whole}
@@ -11,7 +10,7 @@ use Rattle.reorgdb.proofs.work.show_layout.Goals as goal
 
 pub returns-in-Ok-clause-shows : goal.returns-in-Ok-clause-shows
 returns-in-Ok-clause-shows g c = λ words source show.
-    let look = seen_volume g.V.Volume.told g.V.Volume.faults g.V.Volume.capacities in
+    let look = g.V.Volume.seen in
     let lines : c.push.new.self.items ≡ Show ∷ [] =
     subst (λ (ls : List Line). c.push.new.self.items ≡ ls ++ Show ∷ []) c.new-lines.ensures.items
     c.in-Ok.ensures.items in
@@ -25,7 +24,7 @@ returns-in-Ok-clause-shows g c = λ words source show.
 
 pub returns-in-Ok-clause-finds : goal.returns-in-Ok-clause-finds
 returns-in-Ok-clause-finds g c =
-    let look = seen_volume g.V.Volume.told g.V.Volume.faults g.V.Volume.capacities in
+    let look = g.V.Volume.seen in
     let run = c.run.result in
     let lines : c.push.new.self.items ≡ Show ∷ [] =
     subst (λ (ls : List Line). c.push.new.self.items ≡ ls ++ Show ∷ []) c.new-lines.ensures.items
@@ -42,7 +41,7 @@ returns-in-Ok-clause-finds g c =
 
 pub returns-in-Ok-clause-traced : goal.returns-in-Ok-clause-traced
 returns-in-Ok-clause-traced g c =
-    let look = seen_volume g.V.Volume.told g.V.Volume.faults g.V.Volume.capacities in
+    let look = g.V.Volume.seen in
     let run = c.run.ensures in
     let whole : Whole (look c.args.volume) (look c.run.result.volume) c.push.new.self.items
     c.run.result.trace.items c.run.result.end = record {
@@ -67,7 +66,7 @@ returns-in-Ok-clause-traced g c =
 
 pub returns-in-Err-clause-traced : goal.returns-in-Err-clause-traced
 returns-in-Err-clause-traced g c =
-    none_traced (seen_volume g.V.Volume.told g.V.Volume.faults g.V.Volume.capacities) c.args.volume
+    none_traced g.V.Volume.seen c.args.volume
     c.bare.result.volume c.bare.result.trace.items c.bare.ensures.volume c.bare.ensures.trace
 
 pub returns-in-Ok-clause-asked : goal.returns-in-Ok-clause-asked

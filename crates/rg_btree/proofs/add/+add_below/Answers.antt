@@ -1,18 +1,16 @@
-use Rattle.std.proofs.Common.{◌≡◌, ◌<◌, ◌≤◌, ◌-◌, suc, ℕ, ◌∷◌, Option, Some, None, length, take}
+use Rattle.std.proofs.Common.{◌≡◌, ◌<◌, ◌-◌, suc, ℕ, ◌∷◌, take}
 use Rattle.std.proofs.Common.{drop, sym, ◌∙◌, ap, subst, vec_capacity, arith}
 use Rattle.std.specs.Option.{option_to_list}
-use Rattle.rg_bulk.specs.Branch.{Branch, branch_of}
-use Rattle.rg_bulk.specs.Shape.{EachOf, IsKid}
+use Rattle.rg_bulk.specs.Branch.{branch_of}
+use Rattle.std.specs.List.{AllByRecursion}
+use Rattle.rg_bulk.specs.Shape.{IsKid}
 use Rattle.rg_btree.specs.Child.{firsts}
 use Rattle.rg_btree.proofs.Below.{below, renewed, keys_rise, all_added, split_is, still_full}
 use Rattle.rg_btree.proofs.Below.{at_level}
 use Rattle.rg_btree.proofs.Kids.{HasEntry, inner_of, node_of, branch_is, kids_have_entries}
-use Rattle.rg_btree.proofs.Kids.{EachOf-set, take_set, drop_set, firsts-take, firsts-drop}
+use Rattle.rg_btree.proofs.Kids.{Each-set, take_set, drop_set, firsts-take, firsts-drop}
+use Rattle.rg_btree.proofs.Kids.{at_most_one}
 use Rattle.rg_btree.proofs.add.+add_below.Goals as goal
-
-at_most_one : (right : Option Branch) → length (option_to_list right) ≤ 1
-at_most_one None = omega arith
-at_most_one (Some kid) = omega arith
 
 above : (h : ℕ) → (h ≡ 0 → ⊥) → suc (h - 1) ≡ h
 above h high = omega arith
@@ -64,11 +62,12 @@ renew_kid-requires-clause-some t c =
     c.node.invariant c.if-node-eq0.false c.node.view_is c.requires.rising c.as_slice.ensures.value
     c.child_of-at.ensures c.index_mut.ensures.value in
     let each = subst
-    (λ k. EachOf (IsKid k) (c.add_below-right.new.node ∷ option_to_list c.add_below-right.result))
+    (λ k. AllByRecursion (IsKid k)
+    (c.add_below-right.new.node ∷ option_to_list c.add_below-right.result))
     at.kid.level
     (c.add_below-right.ensures.kept
     (subst (λ k. IsKid k c.index_mut.result.now) (sym at.kid.level) at.kid)) in
-    EachOf-set HasEntry c.node.inside.kids.items c.child_of-at.result c.add_below-right.new.node
+    Each-set HasEntry c.node.inside.kids.items c.child_of-at.result c.add_below-right.new.node
     (kids_have_entries (c.node.inside.height - 1)
     (c.add_below-right.new.node ∷ option_to_list c.add_below-right.result) each).0
     (kids_have_entries (c.node.inside.height - 1) c.node.inside.kids.items at.each)
@@ -99,7 +98,8 @@ invariant_of-node-2 t c =
     c.node.invariant c.if-node-eq0.false c.node.view_is c.requires.rising c.as_slice.ensures.value
     c.child_of-at.ensures c.index_mut.ensures.value in
     let each = subst
-    (λ k. EachOf (IsKid k) (c.add_below-right.new.node ∷ option_to_list c.add_below-right.result))
+    (λ k. AllByRecursion (IsKid k)
+    (c.add_below-right.new.node ∷ option_to_list c.add_below-right.result))
     at.kid.level
     (c.add_below-right.ensures.kept
     (subst (λ k. IsKid k c.index_mut.result.now) (sym at.kid.level) at.kid)) in
@@ -140,7 +140,8 @@ returns-clause-entries t c =
     c.node.invariant c.if-node-eq0.false c.node.view_is c.requires.rising c.as_slice.ensures.value
     c.child_of-at.ensures c.index_mut.ensures.value in
     let each = subst
-    (λ k. EachOf (IsKid k) (c.add_below-right.new.node ∷ option_to_list c.add_below-right.result))
+    (λ k. AllByRecursion (IsKid k)
+    (c.add_below-right.new.node ∷ option_to_list c.add_below-right.result))
     at.kid.level
     (c.add_below-right.ensures.kept
     (subst (λ k. IsKid k c.index_mut.result.now) (sym at.kid.level) at.kid)) in
@@ -176,7 +177,8 @@ returns-clause-fill t c =
     c.node.invariant c.if-node-eq0.false c.node.view_is c.requires.rising c.as_slice.ensures.value
     c.child_of-at.ensures c.index_mut.ensures.value in
     let each = subst
-    (λ k. EachOf (IsKid k) (c.add_below-right.new.node ∷ option_to_list c.add_below-right.result))
+    (λ k. AllByRecursion (IsKid k)
+    (c.add_below-right.new.node ∷ option_to_list c.add_below-right.result))
     at.kid.level
     (c.add_below-right.ensures.kept
     (subst (λ k. IsKid k c.index_mut.result.now) (sym at.kid.level) at.kid)) in
@@ -208,7 +210,8 @@ returns-clause-kept t c =
     c.node.invariant c.if-node-eq0.false c.node.view_is c.requires.rising c.as_slice.ensures.value
     c.child_of-at.ensures c.index_mut.ensures.value in
     let each = subst
-    (λ k. EachOf (IsKid k) (c.add_below-right.new.node ∷ option_to_list c.add_below-right.result))
+    (λ k. AllByRecursion (IsKid k)
+    (c.add_below-right.new.node ∷ option_to_list c.add_below-right.result))
     at.kid.level
     (c.add_below-right.ensures.kept
     (subst (λ k. IsKid k c.index_mut.result.now) (sym at.kid.level) at.kid)) in
@@ -245,7 +248,8 @@ returns-clause-split t c =
     c.node.invariant c.if-node-eq0.false c.node.view_is c.requires.rising c.as_slice.ensures.value
     c.child_of-at.ensures c.index_mut.ensures.value in
     let each = subst
-    (λ k. EachOf (IsKid k) (c.add_below-right.new.node ∷ option_to_list c.add_below-right.result))
+    (λ k. AllByRecursion (IsKid k)
+    (c.add_below-right.new.node ∷ option_to_list c.add_below-right.result))
     at.kid.level
     (c.add_below-right.ensures.kept
     (subst (λ k. IsKid k c.index_mut.result.now) (sym at.kid.level) at.kid)) in
@@ -279,7 +283,8 @@ returns-clause-pool_keys t c =
     c.node.invariant c.if-node-eq0.false c.node.view_is c.requires.rising c.as_slice.ensures.value
     c.child_of-at.ensures c.index_mut.ensures.value in
     let each = subst
-    (λ k. EachOf (IsKid k) (c.add_below-right.new.node ∷ option_to_list c.add_below-right.result))
+    (λ k. AllByRecursion (IsKid k)
+    (c.add_below-right.new.node ∷ option_to_list c.add_below-right.result))
     at.kid.level
     (c.add_below-right.ensures.kept
     (subst (λ k. IsKid k c.index_mut.result.now) (sym at.kid.level) at.kid)) in
@@ -318,7 +323,8 @@ returns-clause-pool_kids t c =
     c.node.invariant c.if-node-eq0.false c.node.view_is c.requires.rising c.as_slice.ensures.value
     c.child_of-at.ensures c.index_mut.ensures.value in
     let each = subst
-    (λ k. EachOf (IsKid k) (c.add_below-right.new.node ∷ option_to_list c.add_below-right.result))
+    (λ k. AllByRecursion (IsKid k)
+    (c.add_below-right.new.node ∷ option_to_list c.add_below-right.result))
     at.kid.level
     (c.add_below-right.ensures.kept
     (subst (λ k. IsKid k c.index_mut.result.now) (sym at.kid.level) at.kid)) in
@@ -357,7 +363,8 @@ returns-clause-few_keys t c =
     c.node.invariant c.if-node-eq0.false c.node.view_is c.requires.rising c.as_slice.ensures.value
     c.child_of-at.ensures c.index_mut.ensures.value in
     let each = subst
-    (λ k. EachOf (IsKid k) (c.add_below-right.new.node ∷ option_to_list c.add_below-right.result))
+    (λ k. AllByRecursion (IsKid k)
+    (c.add_below-right.new.node ∷ option_to_list c.add_below-right.result))
     at.kid.level
     (c.add_below-right.ensures.kept
     (subst (λ k. IsKid k c.index_mut.result.now) (sym at.kid.level) at.kid)) in
@@ -396,7 +403,8 @@ returns-clause-few_kids t c =
     c.node.invariant c.if-node-eq0.false c.node.view_is c.requires.rising c.as_slice.ensures.value
     c.child_of-at.ensures c.index_mut.ensures.value in
     let each = subst
-    (λ k. EachOf (IsKid k) (c.add_below-right.new.node ∷ option_to_list c.add_below-right.result))
+    (λ k. AllByRecursion (IsKid k)
+    (c.add_below-right.new.node ∷ option_to_list c.add_below-right.result))
     at.kid.level
     (c.add_below-right.ensures.kept
     (subst (λ k. IsKid k c.index_mut.result.now) (sym at.kid.level) at.kid)) in

@@ -1,8 +1,9 @@
 use Rattle.std.proofs.Common.{◌<◌, ◌-◌, length, take, drop, sym, ◌∙◌, ap, subst, vec_capacity}
 use Rattle.std.proofs.Common.{arith}
 use Rattle.std.proofs.lemmas.List.{length-take-le, length-drop}
+use Rattle.rg_base.proofs.Each.{Each-drop}
 use Rattle.rg_bulk.specs.Shape.{IsKid}
-use Rattle.rg_btree.proofs.Kids.{node_of, EachOf-drop, firsts-take, firsts-drop}
+use Rattle.rg_btree.proofs.Kids.{node_of, firsts-take, firsts-drop}
 use Rattle.rg_btree.proofs.add.split_inner.Goals as goal
 
 pub invariant_of-result : goal.invariant_of-result
@@ -19,9 +20,9 @@ invariant_of-result c =
           ∙ ap Rattle.rg_btree.specs.Child.firsts (sym c.move_behind-second_kids.ensures.moved);
       fewest = omega arith;
       most = omega (arith, c.requires.most);
-      each = subst (Rattle.rg_bulk.specs.Shape.EachOf (IsKid (c.args.height - 1)))
+      each = subst (Rattle.std.specs.List.AllByRecursion (IsKid (c.args.height - 1)))
           (sym c.move_behind-second_kids.ensures.moved)
-          (EachOf-drop (IsKid (c.args.height - 1)) 113 c.args.kids.now.items c.requires.each);
+          (Each-drop (IsKid (c.args.height - 1)) 113 c.args.kids.now.items c.requires.each);
       key_space =
           omega (arith, c.take_keys.ensures.room, c.move_behind-second_keys.ensures.result_room);
       kid_space =

@@ -1,10 +1,11 @@
 use Rattle.std.proofs.Common.{◌≡◌, ◌<◌, ◌-◌, suc, take, drop, sym, ◌∙◌, ap, subst, vec_capacity}
 use Rattle.std.proofs.Common.{arith}
-use Rattle.rg_bulk.specs.Shape.{EachOf, IsKid}
+use Rattle.std.specs.List.{AllByRecursion}
+use Rattle.rg_base.proofs.Each.{Each-drop}
+use Rattle.rg_bulk.specs.Shape.{IsKid}
 use Rattle.rg_btree.specs.Child.{firsts}
 use Rattle.rg_btree.proofs.Below.{below, keys_rise, reduced, part_of, least_some, each_short}
 use Rattle.rg_btree.proofs.Kids.{inner_of, branch_is, take_set, drop_set, firsts-take, firsts-drop}
-use Rattle.rg_btree.proofs.Kids.{EachOf-drop}
 use Rattle.rg_btree.proofs.remove.+remove_below.Goals as goal
 
 pub child_of-at-requires-clause-rising : goal.child_of-at-requires-clause-rising
@@ -77,9 +78,9 @@ settle_kid-requires-clause-back t c =
     c.args.node.now c.as_slice-2.result.now c.child_of-at.result c.index_mut.result.now
     c.node.invariant c.if-node-eq0.false c.node.view_is c.requires.rising c.as_slice-2.ensures.value
     c.child_of-at.ensures c.index_mut.ensures.value in
-    subst (EachOf (IsKid (c.node.inside.height - 1)))
+    subst (AllByRecursion (IsKid (c.node.inside.height - 1)))
     (sym (drop_set c.node.inside.kids.items c.child_of-at.result c.remove_below-there.new.node))
-    (EachOf-drop (IsKid (c.node.inside.height - 1)) (suc c.child_of-at.result)
+    (Each-drop (IsKid (c.node.inside.height - 1)) (suc c.child_of-at.result)
     c.node.inside.kids.items at.each)
 
 pub settle_kid-requires-clause-key_buffer : goal.settle_kid-requires-clause-key_buffer

@@ -2,10 +2,12 @@ use Rattle.std.proofs.Common.{◌≡◌, ◌+◌, ◌-◌, ◌<◌, [], ◌∷�
 use Rattle.std.proofs.Common.{ap, subst, vec_capacity, arith, length-append}
 use Rattle.std.proofs.lemmas.List.{length-take-le, length-drop}
 use Rattle.rg_bulk.specs.Branch.{branch_of}
-use Rattle.rg_bulk.specs.Shape.{EachOf, IsKid, IsNode}
+use Rattle.std.specs.List.{AllByRecursion}
+use Rattle.rg_base.proofs.Each.{Each-take, Each-drop}
+use Rattle.rg_bulk.specs.Shape.{IsKid, IsNode}
 use Rattle.rg_btree.specs.Child.{firsts}
 use Rattle.rg_btree.specs.Moved.{moved}
-use Rattle.rg_btree.proofs.Kids.{inner_of, node_of, branch_is, EachOf-take, EachOf-drop}
+use Rattle.rg_btree.proofs.Kids.{inner_of, node_of, branch_is}
 use Rattle.rg_btree.proofs.Kids.{firsts-take, firsts-drop}
 use Rattle.rg_btree.proofs.Even.{height_of, pair_of, shares_of, evened, merged}
 use Rattle.rg_btree.proofs.remove.even_inners.Goals as goal
@@ -39,7 +41,7 @@ returns-then-len-le-KIDS_MOST-clause-each c =
     c.append_within-then-len-le-KIDS_MOST.new.to.items)
     (λ low. omega (arith, c.requires.left_inner)) pair.each (omega (arith, c.requires.both)) node in
     subst
-    (λ k. EachOf (IsKid k)
+    (λ k. AllByRecursion (IsKid k)
     (branch_of c.left.inside.height c.append_within.new.to.items
     c.append_within-then-len-le-KIDS_MOST.new.to.items ∷ [])) level after.each
 
@@ -153,8 +155,9 @@ invariant_of-right c =
           ∙ ap firsts (sym c.share_out-2.ensures.right);
       fewest = omega (arith, parts.right);
       most = omega (arith, parts.right_most);
-      each = subst (EachOf (IsKid (c.left.inside.height - 1))) (sym c.share_out-2.ensures.right)
-          (EachOf-drop (IsKid (c.left.inside.height - 1)) cut
+      each = subst (AllByRecursion (IsKid (c.left.inside.height - 1)))
+          (sym c.share_out-2.ensures.right)
+          (Each-drop (IsKid (c.left.inside.height - 1)) cut
           (c.left.inside.kids.items ++ c.right.inside.kids.items) pair.each);
       key_space = omega (arith, c.share_out.ensures.kept_right, space.key_space);
       kid_space = omega (arith, c.share_out-2.ensures.kept_right, space.kid_space);
@@ -200,8 +203,9 @@ invariant_of-left-2 c =
           ∙ ap firsts (sym c.share_out-2.ensures.left);
       fewest = omega (arith, parts.left);
       most = omega (arith, parts.left_most);
-      each = subst (EachOf (IsKid (c.left.inside.height - 1))) (sym c.share_out-2.ensures.left)
-          (EachOf-take (IsKid (c.left.inside.height - 1)) cut
+      each =
+          subst (AllByRecursion (IsKid (c.left.inside.height - 1))) (sym c.share_out-2.ensures.left)
+          (Each-take (IsKid (c.left.inside.height - 1)) cut
           (c.left.inside.kids.items ++ c.right.inside.kids.items) pair.each);
       key_space = omega (arith, c.share_out.ensures.kept_left, space.key_space);
       kid_space = omega (arith, c.share_out-2.ensures.kept_left, space.kid_space);
@@ -257,7 +261,7 @@ returns-clause-each c =
     (λ low. omega (arith, c.requires.left_inner)) pair.each parts.left (omega (arith, parts.within))
     (omega (arith, parts.right)) left_node right_node in
     subst
-    (λ k. EachOf (IsKid k)
+    (λ k. AllByRecursion (IsKid k)
     (branch_of c.left.inside.height c.share_out.new.left.items c.share_out-2.new.left.items
     ∷ branch_of c.right.inside.height c.share_out.new.right.items c.share_out-2.new.right.items
     ∷ [])) level after.each

@@ -1,17 +1,13 @@
-use Rattle.std.proofs.Common.{◌≡◌, ◌-◌, ◌≤◌, suc, ◌∷◌, Option, Some, None, length, get_or, ◌∙◌, ap}
+use Rattle.std.proofs.Common.{◌≡◌, ◌-◌, suc, ◌∷◌, get_or, ◌∙◌, ap}
 use Rattle.std.proofs.Common.{subst, arith, add-one}
-use Rattle.std.specs.List.{remove}
+use Rattle.std.specs.List.{remove, AllByRecursion}
 use Rattle.std.specs.Option.{option_to_list}
-use Rattle.rg_bulk.specs.Branch.{Branch}
-use Rattle.rg_bulk.specs.Shape.{EachOf, IsKid}
+use Rattle.rg_base.proofs.Each.{Each-at}
+use Rattle.rg_bulk.specs.Shape.{IsKid}
 use Rattle.rg_btree.specs.Short.{IsShort}
-use Rattle.rg_btree.proofs.Kids.{EachOf-at}
 use Rattle.rg_btree.proofs.Mended.{front_keys, back_keys, get_removed, mended}
 use Rattle.rg_btree.proofs.remove.mend_kids.Goals as goal
-
-at_most_one : (right : Option Branch) → length (option_to_list right) ≤ 1
-at_most_one None = omega arith
-at_most_one (Some kid) = omega arith
+use Rattle.rg_btree.proofs.Kids.{at_most_one}
 
 pub renew_kid-requires-clause-front : goal.renew_kid-requires-clause-front
 renew_kid-requires-clause-front c =
@@ -40,14 +36,15 @@ returns-clause-entries c =
     c.remove-right.ensures.value
     ∙ ap (λ n. get_or c.args.kids.now.items n c.remove-right.result) (add-one c.args.at) in
     let level = ap (λ b. b.height) left
-    ∙ (EachOf-at (IsShort (c.args.height - 1)) c.args.kids.now.items c.args.at
+    ∙ (Each-at (IsShort (c.args.height - 1)) c.args.kids.now.items c.args.at
     c.index_mut.result.now (omega (arith, c.requires.within)) c.requires.short).level in
     let after = mended (c.args.height - 1) c.args.kids.now.items c.args.at c.index_mut.result.now
     c.remove-right.result c.even_out-back.new.left (option_to_list c.even_out-back.result)
     c.remove-right.new.self.items c.renew_kid.new.kids.items c.requires.within left right ks
     c.renew_kid.ensures.kids c.requires.front c.requires.back
     (subst
-    (λ h. EachOf (IsKid h) (c.even_out-back.new.left ∷ option_to_list c.even_out-back.result)) level
+    (λ h. AllByRecursion (IsKid h)
+    (c.even_out-back.new.left ∷ option_to_list c.even_out-back.result)) level
     c.even_out-back.ensures.each) c.even_out-back.ensures.entries in
     let few = at_most_one c.even_out-back.result in
     after.entries
@@ -65,14 +62,15 @@ returns-clause-each c =
     c.remove-right.ensures.value
     ∙ ap (λ n. get_or c.args.kids.now.items n c.remove-right.result) (add-one c.args.at) in
     let level = ap (λ b. b.height) left
-    ∙ (EachOf-at (IsShort (c.args.height - 1)) c.args.kids.now.items c.args.at
+    ∙ (Each-at (IsShort (c.args.height - 1)) c.args.kids.now.items c.args.at
     c.index_mut.result.now (omega (arith, c.requires.within)) c.requires.short).level in
     let after = mended (c.args.height - 1) c.args.kids.now.items c.args.at c.index_mut.result.now
     c.remove-right.result c.even_out-back.new.left (option_to_list c.even_out-back.result)
     c.remove-right.new.self.items c.renew_kid.new.kids.items c.requires.within left right ks
     c.renew_kid.ensures.kids c.requires.front c.requires.back
     (subst
-    (λ h. EachOf (IsKid h) (c.even_out-back.new.left ∷ option_to_list c.even_out-back.result)) level
+    (λ h. AllByRecursion (IsKid h)
+    (c.even_out-back.new.left ∷ option_to_list c.even_out-back.result)) level
     c.even_out-back.ensures.each) c.even_out-back.ensures.entries in
     let few = at_most_one c.even_out-back.result in
     after.each
@@ -90,14 +88,15 @@ returns-clause-fewer c =
     c.remove-right.ensures.value
     ∙ ap (λ n. get_or c.args.kids.now.items n c.remove-right.result) (add-one c.args.at) in
     let level = ap (λ b. b.height) left
-    ∙ (EachOf-at (IsShort (c.args.height - 1)) c.args.kids.now.items c.args.at
+    ∙ (Each-at (IsShort (c.args.height - 1)) c.args.kids.now.items c.args.at
     c.index_mut.result.now (omega (arith, c.requires.within)) c.requires.short).level in
     let after = mended (c.args.height - 1) c.args.kids.now.items c.args.at c.index_mut.result.now
     c.remove-right.result c.even_out-back.new.left (option_to_list c.even_out-back.result)
     c.remove-right.new.self.items c.renew_kid.new.kids.items c.requires.within left right ks
     c.renew_kid.ensures.kids c.requires.front c.requires.back
     (subst
-    (λ h. EachOf (IsKid h) (c.even_out-back.new.left ∷ option_to_list c.even_out-back.result)) level
+    (λ h. AllByRecursion (IsKid h)
+    (c.even_out-back.new.left ∷ option_to_list c.even_out-back.result)) level
     c.even_out-back.ensures.each) c.even_out-back.ensures.entries in
     let few = at_most_one c.even_out-back.result in
     omega (arith, after.count)
@@ -115,14 +114,15 @@ returns-clause-most c =
     c.remove-right.ensures.value
     ∙ ap (λ n. get_or c.args.kids.now.items n c.remove-right.result) (add-one c.args.at) in
     let level = ap (λ b. b.height) left
-    ∙ (EachOf-at (IsShort (c.args.height - 1)) c.args.kids.now.items c.args.at
+    ∙ (Each-at (IsShort (c.args.height - 1)) c.args.kids.now.items c.args.at
     c.index_mut.result.now (omega (arith, c.requires.within)) c.requires.short).level in
     let after = mended (c.args.height - 1) c.args.kids.now.items c.args.at c.index_mut.result.now
     c.remove-right.result c.even_out-back.new.left (option_to_list c.even_out-back.result)
     c.remove-right.new.self.items c.renew_kid.new.kids.items c.requires.within left right ks
     c.renew_kid.ensures.kids c.requires.front c.requires.back
     (subst
-    (λ h. EachOf (IsKid h) (c.even_out-back.new.left ∷ option_to_list c.even_out-back.result)) level
+    (λ h. AllByRecursion (IsKid h)
+    (c.even_out-back.new.left ∷ option_to_list c.even_out-back.result)) level
     c.even_out-back.ensures.each) c.even_out-back.ensures.entries in
     let few = at_most_one c.even_out-back.result in
     omega (arith, after.count, c.requires.most)
@@ -140,14 +140,15 @@ returns-clause-pool_keys c =
     c.remove-right.ensures.value
     ∙ ap (λ n. get_or c.args.kids.now.items n c.remove-right.result) (add-one c.args.at) in
     let level = ap (λ b. b.height) left
-    ∙ (EachOf-at (IsShort (c.args.height - 1)) c.args.kids.now.items c.args.at
+    ∙ (Each-at (IsShort (c.args.height - 1)) c.args.kids.now.items c.args.at
     c.index_mut.result.now (omega (arith, c.requires.within)) c.requires.short).level in
     let after = mended (c.args.height - 1) c.args.kids.now.items c.args.at c.index_mut.result.now
     c.remove-right.result c.even_out-back.new.left (option_to_list c.even_out-back.result)
     c.remove-right.new.self.items c.renew_kid.new.kids.items c.requires.within left right ks
     c.renew_kid.ensures.kids c.requires.front c.requires.back
     (subst
-    (λ h. EachOf (IsKid h) (c.even_out-back.new.left ∷ option_to_list c.even_out-back.result)) level
+    (λ h. AllByRecursion (IsKid h)
+    (c.even_out-back.new.left ∷ option_to_list c.even_out-back.result)) level
     c.even_out-back.ensures.each) c.even_out-back.ensures.entries in
     let few = at_most_one c.even_out-back.result in
     omega (arith, after.nodes, c.even_out-back.ensures.pool_keys)
@@ -165,14 +166,15 @@ returns-clause-pool_kids c =
     c.remove-right.ensures.value
     ∙ ap (λ n. get_or c.args.kids.now.items n c.remove-right.result) (add-one c.args.at) in
     let level = ap (λ b. b.height) left
-    ∙ (EachOf-at (IsShort (c.args.height - 1)) c.args.kids.now.items c.args.at
+    ∙ (Each-at (IsShort (c.args.height - 1)) c.args.kids.now.items c.args.at
     c.index_mut.result.now (omega (arith, c.requires.within)) c.requires.short).level in
     let after = mended (c.args.height - 1) c.args.kids.now.items c.args.at c.index_mut.result.now
     c.remove-right.result c.even_out-back.new.left (option_to_list c.even_out-back.result)
     c.remove-right.new.self.items c.renew_kid.new.kids.items c.requires.within left right ks
     c.renew_kid.ensures.kids c.requires.front c.requires.back
     (subst
-    (λ h. EachOf (IsKid h) (c.even_out-back.new.left ∷ option_to_list c.even_out-back.result)) level
+    (λ h. AllByRecursion (IsKid h)
+    (c.even_out-back.new.left ∷ option_to_list c.even_out-back.result)) level
     c.even_out-back.ensures.each) c.even_out-back.ensures.entries in
     let few = at_most_one c.even_out-back.result in
     omega (arith, after.inners, c.even_out-back.ensures.pool_kids)

@@ -1,7 +1,8 @@
 use Rattle.std.proofs.Common.{◌≡◌, ◌-◌, ◌+◌, ◌*◌, ◌≤◌, suc, take, drop, get_or, sym, ◌∙◌, subst}
 use Rattle.std.proofs.Common.{arith}
 use Rattle.std.proofs.lemmas.List.{take-append-drop}
-use Rattle.rg_bulk.specs.Shape.{EachOf, IsKid, least_fill}
+use Rattle.std.specs.List.{AllByRecursion}
+use Rattle.rg_bulk.specs.Shape.{IsKid, least_fill}
 use Rattle.rg_btree.proofs.Kids.{HasEntry}
 use Rattle.rg_btree.proofs.Settled.{all_have_entries, each_earlier, each_later, both_fill}
 use Rattle.rg_btree.proofs.remove.settle_kid.Goals as goal
@@ -15,7 +16,7 @@ pub mend_kids-requires-clause-some : goal.mend_kids-requires-clause-some
 mend_kids-requires-clause-some c =
     let same : c.renew_kid.new.kids.items ≡ c.args.kids.now.items =
     c.renew_kid.ensures.kids ∙ take-append-drop (suc c.args.at) c.args.kids.now.items in
-    subst (EachOf HasEntry) (sym same)
+    subst (AllByRecursion HasEntry) (sym same)
     (all_have_entries (c.args.height - 1) c.args.kids.now.items c.args.at c.index.result.now
     c.requires.within c.index.ensures c.requires.front c.requires.back c.requires.short
     c.fill-fill.ensures.bounds)
@@ -25,7 +26,7 @@ mend_kids-requires-clause-front c =
     let same : c.renew_kid.new.kids.items ≡ c.args.kids.now.items =
     c.renew_kid.ensures.kids ∙ take-append-drop (suc c.args.at) c.args.kids.now.items in
     let m = c.max.ensures in
-    subst (λ ks. EachOf (IsKid (c.args.height - 1)) (take (c.max.result - 1) ks)) (sym same)
+    subst (λ ks. AllByRecursion (IsKid (c.args.height - 1)) (take (c.max.result - 1) ks)) (sym same)
     (each_earlier (IsKid (c.args.height - 1)) c.args.kids.now.items c.args.at (c.max.result - 1)
     (omega arith) c.requires.front)
 
@@ -34,7 +35,8 @@ mend_kids-requires-clause-back c =
     let same : c.renew_kid.new.kids.items ≡ c.args.kids.now.items =
     c.renew_kid.ensures.kids ∙ take-append-drop (suc c.args.at) c.args.kids.now.items in
     let m = c.max.ensures in
-    subst (λ ks. EachOf (IsKid (c.args.height - 1)) (drop (suc (suc (c.max.result - 1))) ks))
+    subst
+    (λ ks. AllByRecursion (IsKid (c.args.height - 1)) (drop (suc (suc (c.max.result - 1))) ks))
     (sym same)
     (each_later (IsKid (c.args.height - 1)) c.args.kids.now.items (suc c.args.at)
     (suc (suc (c.max.result - 1))) (omega arith) c.requires.back)

@@ -2,14 +2,14 @@ use Rattle.std.proofs.Common.{◌≡◌, ◌<◌, ◌-◌, ◌+◌, ◌++◌, []
 use Rattle.std.proofs.Common.{ap, subst, vec_capacity, arith}
 use Rattle.std.specs.Prelude.{nat_le}
 use Rattle.std.proofs.lemmas.List.{append-nil, take_all}
+use Rattle.rg_base.proofs.Each.{Each-at, Each-take, Each-drop}
 use Rattle.rg_index.specs.Entries.{IsRising, entries_within}
 use Rattle.rg_index.specs.Split.{IsCutBy}
 use Rattle.rg_bulk.specs.Branch.{joined}
 use Rattle.rg_bulk.specs.Shape.{IsKid}
 use Rattle.rg_btree.proofs.Below.{keys_rise}
 use Rattle.rg_btree.proofs.Even.{height_of}
-use Rattle.rg_btree.proofs.Kids.{inner_of, branch_is, kids_have_entries, EachOf-at, EachOf-take}
-use Rattle.rg_btree.proofs.Kids.{EachOf-drop}
+use Rattle.rg_btree.proofs.Kids.{inner_of, branch_is, kids_have_entries}
 use Rattle.rg_btree.proofs.Ranges.{within_kids, kid_rises, rising_some}
 use Rattle.rg_btree.proofs.walk.+collect.Goals as goal
 
@@ -73,11 +73,11 @@ collect-requires t c =
     ≡ get_or (take n (drop first c.node.inside.kids.items)) c.loop-kid.kid-index c.kid-item.result =
     c.kid-item.is ∙ ap (λ ks. get_or ks c.loop-kid.kid-index c.kid-item.result) mid in
     let each =
-    EachOf-take (IsKid (c.node.inside.height - 1)) n (drop first c.node.inside.kids.items)
-    (EachOf-drop (IsKid (c.node.inside.height - 1)) first c.node.inside.kids.items inner.each) in
+    Each-take (IsKid (c.node.inside.height - 1)) n (drop first c.node.inside.kids.items)
+    (Each-drop (IsKid (c.node.inside.height - 1)) first c.node.inside.kids.items inner.each) in
     let level =
     (subst (IsKid (c.node.inside.height - 1)) (sym is)
-    (EachOf-at (IsKid (c.node.inside.height - 1)) (take n (drop first c.node.inside.kids.items))
+    (Each-at (IsKid (c.node.inside.height - 1)) (take n (drop first c.node.inside.kids.items))
     c.loop-kid.kid-index c.kid-item.result low each)).level in
     let top = height_of c.node.inside.height c.node.inside.keys.items c.node.inside.kids.items
     c.args.node.now c.node.view_is in

@@ -1,14 +1,16 @@
 use Rattle.std.proofs.Common.{add-one, sym, subst, vec_capacity, arith}
-use Rattle.rg_bulk.specs.Shape.{EachOf, IsKid, IsNode}
-use Rattle.rg_bulk.proofs.Filled.{EachOf-left, EachOf-right, kid_has_entry}
+use Rattle.std.specs.List.{AllByRecursion}
+use Rattle.rg_base.proofs.Each.{Each-left, Each-right}
+use Rattle.rg_bulk.specs.Shape.{IsKid, IsNode}
+use Rattle.rg_bulk.proofs.Filled.{kid_has_entry}
 use Rattle.rg_bulk.proofs.build.gather.Goals as goal
 
 pub first-requires : goal.first-requires
 first-requires c =
-    let here = EachOf-right (IsKid c.args.height) c.loop-kid.kids.items c.loop-kid.level.items
-    (subst (EachOf (IsKid c.args.height)) c.loop-kid.invariant.all c.requires.full) in
+    let here = Each-right (IsKid c.args.height) c.loop-kid.kids.items c.loop-kid.level.items
+    (subst (AllByRecursion (IsKid c.args.height)) c.loop-kid.invariant.all c.requires.full) in
     kid_has_entry c.args.height c.in-Some.node
-    (subst (EachOf (IsKid c.args.height)) c.in-Some.ensures.items here).0
+    (subst (AllByRecursion (IsKid c.args.height)) c.in-Some.ensures.items here).0
 
 pub invariant_of-result : goal.invariant_of-result
 invariant_of-result c =
@@ -21,8 +23,8 @@ invariant_of-result c =
       keys_are = c.loop-kid.invariant.keys_are;
       fewest = omega arith;
       most = omega arith;
-      each = EachOf-left (IsKid c.args.height) c.loop-kid.kids.items c.loop-kid.level.items
-          (subst (EachOf (IsKid c.args.height)) c.loop-kid.invariant.all c.requires.full);
+      each = Each-left (IsKid c.args.height) c.loop-kid.kids.items c.loop-kid.level.items
+          (subst (AllByRecursion (IsKid c.args.height)) c.loop-kid.invariant.all c.requires.full);
       key_space = c.loop-kid.invariant.key_space;
       kid_space = c.loop-kid.invariant.kid_space;
     })

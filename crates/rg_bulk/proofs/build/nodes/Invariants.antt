@@ -1,12 +1,13 @@
 use Rattle.std.proofs.Common.{◌≡◌, ◌≤◌, length}
 use Rattle.rg_bulk.specs.Branch.{joined, total}
-use Rattle.rg_bulk.specs.Shape.{EachOf, IsKid}
+use Rattle.std.specs.List.{AllByRecursion}
+use Rattle.rg_bulk.specs.Shape.{IsKid}
 use Rattle.rg_bulk.proofs.build.nodes.Given as goal
 
 abbrev pub invariant-loop-alloc : goal.invariant-loop-alloc
 invariant-loop-alloc l = record {
   all : joined l.level.items ≡ l.fn.entries;
-  full : EachOf (IsKid l.height) l.level.items;
+  full : AllByRecursion (IsKid l.height) l.level.items;
   nodes : total (λ kid. kid.nodes) l.level.items ≡ l.nodes;
   inners : total (λ kid. kid.inners) l.level.items ≡ l.inners;
   several : 2 ≤ length l.level.items;

@@ -2,14 +2,13 @@ use Rattle.std.proofs.Common.{inr, length, refl, arith}
 use Rattle.rg_laws_crash.specs.NewCopy.Writing.{WritesCopy}
 use Rattle.rg_outside.proofs.Frame.{no_calls}
 use Rattle.rg_engine.specs.CopyPages.Stamped.{stamped_all}
-use Rattle.rg_engine.specs.Volume.{seen_volume}
 use Rattle.rg_engine.proofs.Flushing.{forces_none}
 use Rattle.rg_engine.proofs.prepared.prepare.Goals as goal
 
 pub returns-in-Err-clause-err : goal.returns-in-Err-clause-err
 returns-in-Err-clause-err g c =
     let seen =
-    seen_volume g.V.Volume.told g.V.Volume.faults g.V.Volume.capacities c.args.volume.now in
+    g.V.Volume.seen c.args.volume.now in
     record {
       mid = seen;
       forces = forces_none c.args.engine.now seen c.forced.ensures.within;

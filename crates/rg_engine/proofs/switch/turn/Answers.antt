@@ -1,11 +1,10 @@
 use Rattle.std.proofs.Common.{ℕ, subst}
 use Rattle.rg_engine.specs.Turned.{LogsSwitch}
-use Rattle.rg_engine.specs.Volume.{seen_volume}
 use Rattle.rg_engine.proofs.switch.turn.Goals as goal
 
 pub returns-in-Ok-clause-ok : goal.returns-in-Ok-clause-ok
 returns-in-Ok-clause-ok g c =
-    let look = seen_volume g.V.Volume.told g.V.Volume.faults g.V.Volume.capacities in
+    let look = g.V.Volume.seen in
     record {
       mid = c.log_switch.new.self;
       logs = subst

@@ -3,7 +3,7 @@ use Rattle.std.specs.FinMap as map
 use Rattle.rg_base.specs.declared.lock.Lock.{Lock}
 use Rattle.rg_base.proofs.Walk.{passing_from}
 use Rattle.rg_model.specs.Held.{first_owner}
-use Rattle.rg_model.specs.Start.{start_of}
+use Rattle.rg_base.specs.Start.{start_of}
 use Rattle.rg_judge.proofs.walk.has_locks.Given as goal
 
 -- the first of the session's locks is not before the next key

@@ -3,7 +3,7 @@ use Rattle.std.specs.Ordering.{nat_cmp, eq_by_cmp}
 use Rattle.std.specs.FinMap as map
 use Rattle.std.specs.FinMap.{get-entries}
 use Rattle.rg_model.specs.Committed.{put_back}
-use Rattle.rg_model.specs.Start.{start_of}
+use Rattle.rg_base.specs.Start.{start_of}
 use Rattle.rg_model.specs.State.{Table, Locks}
 use Rattle.rg_model.proofs.Overlay.{get-set_to, get-put_back, kept_or}
 use Rattle.rg_model.proofs.Turned.{turned-begins, turned-set, turned-ends}

@@ -6,7 +6,7 @@ use Rattle.rg_base.specs.declared.lock.Lock.{Lock}
 use Rattle.rg_base.specs.declared.session.Session.{Session}
 use Rattle.rg_model.specs.Committed.{locks_without, put_back}
 use Rattle.rg_model.specs.Held.{is_others}
-use Rattle.rg_model.specs.Start.{start_of}
+use Rattle.rg_base.specs.Start.{start_of}
 use Rattle.rg_model.specs.State.{Table, Locks}
 use Rattle.rg_model.proofs.Overlay.{get-set_to, get-put_back, get-without, kept_or}
 use Rattle.rg_model.proofs.Turned.{turned-begins, turned-set, turned-kept, turned-ends}

@@ -1,7 +1,7 @@
 use Rattle.std.proofs.Common.{◌-◌, ◌^◌}
 use Rattle.std.specs.FinMap as map
 use Rattle.rg_model.specs.Committed.{locks_without, put_back}
-use Rattle.rg_model.specs.Start.{start_of}
+use Rattle.rg_base.specs.Start.{start_of}
 use Rattle.rg_model.proofs.Turned.{IsTurned}
 use Rattle.rg_judge.proofs.walk.put_back_others.Given as goal
 

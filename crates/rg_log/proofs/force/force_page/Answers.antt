@@ -93,7 +93,7 @@ returns-clause-moments g c low le each =
 
 pub returns-clause-durable : goal.returns-clause-durable
 returns-clause-durable g c =
-    let capacities = g.V.Volume.capacities c.args.volume.now in
+    let capacities = (g.V.Volume.seen c.args.volume.now).capacities in
     let capacity = log_pages capacities in
     let rs = c.args.records.now in
     let respects =
@@ -101,7 +101,8 @@ returns-clause-durable g c =
     (λ t e. spells_respects capacities rs c.args.end t (e ∙ c.write.ensures.capacities))
     (g.met.V.Volume.told_capacities c.write.new.self) in
     on_ok ℕ _ c.sync.result (λ low. on_ok (c.args.from ≤ low) _ c.sync.result (λ le.
-    on_ok (LeavesLog (g.V.Volume.told c.args.volume.now) capacity rs low) _ c.sync.result (λ each.
+    on_ok (LeavesLog (g.V.Volume.seen c.args.volume.now).told capacity rs low) _ c.sync.result
+    (λ each.
     settled_on (SpellsFrom capacity rs low) (SpellsFrom capacity rs c.args.end) _ _ _ c.sync.result
     Log c.args.page c.fill_page-bytes.result each c.in_ok-write.ensures.made c.sync.ensures.made
     respects

@@ -35,7 +35,7 @@ loop-page-init g c = record {
   capacities = c.sync.ensures.capacities;
   later = c.sync.ensures.cause.later;
   only = only_sync _ _ _ c.sync.ensures.made;
-  sure = subst (λ r. OnOk r (IfTold (g.V.Volume.told c.sync.new.self) IsCertain)) c.in-Ok.is
+  sure = subst (λ r. OnOk r (IfTold (g.V.Volume.seen c.sync.new.self).told IsCertain)) c.in-Ok.is
       (sync_certain _ _ c.sync.result c.sync.ensures.made);
   are = no_page _ c.new-records.result.items c.new-records.ensures.items;
 }
@@ -54,7 +54,7 @@ seen page slice rs bytes found next same is e =
 pub returns-in-Ok-End-clause-log : goal.returns-in-Ok-End-clause-log
 returns-in-Ok-End-clause-log g c =
     let rs : List Record = c.loop-page.records.items in
-    let told = g.V.Volume.told c.read.new.self in
+    let told = (g.V.Volume.seen c.read.new.self).told in
     let zeros = seen (c.loop-page.page + 1) c.as_slice.result.now rs c.read.new.into
     c.in-Ok-End.field-0 End c.as_slice.ensures.value c.in-Ok-End.field-0-is c.in-Ok-End.ensures in
     subst
@@ -66,7 +66,7 @@ returns-in-Ok-End-clause-log g c =
 
 pub returns-in-Ok-End-clause-leaves : goal.returns-in-Ok-End-clause-leaves
 returns-in-Ok-End-clause-leaves g c =
-    let set : c.min-pages.result ≡ log_pages (g.V.Volume.capacities c.read.new.self) =
+    let set : c.min-pages.result ≡ log_pages (g.V.Volume.seen c.read.new.self).capacities =
     c.min-pages.ensures
     ∙ ap (λ (n : ℕ). min n 65536)
     (c.capacity.ensures
@@ -74,18 +74,19 @@ returns-in-Ok-End-clause-leaves g c =
     (c.sync.ensures.capacities ∙ sym c.loop-page.invariant.capacities
     ∙ sym c.read.ensures.capacities)) in
     λ tidy.
-    opened_leaves (g.V.Volume.told c.read.new.self) (g.V.Volume.capacities c.read.new.self)
+    opened_leaves (g.V.Volume.seen c.read.new.self).told
+    (g.V.Volume.seen c.read.new.self).capacities
     c.min-pages.result c.loop-page.records.items c.opened.result c.opened.ensures set
     (g.met.V.Volume.told_capacities c.read.new.self) (returns-in-Ok-End-clause-log g c)
     (read_certain _ _ _ c.loop-page.invariant.sure c.read.ensures.made)
-    (tidy_on (g.V.Volume.told c.args.volume.now) (g.V.Volume.told c.read.new.self)
+    (tidy_on (g.V.Volume.seen c.args.volume.now).told (g.V.Volume.seen c.read.new.self).told
     c.opened.result.pages (only_read _ _ _ _ c.loop-page.invariant.only c.read.ensures.made) tidy)
 
 pub returns-in-Ok-Broken-clause-fault : goal.returns-in-Ok-Broken-clause-fault
 returns-in-Ok-Broken-clause-fault g c =
     let rs : List Record = c.loop-page.records.items in
-    let told = g.V.Volume.told c.read.new.self in
-    let pages : c.min-pages.result ≡ log_pages (g.V.Volume.capacities c.args.volume.now) =
+    let told = (g.V.Volume.seen c.read.new.self).told in
+    let pages : c.min-pages.result ≡ log_pages (g.V.Volume.seen c.args.volume.now).capacities =
     c.min-pages.ensures
     ∙ ap (λ (n : ℕ). min n 65536)
     (c.capacity.ensures ∙ ap (λ (x : Capacities). capacity_of x Log) c.sync.ensures.capacities) in
@@ -104,7 +105,7 @@ loop-page-preserved g c =
     let was = c.loop-page.invariant in
     let rs : List Record = c.loop-page.records.items in
     let more : List Record = c.in-Ok-Page.more.items in
-    let told = g.V.Volume.told c.read.new.self in
+    let told = (g.V.Volume.seen c.read.new.self).told in
     let next : IsNextPage (c.loop-page.page + 1) rs more c.read.new.into =
     seen (c.loop-page.page + 1) c.as_slice.result.now rs c.read.new.into c.in-Ok-Page.field-0
     (Page c.in-Ok-Page.more) c.as_slice.ensures.value c.in-Ok-Page.field-0-is
@@ -128,7 +129,7 @@ loop-page-preserved g c =
 
 pub returns-clause-log : goal.returns-clause-log
 returns-clause-log g c =
-    let told = g.V.Volume.told c.loop-page.volume in
+    let told = (g.V.Volume.seen c.loop-page.volume).told in
     subst
     (λ (l : Listed). IfTold told (λ t. HasLogPages l.pages (read_of t.first t.calls) l.records))
     (sym c.opened-2.ensures) (at_end told c.min-pages.result c.loop-page.page
@@ -166,16 +167,17 @@ returns-clause-sure g c = c.loop-page.invariant.sure
 
 pub returns-clause-leaves : goal.returns-clause-leaves
 returns-clause-leaves g c =
-    let set : c.min-pages.result ≡ log_pages (g.V.Volume.capacities c.loop-page.volume) =
+    let set : c.min-pages.result ≡ log_pages (g.V.Volume.seen c.loop-page.volume).capacities =
     c.min-pages.ensures
     ∙ ap (λ (n : ℕ). min n 65536)
     (c.capacity.ensures
     ∙ ap (λ (x : Capacities). capacity_of x Log)
     (c.sync.ensures.capacities ∙ sym c.loop-page.invariant.capacities)) in
     λ tidy.
-    opened_leaves (g.V.Volume.told c.loop-page.volume) (g.V.Volume.capacities c.loop-page.volume)
+    opened_leaves (g.V.Volume.seen c.loop-page.volume).told
+    (g.V.Volume.seen c.loop-page.volume).capacities
     c.min-pages.result c.loop-page.records.items c.opened-2.result c.opened-2.ensures set
     (g.met.V.Volume.told_capacities c.loop-page.volume) (returns-clause-log g c)
     c.loop-page.invariant.sure
-    (tidy_on (g.V.Volume.told c.args.volume.now) (g.V.Volume.told c.loop-page.volume)
+    (tidy_on (g.V.Volume.seen c.args.volume.now).told (g.V.Volume.seen c.loop-page.volume).told
     c.opened-2.result.pages c.loop-page.invariant.only tidy)

@@ -11,10 +11,10 @@ abbrev pub invariant-loop-page : goal.invariant-loop-page
 invariant-loop-page g l = record {
   opened : IsOpened l.records.items l.from l.page;
   entries : AreEntries l.records.items;
-  capacities : g.V.Volume.capacities l.volume ≡ g.V.Volume.capacities l.fn.volume;
-  later : g.V.Volume.faults l.fn.volume ≤ g.V.Volume.faults l.volume;
-  only : EachCall (g.V.Volume.told l.fn.volume) (g.V.Volume.told l.volume) IsQuiet;
-  sure : IfTold (g.V.Volume.told l.volume) IsCertain;
-  are : IfTold (g.V.Volume.told l.volume)
+  capacities : (g.V.Volume.seen l.volume).capacities ≡ (g.V.Volume.seen l.fn.volume).capacities;
+  later : (g.V.Volume.seen l.fn.volume).faults ≤ (g.V.Volume.seen l.volume).faults;
+  only : EachCall (g.V.Volume.seen l.fn.volume).told (g.V.Volume.seen l.volume).told IsQuiet;
+  sure : IfTold (g.V.Volume.seen l.volume).told IsCertain;
+  are : IfTold (g.V.Volume.seen l.volume).told
       (λ t. ArePages (read_of t.first t.calls) l.page l.records.items);
 }

@@ -96,7 +96,7 @@ returns-clause-moments g c =
 
 pub returns-clause-both : goal.returns-clause-both
 returns-clause-both g c =
-    let own = told_weaken _ (λ t. t.capacities ≡ g.V.Volume.capacities c.args.volume.now) _
+    let own = told_weaken _ (λ t. t.capacities ≡ (g.V.Volume.seen c.args.volume.now).capacities) _
     (λ t e. e ∙ c.write-2.ensures.capacities ∙ c.write.ensures.capacities)
     (g.met.V.Volume.told_capacities c.write-2.new.self) in
     let first = wrote_apart _ _ _ _ _ _ _ c.requires.apart

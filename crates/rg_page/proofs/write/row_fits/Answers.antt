@@ -1,8 +1,8 @@
-use Rattle.std.proofs.Common.{ℕ, ◌<◌, List, drop, length, get_or, ap, arith, subst, sym}
-use Rattle.std.proofs.lemmas.List.{get_or-drop}
+use Rattle.std.proofs.Common.{ℕ, ◌<◌, List, drop, length, get_or, ap, arith}
 use Rattle.byteorder.specs.Numbers.{big_from-lt}
 use Rattle.rg_base.specs.RowBytes.{row_of}
 use Rattle.rg_base.proofs.RowBytes.{length-row_bytes}
+use Rattle.rg_base.proofs.Fields.{small_drop}
 use Rattle.rg_page.proofs.write.row_fits.Goals as goal
 
 pub returns-clause-row : goal.returns-clause-row
@@ -12,14 +12,10 @@ returns-clause-row c =
     let small : (i : ℕ) → get_or bytes i 0 < 256 = λ i. (c.type_inv._bytes i).fits in
     record {
       key = big_from-lt 0 8 bytes small;
-      clus = big_from-lt 0 8 (drop 8 bytes) (later 8 bytes small);
-      cat = big_from-lt 0 8 (drop 16 bytes) (later 16 bytes small);
+      clus = big_from-lt 0 8 (drop 8 bytes) (small_drop 8 bytes small);
+      cat = big_from-lt 0 8 (drop 16 bytes) (small_drop 16 bytes small);
       text = c.requires.spelled.1;
     }
-  where
-    later : (n : ℕ) (bytes : List ℕ) → ((i : ℕ) → get_or bytes i 0 < 256) → (i : ℕ)
-        → get_or (drop n bytes) i 0 < 256
-    later n bytes small i = subst (λ (x : ℕ). x < 256) (sym (get_or-drop n bytes i 0)) (small _)
 
 pub returns-clause-within : goal.returns-clause-within
 returns-clause-within c =

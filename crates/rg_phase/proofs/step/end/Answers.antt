@@ -1,6 +1,5 @@
 use Rattle.std.proofs.Common.{◌≡◌, ℕ, true, Option, subst}
 use Rattle.rg_base.specs.declared.session.Session.{Session}
-use Rattle.rg_engine.specs.Volume.{seen_volume}
 use Rattle.rg_model.specs.Turn.{turn_of}
 use Rattle.rg_rules.specs.Stage.NumbersOf.{numbers_of}
 use Rattle.rg_laws_utility.specs.TraceStage.Tending.{is_plain}
@@ -12,24 +11,28 @@ use Rattle.rg_phase.proofs.step.end.Goals as goal
 
 pub returns-clause-acts : goal.returns-clause-acts
 returns-clause-acts g c =
-    let look = seen_volume g.V.Volume.told g.V.Volume.faults g.V.Volume.capacities in
+    let look = g.V.Volume.seen in
     let old = c.args.desk.now in
-    let s = c.args.stage.now in
+    let s = c.args.task.now.stage in
     let event = c.next_event-event.result in
     let is = c.next_event-event.ensures in
     let next =
     subst
-    (λ (n : ℕ). is_plain (turn_of n old.covered c.args.answer (numbers_of s) s.drain event) ≡ true)
-    c.changes.ensures
+    (λ (n : ℕ). is_plain (turn_of n old.covered c.args.task.now.answer (numbers_of s) s.drain event)
+    ≡ true)
+    c.requires.begun.changes
     (subst
     (λ (o : Option Session).
-    is_plain (turn_of c.changes.result o c.args.answer (numbers_of s) s.drain event) ≡ true)
-    c.holder.ensures c.next_event-event.ensures.next) in
+    is_plain (turn_of c.args.task.now.changes o c.args.task.now.answer (numbers_of s) s.drain event)
+    ≡ true)
+    c.requires.begun.holder c.next_event-event.ensures.next) in
     λ made taken.
-    acts_booked look old c.args.answer made taken old c.book.new.self event
-    (runs_some old s c.requires.stage) (writes_none look old)
-    (next_runs old s c.args.answer event c.requires.up c.requires.stage is.booked next) is.booked
+    acts_booked look old c.args.task.now.answer made taken old c.book.new.self event
+    (runs_some old s c.requires.begun.stage) (writes_none look old)
+    (next_runs old s c.args.task.now.answer event c.requires.begun.up c.requires.begun.stage
+    is.booked next) is.booked
     (λ stops. absurd (cc (stops, is.device)))
-    (space_at old.stage s _ _ event c.requires.stage (space_unfilled _ _ s event is.unfilled))
-    (told_over made old.stage taken old.changes old.covered c.args.answer s event c.requires.over
+    (space_at old.stage s _ _ event c.requires.begun.stage (space_unfilled _ _ s event is.unfilled))
+    (told_over made old.stage taken old.changes old.covered c.args.task.now.answer s event
+    c.requires.over
     next) c.book.ensures

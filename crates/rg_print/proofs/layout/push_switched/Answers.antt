@@ -10,7 +10,7 @@ returns c =
     let copy = codes "SWITCHED copy=" ++ decimal c.args.copy in
     let older = side_text c.args.full (codes "OLD") c.args.sides.now.old in
     let newer = side_text c.args.full (codes "NEW") c.args.sides.now.new in
-    let named = rw c.from.ensures at c.in_ok-push_named.ensures in
+    let named = rw (c.from.ensures, c.number.ensures.is) at c.in_ok-push_named.ensures in
     let first = joined out c.push_named.new.out.items c.push_side.new.out.items copy older named
     c.in_ok-push_side.ensures in
     OnOk-joined c.push_side-2.result out c.push_side.new.out.items c.push_side-2.new.out.items

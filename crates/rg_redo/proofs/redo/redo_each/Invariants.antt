@@ -1,7 +1,7 @@
 use Rattle.std.proofs.Common.{◌≡◌, ◌≤◌, ◌-◌, true, drop, length}
 use Rattle.std.specs.List.{AllByRecursion}
 use Rattle.rg_page.specs.Seen.{Keeps}
-use Rattle.rg_space.specs.Space.{Agree, InStep, frames_of, index_of, capacity_in, undos_in}
+use Rattle.rg_space.specs.Space.{Agree, InStep, frames_of, summaries_of, capacity_in, undos_in}
 use Rattle.rg_redo.specs.Redo.{CanRedo}
 use Rattle.rg_redo.proofs.Redoing.{Goes}
 use Rattle.rg_redo.proofs.redo.redo_each.Given as goal
@@ -15,7 +15,7 @@ invariant-loop-at g l =
     let b = g.F.Frames.seen (frames_of l.space) in
     record {
       can : AllByRecursion (CanRedo (length a.pages) a.forced) (drop l.at l.records);
-      step : InStep b (index_of l.space) (capacity_in l.space);
+      step : InStep b (summaries_of l.space) (capacity_in l.space);
       capacity : capacity_in l.space ≡ capacity_in l.fn.space;
       undos : undos_in l.space ≡ undos_in l.fn.space;
       keeps : Keeps a b;
@@ -23,6 +23,6 @@ invariant-loop-at g l =
       reserved : b.reserved ≡ a.reserved;
       count : length b.pages ≡ length a.pages;
       idle : a.idle ≤ b.idle;
-      agree : b.sure ≡ true → Agree a (index_of l.fn.space) → Agree b (index_of l.space);
+      agree : b.sure ≡ true → Agree a (summaries_of l.fn.space) → Agree b (summaries_of l.space);
       goes : b.sure ≡ true → Goes l.records (drop l.at l.records) a.pages b.pages;
     }

@@ -5,7 +5,7 @@ use Rattle.std.proofs.lemmas.Bool.{eqb-true}
 use Rattle.std.proofs.lemmas.Bool.Decides.{nat_tests}
 use Rattle.rg_base.specs.declared.position.Position.{Position}
 use Rattle.rg_record.specs.declared.record.Record.{Record}
-use Rattle.rg_space.specs.Space.{frames_of, index_of}
+use Rattle.rg_space.specs.Space.{frames_of, summaries_of}
 use Rattle.rg_check.specs.PageTests.Turns.{OutcomeIs, WereUndone}
 use Rattle.rg_undo.specs.Undoing.{AreChanges}
 use Rattle.rg_undo.specs.Unit.{undo_records}
@@ -42,11 +42,11 @@ append_undos-requires-clause-undos c =
     ∙ ap (left_of tran)
     (c.split_at.ensures.front ∙ ap (take c.args.count) c.records.ensures.records) in
     let were : WereUndone c.next_position-position.result.0 c.args.unit.last
-    (list_seen (frames_of old)) (list_seen (frames_of new)) (index_of new)
+    (list_seen (frames_of old)) (list_seen (frames_of new)) (summaries_of new)
     c.in_ok-changes.changes.items undos =
     subst
     (OutcomeIs c.next_position-position.result.0 c.args.unit.last (list_seen (frames_of old))
-    (list_seen (frames_of new)) (index_of new) c.in_ok-changes.changes.items)
+    (list_seen (frames_of new)) (summaries_of new) c.in_ok-changes.changes.items)
     c.in-Ok-Undone.field-0-is
     (c.in-Ok-Undone.ensures.outcome refl
     (record { agree = c.requires.step.agree; proper = c.requires.proper })) in
@@ -69,11 +69,11 @@ append_undos-requires-clause-room c =
     ∙ ap (left_of tran)
     (c.split_at.ensures.front ∙ ap (take c.args.count) c.records.ensures.records) in
     let were : WereUndone c.next_position-position.result.0 c.args.unit.last
-    (list_seen (frames_of old)) (list_seen (frames_of new)) (index_of new)
+    (list_seen (frames_of old)) (list_seen (frames_of new)) (summaries_of new)
     c.in_ok-changes.changes.items undos =
     subst
     (OutcomeIs c.next_position-position.result.0 c.args.unit.last (list_seen (frames_of old))
-    (list_seen (frames_of new)) (index_of new) c.in_ok-changes.changes.items)
+    (list_seen (frames_of new)) (summaries_of new) c.in_ok-changes.changes.items)
     c.in-Ok-Undone.field-0-is
     (c.in-Ok-Undone.ensures.outcome refl
     (record { agree = c.requires.step.agree; proper = c.requires.proper })) in
@@ -97,11 +97,11 @@ append_end-requires c =
     ∙ ap (left_of tran)
     (c.split_at.ensures.front ∙ ap (take c.args.count) c.records.ensures.records) in
     let were : WereUndone c.next_position-position.result.0 c.args.unit.last
-    (list_seen (frames_of old)) (list_seen (frames_of new)) (index_of new)
+    (list_seen (frames_of old)) (list_seen (frames_of new)) (summaries_of new)
     c.in_ok-changes.changes.items undos =
     subst
     (OutcomeIs c.next_position-position.result.0 c.args.unit.last (list_seen (frames_of old))
-    (list_seen (frames_of new)) (index_of new) c.in_ok-changes.changes.items)
+    (list_seen (frames_of new)) (summaries_of new) c.in_ok-changes.changes.items)
     c.in-Ok-Undone.field-0-is
     (c.in-Ok-Undone.ensures.outcome refl
     (record { agree = c.requires.step.agree; proper = c.requires.proper })) in
@@ -125,11 +125,11 @@ returns-after-none c =
     ∙ ap (left_of tran)
     (c.split_at.ensures.front ∙ ap (take c.args.count) c.records.ensures.records) in
     let were : WereUndone c.next_position-position.result.0 c.args.unit.last
-    (list_seen (frames_of old)) (list_seen (frames_of new)) (index_of new)
+    (list_seen (frames_of old)) (list_seen (frames_of new)) (summaries_of new)
     c.in_ok-changes.changes.items undos =
     subst
     (OutcomeIs c.next_position-position.result.0 c.args.unit.last (list_seen (frames_of old))
-    (list_seen (frames_of new)) (index_of new) c.in_ok-changes.changes.items)
+    (list_seen (frames_of new)) (summaries_of new) c.in_ok-changes.changes.items)
     c.in-Ok-Undone.field-0-is
     (c.in-Ok-Undone.ensures.outcome refl
     (record { agree = c.requires.step.agree; proper = c.requires.proper })) in

@@ -33,7 +33,8 @@ returns-in-Err-NoMemory-clause-only g c =
 pub returns-in-Err-NotAPage-clause-refused : goal.returns-in-Err-NotAPage-clause-refused
 returns-in-Err-NotAPage-clause-refused g c = (
   refl,
-  first_broken (g.V.Volume.told c.read.new.self) c.args.copy c.args.last c.args.switch c.args.set
+  first_broken (g.V.Volume.seen c.read.new.self).told c.args.copy c.args.last c.args.switch
+      c.args.set
       c.args.count c.loop-before.before c.read.new.into c.loop-before.frames.pages.items
       (read_reads
       (λ i. TakesPages c.args.copy c.args.last c.args.switch c.args.set c.loop-before.before i
@@ -68,10 +69,10 @@ loop-before-preserved g c =
           page c.loop-before.invariant.base.count_is c.loop-before.invariant.as_is taken);
       takes =
           subst
-          (λ (xs : List Content). IfTold (g.V.Volume.told c.read.new.self)
+          (λ (xs : List Content). IfTold (g.V.Volume.seen c.read.new.self).told
           (λ t. TakesPages c.args.copy c.args.last c.args.switch c.args.set
           (c.loop-before.before + 1) (read_of t.first t.calls) xs)) (sym pages)
-          (takes_more (g.V.Volume.told c.read.new.self) c.args.copy c.args.last c.args.switch
+          (takes_more (g.V.Volume.seen c.read.new.self).told c.args.copy c.args.last c.args.switch
           c.args.set c.loop-before.before c.read.new.into old.pages.items page
           (read_reads
           (λ i. TakesPages c.args.copy c.args.last c.args.switch c.args.set c.loop-before.before i
@@ -79,10 +80,10 @@ loop-before-preserved g c =
           c.in-Ok.ensures.content taken);
       marked =
           subst
-          (λ (xs : List (Option Position)). IfTold (g.V.Volume.told c.read.new.self)
+          (λ (xs : List (Option Position)). IfTold (g.V.Volume.seen c.read.new.self).told
           (λ t. MarksPages c.args.copy c.args.last c.args.switch c.args.set
           (c.loop-before.before + 1) (read_of t.first t.calls) xs)) (sym marks)
-          (marks_more (g.V.Volume.told c.read.new.self) c.args.copy c.args.last c.args.switch
+          (marks_more (g.V.Volume.seen c.read.new.self).told c.args.copy c.args.last c.args.switch
           c.args.set c.loop-before.before c.read.new.into old_marks mark
           (read_reads
           (λ i. MarksPages c.args.copy c.args.last c.args.switch c.args.set c.loop-before.before i

@@ -1,7 +1,7 @@
 use Rattle.std.proofs.Common.{◌≡◌, ℕ, List, length, sym, ◌∙◌, ap, subst, arith}
 use Rattle.std.specs.Prelude.{IfErr, Result, Ok, Err}
 use Rattle.std.proofs.lemmas.Result.{err_from_is_err_and}
-use Rattle.rg_engine.specs.Volume.{seen_volume}
+use Rattle.rg_base.specs.Copies.{set_of}
 use Rattle.rg_image.specs.Meaning.{Current}
 use Rattle.rg_image.specs.Rules.{copy_capacity}
 use Rattle.rg_log.specs.Kept.{log_pages}
@@ -12,15 +12,15 @@ use Rattle.rg_record.specs.declared.record.Record.{Record}
 use Rattle.rg_check.proofs.PageTestsLemmas.Says.{ok_map}
 use Rattle.rg_restart.specs.Found.{Finds, Refuses}
 use Rattle.rg_restart.specs.Opening.{IsRefused, Looks}
-use Rattle.rg_laws_crash.specs.SoundVolume.Pages.{copy_of, count_of, set_of}
+use Rattle.rg_laws_crash.specs.SoundVolume.Pages.{copy_of, count_of}
 use Rattle.rg_restart.specs.declared.data.LastSwitch.{LastSwitch}
 use Rattle.rg_restart.specs.Data.{AreBase, AreTakenAsIs, switch_of}
 use Rattle.rg_laws_crash.specs.SoundVolume.Pages.{BreaksRule}
 use Rattle.rg_laws_crash.specs.SoundVolume.Sound.{TakesBase}
+use Rattle.rg_laws_crash.proofs.NewestPagesLemmas.Capacity.{copy_within}
 use Rattle.rg_restart.specs.Sound.{MarksBase}
 use Rattle.rg_restart.proofs.Looking.{breaks_log, data_refused, fault_by, log_refused, looks}
 use Rattle.rg_restart.proofs.Looking.{marks_by, may_find, rule_refused, takes_by, takes_told}
-use Rattle.rg_restart.proofs.Reading.{copy_within}
 use Rattle.rg_restart.proofs.open.look.Goals as goal
 
 err_map : {T E : Type 0} (r : Result T E) (P Q : E → Type 0) → ((e : E) → P e → Q e) → IfErr r P
@@ -31,9 +31,9 @@ err_map (Err e) P Q f h = f e h
 pub returns-in-Err-clause-refused : goal.returns-in-Err-clause-refused
 returns-in-Err-clause-refused g c =
     let old =
-    seen_volume g.V.Volume.told g.V.Volume.faults g.V.Volume.capacities c.args.volume.now in
+    g.V.Volume.seen c.args.volume.now in
     let mid =
-    seen_volume g.V.Volume.told g.V.Volume.faults g.V.Volume.capacities c.open_log.new.volume in
+    g.V.Volume.seen c.open_log.new.volume in
     subst (IsRefused old mid) (sym c.cause_of.ensures)
     (log_refused old mid c.in-Err.fault
     (record {
@@ -45,9 +45,9 @@ returns-in-Err-clause-refused g c =
 pub returns-in_err-chain-clause-refused : goal.returns-in_err-chain-clause-refused
 returns-in_err-chain-clause-refused g c =
     let old =
-    seen_volume g.V.Volume.told g.V.Volume.faults g.V.Volume.capacities c.args.volume.now in
+    g.V.Volume.seen c.args.volume.now in
     let mid =
-    seen_volume g.V.Volume.told g.V.Volume.faults g.V.Volume.capacities c.open_log.new.volume in
+    g.V.Volume.seen c.open_log.new.volume in
     let p = err_from_is_err_and c.from_residual.result c.from_residual.ensures.1 in
     rw (p.1, p.2)
     (breaks_log old mid c.in-Ok.log
@@ -60,13 +60,13 @@ returns-in_err-chain-clause-refused g c =
 
 pub read_pages-requires : goal.read_pages-requires
 read_pages-requires g c =
-    let capacities = g.V.Volume.capacities c.open_log.new.volume in
+    let capacities = (g.V.Volume.seen c.open_log.new.volume).capacities in
     let rs = c.in-Ok.log.records in
     let kept = c.in_ok-chain.ensures.kept.current in
     let pages : c.pages-count.result ≡ count_of rs =
     c.pages-count.ensures ∙ ap (λ (now : Current). now.pages) kept in
-    let set : c.set_of.result ≡ set_of (copy_of rs) =
-    c.set_of.ensures ∙ ap set_of (c.copy-copy.ensures ∙ ap (λ (now : Current). now.copy) kept) in
+    let set : c.set.result ≡ set_of (copy_of rs) =
+    c.set.ensures.is ∙ ap set_of (c.copy-copy.ensures ∙ ap (λ (now : Current). now.copy) kept) in
     omega (
       arith,
       pages,
@@ -78,11 +78,11 @@ read_pages-requires g c =
 pub returns-in_err-read-clause-refused : goal.returns-in_err-read-clause-refused
 returns-in_err-read-clause-refused g c =
     let old =
-    seen_volume g.V.Volume.told g.V.Volume.faults g.V.Volume.capacities c.args.volume.now in
+    g.V.Volume.seen c.args.volume.now in
     let mid =
-    seen_volume g.V.Volume.told g.V.Volume.faults g.V.Volume.capacities c.open_log.new.volume in
+    g.V.Volume.seen c.open_log.new.volume in
     let new =
-    seen_volume g.V.Volume.told g.V.Volume.faults g.V.Volume.capacities c.read_pages.new.volume in
+    g.V.Volume.seen c.read_pages.new.volume in
     let rs = c.in-Ok.log.records in
     let kept = c.in_ok-chain.ensures.kept.current in
     let copy : c.copy-copy.result ≡ copy_of rs =
@@ -99,12 +99,12 @@ returns-in_err-read-clause-refused g c =
     c.read_pages.ensures.capacities c.read_pages.ensures.later c.in_err-read.field-0.0
     (fault_by _ _ _ _ _ _ _ _ _ _ _ c.in_err-read.field-0.0 copy
     (ap (λ (xs : List Record). length xs) c.records.ensures.records)
-    (c.set_of.ensures ∙ ap set_of copy)
+    (c.set.ensures.is ∙ ap set_of copy)
     (c.pages-count.ensures ∙ ap (λ (now : Current). now.pages) kept) c.in_err-read.ensures.refused))
 
 pub find-requires-clause-may : goal.find-requires-clause-may
 find-requires-clause-may g c =
-    let capacities = g.V.Volume.capacities c.open_log.new.volume in
+    let capacities = (g.V.Volume.seen c.open_log.new.volume).capacities in
     let rs = c.in-Ok.log.records in
     let kept = c.in_ok-chain.ensures.kept.current in
     may_find capacities c.in-Ok.log c.in_ok-chain.chain c.copy_pages-capacity.result
@@ -132,23 +132,23 @@ find-requires-clause-base g c =
 pub returns-clause-looks : goal.returns-clause-looks
 returns-clause-looks g c =
     let old =
-    seen_volume g.V.Volume.told g.V.Volume.faults g.V.Volume.capacities c.args.volume.now in
+    g.V.Volume.seen c.args.volume.now in
     let mid =
-    seen_volume g.V.Volume.told g.V.Volume.faults g.V.Volume.capacities c.open_log.new.volume in
+    g.V.Volume.seen c.open_log.new.volume in
     let new =
-    seen_volume g.V.Volume.told g.V.Volume.faults g.V.Volume.capacities c.read_pages.new.volume in
+    g.V.Volume.seen c.read_pages.new.volume in
     let rs = c.in-Ok.log.records in
     let base = c.in_ok-read.read.frames.pages.items in
     let kept = c.in_ok-chain.ensures.kept.current in
     let copy : c.copy-copy.result ≡ copy_of rs =
     c.copy-copy.ensures ∙ ap (λ (now : Current). now.copy) kept in
-    let takes : IfTold (g.V.Volume.told c.read_pages.new.volume)
+    let takes : IfTold (g.V.Volume.seen c.read_pages.new.volume).told
     (λ t. TakesBase rs (read_of t.first t.calls) base) =
-    takes_told rs (g.V.Volume.told c.read_pages.new.volume) base
-    (takes_by _ _ _ _ _ _ _ _ _ _ (g.V.Volume.told c.read_pages.new.volume) base copy
+    takes_told rs (g.V.Volume.seen c.read_pages.new.volume).told base
+    (takes_by _ _ _ _ _ _ _ _ _ _ (g.V.Volume.seen c.read_pages.new.volume).told base copy
     (ap (λ (xs : List Record). length xs) c.records.ensures.records)
     (c.switch_of-switch.ensures ∙ ap switch_of c.records-2.ensures.records)
-    (c.set_of.ensures ∙ ap set_of copy)
+    (c.set.ensures.is ∙ ap set_of copy)
     (c.pages-count.ensures ∙ ap (λ (now : Current). now.pages) kept) c.in_ok-read.ensures.takes) in
     let as_is : AreTakenAsIs (copy_of rs) (switch_of rs) base =
     subst (λ (k : ℕ). AreTakenAsIs k (switch_of rs) base) copy
@@ -156,12 +156,12 @@ returns-clause-looks g c =
     (c.switch_of-switch.ensures ∙ ap switch_of c.records-2.ensures.records)
     c.in_ok-read.ensures.as_is) in
     let marks = c.in_ok-read.read.marks.items in
-    let marked : IfTold (g.V.Volume.told c.read_pages.new.volume)
+    let marked : IfTold (g.V.Volume.seen c.read_pages.new.volume).told
     (λ t. MarksBase rs (read_of t.first t.calls) marks) =
-    marks_by _ _ _ _ _ _ _ _ _ _ (g.V.Volume.told c.read_pages.new.volume) marks copy
+    marks_by _ _ _ _ _ _ _ _ _ _ (g.V.Volume.seen c.read_pages.new.volume).told marks copy
     (ap (λ (xs : List Record). length xs) c.records.ensures.records)
     (c.switch_of-switch.ensures ∙ ap switch_of c.records-2.ensures.records)
-    (c.set_of.ensures ∙ ap set_of copy)
+    (c.set.ensures.is ∙ ap set_of copy)
     (c.pages-count.ensures ∙ ap (λ (now : Current). now.pages) kept) c.in_ok-read.ensures.marks in
     ok_map c.find.result (Finds base marks c.in-Ok.log c.copy_pages-capacity.result) (Looks old new)
     (λ found finds.
@@ -175,7 +175,7 @@ returns-clause-looks g c =
     c.read_pages.ensures.capacities c.read_pages.ensures.later base takes
     found marks c.copy_pages-capacity.result
     (c.copy_pages-capacity.ensures
-    ∙ ap (copy_capacity (g.V.Volume.capacities c.read_pages.new.volume)) copy) finds c.requires
+    ∙ ap (copy_capacity (g.V.Volume.seen c.read_pages.new.volume).capacities) copy) finds c.requires
     c.in-Ok.ensures.leaves
     c.in-Ok.ensures.state.0 c.in_ok-chain.ensures.covers.can as_is c.in-Ok.ensures.sure
     (g.met.V.Volume.told_capacities c.read_pages.new.volume) marked)
@@ -184,23 +184,23 @@ returns-clause-looks g c =
 pub returns-clause-refused : goal.returns-clause-refused
 returns-clause-refused g c =
     let old =
-    seen_volume g.V.Volume.told g.V.Volume.faults g.V.Volume.capacities c.args.volume.now in
+    g.V.Volume.seen c.args.volume.now in
     let mid =
-    seen_volume g.V.Volume.told g.V.Volume.faults g.V.Volume.capacities c.open_log.new.volume in
+    g.V.Volume.seen c.open_log.new.volume in
     let new =
-    seen_volume g.V.Volume.told g.V.Volume.faults g.V.Volume.capacities c.read_pages.new.volume in
+    g.V.Volume.seen c.read_pages.new.volume in
     let rs = c.in-Ok.log.records in
     let base = c.in_ok-read.read.frames.pages.items in
     let kept = c.in_ok-chain.ensures.kept.current in
     let copy : c.copy-copy.result ≡ copy_of rs =
     c.copy-copy.ensures ∙ ap (λ (now : Current). now.copy) kept in
-    let takes : IfTold (g.V.Volume.told c.read_pages.new.volume)
+    let takes : IfTold (g.V.Volume.seen c.read_pages.new.volume).told
     (λ t. TakesBase rs (read_of t.first t.calls) base) =
-    takes_told rs (g.V.Volume.told c.read_pages.new.volume) base
-    (takes_by _ _ _ _ _ _ _ _ _ _ (g.V.Volume.told c.read_pages.new.volume) base copy
+    takes_told rs (g.V.Volume.seen c.read_pages.new.volume).told base
+    (takes_by _ _ _ _ _ _ _ _ _ _ (g.V.Volume.seen c.read_pages.new.volume).told base copy
     (ap (λ (xs : List Record). length xs) c.records.ensures.records)
     (c.switch_of-switch.ensures ∙ ap switch_of c.records-2.ensures.records)
-    (c.set_of.ensures ∙ ap set_of copy)
+    (c.set.ensures.is ∙ ap set_of copy)
     (c.pages-count.ensures ∙ ap (λ (now : Current). now.pages) kept) c.in_ok-read.ensures.takes) in
     err_map c.find.result (Refuses (BreaksRule base rs)) (IsRefused old new)
     (λ cause breaks.

@@ -3,7 +3,6 @@ use Rattle.rg_log.specs.Open.{IsQuiet}
 use Rattle.rg_space.specs.Memory.{list_seen, space_pages}
 use Rattle.rg_space.specs.Space.{capacity_in, frames_of}
 use Rattle.rg_desk.specs.Desk.{Opens}
-use Rattle.rg_engine.specs.Volume.{seen_volume}
 use Rattle.rg_restart.specs.Opening.{OpensStored}
 use Rattle.rg_engine.proofs.Leaving.{has_more}
 use Rattle.rg_restart.proofs.Opened.{ok_both, opens_stored}
@@ -15,12 +14,12 @@ new-requires-clause-copy g c = c.in-Ok.ensures.looks.finds.copy
 -- looking makes more calls, and takes none back
 pub new-requires-clause-counted : goal.new-requires-clause-counted
 new-requires-clause-counted g c =
-    has_more IsQuiet (g.V.Volume.told c.args.volume) (g.V.Volume.told c.look.new.volume)
+    has_more IsQuiet (g.V.Volume.seen c.args.volume).told (g.V.Volume.seen c.look.new.volume).told
     c.args.calls c.in-Ok.ensures.looks.calls.only c.requires.counted
 
 pub returns-in-Ok-clause-opens : goal.returns-in-Ok-clause-opens
 returns-in-Ok-clause-opens g c =
-    let look = seen_volume g.V.Volume.told g.V.Volume.faults g.V.Volume.capacities in
+    let look = g.V.Volume.seen in
     let found = c.in-Ok.found in
     let volume = c.look.new.volume in
     let operator = c.args.operator in

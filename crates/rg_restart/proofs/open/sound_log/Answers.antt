@@ -12,10 +12,10 @@ test_log-requires-clause-entries g c =
 
 pub returns-in-Ok-Sound-clause-covers : goal.returns-in-Ok-Sound-clause-covers
 returns-in-Ok-Sound-clause-covers g c =
-    let test : IsLogTest (g.V.Volume.capacities c.args.volume.now) c.records.result.now
+    let test : IsLogTest (g.V.Volume.seen c.args.volume.now).capacities c.records.result.now
     (Sound c.in-Ok-Sound.chain) =
-    subst (IsLogTest (g.V.Volume.capacities c.args.volume.now) c.records.result.now)
+    subst (IsLogTest (g.V.Volume.seen c.args.volume.now).capacities c.records.result.now)
     c.in-Ok-Sound.field-0-is c.in-Ok-Sound.ensures in
-    subst (CoversAll (g.V.Volume.capacities c.args.volume.now)) c.records.ensures.records
-    (covers_all (g.V.Volume.capacities c.args.volume.now) c.records.result.now test.0
+    subst (CoversAll (g.V.Volume.seen c.args.volume.now).capacities) c.records.ensures.records
+    (covers_all (g.V.Volume.seen c.args.volume.now).capacities c.records.result.now test.0
     (subst AreEntries (sym c.records.ensures.records) c.records.ensures.entries))

@@ -2,7 +2,6 @@ use Rattle.std.proofs.Common.{◌≡◌, ◌+◌, ℕ, List, [], ◌∷◌, ◌+
 use Rattle.std.proofs.Common.{append_assoc, append-nil}
 use Rattle.std.specs.List.{AllByRecursion}
 use Rattle.rg_stmt.specs.declared.line.Line.{Line}
-use Rattle.rg_engine.specs.Volume.{seen_volume}
 use Rattle.rg_run.specs.Parts.{IsRun}
 use Rattle.rg_run.specs.Played.{IsPlayed}
 use Rattle.rg_run.specs.declared.played.RunEnd.{RunEnd}
@@ -36,7 +35,7 @@ nothing_left yielded (line ∷ rest) all n none left is = absurd (omega arith)
 
 pub returns-in-Err : goal.returns-in-Err
 returns-in-Err g c =
-    let look = seen_volume g.V.Volume.told g.V.Volume.faults g.V.Volume.capacities in
+    let look = g.V.Volume.seen in
     let answers = g.O.Operator.answers in
     let played = c.in-Err.played in
     subst
@@ -48,7 +47,7 @@ returns-in-Err g c =
 
 pub returns-then-down : goal.returns-then-down
 returns-then-down g c =
-    let look = seen_volume g.V.Volume.told g.V.Volume.faults g.V.Volume.capacities in
+    let look = g.V.Volume.seen in
     let answers = g.O.Operator.answers in
     let desk = c.loop-line.desk in
     let lines = c.args.lines.items in
@@ -68,7 +67,7 @@ returns-then-down g c =
 
 pub returns : goal.returns
 returns g c =
-    let look = seen_volume g.V.Volume.told g.V.Volume.faults g.V.Volume.capacities in
+    let look = g.V.Volume.seen in
     let answers = g.O.Operator.answers in
     let desk = c.loop-line.desk in
     let lines = c.args.lines.items in

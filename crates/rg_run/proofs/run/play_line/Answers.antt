@@ -1,7 +1,7 @@
 use Rattle.std.proofs.Common.{[], ◌∷◌, ◌++◌, List, sym, ap, subst}
 use Rattle.std.specs.Prelude.{IfErr, IfOk}
+use Rattle.std.proofs.lemmas.Result.{IfOk-weaker}
 use Rattle.rg_desk.specs.Desk.{DeskState}
-use Rattle.rg_engine.specs.Volume.{seen_volume}
 use Rattle.rg_stmt.specs.declared.line.Line.{Line}
 use Rattle.rg_stmt.specs.declared.line.Line.TheVariants.{Death}
 use Rattle.rg_phase.specs.Made.{Works}
@@ -9,13 +9,13 @@ use Rattle.rg_phase.specs.declared.made.Made.{Made}
 use Rattle.rg_run.specs.Parts.{Going, IsRun}
 use Rattle.rg_run.specs.declared.played.RunEnd.{RunEnd}
 use Rattle.rg_run.proofs.Again.{ends_wanting, going_on}
-use Rattle.rg_run.proofs.Plays.{goes_flushed, goes_said, goes_shown, goes_stepped, ok_weaken}
+use Rattle.rg_run.proofs.Plays.{goes_flushed, goes_said, goes_shown, goes_stepped}
 use Rattle.rg_run.proofs.Working.{works_same}
 use Rattle.rg_run.proofs.run.play_line.Goals as goal
 
 pub returns-in-Ok-clause-goes : goal.returns-in-Ok-clause-goes
 returns-in-Ok-clause-goes g c = λ first lines going.
-    let look = seen_volume g.V.Volume.told g.V.Volume.faults g.V.Volume.capacities in
+    let look = g.V.Volume.seen in
     let answers = g.O.Operator.answers in
     subst (λ (line : Line). Going look answers first (lines ++ line ∷ []) c.exec.new.self)
     (sym c.in-Said.is)
@@ -25,7 +25,7 @@ returns-in-Ok-clause-goes g c = λ first lines going.
 
 pub returns-in-Ok-show-clause-goes : goal.returns-in-Ok-show-clause-goes
 returns-in-Ok-show-clause-goes g c = λ first lines going.
-    let look = seen_volume g.V.Volume.told g.V.Volume.faults g.V.Volume.capacities in
+    let look = g.V.Volume.seen in
     let answers = g.O.Operator.answers in
     subst (λ (line : Line). Going look answers first (lines ++ line ∷ []) c.show.new.self)
     (sym c.in-Show.is)
@@ -35,7 +35,7 @@ returns-in-Ok-show-clause-goes g c = λ first lines going.
 
 pub returns-in-Ok-flush_one-clause-goes : goal.returns-in-Ok-flush_one-clause-goes
 returns-in-Ok-flush_one-clause-goes g c = λ first lines going.
-    let look = seen_volume g.V.Volume.told g.V.Volume.faults g.V.Volume.capacities in
+    let look = g.V.Volume.seen in
     let answers = g.O.Operator.answers in
     subst (λ (line : Line). Going look answers first (lines ++ line ∷ []) c.flush_one.new.self)
     (sym c.in-Flush.is)
@@ -45,7 +45,7 @@ returns-in-Ok-flush_one-clause-goes g c = λ first lines going.
 
 pub returns-in-Ok-start-clause-goes : goal.returns-in-Ok-start-clause-goes
 returns-in-Ok-start-clause-goes g c = λ first lines going.
-    let look = seen_volume g.V.Volume.told g.V.Volume.faults g.V.Volume.capacities in
+    let look = g.V.Volume.seen in
     let answers = g.O.Operator.answers in
     subst (λ (line : Line). Going look answers first (lines ++ line ∷ []) c.start.new.desk)
     (sym c.in-Reorg.is)
@@ -54,7 +54,7 @@ returns-in-Ok-start-clause-goes g c = λ first lines going.
 
 pub returns-in-Ok-step-clause-goes : goal.returns-in-Ok-step-clause-goes
 returns-in-Ok-step-clause-goes g c = λ first lines going.
-    let look = seen_volume g.V.Volume.told g.V.Volume.faults g.V.Volume.capacities in
+    let look = g.V.Volume.seen in
     let answers = g.O.Operator.answers in
     subst (λ (line : Line). Going look answers first (lines ++ line ∷ []) c.step.new.desk)
     (sym c.in-Step.is)
@@ -67,23 +67,22 @@ returns-in-Ok-step-clause-kept g c = c.in-Ok-step.ensures.stepped.made.kept
 
 pub returns-in-Death-clause-goes : goal.returns-in-Death-clause-goes
 returns-in-Death-clause-goes g c =
-    let look = seen_volume g.V.Volume.told g.V.Volume.faults g.V.Volume.capacities in
+    let look = g.V.Volume.seen in
     let answers = g.O.Operator.answers in
-    ok_weaken
+    IfOk-weaker c.reopen.result
     (λ next. (first : DeskState g.row.V.Denot g.row.O.Denot) (lines : List Line)
     → Going look answers first lines c.args.desk
     → Going look answers first (lines ++ Death ∷ []) next)
     (λ next. (first : DeskState g.row.V.Denot g.row.O.Denot) (lines : List Line)
     → Going look answers first lines c.args.desk
     → Going look answers first (lines ++ c.args.line ∷ []) next)
-    c.reopen.result
     (λ next goes first lines going.
     subst (λ (line : Line). Going look answers first (lines ++ line ∷ []) next) (sym c.in-Death.is)
     (goes first lines going)) c.reopen.ensures.goes
 
 pub returns-in-Death-clause-ends : goal.returns-in-Death-clause-ends
 returns-in-Death-clause-ends g c =
-    let look = seen_volume g.V.Volume.told g.V.Volume.faults g.V.Volume.capacities in
+    let look = g.V.Volume.seen in
     let answers = g.O.Operator.answers in
     subst
     (λ (line : Line). IfErr c.reopen.result
@@ -95,7 +94,7 @@ returns-in-Death-clause-ends g c =
 
 pub returns-in-Err-clause-ends : goal.returns-in-Err-clause-ends
 returns-in-Err-clause-ends g c = λ first lines rest going.
-    let look = seen_volume g.V.Volume.told g.V.Volume.faults g.V.Volume.capacities in
+    let look = g.V.Volume.seen in
     let answers = g.O.Operator.answers in
     let left = c.close.ensures in
     let played = c.close.result in
@@ -109,7 +108,7 @@ returns-in-Err-clause-ends g c = λ first lines rest going.
 
 pub returns-in-Err-show-clause-ends : goal.returns-in-Err-show-clause-ends
 returns-in-Err-show-clause-ends g c = λ first lines rest going.
-    let look = seen_volume g.V.Volume.told g.V.Volume.faults g.V.Volume.capacities in
+    let look = g.V.Volume.seen in
     let answers = g.O.Operator.answers in
     let left = c.close-in-Err-show.ensures in
     let played = c.close-in-Err-show.result in
@@ -123,7 +122,7 @@ returns-in-Err-show-clause-ends g c = λ first lines rest going.
 
 pub returns-in-Err-flush_one-clause-ends : goal.returns-in-Err-flush_one-clause-ends
 returns-in-Err-flush_one-clause-ends g c = λ first lines rest going.
-    let look = seen_volume g.V.Volume.told g.V.Volume.faults g.V.Volume.capacities in
+    let look = g.V.Volume.seen in
     let answers = g.O.Operator.answers in
     let left = c.close-in-Err-flush_one.ensures in
     let played = c.close-in-Err-flush_one.result in
@@ -137,7 +136,7 @@ returns-in-Err-flush_one-clause-ends g c = λ first lines rest going.
 
 pub returns-in-Err-start-clause-ends : goal.returns-in-Err-start-clause-ends
 returns-in-Err-start-clause-ends g c = λ first lines rest going.
-    let look = seen_volume g.V.Volume.told g.V.Volume.faults g.V.Volume.capacities in
+    let look = g.V.Volume.seen in
     let answers = g.O.Operator.answers in
     let left = c.close-in-Err-start.ensures in
     let played = c.close-in-Err-start.result in
@@ -151,7 +150,7 @@ returns-in-Err-start-clause-ends g c = λ first lines rest going.
 
 pub returns-in-Err-step-clause-ends : goal.returns-in-Err-step-clause-ends
 returns-in-Err-step-clause-ends g c = λ first lines rest going.
-    let look = seen_volume g.V.Volume.told g.V.Volume.faults g.V.Volume.capacities in
+    let look = g.V.Volume.seen in
     let answers = g.O.Operator.answers in
     let left = c.close-in-Err-step.ensures in
     let played = c.close-in-Err-step.result in

@@ -1,6 +1,5 @@
 use Rattle.std.proofs.Common.{◌++◌, ◌∷◌, List, sym, ◌∙◌, subst}
 use Rattle.rg_desk.specs.Chronicle.{IsRecorded}
-use Rattle.rg_engine.specs.Volume.{seen_volume}
 use Rattle.rg_restart.specs.Opening.{IsRefused, OpensStored}
 use Rattle.rg_stmt.specs.declared.event.Entry.{Entry}
 use Rattle.rg_run.specs.Parts.{IsRun}
@@ -11,7 +10,7 @@ use Rattle.rg_run.proofs.run.reopen.Goals as goal
 
 pub returns-in-Ok-clause-goes : goal.returns-in-Ok-clause-goes
 returns-in-Ok-clause-goes g c = λ first lines going.
-    let look = seen_volume g.V.Volume.told g.V.Volume.faults g.V.Volume.capacities in
+    let look = g.V.Volume.seen in
     let answers = g.O.Operator.answers in
     let parts = c.into_parts-volume.ensures in
     let count = c.into_parts-volume.result.3 in
@@ -30,7 +29,7 @@ returns-in-Ok-clause-shadow g c = c.in-Ok.ensures.opens.opens.shadow
 
 pub returns-in-Err-clause-ends : goal.returns-in-Err-clause-ends
 returns-in-Err-clause-ends g c = λ first lines rest going.
-    let look = seen_volume g.V.Volume.told g.V.Volume.faults g.V.Volume.capacities in
+    let look = g.V.Volume.seen in
     let answers = g.O.Operator.answers in
     let parts = c.into_parts-volume.ensures in
     let count = c.into_parts-volume.result.3 in
@@ -43,10 +42,10 @@ returns-in-Err-clause-ends g c = λ first lines rest going.
     c.refused.result.operator c.refused.result.trace.items end) (sym left.end)
     (refused_again look first c.args.desk lines going parts.left parts.legal count
     (subst (λ (es : List Entry). IsRecorded es count) parts.trace parts.recorded) parts.counted
-    seen c.in-Err.fault.cause c.refused.result.operator c.refused.result.trace.items rest
+    seen c.in-Err.fault.end c.refused.result.operator c.refused.result.trace.items rest
     (left.operator ∙ c.in-Err.ensures.operator ∙ parts.operator)
     (left.trace ∙ c.in-Err.ensures.trace ∙ parts.trace) parts.sound
     (g.met.V.Volume.told_faults c.args.desk.volume)
     (g.met.V.Volume.told_faults c.in-Err.fault.volume)
-    (subst (λ v. IsRefused (look v) seen c.in-Err.fault.cause) parts.volume
+    (subst (λ v. IsRefused (look v) seen c.in-Err.fault.end) parts.volume
     c.in-Err.ensures.refused)))

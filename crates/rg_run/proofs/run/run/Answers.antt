@@ -1,8 +1,7 @@
 use Rattle.std.proofs.Common.{List, sym, ◌∙◌, ap, subst}
 use Rattle.std.specs.declared.vec.Vec.{Vec}
 use Rattle.std.specs.declared.alloc.Global.{Global}
-use Rattle.rg_engine.specs.Volume.{seen_volume}
-use Rattle.rg_outside.specs.Counts.{CountedCalls, counted}
+use Rattle.rg_outside.specs.Counts.{CountedCalls, counted_seen}
 use Rattle.rg_restart.specs.Opening.{IsRefused}
 use Rattle.rg_stmt.specs.declared.event.Entry.{Entry}
 use Rattle.rg_run.specs.Asked.{HasAnswered, answers_in}
@@ -17,16 +16,16 @@ use Rattle.rg_run.proofs.run.run.Goals as goal
 -- the count has just begun
 pub open_desk-requires : goal.open_desk-requires
 open_desk-requires g c = record {
-  tidy = begun_tidy g.V.Volume.told g.V.Volume.faults g.V.Volume.capacities c.args.volume
+  tidy = begun_tidy g.V.Volume.seen c.args.volume
       c.new.result c.new.ensures;
   recorded = none_recorded c.new-2.result.items c.new-2.ensures.items;
-  counted = begun_counted g.V.Volume.told g.V.Volume.faults g.V.Volume.capacities c.args.volume
+  counted = begun_counted g.V.Volume.seen c.args.volume
       c.new.result c.new.ensures;
 }
 
 pub play-requires-clause-going : goal.play-requires-clause-going
-play-requires-clause-going g c = going_first g.V.Volume.told g.V.Volume.faults g.V.Volume.capacities
-    c.args.volume c.new.result g.O.Operator.answers c.args.operator c.in-Ok.desk
+play-requires-clause-going g c = going_first g.V.Volume.seen c.args.volume c.new.result
+    g.O.Operator.answers c.args.operator c.in-Ok.desk
     c.in-Ok.ensures.opens (c.in-Ok.ensures.older ∙ c.new-2.ensures.items)
 
 pub play-requires-clause-kept : goal.play-requires-clause-kept
@@ -37,53 +36,48 @@ play-requires-clause-shadow g c = c.in-Ok.ensures.opens.opens.shadow
 
 -- the run that was counted is one of the volume below
 played : (g : given.Over) (c : goal.After-uncounted g)
-    → Whole (seen_volume g.V.Volume.told g.V.Volume.faults g.V.Volume.capacities c.args.volume)
-    (seen_volume g.V.Volume.told g.V.Volume.faults g.V.Volume.capacities c.uncounted.result.volume)
+    → Whole (g.V.Volume.seen c.args.volume)
+    (g.V.Volume.seen c.uncounted.result.volume)
     c.args.lines.items c.uncounted.result.trace.items c.uncounted.result.end
 played g c =
-    let look = seen_volume g.V.Volume.told g.V.Volume.faults g.V.Volume.capacities in
+    let look = g.V.Volume.seen in
     let below = c.uncounted.result.volume in
     subst
     (λ (es : Vec Entry Global). Whole (look c.args.volume) (look below) c.args.lines.items es.items
     c.uncounted.result.end) (sym c.uncounted.ensures.trace) (subst
     (λ (end : RunEnd). Whole (look c.args.volume) (look below) c.args.lines.items
-    c.play.result.trace.items end) (sym c.uncounted.ensures.end) (whole_run g.V.Volume.told
-    g.V.Volume.faults g.V.Volume.capacities c.args.volume below c.new.result c.new.ensures
+    c.play.result.trace.items end) (sym c.uncounted.ensures.end)
+    (whole_run g.V.Volume.seen c.args.volume below c.new.result c.new.ensures
     c.play.result.volume c.uncounted.ensures.volume c.uncounted.ensures.counted
     c.args.operator c.in-Ok.desk c.in-Ok.ensures.opens c.args.lines.items c.play.result.operator
     c.play.result.trace.items c.play.result.end c.play.ensures))
 
 not_opened : (g : given.Over) (c : goal.After-drop-lines g)
-    → Whole (seen_volume g.V.Volume.told g.V.Volume.faults g.V.Volume.capacities c.args.volume)
-    (seen_volume g.V.Volume.told g.V.Volume.faults g.V.Volume.capacities
+    → Whole (g.V.Volume.seen c.args.volume)
+    (g.V.Volume.seen
     c.uncounted-in-Err.result.volume) c.args.lines.items c.uncounted-in-Err.result.trace.items
     c.uncounted-in-Err.result.end
 not_opened g c =
-    let look = seen_volume g.V.Volume.told g.V.Volume.faults g.V.Volume.capacities in
+    let look = g.V.Volume.seen in
     let below = c.uncounted-in-Err.result.volume in
     let left = c.uncounted-in-Err.ensures in
     let fault = c.in-Err.fault in
     let n = c.refused.result.volume.calls in
     let counted_look =
-    seen_volume (λ (x : CountedCalls g.row.V.Denot). counted (g.V.Volume.told x.volume) x.calls)
-    (λ x. g.V.Volume.faults x.volume) (λ x. g.V.Volume.capacities x.volume) in
+    (λ (x : CountedCalls g.row.V.Denot). counted_seen (g.V.Volume.seen x.volume) x.calls) in
     subst
     (λ (end : RunEnd). Whole (look c.args.volume) (look below) c.args.lines.items
     c.uncounted-in-Err.result.trace.items end) (sym (left.end ∙ c.refused.ensures.end))
-    (whole_refused g.V.Volume.told g.V.Volume.faults g.V.Volume.capacities c.args.volume below
+    (whole_refused g.V.Volume.seen c.args.volume below
     c.new.result c.new.ensures g.met.V.Volume.told_faults n left.counted c.args.lines.items
-    c.uncounted-in-Err.result.trace.items fault.cause
+    c.uncounted-in-Err.result.trace.items fault.end
     (ap (λ (v : Vec Entry Global). v.items) left.trace ∙ c.refused.ensures.trace
     ∙ c.in-Err.ensures.trace ∙ c.new-2.ensures.items) (subst
     (λ (v : g.row.V.Denot). IsRefused (counted_look c.new.result)
-    (record {
-      told = counted (g.V.Volume.told v) n;
-      faults = g.V.Volume.faults v;
-      capacities = g.V.Volume.capacities v;
-    }) fault.cause) (sym left.volume)
+    (counted_seen (g.V.Volume.seen v) n) fault.end) (sym left.volume)
     (subst
     (λ (x : CountedCalls g.row.V.Denot). IsRefused (counted_look c.new.result) (counted_look x)
-    fault.cause) (sym c.refused.ensures.volume) c.in-Err.ensures.refused)))
+    fault.end) (sym c.refused.ensures.volume) c.in-Err.ensures.refused)))
 
 pub returns-in-Ok-clause-ends : goal.returns-in-Ok-clause-ends
 returns-in-Ok-clause-ends g c = (played g c).ends

@@ -1,6 +1,6 @@
 use Rattle.std.proofs.Common.{subst, ap, ◌∙◌, List, ℕ, arith, length, length-append}
 use Rattle.rg_page.specs.Content.{Content}
-use Rattle.rg_space.specs.Indexed.{Indexed}
+use Rattle.rg_space.specs.Summarized.{Summarized}
 use Rattle.rg_space.proofs.Surveying.{one_more}
 use Rattle.rg_space.proofs.Took.{reads_more}
 use Rattle.rg_space.proofs.survey.survey.Goals as goal
@@ -18,11 +18,12 @@ loop-n-preserved g c =
       reads = reads_more a b last i.reads h.reads;
       reserved = h.reserved ∙ i.reserved;
       idle = omega (arith, i.idle, h.idle);
-      count = ap (λ (x : Indexed). length x.pages) added ∙ length-append c.loop-n.index.pages _
+      count =
+          ap (λ (x : Summarized). length x.pages) added ∙ length-append c.loop-n.summaries.pages _
           ∙ omega (arith, i.count);
-      room = ap (λ (x : Indexed). x.room) added ∙ i.room;
-      agree = λ sure. ap (λ (x : Indexed). x.pages) added
-          ∙ one_more b.pages last.pages c.loop-n.n c.loop-n.index.pages _
+      room = ap (λ (x : Summarized). x.room) added ∙ i.room;
+      agree = λ sure. ap (λ (x : Summarized). x.pages) added
+          ∙ one_more b.pages last.pages c.loop-n.n c.loop-n.summaries.pages _
           (omega (arith, c.loop-n-test.true, c.count-count.ensures, i.reads.count))
           (h.reads.same sure) (i.agree (h.reads.keeps.sure sure)) c.in_ok-summary.ensures.summary;
       gave = g.met.F.Frames.gave_more a.pages a.forced c.args.frames.now c.loop-n.frames

@@ -16,8 +16,8 @@ invariant-loop-n g l =
       reads : Reads a b;
       reserved : b.reserved ≡ a.reserved;
       idle : a.idle ≤ b.idle;
-      count : length l.index.pages ≡ l.n;
-      room : l.index.room ≡ 0;
-      agree : b.sure ≡ true → l.index.pages ≡ take l.n (map (map bare) (slots_of b.pages));
+      count : length l.summaries.pages ≡ l.n;
+      room : l.summaries.room ≡ 0;
+      agree : b.sure ≡ true → l.summaries.pages ≡ take l.n (map (map bare) (slots_of b.pages));
       gave : g.F.Frames.gave a.pages a.forced l.fn.frames l.frames;
     }

@@ -1,6 +1,6 @@
 use Rattle.std.proofs.Common.{◌∙◌, sym}
 use Rattle.std.specs.Option.{option_copied}
-use Rattle.rg_space.specs.Space.{frames_of, index_of, capacity_in}
+use Rattle.rg_space.specs.Space.{frames_of, summaries_of, capacity_in}
 use Rattle.rg_undo.proofs.Undoing.{undid}
 use Rattle.rg_undo.proofs.one.undo_one.Goals as goal
 
@@ -12,8 +12,8 @@ returns-clause-undone g c = λ sure can.
     let h = c.plan_undo.ensures in
     let k = c.in-Change in
     let after = c.apply.ensures in
-    undid a m z (index_of c.args.space.now) (index_of c.plan_undo.new.self)
-    (index_of c.apply.new.self) (capacity_in c.plan_undo.new.self) c.args.entry k.home k.before
+    undid a m z (summaries_of c.args.space.now) (summaries_of c.plan_undo.new.self)
+    (summaries_of c.apply.new.self) (capacity_in c.plan_undo.new.self) c.args.entry k.home k.before
     k.after (option_copied c.as_ref.result) k.parts c.as_slice.result.now
     c.in_ok-undo-in-Change.undo (h.took.reads.same (sym after.writes.sure ∙ sure)) h.summaries can
     k.is h.step.few c.in_ok-undo-in-Change.ensures.held c.as_ref.ensures.value c.as_slice.ensures

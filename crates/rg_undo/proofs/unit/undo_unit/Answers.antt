@@ -1,5 +1,5 @@
 use Rattle.std.proofs.Common.{◌≡◌, ◌≤◌, ◌+◌, ◌∙◌, true, false, refl, arith, length}
-use Rattle.rg_space.specs.Space.{frames_of, index_of}
+use Rattle.rg_space.specs.Space.{frames_of, summaries_of}
 use Rattle.rg_space.proofs.Took.{keeps_more}
 use Rattle.rg_undo.proofs.UnitLoop.{goes_step, goes_last, fewer, some_left}
 use Rattle.rg_undo.proofs.unit.undo_unit.Goals as goal
@@ -34,8 +34,8 @@ loop-back-preserved g c =
         g.met.F.Frames.spare_idle (frames_of c.loop-back.space),
         h.idle ahead,
       );
-      goes = λ sure can. goes_step a b z (index_of c.loop-back.space)
-          (index_of c.undo_latest.new.space) c.args.changes.items c.loop-back.work
+      goes = λ sure can. goes_step a b z (summaries_of c.loop-back.space)
+          (summaries_of c.undo_latest.new.space) c.args.changes.items c.loop-back.work
           c.undo_latest.new.work c.loop-back.records.items c.undo_latest.new.records.items
           c.args.position.0 c.args.back.0 c.loop-back.at c.loop-back.back.0
           some h.left (k.undo sure) (k.undone sure) i.keeps.copy (i.goes (h.keeps.sure sure) can);
@@ -44,7 +44,7 @@ loop-back-preserved g c =
 pub returns-clause-undone : goal.returns-clause-undone
 returns-clause-undone g c = λ sure can.
     goes_last (g.F.Frames.seen (frames_of c.args.space.now))
-    (g.F.Frames.seen (frames_of c.loop-back.space)) (index_of c.args.space.now)
-    (index_of c.loop-back.space) c.args.changes.items c.loop-back.work c.loop-back.records.items
+    (g.F.Frames.seen (frames_of c.loop-back.space)) (summaries_of c.args.space.now)
+    (summaries_of c.loop-back.space) c.args.changes.items c.loop-back.work c.loop-back.records.items
     c.args.position.0 c.args.back.0 c.loop-back.at c.loop-back.back.0
     can (c.loop-back-test.ensures.0 refl) (c.loop-back.invariant.goes sure can)

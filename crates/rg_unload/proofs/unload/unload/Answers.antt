@@ -1,8 +1,7 @@
 use Rattle.std.proofs.Common.{◌≡◌, ◌==◌, Bool, List, None, if◌then◌else◌, sym, ap, subst, ◌∙◌, ℕ}
-use Rattle.std.proofs.Common.{true, arith}
-use Rattle.std.proofs.lemmas.Bool.Decides.{nat_tests}
 use Rattle.rg_base.specs.declared.place.Place.{Place}
 use Rattle.rg_base.specs.declared.row.Row.{Row}
+use Rattle.rg_base.proofs.Small.{nat_itself}
 use Rattle.rg_feed.specs.Fold.Fold.{row_in}
 use Rattle.rg_feed.specs.Fold.Lawful.{AreRowsOf}
 use Rattle.rg_home.specs.Rows.{row_at}
@@ -19,9 +18,6 @@ returns-clause-well g c = λ sure.
     subst (λ (rows : List (Place × Row)). AreRowsOf c.args.page rows)
     (sym (c.in_ok-rows.ensures.rows sure)) (rows_of_copy pages c.args.page)
 
-same_number : (n : ℕ) → (n == n) ≡ true
-same_number n = grind (arith, nat_tests)
-
 pub returns-clause-rows : goal.returns-clause-rows
 returns-clause-rows g c = λ sure place on.
     let seen = g.F.Frames.seen (frames_of c.home_rows.new.self) in
@@ -29,7 +25,7 @@ returns-clause-rows g c = λ sure place on.
     subst
     (λ (n : ℕ). (if n == place.page then row_in c.in_ok-rows.rows place else None)
     ≡ row_at (slot_in seen) place) on
-    (ap (λ (t : Bool). if t then row_in c.in_ok-rows.rows place else None) (same_number place.page)
+    (ap (λ (t : Bool). if t then row_in c.in_ok-rows.rows place else None) (nat_itself place.page)
     ∙ ap (λ (rows : List (Place × Row)). row_in rows place)
     (c.in_ok-rows.ensures.rows sure ∙ ap (homes_on pages) (sym on))
     ∙ row_of_copy pages place.page place.slot)

@@ -35,8 +35,9 @@ all_bytes-requires-clause-few g c =
 pub overflow_add-used : goal.overflow_add-used
 overflow_add-used g c =
     let rs = c.args.records.now in
-    let whole : IsWalk (g.V.Volume.capacities c.args.volume.now) rs (Whole c.in-Whole.chain) =
-    subst (IsWalk (g.V.Volume.capacities c.args.volume.now) rs) c.in-Whole.is c.in_ok-at.ensures in
+    let whole : IsWalk (g.V.Volume.seen c.args.volume.now).capacities rs (Whole c.in-Whole.chain) =
+    subst (IsWalk (g.V.Volume.seen c.args.volume.now).capacities rs) c.in-Whole.is
+    c.in_ok-at.ensures in
     let few : length rs ≤ 2036 * 65536 = few_records rs c.requires.entries c.requires.last in
     let used : c.from-used.result < 2 ^ 32 =
     omega (arith, c.from-used.ensures, c.all_bytes.type_inv) in
@@ -45,7 +46,7 @@ overflow_add-used g c =
 pub returns-in-Broken : goal.returns-in-Broken
 returns-in-Broken g c =
     let rs = c.args.records.now in
-    let capacities = g.V.Volume.capacities c.args.volume.now in
+    let capacities = (g.V.Volume.seen c.args.volume.now).capacities in
     let found : IsWalk capacities rs (Broken c.in-Broken.at) =
     subst (IsWalk capacities rs) c.in-Broken.is c.in_ok-at.ensures in
     breaks capacities rs c.in-Broken.at c.last_page-page.result found.0 found.1 found.2

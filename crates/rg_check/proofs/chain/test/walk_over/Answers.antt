@@ -19,14 +19,15 @@ loop-at-preserved g c =
     let more : take (c.loop-at.at + 1) rs ≡ take c.loop-at.at rs ++ entry ∷ [] =
     take_more rs c.loop-at.at entry c.loop-at-test.true
     ∙ ap (λ (r : Record). take c.loop-at.at rs ++ r ∷ []) (sym c.index-records-at.is) in
-    let chained : IsChained (g.V.Volume.capacities c.args.volume.now) (take c.loop-at.at rs) entry =
-    subst (λ (l : List Record). IsChained (g.V.Volume.capacities c.args.volume.now) l entry)
+    let chained : IsChained (g.V.Volume.seen c.args.volume.now).capacities (take c.loop-at.at rs)
+    entry =
+    subst (λ (l : List Record). IsChained (g.V.Volume.seen c.args.volume.now).capacities l entry)
     c.split_at.ensures.front (c.if-not-follows.ensures.0 refl) in
     record {
       kept = subst (λ (l : List Record). IsKept l c.add.new.self)
           (ap (λ (l : List Record). l ++ entry ∷ []) c.split_at.ensures.front ∙ sym more)
           c.in_ok-add.ensures;
-      chain = subst (IsChain (g.V.Volume.capacities c.args.volume.now)) (sym more)
-          (chain_more (g.V.Volume.capacities c.args.volume.now) (take c.loop-at.at rs) entry
+      chain = subst (IsChain (g.V.Volume.seen c.args.volume.now).capacities) (sym more)
+          (chain_more (g.V.Volume.seen c.args.volume.now).capacities (take c.loop-at.at rs) entry
           c.loop-at.invariant.chain chained);
     }

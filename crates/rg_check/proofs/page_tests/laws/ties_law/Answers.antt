@@ -1,20 +1,11 @@
-use Rattle.std.proofs.Common.{ℕ, List, Some, None}
+use Rattle.std.proofs.Common.{ℕ, List}
 use Rattle.rg_base.specs.declared.place.Place.{Place}
-use Rattle.rg_home.specs.Able.{IsAreaOf}
 use Rattle.rg_home.specs.Slot.{Slot}
 use Rattle.rg_home.specs.Slot.{Free, Row, Pointer, Over, DeadRow, DeadPointer, DeadOver}
+use Rattle.rg_home.proofs.NotFree.{any_owner}
 use Rattle.rg_laws_pages.specs.UndoRoom.Dead.{DeadNamed}
 use Rattle.rg_check.specs.PageTests.Ties.{DeadTiesAt}
 use Rattle.rg_check.proofs.page_tests.laws.ties_law.Goals as goal
-
-any_owner : (t : ℕ) (p : Place) (s : Slot) → IsAreaOf (Some t) p s → IsAreaOf None p s
-any_owner t p Free h = h
-any_owner t p (Row c r) h = h
-any_owner t p (Pointer c o) h = h
-any_owner t p (Over c r q) h = h
-any_owner t p (DeadRow c u) h = h
-any_owner t p (DeadPointer c o u) h = h
-any_owner t p (DeadOver c q u) h = (h.0, tt)
 
 named_ties : (live : List ℕ) (at : Place → Slot) (p : Place) (s : Slot) → DeadNamed live at p s
     → DeadTiesAt live at p s

@@ -1,5 +1,5 @@
 use Rattle.std.proofs.Common.{◌-◌, ◌^◌}
-use Rattle.rg_check.specs.PageTests.StoredRows.{start_of}
+use Rattle.rg_base.specs.Start.{start_of}
 use Rattle.rg_check.proofs.PageTestsLemmas.Noting.{NotedBelow}
 use Rattle.rg_check.proofs.page_tests.stored.are_noted.Given as goal
 

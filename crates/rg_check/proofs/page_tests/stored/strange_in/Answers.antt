@@ -3,6 +3,7 @@ use Rattle.std.specs.FinMap as map
 use Rattle.std.specs.FinMap.{get-empty}
 use Rattle.std.specs.Ordering.{nat_cmp}
 use Rattle.rg_base.specs.declared.place.Place.{Place}
+use Rattle.rg_base.proofs.Small.{none_of}
 use Rattle.rg_home.specs.Pages.{slot_of}
 use Rattle.rg_home.specs.Rows.{row_at}
 use Rattle.rg_page.specs.Content.{Content, slots_of}
@@ -13,7 +14,7 @@ use Rattle.rg_check.proofs.PageTestsLemmas.Looking.{gave_next, looked_more, look
 use Rattle.rg_check.proofs.PageTestsLemmas.Noting.{free_noted, free_stored}
 use Rattle.rg_check.proofs.PageTestsLemmas.Order.{HoldsTo, least_of, to_all, to_more, to_more_of}
 use Rattle.rg_check.proofs.PageTestsLemmas.Order.{to_none}
-use Rattle.rg_check.proofs.PageTestsLemmas.Says.{none_of, none_some}
+use Rattle.rg_check.proofs.PageTestsLemmas.Says.{none_some}
 use Rattle.rg_check.proofs.page_tests.stored.strange_in.Goals as goal
 
 pub loop-n-init : goal.loop-n-init

@@ -1,6 +1,6 @@
 use Rattle.std.proofs.Common.{◌≡◌, ◌≤◌, ◌+◌, ◌∙◌, ◌∷◌, List, sym, ap, subst, arith, length}
 use Rattle.rg_record.specs.declared.record.Record.{Record}
-use Rattle.rg_space.specs.Space.{frames_of, index_of}
+use Rattle.rg_space.specs.Space.{frames_of, summaries_of}
 use Rattle.rg_space.proofs.Took.{keeps_more}
 use Rattle.rg_check.specs.PageTests.Turns.{TurnIs}
 use Rattle.rg_check.proofs.PageTestsLemmas.Turning.{so_far_more, so_far_proper, taken}
@@ -11,8 +11,8 @@ loop-entry-preserved g c =
     let a = g.F.Frames.seen (frames_of c.args.space.now) in
     let b = g.F.Frames.seen (frames_of c.loop-entry.space) in
     let z = g.F.Frames.seen (frames_of c.take_turn.new.space) in
-    let bi = index_of c.loop-entry.space in
-    let zi = index_of c.take_turn.new.space in
+    let bi = summaries_of c.loop-entry.space in
+    let zi = summaries_of c.take_turn.new.space in
     let i = c.loop-entry.invariant in
     let h = c.take_turn.ensures in
     let k = c.in_ok-place.ensures in

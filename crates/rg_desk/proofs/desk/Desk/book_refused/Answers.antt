@@ -8,7 +8,6 @@ use Rattle.rg_engine.specs.Prepared.{while_running}
 use Rattle.rg_engine.specs.Flushed.{CallsOwn}
 use Rattle.rg_engine.specs.Prepared.{KeepsPrepared, prepared_seen}
 use Rattle.rg_engine.specs.Room.{Ground}
-use Rattle.rg_engine.specs.Volume.{seen_volume}
 use Rattle.rg_desk.proofs.DeskUtility.{idle_follows, idle_on}
 use Rattle.rg_engine.specs.declared.prepared.Prepared.{Prepared}
 use Rattle.rg_engine.proofs.Flushing.{own_same}
@@ -20,7 +19,7 @@ use Rattle.rg_desk.proofs.desk.Desk.book_refused.Goals as goal
 pub invariant_of-self : goal.invariant_of-self
 invariant_of-self g c =
     let inside = c.self.inside in
-    let look = seen_volume g.V.Volume.told g.V.Volume.faults g.V.Volume.capacities in
+    let look = g.V.Volume.seen in
     let next = subst (λ d. IsNextStep d None c.args.event) (sym c.self.view_is) c.requires.next in
     let on =
     idle_on inside.engine inside.chronicle inside.origin inside.copy inside.down inside.marks.items
@@ -48,7 +47,7 @@ invariant_of-self g c =
 pub returns : goal.returns
 returns g c =
     let inside = c.self.inside in
-    let look = seen_volume g.V.Volume.told g.V.Volume.faults g.V.Volume.capacities in
+    let look = g.V.Volume.seen in
     let event = c.args.event in
     let calls = c.calls_now-calls.result in
     let trace : inside.chronicle.trace ≡ c.args.self.now.trace = ap (λ d. d.trace) c.self.view_is in

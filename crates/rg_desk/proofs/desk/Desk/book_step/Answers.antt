@@ -15,7 +15,6 @@ use Rattle.rg_engine.specs.Flushed.{CallsOwn}
 use Rattle.rg_engine.specs.Prepared.{KeepsPrepared, prepared_seen}
 use Rattle.rg_engine.specs.Room.{Ground}
 use Rattle.rg_engine.specs.Utility.{StepsOn}
-use Rattle.rg_engine.specs.Volume.{seen_volume}
 use Rattle.rg_desk.proofs.DeskUtility.{booked_late, booked_logged, ground_same, step_on}
 use Rattle.rg_engine.specs.declared.prepared.Prepared.{Prepared}
 use Rattle.rg_engine.proofs.Flushing.{own_same}
@@ -39,7 +38,7 @@ pub invariant_of-self : goal.invariant_of-self
 invariant_of-self g c =
     let inside = c.self.inside in
     let s = c.args.stage in
-    let seen = seen_volume g.V.Volume.told g.V.Volume.faults g.V.Volume.capacities inside.volume in
+    let seen = g.V.Volume.seen inside.volume in
     let up : inside.down ≡ false = ap (λ d. d.down) c.self.view_is ∙ c.requires.up in
     let stage_is : inside.stage ≡ Some s = ap (λ d. d.stage) c.self.view_is ∙ c.requires.stage in
     let after = c.step_utility-self-inside.new.self in
@@ -99,7 +98,7 @@ pub returns : goal.returns
 returns g c =
     let inside = c.self.inside in
     let s = c.args.stage in
-    let look = seen_volume g.V.Volume.told g.V.Volume.faults g.V.Volume.capacities in
+    let look = g.V.Volume.seen in
     let event = c.args.event in
     let answer = c.args.answer in
     let calls = c.calls_now-calls.result in

@@ -20,7 +20,7 @@ use Rattle.rg_engine.specs.OnVolume.{AreClean, SoundThroughout}
 use Rattle.rg_engine.proofs.Marks.{all_clean}
 use Rattle.rg_engine.specs.Prepared.{IsPrepared, KeepsPrepared, PreparedSeen, prepared_seen}
 use Rattle.rg_engine.specs.Turned.{LogsSwitch, Turns}
-use Rattle.rg_engine.specs.Volume.{CallsLog, seen_volume}
+use Rattle.rg_engine.specs.Volume.{CallsLog}
 use Rattle.rg_engine.specs.declared.engine.Engine.{Engine}
 use Rattle.rg_engine.specs.declared.prepared.Prepared.{Prepared}
 use Rattle.rg_desk.proofs.Committing.{by_result, fallen_goes, has_stage, none_open, old_on}
@@ -34,7 +34,7 @@ use Rattle.rg_desk.proofs.desk.Desk.commit_switch.Goals as goal
 pub turn-turned-requires-clause-keys : goal.turn-turned-requires-clause-keys
 turn-turned-requires-clause-keys g c =
     let inside = c.self.inside in
-    let look = seen_volume g.V.Volume.told g.V.Volume.faults g.V.Volume.capacities in
+    let look = g.V.Volume.seen in
     let seen = look inside.volume in
     let p = c.in-Some-Some.prepared in
     let shadow_is : inside.shadow ≡ Some p = sym c.take.ensures.value ∙ c.in-Some-Some.is-1 in
@@ -46,7 +46,7 @@ turn-turned-requires-clause-keys g c =
 pub turn-turned-requires-clause-cluses : goal.turn-turned-requires-clause-cluses
 turn-turned-requires-clause-cluses g c =
     let inside = c.self.inside in
-    let look = seen_volume g.V.Volume.told g.V.Volume.faults g.V.Volume.capacities in
+    let look = g.V.Volume.seen in
     let seen = look inside.volume in
     let p = c.in-Some-Some.prepared in
     let shadow_is : inside.shadow ≡ Some p = sym c.take.ensures.value ∙ c.in-Some-Some.is-1 in
@@ -58,7 +58,7 @@ turn-turned-requires-clause-cluses g c =
 pub turn-turned-requires-clause-cats : goal.turn-turned-requires-clause-cats
 turn-turned-requires-clause-cats g c =
     let inside = c.self.inside in
-    let look = seen_volume g.V.Volume.told g.V.Volume.faults g.V.Volume.capacities in
+    let look = g.V.Volume.seen in
     let seen = look inside.volume in
     let p = c.in-Some-Some.prepared in
     let shadow_is : inside.shadow ≡ Some p = sym c.take.ensures.value ∙ c.in-Some-Some.is-1 in
@@ -70,7 +70,7 @@ turn-turned-requires-clause-cats g c =
 pub calls_now-calls-requires : goal.calls_now-calls-requires
 calls_now-calls-requires g c =
     let inside = c.self.inside in
-    let look = seen_volume g.V.Volume.told g.V.Volume.faults g.V.Volume.capacities in
+    let look = g.V.Volume.seen in
     let seen = look inside.volume in
     let p = c.in-Some-Some.prepared in
     let shadow_is : inside.shadow ≡ Some p = sym c.take.ensures.value ∙ c.in-Some-Some.is-1 in
@@ -78,7 +78,7 @@ calls_now-calls-requires g c =
     subst (λ (o : Option Prepared). KeepsPrepared o inside.engine.log.records inside.copy seen)
     shadow_is c.self.invariant.2 in
     let after = look c.turn-turned.new.volume in
-    let to = c.other_of-copy.result in
+    let to = c.other-copy.result in
     calls_on seen after inside.chronicle.calls (by_result c.turn-turned.result
     (Turns to p.shadow seen after inside.engine c.turn-turned.new.engine)
     (LogsSwitch to (length p.shadow.pages) seen after inside.engine c.turn-turned.new.engine)
@@ -90,7 +90,7 @@ calls_now-calls-requires g c =
 pub invariant_of-self : goal.invariant_of-self
 invariant_of-self g c =
     let inside = c.self.inside in
-    let look = seen_volume g.V.Volume.told g.V.Volume.faults g.V.Volume.capacities in
+    let look = g.V.Volume.seen in
     let seen = look inside.volume in
     let p = c.in-Some-Some.prepared in
     let shadow_is : inside.shadow ≡ Some p = sym c.take.ensures.value ∙ c.in-Some-Some.is-1 in
@@ -126,7 +126,7 @@ invariant_of-self g c =
     (sym (ap (λ d. old_records d) c.self.view_is))
     c.turn-turned.ensures.shade c.turn-turned.ensures.grant
     calls after c.push.new.self at c.calls_now-calls.ensures.counted c.push.ensures.recorded
-    c.since.result c.other_of-copy.result c.next_stage-self-inside.result
+    c.since.result c.other-copy.result c.next_stage-self-inside.result
     c.next_stage-self-inside.ensures.followed in
     let on = switched_goes inside.engine inside.chronicle inside.origin inside.copy
     inside.marks.items seen desk s inside.changes tends c.args.answer c.args.sides p is
@@ -136,27 +136,27 @@ invariant_of-self g c =
     (sym (ap (λ d. old_records d) c.self.view_is))
     c.turn-turned.ensures.shade c.turn-turned.ensures.grant
     calls after c.push.new.self at c.calls_now-calls.ensures.counted c.push.ensures.recorded
-    c.other_of-copy.result c.other_of-copy.ensures.is c.turn-turned.new.engine c.in-Ok.ensures.ok
+    c.other-copy.result c.other-copy.ensures.is c.turn-turned.new.engine c.in-Ok.ensures.ok
     c.since.result c.since.ensures c.next_stage-self-inside.result
     c.next_stage-self-inside.ensures.followed c.next_stage-self-inside.ensures.bounded trace in (
       subst
           (λ (b : Bool). IsDesk c.turn-turned.new.engine c.push.new.self inside.origin
-          c.other_of-copy.result b p.marks.items after) (sym up) on.0,
+          c.other-copy.result b p.marks.items after) (sym up) on.0,
       on.1,
       subst
           (λ (o : Option Prepared). KeepsPrepared o c.turn-turned.new.engine.log.records
-          c.other_of-copy.result after) (sym c.take.ensures.after) tt,
+          c.other-copy.result after) (sym c.take.ensures.after) tt,
       subst
           (λ (b : Bool). KeepsItems c.turn-turned.new.engine inside.origin c.push.new.self.trace b
           c.next_stage-self-inside.result inside.changes (sent_items inside.outlet)) (sym up)
           (switched_items inside.engine c.turn-turned.new.engine inside.origin
           inside.chronicle.trace c.push.new.self.trace s c.next_stage-self-inside.result
-          c.other_of-copy.result c.args.sides c.args.answer.command inside.changes
+          c.other-copy.result c.args.sides c.args.answer.command inside.changes
           (sent_items inside.outlet) had
           followed
-          (turns_more c.other_of-copy.result p.shadow seen after inside.engine
+          (turns_more c.other-copy.result p.shadow seen after inside.engine
           c.turn-turned.new.engine c.in-Ok.ensures.ok)
-          (turns_units c.other_of-copy.result p.shadow seen after inside.engine
+          (turns_units c.other-copy.result p.shadow seen after inside.engine
           c.turn-turned.new.engine c.in-Ok.ensures.ok)
           (none_open inside.engine inside.chronicle inside.origin inside.copy inside.marks.items
           seen desk s inside.changes tends c.args.answer c.args.sides p is
@@ -170,7 +170,7 @@ invariant_of-self g c =
 pub invariant_of-self-in-Err-1 : goal.invariant_of-self-in-Err-1
 invariant_of-self-in-Err-1 g c =
     let inside = c.self.inside in
-    let look = seen_volume g.V.Volume.told g.V.Volume.faults g.V.Volume.capacities in
+    let look = g.V.Volume.seen in
     let seen = look inside.volume in
     let p = c.in-Some-Some.prepared in
     let shadow_is : inside.shadow ≡ Some p = sym c.take.ensures.value ∙ c.in-Some-Some.is-1 in
@@ -201,7 +201,7 @@ invariant_of-self-in-Err-1 g c =
     c.turn-turned.ensures.shade c.turn-turned.ensures.grant
     calls after c.push-in-Err.new.self at c.calls_now-calls.ensures.counted
     c.push-in-Err.ensures.recorded
-    c.other_of-copy.result c.other_of-copy.ensures.is c.turn-turned.new.engine c.in-Err.ensures.err
+    c.other-copy.result c.other-copy.ensures.is c.turn-turned.new.engine c.in-Err.ensures.err
     trace in (
       on.0,
       on.1,
@@ -214,7 +214,7 @@ invariant_of-self-in-Err-1 g c =
 pub returns-in-Ok-clause-ok : goal.returns-in-Ok-clause-ok
 returns-in-Ok-clause-ok g c =
     let inside = c.self.inside in
-    let look = seen_volume g.V.Volume.told g.V.Volume.faults g.V.Volume.capacities in
+    let look = g.V.Volume.seen in
     let seen = look inside.volume in
     let p = c.in-Some-Some.prepared in
     let shadow_is : inside.shadow ≡ Some p = sym c.take.ensures.value ∙ c.in-Some-Some.is-1 in
@@ -249,7 +249,7 @@ returns-in-Ok-clause-ok g c =
     (sym (ap (λ d. d.ground.pages) c.self.view_is)) (sym (ap (λ d. d.trace) c.self.view_is))
     (sym (ap (λ d. old_records d) c.self.view_is))
     c.turn-turned.ensures.shade c.turn-turned.ensures.grant
-    c.other_of-copy.result c.other_of-copy.ensures.is c.in-Ok.ensures.ok.mid after logs in
+    c.other-copy.result c.other-copy.ensures.is c.in-Ok.ensures.ok.mid after logs in
     let old = ap (λ (l : Listed). take inside.origin.records l.records) log_is
     ∙ old_on inside.engine inside.chronicle inside.origin inside.copy inside.marks.items seen desk s
     inside.changes tends c.args.answer c.args.sides p is
@@ -258,7 +258,7 @@ returns-in-Ok-clause-ok g c =
     (sym (ap (λ d. d.ground.pages) c.self.view_is)) (sym (ap (λ d. d.trace) c.self.view_is))
     (sym (ap (λ d. old_records d) c.self.view_is))
     c.turn-turned.ensures.shade c.turn-turned.ensures.grant
-    c.other_of-copy.result c.other_of-copy.ensures.is c.in-Ok.ensures.ok.mid after logs in
+    c.other-copy.result c.other-copy.ensures.is c.in-Ok.ensures.ok.mid after logs in
     let followed = has_stage inside.engine inside.chronicle inside.origin inside.copy
     inside.marks.items seen desk s inside.changes tends c.args.answer c.args.sides p is
     g.row.V.Denot g.row.O.Denot c.args.self.now c.requires.can stage_is kept_is
@@ -267,18 +267,18 @@ returns-in-Ok-clause-ok g c =
     (sym (ap (λ d. old_records d) c.self.view_is))
     c.turn-turned.ensures.shade c.turn-turned.ensures.grant
     calls after c.push.new.self at c.calls_now-calls.ensures.counted c.push.ensures.recorded
-    c.since.result c.other_of-copy.result c.next_stage-self-inside.result
+    c.since.result c.other-copy.result c.next_stage-self-inside.result
     c.next_stage-self-inside.ensures.followed in
-    let has = stage_of (c.next_stage-self-inside.result) c.other_of-copy.result c.args.sides
+    let has = stage_of (c.next_stage-self-inside.result) c.other-copy.result c.args.sides
     (alter (numbers_of s) c.args.answer.command) followed in
-    let copy_is = c.other_of-copy.ensures.is ∙ ap (λ d. other_of d.copy) c.self.view_is in
+    let copy_is = c.other-copy.ensures.is ∙ ap (λ d. other_of d.copy) c.self.view_is in
     record {
       calls = calls;
       made =
           trace
           ∙ ap
           (λ (es : List Entry). es
-          ++ utility_entry (events.Switched c.other_of-copy.result c.args.sides)
+          ++ utility_entry (events.Switched c.other-copy.result c.args.sides)
           (Some c.args.answer) calls ∷ []) (ap (λ d. d.trace) c.self.view_is)
           ∙ ap
           (λ (n : ℕ). c.args.self.now.trace
@@ -325,7 +325,7 @@ returns-in-Ok-clause-ok g c =
 pub returns-in-Err-clause-err : goal.returns-in-Err-clause-err
 returns-in-Err-clause-err g c =
     let inside = c.self.inside in
-    let look = seen_volume g.V.Volume.told g.V.Volume.faults g.V.Volume.capacities in
+    let look = g.V.Volume.seen in
     let seen = look inside.volume in
     let p = c.in-Some-Some.prepared in
     let shadow_is : inside.shadow ≡ Some p = sym c.take.ensures.value ∙ c.in-Some-Some.is-1 in
@@ -357,7 +357,7 @@ returns-in-Err-clause-err g c =
     (sym (ap (λ d. d.ground.pages) c.self.view_is)) (sym (ap (λ d. d.trace) c.self.view_is))
     (sym (ap (λ d. old_records d) c.self.view_is))
     c.turn-turned.ensures.shade c.turn-turned.ensures.grant
-    c.other_of-copy.result c.other_of-copy.ensures.is c.turn-turned.new.engine after logs in
+    c.other-copy.result c.other-copy.ensures.is c.turn-turned.new.engine after logs in
     let old = old_on inside.engine inside.chronicle inside.origin inside.copy inside.marks.items
     seen desk s inside.changes tends c.args.answer c.args.sides p is
     g.row.V.Denot g.row.O.Denot c.args.self.now c.requires.can stage_is kept_is
@@ -365,7 +365,7 @@ returns-in-Err-clause-err g c =
     (sym (ap (λ d. d.ground.pages) c.self.view_is)) (sym (ap (λ d. d.trace) c.self.view_is))
     (sym (ap (λ d. old_records d) c.self.view_is))
     c.turn-turned.ensures.shade c.turn-turned.ensures.grant
-    c.other_of-copy.result c.other_of-copy.ensures.is c.turn-turned.new.engine after logs in
+    c.other-copy.result c.other-copy.ensures.is c.turn-turned.new.engine after logs in
     record {
       calls = calls;
       made = trace

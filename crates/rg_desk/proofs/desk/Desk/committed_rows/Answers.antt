@@ -1,7 +1,6 @@
 use Rattle.std.proofs.Common.{◌∙◌, ap, subst}
 use Rattle.rg_laws_utility.specs.ByteAccount.Account.{allowed_of}
 use Rattle.rg_desk.specs.Desk.{EndsWithRows, old_records}
-use Rattle.rg_engine.specs.Volume.{seen_volume}
 use Rattle.rg_desk.proofs.DeskGoes.{desk_few}
 use Rattle.rg_engine.proofs.Exits.{ends_stored}
 use Rattle.rg_desk.proofs.desk.Desk.committed_rows.Goals as goal
@@ -17,7 +16,7 @@ returns g c =
     let up = ap (λ d. d.down) c.self.view_is ∙ c.requires in
     subst
     (λ d. EndsWithRows (old_records d) d.first_copy d.ground.log.pages
-    (seen_volume g.V.Volume.told g.V.Volume.faults g.V.Volume.capacities d.volume) d.trace
+    (g.V.Volume.seen d.volume) d.trace
     c.committed_rows.result) c.self.view_is
     (record {
       last = desk.state;
@@ -31,6 +30,6 @@ returns g c =
           (allowed_of desk.start c.self.inside.chronicle.trace) (desk.shown up);
       stored = ends_stored desk.state (allowed_of desk.start c.self.inside.chronicle.trace)
           c.self.inside.engine
-          (seen_volume g.V.Volume.told g.V.Volume.faults g.V.Volume.capacities c.self.inside.volume)
+          (g.V.Volume.seen c.self.inside.volume)
           (desk.shown up) c.records.ensures.entries c.records.ensures.set desk.leaves;
     })

@@ -12,7 +12,6 @@ use Rattle.rg_engine.specs.Stored.{IsStored}
 use Rattle.rg_model.specs.State.{Table}
 use Rattle.rg_engine.specs.Flushed.{CallsOwn}
 use Rattle.rg_engine.specs.OnVolume.{SoundThroughout}
-use Rattle.rg_engine.specs.Volume.{seen_volume}
 use Rattle.rg_desk.specs.Desk.{KeepsRows, old_records}
 use Rattle.rg_engine.specs.Left.{StoresDuring}
 use Rattle.rg_desk.proofs.DeskGoes.{desk_replied, desk_room, desk_shown, old_same, replied}
@@ -98,7 +97,7 @@ returns-clause-made g c =
     let stmt = c.args.stmt in
     let volume = c.reply_to-reply.new.volume in
     let calls = c.calls_now-calls.result in
-    let look = seen_volume g.V.Volume.told g.V.Volume.faults g.V.Volume.capacities in
+    let look = g.V.Volume.seen in
     let said = replied inside.engine inside.chronicle inside.origin inside.copy inside.down _ _
     c.self.invariant.0 session stmt reply c.reply_to-reply.new.engine c.reply_to-reply.new.down _
     c.reply_to-reply.ensures.replies in
@@ -116,12 +115,14 @@ returns-clause-made g c =
       was_up = λ e. said.was_up (ap (λ d. d.down) c.self.view_is ∙ e);
       down = said.down_after ∙ ap (λ d. d.down || is_device reply) c.self.view_is;
       device =
-          subst (λ d. reply ≡ Device → Rose (g.V.Volume.faults d.volume) (g.V.Volume.faults volume))
+          subst
+          (λ d. reply ≡ Device
+          → Rose (g.V.Volume.seen d.volume).faults (g.V.Volume.seen volume).faults)
           c.self.view_is said.device;
       quiet = subst
           (λ d. forces d.ground.units session stmt ≡ false
-          → seen_volume g.V.Volume.told g.V.Volume.faults g.V.Volume.capacities volume
-          ≡ seen_volume g.V.Volume.told g.V.Volume.faults g.V.Volume.capacities d.volume)
+          → g.V.Volume.seen volume
+          ≡ g.V.Volume.seen d.volume)
           c.self.view_is said.quiet;
       forced = subst
           (λ d. forces d.ground.units session stmt ≡ true → reply ≡ Done
@@ -136,8 +137,8 @@ returns-clause-made g c =
           c.self.view_is said.log_full;
       sound = subst
           (λ d. SoundThroughout
-          (seen_volume g.V.Volume.told g.V.Volume.faults g.V.Volume.capacities d.volume)
-          (seen_volume g.V.Volume.told g.V.Volume.faults g.V.Volume.capacities volume))
+          (g.V.Volume.seen d.volume)
+          (g.V.Volume.seen volume))
           c.self.view_is
           (replied_sound inside.engine inside.chronicle inside.origin inside.copy inside.down _ _
           c.self.invariant.0 session stmt reply c.reply_to-reply.new.engine
@@ -182,8 +183,8 @@ returns-clause-made g c =
         ring = c.reply_to-reply.ensures.ring ∙ ap (λ d. d.ring) c.self.view_is;
         calls = subst
             (λ d. CallsOwn d.copy
-            (seen_volume g.V.Volume.told g.V.Volume.faults g.V.Volume.capacities d.volume)
-            (seen_volume g.V.Volume.told g.V.Volume.faults g.V.Volume.capacities volume))
+            (g.V.Volume.seen d.volume)
+            (g.V.Volume.seen volume))
             c.self.view_is (own_calls inside.copy _ _ said.calls);
       };
     }

@@ -22,7 +22,6 @@ use Rattle.rg_engine.specs.Prepared.{KeepsPrepared, prepared_seen}
 use Rattle.rg_engine.specs.Room.{Ground}
 use Rattle.rg_engine.specs.Sends.{KeepsItems}
 use Rattle.rg_engine.specs.Utility.{StepsOn}
-use Rattle.rg_engine.specs.Volume.{seen_volume}
 use Rattle.rg_engine.specs.declared.prepared.Prepared.{Prepared}
 use Rattle.rg_desk.proofs.DeskUtility.{ground_same, step_on}
 use Rattle.rg_desk.proofs.Feeding.{copy_items, engine_rows, ground_still, next_plain, same_items}
@@ -47,7 +46,7 @@ copy_page-requires g c =
 pub invariant_of-self-in_err-item : goal.invariant_of-self-in_err-item
 invariant_of-self-in_err-item g c =
     let inside = c.self.inside in
-    let seen = seen_volume g.V.Volume.told g.V.Volume.faults g.V.Volume.capacities inside.volume in
+    let seen = g.V.Volume.seen inside.volume in
     let mid = c.copy_page.new.self in
     let same = c.copy_page.ensures.same in (
       desk_still inside.engine inside.chronicle inside.origin inside.copy inside.down
@@ -102,7 +101,7 @@ step_utility-self-inside-requires-clause-next g c =
 pub invariant_of-self-2 : goal.invariant_of-self-2
 invariant_of-self-2 g c =
     let inside = c.self.inside in
-    let seen = seen_volume g.V.Volume.told g.V.Volume.faults g.V.Volume.capacities inside.volume in
+    let seen = g.V.Volume.seen inside.volume in
     let s = c.in-Some.stage in
     let mid = c.copy_page.new.self in
     let after = c.step_utility-self-inside.new.self in
@@ -187,7 +186,7 @@ invariant_of-self-2 g c =
 pub returns-clause-made : goal.returns-clause-made
 returns-clause-made g c =
     let inside = c.self.inside in
-    let look = seen_volume g.V.Volume.told g.V.Volume.faults g.V.Volume.capacities in
+    let look = g.V.Volume.seen in
     let s = c.in-Some.stage in
     let mid = c.copy_page.new.self in
     let after = c.step_utility-self-inside.new.self in

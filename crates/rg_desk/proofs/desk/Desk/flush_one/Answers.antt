@@ -7,7 +7,6 @@ use Rattle.rg_desk.specs.Desk.{KeepsRows, old_records}
 use Rattle.rg_engine.specs.Flushed.{CallsOwn, FlushIs}
 use Rattle.rg_engine.specs.Left.{StoresLeft}
 use Rattle.rg_engine.specs.OnVolume.{SoundThroughout}
-use Rattle.rg_engine.specs.Volume.{seen_volume}
 use Rattle.rg_desk.proofs.DeskFlush.{desk_flushed, flush_told}
 use Rattle.rg_desk.proofs.DeskGoes.{desk_room}
 use Rattle.rg_desk.proofs.Rows.{flushed_rows}
@@ -29,7 +28,7 @@ invariant_of-self-2 g c =
     c.self.invariant.0 c.make_room.new.self c.make_room.ensures.trace c.make_room.ensures.calls in
     let event = c.tell_flush-event.result in
     let calls = c.calls_now-calls.result in
-    let look = seen_volume g.V.Volume.told g.V.Volume.faults g.V.Volume.capacities in
+    let look = g.V.Volume.seen in
     let entry : Entry = system_entry event calls in
     let trace = c.push.ensures.trace
     ∙ ap (λ (e : Entry). c.make_room.new.self.trace ++ e ∷ []) c.system.ensures in
@@ -82,7 +81,7 @@ invariant_of-self-2 g c =
 pub returns-clause-made : goal.returns-clause-made
 returns-clause-made g c =
     let inside = c.self.inside in
-    let look = seen_volume g.V.Volume.told g.V.Volume.faults g.V.Volume.capacities in
+    let look = g.V.Volume.seen in
     let event = c.tell_flush-event.result in
     let calls = c.calls_now-calls.result in
     let next = c.tell_flush-event.new.engine in

@@ -2,7 +2,6 @@ use Rattle.std.proofs.Common.{subst}
 use Rattle.rg_desk.specs.Desk.{LeavesTable, LegalFrom, old_records}
 use Rattle.rg_engine.specs.Left.{StoresLeft}
 use Rattle.rg_engine.specs.OnVolume.{GoesOnTidy, LeavesSoundIfTidy}
-use Rattle.rg_engine.specs.Volume.{seen_volume}
 use Rattle.rg_desk.proofs.Death.{desk_left}
 use Rattle.rg_desk.proofs.DeskGoes.{desk_legal, desk_rests}
 use Rattle.rg_engine.proofs.Exits.{on_images}
@@ -22,7 +21,7 @@ pub returns-clause-tidy : goal.returns-clause-tidy
 returns-clause-tidy g c =
     let inside = c.self.inside in
     subst
-    (λ d. GoesOnTidy (seen_volume g.V.Volume.told g.V.Volume.faults g.V.Volume.capacities d.volume))
+    (λ d. GoesOnTidy (g.V.Volume.seen d.volume))
     c.self.view_is
     (desk_rests inside.engine inside.chronicle inside.origin inside.copy inside.down _ _
     c.self.invariant.0 c.records.ensures.entries c.records.ensures.set).tidy
@@ -32,7 +31,7 @@ returns-clause-sound g c =
     let inside = c.self.inside in
     subst
     (λ d. LeavesSoundIfTidy
-    (seen_volume g.V.Volume.told g.V.Volume.faults g.V.Volume.capacities d.volume)) c.self.view_is
+    (g.V.Volume.seen d.volume)) c.self.view_is
     (desk_rests inside.engine inside.chronicle inside.origin inside.copy inside.down _ _
     c.self.invariant.0 c.records.ensures.entries c.records.ensures.set).sound
 
@@ -40,7 +39,7 @@ pub returns-clause-left : goal.returns-clause-left
 returns-clause-left g c =
     let desk = c.self.invariant.0 in
     let inside = c.self.inside in
-    let look = seen_volume g.V.Volume.told g.V.Volume.faults g.V.Volume.capacities in
+    let look = g.V.Volume.seen in
     let left =
     desk_left inside.engine inside.chronicle inside.origin inside.copy inside.down _ _ desk in
     subst (λ d. LeavesTable (old_records d) d.first_copy d.ground.log.pages (look d.volume) d.trace)

@@ -1,13 +1,8 @@
-use Rattle.std.proofs.Common.{◌≡◌, ◌==◌, ℕ, true, List, Option, Some, None, length, sym, ◌∙◌, ap}
-use Rattle.std.proofs.Common.{arith}
-use Rattle.std.proofs.lemmas.Bool.{eqb-true}
-use Rattle.std.proofs.lemmas.Bool.Decides.{nat_tests}
+use Rattle.std.proofs.Common.{◌≡◌, List, Option, Some, None, length, sym, ◌∙◌, ap}
+use Rattle.std.proofs.lemmas.Bool.{eqb-true, eq-eqb}
 use Rattle.rg_record.specs.declared.record.Record.{Record}
 use Rattle.rg_engine.specs.Prepared.{PreparedSeen, prepared_seen}
 use Rattle.rg_desk.proofs.desk.Desk.is_current.Goals as goal
-
-same_test : (m n : ℕ) → m ≡ n → (m == n) ≡ true
-same_test m n e = grind (arith, nat_tests, e)
 
 none_kept : (o : Option PreparedSeen) (p : PreparedSeen) → None ≡ o → o ≡ Some p → ⊥
 none_kept o p e is = absurd (cc (e, is))
@@ -30,7 +25,7 @@ returns-in-Some-clause-sure g c = λ same. record {
 
 pub returns-in-Some-clause-all : goal.returns-in-Some-clause-all
 returns-in-Some-clause-all g c = λ has.
-    same_test c.in-Some.prepared.records (length c.records.result.now)
+    eq-eqb c.in-Some.prepared.records (length c.records.result.now)
     (kept_records c.args.self.now.shadow has.shadow
     (record { shade = c.in-Some.prepared.shadow; records = c.in-Some.prepared.records })
     (sym (sym (ap (λ d. d.shadow) c.self.view_is) ∙ ap prepared_seen c.in-Some.is)) has.shadow_is

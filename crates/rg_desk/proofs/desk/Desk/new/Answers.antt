@@ -15,7 +15,7 @@ use Rattle.rg_engine.specs.OnVolume.{IsOnVolume, WasAllTidy}
 use Rattle.rg_engine.specs.Reopens.{IsCleanIn}
 use Rattle.rg_engine.specs.Units.{trans_of}
 use Rattle.rg_engine.specs.Stored.{IsStored}
-use Rattle.rg_engine.specs.Volume.{LeavesIfTidy, seen_volume}
+use Rattle.rg_engine.specs.Volume.{LeavesIfTidy}
 use Rattle.rg_desk.proofs.DeskGoes.{desk_opened}
 use Rattle.rg_engine.proofs.Members.{trans_only}
 use Rattle.rg_engine.proofs.Reopens.{idle_names}
@@ -34,7 +34,7 @@ invariant_of-desk g c =
     let b = c.in-Ok.ensures.begun in
     let found = c.args.found in
     let seen =
-    seen_volume g.V.Volume.told g.V.Volume.faults g.V.Volume.capacities c.args.volume in (
+    g.V.Volume.seen c.args.volume in (
       desk_opened c.in-Ok.engine c.begin.new.chronicle _ found.copy
           (length (space_pages found.space)) (log_bytes found.log.records) c.calls_now-now.result
           c.in-Ok.marks.items seen b.start c.requires.copy b.shows

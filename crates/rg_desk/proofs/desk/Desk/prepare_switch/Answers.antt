@@ -19,7 +19,6 @@ use Rattle.rg_engine.specs.Room.{Ground}
 use Rattle.rg_model.specs.Claims.{least_holder}
 use Rattle.rg_engine.specs.Prepared.{IsWritten, KeepsPrepared, PreparedSeen, WritesShadow}
 use Rattle.rg_engine.specs.Prepared.{prepared_seen}
-use Rattle.rg_engine.specs.Volume.{seen_volume}
 use Rattle.rg_engine.specs.declared.engine.Engine.{Engine}
 use Rattle.rg_engine.specs.declared.prepared.Prepared.{Prepared}
 use Rattle.rg_desk.proofs.DeskUtility.{state_shows}
@@ -32,7 +31,7 @@ use Rattle.rg_desk.proofs.desk.Desk.prepare_switch.Goals as goal
 pub invariant_of-self : goal.invariant_of-self
 invariant_of-self g c =
     let inside = c.self.inside in
-    let look = seen_volume g.V.Volume.told g.V.Volume.faults g.V.Volume.capacities in
+    let look = g.V.Volume.seen in
     let seen = look inside.volume in
     let now = look c.prepare.new.volume in
     let next = c.prepare.new.engine in
@@ -44,7 +43,7 @@ invariant_of-self g c =
     let copy_is : shade.copy ≡ other_of inside.copy =
     c.requires.can.other.copy ∙ ap (λ d. other_of d.copy) (sym c.self.view_is) in
     let written = subst (λ (n : ℕ). IsWritten n shade seen now inside.engine next c.in-Ok.prepared)
-    c.other_of-copy.ensures.is c.in-Ok.ensures.ok in
+    c.other-copy.ensures.is c.in-Ok.ensures.ok in
     let w = written.wrote.writes in
     let on = desk_writes inside.engine inside.chronicle inside.origin inside.copy inside.marks.items
     seen desk next shade copy_is c.prepare.ensures.numbered c.prepare.ensures.of_copy now w in
@@ -91,7 +90,7 @@ invariant_of-self g c =
 pub invariant_of-self-in-Err : goal.invariant_of-self-in-Err
 invariant_of-self-in-Err g c =
     let inside = c.self.inside in
-    let look = seen_volume g.V.Volume.told g.V.Volume.faults g.V.Volume.capacities in
+    let look = g.V.Volume.seen in
     let seen = look inside.volume in
     let now = look c.prepare.new.volume in
     let next = c.prepare.new.engine in
@@ -104,7 +103,7 @@ invariant_of-self-in-Err g c =
     c.requires.can.other.copy ∙ ap (λ d. other_of d.copy) (sym c.self.view_is) in
     let w = subst
     (λ (n : ℕ). WritesShadow n (stamped_all (length inside.engine.log.records) shade.pages) seen now
-    inside.engine next) c.other_of-copy.ensures.is c.in-Err.ensures.err in
+    inside.engine next) c.other-copy.ensures.is c.in-Err.ensures.err in
     let on = desk_writes inside.engine inside.chronicle inside.origin inside.copy inside.marks.items
     seen desk next shade copy_is c.prepare.ensures.numbered c.prepare.ensures.of_copy now w in
     let tends = subst (λ (n : ℕ). Tends inside.chronicle.trace inside.stage inside.changes n)
@@ -127,7 +126,7 @@ invariant_of-self-in-Err g c =
 pub returns-in-Ok-clause-ok : goal.returns-in-Ok-clause-ok
 returns-in-Ok-clause-ok g c =
     let inside = c.self.inside in
-    let look = seen_volume g.V.Volume.told g.V.Volume.faults g.V.Volume.capacities in
+    let look = g.V.Volume.seen in
     let seen = look inside.volume in
     let now = look c.prepare.new.volume in
     let next = c.prepare.new.engine in
@@ -139,7 +138,7 @@ returns-in-Ok-clause-ok g c =
     let copy_is : shade.copy ≡ other_of inside.copy =
     c.requires.can.other.copy ∙ ap (λ d. other_of d.copy) (sym c.self.view_is) in
     let written = subst (λ (n : ℕ). IsWritten n shade seen now inside.engine next c.in-Ok.prepared)
-    c.other_of-copy.ensures.is c.in-Ok.ensures.ok in
+    c.other-copy.ensures.is c.in-Ok.ensures.ok in
     let w = written.wrote.writes in
     let seen_of : Shade → ℕ → Option PreparedSeen =
     λ s n. Some (record { shade = s; records = n }) in
@@ -217,7 +216,7 @@ returns-in-Ok-clause-ok g c =
 pub returns-in-Err-clause-err : goal.returns-in-Err-clause-err
 returns-in-Err-clause-err g c =
     let inside = c.self.inside in
-    let look = seen_volume g.V.Volume.told g.V.Volume.faults g.V.Volume.capacities in
+    let look = g.V.Volume.seen in
     let seen = look inside.volume in
     let now = look c.prepare.new.volume in
     let next = c.prepare.new.engine in
@@ -230,7 +229,7 @@ returns-in-Err-clause-err g c =
     c.requires.can.other.copy ∙ ap (λ d. other_of d.copy) (sym c.self.view_is) in
     let w = subst
     (λ (n : ℕ). WritesShadow n (stamped_all (length inside.engine.log.records) shade.pages) seen now
-    inside.engine next) c.other_of-copy.ensures.is c.in-Err.ensures.err in
+    inside.engine next) c.other-copy.ensures.is c.in-Err.ensures.err in
     let view : Engine → Option PreparedSeen → DeskState g.row.V.Denot g.row.O.Denot =
     λ x shadow. record {
       older = inside.chronicle.older;

@@ -3,7 +3,6 @@ use Rattle.rg_log.specs.Kept.{Listed}
 use Rattle.rg_laws_utility.specs.TraceStage.Tending.{Tends}
 use Rattle.rg_desk.specs.Desk.{IsDesk}
 use Rattle.rg_engine.specs.Prepared.{KeepsPrepared}
-use Rattle.rg_engine.specs.Volume.{seen_volume}
 use Rattle.rg_engine.specs.declared.prepared.Prepared.{Prepared}
 use Rattle.rg_desk.proofs.BothSides.{both_sides}
 use Rattle.rg_engine.proofs.Preparing.{prepared_same}
@@ -15,7 +14,7 @@ use Rattle.rg_desk.proofs.desk.Desk.sides.Goals as goal
 pub invariant_of-self : goal.invariant_of-self
 invariant_of-self g c =
     let inside = c.self.inside in
-    let seen = seen_volume g.V.Volume.told g.V.Volume.faults g.V.Volume.capacities inside.volume in
+    let seen = g.V.Volume.seen inside.volume in
     let same = c.side.ensures.same in (
       desk_still inside.engine inside.chronicle inside.origin inside.copy inside.down
           inside.marks.items seen c.self.invariant.0 c.side.new.self same,
@@ -31,7 +30,7 @@ invariant_of-self g c =
 pub invariant_of-self-in_err-new : goal.invariant_of-self-in_err-new
 invariant_of-self-in_err-new g c =
     let inside = c.self.inside in
-    let seen = seen_volume g.V.Volume.told g.V.Volume.faults g.V.Volume.capacities inside.volume in
+    let seen = g.V.Volume.seen inside.volume in
     let same = c.side.ensures.same in (
       desk_still inside.engine inside.chronicle inside.origin inside.copy inside.down
           inside.marks.items seen c.self.invariant.0 c.side.new.self same,
@@ -49,7 +48,7 @@ invariant_of-self-in_err-new g c =
 pub invariant_of-self-2 : goal.invariant_of-self-2
 invariant_of-self-2 g c =
     let inside = c.self.inside in
-    let seen = seen_volume g.V.Volume.told g.V.Volume.faults g.V.Volume.capacities inside.volume in
+    let seen = g.V.Volume.seen inside.volume in
     let same = c.side.ensures.same in (
       desk_still inside.engine inside.chronicle inside.origin inside.copy inside.down
           inside.marks.items seen c.self.invariant.0 c.side.new.self same,
@@ -67,7 +66,7 @@ invariant_of-self-2 g c =
 pub returns-clause-sides : goal.returns-clause-sides
 returns-clause-sides g c =
     let inside = c.self.inside in
-    let seen = seen_volume g.V.Volume.told g.V.Volume.faults g.V.Volume.capacities inside.volume in
+    let seen = g.V.Volume.seen inside.volume in
     let up = ap (λ d. d.down) c.self.view_is ∙ c.requires.up in
     both_sides inside.engine inside.chronicle inside.origin inside.copy inside.marks.items seen
     (subst

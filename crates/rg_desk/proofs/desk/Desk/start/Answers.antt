@@ -13,7 +13,6 @@ use Rattle.rg_model.specs.Utility.{starts_utility}
 use Rattle.rg_engine.specs.Engine.{ground_of}
 use Rattle.rg_engine.specs.Flushed.{CallsOwn}
 use Rattle.rg_engine.specs.Room.{Ground}
-use Rattle.rg_engine.specs.Volume.{seen_volume}
 use Rattle.rg_engine.specs.declared.engine.Engine.{Engine}
 use Rattle.rg_desk.proofs.DeskGoes.{desk_room}
 use Rattle.rg_desk.proofs.DeskUtility.{count_since, start_aside, start_full, start_made, start_on}
@@ -29,7 +28,7 @@ use Rattle.rg_desk.proofs.desk.Desk.start.Goals as goal
 pub invariant_of-self-2 : goal.invariant_of-self-2
 invariant_of-self-2 g c =
     let inside = c.self.inside in
-    let seen = seen_volume g.V.Volume.told g.V.Volume.faults g.V.Volume.capacities inside.volume in
+    let seen = g.V.Volume.seen inside.volume in
     let mid = c.make_room.new.self in
     let room = desk_room inside.engine inside.chronicle inside.origin inside.copy inside.down _ _
     c.self.invariant.0 mid c.make_room.ensures.trace c.make_room.ensures.calls in
@@ -81,7 +80,7 @@ invariant_of-self-2 g c =
 pub returns-clause-made : goal.returns-clause-made
 returns-clause-made g c =
     let inside = c.self.inside in
-    let look = seen_volume g.V.Volume.told g.V.Volume.faults g.V.Volume.capacities in
+    let look = g.V.Volume.seen in
     let mid = c.make_room.new.self in
     let event = c.start_utility-event.result in
     let next = c.start_utility-event.new.stage in

@@ -5,7 +5,6 @@ use Rattle.rg_laws_utility.specs.TraceStage.Tending.{Tends}
 use Rattle.rg_feed.specs.Ends.{sent_items}
 use Rattle.rg_desk.specs.Desk.{old_records}
 use Rattle.rg_engine.specs.Tabled.{EndsWithTable}
-use Rattle.rg_engine.specs.Volume.{seen_volume}
 use Rattle.rg_desk.proofs.Feeding.{engine_rows, same_items}
 use Rattle.rg_engine.proofs.Preparing.{prepared_same}
 use Rattle.rg_desk.proofs.Still.{desk_still}
@@ -27,7 +26,7 @@ table-requires g c =
 pub invariant_of-self : goal.invariant_of-self
 invariant_of-self g c =
     let inside = c.self.inside in
-    let seen = seen_volume g.V.Volume.told g.V.Volume.faults g.V.Volume.capacities inside.volume in
+    let seen = g.V.Volume.seen inside.volume in
     let same = c.table.ensures.same in (
       desk_still inside.engine inside.chronicle inside.origin inside.copy inside.down
           inside.marks.items seen c.self.invariant.0 c.table.new.self same,

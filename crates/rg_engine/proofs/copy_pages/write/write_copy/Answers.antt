@@ -35,11 +35,12 @@ returns-in_err-write-clause-only g c =
     c.spell.ensures.bytes c.spell.ensures.fits in
     written _ _ _ _ _ _ _ _ _
     (is_write c.args.copy c.args.at.0 c.loop-before.before c.args.shadow.now.pages _ _
-    c.set_of-set.ensures within spells) c.loop-before.invariant.only c.write.ensures.made
+    c.set-set.ensures.is within spells) c.loop-before.invariant.only c.write.ensures.made
 
 pub returns-in_err-write-clause-moments : goal.returns-in_err-write-clause-moments
 returns-in_err-write-clause-moments g c =
-    stays_old (g.V.Volume.capacities c.args.volume.now) c.args.copy c.args.at.0 c.args.shadow.now
+    stays_old (g.V.Volume.seen c.args.volume.now).capacities c.args.copy c.args.at.0
+    c.args.shadow.now
     c.requires.copy c.count-count.ensures.numbered c.count-count.ensures.of_copy _ _
     (returns-in_err-write-clause-only g c)
 
@@ -55,9 +56,9 @@ loop-before-preserved g c =
       stamps = stamps;
       only = written _ _ _ _ _ _ _ _ _
           (is_write c.args.copy c.args.at.0 c.loop-before.before c.args.shadow.now.pages _ _
-          c.set_of-set.ensures within spells) c.loop-before.invariant.only c.write.ensures.made;
+          c.set-set.ensures.is within spells) c.loop-before.invariant.only c.write.ensures.made;
       reads = reads_next c.args.copy (stamped_all c.args.at.0 c.args.shadow.now.pages)
-          c.loop-before.before _ _ _ _ c.set_of-set.ensures c.loop-before.invariant.reads spells
+          c.loop-before.before _ _ _ _ c.set-set.ensures.is c.loop-before.invariant.reads spells
           c.in_ok-write.ensures.made;
       capacities = c.write.ensures.capacities ∙ c.loop-before.invariant.capacities;
       later = omega (arith, c.loop-before.invariant.later, c.write.ensures.cause.later);
@@ -80,18 +81,20 @@ pub returns-clause-leaves : goal.returns-clause-leaves
 returns-clause-leaves g c =
     let all : c.loop-before.before ≡ length c.args.shadow.now.pages = omega
     (arith, c.loop-before-test.false, c.loop-before.auto.before-end, c.count-count.ensures.count) in
-    let own = told_weaken _ (λ t. t.capacities ≡ g.V.Volume.capacities c.args.volume.now) _
+    let own = told_weaken _ (λ t. t.capacities ≡ (g.V.Volume.seen c.args.volume.now).capacities) _
     (λ t e. e ∙ c.loop-before.invariant.capacities)
     (g.met.V.Volume.told_capacities c.loop-before.volume) in
     let reads = reads_all c.args.copy c.args.at.0 c.args.shadow.now.pages c.loop-before.before _ all
     c.loop-before.invariant.reads in
-    leaves_copy (g.V.Volume.capacities c.args.volume.now) c.args.copy c.args.at.0 c.args.shadow.now
+    leaves_copy (g.V.Volume.seen c.args.volume.now).capacities c.args.copy c.args.at.0
+    c.args.shadow.now
     c.requires.copy c.count-count.ensures.numbered c.count-count.ensures.of_copy _ _ _ _
     c.requires.room own
     c.loop-before.invariant.only reads c.sync.ensures.made
 
 pub returns-clause-moments : goal.returns-clause-moments
 returns-clause-moments g c =
-    stays_old (g.V.Volume.capacities c.args.volume.now) c.args.copy c.args.at.0 c.args.shadow.now
+    stays_old (g.V.Volume.seen c.args.volume.now).capacities c.args.copy c.args.at.0
+    c.args.shadow.now
     c.requires.copy c.count-count.ensures.numbered c.count-count.ensures.of_copy _ _
     (synced _ _ _ _ _ _ c.loop-before.invariant.only c.sync.ensures.made)

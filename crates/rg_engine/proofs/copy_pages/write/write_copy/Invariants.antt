@@ -9,11 +9,11 @@ abbrev pub invariant-loop-before : goal.invariant-loop-before
 invariant-loop-before g l = record {
   stamps : l.shadow
       ≡ record l.fn.shadow { pages = stamped_first l.fn.at.0 l.before l.fn.shadow.pages };
-  only : EachCall (g.V.Volume.told l.fn.volume) (g.V.Volume.told l.volume)
+  only : EachCall (g.V.Volume.seen l.fn.volume).told (g.V.Volume.seen l.volume).told
       (WritesCopy l.fn.copy (stamped_all l.fn.at.0 l.fn.shadow.pages));
-  reads : IfTold (g.V.Volume.told l.volume)
+  reads : IfTold (g.V.Volume.seen l.volume).told
       (λ t. HasFirst l.fn.copy (stamped_all l.fn.at.0 l.fn.shadow.pages) l.before
       (read_of t.first t.calls));
-  capacities : g.V.Volume.capacities l.volume ≡ g.V.Volume.capacities l.fn.volume;
-  later : g.V.Volume.faults l.fn.volume ≤ g.V.Volume.faults l.volume;
+  capacities : (g.V.Volume.seen l.volume).capacities ≡ (g.V.Volume.seen l.fn.volume).capacities;
+  later : (g.V.Volume.seen l.fn.volume).faults ≤ (g.V.Volume.seen l.volume).faults;
 }

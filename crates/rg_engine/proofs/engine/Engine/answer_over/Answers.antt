@@ -2,7 +2,6 @@ use Rattle.std.proofs.Common.{sym, subst, ◌∙◌}
 use Rattle.rg_stmt.specs.declared.stmt.Stmt.{Stmt}
 use Rattle.rg_engine.specs.Answers.{Asks, forces}
 use Rattle.rg_engine.specs.Steps.{Steps}
-use Rattle.rg_engine.specs.Volume.{seen_volume}
 use Rattle.rg_engine.proofs.Answering.{commit_is, other_asks}
 use Rattle.rg_engine.proofs.engine.Engine.answer_over.Goals as goal
 
@@ -17,8 +16,8 @@ returns-then-is_commit-clause-asks g c =
     subst
     (λ (s : Stmt). Asks (forces c.args.self.now.units c.args.session s) c.commit.result
     c.args.self.now.log c.commit.new.self.log
-    (seen_volume g.V.Volume.told g.V.Volume.faults g.V.Volume.capacities c.args.volume.now)
-    (seen_volume g.V.Volume.told g.V.Volume.faults g.V.Volume.capacities c.commit.new.volume))
+    (g.V.Volume.seen c.args.volume.now)
+    (g.V.Volume.seen c.commit.new.volume))
     (sym (commit_is c.args.stmt.now (sym c.is_commit.ensures ∙ c.if-is_commit.true)))
     c.commit.ensures.asks
 

@@ -31,7 +31,7 @@ write-requires-clause-listed c =
     c.in-Some.ensures.unit mid c.in-Ok.ensures.same
     (same_shows st c.requires.shown.allowed d mid c.in-Ok.ensures.same shows)
     c.args.home at.row c.args.row c.in-Ok.plan at.there at.home c.requires.alone (sym at.key_is)
-    (subst (λ (n : ℕ). n ≤ 826) c.size-size.ensures.size c.size-size.ensures.high)
+    (subst (λ (n : ℕ). n ≤ 826) c.size.ensures.size c.size.ensures.high)
     c.in-Ok.ensures.plan
 
 pub returns-in-Ok : goal.returns-in-Ok
@@ -44,7 +44,7 @@ returns-in-Ok c = λ st allowed shows.
     c.in-Ok.ensures.same (same_shows st allowed d mid c.in-Ok.ensures.same shows)
     c.args.home at.row c.args.row c.in-Ok.plan c.write.result c.write.new.self
     c.in-Some.ensures.small at.there at.home c.requires.alone (sym at.key_is)
-    (subst (λ (n : ℕ). n ≤ 826) c.size-size.ensures.size c.size-size.ensures.high)
+    (subst (λ (n : ℕ). n ≤ 826) c.size.ensures.size c.size.ensures.high)
     c.in-Ok.ensures.plan
     (update_done st allowed d shows c.args.session c.args.row at.row c.requires.alone at.now)
     c.write.ensures
@@ -60,7 +60,7 @@ returns-in-Err c = λ st allowed shows.
     (change_refused st allowed d shows c.args.session c.in-Some.unit c.in-Some.ensures.unit mid
     c.in-Err.ensures.same (same_shows st allowed d mid c.in-Err.ensures.same shows)
     c.args.home at.row c.args.row c.in-Err.fault at.there (sym at.key_is)
-    (subst (λ (n : ℕ). n ≤ 826) c.size-size.ensures.size c.size-size.ensures.high)
+    (subst (λ (n : ℕ). n ≤ 826) c.size.ensures.size c.size.ensures.high)
     c.in-Err.ensures.refusal
     (update_done st allowed d shows c.args.session c.args.row at.row c.requires.alone at.now))
 

@@ -10,7 +10,7 @@ use Rattle.rg_stmt.specs.declared.stmt.Stmt.TheVariants.{Commit}
 use Rattle.rg_engine.specs.Ended.{commit_record, records_committed}
 use Rattle.rg_engine.specs.Stored.{IsSettled}
 use Rattle.rg_engine.specs.Units.{owed_to, unit_at}
-use Rattle.rg_engine.specs.Volume.{Leaves, seen_volume}
+use Rattle.rg_engine.specs.Volume.{Leaves}
 use Rattle.rg_engine.specs.declared.engine.Engine.{Engine}
 use Rattle.rg_engine.proofs.Answering.{asks_nothing}
 use Rattle.rg_engine.proofs.CommitShows.{commit_goes}
@@ -85,7 +85,7 @@ pub returns-then-is_none-clause-asks : goal.returns-then-is_none-clause-asks
 returns-then-is_none-clause-asks g c =
     let d = c.args.self.now in
     let seen =
-    seen_volume g.V.Volume.told g.V.Volume.faults g.V.Volume.capacities c.args.volume.now in
+    g.V.Volume.seen c.args.volume.now in
     let log = c.end.ensures.log in
     asks_nothing d.units c.args.session Commit Done d.log c.end.new.self.log seen
     (ap is_some
@@ -113,9 +113,9 @@ returns-in-Ok-clause-asks g c =
     ∙ ap (λ (n : ℕ). let l : Listed = record c.log_commit.new.self.log { forced = n } in l)
     (sym (ap (λ (l : Listed). l.forced) log)))
     (subst
-    (λ (n : ℕ). LeavesLog (g.V.Volume.told c.args.volume.now) c.log_commit.new.self.log.pages
+    (λ (n : ℕ). LeavesLog (g.V.Volume.seen c.args.volume.now).told c.log_commit.new.self.log.pages
     c.log_commit.new.self.log.records c.log_commit.new.self.log.forced
-    → LeavesLog (g.V.Volume.told c.force.new.volume) c.log_commit.new.self.log.pages
+    → LeavesLog (g.V.Volume.seen c.force.new.volume).told c.log_commit.new.self.log.pages
     c.log_commit.new.self.log.records n) (sym (ap (λ (l : Listed). l.forced) log))
     c.force.ensures.ahead)
     c.force.ensures.moments

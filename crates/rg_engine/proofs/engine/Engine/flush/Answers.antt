@@ -3,7 +3,6 @@ use Rattle.rg_base.specs.declared.position.Position.{Position}
 use Rattle.rg_log.specs.Kept.{Listed}
 use Rattle.rg_engine.specs.Engine.{seen_in}
 use Rattle.rg_engine.specs.OnVolume.{AreClean}
-use Rattle.rg_engine.specs.Volume.{seen_volume}
 use Rattle.rg_engine.proofs.Flushing.{flush_clean, flush_refused}
 use Rattle.rg_engine.proofs.engine.Engine.flush.Goals as goal
 
@@ -11,7 +10,7 @@ pub returns-in_default : goal.returns-in_default
 returns-in_default g c =
     let on = c.requires.is_on in
     flush_clean on.epoch c.args.copy c.args.self.now c.next_dirty.new.self c.args.marks.now.items
-    (seen_volume g.V.Volume.told g.V.Volume.faults g.V.Volume.capacities c.args.volume.now)
+    (g.V.Volume.seen c.args.volume.now)
     c.next_dirty.ensures.same
     (subst (λ (l : Listed). l.forced ≤ length l.records) c.next_dirty.ensures.same.log
     c.forced.ensures.within) on.is_on
@@ -23,6 +22,6 @@ returns-in-Err g c =
     let on = c.requires.is_on in
     flush_refused on.epoch c.args.copy c.args.self.now c.next_dirty.new.self c.args.marks.now.items
     c.make_room.new.marks.items
-    (seen_volume g.V.Volume.told g.V.Volume.faults g.V.Volume.capacities c.args.volume.now)
+    (g.V.Volume.seen c.args.volume.now)
     c.next_dirty.ensures.same on.is_on
     c.make_room.ensures.same

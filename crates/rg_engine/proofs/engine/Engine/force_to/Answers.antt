@@ -1,8 +1,7 @@
-use Rattle.rg_engine.specs.Volume.{seen_volume}
 use Rattle.rg_engine.proofs.Flushing.{forces_none}
 use Rattle.rg_engine.proofs.engine.Engine.force_to.Goals as goal
 
 pub returns-then-position-forced-clause-forces : goal.returns-then-position-forced-clause-forces
 returns-then-position-forced-clause-forces g c = forces_none c.args.self.now
-    (seen_volume g.V.Volume.told g.V.Volume.faults g.V.Volume.capacities c.args.volume.now)
+    (g.V.Volume.seen c.args.volume.now)
     c.forced.ensures.within

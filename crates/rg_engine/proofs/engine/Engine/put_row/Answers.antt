@@ -32,7 +32,7 @@ write-requires-clause-listed c =
     (same_shows st c.requires.shown.allowed d mid c.in-Ok.ensures.same shows)
     c.args.row c.in-Ok.plan
     (key_none st c.requires.shown.allowed d shows c.args.session c.args.row.key c.requires.absent)
-    c.requires.alone (subst (λ (n : ℕ). n ≤ 826) c.size-size.ensures.size c.size-size.ensures.high)
+    c.requires.alone (subst (λ (n : ℕ). n ≤ 826) c.size.ensures.size c.size.ensures.high)
     c.in-Ok.ensures.plan
 
 pub returns-in-Ok : goal.returns-in-Ok
@@ -43,7 +43,7 @@ returns-in-Ok c = λ st allowed shows.
     put_goes st allowed d shows c.args.session c.in-Some.unit c.in-Some.ensures.unit mid
     c.in-Ok.ensures.same (same_shows st allowed d mid c.in-Ok.ensures.same shows)
     c.args.row c.in-Ok.plan c.write.result c.write.new.self c.in-Some.ensures.small absent
-    c.requires.alone (subst (λ (n : ℕ). n ≤ 826) c.size-size.ensures.size c.size-size.ensures.high)
+    c.requires.alone (subst (λ (n : ℕ). n ≤ 826) c.size.ensures.size c.size.ensures.high)
     c.in-Ok.ensures.plan
     (insert_done st allowed d shows c.args.session c.args.row c.requires.alone absent)
     c.write.ensures
@@ -58,7 +58,7 @@ returns-in-Err c = λ st allowed shows.
     (put_refused st allowed d shows c.args.session c.in-Some.unit c.in-Some.ensures.unit mid
     c.in-Err.ensures.same (same_shows st allowed d mid c.in-Err.ensures.same shows)
     c.args.row c.in-Err.fault
-    (subst (λ (n : ℕ). n ≤ 826) c.size-size.ensures.size c.size-size.ensures.high)
+    (subst (λ (n : ℕ). n ≤ 826) c.size.ensures.size c.size.ensures.high)
     c.in-Err.ensures.refusal
     (insert_done st allowed d shows c.args.session c.args.row c.requires.alone absent))
 

@@ -1,6 +1,6 @@
 use Rattle.std.proofs.Common.{◌∙◌, sym}
+use Rattle.std.proofs.lemmas.Result.{IfOk-weaker}
 use Rattle.rg_base.specs.declared.session.Session.{Session}
-use Rattle.rg_engine.proofs.PlannedIn.{ok_so}
 use Rattle.rg_engine.proofs.Statements.{key_none, key_some}
 use Rattle.rg_engine.proofs.engine.Engine.row_of.Goals as goal
 
@@ -13,7 +13,7 @@ returns-in_default-clause-row c = λ st allowed shows. key_none st allowed c.arg
 
 pub returns-clause-row : goal.returns-clause-row
 returns-clause-row c =
-    ok_so _ _ c.row_at.result
+    IfOk-weaker c.row_at.result _ _
     (λ row is st allowed shows.
     let at = key_some st allowed c.args.self.now shows any c.args.key c.in-Some.home
     c.in-Some.ensures.there in

@@ -34,7 +34,7 @@ loop-init c = λ st allowed shows.
     (sym c.in_ok-work.ensures.work) (c.in_ok-changes.ensures ws one.walks one.count))
     (omega (arith, c.in-Ok.ensures, c.len.ensures, ap length c.in_ok-work.ensures.work))
     c.in_ok-reserve.ensures.ok c.in_ok-reserve.ensures.same c.in_ok-work.ensures.frames
-    c.in_ok-work.ensures.index c.in_ok-work.ensures.capacity
+    c.in_ok-work.ensures.summaries c.in_ok-work.ensures.capacity
     (omega (arith, c.in_ok-work.ensures.room, ap length c.in_ok-work.ensures.work)) refl refl refl
     refl refl refl refl
 

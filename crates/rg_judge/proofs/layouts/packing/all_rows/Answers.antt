@@ -2,7 +2,7 @@ use Rattle.std.proofs.Common.{◌≡◌, ℕ, true, List, [], ◌∷◌, ◌++�
 use Rattle.std.specs.FinMap as fin
 use Rattle.rg_base.specs.declared.row.Row.{Row}
 use Rattle.rg_base.proofs.Walk.{walk_begins}
-use Rattle.rg_model.specs.Start.{start_of}
+use Rattle.rg_base.specs.Start.{start_of}
 use Rattle.rg_model.proofs.Walked.{mapped_from, gathered-passes, gathered-ends}
 use Rattle.rg_judge.proofs.layouts.packing.all_rows.Goals as goal
 

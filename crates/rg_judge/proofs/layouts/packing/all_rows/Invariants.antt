@@ -1,7 +1,7 @@
 use Rattle.std.proofs.Common.{◌≡◌, ◌++◌, ◌-◌, ◌^◌, ℕ, true, map}
 use Rattle.std.specs.FinMap as fin
 use Rattle.rg_base.specs.declared.row.Row.{Row}
-use Rattle.rg_model.specs.Start.{start_of}
+use Rattle.rg_base.specs.Start.{start_of}
 use Rattle.rg_model.proofs.Walked.{mapped_from}
 use Rattle.rg_judge.proofs.layouts.packing.all_rows.Given as goal
 

@@ -1,5 +1,5 @@
 use Rattle.std.proofs.Common.{◌-◌, ◌^◌}
-use Rattle.rg_model.specs.Start.{start_of}
+use Rattle.rg_base.specs.Start.{start_of}
 use Rattle.rg_judge.proofs.TableLemmas.CatsKept.{AreCatsBelow}
 use Rattle.rg_judge.proofs.table.cat_table.cats_of.Given as goal
 

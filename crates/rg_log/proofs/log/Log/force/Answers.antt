@@ -63,9 +63,9 @@ loop-self-init g c = record {
   further = omega arith;
   capacities = refl;
   later = omega arith;
-  moments = λ before. begins _ (g.V.Volume.told c.args.volume.now) before;
+  moments = λ before. begins _ (g.V.Volume.seen c.args.volume.now).told before;
   ahead = λ before. before;
-  only = no_calls (WritesIn LogSet) (g.V.Volume.told c.args.volume.now);
+  only = no_calls (WritesIn LogSet) (g.V.Volume.seen c.args.volume.now).told;
   none = λ all. refl;
 }
 

@@ -10,15 +10,17 @@ abbrev pub invariant-loop-self : goal.invariant-loop-self
 invariant-loop-self g l = record {
   kept : l.self ≡ record l.fn.self { forced = l.self.forced };
   further : l.fn.self.forced ≤ l.self.forced;
-  capacities : g.V.Volume.capacities l.volume ≡ g.V.Volume.capacities l.fn.volume;
-  later : g.V.Volume.faults l.fn.volume ≤ g.V.Volume.faults l.volume;
-  moments : LeavesLog (g.V.Volume.told l.fn.volume) l.fn.self.pages l.fn.self.records
+  capacities : (g.V.Volume.seen l.volume).capacities ≡ (g.V.Volume.seen l.fn.volume).capacities;
+  later : (g.V.Volume.seen l.fn.volume).faults ≤ (g.V.Volume.seen l.volume).faults;
+  moments : LeavesLog (g.V.Volume.seen l.fn.volume).told l.fn.self.pages l.fn.self.records
       l.fn.self.forced
-      → HoldsThroughout (g.V.Volume.told l.fn.volume) (g.V.Volume.told l.volume)
+      → HoldsThroughout (g.V.Volume.seen l.fn.volume).told (g.V.Volume.seen l.volume).told
       (EachImage (SpellsFrom l.fn.self.pages l.fn.self.records l.fn.self.forced));
-  ahead : LeavesLog (g.V.Volume.told l.fn.volume) l.fn.self.pages l.fn.self.records l.fn.self.forced
-      → LeavesLog (g.V.Volume.told l.volume) l.fn.self.pages l.fn.self.records l.self.forced;
-  only : EachCall (g.V.Volume.told l.fn.volume) (g.V.Volume.told l.volume) (WritesIn LogSet);
+  ahead : LeavesLog (g.V.Volume.seen l.fn.volume).told l.fn.self.pages l.fn.self.records
+      l.fn.self.forced
+      → LeavesLog (g.V.Volume.seen l.volume).told l.fn.self.pages l.fn.self.records l.self.forced;
+  only : EachCall (g.V.Volume.seen l.fn.volume).told (g.V.Volume.seen l.volume).told
+      (WritesIn LogSet);
   none : l.fn.self.forced ≡ length l.fn.self.records → l.volume ≡ l.fn.volume;
 }
 

@@ -1,5 +1,6 @@
 use Rattle.std.proofs.Common.{◌≡◌, Bool, false, sym, ◌∙◌, ap, if◌then◌else◌}
 use Rattle.std.specs.FinMap as map
+use Rattle.std.proofs.lemmas.Bool.{not-true}
 use Rattle.rg_base.specs.declared.lock.Lock.{Lock}
 use Rattle.rg_base.specs.declared.session.Class.TheVariants.{Reader, Writer}
 use Rattle.rg_model.specs.Claims.{claim_with}
@@ -7,7 +8,7 @@ use Rattle.rg_model.specs.Committed.{set_to}
 use Rattle.rg_model.specs.Plain.{write_key}
 use Rattle.rg_model.specs.PlainState.{state_of}
 use Rattle.rg_model.specs.State.{State, Claims}
-use Rattle.rg_model.proofs.Changed.{absent_of, remove-insert, insert-insert}
+use Rattle.rg_model.proofs.Changed.{remove-insert, insert-insert}
 use Rattle.rg_model.proofs.plain.PlainState.write.Goals as goal
 
 -- the lock that was taken is given back
@@ -18,7 +19,7 @@ returns-then-fresh-clause-err c =
     let kept : Lock = record { owner = c.args.session; row = map.get plain.table key } in
     let is = c.in-Err.ensures.err ∙ c.in_ok-fresh.ensures.ok in
     let absent : map.contains_key plain.locks key ≡ false =
-    absent_of (map.contains_key plain.locks key)
+    not-true (map.contains_key plain.locks key)
     (sym c.in_ok-fresh.ensures.fresh ∙ c.if-fresh.true) in
     let taken : c.put.new.self.locks ≡ map.insert plain.locks key kept =
     ap (λ (st : State). st.locks) is

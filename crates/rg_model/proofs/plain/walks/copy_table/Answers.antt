@@ -3,7 +3,7 @@ use Rattle.std.specs.Ordering.{nat_cmp, eq_by_cmp}
 use Rattle.std.specs.FinMap as map
 use Rattle.std.specs.FinMap.{get-insert, get-empty}
 use Rattle.std.proofs.lemmas.Cmp.{nat_cmp_total}
-use Rattle.rg_model.specs.Start.{start_of}
+use Rattle.rg_base.specs.Start.{start_of}
 use Rattle.rg_model.specs.State.{Table}
 use Rattle.rg_model.proofs.Turned.{turned-set, turned-ends}
 use Rattle.rg_model.proofs.plain.walks.copy_table.Goals as goal

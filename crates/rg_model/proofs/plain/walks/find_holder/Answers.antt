@@ -1,6 +1,6 @@
 use Rattle.std.proofs.Common.{sym, ◌∙◌}
 use Rattle.rg_model.specs.Held.{is_held_with_cat}
-use Rattle.rg_model.specs.Start.{start_of}
+use Rattle.rg_base.specs.Start.{start_of}
 use Rattle.rg_model.proofs.Walked.{owner-found, owner-behind, owner-none}
 use Rattle.rg_model.proofs.plain.walks.find_holder.Goals as goal
 

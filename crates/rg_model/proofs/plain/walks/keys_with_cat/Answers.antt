@@ -1,16 +1,10 @@
-use Rattle.std.proofs.Common.{◌≡◌, ◌==◌, ℕ, true, false, ◌∙◌, arith}
-use Rattle.std.proofs.lemmas.Bool.Decides.{nat_tests}
+use Rattle.std.proofs.Common.{◌==◌, ℕ, true, false, ◌∙◌}
+use Rattle.std.proofs.lemmas.Bool.{eq-eqb, ne_eqb}
 use Rattle.rg_base.specs.declared.row.Row.{Row}
 use Rattle.rg_model.specs.Plain.{keys_with_cat}
-use Rattle.rg_model.specs.Start.{start_of}
+use Rattle.rg_base.specs.Start.{start_of}
 use Rattle.rg_model.proofs.Walked.{gathered-passes, gathered-fails, gathered-ends}
 use Rattle.rg_model.proofs.plain.walks.keys_with_cat.Goals as goal
-
-same : (a b : ℕ) → a ≡ b → (a == b) ≡ true
-same a b e = grind (arith, nat_tests)
-
-apart : (a b : ℕ) → (a ≡ b → ⊥) → (a == b) ≡ false
-apart a b differ = grind (arith, nat_tests)
 
 pub loop-key-preserved-in_ok-push : goal.loop-key-preserved-in_ok-push
 loop-key-preserved-in_ok-push c =
@@ -21,7 +15,7 @@ loop-key-preserved-in_ok-push c =
     let entry : ℕ × Row = (c.in-Some.key, c.in-Some.row.now) in
     rw c.in_ok-push.ensures.items
     (gathered-passes key test table all c.loop-key.keys.items (start_of c.loop-key.last) entry
-    c.in-Some.ensures (same entry.1.cat c.args.cat c.if-row-cat.true) c.loop-key.invariant)
+    c.in-Some.ensures (eq-eqb entry.1.cat c.args.cat c.if-row-cat.true) c.loop-key.invariant)
 
 pub loop-key-preserved : goal.loop-key-preserved
 loop-key-preserved c =
@@ -31,7 +25,7 @@ loop-key-preserved c =
     let all = keys_with_cat c.args.cat table in
     let entry : ℕ × Row = (c.in-Some.key, c.in-Some.row.now) in
     gathered-fails key test table all c.loop-key.keys.items (start_of c.loop-key.last) entry
-    c.in-Some.ensures (apart entry.1.cat c.args.cat c.if-row-cat.false) c.loop-key.invariant
+    c.in-Some.ensures (ne_eqb entry.1.cat c.args.cat c.if-row-cat.false) c.loop-key.invariant
 
 pub returns : goal.returns
 returns c =

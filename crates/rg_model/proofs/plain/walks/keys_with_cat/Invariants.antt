@@ -1,6 +1,6 @@
 use Rattle.std.proofs.Common.{◌≡◌, ◌++◌, ◌-◌, ◌^◌}
 use Rattle.rg_model.specs.Plain.{keys_with_cat}
-use Rattle.rg_model.specs.Start.{start_of}
+use Rattle.rg_base.specs.Start.{start_of}
 use Rattle.rg_model.proofs.Walked.{keys_from}
 use Rattle.rg_model.proofs.plain.walks.keys_with_cat.Given as goal
 

@@ -3,7 +3,7 @@ use Rattle.std.specs.Ordering.{nat_cmp, eq_by_cmp}
 use Rattle.std.specs.FinMap as map
 use Rattle.rg_model.specs.Committed.{put_back, own_locks}
 use Rattle.rg_model.specs.Held.{is_others}
-use Rattle.rg_model.specs.Start.{start_of}
+use Rattle.rg_base.specs.Start.{start_of}
 use Rattle.rg_model.specs.State.{Table}
 use Rattle.rg_model.proofs.Ends.{put_own-others, put_own-own}
 use Rattle.rg_model.proofs.Overlay.{get-set_to}

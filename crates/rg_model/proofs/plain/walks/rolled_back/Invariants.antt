@@ -1,7 +1,7 @@
 use Rattle.std.proofs.Common.{◌-◌, ◌^◌}
 use Rattle.std.specs.FinMap as map
 use Rattle.rg_model.specs.Committed.{put_back, own_locks}
-use Rattle.rg_model.specs.Start.{start_of}
+use Rattle.rg_base.specs.Start.{start_of}
 use Rattle.rg_model.proofs.Turned.{IsTurned}
 use Rattle.rg_model.proofs.plain.walks.rolled_back.Given as goal
 

@@ -1,7 +1,7 @@
 use Rattle.std.proofs.Common.{◌&&◌, nat_le, ℕ, sym, ◌∙◌}
 use Rattle.rg_base.specs.declared.row.Row.{Row}
 use Rattle.rg_model.specs.Plain.{rows_between}
-use Rattle.rg_model.specs.Start.{start_of}
+use Rattle.rg_base.specs.Start.{start_of}
 use Rattle.rg_model.proofs.Walked.{gathered-passes, gathered-fails, gathered-ends}
 use Rattle.rg_model.proofs.plain.walks.rows_between.Goals as goal
 

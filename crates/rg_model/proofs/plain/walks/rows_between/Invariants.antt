@@ -1,6 +1,6 @@
 use Rattle.std.proofs.Common.{◌≡◌, ◌++◌, ◌-◌, ◌^◌}
 use Rattle.rg_model.specs.Plain.{rows_between}
-use Rattle.rg_model.specs.Start.{start_of}
+use Rattle.rg_base.specs.Start.{start_of}
 use Rattle.rg_model.proofs.Walked.{rows_from}
 use Rattle.rg_model.proofs.plain.walks.rows_between.Given as goal
 

@@ -2,7 +2,7 @@ use Rattle.std.proofs.Common.{◌≡◌, ◌-◌, ◌^◌}
 use Rattle.std.specs.FinMap as map
 use Rattle.rg_base.proofs.Walk.{passing_from}
 use Rattle.rg_model.specs.Held.{first_owner, is_held_between, scan_holder}
-use Rattle.rg_model.specs.Start.{start_of}
+use Rattle.rg_base.specs.Start.{start_of}
 use Rattle.rg_model.proofs.plain.walks.scan_holder.Given as goal
 
 abbrev pub invariant-loop-key : goal.invariant-loop-key

@@ -50,10 +50,11 @@ returns-clause-bytes c =
     c.add_head.ensures.bytes
     ∙ ap
     (λ (bytes : List ℕ). bytes
-    ++ head_bytes c.copy.result c.slot_count-count.result c.number.result c.position.result.0 end)
+    ++ head_bytes c.number-copy.result c.slot_count-count.result c.number.result
+    c.position.result.0 end)
     c.requires
     ∙ ap (λ (k : ℕ). head_bytes k c.slot_count-count.result c.number.result c.position.result.0 end)
-    c.copy.ensures
+    (c.number-copy.ensures.is ∙ c.copy.ensures)
     ∙ ap (λ (k : ℕ). head_bytes x.copy k c.number.result c.position.result.0 end)
     c.slot_count-count.ensures.count
     ∙ ap (λ (k : ℕ). head_bytes x.copy (length x.slots) k c.position.result.0 end) c.number.ensures

@@ -1,5 +1,6 @@
 use Rattle.std.proofs.Common.{◌≡◌, ℕ, Bool, true, false, not, eqb, List, replicate, refl, sym, ap}
 use Rattle.std.proofs.Common.{◌∙◌}
+use Rattle.std.proofs.lemmas.Bool.{not-false}
 use lib.Pointwise.{pointwise, bytes_decides}
 use Rattle.rg_page.specs.Bytes.Content.{Content, FitsPage, empty}
 use Rattle.rg_page.specs.Bytes.PageBytes.{bytes_if, filled_bytes, is_blank, page_bytes}
@@ -14,11 +15,7 @@ differ a b r test is same =
     cc
 
 equal : (a b : List ℕ) (r : Bool) → r ≡ not (pointwise eqb a b) → r ≡ false → a ≡ b
-equal a b r test is = (bytes_decides a b).0 (go (pointwise eqb a b) (sym test ∙ is))
-  where
-    go : (t : Bool) → not t ≡ false → t ≡ true
-    go true e = refl
-    go false e = cc
+equal a b r test is = (bytes_decides a b).0 (not-false (pointwise eqb a b) (sym test ∙ is))
 
 pub returns-clause-bytes : goal.returns-clause-bytes
 returns-clause-bytes c =

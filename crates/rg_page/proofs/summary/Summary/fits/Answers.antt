@@ -1,6 +1,5 @@
 use Rattle.std.proofs.Common.{◌<◌, ◌+◌, ◌-◌, ◌*◌, length, rules, arith, sym, ◌∙◌}
-use Rattle.std.proofs.lemmas.Bool.{leb-true}
-use Rattle.rg_page.proofs.Room.{true_leb}
+use Rattle.std.proofs.lemmas.Bool.{leb-true, le-leb}
 use Rattle.rg_page.proofs.Room.{in_fits, in_needs, past_fits, past_needs, free_fits}
 use Rattle.rg_page.proofs.summary.Summary.fits.Goals as goal
 
@@ -19,7 +18,7 @@ returns-then-at-count c =
             c.capacity.ensures,
             c.capacity-capacity.ensures,
           ))),
-      (λ f. true_leb _ _
+      (λ f. le-leb _ _
           (omega (
             arith,
             in_needs slots c.args.i c.args.header.now i.trimmed i.fits c.index.result.now below
@@ -55,7 +54,7 @@ returns c =
             c.capacity-capacity.ensures,
             c.self.inside.headers.ok.0,
           ))),
-      (λ f. true_leb _ _
+      (λ f. le-leb _ _
           (omega (
             arith,
             past_needs slots c.args.i c.args.header.now i.trimmed i.fits

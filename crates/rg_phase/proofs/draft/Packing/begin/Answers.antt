@@ -9,7 +9,7 @@ new-requires c = rows_apart c.args.inlet.now.items c.copies.result.now c.in_ok-r
 
 pub returns-clause-packing : goal.returns-clause-packing
 returns-clause-packing c =
-    packing_begun c.args.options.now c.in_ok-packer.packer c.args.inlet.now.items
+    packing_begun c.args.task.now.stage.options c.in_ok-packer.packer c.args.inlet.now.items
     c.copies.result.now c.args.inlet.now.taken c.in_ok-rows.rows c.requires.none c.copies.ensures
     c.in_ok-rows.ensures
     c.in_ok-packer.ensures.rows c.in_ok-packer.ensures.order

@@ -1,7 +1,6 @@
 use Rattle.std.proofs.Common.{ℕ, length, Option, sym, ◌∙◌, ap, subst, arith}
 use Rattle.rg_desk.specs.Desk.{CanPrepare}
 use Rattle.rg_engine.specs.Prepared.{PreparedSeen}
-use Rattle.rg_engine.specs.Volume.{seen_volume}
 use Rattle.rg_image.specs.Rules.{copy_capacity}
 use Rattle.rg_shadow.specs.Shade.{Shade}
 use Rattle.rg_base.specs.Copies.{other_of}
@@ -14,10 +13,10 @@ use Rattle.rg_phase.proofs.step.Reorg.put.Goals as goal
 
 pub prepare_switch-requires-clause-can : goal.prepare_switch-requires-clause-can
 prepare_switch-requires-clause-can g c =
-    let look = seen_volume g.V.Volume.told g.V.Volume.faults g.V.Volume.capacities in
+    let look = g.V.Volume.seen in
     let desk = c.args.desk.now in
     let inlet = c.args.inlet.now in
-    let s = c.args.stage.now in
+    let s = c.args.task.now.stage in
     let shade = c.in-Drafted.draft.shadow in
     let made = subst (λ (m : Made). HasMade m inlet) (sym c.replace.ensures.value ∙ c.in-Drafted.is)
     (works_made c.args.self.now.made desk.shadow inlet desk.feed c.requires.works) in
@@ -26,15 +25,15 @@ prepare_switch-requires-clause-can g c =
     (can_prepare look desk inlet s c.in-Drafted.draft.options shade
     (record {
       stage = s;
-      stage_is = c.requires.stage;
+      stage_is = c.requires.begun.stage;
       granted = c.args.granted;
       drain = c.requires.drain;
-    }) c.requires.hears c.requires.stage c.requires.unswitched c.if-stage.false made
+    }) c.requires.hears c.requires.begun.stage c.requires.unswitched c.if-stage.false made
     (omega (arith, c.backlog.ensures, c.if-backlog-gt0.false))
     (subst
     (λ (n : ℕ). IsReady n (copy_capacity (look desk.volume).capacities (other_of desk.copy)) shade)
-    c.other-copy.ensures.copy
-    (subst (λ (n : ℕ). IsReady c.other-copy.result.0 n shade) c.other-copy.ensures.capacity ready)))
+    c.requires.begun.copy
+    (subst (λ (n : ℕ). IsReady c.args.task.now.copy n shade) c.requires.begun.capacity ready)))
 
 pub returns-in-Ok-clause-works : goal.returns-in-Ok-clause-works
 returns-in-Ok-clause-works g c =

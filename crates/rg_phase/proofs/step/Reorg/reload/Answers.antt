@@ -1,5 +1,4 @@
 use Rattle.std.proofs.Common.{◌≡◌, ℕ, subst}
-use Rattle.rg_engine.specs.Volume.{seen_volume}
 use Rattle.rg_image.specs.Rules.{copy_capacity}
 use Rattle.rg_laws_utility.specs.CopyWeight.Weighed.{weigh_feed}
 use Rattle.rg_base.specs.Copies.{other_of}
@@ -11,35 +10,40 @@ use Rattle.rg_phase.proofs.Stops.{reload_next}
 use Rattle.rg_phase.proofs.Told.{told_page}
 use Rattle.rg_phase.proofs.step.Reorg.reload.Goals as goal
 
-pub reload_event-requires-clause-left : goal.reload_event-requires-clause-left
-reload_event-requires-clause-left g c = reload_left c.args.stage.now c.args.answer c.requires.step
+pub reload_event-event-requires-clause-left : goal.reload_event-event-requires-clause-left
+reload_event-event-requires-clause-left g c =
+    reload_left c.args.task.now.stage c.args.task.now.answer c.requires.step
 
 pub book-requires-clause-next : goal.book-requires-clause-next
 book-requires-clause-next g c =
     let old = c.args.desk.now in
-    let s = c.args.stage.now in
-    let event = c.reload_event.result in
-    let is = c.reload_event.ensures.event in
-    next_runs old s c.args.answer event c.requires.up c.requires.stage is.booked
-    (reload_next s c.args.answer c.requires.step event is old.changes old.covered)
+    let s = c.args.task.now.stage in
+    let event = c.reload_event-event.result in
+    let is = c.reload_event-event.ensures.event in
+    next_runs old s c.args.task.now.answer event c.requires.begun.up c.requires.begun.stage
+    is.booked
+    (reload_next s c.args.task.now.answer c.requires.step event is old.changes old.covered)
 
 pub returns-clause-acts : goal.returns-clause-acts
 returns-clause-acts g c =
-    let look = seen_volume g.V.Volume.told g.V.Volume.faults g.V.Volume.capacities in
+    let look = g.V.Volume.seen in
     let old = c.args.desk.now in
-    let s = c.args.stage.now in
-    let event = c.reload_event.result in
-    let is = c.reload_event.ensures.event in
-    let next = next_runs old s c.args.answer event c.requires.up c.requires.stage is.booked
-    (reload_next s c.args.answer c.requires.step event is old.changes old.covered) in
-    let capacity : c.other-other.result.1
-    ≡ copy_capacity (g.V.Volume.capacities old.volume) (other_of old.copy) =
-    c.other-other.ensures.capacity in
-    acts_booked look old c.args.answer c.fill-filled.new.self.made c.args.inlet.now.taken old
-    c.book.new.self event (runs_some old s c.requires.stage) (writes_none look old) next is.booked
+    let s = c.args.task.now.stage in
+    let event = c.reload_event-event.result in
+    let is = c.reload_event-event.ensures.event in
+    let next = next_runs old s c.args.task.now.answer event c.requires.begun.up
+    c.requires.begun.stage is.booked
+    (reload_next s c.args.task.now.answer c.requires.step event is old.changes old.covered) in
+    let capacity : c.args.task.now.capacity
+    ≡ copy_capacity (g.V.Volume.seen old.volume).capacities (other_of old.copy) =
+    c.requires.begun.capacity in
+    acts_booked look old c.args.task.now.answer c.fill-filled.new.self.made c.args.inlet.now.taken
+    old
+    c.book.new.self event (runs_some old s c.requires.begun.stage) (writes_none look old) next
+    is.booked
     (λ stops. absurd (cc (stops, is.device)))
-    (space_at old.stage s _ (weigh_feed old.feed) event c.requires.stage
+    (space_at old.stage s _ (weigh_feed old.feed) event c.requires.begun.stage
     (subst (λ (n : ℕ). HasPagesFor n (weigh_feed old.feed) s event) capacity
-    (c.reload_event.ensures.space (weigh_feed old.feed))))
+    (c.reload_event-event.ensures.space (weigh_feed old.feed))))
     (told_page c.fill-filled.new.self.made old.stage c.args.inlet.now.taken c.fill-filled.result
-    event c.fill-filled.ensures.filled c.reload_event.ensures.told) c.book.ensures
+    event c.fill-filled.ensures.filled c.reload_event-event.ensures.told) c.book.ensures

@@ -13,8 +13,8 @@ returns-clause-sides g c =
     let inlet = c.args.inlet.now in
     let written =
     subst (λ (m : Made). Works m desk.shadow inlet desk.feed) c.in-Written.is c.requires.works in
-    sides_right desk inlet c.args.stage.now c.in-Written.options c.in_ok-sides.sides
-    c.requires.hears c.requires.stage c.requires.unswitched c.if-stage.false written.0
+    sides_right desk inlet c.args.task.now.stage c.in-Written.options c.in_ok-sides.sides
+    c.requires.hears c.requires.begun.stage c.requires.unswitched c.if-stage.false written.0
     (omega (arith, c.backlog.ensures, c.if-backlog-gt0.false)) c.if-options-stage.false
     c.if-options-stage-2.false (c.is_current.ensures.sure c.if-not-is_current.false)
     c.in_ok-sides.ensures.sides c.if-sides-stage.false

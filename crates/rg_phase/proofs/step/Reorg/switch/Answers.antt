@@ -1,7 +1,6 @@
 use Rattle.std.proofs.Common.{◌≡◌, None, refl, sym, ◌∙◌, ap, subst}
 use Rattle.rg_base.specs.declared.verdict.StopReason.TheVariants as reasons
 use Rattle.rg_desk.specs.Desk.{CanCommit, MadeFall, MadeSwitch}
-use Rattle.rg_engine.specs.Volume.{seen_volume}
 use Rattle.rg_desk.proofs.Committing.{by_result}
 use Rattle.rg_stmt.specs.declared.event.Event.TheVariants as events
 use Rattle.rg_base.specs.Copies.{other_of}
@@ -18,21 +17,22 @@ use Rattle.rg_laws_utility.specs.CopyWeight.Weighed.{weigh_feed}
 
 pub commit_switch-requires-clause-can : goal.commit_switch-requires-clause-can
 commit_switch-requires-clause-can g c =
-    subst (λ d. CanCommit d c.args.answer c.in-Ok.sides) (sym c.in-Ok.ensures.same)
-    (can_commit c.args.desk.now c.args.stage.now c.args.answer c.in-Ok.sides c.requires.stage
+    subst (λ d. CanCommit d c.args.task.now.answer c.in-Ok.sides) (sym c.in-Ok.ensures.same)
+    (can_commit c.args.desk.now c.args.task.now.stage c.args.task.now.answer c.in-Ok.sides
+    c.requires.begun.stage
     c.requires.step c.in-Ok.ensures.sides)
 
 pub returns-in-Ok-clause-acts : goal.returns-in-Ok-clause-acts
 returns-in-Ok-clause-acts g c =
-    let look = seen_volume g.V.Volume.told g.V.Volume.faults g.V.Volume.capacities in
+    let look = g.V.Volume.seen in
     let mid = c.sides.new.desk in
     let new = c.commit_switch.new.self in
-    let s = c.args.stage.now in
-    let answer = c.args.answer in
+    let s = c.args.task.now.stage in
+    let answer = c.args.task.now.answer in
     let sides = c.in-Ok.sides in
     let same = c.in-Ok.ensures.same in
-    let up = ap (λ d. d.down) same ∙ c.requires.up in
-    let stage = ap (λ d. d.stage) same ∙ c.requires.stage in
+    let up = ap (λ d. d.down) same ∙ c.requires.begun.up in
+    let stage = ap (λ d. d.stage) same ∙ c.requires.begun.stage in
     subst (λ d. Acts look d answer Nothing c.args.inlet.now.taken new) same
     (by_result c.commit_switch.result (MadeSwitch look mid answer sides new)
     (MadeFall look mid answer new) (Acts look mid answer Nothing c.args.inlet.now.taken new)
@@ -50,29 +50,29 @@ returns-in-Ok-clause-acts g c =
 
 pub returns-in-Ok-clause-works : goal.returns-in-Ok-clause-works
 returns-in-Ok-clause-works g c =
-    let look = seen_volume g.V.Volume.told g.V.Volume.faults g.V.Volume.capacities in
+    let look = g.V.Volume.seen in
     let mid = c.sides.new.desk in
     let new = c.commit_switch.new.self in
-    by_result c.commit_switch.result (MadeSwitch look mid c.args.answer c.in-Ok.sides new)
-    (MadeFall look mid c.args.answer new) (new.shadow ≡ None) c.commit_switch.ensures.ok
+    by_result c.commit_switch.result (MadeSwitch look mid c.args.task.now.answer c.in-Ok.sides new)
+    (MadeFall look mid c.args.task.now.answer new) (new.shadow ≡ None) c.commit_switch.ensures.ok
     c.commit_switch.ensures.err
     (λ made. made.stays.shadow) (λ made. made.stays.shadow)
 
 pub returns-in-Err-clause-acts : goal.returns-in-Err-clause-acts
 returns-in-Err-clause-acts g c =
-    let look = seen_volume g.V.Volume.told g.V.Volume.faults g.V.Volume.capacities in
+    let look = g.V.Volume.seen in
     let mid = c.sides.new.desk in
     let new = c.book.new.self in
-    let s = c.args.stage.now in
-    let answer = c.args.answer in
+    let s = c.args.task.now.stage in
+    let answer = c.args.task.now.answer in
     let same = c.sides.ensures.same in
-    let up = ap (λ d. d.down) same ∙ c.requires.up in
-    let stage = ap (λ d. d.stage) same ∙ c.requires.stage in
+    let up = ap (λ d. d.down) same ∙ c.requires.begun.up in
+    let stage = ap (λ d. d.stage) same ∙ c.requires.begun.stage in
     let event = events.Stop reasons.NoMemory in
     subst (λ d. Acts look d answer c.args.self.now.made c.args.inlet.now.taken new) same
     (acts_booked look mid answer c.args.self.now.made c.args.inlet.now.taken mid new event
     (runs_some mid s stage) (writes_none look mid)
     (next_runs mid s answer event up stage refl (stop_next s mid.changes mid.covered answer)) refl
-    (λ is. absurd (cc (is)))
-    (space_at mid.stage s (copy_capacity (g.V.Volume.capacities mid.volume) (other_of mid.copy))
+    (λ is. absurd (cc (is))) (space_at mid.stage s
+    (copy_capacity (g.V.Volume.seen mid.volume).capacities (other_of mid.copy))
     (weigh_feed mid.feed) event stage tt) tt c.book.ensures)

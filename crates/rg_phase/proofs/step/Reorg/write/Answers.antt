@@ -1,7 +1,6 @@
 use Rattle.std.proofs.Common.{[], Some, Err, refl, ap, ◌∙◌, subst}
 use Rattle.rg_base.specs.declared.verdict.StopReason.TheVariants as reasons
 use Rattle.rg_desk.specs.Desk.{MadeStep}
-use Rattle.rg_engine.specs.Volume.{seen_volume}
 use Rattle.rg_stmt.specs.declared.event.Event.{Event}
 use Rattle.rg_stmt.specs.declared.event.Event.TheVariants as events
 use Rattle.rg_image.specs.Rules.{copy_capacity}
@@ -16,14 +15,14 @@ use Rattle.rg_laws_utility.specs.CopyWeight.Weighed.{weigh_feed}
 
 pub returns-clause-acts : goal.returns-clause-acts
 returns-clause-acts g c =
-    let look = seen_volume g.V.Volume.told g.V.Volume.faults g.V.Volume.capacities in
+    let look = g.V.Volume.seen in
     let old = c.args.desk.now in
     let mid = c.put.new.desk in
     let new = c.book.new.self in
-    let s = c.args.stage.now in
-    let answer = c.args.answer in
-    let up = c.requires.up in
-    let stage = c.requires.stage in
+    let s = c.args.task.now.stage in
+    let answer = c.args.task.now.answer in
+    let up = c.requires.begun.up in
+    let stage = c.requires.begun.stage in
     elim c.match-put.branch [
       | in-Ok w ↦
           let event = events.Written w.in-Ok.pages in
@@ -33,7 +32,7 @@ returns-clause-acts g c =
           (written_next s answer c.args.granted c.requires.step old.changes w.in-Ok.pages
           old.covered)) refl (λ is. absurd (cc (is)))
           (space_at old.stage s
-          (copy_capacity (g.V.Volume.capacities old.volume) (other_of old.copy))
+          (copy_capacity (g.V.Volume.seen old.volume).capacities (other_of old.copy))
           (weigh_feed old.feed) event stage tt) tt
           (subst (λ (e : Event). MadeStep look mid (Some answer) e [] new) w.event-is
           c.book.ensures)
@@ -45,7 +44,7 @@ returns-clause-acts g c =
           (device_next s answer c.args.granted c.requires.step old.changes old.covered)) refl
           (λ is. c.put.ensures.device (w.in-Err-Device.is ∙ ap Err w.in-Err-Device.field-0-is))
           (space_at old.stage s
-          (copy_capacity (g.V.Volume.capacities old.volume) (other_of old.copy))
+          (copy_capacity (g.V.Volume.seen old.volume).capacities (other_of old.copy))
           (weigh_feed old.feed) event stage tt) tt
           (subst (λ (e : Event). MadeStep look mid (Some answer) e [] new) w.event-is
           c.book.ensures)
@@ -56,7 +55,7 @@ returns-clause-acts g c =
           (next_runs old s answer event up stage refl (stop_next s old.changes old.covered answer))
           refl (λ is. absurd (cc (is)))
           (space_at old.stage s
-          (copy_capacity (g.V.Volume.capacities old.volume) (other_of old.copy))
+          (copy_capacity (g.V.Volume.seen old.volume).capacities (other_of old.copy))
           (weigh_feed old.feed) event stage tt) tt
           (subst (λ (e : Event). MadeStep look mid (Some answer) e [] new) w.event-is
           c.book.ensures)

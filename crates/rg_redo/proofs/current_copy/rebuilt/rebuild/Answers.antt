@@ -7,7 +7,7 @@ pub redo_all-requires-clause-can : goal.redo_all-requires-clause-can
 redo_all-requires-clause-can c =
     base_can c.args.frames.pages.items c.args.log.now.records
     (frames_of c.in_ok-space.space).pages.items c.in_ok-space.ensures.pages c.requires.can
-    c.records-records.ensures.entries
+    c.records.ensures.entries
 
 pub returns-in-Ok : goal.returns-in-Ok
 returns-in-Ok c = record {

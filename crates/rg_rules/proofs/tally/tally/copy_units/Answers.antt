@@ -1,5 +1,5 @@
 use Rattle.std.proofs.Common.{◌+◌, subst, sym}
-use Rattle.rg_model.specs.Start.{start_of}
+use Rattle.rg_base.specs.Start.{start_of}
 use Rattle.rg_rules.proofs.TallyLemmas.Copied.{IsCopied, copied-begins, copied-set, copied-ends}
 use Rattle.rg_rules.proofs.tally.tally.copy_units.Goals as goal
 

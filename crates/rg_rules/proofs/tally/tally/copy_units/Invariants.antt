@@ -1,5 +1,5 @@
 use Rattle.std.proofs.Common.{◌-◌, ◌^◌}
-use Rattle.rg_model.specs.Start.{start_of}
+use Rattle.rg_base.specs.Start.{start_of}
 use Rattle.rg_rules.proofs.TallyLemmas.Copied.{IsCopied}
 use Rattle.rg_rules.proofs.tally.tally.copy_units.Given as goal
 

@@ -28,7 +28,7 @@ returns-clause-home c =
     let whole = planned_whole c.args.self.now sp c.plan_change.ensures.same
     c.plan_change.ensures.has c.requires.whole in
     let small : row_size c.args.row.now ≤ 826 =
-    omega (arith, c.size-size.ensures.size, c.size-size.ensures.high) in
+    omega (arith, c.size.ensures.size, c.size.ensures.high) in
     let there = subst (λ (ps : List (List Slot)). is_some (row_at (slot_of ps) c.args.home) ≡ true)
     (sym (slots_same old sp c.plan_change.ensures.same)) c.requires.home in
     (change_does (capacity_in sp) (slots_in sp) (few_slots sp c.plan_change.ensures.has)
@@ -42,7 +42,7 @@ returns-clause-ready c =
     let whole = planned_whole c.args.self.now sp c.plan_change.ensures.same
     c.plan_change.ensures.has c.requires.whole in
     let small : row_size c.args.row.now ≤ 826 =
-    omega (arith, c.size-size.ensures.size, c.size-size.ensures.high) in
+    omega (arith, c.size.ensures.size, c.size.ensures.high) in
     let there = subst (λ (ps : List (List Slot)). is_some (row_at (slot_of ps) c.args.home) ≡ true)
     (sym (slots_same old sp c.plan_change.ensures.same)) c.requires.home in
     let does =
@@ -55,7 +55,7 @@ pub returns-in_err-plan-clause-refusal : goal.returns-in_err-plan-clause-refusal
 returns-in_err-plan-clause-refusal c =
     let sp = c.plan_change.new.space in
     let small : row_size c.args.row.now ≤ 826 =
-    omega (arith, c.size-size.ensures.size, c.size-size.ensures.high) in
+    omega (arith, c.size.ensures.size, c.size.ensures.high) in
     let p = err_from_is_err_and c.from_residual.result c.from_residual.ensures.1 in
     rw (p.1, p.2)
     (change_full c.args.row.now c.args.home (capacity_in sp) (slots_in sp) _ small

@@ -28,7 +28,7 @@ returns-clause-fresh c =
     let whole =
     planned_whole c.args.self.now sp c.plan_put.ensures.same c.plan_put.ensures.has c.requires in
     let small : row_size c.args.row.now ≤ 826 =
-    omega (arith, c.size-size.ensures.size, c.size-size.ensures.high) in
+    omega (arith, c.size.ensures.size, c.size.ensures.high) in
     let does = put_does (capacity_in sp) (slots_in sp) (few_slots sp c.plan_put.ensures.has)
     whole.proper c.args.row.now c.in_ok-plan.plan small c.in_ok-plan.ensures.plan in
     ap (λ (s : Space ListFrames). row_at (slot_of (slots_in s)) c.in_ok-plan.plan.home)
@@ -40,7 +40,7 @@ returns-clause-ready c =
     let whole =
     planned_whole c.args.self.now sp c.plan_put.ensures.same c.plan_put.ensures.has c.requires in
     let small : row_size c.args.row.now ≤ 826 =
-    omega (arith, c.size-size.ensures.size, c.size-size.ensures.high) in
+    omega (arith, c.size.ensures.size, c.size.ensures.high) in
     let does = put_does (capacity_in sp) (slots_in sp) (few_slots sp c.plan_put.ensures.has)
     whole.proper c.args.row.now c.in_ok-plan.plan small c.in_ok-plan.ensures.plan in
     ready_at c.reserve.new.self sp (Some c.args.row.now) c.in_ok-plan.plan c.reserve.ensures.space
@@ -50,7 +50,7 @@ pub returns-in_err-plan-clause-refusal : goal.returns-in_err-plan-clause-refusal
 returns-in_err-plan-clause-refusal c =
     let sp = c.plan_put.new.space in
     let small : row_size c.args.row.now ≤ 826 =
-    omega (arith, c.size-size.ensures.size, c.size-size.ensures.high) in
+    omega (arith, c.size.ensures.size, c.size.ensures.high) in
     let p = err_from_is_err_and c.from_residual.result c.from_residual.ensures.1 in
     rw (p.1, p.2)
     (put_full c.args.row.now (capacity_in sp) (slots_in sp) _ small

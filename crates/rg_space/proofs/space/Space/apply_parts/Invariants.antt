@@ -2,7 +2,7 @@ use Rattle.std.proofs.Common.{◌≡◌, ℕ, List, drop}
 use Rattle.std.specs.Option.{option_copied}
 use Rattle.rg_page.specs.Content.{Content}
 use Rattle.rg_space.specs.Applied.{AllHeld, AreApplicable, Within, Writes, wrote_all}
-use Rattle.rg_space.specs.Space.{Agree, InStep, frames_of, index_of, capacity_in, undos_in}
+use Rattle.rg_space.specs.Space.{Agree, InStep, frames_of, summaries_of, capacity_in, undos_in}
 use Rattle.rg_space.proofs.space.Space.apply_parts.Given as goal
 
 abbrev pub invariant-loop-part : goal.invariant-loop-part
@@ -10,12 +10,12 @@ invariant-loop-part g l =
     let a = g.F.Frames.seen (frames_of l.fn.self) in
     let b = g.F.Frames.seen (frames_of l.self) in
     record {
-      step : InStep b (index_of l.self) (capacity_in l.self);
+      step : InStep b (summaries_of l.self) (capacity_in l.self);
       capacity : capacity_in l.self ≡ capacity_in l.fn.self;
       undos : undos_in l.self ≡ undos_in l.fn.self;
       held : AllHeld b (drop l.part-index l.parts);
       writes : Writes l.position.0 a b;
-      agree : Agree a (index_of l.fn.self) → Agree b (index_of l.self);
+      agree : Agree a (summaries_of l.fn.self) → Agree b (summaries_of l.self);
       gave : (pages : List Content) (n : ℕ)
           → g.F.Frames.gave pages n (frames_of l.fn.self) (frames_of l.self);
       pages : (limit : ℕ) → Within limit a (capacity_in l.fn.self)

@@ -2,7 +2,7 @@ use Rattle.std.proofs.Common.{◌≡◌, ◌≤◌, drop}
 use Rattle.rg_page.specs.Seen.{Seen}
 use Rattle.rg_space.specs.Ready.{AllReady}
 use Rattle.rg_space.specs.Took.{Took}
-use Rattle.rg_space.specs.Space.{InStep, frames_of, index_of, capacity_in, undos_in}
+use Rattle.rg_space.specs.Space.{InStep, frames_of, summaries_of, capacity_in, undos_in}
 use Rattle.rg_space.proofs.Readying.{Later}
 use Rattle.rg_space.proofs.space.Space.hold.Given as goal
 
@@ -11,10 +11,10 @@ invariant-loop-part g l =
     let a = g.F.Frames.seen (frames_of l.fn.self) in
     let b = g.F.Frames.seen (frames_of l.self) in
     record {
-      step : InStep b (index_of l.self) (capacity_in l.self);
+      step : InStep b (summaries_of l.self) (capacity_in l.self);
       capacity : capacity_in l.self ≡ capacity_in l.fn.self;
       undos : undos_in l.self ≡ undos_in l.fn.self;
-      summaries : (index_of l.self).pages ≡ (index_of l.fn.self).pages;
+      summaries : (summaries_of l.self).pages ≡ (summaries_of l.fn.self).pages;
       least : a.reserved ≤ b.reserved;
       took : Took l.part-index a b;
       gave : g.F.Frames.gave a.pages a.forced (frames_of l.fn.self) (frames_of l.self);

@@ -1,6 +1,6 @@
-use Rattle.std.proofs.Common.{◌≡◌, ◌≤◌, ◌+◌, Bool, true, false, not, length, arith, refl, sym, ◌∙◌}
+use Rattle.std.proofs.Common.{◌≡◌, ◌≤◌, ◌+◌, true, false, length, arith, sym, ◌∙◌}
 use Rattle.std.proofs.Common.{ap}
-use Rattle.std.proofs.lemmas.Bool.{eqb-true}
+use Rattle.std.proofs.lemmas.Bool.{eqb-true, not-true, not_from_false}
 use Rattle.rg_check.specs.Chain.Running.{Running, unit_at}
 use Rattle.rg_check.specs.declared.chain.unit.Unit.{Unit}
 use Rattle.rg_check.proofs.ChainLemmas.Units.{of_unit, is_drawn, is_back, is_going}
@@ -9,14 +9,6 @@ use Rattle.rg_check.proofs.chain.chain.Chain.is_of_unit.Goals.{then-tran-eq0-via
 use Rattle.rg_check.proofs.chain.chain.Chain.is_of_unit.Goals.{
   then-tran-eq0-via-else-tran-eq0+then-tran-len,
 }
-
-was_false : (b : Bool) → not b ≡ true → b ≡ false
-was_false true e = sym e
-was_false false e = refl
-
-is_true : (b : Bool) → b ≡ false → not b ≡ true
-is_true true e = sym e
-is_true false e = refl
 
 pub returns-then-tran-eq0 : goal.returns-then-tran-eq0
 returns-then-tran-eq0 c = λ before kept. (
@@ -49,8 +41,8 @@ returns-then-entry-unit c = λ before kept.
     c.unit-unit.ensures.is in (
       λ is. of_unit before c.args.self.now.units c.args.self.now.owed kept.units c.args.entry.now
           low high (c.if-entry-unit.true ∙ ap (λ (u : Unit). u.last) unit)
-          (sym (ap (λ (u : Unit). u.ended) unit) ∙ was_false c.unit-unit.result.ended is),
-      λ is. is_true c.unit-unit.result.ended
+          (sym (ap (λ (u : Unit). u.ended) unit) ∙ not-true c.unit-unit.result.ended is),
+      λ is. not_from_false c.unit-unit.result.ended
           (ap (λ (u : Unit). u.ended) unit
           ∙ is_going before c.args.self.now.units c.args.self.now.owed kept.units c.args.entry.now
           is),

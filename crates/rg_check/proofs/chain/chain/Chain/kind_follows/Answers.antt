@@ -34,8 +34,8 @@ returns-then-is_of_unit c =
     (sym c.in-Undo.is)
     (λ yes_. (of_tran, says.0 yes_), λ follows. says.1 follows.1)
 
-pub returns-then-copy-self : goal.returns-then-copy-self
-returns-then-copy-self c =
+pub returns-then-copy-number : goal.returns-then-copy-number
+returns-then-copy-number c =
     let says = c.none_is_open.ensures c.args.before.now c.requires in
     let copy : c.self.inside.copy ≡ (current_of c.args.before.now).copy =
     ap (λ (r : Running). r.current.copy) c.self.view_is
@@ -44,6 +44,9 @@ returns-then-copy-self c =
     (λ (k : Kind). (IsTrue c.none_is_open.result → KindFollows c.args.before.now c.args.entry.now k)
     × (KindFollows c.args.before.now c.args.entry.now k → IsTrue c.none_is_open.result))
     (sym c.in-Switch.is) (
-      λ yes_. ((λ same. c.if-copy-self.true (same ∙ sym copy)), says.0 yes_),
+      λ yes_. (
+        (λ same. c.if-copy-number.true (same ∙ sym copy ∙ sym c.number.ensures.is)),
+        says.0 yes_,
+      ),
       λ follows. says.1 follows.1,
     )

@@ -1,5 +1,5 @@
 use Rattle.std.proofs.Common.{◌∙◌, subst}
-use Rattle.rg_model.specs.Start.{start_of}
+use Rattle.rg_base.specs.Start.{start_of}
 use Rattle.rg_model.specs.State.{Table}
 use Rattle.rg_judge.specs.Table.Cats.{AreCats}
 use Rattle.rg_judge.proofs.TableLemmas.Listing.{keys-go, keys-end}

@@ -1,5 +1,5 @@
 use Rattle.std.proofs.Common.{◌-◌, ◌^◌}
-use Rattle.rg_model.specs.Start.{start_of}
+use Rattle.rg_base.specs.Start.{start_of}
 use Rattle.rg_judge.proofs.TableLemmas.LeastHeld.{IsLeastBefore}
 use Rattle.rg_judge.proofs.table.held_cats.HeldCats.least.Given as goal
 

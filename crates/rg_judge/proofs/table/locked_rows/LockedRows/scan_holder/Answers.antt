@@ -3,7 +3,7 @@ use Rattle.rg_base.specs.declared.session.Session.{Session}
 use Rattle.rg_lock.specs.First.{IsFirstHeld}
 use Rattle.rg_model.specs.Held.{scan_holder}
 use Rattle.rg_judge.specs.Table.Locked.{Locked}
-use Rattle.rg_judge.proofs.TableLemmas.ScanHeld.{scan_free, scan_held}
+use Rattle.rg_lock.proofs.ScanHeld.{scan_free, scan_held}
 use Rattle.rg_judge.proofs.table.locked_rows.LockedRows.scan_holder.Goals as goal
 
 pub returns-in-Some : goal.returns-in-Some

@@ -11,7 +11,7 @@ ghost use Rattle.rg_home.specs.Pages.{page_at, wrote};
 ghost use Rattle.rg_home.specs.Plan.{admits, first_page};
 ghost use Rattle.rg_page.specs.Ceiling.{ceiling};
 ghost use Rattle.rg_page.specs.Bare.{numbers_of};
-ghost use Rattle.rg_space.specs.Indexed.{HasRoom};
+ghost use Rattle.rg_space.specs.Summarized.{HasRoom};
 ghost use Rattle.rg_space.specs.Tops.{Bounds, Raised};
 
 use rg_base::no_memory::NoMemory;
@@ -28,30 +28,30 @@ const BLOCK: usize = 256;
 /// The summaries of all pages. It finds the first page that admits an area without reading one. It
 /// is seen as the headers of each page, and how many pages more it has room for.
 #[derive(Drop)]
-pub struct Index {
+pub struct Summaries {
     pages: Vec<Summary>,
     tops: Vec<u16>,
     spare: Vec<Summary>,
 }
 
-impl Model for Index {
+impl Model for Summaries {
     ghost use Rattle.std.specs.Prelude.{length};
-    ghost use Rattle.rg_space.specs.Indexed.{Indexed};
+    ghost use Rattle.rg_space.specs.Summarized.{Summarized};
 
-    ghost Value = { Indexed };
+    ghost Value = { Summarized };
 
-    ghost use Rattle.rg_space.specs.Tops.{IsIndex};
+    ghost use Rattle.rg_space.specs.Tops.{AreSummaries};
 
     ghost view = { λ x. record { pages = x.pages.items; room = length x.spare.items } };
 
-    ghost invariant = { λ x. IsIndex x.pages x.tops x.spare };
+    ghost invariant = { λ x. AreSummaries x.pages x.tops x.spare };
 }
 
-impl Index {
-    pub fn new(alloc: Global) -> Index
+impl Summaries {
+    pub fn new(alloc: Global) -> Summaries
         ensures { result ≡ record { pages = []; room = 0 } }
     {
-        Index {
+        Summaries {
             pages: Vec::new(alloc),
             tops: Vec::new(alloc),
             spare: Vec::new(alloc),

@@ -6,7 +6,7 @@ use Rattle.rg_home.specs.Slot.{Slot}
 use Rattle.rg_home.specs.Slots.{placed, Fits}
 
 -- the headers of each page, and how many pages more there is room for
-pub record Indexed : Type 0 where
+pub record Summarized : Type 0 where
   pub pages : List (List Slot)
   pub room : ℕ
 

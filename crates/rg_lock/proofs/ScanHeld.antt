@@ -1,8 +1,8 @@
 -- Which other session blocks a SCAN.
-use Rattle.std.proofs.Common.{◌≡◌, ◌≤◌, ◌<◌, ◌+◌, ◌&&◌, nat_le, ℕ, Bool, true, false, cond, List}
+use Rattle.std.proofs.Common.{◌≡◌, ◌+◌, ◌&&◌, nat_le, ℕ, Bool, true, false, cond, List}
 use Rattle.std.proofs.Common.{[], ◌∷◌, ◌++◌, filter, Option, Some, None, refl, sym, ◌∙◌, ap, arith}
 use Rattle.std.specs.FinMap as fin
-use Rattle.std.proofs.lemmas.Bool.Decides.{nat_tests}
+use Rattle.std.proofs.lemmas.Bool.{le-leb, leb-true}
 use Rattle.rg_base.specs.declared.lock.Lock.{Lock}
 use Rattle.rg_base.specs.declared.session.Session.{Session}
 use Rattle.rg_base.proofs.Walk.{passing_from, walk_begins, walk_goes, walk_skips, walk_fails}
@@ -41,15 +41,6 @@ own_lock : (session : Session) (lock : Lock) (found : Option Lock) → found ≡
 own_lock session lock found there none = own_by session lock (is_others session (Some lock)) refl
     (ap (other_owner session) (sym there) ∙ none)
 
-within : (a b : ℕ) → a ≤ b → nat_le a b ≡ true
-within a b le = grind (arith, nat_tests)
-
-within_of : (a b : ℕ) → nat_le a b ≡ true → a ≤ b
-within_of a b e = grind (arith, nat_tests)
-
-beyond : (a b : ℕ) → b < a → nat_le a b ≡ false
-beyond a b lt = grind (arith, nat_tests)
-
 fails_by : (a b c : Bool) → (a ≡ true → b ≡ true → c ≡ false) → (a && (b && c)) ≡ false
 fails_by true true c own = own refl refl
 fails_by true false c own = refl
@@ -65,7 +56,7 @@ module _ (locks : Locks) (session : Session) (lo hi : ℕ) where
       ∙ walk_fails (is_held_between session lo hi) locks 0
       (λ q v le there. fails_by (nat_le lo q) (nat_le q hi) (is_others session (Some v))
       (λ low high. own_lock session v (fin.get locks q) there
-      (free q (within_of lo q low) (within_of q hi high)))))
+      (free q (leb-true lo q low) (leb-true q hi high)))))
 
   pub scan_held : (held : ℕ × Session) → IsFirstHeld locks session lo hi (Some held)
       → scan_holder locks session lo hi ≡ Some held.1
@@ -73,11 +64,11 @@ module _ (locks : Locks) (session : Session) (lo hi : ℕ) where
       let key = held.0 in
       let lock = by_lock session held.1 (fin.get locks key) is.2 in
       let passes : is_held_between session lo hi (key, lock.lock) ≡ true =
-      rw (within lo key is.0, within key hi is.1) lock.others in
+      rw (le-leb lo key is.0, le-leb key hi is.1) lock.others in
       ap first_owner (sym (walk_begins (is_held_between session lo hi) locks (fin.entries locks))
       ∙ walk_skips (is_held_between session lo hi) locks 0 key (omega arith)
       (λ q v le lt there. fails_by (nat_le lo q) (nat_le q hi) (is_others session (Some v))
-      (λ low high. own_lock session v (fin.get locks q) there (is.3 q (within_of lo q low) lt)))
+      (λ low high. own_lock session v (fin.get locks q) there (is.3 q (leb-true lo q low) lt)))
       ∙ walk_goes (is_held_between session lo hi) locks key (key, lock.lock)
       (first_at (is_held_between session lo hi) locks key lock.lock lock.there)
       ∙ ap

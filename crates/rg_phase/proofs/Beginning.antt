@@ -1,0 +1,179 @@
+-- A step, put together from how it begins and what is made then.
+use Rattle.std.proofs.Common.{◌≡◌, ◌⊎◌, inl, inr, ℕ, Bool, true, false, List, [], Option, Some}
+use Rattle.std.proofs.Common.{None}
+use Rattle.std.proofs.Common.{refl, sym, ◌∙◌, ap, subst, append-nil}
+use Rattle.rg_base.specs.declared.control.Answer.{Answer}
+use Rattle.rg_base.specs.declared.options.Options.{Options}
+use Rattle.rg_desk.specs.Desk.{AsksStep, DeskState, FeedIs, MadeStep, RefusesStep}
+use Rattle.rg_desk.specs.declared.task.Task.{Task}
+use Rattle.rg_engine.specs.ChangeFeed.Sending.{AddsChanges}
+use Rattle.rg_engine.specs.Prepared.{PreparedSeen, while_running}
+use Rattle.rg_feed.specs.Ends.{Grew, Received, SameReceived}
+use Rattle.rg_feed.specs.declared.fold.item.Item.{Item}
+use Rattle.rg_feed.specs.declared.fold.item.Stage.{Stage}
+use Rattle.rg_laws_utility.specs.Course.Loading.{Loading, loading_after}
+use Rattle.rg_outside.specs.Volume.{VolumeSeen}
+use Rattle.rg_reload.specs.Reloading.{Reloading}
+use Rattle.rg_shadow.specs.Shade.{Shade}
+use Rattle.rg_stmt.specs.declared.event.Event.{Event}
+use Rattle.rg_stmt.specs.declared.event.Event.TheVariants as events
+use Rattle.rg_phase.specs.Drafted.{IsDraftOf, IsPackingOf}
+use Rattle.rg_phase.specs.Made.{Hears, IsAsMade, IsWrittenOf, Works}
+use Rattle.rg_phase.specs.Step.{Acts, HasPagesFor, IsSwitchFrom, NextMade, StepCalls, Stepped}
+use Rattle.rg_phase.specs.Step.{copy_left, is_device_stop}
+use Rattle.rg_phase.specs.declared.made.Made.{Made}
+use Rattle.rg_phase.specs.declared.made.Made.TheVariants.{Nothing, Packing, Drafted, Written}
+use Rattle.rg_phase.proofs.Making.{loads_asked, loads_refused, makes_refused}
+use Rattle.rg_phase.proofs.Receiving.{works_heard, works_on}
+use Rattle.rg_phase.proofs.Steps.{next_down, next_idle, same_room}
+
+-- what is made is so of what was received, where no more was
+
+packing_same :
+    (options : Options) (p : Reloading) (inlet later : Received) → SameReceived inlet later
+    → IsPackingOf options p inlet.items inlet.taken → IsPackingOf options p later.items later.taken
+packing_same options p inlet later same is =
+    subst (λ (n : ℕ). IsPackingOf options p later.items n) (sym same.taken)
+    (subst (λ (xs : List Item). IsPackingOf options p xs inlet.taken) (sym same.items) is)
+
+draft_received :
+    (options : Options) (s : Shade) (inlet later : Received) → SameReceived inlet later
+    → IsDraftOf options s inlet.items inlet.taken → IsDraftOf options s later.items later.taken
+draft_received options s inlet later same is =
+    subst (λ (n : ℕ). IsDraftOf options s later.items n) (sym same.taken)
+    (subst (λ (xs : List Item). IsDraftOf options s xs inlet.taken) (sym same.items) is)
+
+written_same :
+    (options : Options) (kept : Option PreparedSeen) (inlet later : Received)
+    → SameReceived inlet later → IsWrittenOf options kept inlet → IsWrittenOf options kept later
+written_same options None inlet later same is = tt
+written_same options (Some p) inlet later same is =
+    draft_received options p.shade inlet later same is
+
+adds_same : (inlet later : Received) (feed : List Item) → SameReceived inlet later
+    → AddsChanges inlet.items feed → AddsChanges later.items feed
+adds_same inlet later feed same adds =
+    subst (λ (xs : List Item). AddsChanges xs feed) (sym same.items) adds
+
+pub works_same :
+    (made : Made) (kept : Option PreparedSeen) (inlet later : Received) (feed : List Item)
+    → SameReceived inlet later → Works made kept inlet feed → Works made kept later feed
+works_same Nothing kept inlet later feed same works = works
+works_same (Packing p) kept inlet later feed same works = (
+  works.0,
+  packing_same p.options p.packer inlet later same works.1,
+  adds_same inlet later feed same works.2,
+)
+works_same (Drafted d) kept inlet later feed same works = (
+  works.0,
+  draft_received d.options d.shadow inlet later same works.1,
+  adds_same inlet later feed same works.2,
+)
+works_same (Written options) kept inlet later feed same works = (
+  written_same options kept inlet later same works.0,
+  adds_same inlet later feed same works.1,
+)
+
+module _ {V O : Type 0} (look : V → VolumeSeen) (answers : O → Option (List Answer))
+    (last : O → Option ℕ) (old : DeskState V O) (made_of : Made) where
+  -- no utility runs, or the desk is down
+  pub stepped_refused : (new : DeskState V O) (taken : ℕ) → old.kept ≡ None
+      → (old.down ≡ false → FeedIs old) → RefusesStep look old new
+      → Stepped look answers last old made_of taken new
+  stepped_refused new taken kept feed refuses = elim refuses.is [
+    | inl is ↦ by_event events.StepDown is.1 (next_down old is.0) refl tt refl (λ l. refl)
+        (λ n w s. tt) tt
+    | inr is ↦ by_event events.Idle is.2 (next_idle old is.0 is.1) refl tt refl (λ l. refl)
+        (λ n w s. tt) tt
+  ]
+    where
+      by_event : (event : Event) → refuses.event ≡ event
+          → NextMade old.down old.stage old.changes old.covered None event
+          → copy_left refuses.roomy.copy event ≡ refuses.roomy.copy
+          → IsSwitchFrom refuses.roomy.copy event → is_device_stop event ≡ false
+          → ((l : Option Loading) → loading_after l event ≡ l)
+          → ((capacity weight : ℕ) (s : Stage) → HasPagesFor capacity weight s event)
+          → IsAsMade made_of old.stage taken event
+          → Stepped look answers last old made_of taken new
+      by_event event is next left from quiet tells space told =
+          let mid = refuses.roomy in
+          let made : MadeStep look mid None event [] new =
+          subst (λ (e : Event). MadeStep look mid None e [] new) is refuses.made in
+          record {
+            answer = None;
+            event = event;
+            told = told;
+            next = next;
+            asked = mid;
+            same = same_room old mid refuses.same kept;
+            operator = ap (λ d. d.operator) refuses.same;
+            made = makes_refused look mid new event left from quiet made;
+            loads = loads_refused look old mid new event tells space
+                (ap (λ d. d.copy) refuses.same) (ap (λ d. d.stage) refuses.same) made.follows
+                made.stays.copy;
+            only = made.volume ∙ ap (λ d. d.volume) refuses.same;
+            feed = feed;
+          }
+
+  -- what was sent is received, and nothing more was made
+  pub works_refused : (new : DeskState V O) (inlet later : Received) → Grew inlet later
+      → later.items ≡ old.feed → RefusesStep look old new → Works made_of old.shadow inlet old.feed
+      → Works made_of new.shadow later new.feed
+  works_refused new inlet later grew all refuses works =
+      let mid = refuses.roomy in
+      works_on made_of new.stage old.shadow new.shadow later old.feed new.feed
+      (refuses.made.shadow
+      ∙ ap (λ (o : Option PreparedSeen). while_running new.stage o)
+      (ap (λ d. d.shadow) refuses.same))
+      (refuses.made.feed ∙ append-nil mid.feed ∙ ap (λ d. d.feed) refuses.same)
+      (works_heard made_of old.shadow inlet later old.feed grew all works)
+
+  -- where there was no memory, what was sent is received or none of it is
+  pub works_begun : (inlet later : Received) → Grew inlet later
+      → SameReceived inlet later ⊎ (later.items ≡ old.feed)
+      → Works made_of old.shadow inlet old.feed → Works made_of old.shadow later old.feed
+  works_begun inlet later grew (inl same) works =
+      works_same made_of old.shadow inlet later old.feed same works
+  works_begun inlet later grew (inr all) works =
+      works_heard made_of old.shadow inlet later old.feed grew all works
+
+  module _ (task : Task) (asked : DeskState V O) (asks : AsksStep look answers last old task asked)
+      (feed : old.down ≡ false → FeedIs old) where
+    -- the operator was asked, and the step's entry made with the answer
+    pub stepped_asked : (new : DeskState V O) (taken : ℕ)
+        → Acts look asked task.answer made_of taken new
+        → Stepped look answers last old made_of taken new
+    stepped_asked new taken acts = record {
+      answer = Some task.answer;
+      event = acts.event;
+      told = subst (λ d. IsAsMade made_of d.stage taken acts.event) asks.same acts.told;
+      next =
+          subst (λ d. NextMade d.down d.stage d.changes d.covered (Some task.answer) acts.event)
+          asks.same acts.next;
+      asked = asked;
+      same = asks.same;
+      operator = (asks.answered, asks.handed);
+      made = acts.made;
+      loads = loads_asked look old asked new task.answer acts.event asks.same acts.loads;
+      only = subst (λ d. StepCalls look d (Some task.answer) new) asks.same acts.only;
+      feed = feed;
+    }
+
+    pub works_asked : (inlet later : Received) → Grew inlet later → later.items ≡ old.feed
+        → Works made_of old.shadow inlet old.feed → Works made_of asked.shadow later asked.feed
+    works_asked inlet later grew all works =
+        subst (λ (d : DeskState V O). Works made_of d.shadow later d.feed) (sym asks.same)
+        (works_heard made_of old.shadow inlet later old.feed grew all works)
+
+    pub hears_asked : (later : Received) → later.items ≡ old.feed → Hears asked later
+    hears_asked later all =
+        let is = feed (sym (ap (λ d. d.down) asks.same) ∙ asks.begun.up) in
+        subst (λ (d : DeskState V O). Hears d later) (sym asks.same) (record {
+          items = all;
+          feed = record {
+            counted = is.counted;
+            copies = is.copies;
+            keeps = is.keeps;
+            reaches = is.reaches;
+          };
+        })
