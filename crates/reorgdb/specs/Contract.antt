@@ -29,16 +29,20 @@ pub record Completes (words : List (List ℕ)) (source source_after sink sink_af
       Concludes words source source_after sink sink_after volume volume_after status trace
   -- Each reply is that of a table never reorganised, or says that memory, room or bytes of the log
   -- were wanting, or that the device refused; each layout is right for the table. The table at the
-  -- beginning is the one that the log stored; after a death of the process it is the one that the
-  -- death leaves, if the volume read tidy when the call began.
+  -- beginning is the one that the log stored. The trace is cut at each opening, and after a death
+  -- of the process the table is the one that the log stored as the volume read before the opening's
+  -- first call. It is one that the death leaves, if the volume read tidy when the call began.
   pub legal : IsLegalRun volume volume_after trace
   -- Entry 0 has the copy, the rows and the pages of the log as it read when the call began.
   pub opening : IsOpening volume volume_after trace
-  -- So has the entry of each opening, of the log as the volume read then; and then it read sound.
+  -- So has the entry of each opening, of the log as the volume read before its first call; and then
+  -- it read sound.
   pub openings : AreOpenings volume volume_after trace
   -- A flush that says that a page was written has written that page to the set of the current copy,
-  -- by its last call. One that says CLEAN has made no call. Where an entry says DEVICE, a call has
-  -- failed that was made since the entry before.
+  -- by its last call. Where an entry says DEVICE, a call has failed that was made since the entry
+  -- before. After a switch the set of the new copy reads as pages with the spots of the new layout,
+  -- and with no others. A call was made since the entry before only for an opening, a COMMIT, a
+  -- flush, WRITTEN, SWITCHED or STOP DEVICE.
   pub fit : FitCalls volume volume_after trace
   -- From these tables, FULL is answered, and STOP NOSPACE comes once a list is sorted, only where
   -- 4,064 bytes for each page of the last opening, and 18 and its bytes for each row that was

@@ -11,6 +11,7 @@ use Rattle.rg_claim.specs.Drains.{GrantIsKept}
 use Rattle.rg_feed.specs.declared.fold.item.Stage.{Stage}
 use Rattle.rg_home.specs.Pages.{slot_of}
 use Rattle.rg_home.specs.Rows.{row_at}
+use Rattle.rg_home.specs.Slot.{Slot}
 use Rattle.rg_image.specs.Meaning.{stored}
 use Rattle.rg_home.proofs.Tables.{table_same}
 use Rattle.rg_home.specs.Table.{IsTable}
@@ -25,6 +26,7 @@ use Rattle.rg_laws_utility.specs.TraceStage.Tending.{Tends}
 use Rattle.rg_desk.specs.Chronicle.{ChronicleState}
 use Rattle.rg_desk.specs.Desk.{AreSides, DeskState, HasCurrent, HasDrain, IsDesk, IsNewSide}
 use Rattle.rg_engine.specs.Engine.{slots_in}
+use Rattle.rg_engine.specs.Layouts.{IsSideOf}
 use Rattle.rg_engine.specs.Prepared.{IsSideOfKept, KeepsPrepared, PreparedSeen, prepared_seen}
 use Rattle.rg_engine.specs.Shows.{Shows}
 use Rattle.rg_outside.specs.Volume.{VolumeSeen}
@@ -66,7 +68,7 @@ module _ (d : Engine) (c : ChronicleState) (origin : Origin) (copy : ℕ)
     (drained : HasDrain view) (current : HasCurrent view) (sides : Sides)
     (old : (st : State) (allowed : ℕ) → Shows st allowed d → (t : Table)
     → IsTable (row_at (slot_of (slots_in d))) (row_of t) → is_right_side t sides.old ≡ true)
-    (new : IsSideOfKept p sides.new) where
+    (is_old : IsSideOf (slots_in d) sides.old) (new : IsSideOfKept p sides.new) where
   tends_some : Tends c.trace (Some drained.stage) count d.set_aside
   tends_some = subst (λ (o : Option Stage). Tends c.trace o count d.set_aside)
       (sym stage_is ∙ drained.stage_is) tends
@@ -106,6 +108,7 @@ module _ (d : Engine) (c : ChronicleState) (origin : Origin) (copy : ℕ)
 
   pub both_sides : AreSides view sides
   both_sides = record {
+    old = subst (λ (ps : List (List Slot)). IsSideOf ps sides.old) (sym pages_are) is_old;
     new = subst (λ (o : Option PreparedSeen). IfSome o (IsNewSide sides.new)) (sym shadow_is)
         (new_side_of p sides.new new);
     right = λ t is.

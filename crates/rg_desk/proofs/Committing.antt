@@ -48,7 +48,14 @@ use Rattle.rg_stmt.specs.declared.event.Entry.{Entry}
 use Rattle.rg_stmt.specs.declared.event.Event.{Event}
 use Rattle.rg_stmt.specs.declared.event.Event.TheVariants as events
 use Rattle.rg_stmt.specs.declared.layout.Sides.{Sides}
-use Rattle.rg_base.specs.Copies.{other_of}
+use Rattle.rg_base.specs.Copies.{other_of, set_of}
+use Rattle.rg_base.specs.declared.set.Set.TheVariants.{Log}
+use Rattle.rg_layout.specs.Spots.{spots_of}
+use Rattle.rg_outside.proofs.Frame.{calls_weaken}
+use Rattle.rg_outside.specs.Made.{WritesIn}
+use Rattle.rg_outside.specs.Moments.{IfTold}
+use Rattle.rg_page.specs.Content.{Content, slots_of}
+use Rattle.rg_space.proofs.Whole.{slots_count}
 use Rattle.rg_laws_crash.specs.SwitchRecord.Switched.{switch_to}
 use Rattle.rg_rules.specs.Tally.Changed.{ChangeCount}
 use Rattle.rg_laws_utility.specs.TraceStage.Tending.{Tends, utility_entry}
@@ -56,6 +63,8 @@ use Rattle.rg_model.specs.Run.{behind}
 use Rattle.rg_desk.specs.Chronicle.{ChronicleState, IsRecorded}
 use Rattle.rg_desk.specs.Desk.{CanCommit, DeskState, IsDesk, old_records}
 use Rattle.rg_engine.specs.Engine.{slots_in}
+use Rattle.rg_engine.specs.Flushed.{ReadsAll, WritesEither}
+use Rattle.rg_engine.specs.Layouts.{IsSideOf}
 use Rattle.rg_engine.specs.OnVolume.{SoundThroughout}
 use Rattle.rg_engine.specs.Prepared.{IsPrepared, PreparedSeen}
 use Rattle.rg_engine.specs.Shows.{left_by}
@@ -67,6 +76,8 @@ use Rattle.rg_engine.specs.declared.origin.Origin.{Origin}
 use Rattle.rg_engine.specs.declared.prepared.Prepared.{Prepared}
 use Rattle.rg_desk.proofs.DeskSwitch.{at_switch, drain_is, aside_is, fell_on, switched_on}
 use Rattle.rg_desk.proofs.DeskUtility.{GoesOn}
+use Rattle.rg_engine.proofs.Flushing.{in_log}
+use Rattle.rg_engine.proofs.Preparing.{first_on}
 use Rattle.rg_engine.proofs.Sessions.{left_consistent}
 use Rattle.rg_desk.proofs.Switching.{no_units}
 use Rattle.rg_desk.proofs.Turning.{turn_sound}
@@ -120,7 +131,17 @@ module _ (d : Engine) (c : ChronicleState) (origin : Origin) (copy : ℕ)
   as_written = can.as_written ∙ ap (λ (x : Stage). x.shadow) s_is
 
   as_kept : sides.new.pages ≡ length p.shadow.pages
-  as_kept = can.as_kept ∙ ap (λ (x : PreparedSeen). length x.shade.pages) p_is
+  as_kept = can.new_side.0 ∙ ap (λ (x : PreparedSeen). length x.shade.pages) p_is
+
+  -- the new side is that of the new copy's pages
+  pub new_side_is : (pages : List Content) → pages ≡ p.shadow.pages
+      → IsSideOf (slots_of pages) sides.new
+  new_side_is pages same = (
+    as_kept ∙ sym (slots_count p.shadow.pages)
+        ∙ ap (λ (ps : List Content). length (slots_of ps)) (sym same),
+    can.new_side.1 ∙ ap (λ (x : PreparedSeen). spots_of (shade_slots x.shade)) p_is
+        ∙ ap (λ (ps : List Content). spots_of (slots_of ps)) (sym same),
+  )
 
   -- the new copy's pages claim no more than the entries have allowed
   claims_fit : claimed_all nobody (shade_slots p.shadow) ≤ allowed_of desk.start c.trace
@@ -247,6 +268,12 @@ module _ (d : Engine) (c : ChronicleState) (origin : Origin) (copy : ℕ)
       pub sound_on : SoundThroughout seen seen_after
       sound_on = turn_sound d c origin copy marks seen desk p is current shade kept drain_all
           aside_all mid seen_after logs_other
+
+      -- the new copy reads as it was written
+      pub reads_on : IfTold seen_after.told (ReadsAll (set_of (other_of copy)) p.shadow.pages)
+      reads_on = first_on copy p.shadow.pages (length p.shadow.pages) seen.told seen_after.told
+          (calls_weaken (WritesIn Log) (WritesEither (set_of copy)) seen.told seen_after.told
+          (in_log (set_of copy)) logs.calls.only) is.reads
 
       pub old_on : take origin.records mid.log.records ≡ take origin.records d.log.records
       old_on =

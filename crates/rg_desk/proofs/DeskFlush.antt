@@ -119,7 +119,7 @@ pub flush_told : (copy : ℕ) (down : Bool) (marks later : List (Option Position
 flush_told copy true marks later seen seen_after d event next tells =
     let same = tells.1 in
     record {
-      is = (tells.0, tells.3);
+      is = (tells.0, tells.3, tells.2);
       log = ap (λ (x : Engine). x.log) same
           ∙ ap (λ (n : ℕ). let l : Listed = record d.log { forced = n } in l)
           (sym (ap (λ (x : Engine). x.log.forced) same));

@@ -53,7 +53,7 @@ use Rattle.rg_stmt.specs.declared.stmt.Stmt.TheVariants.{Commit, Rollback}
 use Rattle.rg_log.specs.Kept.{Listed as LogList, log_pages}
 use Rattle.rg_engine.specs.Answers.{IfFull, IfLogFull, Replies, forces, is_answer, is_device}
 use Rattle.rg_engine.specs.Answers.{state_left}
-use Rattle.rg_engine.specs.Steps.{more_allowed, more_logged}
+use Rattle.rg_engine.specs.Steps.{leaves_ground, more_allowed, more_logged}
 use Rattle.rg_engine.specs.Stored.{Grows, IsStored}
 use Rattle.rg_engine.specs.Volume.{CallsLog, HasCalls, IsCount, LeavesIfTidy}
 use Rattle.rg_outside.specs.Volume.{VolumeSeen}
@@ -64,7 +64,7 @@ use Rattle.rg_desk.specs.Desk.{AreKeys, IsAmong, IsBegun, IsDesk, is_reply}
 use Rattle.rg_engine.specs.Layouts.{IsLayout}
 use Rattle.rg_base.specs.Copies.{IsCopy}
 use Rattle.rg_base.proofs.Small.{cmp_one, nat_itself}
-use Rattle.rg_engine.specs.Engine.{ground_of}
+use Rattle.rg_engine.specs.Engine.{ground_of, seen_in}
 use Rattle.rg_engine.specs.Left.{LeavesState}
 use Rattle.rg_engine.specs.OnVolume.{CleanIfTidy, IsOn, IsOnVolume, RestsOn, WasAllTidy}
 use Rattle.rg_image.specs.Kept.{AreEntries}
@@ -79,7 +79,7 @@ use Rattle.rg_laws_crash.specs.PageVersions.Versions.{Epoch}
 use Rattle.rg_engine.specs.Count.{IsShownFew}
 use Rattle.rg_engine.specs.Room.{Ground, SaysLog, SaysRoom}
 use Rattle.rg_engine.specs.Shows.{IsShown, Shows, left_by}
-use Rattle.rg_engine.specs.Wrote.{SameEngine}
+use Rattle.rg_engine.specs.Wrote.{KeepsGround, SameEngine}
 use Rattle.rg_engine.specs.declared.engine.Engine.{Engine}
 use Rattle.rg_engine.specs.declared.origin.Origin.{Origin}
 use Rattle.rg_desk.proofs.Among.{few_committed, few_with, keys_left, keys_with}
@@ -708,6 +708,7 @@ pub record Replied (d : Engine) (c : ChronicleState) (origin : Origin) (down : B
       → IfFull reply (allowed_of start c.trace) (capacity_in d.space)
   pub log : SaysLog (ground_of d) session.0 stmt reply
   pub log_full : IfLogFull reply (logged_by 0 c.trace) d.log.pages
+  pub kept : leaves_ground reply ≡ true → KeepsGround d next
   pub capacity : capacity_in next.space ≡ capacity_in d.space
   pub set_aside : next.set_aside ≡ d.set_aside
   pub grows : Grows d.log next.log
@@ -742,6 +743,10 @@ replied d c origin copy true marks seen desk session stmt reply next after seen_
       log = subst (λ (r : Reply). SaysLog (ground_of d) session.0 stmt r) (sym replies.0) tt;
       log_full =
           subst (λ (r : Reply). IfLogFull r (logged_by 0 c.trace) d.log.pages) (sym replies.0) tt;
+      kept = λ is. record {
+        ground = ap ground_of replies.1;
+        contents = ap (λ (x : Engine). (seen_in x).pages) replies.1;
+      };
       capacity = ap (λ (x : Engine). capacity_in x.space) replies.1;
       set_aside = ap (λ (x : Engine). x.set_aside) replies.1;
       grows = grows_same d.log next.log (ap (λ (x : Engine). x.log) replies.1);
@@ -765,6 +770,7 @@ replied d c origin copy false marks seen desk session stmt reply next after seen
       log = answered.log;
       log_full = log_full_so (ground_of d) session.0 stmt reply (logged_by 0 c.trace) answered.log
           desk.logged;
+      kept = answered.kept;
       capacity = answered.capacity;
       set_aside = answered.set_aside;
       grows = answered.grows;

@@ -62,7 +62,7 @@ use Rattle.rg_engine.proofs.ChangeFeedLemmas.Turning.{booked_copies_none, unload
 use Rattle.rg_shadow.specs.Shade.{Shade}
 use Rattle.rg_space.proofs.Whole.{slots_count}
 use Rattle.rg_space.specs.Memory.{list_seen, space_pages}
-use Rattle.rg_space.specs.Space.{capacity_in, frames_of}
+use Rattle.rg_space.specs.Space.{frames_of}
 use Rattle.rg_space.specs.declared.space.Space.{Space}
 use Rattle.rg_rules.specs.Stage.Booked.{utility_kept}
 use Rattle.rg_rules.specs.Stage.Bounded.{Bounded}
@@ -90,9 +90,8 @@ use Rattle.rg_desk.specs.Begun.{Begun}
 use Rattle.rg_desk.specs.Chronicle.{ChronicleState}
 use Rattle.rg_desk.specs.Desk.{CanFeed, DeskState, IsDesk}
 use Rattle.rg_engine.specs.Utility.{started_count}
-use Rattle.rg_engine.specs.Engine.{ground_of, seen_in, slots_in}
+use Rattle.rg_engine.specs.Engine.{seen_in, slots_in}
 use Rattle.rg_engine.specs.Moves.{AreOwn, Moves, rows_before}
-use Rattle.rg_engine.specs.Room.{Ground}
 use Rattle.rg_engine.specs.Sends.{IsCopyOf, KeepsAccount, KeepsFound, KeepsItems, begin_items}
 use Rattle.rg_engine.specs.Shows.{Shows, left_by}
 use Rattle.rg_engine.specs.Stored.{Grows, IsStored}
@@ -808,18 +807,3 @@ next_plain V O desk page answer can s is rows few =
     (λ (t : Stage). is_plain
     (turn_of desk.changes desk.covered answer (numbers_of t) t.drain (events.Unload page rows))
     ≡ true) (some_is can.stage s desk.stage can.stage_is is) (can.next rows few)
-
--- what writes are planned over is as it was
-pub ground_still : (d mid : Engine) → SameEngine d mid → ground_of mid ≡ ground_of d
-ground_still d mid same =
-    let g : List (List Slot) → List (Option OpenUnit) → ℕ → ℕ → Listed → Ground =
-    λ pages units top capacity log.
-    record { pages = pages; units = units; top = top; capacity = capacity; log = log } in
-    ap (λ (pages : List (List Slot)). g pages mid.units mid.top (capacity_in mid.space) mid.log)
-    same.slots
-    ∙ ap
-    (λ (units : List (Option OpenUnit)). g (slots_in d) units mid.top (capacity_in mid.space)
-    mid.log) same.units
-    ∙ ap (λ (top : ℕ). g (slots_in d) d.units top (capacity_in mid.space) mid.log) same.top
-    ∙ ap (λ (n : ℕ). g (slots_in d) d.units d.top n mid.log) same.capacity
-    ∙ ap (λ (log : Listed). g (slots_in d) d.units d.top (capacity_in d.space) log) same.log

@@ -41,6 +41,8 @@ use Rattle.rg_model.specs.Run.{Run}
 use Rattle.rg_model.specs.State.{State, Table, at_rest, is_present, row_count, row_of}
 use Rattle.rg_outside.specs.Moments.{EachImage, HoldsThroughout, IfTold}
 use Rattle.rg_laws_pages.specs.ByteClaims.Claim.{claimed_all, nobody}
+use Rattle.rg_feed.specs.Fold.Fold.{row_in}
+use Rattle.rg_feed.specs.Fold.Lawful.{AreRowsOf}
 use Rattle.rg_feed.specs.Ring.{Ring}
 use Rattle.rg_feed.specs.declared.fold.item.Item.{Item}
 use Rattle.rg_feed.specs.declared.fold.item.Item.TheVariants.{PageCopy}
@@ -49,7 +51,7 @@ use Rattle.rg_home.specs.Slot.{Slot}
 use Rattle.rg_image.specs.Log.{log_of}
 use Rattle.rg_image.specs.Pack.{log_bytes}
 use Rattle.rg_image.specs.Rules.{limit_of}
-use Rattle.rg_page.specs.Content.{Content}
+use Rattle.rg_page.specs.Content.{Content, slots_of}
 use Rattle.rg_record.specs.declared.record.Record.{Record}
 use Rattle.rg_stmt.specs.Entries.{opened_entry, said_entry}
 use Rattle.rg_stmt.specs.declared.event.Entry.{Entry}
@@ -75,7 +77,7 @@ use Rattle.rg_stmt.specs.declared.layout.Side.{Side}
 use Rattle.rg_stmt.specs.declared.layout.Sides.{Sides}
 use Rattle.rg_engine.specs.Answers.{IfFull, IfLogFull, forces, is_answer, is_device}
 use Rattle.rg_engine.specs.Bytes.{taken_of}
-use Rattle.rg_engine.specs.Flushed.{CallsOwn, FlushIs}
+use Rattle.rg_engine.specs.Flushed.{CallsOwn, FlushIs, ReadsAll}
 use Rattle.rg_engine.specs.Left.{LeavesState, StoresDuring, StoresLeft}
 use Rattle.rg_engine.specs.OnVolume.{AreClean, CleanIfTidy, IsOnVolume, LeavesCopies, RestsOn}
 use Rattle.rg_engine.specs.OnVolume.{SoundThroughout}
@@ -84,6 +86,7 @@ use Rattle.rg_engine.specs.Prepared.{PreparedSeen}
 use Rattle.rg_engine.specs.Room.{Ground, SaysLog, SaysRoom}
 use Rattle.rg_engine.specs.Sends.{begin_items}
 use Rattle.rg_engine.specs.Shows.{Shows}
+use Rattle.rg_engine.specs.Steps.{leaves_ground}
 use Rattle.rg_engine.specs.Stored.{IsStored}
 use Rattle.rg_engine.specs.Utility.{IsNew}
 use Rattle.rg_engine.specs.Volume.{CallsLog, HasCalls, IsCount, LeavesIfTidy, WasTidy}
@@ -98,8 +101,8 @@ use Rattle.rg_laws_utility.specs.TraceStage.Tending.{FollowsBy, NextBy, aside_fo
 use Rattle.rg_laws_utility.specs.TraceStage.Tending.{utility_entry}
 use Rattle.rg_model.specs.Run.{behind}
 use Rattle.rg_model.specs.Utility.{starts_utility}
-use Rattle.rg_base.specs.Copies.{IsCopy, other_of}
-use Rattle.rg_engine.specs.Layouts.{IsLayout}
+use Rattle.rg_base.specs.Copies.{IsCopy, other_of, set_of}
+use Rattle.rg_engine.specs.Layouts.{IsLayout, IsSideOf, ShowsSideOf}
 use Rattle.rg_engine.specs.Prepared.{while_running}
 use Rattle.rg_engine.specs.Tabled.{EndsIn}
 
@@ -261,9 +264,10 @@ is_reply stmt reply = is_answer stmt reply
 -- OK all records are forced, and DEVICE, which brings the desk down, comes only where a call
 -- failed. FULL stands in it exactly where there is no plan of the write, and then the entries
 -- before have allowed so many bytes. LOGFULL stands in it exactly where the log has less left than
--- the write needs, and then the writes before have taken nearly all of it. What a crash leaves at
--- each moment of it is sound, and stores a table that process death leaves of the state before it.
--- A COMMIT that calls the volume may be in then, or not.
+-- the write needs, which has a plan, and then the writes before have taken nearly all of it. Pages
+-- and log are as they were, unless OK is answered, or DEVICE. What a crash leaves at each moment of
+-- it is sound, and stores a table that process death leaves of the state before it. A COMMIT that
+-- calls the volume may be in then, or not.
 pub record MadeSaid {V O : Type 0}
     (look : V → VolumeSeen) (old : DeskState V O) (session : Session) (stmt : Stmt)
     (new : DeskState V O) : Type 0 where
@@ -287,6 +291,9 @@ pub record MadeSaid {V O : Type 0}
       → IfFull reply (allowed_of start old.trace) old.ground.capacity
   pub log : SaysLog old.ground session.0 stmt reply
   pub log_full : IfLogFull reply (logged_by 0 old.trace) old.ground.log.pages
+  pub kept :
+      leaves_ground reply ≡ true → (new.ground ≡ old.ground) × (new.contents ≡ old.contents)
+  pub marks : new.marks ≡ old.marks
   pub sound : SoundThroughout (look old.volume) (look new.volume)
   pub rows :
       KeepsRows look old (λ st. StoresDuring (forces old.ground.units session stmt) st session)
@@ -295,7 +302,7 @@ pub record MadeSaid {V O : Type 0}
   pub later : old.changes ≤ new.changes
   pub stays : Stays look old new
 
--- a layout has one entry more, and calls no volume
+-- A layout has one entry more, and calls no volume. What it shows is the layout of the pages.
 pub record MadeLayout {V O : Type 0} (look : V → VolumeSeen) (old new : DeskState V O) : Type 0
   where
     pub event : Event
@@ -303,7 +310,9 @@ pub record MadeLayout {V O : Type 0} (look : V → VolumeSeen) (old new : DeskSt
     pub made : new.trace ≡ old.trace ++ system_entry event calls ∷ []
     pub counted : IsCount (look new.volume) calls
     pub is : IsLayout old.copy event
+    pub side : ShowsSideOf old.ground.pages event
     pub ground : new.ground ≡ old.ground
+    pub marks : new.marks ≡ old.marks
     pub down : new.down ≡ old.down
     pub volume : new.volume ≡ old.volume
     pub utility : SameUtility old new
@@ -371,6 +380,7 @@ pub record MadeStart {V O : Type 0} (look : V → VolumeSeen) (old : DeskState V
   pub operator : new.operator ≡ old.operator
   pub ground : SameGround old new
   pub contents : new.contents ≡ old.contents
+  pub marks : new.marks ≡ old.marks
   pub down : new.down ≡ old.down
   pub volume : new.volume ≡ old.volume
   pub stays : Stays look old new
@@ -409,6 +419,7 @@ pub record MadeStep {V O : Type 0} (look : V → VolumeSeen) (old : DeskState V 
     pub operator : new.operator ≡ old.operator
     pub ground : SameGround old new
     pub contents : new.contents ≡ old.contents
+    pub marks : new.marks ≡ old.marks
     pub down : new.down ≡ old.down
     pub volume : new.volume ≡ old.volume
     pub stays : Stays look old new
@@ -484,13 +495,19 @@ pub record CanFeed {V O : Type 0} (desk : DeskState V O) (page : ℕ) (answer : 
         (events.Unload page rows))
         ≡ true
 
--- UNLOAD of a page with so many rows was made, and a copy of the page was sent
+-- UNLOAD of a page with so many rows was made, and a copy of the page was sent: its rows, each at
+-- its home, as the last record left them
 pub record MadeCopy {V O : Type 0} (look : V → VolumeSeen) (old : DeskState V O) (answer : Answer)
     (page rows : ℕ) (new : DeskState V O) : Type 0 where
   pub few : rows ≤ 225
   pub position : Position
   pub copied : List (Place × Row)
   pub rows_are : rows ≡ length copied
+  pub at : position ≡ record { 0 = length old.ground.log.records }
+  pub of_page : AreRowsOf page copied
+  pub same :
+      (place : Place) → place.page ≡ page
+      → row_in copied place ≡ row_at (slot_of old.ground.pages) place
   pub made :
       MadeStep look old (Some answer) (events.Unload page rows)
       (PageCopy page position copied ∷ []) new
@@ -546,9 +563,10 @@ abbrev pub IsNewSide : Side → PreparedSeen → Type 0
 IsNewSide side p =
     (side.pages ≡ length p.shade.pages) × (side.spots ≡ spots_of (shade_slots p.shade))
 
--- These are the layouts of the current copy and of the new one that is kept. Both are right for the
--- table.
+-- These are the layouts of the pages of the current copy and of those of the new one that is kept.
+-- Both are right for the table.
 pub record AreSides {V O : Type 0} (desk : DeskState V O) (sides : Sides) : Type 0 where
+  pub old : IsSideOf desk.ground.pages sides.old
   pub new : IfSome desk.shadow (IsNewSide sides.new)
   pub right :
       (t : Table) → IsTable (row_at (slot_of desk.ground.pages)) (row_of t)
@@ -556,8 +574,9 @@ pub record AreSides {V O : Type 0} (desk : DeskState V O) (sides : Sides) : Type
 
 -- The step of the utility is its switch, by the operator's answer, and a new copy is kept that was
 -- written since the last record. Its pages claim no more than the entries have allowed. These are
--- the layouts of the copies: they are right for the table, the quiet rows lie at home in clustering
--- order, and the new copy is packed where nothing has changed since the utility started.
+-- the layouts of the pages of both copies: they are right for the table, the quiet rows lie at home
+-- in clustering order, and the new copy is packed where nothing has changed since the utility
+-- started.
 pub record CanCommit {V O : Type 0} (desk : DeskState V O) (answer : Answer) (sides : Sides)
     : Type 0 where
   pub stage : Stage
@@ -572,7 +591,8 @@ pub record CanCommit {V O : Type 0} (desk : DeskState V O) (answer : Answer) (si
       (start : Table) → IsStored (old_records desk) start
       → claimed_all nobody (shade_slots shadow.shade) ≤ allowed_of start desk.trace
   pub as_written : sides.new.pages ≡ stage.shadow
-  pub as_kept : sides.new.pages ≡ length shadow.shade.pages
+  pub old_side : IsSideOf desk.ground.pages sides.old
+  pub new_side : IsNewSide sides.new shadow
   pub right :
       (t : Table) → IsTable (row_at (slot_of desk.ground.pages)) (row_of t)
       → (is_right_side t sides.old ≡ true) × (is_right_side t sides.new ≡ true)
@@ -606,8 +626,8 @@ HasCopy desk p =
     × (desk.ground.log.forced ≡ length desk.ground.log.records)
 
 -- A switch has one entry more, with the operator's answer and the number of calls up to it. The
--- desk has the new copy from then on, and no page of it is still to be written. All records are
--- forced.
+-- desk has the new copy from then on, and no page of it is still to be written: each reads as it is
+-- in memory. The layouts are those of the pages before and of those now. All records are forced.
 pub record MadeSwitch {V O : Type 0} (look : V → VolumeSeen) (old : DeskState V O)
     (answer : Answer) (sides : Sides) (new : DeskState V O) : Type 0 where
   pub calls : ℕ
@@ -623,8 +643,13 @@ pub record MadeSwitch {V O : Type 0} (look : V → VolumeSeen) (old : DeskState 
   pub capacity :
       new.ground.capacity ≡ copy_capacity (look old.volume).capacities (other_of old.copy)
   pub down : new.down ≡ false
-  pub taken : IfSome old.shadow (HasCopy new)
+  pub shadow : PreparedSeen
+  pub shadow_is : old.shadow ≡ Some shadow
+  pub taken : HasCopy new shadow
   pub clean : AreClean new.contents new.marks
+  pub reads : IfTold (look new.volume).told (ReadsAll (set_of new.copy) new.contents)
+  pub old_side : IsSideOf old.ground.pages sides.old
+  pub new_side : IsSideOf (slots_of new.contents) sides.new
   pub stays : StaysOpened look old new
 
 -- A switch that failed has one entry more, too. A call has failed, and the desk is down.
@@ -638,6 +663,7 @@ pub record MadeFall {V O : Type 0} (look : V → VolumeSeen) (old : DeskState V 
   pub stage : new.stage ≡ None
   pub copy : new.copy ≡ old.copy
   pub capacity : new.ground.capacity ≡ old.ground.capacity
+  pub marks : new.marks ≡ old.marks
   pub down : new.down ≡ true
   pub device : Rose (look old.volume).faults (look new.volume).faults
   pub stays : StaysOpened look old new

@@ -12,8 +12,8 @@
 //    the operator's answer. Its event is the next one of the stage that the desk keeps.
 // 6. What a utility needs is sent to it: a Begin at its start, a copy of each page that it copies,
 //    and each change of a row since. Whoever has the other end receives it all with `hand_over`.
-ghost use Rattle.std.specs.Prelude.{◌≡◌, ◌⊎◌, ◌≤◌, ◌++◌, [], ℕ, true, false, OnOk, OnErr, IfOk};
-ghost use Rattle.std.specs.Prelude.{IfErr};
+ghost use Rattle.std.specs.Prelude.{◌≡◌, ◌⊎◌, ◌≤◌, ◌<◌, ◌+◌, ◌++◌, [], ℕ, true, false, OnOk};
+ghost use Rattle.std.specs.Prelude.{OnErr, IfOk, IfErr};
 ghost use Rattle.std.specs.Prelude.{IfSome, Some, None, drop, length};
 ghost use Rattle.rg_home.specs.Pages.{slot_of};
 ghost use Rattle.rg_home.specs.Rows.{row_at};
@@ -30,7 +30,7 @@ ghost use Rattle.rg_desk.specs.Chronicle.{IsRecorded, system_entry};
 ghost use Rattle.rg_desk.specs.Begun.{Begun};
 ghost use Rattle.rg_engine.specs.Begins.{CanBegin};
 ghost use Rattle.rg_desk.specs.Desk.{EndsDown, EndsWithRows};
-ghost use Rattle.rg_engine.specs.Layouts.{IsLayout};
+ghost use Rattle.rg_engine.specs.Layouts.{IsLayout, ShowsSideOf};
 ghost use Rattle.rg_base.specs.Copies.{IsCopy, other_of};
 ghost use Rattle.rg_desk.specs.Desk.{LeavesTable, LegalFrom, MadeFlush, MadeLayout, MadeSaid};
 ghost use Rattle.rg_desk.specs.Desk.{AreSides, CanCommit, CanPrepare, HasCurrent, HasDrain};
@@ -48,7 +48,7 @@ ghost use Rattle.rg_engine.specs.OnVolume.{LeavesSoundIfTidy, WasAllTidy};
 ghost use Rattle.rg_home.specs.Owners.{AllBelow};
 ghost use Rattle.rg_outside.specs.Moments.{IfTold};
 ghost use Rattle.rg_space.specs.Memory.{list_seen, space_pages};
-ghost use Rattle.rg_engine.specs.Engine.{HasPages, ground_of};
+ghost use Rattle.rg_engine.specs.Engine.{HasPages, ground_of, slots_in};
 ghost use Rattle.rg_engine.specs.Shows.{IsShown, Shows};
 ghost use Rattle.rg_engine.specs.Volume.{HasCalls, IsCount, LeavesIfTidy};
 ghost use Rattle.rg_engine.specs.Wrote.{SameEngine};
@@ -311,6 +311,7 @@ fn tell_layout(engine: &mut Engine, copy: TableCopy, down: bool) -> Event
     ensures ground { ground_of engine.new ≡ ground_of engine.old }
     ensures opened { engine.new.opened ≡ engine.old.opened }
     ensures is { IsLayout copy result }
+    ensures side { ShowsSideOf (slots_in engine.old) result }
     ensures right { (st : State) (allowed : ℕ) → (down ≡ false → Shows st allowed engine.old)
         → st.down ≡ down → st.copy ≡ copy → next_state [] None actors.System result st ≡ Some st }
 {
@@ -389,6 +390,7 @@ impl<V: Counts, O: Operator> Desk<V, O> {
             (space_pages found.space) made.0) }
         ensures contents { IfOk result
             (λ made. made.0.contents ≡ (list_seen (frames_of found.space)).pages) }
+        ensures marks { IfOk result (λ made. made.0.marks ≡ found.marks.items) }
         ensures older { IfOk result (λ made. made.0.older ≡ trace.items) }
         ensures ring { IfOk result (λ made. made.0.ring ≡ made.1.ring) }
         ensures received { IfOk result (λ made. made.1.items ≡ []) }
@@ -533,13 +535,16 @@ impl<V: Counts, O: Operator> Desk<V, O> {
     }
 
     /// Hands over all that was sent to the end at which it is received. If there is no memory for
-    /// it there, nothing is received.
+    /// it there, nothing is received. There is, where that end has room for what it has not
+    /// received yet.
     pub fn hand_over(&mut self, inlet: &mut FeedIn) -> Result<(), NoMemory>
         requires { self.old.ring ≡ inlet.old.ring }
         ensures same { self.new ≡ self.old }
         ensures grew { Grew inlet.old inlet.new }
         ensures all { OnOk result (inlet.new.items ≡ self.old.feed) }
         ensures err { OnErr result (SameReceived inlet.old inlet.new) }
+        ensures full { OnErr result
+            (inlet.old.spare + length inlet.old.items < length self.old.feed) }
         ensures feed { self.old.down ≡ false → FeedIs self.old }
     {
         hand_over(&mut self.outlet, inlet)
@@ -685,6 +690,8 @@ impl<V: Counts, O: Operator> Desk<V, O> {
         ensures err { OnErr result (Prepares V.seen self.old None self.new) }
         ensures device { result ≡ Err PrepareCause.Device
             → Rose (V.seen self.old.volume).faults (V.seen self.new.volume).faults }
+        ensures none { result ≡ Err PrepareCause.NoMemory
+            → self.new.volume ≡ self.old.volume }
     {
         forget(&mut self.shadow);
         let copy = self.copy.other();

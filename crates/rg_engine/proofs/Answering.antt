@@ -25,7 +25,7 @@ use Rattle.rg_space.specs.Space.{capacity_in}
 use Rattle.rg_engine.specs.Bytes.{taken_of}
 use Rattle.rg_engine.specs.Answers.{Answered, Asks, IfFull, Replies, forces, is_answer, is_device}
 use Rattle.rg_engine.specs.Answers.{is_served, needs_claim, state_left}
-use Rattle.rg_engine.specs.Engine.{slots_in}
+use Rattle.rg_engine.specs.Engine.{ground_of, seen_in, slots_in}
 use Rattle.rg_engine.specs.Left.{LeavesState, in_doubt}
 use Rattle.rg_engine.specs.Reopens.{IsCleanIn, PartsReopen}
 use Rattle.rg_engine.specs.Shows.{IsShown, Shows}
@@ -282,6 +282,7 @@ drained_answers st allowed d shows session stmt classes is out =
       shows = subst (λ (n : ℕ). Shows st n d) (omega arith) shows;
       left = tt;
       moves = no_moves d session stmt Drained refl;
+      kept = λ is. record { ground = refl; contents = refl };
       capacity = refl;
     }
 
@@ -361,6 +362,10 @@ module _ (st : State) (allowed : ℕ) (d : Engine) (shows : Shows st allowed d) 
     moves = if_up _ reply
         (moves_to d session stmt reply mid new (ap slots_in e) (ap (λ (x : Engine). x.log) e)
         (ap (λ (x : Engine). x.units) e) (up_of _ reply done goes.moves));
+    kept = λ is. record {
+      ground = ap ground_of e ∙ (goes.kept is).ground;
+      contents = ap (λ (x : Engine). (seen_in x).pages) e ∙ (goes.kept is).contents;
+    };
     capacity = ap (λ (x : Engine). capacity_in x.space) e ∙ goes.capacity;
   }
 
@@ -384,6 +389,7 @@ module _ (st : State) (allowed : ℕ) (d : Engine) (shows : Shows st allowed d) 
         (after_is false done) goes.shows;
     left = left_device st session stmt (record mid.log { forced = d.log.forced }) reply goes.left;
     moves = goes.moves;
+    kept = goes.kept;
     capacity = goes.capacity;
   }
 

@@ -401,6 +401,7 @@ module _ (st : State) (allowed : ℕ) (d new : Engine) (session : Session)
     shows = go (unit_at d.units session.0) refl;
     left = tt;
     moves = go_moves (unit_at d.units session.0) refl;
+    kept = λ is. absurd (cc (is));
     capacity = ap (λ sp. capacity_in sp) space;
   }
     where

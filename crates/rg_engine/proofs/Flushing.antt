@@ -29,14 +29,15 @@ use Rattle.rg_page.specs.Bytes.PageBytes.{page_bytes}
 use Rattle.rg_record.specs.declared.record.Record.{Record}
 use Rattle.rg_space.specs.Memory.{list_seen}
 use Rattle.rg_space.specs.Space.{capacity_in, frames_of}
+use Rattle.rg_stmt.specs.declared.event.Event.{Event}
 use Rattle.rg_stmt.specs.declared.event.Event.TheVariants.{Clean, Flush, FlushDevice, FlushNoMemory}
 use Rattle.rg_laws_crash.specs.PageVersions.Versions.{Epoch, Spells}
 use Rattle.rg_engine.specs.Engine.{seen_in}
-use Rattle.rg_engine.specs.Flushed.{CallsOwn, FitsSet, Flushes, ForcesLog, OnlyForces, ReadsAll}
-use Rattle.rg_engine.specs.Flushed.{WritesEither, WrotePage}
+use Rattle.rg_engine.specs.Flushed.{CallsOwn, FitsSet, Flushes, ForcesLog, IsFlush, OnlyForces}
+use Rattle.rg_engine.specs.Flushed.{ReadsAll, SameMarks, WritesEither, WrotePage}
 use Rattle.rg_engine.specs.Newest.{HasNewest}
 use Rattle.rg_engine.specs.OnVolume.{AreClean, IsLeastDirty, IsOn, PartsIfTidy, SoundThroughout}
-use Rattle.rg_engine.specs.OnVolume.{WasAllTidy, mark_at}
+use Rattle.rg_engine.specs.OnVolume.{WasAllTidy, is_clean, is_clean_at, mark_at}
 use Rattle.rg_engine.specs.Engine.{slots_in}
 use Rattle.rg_engine.specs.Reopens.{IsCleanIn, PartsReopen}
 use Rattle.rg_engine.specs.Units.{trans_of}
@@ -301,17 +302,20 @@ module _ (copy : ℕ) (d mid now : Engine) (before v : VolumeSeen) (same : SameE
           f.calls.only has refl (further_parts before.capacities) on.parts)
 
   -- the force failed
-  pub force_failed : (e : Epoch) (marks : List (Option Position))
-      → IsOn e copy d.log d.space marks before → Rose before.faults v.faults
-      → Flushes copy marks marks before v d FlushDevice now
-  force_failed e marks on rose = record {
+  pub force_failed : (e : Epoch) (marks : List (Option Position)) (page : ℕ)
+      → IsOn e copy d.log d.space marks before → IsLeastDirty (seen_in d).pages marks page
+      → Rose before.faults v.faults → Flushes copy marks marks before v d FlushDevice now
+  force_failed e marks page on least rose = record {
     forces = only_forces;
     calls = own_calls copy before v f.calls;
     leaves = leaves_now;
     through = through_now;
     is_on = record { epoch = e; is_on = on_now e marks on };
     sound = force_sound e marks on;
-    is = rose;
+    is = (
+      rose,
+      record { page = page; least = least; dirty = least.dirty; others = λ p one differ. refl },
+    );
   }
 
   module _ (e : Epoch) (marks later : List (Option Position))
@@ -405,7 +409,15 @@ module _ (copy : ℕ) (d mid now : Engine) (before v : VolumeSeen) (same : SameE
       through = through_written;
       is_on = record { epoch = e; is_on = on_written };
       sound = sound_written;
-      is = rose_earlier before.faults v.faults w.faults f.calls.later rose;
+      is = (
+        rose_earlier before.faults v.faults w.faults f.calls.later rose,
+        record {
+          page = page;
+          least = least;
+          dirty = ap (λ (m : Option Position). is_clean m (content_at (seen_in d).pages page)) none;
+          others = others;
+        },
+      );
     }
 
     -- the page was written, and is marked
@@ -494,7 +506,7 @@ flush_refused e copy d next marks later seen same on marked = record {
         (on_same e copy d next marks seen same on) (λ p one. inl (marked p one));
   };
   sound = sound_same e copy d marks seen on;
-  is = refl;
+  is = (refl, marked);
 }
 
 -- no page is dirty
@@ -515,6 +527,7 @@ flush_clean e copy d next marks seen same within on clean = record {
     reads seen.told
         (λ p one high. clean_reads e copy d.log d.space marks seen within on p one high
         (clean p one high)),
+    λ p one. refl,
   );
 }
   where
@@ -525,3 +538,82 @@ flush_clean e copy d next marks seen same within on clean = record {
         → IfTold told (ReadsAll (set_of copy) (seen_in d).pages)
     reads None h = tt
     reads (Some t) h = h
+
+-- ---- marks for which there is room
+
+module _ (copy : ℕ) (contents : List Content) (marks more later : List (Option Position))
+    (marked : SameMarks marks more) (old new : VolumeSeen) where
+  clean_same : (p : ℕ) → 1 ≤ p → is_clean_at contents more p ≡ is_clean_at contents marks p
+  clean_same p one =
+      ap (λ (m : Option Position). is_clean m (content_at contents p)) (marked p one)
+
+  least_same : (page : ℕ) → IsLeastDirty contents more page → IsLeastDirty contents marks page
+  least_same page least = record {
+    low = least.low;
+    high = least.high;
+    dirty = sym (clean_same page least.low) ∙ least.dirty;
+    before = λ q one less. sym (clean_same q one) ∙ least.before q one less;
+  }
+
+  flush_same : (event : Event) → IsFlush copy contents more later old new event
+      → IsFlush copy contents marks later old new event
+  flush_same (Flush page) is = (
+    least_same page is.0,
+    record {
+      here = is.1.here;
+      others = λ p one differ. is.1.others p one differ ∙ marked p one;
+    },
+    is.2,
+  )
+  flush_same Clean is = (
+    λ p one high. sym (clean_same p one) ∙ is.0 p one high,
+    is.1,
+    is.2,
+    λ p one. is.3 p one ∙ marked p one,
+  )
+  flush_same FlushDevice is = (
+    is.0,
+    record {
+      page = is.1.page;
+      least = least_same is.1.page is.1.least;
+      dirty = is.1.dirty;
+      others = λ p one differ. is.1.others p one differ ∙ marked p one;
+    },
+  )
+  flush_same FlushNoMemory is = (is.0, λ p one. is.1 p one ∙ marked p one)
+  flush_same event is = absurd is
+
+-- an engine that is the same but for room
+pub flush_from : (copy : ℕ) (d mid next : Engine) (marks more later : List (Option Position))
+    (before now : VolumeSeen) (event : Event) → SameEngine d mid → SameMarks marks more
+    → Flushes copy more later before now mid event next
+    → Flushes copy marks later before now d event next
+flush_from copy d mid next marks more later before now event same marked f = record {
+  forces = record {
+    log = f.forces.log
+        ∙ ap (λ (l : Listed). let m : Listed = record l { forced = next.log.forced } in m) same.log;
+    contents = f.forces.contents ∙ same.contents;
+    capacity = f.forces.capacity ∙ same.capacity;
+    units = f.forces.units ∙ same.units;
+    top = f.forces.top ∙ same.top;
+    opened = f.forces.opened ∙ same.opened;
+    set_aside = f.forces.set_aside ∙ same.set_aside;
+    further = subst (λ (l : Listed). l.forced ≤ next.log.forced) same.log f.forces.further;
+    shows = λ st allowed shows.
+        f.forces.shows st allowed (same_shows st allowed d mid same shows);
+  };
+  calls = f.calls;
+  leaves = subst (λ (l : Listed). Leaves before l → Leaves now next.log) same.log f.leaves;
+  through =
+      subst
+      (λ (l : Listed). Leaves before l
+      → HoldsThroughout before.told now.told (EachImage (SpellsFrom l.pages l.records l.forced)))
+      same.log f.through;
+  is_on = f.is_on;
+  sound =
+      subst
+      (λ (l : Listed). FitsSet before l → LeavesIfTidy before l → SoundThroughout before now)
+      same.log f.sound;
+  is = subst (λ (ps : List Content). IsFlush copy ps marks later before now event) same.contents
+      (flush_same copy (seen_in mid).pages marks more later marked before now event f.is);
+}

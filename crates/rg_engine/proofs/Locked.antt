@@ -126,6 +126,7 @@ module _ (st : State) (allowed : ℕ) (d : Engine) (session : Session) (shows : 
         (record new.log { forced = d.log.forced }) (records ∙ logged.records)
         (omega (arith, reserved, logged.reserved)) (pages ∙ logged.base.pages) (omega arith);
     moves = tt;
+    kept = λ is. absurd (cc (is));
     capacity =
         ap (λ sp. capacity_in sp) space ∙ ap (λ (x : Engine). capacity_in x.space) logged.same;
   }

@@ -43,7 +43,7 @@ use Rattle.rg_engine.specs.declared.engine.Engine.{Engine}
 use Rattle.rg_engine.proofs.Moving.{same_moves}
 use Rattle.rg_engine.proofs.NewestKept.{same_newest}
 use Rattle.rg_engine.proofs.Reopens.{same_clean, same_parts}
-use Rattle.rg_engine.proofs.Same.{same_shows}
+use Rattle.rg_engine.proofs.Same.{same_ground, same_shows}
 use Rattle.rg_engine.proofs.Sessions.{left_consistent}
 use Rattle.rg_engine.proofs.Settled.{grows_same}
 use Rattle.rg_engine.proofs.Statements.{IsKeyAt, go_held, held_is, key_none, key_some, none_more}
@@ -94,6 +94,7 @@ module _ (st : State) (allowed : ℕ) (d : Engine) (shows : Shows st allowed d)
     left = tt;
     shows = later new same;
     moves = same_moves d session (Select key) (row_reply None) new refl same;
+    kept = λ is. same_ground d new same;
     capacity = same.capacity;
   }
   select_so key (Some row) new is same = record {
@@ -111,6 +112,7 @@ module _ (st : State) (allowed : ℕ) (d : Engine) (shows : Shows st allowed d)
     left = tt;
     shows = later new same;
     moves = same_moves d session (Select key) (row_reply (Some row)) new refl same;
+    kept = λ is. same_ground d new same;
     capacity = same.capacity;
   }
 
@@ -165,6 +167,7 @@ module _ (st : State) (allowed : ℕ) (d : Engine) (shows : Shows st allowed d)
         shows = later new same;
         left = tt;
         moves = same_moves d session (Scan lo hi) (Listed rows) new refl same;
+        kept = λ is. same_ground d new same;
         capacity = same.capacity;
       }
 
@@ -258,6 +261,7 @@ module _ (st : State) (allowed : ℕ) (d : Engine) (shows : Shows st allowed d)
         shows = later new same;
         left = tt;
         moves = same_moves d session (Find cat) (Keyed keys) new refl same;
+        kept = λ is. same_ground d new same;
         capacity = same.capacity;
       }
 

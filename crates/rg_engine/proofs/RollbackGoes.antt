@@ -329,6 +329,7 @@ module _ (st : State) (allowed : ℕ) (d : Engine) (session : Session) (shows : 
         moves = idle_end_moves d session Rollback new (omega (arith, low, shows.by.places)) none
             (ap (λ sp. slots_in (record d { space = sp })) ended.space)
             (ap (λ (l : Listed). l.records) ended.log) ended.units (λ t. refl) refl refl refl;
+        kept = λ is. absurd (cc (is));
         capacity = ap (λ sp. capacity_in sp) ended.space;
       }
     where

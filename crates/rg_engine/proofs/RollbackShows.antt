@@ -192,6 +192,7 @@ module _ (st : State) (allowed : ℕ) (d new : Engine) (session : Session)
             ended_found d session new unit (own_of t s.writes) place has (one.walks, one.count)
             units
             (rows_found table_rows stmts.Rollback Done) (λ found. refl));
+        kept = λ is. absurd (cc (is));
         capacity = capacity;
       }
     where

@@ -10,12 +10,14 @@ use Rattle.rg_model.specs.State.{Locks, State}
 use Rattle.rg_record.specs.declared.record.Record.{Record}
 use Rattle.rg_laws_log.specs.LogState.Act.{LogState}
 use Rattle.rg_log.specs.Kept.{Listed}
-use Rattle.rg_engine.specs.Engine.{slots_in}
+use Rattle.rg_space.specs.Space.{capacity_in}
+use Rattle.rg_engine.specs.Engine.{ground_of, slots_in}
+use Rattle.rg_engine.specs.Room.{Ground}
 use Rattle.rg_engine.specs.Shows.{KeyShown, Shows, UnitsShown, left_by}
 use Rattle.rg_engine.specs.Stored.{IsSettled}
 use Rattle.rg_engine.specs.Trails.{Trails}
 use Rattle.rg_engine.specs.Units.{owed}
-use Rattle.rg_engine.specs.Wrote.{SameEngine}
+use Rattle.rg_engine.specs.Wrote.{KeepsGround, SameEngine}
 use Rattle.rg_engine.specs.declared.engine.Engine.{Engine}
 use Rattle.rg_engine.specs.declared.units.OpenUnit.{OpenUnit}
 use Rattle.rg_engine.proofs.Sessions.{left_consistent}
@@ -90,3 +92,21 @@ pub same_sound : (st : State) (allowed : ℕ) (old new : Engine) → SameEngine 
     → Shows st allowed old → Sound (slots_in new)
 same_sound st allowed old new same shows = subst (λ (ps : List (List Slot)). Sound ps)
     (sym (same.slots ∙ shows.by.slots)) (left_consistent st allowed old shows).ready.proper.sound
+
+-- what writes are planned over is as it was
+pub ground_still : (d mid : Engine) → SameEngine d mid → ground_of mid ≡ ground_of d
+ground_still d mid same =
+    let g : List (List Slot) → List (Option OpenUnit) → ℕ → ℕ → Listed → Ground =
+    λ pages units top capacity log.
+    record { pages = pages; units = units; top = top; capacity = capacity; log = log } in
+    ap (λ (pages : List (List Slot)). g pages mid.units mid.top (capacity_in mid.space) mid.log)
+    same.slots
+    ∙ ap
+    (λ (units : List (Option OpenUnit)). g (slots_in d) units mid.top (capacity_in mid.space)
+    mid.log) same.units
+    ∙ ap (λ (top : ℕ). g (slots_in d) d.units top (capacity_in mid.space) mid.log) same.top
+    ∙ ap (λ (n : ℕ). g (slots_in d) d.units d.top n mid.log) same.capacity
+    ∙ ap (λ (log : Listed). g (slots_in d) d.units d.top (capacity_in d.space) log) same.log
+
+pub same_ground : (d new : Engine) → SameEngine d new → KeepsGround d new
+same_ground d new same = record { ground = ground_still d new same; contents = same.contents }

@@ -42,7 +42,7 @@ use Rattle.rg_engine.specs.declared.units.OpenUnit.{OpenUnit}
 use Rattle.rg_engine.proofs.Moving.{no_moves, same_moves}
 use Rattle.rg_engine.proofs.NewestKept.{same_newest}
 use Rattle.rg_engine.proofs.Reopens.{same_clean, same_parts}
-use Rattle.rg_engine.proofs.Same.{same_engine, same_shows}
+use Rattle.rg_engine.proofs.Same.{same_engine, same_ground, same_shows}
 use Rattle.rg_engine.proofs.Sessions.{left_consistent}
 use Rattle.rg_engine.proofs.Settled.{grows_same}
 use Rattle.rg_engine.proofs.UnitsWritten.{IsUnitFor}
@@ -171,6 +171,7 @@ module _ (st : State) (allowed : ℕ) (d : Engine) (shows : Shows st allowed d)
     left = tt;
     shows = none_more;
     moves = no_moves d session stmt (Held owner) refl;
+    kept = λ is. same_ground d d (same_engine d);
     capacity = refl;
   }
 
@@ -191,6 +192,7 @@ module _ (st : State) (allowed : ℕ) (d : Engine) (shows : Shows st allowed d)
     left = tt;
     shows = none_more;
     moves = no_moves d session stmt Absent refl;
+    kept = λ is. same_ground d d (same_engine d);
     capacity = refl;
   }
 
@@ -211,6 +213,7 @@ module _ (st : State) (allowed : ℕ) (d : Engine) (shows : Shows st allowed d)
     left = tt;
     shows = none_more;
     moves = no_moves d session stmt Duplicate refl;
+    kept = λ is. same_ground d d (same_engine d);
     capacity = refl;
   }
 
@@ -231,6 +234,7 @@ module _ (st : State) (allowed : ℕ) (d : Engine) (shows : Shows st allowed d)
     left = tt;
     shows = same_shows st (allowed + 0) d new same none_more;
     moves = same_moves d session stmt NoMemory new refl same;
+    kept = λ is. same_ground d new same;
     capacity = same.capacity;
   }
 
@@ -258,16 +262,18 @@ module _ (st : State) (allowed : ℕ) (d : Engine) (shows : Shows st allowed d)
     left = tt;
     shows = same_shows st (allowed + 0) d new same none_more;
     moves = same_moves d session stmt (Full need) new refl same;
+    kept = λ is. same_ground d new same;
     capacity = same.capacity;
   }
 
   pub go_log_full : (stmt : Stmt) (need left : ℕ) (new : Engine) → may_want_log stmt ≡ true
       → is_done (plain_reply st session stmt) ≡ true
+      → SaysRoom (ground_of d) session.0 stmt (LogFull need left)
       → SaysLog (ground_of d) session.0 stmt (LogFull need left) → SameEngine d new
       → Goes st allowed d session stmt (LogFull need left) new
-  go_log_full stmt need left new may done log same = record {
+  go_log_full stmt need left new may done room log same = record {
     says = (may, done);
-    room = tt;
+    room = room;
     log = log;
     logged = omega (arith, ap (λ (l : Listed). taken_of l) same.log);
     opened = same.opened;
@@ -280,6 +286,7 @@ module _ (st : State) (allowed : ℕ) (d : Engine) (shows : Shows st allowed d)
     left = tt;
     shows = same_shows st (allowed + 0) d new same none_more;
     moves = same_moves d session stmt (LogFull need left) new refl same;
+    kept = λ is. same_ground d new same;
     capacity = same.capacity;
   }
 

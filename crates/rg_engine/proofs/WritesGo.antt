@@ -35,7 +35,7 @@ use Rattle.rg_laws_utility.specs.ByteAccount.Found.{rows_found, rows_made}
 use Rattle.rg_home.specs.Table.{IsTable}
 use Rattle.rg_engine.specs.Moves.{Moves}
 use Rattle.rg_engine.specs.Newest.{KeepsNewest}
-use Rattle.rg_engine.specs.Room.{IfNeeds}
+use Rattle.rg_engine.specs.Room.{HasPlan, IfNeeds}
 use Rattle.rg_engine.specs.Steps.{Goes, IsUnitOf}
 use Rattle.rg_engine.specs.Stored.{Grows}
 use Rattle.rg_engine.specs.Wrote.{Refuses, SameEngine, Writes, Wrote, records_wrote}
@@ -226,10 +226,11 @@ module _ (st : State) (allowed : ℕ) (d : Engine) (shows : Shows st allowed d) 
   -- LOGFULL stands for what the log has too little left for
   log_full : (stmt : Stmt) (n need left : ℕ) (new : Engine) → may_want_log stmt ≡ true
       → plain_reply st session stmt ≡ Done → Refuses mid n (LogFull need left) new
+      → HasPlan true (ground_of d) session.0 stmt
       → IfNeeds (ground_of d) session.0 stmt (λ k. need ≡ k)
       → Goes st allowed d session stmt (LogFull need left) new
-  log_full stmt n need left new may done h needs =
-      go_log_full st allowed d shows session stmt need left new may (ap is_done done) (
+  log_full stmt n need left new may done h room needs =
+      go_log_full st allowed d shows session stmt need left new may (ap is_done done) room (
         h.1 ∙ ap (λ (l : Listed). left_of l) same.log,
         omega (arith, h.0, h.2),
         omega (arith, h.0, h.3),
@@ -307,10 +308,12 @@ module _ (st : State) (allowed : ℕ) (d : Engine) (shows : Shows st allowed d) 
             (alone_mid row.key alone) low w (Insert row) refl (nat_itself row.key) (λ found. refl)
             (λ table is_table found. ap (λ (r : Option Row). r ∷ found)
             (sym (put_before row plan absent alone small is)));
+        kept = λ is. absurd (cc (is));
         capacity = wrote (Insert row) (18 + row_size row) row.key (Some row) plan new done shown w;
       }
   put_goes row plan (LogFull need left) new low absent alone small is done w =
       log_full (Insert row) _ need left new refl done w
+      (put_room st allowed d shows session unit is_unit mid same row (Some plan) true is refl)
       (put_needs st allowed d shows session unit is_unit mid same row plan (λ n. need ≡ n) is w.0)
   put_goes row plan NoMemory new low absent alone small is done w =
       go_wanting st allowed d shows session (Insert row) new refl (same_same d mid new same w)
@@ -351,11 +354,14 @@ module _ (st : State) (allowed : ℕ) (d : Engine) (shows : Shows st allowed d) 
             (λ table is_table found. ap (λ (r : Option Row). r ∷ found)
             (ap table key ∙ is_table.there home old (there_mid home old there)
             ∙ sym (change_before home old row plan there is_there alone key small is)));
+        kept = λ is. absurd (cc (is));
         capacity = wrote (Update row) (18 + row_size row) row.key (Some row) plan new done shown w;
       }
   change_goes home old row plan (LogFull need left) new low there is_there alone key small is done
       w =
       log_full (Update row) _ need left new refl done w
+      (change_room st allowed d shows session unit is_unit mid same home old row (Some plan) true
+      there key is refl)
       (change_needs st allowed d shows session unit is_unit mid same home old row plan
       (λ n. need ≡ n) there key is w.0)
   change_goes home old row plan NoMemory new low there is_there alone key small is done w =
@@ -396,10 +402,11 @@ module _ (st : State) (allowed : ℕ) (d : Engine) (shows : Shows st allowed d) 
             (λ table is_table found. ap (λ (r : Option Row). r ∷ found)
             (ap table (sym of_key) ∙ is_table.there home old (there_mid home old there)
             ∙ sym plans.0));
+        kept = λ is. absurd (cc (is));
         capacity = wrote (Delete key) 0 key None plan new done shown w;
       }
   drop_goes home old key plan (LogFull need left) new low there is_there alone of_key is done w =
-      log_full (Delete key) _ need left new refl done w
+      log_full (Delete key) _ need left new refl done w tt
       (drop_needs st allowed d shows session unit is_unit mid same home old key plan (λ n. need ≡ n)
       there of_key is w.0)
   drop_goes home old key plan NoMemory new low there is_there alone of_key is done w =

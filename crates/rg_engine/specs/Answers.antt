@@ -35,7 +35,9 @@ use Rattle.rg_engine.specs.Reopens.{IsCleanIn, KeepsParts}
 use Rattle.rg_engine.specs.Room.{SaysLog, SaysRoom}
 use Rattle.rg_engine.specs.Shows.{Shows}
 use Rattle.rg_engine.specs.Bytes.{most_needed, taken_of}
-use Rattle.rg_engine.specs.Steps.{IfDevice, IfUp, is_commit, more_allowed, more_logged}
+use Rattle.rg_engine.specs.Steps.{IfDevice, IfUp, is_commit, leaves_ground, more_allowed}
+use Rattle.rg_engine.specs.Steps.{more_logged}
+use Rattle.rg_engine.specs.Wrote.{KeepsGround}
 use Rattle.rg_engine.specs.Stored.{Grows}
 use Rattle.rg_engine.specs.Units.{unit_at}
 use Rattle.rg_engine.specs.Volume.{CallsLog, Leaves}
@@ -114,6 +116,7 @@ pub record Answered
   pub shows : IfUp reply (Shows after (allowed + more_allowed stmt reply) new)
   pub left : IfDevice reply (LeavesState after (record new.log { forced = old.log.forced }))
   pub moves : IfUp reply (Moves old session stmt reply new)
+  pub kept : leaves_ground reply ≡ true → KeepsGround old new
   pub capacity : capacity_in new.space ≡ capacity_in old.space
 
 -- from each state that the engine shows

@@ -29,7 +29,8 @@ use Rattle.rg_stmt.specs.declared.event.Event.TheVariants.{Clean, Flush, FlushDe
 use Rattle.rg_stmt.specs.declared.event.Event.TheVariants.{FlushNoMemory}
 use Rattle.rg_laws_crash.specs.PageVersions.Versions.{Spells}
 use Rattle.rg_engine.specs.Engine.{seen_in}
-use Rattle.rg_engine.specs.OnVolume.{AreClean, IsLeastDirty, IsOnVolume, SoundThroughout, mark_at}
+use Rattle.rg_engine.specs.OnVolume.{AreClean, IsLeastDirty, IsOnVolume, SoundThroughout}
+use Rattle.rg_engine.specs.OnVolume.{is_clean_at, mark_at}
 use Rattle.rg_engine.specs.Shows.{Shows}
 use Rattle.rg_engine.specs.Volume.{CallsLog, Leaves, LeavesIfTidy}
 use Rattle.rg_outside.specs.Volume.{VolumeSeen}
@@ -71,6 +72,17 @@ pub record MarksPage (page position : ℕ) (old new : List (Option Position)) : 
   pub here : mark_at new page ≡ Some (record { 0 = position })
   pub others : (p : ℕ) → 1 ≤ p → (p ≡ page → ⊥) → mark_at new p ≡ mark_at old p
 
+-- the marks of all pages are as they were
+abbrev pub SameMarks : (old new : List (Option Position)) → Type 0
+SameMarks old new = (p : ℕ) → 1 ≤ p → mark_at new p ≡ mark_at old p
+
+-- the least page that is not clean is still not clean, and no other mark has changed
+pub record StaysDirty (contents : List Content) (old new : List (Option Position)) : Type 0 where
+  pub page : ℕ
+  pub least : IsLeastDirty contents old page
+  pub dirty : is_clean_at contents new page ≡ false
+  pub others : (p : ℕ) → 1 ≤ p → (p ≡ page → ⊥) → mark_at new p ≡ mark_at old p
+
 -- what a flush answers, over these pages of a copy
 abbrev pub IsFlush :
     (copy : ℕ) → List Content → (marks later : List (Option Position)) → (old new : VolumeSeen)
@@ -81,15 +93,19 @@ IsFlush copy contents marks later old new (Flush page) =
     × IfTold new.told (WrotePage old.told (set_of copy) page (content_at contents page))
 IsFlush copy contents marks later old new Clean =
     AreClean contents marks × (new ≡ old) × IfTold new.told (ReadsAll (set_of copy) contents)
-IsFlush copy contents marks later old new FlushDevice = Rose old.faults new.faults
-IsFlush copy contents marks later old new FlushNoMemory = new ≡ old
+    × SameMarks marks later
+IsFlush copy contents marks later old new FlushDevice =
+    Rose old.faults new.faults × StaysDirty contents marks later
+IsFlush copy contents marks later old new FlushNoMemory =
+    (new ≡ old) × SameMarks marks later
 IsFlush copy contents marks later old new event = ⊥
 
 -- what it answers of an engine that is up, or down
 abbrev pub FlushIs :
     (down : Bool) → (copy : ℕ) → List Content → (marks later : List (Option Position))
     → (old new : VolumeSeen) → Event → Type 0
-FlushIs true copy contents marks later old new event = (event ≡ FlushDown) × (new ≡ old)
+FlushIs true copy contents marks later old new event =
+    (event ≡ FlushDown) × (new ≡ old) × (later ≡ marks)
 FlushIs false copy contents marks later old new event =
     IsFlush copy contents marks later old new event
 

@@ -97,8 +97,9 @@ SaysLog g session stmt (LogFull need left) =
 SaysLog g session stmt Done = IfNeeds g session stmt (λ n. n ≤ left_of g.log)
 SaysLog g session stmt reply = Unit {0}
 
--- FULL stands where there is no plan, and OK where there is one
+-- FULL stands where there is no plan, and OK and LOGFULL where there is one
 abbrev pub SaysRoom : Ground → (session : ℕ) → Stmt → Reply → Type 0
 SaysRoom g session stmt (Full need) = (need ≡ bytes_written stmt) × HasPlan false g session stmt
+SaysRoom g session stmt (LogFull need left) = HasPlan true g session stmt
 SaysRoom g session stmt Done = HasPlan true g session stmt
 SaysRoom g session stmt reply = Unit {0}

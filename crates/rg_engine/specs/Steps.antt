@@ -33,6 +33,7 @@ use Rattle.rg_engine.specs.Stored.{Grows}
 use Rattle.rg_engine.specs.Units.{unit_at}
 use Rattle.rg_engine.specs.declared.engine.Engine.{Engine}
 use Rattle.rg_engine.specs.declared.units.OpenUnit.{OpenUnit}
+use Rattle.rg_engine.specs.Wrote.{KeepsGround}
 
 -- the unit that a session begins with its first write
 abbrev pub new_unit : (number : ℕ) → OpenUnit
@@ -98,6 +99,12 @@ abbrev pub IfDevice : Reply → Type 0 → Type 0
 IfDevice Device P = P
 IfDevice reply P = Unit {0}
 
+-- after all replies but OK and DEVICE pages and log are as they were
+abbrev pub leaves_ground : Reply → Bool
+leaves_ground Done = false
+leaves_ground Device = false
+leaves_ground reply = true
+
 -- the statement is answered so from this state, and leaves the next one
 pub record Goes
     (st : State) (allowed : ℕ) (old : Engine) (session : Session) (stmt : Stmt) (reply : Reply)
@@ -119,6 +126,7 @@ pub record Goes
       IfDevice reply
       (LeavesState (in_doubt st session) (record new.log { forced = old.log.forced }))
   pub moves : IfUp reply (Moves old session stmt reply new)
+  pub kept : leaves_ground reply ≡ true → KeepsGround old new
   pub capacity : capacity_in new.space ≡ capacity_in old.space
 
 -- from each state that the engine shows

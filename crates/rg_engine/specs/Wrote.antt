@@ -23,7 +23,7 @@ use Rattle.rg_stmt.specs.declared.stmt.Reply.TheVariants.{Done, LogFull, NoMemor
 use Rattle.rg_space.specs.Carries.{Carries, cleared}
 use Rattle.rg_space.specs.Space.{capacity_in}
 use Rattle.rg_engine.specs.Bytes.{most_needed, needed, plan_bytes}
-use Rattle.rg_engine.specs.Engine.{HasPages, seen_in, slots_in}
+use Rattle.rg_engine.specs.Engine.{HasPages, ground_of, seen_in, slots_in}
 use Rattle.rg_engine.specs.Newest.{KeepsNewest}
 use Rattle.rg_engine.specs.Stored.{SameBase}
 use Rattle.rg_engine.specs.Units.{unit_at}
@@ -130,6 +130,11 @@ pub record SameEngine (old new : Engine) : Type 0 where
   pub top : new.top ≡ old.top
   pub opened : new.opened ≡ old.opened
   pub set_aside : new.set_aside ≡ old.set_aside
+
+-- what writes are planned over is as it was, and the pages
+pub record KeepsGround (old new : Engine) : Type 0 where
+  pub ground : ground_of new ≡ ground_of old
+  pub contents : (seen_in new).pages ≡ (seen_in old).pages
 
 -- so many bytes are more than the log has left, or it is out of memory; and all is as it was
 abbrev pub Refuses : Engine → (need : ℕ) → Reply → Engine → Type 0

@@ -11,7 +11,7 @@ ghost use Rattle.rg_engine.specs.Wrote.{SameEngine};
 ghost use Rattle.std.specs.Prelude.{[], Some, None};
 ghost use Rattle.rg_model.specs.Possible.{next_state};
 ghost use Rattle.rg_stmt.specs.declared.event.Actor.TheVariants as actors;
-ghost use Rattle.rg_engine.specs.Layouts.{IsLayout};
+ghost use Rattle.rg_engine.specs.Layouts.{IsLayout, IsSideOf, ShowsSideOf};
 
 use crate::engine::Engine;
 use rg_base::copy::TableCopy;
@@ -25,6 +25,7 @@ impl Engine {
     pub fn side(&mut self) -> Result<Side, NoMemory>
         requires pages { HasPages self.old }
         ensures same { SameEngine self.old self.new }
+        ensures is { IfOk result (IsSideOf (slots_in self.old)) }
         ensures right { IfOk result (λ side. (st : State) (allowed : ℕ) → Shows st allowed self.old
             → is_right_side st.table side ≡ true) }
         ensures table { IfOk result (λ side. (st : State) (allowed : ℕ) → Shows st allowed self.old
@@ -46,6 +47,7 @@ impl Engine {
         requires pages { HasPages self.old }
         ensures same { SameEngine self.old self.new }
         ensures is { IsLayout copy result }
+        ensures side { ShowsSideOf (slots_in self.old) result }
         ensures right { (st : State) (allowed : ℕ) → Shows st allowed self.old → st.copy ≡ copy
             → next_state [] None actors.System result st ≡ Some st }
     {

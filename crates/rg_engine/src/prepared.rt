@@ -149,6 +149,7 @@ pub fn prepare<V: Volume>(
         (V.seen volume.old) (V.seen volume.new) engine.old engine.new) }
     ensures device { result ≡ Err PrepareCause.Device
         → Rose (V.seen volume.old).faults (V.seen volume.new).faults }
+    ensures none { result ≡ Err PrepareCause.NoMemory → volume.new ≡ volume.old }
 {
     let mut shadow = shadow;
     // That no session holds a claim that a granted drain covers: nobody has a lock then.

@@ -1,5 +1,5 @@
 -- A step, put together from how it begins and what is made then.
-use Rattle.std.proofs.Common.{◌≡◌, ◌⊎◌, inl, inr, ℕ, Bool, true, false, List, [], Option, Some}
+use Rattle.std.proofs.Common.{◌≡◌, ◌⊎◌, inl, inr, ℕ, false, List, [], Option, Some}
 use Rattle.std.proofs.Common.{None}
 use Rattle.std.proofs.Common.{refl, sym, ◌∙◌, ap, subst, append-nil}
 use Rattle.rg_base.specs.declared.control.Answer.{Answer}
@@ -20,7 +20,7 @@ use Rattle.rg_stmt.specs.declared.event.Event.TheVariants as events
 use Rattle.rg_phase.specs.Drafted.{IsDraftOf, IsPackingOf}
 use Rattle.rg_phase.specs.Made.{Hears, IsAsMade, IsWrittenOf, Works}
 use Rattle.rg_phase.specs.Step.{Acts, HasPagesFor, IsSwitchFrom, NextMade, StepCalls, Stepped}
-use Rattle.rg_phase.specs.Step.{copy_left, is_device_stop}
+use Rattle.rg_phase.specs.Step.{TellsCopy, copy_left, is_device_stop}
 use Rattle.rg_phase.specs.declared.made.Made.{Made}
 use Rattle.rg_phase.specs.declared.made.Made.TheVariants.{Nothing, Packing, Drafted, Written}
 use Rattle.rg_phase.proofs.Making.{loads_asked, loads_refused, makes_refused}
@@ -81,9 +81,9 @@ module _ {V O : Type 0} (look : V → VolumeSeen) (answers : O → Option (List 
       → (old.down ≡ false → FeedIs old) → RefusesStep look old new
       → Stepped look answers last old made_of taken new
   stepped_refused new taken kept feed refuses = elim refuses.is [
-    | inl is ↦ by_event events.StepDown is.1 (next_down old is.0) refl tt refl (λ l. refl)
+    | inl is ↦ by_event events.StepDown is.1 (next_down old is.0) refl tt refl tt (λ l. refl)
         (λ n w s. tt) tt
-    | inr is ↦ by_event events.Idle is.2 (next_idle old is.0 is.1) refl tt refl (λ l. refl)
+    | inr is ↦ by_event events.Idle is.2 (next_idle old is.0 is.1) refl tt refl tt (λ l. refl)
         (λ n w s. tt) tt
   ]
     where
@@ -91,11 +91,12 @@ module _ {V O : Type 0} (look : V → VolumeSeen) (answers : O → Option (List 
           → NextMade old.down old.stage old.changes old.covered None event
           → copy_left refuses.roomy.copy event ≡ refuses.roomy.copy
           → IsSwitchFrom refuses.roomy.copy event → is_device_stop event ≡ false
+          → TellsCopy look refuses.roomy new event
           → ((l : Option Loading) → loading_after l event ≡ l)
           → ((capacity weight : ℕ) (s : Stage) → HasPagesFor capacity weight s event)
           → IsAsMade made_of old.stage taken event
           → Stepped look answers last old made_of taken new
-      by_event event is next left from quiet tells space told =
+      by_event event is next left from quiet copy tells space told =
           let mid = refuses.roomy in
           let made : MadeStep look mid None event [] new =
           subst (λ (e : Event). MadeStep look mid None e [] new) is refuses.made in
@@ -107,7 +108,7 @@ module _ {V O : Type 0} (look : V → VolumeSeen) (answers : O → Option (List 
             asked = mid;
             same = same_room old mid refuses.same kept;
             operator = ap (λ d. d.operator) refuses.same;
-            made = makes_refused look mid new event left from quiet made;
+            made = makes_refused look mid new event left from quiet copy made;
             loads = loads_refused look old mid new event tells space
                 (ap (λ d. d.copy) refuses.same) (ap (λ d. d.stage) refuses.same) made.follows
                 made.stays.copy;

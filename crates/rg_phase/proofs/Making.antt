@@ -4,7 +4,6 @@ use Rattle.std.proofs.Common.{Some, None, IfSome, take, refl, sym, ◌∙◌, ap
 use Rattle.std.specs.Option.{is_some}
 use Rattle.rg_base.specs.declared.control.Answer.{Answer}
 use Rattle.rg_base.specs.declared.session.Session.{Session}
-use Rattle.rg_base.specs.declared.set.Set.TheVariants.{Log}
 use Rattle.rg_base.specs.declared.verdict.StopReason.TheVariants as reasons
 use Rattle.rg_desk.specs.Desk.{DeskState, IsNextStep, MadeCopy, MadeFall, MadeStep, MadeSwitch}
 use Rattle.rg_desk.specs.Desk.{Prepares}
@@ -17,10 +16,7 @@ use Rattle.rg_feed.specs.declared.fold.item.Item.{Item}
 use Rattle.rg_feed.specs.declared.fold.item.Item.TheVariants.{PageCopy}
 use Rattle.rg_feed.specs.declared.fold.item.Stage.{Stage}
 use Rattle.rg_model.specs.Turn.{Turn, turn_of}
-use Rattle.rg_outside.specs.Calls.{Call, FailedRead, FailedSync, FailedWrite, Read, Refused, Synced}
-use Rattle.rg_outside.specs.Calls.{Wrote}
 use Rattle.rg_outside.specs.Faults.{Rose}
-use Rattle.rg_outside.specs.Made.{WritesIn}
 use Rattle.rg_outside.proofs.Frame.{no_calls}
 use Rattle.rg_laws_utility.specs.CopyWeight.Weighed.{weigh_feed}
 use Rattle.rg_rules.specs.Stage.NumbersOf.{numbers_of}
@@ -36,7 +32,7 @@ use Rattle.rg_image.specs.Rules.{copy_capacity}
 use Rattle.rg_phase.specs.Made.{IsAsMade}
 use Rattle.rg_phase.specs.declared.made.Made.{Made}
 use Rattle.rg_phase.specs.Step.{Acts, HasPagesFor, IsSwitchFrom, Loads, Makes, NextMade, copy_left}
-use Rattle.rg_phase.specs.Step.{is_device_stop, is_made}
+use Rattle.rg_phase.specs.Step.{TellsCopy, is_device_stop, is_made, may_call}
 use Rattle.rg_phase.proofs.Loading.{shows_none, shows_same, shows_step, shows_switched, space_any}
 use Rattle.rg_phase.specs.Working.{Writes}
 
@@ -149,9 +145,9 @@ module _ {V O : Type 0} (look : V → VolumeSeen) where
   -- a desk that is down, or over which no utility runs
   pub makes_refused : (old new : DeskState V O) (event : Event)
       → copy_left old.copy event ≡ old.copy → IsSwitchFrom old.copy event
-      → is_device_stop event ≡ false → MadeStep look old None event [] new
-      → Makes look old None event new
-  makes_refused old new event left from quiet made = record {
+      → is_device_stop event ≡ false → TellsCopy look old new event
+      → MadeStep look old None event [] new → Makes look old None event new
+  makes_refused old new event left from quiet told made = record {
     calls = made.calls;
     made = made.made;
     counted = made.counted;
@@ -161,6 +157,8 @@ module _ {V O : Type 0} (look : V → VolumeSeen) where
     capacity = inl made.stays.capacity;
     down = λ down. inl (sym made.down ∙ down);
     device = λ is. absurd (cc (is, quiet));
+    quiet = λ is. made.volume;
+    told = told;
     runs = runs_on old.down old.stage new.stage old.changes old.covered None event made.follows;
     kept = made.kept;
     operator = made.operator;
@@ -216,53 +214,62 @@ module _ {V O : Type 0} (look : V → VolumeSeen) where
         → NextMade old.down old.stage old.changes old.covered (Some answer) event
         → copy_left old.copy event ≡ old.copy → IsSwitchFrom old.copy event
         → (is_device_stop event ≡ true → Rose (look old.volume).faults (look mid.volume).faults)
+        → (may_call event ≡ false → mid.volume ≡ old.volume) → TellsCopy look old new event
         → Space event → IsAsMade made_of old.stage taken event
         → MadeStep look mid (Some answer) event items new → Acts look old answer made_of taken new
-    acts_made mid new event items runs wrote next left from device space told made = record {
-      event = event;
-      told = told;
-      next = next;
-      loads = record {
-        space = space;
-        shows =
-            shows_step old.down old.stage new.stage old.changes old.covered answer event old.copy
-            new.copy (made.stays.copy ∙ copy) next
-            (subst
-            (λ (d : DeskState V O). FollowsBy d.down d.stage d.changes d.covered (Some answer) event
-            new.stage) wrote.same made.follows);
-      };
-      made = record {
-        calls = made.calls;
-        made = made.made
-            ∙ ap (λ (es : List Entry). es ++ utility_entry event (Some answer) made.calls ∷ [])
-            (ap (λ (d : DeskState V O). d.trace) wrote.same);
-        counted = made.counted;
-        copy = made.stays.copy ∙ copy ∙ sym left;
-        ring = made.stays.ring ∙ ap (λ (d : DeskState V O). d.ring) wrote.same;
-        to = from;
-        capacity = inl (made.stays.capacity ∙ ap (λ (g : Ground). g.capacity) wrote.ground);
-        down = λ down.
-            inl (sym (ap (λ (d : DeskState V O). d.down) wrote.same) ∙ sym made.down ∙ down);
-        device = λ is. subst (λ (v : V). Rose (look old.volume).faults (look v).faults)
-            (sym made.volume) (device is);
-        runs = λ is. runs;
-        kept = made.kept;
-        operator = made.operator ∙ ap (λ (d : DeskState V O). d.operator) wrote.same;
-        older = made.stays.older ∙ ap (λ (d : DeskState V O). d.older) wrote.same;
-        log_pages = made.stays.log_pages ∙ ap (λ (g : Ground). g.log.pages) wrote.ground;
-        opened = made.stays.opened ∙ ap (λ (d : DeskState V O). d.opened) wrote.same;
-        first_copy = made.stays.first_copy ∙ ap (λ (d : DeskState V O). d.first_copy) wrote.same;
-        old_same =
-            made.stays.old_same ∙ ap (λ (g : Ground). take mid.opened g.log.records) wrote.ground
-            ∙ ap (λ (n : ℕ). take n old.ground.log.records)
-            (ap (λ (d : DeskState V O). d.opened) wrote.same);
-      };
-      only = (
-        runs,
-        subst (λ (v : V). CallsOwn (other_of old.copy) (look old.volume) (look v)) (sym made.volume)
-            wrote.calls,
-      );
-    }
+    acts_made mid new event items runs wrote next left from device quiet tells space told made =
+        record {
+          event = event;
+          told = told;
+          next = next;
+          loads = record {
+            space = space;
+            shows =
+                shows_step old.down old.stage new.stage old.changes old.covered answer event
+                old.copy
+                new.copy (made.stays.copy ∙ copy) next
+                (subst
+                (λ (d : DeskState V O). FollowsBy d.down d.stage d.changes d.covered (Some answer)
+                event
+                new.stage) wrote.same made.follows);
+          };
+          made = record {
+            calls = made.calls;
+            made = made.made
+                ∙ ap (λ (es : List Entry). es ++ utility_entry event (Some answer) made.calls ∷ [])
+                (ap (λ (d : DeskState V O). d.trace) wrote.same);
+            counted = made.counted;
+            copy = made.stays.copy ∙ copy ∙ sym left;
+            ring = made.stays.ring ∙ ap (λ (d : DeskState V O). d.ring) wrote.same;
+            to = from;
+            capacity = inl (made.stays.capacity ∙ ap (λ (g : Ground). g.capacity) wrote.ground);
+            down = λ down.
+                inl (sym (ap (λ (d : DeskState V O). d.down) wrote.same) ∙ sym made.down ∙ down);
+            device = λ is. subst (λ (v : V). Rose (look old.volume).faults (look v).faults)
+                (sym made.volume) (device is);
+            quiet = λ is. made.volume ∙ quiet is;
+            told = tells;
+            runs = λ is. runs;
+            kept = made.kept;
+            operator = made.operator ∙ ap (λ (d : DeskState V O). d.operator) wrote.same;
+            older = made.stays.older ∙ ap (λ (d : DeskState V O). d.older) wrote.same;
+            log_pages = made.stays.log_pages ∙ ap (λ (g : Ground). g.log.pages) wrote.ground;
+            opened = made.stays.opened ∙ ap (λ (d : DeskState V O). d.opened) wrote.same;
+            first_copy =
+                made.stays.first_copy ∙ ap (λ (d : DeskState V O). d.first_copy) wrote.same;
+            old_same =
+                made.stays.old_same
+                ∙ ap (λ (g : Ground). take mid.opened g.log.records) wrote.ground
+                ∙ ap (λ (n : ℕ). take n old.ground.log.records)
+                (ap (λ (d : DeskState V O). d.opened) wrote.same);
+          };
+          only = (
+            runs,
+            subst (λ (v : V). CallsOwn (other_of old.copy) (look old.volume) (look v))
+                (sym made.volume)
+                wrote.calls,
+          );
+        }
       where
         copy : mid.copy ≡ old.copy
         copy = ap (λ (d : DeskState V O). d.copy) wrote.same
@@ -271,23 +278,24 @@ module _ {V O : Type 0} (look : V → VolumeSeen) where
     pub acts_booked : (mid new : DeskState V O) (event : Event) → is_some old.stage ≡ true
         → Writes look old mid → IsNextStep old (Some answer) event → is_booked event ≡ true
         → (is_device_stop event ≡ true → Rose (look old.volume).faults (look mid.volume).faults)
+        → (may_call event ≡ false → mid.volume ≡ old.volume) → TellsCopy look old new event
         → Space event → IsAsMade made_of old.stage taken event
         → MadeStep look mid (Some answer) event [] new → Acts look old answer made_of taken new
-    acts_booked mid new event runs wrote next booked device space told made =
+    acts_booked mid new event runs wrote next booked device quiet tells space told made =
         acts_made mid new event [] runs wrote
         (next_booked old.down old.stage old.changes old.covered answer event next)
-        (booked_left old.copy event booked) (booked_from old.copy event booked) device space told
-        made
+        (booked_left old.copy event booked) (booked_from old.copy event booked) device quiet tells
+        space told made
 
     -- a page was copied
     pub acts_copied : (mid new : DeskState V O) (page rows : ℕ) → is_some old.stage ≡ true
-        → Writes look old mid
+        → Writes look old mid → mid.volume ≡ old.volume
         → NextMade old.down old.stage old.changes old.covered (Some answer)
         (events.Unload page rows)
         → MadeCopy look mid answer page rows new → Acts look old answer made_of taken new
-    acts_copied mid new page rows runs wrote next made =
+    acts_copied mid new page rows runs wrote still next made =
         acts_made mid new (events.Unload page rows) (PageCopy page made.position made.copied ∷ [])
-        runs wrote next refl tt (λ is. absurd (cc (is)))
+        runs wrote next refl tt (λ is. absurd (cc (is))) (λ is. still) tt
         (space_any old.stage (copy_capacity (look old.volume).capacities (other_of old.copy))
         (weigh_feed old.feed) (events.Unload page rows) (λ s. tt)) tt made.made
 
@@ -317,6 +325,15 @@ module _ {V O : Type 0} (look : V → VolumeSeen) where
         capacity = inr made.capacity;
         down = λ down. absurd (cc (down, made.down));
         device = λ is. absurd (cc (is));
+        quiet = λ is. absurd (cc (is));
+        told = record {
+          shadow = made.shadow;
+          shadow_is = made.shadow_is;
+          taken = made.taken;
+          reads = made.reads;
+          old_side = made.old_side;
+          new_side = made.new_side;
+        };
         runs = λ is. runs;
         kept = made.stays.kept;
         operator = made.stays.operator;
@@ -357,6 +374,8 @@ module _ {V O : Type 0} (look : V → VolumeSeen) where
         capacity = inl made.capacity;
         down = λ down. inr made.device;
         device = λ is. made.device;
+        quiet = λ is. absurd (cc (is));
+        told = tt;
         runs = λ is. runs;
         kept = made.stays.kept;
         operator = made.stays.operator;

@@ -229,9 +229,9 @@ can_commit {V} {O} desk s answer sides stage_is makes are = record {
   current = are.current.current;
   claims = are.claims;
   as_written = are.as_written;
-  as_kept =
-      (subst (λ (o : Option PreparedSeen). IfSome o (IsNewSide sides.new)) are.current.shadow_is
-      are.are.new).0;
+  old_side = are.are.old;
+  new_side = subst (λ (o : Option PreparedSeen). IfSome o (IsNewSide sides.new))
+      are.current.shadow_is are.are.new;
   right = are.are.right;
   quiet = are.quiet;
   packed = are.packed;

@@ -1,22 +1,32 @@
 -- What an event tells of the new copy is what is made of it.
 use Rattle.std.proofs.Common.{◌≡◌, inl, inr, ◌⊎◌, ℕ, Bool, true, false, Option, Some, None}
-use Rattle.std.proofs.Common.{if◌then◌else◌, sym, subst}
-use Rattle.std.specs.Prelude.{IfOk, OnOk, Ok, Err, is_err}
+use Rattle.std.proofs.Common.{if◌then◌else◌, [], refl, sym, ◌∙◌, ap, subst}
+use Rattle.std.specs.Prelude.{IfOk, OnOk, Ok, Err}
 use Rattle.std.specs.declared.result.Result.{Result}
 use Rattle.rg_base.specs.declared.control.Answer.{Answer}
+use Rattle.rg_base.specs.declared.options.DrainFor.{DrainFor}
+use Rattle.rg_base.specs.declared.options.DrainFor.TheVariants as what
 use Rattle.rg_base.specs.declared.session.Session.{Session}
+use Rattle.rg_base.specs.declared.step.Step.TheVariants as steps
+use Rattle.rg_desk.specs.Desk.{DeskState, MadeStep}
+use Rattle.rg_engine.specs.Prepared.{while_running}
 use Rattle.rg_feed.specs.declared.fold.item.Stage.{Stage}
-use Rattle.rg_model.specs.Turn.{Turn, is_term, turn_of}
+use Rattle.rg_model.specs.State.{Utility}
+use Rattle.rg_model.specs.Turn.{Turn, alter, drain_after_write, is_term, turn_of}
+use Rattle.rg_outside.specs.Volume.{VolumeSeen}
 use Rattle.rg_reload.specs.declared.fault.ReloadFault.{ReloadFault}
 use Rattle.rg_reload.specs.declared.packer.Filled.{Filled}
 use Rattle.rg_shadow.specs.declared.fault.ShadowFault.{ShadowFault}
+use Rattle.rg_rules.specs.Stage.Followed.{Followed}
 use Rattle.rg_rules.specs.Stage.NumbersOf.{numbers_of}
 use Rattle.rg_stmt.specs.declared.event.Event.{Event}
 use Rattle.rg_stmt.specs.declared.event.Event.TheVariants as events
-use Rattle.rg_laws_utility.specs.TraceStage.Tending.{is_plain}
+use Rattle.rg_laws_utility.specs.TraceStage.Tending.{FollowsBy, is_booked, is_plain}
 use Rattle.rg_phase.specs.Made.{IsAsMade, IsFilled}
-use Rattle.rg_phase.specs.Working.{IsEventOrStop, IsOver, IsPageOf}
+use Rattle.rg_phase.specs.Step.{KeepsWritten, TellsCopy}
+use Rattle.rg_phase.specs.Working.{IsEventOrStop, IsOver, IsPageOf, MakesStep, Writes, is_filling}
 use Rattle.rg_phase.specs.declared.made.Made.{Made}
+use Rattle.rg_phase.proofs.Stops.{turn_is}
 
 -- what was made goes with the event; a stop tells nothing
 pub told_or_stop : (m : Made) (o : Option Stage) (s : Stage) (taken : ℕ) (event : Event)
@@ -69,3 +79,74 @@ told_over m o taken all covered answer s (events.Log iteration took left verdict
 told_over m o taken all covered answer s (events.Last took left) over plain =
     absurd (never s.switched (is_term answer.command) _ over plain)
 told_over m o taken all covered answer s event over plain = tt
+
+-- ---- the new copy that is kept
+
+-- an event with which nothing is written and no copy switched tells nothing of it
+pub tells_unfilled : {V O : Type 0} (look : V → VolumeSeen) (old new : DeskState V O)
+    (event : Event) → is_booked event ≡ true → is_filling event ≡ false
+    → TellsCopy look old new event
+tells_unfilled look old new (events.Written pages) booked unfilled = absurd (cc (unfilled))
+tells_unfilled look old new (events.Switched to sides) booked unfilled = absurd (cc (booked))
+tells_unfilled look old new event booked unfilled = tt
+
+-- nor does the stop that stands in its place
+pub tells_or_stop : {V O : Type 0} (look : V → VolumeSeen) (old new : DeskState V O)
+    (event : Event) (made : Result Unit ShadowFault) (result : Event) → is_booked event ≡ true
+    → is_filling event ≡ false → IsEventOrStop event made result → TellsCopy look old new result
+tells_or_stop look old new event made result booked unfilled (inl is) =
+    subst (TellsCopy look old new) (sym is.0)
+    (tells_unfilled look old new event booked unfilled)
+tells_or_stop look old new event made result booked unfilled (inr (inl is)) =
+    subst (TellsCopy look old new) (sym is.0) tt
+tells_or_stop look old new event made result booked unfilled (inr (inr is)) =
+    subst (TellsCopy look old new) (sym is.0) tt
+
+pub tells_page : {V O : Type 0} (look : V → VolumeSeen) (old new : DeskState V O)
+    (made : Result Filled ReloadFault) (event : Event) → IsPageOf made event
+    → TellsCopy look old new event
+tells_page look old new (Ok filled) (events.Written pages) is = absurd is
+tells_page look old new (Err fault) (events.Written pages) is = absurd is
+tells_page look old new (Ok filled) (events.Switched to sides) is = absurd is
+tells_page look old new (Err fault) (events.Switched to sides) is = absurd is
+tells_page look old new made event is = tt
+
+-- the new copy that was written is kept on
+pub written_kept : {V O : Type 0} (look : V → VolumeSeen) (old mid new : DeskState V O) (s : Stage)
+    (answer : Answer) (granted : DrainFor) (pages : ℕ) → MakesStep s answer (steps.Write granted)
+    → old.down ≡ false → old.stage ≡ Some s → Writes look old mid → KeepsWritten pages mid
+    → MadeStep look mid (Some answer) (events.Written pages) [] new → KeepsWritten pages new
+written_kept {V} {O} look old mid new s answer granted pages makes up stage wrote keeps made =
+    let runs = some granted (alter (numbers_of s) answer.command) new.stage
+    (follows (drain_after_write answer.now
+    (record (alter (numbers_of s) answer.command) { written = true; shadow = pages }) s.drain
+    granted) (turn_is s answer (steps.Write granted) makes old.changes old.covered
+    (events.Written pages))) in
+    record {
+      shadow = keeps.shadow;
+      shadow_is =
+          made.shadow ∙ ap (λ (o : Option Stage). while_running o mid.shadow) runs.1
+          ∙ keeps.shadow_is;
+      pages_are = keeps.pages_are;
+    }
+  where
+    follows : FollowsBy false (Some s) old.changes old.covered (Some answer)
+        (events.Written pages) new.stage
+    follows =
+        subst
+        (λ (o : Option Stage). FollowsBy false o old.changes old.covered (Some answer)
+        (events.Written pages) new.stage) stage
+        (subst
+        (λ (b : Bool). FollowsBy b old.stage old.changes old.covered (Some answer)
+        (events.Written pages) new.stage) up
+        (subst
+        (λ (d : DeskState V O). FollowsBy d.down d.stage d.changes d.covered (Some answer)
+        (events.Written pages) new.stage) wrote.same made.follows))
+
+    some : (g : DrainFor) (u : Utility) (o : Option Stage)
+        → Followed
+        (drain_after_write answer.now (record u { written = true; shadow = pages }) s.drain g) o
+        → (t : Stage) × (o ≡ Some t)
+    some what.Writers u None followed = absurd followed
+    some what.All u None followed = absurd followed
+    some g u (Some t) followed = (t, refl)

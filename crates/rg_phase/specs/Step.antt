@@ -3,9 +3,11 @@
 -- 1. The operator is asked once, unless no utility runs or the desk is down. It is told how many
 --    changes are left.
 -- 2. Then one entry is made, with the answer. Its event is the utility's next.
--- 3. SWITCHED makes the other copy the current one.
--- 4. A step of a utility that runs writes no page but those of the log and of the other copy. Else
---    it calls no volume.
+-- 3. SWITCHED makes the other copy the current one. Its pages are those of the new copy that the
+--    desk had kept, and they read so. The layouts are those of the pages before and of these.
+-- 4. A step that writes the new copy, or switches to it, writes no page but those of the log and of
+--    the other copy. No other step calls the volume, nor one where no utility runs. At WRITTEN a
+--    new copy is kept, of as many pages.
 -- 5. STOP DEVICE stands in it only where a call of the volume failed in this step, and only then
 --    does the step bring the desk down.
 -- 6. RELOAD fills a page only where it, and the empty one that is due after it, are among those
@@ -16,13 +18,15 @@
 -- 7. The event tells what is made of the new copy: the rows of a page, a list, an index, or how
 --    many changes.
 use Rattle.std.specs.Prelude.{◌≡◌, ◌⊎◌, ◌++◌, ◌≤◌, ◌<◌, ◌+◌, ◌*◌, ℕ, Bool, true, false, List, []}
-use Rattle.std.specs.Prelude.{◌∷◌, Option, Some, None, IfSome, is_some}
+use Rattle.std.specs.Prelude.{◌∷◌, Option, Some, None, IfSome, is_some, length}
 use Rattle.rg_base.specs.declared.control.Answer.{Answer}
 use Rattle.rg_base.specs.declared.session.Session.{Session}
 use Rattle.rg_base.specs.declared.verdict.StopReason.TheVariants as reasons
 use Rattle.rg_laws_utility.specs.Course.Loading.{IsLoaded, loading_after, loading_of}
-use Rattle.rg_desk.specs.Desk.{DeskState, FeedIs, left_to_take, old_records}
-use Rattle.rg_engine.specs.Flushed.{CallsOwn}
+use Rattle.rg_desk.specs.Desk.{DeskState, FeedIs, HasCopy, left_to_take, old_records}
+use Rattle.rg_engine.specs.Flushed.{CallsOwn, ReadsAll}
+use Rattle.rg_engine.specs.Layouts.{IsSideOf}
+use Rattle.rg_engine.specs.Prepared.{PreparedSeen}
 use Rattle.rg_engine.specs.Volume.{IsCount}
 use Rattle.rg_outside.specs.Volume.{VolumeSeen}
 use Rattle.rg_feed.specs.declared.fold.item.Stage.{Stage}
@@ -30,14 +34,17 @@ use Rattle.rg_image.specs.Rules.{copy_capacity}
 use Rattle.rg_model.specs.Packed.{page_count}
 use Rattle.rg_model.specs.Turn.{turn_of}
 use Rattle.rg_outside.specs.Faults.{Rose}
+use Rattle.rg_outside.specs.Moments.{IfTold}
 use Rattle.rg_outside.specs.Told.{AddsAnswer, HandsOver}
+use Rattle.rg_page.specs.Content.{slots_of}
 use Rattle.rg_phase.specs.Made.{IsAsMade}
 use Rattle.rg_phase.specs.declared.made.Made.{Made}
 use Rattle.rg_laws_utility.specs.CopyWeight.Weighed.{weigh_feed}
 use Rattle.rg_rules.specs.Stage.NumbersOf.{numbers_of}
 use Rattle.rg_stmt.specs.declared.event.Event.{Event}
 use Rattle.rg_stmt.specs.declared.event.Event.TheVariants as events
-use Rattle.rg_base.specs.Copies.{other_of}
+use Rattle.rg_stmt.specs.declared.layout.Sides.{Sides}
+use Rattle.rg_base.specs.Copies.{other_of, set_of}
 use Rattle.rg_laws_utility.specs.TraceStage.Tending.{is_booked, utility_entry}
 
 -- STOP DEVICE
@@ -81,6 +88,37 @@ abbrev pub IsSwitchFrom : (copy : ℕ) → Event → Type 0
 IsSwitchFrom copy (events.Switched to sides) = to ≡ other_of copy
 IsSwitchFrom copy event = Unit {0}
 
+-- a new copy of so many pages is kept
+pub record KeepsWritten {V O : Type 0} (pages : ℕ) (desk : DeskState V O) : Type 0 where
+  pub shadow : PreparedSeen
+  pub shadow_is : desk.shadow ≡ Some shadow
+  pub pages_are : length shadow.shade.pages ≡ pages
+
+-- The desk turned to the new copy that it had kept, whose pages read as they are in memory. The
+-- layouts are those of the pages before and of these.
+pub record Switches {V O : Type 0} (look : V → VolumeSeen) (old : DeskState V O) (sides : Sides)
+    (new : DeskState V O) : Type 0 where
+  pub shadow : PreparedSeen
+  pub shadow_is : old.shadow ≡ Some shadow
+  pub taken : HasCopy new shadow
+  pub reads : IfTold (look new.volume).told (ReadsAll (set_of new.copy) new.contents)
+  pub old_side : IsSideOf old.ground.pages sides.old
+  pub new_side : IsSideOf (slots_of new.contents) sides.new
+
+-- what an event tells of the new copy that is kept
+abbrev pub TellsCopy :
+    {V O : Type 0} → (look : V → VolumeSeen) → (old new : DeskState V O) → Event → Type 0
+TellsCopy look old new (events.Written pages) = KeepsWritten pages new
+TellsCopy look old new (events.Switched to sides) = Switches look old sides new
+TellsCopy look old new event = Unit {0}
+
+-- the volume may be called for this event
+abbrev pub may_call : Event → Bool
+may_call (events.Written pages) = true
+may_call (events.Switched to sides) = true
+may_call (events.Stop reasons.Device) = true
+may_call event = false
+
 -- One entry was made, with this event and answer, and the number of calls up to it.
 pub record Makes {V O : Type 0} (look : V → VolumeSeen) (old : DeskState V O)
     (answer : Option Answer) (event : Event) (new : DeskState V O) : Type 0 where
@@ -99,6 +137,8 @@ pub record Makes {V O : Type 0} (look : V → VolumeSeen) (old : DeskState V O)
       → (old.down ≡ true) ⊎ Rose (look old.volume).faults (look new.volume).faults
   pub device :
       is_device_stop event ≡ true → Rose (look old.volume).faults (look new.volume).faults
+  pub quiet : may_call event ≡ false → new.volume ≡ old.volume
+  pub told : TellsCopy look old new event
   pub runs : is_some new.stage ≡ true → is_some old.stage ≡ true
   pub kept : new.kept ≡ None
   pub operator : new.operator ≡ old.operator

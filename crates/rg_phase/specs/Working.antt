@@ -81,9 +81,10 @@ pub record IsReloadEvent (stage : Stage) (event : Event) : Type 0 where
       stage.drain event)
       ≡ true
 
--- a page is filled with the event, or there is none for it
+-- a page is filled with the event, or there is none for it, or the new copy is written
 abbrev pub is_filling : Event → Bool
 is_filling (events.Reload page rows) = true
+is_filling (events.Written pages) = true
 is_filling (events.Stop reasons.NoSpace) = true
 is_filling event = false
 

@@ -28,7 +28,7 @@ ghost use Rattle.rg_feed.specs.Ends.{Received};
 ghost use Rattle.rg_feed.specs.declared.fold.item.Item.{Item};
 ghost use Rattle.rg_phase.specs.Made.{HasMade, Hears, IsAsMade, IsAt, IsFilled, KeepsWorks, Works};
 ghost use Rattle.rg_phase.specs.declared.made.Made.{Made};
-ghost use Rattle.rg_phase.specs.Step.{Acts, Stepped};
+ghost use Rattle.rg_phase.specs.Step.{Acts, KeepsWritten, Stepped};
 ghost use Rattle.rg_phase.specs.Working.{AreSidesToSwitch, IsOver, MakesStep, Writes, is_filling};
 ghost use Rattle.rg_phase.specs.declared.made.Made.TheVariants.{Nothing};
 ghost use Rattle.rg_laws_utility.specs.CopyWeight.Weighed.{weigh_feed};
@@ -426,8 +426,10 @@ impl Reorg {
         requires hears { Hears desk.old inlet.now }
         requires works { Works self.old.made desk.old.shadow inlet.now desk.old.feed }
         ensures writes { Writes V.seen desk.old desk.new }
+        ensures kept { IfOk result (λ pages. KeepsWritten pages desk.new) }
         ensures device { result ≡ Err PrepareCause.Device
             → Rose (V.seen desk.old.volume).faults (V.seen desk.new.volume).faults }
+        ensures none { result ≡ Err PrepareCause.NoMemory → desk.new.volume ≡ desk.old.volume }
         ensures works { Works self.new.made desk.new.shadow inlet.now desk.new.feed }
     {
         let draft = match mem::replace(&mut self.made, Made::Nothing) {

@@ -222,6 +222,11 @@ module _ (old mid : VolumeSeen) (log : Listed) (quiet : CallsQuiet old mid)
                   takes = is.1;
                   pages = finds.rules;
                 }) both;
+            marked =
+                subst
+                (λ (ms : List (Option Position)). IfTold new.told
+                (λ t. MarksBase log.records (read_of t.first t.calls) ms)) (sym finds.marks_are)
+                marked;
             leaves = leaves_more new _ _ log found.log finds.took
                 (opened_leaves old new log quiet_new.only pages tidy
                 (λ reads. log_left log.pages log.forced log.records mid.told new.told

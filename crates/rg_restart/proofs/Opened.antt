@@ -31,6 +31,7 @@ use Rattle.rg_laws_crash.proofs.NewestPagesLemmas.Steady.{unnamed_same}
 use Rattle.rg_restart.specs.Found.{Finds}
 use Rattle.rg_restart.specs.Opening.{AreMadeOf, CallsQuiet, Looks, NoneNames, OpensStored}
 use Rattle.rg_restart.specs.Opening.{ReadsSound, StandAsRead}
+use Rattle.rg_restart.specs.Sound.{MarksBase}
 
 -- records that do not name a page leave it as it is
 unnamed_by : (rs : List Record) (x : Content) → NoneNames x.number rs → redone_by rs x ≡ x
@@ -104,8 +105,9 @@ pub opens_stored : {V O : Type 0} (look : V → VolumeSeen) (old : VolumeSeen) (
     (operator : O) (found : Found) (desk : DeskState V O) → Looks old (look volume) found
     → Opens look volume operator found.log found.copy (capacity_in found.space)
     (space_pages found.space) desk
-    → desk.contents ≡ (list_seen (frames_of found.space)).pages → OpensStored look old operator desk
-opens_stored look old volume operator found desk looks opens contents =
+    → desk.contents ≡ (list_seen (frames_of found.space)).pages → desk.marks ≡ found.marks.items
+    → OpensStored look old operator desk
+opens_stored look old volume operator found desk looks opens contents marks_are =
     let log : Listed = looks.log in
     let finds = looks.finds in
     let capacity : ℕ = copy_capacity old.capacities (copy_of log.records) in
@@ -130,6 +132,14 @@ opens_stored look old volume operator found desk looks opens contents =
       calls = subst (λ v. CallsQuiet old (look v)) (sym opens.same) looks.calls;
       base = looks.base;
       sound = subst (λ v. ReadsSound (look v) log.records looks.base) (sym opens.same) sound;
+      marked =
+          subst
+          (λ v. IfTold (look v).told
+          (λ t. MarksBase log.records (read_of t.first t.calls) desk.marks)) (sym opens.same)
+          (subst
+          (λ (ms : List (Option Position)). IfTold (look volume).told
+          (λ t. MarksBase log.records (read_of t.first t.calls) ms)) (sym marks_are)
+          looks.marked);
       made_of = made_of looks.base marks log capacity found finds desk.contents contents;
       as_read =
           subst

@@ -43,7 +43,7 @@ use Rattle.rg_restart.specs.Closed.{TookBack}
 use Rattle.rg_restart.specs.Found.{Finds}
 use Rattle.rg_laws_crash.specs.SoundVolume.Pages.{copy_of, count_of}
 use Rattle.rg_laws_crash.specs.SoundVolume.Sound.{IsSoundBy}
-use Rattle.rg_restart.specs.Sound.{IsDamage}
+use Rattle.rg_restart.specs.Sound.{IsDamage, MarksBase}
 
 -- calls that write nothing
 pub record CallsQuiet (old new : VolumeSeen) : Type 0 where
@@ -92,6 +92,8 @@ pub record Looks (old new : VolumeSeen) (found : Found) : Type 0 where
       Finds base found.marks.items log (copy_capacity old.capacities (copy_of log.records)) found
   pub calls : CallsQuiet old new
   pub sound : ReadsSound new log.records base
+  pub marked :
+      IfTold new.told (λ t. MarksBase log.records (read_of t.first t.calls) found.marks.items)
   pub leaves : LeavesIfTidy new found.log
   pub is_on : IsOnVolume found.copy found.log found.space found.marks.items new
   pub below : IfTold new.told (λ t. WasAllTidy new.capacities t
@@ -119,7 +121,8 @@ StandAsRead read rs pages i =
     → Spells (i (set_of (copy_of read)) p) (page_in (copy_of read) pages p)
 
 -- A desk that was opened over a volume: over its log as it read, to which the undo of open units
--- was appended, and over the pages that this log leaves.
+-- was appended, and over the pages that this log leaves. Its marks are those of the pages that were
+-- read.
 pub record OpensStored {V O : Type 0}
     (look : V → VolumeSeen) (old : VolumeSeen) (operator : O) (desk : DeskState V O) : Type 0
   where
@@ -135,6 +138,9 @@ pub record OpensStored {V O : Type 0}
     pub calls : CallsQuiet old (look desk.volume)
     pub base : List Content
     pub sound : ReadsSound (look desk.volume) log.records base
+    pub marked :
+        IfTold (look desk.volume).told
+        (λ t. MarksBase log.records (read_of t.first t.calls) desk.marks)
     pub made_of : AreMadeOf log.records base now.records desk.contents
     pub as_read :
         IfTold (look desk.volume).told

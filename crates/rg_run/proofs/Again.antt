@@ -13,7 +13,7 @@ use Rattle.rg_engine.specs.Left.{StoresLeft}
 use Rattle.rg_engine.specs.OnVolume.{IsSoundTidy, LeavesSoundIfTidy, WasAllTidy}
 use Rattle.rg_engine.specs.Stored.{IsStored}
 use Rattle.rg_engine.proofs.Flushing.{rose_earlier}
-use Rattle.rg_engine.specs.Volume.{HasCalls, WasTidy}
+use Rattle.rg_engine.specs.Volume.{HasCalls, IsCount, WasTidy}
 use Rattle.rg_outside.specs.Volume.{VolumeSeen}
 use Rattle.rg_desk.specs.declared.desk.OpenCause.{OpenCause}
 use Rattle.rg_desk.specs.declared.desk.OpenCause.TheVariants as causes
@@ -49,8 +49,9 @@ use Rattle.rg_run.specs.Asked.{HasAnswered, answers_in}
 use Rattle.rg_run.specs.Full.{smaller_pages}
 use Rattle.rg_run.specs.Outside.{WritesOwn, end_of}
 use Rattle.rg_outside.specs.Made.{CountsFailed}
-use Rattle.rg_run.specs.Fit.{FailedSince, calls_of_last}
+use Rattle.rg_run.specs.Fit.{CountsAll, FailedSince, calls_of_last}
 use Rattle.rg_run.proofs.Fits.{calls_of_part, failed_after}
+use Rattle.rg_run.proofs.Openings.{found_on, opens_once}
 use Rattle.rg_run.specs.Parts.{Came, DiesIn, EndsUp, Follows, Going, IfAtOpening, IfTidy, IsAlive}
 use Rattle.rg_run.specs.Parts.{IsFailed, IsRun, IsUndamaged, LastPart, LeavesRun, Made, PartRun}
 use Rattle.rg_run.specs.Parts.{RunEnds, RunsFrom, StaysSound}
@@ -142,6 +143,10 @@ module _ {V O : Type 0} {answers : O → Option (List Answer)} (look : V → Vol
   older_same : desk.older ≡ going.base.older
   older_same = going.goes.stays.older
 
+  -- the calls up to the last entry
+  last_calls : calls_of_last 0 all ≡ calls_of_last 0 desk.trace
+  last_calls = calls_of_part 0 going.back desk.older desk.trace going.goes.entries
+
   pages_now : desk.ground.log.pages ≡ log_pages now.capacities
   pages_now =
       going.goes.stays.log_pages ∙ going.log_room ∙ ap log_pages (sym going.goes.stays.capacities)
@@ -174,7 +179,11 @@ module _ {V O : Type 0} {answers : O → Option (List Answer)} (look : V → Vol
     before = going.base.older;
     part = desk.trace;
     joined = ap (λ (older : List Entry). older ++ desk.trace) older_same;
+    once = opens_once going.back desk.trace going.goes.entries going.alive;
     start = ends.start;
+    found = found_on (WritesOwn desk.trace) (look going.base.volume) now
+        (calls_of_last 0 going.base.older) ends.start going.goes.stays.only
+        going.goes.stays.capacities (going.found ends.start starts);
     copy = desk.first_copy;
     run = ends.run;
     is = ends.down_is;
@@ -186,6 +195,10 @@ module _ {V O : Type 0} {answers : O → Option (List Answer)} (look : V → Vol
         (RunsFrom (old_records first) (older ++ desk.trace) last)) (sym older_same)
         (whole_run look first desk lines going last
         (record { start = ends.start; starts = ends.starts; run = ends.run }));
+    counted =
+        told_weaken (λ t. length t.calls ≡ t.start + calls_of_last 0 desk.trace)
+        (λ t. CountsAll t.start t all) now.told
+        (λ t is. ap (λ (n : ℕ). t.start + n) last_calls ∙ sym is) going.goes.counted;
   }
     where
       starts : IsStored (old_records going.base) ends.start
@@ -483,6 +496,10 @@ module _ {V O : Type 0} {answers : O → Option (List Answer)} (look : V → Vol
                 };
               }
 
+      was : IsCount now (calls_of_last 0 next.older)
+      was = subst (IsCount now) (sym (ap (calls_of_last 0) older_is ∙ last_calls))
+          going.goes.counted
+
       pub going_again : Going look answers first (lines ++ Death ∷ []) next
       going_again =
           let opened = opened_first look now operator next opens in
@@ -497,8 +514,8 @@ module _ {V O : Type 0} {answers : O → Option (List Answer)} (look : V → Vol
                 (counted_first look now operator next opens)
                 (omega (arith, capacity, least, ap smaller_pages same)) opens.opens.stage;
             opened = opened;
-            opening = opening_then look now operator next opens;
-            found = found_first look now operator next opens;
+            opening = opening_then look now operator next opens (calls_of_last 0 next.older) was;
+            found = found_first look now operator next opens (calls_of_last 0 next.older) was;
             alive = tt;
             counted = count_has later.told opens.opens.calls opens.opens.counted;
             log_room = pages_first look now operator next opens ∙ ap log_pages (sym same);

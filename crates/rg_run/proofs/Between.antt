@@ -145,7 +145,7 @@ since_out Kind P n old (Some t) f le made all = λ few before was.
 -- ---- the log that was read
 
 -- calls that write nothing leave what reads
-same_reads : (before m : Told) (fresh : List Call)
+pub same_reads : (before m : Told) (fresh : List Call)
     → m ≡ record before { calls = fresh ++ before.calls } → AllByRecursion IsQuiet fresh
     → read_of m.first m.calls ≡ read_of before.first before.calls
 same_reads before m fresh is all = ap (λ (x : Told). read_of x.first x.calls) is

@@ -23,12 +23,12 @@ use Rattle.rg_stmt.specs.declared.event.Entry.{Entry}
 use Rattle.rg_stmt.specs.declared.line.Line.{Line}
 use Rattle.rg_run.specs.Opening.{IsFoundThen, IsOpeningOf}
 use Rattle.rg_run.specs.Outside.{IfBoth, IsEnd, WasUntidy, WritesOwn, log_at}
-use Rattle.rg_model.specs.Legal.{Legal}
 use Rattle.rg_run.specs.Full.{smaller_pages}
-use Rattle.rg_run.specs.Fit.{FailedSince, calls_of_last}
+use Rattle.rg_run.specs.Fit.{CountsAll, FailedSince, calls_of_last}
 use Rattle.rg_laws_utility.specs.Course.OnCourse.{IsOnCourse}
-use Rattle.rg_run.specs.Parts.{AreParts, IfAtOpening, IfTidy, IsAtDeath, IsFailed, IsFound, IsPart}
-use Rattle.rg_run.specs.Parts.{IsRun, IsUndamaged, LastPart, Made, RunEnds, RunsFrom, StaysSound}
+use Rattle.rg_run.specs.Parts.{AreParts, IfAtOpening, IfTidy, IsAtDeath, IsFailed, IsFound}
+use Rattle.rg_run.specs.Parts.{IsLegalPart, IsPart, IsRun, IsUndamaged, LastPart, Made, OpensOnce}
+use Rattle.rg_run.specs.Parts.{RunEnds, RunsFrom, StaysSound}
 use Rattle.rg_run.specs.Played.{TraceOf, first_of}
 use Rattle.rg_run.specs.Table.{Begins, Ends, EndsAt, EndsAtDown, EndsAtOpening, EndsWhole, Finds}
 use Rattle.rg_run.specs.Table.{IfBegunTidy, IsAllowedRun, IsLegalRun, IsOpening, IsRunOnCourse}
@@ -111,6 +111,16 @@ module _ (old new : VolumeSeen) (n : ℕ) (rs : List Record)
       run = runs.run;
     }
 
+    -- the table that an opening found
+    found_out : (m : ℕ) (start : Table) → IsFound counted_seen m start → Finds old new m start
+    found_out m start is =
+        since_out (WritesOwn trace)
+        (λ begun t. IsFoundThen (log_pages old.capacities) begun m t start) n old.told new.told
+        (λ begun count t so. so) le calls
+        (subst
+        (λ (c : Capacities). IfTold (counted new.told n)
+        (λ t. IsFoundThen (log_pages c) t.start m t start)) kept is)
+
     -- the parts, from the tables that the openings found
     parts_out : (J : Table → List Entry → Type 0)
         → ((start : Table) (part : List Entry)
@@ -120,17 +130,8 @@ module _ (old new : VolumeSeen) (n : ℕ) (rs : List Record)
         parts_more (IsStored (old_records first)) (Begins old new) (IsFound counted_seen)
         (Finds old new) (IsPart (3221 * smaller_pages counted_seen.capacities)) J trace
         (λ start starts. begins start
-        (subst (λ (xs : List Record). IsStored xs start) first_is starts)) found h run.made.parts
-      where
-        found : (entry : Entry) (start : Table) → IsFound counted_seen entry start
-            → Finds old new entry start
-        found entry start is =
-            since_out (WritesOwn trace)
-            (λ begun t. IsFoundThen (log_pages old.capacities) begun t entry start) n old.told
-            new.told (λ begun count t so. so) le calls
-            (subst
-            (λ (c : Capacities). IfTold (counted new.told n)
-            (λ t. IsFoundThen (log_pages c) t.start t entry start)) kept is)
+        (subst (λ (xs : List Record). IsStored xs start) first_is starts)) found_out h
+        run.made.parts
 
     pub allowed_out : IsAllowedRun 3221 old new trace
     allowed_out = by_trace trace
@@ -146,10 +147,14 @@ module _ (old new : VolumeSeen) (n : ℕ) (rs : List Record)
         by_trace (e ∷ es) parts = parts
 
     pub course_out : IsRunOnCourse old new trace
-    course_out = by_trace trace (parts_out (λ start part. IsOnCourse part) (λ start part is. is.2))
+    course_out =
+        by_trace trace
+        (parts_out (λ start part. IsOnCourse part × OpensOnce part)
+        (λ start part is. (is.2, is.3)))
       where
         by_trace : (es : List Entry)
-            → AreParts (Begins old new) (Finds old new) (λ start part. IsOnCourse part) es
+            → AreParts (Begins old new) (Finds old new)
+            (λ start part. IsOnCourse part × OpensOnce part) es
             → IsRunOnCourse old new es
         by_trace [] parts = tt
         by_trace (e ∷ es) parts = parts
@@ -160,8 +165,8 @@ module _ (old new : VolumeSeen) (n : ℕ) (rs : List Record)
         made : Made look first run.front trace counted_seen
         made = run.made
 
-        parts : AreParts (Begins old new) (Finds old new) Legal trace
-        parts = parts_out Legal (λ start part is. is.0)
+        parts : AreParts (Begins old new) (Finds old new) IsLegalPart trace
+        parts = parts_out IsLegalPart (λ start part is. (is.0, is.3))
 
         whole : IfBegunTidy old new (λ records. LegalFrom records trace)
         whole =
@@ -171,7 +176,7 @@ module _ (old new : VolumeSeen) (n : ℕ) (rs : List Record)
             (λ runs. legal_whole (old_records first) trace run.front made.count runs.0 made.entries
             made.known made.recorded runs.1) made.tidy)
 
-        by_trace : (es : List Entry) → AreParts (Begins old new) (Finds old new) Legal es
+        by_trace : (es : List Entry) → AreParts (Begins old new) (Finds old new) IsLegalPart es
             → IfBegunTidy old new (λ records. LegalFrom records es) → IsLegalRun old new es
         by_trace [] parts whole = tt
         by_trace (e ∷ es) parts whole = (parts, whole)
@@ -183,7 +188,9 @@ module _ (old new : VolumeSeen) (n : ℕ) (rs : List Record)
       before = part.before;
       part = part.part;
       joined = part.joined;
+      once = part.once;
       start = part.start;
+      found = found_out (calls_of_last 0 part.before) part.start part.found;
       copy = part.copy;
       run = part.run;
       is = part.is;
@@ -191,6 +198,8 @@ module _ (old new : VolumeSeen) (n : ℕ) (rs : List Record)
       whole = λ none. begins part.start
           (subst (λ (xs : List Record). IsStored xs part.start) first_is (part.whole none));
       tidy = begun_tidy (λ records. RunsFrom records trace last) (runs_from last) part.tidy;
+      counted = since_out (WritesOwn trace) (λ start t. CountsAll start t trace) n old.told new.told
+          (λ start count t is. is) le calls part.counted;
     }
 
     all_lines : run.rest ≡ [] → run.front ≡ lines

@@ -1,5 +1,5 @@
 -- What entries tell of the calls stays so over more calls, and goes on by one entry.
-use Rattle.std.proofs.Common.{◌≡◌, ◌≤◌, ◌<◌, ◌+◌, ◌-◌, ◌^◌, ℕ, Bool, true, false, List, [], ◌∷◌}
+use Rattle.std.proofs.Common.{◌≡◌, ◌≤◌, ◌<◌, ◌+◌, ◌-◌, ℕ, Bool, true, false, List, [], ◌∷◌}
 use Rattle.std.proofs.Common.{◌++◌, Option, Some, None, length, drop, refl, sym, ◌∙◌, ap, subst}
 use Rattle.std.proofs.Common.{arith, length-append}
 use Rattle.std.proofs.Math.Seq.{drop-append-add}
@@ -9,27 +9,32 @@ use Rattle.rg_base.specs.declared.control.Answer.{Answer}
 use Rattle.rg_base.specs.declared.options.Options.{Options}
 use Rattle.rg_base.specs.declared.position.Position.{Position}
 use Rattle.rg_base.specs.declared.verdict.StopReason.TheVariants as reasons
-use Rattle.rg_engine.specs.Layouts.{IsLayout}
-use Rattle.rg_engine.specs.Flushed.{FlushIs, WrotePage}
+use Rattle.rg_engine.specs.Steps.{is_commit}
+use Rattle.rg_engine.specs.Layouts.{IsLayout, IsSideOf}
+use Rattle.rg_engine.specs.Flushed.{FlushIs, ReadsAll, WrotePage}
 use Rattle.rg_engine.specs.Volume.{IsCount}
 use Rattle.rg_outside.specs.Volume.{VolumeSeen}
-use Rattle.rg_outside.specs.Calls.{Call, Told, faults_of, is_failed}
+use Rattle.rg_outside.specs.Calls.{Call, Told, faults_of, is_failed, read_of}
 use Rattle.rg_outside.specs.Faults.{Rose}
 use Rattle.rg_outside.specs.Made.{CountsFailed}
 use Rattle.rg_outside.specs.Moments.{EachCall, IfTold, faults_at, moment}
 use Rattle.rg_outside.proofs.Every.{told_both, told_weaken}
-use Rattle.rg_page.specs.Content.{Content, content_at}
+use Rattle.rg_laws_crash.specs.PageVersions.Versions.{Spells}
+use Rattle.rg_page.specs.Content.{Content, content_at, slots_of}
 use Rattle.rg_page.specs.Bytes.PageBytes.{page_bytes}
-use Rattle.rg_phase.specs.Step.{copy_left, is_device_stop}
+use Rattle.rg_phase.specs.Step.{copy_left, is_device_stop, may_call}
 use Rattle.rg_stmt.specs.declared.event.Entry.{Entry}
 use Rattle.rg_stmt.specs.declared.event.Event.{Event}
 use Rattle.rg_stmt.specs.declared.event.Event.TheVariants as events
+use Rattle.rg_stmt.specs.declared.layout.Side.{Side}
+use Rattle.rg_stmt.specs.declared.layout.Sides.{Sides}
 use Rattle.rg_stmt.specs.declared.line.Line.{Line}
 use Rattle.rg_stmt.specs.declared.stmt.Reply.{Reply}
 use Rattle.rg_stmt.specs.declared.stmt.Reply.TheVariants.{Device}
 use Rattle.rg_stmt.specs.declared.stmt.Stmt.{Stmt}
-use Rattle.rg_run.specs.Fit.{FailedSince, FailedThen, FitFrom, FitSince, FitsThen, WroteThen}
-use Rattle.rg_run.specs.Fit.{calls_of_last, copy_after, copy_of_last}
+use Rattle.rg_stmt.specs.declared.stmt.Stmt.TheVariants.{Commit}
+use Rattle.rg_run.specs.Fit.{FailedSince, FailedThen, FitFrom, FitSince, FitsThen, HasSide}
+use Rattle.rg_run.specs.Fit.{WroteThen, calls_of_last, copy_after, copy_of_last}
 use Rattle.rg_run.specs.Played.{IsFlushed, IsOpenedEntry, IsStartEvent, IsStepEvent, TraceOf}
 
 -- what holds of every known volume
@@ -45,14 +50,27 @@ layout_keeps copy (events.Opened opened rows pages used) is k = absurd is
 layout_keeps copy (events.Switched to sides) is k = absurd is
 layout_keeps copy event is k = refl
 
+-- no call was made
+pub no_call : (old new : VolumeSeen) (since calls : ℕ) → IsCount old since → IsCount new calls
+    → new ≡ old → IfTold new.told (λ t. calls ≡ since)
+no_call old new since calls was now same =
+    told_weaken (λ t. (length t.calls ≡ t.start + since) × (length t.calls ≡ t.start + calls))
+    (λ t. calls ≡ since) new.told (λ t both. omega (arith, both.0, both.1))
+    (told_both (λ t. length t.calls ≡ t.start + since) (λ t. length t.calls ≡ t.start + calls)
+    new.told
+    (subst (λ (v : VolumeSeen). IfTold v.told (λ t. length t.calls ≡ t.start + since)) (sym same)
+    was) now)
+
 pub layout_tells : (copy : ℕ) (event : Event) → IsLayout copy event
-    → (k start before calls : ℕ) (t : Told) → FitsThen k start before calls t event
-layout_tells copy (events.Flush page) is k start before calls t = absurd is
-layout_tells copy events.Clean is k start before calls t = absurd is
-layout_tells copy events.FlushDevice is k start before calls t = absurd is
-layout_tells copy (events.Said stmt reply) is k start before calls t = absurd is
-layout_tells copy (events.Stop reason) is k start before calls t = absurd is
-layout_tells copy event is k start before calls t = tt
+    → (k start before calls : ℕ) (t : Told) → calls ≡ before → FitsThen k start before calls t event
+layout_tells copy (events.Flush page) is k start before calls t same = absurd is
+layout_tells copy events.FlushDevice is k start before calls t same = absurd is
+layout_tells copy (events.Said stmt reply) is k start before calls t same = absurd is
+layout_tells copy (events.Stop reason) is k start before calls t same = absurd is
+layout_tells copy (events.Switched to sides) is k start before calls t same = absurd is
+layout_tells copy (events.Written pages) is k start before calls t same = absurd is
+layout_tells copy (events.Opened opened rows pages used) is k start before calls t same = absurd is
+layout_tells copy event is k start before calls t same = same
 
 pub flushed_keeps : (event : Event) → IsFlushed event → (k : ℕ) → copy_after k event ≡ k
 flushed_keeps (events.Opened opened rows pages used) is k = absurd is
@@ -66,13 +84,16 @@ start_keeps options (events.Switched to sides) is k = absurd is
 start_keeps options event is k = refl
 
 pub start_tells : (options : Options) (event : Event) → IsStartEvent options event
-    → (k start before calls : ℕ) (t : Told) → FitsThen k start before calls t event
-start_tells options (events.Flush page) is k start before calls t = absurd is
-start_tells options events.Clean is k start before calls t = absurd is
-start_tells options events.FlushDevice is k start before calls t = absurd is
-start_tells options (events.Said stmt reply) is k start before calls t = absurd is
-start_tells options (events.Stop reason) is k start before calls t = absurd is
-start_tells options event is k start before calls t = tt
+    → (k start before calls : ℕ) (t : Told) → calls ≡ before → FitsThen k start before calls t event
+start_tells options (events.Flush page) is k start before calls t same = absurd is
+start_tells options events.FlushDevice is k start before calls t same = absurd is
+start_tells options (events.Said stmt reply) is k start before calls t same = absurd is
+start_tells options (events.Stop reason) is k start before calls t same = absurd is
+start_tells options (events.Switched to sides) is k start before calls t same = absurd is
+start_tells options (events.Written pages) is k start before calls t same = absurd is
+start_tells options (events.Opened opened rows pages used) is k start before calls t same =
+    absurd is
+start_tells options event is k start before calls t same = same
 
 pub step_copy : (answer : Option Answer) (event : Event) → IsStepEvent answer event → (k : ℕ)
     → copy_after k event ≡ copy_left k event
@@ -80,29 +101,67 @@ step_copy None (events.Opened opened rows pages used) is k = absurd is
 step_copy (Some answer) (events.Opened opened rows pages used) is k = absurd (cc (is))
 step_copy answer event is k = refl
 
+-- the event is no switch, or this holds of it
+abbrev pub IfSwitched : (ℕ → Sides → Type 0) → Event → Type 0
+IfSwitched P (events.Switched to sides) = P to sides
+IfSwitched P event = Unit {0}
+
 pub step_tells : (answer : Option Answer) (event : Event) → IsStepEvent answer event
     → (told : Option Told) (k since calls : ℕ)
     → (is_device_stop event ≡ true → IfTold told (λ t. FailedThen t.start since calls t))
+    → (may_call event ≡ false → IfTold told (λ t. calls ≡ since))
+    → IfSwitched (λ to sides. IfTold told (λ t. HasSide to t.start calls sides.new t)) event
     → IfTold told (λ t. FitsThen k t.start since calls t event)
-step_tells None (events.Flush page) is told k since calls failed = absurd is
-step_tells (Some answer) (events.Flush page) is told k since calls failed = absurd (cc (is))
-step_tells None events.Clean is told k since calls failed = absurd is
-step_tells (Some answer) events.Clean is told k since calls failed = absurd (cc (is))
-step_tells None events.FlushDevice is told k since calls failed = absurd is
-step_tells (Some answer) events.FlushDevice is told k since calls failed = absurd (cc (is))
-step_tells None (events.Said stmt reply) is told k since calls failed = absurd is
-step_tells (Some answer) (events.Said stmt reply) is told k since calls failed = absurd (cc (is))
-step_tells None (events.Stop reasons.Device) is told k since calls failed = absurd is
-step_tells (Some answer) (events.Stop reasons.Device) is told k since calls failed = failed refl
-step_tells answer event is told k since calls failed =
-    told_all told (λ t. FitsThen k t.start since calls t event) (λ t. tt)
+step_tells None (events.Flush page) is told k since calls failed quiet turned = absurd is
+step_tells (Some answer) (events.Flush page) is told k since calls failed quiet turned =
+    absurd (cc (is))
+step_tells None events.FlushDevice is told k since calls failed quiet turned = absurd is
+step_tells (Some answer) events.FlushDevice is told k since calls failed quiet turned =
+    absurd (cc (is))
+step_tells None (events.Said stmt reply) is told k since calls failed quiet turned = absurd is
+step_tells (Some answer) (events.Said stmt reply) is told k since calls failed quiet turned =
+    absurd (cc (is))
+step_tells None (events.Stop reasons.Device) is told k since calls failed quiet turned = absurd is
+step_tells (Some answer) (events.Stop reasons.Device) is told k since calls failed quiet turned =
+    failed refl
+step_tells answer (events.Switched to sides) is told k since calls failed quiet turned = turned
+step_tells answer (events.Written pages) is told k since calls failed quiet turned =
+    told_all told (λ t. FitsThen k t.start since calls t (events.Written pages)) (λ t. tt)
+step_tells None (events.Opened opened rows pages used) is told k since calls failed quiet turned =
+    absurd is
+step_tells (Some answer) (events.Opened opened rows pages used) is told k since calls failed quiet
+    turned = absurd (cc (is))
+step_tells answer event is told k since calls failed quiet turned = quiet refl
+
+-- what the switch leaves reads so
+pub switched_then : (to calls : ℕ) (side : Side) (contents : List Content) (seen : VolumeSeen)
+    → IsCount seen calls → IfTold seen.told (ReadsAll (set_of to) contents)
+    → IsSideOf (slots_of contents) side
+    → IfTold seen.told (λ t. HasSide to t.start calls side t)
+switched_then to calls side contents seen count reads is =
+    told_weaken (λ t. (length t.calls ≡ t.start + calls) × ReadsAll (set_of to) contents t)
+    (λ t. HasSide to t.start calls side t) seen.told
+    (λ t both.
+    let all : length t.calls - (t.start + calls) ≡ 0 = omega (arith, both.0) in
+    record {
+      high = omega (arith, both.0);
+      pages = contents;
+      side_is = is;
+      reads = λ p one high.
+          subst
+          (λ (n : ℕ). Spells (read_of t.first (drop n t.calls) (set_of to) p)
+          (content_at contents p)) (sym all) (both.1 p one high);
+    }) (told_both (λ t. length t.calls ≡ t.start + calls) (ReadsAll (set_of to) contents) seen.told
+    count reads)
 
 pub said_tells : (stmt : Stmt) (reply : Reply) (told : Option Told) (k since calls : ℕ)
     → (reply ≡ Device → IfTold told (λ t. FailedThen t.start since calls t))
+    → (is_commit stmt ≡ false → IfTold told (λ t. calls ≡ since))
     → IfTold told (λ t. FitsThen k t.start since calls t (events.Said stmt reply))
-said_tells stmt Device told k since calls failed = failed refl
-said_tells stmt reply told k since calls failed =
-    told_all told (λ t. FitsThen k t.start since calls t (events.Said stmt reply)) (λ t. tt)
+said_tells stmt Device told k since calls failed quiet = failed refl
+said_tells Commit reply told k since calls failed quiet =
+    told_all told (λ t. FitsThen k t.start since calls t (events.Said Commit reply)) (λ t. tt)
+said_tells stmt reply told k since calls failed quiet = quiet refl
 
 -- ---- parts
 
@@ -199,14 +258,26 @@ event_on copy start since calls before fresh (events.Flush page) is =
       rest = is.rest;
       last = calls_then before fresh (start + calls) is.high ∙ is.last;
     }
-event_on copy start since calls before fresh events.Clean is = is
 event_on copy start since calls before fresh events.FlushDevice is =
     failed_on start since calls before fresh is
 event_on copy start since calls before fresh (events.Said stmt Device) is =
     failed_on start since calls before fresh is
 event_on copy start since calls before fresh (events.Stop reasons.Device) is =
     failed_on start since calls before fresh is
-event_on copy start since calls before fresh event is = tt
+event_on copy start since calls before fresh (events.Switched to sides) is =
+    let high = is.high in
+    let longer = length-append fresh before.calls in
+    record {
+      high = omega (arith, high, longer);
+      pages = is.pages;
+      side_is = is.side_is;
+      reads = λ p one low.
+          subst
+          (λ (cs : List Call). Spells (read_of before.first cs (set_of to) p)
+          (content_at is.pages p)) (sym (calls_then before fresh (start + calls) is.high))
+          (is.reads p one low);
+    }
+event_on copy start since calls before fresh event is = is
 
 each_on : (copy start since : ℕ) (before : Told) (fresh : List Call) (trace : List Entry)
     → FitFrom copy start since before trace
@@ -235,14 +306,15 @@ recounted_event : (copy start since calls count : ℕ) (t : Told) (event : Event
     → FitsThen copy start since calls t event
 recounted_event copy start since calls count t (events.Flush page) is =
     record { high = is.high; since = is.since; bytes = is.bytes; rest = is.rest; last = is.last }
-recounted_event copy start since calls count t events.Clean is = is
 recounted_event copy start since calls count t events.FlushDevice is =
     record { high = is.high; since = is.since; failed = is.failed }
 recounted_event copy start since calls count t (events.Said stmt Device) is =
     record { high = is.high; since = is.since; failed = is.failed }
 recounted_event copy start since calls count t (events.Stop reasons.Device) is =
     record { high = is.high; since = is.since; failed = is.failed }
-recounted_event copy start since calls count t event is = tt
+recounted_event copy start since calls count t (events.Switched to sides) is =
+    record { high = is.high; pages = is.pages; side_is = is.side_is; reads = is.reads }
+recounted_event copy start since calls count t event is = is
 
 pub recounted : (copy start since count : ℕ) (t : Told) (trace : List Entry)
     → FitFrom copy start since (record t { start = count }) trace → FitFrom copy start since t trace
@@ -365,22 +437,17 @@ pub flush_then : (Kind : Call → Type 0) (down : Bool) (copy : ℕ) (contents :
     → FlushIs down copy contents marks later old new event
     → IfTold new.told (λ t. FitsThen copy t.start since calls t event)
 flush_then Kind true copy contents marks later old new since calls event made was now failed is =
-    told_all new.told (λ t. FitsThen copy t.start since calls t event)
-    (λ t. subst (FitsThen copy t.start since calls t) (sym is.0) tt)
+    told_weaken (λ t. calls ≡ since) (λ t. FitsThen copy t.start since calls t event) new.told
+    (λ t same. subst (FitsThen copy t.start since calls t) (sym is.0) same)
+    (no_call old new since calls was now is.1)
 flush_then Kind false copy contents marks later old new since calls (events.Flush page) made was now
     failed is = wrote_then Kind copy page since calls (content_at contents page) old.told new.told
     made was now is.2
 flush_then Kind false copy contents marks later old new since calls events.Clean made was now failed
-    is =
-    told_weaken (λ t. (length t.calls ≡ t.start + since) × (length t.calls ≡ t.start + calls))
-    (λ t. calls ≡ since) new.told (λ t both. omega (arith, both.0, both.1))
-    (told_both (λ t. length t.calls ≡ t.start + since) (λ t. length t.calls ≡ t.start + calls)
-    new.told
-    (subst (λ (v : VolumeSeen). IfTold v.told (λ t. length t.calls ≡ t.start + since)) (sym is.1)
-    was) now)
+    is = no_call old new since calls was now is.1
 flush_then Kind false copy contents marks later old new since calls events.FlushDevice made was now
-    failed is = failed is
+    failed is = failed is.0
 flush_then Kind false copy contents marks later old new since calls events.FlushNoMemory made was
-    now failed is = told_all new.told (λ t. Unit {0}) (λ t. tt)
+    now failed is = no_call old new since calls was now is.0
 flush_then Kind false copy contents marks later old new since calls event made was now failed is =
     absurd is

@@ -27,7 +27,7 @@ use Rattle.rg_phase.specs.Step.{HasPagesFor}
 use Rattle.rg_laws_utility.specs.CopyWeight.Weighed.{weigh_feed}
 use Rattle.rg_stmt.specs.declared.event.Entry.{Entry}
 use Rattle.rg_stmt.specs.declared.event.Event.{Event}
-use Rattle.rg_stmt.specs.declared.event.Event.TheVariants.{Opened, Said, Stop}
+use Rattle.rg_stmt.specs.declared.event.Event.TheVariants.{Said, Stop}
 use Rattle.rg_stmt.specs.declared.event.Event.TheVariants as events
 use Rattle.rg_stmt.specs.declared.stmt.Reply.{Reply}
 use Rattle.rg_stmt.specs.declared.stmt.Reply.TheVariants.{Done, Found, Listed, Keyed, Absent}
@@ -84,7 +84,7 @@ all_less less more loading past st a (e ∷ entries) le all = (
 part_less : (less more : ℕ) (start : Table) (part : List Entry) → less ≤ more
     → IsPart more start part → IsPart less start part
 part_less less more start part le is =
-    (is.0, all_less less more None [] (first_state start) no_account part le is.1, is.2)
+    (is.0, all_less less more None [] (first_state start) no_account part le is.1, is.2, is.3)
 
 pub run_less : (less more : ℕ) (old new : VolumeSeen) (trace : List Entry)
     → less * smaller_pages old.capacities ≤ more * smaller_pages old.capacities
@@ -93,7 +93,7 @@ run_less less more old new [] le all = tt
 run_less less more old new (e ∷ entries) le all =
     let n : ℕ = smaller_pages old.capacities in
     parts_more (Begins old new) (Begins old new) (Finds old new) (Finds old new) (IsPart (more * n))
-    (IsPart (less * n)) (e ∷ entries) (λ start is. is) (λ entry start is. is)
+    (IsPart (less * n)) (e ∷ entries) (λ start is. is) (λ calls start is. is)
     (λ start part is. part_less (less * n) (more * n) start part le is) all
 
 -- ---- events

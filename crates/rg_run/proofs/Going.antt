@@ -12,7 +12,6 @@ use Rattle.rg_desk.specs.Chronicle.{IsEntry, IsRecorded}
 use Rattle.rg_desk.specs.Desk.{DeskState, LegalFrom, old_records}
 use Rattle.rg_desk.proofs.DeskGoes.{same_table}
 use Rattle.rg_base.specs.Copies.{IsCopy}
-use Rattle.rg_base.proofs.Each.{Each-append}
 use Rattle.rg_engine.specs.OnVolume.{IsTidyVolume, WasAllTidy}
 use Rattle.rg_engine.specs.Stored.{IsStored}
 use Rattle.rg_engine.specs.Volume.{HasCalls}
@@ -35,12 +34,12 @@ use Rattle.rg_outside.proofs.Frame.{calls_join, calls_weaken}
 use Rattle.rg_record.specs.declared.record.Record.{Record}
 use Rattle.rg_stmt.specs.declared.event.Entry.{Entry}
 use Rattle.rg_stmt.specs.declared.line.Line.{Line}
-use Rattle.rg_run.specs.Fit.{FitSince}
+use Rattle.rg_run.specs.Fit.{FitSince, calls_of_last}
 use Rattle.rg_run.specs.Full.{smaller_pages}
 use Rattle.rg_run.specs.LogFull.{IsLogFullOnlyFrom}
 use Rattle.rg_run.specs.Space.{AreForSpace}
 use Rattle.rg_run.proofs.Spaces.{space_join}
-use Rattle.rg_run.specs.Opening.{AreOpeningsSince, IfOpened, IsOpeningThen}
+use Rattle.rg_run.specs.Opening.{AreOpeningsFrom, AreOpeningsSince, IsOpeningThen}
 use Rattle.rg_run.specs.Outside.{IsDeviceOnlyIf, WritesOwn}
 use Rattle.rg_laws_utility.proofs.CourseLemmas.OnCourse.{on_course}
 use Rattle.rg_run.specs.Parts.{Again, AreParts, Came, Follows, Going, IfTidy, IsFound, IsKnown}
@@ -50,8 +49,8 @@ use Rattle.rg_run.specs.Played.{Goes, TraceOf, first_of}
 use Rattle.rg_run.proofs.Joins.{device_join, first_join, log_join, own_left, own_right, run_again}
 use Rattle.rg_run.proofs.Joins.{trace_join}
 use Rattle.rg_run.proofs.Fits.{fit_join, fit_on}
-use Rattle.rg_run.proofs.Openings.{found_by, found_on, openings_on, part_opened}
-use Rattle.rg_run.proofs.Openings.{parts_more}
+use Rattle.rg_run.proofs.Openings.{found_on, openings_join, openings_on, opens_once}
+use Rattle.rg_run.proofs.Openings.{part_opened, parts_more}
 use Rattle.rg_run.proofs.Plays.{device_more, rose_later}
 
 -- ---- tables
@@ -203,7 +202,7 @@ made_on look first lines trace now later made n has calls le same = record {
       parts_more (IsStored (old_records first)) (IsStored (old_records first)) (IsFound now)
       (IsFound later) (IsPart (3221 * smaller_pages now.capacities))
       (IsPart (3221 * smaller_pages later.capacities)) trace (λ start starts. starts)
-      (λ entry start found. found_on (WritesOwn trace) now later entry start calls same found)
+      (λ n start found. found_on (WritesOwn trace) now later n start calls same found)
       (λ start part is. subst (λ (c : Capacities). IsPart (3221 * smaller_pages c) start part)
       (sym same) is) made.parts;
   tidy = tidy_on (WritesOwn trace) ((last : State) × RunsFrom (old_records first) trace last) now
@@ -223,7 +222,8 @@ made_on look first lines trace now later made n has calls le same = record {
   openings =
       subst (λ (c : Capacities). IfTold later.told (λ t. AreOpeningsSince c t.start t trace))
       (sym same)
-      (openings_on (WritesOwn trace) now.capacities now.told later.told trace calls made.openings);
+      (openings_on (WritesOwn trace) now.capacities now.told later.told 0 trace calls
+      made.openings);
   fit = fit_on (WritesOwn trace) now.told later.told 0 0 trace calls made.fit;
 }
 
@@ -251,14 +251,17 @@ module _ {V O : Type 0} {answers : O → Option (List Answer)} (look : V → Vol
 
   -- the one opening of the part, as it was then
   base_opening : IfTold (look base.volume).told
-      (λ t. AreOpeningsSince (look base.volume).capacities t.start t desk.trace)
+      (λ t. AreOpeningsFrom (look base.volume).capacities t.start (calls_of_last 0 base.older) t
+      desk.trace)
   base_opening =
-      told_weaken (λ t. IsOpeningThen (look base.volume).capacities t.start t going.opened.entry)
-      (λ t. AreOpeningsSince (look base.volume).capacities t.start t desk.trace)
-      (look base.volume).told
+      told_weaken
+      (λ t. IsOpeningThen (look base.volume).capacities t.start (calls_of_last 0 base.older) t
+      going.opened.entry)
+      (λ t. AreOpeningsFrom (look base.volume).capacities t.start (calls_of_last 0 base.older) t
+      desk.trace) (look base.volume).told
       (λ t opening.
-      part_opened (IsOpeningThen (look base.volume).capacities t.start t) going.back desk.trace
-      going.opened.entry goes.entries begun going.alive opening)
+      part_opened (look base.volume).capacities t.start (calls_of_last 0 base.older) t going.back
+      desk.trace going.opened.entry goes.entries begun going.alive opening)
       going.opening
 
   -- openings up to then stay so
@@ -270,7 +273,7 @@ module _ {V O : Type 0} {answers : O → Option (List Answer)} (look : V → Vol
       subst (λ (c : Capacities). IfTold now.told (λ t. AreOpeningsSince c t.start t trace))
       (sym same_capacities)
       (openings_on (WritesOwn desk.trace) (look base.volume).capacities (look base.volume).told
-      now.told trace part_calls all)
+      now.told 0 trace part_calls all)
 
   part_log : IsLogFullOnlyFrom (limit_of (log_pages now.capacities)) 0 desk.trace
   part_log = subst (λ (n : ℕ). IsLogFullOnlyFrom (limit_of n) 0 desk.trace)
@@ -334,6 +337,7 @@ module _ {V O : Type 0} {answers : O → Option (List Answer)} (look : V → Vol
       legal.2,
       goes.full legal.0 legal.1,
       on_course part.start desk.first_copy desk.trace last part.run,
+      opens_once going.back desk.trace goes.entries going.alive,
     )
 
     starts_first : base ≡ first → IsStored (old_records first) legal.0
@@ -380,7 +384,10 @@ module _ {V O : Type 0} {answers : O → Option (List Answer)} (look : V → Vol
               (subst
               (λ (es : List Entry). IfTold (look base.volume).told
               (λ t. AreOpeningsSince (look base.volume).capacities t.start t es)) only
-              base_opening);
+              (subst
+              (λ (older : List Entry). IfTold (look base.volume).told
+              (λ t. AreOpeningsFrom (look base.volume).capacities t.start (calls_of_last 0 older) t
+              desk.trace)) alone base_opening));
           fit = subst (λ (es : List Entry). IfTold now.told (λ t. FitSince t.start t es)) only
               goes.fit;
         }
@@ -397,8 +404,8 @@ module _ {V O : Type 0} {answers : O → Option (List Answer)} (look : V → Vol
           begins = first_join again.front base.older desk.trace past.entries ∙ past.begins;
           known = known_join base.older past.known;
           parts = Next base.older desk.trace legal.0 parts_before
-              (found_by (IsFound now) desk.trace going.opened.entry legal.0 begun
-              (found_now going.opened.entry legal.0 (going.found legal.0 starts_base))) is_part;
+              (found_now (calls_of_last 0 base.older) legal.0 (going.found legal.0 starts_base))
+              is_part;
           tidy = tidy_now;
           count = count;
           recorded = recorded;
@@ -427,10 +434,10 @@ module _ {V O : Type 0} {answers : O → Option (List Answer)} (look : V → Vol
           fit = fit_joined;
         }
       where
-        found_now : (entry : Entry) (start : Table) → IsFound (look base.volume) entry start
-            → IsFound now entry start
-        found_now entry start found = found_on (WritesOwn desk.trace) (look base.volume) now entry
-            start part_calls same_capacities found
+        found_now : (n : ℕ) (start : Table) → IsFound (look base.volume) n start
+            → IsFound now n start
+        found_now n start found = found_on (WritesOwn desk.trace) (look base.volume) now n start
+            part_calls same_capacities found
 
         parts_before : AreParts (IsStored (old_records first)) (IsFound now)
             (IsPart (3221 * smaller_pages now.capacities)) base.older
@@ -457,15 +464,15 @@ module _ {V O : Type 0} {answers : O → Option (List Answer)} (look : V → Vol
             (λ t. AreOpeningsSince (look base.volume).capacities t.start t trace)
         openings_joined =
             let capacities = (look base.volume).capacities in
+            let calls = calls_of_last 0 base.older in
             told_weaken
             (λ t. AreOpeningsSince capacities t.start t base.older
-            × AreOpeningsSince capacities t.start t desk.trace)
+            × AreOpeningsFrom capacities t.start calls t desk.trace)
             (λ t. AreOpeningsSince capacities t.start t trace) (look base.volume).told
             (λ t both.
-            Each-append (λ entry. IfOpened (IsOpeningThen capacities t.start t entry) entry.event)
-            base.older desk.trace both.0 both.1)
+            openings_join capacities t.start 0 t base.older desk.trace both.0 both.1)
             (told_both (λ t. AreOpeningsSince capacities t.start t base.older)
-            (λ t. AreOpeningsSince capacities t.start t desk.trace) (look base.volume).told
+            (λ t. AreOpeningsFrom capacities t.start calls t desk.trace) (look base.volume).told
             again.made.openings base_opening)
 
         known_join : (older : List Entry) → IsKnown older → IsKnown (older ++ desk.trace)

@@ -1,6 +1,6 @@
 -- The desk of an opening.
-use Rattle.std.proofs.Common.{◌≡◌, ◌+◌, ℕ, List, Some, length, take, refl, sym, ◌∙◌, ap, subst}
-use Rattle.std.proofs.Common.{arith}
+use Rattle.std.proofs.Common.{◌≡◌, ◌≤◌, ◌+◌, ◌-◌, ◌++◌, ℕ, List, Option, Some, None, length}
+use Rattle.std.proofs.Common.{take, drop, refl, sym, ◌∙◌, ap, subst, arith, length-append}
 use Rattle.std.proofs.Math.Seq.{take-length}
 use Rattle.rg_desk.specs.Desk.{DeskState, old_records}
 use Rattle.rg_engine.specs.Stored.{IsStored}
@@ -12,12 +12,12 @@ use Rattle.rg_image.specs.Pack.{log_bytes}
 use Rattle.rg_image.specs.Rules.{HasLogPages}
 use Rattle.rg_image.proofs.Rules.{log_is_read}
 use Rattle.rg_log.specs.Kept.{Listed, log_pages}
+use Rattle.rg_log.specs.Open.{IsQuiet}
 use Rattle.rg_model.specs.State.{Table, row_count}
 use Rattle.rg_outside.specs.Calls.{Told, read_of}
 use Rattle.rg_outside.specs.Capacities.{Capacities}
-use Rattle.rg_outside.specs.Moments.{IfTold, read_at}
+use Rattle.rg_outside.specs.Moments.{EachCall, IfTold, read_at}
 use Rattle.rg_outside.proofs.Every.{told_both, told_weaken}
-use Rattle.rg_outside.proofs.Run.{moment_now}
 use Rattle.rg_record.specs.declared.record.Record.{Record}
 use Rattle.rg_restart.specs.Opening.{OpensStored}
 use Rattle.rg_laws_crash.specs.SoundVolume.Pages.{copy_of}
@@ -28,6 +28,32 @@ use Rattle.rg_stmt.specs.declared.event.Entry.{Entry}
 use Rattle.rg_run.specs.Played.{IsOpened, first_of}
 use Rattle.rg_run.specs.Opening.{IsOpeningOf, IsOpeningThen, ReadSo}
 use Rattle.rg_run.specs.Parts.{IsFound}
+use Rattle.rg_run.proofs.Between.{same_reads}
+use Rattle.rg_run.proofs.Fits.{calls_then}
+
+-- it read after so many calls as it reads now
+abbrev ReadsAsBefore : (n : ℕ) → Told → Type 0
+ReadsAsBefore n t =
+    (t.start + n ≤ length t.calls) × (read_at t (t.start + n) ≡ read_of t.first t.calls)
+
+quiet_before : (old new : Option Told) (n : ℕ) → EachCall old new IsQuiet
+    → IfTold old (λ t. length t.calls ≡ t.start + n) → IfTold new (ReadsAsBefore n)
+quiet_before old None n made was = tt
+quiet_before None (Some t) n made was = absurd (cc (made.2))
+quiet_before (Some o) (Some t) n made was =
+    let is : o ≡ made.0 = cc (made.2) in
+    let whole : t ≡ record o { calls = made.1 ++ o.calls } = made.3
+    ∙ ap (λ (u : Told). let w : Told = record u { calls = made.1 ++ u.calls } in w) (sym is) in
+    subst (ReadsAsBefore n) (sym whole) (
+      omega (arith, was, length-append made.1 o.calls),
+      ap (read_of o.first)
+          (calls_then o made.1 (o.start + n) (omega (arith, was))
+          ∙ ap (λ (k : ℕ). drop k o.calls) (none (length o.calls) (o.start + n) was))
+          ∙ sym (same_reads o (record o { calls = made.1 ++ o.calls }) made.1 refl made.4),
+    )
+  where
+    none : (a b : ℕ) → a ≡ b → a - b ≡ 0
+    none a b e = omega (arith, e)
 
 module _ {V O : Type 0} (look : V → VolumeSeen) (old : VolumeSeen) (operator : O)
     (desk : DeskState V O) (opens : OpensStored look old operator desk) where
@@ -100,76 +126,74 @@ module _ {V O : Type 0} (look : V → VolumeSeen) (old : VolumeSeen) (operator :
       (λ (c : Capacities). HasLogPages (log_pages c) (read_of t.first t.calls) opens.log.records)
       opens.calls.capacities sound.log.pages) opens.sound
 
-  -- what holds of the log that was read holds of it as it reads after the calls of the entry
-  reads_then : (P : List Record → Type 0) → P opens.log.records
-      → IfTold (look desk.volume).told
-      (λ t. ReadSo (λ i. P (log_of (log_pages (look desk.volume).capacities) i)) t.start
-      opens.opens.calls t)
-  reads_then P p =
-      subst
-      (λ (c : Capacities). IfTold (look desk.volume).told
-      (λ t. ReadSo (λ i. P (log_of (log_pages c) i)) t.start opens.opens.calls t))
-      (sym opens.calls.capacities) (told_weaken
-      (λ t. (length t.calls ≡ t.start + opens.opens.calls)
-      × HasLogPages (log_pages old.capacities) (read_of t.first t.calls) opens.log.records)
-      (λ t. ReadSo (λ i. P (log_of (log_pages old.capacities) i)) t.start opens.opens.calls t)
-      (look desk.volume).told
-      (λ t reads. by_moment (log_pages old.capacities) t reads.0 reads.1)
-      (told_both (λ t. length t.calls ≡ t.start + opens.opens.calls)
-      (λ t. HasLogPages (log_pages old.capacities) (read_of t.first t.calls) opens.log.records)
-      (look desk.volume).told opens.opens.counted read_first_log))
-    where
-      by_moment : (pages : ℕ) (t : Told) → length t.calls ≡ t.start + opens.opens.calls
-          → HasLogPages pages (read_of t.first t.calls) opens.log.records
-          → ReadSo (λ i. P (log_of pages i)) t.start opens.opens.calls t
-      by_moment pages t is has =
-          let now : read_at t (t.start + opens.opens.calls) ≡ read_of t.first t.calls =
-          ap (read_at t) (sym is) ∙ ap (λ (u : Told). read_of u.first u.calls) (moment_now t) in
-          let log : log_of pages (read_at t (t.start + opens.opens.calls)) ≡ opens.log.records =
-          ap (log_of pages) now
-          ∙ log_is_read pages (read_of t.first t.calls) opens.log.records has in
-          (omega (arith, is), subst P (sym log) p)
+  -- the opening came after so many calls, and wrote nothing
+  module _ (n : ℕ) (was : IsCount old n) where
+    as_before : IfTold (look desk.volume).told (ReadsAsBefore n)
+    as_before = quiet_before old.told (look desk.volume).told n opens.calls.only was
 
-  -- it read sound then
-  sound_then : IfTold (look desk.volume).told
-      (λ t. ReadSo (IsSound (look desk.volume).capacities) t.start opens.opens.calls t)
-  sound_then =
-      let capacities = (look desk.volume).capacities in
-      told_weaken
-      (λ t. (length t.calls ≡ t.start + opens.opens.calls)
-      × IsSoundBy capacities (read_of t.first t.calls) opens.log.records opens.base)
-      (λ t. ReadSo (IsSound capacities) t.start opens.opens.calls t) (look desk.volume).told
-      (λ t both.
-      let now : read_at t (t.start + opens.opens.calls) ≡ read_of t.first t.calls =
-      ap (read_at t) (sym both.0) ∙ ap (λ (u : Told). read_of u.first u.calls) (moment_now t) in (
-        omega (arith, both.0),
-        subst (IsSound capacities) (sym now) (opens.log.records, opens.base, both.1),
-      ))
-      (told_both (λ t. length t.calls ≡ t.start + opens.opens.calls)
-      (λ t. IsSoundBy capacities (read_of t.first t.calls) opens.log.records opens.base)
-      (look desk.volume).told opens.opens.counted opens.sound)
+    -- what holds of the log that was read holds of it as it read before the opening's first call
+    reads_then : (P : List Record → Type 0) → P opens.log.records
+        → IfTold (look desk.volume).told
+        (λ t. ReadSo (λ i. P (log_of (log_pages (look desk.volume).capacities) i)) t.start n t)
+    reads_then P p =
+        subst
+        (λ (c : Capacities). IfTold (look desk.volume).told
+        (λ t. ReadSo (λ i. P (log_of (log_pages c) i)) t.start n t))
+        (sym opens.calls.capacities) (told_weaken
+        (λ t. ReadsAsBefore n t
+        × HasLogPages (log_pages old.capacities) (read_of t.first t.calls) opens.log.records)
+        (λ t. ReadSo (λ i. P (log_of (log_pages old.capacities) i)) t.start n t)
+        (look desk.volume).told
+        (λ t reads. by_moment (log_pages old.capacities) t reads.0 reads.1)
+        (told_both (ReadsAsBefore n)
+        (λ t. HasLogPages (log_pages old.capacities) (read_of t.first t.calls) opens.log.records)
+        (look desk.volume).told as_before read_first_log))
+      where
+        by_moment : (pages : ℕ) (t : Told) → ReadsAsBefore n t
+            → HasLogPages pages (read_of t.first t.calls) opens.log.records
+            → ReadSo (λ i. P (log_of pages i)) t.start n t
+        by_moment pages t is has =
+            let log : log_of pages (read_at t (t.start + n)) ≡ opens.log.records =
+            ap (log_of pages) is.1
+            ∙ log_is_read pages (read_of t.first t.calls) opens.log.records has in
+            (is.0, subst P (sym log) p)
 
-  -- the entry is that of the log as it reads now
-  pub opening_then : IfTold (look desk.volume).told
-      (λ t. IsOpeningThen (look desk.volume).capacities t.start t opened_first.entry)
-  unfolding opened_first
-  opening_then =
-      let capacities = (look desk.volume).capacities in
-      let calls = opens.opens.calls in
-      told_weaken
-      (λ t. ReadSo (λ i. IsOpeningOf (log_of (log_pages capacities) i) entry_zero) t.start calls t
-      × ReadSo (IsSound capacities) t.start calls t)
-      (λ t. IsOpeningThen capacities t.start t entry_zero) (look desk.volume).told
-      (λ t both. (both.0.0, (both.0.1, both.1.1)))
-      (told_both
-      (λ t. ReadSo (λ i. IsOpeningOf (log_of (log_pages capacities) i) entry_zero) t.start calls t)
-      (λ t. ReadSo (IsSound capacities) t.start calls t) (look desk.volume).told
-      (reads_then (λ rs. IsOpeningOf rs entry_zero) opening_first) sound_then)
+    -- it read sound then
+    sound_then : IfTold (look desk.volume).told
+        (λ t. ReadSo (IsSound (look desk.volume).capacities) t.start n t)
+    sound_then =
+        let capacities = (look desk.volume).capacities in
+        told_weaken
+        (λ t. ReadsAsBefore n t
+        × IsSoundBy capacities (read_of t.first t.calls) opens.log.records opens.base)
+        (λ t. ReadSo (IsSound capacities) t.start n t) (look desk.volume).told
+        (λ t both. (
+          both.0.0,
+          subst (IsSound capacities) (sym both.0.1) (opens.log.records, opens.base, both.1),
+        ))
+        (told_both (ReadsAsBefore n)
+        (λ t. IsSoundBy capacities (read_of t.first t.calls) opens.log.records opens.base)
+        (look desk.volume).told as_before opens.sound)
 
-  -- the table is the one that this log stores
-  pub found_first : (start : Table) → IsStored (old_records desk) start
-      → IsFound (look desk.volume) opened_first.entry start
-  unfolding opened_first
-  found_first start starts =
-      reads_then (λ rs. IsStored rs start)
-      (λ k. subst (λ (rs : List Record). IsStored rs start) old_first starts k ∙ stores_first k)
+    -- the entry is that of the log as it read then
+    pub opening_then : IfTold (look desk.volume).told
+        (λ t. IsOpeningThen (look desk.volume).capacities t.start n t opened_first.entry)
+    unfolding opened_first
+    opening_then =
+        let capacities = (look desk.volume).capacities in
+        told_weaken
+        (λ t. ReadSo (λ i. IsOpeningOf (log_of (log_pages capacities) i) entry_zero) t.start n t
+        × ReadSo (IsSound capacities) t.start n t)
+        (λ t. IsOpeningThen capacities t.start n t entry_zero) (look desk.volume).told
+        (λ t both. (both.0.0, (both.0.1, both.1.1)))
+        (told_both
+        (λ t. ReadSo (λ i. IsOpeningOf (log_of (log_pages capacities) i) entry_zero) t.start n t)
+        (λ t. ReadSo (IsSound capacities) t.start n t) (look desk.volume).told
+        (reads_then (λ rs. IsOpeningOf rs entry_zero) opening_first) sound_then)
+
+    -- the table is the one that this log stores
+    pub found_first : (start : Table) → IsStored (old_records desk) start
+        → IsFound (look desk.volume) n start
+    found_first start starts =
+        reads_then (λ rs. IsStored rs start)
+        (λ k. subst (λ (rs : List Record). IsStored rs start) old_first starts k ∙ stores_first k)

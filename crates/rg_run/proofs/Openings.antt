@@ -19,19 +19,13 @@ use Rattle.rg_stmt.specs.declared.event.Event.{Event}
 use Rattle.rg_stmt.specs.declared.event.Event.TheVariants as events
 use Rattle.rg_stmt.specs.declared.line.Line.{Line}
 use Rattle.rg_stmt.specs.declared.line.Line.TheVariants.{Death, Flush, Reorg, Said, Show, Step}
-use Rattle.rg_run.specs.Opening.{AreOpeningsSince, IfOpened, IsFoundThen, IsOpeningOf}
+use Rattle.rg_run.specs.Fit.{calls_of_last}
+use Rattle.rg_run.specs.Opening.{AreOpeningsFrom, IfOpened, IsFoundThen, IsOpeningOf}
 use Rattle.rg_run.specs.Opening.{IsOpeningThen, ReadSo}
 use Rattle.rg_run.proofs.Fits.{calls_then}
-use Rattle.rg_run.specs.Parts.{AreParts, IsAlive, IsFound, IsFoundBy}
+use Rattle.rg_run.specs.Parts.{AreParts, IsAlive, IsFound, OpensOnce}
 use Rattle.rg_run.specs.Parts.AreParts.{Next, One}
 use Rattle.rg_run.specs.Played.{EntryOf, IsFlushed, IsStartEvent, IsStepEvent, TraceOf, first_of}
-
--- ---- lists
-
-pub all_weaken : {A : Type 0} (P Q : A → Type 0) (xs : List A) → ((x : A) → P x → Q x)
-    → AllByRecursion P xs → AllByRecursion Q xs
-all_weaken P Q [] f all = tt
-all_weaken P Q (x ∷ xs) f all = (f x all.0, all_weaken P Q xs f all.1)
 
 -- ---- events
 
@@ -85,13 +79,34 @@ rest_none P (l ∷ ls) [] of alive = absurd of
 rest_none P (l ∷ ls) (e ∷ es) of alive =
     (entry_none (P e) l e of.0 alive.0, rest_none P ls es of.1 alive.1)
 
+rest_openings : (capacities : Capacities) (start n : ℕ) (t : Told) (lines : List Line)
+    (entries : List Entry) → AllZip EntryOf lines entries → AllByRecursion IsAlive lines
+    → AreOpeningsFrom capacities start n t entries
+rest_openings capacities start n t [] [] of alive = tt
+rest_openings capacities start n t [] (e ∷ es) of alive = absurd of
+rest_openings capacities start n t (l ∷ ls) [] of alive = absurd of
+rest_openings capacities start n t (l ∷ ls) (e ∷ es) of alive = (
+  entry_none (IsOpeningThen capacities start n t e) l e of.0 alive.0,
+  rest_openings capacities start e.calls t ls es of.1 alive.1,
+)
+
 -- the first entry of a part is its one opening
-pub part_opened : (P : Entry → Type 0) (lines : List Line) (part : List Entry) (entry : Entry)
-    → TraceOf lines part → first_of part ≡ Some entry → AllByRecursion IsAlive lines → P entry
-    → AllByRecursion (λ entry. IfOpened (P entry) entry.event) part
-part_opened P lines [] entry of first alive p = tt
-part_opened P lines (e ∷ es) entry of first alive p =
-    (opened_so (P e) e.event (subst P (cc (sym first)) p), rest_none P lines es of.1 alive)
+pub part_opened : (capacities : Capacities) (start n : ℕ) (t : Told) (lines : List Line)
+    (part : List Entry) (entry : Entry) → TraceOf lines part → first_of part ≡ Some entry
+    → AllByRecursion IsAlive lines → IsOpeningThen capacities start n t entry
+    → AreOpeningsFrom capacities start n t part
+part_opened capacities start n t lines [] entry of first alive opens = tt
+part_opened capacities start n t lines (e ∷ es) entry of first alive opens = (
+  opened_so (IsOpeningThen capacities start n t e) e.event
+      (subst (IsOpeningThen capacities start n t) (cc (sym first)) opens),
+  rest_openings capacities start e.calls t lines es of.1 alive,
+)
+
+-- so it has one opening only
+pub opens_once : (lines : List Line) (part : List Entry) → TraceOf lines part
+    → AllByRecursion IsAlive lines → OpensOnce part
+opens_once lines [] of alive = absurd of
+opens_once lines (e ∷ es) of alive = (of.0, rest_none (λ entry. ⊥) lines es of.1 alive)
 
 -- ---- moments
 
@@ -112,67 +127,79 @@ read_on P start calls before fresh so =
 
 -- what was found stays so over more calls
 found_calls :
-    (Kind : Call → Type 0) (pages : ℕ) (old new : Option Told) (entry : Entry) (table : Table)
-    → EachCall old new Kind → IfTold old (λ t. IsFoundThen pages t.start t entry table)
-    → IfTold new (λ t. IsFoundThen pages t.start t entry table)
-found_calls Kind pages old None entry table made found = tt
-found_calls Kind pages None (Some after) entry table made found = absurd (cc (made.2))
-found_calls Kind pages (Some before) (Some after) entry table made found =
+    (Kind : Call → Type 0) (pages : ℕ) (old new : Option Told) (n : ℕ) (table : Table)
+    → EachCall old new Kind → IfTold old (λ t. IsFoundThen pages t.start n t table)
+    → IfTold new (λ t. IsFoundThen pages t.start n t table)
+found_calls Kind pages old None n table made found = tt
+found_calls Kind pages None (Some after) n table made found = absurd (cc (made.2))
+found_calls Kind pages (Some before) (Some after) n table made found =
     let was : before ≡ made.0 = cc (made.2) in
     let is : after ≡ record before { calls = made.1 ++ before.calls } = made.3
     ∙ ap (λ (t : Told). let u : Told = record t { calls = made.1 ++ t.calls } in u) (sym was) in
-    subst (λ (t : Told). IsFoundThen pages t.start t entry table) (sym is)
-    (read_on (λ i. IsStored (log_of pages i) table) before.start entry.calls before made.1 found)
+    subst (λ (t : Told). IsFoundThen pages t.start n t table) (sym is)
+    (read_on (λ i. IsStored (log_of pages i) table) before.start n before made.1 found)
 
-pub found_on : (Kind : Call → Type 0) (old new : VolumeSeen) (entry : Entry) (table : Table)
-    → EachCall old.told new.told Kind → new.capacities ≡ old.capacities → IsFound old entry table
-    → IsFound new entry table
-found_on Kind old new entry table made same found =
+pub found_on : (Kind : Call → Type 0) (old new : VolumeSeen) (n : ℕ) (table : Table)
+    → EachCall old.told new.told Kind → new.capacities ≡ old.capacities → IsFound old n table
+    → IsFound new n table
+found_on Kind old new n table made same found =
     subst
-    (λ (c : Capacities). IfTold new.told (λ t. IsFoundThen (log_pages c) t.start t entry table))
-    (sym same)
-    (found_calls Kind (log_pages old.capacities) old.told new.told entry table made found)
-
--- the first entry of a part found it
-pub found_by : (Found : Entry → Table → Type 0) (part : List Entry) (entry : Entry) (start : Table)
-    → first_of part ≡ Some entry → Found entry start → IsFoundBy Found part start
-found_by Found [] entry start first found = absurd (cc (first))
-found_by Found (e ∷ es) entry start first found =
-    subst (λ (x : Entry). Found x start) (cc (sym first)) found
+    (λ (c : Capacities). IfTold new.told (λ t. IsFoundThen (log_pages c) t.start n t table))
+    (sym same) (found_calls Kind (log_pages old.capacities) old.told new.told n table made found)
 
 -- the same parts, by other facts of the tables
-pub parts_more : (P Q : Table → Type 0) (F G : Entry → Table → Type 0)
+pub parts_more : (P Q : Table → Type 0) (F G : ℕ → Table → Type 0)
     (I J : Table → List Entry → Type 0) (trace : List Entry) → ((start : Table) → P start → Q start)
-    → ((entry : Entry) (start : Table) → F entry start → G entry start)
+    → ((n : ℕ) (start : Table) → F n start → G n start)
     → ((start : Table) (part : List Entry) → I start part → J start part)
     → AreParts P F I trace → AreParts Q G J trace
 parts_more P Q F G I J trace f g h (One part start first is) =
     One part start (f start first) (h start part is)
 parts_more P Q F G I J trace f g h (Next before part start parts found is) = Next before part start
-    (parts_more P Q F G I J before f g h parts) (by_part part found) (h start part is)
-  where
-    by_part : (part : List Entry) → IsFoundBy F part start → IsFoundBy G part start
-    by_part [] found = absurd found
-    by_part (e ∷ es) found = g e start found
+    (parts_more P Q F G I J before f g h parts) (g (calls_of_last 0 before) start found)
+    (h start part is)
 
 -- openings stay so over more calls
+openings_each : (capacities : Capacities) (start n : ℕ) (before : Told) (fresh : List Call)
+    (trace : List Entry) → AreOpeningsFrom capacities start n before trace
+    → AreOpeningsFrom capacities start n (record before { calls = fresh ++ before.calls }) trace
+openings_each capacities start n before fresh [] all = tt
+openings_each capacities start n before fresh (e ∷ es) all = (
+  opened_more (IsOpeningThen capacities start n before e)
+      (IsOpeningThen capacities start n (record before { calls = fresh ++ before.calls }) e)
+      e.event
+      (read_on (λ i. IsOpeningOf (log_of (log_pages capacities) i) e × IsSound capacities i) start
+      n before fresh) all.0,
+  openings_each capacities start e.calls before fresh es all.1,
+)
+
 pub openings_on :
-    (Kind : Call → Type 0) (capacities : Capacities) (old new : Option Told) (trace : List Entry)
-    → EachCall old new Kind → IfTold old (λ t. AreOpeningsSince capacities t.start t trace)
-    → IfTold new (λ t. AreOpeningsSince capacities t.start t trace)
-openings_on Kind capacities old None trace made all = tt
-openings_on Kind capacities None (Some after) trace made all = absurd (cc (made.2))
-openings_on Kind capacities (Some before) (Some after) trace made all =
+    (Kind : Call → Type 0) (capacities : Capacities) (old new : Option Told) (n : ℕ)
+    (trace : List Entry) → EachCall old new Kind
+    → IfTold old (λ t. AreOpeningsFrom capacities t.start n t trace)
+    → IfTold new (λ t. AreOpeningsFrom capacities t.start n t trace)
+openings_on Kind capacities old None n trace made all = tt
+openings_on Kind capacities None (Some after) n trace made all = absurd (cc (made.2))
+openings_on Kind capacities (Some before) (Some after) n trace made all =
     let was : before ≡ made.0 = cc (made.2) in
     let is : after ≡ record before { calls = made.1 ++ before.calls } = made.3
     ∙ ap (λ (t : Told). let u : Told = record t { calls = made.1 ++ t.calls } in u) (sym was) in
-    subst (λ (t : Told). AreOpeningsSince capacities t.start t trace) (sym is)
-    (all_weaken (λ entry. IfOpened (IsOpeningThen capacities before.start before entry) entry.event)
-    (λ entry. IfOpened
-    (IsOpeningThen capacities before.start (record before { calls = made.1 ++ before.calls }) entry)
-    entry.event) trace
-    (λ entry opened. opened_more (IsOpeningThen capacities before.start before entry)
-    (IsOpeningThen capacities before.start (record before { calls = made.1 ++ before.calls }) entry)
-    entry.event
-    (read_on (λ i. IsOpeningOf (log_of (log_pages capacities) i) entry × IsSound capacities i)
-    before.start entry.calls before made.1) opened) all)
+    subst (λ (t : Told). AreOpeningsFrom capacities t.start n t trace) (sym is)
+    (openings_each capacities before.start n before made.1 trace all)
+
+-- those of a part come after those before it
+pub openings_join : (capacities : Capacities) (start n : ℕ) (t : Told) (older part : List Entry)
+    → AreOpeningsFrom capacities start n t older
+    → AreOpeningsFrom capacities start (calls_of_last n older) t part
+    → AreOpeningsFrom capacities start n t (older ++ part)
+openings_join capacities start n t [] part all more = more
+openings_join capacities start n t (e ∷ es) part all more =
+    (all.0, openings_join capacities start e.calls t es part all.1 more)
+
+-- the same calls, as another count has them
+pub recounted_openings : (capacities : Capacities) (start n count : ℕ) (t : Told)
+    (trace : List Entry) → AreOpeningsFrom capacities start n (record t { start = count }) trace
+    → AreOpeningsFrom capacities start n t trace
+recounted_openings capacities start n count t [] all = tt
+recounted_openings capacities start n count t (e ∷ es) all =
+    (all.0, recounted_openings capacities start e.calls count t es all.1)

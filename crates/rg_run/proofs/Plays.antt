@@ -12,7 +12,7 @@ use Rattle.rg_feed.specs.declared.fold.item.Stage.{Stage}
 use Rattle.rg_log.specs.Kept.{Listed as ListedLog}
 use Rattle.rg_phase.specs.declared.made.Made.{Made}
 use Rattle.rg_phase.specs.Step.{HasPagesFor, IsSwitchFrom, Makes, NextMade, StepCalls, Stepped}
-use Rattle.rg_phase.specs.Step.{copy_left, is_device_stop}
+use Rattle.rg_phase.specs.Step.{TellsCopy, copy_left, is_device_stop}
 use Rattle.rg_laws_utility.specs.TraceStage.Tending.{utility_entry}
 use Rattle.rg_base.specs.declared.position.Position.{Position}
 use Rattle.rg_page.specs.Content.{Content}
@@ -30,10 +30,13 @@ use Rattle.rg_stmt.specs.declared.stmt.Reply.TheVariants.{Done, Found, Listed, K
 use Rattle.rg_stmt.specs.declared.stmt.Reply.TheVariants.{Duplicate, Held, Victim, Drained, Full}
 use Rattle.rg_stmt.specs.declared.stmt.Reply.TheVariants.{LogFull, Device, Down, NoMemory}
 use Rattle.rg_stmt.specs.declared.stmt.Stmt.{Stmt}
+use Rattle.rg_stmt.specs.declared.stmt.Stmt.TheVariants.{Commit}
 use Rattle.rg_stmt.specs.Entries.{said_entry}
 use Rattle.rg_base.specs.Copies.{IsCopy, other_of, set_of}
 use Rattle.rg_image.specs.Rules.{copy_capacity, limit_of}
-use Rattle.rg_engine.specs.Answers.{IfLogFull, is_device}
+use Rattle.rg_engine.specs.Answers.{IfLogFull, forces, is_device}
+use Rattle.rg_engine.specs.Steps.{is_commit}
+use Rattle.rg_engine.specs.declared.units.OpenUnit.{OpenUnit}
 use Rattle.rg_laws_utility.specs.ByteAccount.Account.{allowed_of}
 use Rattle.rg_model.specs.State.{Table}
 use Rattle.rg_laws_utility.specs.CopyWeight.Weighed.{weigh_feed}
@@ -44,7 +47,7 @@ use Rattle.rg_desk.specs.Desk.{DeskState, IfStartLogFull, IsStart, MadeFlush}
 use Rattle.rg_engine.specs.Layouts.{IsLayout}
 use Rattle.rg_desk.specs.Desk.{MadeLayout, MadeSaid, MadeStart, Stays, left_to_take, old_records}
 use Rattle.rg_model.specs.Utility.{starts_utility}
-use Rattle.rg_engine.specs.Flushed.{FlushIs, WritesEither}
+use Rattle.rg_engine.specs.Flushed.{FlushIs, ReadsAll, WritesEither}
 use Rattle.rg_engine.proofs.Flushing.{rose_earlier}
 use Rattle.rg_engine.specs.Volume.{IsCount}
 use Rattle.rg_outside.specs.Volume.{VolumeSeen}
@@ -56,7 +59,7 @@ use Rattle.rg_outside.proofs.Frame.{calls_join, calls_weaken, no_calls}
 use Rattle.rg_run.specs.Asked.{HasAnswered, answer_before, answers_in}
 use Rattle.rg_outside.specs.Calls.{Call}
 use Rattle.rg_outside.specs.Made.{CountsFailed}
-use Rattle.rg_run.specs.Fit.{FitSince, FailedThen, FitsThen, calls_of_last, copy_after}
+use Rattle.rg_run.specs.Fit.{FitSince, FailedThen, FitsThen, HasSide, calls_of_last, copy_after}
 use Rattle.rg_run.specs.Fit.{copy_of_last}
 use Rattle.rg_run.specs.Full.{AreAllowed, IsAllowedAt, smaller_pages}
 use Rattle.rg_run.specs.LogFull.{IsLogFullFrom, IsLogFullOnlyFrom}
@@ -74,10 +77,10 @@ use Rattle.rg_run.proofs.Spaces.{shown_still, space_on, space_opened, space_said
 use Rattle.rg_run.proofs.Spaces.{space_step}
 use Rattle.rg_run.proofs.Joins.{own_left, own_part, own_right}
 use Rattle.rg_run.proofs.Asking.{answered_all, answered_once, same_unasked, unasked}
-use Rattle.rg_run.proofs.Fits.{calls_push, copy_push, failed_then, flush_then, flushed_keeps}
-use Rattle.rg_run.proofs.Fits.{fit_on, fit_push, layout_keeps, layout_tells, opened_alone}
-use Rattle.rg_run.proofs.Fits.{said_tells, start_keeps, start_tells, step_copy, step_tells}
-use Rattle.rg_run.proofs.Fits.{told_all}
+use Rattle.rg_run.proofs.Fits.{IfSwitched, calls_push, copy_push, failed_then, flush_then}
+use Rattle.rg_run.proofs.Fits.{fit_on, fit_push, flushed_keeps, layout_keeps, layout_tells}
+use Rattle.rg_run.proofs.Fits.{no_call, opened_alone, said_tells, start_keeps, start_tells}
+use Rattle.rg_run.proofs.Fits.{step_copy, step_tells, switched_then, told_all}
 
 entries_push : (lines : List Line) (entries : List Entry) (line : Line) (entry : Entry)
     → AllZip EntryOf lines entries → EntryOf line entry
@@ -165,9 +168,15 @@ device_flush P true copy contents marks later old new event f is =
     subst (IsDeviceIf P) (sym is.0) tt
 device_flush P false copy contents marks later old new (EventFlush page) f is = tt
 device_flush P false copy contents marks later old new Clean f is = tt
-device_flush P false copy contents marks later old new FlushDevice f is = f is
+device_flush P false copy contents marks later old new FlushDevice f is = f is.0
 device_flush P false copy contents marks later old new FlushNoMemory f is = tt
 device_flush P false copy contents marks later old new event f is = absurd is
+
+-- only a COMMIT is forced
+unforced : (units : List (Option OpenUnit)) (session : Session) (stmt : Stmt)
+    → is_commit stmt ≡ false → forces units session stmt ≡ false
+unforced units session Commit other = absurd (cc (other))
+unforced units session stmt other = refl
 
 -- ---- the utility
 
@@ -344,6 +353,13 @@ module _ {V O : Type 0} {answers : O → Option (List Answer)} (look : V → Vol
       failed_then Kind (look old.volume) (look new.volume) (calls_of_last 0 old.trace) calls made
       goes.counted counted (law old.volume) (law new.volume) rose
 
+  -- no call was made since the entry before
+  still_now : (calls : ℕ) → IsCount (look new.volume) calls → look new.volume ≡ look old.volume
+      → IfTold (look new.volume).told (λ t. calls ≡ calls_of_last 0 old.trace)
+  still_now calls counted same =
+      no_call (look old.volume) (look new.volume) (calls_of_last 0 old.trace) calls goes.counted
+      counted same
+
   abbrev least : ℕ
   least = 3221 * smaller_pages (look old.volume).capacities
 
@@ -474,7 +490,9 @@ module _ {V O : Type 0} {answers : O → Option (List Answer)} (look : V → Vol
       (said_tells stmt said.reply (look new.volume).told (copy_of_last 0 old.trace)
       (calls_of_last 0 old.trace) said.calls
       (λ is. failed_now (WritesEither (set_of old.copy)) said.calls said.stays.calls.only
-      said.counted (said.device is))) said.counted
+      said.counted (said.device is))
+      (λ other. still_now said.calls said.counted
+      (said.quiet (unforced old.ground.units session stmt other)))) said.counted
       (same_unasked answers old.operator new.operator said.utility.operator)
       (moves_of entry said.stays (λ k. refl) (both_still entry said.utility.stage)
       (space_said (look old.volume).capacities stmt said.reply (loading_in None old.trace))
@@ -495,11 +513,12 @@ module _ {V O : Type 0} {answers : O → Option (List Answer)} (look : V → Vol
       shown.is)
       (device_layout (Rose (look first.volume).faults (look new.volume).faults) old.copy shown.event
       shown.is) (λ down. risen shown.stays.calls.later (goes.down (sym shown.down ∙ down)))
-      (told_all (look new.volume).told
+      (told_weaken (λ t. shown.calls ≡ calls_of_last 0 old.trace)
       (λ t. FitsThen (copy_of_last 0 old.trace) t.start (calls_of_last 0 old.trace) shown.calls t
-      shown.event)
+      shown.event) (look new.volume).told
       (λ t. layout_tells old.copy shown.event shown.is (copy_of_last 0 old.trace) t.start
-      (calls_of_last 0 old.trace) shown.calls t))
+      (calls_of_last 0 old.trace) shown.calls t)
+      (still_now shown.calls shown.counted (ap look shown.volume)))
       shown.counted (same_unasked answers old.operator new.operator shown.utility.operator)
       (moves_of entry shown.stays (layout_keeps old.copy shown.event shown.is)
       (both_still entry shown.utility.stage)
@@ -572,11 +591,12 @@ module _ {V O : Type 0} {answers : O → Option (List Answer)} (look : V → Vol
       (device_start (Rose (look first.volume).faults (look new.volume).faults) options made.event
       is)
       (λ down. risen made.stays.calls.later (goes.down (sym made.down ∙ down)))
-      (told_all (look new.volume).told
+      (told_weaken (λ t. made.calls ≡ calls_of_last 0 old.trace)
       (λ t. FitsThen (copy_of_last 0 old.trace) t.start (calls_of_last 0 old.trace) made.calls t
-      made.event)
+      made.event) (look new.volume).told
       (λ t. start_tells options made.event is (copy_of_last 0 old.trace) t.start
-      (calls_of_last 0 old.trace) made.calls t))
+      (calls_of_last 0 old.trace) made.calls t)
+      (still_now made.calls made.counted (ap look made.volume)))
       made.counted (same_unasked answers old.operator new.operator made.operator)
       (moves_of entry made.stays (start_keeps options made.event is)
       (λ runs copy which. by_start copy which
@@ -609,7 +629,9 @@ module _ {V O : Type 0} {answers : O → Option (List Answer)} (look : V → Vol
       (λ down. by_down (made.down down))
       (step_tells answer event is (look new.volume).told (copy_of_last 0 old.trace)
       (calls_of_last 0 old.trace) made.calls
-      (λ at. failed_now (WritesOwn old.trace) made.calls calls.only made.counted (made.device at)))
+      (λ at. failed_now (WritesOwn old.trace) made.calls calls.only made.counted (made.device at))
+      (λ still. still_now made.calls made.counted (ap look (made.quiet still)))
+      (turned_at event made.told made.copy))
       made.counted
       (subst (λ (o : O). HasAnswered (answers old.operator) (answer_before answer []) (answers o))
       (sym made.operator)
@@ -630,6 +652,18 @@ module _ {V O : Type 0} {answers : O → Option (List Answer)} (look : V → Vol
 
       entry : Entry
       entry = utility_entry stepped.event stepped.answer made.calls
+
+      -- the new layout is that of the pages that are read
+      turned_at : (event : Event) → TellsCopy look asked new event
+          → new.copy ≡ copy_left old.copy event
+          → IfSwitched
+          (λ to sides. IfTold (look new.volume).told
+          (λ t. HasSide to t.start made.calls sides.new t)) event
+      turned_at (events.Switched to sides) told copy =
+          switched_then to made.calls sides.new new.contents (look new.volume) made.counted
+          (subst (λ (n : ℕ). IfTold (look new.volume).told (ReadsAll (set_of n) new.contents)) copy
+          told.reads) told.new_side
+      turned_at event told copy = tt
 
       -- it calls nothing, or only as far as the start of the utility allows
       calls_of : (answer : Option Answer) → StepCalls look old answer new → CallsWithin look old new

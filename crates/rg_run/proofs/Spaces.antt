@@ -215,6 +215,11 @@ space_other capacities event is (Some l) = tt
 sorted_none : (n : ℕ) → (n == 0) ≡ true → n ≡ 0
 sorted_none n is = grind (arith, nat_tests, is)
 
+space_written : (capacities : Capacities) (pages : ℕ) (now : Option Loading)
+    → IsForSpace capacities now (events.Written pages)
+space_written capacities pages None = tt
+space_written capacities pages (Some l) = tt
+
 module _ (capacities : Capacities) (copy : ℕ) (entries : List Entry) where
   space_of : (s : Stage) (weight : ℕ) (event : Event) → ShowsLoading (Some s) copy entries
       → HasPagesFor (copy_capacity capacities (other_of copy)) weight s event
@@ -239,6 +244,8 @@ module _ (capacities : Capacities) (copy : ℕ) (entries : List Entry) where
           else None) (events.Stop reasons.NoSpace)
       go true none = space.1 (sorted_none s.sorted none)
       go false none = tt
+  space_of s weight (events.Written pages) shown space =
+      space_written capacities pages (loading_in None entries)
   space_of s weight event shown space = space_other capacities event refl (loading_in None entries)
 
   pub space_step : (stage : Option Stage) (weight : ℕ) (event : Event)

@@ -28,9 +28,9 @@ use Rattle.rg_run.specs.Full.{smaller_pages}
 use Rattle.rg_run.specs.LogFull.{IsLogFullOnlyFrom}
 use Rattle.rg_run.specs.Space.{AreForSpace}
 use Rattle.rg_run.specs.Outside.{IfBoth, IsEnd, MakesOnly, WritesOwn, end_of, log_at}
-use Rattle.rg_run.specs.Fit.{FailedSince, FitSince}
-use Rattle.rg_run.specs.Opening.{AreOpeningsSince}
-use Rattle.rg_run.specs.Parts.{Going, IsRun, StaysSound}
+use Rattle.rg_run.specs.Fit.{FailedSince, FitSince, calls_of_last}
+use Rattle.rg_run.specs.Opening.{AreOpeningsSince, IsOpeningThen}
+use Rattle.rg_run.specs.Parts.{Going, IsFound, IsRun, StaysSound}
 use Rattle.rg_run.specs.Table.{Begins, Ends, KeepsSound}
 use Rattle.rg_engine.specs.Stored.{IsStored}
 use Rattle.rg_model.specs.State.{Table}
@@ -49,6 +49,7 @@ use Rattle.rg_run.proofs.Joins.{own_quiet}
 use Rattle.rg_run.proofs.Opening.{copy_first, counted_first, entry_first, entry_zero, found_first}
 use Rattle.rg_run.proofs.Opening.{old_first, opened_first, opening_first, opening_then, pages_first}
 use Rattle.rg_run.proofs.Opening.{read_first_log, stores_first}
+use Rattle.rg_run.proofs.Openings.{recounted_openings}
 use Rattle.rg_run.proofs.Plays.{device_more, goes_opened, rose_wider}
 use Rattle.rg_run.proofs.Uncounted.{counted_calls, uncounted_only, uncounted_told}
 
@@ -94,6 +95,15 @@ module _ {V : Type 0} (seen : V → VolumeSeen) (volume : V) where
         where
           none_left : (k : ℕ) → k - (k - 0) ≡ 0
           none_left k = omega arith
+
+  begun_now : (begun : CountedCalls V) → begun ≡ record { volume = volume; calls = 0 }
+      → IsCount (look begun) 0
+  begun_now begun is =
+      subst (λ (x : CountedCalls V). IsCount (look x) 0) (sym is) (go (seen volume).told)
+    where
+      go : (o : Option Told) → IfTold (counted o 0) (λ t. length t.calls ≡ t.start + 0)
+      go None = tt
+      go (Some t) = omega arith
 
   pub begun_counted : (begun : CountedCalls V) → begun ≡ record { volume = volume; calls = 0 }
       → HasCalls (look begun) 0
@@ -162,10 +172,6 @@ module _ {V : Type 0} (seen : V → VolumeSeen) (volume : V) where
         kept : new.capacities ≡ old.capacities
         kept = refused.calls.capacities ∙ begun_capacities
 
-        none_yet : (o : Option Told) → IfTold (counted o 0) (λ t. length t.calls ≡ t.start + 0)
-        none_yet None = tt
-        none_yet (Some t) = omega arith
-
         end_is : (cause : OpenCause)
             → IsCause (look begun)
             (counted_seen new n)
@@ -186,8 +192,7 @@ module _ {V : Type 0} (seen : V → VolumeSeen) (volume : V) where
               (subst (λ (x : CountedCalls V). EachCall (look x).told (counted new.told n) IsQuiet)
               begins refused.calls.only) (failed_after IsQuiet (look begun)
               (counted_seen new n) 0 refused.calls.only
-              (subst (λ (x : CountedCalls V). IsCount (look x) 0) (sym begins)
-              (none_yet (seen volume).told))
+              (begun_now begun begins)
               (subst (λ (x : CountedCalls V). IfTold (look x).told (CountsFailed (look x).faults))
               (sym begins)
               (told_counted (CountsFailed (seen volume).faults) (seen volume).told 0 (law volume)))
@@ -294,7 +299,9 @@ module _ {V : Type 0} (seen : V → VolumeSeen) (volume : V) where
               (opening_first look (look begun) operator desk opens);
           openings =
               since_out (WritesOwn trace) (λ start t. AreOpeningsSince old.capacities start t trace)
-              ended.calls old.told new.told (λ start count t all. all) le made
+              ended.calls old.told new.told
+              (λ start count t all. recounted_openings old.capacities start 0 count t trace all) le
+              made
               (subst
               (λ (c : Capacities). IfTold (counted new.told ended.calls)
               (λ t. AreOpeningsSince c t.start t trace)) kept run_seen.made.openings);
@@ -320,11 +327,11 @@ module _ {V : Type 0} (seen : V → VolumeSeen) (volume : V) where
         }
 
   -- the desk of the first opening
-  pub going_first : (begun : CountedCalls V) {O : Type 0} (answers : O → Option (List Answer))
-      (operator : O) (desk : DeskState (CountedCalls V) O)
-      → OpensStored look (look begun) operator desk → desk.older ≡ []
-      → Going look answers desk [] desk
-  going_first begun answers operator desk opens none =
+  pub going_first : (begun : CountedCalls V) → begun ≡ record { volume = volume; calls = 0 }
+      → {O : Type 0} (answers : O → Option (List Answer)) (operator : O)
+      (desk : DeskState (CountedCalls V) O) → OpensStored look (look begun) operator desk
+      → desk.older ≡ [] → Going look answers desk [] desk
+  going_first begun begins answers operator desk opens none =
       let opened = opened_first look (look begun) operator desk opens in
       let same = opens.calls.capacities in
       let capacity = opens.opens.capacity_is in
@@ -337,8 +344,15 @@ module _ {V : Type 0} (seen : V → VolumeSeen) (volume : V) where
             (counted_first look (look begun) operator desk opens)
             (omega (arith, capacity, least, ap smaller_pages same)) opens.opens.stage;
         opened = opened;
-        opening = opening_then look (look begun) operator desk opens;
-        found = found_first look (look begun) operator desk opens;
+        opening = subst
+            (λ (older : List Entry). IfTold (look desk.volume).told
+            (λ t. IsOpeningThen (look desk.volume).capacities t.start (calls_of_last 0 older) t
+            opened.entry)) (sym none)
+            (opening_then look (look begun) operator desk opens 0 (begun_now begun begins));
+        found = λ start starts. subst
+            (λ (older : List Entry). IsFound (look desk.volume) (calls_of_last 0 older) start)
+            (sym none) (found_first look (look begun) operator desk opens 0
+            (begun_now begun begins) start starts);
         alive = tt;
         counted = count_has (look desk.volume).told opens.opens.calls opens.opens.counted;
         log_room = pages_first look (look begun) operator desk opens ∙ ap log_pages (sym same);

@@ -1,6 +1,6 @@
--- The entries of openings, and the log that each of them tells of.
-use Rattle.std.specs.Prelude.{◌≡◌, ◌≤◌, ◌+◌, ℕ, List, length}
-use Rattle.std.specs.List.{AllByRecursion}
+-- The entries of openings, and the log that each of them tells of: as the volume read before the
+-- first call of the opening.
+use Rattle.std.specs.Prelude.{◌≡◌, ◌≤◌, ◌+◌, ℕ, List, [], ◌∷◌, length}
 use Rattle.rg_engine.specs.Stored.{IsStored}
 use Rattle.rg_image.specs.Log.{log_of}
 use Rattle.rg_image.specs.Meaning.{current_of}
@@ -40,19 +40,26 @@ IfOpened P event = Unit {0}
 abbrev pub ReadSo : (P : Image → Type 0) → (start calls : ℕ) → Told → Type 0
 ReadSo P start calls t = (start + calls ≤ length t.calls) × P (read_at t (start + calls))
 
--- the entry is that of the opening of the log as the volume read after the calls of the entry, and
--- then it read sound
-abbrev pub IsOpeningThen : Capacities → (start : ℕ) → Told → Entry → Type 0
-IsOpeningThen capacities start t entry =
+-- the entry is that of the opening of the log as the volume read after so many calls, which are
+-- those up to the entry before, and then it read sound
+abbrev pub IsOpeningThen : Capacities → (start before : ℕ) → Told → Entry → Type 0
+IsOpeningThen capacities start before t entry =
     ReadSo (λ i. IsOpeningOf (log_of (log_pages capacities) i) entry × IsSound capacities i) start
-    entry.calls t
+    before t
 
 -- the table is the one that the log stored as the volume read then
-abbrev pub IsFoundThen : (pages start : ℕ) → Told → Entry → Table → Type 0
-IsFoundThen pages start t entry table =
-    ReadSo (λ i. IsStored (log_of pages i) table) start entry.calls t
+abbrev pub IsFoundThen : (pages start before : ℕ) → Told → Table → Type 0
+IsFoundThen pages start before t table =
+    ReadSo (λ i. IsStored (log_of pages i) table) start before t
 
--- each opening among the entries is that of the log as the volume read then, and it read sound
+-- each opening among these entries, which come after so many calls, is that of the log as the
+-- volume read before its own calls, and it read sound
+abbrev pub AreOpeningsFrom : Capacities → (start before : ℕ) → Told → List Entry → Type 0
+AreOpeningsFrom capacities start before t [] = Unit {0}
+AreOpeningsFrom capacities start before t (entry ∷ entries) =
+    IfOpened (IsOpeningThen capacities start before t entry) entry.event
+    × AreOpeningsFrom capacities start entry.calls t entries
+
+-- the same of a trace
 abbrev pub AreOpeningsSince : Capacities → (start : ℕ) → Told → List Entry → Type 0
-AreOpeningsSince capacities start t trace =
-    AllByRecursion (λ entry. IfOpened (IsOpeningThen capacities start t entry) entry.event) trace
+AreOpeningsSince capacities start t trace = AreOpeningsFrom capacities start 0 t trace

@@ -1,8 +1,9 @@
 -- A run over the deaths of its process.
 --
--- 1. A trace is in parts: each begins with an opening, and the process died before the next one.
+-- 1. A trace is in parts: each begins with an opening and has no other one. The process died before
+--    the next part.
 -- 2. The first part is legal from the table that the log stored when the run began, and each later
---    one from the table that it stored as the volume read at the opening of the part.
+--    one from the table that it stored as the volume read before the first call of its opening.
 -- 3. Where the volume is known and read tidy then, an opening finds what process death leaves of
 --    the part before. So the whole trace is legal from that table.
 use Rattle.std.specs.Prelude.{◌≡◌, ◌≤◌, ◌*◌, ◌⊎◌, ◌++◌, ℕ, Bool, true, false, List, [], ◌∷◌, Option}
@@ -34,40 +35,47 @@ use Rattle.rg_stmt.specs.declared.event.Entry.{Entry}
 use Rattle.rg_stmt.specs.declared.line.Line.{Line}
 use Rattle.rg_stmt.specs.declared.line.Line.TheVariants.{Death}
 use Rattle.rg_run.specs.Asked.{HasAnswered, answers_in}
-use Rattle.rg_run.specs.Fit.{FailedSince, FitSince, calls_of_last}
+use Rattle.rg_run.specs.Fit.{CountsAll, FailedSince, FitSince, calls_of_last}
 use Rattle.rg_run.specs.Full.{AreAllowed, smaller_pages}
 use Rattle.rg_run.specs.LogFull.{IsLogFullOnlyFrom}
 use Rattle.rg_run.specs.Space.{AreForSpace}
-use Rattle.rg_run.specs.Opening.{AreOpeningsSince, IsFoundThen, IsOpeningThen}
+use Rattle.rg_run.specs.Opening.{AreOpeningsSince, IfOpened, IsFoundThen, IsOpeningThen}
 use Rattle.rg_run.specs.Outside.{IsDeviceOnlyIf, WritesOwn}
 use Rattle.rg_run.specs.Played.{Goes, IsOpened, IsOpenedEntry, TraceOf, first_of}
 use Rattle.rg_run.specs.declared.played.RunEnd.{RunEnd}
 use Rattle.rg_run.specs.declared.played.RunEnd.TheVariants.{Whole, Down, Damaged, DeviceAtOpening}
 use Rattle.rg_run.specs.declared.played.RunEnd.TheVariants.{NoMemory}
 
--- the table is the one that the first of these entries found
-abbrev pub IsFoundBy : (Found : Entry → Table → Type 0) → List Entry → Table → Type 0
-IsFoundBy Found [] start = ⊥
-IsFoundBy Found (entry ∷ entries) start = Found entry start
-
 -- parts of a trace: the first is so from one of these tables, each later one from the table that
--- its first entry found
-pub data AreParts (First : Table → Type 0) (Found : Entry → Table → Type 0)
+-- was found after the calls up to the last entry before it
+pub data AreParts (First : Table → Type 0) (Found : (calls : ℕ) → Table → Type 0)
     (IsSo : Table → List Entry → Type 0) : List Entry → Type 0 where
   One : (part : List Entry) (start : Table) → First start → IsSo start part
       → AreParts First Found IsSo part
   Next : (before part : List Entry) (start : Table) → AreParts First Found IsSo before
-      → IsFoundBy Found part start → IsSo start part → AreParts First Found IsSo (before ++ part)
+      → Found (calls_of_last 0 before) start → IsSo start part
+      → AreParts First Found IsSo (before ++ part)
+
+-- a part begins with the entry of an opening, and has no other one
+abbrev pub OpensOnce : List Entry → Type 0
+OpensOnce [] = ⊥
+OpensOnce (entry ∷ entries) =
+    IsOpenedEntry entry × AllByRecursion (λ e. IfOpened ⊥ e.event) entries
+
+-- a part is legal from this table
+abbrev pub IsLegalPart : Table → List Entry → Type 0
+IsLegalPart start part = Legal start part × OpensOnce part
 
 -- A part is legal, its entries have allowed so many bytes before each FULL, and its utilities are
 -- on course.
 abbrev pub IsPart : (least : ℕ) → Table → List Entry → Type 0
-IsPart least start part = Legal start part × AreAllowed least start part × IsOnCourse part
+IsPart least start part =
+    Legal start part × AreAllowed least start part × IsOnCourse part × OpensOnce part
 
--- the table is the one that the log stored as the volume read at the entry of an opening
-abbrev pub IsFound : VolumeSeen → Entry → Table → Type 0
-IsFound seen entry table =
-    IfTold seen.told (λ t. IsFoundThen (log_pages seen.capacities) t.start t entry table)
+-- the table is the one that the log stored as the volume read after so many calls
+abbrev pub IsFound : VolumeSeen → (calls : ℕ) → Table → Type 0
+IsFound seen calls table =
+    IfTold seen.told (λ t. IsFoundThen (log_pages seen.capacities) t.start calls t table)
 
 -- it leads to this state from the table that these records store
 pub record RunsFrom (old : List Record) (trace : List Entry) (last : State) : Type 0 where
@@ -173,10 +181,11 @@ pub record Going {V O : Type 0} (look : V → VolumeSeen) (answers : O → Optio
   pub opened : IsOpened base
   pub opening :
       IfTold (look base.volume).told
-      (λ t. IsOpeningThen (look base.volume).capacities t.start t opened.entry)
+      (λ t. IsOpeningThen (look base.volume).capacities t.start (calls_of_last 0 base.older) t
+      opened.entry)
   pub found :
       (start : Table) → IsStored (old_records base) start
-      → IsFound (look base.volume) opened.entry start
+      → IsFound (look base.volume) (calls_of_last 0 base.older) start
   pub alive : AllByRecursion IsAlive back
   pub counted : HasCalls (look base.volume) 0
   pub log_room : base.ground.log.pages ≡ log_pages (look base.volume).capacities
@@ -188,20 +197,24 @@ pub record Going {V O : Type 0} (look : V → VolumeSeen) (answers : O → Optio
 abbrev pub DiesIn : List Line → Type 0
 DiesIn lines = (front : List Line) × (rest : List Line) × (lines ≡ front ++ Death ∷ rest)
 
--- The last part of the trace of these lines leads to this state, which is up or down. So does the
--- whole trace, where the volume read tidy. There is no other part where the process does not die.
+-- The last part of the trace of these lines leads to this state, which is up or down, from the
+-- table that its opening found. So does the whole trace, where the volume read tidy. There is no
+-- other part where the process does not die. Up to the last entry all calls were made.
 pub record LastPart (old : List Record) (seen : VolumeSeen) (lines : List Line)
     (trace : List Entry) (down : Bool) (last : State) : Type 0 where
   pub before : List Entry
   pub part : List Entry
   pub joined : trace ≡ before ++ part
+  pub once : OpensOnce part
   pub start : Table
+  pub found : IsFound seen (calls_of_last 0 before) start
   pub copy : ℕ
   pub run : Run [] (at_rest start copy) part last
   pub is : last.down ≡ down
   pub alone : (before ≡ []) ⊎ DiesIn lines
   pub whole : before ≡ [] → IsStored old start
   pub tidy : IfTidy seen (RunsFrom old trace last)
+  pub counted : IfTold seen.told (λ t. CountsAll t.start t trace)
 
 -- The last state is up, with so many committed rows, which whatever a crash leaves of the volume
 -- stores.

@@ -27,7 +27,6 @@ use Rattle.rg_image.specs.Log.{log_of}
 use Rattle.rg_image.specs.Rules.{IsTidyLog}
 use Rattle.rg_log.specs.Kept.{log_pages}
 use Rattle.rg_model.specs.Committed.{committed_table}
-use Rattle.rg_model.specs.Legal.{Legal}
 use Rattle.rg_model.specs.Run.{Run}
 use Rattle.rg_model.specs.State.{State, Table, at_rest, row_count}
 use Rattle.rg_outside.specs.Calls.{read_of}
@@ -35,12 +34,12 @@ use Rattle.rg_outside.specs.Moments.{EachImage}
 use Rattle.rg_record.specs.declared.record.Record.{Record}
 use Rattle.rg_stmt.specs.declared.event.Entry.{Entry}
 use Rattle.rg_stmt.specs.declared.line.Line.{Line}
-use Rattle.rg_run.specs.Fit.{FitSince}
+use Rattle.rg_run.specs.Fit.{CountsAll, FitSince, calls_of_last}
 use Rattle.rg_run.specs.Opening.{AreOpeningsSince, IsFoundThen, IsOpeningOf}
 use Rattle.rg_run.specs.Outside.{IfBoth, log_at}
 use Rattle.rg_stmt.specs.declared.line.Line.TheVariants.{Death}
 use Rattle.rg_run.specs.Full.{smaller_pages}
-use Rattle.rg_run.specs.Parts.{AreParts, DiesIn, IsPart, RunsFrom}
+use Rattle.rg_run.specs.Parts.{AreParts, DiesIn, IsLegalPart, IsPart, OpensOnce, RunsFrom}
 use Rattle.rg_run.specs.Played.{TraceOf, TraceOfFront}
 use Rattle.rg_run.specs.declared.played.RunEnd.{RunEnd}
 use Rattle.rg_run.specs.declared.played.RunEnd.TheVariants.{Whole, Down, Damaged, DeviceAtOpening}
@@ -58,18 +57,19 @@ IfBegunTidy old new P =
     IsTidyVolume old.capacities (read_of before.first before.calls)
     → P (log_at (log_pages old.capacities) before))
 
--- the table is the one that the log stored as the volume read at the entry of an opening
-abbrev pub Finds : (old new : VolumeSeen) → Entry → Table → Type 0
-Finds old new entry table =
+-- the table is the one that the log stored as the volume read after so many calls of the run
+abbrev pub Finds : (old new : VolumeSeen) → (calls : ℕ) → Table → Type 0
+Finds old new calls table =
     IfBoth old.told new.told (λ before t.
-    IsFoundThen (log_pages old.capacities) (length before.calls) t entry table)
+    IsFoundThen (log_pages old.capacities) (length before.calls) calls t table)
 
--- The first part is legal from that table, and each later part from the one that its opening found.
--- If the volume read tidy, the whole trace is legal from the first table.
+-- The first part is legal from that table, and each later part from the one that its opening found:
+-- the trace is cut at each opening. If the volume read tidy, the whole trace is legal from the
+-- first table.
 abbrev pub IsLegalRun : (old new : VolumeSeen) → List Entry → Type 0
 IsLegalRun old new [] = Unit {0}
 IsLegalRun old new (entry ∷ entries) =
-    AreParts (Begins old new) (Finds old new) Legal (entry ∷ entries)
+    AreParts (Begins old new) (Finds old new) IsLegalPart (entry ∷ entries)
     × IfBegunTidy old new (λ records. LegalFrom records (entry ∷ entries))
 
 -- From these tables, the entries of each part have allowed so many bytes for each page of the
@@ -84,7 +84,8 @@ IsAllowedRun per_page old new (entry ∷ entries) =
 abbrev pub IsRunOnCourse : (old new : VolumeSeen) → List Entry → Type 0
 IsRunOnCourse old new [] = Unit {0}
 IsRunOnCourse old new (entry ∷ entries) =
-    AreParts (Begins old new) (Finds old new) (λ start part. IsOnCourse part) (entry ∷ entries)
+    AreParts (Begins old new) (Finds old new) (λ start part. IsOnCourse part × OpensOnce part)
+    (entry ∷ entries)
 
 -- entry 0 is that of the opening of this log, if there is an entry
 abbrev pub OpensLog : List Record → List Entry → Type 0
@@ -97,7 +98,8 @@ IsOpening old new trace =
     IfBoth old.told new.told
     (λ before t. OpensLog (log_at (log_pages old.capacities) before) trace)
 
--- each opening is that of the log as the volume read then: entry 0, and each entry after a death
+-- each opening is that of the log as the volume read before the opening's first call: entry 0, and
+-- each entry after a death
 abbrev pub AreOpenings : (old new : VolumeSeen) → List Entry → Type 0
 AreOpenings old new trace =
     IfBoth old.told new.told (λ before t.
@@ -108,21 +110,26 @@ abbrev pub FitCalls : (old new : VolumeSeen) → List Entry → Type 0
 FitCalls old new trace =
     IfBoth old.told new.told (λ before t. FitSince (length before.calls) t trace)
 
--- The last part leads to this state, which is up or down. If the process does not die in these
--- lines, the trace has no other part, and it does so from that table. If the volume read tidy, the
--- whole trace leads to that state from it.
+-- The last part begins with the last opening, and leads to this state, which is up or down, from
+-- the table that the opening found. If the process does not die in these lines, the trace has no
+-- other part, and that table is the first one. If the volume read tidy, the whole trace leads to
+-- that state from the first table. Up to the last entry all calls were made.
 pub record EndsAt (old new : VolumeSeen) (lines : List Line) (trace : List Entry) (down : Bool)
     (last : State) : Type 0 where
   pub before : List Entry
   pub part : List Entry
   pub joined : trace ≡ before ++ part
+  pub once : OpensOnce part
   pub start : Table
+  pub found : Finds old new (calls_of_last 0 before) start
   pub copy : ℕ
   pub run : Run [] (at_rest start copy) part last
   pub is : last.down ≡ down
   pub alone : (before ≡ []) ⊎ DiesIn lines
   pub whole : before ≡ [] → Begins old new start
   pub tidy : IfBegunTidy old new (λ records. RunsFrom records trace last)
+  pub counted :
+      IfBoth old.told new.told (λ before t. CountsAll (length before.calls) t trace)
 
 -- Where there is an entry the first opening succeeded. If the volume read tidy when the run began,
 -- whatever a crash leaves of it at the end is sound and tidy.

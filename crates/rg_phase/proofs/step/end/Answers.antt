@@ -1,4 +1,4 @@
-use Rattle.std.proofs.Common.{◌≡◌, ℕ, true, Option, subst}
+use Rattle.std.proofs.Common.{◌≡◌, ℕ, true, Option, refl, subst}
 use Rattle.rg_base.specs.declared.session.Session.{Session}
 use Rattle.rg_model.specs.Turn.{turn_of}
 use Rattle.rg_rules.specs.Stage.NumbersOf.{numbers_of}
@@ -6,7 +6,7 @@ use Rattle.rg_laws_utility.specs.TraceStage.Tending.{is_plain}
 use Rattle.rg_phase.proofs.Loading.{space_at, space_unfilled}
 use Rattle.rg_phase.proofs.Making.{acts_booked, writes_none}
 use Rattle.rg_phase.proofs.Steps.{next_runs, runs_some}
-use Rattle.rg_phase.proofs.Told.{told_over}
+use Rattle.rg_phase.proofs.Told.{tells_unfilled, told_over}
 use Rattle.rg_phase.proofs.step.end.Goals as goal
 
 pub returns-clause-acts : goal.returns-clause-acts
@@ -31,7 +31,8 @@ returns-clause-acts g c =
     (runs_some old s c.requires.begun.stage) (writes_none look old)
     (next_runs old s c.args.task.now.answer event c.requires.begun.up c.requires.begun.stage
     is.booked next) is.booked
-    (λ stops. absurd (cc (stops, is.device)))
+    (λ stops. absurd (cc (stops, is.device))) (λ quiet. refl)
+    (tells_unfilled look old c.book.new.self event is.booked is.unfilled)
     (space_at old.stage s _ _ event c.requires.begun.stage (space_unfilled _ _ s event is.unfilled))
     (told_over made old.stage taken old.changes old.covered c.args.task.now.answer s event
     c.requires.over

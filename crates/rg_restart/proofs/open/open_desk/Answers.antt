@@ -26,8 +26,15 @@ returns-in-Ok-clause-opens g c =
     ok_both c.new.result
     (λ made. Opens look volume operator found.log found.copy (capacity_in found.space)
     (space_pages found.space) made.0)
-    (λ made. made.0.contents ≡ (list_seen (frames_of found.space)).pages)
+    (λ made. (made.0.contents ≡ (list_seen (frames_of found.space)).pages)
+    × (made.0.marks ≡ found.marks.items))
     (λ made. OpensStored look (look c.args.volume) operator made.0)
-    (λ made opens contents. opens_stored look (look c.args.volume) volume operator found made.0
-    c.in-Ok.ensures.looks opens contents)
-    c.new.ensures.opens c.new.ensures.contents
+    (λ made opens both. opens_stored look (look c.args.volume) volume operator found made.0
+    c.in-Ok.ensures.looks opens both.0 both.1)
+    c.new.ensures.opens
+    (ok_both c.new.result
+    (λ made. made.0.contents ≡ (list_seen (frames_of found.space)).pages)
+    (λ made. made.0.marks ≡ found.marks.items)
+    (λ made. (made.0.contents ≡ (list_seen (frames_of found.space)).pages)
+    × (made.0.marks ≡ found.marks.items)) (λ made contents marks. (contents, marks))
+    c.new.ensures.contents c.new.ensures.marks)

@@ -25,7 +25,7 @@ open_desk-requires g c = record {
 
 pub play-requires-clause-going : goal.play-requires-clause-going
 play-requires-clause-going g c = going_first g.V.Volume.seen c.args.volume c.new.result
-    g.O.Operator.answers c.args.operator c.in-Ok.desk
+    c.new.ensures g.O.Operator.answers c.args.operator c.in-Ok.desk
     c.in-Ok.ensures.opens (c.in-Ok.ensures.older ∙ c.new-2.ensures.items)
 
 pub play-requires-clause-kept : goal.play-requires-clause-kept

@@ -23,7 +23,7 @@ play-requires-clause-going g c =
     subst
     (λ (d : DeskState (CountedCalls g.row.V.Denot) g.row.O.Denot). Going look g.O.Operator.answers d
     [] d) (sym c.table-start.ensures.same)
-    (going_first g.V.Volume.seen c.args.volume c.new.result
+    (going_first g.V.Volume.seen c.args.volume c.new.result c.new.ensures
     g.O.Operator.answers c.args.operator c.in-Ok.desk c.in-Ok.ensures.opens
     (c.in-Ok.ensures.older ∙ c.new-2.ensures.items))
 

@@ -79,6 +79,7 @@ returns g c =
             ≡ d.ground.log.reserved + aside_for inside.stage) c.self.view_is refl;
       };
       contents = ap (λ d. d.contents) c.self.view_is;
+      marks = ap (λ d. d.marks) c.self.view_is;
       down = ap (λ d. d.down) c.self.view_is;
       volume = ap (λ d. d.volume) c.self.view_is;
       stays = record {

@@ -153,6 +153,7 @@ returns g c =
       };
       contents = ap (λ sp. (list_seen (frames_of sp)).pages) steps.engine.space
           ∙ ap (λ d. d.contents) c.self.view_is;
+      marks = ap (λ d. d.marks) c.self.view_is;
       down = ap (λ d. d.down) c.self.view_is;
       volume = ap (λ d. d.volume) c.self.view_is;
       stays = record {

@@ -1,5 +1,5 @@
 use Rattle.std.proofs.Common.{◌≡◌, ◌++◌, ℕ, Bool, false, List, [], ◌∷◌, take, length, Option, Some}
-use Rattle.std.proofs.Common.{IfSome, refl, sym, ◌∙◌, ap, subst}
+use Rattle.std.proofs.Common.{refl, sym, ◌∙◌, ap, subst}
 use Rattle.rg_base.specs.declared.verdict.StopReason.TheVariants as reasons
 use Rattle.rg_base.specs.declared.which.Which.TheVariants.{Key, Clus, Cat}
 use Rattle.rg_feed.specs.declared.fold.item.Stage.{Stage}
@@ -11,20 +11,22 @@ use Rattle.rg_space.specs.Space.{capacity_in}
 use Rattle.rg_rules.specs.Stage.NumbersOf.{numbers_of}
 use Rattle.rg_stmt.specs.declared.event.Entry.{Entry}
 use Rattle.rg_stmt.specs.declared.event.Event.TheVariants as events
-use Rattle.rg_base.specs.Copies.{other_of}
+use Rattle.rg_base.specs.Copies.{other_of, set_of}
+use Rattle.rg_outside.specs.Moments.{IfTold}
+use Rattle.rg_engine.specs.Flushed.{ReadsAll}
 use Rattle.rg_laws_utility.specs.TraceStage.Tending.{Tends, utility_entry}
 use Rattle.rg_desk.specs.Desk.{IsDesk, old_records}
 use Rattle.rg_engine.specs.Engine.{seen_in}
 use Rattle.rg_page.specs.Content.{Content}
 use Rattle.rg_engine.specs.OnVolume.{AreClean, SoundThroughout}
 use Rattle.rg_engine.proofs.Marks.{all_clean}
-use Rattle.rg_engine.specs.Prepared.{IsPrepared, KeepsPrepared, PreparedSeen, prepared_seen}
+use Rattle.rg_engine.specs.Prepared.{IsPrepared, KeepsPrepared, prepared_seen}
 use Rattle.rg_engine.specs.Turned.{LogsSwitch, Turns}
 use Rattle.rg_engine.specs.Volume.{CallsLog}
 use Rattle.rg_engine.specs.declared.engine.Engine.{Engine}
 use Rattle.rg_engine.specs.declared.prepared.Prepared.{Prepared}
-use Rattle.rg_desk.proofs.Committing.{by_result, fallen_goes, has_stage, none_open, old_on}
-use Rattle.rg_desk.proofs.Committing.{sound_on, stage_of, switched_goes}
+use Rattle.rg_desk.proofs.Committing.{by_result, fallen_goes, has_stage, new_side_is, none_open}
+use Rattle.rg_desk.proofs.Committing.{old_on, reads_on, sound_on, stage_of, switched_goes}
 use Rattle.rg_desk.proofs.DeskGoes.{calls_on}
 use Rattle.rg_feed.specs.Ends.{sent_items}
 use Rattle.rg_engine.specs.Sends.{KeepsItems}
@@ -250,6 +252,14 @@ returns-in-Ok-clause-ok g c =
     (sym (ap (λ d. old_records d) c.self.view_is))
     c.turn-turned.ensures.shade c.turn-turned.ensures.grant
     c.other-copy.result c.other-copy.ensures.is c.in-Ok.ensures.ok.mid after logs in
+    let reads = reads_on inside.engine inside.chronicle inside.origin inside.copy inside.marks.items
+    seen desk s inside.changes tends c.args.answer c.args.sides p is
+    g.row.V.Denot g.row.O.Denot c.args.self.now c.requires.can stage_is kept_is
+    (sym (ap (λ d. d.ground.log.records) c.self.view_is))
+    (sym (ap (λ d. d.ground.pages) c.self.view_is)) (sym (ap (λ d. d.trace) c.self.view_is))
+    (sym (ap (λ d. old_records d) c.self.view_is))
+    c.turn-turned.ensures.shade c.turn-turned.ensures.grant
+    c.other-copy.result c.other-copy.ensures.is c.in-Ok.ensures.ok.mid after logs in
     let old = ap (λ (l : Listed). take inside.origin.records l.records) log_is
     ∙ old_on inside.engine inside.chronicle inside.origin inside.copy inside.marks.items seen desk s
     inside.changes tends c.args.answer c.args.sides p is
@@ -292,19 +302,31 @@ returns-in-Ok-clause-ok g c =
       capacity = takes.capacity ∙ is.capacity
           ∙ ap (λ d. copy_capacity (look d.volume).capacities (other_of d.copy)) c.self.view_is;
       down = up;
-      taken = subst
-          (λ (o : Option PreparedSeen). IfSome o
-          (λ x. ((seen_in c.turn-turned.new.engine).pages ≡ x.shade.pages)
-          × (capacity_in c.turn-turned.new.engine.space ≡ x.shade.capacity)
-          × (c.turn-turned.new.engine.log.forced ≡ length c.turn-turned.new.engine.log.records)))
-          (sym kept_is) (
-            takes.pages,
-            takes.capacity,
-            ap (λ (l : Listed). l.forced) log_is ∙ c.in-Ok.ensures.ok.forced
-                ∙ ap (λ (l : Listed). length l.records) (sym log_is),
-          );
+      shadow = record { shade = p.shadow; records = p.records };
+      shadow_is = kept_is;
+      taken = (
+        takes.pages,
+        takes.capacity,
+        ap (λ (l : Listed). l.forced) log_is ∙ c.in-Ok.ensures.ok.forced
+            ∙ ap (λ (l : Listed). length l.records) (sym log_is),
+      );
       clean = subst (λ (ps : List Content). AreClean ps p.marks.items) (sym takes.pages)
           (all_clean p.shadow.pages p.marks.items is.marked);
+      reads =
+          subst
+          (λ (ps : List Content). IfTold after.told (ReadsAll (set_of c.other-copy.result) ps))
+          (sym takes.pages) (subst
+          (λ (n : ℕ). IfTold after.told (ReadsAll (set_of n) p.shadow.pages))
+          (sym c.other-copy.ensures.is) reads);
+      old_side = c.requires.can.old_side;
+      new_side =
+          new_side_is inside.engine inside.chronicle inside.origin inside.copy inside.marks.items
+          seen desk s inside.changes tends c.args.answer c.args.sides p is
+          g.row.V.Denot g.row.O.Denot c.args.self.now c.requires.can stage_is kept_is
+          (sym (ap (λ d. d.ground.log.records) c.self.view_is))
+          (sym (ap (λ d. d.ground.pages) c.self.view_is)) (sym (ap (λ d. d.trace) c.self.view_is))
+          (sym (ap (λ d. old_records d) c.self.view_is))
+          (seen_in c.turn-turned.new.engine).pages takes.pages;
       stays = record {
         older = c.push.ensures.older ∙ ap (λ d. d.older) c.self.view_is;
         log_pages = pages ∙ ap (λ d. d.ground.log.pages) c.self.view_is;
@@ -378,6 +400,7 @@ returns-in-Err-clause-err g c =
       copy = ap (λ d. d.copy) c.self.view_is;
       capacity = ap (λ (x : Engine). capacity_in x.space) logs.same
           ∙ ap (λ d. d.ground.capacity) c.self.view_is;
+      marks = ap (λ d. d.marks) c.self.view_is;
       down = refl;
       device = subst (λ v. Rose (look v).faults after.faults) volume_is c.in-Err.ensures.cause;
       stays = record {

@@ -135,6 +135,11 @@ returns-clause-made g c =
       log = subst (λ d. SaysLog d.ground session.0 stmt reply) c.self.view_is said.log;
       log_full = subst (λ d. IfLogFull reply (logged_by 0 d.trace) d.ground.log.pages)
           c.self.view_is said.log_full;
+      kept = λ is. (
+        (said.kept is).ground ∙ ap (λ d. d.ground) c.self.view_is,
+        (said.kept is).contents ∙ ap (λ d. d.contents) c.self.view_is,
+      );
+      marks = ap (λ d. d.marks) c.self.view_is;
       sound = subst
           (λ d. SoundThroughout
           (g.V.Volume.seen d.volume)

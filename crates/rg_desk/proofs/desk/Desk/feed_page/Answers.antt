@@ -1,10 +1,13 @@
 use Rattle.std.proofs.Common.{◌≡◌, ◌+◌, ◌++◌, ℕ, Bool, true, false, List, [], ◌∷◌, Option, Some}
 use Rattle.std.proofs.Common.{length, take, refl, sym, ◌∙◌, ap, subst}
 use Rattle.rg_laws_utility.specs.ByteAccount.Account.{allowed_of}
+use Rattle.rg_base.specs.declared.position.Position.{Position}
 use Rattle.rg_feed.specs.Ends.{sent_items}
 use Rattle.rg_feed.specs.declared.fold.item.Item.{Item}
 use Rattle.rg_feed.specs.declared.fold.item.Item.TheVariants.{PageCopy}
 use Rattle.rg_feed.specs.declared.fold.item.Stage.{Stage}
+use Rattle.rg_home.specs.Pages.{slot_of}
+use Rattle.rg_home.specs.Rows.{row_at}
 use Rattle.rg_log.specs.Kept.{Listed}
 use Rattle.rg_model.specs.Claims.{least_holder}
 use Rattle.rg_model.specs.Turn.{turn_of}
@@ -24,11 +27,11 @@ use Rattle.rg_engine.specs.Sends.{KeepsItems}
 use Rattle.rg_engine.specs.Utility.{StepsOn}
 use Rattle.rg_engine.specs.declared.prepared.Prepared.{Prepared}
 use Rattle.rg_desk.proofs.DeskUtility.{ground_same, step_on}
-use Rattle.rg_desk.proofs.Feeding.{copy_items, engine_rows, ground_still, next_plain, same_items}
+use Rattle.rg_desk.proofs.Feeding.{copy_items, engine_rows, next_plain, same_items}
 use Rattle.rg_engine.proofs.CopyOf.{none_high}
 use Rattle.rg_engine.proofs.Flushing.{own_same}
 use Rattle.rg_engine.proofs.Preparing.{prepared_same, prepared_while, seen_while}
-use Rattle.rg_engine.proofs.Same.{same_shows}
+use Rattle.rg_engine.proofs.Same.{ground_still, same_shows}
 use Rattle.rg_desk.proofs.Still.{desk_still}
 use Rattle.rg_desk.proofs.desk.Desk.feed_page.Goals as goal
 
@@ -209,6 +212,11 @@ returns-clause-made g c =
       position = record { 0 = length inside.engine.log.records };
       copied = copy.copied;
       rows_are = copy.count_is;
+      at = ap (λ d. let at : Position = record { 0 = length d.ground.log.records } in at)
+          c.self.view_is;
+      of_page = copy.of_page;
+      same = λ place here.
+          copy.rows place here ∙ ap (λ d. row_at (slot_of d.ground.pages) place) c.self.view_is;
       made = record {
         calls = calls;
         made =
@@ -264,6 +272,7 @@ returns-clause-made g c =
         };
         contents = ap (λ sp. (list_seen (frames_of sp)).pages) steps.engine.space ∙ same.contents
             ∙ ap (λ d. d.contents) c.self.view_is;
+        marks = ap (λ d. d.marks) c.self.view_is;
         down = ap (λ d. d.down) c.self.view_is;
         volume = ap (λ d. d.volume) c.self.view_is;
         stays = record {

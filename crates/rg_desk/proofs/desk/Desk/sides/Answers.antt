@@ -78,4 +78,4 @@ returns-clause-sides g c =
     (sym (ap (λ d. d.shadow) c.self.view_is)) (sym (ap (λ d. d.ground.log.records) c.self.view_is))
     (sym (ap (λ d. d.ground.pages) c.self.view_is))
     c.requires.drained c.requires.current (record { old = c.in_ok-old.old; new = c.in_ok-new.new })
-    c.in_ok-old.ensures.table c.in_ok-new.ensures.side
+    c.in_ok-old.ensures.table c.in_ok-old.ensures.is c.in_ok-new.ensures.side

@@ -140,6 +140,7 @@ returns-clause-made g c =
       };
       contents = ap (λ (x : Engine). (list_seen (frames_of x.space)).pages) set_aside
           ∙ ap (λ d. d.contents) c.self.view_is;
+      marks = ap (λ d. d.marks) c.self.view_is;
       down = ap (λ d. d.down) c.self.view_is;
       volume = ap (λ d. d.volume) c.self.view_is;
       stays = record {

@@ -3,7 +3,7 @@ use Rattle.rg_base.specs.declared.position.Position.{Position}
 use Rattle.rg_log.specs.Kept.{Listed}
 use Rattle.rg_engine.specs.Engine.{seen_in}
 use Rattle.rg_engine.specs.OnVolume.{AreClean}
-use Rattle.rg_engine.proofs.Flushing.{flush_clean, flush_refused}
+use Rattle.rg_engine.proofs.Flushing.{flush_clean, flush_from, flush_refused}
 use Rattle.rg_engine.proofs.engine.Engine.flush.Goals as goal
 
 pub returns-in_default : goal.returns-in_default
@@ -25,3 +25,10 @@ returns-in-Err g c =
     (g.V.Volume.seen c.args.volume.now)
     c.next_dirty.ensures.same on.is_on
     c.make_room.ensures.same
+
+pub returns-in-Ok : goal.returns-in-Ok
+returns-in-Ok g c =
+    flush_from c.args.copy c.args.self.now c.next_dirty.new.self c.write_page.new.self
+    c.args.marks.now.items c.make_room.new.marks.items c.write_page.new.marks.items
+    (g.V.Volume.seen c.args.volume.now) (g.V.Volume.seen c.write_page.new.volume)
+    c.write_page.result c.next_dirty.ensures.same c.make_room.ensures.same c.write_page.ensures

@@ -11,7 +11,7 @@ returns-in-Err g c =
     force_failed c.args.copy c.args.self.now c.spell-position.new.self c.force_to.new.self
     (seen c.args.volume.now) (seen c.force_to.new.volume) c.spell-position.ensures.same
     c.force_to.ensures.forces c.requires.counted
-    on.epoch c.args.marks.now.items on.is_on c.in-Err.ensures.cause
+    on.epoch c.args.marks.now.items c.args.number on.is_on c.requires.dirty c.in-Err.ensures.cause
 
 pub returns-in-Err-write : goal.returns-in-Err-write
 returns-in-Err-write g c =

@@ -1,5 +1,7 @@
 use Rattle.std.proofs.Common.{ℕ, length, Option, sym, ◌∙◌, ap, subst, arith}
 use Rattle.rg_desk.specs.Desk.{CanPrepare}
+use Rattle.rg_engine.proofs.CopyPagesLemmas.Stamping.{length-stamped_first}
+use Rattle.rg_engine.specs.CopyPages.Stamped.{stamped_all}
 use Rattle.rg_engine.specs.Prepared.{PreparedSeen}
 use Rattle.rg_image.specs.Rules.{copy_capacity}
 use Rattle.rg_shadow.specs.Shade.{Shade}
@@ -52,3 +54,15 @@ returns-in-Ok-clause-works g c =
       added_is inlet.items c.prepare_switch.new.self.feed
           (c.requires.hears.items ∙ sym (ap (λ d. d.feed) same)),
     )
+
+pub returns-in-Ok-clause-kept : goal.returns-in-Ok-clause-kept
+returns-in-Ok-clause-kept g c =
+    let at = length c.args.desk.now.ground.log.records in
+    let shade = c.into_shadow.result in
+    record {
+      shadow = record { shade = record shade { pages = stamped_all at shade.pages }; records = at };
+      shadow_is = ap (λ d. d.shadow) c.in-Ok.ensures.ok.same;
+      pages_are =
+          length-stamped_first at (length shade.pages) shade.pages
+          ∙ ap (λ (x : Shade). length x.pages) c.into_shadow.ensures ∙ sym c.count-pages.ensures;
+    }

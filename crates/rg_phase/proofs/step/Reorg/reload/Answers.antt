@@ -1,4 +1,4 @@
-use Rattle.std.proofs.Common.{◌≡◌, ℕ, subst}
+use Rattle.std.proofs.Common.{◌≡◌, ℕ, refl, subst}
 use Rattle.rg_image.specs.Rules.{copy_capacity}
 use Rattle.rg_laws_utility.specs.CopyWeight.Weighed.{weigh_feed}
 use Rattle.rg_base.specs.Copies.{other_of}
@@ -7,7 +7,7 @@ use Rattle.rg_phase.proofs.Loading.{reload_left, space_at}
 use Rattle.rg_phase.proofs.Making.{acts_booked, writes_none}
 use Rattle.rg_phase.proofs.Steps.{next_runs, runs_some}
 use Rattle.rg_phase.proofs.Stops.{reload_next}
-use Rattle.rg_phase.proofs.Told.{told_page}
+use Rattle.rg_phase.proofs.Told.{tells_page, told_page}
 use Rattle.rg_phase.proofs.step.Reorg.reload.Goals as goal
 
 pub reload_event-event-requires-clause-left : goal.reload_event-event-requires-clause-left
@@ -41,7 +41,9 @@ returns-clause-acts g c =
     old
     c.book.new.self event (runs_some old s c.requires.begun.stage) (writes_none look old) next
     is.booked
-    (λ stops. absurd (cc (stops, is.device)))
+    (λ stops. absurd (cc (stops, is.device))) (λ quiet. refl)
+    (tells_page look old c.book.new.self c.fill-filled.result event
+    c.reload_event-event.ensures.told)
     (space_at old.stage s _ (weigh_feed old.feed) event c.requires.begun.stage
     (subst (λ (n : ℕ). HasPagesFor n (weigh_feed old.feed) s event) capacity
     (c.reload_event-event.ensures.space (weigh_feed old.feed))))

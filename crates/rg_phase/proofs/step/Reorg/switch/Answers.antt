@@ -73,6 +73,6 @@ returns-in-Err-clause-acts g c =
     (acts_booked look mid answer c.args.self.now.made c.args.inlet.now.taken mid new event
     (runs_some mid s stage) (writes_none look mid)
     (next_runs mid s answer event up stage refl (stop_next s mid.changes mid.covered answer)) refl
-    (λ is. absurd (cc (is))) (space_at mid.stage s
+    (λ is. absurd (cc (is))) (λ is. refl) tt (space_at mid.stage s
     (copy_capacity (g.V.Volume.seen mid.volume).capacities (other_of mid.copy))
     (weigh_feed mid.feed) event stage tt) tt c.book.ensures)

@@ -35,6 +35,7 @@ returns-in-Ok-clause-acts g c =
     λ taken.
     acts_copied look old answer c.forget.new.self.made taken mid c.feed_page.new.self page rows
     (runs_some old s c.requires.begun.stage) (writes_forgotten look old mid c.forget.ensures.desk)
+    (ap (λ d. d.volume) c.forget.ensures.desk)
     (made_runs old s answer (events.Unload page rows) c.requires.begun.up c.requires.begun.stage
     refl
     (plain_some _ plain)) made
@@ -52,6 +53,7 @@ returns-in-Err-clause-acts g c =
     (runs_some old s c.requires.begun.stage)
     (writes_forgotten look old mid (c.in-Err.ensures.err ∙ c.forget.ensures.desk))
     (next_runs old s answer event c.requires.begun.up c.requires.begun.stage refl
-    (stop_next s old.changes old.covered answer)) refl (λ is. absurd (cc (is))) (space_at old.stage
+    (stop_next s old.changes old.covered answer)) refl (λ is. absurd (cc (is)))
+    (λ is. ap (λ d. d.volume) (c.in-Err.ensures.err ∙ c.forget.ensures.desk)) tt (space_at old.stage
     s (copy_capacity (g.V.Volume.seen old.volume).capacities (other_of old.copy))
     (weigh_feed old.feed) event c.requires.begun.stage tt) tt c.book.ensures

@@ -1,4 +1,4 @@
-use Rattle.std.proofs.Common.{◌≡◌, ℕ, true, Option, ◌∙◌, append-nil, subst}
+use Rattle.std.proofs.Common.{◌≡◌, ℕ, true, Option, ◌∙◌, append-nil, ap, subst}
 use Rattle.rg_base.specs.declared.session.Session.{Session}
 use Rattle.rg_model.specs.Turn.{turn_of}
 use Rattle.rg_rules.specs.Stage.NumbersOf.{numbers_of}
@@ -7,7 +7,7 @@ use Rattle.rg_phase.proofs.Loading.{space_at, space_or_stop}
 use Rattle.rg_phase.proofs.Making.{acts_booked, writes_shadow}
 use Rattle.rg_phase.proofs.Receiving.{works_on}
 use Rattle.rg_phase.proofs.Steps.{next_same, or_stop_next, runs_some}
-use Rattle.rg_phase.proofs.Told.{told_or_stop}
+use Rattle.rg_phase.proofs.Told.{tells_or_stop, told_or_stop}
 use Rattle.rg_phase.proofs.step.Reorg.work.Goals as goal
 
 pub book-requires-clause-next : goal.book-requires-clause-next
@@ -57,7 +57,9 @@ returns-clause-acts g c =
     c.make-made.new.inlet.taken
     c.make-made.new.desk c.book.new.self c.or_stop.result (runs_some old s c.requires.begun.stage)
     (writes_shadow look old c.make-made.new.desk c.make-made.ensures.desk) goes.2 goes.0
-    (λ is. absurd (cc (is, goes.1)))
+    (λ is. absurd (cc (is, goes.1))) (λ is. ap (λ d. d.volume) c.make-made.ensures.desk)
+    (tells_or_stop look old c.book.new.self event _ c.or_stop.result
+    c.next_event-event.ensures.booked c.next_event-event.ensures.unfilled c.or_stop.ensures)
     (space_at old.stage s _ _ c.or_stop.result c.requires.begun.stage
     (space_or_stop old.changes old.covered c.args.task.now.answer _ _ s event _ c.or_stop.result
     c.next_event-event.ensures.unfilled c.requires.unswitched next c.make-made.ensures.full

@@ -9,6 +9,7 @@ use Rattle.rg_phase.proofs.Loading.{space_at}
 use Rattle.rg_phase.proofs.Making.{acts_booked}
 use Rattle.rg_phase.proofs.Steps.{next_runs, runs_some}
 use Rattle.rg_phase.proofs.Stops.{device_next, stop_next, written_next}
+use Rattle.rg_phase.proofs.Told.{written_kept}
 use Rattle.rg_phase.proofs.step.Reorg.write.Goals.{in-Ok, in-Err-Device, in-Err-NoMemory}
 use Rattle.rg_phase.proofs.step.Reorg.write.Goals as goal
 use Rattle.rg_laws_utility.specs.CopyWeight.Weighed.{weigh_feed}
@@ -30,7 +31,11 @@ returns-clause-acts g c =
           (runs_some old s stage) c.put.ensures.writes
           (next_runs old s answer event up stage refl
           (written_next s answer c.args.granted c.requires.step old.changes w.in-Ok.pages
-          old.covered)) refl (λ is. absurd (cc (is)))
+          old.covered)) refl (λ is. absurd (cc (is))) (λ is. absurd (cc (is)))
+          (written_kept look old mid new s answer c.args.granted w.in-Ok.pages c.requires.step up
+          stage c.put.ensures.writes w.in-Ok.ensures.kept
+          (subst (λ (e : Event). MadeStep look mid (Some answer) e [] new) w.event-is
+          c.book.ensures))
           (space_at old.stage s
           (copy_capacity (g.V.Volume.seen old.volume).capacities (other_of old.copy))
           (weigh_feed old.feed) event stage tt) tt
@@ -43,6 +48,7 @@ returns-clause-acts g c =
           (next_runs old s answer event up stage refl
           (device_next s answer c.args.granted c.requires.step old.changes old.covered)) refl
           (λ is. c.put.ensures.device (w.in-Err-Device.is ∙ ap Err w.in-Err-Device.field-0-is))
+          (λ is. absurd (cc (is))) tt
           (space_at old.stage s
           (copy_capacity (g.V.Volume.seen old.volume).capacities (other_of old.copy))
           (weigh_feed old.feed) event stage tt) tt
@@ -54,6 +60,7 @@ returns-clause-acts g c =
           (runs_some old s stage) c.put.ensures.writes
           (next_runs old s answer event up stage refl (stop_next s old.changes old.covered answer))
           refl (λ is. absurd (cc (is)))
+          (λ is. c.put.ensures.none (w.in-Err-NoMemory.is ∙ ap Err w.in-Err-NoMemory.field-0-is)) tt
           (space_at old.stage s
           (copy_capacity (g.V.Volume.seen old.volume).capacities (other_of old.copy))
           (weigh_feed old.feed) event stage tt) tt
