@@ -4,5 +4,5 @@ use Rattle.rg_tests_run.proofs.deck.play_spelled.Goals as goal
 pub run_judged-requires : goal.run_judged-requires
 run_judged-requires c = lines_played c.in-Ok.lines.items c.in-Ok.ensures.lines.each
 
-pub run-requires : goal.run-requires
-run-requires c = lines_played c.in-Ok.lines.items c.in-Ok.ensures.lines.each
+pub run-played-requires : goal.run-played-requires
+run-played-requires c = lines_played c.in-Ok.lines.items c.in-Ok.ensures.lines.each
