@@ -1,6 +1,7 @@
 // The texts of layouts.
 //
-// 1. A layout is one line for the whole and one for its side. A switch has two sides, the old one first.
+// 1. A layout is one line for the whole and one for its side. A switch has two sides, the old one
+//    first.
 // 2. A side's line has its pages, its rows and how many of them were moved.
 // 3. A full print adds a line for each spot and one for each listing of an index.
 ghost use Rattle.std.specs.Prelude.{◌≡◌, ◌++◌, OnOk, count_by, flat_map};
