@@ -25,6 +25,7 @@ use Rattle.rg_space.specs.Space.{capacity_in}
 use Rattle.rg_engine.specs.Bytes.{taken_of}
 use Rattle.rg_engine.specs.Answers.{Answered, Asks, IfFull, Replies, forces, is_answer, is_device}
 use Rattle.rg_engine.specs.Answers.{is_served, needs_claim, state_left}
+use Rattle.rg_engine.specs.Effect.{IfDoneEffect}
 use Rattle.rg_engine.specs.Engine.{ground_of, seen_in, slots_in}
 use Rattle.rg_engine.specs.Left.{LeavesState, in_doubt}
 use Rattle.rg_engine.specs.Reopens.{IsCleanIn, PartsReopen}
@@ -284,6 +285,7 @@ drained_answers st allowed d shows session stmt classes is out =
       moves = no_moves d session stmt Drained refl;
       kept = λ is. record { ground = refl; contents = refl };
       capacity = refl;
+      effect = tt;
     }
 
 module _ (st : State) (allowed : ℕ) (d : Engine) (shows : Shows st allowed d) (session : Session)
@@ -367,6 +369,8 @@ module _ (st : State) (allowed : ℕ) (d : Engine) (shows : Shows st allowed d) 
       contents = ap (λ (x : Engine). (seen_in x).pages) e ∙ (goes.kept is).contents;
     };
     capacity = ap (λ (x : Engine). capacity_in x.space) e ∙ goes.capacity;
+    effect = subst (IfDoneEffect (ground_of d) session.0 stmt reply) (sym (ap ground_of e))
+        goes.effect;
   }
 
   pub refused_answers : is_done reply ≡ false → Answered st allowed d session stmt reply mid
@@ -391,6 +395,7 @@ module _ (st : State) (allowed : ℕ) (d : Engine) (shows : Shows st allowed d) 
     moves = goes.moves;
     kept = goes.kept;
     capacity = goes.capacity;
+    effect = goes.effect;
   }
 
 -- a statement that is no COMMIT asks nothing of the volume

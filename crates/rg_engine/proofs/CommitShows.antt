@@ -40,7 +40,8 @@ use Rattle.rg_laws_log.specs.LogState.Write.{own_of}
 use Rattle.rg_laws_log.proofs.LogStateLemmas.Own.{own_ended_other}
 use Rattle.rg_check.specs.OpenUnits.Unended.{left_of}
 use Rattle.rg_engine.specs.Ended.{HasEnded, commit_record, records_committed}
-use Rattle.rg_engine.specs.Engine.{HasPages, slots_in}
+use Rattle.rg_engine.specs.Effect.{AfterCommit, LeavesCommit}
+use Rattle.rg_engine.specs.Engine.{HasPages, ground_of, slots_in}
 use Rattle.rg_engine.specs.Newest.{KeepsNewest}
 use Rattle.rg_space.specs.Memory.{list_seen}
 use Rattle.rg_engine.specs.Moves.{Moves}
@@ -380,8 +381,42 @@ module _ (st : State) (allowed : ℕ) (d new : Engine) (session : Session)
       ended_found d session new unit (own_of unit.tran.0 s.writes) place has (one.walks, one.count)
       units (rows_found t stmts.Commit Done) (λ found. refl))
 
-  pub commit_goes : KeepsNewest d new → Goes st allowed d session stmts.Commit Done new
-  commit_goes newest = record {
+  -- what it leaves
+
+  pub idle_leaves : unit_at d.units session.0 ≡ None → new.log ≡ d.log → ground_of new ≡ ground_of d
+  idle_leaves none log =
+      let same : new.units ≡ d.units = units ∙ no_change none in
+      λ i. record {
+        pages = slots_in (record d { space = space i });
+        units = same i;
+        top = top i;
+        capacity = capacity_in (space i);
+        log = log i;
+      }
+
+  ended_leaves : (unit : OpenUnit) → unit_at d.units session.0 ≡ Some unit
+      → new.log.forced ≡ length new.log.records
+      → LeavesCommit (ground_of d) session.0 unit (ground_of new)
+  ended_leaves unit has forced = record {
+    records = one_record unit has;
+    forced = forced;
+    pages = ap (λ sp. slots_in (record d { space = sp })) space;
+    ends = record {
+      units = units;
+      own = ap (λ (us : List (Option OpenUnit)). unit_at us session.0) units
+          ∙ set_here d.units session.0 None place;
+      top = top;
+      capacity = ap (λ sp. capacity_in sp) space;
+      reserved = reserved;
+      log_pages = grows.pages;
+    };
+  }
+
+  pub commit_goes : KeepsNewest d new → (unit_at d.units session.0 ≡ None → new.log ≡ d.log)
+      → ((unit : OpenUnit) → unit_at d.units session.0 ≡ Some unit
+      → new.log.forced ≡ length new.log.records)
+      → Goes st allowed d session stmts.Commit Done new
+  commit_goes newest same forced = record {
     says = refl;
     room = tt;
     log = tt;
@@ -403,8 +438,14 @@ module _ (st : State) (allowed : ℕ) (d new : Engine) (session : Session)
     moves = go_moves (unit_at d.units session.0) refl;
     kept = λ is. absurd (cc (is));
     capacity = ap (λ sp. capacity_in sp) space;
+    effect = go_effect (unit_at d.units session.0) refl;
   }
     where
+      go_effect : (o : Option OpenUnit) → unit_at d.units session.0 ≡ o
+          → AfterCommit (ground_of d) session.0 o (ground_of new)
+      go_effect None e = idle_leaves e (same e)
+      go_effect (Some unit) e = ended_leaves unit e (forced unit e)
+
       go_moves : (o : Option OpenUnit) → unit_at d.units session.0 ≡ o
           → Moves d session stmts.Commit Done new
       go_moves None e = idle_moves e

@@ -7,7 +7,7 @@ use Rattle.rg_base.specs.declared.row.Row.{Row}
 use Rattle.rg_base.specs.declared.session.Session.{Session}
 use Rattle.rg_base.specs.declared.which.Which.{Which}
 use Rattle.rg_base.specs.declared.which.Which.TheVariants.{Key, Clus, Cat}
-use Rattle.rg_home.specs.Pages.{slot_of}
+use Rattle.rg_home.specs.Pages.{applied, row_or_empty, slot_of}
 use Rattle.rg_home.specs.Plan.{is_home, new_area, planned_put, planned_change, planned_drop}
 use Rattle.rg_home.specs.Rows.{row_at}
 use Rattle.rg_home.specs.Slot.{Slot}
@@ -24,7 +24,7 @@ use Rattle.rg_stmt.specs.declared.stmt.Stmt.{Stmt}
 use Rattle.rg_laws_log.specs.LogState.Act.{LogState}
 use Rattle.rg_laws_log.specs.LogState.Consistent.{IsConsistent}
 use Rattle.rg_laws_log.specs.LogState.Write.{key_of}
-use Rattle.rg_space.specs.Carries.{Carries}
+use Rattle.rg_space.specs.Carries.{Carries, cleared}
 use Rattle.rg_space.specs.Space.{capacity_in}
 use Rattle.rg_log.specs.Kept.{Listed}
 use Rattle.rg_engine.specs.Engine.{slots_in}
@@ -210,3 +210,20 @@ module _ (st : State) (allowed : ℕ) (d : Engine) (shows : Shows st allowed d) 
       (sym space) carries) e
       (space_newest d.log.records w.middle.log.records d.space w.middle.space
       (ap (λ (l : Listed). l.records) w.prepared.log) space e h)
+
+  -- and the pages are those that its records make
+  pub plan_slots : (more key : ℕ) (after : Option Row) (plan : Plan) (new : Engine)
+      → Plans more after plan → Wrote d session unit plan key after new
+      → slots_in new
+      ≡ applied unit.tran.0 (row_or_empty after) (cleared 0 (slots_in d) plan) plan.parts
+  plan_slots more key after plan new plans w =
+      let space = w.prepared.space in
+      let carries : Carries t 0 limit (slots_in d) after plan =
+      subst (λ (ps : List (List Slot)). Carries t 0 limit ps after plan) (sym shows.by.slots)
+      plans.carries in
+      w.put.slots
+      (subst (λ sp. Carries t 0 (capacity_in sp) (slots_in (record d { space = sp })) after plan)
+      (sym space) carries)
+      ∙ ap
+      (λ sp. applied t (row_or_empty after) (cleared 0 (slots_in (record d { space = sp })) plan)
+      plan.parts) space

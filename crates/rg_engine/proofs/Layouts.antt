@@ -1,5 +1,5 @@
 -- A layout changes nothing.
-use Rattle.std.proofs.Common.{◌≡◌, ◌==◌, ◌&&◌, not, ◌-◌, ℕ, Bool, true, false, Some, ◌∙◌, ap}
+use Rattle.std.proofs.Common.{◌≡◌, ◌==◌, ◌&&◌, not, ℕ, Bool, true, false, Some, ◌∙◌, ap}
 use Rattle.rg_base.proofs.Small.{nat_itself}
 use Rattle.rg_model.specs.Layout.{is_right_side}
 use Rattle.rg_model.specs.Possible.{state_shown}

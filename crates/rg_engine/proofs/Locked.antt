@@ -129,6 +129,7 @@ module _ (st : State) (allowed : ℕ) (d : Engine) (session : Session) (shows : 
     kept = λ is. absurd (cc (is));
     capacity =
         ap (λ sp. capacity_in sp) space ∙ ap (λ (x : Engine). capacity_in x.space) logged.same;
+    effect = tt;
   }
 
 -- whether there is a unit, as code asks it

@@ -96,6 +96,7 @@ module _ (st : State) (allowed : ℕ) (d : Engine) (shows : Shows st allowed d)
     moves = same_moves d session (Select key) (row_reply None) new refl same;
     kept = λ is. same_ground d new same;
     capacity = same.capacity;
+    effect = tt;
   }
   select_so key (Some row) new is same = record {
     says = sym is;
@@ -114,6 +115,7 @@ module _ (st : State) (allowed : ℕ) (d : Engine) (shows : Shows st allowed d)
     moves = same_moves d session (Select key) (row_reply (Some row)) new refl same;
     kept = λ is. same_ground d new same;
     capacity = same.capacity;
+    effect = tt;
   }
 
   pub select_goes : (key : ℕ) (found : Option Row) (reply : Reply) (new : Engine)
@@ -169,6 +171,7 @@ module _ (st : State) (allowed : ℕ) (d : Engine) (shows : Shows st allowed d)
         moves = same_moves d session (Scan lo hi) (Listed rows) new refl same;
         kept = λ is. same_ground d new same;
         capacity = same.capacity;
+        effect = tt;
       }
 
   -- FIND
@@ -263,6 +266,7 @@ module _ (st : State) (allowed : ℕ) (d : Engine) (shows : Shows st allowed d)
         moves = same_moves d session (Find cat) (Keyed keys) new refl same;
         kept = λ is. same_ground d new same;
         capacity = same.capacity;
+        effect = tt;
       }
 
   -- the layout

@@ -12,6 +12,7 @@ use Rattle.rg_laws_crash.specs.LogChain.Next.{AreNext, IsNext}
 use Rattle.rg_laws_crash.specs.LogChain.Tells.{Tells}
 use Rattle.rg_laws_crash.proofs.LogChainLemmas.Owing.{owes}
 use Rattle.rg_laws_crash.proofs.LogChainLemmas.Telling.{records_tell}
+use Rattle.rg_check.specs.OpenUnits.Unended.{left_of}
 use Rattle.rg_image.specs.Rules.{HasSpace, IsOpen, limit_of, owed}
 use Rattle.rg_home.specs.Able.{IsLive}
 use Rattle.rg_home.specs.Pages.{slot_of}
@@ -36,7 +37,8 @@ use Rattle.rg_space.specs.Space.{Agree, InStep, capacity_in, frames_of, summarie
 use Rattle.rg_stmt.specs.declared.stmt.Reply.TheVariants.{Done}
 use Rattle.rg_stmt.specs.declared.stmt.Stmt.TheVariants.{Rollback}
 use Rattle.rg_engine.specs.Ended.{EndsSession, records_committed, rolled_record, LogsRolledBack}
-use Rattle.rg_engine.specs.Engine.{slots_in}
+use Rattle.rg_engine.specs.Effect.{AfterRollback}
+use Rattle.rg_engine.specs.Engine.{ground_of, slots_in}
 use Rattle.rg_space.specs.Memory.{list_seen}
 use Rattle.rg_engine.specs.Shows.{KeyShown, Shows, left_by}
 use Rattle.rg_engine.specs.Steps.{Goes}
@@ -49,7 +51,7 @@ use Rattle.rg_engine.specs.Units.{owed_to, unit_at}
 use Rattle.rg_engine.specs.declared.engine.Engine.{Engine}
 use Rattle.rg_engine.specs.declared.units.OpenUnit.{OpenUnit}
 use Rattle.rg_engine.proofs.Appended.{acts_snoc}
-use Rattle.rg_engine.proofs.CommitShows.{idle_clean, idle_shows}
+use Rattle.rg_engine.proofs.CommitShows.{idle_clean, idle_leaves, idle_shows}
 use Rattle.rg_engine.proofs.Reopens.{same_parts}
 use Rattle.rg_engine.proofs.Keys.{same_or_not}
 use Rattle.rg_engine.proofs.Moving.{idle_end_moves}
@@ -62,6 +64,7 @@ use Rattle.rg_engine.proofs.Settled.{grows_same}
 use Rattle.rg_engine.proofs.Trails.{trail_other}
 use Rattle.rg_engine.proofs.UndoTrails.{next_more, trail_others, undo_of_tran, undo_tells, undos_of}
 use Rattle.rg_engine.proofs.UnitSlots.{at_within, set_here, set_there}
+use Rattle.rg_engine.proofs.WalkLists.{chain_length}
 
 -- no own writes are left
 none_left : (ws : List Write) (n : ℕ) → length ws + n ≡ n → ws ≡ []
@@ -282,6 +285,37 @@ module _ (st : State) (allowed : ℕ) (d : Engine) (session : Session) (shows : 
       (subst (Runs limit s) (sym so.acts) so.runs)
       (subst (λ (acts : List Act). own_of t (state s acts).writes ≡ []) (sym so.acts)
       (none_left (own_of t u.writes) unit.writes so.left)))
+      (record {
+        records = all ∙ sym so.still;
+        pages = ap (λ sp. slots_in (record mid { space = sp })) same_space ∙ sym so.still_pages;
+        forced =
+            ap (λ (l : Listed). l.forced) ended.log ∙ logged.base.forced ∙ so.base.forced;
+        count = omega (
+          arith,
+          chain_length d.log.records t 0 [] unit.last.0 (own_of t s.writes)
+              (left_of t d.log.records) (shows.trails.each session.0 unit has).lefts,
+          (shows.by.units.each session.0 unit has).count,
+        );
+        ends = record {
+          units = ended.units
+              ∙ ap (λ (us : List (Option OpenUnit)). set us session.0 None) (units ∙ so.units);
+          own = ap (λ (us : List (Option OpenUnit)). unit_at us session.0)
+              (ended.units
+              ∙ ap (λ (us : List (Option OpenUnit)). set us session.0 None) (units ∙ so.units))
+              ∙ set_here d.units session.0 None (omega (arith, low, shows.by.places));
+          top = ended.top ∙ top ∙ so.top;
+          capacity = ap (λ sp. capacity_in sp) same_space ∙ so.capacity;
+          reserved = omega (
+            arith,
+            ap owed_to has,
+            ap (λ (l : Listed). l.reserved) ended.log,
+            logged.reserved,
+            room,
+          );
+          log_pages =
+              ap (λ (l : Listed). l.pages) ended.log ∙ logged.base.pages ∙ so.base.pages;
+        };
+      })
 
   -- without a unit nothing is put back
   pub rollback_idle : (new : Engine) → unit_at d.units session.0 ≡ None → EndsSession d session new
@@ -331,6 +365,16 @@ module _ (st : State) (allowed : ℕ) (d : Engine) (session : Session) (shows : 
             (ap (λ (l : Listed). l.records) ended.log) ended.units (λ t. refl) refl refl refl;
         kept = λ is. absurd (cc (is));
         capacity = ap (λ sp. capacity_in sp) ended.space;
+        effect = subst
+            (λ (o : Option OpenUnit). AfterRollback (ground_of d) session.0 o (ground_of new))
+            (sym none)
+            (idle_leaves st allowed d new session shows low ended.space ended.indexes ended.top
+            ended.locks ended.claims ended.units
+            (ap (λ (l : Listed). l.records) ended.log
+            ∙ ap (records_committed d.log.records) (sym none))
+            (omega (arith, ap owed_to none, ap (λ (l : Listed). l.reserved) ended.log)) ended.opened
+            ended.set_aside (subst IsSettled (sym ended.log) shows.settled)
+            (grows_same d.log new.log ended.log) none ended.log);
       }
     where
       unlocked : (o : Option Lock) (k : ℕ) → KeyShown d.units (left_by shows.first d) o k

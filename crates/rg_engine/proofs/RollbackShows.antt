@@ -38,7 +38,8 @@ use Rattle.rg_stmt.specs.declared.stmt.Stmt.TheVariants as stmts
 use Rattle.rg_stmt.specs.declared.event.Entry.{Entry}
 use Rattle.rg_laws_utility.specs.RecordChanges.Changed.{changes_in, rows_after}
 use Rattle.rg_engine.specs.Bytes.{taken_of}
-use Rattle.rg_engine.specs.Engine.{HasPages, slots_in}
+use Rattle.rg_engine.specs.Effect.{AfterRollback, LeavesUndone}
+use Rattle.rg_engine.specs.Engine.{HasPages, ground_of, slots_in}
 use Rattle.rg_engine.specs.Moves.{AreOwn, rows_before}
 use Rattle.rg_engine.specs.Newest.{KeepsNewest}
 use Rattle.rg_engine.specs.Shows.{IsLocked, KeyShown, Shows, ShowsBy, UnitsShown, left_by}
@@ -153,9 +154,10 @@ module _ (st : State) (allowed : ℕ) (d new : Engine) (session : Session)
       → ((past : List Entry) → AllLoud past more) → length (changes_in more) ≡ unit.writes
       → rows_after (changes_in more)
       ≡ rows_before (own_of unit.tran.0 (left_by shows.first d).writes)
+      → LeavesUndone (ground_of d) session.0 unit (ground_of new)
       → Goes st allowed d session stmts.Rollback Done new
   rollback_goes slots indexes locks claims units top reserved taken log_pages newest trails next
-      loud made rows = record {
+      loud made rows leaves = record {
         says = refl;
         room = tt;
         log = tt;
@@ -194,6 +196,9 @@ module _ (st : State) (allowed : ℕ) (d new : Engine) (session : Session)
             (rows_found table_rows stmts.Rollback Done) (λ found. refl));
         kept = λ is. absurd (cc (is));
         capacity = capacity;
+        effect = subst
+            (λ (o : Option OpenUnit). AfterRollback (ground_of d) session.0 o (ground_of new))
+            (sym has) leaves;
       }
     where
       own_rows : (ws : List Write) → AreOwn d.log.records (Some unit) ws

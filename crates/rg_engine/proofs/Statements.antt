@@ -34,8 +34,8 @@ use Rattle.rg_engine.specs.Engine.{ground_of, slots_in}
 use Rattle.rg_log.specs.Kept.{Listed}
 use Rattle.rg_engine.specs.Room.{SaysLog, SaysRoom}
 use Rattle.rg_engine.specs.Shows.{Shows, left_by}
-use Rattle.rg_engine.specs.Steps.{Goes, IsUnitOf, new_unit}
-use Rattle.rg_engine.specs.Units.{unit_at}
+use Rattle.rg_engine.specs.Steps.{Goes, IsUnitOf}
+use Rattle.rg_engine.specs.Units.{new_unit, unit_at}
 use Rattle.rg_engine.specs.Wrote.{SameEngine}
 use Rattle.rg_engine.specs.declared.engine.Engine.{Engine}
 use Rattle.rg_engine.specs.declared.units.OpenUnit.{OpenUnit}
@@ -173,6 +173,7 @@ module _ (st : State) (allowed : ℕ) (d : Engine) (shows : Shows st allowed d)
     moves = no_moves d session stmt (Held owner) refl;
     kept = λ is. same_ground d d (same_engine d);
     capacity = refl;
+    effect = tt;
   }
 
   pub go_absent : (stmt : Stmt) → plain_reply st session stmt ≡ Absent
@@ -194,6 +195,7 @@ module _ (st : State) (allowed : ℕ) (d : Engine) (shows : Shows st allowed d)
     moves = no_moves d session stmt Absent refl;
     kept = λ is. same_ground d d (same_engine d);
     capacity = refl;
+    effect = tt;
   }
 
   pub go_duplicate : (stmt : Stmt) → plain_reply st session stmt ≡ Duplicate
@@ -215,6 +217,7 @@ module _ (st : State) (allowed : ℕ) (d : Engine) (shows : Shows st allowed d)
     moves = no_moves d session stmt Duplicate refl;
     kept = λ is. same_ground d d (same_engine d);
     capacity = refl;
+    effect = tt;
   }
 
   pub go_wanting : (stmt : Stmt) (new : Engine) → may_want_memory stmt ≡ true → SameEngine d new
@@ -236,6 +239,7 @@ module _ (st : State) (allowed : ℕ) (d : Engine) (shows : Shows st allowed d)
     moves = same_moves d session stmt NoMemory new refl same;
     kept = λ is. same_ground d new same;
     capacity = same.capacity;
+    effect = tt;
   }
 
   -- out of memory before anything was done
@@ -264,6 +268,7 @@ module _ (st : State) (allowed : ℕ) (d : Engine) (shows : Shows st allowed d)
     moves = same_moves d session stmt (Full need) new refl same;
     kept = λ is. same_ground d new same;
     capacity = same.capacity;
+    effect = tt;
   }
 
   pub go_log_full : (stmt : Stmt) (need left : ℕ) (new : Engine) → may_want_log stmt ≡ true
@@ -288,6 +293,7 @@ module _ (st : State) (allowed : ℕ) (d : Engine) (shows : Shows st allowed d)
     moves = same_moves d session stmt (LogFull need left) new refl same;
     kept = λ is. same_ground d new same;
     capacity = same.capacity;
+    effect = tt;
   }
 
   -- the plain table's replies

@@ -1,6 +1,6 @@
 -- How the undo of a unit begins, and how it ends.
 use Rattle.std.proofs.Common.{◌≡◌, ◌≤◌, ◌<◌, ◌+◌, ◌*◌, ℕ, zero, suc, true, List, [], ◌∷◌, Some}
-use Rattle.std.proofs.Common.{None, length, refl, sym, ◌∙◌, ap, subst, arith}
+use Rattle.std.proofs.Common.{◌++◌, None, length, refl, sym, ◌∙◌, ap, subst, arith}
 use Rattle.std.specs.Prelude.{slice_index_or}
 use Rattle.std.proofs.lemmas.List.{append-nil}
 use Rattle.rg_image.specs.Rules.{last_position, of_tran, owed}
@@ -20,6 +20,8 @@ use Rattle.rg_undo.specs.Undoing.{is_change}
 use Rattle.rg_log.specs.Kept.{Listed}
 use Rattle.rg_engine.specs.Bytes.{taken_of}
 use Rattle.rg_space.specs.Memory.{list_seen}
+use Rattle.rg_engine.specs.Effect.{pages_undone, records_undoing}
+use Rattle.rg_engine.specs.Engine.{slots_in}
 use Rattle.rg_engine.specs.Shows.{Shows, left_by}
 use Rattle.rg_engine.specs.Undoing.{AreChain, HasWrites}
 use Rattle.rg_engine.specs.Undone.{IsUndoing}
@@ -77,6 +79,11 @@ undo_begins st allowed d mid shows n unit work more has chain counts spare entri
     let trail = shows.trails.each n unit has in
     let t : ℕ = unit.tran.0 in
     let same : mid.log.records ≡ d.log.records = ap (λ (l : Listed). l.records) log in
+    let all : work ≡ left_of t d.log.records =
+    chain_one d.log.records t unit.last.0 (own_of t (left_by shows.first d).writes) work
+    (left_of t d.log.records) chain trail.lefts in
+    let slots : slots_in mid ≡ slots_in d =
+    ap (λ (f : ListFrames). slots_of (list_seen f).pages) frames in
     record {
       undos = [];
       are = tt;
@@ -85,10 +92,7 @@ undo_begins st allowed d mid shows n unit work more has chain counts spare entri
       records = same ∙ sym (append-nil d.log.records);
       acts = refl;
       follows = tt;
-      left_is =
-          chain_one d.log.records t unit.last.0 (own_of t (left_by shows.first d).writes) work
-          (left_of t d.log.records) chain trail.lefts
-          ∙ sym (ap (left_of t) same);
+      left_is = all ∙ sym (ap (left_of t) same);
       last = trail.last ∙ sym (ap (λ (rs : List Record). last_position 0 (of_tran t rs)) same);
       owes = omega (arith, ap (λ (rs : List Record). owed rs) same);
       capacity = capacity;
@@ -106,7 +110,7 @@ undo_begins st allowed d mid shows n unit work more has chain counts spare entri
             (subst (λ (f : ListFrames). Agree (list_seen f) (summaries_of d.space)) (sym frames)
             shows.by.pages.agree);
       };
-      slots = ap (λ (f : ListFrames). slots_of (list_seen f).pages) frames ∙ shows.by.slots;
+      slots = slots ∙ shows.by.slots;
       newest = frames_newest d.log.records mid.log.records d.space mid.space same frames;
       indexes = same_listings (row_at (slot_of (left_by shows.first d).pages)) d.indexes mid.indexes
           entries shows.by.indexes;
@@ -129,6 +133,10 @@ undo_begins st allowed d mid shows n unit work more has chain counts spare entri
       claims = claims;
       units = units;
       top = top;
+      still = sym
+          (λ i. same i
+          ++ records_undoing unit (length (same i) + 1) unit.last.0 (slots i) (all i));
+      still_pages = sym (λ i. pages_undone (slots i) (all i));
     }
 
 -- all is undone
@@ -174,4 +182,6 @@ undo_ends old s unit now work at back i so high =
           claims = so.claims;
           units = so.units;
           top = so.top;
+          still = so2.still;
+          still_pages = so2.still_pages;
         }

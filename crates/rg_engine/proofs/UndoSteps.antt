@@ -2,7 +2,7 @@
 use Rattle.std.proofs.Common.{◌≡◌, ◌≤◌, ◌<◌, ◌+◌, ◌*◌, ℕ, List, [], ◌∷◌, ◌++◌, Some, None, length}
 use Rattle.std.proofs.Common.{refl, sym, ◌∙◌, ap, subst, arith}
 use Rattle.std.specs.List.{AllByRecursion}
-use Rattle.std.proofs.lemmas.List.{append_assoc}
+use Rattle.std.proofs.lemmas.List.{append_assoc, length-append}
 use Rattle.rg_base.specs.declared.part.Part.{Part}
 use Rattle.rg_base.specs.declared.which.Which.{Which}
 use Rattle.rg_base.specs.declared.which.Which.TheVariants.{Key, Clus, Cat}
@@ -42,6 +42,7 @@ use Rattle.rg_laws_log.proofs.LogStateLemmas.Rolls.{undo_leaves, tail_is}
 use Rattle.rg_laws_log.proofs.LogStateLemmas.Runs.{runs_consistent}
 use Rattle.rg_space.specs.Space.{capacity_in}
 use Rattle.rg_undo.specs.Undoing.{later_of, undo_record, written_of}
+use Rattle.rg_engine.specs.Effect.{pages_undone, records_undoing}
 use Rattle.rg_engine.specs.Engine.{slots_in}
 use Rattle.rg_engine.specs.RecordList.{record_at}
 use Rattle.rg_engine.specs.Trails.{Trails}
@@ -275,6 +276,45 @@ module _ (old : Engine) (s : LogState) (good : IsConsistent (capacity_in old.spa
         ) in
         subst (HasSpace old.log.pages) records here_so
 
+    -- what is still to come
+    still_then : (n : NextUndo now u t at work)
+        → now.log.records
+        ++ records_undoing unit (length now.log.records + 1) back (slots_in now) work
+        ≡ new.log.records
+        ++ records_undoing unit (length new.log.records + 1) (length now.log.records + 1)
+        (slots_in new) left
+    still_then n =
+        let r : Record = undo_of n in
+        let entry : Record = change_record at t n.back n.write in
+        let records : now.log.records ++ r ∷ [] ≡ new.log.records =
+        sym (did.records t n.back n.write n.later n.work_is) in
+        let count : length now.log.records + 1 + 1 ≡ length new.log.records + 1 = omega (
+          arith,
+          ap (λ (rs : List Record). length rs) records,
+          length-append now.log.records (r ∷ []),
+        ) in
+        let slots : undone (slots_in now) (written_of entry) ≡ slots_in new =
+        sym (did.slots t n.back n.write n.later n.work_is) in
+        let later : n.later ≡ left = sym (did.left_is t n.back n.write n.later n.work_is) in
+        ap
+        (λ (ws : List Record). now.log.records
+        ++ records_undoing unit (length now.log.records + 1) back (slots_in now) ws) n.work_is
+        ∙ sym
+        (append_assoc now.log.records (r ∷ [])
+        (records_undoing unit (length now.log.records + 1 + 1) (length now.log.records + 1)
+        (undone (slots_in now) (written_of entry)) n.later))
+        ∙ (λ i. records i
+        ++ records_undoing unit (count i) (length now.log.records + 1) (slots i) (later i))
+
+    still_pages_then : (n : NextUndo now u t at work)
+        → pages_undone (slots_in now) work ≡ pages_undone (slots_in new) left
+    still_pages_then n =
+        let slots : undone (slots_in now) (written_of (change_record at t n.back n.write))
+        ≡ slots_in new =
+        sym (did.slots t n.back n.write n.later n.work_is) in
+        let later : n.later ≡ left = sym (did.left_is t n.back n.write n.later n.work_is) in
+        ap (pages_undone (slots_in now)) n.work_is ∙ (λ i. pages_undone (slots i) (later i))
+
     pub undo_goes : IsUndoing old s unit new left then_at (length now.log.records + 1) (i + 1)
     undo_goes =
         let n = next in
@@ -358,4 +398,6 @@ module _ (old : Engine) (s : LogState) (good : IsConsistent (capacity_in old.spa
           claims = did.claims ∙ so.claims;
           units = did.units ∙ so.units;
           top = did.top ∙ so.top;
+          still = so.still ∙ still_then n;
+          still_pages = so.still_pages ∙ still_pages_then n;
         }

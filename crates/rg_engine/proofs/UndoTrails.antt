@@ -18,7 +18,6 @@ use Rattle.rg_laws_crash.specs.LogChain.Next.{AreNext, IsNext}
 use Rattle.rg_laws_crash.specs.LogChain.Tells.{Tells}
 use Rattle.rg_laws_crash.proofs.LogChainLemmas.Telling.{acts_first, push_append, records_tell}
 use Rattle.rg_laws_log.specs.LogState.Act.{Act, LogState, state}
-use Rattle.rg_laws_log.specs.LogState.Act.{Purge, Change, Undo, Commit, Switch}
 use Rattle.rg_laws_log.specs.LogState.Closing.{AreUndos}
 use Rattle.rg_laws_log.specs.LogState.Consistent.{IsConsistent}
 use Rattle.rg_laws_log.specs.LogState.Lawful.{Runs}

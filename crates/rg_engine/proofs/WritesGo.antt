@@ -1,12 +1,13 @@
 -- How a write goes that was planned, from a state that the engine shows.
 use Rattle.std.proofs.Common.{◌≡◌, ◌≤◌, ◌<◌, ◌+◌, ◌*◌, ℕ, true, false, List, [], ◌∷◌, Option, Some}
-use Rattle.std.proofs.Common.{None, refl, sym, ◌∙◌, ap, subst, arith, ◌++◌}
+use Rattle.std.proofs.Common.{None, cond, nat_le, set, refl, sym, ◌∙◌, ap, subst, arith, ◌++◌}
+use Rattle.std.proofs.Common.{inl, inr}
 use Rattle.rg_base.specs.RowBytes.{row_size}
 use Rattle.rg_base.specs.declared.place.Place.{Place}
 use Rattle.rg_base.specs.declared.row.Row.{Row}
 use Rattle.rg_base.specs.declared.session.Session.{Session}
 use Rattle.rg_base.proofs.Small.{nat_itself}
-use Rattle.rg_home.specs.Pages.{slot_of}
+use Rattle.rg_home.specs.Pages.{applied, row_or_empty, slot_of}
 use Rattle.rg_home.specs.Plan.{is_home}
 use Rattle.rg_home.specs.Rows.{row_at}
 use Rattle.rg_home.specs.Slot.{Slot}
@@ -22,12 +23,14 @@ use Rattle.rg_stmt.specs.declared.stmt.Reply.TheVariants.{Done, Full, LogFull, N
 use Rattle.rg_stmt.specs.declared.stmt.Stmt.{Stmt}
 use Rattle.rg_stmt.specs.declared.stmt.Stmt.TheVariants.{Insert, Update, Delete}
 use Rattle.rg_laws_log.specs.LogState.Write.{key_of, write_of}
+use Rattle.rg_space.specs.Carries.{cleared}
 use Rattle.rg_space.specs.Space.{capacity_in}
 use Rattle.rg_space.specs.declared.fault.SpaceFault.{SpaceFault}
 use Rattle.rg_space.specs.declared.fault.SpaceFault.TheVariants as faults
 use Rattle.rg_image.specs.Pack.{log_bytes}
 use Rattle.rg_log.specs.Kept.{Listed, left_of}
-use Rattle.rg_engine.specs.Bytes.{most_needed, taken_of}
+use Rattle.rg_engine.specs.Bytes.{most_needed, needed, taken_of}
+use Rattle.rg_engine.specs.Effect.{LeavesPlan, unit_to_write, writer_in}
 use Rattle.rg_engine.specs.Engine.{ground_of, slots_in}
 use Rattle.rg_engine.specs.Planned.{IsRefusal, change_plan, drop_plan, put_plan, refused}
 use Rattle.rg_engine.specs.Shows.{Shows, left_by}
@@ -38,7 +41,8 @@ use Rattle.rg_engine.specs.Newest.{KeepsNewest}
 use Rattle.rg_engine.specs.Room.{HasPlan, IfNeeds}
 use Rattle.rg_engine.specs.Steps.{Goes, IsUnitOf}
 use Rattle.rg_engine.specs.Stored.{Grows}
-use Rattle.rg_engine.specs.Wrote.{Refuses, SameEngine, Writes, Wrote, records_wrote}
+use Rattle.rg_engine.specs.Units.{unit_at}
+use Rattle.rg_engine.specs.Wrote.{Refuses, SameEngine, Writes, Wrote, records_wrote, unit_wrote}
 use Rattle.rg_engine.specs.declared.engine.Engine.{Engine}
 use Rattle.rg_engine.specs.declared.units.OpenUnit.{OpenUnit}
 use Rattle.rg_engine.proofs.Appended.{more_wrote, wrote_more}
@@ -47,11 +51,14 @@ use Rattle.rg_engine.specs.Reopens.{IsCleanIn, KeepsParts, PartsReopen}
 use Rattle.rg_engine.proofs.Moving.{moves_since}
 use Rattle.rg_engine.proofs.NewestKept.{same_newest}
 use Rattle.rg_engine.proofs.Reopens.{same_clean, same_reopens}
-use Rattle.rg_engine.proofs.RoomSaid.{change_needs, change_room, drop_needs, put_needs, put_room}
+use Rattle.rg_engine.proofs.RoomSaid.{change_needs, change_planned, change_room, drop_needs}
+use Rattle.rg_engine.proofs.RoomSaid.{drop_planned, put_needs, put_planned, put_room}
 use Rattle.rg_engine.proofs.EngineWrites.{Plans, engine_change, engine_drop, engine_full_change}
 use Rattle.rg_engine.proofs.EngineWrites.{engine_full_put, engine_put, plan_clean, plan_listed}
 use Rattle.rg_engine.proofs.EngineWrites.{plan_moves, plan_newest, plan_parts, plan_shows}
+use Rattle.rg_engine.proofs.EngineWrites.{plan_slots}
 use Rattle.rg_engine.proofs.Statements.{go_full, go_log_full, go_wanting, same_unit, unit_for}
+use Rattle.rg_engine.proofs.UnitSlots.{set_here}
 use Rattle.rg_engine.proofs.UnitsWritten.{IsUnitFor}
 
 -- what is as it was is so after what is as it was
@@ -219,6 +226,56 @@ module _ (st : State) (allowed : ℕ) (d : Engine) (shows : Shows st allowed d) 
   wrote_newest more key after plan new plans w = λ e h. plan_newest st allowed mid shows_mid session
       unit own_mid more key after plan new plans w e (same_newest d mid same e h)
 
+  -- it leaves what its plan says
+
+  writer : unit ≡ writer_in (ground_of d) session.0
+  writer = go is_unit
+    where
+      go : IsUnitOf d session.0 unit → unit ≡ unit_to_write (unit_at d.units session.0) d.top
+      go (inl has) = ap (λ (o : Option OpenUnit). unit_to_write o d.top) (sym has)
+      go (inr new) =
+          new.1 ∙ ap (λ (o : Option OpenUnit). unit_to_write o d.top) (sym new.0)
+
+  wrote_leaves : (more key : ℕ) (after : Option Row) (plan : Plan) (new : Engine)
+      → PlansMid more after plan → session.0 < 256 → Wrote mid session unit plan key after new
+      → LeavesPlan (ground_of d) session.0 plan after (ground_of new)
+  wrote_leaves more key after plan new plans low w =
+      let log : w.middle.log
+      ≡ record d.log {
+        reserved = d.log.reserved + needed (unit_at d.units session.0) plan after;
+      } =
+      w.prepared.log
+      ∙ (λ i.
+      let now : Listed = record (same.log i) {
+        reserved =
+            (same.log i).reserved + needed (unit_at (same.units i) session.0) plan after;
+      } in
+      now) in
+      let units : w.middle.units ≡ d.units = w.prepared.units ∙ same.units in
+      let top : w.middle.top ≡ d.top = w.prepared.top ∙ same.top in
+      let wrote_unit : Option OpenUnit =
+      Some (unit_wrote d.log.records (writer_in (ground_of d) session.0) plan) in
+      let all : new.units ≡ set d.units session.0 wrote_unit =
+      w.put.units
+      ∙ (λ i. set (units i) session.0 (Some (unit_wrote (log i).records (writer i) plan))) in
+      record {
+        records = w.put.records
+            ∙ (λ i. records_wrote (log i).records (writer i) plan after);
+        pages = plan_slots st allowed mid shows_mid session unit own_mid more key after plan new
+            plans w
+            ∙ (λ i. applied (writer i).tran.0 (row_or_empty after) (cleared 0 (same.slots i) plan)
+            plan.parts);
+        units = all;
+        own = ap (λ (us : List (Option OpenUnit)). unit_at us session.0) all
+            ∙ set_here d.units session.0 wrote_unit (omega (arith, low, shows.by.places));
+        top = w.put.top
+            ∙ (λ i. cond (nat_le (writer i).tran.0 (top i)) (top i) (writer i).tran.0);
+        capacity = w.put.capacity ∙ ap (λ sp. capacity_in sp) w.prepared.space ∙ same.capacity;
+        forced = wrote_forced key after plan new w;
+        reserved = w.put.reserved ∙ ap (λ (l : Listed). l.reserved) log;
+        log_pages = w.put.base.pages ∙ ap (λ (l : Listed). l.pages) log;
+      }
+
   -- a write has room in the log as the engine had it
   within : (n : ℕ) → n ≤ left_of mid.log → n ≤ left_of d.log
   within n h = subst (λ (l : Listed). n ≤ left_of l) same.log h
@@ -310,6 +367,9 @@ module _ (st : State) (allowed : ℕ) (d : Engine) (shows : Shows st allowed d) 
             (sym (put_before row plan absent alone small is)));
         kept = λ is. absurd (cc (is));
         capacity = wrote (Insert row) (18 + row_size row) row.key (Some row) plan new done shown w;
+        effect = put_planned st allowed d shows session unit is_unit mid same row plan
+            (λ other. LeavesPlan (ground_of d) session.0 other (Some row) (ground_of new)) is
+            (wrote_leaves (18 + row_size row) row.key (Some row) plan new plans low w);
       }
   put_goes row plan (LogFull need left) new low absent alone small is done w =
       log_full (Insert row) _ need left new refl done w
@@ -356,6 +416,9 @@ module _ (st : State) (allowed : ℕ) (d : Engine) (shows : Shows st allowed d) 
             ∙ sym (change_before home old row plan there is_there alone key small is)));
         kept = λ is. absurd (cc (is));
         capacity = wrote (Update row) (18 + row_size row) row.key (Some row) plan new done shown w;
+        effect = change_planned st allowed d shows session unit is_unit mid same home old row plan
+            (λ other. LeavesPlan (ground_of d) session.0 other (Some row) (ground_of new)) there key
+            is (wrote_leaves (18 + row_size row) row.key (Some row) plan new plans low w);
       }
   change_goes home old row plan (LogFull need left) new low there is_there alone key small is done
       w =
@@ -404,6 +467,9 @@ module _ (st : State) (allowed : ℕ) (d : Engine) (shows : Shows st allowed d) 
             ∙ sym plans.0));
         kept = λ is. absurd (cc (is));
         capacity = wrote (Delete key) 0 key None plan new done shown w;
+        effect = drop_planned st allowed d shows session unit is_unit mid same home old key plan
+            (λ other. LeavesPlan (ground_of d) session.0 other None (ground_of new)) there of_key is
+            (wrote_leaves 0 key None plan new plans.1 low w);
       }
   drop_goes home old key plan (LogFull need left) new low there is_there alone of_key is done w =
       log_full (Delete key) _ need left new refl done w tt

@@ -27,6 +27,7 @@ use Rattle.rg_stmt.specs.declared.stmt.Reply.TheVariants.{Done, Victim, Drained,
 use Rattle.rg_stmt.specs.declared.stmt.Reply.TheVariants.{Device, Down, NoMemory}
 use Rattle.rg_stmt.specs.declared.stmt.Stmt.{Stmt}
 use Rattle.rg_stmt.specs.declared.stmt.Stmt.TheVariants.{Commit, Rollback}
+use Rattle.rg_engine.specs.Effect.{IfDoneEffect}
 use Rattle.rg_engine.specs.Engine.{ground_of}
 use Rattle.rg_engine.specs.Left.{LeavesState, in_doubt}
 use Rattle.rg_engine.specs.Moves.{Moves}
@@ -118,6 +119,7 @@ pub record Answered
   pub moves : IfUp reply (Moves old session stmt reply new)
   pub kept : leaves_ground reply ≡ true → KeepsGround old new
   pub capacity : capacity_in new.space ≡ capacity_in old.space
+  pub effect : IfDoneEffect (ground_of old) session.0 stmt reply (ground_of new)
 
 -- from each state that the engine shows
 abbrev pub Answers : Engine → Session → Stmt → Reply → Engine → Type 0

@@ -18,8 +18,9 @@ pub mod Shows
 pub mod Reopens
 pub mod Planned
 pub mod Moves
-pub mod Steps
 pub mod Ended
+pub mod Effect
+pub mod Steps
 pub mod Reads
 pub mod Undone
 pub mod Volume

@@ -32,7 +32,6 @@ use Rattle.rg_engine.specs.OnVolume.{WasAllTidy, mark_at}
 use Rattle.rg_outside.specs.Volume.{VolumeSeen}
 use Rattle.rg_engine.specs.declared.prepared.Prepared.{Prepared}
 use Rattle.rg_feed.specs.declared.fold.item.Stage.{Stage}
-use Rattle.rg_engine.specs.Answers.{forces}
 
 -- what callers see of it: the copy, and how many records the log had when it was written
 pub record PreparedSeen : Type 0 where

@@ -9,6 +9,7 @@
 --    the COMMIT or without.
 -- 3. A put or a change allows 18 bytes more than its row has.
 -- 4. The rows move as the records tell that it appends, unless it leaves the engine down.
+-- 5. At OK it leaves pages, units and records as its effect says.
 use Rattle.std.specs.Prelude.{◌≡◌, ◌≤◌, ◌+◌, ◌*◌, ℕ, Bool, true, false, Some, None, ◌⊎◌}
 use Rattle.std.specs.Prelude.{if◌then◌else◌}
 use Rattle.rg_base.specs.RowBytes.{row_size}
@@ -22,6 +23,7 @@ use Rattle.rg_model.specs.Said.{has_locks, may_want_log, may_want_memory, may_wa
 use Rattle.rg_model.specs.State.{State}
 use Rattle.rg_space.specs.Space.{capacity_in}
 use Rattle.rg_engine.specs.Bytes.{most_needed, taken_of}
+use Rattle.rg_engine.specs.Effect.{IfDoneEffect}
 use Rattle.rg_engine.specs.Engine.{ground_of}
 use Rattle.rg_engine.specs.Left.{LeavesState, in_doubt}
 use Rattle.rg_engine.specs.Moves.{Moves}
@@ -30,18 +32,10 @@ use Rattle.rg_engine.specs.Reopens.{IsCleanIn, KeepsParts}
 use Rattle.rg_engine.specs.Room.{SaysLog, SaysRoom}
 use Rattle.rg_engine.specs.Shows.{Shows}
 use Rattle.rg_engine.specs.Stored.{Grows}
-use Rattle.rg_engine.specs.Units.{unit_at}
+use Rattle.rg_engine.specs.Units.{new_unit, unit_at}
 use Rattle.rg_engine.specs.declared.engine.Engine.{Engine}
 use Rattle.rg_engine.specs.declared.units.OpenUnit.{OpenUnit}
 use Rattle.rg_engine.specs.Wrote.{KeepsGround}
-
--- the unit that a session begins with its first write
-abbrev pub new_unit : (number : ℕ) → OpenUnit
-new_unit number = record {
-  tran = record { 0 = number };
-  last = record { 0 = 0 };
-  writes = 0;
-}
 
 -- the unit of a session that is to write: its own, or a new one of the next number
 abbrev pub IsUnitOf : Engine → (n : ℕ) → OpenUnit → Type 0
@@ -128,6 +122,7 @@ pub record Goes
   pub moves : IfUp reply (Moves old session stmt reply new)
   pub kept : leaves_ground reply ≡ true → KeepsGround old new
   pub capacity : capacity_in new.space ≡ capacity_in old.space
+  pub effect : IfDoneEffect (ground_of old) session.0 stmt reply (ground_of new)
 
 -- from each state that the engine shows
 abbrev pub Steps : Engine → Session → Stmt → Reply → Engine → Type 0

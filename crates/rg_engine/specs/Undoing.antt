@@ -10,7 +10,6 @@ use Rattle.rg_home.specs.Undo.{undone}
 use Rattle.rg_index.specs.Listed.{SetsRow}
 use Rattle.rg_btree.specs.Indexes.Listings.{AreListedAt, AreListings, HasSpare}
 use Rattle.rg_laws_log.specs.LogState.Write.{Write}
-use Rattle.rg_record.specs.declared.record.Kind.TheVariants.{Change}
 use Rattle.rg_record.specs.declared.record.Record.{Record}
 use Rattle.rg_space.specs.Space.{capacity_in, summaries_of, undos_in}
 use Rattle.rg_undo.specs.Undoing.{CanUndoChange, is_change, undo_record, written_of}

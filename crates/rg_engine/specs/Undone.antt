@@ -15,6 +15,7 @@ use Rattle.rg_record.specs.declared.record.Record.{Record}
 use Rattle.rg_space.specs.Space.{capacity_in, undos_in}
 use Rattle.rg_check.specs.OpenUnits.Unended.{left_of}
 use Rattle.rg_engine.specs.Bytes.{taken_of}
+use Rattle.rg_engine.specs.Effect.{pages_undone, records_undoing}
 use Rattle.rg_engine.specs.Engine.{HasPages, slots_in}
 use Rattle.rg_engine.specs.Newest.{KeepsNewest}
 use Rattle.rg_engine.specs.Shows.{Shows, left_by}
@@ -23,7 +24,8 @@ use Rattle.rg_engine.specs.Undoing.{AreChain}
 use Rattle.rg_engine.specs.declared.engine.Engine.{Engine}
 use Rattle.rg_engine.specs.declared.units.OpenUnit.{OpenUnit}
 
--- i writes of this unit are undone, by lawful Undos from state s on; the others are still to come
+-- i writes of this unit are undone, by lawful Undos from state s on; the others are still to come.
+-- Once they are undone too the records and the pages are those that the undo of all leaves.
 pub record IsUndoing
     (old : Engine) (s : LogState) (unit : OpenUnit) (now : Engine) (work : List Record)
     (at back i : ℕ) : Type 0 where
@@ -55,6 +57,15 @@ pub record IsUndoing
   pub claims : now.claims ≡ old.claims
   pub units : now.units ≡ old.units
   pub top : now.top ≡ old.top
+  pub still :
+      old.log.records
+      ++ records_undoing unit (length old.log.records + 1) unit.last.0 (slots_in old)
+      (left_of unit.tran.0 old.log.records)
+      ≡ now.log.records
+      ++ records_undoing unit (length now.log.records + 1) back (slots_in now) work
+  pub still_pages :
+      pages_undone (slots_in old) (left_of unit.tran.0 old.log.records)
+      ≡ pages_undone (slots_in now) work
 
 -- all writes of this unit are undone, from each state that the engine showed; its last record is at
 -- `back` then

@@ -32,3 +32,11 @@ owed_to (Some unit) = 23 + 911 * unit.writes
 -- those of all units
 abbrev pub owed : List (Option OpenUnit) → ℕ
 owed units = sum_by owed_to units
+
+-- the unit that a session begins with its first write
+abbrev pub new_unit : (number : ℕ) → OpenUnit
+new_unit number = record {
+  tran = record { 0 = number };
+  last = record { 0 = 0 };
+  writes = 0;
+}

@@ -31,7 +31,6 @@ use Rattle.rg_engine.specs.Newest.{KeepsNewest}
 use Rattle.rg_engine.specs.Reopens.{IsCleanIn, KeepsParts}
 use Rattle.rg_engine.specs.Shows.{Shows}
 use Rattle.rg_engine.specs.declared.engine.Engine.{Engine}
-use Rattle.rg_model.specs.Changes.{changes}
 use Rattle.rg_rules.specs.Tally.Changed.{ChangeCount}
 
 -- a utility that has done nothing

@@ -20,7 +20,7 @@ use Rattle.rg_feed.proofs.FoldLemmas.Feeding.{later_ordered}
 use Rattle.rg_feed.proofs.FoldLemmas.Folds.{page_copies-append, since-append}
 use Rattle.rg_model.specs.Utility.{starts_utility}
 use Rattle.rg_laws_utility.proofs.QuietKeysLemmas.Louder.{none_hushed}
-use Rattle.rg_model.specs.Changes.{changes, unit_writes, writes_after}
+use Rattle.rg_model.specs.Changes.{unit_writes, writes_after}
 use Rattle.rg_engine.specs.ChangeFeed.Sending.{AreCopies, CopiesOne, HasMoved, KeepsSent}
 use Rattle.rg_engine.specs.ChangeFeed.Sending.{SameCopies, items_made}
 use Rattle.rg_feed.specs.SentItems.Keeps.{KeepsFeed, Rows, sent_changes}

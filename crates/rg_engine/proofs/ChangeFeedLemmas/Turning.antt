@@ -8,7 +8,6 @@ use Rattle.rg_base.specs.declared.control.Command.TheVariants as commands
 use Rattle.rg_base.specs.declared.options.DrainFor.{DrainFor}
 use Rattle.rg_base.specs.declared.options.DrainFor.TheVariants as what
 use Rattle.rg_base.specs.declared.options.DrainState.{DrainState}
-use Rattle.rg_base.specs.declared.options.DrainState.TheVariants as drains
 use Rattle.rg_base.specs.declared.session.Session.{Session}
 use Rattle.rg_base.specs.declared.step.Step.{Step}
 use Rattle.rg_base.specs.declared.step.Step.TheVariants as steps

@@ -1,4 +1,4 @@
-use Rattle.std.proofs.Common.{◌+◌, drop, sym, ◌∙◌, ap}
+use Rattle.std.proofs.Common.{◌+◌, drop, ◌∙◌}
 use Rattle.rg_laws_utility.specs.RecordChanges.Changed.{changes_in}
 use Rattle.rg_feed.specs.Ends.{sent_items}
 use Rattle.rg_engine.proofs.ChangeFeedLemmas.Walking.{rows_next, sent_next}

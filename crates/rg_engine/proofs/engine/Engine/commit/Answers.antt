@@ -33,6 +33,7 @@ returns-then-is_none-clause-steps g c = λ st allowed shows.
     ended.opened ended.set_aside (subst IsSettled (sym ended.log) shows.settled)
     (grows_same d.log _ ended.log)
     (space_newest d.log.records _ d.space _ (ap (λ (l : Listed). l.records) ended.log) ended.space)
+    (λ e. ended.log) (λ unit has. absurd (cc (none, has)))
 
 pub returns-in-Ok-clause-steps : goal.returns-in-Ok-clause-steps
 returns-in-Ok-clause-steps g c = λ st allowed shows.
@@ -69,6 +70,9 @@ returns-in-Ok-clause-steps g c = λ st allowed shows.
     })
     (λ e h. space_newest c.log_commit.new.self.log.records _ c.log_commit.new.self.space _
     (ap (λ (l : Listed). l.records) log) ended.space e (c.log_commit.ensures.newest e h))
+    (λ none. absurd (cc (none, unit.1)))
+    (λ one has. ap (λ (l : Listed). l.forced) log ∙ c.in-Ok.ensures.ok
+    ∙ ap (λ (l : Listed). length l.records) (sym log))
 
 pub returns-in-Err-clause-steps : goal.returns-in-Err-clause-steps
 returns-in-Err-clause-steps g c = λ st allowed shows.
