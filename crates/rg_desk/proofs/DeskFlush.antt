@@ -7,7 +7,7 @@ use Rattle.rg_base.specs.declared.position.Position.{Position}
 use Rattle.rg_model.specs.Possible.{next_state}
 use Rattle.rg_model.specs.Said.{if_allowed}
 use Rattle.rg_model.specs.State.{State}
-use Rattle.rg_page.specs.Content.{Content}
+use Rattle.rg_page.specs.Content.{Content, slots_of}
 use Rattle.rg_space.specs.Space.{capacity_in}
 use Rattle.rg_stmt.specs.declared.event.Actor.TheVariants as actors
 use Rattle.rg_stmt.specs.declared.event.Event.{Event}
@@ -15,7 +15,7 @@ use Rattle.rg_stmt.specs.declared.event.Event.TheVariants.{Clean, Flush, FlushDe
 use Rattle.rg_log.specs.Kept.{Listed, log_pages}
 use Rattle.rg_desk.specs.Chronicle.{ChronicleState, IsRecorded, system_entry}
 use Rattle.rg_desk.specs.Desk.{IsDesk}
-use Rattle.rg_engine.specs.Engine.{seen_in}
+use Rattle.rg_engine.specs.Engine.{ground_of, seen_in}
 use Rattle.rg_engine.specs.Flushed.{CallsOwn, FlushIs, IsFlush, TellsFlush, WritesEither}
 use Rattle.rg_engine.specs.Left.{LeavesState}
 use Rattle.rg_engine.specs.OnVolume.{RestsOn}
@@ -110,6 +110,7 @@ pub record Told (copy : ℕ) (down : Bool) (marks later : List (Option Position)
   pub capacity : capacity_in next.space ≡ capacity_in d.space
   pub set_aside : next.set_aside ≡ d.set_aside
   pub units : next.units ≡ d.units
+  pub top : next.top ≡ d.top
   pub calls : CallsOwn copy seen seen_after
 
 pub flush_told : (copy : ℕ) (down : Bool) (marks later : List (Option Position))
@@ -128,6 +129,7 @@ flush_told copy true marks later seen seen_after d event next tells =
       capacity = ap (λ (x : Engine). capacity_in x.space) same;
       set_aside = ap (λ (x : Engine). x.set_aside) same;
       units = ap (λ (x : Engine). x.units) same;
+      top = ap (λ (x : Engine). x.top) same;
       calls = subst (CallsOwn copy seen) (sym tells.3) (own_same copy seen);
     }
 flush_told copy false marks later seen seen_after d event next f = record {
@@ -138,5 +140,19 @@ flush_told copy false marks later seen seen_after d event next f = record {
   capacity = f.forces.capacity;
   set_aside = f.forces.set_aside;
   units = f.forces.units;
+  top = f.forces.top;
   calls = f.calls;
+}
+
+-- what writes are planned over is as it was, but for how much of the log is forced
+pub told_ground : (copy : ℕ) (down : Bool) (marks later : List (Option Position))
+    (seen seen_after : VolumeSeen) (d : Engine) (event : Event) (next : Engine)
+    → Told copy down marks later seen seen_after d event next
+    → ground_of next ≡ record (ground_of d) { log = record d.log { forced = next.log.forced } }
+told_ground copy down marks later seen seen_after d event next told = λ i. record {
+  pages = slots_of (told.contents i);
+  units = told.units i;
+  top = told.top i;
+  capacity = told.capacity i;
+  log = told.log i;
 }

@@ -64,6 +64,7 @@ use Rattle.rg_desk.specs.Desk.{AreKeys, IsAmong, IsBegun, IsDesk, is_reply}
 use Rattle.rg_engine.specs.Layouts.{IsLayout}
 use Rattle.rg_base.specs.Copies.{IsCopy}
 use Rattle.rg_base.proofs.Small.{cmp_one, nat_itself}
+use Rattle.rg_engine.specs.Effect.{IfDoneEffect}
 use Rattle.rg_engine.specs.Engine.{ground_of, seen_in}
 use Rattle.rg_engine.specs.Left.{LeavesState}
 use Rattle.rg_engine.specs.OnVolume.{CleanIfTidy, IsOn, IsOnVolume, RestsOn, WasAllTidy}
@@ -713,6 +714,7 @@ pub record Replied (d : Engine) (c : ChronicleState) (origin : Origin) (down : B
   pub set_aside : next.set_aside ≡ d.set_aside
   pub grows : Grows d.log next.log
   pub calls : CallsLog seen seen_after
+  pub effect : IfDoneEffect (ground_of d) session.0 stmt reply (ground_of next)
 
 reply_so : (stmt : Stmt) (reply : Reply) → is_answer stmt reply ≡ true → is_reply stmt reply ≡ true
 reply_so stmt Down e = refl
@@ -751,6 +753,9 @@ replied d c origin copy true marks seen desk session stmt reply next after seen_
       set_aside = ap (λ (x : Engine). x.set_aside) replies.1;
       grows = grows_same d.log next.log (ap (λ (x : Engine). x.log) replies.1);
       calls = subst (CallsLog seen) (sym replies.3) (same_calls seen);
+      effect = subst
+          (λ (r : Reply). IfDoneEffect (ground_of d) session.0 stmt r (ground_of next))
+          (sym replies.0) tt;
     }
 replied d c origin copy false marks seen desk session stmt reply next after seen_after replies =
     let answered = replies.0 desk.state (allowed_of desk.start c.trace) (desk.shown refl) in
@@ -775,6 +780,7 @@ replied d c origin copy false marks seen desk session stmt reply next after seen
       set_aside = answered.set_aside;
       grows = answered.grows;
       calls = replies.1.calls;
+      effect = answered.effect;
     }
 
 -- ---- the opening

@@ -51,6 +51,7 @@ use Rattle.rg_home.specs.Slot.{Slot}
 use Rattle.rg_image.specs.Log.{log_of}
 use Rattle.rg_image.specs.Pack.{log_bytes}
 use Rattle.rg_image.specs.Rules.{limit_of}
+use Rattle.rg_laws_crash.specs.SwitchRecord.Switched.{switch_to}
 use Rattle.rg_page.specs.Content.{Content, slots_of}
 use Rattle.rg_record.specs.declared.record.Record.{Record}
 use Rattle.rg_stmt.specs.Entries.{opened_entry, said_entry}
@@ -77,6 +78,7 @@ use Rattle.rg_stmt.specs.declared.layout.Side.{Side}
 use Rattle.rg_stmt.specs.declared.layout.Sides.{Sides}
 use Rattle.rg_engine.specs.Answers.{IfFull, IfLogFull, forces, is_answer, is_device}
 use Rattle.rg_engine.specs.Bytes.{taken_of}
+use Rattle.rg_engine.specs.Effect.{IfDoneEffect}
 use Rattle.rg_engine.specs.Flushed.{CallsOwn, FlushIs, ReadsAll}
 use Rattle.rg_engine.specs.Left.{LeavesState, StoresDuring, StoresLeft}
 use Rattle.rg_engine.specs.OnVolume.{AreClean, CleanIfTidy, IsOnVolume, LeavesCopies, RestsOn}
@@ -88,6 +90,7 @@ use Rattle.rg_engine.specs.Sends.{begin_items}
 use Rattle.rg_engine.specs.Shows.{Shows}
 use Rattle.rg_engine.specs.Steps.{leaves_ground}
 use Rattle.rg_engine.specs.Stored.{IsStored}
+use Rattle.rg_engine.specs.Units.{unit_at}
 use Rattle.rg_engine.specs.Utility.{IsNew}
 use Rattle.rg_engine.specs.Volume.{CallsLog, HasCalls, IsCount, LeavesIfTidy, WasTidy}
 use Rattle.rg_outside.specs.Told.{AddsAnswer, HandsOver}
@@ -208,6 +211,7 @@ pub record Opens {V O : Type 0}
   pub kept : desk.kept ≡ None
   pub shadow : desk.shadow ≡ None
   pub feed : desk.feed ≡ []
+  pub idle : (n : ℕ) → unit_at desk.ground.units n ≡ None
 
 -- the copy may have as many pages as before, and the log and the entries of earlier openings are as
 -- they were, and of the volume no page but the log's and the copy's was written
@@ -265,9 +269,11 @@ is_reply stmt reply = is_answer stmt reply
 -- failed. FULL stands in it exactly where there is no plan of the write, and then the entries
 -- before have allowed so many bytes. LOGFULL stands in it exactly where the log has less left than
 -- the write needs, which has a plan, and then the writes before have taken nearly all of it. Pages
--- and log are as they were, unless OK is answered, or DEVICE. What a crash leaves at each moment of
--- it is sound, and stores a table that process death leaves of the state before it. A COMMIT that
--- calls the volume may be in then, or not.
+-- and log are as they were, unless OK is answered, or DEVICE. At OK pages, units and records are
+-- those that its effect says: a write leaves those of its plan, a COMMIT its record, and a ROLLBACK
+-- an undo of each write of its unit. What a crash leaves at each moment of it is sound, and stores
+-- a table that process death leaves of the state before it. A COMMIT that calls the volume may be
+-- in then, or not.
 pub record MadeSaid {V O : Type 0}
     (look : V → VolumeSeen) (old : DeskState V O) (session : Session) (stmt : Stmt)
     (new : DeskState V O) : Type 0 where
@@ -301,6 +307,7 @@ pub record MadeSaid {V O : Type 0}
   pub utility : SameUtility old new
   pub later : old.changes ≤ new.changes
   pub stays : Stays look old new
+  pub effect : IfDoneEffect old.ground session.0 stmt reply new.ground
 
 -- A layout has one entry more, and calls no volume. What it shows is the layout of the pages.
 pub record MadeLayout {V O : Type 0} (look : V → VolumeSeen) (old new : DeskState V O) : Type 0
@@ -340,6 +347,9 @@ pub record MadeFlush {V O : Type 0} (look : V → VolumeSeen) (old new : DeskSta
     pub utility : SameUtility old new
     pub changes : new.changes ≡ old.changes
     pub stays : Stays look old new
+    pub ground :
+        new.ground
+        ≡ record old.ground { log = record old.ground.log { forced = new.ground.log.forced } }
 
 -- what a control statement is answered, over a copy of so many pages, and the stage then
 abbrev pub IsStart :
@@ -627,7 +637,8 @@ HasCopy desk p =
 
 -- A switch has one entry more, with the operator's answer and the number of calls up to it. The
 -- desk has the new copy from then on, and no page of it is still to be written: each reads as it is
--- in memory. The layouts are those of the pages before and of those now. All records are forced.
+-- in memory. The layouts are those of the pages before and of those now. All records are forced,
+-- the Switch record among them. No session has an open unit, before or then.
 pub record MadeSwitch {V O : Type 0} (look : V → VolumeSeen) (old : DeskState V O)
     (answer : Answer) (sides : Sides) (new : DeskState V O) : Type 0 where
   pub calls : ℕ
@@ -651,8 +662,18 @@ pub record MadeSwitch {V O : Type 0} (look : V → VolumeSeen) (old : DeskState 
   pub old_side : IsSideOf old.ground.pages sides.old
   pub new_side : IsSideOf (slots_of new.contents) sides.new
   pub stays : StaysOpened look old new
+  pub records :
+      new.ground.log.records
+      ≡ old.ground.log.records
+      ++ switch_to (length old.ground.log.records + 1) (other_of old.copy)
+      (length shadow.shade.pages)
+      ∷ []
+  pub units : new.ground.units ≡ old.ground.units
+  pub idle : (n : ℕ) → unit_at new.ground.units n ≡ None
+  pub top : new.ground.top ≡ old.ground.top
 
--- A switch that failed has one entry more, too. A call has failed, and the desk is down.
+-- A switch that failed has one entry more, too. A call has failed, and the desk is down. Units are
+-- as they were.
 pub record MadeFall {V O : Type 0} (look : V → VolumeSeen) (old : DeskState V O)
     (answer : Answer) (new : DeskState V O) : Type 0 where
   pub calls : ℕ
@@ -667,6 +688,7 @@ pub record MadeFall {V O : Type 0} (look : V → VolumeSeen) (old : DeskState V 
   pub down : new.down ≡ true
   pub device : Rose (look old.volume).faults (look new.volume).faults
   pub stays : StaysOpened look old new
+  pub units : new.ground.units ≡ old.ground.units
 
 -- the trace is legal from the table that these records store
 abbrev pub LegalFrom : List Record → List Entry → Type 0

@@ -1,6 +1,6 @@
-use Rattle.std.proofs.Common.{◌≡◌, ◌≤◌, inl, inr, ℕ, Option, Some, refl, sym, ◌∙◌, ap, subst}
+use Rattle.std.proofs.Common.{◌≤◌, inl, inr, ℕ, Option, Some, refl, sym, ◌∙◌, ap, subst}
 use Rattle.rg_base.specs.Copies.{other_of}
-use Rattle.rg_desk.specs.Desk.{DeskState, HasTaken, left_by_stage}
+use Rattle.rg_desk.specs.Desk.{HasTaken, left_by_stage}
 use Rattle.rg_feed.specs.declared.fold.item.Stage.{Stage}
 use Rattle.rg_image.specs.Rules.{copy_capacity}
 use Rattle.rg_outside.specs.Told.{AddsAnswer, HandsOver}

@@ -1,9 +1,11 @@
-use Rattle.std.proofs.Common.{◌≡◌, ◌++◌, ℕ, Bool, false, List, [], ◌∷◌, take, length, Option, Some}
+use Rattle.std.proofs.Common.{◌≡◌, ◌+◌, ◌++◌, ℕ, Bool, false, List, [], ◌∷◌, take, length, Option}
+use Rattle.std.proofs.Common.{Some}
 use Rattle.std.proofs.Common.{refl, sym, ◌∙◌, ap, subst}
 use Rattle.rg_base.specs.declared.verdict.StopReason.TheVariants as reasons
 use Rattle.rg_base.specs.declared.which.Which.TheVariants.{Key, Clus, Cat}
 use Rattle.rg_feed.specs.declared.fold.item.Stage.{Stage}
 use Rattle.rg_image.specs.Rules.{copy_capacity}
+use Rattle.rg_laws_crash.specs.SwitchRecord.Switched.{switch_to}
 use Rattle.rg_log.specs.Kept.{Listed}
 use Rattle.rg_outside.specs.Faults.{Rose}
 use Rattle.rg_model.specs.Turn.{alter}
@@ -22,8 +24,10 @@ use Rattle.rg_engine.specs.OnVolume.{AreClean, SoundThroughout}
 use Rattle.rg_engine.proofs.Marks.{all_clean}
 use Rattle.rg_engine.specs.Prepared.{IsPrepared, KeepsPrepared, prepared_seen}
 use Rattle.rg_engine.specs.Turned.{LogsSwitch, Turns}
+use Rattle.rg_engine.specs.Units.{unit_at}
 use Rattle.rg_engine.specs.Volume.{CallsLog}
 use Rattle.rg_engine.specs.declared.engine.Engine.{Engine}
+use Rattle.rg_engine.specs.declared.units.OpenUnit.{OpenUnit}
 use Rattle.rg_engine.specs.declared.prepared.Prepared.{Prepared}
 use Rattle.rg_desk.proofs.Committing.{by_result, fallen_goes, has_stage, new_side_is, none_open}
 use Rattle.rg_desk.proofs.Committing.{old_on, reads_on, sound_on, stage_of, switched_goes}
@@ -282,6 +286,8 @@ returns-in-Ok-clause-ok g c =
     let has = stage_of (c.next_stage-self-inside.result) c.other-copy.result c.args.sides
     (alter (numbers_of s) c.args.answer.command) followed in
     let copy_is = c.other-copy.ensures.is ∙ ap (λ d. other_of d.copy) c.self.view_is in
+    let units = turns_units c.other-copy.result p.shadow seen after inside.engine
+    c.turn-turned.new.engine c.in-Ok.ensures.ok in
     record {
       calls = calls;
       made =
@@ -342,6 +348,27 @@ returns-in-Ok-clause-ok g c =
         calls = subst (λ v. CallsLog (look v) after) volume_is logs.calls;
         sound = subst (λ v. SoundThroughout (look v) after) volume_is sound;
       };
+      records =
+          ap (λ (l : Listed). l.records) log_is ∙ logs.records
+          ∙ ap
+          (λ d. d.ground.log.records
+          ++ switch_to (length d.ground.log.records + 1) c.other-copy.result
+          (length p.shadow.pages) ∷ []) c.self.view_is
+          ∙ ap
+          (λ (n : ℕ). c.args.self.now.ground.log.records
+          ++ switch_to (length c.args.self.now.ground.log.records + 1) n
+          (length p.shadow.pages) ∷ []) copy_is;
+      units = units ∙ ap (λ d. d.ground.units) c.self.view_is;
+      idle = λ n. ap (λ (us : List (Option OpenUnit)). unit_at us n) units
+          ∙ none_open inside.engine inside.chronicle inside.origin inside.copy inside.marks.items
+          seen desk s inside.changes tends c.args.answer c.args.sides p is
+          g.row.V.Denot g.row.O.Denot c.args.self.now c.requires.can stage_is kept_is
+          (sym (ap (λ d. d.ground.log.records) c.self.view_is))
+          (sym (ap (λ d. d.ground.pages) c.self.view_is)) (sym (ap (λ d. d.trace) c.self.view_is))
+          (sym (ap (λ d. old_records d) c.self.view_is))
+          c.turn-turned.ensures.shade c.turn-turned.ensures.grant n;
+      top = ap (λ (x : Engine). x.top) takes.same ∙ ap (λ (x : Engine). x.top) logs.same
+          ∙ ap (λ d. d.ground.top) c.self.view_is;
     }
 
 pub returns-in-Err-clause-err : goal.returns-in-Err-clause-err
@@ -418,4 +445,5 @@ returns-in-Err-clause-err g c =
         calls = subst (λ v. CallsLog (look v) after) volume_is logs.calls;
         sound = subst (λ v. SoundThroughout (look v) after) volume_is sound;
       };
+      units = ap (λ (x : Engine). x.units) logs.same ∙ ap (λ d. d.ground.units) c.self.view_is;
     }

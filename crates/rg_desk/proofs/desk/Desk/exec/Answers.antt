@@ -7,6 +7,8 @@ use Rattle.rg_stmt.specs.declared.event.Entry.{Entry}
 use Rattle.rg_stmt.specs.declared.stmt.Reply.TheVariants.{Device, Done}
 use Rattle.rg_engine.specs.Answers.{IfFull, IfLogFull, forces, is_device}
 use Rattle.rg_desk.specs.Chronicle.{logged_by}
+use Rattle.rg_engine.specs.Effect.{IfDoneEffect}
+use Rattle.rg_engine.specs.Engine.{ground_of}
 use Rattle.rg_engine.specs.Room.{SaysLog, SaysRoom}
 use Rattle.rg_engine.specs.Stored.{IsStored}
 use Rattle.rg_model.specs.State.{Table}
@@ -192,4 +194,7 @@ returns-clause-made g c =
             (g.V.Volume.seen volume))
             c.self.view_is (own_calls inside.copy _ _ said.calls);
       };
+      effect = subst
+          (λ d. IfDoneEffect d.ground session.0 stmt reply (ground_of c.reply_to-reply.new.engine))
+          c.self.view_is said.effect;
     }

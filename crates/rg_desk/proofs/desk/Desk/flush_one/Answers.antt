@@ -7,7 +7,8 @@ use Rattle.rg_desk.specs.Desk.{KeepsRows, old_records}
 use Rattle.rg_engine.specs.Flushed.{CallsOwn, FlushIs}
 use Rattle.rg_engine.specs.Left.{StoresLeft}
 use Rattle.rg_engine.specs.OnVolume.{SoundThroughout}
-use Rattle.rg_desk.proofs.DeskFlush.{desk_flushed, flush_told}
+use Rattle.rg_engine.specs.Room.{Ground}
+use Rattle.rg_desk.proofs.DeskFlush.{desk_flushed, flush_told, told_ground}
 use Rattle.rg_desk.proofs.DeskGoes.{desk_room}
 use Rattle.rg_desk.proofs.Rows.{flushed_rows}
 use Rattle.rg_desk.proofs.Sounding.{flushed_sound}
@@ -143,4 +144,10 @@ returns-clause-made g c =
         ring = ap (λ d. d.ring) c.self.view_is;
         calls = subst (λ d. CallsOwn d.copy (look d.volume) after) c.self.view_is told.calls;
       };
+      ground = told_ground inside.copy inside.down inside.marks.items marks (look inside.volume)
+          after inside.engine event next told
+          ∙ ap
+          (λ d. let x : Ground =
+          record d.ground { log = record d.ground.log { forced = next.log.forced } } in
+          x) c.self.view_is;
     }

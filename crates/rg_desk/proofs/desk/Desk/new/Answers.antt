@@ -104,6 +104,7 @@ returns-in-Ok-clause-opens g c =
       kept = refl;
       shadow = refl;
       feed = c.in-Ok.ensures.sent;
+      idle = b.idle;
     }
 
 pub returns-in-Ok-clause-contents : goal.returns-in-Ok-clause-contents
