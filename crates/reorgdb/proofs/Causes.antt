@@ -991,6 +991,7 @@ module _ (words : List (List ℕ)) (source source_after sink sink_after : Seen)
     opening = traced.opening;
     openings = traced.openings;
     fit = traced.fit;
+    layout = traced.layout;
     sound = traced.sound;
     full = run_less 3200 3221 volume volume_after trace (omega arith) traced.full;
     course = traced.course;

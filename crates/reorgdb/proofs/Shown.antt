@@ -18,7 +18,10 @@ use Rattle.rg_model.specs.State.{State, Table, at_rest}
 use Rattle.rg_model.proofs.Overlay.{committed-at_rest}
 use Rattle.rg_base.specs.declared.set.Set.{Set}
 use Rattle.rg_print.specs.Print.{damaged_text, print_layout_text}
+use Rattle.rg_outside.specs.Calls.{read_of}
+use Rattle.rg_run.specs.Outside.{IfBoth}
 use Rattle.rg_run.specs.Played.{IsOpenedEntry, TraceOf}
+use Rattle.rg_run.specs.Shown.{IfLayout, IsLayoutOf, ShowsOpened}
 use Rattle.rg_run.specs.Parts.{DiesIn}
 use Rattle.rg_run.specs.Table.{Ends, EndsAt, EndsAtOpening, EndsWhole}
 use Rattle.rg_run.specs.declared.played.RunEnd.{RunEnd}
@@ -160,8 +163,9 @@ module _ (before after : VolumeSeen) (trace : List Entry) (down : Bool) (last : 
 
 layout_of : (before after : VolumeSeen) (trace : List Entry) (rows : ℕ) (text : List ℕ)
     → TraceOf (Show ∷ []) trace → EndsWhole before after (Show ∷ []) trace rows
-    → IsLayoutText trace text → ShowsLayout before after trace text
-layout_of before after trace rows text entries whole layout =
+    → ShowsOpened before after trace → IsLayoutText trace text
+    → ShowsLayout before after trace text
+layout_of before after trace rows text entries whole shown layout =
     let of : TraceOf (Show ∷ []) (layout.first ∷ layout.entry ∷ []) =
     subst (TraceOf (Show ∷ [])) layout.are entries in
     let start = whole.ends.start in
@@ -191,6 +195,11 @@ layout_of before after trace rows text entries whole layout =
       start = start;
       begun = whole.ends.whole (only_part before after trace false whole.last whole.ends);
       right = right.1;
+      of_pages =
+          subst
+          (λ (e : Event). IfBoth before.told after.told
+          (λ was t. IfLayout (IsLayoutOf before.capacities (read_of was.first was.calls)) e))
+          layout.event (subst (ShowsOpened before after) layout.are shown);
       count = rows;
       ends = whole;
       printed = layout.printed ∙ ap (λ c. print_layout_text c layout.side) right.0;
@@ -201,19 +210,19 @@ pub shows_whole : (before after : VolumeSeen) (words : List (List ℕ)) (source 
     (outcome : Outcome) (print : List ℕ)
     → end ≡ Whole rows → IfOk text (λ p. IsLayoutText trace p)
     → IfOk text (λ p. (outcome ≡ Shown) × (print ≡ p)) → OnErr text (outcome ≡ NoMemory)
-    → Ends before after (Show ∷ []) trace end → IsShow words
+    → Ends before after (Show ∷ []) trace end → ShowsOpened before after trace → IsShow words
     → ShowsTo outcome words source source before after trace print
 shows_whole before after words source trace rows end (Ok text) outcome print is
-    printed made none ends show =
+    printed made none ends opened show =
     let whole : Ends before after (Show ∷ []) trace (Whole rows) =
     subst (Ends before after (Show ∷ []) trace) is ends in
     rw (made.0, made.1) (
       show,
       refl,
-      layout_of before after trace rows text whole.0 whole.1 printed,
+      layout_of before after trace rows text whole.0 whole.1 opened printed,
     )
 shows_whole before after words source trace rows end (Err e) outcome print is
-    printed made none ends show =
+    printed made none ends opened show =
     let whole : Ends before after (Show ∷ []) trace (Whole rows) =
     subst (Ends before after (Show ∷ []) trace) is ends in
     rw (none) (show, refl, inr (TraceOfFront-whole (Show ∷ []) trace whole.0))

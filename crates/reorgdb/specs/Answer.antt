@@ -12,7 +12,9 @@ use Rattle.rg_print.specs.Print.{damaged_text, print_layout_text}
 use Rattle.rg_print.specs.declared.print.Close.{Close}
 use Rattle.rg_print.specs.declared.print.Close.TheVariants as closes
 use Rattle.rg_outside.specs.Volume.{VolumeSeen}
-use Rattle.rg_run.specs.Outside.{FailsAfter, IsEnd}
+use Rattle.rg_outside.specs.Calls.{read_of}
+use Rattle.rg_run.specs.Outside.{FailsAfter, IfBoth, IsEnd}
+use Rattle.rg_run.specs.Shown.{IsLayoutOf}
 use Rattle.rg_run.specs.Played.{TraceOf, TraceOfFront}
 use Rattle.rg_run.specs.Table.{Begins, EndsAtDown, EndsWhole}
 use Rattle.rg_run.specs.declared.played.RunEnd.TheVariants as ends
@@ -135,7 +137,8 @@ pub record IsLayoutText (trace : List Entry) (text : List ℕ) : Type 0 where
   pub printed : text ≡ print_layout_text copy side
 
 -- The trace is an opening and a layout of the copy that was opened. The layout is right for the
--- table that the log stored, and the text is that layout in full.
+-- table that the log stored. It is that of the pages that the log makes of those that were read.
+-- The text is that layout in full.
 pub record ShowsLayout
     (volume volume_after : VolumeSeen) (trace : List Entry) (text : List ℕ) : Type 0 where
   pub copy : ℕ
@@ -151,6 +154,9 @@ pub record ShowsLayout
   pub start : Table
   pub begun : Begins volume volume_after start
   pub right : is_right_side start side ≡ true
+  pub of_pages :
+      IfBoth volume.told volume_after.told
+      (λ before t. IsLayoutOf volume.capacities (read_of before.first before.calls) side)
   pub count : ℕ
   pub ends : EndsWhole volume volume_after (Show ∷ []) trace count
   pub printed : text ≡ print_layout_text copy side

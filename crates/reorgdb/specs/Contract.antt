@@ -13,6 +13,7 @@ use Rattle.rg_run.specs.Table.{IsRunOnCourse, KeepsSound}
 use Rattle.rg_image.specs.Rules.{limit_of}
 use Rattle.rg_log.specs.Kept.{log_pages}
 use Rattle.rg_run.specs.LogFull.{IsLogFullOnlyFrom}
+use Rattle.rg_run.specs.Shown.{ShowsOpened}
 use Rattle.rg_run.specs.Space.{AreForSpace}
 use Rattle.rg_stmt.specs.declared.event.Entry.{Entry}
 use Rattle.reorgdb.specs.Answer.{Seen, IsPlay, IsJudge, IsGen, IsShow, NeedsNoDeck, IsCommand}
@@ -40,10 +41,15 @@ pub record Completes (words : List (List ℕ)) (source source_after sink sink_af
   pub openings : AreOpenings volume volume_after trace
   -- A flush that says that a page was written has written that page to the set of the current copy,
   -- by its last call. Where an entry says DEVICE, a call has failed that was made since the entry
-  -- before. After a switch the set of the new copy reads as pages with the spots of the new layout,
-  -- and with no others. A call was made since the entry before only for an opening, a COMMIT, a
+  -- before. At WRITTEN the set of the other copy has as many pages. Before and after a switch that
+  -- set reads as pages with the spots of the new layout, and with no others. So does the set of the
+  -- current copy at a layout that comes after CLEAN, or after a switch, with no statement between
+  -- that is answered OK. A call was made since the entry before only for an opening, a COMMIT, a
   -- flush, WRITTEN, SWITCHED or STOP DEVICE.
   pub fit : FitCalls volume volume_after trace
+  -- A layout that comes next after the first opening is that of the pages that the log makes of
+  -- those that were read: one that the log does not name since the last Switch is as it was read.
+  pub layout : ShowsOpened volume volume_after trace
   -- From these tables, FULL is answered, and STOP NOSPACE comes once a list is sorted, only where
   -- 4,064 bytes for each page of the last opening, and 18 and its bytes for each row that was
   -- written since or put back while a utility ran, reach 3,200 for each page of the smaller copy.

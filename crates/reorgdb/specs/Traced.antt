@@ -6,6 +6,7 @@ use Rattle.rg_image.specs.Rules.{limit_of}
 use Rattle.rg_log.specs.Kept.{log_pages}
 use Rattle.rg_outside.specs.Faults.{Rose}
 use Rattle.rg_run.specs.LogFull.{IsLogFullOnlyFrom}
+use Rattle.rg_run.specs.Shown.{ShowsOpened}
 use Rattle.rg_run.specs.Space.{AreForSpace}
 use Rattle.rg_run.specs.Outside.{IsDeviceOnlyIf, MakesOnly, WritesOwn}
 use Rattle.rg_run.specs.Table.{FitCalls, AreOpenings, IsAllowedRun, IsLegalRun, IsOpening}
@@ -17,6 +18,7 @@ pub record Traced (old new : VolumeSeen) (trace : List Entry) : Type 0 where
   pub opening : IsOpening old new trace
   pub openings : AreOpenings old new trace
   pub fit : FitCalls old new trace
+  pub layout : ShowsOpened old new trace
   pub full : IsAllowedRun 3221 old new trace
   pub course : IsRunOnCourse old new trace
   pub log_full : IsLogFullOnlyFrom (limit_of (log_pages old.capacities)) 0 trace

@@ -15,6 +15,7 @@ ghost use Rattle.rg_outside.specs.Volume.{VolumeSeen};
 ghost use Rattle.rg_gen.specs.Deck.{deck_of};
 ghost use Rattle.rg_run.specs.Asked.{HasAnswered, answers_in};
 ghost use Rattle.rg_run.specs.Outside.{IsEnd};
+ghost use Rattle.rg_run.specs.Shown.{ShowsOpened};
 ghost use Rattle.rg_run.specs.Played.{IsPlayed};
 ghost use Rattle.rg_run.specs.Table.{Ends};
 ghost use Rattle.rg_run.specs.Whole.{Whole};
@@ -392,7 +393,8 @@ fn conclude(
 // A run of one line, which asks for the layout. That run does not end down.
 fn print_shown<V, O>(alloc: Global, played: Played<V, O>) -> Work<V, O>
     ensures shows { (before after : VolumeSeen) (words : List (List ℕ)) (source : Seen)
-        → Ends before after (Line.Show ∷ []) played.trace.items played.end → IsShow words
+        → Ends before after (Line.Show ∷ []) played.trace.items played.end
+        → ShowsOpened before after played.trace.items → IsShow words
         → ShowsTo result.end.outcome words source source before after result.trace.items
         result.end.text }
     ensures finds { (before after : VolumeSeen)
@@ -410,7 +412,8 @@ fn print_shown<V, O>(alloc: Global, played: Played<V, O>) -> Work<V, O>
 // What the trace of a run of one line that asks for the layout, and its end, come to.
 fn conclude_shown(alloc: Global, trace: &[Entry], end: RunEnd) -> Conclusion
     ensures shows { (before after : VolumeSeen) (words : List (List ℕ)) (source : Seen)
-        → Ends before after (Line.Show ∷ []) trace.now end → IsShow words
+        → Ends before after (Line.Show ∷ []) trace.now end → ShowsOpened before after trace.now
+        → IsShow words
         → ShowsTo result.outcome words source source before after trace.now result.text }
     ensures finds { (before after : VolumeSeen)
         → Ends before after (Line.Show ∷ []) trace.now end → IsEnd before after trace.now end

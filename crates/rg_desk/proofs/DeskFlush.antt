@@ -1,13 +1,16 @@
 -- The entry of a flush.
 use Rattle.std.proofs.Common.{◌≡◌, ◌≤◌, ◌++◌, ℕ, Bool, true, false, not, List, [], ◌∷◌, Option}
-use Rattle.std.proofs.Common.{Some, None, refl, sym, ◌∙◌, ap, subst, arith}
+use Rattle.std.proofs.Common.{Some, None, length, refl, sym, ◌∙◌, ap, subst, arith}
 use Rattle.rg_base.specs.Copies.{set_of}
 use Rattle.rg_laws_utility.specs.ByteAccount.Account.{allowed_of}
 use Rattle.rg_base.specs.declared.position.Position.{Position}
 use Rattle.rg_model.specs.Possible.{next_state}
 use Rattle.rg_model.specs.Said.{if_allowed}
 use Rattle.rg_model.specs.State.{State}
-use Rattle.rg_page.specs.Content.{Content, slots_of}
+use Rattle.rg_laws_crash.specs.PageVersions.Versions.{Spells}
+use Rattle.rg_outside.specs.Calls.{Told as VolumeTold, read_of}
+use Rattle.rg_outside.specs.Moments.{IfTold}
+use Rattle.rg_page.specs.Content.{Content, content_at, slots_of}
 use Rattle.rg_space.specs.Space.{capacity_in}
 use Rattle.rg_stmt.specs.declared.event.Actor.TheVariants as actors
 use Rattle.rg_stmt.specs.declared.event.Event.{Event}
@@ -16,9 +19,10 @@ use Rattle.rg_log.specs.Kept.{Listed, log_pages}
 use Rattle.rg_desk.specs.Chronicle.{ChronicleState, IsRecorded, system_entry}
 use Rattle.rg_desk.specs.Desk.{IsDesk}
 use Rattle.rg_engine.specs.Engine.{ground_of, seen_in}
-use Rattle.rg_engine.specs.Flushed.{CallsOwn, FlushIs, IsFlush, TellsFlush, WritesEither}
+use Rattle.rg_engine.specs.Flushed.{CallsOwn, FlushIs, IsFlush, ReadsAll, TellsFlush}
+use Rattle.rg_engine.specs.Flushed.{WritesEither}
 use Rattle.rg_engine.specs.Left.{LeavesState}
-use Rattle.rg_engine.specs.OnVolume.{RestsOn}
+use Rattle.rg_engine.specs.OnVolume.{AreClean, RestsOn}
 use Rattle.rg_engine.specs.Volume.{IsCount, LeavesIfTidy}
 use Rattle.rg_outside.specs.Volume.{VolumeSeen}
 use Rattle.rg_engine.specs.declared.engine.Engine.{Engine}
@@ -26,7 +30,7 @@ use Rattle.rg_engine.specs.declared.origin.Origin.{Origin}
 use Rattle.rg_laws_utility.specs.TraceStage.Tending.{IsSystem}
 use Rattle.rg_desk.proofs.DeskGoes.{desk_quiet}
 use Rattle.rg_engine.proofs.Flushing.{forces_clean, own_same}
-use Rattle.rg_engine.proofs.OnVolume.{tidy_then}
+use Rattle.rg_engine.proofs.OnVolume.{clean_reads, tidy_then}
 use Rattle.rg_engine.specs.Reopens.{IsCleanIn}
 use Rattle.rg_engine.proofs.Leaving.{on_calls}
 
@@ -54,6 +58,28 @@ allowed st up copy contents marks later old new FlushDevice is =
 allowed st up copy contents marks later old new FlushNoMemory is =
     ap (λ (b : Bool). if_allowed (not b) st) up
 allowed st up copy contents marks later old new event is = absurd is
+
+-- where no page of a desk that is up is still to be written, each reads as it is in memory
+pub reads_clean : (d : Engine) (c : ChronicleState) (origin : Origin) (copy : ℕ) (down : Bool)
+    (marks : List (Option Position)) (seen : VolumeSeen)
+    (desk : IsDesk d c origin copy down marks seen) → down ≡ false
+    → AreClean (seen_in d).pages marks
+    → IfTold seen.told (ReadsAll (set_of copy) (seen_in d).pages)
+reads_clean d c origin copy down marks seen desk up clean = go seen.told each
+  where
+    each : (p : ℕ) → 1 ≤ p → p ≤ length (seen_in d).pages
+        → IfTold seen.told
+        (λ t. Spells (read_of t.first t.calls (set_of copy) p) (content_at (seen_in d).pages p))
+    each p one high = clean_reads (desk.is_on up).epoch copy d.log d.space marks seen
+        (desk.shown up).settled.within (desk.is_on up).is_on p one high (clean p one high)
+
+    go : (told : Option VolumeTold)
+        → ((p : ℕ) → 1 ≤ p → p ≤ length (seen_in d).pages
+        → IfTold told
+        (λ t. Spells (read_of t.first t.calls (set_of copy) p) (content_at (seen_in d).pages p)))
+        → IfTold told (ReadsAll (set_of copy) (seen_in d).pages)
+    go None h = tt
+    go (Some t) h = h
 
 pub desk_flushed : (d : Engine) (c : ChronicleState) (origin : Origin) (copy : ℕ) (down : Bool)
     (marks : List (Option Position)) (seen : VolumeSeen)

@@ -309,7 +309,8 @@ pub record MadeSaid {V O : Type 0}
   pub stays : Stays look old new
   pub effect : IfDoneEffect old.ground session.0 stmt reply new.ground
 
--- A layout has one entry more, and calls no volume. What it shows is the layout of the pages.
+-- A layout has one entry more, and calls no volume. What it shows is the layout of the pages. Where
+-- all pages of a desk that is up are clean, they read as they are in memory.
 pub record MadeLayout {V O : Type 0} (look : V → VolumeSeen) (old new : DeskState V O) : Type 0
   where
     pub event : Event
@@ -317,8 +318,14 @@ pub record MadeLayout {V O : Type 0} (look : V → VolumeSeen) (old new : DeskSt
     pub made : new.trace ≡ old.trace ++ system_entry event calls ∷ []
     pub counted : IsCount (look new.volume) calls
     pub is : IsLayout old.copy event
+    pub was_down : old.down ≡ true → event ≡ events.LayoutDown
     pub side : ShowsSideOf old.ground.pages event
+    pub slots : old.ground.pages ≡ slots_of old.contents
+    pub reads :
+        old.down ≡ false → AreClean old.contents old.marks
+        → IfTold (look old.volume).told (ReadsAll (set_of old.copy) old.contents)
     pub ground : new.ground ≡ old.ground
+    pub contents : new.contents ≡ old.contents
     pub marks : new.marks ≡ old.marks
     pub down : new.down ≡ old.down
     pub volume : new.volume ≡ old.volume
@@ -547,7 +554,8 @@ pub record CanPrepare {V O : Type 0} (look : V → VolumeSeen) (desk : DeskState
       → IsTable (row_at (slot_of (shade_slots shade))) t
 
 -- The write of a new copy makes no entry. All is as it was, but for how much of the log is forced,
--- what is kept of the copy, and the volume, where no page of the current copy was written.
+-- what is kept of the copy, and the volume, where no page of the current copy was written. The
+-- pages of the copy that is kept read as they are in memory.
 pub record Prepares {V O : Type 0} (look : V → VolumeSeen) (old : DeskState V O)
     (shadow : Option PreparedSeen) (new : DeskState V O) : Type 0 where
   pub same : new ≡ record old { ground = new.ground; shadow = shadow; volume = new.volume }
@@ -556,6 +564,9 @@ pub record Prepares {V O : Type 0} (look : V → VolumeSeen) (old : DeskState V 
       ≡ record old.ground { log = record old.ground.log { forced = new.ground.log.forced } }
   pub calls : CallsOwn (other_of old.copy) (look old.volume) (look new.volume)
   pub sound : SoundThroughout (look old.volume) (look new.volume)
+  pub reads :
+      IfSome shadow
+      (λ p. IfTold (look new.volume).told (ReadsAll (set_of (other_of old.copy)) p.shade.pages))
 
 -- the new copy of these pages, each with this position, which is that of the last record
 abbrev pub written_seen : (at : ℕ) → Shade → Option PreparedSeen
@@ -637,8 +648,9 @@ HasCopy desk p =
 
 -- A switch has one entry more, with the operator's answer and the number of calls up to it. The
 -- desk has the new copy from then on, and no page of it is still to be written: each reads as it is
--- in memory. The layouts are those of the pages before and of those now. All records are forced,
--- the Switch record among them. No session has an open unit, before or then.
+-- in memory, and did so before the switch. The layouts are those of the pages before and of those
+-- now. All records are forced, the Switch record among them. No session has an open unit, before or
+-- then.
 pub record MadeSwitch {V O : Type 0} (look : V → VolumeSeen) (old : DeskState V O)
     (answer : Answer) (sides : Sides) (new : DeskState V O) : Type 0 where
   pub calls : ℕ
@@ -659,6 +671,7 @@ pub record MadeSwitch {V O : Type 0} (look : V → VolumeSeen) (old : DeskState 
   pub taken : HasCopy new shadow
   pub clean : AreClean new.contents new.marks
   pub reads : IfTold (look new.volume).told (ReadsAll (set_of new.copy) new.contents)
+  pub ready : IfTold (look old.volume).told (ReadsAll (set_of new.copy) new.contents)
   pub old_side : IsSideOf old.ground.pages sides.old
   pub new_side : IsSideOf (slots_of new.contents) sides.new
   pub stays : StaysOpened look old new

@@ -311,6 +311,7 @@ fn tell_layout(engine: &mut Engine, copy: TableCopy, down: bool) -> Event
     ensures ground { ground_of engine.new ≡ ground_of engine.old }
     ensures opened { engine.new.opened ≡ engine.old.opened }
     ensures is { IsLayout copy result }
+    ensures was_down { down ≡ true → result ≡ Event.LayoutDown }
     ensures side { ShowsSideOf (slots_in engine.old) result }
     ensures right { (st : State) (allowed : ℕ) → (down ≡ false → Shows st allowed engine.old)
         → st.down ≡ down → st.copy ≡ copy → next_state [] None actors.System result st ≡ Some st }

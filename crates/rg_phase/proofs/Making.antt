@@ -1,6 +1,7 @@
 -- One entry of a step is made, whatever the step did before it.
-use Rattle.std.proofs.Common.{◌≡◌, ◌++◌, inl, inr, ℕ, Bool, true, false, List, [], ◌∷◌, Option}
-use Rattle.std.proofs.Common.{Some, None, IfSome, take, refl, sym, ◌∙◌, ap, subst, arith}
+use Rattle.std.proofs.Common.{◌≡◌, ◌==◌, ◌++◌, if◌then◌else◌, inl, inr, ℕ, Bool, true, false, List}
+use Rattle.std.proofs.Common.{[], ◌∷◌, Option, Some, None, IfSome, take, refl, sym, ◌∙◌, ap, subst}
+use Rattle.std.proofs.Common.{arith}
 use Rattle.std.specs.Option.{is_some}
 use Rattle.rg_base.specs.declared.control.Answer.{Answer}
 use Rattle.rg_base.specs.declared.session.Session.{Session}
@@ -31,8 +32,8 @@ use Rattle.rg_laws_utility.specs.Course.Loading.{Loading, loading_after}
 use Rattle.rg_image.specs.Rules.{copy_capacity}
 use Rattle.rg_phase.specs.Made.{IsAsMade}
 use Rattle.rg_phase.specs.declared.made.Made.{Made}
-use Rattle.rg_phase.specs.Step.{Acts, HasPagesFor, IsSwitchFrom, Loads, Makes, NextMade, copy_left}
-use Rattle.rg_phase.specs.Step.{TellsCopy, is_device_stop, is_made, may_call}
+use Rattle.rg_phase.specs.Step.{Acts, HasPagesFor, IsSwitchFrom, KeepsPages, Loads, Makes}
+use Rattle.rg_phase.specs.Step.{NextMade, TellsCopy, copy_left, is_device_stop, is_made, may_call}
 use Rattle.rg_phase.proofs.Loading.{shows_none, shows_same, shows_step, shows_switched, space_any}
 use Rattle.rg_phase.specs.Working.{Writes}
 
@@ -51,6 +52,22 @@ booked_from : (copy : ℕ) (event : Event) → is_booked event ≡ true → IsSw
 booked_from copy (events.Switched to sides) is = absurd (cc (is))
 booked_from copy event is = tt
 
+-- the other copy is another one
+other_differs : (copy : ℕ) → other_of copy ≡ copy → ⊥
+other_differs copy same = go (copy == 1) refl same
+  where
+    go : (b : Bool) → (copy == 1) ≡ b → (if b then 2 else 1) ≡ copy → ⊥
+    go true is e = cc (subst (λ (n : ℕ). (n == 1) ≡ true) (sym e) is)
+    go false is e = cc (subst (λ (n : ℕ). (n == 1) ≡ false) (sym e) is)
+
+-- an event that is no switch leaves pages and marks as they were
+pages_kept : {V O : Type 0} (old new : DeskState V O) (event : Event)
+    → copy_left old.copy event ≡ old.copy → IsSwitchFrom old.copy event
+    → new.contents ≡ old.contents → new.marks ≡ old.marks → KeepsPages old new event
+pages_kept old new (events.Switched to sides) left from contents marks =
+    absurd (other_differs old.copy (sym from ∙ left))
+pages_kept old new event left from contents marks = (contents, marks)
+
 pub plain_some : (o : Option Turn) → is_plain o ≡ true → is_some o ≡ true
 plain_some None is = absurd (cc (is))
 plain_some (Some turn) is = refl
@@ -65,6 +82,13 @@ next_booked false (Some s) changes covered answer event next = (
   booked_made event next.0,
   plain_some (turn_of changes covered answer (numbers_of s) s.drain event) next.1,
 )
+
+-- an event that has the operator's answer is that of a desk that is up
+next_up : (down : Bool) (stage : Option Stage) (changes : ℕ) (covered : Option Session)
+    (answer : Answer) (event : Event) → NextMade down stage changes covered (Some answer) event
+    → down ≡ true → ⊥
+next_up true stage changes covered answer event next is = next
+next_up false stage changes covered answer event next is = cc (is)
 
 -- where a utility runs after a step that was booked, it ran before
 runs_on : (down : Bool) (stage next : Option Stage) (changes : ℕ) (covered : Option Session)
@@ -156,9 +180,11 @@ module _ {V O : Type 0} (look : V → VolumeSeen) where
     to = from;
     capacity = inl made.stays.capacity;
     down = λ down. inl (sym made.down ∙ down);
+    stays_down = λ down. made.down ∙ down;
     device = λ is. absurd (cc (is, quiet));
     quiet = λ is. made.volume;
     told = told;
+    pages = λ up. pages_kept old new event left from made.contents made.marks;
     runs = runs_on old.down old.stage new.stage old.changes old.covered None event made.follows;
     kept = made.kept;
     operator = made.operator;
@@ -245,10 +271,16 @@ module _ {V O : Type 0} (look : V → VolumeSeen) where
             capacity = inl (made.stays.capacity ∙ ap (λ (g : Ground). g.capacity) wrote.ground);
             down = λ down.
                 inl (sym (ap (λ (d : DeskState V O). d.down) wrote.same) ∙ sym made.down ∙ down);
+            stays_down = λ down.
+                made.down ∙ ap (λ (d : DeskState V O). d.down) wrote.same ∙ down;
             device = λ is. subst (λ (v : V). Rose (look old.volume).faults (look v).faults)
                 (sym made.volume) (device is);
             quiet = λ is. made.volume ∙ quiet is;
             told = tells;
+            pages = λ up.
+                pages_kept old new event left from
+                (made.contents ∙ ap (λ (d : DeskState V O). d.contents) wrote.same)
+                (made.marks ∙ ap (λ (d : DeskState V O). d.marks) wrote.same);
             runs = λ is. runs;
             kept = made.kept;
             operator = made.operator ∙ ap (λ (d : DeskState V O). d.operator) wrote.same;
@@ -324,6 +356,9 @@ module _ {V O : Type 0} (look : V → VolumeSeen) where
         to = refl;
         capacity = inr made.capacity;
         down = λ down. absurd (cc (down, made.down));
+        stays_down = λ down.
+            absurd (next_up old.down old.stage old.changes old.covered answer
+            (events.Switched (other_of old.copy) sides) next down);
         device = λ is. absurd (cc (is));
         quiet = λ is. absurd (cc (is));
         told = record {
@@ -331,9 +366,11 @@ module _ {V O : Type 0} (look : V → VolumeSeen) where
           shadow_is = made.shadow_is;
           taken = made.taken;
           reads = made.reads;
+          ready = made.ready;
           old_side = made.old_side;
           new_side = made.new_side;
         };
+        pages = λ up. made.clean;
         runs = λ is. runs;
         kept = made.stays.kept;
         operator = made.stays.operator;
@@ -373,9 +410,11 @@ module _ {V O : Type 0} (look : V → VolumeSeen) where
         to = tt;
         capacity = inl made.capacity;
         down = λ down. inr made.device;
+        stays_down = λ down. made.down;
         device = λ is. made.device;
         quiet = λ is. absurd (cc (is));
         told = tt;
+        pages = λ up. absurd (cc (up, made.down));
         runs = λ is. runs;
         kept = made.stays.kept;
         operator = made.stays.operator;

@@ -9,7 +9,10 @@ use Rattle.rg_base.specs.declared.options.DrainFor.TheVariants as what
 use Rattle.rg_base.specs.declared.session.Session.{Session}
 use Rattle.rg_base.specs.declared.step.Step.TheVariants as steps
 use Rattle.rg_desk.specs.Desk.{DeskState, MadeStep}
+use Rattle.rg_base.specs.Copies.{other_of, set_of}
+use Rattle.rg_engine.specs.Flushed.{ReadsAll}
 use Rattle.rg_engine.specs.Prepared.{while_running}
+use Rattle.rg_outside.specs.Moments.{IfTold}
 use Rattle.rg_feed.specs.declared.fold.item.Stage.{Stage}
 use Rattle.rg_model.specs.State.{Utility}
 use Rattle.rg_model.specs.Turn.{Turn, alter, drain_after_write, is_term, turn_of}
@@ -114,8 +117,9 @@ tells_page look old new made event is = tt
 -- the new copy that was written is kept on
 pub written_kept : {V O : Type 0} (look : V → VolumeSeen) (old mid new : DeskState V O) (s : Stage)
     (answer : Answer) (granted : DrainFor) (pages : ℕ) → MakesStep s answer (steps.Write granted)
-    → old.down ≡ false → old.stage ≡ Some s → Writes look old mid → KeepsWritten pages mid
-    → MadeStep look mid (Some answer) (events.Written pages) [] new → KeepsWritten pages new
+    → old.down ≡ false → old.stage ≡ Some s → Writes look old mid → KeepsWritten look pages mid
+    → MadeStep look mid (Some answer) (events.Written pages) [] new
+    → KeepsWritten look pages new
 written_kept {V} {O} look old mid new s answer granted pages makes up stage wrote keeps made =
     let runs = some granted (alter (numbers_of s) answer.command) new.stage
     (follows (drain_after_write answer.now
@@ -128,6 +132,14 @@ written_kept {V} {O} look old mid new s answer granted pages makes up stage wrot
           made.shadow ∙ ap (λ (o : Option Stage). while_running o mid.shadow) runs.1
           ∙ keeps.shadow_is;
       pages_are = keeps.pages_are;
+      reads =
+          subst
+          (λ (v : V). IfTold (look v).told
+          (ReadsAll (set_of (other_of new.copy)) keeps.shadow.shade.pages)) (sym made.volume)
+          (subst
+          (λ (n : ℕ). IfTold (look mid.volume).told
+          (ReadsAll (set_of (other_of n)) keeps.shadow.shade.pages)) (sym made.stays.copy)
+          keeps.reads);
     }
   where
     follows : FollowsBy false (Some s) old.changes old.covered (Some answer)

@@ -4,10 +4,11 @@
 --    changes are left.
 -- 2. Then one entry is made, with the answer. Its event is the utility's next.
 -- 3. SWITCHED makes the other copy the current one. Its pages are those of the new copy that the
---    desk had kept, and they read so. The layouts are those of the pages before and of these.
+--    desk had kept, and they read so, before the step and after it. The layouts are those of the
+--    pages before and of these.
 -- 4. A step that writes the new copy, or switches to it, writes no page but those of the log and of
 --    the other copy. No other step calls the volume, nor one where no utility runs. At WRITTEN a
---    new copy is kept, of as many pages.
+--    new copy is kept, of as many pages, which read so.
 -- 5. STOP DEVICE stands in it only where a call of the volume failed in this step, and only then
 --    does the step bring the desk down.
 -- 6. RELOAD fills a page only where it, and the empty one that is due after it, are among those
@@ -26,6 +27,7 @@ use Rattle.rg_laws_utility.specs.Course.Loading.{IsLoaded, loading_after, loadin
 use Rattle.rg_desk.specs.Desk.{DeskState, FeedIs, HasCopy, left_to_take, old_records}
 use Rattle.rg_engine.specs.Flushed.{CallsOwn, ReadsAll}
 use Rattle.rg_engine.specs.Layouts.{IsSideOf}
+use Rattle.rg_engine.specs.OnVolume.{AreClean}
 use Rattle.rg_engine.specs.Prepared.{PreparedSeen}
 use Rattle.rg_engine.specs.Volume.{IsCount}
 use Rattle.rg_outside.specs.Volume.{VolumeSeen}
@@ -88,29 +90,39 @@ abbrev pub IsSwitchFrom : (copy : ℕ) → Event → Type 0
 IsSwitchFrom copy (events.Switched to sides) = to ≡ other_of copy
 IsSwitchFrom copy event = Unit {0}
 
--- a new copy of so many pages is kept
-pub record KeepsWritten {V O : Type 0} (pages : ℕ) (desk : DeskState V O) : Type 0 where
+-- a new copy of so many pages is kept, and they read as they are in memory
+pub record KeepsWritten {V O : Type 0} (look : V → VolumeSeen) (pages : ℕ) (desk : DeskState V O)
+    : Type 0 where
   pub shadow : PreparedSeen
   pub shadow_is : desk.shadow ≡ Some shadow
   pub pages_are : length shadow.shade.pages ≡ pages
+  pub reads :
+      IfTold (look desk.volume).told (ReadsAll (set_of (other_of desk.copy)) shadow.shade.pages)
 
--- The desk turned to the new copy that it had kept, whose pages read as they are in memory. The
--- layouts are those of the pages before and of these.
+-- The desk turned to the new copy that it had kept, whose pages read as they are in memory, and did
+-- so before. The layouts are those of the pages before and of these.
 pub record Switches {V O : Type 0} (look : V → VolumeSeen) (old : DeskState V O) (sides : Sides)
     (new : DeskState V O) : Type 0 where
   pub shadow : PreparedSeen
   pub shadow_is : old.shadow ≡ Some shadow
   pub taken : HasCopy new shadow
   pub reads : IfTold (look new.volume).told (ReadsAll (set_of new.copy) new.contents)
+  pub ready : IfTold (look old.volume).told (ReadsAll (set_of new.copy) new.contents)
   pub old_side : IsSideOf old.ground.pages sides.old
   pub new_side : IsSideOf (slots_of new.contents) sides.new
 
 -- what an event tells of the new copy that is kept
 abbrev pub TellsCopy :
     {V O : Type 0} → (look : V → VolumeSeen) → (old new : DeskState V O) → Event → Type 0
-TellsCopy look old new (events.Written pages) = KeepsWritten pages new
+TellsCopy look old new (events.Written pages) = KeepsWritten look pages new
 TellsCopy look old new (events.Switched to sides) = Switches look old sides new
 TellsCopy look old new event = Unit {0}
+
+-- A switch leaves a desk whose pages read as they are in memory. At any other event the pages and
+-- their marks are as they were.
+abbrev pub KeepsPages : {V O : Type 0} → (old new : DeskState V O) → Event → Type 0
+KeepsPages old new (events.Switched to sides) = AreClean new.contents new.marks
+KeepsPages old new event = (new.contents ≡ old.contents) × (new.marks ≡ old.marks)
 
 -- the volume may be called for this event
 abbrev pub may_call : Event → Bool
@@ -135,10 +147,12 @@ pub record Makes {V O : Type 0} (look : V → VolumeSeen) (old : DeskState V O)
   pub down :
       new.down ≡ true
       → (old.down ≡ true) ⊎ Rose (look old.volume).faults (look new.volume).faults
+  pub stays_down : old.down ≡ true → new.down ≡ true
   pub device :
       is_device_stop event ≡ true → Rose (look old.volume).faults (look new.volume).faults
   pub quiet : may_call event ≡ false → new.volume ≡ old.volume
   pub told : TellsCopy look old new event
+  pub pages : new.down ≡ false → KeepsPages old new event
   pub runs : is_some new.stage ≡ true → is_some old.stage ≡ true
   pub kept : new.kept ≡ None
   pub operator : new.operator ≡ old.operator

@@ -426,7 +426,7 @@ impl Reorg {
         requires hears { Hears desk.old inlet.now }
         requires works { Works self.old.made desk.old.shadow inlet.now desk.old.feed }
         ensures writes { Writes V.seen desk.old desk.new }
-        ensures kept { IfOk result (λ pages. KeepsWritten pages desk.new) }
+        ensures kept { IfOk result (λ pages. KeepsWritten V.seen pages desk.new) }
         ensures device { result ≡ Err PrepareCause.Device
             → Rose (V.seen desk.old.volume).faults (V.seen desk.new.volume).faults }
         ensures none { result ≡ Err PrepareCause.NoMemory → desk.new.volume ≡ desk.old.volume }

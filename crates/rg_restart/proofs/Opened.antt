@@ -18,7 +18,7 @@ use Rattle.rg_laws_crash.proofs.NewestPagesLemmas.Switching.{switched_pages_low}
 use Rattle.rg_outside.specs.Calls.{Image, Told, read_of}
 use Rattle.rg_outside.specs.Moments.{IfTold}
 use Rattle.rg_outside.proofs.Every.{told_weaken}
-use Rattle.rg_page.specs.Content.{Content}
+use Rattle.rg_page.specs.Content.{Content, slots_of}
 use Rattle.rg_record.specs.declared.record.Record.{Record}
 use Rattle.rg_space.specs.Memory.{list_seen, space_pages}
 use Rattle.rg_space.specs.Space.{capacity_in, frames_of}
@@ -120,6 +120,7 @@ opens_stored look old volume operator found desk looks opens contents marks_are 
       took = finds.took;
       slots = space_pages found.space;
       count_is = finds.count_is;
+      slots_are = ap (λ (ps : List Content). slots_of ps) (sym contents);
       opens =
           subst
           (λ v. Opens look v operator found.log (copy_of log.records) capacity

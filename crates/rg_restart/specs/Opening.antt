@@ -34,7 +34,7 @@ use Rattle.rg_outside.specs.Calls.{Image, read_of}
 use Rattle.rg_outside.specs.Capacities.{Capacities}
 use Rattle.rg_outside.specs.Faults.{Rose}
 use Rattle.rg_outside.specs.Moments.{EachCall, IfTold}
-use Rattle.rg_page.specs.Content.{Content}
+use Rattle.rg_page.specs.Content.{Content, slots_of}
 use Rattle.rg_record.specs.declared.record.Record.{Record}
 use Rattle.rg_space.specs.Memory.{space_pages}
 use Rattle.rg_check.specs.OpenUnits.Unended.{open_in}
@@ -132,6 +132,7 @@ pub record OpensStored {V O : Type 0}
     pub took : TookBack (open_in log.records) (owed log.records) log now
     pub slots : List (List Slot)
     pub count_is : length slots ≡ count_of log.records
+    pub slots_are : slots ≡ slots_of desk.contents
     pub opens :
         Opens look desk.volume operator now (copy_of log.records)
         (copy_capacity old.capacities (copy_of log.records)) slots desk

@@ -175,6 +175,29 @@ read_out Kind pages n rs old mid (Some t) le quiet made has = λ few before was.
     read_first Kind pages rs old mid (counted (Some t) n) before was
     (record t { start = length t.calls - n }) (counted_so t n le few) quiet made has
 
+image_first : (Kind : Call → Type 0) (P : Image → Type 0) (old mid later : Option Told)
+    (before : Told) → old ≡ Some before → (t : Told) → later ≡ Some t
+    → EachCall (counted old 0) mid IsQuiet → EachCall mid later Kind
+    → IfTold mid (λ m. P (read_of m.first m.calls)) → P (read_of before.first before.calls)
+image_first Kind P old None later before was t is quiet made has =
+    absurd (cc ((subst (λ (o : Option Told). EachCall None o Kind) is made).2))
+image_first Kind P old (Some m) later before was t is quiet made has =
+    let begun = first_is old before quiet.0 was quiet.2 in
+    let same : read_of m.first m.calls ≡ read_of before.first before.calls =
+    same_reads quiet.0 m quiet.1 quiet.3 quiet.4
+    ∙ ap (λ (x : Told). read_of x.first x.calls) begun in
+    subst P same has
+
+-- what holds of the image that was read at the opening held of it before the run
+pub image_out : (Kind : Call → Type 0) (P : Image → Type 0) (n : ℕ) (old mid new : Option Told)
+    → IfTold new (λ t. n ≤ length t.calls) → EachCall (counted old 0) mid IsQuiet
+    → EachCall mid (counted new n) Kind → IfTold mid (λ m. P (read_of m.first m.calls))
+    → IfBoth old new (λ before t. P (read_of before.first before.calls))
+image_out Kind P n old mid None le quiet made has = tt
+image_out Kind P n old mid (Some t) le quiet made has = λ few before was.
+    image_first Kind P old mid (counted (Some t) n) before was
+    (record t { start = length t.calls - n }) (counted_so t n le few) quiet made has
+
 -- one fact of both moments from another
 pub both_weaken : (P Q : Told → Told → Type 0) (old new : Option Told)
     → ((before t : Told) → P before t → Q before t) → IfBoth old new P → IfBoth old new Q

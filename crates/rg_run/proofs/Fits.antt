@@ -4,7 +4,7 @@ use Rattle.std.proofs.Common.{◌++◌, Option, Some, None, length, drop, refl, 
 use Rattle.std.proofs.Common.{arith, length-append}
 use Rattle.std.proofs.Math.Seq.{drop-append-add}
 use Rattle.std.proofs.lemmas.List.Sums.{count_by-le-length}
-use Rattle.rg_base.specs.Copies.{set_of}
+use Rattle.rg_base.specs.Copies.{other_of, set_of}
 use Rattle.rg_base.specs.declared.control.Answer.{Answer}
 use Rattle.rg_base.specs.declared.options.Options.{Options}
 use Rattle.rg_base.specs.declared.position.Position.{Position}
@@ -33,8 +33,9 @@ use Rattle.rg_stmt.specs.declared.stmt.Reply.{Reply}
 use Rattle.rg_stmt.specs.declared.stmt.Reply.TheVariants.{Device}
 use Rattle.rg_stmt.specs.declared.stmt.Stmt.{Stmt}
 use Rattle.rg_stmt.specs.declared.stmt.Stmt.TheVariants.{Commit}
-use Rattle.rg_run.specs.Fit.{FailedSince, FailedThen, FitFrom, FitSince, FitsThen, HasSide}
-use Rattle.rg_run.specs.Fit.{WroteThen, calls_of_last, copy_after, copy_of_last}
+use Rattle.rg_run.specs.Fit.{FailedSince, FailedThen, FitFrom, FitSince, FitsThen, HasPages}
+use Rattle.rg_run.specs.Fit.{HasSide, IfClean, Known, WroteThen, calls_of_last, copy_after}
+use Rattle.rg_run.specs.Fit.{known_after, known_of, unopened}
 use Rattle.rg_run.specs.Played.{IsFlushed, IsOpenedEntry, IsStartEvent, IsStepEvent, TraceOf}
 
 -- what holds of every known volume
@@ -61,16 +62,25 @@ no_call old new since calls was now same =
     (subst (λ (v : VolumeSeen). IfTold v.told (λ t. length t.calls ≡ t.start + since)) (sym same)
     was) now)
 
+-- the event shows no layout, or this holds of it
+abbrev pub IfShown : (Side → Type 0) → Event → Type 0
+IfShown P (events.Layout copy side) = P side
+IfShown P event = Unit {0}
+
 pub layout_tells : (copy : ℕ) (event : Event) → IsLayout copy event
-    → (k start before calls : ℕ) (t : Told) → calls ≡ before → FitsThen k start before calls t event
-layout_tells copy (events.Flush page) is k start before calls t same = absurd is
-layout_tells copy events.FlushDevice is k start before calls t same = absurd is
-layout_tells copy (events.Said stmt reply) is k start before calls t same = absurd is
-layout_tells copy (events.Stop reason) is k start before calls t same = absurd is
-layout_tells copy (events.Switched to sides) is k start before calls t same = absurd is
-layout_tells copy (events.Written pages) is k start before calls t same = absurd is
-layout_tells copy (events.Opened opened rows pages used) is k start before calls t same = absurd is
-layout_tells copy event is k start before calls t same = same
+    → (k : Known) (start before calls : ℕ) (t : Told) → calls ≡ before
+    → IfShown (λ side. IfClean k.clean (HasSide k.copy start calls side t)) event
+    → FitsThen k start before calls t event
+layout_tells copy (events.Flush page) is k start before calls t same shown = absurd is
+layout_tells copy events.FlushDevice is k start before calls t same shown = absurd is
+layout_tells copy (events.Said stmt reply) is k start before calls t same shown = absurd is
+layout_tells copy (events.Stop reason) is k start before calls t same shown = absurd is
+layout_tells copy (events.Switched to sides) is k start before calls t same shown = absurd is
+layout_tells copy (events.Written pages) is k start before calls t same shown = absurd is
+layout_tells copy (events.Opened opened rows pages used) is k start before calls t same shown =
+    absurd is
+layout_tells copy (events.Layout of_copy side) is k start before calls t same shown = (same, shown)
+layout_tells copy event is k start before calls t same shown = same
 
 pub flushed_keeps : (event : Event) → IsFlushed event → (k : ℕ) → copy_after k event ≡ k
 flushed_keeps (events.Opened opened rows pages used) is k = absurd is
@@ -84,7 +94,8 @@ start_keeps options (events.Switched to sides) is k = absurd is
 start_keeps options event is k = refl
 
 pub start_tells : (options : Options) (event : Event) → IsStartEvent options event
-    → (k start before calls : ℕ) (t : Told) → calls ≡ before → FitsThen k start before calls t event
+    → (k : Known) (start before calls : ℕ) (t : Told) → calls ≡ before
+    → FitsThen k start before calls t event
 start_tells options (events.Flush page) is k start before calls t same = absurd is
 start_tells options events.FlushDevice is k start before calls t same = absurd is
 start_tells options (events.Said stmt reply) is k start before calls t same = absurd is
@@ -93,6 +104,7 @@ start_tells options (events.Switched to sides) is k start before calls t same = 
 start_tells options (events.Written pages) is k start before calls t same = absurd is
 start_tells options (events.Opened opened rows pages used) is k start before calls t same =
     absurd is
+start_tells options (events.Layout copy side) is k start before calls t same = absurd is
 start_tells options event is k start before calls t same = same
 
 pub step_copy : (answer : Option Answer) (event : Event) → IsStepEvent answer event → (k : ℕ)
@@ -106,32 +118,44 @@ abbrev pub IfSwitched : (ℕ → Sides → Type 0) → Event → Type 0
 IfSwitched P (events.Switched to sides) = P to sides
 IfSwitched P event = Unit {0}
 
+-- the event is not that of the new copy's write, or this holds of its pages
+abbrev pub IfWritten : (ℕ → Type 0) → Event → Type 0
+IfWritten P (events.Written pages) = P pages
+IfWritten P event = Unit {0}
+
 pub step_tells : (answer : Option Answer) (event : Event) → IsStepEvent answer event
-    → (told : Option Told) (k since calls : ℕ)
+    → (told : Option Told) (k : Known) (since calls : ℕ)
     → (is_device_stop event ≡ true → IfTold told (λ t. FailedThen t.start since calls t))
     → (may_call event ≡ false → IfTold told (λ t. calls ≡ since))
-    → IfSwitched (λ to sides. IfTold told (λ t. HasSide to t.start calls sides.new t)) event
+    → IfSwitched
+    (λ to sides. IfTold told
+    (λ t. HasSide to t.start since sides.new t × HasSide to t.start calls sides.new t)) event
+    → IfWritten (λ pages. IfTold told (λ t. HasPages (other_of k.copy) t.start calls pages t)) event
     → IfTold told (λ t. FitsThen k t.start since calls t event)
-step_tells None (events.Flush page) is told k since calls failed quiet turned = absurd is
-step_tells (Some answer) (events.Flush page) is told k since calls failed quiet turned =
+step_tells None (events.Flush page) is told k since calls failed quiet turned wrote = absurd is
+step_tells (Some answer) (events.Flush page) is told k since calls failed quiet turned wrote =
     absurd (cc (is))
-step_tells None events.FlushDevice is told k since calls failed quiet turned = absurd is
-step_tells (Some answer) events.FlushDevice is told k since calls failed quiet turned =
+step_tells None events.FlushDevice is told k since calls failed quiet turned wrote = absurd is
+step_tells (Some answer) events.FlushDevice is told k since calls failed quiet turned wrote =
     absurd (cc (is))
-step_tells None (events.Said stmt reply) is told k since calls failed quiet turned = absurd is
-step_tells (Some answer) (events.Said stmt reply) is told k since calls failed quiet turned =
+step_tells None (events.Said stmt reply) is told k since calls failed quiet turned wrote = absurd is
+step_tells (Some answer) (events.Said stmt reply) is told k since calls failed quiet turned wrote =
     absurd (cc (is))
-step_tells None (events.Stop reasons.Device) is told k since calls failed quiet turned = absurd is
-step_tells (Some answer) (events.Stop reasons.Device) is told k since calls failed quiet turned =
-    failed refl
-step_tells answer (events.Switched to sides) is told k since calls failed quiet turned = turned
-step_tells answer (events.Written pages) is told k since calls failed quiet turned =
-    told_all told (λ t. FitsThen k t.start since calls t (events.Written pages)) (λ t. tt)
-step_tells None (events.Opened opened rows pages used) is told k since calls failed quiet turned =
+step_tells None (events.Layout copy side) is told k since calls failed quiet turned wrote =
     absurd is
+step_tells (Some answer) (events.Layout copy side) is told k since calls failed quiet turned wrote =
+    absurd (cc (is))
+step_tells None (events.Stop reason) is told k since calls failed quiet turned wrote = absurd is
+step_tells (Some answer) (events.Stop reasons.Device) is told k since calls failed quiet turned
+    wrote = failed refl
+step_tells answer (events.Switched to sides) is told k since calls failed quiet turned wrote =
+    turned
+step_tells answer (events.Written pages) is told k since calls failed quiet turned wrote = wrote
+step_tells None (events.Opened opened rows pages used) is told k since calls failed quiet turned
+    wrote = absurd is
 step_tells (Some answer) (events.Opened opened rows pages used) is told k since calls failed quiet
-    turned = absurd (cc (is))
-step_tells answer event is told k since calls failed quiet turned = quiet refl
+    turned wrote = absurd (cc (is))
+step_tells answer event is told k since calls failed quiet turned wrote = quiet refl
 
 -- what the switch leaves reads so
 pub switched_then : (to calls : ℕ) (side : Side) (contents : List Content) (seen : VolumeSeen)
@@ -154,7 +178,28 @@ switched_then to calls side contents seen count reads is =
     }) (told_both (λ t. length t.calls ≡ t.start + calls) (ReadsAll (set_of to) contents) seen.told
     count reads)
 
-pub said_tells : (stmt : Stmt) (reply : Reply) (told : Option Told) (k since calls : ℕ)
+-- so do the pages of a copy that was written
+pub written_then : (copy calls count : ℕ) (contents : List Content) (seen : VolumeSeen)
+    → IsCount seen calls → IfTold seen.told (ReadsAll (set_of copy) contents)
+    → length contents ≡ count → IfTold seen.told (λ t. HasPages copy t.start calls count t)
+written_then copy calls count contents seen counted reads is =
+    told_weaken (λ t. (length t.calls ≡ t.start + calls) × ReadsAll (set_of copy) contents t)
+    (λ t. HasPages copy t.start calls count t) seen.told
+    (λ t both.
+    let all : length t.calls - (t.start + calls) ≡ 0 = omega (arith, both.0) in
+    record {
+      high = omega (arith, both.0);
+      pages = contents;
+      count_is = is;
+      reads = λ p one high.
+          subst
+          (λ (n : ℕ). Spells (read_of t.first (drop n t.calls) (set_of copy) p)
+          (content_at contents p)) (sym all) (both.1 p one high);
+    })
+    (told_both (λ t. length t.calls ≡ t.start + calls) (ReadsAll (set_of copy) contents) seen.told
+    counted reads)
+
+pub said_tells : (stmt : Stmt) (reply : Reply) (told : Option Told) (k : Known) (since calls : ℕ)
     → (reply ≡ Device → IfTold told (λ t. FailedThen t.start since calls t))
     → (is_commit stmt ≡ false → IfTold told (λ t. calls ≡ since))
     → IfTold told (λ t. FitsThen k t.start since calls t (events.Said stmt reply))
@@ -166,44 +211,43 @@ said_tells stmt reply told k since calls failed quiet = quiet refl
 -- ---- parts
 
 -- the entry of an opening tells nothing, whatever came before it
-pub opened_alone : (copy start before : ℕ) (t : Told) (entry : Entry) → IsOpenedEntry entry
-    → FitFrom copy start before t (entry ∷ [])
-opened_alone copy start before t entry opened =
-    subst (λ (e : Entry). FitFrom copy start before t (e ∷ [])) (sym opened.is) (tt, tt)
+pub opened_alone : (k : Known) (start before : ℕ) (t : Told) (entry : Entry) → IsOpenedEntry entry
+    → FitFrom k start before t (entry ∷ [])
+opened_alone k start before t entry opened =
+    subst (λ (e : Entry). FitFrom k start before t (e ∷ [])) (sym opened.is) (tt, tt)
 
-opened_from : (copy other start before then : ℕ) (t : Told) (entry : Entry) (entries : List Entry)
-    → IsOpenedEntry entry → FitFrom copy start before t (entry ∷ entries) → FitFrom other start
-    then t (entry ∷ entries)
-opened_from copy other start before then t entry entries opened =
+opened_from : (k other : Known) (start before then : ℕ) (t : Told) (entry : Entry)
+    (entries : List Entry) → IsOpenedEntry entry → FitFrom k start before t (entry ∷ entries)
+    → FitFrom other start then t (entry ∷ entries)
+opened_from k other start before then t entry entries opened =
     subst
-    (λ (e : Entry). FitFrom copy start before t (e ∷ entries) → FitFrom other start
+    (λ (e : Entry). FitFrom k start before t (e ∷ entries) → FitFrom other start
     then t (e ∷ entries)) (sym opened.is) (λ all. all)
 
 pub fit_join :
-    (start : ℕ) (t : Told) (copy before : ℕ) (lines : List Line) (older part : List Entry)
-    → TraceOf lines part → FitFrom copy start before t older → FitSince start t part
-    → FitFrom copy start before t (older ++ part)
-fit_join start t copy before lines [] [] of all more = tt
-fit_join start t copy before lines [] (e ∷ es) of all more =
-    opened_from 0 copy start 0 before t e es of.0 more
-fit_join start t copy before lines (e ∷ older) part of all more =
-    (all.0, fit_join start t (copy_after copy e.event) e.calls lines older part of all.1 more)
+    (start : ℕ) (t : Told) (k : Known) (before : ℕ) (lines : List Line) (older part : List Entry)
+    → TraceOf lines part → FitFrom k start before t older → FitSince start t part
+    → FitFrom k start before t (older ++ part)
+fit_join start t k before lines [] [] of all more = tt
+fit_join start t k before lines [] (e ∷ es) of all more =
+    opened_from unopened k start 0 before t e es of.0 more
+fit_join start t k before lines (e ∷ older) part of all more =
+    (all.0, fit_join start t (known_after k e.event) e.calls lines older part of all.1 more)
 
 -- ---- one entry more
 
-pub fit_push : (copy start before : ℕ) (t : Told) (trace : List Entry) (entry : Entry)
-    → FitFrom copy start before t trace
-    → FitsThen (copy_of_last copy trace) start (calls_of_last before trace) entry.calls t
-    entry.event
-    → FitFrom copy start before t (trace ++ entry ∷ [])
-fit_push copy start before t [] entry all one = (one, tt)
-fit_push copy start before t (e ∷ es) entry all one =
-    (all.0, fit_push (copy_after copy e.event) start e.calls t es entry all.1 one)
+pub fit_push : (k : Known) (start before : ℕ) (t : Told) (trace : List Entry) (entry : Entry)
+    → FitFrom k start before t trace
+    → FitsThen (known_of k trace) start (calls_of_last before trace) entry.calls t entry.event
+    → FitFrom k start before t (trace ++ entry ∷ [])
+fit_push k start before t [] entry all one = (one, tt)
+fit_push k start before t (e ∷ es) entry all one =
+    (all.0, fit_push (known_after k e.event) start e.calls t es entry all.1 one)
 
-pub copy_push : (copy : ℕ) (trace : List Entry) (entry : Entry)
-    → copy_of_last copy (trace ++ entry ∷ []) ≡ copy_after (copy_of_last copy trace) entry.event
-copy_push copy [] entry = refl
-copy_push copy (e ∷ es) entry = copy_push (copy_after copy e.event) es entry
+pub known_push : (k : Known) (trace : List Entry) (entry : Entry)
+    → known_of k (trace ++ entry ∷ []) ≡ known_after (known_of k trace) entry.event
+known_push k [] entry = refl
+known_push k (e ∷ es) entry = known_push (known_after k e.event) es entry
 
 pub calls_push : (calls : ℕ) (trace : List Entry) (entry : Entry)
     → calls_of_last calls (trace ++ entry ∷ []) ≡ entry.calls
@@ -245,10 +289,61 @@ failed_on start since calls before fresh is =
           (is.failed (omega (arith, few, longer))));
     }
 
-event_on : (copy start since calls : ℕ) (before : Told) (fresh : List Call) (event : Event)
-    → FitsThen copy start since calls before event
-    → FitsThen copy start since calls (record before { calls = fresh ++ before.calls }) event
-event_on copy start since calls before fresh (events.Flush page) is =
+side_on : (copy start calls : ℕ) (side : Side) (before : Told) (fresh : List Call)
+    → HasSide copy start calls side before
+    → HasSide copy start calls side (record before { calls = fresh ++ before.calls })
+side_on copy start calls side before fresh is =
+    let high = is.high in
+    let longer = length-append fresh before.calls in
+    record {
+      high = omega (arith, high, longer);
+      pages = is.pages;
+      side_is = is.side_is;
+      reads = λ p one low.
+          subst
+          (λ (cs : List Call). Spells (read_of before.first cs (set_of copy) p)
+          (content_at is.pages p)) (sym (calls_then before fresh (start + calls) is.high))
+          (is.reads p one low);
+    }
+
+pages_on : (copy start calls count : ℕ) (before : Told) (fresh : List Call)
+    → HasPages copy start calls count before
+    → HasPages copy start calls count (record before { calls = fresh ++ before.calls })
+pages_on copy start calls count before fresh is =
+    let high = is.high in
+    let longer = length-append fresh before.calls in
+    record {
+      high = omega (arith, high, longer);
+      pages = is.pages;
+      count_is = is.count_is;
+      reads = λ p one low.
+          subst
+          (λ (cs : List Call). Spells (read_of before.first cs (set_of copy) p)
+          (content_at is.pages p)) (sym (calls_then before fresh (start + calls) is.high))
+          (is.reads p one low);
+    }
+
+clean_more : (P Q : Type 0) (clean : Bool) → (P → Q) → IfClean clean P → IfClean clean Q
+clean_more P Q true f p = f p
+clean_more P Q false f p = tt
+
+-- a layout that pages had when they were read before, they had then
+pub side_before : (Kind : Call → Type 0) (copy since : ℕ) (side : Side) (old new : Option Told)
+    → EachCall old new Kind → IfTold old (λ t. HasSide copy t.start since side t)
+    → IfTold new (λ t. HasSide copy t.start since side t)
+side_before Kind copy since side old None made has = tt
+side_before Kind copy since side None (Some after) made has = absurd (cc (made.2))
+side_before Kind copy since side (Some before) (Some after) made has =
+    let was : before ≡ made.0 = cc (made.2) in
+    let is : after ≡ record before { calls = made.1 ++ before.calls } = made.3
+    ∙ ap (λ (t : Told). let u : Told = record t { calls = made.1 ++ t.calls } in u) (sym was) in
+    subst (λ (t : Told). HasSide copy t.start since side t) (sym is)
+    (side_on copy before.start since side before made.1 has)
+
+event_on : (k : Known) (start since calls : ℕ) (before : Told) (fresh : List Call) (event : Event)
+    → FitsThen k start since calls before event
+    → FitsThen k start since calls (record before { calls = fresh ++ before.calls }) event
+event_on k start since calls before fresh (events.Flush page) is =
     let high = is.high in
     let longer = length-append fresh before.calls in
     record {
@@ -258,70 +353,85 @@ event_on copy start since calls before fresh (events.Flush page) is =
       rest = is.rest;
       last = calls_then before fresh (start + calls) is.high ∙ is.last;
     }
-event_on copy start since calls before fresh events.FlushDevice is =
+event_on k start since calls before fresh events.FlushDevice is =
     failed_on start since calls before fresh is
-event_on copy start since calls before fresh (events.Said stmt Device) is =
+event_on k start since calls before fresh (events.Said stmt Device) is =
     failed_on start since calls before fresh is
-event_on copy start since calls before fresh (events.Stop reasons.Device) is =
+event_on k start since calls before fresh (events.Stop reasons.Device) is =
     failed_on start since calls before fresh is
-event_on copy start since calls before fresh (events.Switched to sides) is =
-    let high = is.high in
-    let longer = length-append fresh before.calls in
-    record {
-      high = omega (arith, high, longer);
-      pages = is.pages;
-      side_is = is.side_is;
-      reads = λ p one low.
-          subst
-          (λ (cs : List Call). Spells (read_of before.first cs (set_of to) p)
-          (content_at is.pages p)) (sym (calls_then before fresh (start + calls) is.high))
-          (is.reads p one low);
-    }
-event_on copy start since calls before fresh event is = is
+event_on k start since calls before fresh (events.Layout copy side) is = (
+  is.0,
+  clean_more (HasSide k.copy start calls side before)
+      (HasSide k.copy start calls side (record before { calls = fresh ++ before.calls })) k.clean
+      (side_on k.copy start calls side before fresh) is.1,
+)
+event_on k start since calls before fresh (events.Switched to sides) is = (
+  side_on to start since sides.new before fresh is.0,
+  side_on to start calls sides.new before fresh is.1,
+)
+event_on k start since calls before fresh (events.Written pages) is =
+    pages_on (other_of k.copy) start calls pages before fresh is
+event_on k start since calls before fresh event is = is
 
-each_on : (copy start since : ℕ) (before : Told) (fresh : List Call) (trace : List Entry)
-    → FitFrom copy start since before trace
-    → FitFrom copy start since (record before { calls = fresh ++ before.calls }) trace
-each_on copy start since before fresh [] all = tt
-each_on copy start since before fresh (e ∷ es) all = (
-  event_on copy start since e.calls before fresh e.event all.0,
-  each_on (copy_after copy e.event) start e.calls before fresh es all.1,
+each_on : (k : Known) (start since : ℕ) (before : Told) (fresh : List Call) (trace : List Entry)
+    → FitFrom k start since before trace
+    → FitFrom k start since (record before { calls = fresh ++ before.calls }) trace
+each_on k start since before fresh [] all = tt
+each_on k start since before fresh (e ∷ es) all = (
+  event_on k start since e.calls before fresh e.event all.0,
+  each_on (known_after k e.event) start e.calls before fresh es all.1,
 )
 
-pub fit_on : (Kind : Call → Type 0) (old new : Option Told) (copy since : ℕ) (trace : List Entry)
-    → EachCall old new Kind → IfTold old (λ t. FitFrom copy t.start since t trace)
-    → IfTold new (λ t. FitFrom copy t.start since t trace)
-fit_on Kind old None copy since trace made all = tt
-fit_on Kind None (Some after) copy since trace made all = absurd (cc (made.2))
-fit_on Kind (Some before) (Some after) copy since trace made all =
+pub fit_on : (Kind : Call → Type 0) (old new : Option Told) (k : Known) (since : ℕ)
+    (trace : List Entry) → EachCall old new Kind
+    → IfTold old (λ t. FitFrom k t.start since t trace)
+    → IfTold new (λ t. FitFrom k t.start since t trace)
+fit_on Kind old None k since trace made all = tt
+fit_on Kind None (Some after) k since trace made all = absurd (cc (made.2))
+fit_on Kind (Some before) (Some after) k since trace made all =
     let was : before ≡ made.0 = cc (made.2) in
     let is : after ≡ record before { calls = made.1 ++ before.calls } = made.3
     ∙ ap (λ (t : Told). let u : Told = record t { calls = made.1 ++ t.calls } in u) (sym was) in
-    subst (λ (t : Told). FitFrom copy t.start since t trace) (sym is)
-    (each_on copy before.start since before made.1 trace all)
+    subst (λ (t : Told). FitFrom k t.start since t trace) (sym is)
+    (each_on k before.start since before made.1 trace all)
 
 -- the same calls, as another count has them
-recounted_event : (copy start since calls count : ℕ) (t : Told) (event : Event)
-    → FitsThen copy start since calls (record t { start = count }) event
-    → FitsThen copy start since calls t event
-recounted_event copy start since calls count t (events.Flush page) is =
-    record { high = is.high; since = is.since; bytes = is.bytes; rest = is.rest; last = is.last }
-recounted_event copy start since calls count t events.FlushDevice is =
-    record { high = is.high; since = is.since; failed = is.failed }
-recounted_event copy start since calls count t (events.Said stmt Device) is =
-    record { high = is.high; since = is.since; failed = is.failed }
-recounted_event copy start since calls count t (events.Stop reasons.Device) is =
-    record { high = is.high; since = is.since; failed = is.failed }
-recounted_event copy start since calls count t (events.Switched to sides) is =
+recounted_side : (copy start calls count : ℕ) (side : Side) (t : Told)
+    → HasSide copy start calls side (record t { start = count }) → HasSide copy start calls side t
+recounted_side copy start calls count side t is =
     record { high = is.high; pages = is.pages; side_is = is.side_is; reads = is.reads }
-recounted_event copy start since calls count t event is = is
 
-pub recounted : (copy start since count : ℕ) (t : Told) (trace : List Entry)
-    → FitFrom copy start since (record t { start = count }) trace → FitFrom copy start since t trace
-recounted copy start since count t [] all = tt
-recounted copy start since count t (e ∷ es) all = (
-  recounted_event copy start since e.calls count t e.event all.0,
-  recounted (copy_after copy e.event) start e.calls count t es all.1,
+recounted_event : (k : Known) (start since calls count : ℕ) (t : Told) (event : Event)
+    → FitsThen k start since calls (record t { start = count }) event
+    → FitsThen k start since calls t event
+recounted_event k start since calls count t (events.Flush page) is =
+    record { high = is.high; since = is.since; bytes = is.bytes; rest = is.rest; last = is.last }
+recounted_event k start since calls count t events.FlushDevice is =
+    record { high = is.high; since = is.since; failed = is.failed }
+recounted_event k start since calls count t (events.Said stmt Device) is =
+    record { high = is.high; since = is.since; failed = is.failed }
+recounted_event k start since calls count t (events.Stop reasons.Device) is =
+    record { high = is.high; since = is.since; failed = is.failed }
+recounted_event k start since calls count t (events.Layout copy side) is = (
+  is.0,
+  clean_more (HasSide k.copy start calls side (record t { start = count }))
+      (HasSide k.copy start calls side t) k.clean (recounted_side k.copy start calls count side t)
+      is.1,
+)
+recounted_event k start since calls count t (events.Switched to sides) is = (
+  recounted_side to start since count sides.new t is.0,
+  recounted_side to start calls count sides.new t is.1,
+)
+recounted_event k start since calls count t (events.Written pages) is =
+    record { high = is.high; pages = is.pages; count_is = is.count_is; reads = is.reads }
+recounted_event k start since calls count t event is = is
+
+pub recounted : (k : Known) (start since count : ℕ) (t : Told) (trace : List Entry)
+    → FitFrom k start since (record t { start = count }) trace → FitFrom k start since t trace
+recounted k start since count t [] all = tt
+recounted k start since count t (e ∷ es) all = (
+  recounted_event k start since e.calls count t e.event all.0,
+  recounted (known_after k e.event) start e.calls count t es all.1,
 )
 
 -- ---- a flush
@@ -430,24 +540,24 @@ calls_of_part calls lines [] (e ∷ es) of = refl
 calls_of_part calls lines (o ∷ older) part of = calls_of_part o.calls lines older part of
 
 -- what its event tells, by what it did
-pub flush_then : (Kind : Call → Type 0) (down : Bool) (copy : ℕ) (contents : List Content)
+pub flush_then : (Kind : Call → Type 0) (down : Bool) (k : Known) (contents : List Content)
     (marks later : List (Option Position)) (old new : VolumeSeen) (since calls : ℕ) (event : Event)
     → EachCall old.told new.told Kind → IsCount old since → IsCount new calls
     → (Rose old.faults new.faults → IfTold new.told (λ t. FailedThen t.start since calls t))
-    → FlushIs down copy contents marks later old new event
-    → IfTold new.told (λ t. FitsThen copy t.start since calls t event)
-flush_then Kind true copy contents marks later old new since calls event made was now failed is =
-    told_weaken (λ t. calls ≡ since) (λ t. FitsThen copy t.start since calls t event) new.told
-    (λ t same. subst (FitsThen copy t.start since calls t) (sym is.0) same)
+    → FlushIs down k.copy contents marks later old new event
+    → IfTold new.told (λ t. FitsThen k t.start since calls t event)
+flush_then Kind true k contents marks later old new since calls event made was now failed is =
+    told_weaken (λ t. calls ≡ since) (λ t. FitsThen k t.start since calls t event) new.told
+    (λ t same. subst (FitsThen k t.start since calls t) (sym is.0) same)
     (no_call old new since calls was now is.1)
-flush_then Kind false copy contents marks later old new since calls (events.Flush page) made was now
-    failed is = wrote_then Kind copy page since calls (content_at contents page) old.told new.told
+flush_then Kind false k contents marks later old new since calls (events.Flush page) made was now
+    failed is = wrote_then Kind k.copy page since calls (content_at contents page) old.told new.told
     made was now is.2
-flush_then Kind false copy contents marks later old new since calls events.Clean made was now failed
+flush_then Kind false k contents marks later old new since calls events.Clean made was now failed
     is = no_call old new since calls was now is.1
-flush_then Kind false copy contents marks later old new since calls events.FlushDevice made was now
+flush_then Kind false k contents marks later old new since calls events.FlushDevice made was now
     failed is = failed is.0
-flush_then Kind false copy contents marks later old new since calls events.FlushNoMemory made was
+flush_then Kind false k contents marks later old new since calls events.FlushNoMemory made was
     now failed is = no_call old new since calls was now is.0
-flush_then Kind false copy contents marks later old new since calls event made was now failed is =
+flush_then Kind false k contents marks later old new since calls event made was now failed is =
     absurd is

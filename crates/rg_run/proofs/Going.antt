@@ -31,10 +31,11 @@ use Rattle.rg_outside.specs.Faults.{Rose}
 use Rattle.rg_outside.specs.Moments.{EachCall, IfTold, read_at}
 use Rattle.rg_outside.proofs.Every.{told_both, told_weaken}
 use Rattle.rg_outside.proofs.Frame.{calls_join, calls_weaken}
+use Rattle.rg_page.specs.Content.{slots_of}
 use Rattle.rg_record.specs.declared.record.Record.{Record}
 use Rattle.rg_stmt.specs.declared.event.Entry.{Entry}
 use Rattle.rg_stmt.specs.declared.line.Line.{Line}
-use Rattle.rg_run.specs.Fit.{FitSince, calls_of_last}
+use Rattle.rg_run.specs.Fit.{FitSince, calls_of_last, unopened}
 use Rattle.rg_run.specs.Full.{smaller_pages}
 use Rattle.rg_run.specs.LogFull.{IsLogFullOnlyFrom}
 use Rattle.rg_run.specs.Space.{AreForSpace}
@@ -45,9 +46,9 @@ use Rattle.rg_laws_utility.proofs.CourseLemmas.OnCourse.{on_course}
 use Rattle.rg_run.specs.Parts.{Again, AreParts, Came, Follows, Going, IfTidy, IsFound, IsKnown}
 use Rattle.rg_run.specs.Parts.{Made, PartRun, RunsFrom, IsPart}
 use Rattle.rg_run.specs.Parts.AreParts.{Next, One}
-use Rattle.rg_run.specs.Played.{Goes, TraceOf, first_of}
+use Rattle.rg_run.specs.Played.{Goes, ShowsSecond, TraceOf, first_of}
 use Rattle.rg_run.proofs.Joins.{device_join, first_join, log_join, own_left, own_right, run_again}
-use Rattle.rg_run.proofs.Joins.{trace_join}
+use Rattle.rg_run.proofs.Joins.{second_join, trace_join}
 use Rattle.rg_run.proofs.Fits.{fit_join, fit_on}
 use Rattle.rg_run.proofs.Openings.{found_on, openings_join, openings_on, opens_once}
 use Rattle.rg_run.proofs.Openings.{part_opened, parts_more}
@@ -224,7 +225,8 @@ made_on look first lines trace now later made n has calls le same = record {
       (sym same)
       (openings_on (WritesOwn trace) now.capacities now.told later.told 0 trace calls
       made.openings);
-  fit = fit_on (WritesOwn trace) now.told later.told 0 0 trace calls made.fit;
+  fit = fit_on (WritesOwn trace) now.told later.told unopened 0 trace calls made.fit;
+  second = made.second;
 }
 
 module _ {V O : Type 0} {answers : O → Option (List Answer)} (look : V → VolumeSeen)
@@ -390,6 +392,9 @@ module _ {V O : Type 0} {answers : O → Option (List Answer)} (look : V → Vol
               desk.trace)) alone base_opening));
           fit = subst (λ (es : List Entry). IfTold now.told (λ t. FitSince t.start t es)) only
               goes.fit;
+          second =
+              subst (λ (b : DeskState V O). ShowsSecond (slots_of b.contents) trace) is
+              (subst (ShowsSecond (slots_of base.contents)) only goes.shown);
         }
 
     made_again : Again look first base lines going.back → Made look first lines trace now
@@ -432,6 +437,8 @@ module _ {V O : Type 0} {answers : O → Option (List Answer)} (look : V → Vol
           capacities = same_capacities ∙ past.capacities;
           openings = openings_now trace openings_joined;
           fit = fit_joined;
+          second = second_join again.front going.back (slots_of first.contents) base.older
+              desk.trace past.entries goes.entries past.second;
         }
       where
         found_now : (n : ℕ) (start : Table) → IsFound (look base.volume) n start
@@ -453,11 +460,11 @@ module _ {V O : Type 0} {answers : O → Option (List Answer)} (look : V → Vol
         fit_joined : IfTold now.told (λ t. FitSince t.start t trace)
         fit_joined =
             told_weaken (λ t. FitSince t.start t base.older × FitSince t.start t desk.trace)
-            (λ t. FitSince t.start t trace) now.told
-            (λ t both. fit_join t.start t 0 0 going.back base.older desk.trace goes.entries both.0
+            (λ t. FitSince t.start t trace) now.told (λ t both. fit_join t.start t unopened 0
+            going.back base.older desk.trace goes.entries both.0
             both.1) (told_both (λ t. FitSince t.start t base.older)
             (λ t. FitSince t.start t desk.trace) now.told
-            (fit_on (WritesOwn desk.trace) (look base.volume).told now.told 0 0 base.older
+            (fit_on (WritesOwn desk.trace) (look base.volume).told now.told unopened 0 base.older
             part_calls again.made.fit) goes.fit)
 
         openings_joined : IfTold (look base.volume).told

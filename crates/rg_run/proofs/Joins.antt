@@ -7,6 +7,8 @@ use Rattle.std.proofs.Math.Bool.{or-false}
 use Rattle.rg_base.specs.Copies.{set_of}
 use Rattle.rg_desk.specs.Chronicle.{logged_after}
 use Rattle.rg_engine.specs.Flushed.{WritesEither}
+use Rattle.rg_engine.specs.Layouts.{ShowsSideOf}
+use Rattle.rg_home.specs.Slot.{Slot}
 use Rattle.rg_log.specs.Open.{IsQuiet}
 use Rattle.rg_model.specs.Committed.{committed_table}
 use Rattle.rg_model.specs.Possible.{is_copy_left}
@@ -23,7 +25,7 @@ use Rattle.rg_stmt.specs.declared.line.Line.TheVariants.{Death}
 use Rattle.rg_run.proofs.Pasts.{IfRuns, SameSince, SameUnits, goes_alike, units_more, units_opened}
 use Rattle.rg_run.specs.LogFull.{IsLogFullFrom, IsLogFullOnlyFrom}
 use Rattle.rg_run.specs.Outside.{IsDeviceOnlyIf, WritesOf, WritesOwn}
-use Rattle.rg_run.specs.Played.{EntryOf, IsOpenedEntry, TraceOf, first_of}
+use Rattle.rg_run.specs.Played.{EntryOf, IsOpenedEntry, ShowsSecond, TraceOf, first_of}
 use Rattle.rg_run.proofs.Spaces.{opened_event}
 
 -- ---- entries
@@ -55,6 +57,16 @@ pub first_join : (xs : List Line) (olds news : List Entry) → TraceOf xs olds
     → first_of (olds ++ news) ≡ first_of olds
 first_join xs [] news of = absurd of
 first_join xs (a ∷ olds) news of = refl
+
+-- the second entry stays so
+pub second_join : (front back : List Line) (pages : List (List Slot)) (older part : List Entry)
+    → TraceOf front older → TraceOf back part → ShowsSecond pages older
+    → ShowsSecond pages (older ++ part)
+second_join front back pages [] part of more shows = absurd of
+second_join front back pages (a ∷ []) [] of more shows = absurd more
+second_join front back pages (a ∷ []) (e ∷ es) of more shows =
+    subst (λ (x : Entry). ShowsSideOf pages x.event) (sym more.0.is) tt
+second_join front back pages (a ∷ b ∷ olds) part of more shows = shows
 
 -- what was counted before an opening does not count after it
 log_from : (limit logged : ℕ) (lines : List Line) (part : List Entry) → TraceOf lines part

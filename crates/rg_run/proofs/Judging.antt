@@ -52,6 +52,7 @@ whole_wanting old new lines trace end whole = record {
   opening = whole.opening;
   openings = whole.openings;
   fit = whole.fit;
+  layout = whole.layout;
   full = whole.full;
   course = whole.course;
   log_full = whole.log_full;

@@ -1,8 +1,10 @@
 -- The desk of an opening.
-use Rattle.std.proofs.Common.{◌≡◌, ◌≤◌, ◌+◌, ◌-◌, ◌++◌, ℕ, List, Option, Some, None, length}
+use Rattle.std.proofs.Common.{◌≡◌, ◌≤◌, ◌+◌, ◌-◌, ◌++◌, ℕ, List, [], ◌∷◌, Option, Some, None}
+use Rattle.std.proofs.Common.{length}
 use Rattle.std.proofs.Common.{take, drop, refl, sym, ◌∙◌, ap, subst, arith, length-append}
 use Rattle.std.proofs.Math.Seq.{take-length}
 use Rattle.rg_desk.specs.Desk.{DeskState, old_records}
+use Rattle.rg_engine.specs.Layouts.{IsSideOf, ShowsSideOf}
 use Rattle.rg_engine.specs.Stored.{IsStored}
 use Rattle.rg_engine.specs.Volume.{IsCount}
 use Rattle.rg_outside.specs.Volume.{VolumeSeen}
@@ -14,18 +16,24 @@ use Rattle.rg_image.proofs.Rules.{log_is_read}
 use Rattle.rg_log.specs.Kept.{Listed, log_pages}
 use Rattle.rg_log.specs.Open.{IsQuiet}
 use Rattle.rg_model.specs.State.{Table, row_count}
-use Rattle.rg_outside.specs.Calls.{Told, read_of}
+use Rattle.rg_home.specs.Slot.{Slot}
+use Rattle.rg_page.specs.Content.{slots_of}
+use Rattle.rg_outside.specs.Calls.{Image, Told, read_of}
 use Rattle.rg_outside.specs.Capacities.{Capacities}
 use Rattle.rg_outside.specs.Moments.{EachCall, IfTold, read_at}
 use Rattle.rg_outside.proofs.Every.{told_both, told_weaken}
 use Rattle.rg_record.specs.declared.record.Record.{Record}
-use Rattle.rg_restart.specs.Opening.{OpensStored}
+use Rattle.rg_restart.specs.Opening.{OpensStored, StandAsRead}
 use Rattle.rg_laws_crash.specs.SoundVolume.Pages.{copy_of}
 use Rattle.rg_laws_crash.specs.SoundVolume.Sound.{IsSound, IsSoundBy}
 use Rattle.rg_restart.proofs.Beginning.{stored_more}
 use Rattle.rg_stmt.specs.Entries.{opened_entry}
 use Rattle.rg_stmt.specs.declared.event.Entry.{Entry}
-use Rattle.rg_run.specs.Played.{IsOpened, first_of}
+use Rattle.rg_stmt.specs.declared.event.Event.{Event}
+use Rattle.rg_stmt.specs.declared.event.Event.TheVariants.{Layout}
+use Rattle.rg_stmt.specs.declared.layout.Side.{Side}
+use Rattle.rg_run.specs.Played.{IsOpened, ShowsSecond, first_of}
+use Rattle.rg_run.specs.Shown.{IfLayout, IfSecond, IsLayoutOf}
 use Rattle.rg_run.specs.Opening.{IsOpeningOf, IsOpeningThen, ReadSo}
 use Rattle.rg_run.specs.Parts.{IsFound}
 use Rattle.rg_run.proofs.Between.{same_reads}
@@ -107,6 +115,57 @@ module _ {V O : Type 0} (look : V → VolumeSeen) (old : VolumeSeen) (operator :
     least = opens.took.least;
     most = opens.took.most_bytes;
   }
+
+  -- a layout of the desk's pages is that of the image that was read
+  layout_of : (i : Image) (side : Side)
+      → IsSoundBy (look desk.volume).capacities i opens.log.records opens.base
+      → StandAsRead opens.log.records opens.now.records desk.contents i
+      → IsSideOf (slots_of desk.contents) side → IsLayoutOf (look desk.volume).capacities i side
+  layout_of i side sound as_read is = record {
+    records = opens.log.records;
+    base = opens.base;
+    sound = sound;
+    closed = opens.now.records;
+    grown = record { more = opens.took.more; back = opens.took.back; are = opens.took.records };
+    contents = desk.contents;
+    made_of = opens.made_of;
+    count_is =
+        ap (λ (ps : List (List Slot)). length ps) (sym opens.slots_are) ∙ opens.count_is;
+    as_read = as_read;
+    side_is = is;
+  }
+
+  second_of : (i : Image) (trace : List Entry)
+      → IsSoundBy (look desk.volume).capacities i opens.log.records opens.base
+      → StandAsRead opens.log.records opens.now.records desk.contents i
+      → ShowsSecond (slots_of desk.contents) trace
+      → IfSecond (IsLayoutOf (look desk.volume).capacities i) trace
+  second_of i [] sound as_read shows = tt
+  second_of i (e ∷ []) sound as_read shows = tt
+  second_of i (e ∷ next ∷ es) sound as_read shows = go next.event shows
+    where
+      go : (event : Event) → ShowsSideOf (slots_of desk.contents) event
+          → IfLayout (IsLayoutOf (look desk.volume).capacities i) event
+      go (Layout copy side) is = layout_of i side sound as_read is
+      go event is = tt
+
+  -- so is the second entry, if it is one
+  pub second_first : (trace : List Entry) → ShowsSecond (slots_of desk.contents) trace
+      → IfTold (look desk.volume).told
+      (λ t. IfSecond (IsLayoutOf (look desk.volume).capacities (read_of t.first t.calls)) trace)
+  second_first trace shows =
+      told_weaken
+      (λ t. IsSoundBy (look desk.volume).capacities (read_of t.first t.calls) opens.log.records
+      opens.base
+      × StandAsRead opens.log.records opens.now.records desk.contents (read_of t.first t.calls))
+      (λ t. IfSecond (IsLayoutOf (look desk.volume).capacities (read_of t.first t.calls)) trace)
+      (look desk.volume).told
+      (λ t both. second_of (read_of t.first t.calls) trace both.0 both.1 shows)
+      (told_both
+      (λ t. IsSoundBy (look desk.volume).capacities (read_of t.first t.calls) opens.log.records
+      opens.base)
+      (λ t. StandAsRead opens.log.records opens.now.records desk.contents (read_of t.first t.calls))
+      (look desk.volume).told opens.sound opens.as_read)
 
   pub entry_first : first_of desk.trace ≡ Some entry_zero
   entry_first = ap first_of opens.opens.trace

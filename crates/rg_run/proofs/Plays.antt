@@ -11,11 +11,13 @@ use Rattle.rg_base.specs.declared.verdict.StopReason.TheVariants as reasons
 use Rattle.rg_feed.specs.declared.fold.item.Stage.{Stage}
 use Rattle.rg_log.specs.Kept.{Listed as ListedLog}
 use Rattle.rg_phase.specs.declared.made.Made.{Made}
-use Rattle.rg_phase.specs.Step.{HasPagesFor, IsSwitchFrom, Makes, NextMade, StepCalls, Stepped}
-use Rattle.rg_phase.specs.Step.{TellsCopy, copy_left, is_device_stop}
+use Rattle.rg_phase.specs.Step.{HasPagesFor, IsSwitchFrom, KeepsPages, Makes, NextMade, StepCalls}
+use Rattle.rg_phase.specs.Step.{Stepped, TellsCopy, copy_left, is_device_stop}
 use Rattle.rg_laws_utility.specs.TraceStage.Tending.{utility_entry}
 use Rattle.rg_base.specs.declared.position.Position.{Position}
-use Rattle.rg_page.specs.Content.{Content}
+use Rattle.rg_page.specs.Content.{Content, content_at, slots_of}
+use Rattle.rg_home.specs.Slot.{Slot}
+use Rattle.rg_stmt.specs.declared.layout.Side.{Side}
 use Rattle.rg_stmt.specs.declared.event.Entry.{Entry}
 use Rattle.rg_stmt.specs.declared.event.Event.{Event}
 use Rattle.rg_stmt.specs.declared.event.Event.TheVariants as events
@@ -35,7 +37,7 @@ use Rattle.rg_stmt.specs.Entries.{said_entry}
 use Rattle.rg_base.specs.Copies.{IsCopy, other_of, set_of}
 use Rattle.rg_image.specs.Rules.{copy_capacity, limit_of}
 use Rattle.rg_engine.specs.Answers.{IfLogFull, forces, is_device}
-use Rattle.rg_engine.specs.Steps.{is_commit}
+use Rattle.rg_engine.specs.Steps.{is_commit, leaves_ground}
 use Rattle.rg_engine.specs.declared.units.OpenUnit.{OpenUnit}
 use Rattle.rg_laws_utility.specs.ByteAccount.Account.{allowed_of}
 use Rattle.rg_model.specs.State.{Table}
@@ -44,7 +46,8 @@ use Rattle.rg_engine.specs.Stored.{IsStored}
 use Rattle.rg_record.specs.declared.record.Record.{Record}
 use Rattle.rg_desk.specs.Chronicle.{logged_after, logged_by, system_entry}
 use Rattle.rg_desk.specs.Desk.{DeskState, IfStartLogFull, IsStart, MadeFlush}
-use Rattle.rg_engine.specs.Layouts.{IsLayout}
+use Rattle.rg_engine.specs.Layouts.{IsLayout, IsSideOf, ShowsSideOf}
+use Rattle.rg_engine.specs.OnVolume.{AreClean, is_clean}
 use Rattle.rg_desk.specs.Desk.{MadeLayout, MadeSaid, MadeStart, Stays, left_to_take, old_records}
 use Rattle.rg_model.specs.Utility.{starts_utility}
 use Rattle.rg_engine.specs.Flushed.{FlushIs, ReadsAll, WritesEither}
@@ -57,16 +60,17 @@ use Rattle.rg_outside.specs.Moments.{EachCall, IfTold}
 use Rattle.rg_outside.proofs.Every.{told_both, told_weaken}
 use Rattle.rg_outside.proofs.Frame.{calls_join, calls_weaken, no_calls}
 use Rattle.rg_run.specs.Asked.{HasAnswered, answer_before, answers_in}
-use Rattle.rg_outside.specs.Calls.{Call}
+use Rattle.rg_outside.specs.Calls.{Call, Told}
 use Rattle.rg_outside.specs.Made.{CountsFailed}
-use Rattle.rg_run.specs.Fit.{FitSince, FailedThen, FitsThen, HasSide, calls_of_last, copy_after}
-use Rattle.rg_run.specs.Fit.{copy_of_last}
+use Rattle.rg_run.specs.Fit.{FailedThen, FitSince, FitsThen, HasPages, HasSide, IfClean, Known}
+use Rattle.rg_run.specs.Fit.{calls_of_last, clean_after, copy_after, known_after, known_of}
+use Rattle.rg_run.specs.Fit.{unopened}
 use Rattle.rg_run.specs.Full.{AreAllowed, IsAllowedAt, smaller_pages}
 use Rattle.rg_run.specs.LogFull.{IsLogFullFrom, IsLogFullOnlyFrom}
 use Rattle.rg_run.specs.Outside.{IsDeviceIf, IsDeviceOnlyIf, WritesOwn}
-use Rattle.rg_run.specs.Played.{AllowsCopy, EntryOf, Goes, IsFlushed, IsOpened, IsOpenedEntry}
-use Rattle.rg_run.specs.Played.{IsStartEvent, IsStepEvent, ShowsLoading, StaysSince, TraceOf}
-use Rattle.rg_run.specs.Played.{first_of}
+use Rattle.rg_run.specs.Played.{AllowsCopy, EntryOf, Goes, IsAlone, IsFlushed, IsOpened}
+use Rattle.rg_run.specs.Played.{IsOpenedEntry, IsStartEvent, IsStepEvent, ShowsLoading, ShowsSecond}
+use Rattle.rg_run.specs.Played.{StaysSince, TraceOf, first_of}
 use Rattle.rg_laws_utility.specs.Course.Loading.{Loading, loading_after, loading_in}
 use Rattle.rg_run.specs.Space.{AreForSpace, IsForSpace}
 use Rattle.rg_run.proofs.Fullness.{allowed_flush, allowed_layout, allowed_on, allowed_opened}
@@ -77,10 +81,11 @@ use Rattle.rg_run.proofs.Spaces.{shown_still, space_on, space_opened, space_said
 use Rattle.rg_run.proofs.Spaces.{space_step}
 use Rattle.rg_run.proofs.Joins.{own_left, own_part, own_right}
 use Rattle.rg_run.proofs.Asking.{answered_all, answered_once, same_unasked, unasked}
-use Rattle.rg_run.proofs.Fits.{IfSwitched, calls_push, copy_push, failed_then, flush_then}
-use Rattle.rg_run.proofs.Fits.{fit_on, fit_push, flushed_keeps, layout_keeps, layout_tells}
-use Rattle.rg_run.proofs.Fits.{no_call, opened_alone, said_tells, start_keeps, start_tells}
-use Rattle.rg_run.proofs.Fits.{step_copy, step_tells, switched_then, told_all}
+use Rattle.rg_run.proofs.Fits.{IfShown, IfSwitched, IfWritten, calls_push, failed_then}
+use Rattle.rg_run.proofs.Fits.{fit_on, fit_push, flush_then, flushed_keeps, known_push}
+use Rattle.rg_run.proofs.Fits.{layout_keeps, layout_tells, no_call, opened_alone, said_tells}
+use Rattle.rg_run.proofs.Fits.{side_before, start_keeps, start_tells, step_copy, step_tells}
+use Rattle.rg_run.proofs.Fits.{switched_then, told_all, written_then}
 
 entries_push : (lines : List Line) (entries : List Entry) (line : Line) (entry : Entry)
     → AllZip EntryOf lines entries → EntryOf line entry
@@ -101,6 +106,28 @@ trace_push : (lines : List Line) (trace : List Entry) (line : Line) (entry : Ent
 trace_push lines [] line entry of one = absurd of
 trace_push lines (e ∷ entries) line entry of one =
     (of.0, entries_push lines entries line entry of.1 one)
+
+-- there is more than one entry after it
+not_alone : (lines : List Line) (trace : List Entry) (entry : Entry) → TraceOf lines trace
+    → IsAlone (trace ++ entry ∷ []) → ⊥
+not_alone lines [] entry of alone = of
+not_alone lines (e ∷ []) entry of alone = alone
+not_alone lines (e ∷ f ∷ es) entry of alone = alone
+
+second_push : (lines : List Line) (pages : List (List Slot)) (trace : List Entry) (entry : Entry)
+    → TraceOf lines trace → ShowsSecond pages trace
+    → (IsAlone trace → ShowsSideOf pages entry.event)
+    → ShowsSecond pages (trace ++ entry ∷ [])
+second_push lines pages [] entry of all one = absurd of
+second_push lines pages (e ∷ []) entry of all one = one tt
+second_push lines pages (e ∷ f ∷ es) entry of all one = all
+
+-- the same pages with the same marks are clean
+same_clean : (contents more : List Content) (marks later : List (Option Position))
+    → more ≡ contents → later ≡ marks → AreClean contents marks → AreClean more later
+same_clean contents more marks later pages same clean =
+    subst (λ (ps : List Content). AreClean ps later) (sym pages)
+    (subst (AreClean contents) (sym same) clean)
 
 log_push : (limit logged : ℕ) (entries : List Entry) (entry : Entry)
     → IsLogFullOnlyFrom limit logged entries
@@ -135,6 +162,13 @@ log_layout copy LayoutNoMemory limit logged is = tt
 log_layout copy LayoutDown limit logged is = tt
 log_layout copy event limit logged is = absurd is
 
+layout_clean : (copy : ℕ) (event : Event) (clean : Bool) → IsLayout copy event
+    → clean_after clean event ≡ clean
+layout_clean copy (Layout shown side) clean is = refl
+layout_clean copy LayoutNoMemory clean is = refl
+layout_clean copy LayoutDown clean is = refl
+layout_clean copy event clean is = absurd is
+
 device_layout : (P : Type 0) (copy : ℕ) (event : Event) → IsLayout copy event → IsDeviceIf P event
 device_layout P copy (Layout shown side) is = tt
 device_layout P copy LayoutNoMemory is = tt
@@ -159,6 +193,32 @@ flushed_so false copy contents marks later old new Clean is = tt
 flushed_so false copy contents marks later old new FlushDevice is = tt
 flushed_so false copy contents marks later old new FlushNoMemory is = tt
 flushed_so false copy contents marks later old new event is = absurd is
+
+-- pages that were clean are so after it, and so they are where it says CLEAN
+flushed_clean : (down : Bool) (copy : ℕ) (contents : List Content)
+    (marks later : List (Option Position)) (old new : VolumeSeen) (event : Event) (clean : Bool)
+    → FlushIs down copy contents marks later old new event → down ≡ false
+    → (clean ≡ true → AreClean contents marks) → clean_after clean event ≡ true
+    → AreClean contents later
+flushed_clean true copy contents marks later old new event clean is up was now = absurd (cc (up))
+flushed_clean false copy contents marks later old new (EventFlush page) clean is up was now =
+    absurd (cc (sym is.0.dirty ∙ was now page is.0.low is.0.high))
+flushed_clean false copy contents marks later old new Clean clean is up was now = λ p one high.
+    ap (λ (m : Option Position). is_clean m (content_at contents p)) (is.3 p one)
+    ∙ is.0 p one high
+flushed_clean false copy contents marks later old new FlushDevice clean is up was now =
+    let least = is.1.least in
+    absurd (cc (sym least.dirty ∙ was now is.1.page least.low least.high))
+flushed_clean false copy contents marks later old new FlushNoMemory clean is up was now =
+    λ p one high.
+    ap (λ (m : Option Position). is_clean m (content_at contents p)) (is.1 p one)
+    ∙ was now p one high
+flushed_clean false copy contents marks later old new event clean is up was now = absurd is
+
+flushed_shows : (pages : List (List Slot)) (event : Event) → IsFlushed event
+    → ShowsSideOf pages event
+flushed_shows pages (Layout copy side) is = absurd is
+flushed_shows pages event is = tt
 
 device_flush : (P : Type 0) (down : Bool) (copy : ℕ) (contents : List Content)
     (marks later : List (Option Position)) (old new : VolumeSeen) (event : Event)
@@ -198,6 +258,19 @@ log_start options (EventSaid stmt reply) logged pages is full = absurd is
 log_start options (events.StartLogFull need left) logged pages is full = full
 log_start options event logged pages is full = tt
 
+start_clean : (options : Options) (event : Event) (clean : Bool) → IsStartEvent options event
+    → clean_after clean event ≡ clean
+start_clean options (events.Opened copy rows pages used) clean is = absurd is
+start_clean options Clean clean is = absurd is
+start_clean options (events.Switched to sides) clean is = absurd is
+start_clean options (EventSaid stmt reply) clean is = absurd is
+start_clean options event clean is = refl
+
+start_shows : (options : Options) (pages : List (List Slot)) (event : Event)
+    → IsStartEvent options event → ShowsSideOf pages event
+start_shows options pages (Layout copy side) is = absurd is
+start_shows options pages event is = tt
+
 device_start : (P : Type 0) (options : Options) (event : Event) → IsStartEvent options event
     → IsDeviceIf P event
 device_start P options (EventSaid stmt reply) is = absurd is
@@ -225,6 +298,28 @@ log_step None (events.StartLogFull need left) limit logged is = absurd is
 log_step (Some answer) (events.StartLogFull need left) limit logged is = absurd (cc (is))
 log_step answer event limit logged is = tt
 
+step_shows : (answer : Option Answer) (pages : List (List Slot)) (event : Event)
+    → IsStepEvent answer event → ShowsSideOf pages event
+step_shows None pages (Layout copy side) is = absurd is
+step_shows (Some answer) pages (Layout copy side) is = absurd (cc (is))
+step_shows answer pages event is = tt
+
+-- so are those of a switch, and any others that were clean
+step_clean : {V O : Type 0} (old new : DeskState V O) (answer : Option Answer) (event : Event)
+    (clean : Bool) → IsStepEvent answer event → KeepsPages old new event
+    → (clean ≡ true → AreClean old.contents old.marks) → clean_after clean event ≡ true
+    → AreClean new.contents new.marks
+step_clean old new None (events.Opened copy rows pages used) clean is keeps was now = absurd is
+step_clean old new (Some answer) (events.Opened copy rows pages used) clean is keeps was now =
+    absurd (cc (is))
+step_clean old new None Clean clean is keeps was now = absurd is
+step_clean old new (Some answer) Clean clean is keeps was now = absurd (cc (is))
+step_clean old new None (EventSaid stmt reply) clean is keeps was now = absurd is
+step_clean old new (Some answer) (EventSaid stmt reply) clean is keeps was now = absurd (cc (is))
+step_clean old new answer (events.Switched to sides) clean is keeps was now = keeps
+step_clean old new answer event clean is keeps was now =
+    same_clean old.contents new.contents old.marks new.marks keeps.0 keeps.1 (was now)
+
 device_step : (P : Type 0) (answer : Option Answer) (event : Event)
     → (is_device_stop event ≡ true → P) → IsStepEvent answer event → IsDeviceIf P event
 device_step P None (EventSaid stmt reply) f is = absurd is
@@ -240,6 +335,14 @@ device_said : (P : Type 0) (session : Session) (stmt : Stmt) (reply : Reply) →
     → IsDeviceIf P (said_entry session stmt reply 0).event
 device_said P session stmt Device is = is refl
 device_said P session stmt reply is = tt
+
+-- a statement after which pages are clean has left them as they were
+said_clean : (stmt : Stmt) (reply : Reply) (clean : Bool)
+    → clean_after clean (EventSaid stmt reply) ≡ true
+    → (leaves_ground reply ≡ true) × (clean ≡ true) × (is_device reply ≡ false)
+said_clean stmt Done clean now = absurd (cc (now))
+said_clean stmt Device clean now = absurd (cc (now))
+said_clean stmt reply clean now = (refl, now, refl)
 
 -- what holds where DEVICE is answered holds by another reason
 one_more : (P Q : Type 0) (event : Event) → (P → Q) → IsDeviceIf P event → IsDeviceIf Q event
@@ -363,6 +466,18 @@ module _ {V O : Type 0} {answers : O → Option (List Answer)} (look : V → Vol
   abbrev least : ℕ
   least = 3221 * smaller_pages (look old.volume).capacities
 
+  -- what the entries so far tell
+  abbrev known : Known
+  known = known_of unopened old.trace
+
+  -- a layout of clean pages is that of the pages as they read
+  abbrev CleanSide : (calls : ℕ) → Told → Side → Type 0
+  CleanSide calls t side = IfClean known.clean (HasSide known.copy t.start calls side t)
+
+  known_on : (entry : Entry) → new.trace ≡ old.trace ++ entry ∷ []
+      → known_of unopened new.trace ≡ known_after known entry.event
+  known_on entry made = ap (known_of unopened) made ∙ known_push unopened old.trace entry
+
   on : (line : Line) (entry : Entry) → new.trace ≡ old.trace ++ entry ∷ [] → EntryOf line entry
       → ((start : Table) → IsStored (old_records old) start
       → IsAllowedAt least (allowed_of start old.trace) entry.event (loading_in None old.trace))
@@ -370,12 +485,14 @@ module _ {V O : Type 0} {answers : O → Option (List Answer)} (look : V → Vol
       → IsDeviceIf (Rose (look first.volume).faults (look new.volume).faults) entry.event
       → (new.down ≡ true → Rose (look first.volume).faults (look new.volume).faults)
       → IfTold (look new.volume).told
-      (λ t. FitsThen (copy_of_last 0 old.trace) t.start (calls_of_last 0 old.trace) entry.calls t
-      entry.event)
+      (λ t. FitsThen known t.start (calls_of_last 0 old.trace) entry.calls t entry.event)
+      → (clean_after known.clean entry.event ≡ true → new.down ≡ false
+      → AreClean new.contents new.marks)
+      → ShowsSideOf (slots_of old.contents) entry.event
       → IsCount (look new.volume) entry.calls
       → HasAnswered (answers old.operator) (answer_before entry.answer []) (answers new.operator)
       → Moves look old new entry → Goes look answers first (lines ++ line ∷ []) new
-  on line entry made of full log device down flush counted asked moves = record {
+  on line entry made of full log device down flush clean shows counted asked moves = record {
     entries = subst (TraceOf (lines ++ line ∷ [])) (sym made)
         (trace_push lines old.trace line entry goes.entries of);
     begins = ap first_of made ∙ first_push lines old.trace entry goes.entries ∙ goes.begins;
@@ -405,16 +522,24 @@ module _ {V O : Type 0} {answers : O → Option (List Answer)} (look : V → Vol
         subst (λ (es : List Entry). IfTold (look new.volume).told (λ t. FitSince t.start t es))
         (sym made) (told_weaken
         (λ t. FitSince t.start t old.trace
-        × FitsThen (copy_of_last 0 old.trace) t.start (calls_of_last 0 old.trace) entry.calls t
-        entry.event) (λ t. FitSince t.start t (old.trace ++ entry ∷ [])) (look new.volume).told
-        (λ t both. fit_push 0 t.start 0 t old.trace entry both.0 both.1)
+        × FitsThen known t.start (calls_of_last 0 old.trace) entry.calls t entry.event)
+        (λ t. FitSince t.start t (old.trace ++ entry ∷ [])) (look new.volume).told
+        (λ t both. fit_push unopened t.start 0 t old.trace entry both.0 both.1)
         (told_both (λ t. FitSince t.start t old.trace)
-        (λ t. FitsThen (copy_of_last 0 old.trace) t.start (calls_of_last 0 old.trace) entry.calls t
-        entry.event) (look new.volume).told
-        (fit_on (WritesOwn old.trace) (look old.volume).told (look new.volume).told 0 0 old.trace
-        moves.only goes.fit) flush));
-    copy_is = ap (copy_of_last 0) made ∙ copy_push 0 old.trace entry
+        (λ t. FitsThen known t.start (calls_of_last 0 old.trace) entry.calls t entry.event)
+        (look new.volume).told
+        (fit_on (WritesOwn old.trace) (look old.volume).told (look new.volume).told unopened 0
+        old.trace moves.only goes.fit) flush));
+    copy_is = ap (λ (k : Known). k.copy) (known_on entry made)
         ∙ ap (λ (n : ℕ). copy_after n entry.event) goes.copy_is ∙ sym moves.copy;
+    clean = λ now. clean (ap (λ (k : Known). k.clean) (sym (known_on entry made)) ∙ now);
+    first_pages = λ alone.
+        absurd (not_alone lines old.trace entry goes.entries (subst IsAlone made alone));
+    shown =
+        subst (ShowsSecond (slots_of first.contents)) (sym made)
+        (second_push lines (slots_of first.contents) old.trace entry goes.entries goes.shown
+        (λ alone. subst (λ (ps : List Content). ShowsSideOf (slots_of ps) entry.event)
+        (goes.first_pages alone) shows));
     counted = subst (IsCount (look new.volume))
         (sym (ap (calls_of_last 0) made ∙ calls_push 0 old.trace entry)) counted;
     asked =
@@ -487,17 +612,25 @@ module _ {V O : Type 0} {answers : O → Option (List Answer)} (look : V → Vol
       (device_said (Rose (look first.volume).faults (look new.volume).faults) session stmt
       said.reply (λ is. rises (said.device is)))
       (λ down. by_old old.down refl (sym said.down ∙ down))
-      (said_tells stmt said.reply (look new.volume).told (copy_of_last 0 old.trace)
-      (calls_of_last 0 old.trace) said.calls
+      (said_tells stmt said.reply (look new.volume).told known (calls_of_last 0 old.trace)
+      said.calls
       (λ is. failed_now (WritesEither (set_of old.copy)) said.calls said.stays.calls.only
       said.counted (said.device is))
       (λ other. still_now said.calls said.counted
-      (said.quiet (unforced old.ground.units session stmt other)))) said.counted
-      (same_unasked answers old.operator new.operator said.utility.operator)
+      (said.quiet (unforced old.ground.units session stmt other))))
+      (λ now up.
+      let still = said_clean stmt said.reply known.clean now in
+      same_clean old.contents new.contents old.marks new.marks (said.kept still.0).1 said.marks
+      (goes.clean still.1 (was_up old.down (is_device said.reply) (sym said.down ∙ up))))
+      tt said.counted (same_unasked answers old.operator new.operator said.utility.operator)
       (moves_of entry said.stays (λ k. refl) (both_still entry said.utility.stage)
       (space_said (look old.volume).capacities stmt said.reply (loading_in None old.trace))
       (loading_still entry said.utility.stage said.stays.copy (λ now. refl)))
     where
+      was_up : (b device : Bool) → (b || device) ≡ false → b ≡ false
+      was_up true device up = up
+      was_up false device up = refl
+
       by_old : (b : Bool) → old.down ≡ b → (b || is_device said.reply) ≡ true
           → Rose (look first.volume).faults (look new.volume).faults
       by_old true e down = risen said.stays.calls.later (goes.down e)
@@ -513,12 +646,20 @@ module _ {V O : Type 0} {answers : O → Option (List Answer)} (look : V → Vol
       shown.is)
       (device_layout (Rose (look first.volume).faults (look new.volume).faults) old.copy shown.event
       shown.is) (λ down. risen shown.stays.calls.later (goes.down (sym shown.down ∙ down)))
-      (told_weaken (λ t. shown.calls ≡ calls_of_last 0 old.trace)
-      (λ t. FitsThen (copy_of_last 0 old.trace) t.start (calls_of_last 0 old.trace) shown.calls t
-      shown.event) (look new.volume).told
-      (λ t. layout_tells old.copy shown.event shown.is (copy_of_last 0 old.trace) t.start
-      (calls_of_last 0 old.trace) shown.calls t)
-      (still_now shown.calls shown.counted (ap look shown.volume)))
+      (told_weaken
+      (λ t. (shown.calls ≡ calls_of_last 0 old.trace)
+      × IfShown (CleanSide shown.calls t) shown.event)
+      (λ t. FitsThen known t.start (calls_of_last 0 old.trace) shown.calls t shown.event)
+      (look new.volume).told
+      (λ t both. layout_tells old.copy shown.event shown.is known t.start
+      (calls_of_last 0 old.trace) shown.calls t both.0 both.1)
+      (told_both (λ t. shown.calls ≡ calls_of_last 0 old.trace)
+      (λ t. IfShown (CleanSide shown.calls t) shown.event) (look new.volume).told
+      (still_now shown.calls shown.counted (ap look shown.volume))
+      (reads_so shown.event refl side)))
+      (λ now up. same_clean old.contents new.contents old.marks new.marks shown.contents shown.marks
+      (goes.clean (sym (layout_clean old.copy shown.event known.clean shown.is) ∙ now)
+      (sym shown.down ∙ up))) side
       shown.counted (same_unasked answers old.operator new.operator shown.utility.operator)
       (moves_of entry shown.stays (layout_keeps old.copy shown.event shown.is)
       (both_still entry shown.utility.stage)
@@ -526,6 +667,33 @@ module _ {V O : Type 0} {answers : O → Option (List Answer)} (look : V → Vol
       (loading_in None old.trace))
       (loading_still entry shown.utility.stage shown.stays.copy
       (layout_none old.copy shown.event shown.is).same))
+    where
+      side : ShowsSideOf (slots_of old.contents) shown.event
+      side = subst (λ (ps : List (List Slot)). ShowsSideOf ps shown.event) shown.slots shown.side
+
+      by_clean : (b : Bool) (of : Side) → known.clean ≡ b → old.down ≡ false
+          → IsSideOf (slots_of old.contents) of
+          → IfTold (look new.volume).told
+          (λ t. IfClean b (HasSide known.copy t.start shown.calls of t))
+      by_clean false of is up are = told_all (look new.volume).told (λ t. Unit {0}) (λ t. tt)
+      by_clean true of is up are =
+          subst
+          (λ (n : ℕ). IfTold (look new.volume).told (λ t. HasSide n t.start shown.calls of t))
+          (sym goes.copy_is)
+          (switched_then old.copy shown.calls of old.contents (look new.volume) shown.counted
+          (subst (λ (v : V). IfTold (look v).told (ReadsAll (set_of old.copy) old.contents))
+          (sym shown.volume) (shown.reads up (goes.clean is up))) are)
+
+      by_down : (down : Bool) (of_copy : ℕ) (of : Side) → old.down ≡ down
+          → shown.event ≡ Layout of_copy of → IsSideOf (slots_of old.contents) of
+          → IfTold (look new.volume).told (λ t. CleanSide shown.calls t of)
+      by_down true of_copy of down is are = absurd (cc (sym is ∙ shown.was_down down))
+      by_down false of_copy of down is are = by_clean known.clean of refl down are
+
+      reads_so : (event : Event) → shown.event ≡ event → ShowsSideOf (slots_of old.contents) event
+          → IfTold (look new.volume).told (λ t. IfShown (CleanSide shown.calls t) event)
+      reads_so (Layout of_copy of) is are = by_down old.down of_copy of refl is are
+      reads_so event is are = told_all (look new.volume).told (λ t. Unit {0}) (λ t. tt)
 
   pub goes_flushed : MadeFlush look old new → Goes look answers first (lines ++ Flush ∷ []) new
   goes_flushed made =
@@ -538,15 +706,21 @@ module _ {V O : Type 0} {answers : O → Option (List Answer)} (look : V → Vol
       (log_flush made.event (limit_of old.ground.log.pages) (logged_by 0 old.trace) is)
       (device_flush (Rose (look first.volume).faults (look new.volume).faults) old.down old.copy
       old.contents old.marks new.marks (look old.volume) (look new.volume) made.event rises made.is)
-      (λ down. risen made.stays.calls.later (goes.down (sym made.down ∙ down))) (subst
-      (λ (k : ℕ). IfTold (look new.volume).told
-      (λ t. FitsThen k t.start (calls_of_last 0 old.trace) made.calls t made.event))
-      (sym goes.copy_is)
-      (flush_then (WritesEither (set_of old.copy)) old.down old.copy old.contents old.marks
+      (λ down. risen made.stays.calls.later (goes.down (sym made.down ∙ down)))
+      (flush_then (WritesEither (set_of old.copy)) old.down known old.contents old.marks
       new.marks (look old.volume) (look new.volume) (calls_of_last 0 old.trace) made.calls
       made.event made.stays.calls.only goes.counted made.counted
       (λ rose. failed_now (WritesEither (set_of old.copy)) made.calls made.stays.calls.only
-      made.counted rose) made.is))
+      made.counted rose)
+      (subst
+      (λ (n : ℕ). FlushIs old.down n old.contents old.marks new.marks (look old.volume)
+      (look new.volume) made.event) (sym goes.copy_is) made.is))
+      (λ now up.
+      let was = sym made.down ∙ up in
+      subst (λ (ps : List Content). AreClean ps new.marks) (sym made.contents)
+      (flushed_clean old.down old.copy old.contents old.marks new.marks (look old.volume)
+      (look new.volume) made.event known.clean made.is was (λ is. goes.clean is was) now))
+      (flushed_shows (slots_of old.contents) made.event is)
       made.counted (same_unasked answers old.operator new.operator made.utility.operator)
       (moves_of entry made.stays (flushed_keeps made.event is) (both_still entry made.utility.stage)
       ((flush_none made.event is).space (look old.volume).capacities (loading_in None old.trace))
@@ -592,11 +766,14 @@ module _ {V O : Type 0} {answers : O → Option (List Answer)} (look : V → Vol
       is)
       (λ down. risen made.stays.calls.later (goes.down (sym made.down ∙ down)))
       (told_weaken (λ t. made.calls ≡ calls_of_last 0 old.trace)
-      (λ t. FitsThen (copy_of_last 0 old.trace) t.start (calls_of_last 0 old.trace) made.calls t
-      made.event) (look new.volume).told
-      (λ t. start_tells options made.event is (copy_of_last 0 old.trace) t.start
-      (calls_of_last 0 old.trace) made.calls t)
+      (λ t. FitsThen known t.start (calls_of_last 0 old.trace) made.calls t made.event)
+      (look new.volume).told
+      (λ t. start_tells options made.event is known t.start (calls_of_last 0 old.trace)
+      made.calls t)
       (still_now made.calls made.counted (ap look made.volume)))
+      (λ now up. same_clean old.contents new.contents old.marks new.marks made.contents made.marks
+      (goes.clean (sym (start_clean options made.event known.clean is) ∙ now) (sym made.down ∙ up)))
+      (start_shows options (slots_of old.contents) made.event is)
       made.counted (same_unasked answers old.operator new.operator made.operator)
       (moves_of entry made.stays (start_keeps options made.event is)
       (λ runs copy which. by_start copy which
@@ -627,11 +804,14 @@ module _ {V O : Type 0} {answers : O → Option (List Answer)} (look : V → Vol
       (device_step (Rose (look first.volume).faults (look new.volume).faults) answer event
       (λ at. rises (made.device at)) is)
       (λ down. by_down (made.down down))
-      (step_tells answer event is (look new.volume).told (copy_of_last 0 old.trace)
-      (calls_of_last 0 old.trace) made.calls
+      (step_tells answer event is (look new.volume).told known (calls_of_last 0 old.trace)
+      made.calls
       (λ at. failed_now (WritesOwn old.trace) made.calls calls.only made.counted (made.device at))
       (λ still. still_now made.calls made.counted (ap look (made.quiet still)))
-      (turned_at event made.told made.copy))
+      (turned_at event made.told made.copy) (wrote_at event made.told made.copy))
+      (λ now up. step_clean asked new answer event known.clean is (made.pages up)
+      (λ was. goes.clean was (was_up old.down refl up)) now)
+      (step_shows answer (slots_of old.contents) event is)
       made.counted
       (subst (λ (o : O). HasAnswered (answers old.operator) (answer_before answer []) (answers o))
       (sym made.operator)
@@ -652,18 +832,6 @@ module _ {V O : Type 0} {answers : O → Option (List Answer)} (look : V → Vol
 
       entry : Entry
       entry = utility_entry stepped.event stepped.answer made.calls
-
-      -- the new layout is that of the pages that are read
-      turned_at : (event : Event) → TellsCopy look asked new event
-          → new.copy ≡ copy_left old.copy event
-          → IfSwitched
-          (λ to sides. IfTold (look new.volume).told
-          (λ t. HasSide to t.start made.calls sides.new t)) event
-      turned_at (events.Switched to sides) told copy =
-          switched_then to made.calls sides.new new.contents (look new.volume) made.counted
-          (subst (λ (n : ℕ). IfTold (look new.volume).told (ReadsAll (set_of n) new.contents)) copy
-          told.reads) told.new_side
-      turned_at event told copy = tt
 
       -- it calls nothing, or only as far as the start of the utility allows
       calls_of : (answer : Option Answer) → StepCalls look old answer new → CallsWithin look old new
@@ -724,6 +892,46 @@ module _ {V O : Type 0} {answers : O → Option (List Answer)} (look : V → Vol
 
       calls : CallsWithin look old new
       calls = calls_of stepped.answer stepped.only
+
+      was_up : (b : Bool) → old.down ≡ b → new.down ≡ false → old.down ≡ false
+      was_up true down up = absurd (cc (sym (made.stays_down down) ∙ up))
+      was_up false down up = down
+
+      -- the new layout is that of the pages that are read, after the step and before it
+      turned_at : (event : Event) → TellsCopy look asked new event
+          → new.copy ≡ copy_left old.copy event
+          → IfSwitched
+          (λ to sides. IfTold (look new.volume).told
+          (λ t. HasSide to t.start (calls_of_last 0 old.trace) sides.new t
+          × HasSide to t.start made.calls sides.new t)) event
+      turned_at (events.Switched to sides) told copy =
+          told_both (λ t. HasSide to t.start (calls_of_last 0 old.trace) sides.new t)
+          (λ t. HasSide to t.start made.calls sides.new t) (look new.volume).told
+          (side_before (WritesOwn old.trace) to (calls_of_last 0 old.trace) sides.new
+          (look old.volume).told (look new.volume).told calls.only
+          (switched_then to (calls_of_last 0 old.trace) sides.new new.contents (look old.volume)
+          goes.counted
+          (subst (λ (n : ℕ). IfTold (look old.volume).told (ReadsAll (set_of n) new.contents)) copy
+          told.ready) told.new_side))
+          (switched_then to made.calls sides.new new.contents (look new.volume) made.counted
+          (subst (λ (n : ℕ). IfTold (look new.volume).told (ReadsAll (set_of n) new.contents)) copy
+          told.reads) told.new_side)
+      turned_at event told copy = tt
+
+      -- the new copy that was written is read
+      wrote_at : (event : Event) → TellsCopy look asked new event
+          → new.copy ≡ copy_left old.copy event
+          → IfWritten
+          (λ pages. IfTold (look new.volume).told
+          (λ t. HasPages (other_of known.copy) t.start made.calls pages t)) event
+      wrote_at (events.Written pages) told copy =
+          written_then (other_of known.copy) made.calls pages told.shadow.shade.pages
+          (look new.volume) made.counted
+          (subst
+          (λ (n : ℕ). IfTold (look new.volume).told
+          (ReadsAll (set_of (other_of n)) told.shadow.shade.pages)) (copy ∙ sym goes.copy_is)
+          told.reads) told.pages_are
+      wrote_at event told copy = tt
 
       by_down : (old.down ≡ true) ⊎ Rose (look old.volume).faults (look new.volume).faults
           → Rose (look first.volume).faults (look new.volume).faults
@@ -813,9 +1021,16 @@ goes_opened {V} {O} look answers desk opened copy counted room idle = record {
       subst (λ (es : List Entry). IfTold (look desk.volume).told (λ t. FitSince t.start t es))
       (sym opened.trace)
       (told_all (look desk.volume).told (λ t. FitSince t.start t (opened.entry ∷ []))
-      (λ t. opened_alone 0 t.start 0 t opened.entry opened.is));
-  copy_is = ap (copy_of_last 0) opened.trace ∙ ap (λ (e : Entry). copy_after 0 e.event) opened.is.is
-      ∙ copy;
+      (λ t. opened_alone unopened t.start 0 t opened.entry opened.is));
+  copy_is = ap (λ (es : List Entry). (known_of unopened es).copy) opened.trace
+      ∙ ap (λ (e : Entry). copy_after 0 e.event) opened.is.is ∙ copy;
+  clean = λ now up.
+      let none : (known_of unopened desk.trace).clean ≡ false =
+      ap (λ (es : List Entry). (known_of unopened es).clean) opened.trace
+      ∙ ap (λ (e : Entry). clean_after false e.event) opened.is.is in
+      absurd (cc (sym none ∙ now));
+  first_pages = λ alone. refl;
+  shown = subst (ShowsSecond (slots_of desk.contents)) (sym opened.trace) tt;
   counted = subst (IsCount (look desk.volume)) (sym (ap (calls_of_last 0) opened.trace)) counted;
   asked =
       subst
@@ -856,6 +1071,9 @@ goes_dropped {V} {O} {answers} look first desk new lines same goes =
       down = goes.down;
       fit = goes.fit;
       copy_is = goes.copy_is;
+      clean = goes.clean;
+      first_pages = goes.first_pages;
+      shown = goes.shown;
       counted = goes.counted;
       asked = goes.asked;
       room = goes.room;

@@ -26,9 +26,10 @@ use Rattle.rg_stmt.specs.declared.event.Entry.{Entry}
 use Rattle.rg_stmt.specs.declared.line.Line.{Line}
 use Rattle.rg_run.specs.Full.{smaller_pages}
 use Rattle.rg_run.specs.LogFull.{IsLogFullOnlyFrom}
+use Rattle.rg_run.specs.Shown.{IfSecond, IsLayoutOf, ShowsOpened}
 use Rattle.rg_run.specs.Space.{AreForSpace}
 use Rattle.rg_run.specs.Outside.{IfBoth, IsEnd, MakesOnly, WritesOwn, end_of, log_at}
-use Rattle.rg_run.specs.Fit.{FailedSince, FitSince, calls_of_last}
+use Rattle.rg_run.specs.Fit.{FailedSince, FitSince, calls_of_last, unopened}
 use Rattle.rg_run.specs.Opening.{AreOpeningsSince, IsOpeningThen}
 use Rattle.rg_run.specs.Parts.{Going, IsFound, IsRun, StaysSound}
 use Rattle.rg_run.specs.Table.{Begins, Ends, KeepsSound}
@@ -38,7 +39,7 @@ use Rattle.rg_record.specs.declared.record.Record.{Record}
 use Rattle.rg_run.specs.Whole.{Whole}
 use Rattle.rg_run.specs.declared.played.RunEnd.{RunEnd}
 use Rattle.rg_run.proofs.Again.{count_has}
-use Rattle.rg_run.proofs.Between.{both_weaken, read_out, since_out, sound_out}
+use Rattle.rg_run.proofs.Between.{both_weaken, image_out, read_out, since_out, sound_out}
 use Rattle.rg_outside.specs.Made.{CountsFailed}
 use Rattle.rg_run.proofs.Fits.{failed_after, recounted}
 use Rattle.rg_run.specs.Asked.{HasAnswered, answers_in}
@@ -48,7 +49,7 @@ use Rattle.rg_run.proofs.Fullness.{smaller_least}
 use Rattle.rg_run.proofs.Joins.{own_quiet}
 use Rattle.rg_run.proofs.Opening.{copy_first, counted_first, entry_first, entry_zero, found_first}
 use Rattle.rg_run.proofs.Opening.{old_first, opened_first, opening_first, opening_then, pages_first}
-use Rattle.rg_run.proofs.Opening.{read_first_log, stores_first}
+use Rattle.rg_run.proofs.Opening.{read_first_log, second_first, stores_first}
 use Rattle.rg_run.proofs.Openings.{recounted_openings}
 use Rattle.rg_run.proofs.Plays.{device_more, goes_opened, rose_wider}
 use Rattle.rg_run.proofs.Uncounted.{counted_calls, uncounted_only, uncounted_told}
@@ -144,6 +145,7 @@ module _ {V : Type 0} (seen : V → VolumeSeen) (volume : V) where
           opening = opens old.told new.told;
           openings = opens old.told new.told;
           fit = opens old.told new.told;
+          layout = opens old.told new.told;
           full = tt;
           course = tt;
           log_full = tt;
@@ -286,6 +288,23 @@ module _ {V : Type 0} (seen : V → VolumeSeen) (volume : V) where
             (λ before t e. subst (λ (rs : List Record). IsStored rs start) (sym e)
             (λ k. is k ∙ ap (λ (rs : List Record). stored rs k) had ∙ now_same k)) read
 
+        -- a layout that is the second entry is that of the volume as it read at the opening
+        layout : ShowsOpened old new trace
+        layout =
+            image_out (WritesOwn trace)
+            (λ i. IfSecond (IsLayoutOf old.capacities i) trace) ended.calls
+            old.told (look desk.volume).told new.told le
+            (subst (λ (x : CountedCalls V). EachCall (look x).told (look desk.volume).told IsQuiet)
+            begins opens.calls.only)
+            (subst
+            (λ (v : V). EachCall (look desk.volume).told (counted (seen v).told ended.calls)
+            (WritesOwn trace)) (sym ends) run.made.calls)
+            (subst
+            (λ (c : Capacities). IfTold (look desk.volume).told
+            (λ t. IfSecond (IsLayoutOf c (read_of t.first t.calls)) trace))
+            (opens.calls.capacities ∙ begun_capacities)
+            (second_first look (look begun) operator desk opens trace run.made.second))
+
         pub whole_run : Whole old new lines trace end
         whole_run = record {
           ends = ends_out old new ended.calls opens.log.records le read opens.now.records now_same
@@ -307,8 +326,9 @@ module _ {V : Type 0} (seen : V → VolumeSeen) (volume : V) where
               (λ t. AreOpeningsSince c t.start t trace)) kept run_seen.made.openings);
           fit =
               since_out (WritesOwn trace) (λ start t. FitSince start t trace) ended.calls old.told
-              new.told (λ start count t all. recounted 0 start 0 count t trace all) le made
+              new.told (λ start count t all. recounted unopened start 0 count t trace all) le made
               run_seen.made.fit;
+          layout = layout;
           full = allowed_out old new ended.calls opens.log.records le read opens.now.records
               now_same look desk lines operator_left trace end had kept made run_seen;
           course = course_out old new ended.calls opens.log.records le read opens.now.records

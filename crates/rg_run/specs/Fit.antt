@@ -3,14 +3,18 @@
 -- 1. Where an entry says that a page was written, the last call up to it was the write of that page
 --    to the set of the current copy. It succeeded, and it was made since the entry before.
 -- 2. Where an entry says DEVICE, a call that was made since the entry before has failed.
--- 3. Where an entry says SWITCHED, the set of the new copy had, after the calls up to it, exactly
---    pages with the spots of the new layout.
--- 4. Else a call was made since the entry before only where this one is that of an opening, of a
---    COMMIT or of WRITTEN. So none was where an entry says CLEAN.
--- 5. The current copy is that of the last opening or switch.
--- 6. Of failed calls this is said while the calls can be counted.
-use Rattle.std.specs.Prelude.{◌≡◌, ◌≤◌, ◌<◌, ◌+◌, ◌-◌, ◌^◌, ℕ, List, [], ◌∷◌, length}
-use Rattle.rg_base.specs.Copies.{set_of}
+-- 3. Where an entry says WRITTEN, the set of the other copy had, after the calls up to it, as many
+--    pages. Where one says SWITCHED, the set of the new copy had exactly pages with the spots of
+--    the new layout: after the calls up to the entry before, and after those up to this one.
+-- 4. Else a call was made since the entry before only where this one is that of an opening or of a
+--    COMMIT. So none was where an entry says CLEAN.
+-- 5. The pages of the current copy are clean from CLEAN or SWITCHED on, until a statement is
+--    answered OK, and while the entries say so the set of that copy has the spots of each layout.
+-- 6. The current copy is that of the last opening or switch.
+-- 7. Of failed calls this is said while the calls can be counted.
+use Rattle.std.specs.Prelude.{◌≡◌, ◌≤◌, ◌<◌, ◌+◌, ◌-◌, ◌^◌, ℕ, Bool, true, false, List, [], ◌∷◌}
+use Rattle.std.specs.Prelude.{length}
+use Rattle.rg_base.specs.Copies.{other_of, set_of}
 use Rattle.rg_base.specs.declared.verdict.StopReason.TheVariants as reasons
 use Rattle.rg_engine.specs.Flushed.{ReadsAll}
 use Rattle.rg_engine.specs.Layouts.{IsSideOf}
@@ -19,18 +23,40 @@ use Rattle.rg_outside.specs.Moments.{faults_at, moment}
 use Rattle.rg_stmt.specs.declared.event.Entry.{Entry}
 use Rattle.rg_stmt.specs.declared.event.Event.{Event}
 use Rattle.rg_page.specs.Content.{Content, slots_of}
-use Rattle.rg_stmt.specs.declared.event.Event.TheVariants.{Flush, FlushDevice, Opened, Said, Stop}
-use Rattle.rg_stmt.specs.declared.event.Event.TheVariants.{Switched, Written}
+use Rattle.rg_stmt.specs.declared.event.Event.TheVariants.{Clean, Flush, FlushDevice, Layout}
+use Rattle.rg_stmt.specs.declared.event.Event.TheVariants.{Opened, Said, Stop, Switched, Written}
 use Rattle.rg_stmt.specs.declared.layout.Side.{Side}
-use Rattle.rg_stmt.specs.declared.stmt.Reply.TheVariants.{Device}
+use Rattle.rg_stmt.specs.declared.stmt.Reply.TheVariants.{Device, Done}
 use Rattle.rg_stmt.specs.declared.stmt.Stmt.{Stmt}
 use Rattle.rg_stmt.specs.declared.stmt.Stmt.TheVariants.{Commit}
+
+-- what some first entries tell: the current copy, and whether all its pages are clean
+pub record Known : Type 0 where
+  pub copy : ℕ
+  pub clean : Bool
+
+-- before the first entry
+abbrev pub unopened : Known
+unopened = record { copy = 0; clean = false }
 
 -- the copy that is current after this event
 abbrev pub copy_after : (copy : ℕ) → Event → ℕ
 copy_after copy (Opened opened rows pages used) = opened
 copy_after copy (Switched to sides) = to
 copy_after copy event = copy
+
+-- whether its pages are clean then
+abbrev pub clean_after : Bool → Event → Bool
+clean_after clean (Opened opened rows pages used) = false
+clean_after clean Clean = true
+clean_after clean (Switched to sides) = true
+clean_after clean (Said stmt Done) = false
+clean_after clean (Said stmt Device) = false
+clean_after clean event = clean
+
+abbrev pub known_after : Known → Event → Known
+known_after known event =
+    record { copy = copy_after known.copy event; clean = clean_after known.clean event }
 
 -- The count began after `start` calls, and up to an entry there were `calls`, more than up to the
 -- entry before. The last of them wrote this page.
@@ -50,12 +76,24 @@ pub record FailedThen (start before calls : ℕ) (t : Told) : Type 0 where
       length t.calls < 2 ^ 64 - 1 → faults_at t (start + before) < faults_at t (start + calls)
 
 -- The count began after `start` calls, and up to an entry there were `calls`. After them the first
--- pages of this copy read as pages with this layout, and there are no more of them.
+-- so many pages of this copy could be read.
+pub record HasPages (copy start calls count : ℕ) (t : Told) : Type 0 where
+  pub high : start + calls ≤ length t.calls
+  pub pages : List Content
+  pub count_is : length pages ≡ count
+  pub reads : ReadsAll (set_of copy) pages (moment t (start + calls))
+
+-- The same, and they read as pages with this layout, which has no more of them.
 pub record HasSide (copy start calls : ℕ) (side : Side) (t : Told) : Type 0 where
   pub high : start + calls ≤ length t.calls
   pub pages : List Content
   pub side_is : IsSideOf (slots_of pages) side
   pub reads : ReadsAll (set_of copy) pages (moment t (start + calls))
+
+-- the pages are clean, and this holds, or they need not be
+abbrev pub IfClean : Bool → Type 0 → Type 0
+IfClean true P = P
+IfClean false P = Unit {0}
 
 -- the statement is a COMMIT, or this holds
 abbrev pub UnlessCommit : Stmt → Type 0 → Type 0
@@ -68,32 +106,36 @@ FailedSince start calls t =
     length t.calls < 2 ^ 64 - 1 → faults_at t (start + calls) < faults_of t.calls
 
 -- what an event tells
-abbrev pub FitsThen : (copy start before calls : ℕ) → Told → Event → Type 0
-FitsThen copy start before calls t (Flush page) = WroteThen copy start before calls page t
-FitsThen copy start before calls t FlushDevice = FailedThen start before calls t
-FitsThen copy start before calls t (Said stmt Device) = FailedThen start before calls t
-FitsThen copy start before calls t (Stop reasons.Device) = FailedThen start before calls t
-FitsThen copy start before calls t (Said stmt reply) = UnlessCommit stmt (calls ≡ before)
-FitsThen copy start before calls t (Switched to sides) = HasSide to start calls sides.new t
-FitsThen copy start before calls t (Written pages) = Unit {0}
-FitsThen copy start before calls t (Opened opened rows pages used) = Unit {0}
-FitsThen copy start before calls t event = calls ≡ before
+abbrev pub FitsThen : Known → (start before calls : ℕ) → Told → Event → Type 0
+FitsThen known start before calls t (Flush page) = WroteThen known.copy start before calls page t
+FitsThen known start before calls t FlushDevice = FailedThen start before calls t
+FitsThen known start before calls t (Said stmt Device) = FailedThen start before calls t
+FitsThen known start before calls t (Stop reasons.Device) = FailedThen start before calls t
+FitsThen known start before calls t (Said stmt reply) = UnlessCommit stmt (calls ≡ before)
+FitsThen known start before calls t (Layout copy side) =
+    (calls ≡ before) × IfClean known.clean (HasSide known.copy start calls side t)
+FitsThen known start before calls t (Switched to sides) =
+    HasSide to start before sides.new t × HasSide to start calls sides.new t
+FitsThen known start before calls t (Written pages) =
+    HasPages (other_of known.copy) start calls pages t
+FitsThen known start before calls t (Opened opened rows pages used) = Unit {0}
+FitsThen known start before calls t event = calls ≡ before
 
--- so does each of these entries, which come after so many calls over this copy
-abbrev pub FitFrom : (copy start before : ℕ) → Told → List Entry → Type 0
-FitFrom copy start before t [] = Unit {0}
-FitFrom copy start before t (entry ∷ entries) =
-    FitsThen copy start before entry.calls t entry.event
-    × FitFrom (copy_after copy entry.event) start entry.calls t entries
+-- so does each of these entries, which come after so many calls, and after entries that tell this
+abbrev pub FitFrom : Known → (start before : ℕ) → Told → List Entry → Type 0
+FitFrom known start before t [] = Unit {0}
+FitFrom known start before t (entry ∷ entries) =
+    FitsThen known start before entry.calls t entry.event
+    × FitFrom (known_after known entry.event) start entry.calls t entries
 
 -- the same of a trace: its first entry is that of an opening
 abbrev pub FitSince : (start : ℕ) → Told → List Entry → Type 0
-FitSince start t trace = FitFrom 0 start 0 t trace
+FitSince start t trace = FitFrom unopened start 0 t trace
 
--- the copy after these entries, and how many calls there were up to the last
-abbrev pub copy_of_last : (copy : ℕ) → List Entry → ℕ
-copy_of_last copy [] = copy
-copy_of_last copy (entry ∷ entries) = copy_of_last (copy_after copy entry.event) entries
+-- what is known after these entries, and how many calls there were up to the last
+abbrev pub known_of : Known → List Entry → Known
+known_of known [] = known
+known_of known (entry ∷ entries) = known_of (known_after known entry.event) entries
 
 abbrev pub calls_of_last : (calls : ℕ) → List Entry → ℕ
 calls_of_last calls [] = calls

@@ -7,6 +7,7 @@ pub mod Outside
 pub mod Played
 pub mod Parts
 pub mod Space
+pub mod Shown
 pub mod Table
 pub mod Whole
 pub mod Judged

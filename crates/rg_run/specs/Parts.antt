@@ -29,6 +29,7 @@ use Rattle.rg_outside.specs.Calls.{Told, read_of}
 use Rattle.rg_outside.specs.Capacities.{Capacities}
 use Rattle.rg_outside.specs.Faults.{Rose}
 use Rattle.rg_outside.specs.Moments.{EachCall, EachImage, IfTold}
+use Rattle.rg_page.specs.Content.{slots_of}
 use Rattle.rg_record.specs.declared.record.Record.{Record}
 use Rattle.rg_restart.specs.Sound.{IsDamage}
 use Rattle.rg_stmt.specs.declared.event.Entry.{Entry}
@@ -41,7 +42,7 @@ use Rattle.rg_run.specs.LogFull.{IsLogFullOnlyFrom}
 use Rattle.rg_run.specs.Space.{AreForSpace}
 use Rattle.rg_run.specs.Opening.{AreOpeningsSince, IfOpened, IsFoundThen, IsOpeningThen}
 use Rattle.rg_run.specs.Outside.{IsDeviceOnlyIf, WritesOwn}
-use Rattle.rg_run.specs.Played.{Goes, IsOpened, IsOpenedEntry, TraceOf, first_of}
+use Rattle.rg_run.specs.Played.{Goes, IsOpened, IsOpenedEntry, ShowsSecond, TraceOf, first_of}
 use Rattle.rg_run.specs.declared.played.RunEnd.{RunEnd}
 use Rattle.rg_run.specs.declared.played.RunEnd.TheVariants.{Whole, Down, Damaged, DeviceAtOpening}
 use Rattle.rg_run.specs.declared.played.RunEnd.TheVariants.{NoMemory}
@@ -143,6 +144,7 @@ pub record Made {V O : Type 0} (look : V → VolumeSeen) (first : DeskState V O)
   pub openings :
       IfTold now.told (λ t. AreOpeningsSince now.capacities t.start t trace)
   pub fit : IfTold now.told (λ t. FitSince t.start t trace)
+  pub second : ShowsSecond (slots_of first.contents) trace
 
 -- the entries of a desk are legal and lead to a last state, and all of them can be those of a trace
 pub record LeavesRun {V O : Type 0} (desk : DeskState V O) (trace : List Entry) : Type 0 where

@@ -15,7 +15,10 @@ use Rattle.rg_stmt.specs.declared.stmt.Reply.{Reply}
 use Rattle.rg_stmt.specs.Entries.{opened_entry, said_entry}
 use Rattle.rg_desk.specs.Chronicle.{system_entry}
 use Rattle.rg_desk.specs.Desk.{DeskState, old_records}
-use Rattle.rg_engine.specs.Layouts.{IsLayout}
+use Rattle.rg_engine.specs.Layouts.{IsLayout, ShowsSideOf}
+use Rattle.rg_engine.specs.OnVolume.{AreClean}
+use Rattle.rg_home.specs.Slot.{Slot}
+use Rattle.rg_page.specs.Content.{slots_of}
 use Rattle.rg_base.specs.Copies.{IsCopy, set_of}
 use Rattle.rg_desk.specs.Desk.{is_reply}
 use Rattle.rg_laws_utility.specs.Course.Loading.{IsLoaded, loading_in, loading_of}
@@ -33,7 +36,7 @@ use Rattle.rg_image.specs.Rules.{limit_of}
 use Rattle.rg_phase.specs.Step.{is_made}
 use Rattle.rg_laws_utility.specs.TraceStage.Tending.{utility_entry}
 use Rattle.rg_run.specs.Asked.{HasAnswered, answers_in}
-use Rattle.rg_run.specs.Fit.{FitSince, calls_of_last, copy_of_last}
+use Rattle.rg_run.specs.Fit.{FitSince, calls_of_last, known_of, unopened}
 use Rattle.rg_run.specs.Full.{AreAllowed, smaller_pages}
 use Rattle.rg_run.specs.LogFull.{IsLogFullOnlyFrom}
 use Rattle.rg_run.specs.Space.{AreForSpace}
@@ -141,6 +144,18 @@ ShowsLoading stage copy entries =
     s.switched ≡ false
     → (loading_in None entries ≡ loading_of copy (numbers_of s)) × IsLoaded (numbers_of s))
 
+-- there is no entry but the first
+abbrev pub IsAlone : List Entry → Type 0
+IsAlone [] = ⊥
+IsAlone (entry ∷ []) = Unit {0}
+IsAlone (entry ∷ next ∷ entries) = ⊥
+
+-- if the second entry is a layout, it is that of these pages
+abbrev pub ShowsSecond : (pages : List (List Slot)) → List Entry → Type 0
+ShowsSecond pages [] = Unit {0}
+ShowsSecond pages (entry ∷ []) = Unit {0}
+ShowsSecond pages (entry ∷ next ∷ entries) = ShowsSideOf pages next.event
+
 -- the lines so far since a desk was opened
 pub record Goes {V O : Type 0}
     (look : V → VolumeSeen) (answers : O → Option (List Answer)) (first : DeskState V O)
@@ -158,7 +173,12 @@ pub record Goes {V O : Type 0}
   pub down : desk.down ≡ true → Rose (look first.volume).faults (look desk.volume).faults
   pub fit :
       IfTold (look desk.volume).told (λ t. FitSince t.start t desk.trace)
-  pub copy_is : copy_of_last 0 desk.trace ≡ desk.copy
+  pub copy_is : (known_of unopened desk.trace).copy ≡ desk.copy
+  pub clean :
+      (known_of unopened desk.trace).clean ≡ true → desk.down ≡ false
+      → AreClean desk.contents desk.marks
+  pub first_pages : IsAlone desk.trace → desk.contents ≡ first.contents
+  pub shown : ShowsSecond (slots_of first.contents) desk.trace
   pub counted : IsCount (look desk.volume) (calls_of_last 0 desk.trace)
   pub asked :
       HasAnswered (answers first.operator) (answers_in desk.trace) (answers desk.operator)

@@ -7,6 +7,7 @@ use Rattle.rg_outside.specs.Faults.{Rose}
 use Rattle.rg_stmt.specs.declared.event.Entry.{Entry}
 use Rattle.rg_stmt.specs.declared.line.Line.{Line}
 use Rattle.rg_run.specs.LogFull.{IsLogFullOnlyFrom}
+use Rattle.rg_run.specs.Shown.{ShowsOpened}
 use Rattle.rg_run.specs.Space.{AreForSpace}
 use Rattle.rg_run.specs.Outside.{IsDeviceOnlyIf, IsEnd, MakesOnly, WritesOwn}
 use Rattle.rg_run.specs.Table.{FitCalls, AreOpenings, Ends, IsAllowedRun, IsLegalRun}
@@ -20,6 +21,7 @@ pub record Whole
   pub opening : IsOpening old new trace
   pub openings : AreOpenings old new trace
   pub fit : FitCalls old new trace
+  pub layout : ShowsOpened old new trace
   pub full : IsAllowedRun 3221 old new trace
   pub course : IsRunOnCourse old new trace
   pub log_full : IsLogFullOnlyFrom (limit_of (log_pages old.capacities)) 0 trace

@@ -29,6 +29,7 @@ ghost use Rattle.rg_run.specs.Whole.{Whole};
 ghost use Rattle.rg_run.specs.Outside.{IsDeviceOnlyIf, IsEnd, MakesOnly, WritesOwn, end_of};
 ghost use Rattle.rg_run.specs.Parts.{Going, IsRun, LeavesRun};
 ghost use Rattle.rg_run.specs.Played.{Goes, IsPlayed};
+ghost use Rattle.rg_run.specs.Shown.{ShowsOpened};
 ghost use Rattle.rg_run.specs.Table.{FitCalls, AreOpenings, Ends, IsAllowedRun, IsLegalRun};
 ghost use Rattle.rg_run.specs.Table.{IsOpening, IsRunOnCourse, KeepsSound};
 
@@ -67,6 +68,8 @@ pub fn run<V: Volume, O: Operator>(
     ensures opening { IsOpening (V.seen volume) (V.seen result.volume) result.trace.items }
     ensures openings { AreOpenings (V.seen volume) (V.seen result.volume) result.trace.items }
     ensures fit { FitCalls (V.seen volume) (V.seen result.volume) result.trace.items }
+    // A layout that comes next after the first opening is that of the volume as it read at entry.
+    ensures layout { ShowsOpened (V.seen volume) (V.seen result.volume) result.trace.items }
     // FULL comes, and STOP NOSPACE once a list is sorted, only where the entries have allowed 3,221
     // bytes for each page of the smaller copy.
     ensures full { IsAllowedRun 3221 (V.seen volume) (V.seen result.volume) result.trace.items }

@@ -4,14 +4,14 @@ use Rattle.reorgdb.proofs.Shown.{never_down, shows_damaged, shows_device, shows_
 use Rattle.reorgdb.proofs.work.conclude_shown.Goals as goal
 
 pub returns-in-Whole-clause-shows : goal.returns-in-Whole-clause-shows
-returns-in-Whole-clause-shows c = λ before after words source ends show.
+returns-in-Whole-clause-shows c = λ before after words source ends opened show.
     let made = c.with_text-in-Whole in
     shows_whole before after words source c.args.trace.now c.in-Whole.rows c.args.end
     c.layout_text-text.result made.result.outcome made.result.text c.in-Whole.is
-    c.layout_text-text.ensures made.ensures.ok made.ensures.err ends show
+    c.layout_text-text.ensures made.ensures.ok made.ensures.err ends opened show
 
 pub returns-in-DeviceAtOpening-clause-shows : goal.returns-in-DeviceAtOpening-clause-shows
-returns-in-DeviceAtOpening-clause-shows c = λ before after words source ends show.
+returns-in-DeviceAtOpening-clause-shows c = λ before after words source ends opened show.
     let made = c.bare-in-DeviceAtOpening in
     elim c.in-DeviceAtOpening.is [
       | inl is ↦ shows_device before after words source c.args.trace.now c.args.end
@@ -28,7 +28,7 @@ returns-in-DeviceAtOpening-clause-finds c = λ before after ends is_end.
     ]
 
 pub returns-in-Damaged-clause-shows : goal.returns-in-Damaged-clause-shows
-returns-in-Damaged-clause-shows c = λ before after words source ends show.
+returns-in-Damaged-clause-shows c = λ before after words source ends opened show.
     let made = c.with_text in
     shows_damaged before after words source c.args.trace.now c.in-Damaged.set c.in-Damaged.page
     c.args.end c.damaged_refusal-text.result made.result.outcome made.result.text c.in-Damaged.is

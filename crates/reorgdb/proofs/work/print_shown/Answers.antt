@@ -2,6 +2,7 @@ use Rattle.std.proofs.Common.{◌∷◌, List, [], sym, ◌∙◌, ap, subst}
 use Rattle.std.specs.declared.alloc.Global.{Global}
 use Rattle.std.specs.declared.vec.Vec.{Vec}
 use Rattle.rg_run.specs.Outside.{IsEnd}
+use Rattle.rg_run.specs.Shown.{ShowsOpened}
 use Rattle.rg_run.specs.Table.{Ends}
 use Rattle.rg_stmt.specs.declared.event.Entry.{Entry}
 use Rattle.rg_stmt.specs.declared.line.Line.TheVariants.{Show}
@@ -10,12 +11,14 @@ use Rattle.reorgdb.specs.declared.work.Conclusion.{Conclusion}
 use Rattle.reorgdb.proofs.work.print_shown.Goals as goal
 
 pub returns-clause-shows : goal.returns-clause-shows
-returns-clause-shows g c = λ before after words source ends show.
+returns-clause-shows g c = λ before after words source ends opened show.
     let made = c.conclude_shown-conclusion in
     let end = c.args.played.end in
     let base = made.ensures.shows before after words source
     (subst (λ (es : List Entry). Ends before after (Show ∷ []) es end) (sym c.deref.ensures.value)
-    ends) show in
+    ends)
+    (subst (λ (es : List Entry). ShowsOpened before after es) (sym c.deref.ensures.value) opened)
+    show in
     subst
     (λ (x : Conclusion). ShowsTo x.outcome words source source before after
     c.ended.result.trace.items x.text) (sym c.ended.ensures.end)

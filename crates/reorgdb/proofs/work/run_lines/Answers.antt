@@ -21,6 +21,7 @@ returns-in-Print-clause-whole g c =
       opening = run.opening;
       openings = run.openings;
       fit = run.fit;
+      layout = run.layout;
       full = run.full;
       course = run.course;
       log_full = run.log_full;

@@ -1,5 +1,6 @@
 use Rattle.std.proofs.Common.{◌≡◌, ◌++◌, List, [], ◌∷◌, sym, subst}
 use Rattle.rg_run.specs.Outside.{IsEnd}
+use Rattle.rg_run.specs.Shown.{ShowsOpened}
 use Rattle.rg_run.specs.Table.{Ends}
 use Rattle.rg_run.specs.Whole.{Whole}
 use Rattle.rg_stmt.specs.declared.line.Line.{Line}
@@ -20,7 +21,10 @@ returns-in-Ok-clause-shows g c = λ words source show.
     c.print_shown.ensures.shows (look c.args.volume) (look c.print_shown.result.volume) words source
     (subst
     (λ (v : g.row.V.Denot). Ends (look c.args.volume) (look v) (Show ∷ []) c.run.result.trace.items
-    c.run.result.end) (sym c.print_shown.ensures.volume) ends) show
+    c.run.result.end) (sym c.print_shown.ensures.volume) ends)
+    (subst
+    (λ (v : g.row.V.Denot). ShowsOpened (look c.args.volume) (look v) c.run.result.trace.items)
+    (sym c.print_shown.ensures.volume) c.run.ensures.layout) show
 
 pub returns-in-Ok-clause-finds : goal.returns-in-Ok-clause-finds
 returns-in-Ok-clause-finds g c =
@@ -50,6 +54,7 @@ returns-in-Ok-clause-traced g c =
       opening = run.opening;
       openings = run.openings;
       fit = run.fit;
+      layout = run.layout;
       full = run.full;
       course = run.course;
       log_full = run.log_full;

@@ -94,6 +94,9 @@ returns-in-Ok-clause-openings g c = (played g c).openings
 pub returns-in-Ok-clause-fit : goal.returns-in-Ok-clause-fit
 returns-in-Ok-clause-fit g c = (played g c).fit
 
+pub returns-in-Ok-clause-layout : goal.returns-in-Ok-clause-layout
+returns-in-Ok-clause-layout g c = (played g c).layout
+
 pub returns-in-Ok-clause-full : goal.returns-in-Ok-clause-full
 returns-in-Ok-clause-full g c = (played g c).full
 
@@ -135,6 +138,9 @@ returns-in-Err-clause-openings g c = (not_opened g c).openings
 
 pub returns-in-Err-clause-fit : goal.returns-in-Err-clause-fit
 returns-in-Err-clause-fit g c = (not_opened g c).fit
+
+pub returns-in-Err-clause-layout : goal.returns-in-Err-clause-layout
+returns-in-Err-clause-layout g c = (not_opened g c).layout
 
 pub returns-in-Err-clause-full : goal.returns-in-Err-clause-full
 returns-in-Err-clause-full g c = (not_opened g c).full

@@ -324,6 +324,16 @@ returns-in-Ok-clause-ok g c =
           (sym takes.pages) (subst
           (λ (n : ℕ). IfTold after.told (ReadsAll (set_of n) p.shadow.pages))
           (sym c.other-copy.ensures.is) reads);
+      ready =
+          subst
+          (λ (ps : List Content). IfTold (look c.args.self.now.volume).told
+          (ReadsAll (set_of c.other-copy.result) ps))
+          (sym takes.pages) (subst
+          (λ (n : ℕ). IfTold (look c.args.self.now.volume).told
+          (ReadsAll (set_of n) p.shadow.pages)) (sym c.other-copy.ensures.is)
+          (subst
+          (λ v. IfTold (look v).told (ReadsAll (set_of (other_of inside.copy)) p.shadow.pages))
+          volume_is is.reads));
       old_side = c.requires.can.old_side;
       new_side =
           new_side_is inside.engine inside.chronicle inside.origin inside.copy inside.marks.items

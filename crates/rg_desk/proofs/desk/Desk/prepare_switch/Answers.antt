@@ -8,12 +8,13 @@ use Rattle.rg_home.specs.Rows.{row_at}
 use Rattle.rg_image.specs.Rules.{copy_capacity}
 use Rattle.rg_home.specs.Table.{IsTable}
 use Rattle.rg_shadow.specs.Shade.{Shade, shade_slots}
-use Rattle.rg_base.specs.Copies.{other_of}
+use Rattle.rg_base.specs.Copies.{other_of, set_of}
 use Rattle.rg_laws_utility.specs.TraceStage.Tending.{Tends}
 use Rattle.rg_engine.specs.CopyPages.Stamped.{stamped_all}
 use Rattle.rg_desk.specs.Desk.{DeskState, IsDesk, written_seen}
 use Rattle.rg_engine.specs.Engine.{ground_of, seen_in, slots_in}
-use Rattle.rg_engine.specs.Flushed.{CallsOwn}
+use Rattle.rg_engine.specs.Flushed.{CallsOwn, ReadsAll}
+use Rattle.rg_outside.specs.Moments.{IfTold}
 use Rattle.rg_engine.specs.OnVolume.{SoundThroughout}
 use Rattle.rg_engine.specs.Room.{Ground}
 use Rattle.rg_model.specs.Claims.{least_holder}
@@ -211,6 +212,12 @@ returns-in-Ok-clause-ok g c =
           (writes_sound inside.engine inside.chronicle inside.origin inside.copy inside.marks.items
           seen desk next shade copy_is c.prepare.ensures.numbered c.prepare.ensures.of_copy now w
           c.prepare.ensures.fits);
+      reads =
+          subst
+          (λ (d : DeskState g.row.V.Denot g.row.O.Denot). IfTold now.told
+          (ReadsAll (set_of (other_of d.copy))
+          (stamped_all (length d.ground.log.records) shade.pages)))
+          c.self.view_is written.wrote.reads;
     }
 
 pub returns-in-Err-clause-err : goal.returns-in-Err-clause-err
@@ -289,4 +296,5 @@ returns-in-Err-clause-err g c =
           (writes_sound inside.engine inside.chronicle inside.origin inside.copy inside.marks.items
           seen desk next shade copy_is c.prepare.ensures.numbered c.prepare.ensures.of_copy now w
           c.prepare.ensures.fits);
+      reads = tt;
     }

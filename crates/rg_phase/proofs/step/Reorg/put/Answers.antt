@@ -5,7 +5,9 @@ use Rattle.rg_engine.specs.CopyPages.Stamped.{stamped_all}
 use Rattle.rg_engine.specs.Prepared.{PreparedSeen}
 use Rattle.rg_image.specs.Rules.{copy_capacity}
 use Rattle.rg_shadow.specs.Shade.{Shade}
-use Rattle.rg_base.specs.Copies.{other_of}
+use Rattle.rg_base.specs.Copies.{other_of, set_of}
+use Rattle.rg_engine.specs.Flushed.{ReadsAll}
+use Rattle.rg_outside.specs.Moments.{IfTold}
 use Rattle.rg_phase.specs.Drafted.{IsDraftOf, IsReady}
 use Rattle.rg_phase.specs.Made.{HasMade, IsWrittenOf}
 use Rattle.rg_phase.specs.declared.made.Made.{Made}
@@ -65,4 +67,9 @@ returns-in-Ok-clause-kept g c =
       pages_are =
           length-stamped_first at (length shade.pages) shade.pages
           ∙ ap (λ (x : Shade). length x.pages) c.into_shadow.ensures ∙ sym c.count-pages.ensures;
+      reads =
+          subst
+          (λ (n : ℕ). IfTold (g.V.Volume.seen c.prepare_switch.new.self.volume).told
+          (ReadsAll (set_of (other_of n)) (stamped_all at shade.pages)))
+          (sym (ap (λ d. d.copy) c.in-Ok.ensures.ok.same)) c.in-Ok.ensures.ok.reads;
     }
