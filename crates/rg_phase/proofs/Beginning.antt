@@ -1,78 +1,35 @@
 -- A step, put together from how it begins and what is made then.
-use Rattle.std.proofs.Common.{◌≡◌, ◌⊎◌, inl, inr, ℕ, false, List, [], Option, Some}
+use Rattle.std.proofs.Common.{◌≡◌, ◌⊎◌, inl, inr, ℕ, Bool, true, false, List, [], Option, Some}
 use Rattle.std.proofs.Common.{None}
 use Rattle.std.proofs.Common.{refl, sym, ◌∙◌, ap, subst, append-nil}
 use Rattle.rg_base.specs.declared.control.Answer.{Answer}
-use Rattle.rg_base.specs.declared.options.Options.{Options}
+use Rattle.rg_base.specs.Copies.{other_of}
+use Rattle.rg_base.specs.declared.session.Session.{Session}
+use Rattle.rg_image.specs.Rules.{copy_capacity}
+use Rattle.rg_laws_utility.specs.TraceStage.Tending.{FollowsBy}
 use Rattle.rg_desk.specs.Desk.{AsksStep, DeskState, FeedIs, MadeStep, RefusesStep}
 use Rattle.rg_desk.specs.declared.task.Task.{Task}
-use Rattle.rg_engine.specs.ChangeFeed.Sending.{AddsChanges}
 use Rattle.rg_engine.specs.Prepared.{PreparedSeen, while_running}
 use Rattle.rg_feed.specs.Ends.{Grew, Received, SameReceived}
-use Rattle.rg_feed.specs.declared.fold.item.Item.{Item}
 use Rattle.rg_feed.specs.declared.fold.item.Stage.{Stage}
 use Rattle.rg_laws_utility.specs.Course.Loading.{Loading, loading_after}
 use Rattle.rg_outside.specs.Volume.{VolumeSeen}
-use Rattle.rg_reload.specs.Reloading.{Reloading}
-use Rattle.rg_shadow.specs.Shade.{Shade}
 use Rattle.rg_stmt.specs.declared.event.Event.{Event}
 use Rattle.rg_stmt.specs.declared.event.Event.TheVariants as events
-use Rattle.rg_phase.specs.Drafted.{IsDraftOf, IsPackingOf}
-use Rattle.rg_phase.specs.Made.{Hears, IsAsMade, IsWrittenOf, Works}
+use Rattle.rg_phase.specs.Made.{Hears, IsAsMade, Works}
 use Rattle.rg_phase.specs.Step.{Acts, HasPagesFor, IsSwitchFrom, NextMade, StepCalls, Stepped}
 use Rattle.rg_phase.specs.Step.{TellsCopy, copy_left, is_device_stop}
 use Rattle.rg_phase.specs.declared.made.Made.{Made}
-use Rattle.rg_phase.specs.declared.made.Made.TheVariants.{Nothing, Packing, Drafted, Written}
 use Rattle.rg_phase.proofs.Making.{loads_asked, loads_refused, makes_refused}
-use Rattle.rg_phase.proofs.Receiving.{works_heard, works_on}
+use Rattle.rg_phase.proofs.Receiving.{works_heard, works_moved, works_same, works_while}
 use Rattle.rg_phase.proofs.Steps.{next_down, next_idle, same_room}
 
--- what is made is so of what was received, where no more was
-
-packing_same :
-    (options : Options) (p : Reloading) (inlet later : Received) → SameReceived inlet later
-    → IsPackingOf options p inlet.items inlet.taken → IsPackingOf options p later.items later.taken
-packing_same options p inlet later same is =
-    subst (λ (n : ℕ). IsPackingOf options p later.items n) (sym same.taken)
-    (subst (λ (xs : List Item). IsPackingOf options p xs inlet.taken) (sym same.items) is)
-
-draft_received :
-    (options : Options) (s : Shade) (inlet later : Received) → SameReceived inlet later
-    → IsDraftOf options s inlet.items inlet.taken → IsDraftOf options s later.items later.taken
-draft_received options s inlet later same is =
-    subst (λ (n : ℕ). IsDraftOf options s later.items n) (sym same.taken)
-    (subst (λ (xs : List Item). IsDraftOf options s xs inlet.taken) (sym same.items) is)
-
-written_same :
-    (options : Options) (kept : Option PreparedSeen) (inlet later : Received)
-    → SameReceived inlet later → IsWrittenOf options kept inlet → IsWrittenOf options kept later
-written_same options None inlet later same is = tt
-written_same options (Some p) inlet later same is =
-    draft_received options p.shade inlet later same is
-
-adds_same : (inlet later : Received) (feed : List Item) → SameReceived inlet later
-    → AddsChanges inlet.items feed → AddsChanges later.items feed
-adds_same inlet later feed same adds =
-    subst (λ (xs : List Item). AddsChanges xs feed) (sym same.items) adds
-
-pub works_same :
-    (made : Made) (kept : Option PreparedSeen) (inlet later : Received) (feed : List Item)
-    → SameReceived inlet later → Works made kept inlet feed → Works made kept later feed
-works_same Nothing kept inlet later feed same works = works
-works_same (Packing p) kept inlet later feed same works = (
-  works.0,
-  packing_same p.options p.packer inlet later same works.1,
-  adds_same inlet later feed same works.2,
-)
-works_same (Drafted d) kept inlet later feed same works = (
-  works.0,
-  draft_received d.options d.shadow inlet later same works.1,
-  adds_same inlet later feed same works.2,
-)
-works_same (Written options) kept inlet later feed same works = (
-  written_same options kept inlet later same works.0,
-  adds_same inlet later feed same works.1,
-)
+-- a step that was refused leaves the stage as it was
+stayed : (down : Bool) (o : Option Stage) (changes : ℕ) (covered : Option Session) (event : Event)
+    (new : Option Stage) → FollowsBy down o changes covered None event new → new ≡ o
+stayed true o changes covered event new follows = follows
+stayed false None changes covered event new follows = follows
+stayed false (Some s) changes covered event new follows = follows
 
 module _ {V O : Type 0} (look : V → VolumeSeen) (answers : O → Option (List Answer))
     (last : O → Option ℕ) (old : DeskState V O) (made_of : Made) where
@@ -118,25 +75,41 @@ module _ {V O : Type 0} (look : V → VolumeSeen) (answers : O → Option (List 
 
   -- what was sent is received, and nothing more was made
   pub works_refused : (new : DeskState V O) (inlet later : Received) → Grew inlet later
-      → later.items ≡ old.feed → RefusesStep look old new → Works made_of old.shadow inlet old.feed
-      → Works made_of new.shadow later new.feed
+      → later.items ≡ old.feed → RefusesStep look old new → Works look made_of inlet old
+      → Works look made_of later new
   works_refused new inlet later grew all refuses works =
       let mid = refuses.roomy in
-      works_on made_of new.stage old.shadow new.shadow later old.feed new.feed
-      (refuses.made.shadow
-      ∙ ap (λ (o : Option PreparedSeen). while_running new.stage o)
+      let made = refuses.made in
+      let stage : new.stage ≡ old.stage =
+      stayed mid.down mid.stage mid.changes mid.covered refuses.event new.stage made.follows
+      ∙ ap (λ d. d.stage) refuses.same in
+      let asked : DeskState V O = record old { shadow = while_running old.stage old.shadow } in
+      works_moved look made_of later asked new stage
+      (made.stays.copy ∙ ap (λ d. d.copy) refuses.same)
+      (ap (λ (v : V). (look v).capacities) (made.volume ∙ ap (λ d. d.volume) refuses.same))
+      (made.shadow ∙ ap (λ (o : Option Stage). while_running o mid.shadow) stage
+      ∙ ap (λ (k : Option PreparedSeen). while_running old.stage k)
       (ap (λ d. d.shadow) refuses.same))
-      (refuses.made.feed ∙ append-nil mid.feed ∙ ap (λ d. d.feed) refuses.same)
-      (works_heard made_of old.shadow inlet later old.feed grew all works)
+      (made.feed ∙ append-nil mid.feed ∙ ap (λ d. d.feed) refuses.same)
+      (works_while old.stage (other_of old.copy)
+      (copy_capacity (look old.volume).capacities (other_of old.copy)) made_of old.shadow later
+      old.feed
+      (works_heard old.stage (other_of old.copy)
+      (copy_capacity (look old.volume).capacities (other_of old.copy)) made_of old.shadow inlet
+      later old.feed grew all works))
 
   -- where there was no memory, what was sent is received or none of it is
   pub works_begun : (inlet later : Received) → Grew inlet later
       → SameReceived inlet later ⊎ (later.items ≡ old.feed)
-      → Works made_of old.shadow inlet old.feed → Works made_of old.shadow later old.feed
+      → Works look made_of inlet old → Works look made_of later old
   works_begun inlet later grew (inl same) works =
-      works_same made_of old.shadow inlet later old.feed same works
+      works_same old.stage (other_of old.copy)
+      (copy_capacity (look old.volume).capacities (other_of old.copy)) made_of old.shadow inlet
+      later old.feed same works
   works_begun inlet later grew (inr all) works =
-      works_heard made_of old.shadow inlet later old.feed grew all works
+      works_heard old.stage (other_of old.copy)
+      (copy_capacity (look old.volume).capacities (other_of old.copy)) made_of old.shadow inlet
+      later old.feed grew all works
 
   module _ (task : Task) (asked : DeskState V O) (asks : AsksStep look answers last old task asked)
       (feed : old.down ≡ false → FeedIs old) where
@@ -161,10 +134,12 @@ module _ {V O : Type 0} (look : V → VolumeSeen) (answers : O → Option (List 
     }
 
     pub works_asked : (inlet later : Received) → Grew inlet later → later.items ≡ old.feed
-        → Works made_of old.shadow inlet old.feed → Works made_of asked.shadow later asked.feed
+        → Works look made_of inlet old → Works look made_of later asked
     works_asked inlet later grew all works =
-        subst (λ (d : DeskState V O). Works made_of d.shadow later d.feed) (sym asks.same)
-        (works_heard made_of old.shadow inlet later old.feed grew all works)
+        subst (λ (d : DeskState V O). Works look made_of later d) (sym asks.same)
+        (works_heard old.stage (other_of old.copy)
+        (copy_capacity (look old.volume).capacities (other_of old.copy)) made_of old.shadow inlet
+        later old.feed grew all works)
 
     pub hears_asked : (later : Received) → later.items ≡ old.feed → Hears asked later
     hears_asked later all =

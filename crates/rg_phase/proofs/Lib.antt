@@ -8,3 +8,10 @@ pub mod Drafting
 pub mod Receiving
 pub mod Switchable
 pub mod Beginning
+pub mod Due
+pub mod Moving
+pub mod Turned
+pub mod Indexing
+pub mod Worked
+pub mod Booking
+pub mod Eventful

@@ -121,6 +121,10 @@ module _ {V O : Type 0} (look : V → VolumeSeen) where
     calls = still_own look (other_of old.copy) old.volume old.volume refl;
   }
 
+  pub writes_same : (old new : DeskState V O) → new ≡ old → Writes look old new
+  writes_same old new same =
+      subst (λ (d : DeskState V O). Writes look old d) (sym same) (writes_none old)
+
   pub writes_prepared : (old new : DeskState V O) (shadow : Option PreparedSeen)
       → Prepares look old shadow new → Writes look old new
   writes_prepared old new shadow p = record {

@@ -1,6 +1,8 @@
 -- A new copy that is caught up with all changes may be written, and then switched to.
-use Rattle.std.proofs.Common.{◌≡◌, ◌==◌, ◌&&◌, ◌+◌, ◌-◌, ◌*◌, ◌/◌, nat_le, ℕ, Bool, false, List, []}
-use Rattle.std.proofs.Common.{◌∷◌, Option, Some, IfSome, if◌then◌else◌, length, filter, map, refl}
+use Rattle.std.proofs.Common.{◌≡◌, ◌==◌, ◌&&◌, ◌+◌, ◌-◌, ◌*◌, ◌/◌, nat_le, ℕ, Bool, true, false}
+use Rattle.std.proofs.Common.{List, []}
+use Rattle.std.proofs.Common.{◌∷◌, Option, Some, None, IfSome, if◌then◌else◌, length, filter, map}
+use Rattle.std.proofs.Common.{refl}
 use Rattle.std.proofs.Common.{sym, ◌∙◌, ap, subst, arith}
 use Rattle.rg_base.specs.declared.control.Answer.{Answer}
 use Rattle.rg_base.specs.declared.options.Options.{Options}
@@ -42,8 +44,17 @@ use Rattle.rg_model.specs.Run.{behind}
 use Rattle.rg_engine.specs.CopyPages.Stamped.{stamped_all}
 use Rattle.rg_engine.proofs.CopyPagesLemmas.Stamping.{slots_of-stamped_first}
 use Rattle.rg_phase.specs.Drafted.{IsDraftOf, IsReady}
-use Rattle.rg_phase.specs.Made.{Hears, IsWrittenOf}
-use Rattle.rg_phase.specs.Working.{AreSidesToSwitch, MakesStep}
+use Rattle.std.specs.Prelude.{IfOk, Ok, Err}
+use Rattle.std.specs.declared.result.Result.{Result}
+use Rattle.rg_base.specs.declared.options.DrainState.{DrainState}
+use Rattle.rg_desk.specs.declared.task.Task.{Task}
+use Rattle.rg_model.specs.State.{Utility}
+use Rattle.rg_rules.specs.Stage.NumbersOf.{numbers_of}
+use Rattle.rg_phase.specs.Made.{HasMade, Hears, Keeps, PacksAlike, TaskMakes, numbers_in}
+use Rattle.rg_phase.specs.Working.{AreSidesToSwitch, IsDueAt, MakesStep}
+use Rattle.rg_phase.specs.declared.made.Made.{Made}
+use Rattle.rg_phase.specs.declared.made.Made.TheVariants.{Nothing, Packing, Drafted, Written}
+use Rattle.rg_phase.proofs.Due.{altered}
 
 -- ---- what the items lead to
 
@@ -162,7 +173,8 @@ packed_same a b e f t side =
 
 pub sides_right : {V O : Type 0} (desk : DeskState V O) (inlet : Received) (s : Stage)
     (options : Options) (sides : Sides) → Hears desk inlet → desk.stage ≡ Some s
-    → s.switched ≡ false → s.copied ≡ s.pages → IsWrittenOf options desk.shadow inlet
+    → s.switched ≡ false → s.copied ≡ s.pages
+    → IfSome desk.shadow (λ p. IsDraftOf options p.shade inlet.items inlet.taken)
     → inlet.taken ≡ length (changes (since_begin inlet.items)) → options.pctfree ≡ s.options.pctfree
     → options.freepage ≡ s.options.freepage → HasCurrent desk → AreSides desk sides
     → sides.new.pages ≡ s.shadow → AreSidesToSwitch desk s sides
@@ -201,7 +213,9 @@ sides_right desk inlet s options sides hears stage unswitched copied written non
 
     kept : IsDraftOf options current.shadow.shade inlet.items inlet.taken
     kept =
-        subst (λ (o : Option PreparedSeen). IsWrittenOf options o inlet) current.shadow_is written
+        subst
+        (λ (o : Option PreparedSeen). IfSome o
+        (λ p. IsDraftOf options p.shade inlet.items inlet.taken)) current.shadow_is written
 
     draft : IsDraftOf options current.shadow.shade desk.feed inlet.taken
     draft = subst (λ (xs : List Item). IsDraftOf options current.shadow.shade xs inlet.taken)
@@ -214,6 +228,67 @@ sides_right desk inlet s options sides hears stage unswitched copied written non
     done : AreAllTaken desk.feed (progress_of s desk.changes) draft.rows inlet.taken
     done = all_taken desk inlet s options current.shadow.shade hears copied draft
         (none ∙ ap (λ (xs : List Item). length (changes (since_begin xs))) hears.items)
+
+-- what is kept, where it is written
+pub record IsWrittenBy (u : Utility) (drain : DrainState) (kept : Option PreparedSeen)
+    (inlet : Received) : Type 0 where
+  pub options : Options
+  pub shadow : PreparedSeen
+  pub shadow_is : kept ≡ Some shadow
+  pub keeps : Keeps u drain options shadow
+  pub draft : IsDraftOf options shadow.shade inlet.items inlet.taken
+
+pub written_now : (u : Utility) (d : DrainState) (copy capacity : ℕ) (made : Made)
+    (kept : Option PreparedSeen) (inlet : Received) → u.written ≡ true
+    → HasMade u d copy capacity made kept inlet → IsWrittenBy u d kept inlet
+written_now u d copy capacity Nothing kept inlet is h = absurd (cc (is, h.1.unwritten))
+written_now u d copy capacity (Packing p) kept inlet is h = absurd (cc (is, h.2.unwritten))
+written_now u d copy capacity (Drafted x) kept inlet is h = absurd (cc (is, h.2.unwritten))
+written_now u d copy capacity (Written options) None inlet is h = absurd h
+written_now u d copy capacity (Written options) (Some p) inlet is h = record {
+  options = options;
+  shadow = p;
+  shadow_is = refl;
+  keeps = h.0;
+  draft = h.1;
+}
+
+pub sides_now : {V O : Type 0} (desk : DeskState V O) (inlet : Received) (task : Task) (made : Made)
+    (sides : Sides) → Hears desk inlet → desk.stage ≡ Some task.stage
+    → TaskMakes task made desk.shadow inlet
+    → IsDueAt steps.Switch (numbers_in task) task.stage.drain
+    → inlet.taken ≡ length (changes (since_begin inlet.items)) → HasCurrent desk
+    → AreSides desk sides → AreSidesToSwitch desk task.stage sides
+sides_now desk inlet task made sides hears stage makes due none current are =
+    let s = task.stage in
+    let now = altered (numbers_of s) task.answer.command in
+    let written = written_now (numbers_in task) s.drain task.copy task.capacity made desk.shadow
+    inlet due.1 makes.made_is in
+    let alike : PacksAlike s.options (numbers_in task).options =
+    subst (λ (v : Utility). PacksAlike s.options v.options) (sym now.same) now.alike in
+    sides_right desk inlet s written.options sides hears stage
+    (sym (ap (λ (v : Utility). v.switched) now.same) ∙ makes.unswitched)
+    (omega (
+      arith,
+      makes.copied,
+      due.0.copied,
+      ap (λ (v : Utility). v.copied) now.same,
+      ap (λ (v : Utility). v.pages) now.same,
+    ))
+    (subst
+    (λ (o : Option PreparedSeen). IfSome o
+    (λ p. IsDraftOf written.options p.shade inlet.items inlet.taken)) (sym written.shadow_is)
+    written.draft)
+    none (written.keeps.alike.pctfree ∙ sym alike.pctfree)
+    (written.keeps.alike.freepage ∙ sym alike.freepage) current are
+    ((subst (λ (o : Option PreparedSeen). IfSome o (IsNewSide sides.new)) written.shadow_is
+    are.new).0
+    ∙ written.keeps.pages ∙ ap (λ (v : Utility). v.shadow) now.same)
+
+pub if_ok : {A E : Type 0} (r : Result A E) (P Q : A → Type 0) → ((x : A) → P x → Q x)
+    → IfOk r P → IfOk r Q
+if_ok (Ok x) P Q f h = f x h
+if_ok (Err fault) P Q f h = tt
 
 pub can_commit : {V O : Type 0} (desk : DeskState V O) (s : Stage) (answer : Answer) (sides : Sides)
     → desk.stage ≡ Some s → MakesStep s answer steps.Switch → AreSidesToSwitch desk s sides

@@ -1,7 +1,7 @@
 -- What an event tells of the new copy is what is made of it.
 use Rattle.std.proofs.Common.{◌≡◌, inl, inr, ◌⊎◌, ℕ, Bool, true, false, Option, Some, None}
 use Rattle.std.proofs.Common.{if◌then◌else◌, [], refl, sym, ◌∙◌, ap, subst}
-use Rattle.std.specs.Prelude.{IfOk, OnOk, Ok, Err}
+use Rattle.std.specs.Prelude.{IfOk, IfSome, OnOk, Ok, Err}
 use Rattle.std.specs.declared.result.Result.{Result}
 use Rattle.rg_base.specs.declared.control.Answer.{Answer}
 use Rattle.rg_base.specs.declared.options.DrainFor.{DrainFor}
@@ -46,17 +46,19 @@ told_or_stop m o s taken event made result stage told (inr (inr is)) =
 
 -- the page was filled
 pub told_page :
-    (m : Made) (o : Option Stage) (taken : ℕ) (made : Result Filled ReloadFault) (event : Event)
-    → IfOk made (λ filled. IsFilled m filled.page filled.rows) → IsPageOf made event
+    (m : Made) (o : Option Stage) (s : Stage) (taken : ℕ) (made : Result Filled ReloadFault)
+    (event : Event) → o ≡ Some s
+    → IfOk made (λ filled. IsFilled s.options m filled.page filled.rows) → IsPageOf made event
     → IsAsMade m o taken event
-told_page m o taken (Ok filled) (events.Reload page rows) fills is =
-    subst (λ (p : ℕ). IsFilled m p rows) (sym is.0)
-    (subst (λ (r : ℕ). IsFilled m filled.page r) (sym is.1) fills)
-told_page m o taken (Err fault) (events.Reload page rows) fills is = absurd is
-told_page m o taken (Ok filled) (events.Stop reason) fills is = tt
-told_page m o taken (Err fault) (events.Stop reason) fills is = tt
-told_page m o taken (Ok filled) event fills is = absurd is
-told_page m o taken (Err fault) event fills is = absurd is
+told_page m o s taken (Ok filled) (events.Reload page rows) stage fills is =
+    subst (λ (x : Option Stage). IfSome x (λ t. IsFilled t.options m page rows)) (sym stage)
+    (subst (λ (p : ℕ). IsFilled s.options m p rows) (sym is.0)
+    (subst (λ (r : ℕ). IsFilled s.options m filled.page r) (sym is.1) fills))
+told_page m o s taken (Err fault) (events.Reload page rows) stage fills is = absurd is
+told_page m o s taken (Ok filled) (events.Stop reason) stage fills is = tt
+told_page m o s taken (Err fault) (events.Stop reason) stage fills is = tt
+told_page m o s taken (Ok filled) event stage fills is = absurd is
+told_page m o s taken (Err fault) event stage fills is = absurd is
 
 -- where the utility is over, it makes nothing more of the new copy
 

@@ -1,8 +1,10 @@
 -- What a step makes before its entry.
-use Rattle.std.specs.Prelude.{◌≡◌, ◌⊎◌, ◌≤◌, ℕ, Bool, true, false, [], Ok, Err, Option, is_err}
+use Rattle.std.specs.Prelude.{◌≡◌, ◌⊎◌, ◌≤◌, ◌<◌, ℕ, Bool, true, false, [], Ok, Err, Option, is_err}
 use Rattle.std.specs.declared.result.Result.{Result}
 use Rattle.rg_laws_utility.specs.ByteAccount.Account.{allowed_of}
 use Rattle.rg_base.specs.declared.control.Answer.{Answer}
+use Rattle.rg_base.specs.declared.options.DrainState.{DrainState}
+use Rattle.rg_base.specs.declared.options.DrainState.TheVariants as drains
 use Rattle.rg_base.specs.declared.session.Session.{Session}
 use Rattle.rg_base.specs.declared.step.Step.{Step}
 use Rattle.rg_base.specs.declared.step.Step.TheVariants as steps
@@ -18,7 +20,7 @@ use Rattle.rg_home.specs.Rows.{row_at}
 use Rattle.rg_home.specs.Table.{IsTable}
 use Rattle.rg_model.specs.Changes.{changes}
 use Rattle.rg_model.specs.Right.{are_quiet_right, is_packed}
-use Rattle.rg_model.specs.State.{Table, row_of}
+use Rattle.rg_model.specs.State.{Table, Utility, row_of}
 use Rattle.rg_model.specs.Turn.{alter, is_term, step_of, turn_at}
 use Rattle.rg_phase.specs.Step.{is_device_stop}
 use Rattle.rg_reload.specs.declared.fault.ReloadFault.{ReloadFault}
@@ -39,6 +41,29 @@ pub record MakesStep (stage : Stage) (answer : Answer) (step : Step) : Type 0 wh
   pub unswitched : stage.switched ≡ false
   pub no_term : is_term answer.command ≡ false
   pub step_is : step_of (alter (numbers_of stage) answer.command) stage.drain ≡ step
+
+-- all rows are reloaded, all lists sorted and all indexes built
+pub record IsIndexed (u : Utility) : Type 0 where
+  pub copied : u.pages ≤ u.copied
+  pub reloaded : u.unloaded ≤ u.reloaded
+  pub sorted : 3 ≤ u.sorted
+  pub built : 3 ≤ u.built
+
+-- what the numbers and the drain are where they decide this step
+abbrev pub IsDueAt : Step → Utility → DrainState → Type 0
+IsDueAt steps.Unload u drain = u.copied < u.pages
+IsDueAt steps.Reload u drain = (u.pages ≤ u.copied) × (u.reloaded < u.unloaded)
+IsDueAt steps.Sort u drain =
+    (u.pages ≤ u.copied) × (u.unloaded ≤ u.reloaded) × (u.sorted < 3)
+IsDueAt steps.Build u drain =
+    (u.pages ≤ u.copied) × (u.unloaded ≤ u.reloaded) × (3 ≤ u.sorted) × (u.built < 3)
+IsDueAt steps.Log u drain = IsIndexed u × (drain ≡ drains.Free)
+IsDueAt (steps.Wait asked) u drain = IsIndexed u × (drain ≡ drains.Asked asked)
+IsDueAt steps.Last u drain = IsIndexed u × (u.last ≡ false)
+IsDueAt (steps.Write granted) u drain =
+    IsIndexed u × (drain ≡ drains.Granted granted) × (u.last ≡ true) × (u.written ≡ false)
+IsDueAt steps.Switch u drain = IsIndexed u × (u.written ≡ true)
+IsDueAt steps.End u drain = ⊥
 
 -- the utility has switched, or the operator ends it
 abbrev pub IsOver : Stage → Answer → Type 0

@@ -3,6 +3,7 @@
 // 1. What is made is made of the items that were received. Whoever has received more since has
 //    received changes alone, or nothing is made.
 // 2. A new copy that is written is kept by the desk. Else the desk keeps none.
+// 3. The numbers of the utility say which of these is made, and how far.
 use crate::draft::{Draft, Packing};
 use rg_base::options::Options;
 

@@ -13,25 +13,30 @@
 //    The desk keeps it for the switch. At GIVEUP it is taken back.
 // 7. An entry tells what was made: RELOAD the rows of its page, SORT and BUILD their index, LOG and
 //    LAST how many changes.
-ghost use Rattle.std.specs.Prelude.{◌≡◌, ◌≤◌, ◌+◌, ℕ, List, false, Some, None, Err, OnErr, OnOk};
+// 8. What is made is what the numbers of the utility say. So no step asks for it, and what is made
+//    fails for want of memory or space alone.
+ghost use Rattle.std.specs.Prelude.{◌≡◌, ◌≤◌, ◌+◌, ℕ, false, true, Some, None, Err, OnErr, OnOk};
 ghost use Rattle.std.specs.Prelude.{IfErr, IfOk, length};
-ghost use Rattle.rg_base.specs.declared.options.DrainState.TheVariants.{Granted};
 ghost use Rattle.rg_base.specs.declared.step.Step.TheVariants as steps;
 ghost use Rattle.rg_desk.specs.Desk.{HasDrain, IsTask};
-ghost use Rattle.rg_engine.specs.Prepared.{while_running};
-ghost use Rattle.rg_feed.specs.Fold.Fold.{changes, since_begin};
+ghost use Rattle.rg_feed.specs.Fold.Fold.{changes, copied_rows, since_begin};
 ghost use Rattle.rg_feed.specs.Fold.Lawful.{Lawful};
 ghost use Rattle.rg_image.specs.Rules.{copy_capacity};
+ghost use Rattle.rg_model.specs.Turn.{nth_which, turn_of};
 ghost use Rattle.rg_outside.specs.Faults.{Rose};
-ghost use Rattle.rg_phase.specs.Drafted.{IsFullOf};
-ghost use Rattle.rg_feed.specs.Ends.{Received};
-ghost use Rattle.rg_feed.specs.declared.fold.item.Item.{Item};
-ghost use Rattle.rg_phase.specs.Made.{HasMade, Hears, IsAsMade, IsAt, IsFilled, KeepsWorks, Works};
+ghost use Rattle.rg_phase.specs.Drafted.{IsDraftOf, IsFullOf, IsPackingOf};
+ghost use Rattle.rg_phase.specs.Made.{Drafts, EventMakes, Hears, IsAsMade, IsAt, IsFilled};
+ghost use Rattle.rg_phase.specs.Made.{Packs, TaskMakes, Works, after_build, after_reload, after_sort};
+ghost use Rattle.rg_phase.specs.Made.{StepMakes, after_back, after_take, after_write, numbers_in};
 ghost use Rattle.rg_phase.specs.declared.made.Made.{Made};
 ghost use Rattle.rg_phase.specs.Step.{Acts, KeepsWritten, Stepped};
-ghost use Rattle.rg_phase.specs.Working.{AreSidesToSwitch, IsOver, MakesStep, Writes, is_filling};
+ghost use Rattle.rg_phase.specs.Working.{AreSidesToSwitch, IsDueAt, IsOver, MakesStep, Writes};
+ghost use Rattle.rg_phase.specs.Working.{IsIndexed, is_filling};
 ghost use Rattle.rg_phase.specs.declared.made.Made.TheVariants.{Nothing};
 ghost use Rattle.rg_laws_utility.specs.CopyWeight.Weighed.{weigh_feed};
+ghost use Rattle.rg_laws_utility.specs.TraceStage.Tending.{IsForAll, is_booked, is_plain};
+ghost use Rattle.rg_base.specs.declared.options.DrainState.{DrainState};
+ghost use Rattle.rg_rules.specs.Stage.NumbersOf.{numbers_of};
 ghost use Rattle.rg_shadow.specs.declared.drafts.IndexStage.TheVariants.{Sorted, Built};
 ghost use Rattle.rg_base.specs.Copies.{other_of};
 
@@ -95,11 +100,11 @@ impl Reorg {
     ) -> Result<(), NoMemory>
         requires kept { desk.old.kept ≡ None }
         requires ring { desk.old.ring ≡ inlet.old.ring }
-        requires works { Works self.old.made desk.old.shadow inlet.old desk.old.feed }
+        requires works { Works V.seen self.old.made inlet.old desk.old }
         ensures stepped { OnOk result (Stepped V.seen
             O.answers O.last desk.old self.new.made inlet.new.taken desk.new) }
         ensures ring { desk.new.ring ≡ inlet.new.ring }
-        ensures works { Works self.new.made desk.new.shadow inlet.new desk.new.feed }
+        ensures works { Works V.seen self.new.made inlet.new desk.new }
         ensures err { OnErr result (desk.new ≡ desk.old) }
     {
         match desk.begin_step(inlet)? {
@@ -121,14 +126,14 @@ impl Reorg {
     )
         requires begun { IsTask V.seen desk.old task.now }
         requires hears { Hears desk.old inlet.old }
-        requires works { Works self.old.made desk.old.shadow inlet.old desk.old.feed }
+        requires works { Works V.seen self.old.made inlet.old desk.old }
         ensures acts { Acts V.seen desk.old task.now.answer self.new.made inlet.new.taken desk.new }
         ensures ring { inlet.new.ring ≡ inlet.old.ring }
-        ensures works { Works self.new.made desk.new.shadow inlet.new desk.new.feed }
+        ensures works { Works V.seen self.new.made inlet.new desk.new }
     {
         match step_now(&task.stage, &task.answer) {
             None => end(desk, task),
-            Some(Step::Unload) => self.unload(desk, task),
+            Some(Step::Unload) => self.unload(desk, inlet, task),
             Some(Step::Reload) => self.reload(alloc, desk, inlet, task),
             Some(Step::Write(granted)) => self.write(alloc, desk, inlet, task, granted),
             Some(Step::Switch) => self.switch(desk, inlet, task),
@@ -136,16 +141,15 @@ impl Reorg {
         }
     }
 
-    // Makes the entry of UNLOAD, and sends the copy of the page.
-    fn unload<V: Counts, O: Operator>(&mut self, desk: &mut Desk<V, O>, task: &Task)
+    // Makes the entry of UNLOAD, and sends the copy of the page. Nothing is made yet.
+    fn unload<V: Counts, O: Operator>(&self, desk: &mut Desk<V, O>, inlet: &FeedIn, task: &Task)
         requires begun { IsTask V.seen desk.old task.now }
         requires step { MakesStep task.now.stage task.now.answer steps.Unload }
-        ensures acts { (taken : ℕ)
-            → Acts V.seen desk.old task.now.answer self.new.made taken desk.new }
-        ensures made { self.new.made ≡ Nothing }
-        ensures shadow { desk.new.shadow ≡ None }
+        requires hears { Hears desk.old inlet.now }
+        requires works { Works V.seen self.now.made inlet.now desk.old }
+        ensures acts { Acts V.seen desk.old task.now.answer self.now.made inlet.now.taken desk.new }
+        ensures works { Works V.seen self.now.made inlet.now desk.new }
     {
-        self.forget(desk);
         let page = next_page(&task.stage);
         match desk.feed_page(page, task.answer) {
             Ok(_) => {}
@@ -164,10 +168,10 @@ impl Reorg {
         requires begun { IsTask V.seen desk.old task.now }
         requires step { MakesStep task.now.stage task.now.answer steps.Reload }
         requires hears { Hears desk.old inlet.old }
-        requires works { Works self.old.made desk.old.shadow inlet.old desk.old.feed }
+        requires works { Works V.seen self.old.made inlet.old desk.old }
         ensures acts { Acts V.seen desk.old task.now.answer self.new.made inlet.new.taken desk.new }
         ensures inlet { inlet.new ≡ inlet.old }
-        ensures works { Works self.new.made desk.new.shadow inlet.new desk.new.feed }
+        ensures works { Works V.seen self.new.made inlet.new desk.new }
     {
         let filled = self.fill(alloc, inlet, task);
         let event = reload_event(&task.stage, task.capacity, filled);
@@ -185,10 +189,10 @@ impl Reorg {
         requires begun { IsTask V.seen desk.old task.now }
         requires unswitched { task.now.stage.switched ≡ false }
         requires hears { Hears desk.old inlet.old }
-        requires works { Works self.old.made desk.old.shadow inlet.old desk.old.feed }
+        requires works { Works V.seen self.old.made inlet.old desk.old }
         ensures acts { Acts V.seen desk.old task.now.answer self.new.made inlet.new.taken desk.new }
         ensures ring { inlet.new.ring ≡ inlet.old.ring }
-        ensures works { Works self.new.made desk.new.shadow inlet.new desk.new.feed }
+        ensures works { Works V.seen self.new.made inlet.new desk.new }
     {
         let event = next_event(&task.stage, task.changes, task.holder, &task.answer);
         let made = self.make(alloc, desk, inlet, task, &event);
@@ -207,12 +211,17 @@ impl Reorg {
     ) -> Result<(), ShadowFault>
         requires begun { IsTask V.seen desk.old task.now }
         requires unswitched { task.now.stage.switched ≡ false }
+        requires booked { is_booked event.now ≡ true }
         requires unfilled { is_filling event.now ≡ false }
+        requires next { is_plain (turn_of task.now.changes task.now.holder task.now.answer
+            (numbers_of task.now.stage) task.now.stage.drain event.now) ≡ true }
         requires hears { Hears desk.old inlet.old }
-        requires works { Works self.old.made desk.old.shadow inlet.old desk.old.feed }
+        requires made { TaskMakes task.now self.old.made desk.old.shadow inlet.old }
         ensures desk { desk.new ≡ record desk.old { shadow = desk.new.shadow } }
         ensures ring { inlet.new.ring ≡ inlet.old.ring }
-        ensures works { Works self.new.made desk.new.shadow inlet.new desk.new.feed }
+        ensures items { inlet.new.items ≡ inlet.old.items }
+        ensures made { OnOk result (EventMakes task.now event.now self.new.made desk.new.shadow
+            inlet.new) }
         ensures told { OnOk result (IsAsMade self.new.made (Some task.now.stage) inlet.new.taken
             event.now) }
         ensures full { IfErr result (IsFullOf
@@ -225,14 +234,13 @@ impl Reorg {
                 Ok(())
             }
             Event::Build(which) => {
-                self.build(*which)?;
+                self.build(inlet, task, *which)?;
                 Ok(())
             }
-            Event::Log { took, .. } | Event::Last { took, .. } => {
-                self.take(alloc, inlet, task, *took)
-            }
+            Event::Log { took, .. } => self.take(alloc, inlet, task, *took),
+            Event::Last { took, .. } => self.take(alloc, inlet, task, *took),
             Event::GiveUp(_) => {
-                self.take_back(desk, task);
+                self.take_back(desk, inlet, task);
                 Ok(())
             }
             _ => Ok(()),
@@ -240,62 +248,73 @@ impl Reorg {
     }
 }
 
-// What is made without a desk. Whatever new copy the desk keeps, all that it has sent is received.
+// What is made without a desk. All that it has sent is received.
 impl Reorg {
-    // Packs the rows of all copies, if nothing is made. No change was taken yet.
-    fn pack(&mut self, alloc: Global, inlet: &FeedIn, task: &Task) -> Result<(), NoMemory>
+    // What is packed so far: the packer of the rows of all copies, where nothing is made yet. No
+    // change was taken.
+    fn take_packing(
+        &mut self,
+        alloc: Global,
+        inlet: &FeedIn,
+        task: &Task,
+    ) -> Result<Packing, NoMemory>
         requires lawful { Lawful (since_begin inlet.now.items) }
-        requires counted { length (changes (since_begin inlet.now.items)) ≡ task.now.changes }
-        ensures made { HasMade self.old.made inlet.now → HasMade self.new.made inlet.now }
-        ensures works { KeepsWorks self.old.made inlet.now self.new.made inlet.now }
-    {
-        match self.made {
-            Made::Nothing => {}
-            _ => return Ok(()),
-        }
-        if inlet.backlog() as u64 != task.changes {
-            return Err(NoMemory);
-        }
-        let packing = Packing::begin(alloc, inlet, task)?;
-        self.made = Made::Packing(packing);
-        Ok(())
-    }
-
-    // Fills the next page of the new copy.
-    fn fill(&mut self, alloc: Global, inlet: &FeedIn, task: &Task) -> Result<Filled, ReloadFault>
-        requires lawful { Lawful (since_begin inlet.now.items) }
-        requires counted { length (changes (since_begin inlet.now.items)) ≡ task.now.changes }
-        ensures works { KeepsWorks self.old.made inlet.now self.new.made inlet.now }
-        ensures filled { IfOk result
-            (λ filled. IsFilled self.new.made filled.page filled.rows) }
-    {
-        self.pack(alloc, inlet, task)?;
-        match &mut self.made {
-            Made::Packing(packing) => packing.fill(),
-            _ => Err(ReloadFault::NoMemory),
-        }
-    }
-
-    // Loads the new copy, if it is packed. It is dropped where that fails.
-    fn load(&mut self, alloc: Global, inlet: &FeedIn) -> Result<(), NoMemory>
-        requires lawful { Lawful (since_begin inlet.now.items) }
-        requires made { HasMade self.old.made inlet.now }
-        ensures { KeepsWorks self.old.made inlet.now self.new.made inlet.now }
+        requires made { TaskMakes task.now self.old.made None inlet.now }
+        requires copied { (numbers_in task.now).pages ≤ (numbers_in task.now).copied }
+        requires unsorted { (numbers_in task.now).sorted ≡ 0 }
+        ensures packs { IfOk result (λ p. Packs (numbers_in task.now) task.now.copy
+            task.now.capacity p.packer) }
+        ensures packing { IfOk result (λ p. IsPackingOf p.options p.packer inlet.now.items
+            inlet.now.taken) }
     {
         match mem::replace(&mut self.made, Made::Nothing) {
-            Made::Packing(packing) => {
-                let draft = packing.load(alloc, inlet)?;
-                self.made = Made::Drafted(draft);
-                Ok(())
-            }
-            made => {
-                self.made = made;
-                Ok(())
-            }
+            Made::Nothing => Packing::begin(alloc, inlet, task),
+            Made::Packing(packing) => Ok(packing),
+            Made::Drafted(_) => unreachable!(),
+            Made::Written(_) => unreachable!(),
         }
     }
 
-    // Sorts a list of the new copy, which is loaded before its first one.
+    // Fills the next page of the new copy. What is packed is dropped where that fails.
+    fn fill(&mut self, alloc: Global, inlet: &FeedIn, task: &Task) -> Result<Filled, ReloadFault>
+        requires lawful { Lawful (since_begin inlet.now.items) }
+        requires rows { length (copied_rows (since_begin inlet.now.items))
+            ≡ (numbers_in task.now).unloaded }
+        requires made { TaskMakes task.now self.old.made None inlet.now }
+        requires due { IsDueAt steps.Reload (numbers_in task.now) task.now.stage.drain }
+        ensures made { IfOk result (λ filled. StepMakes
+            (after_reload filled.rows (numbers_in task.now)) task.now.stage.drain task.now.copy
+            task.now.capacity self.new.made None inlet.now) }
+        ensures filled { IfOk result
+            (λ filled. IsFilled task.now.stage.options self.new.made filled.page filled.rows) }
+    {
+        let mut packing = self.take_packing(alloc, inlet, task)?;
+        let filled = packing.fill()?;
+        self.made = Made::Packing(packing);
+        Ok(filled)
+    }
+
+    // The draft of the new copy, which is loaded before its first list is sorted.
+    fn take_draft(&mut self, alloc: Global, inlet: &FeedIn, task: &Task) -> Result<Draft, NoMemory>
+        requires lawful { Lawful (since_begin inlet.now.items) }
+        requires rows { length (copied_rows (since_begin inlet.now.items))
+            ≡ (numbers_in task.now).unloaded }
+        requires made { TaskMakes task.now self.old.made None inlet.now }
+        requires due { IsDueAt steps.Sort (numbers_in task.now) task.now.stage.drain }
+        ensures drafts { IfOk result (λ d. Drafts (numbers_in task.now) task.now.copy
+            task.now.capacity d.options d.shadow) }
+        ensures draft { IfOk result (λ d. IsDraftOf d.options d.shadow inlet.now.items
+            inlet.now.taken) }
+    {
+        match mem::replace(&mut self.made, Made::Nothing) {
+            Made::Nothing => Packing::begin(alloc, inlet, task)?.load(alloc, inlet),
+            Made::Packing(packing) => packing.load(alloc, inlet),
+            Made::Drafted(draft) => Ok(draft),
+            Made::Written(_) => unreachable!(),
+        }
+    }
+
+    // Sorts a list of the new copy. The draft is dropped where that fails.
     fn sort(
         &mut self,
         alloc: Global,
@@ -304,33 +323,39 @@ impl Reorg {
         which: Which,
     ) -> Result<(), NoMemory>
         requires lawful { Lawful (since_begin inlet.now.items) }
-        requires counted { length (changes (since_begin inlet.now.items)) ≡ task.now.changes }
-        requires made { HasMade self.old.made inlet.now }
-        ensures works { KeepsWorks self.old.made inlet.now self.new.made inlet.now }
+        requires rows { length (copied_rows (since_begin inlet.now.items))
+            ≡ (numbers_in task.now).unloaded }
+        requires made { TaskMakes task.now self.old.made None inlet.now }
+        requires due { IsDueAt steps.Sort (numbers_in task.now) task.now.stage.drain }
+        requires which { which ≡ nth_which (numbers_in task.now).sorted }
+        ensures made { OnOk result (StepMakes (after_sort (numbers_in task.now))
+            task.now.stage.drain task.now.copy task.now.capacity self.new.made None inlet.now) }
         ensures sorted { OnOk result (IsAt which Sorted self.new.made) }
     {
-        self.pack(alloc, inlet, task)?;
-        self.load(alloc, inlet)?;
-        match &mut self.made {
-            Made::Drafted(draft) => draft.sort(which),
-            _ => Err(NoMemory),
-        }
+        let mut draft = self.take_draft(alloc, inlet, task)?;
+        draft.sort(which)?;
+        self.made = Made::Drafted(draft);
+        Ok(())
     }
 
     // Builds an index of the new copy.
-    fn build(&mut self, which: Which) -> Result<(), NoMemory>
-        ensures works { (inlet : Received)
-            → KeepsWorks self.old.made inlet self.new.made inlet }
+    fn build(&mut self, inlet: &FeedIn, task: &Task, which: Which) -> Result<(), NoMemory>
+        requires made { TaskMakes task.now self.old.made None inlet.now }
+        requires due { IsDueAt steps.Build (numbers_in task.now) task.now.stage.drain }
+        requires which { which ≡ nth_which (numbers_in task.now).built }
+        ensures made { OnOk result (StepMakes (after_build (numbers_in task.now))
+            task.now.stage.drain task.now.copy task.now.capacity self.new.made None inlet.now) }
         ensures built { OnOk result (IsAt which Built self.new.made) }
     {
         match &mut self.made {
+            Made::Nothing => unreachable!(),
+            Made::Packing(_) => unreachable!(),
             Made::Drafted(draft) => draft.build(which),
-            _ => Err(NoMemory),
+            Made::Written(_) => unreachable!(),
         }
     }
 
-    // Makes the next changes in the new copy, exactly so many, beyond those that the stage counts.
-    // It is dropped where that fails.
+    // Makes the next changes in the new copy, exactly so many.
     fn take(
         &mut self,
         alloc: Global,
@@ -339,32 +364,21 @@ impl Reorg {
         count: u8,
     ) -> Result<(), ShadowFault>
         requires lawful { Lawful (since_begin inlet.old.items) }
-        requires counted { length (changes (since_begin inlet.old.items)) ≡ task.now.changes }
-        requires made { HasMade self.old.made inlet.old }
+        requires made { TaskMakes task.now self.old.made None inlet.old }
+        requires indexed { IsIndexed (numbers_in task.now) }
+        requires there { (numbers_in task.now).done + count
+            ≤ length (changes (since_begin inlet.old.items)) }
         ensures ring { inlet.new.ring ≡ inlet.old.ring }
         ensures items { inlet.new.items ≡ inlet.old.items }
-        ensures works { KeepsWorks self.old.made inlet.old self.new.made inlet.new }
-        ensures taken { OnOk result (inlet.new.taken ≡ task.now.stage.done + count) }
+        ensures made { OnOk result (StepMakes (after_take count (numbers_in task.now))
+            task.now.stage.drain task.now.copy task.now.capacity self.new.made None inlet.new) }
         ensures full { IfErr result (IsFullOf task.now.capacity (weigh_feed inlet.old.items)) }
     {
-        let left = inlet.backlog() as u64;
-        if task.changes.saturating_sub(left) != task.stage.done {
-            return Err(ShadowFault::NoMemory);
-        }
-        if count == 0 {
-            return Ok(());
-        }
-        match mem::replace(&mut self.made, Made::Nothing) {
-            Made::Drafted(draft) => {
-                let mut draft = draft;
-                draft.take(alloc, inlet, count, task.capacity)?;
-                self.made = Made::Drafted(draft);
-                Ok(())
-            }
-            made => {
-                self.made = made;
-                Err(ShadowFault::NoMemory)
-            }
+        match &mut self.made {
+            Made::Nothing => unreachable!(),
+            Made::Packing(_) => unreachable!(),
+            Made::Drafted(draft) => draft.take(alloc, inlet, count),
+            Made::Written(_) => unreachable!(),
         }
     }
 }
@@ -372,18 +386,25 @@ impl Reorg {
 // What is made of the new copy that the desk keeps.
 impl Reorg {
     // Takes the new copy back from the desk, if it keeps one.
-    fn take_back<V: Counts, O: Operator>(&mut self, desk: &mut Desk<V, O>, task: &Task)
+    fn take_back<V: Counts, O: Operator>(
+        &mut self,
+        desk: &mut Desk<V, O>,
+        inlet: &FeedIn,
+        task: &Task,
+    )
         requires begun { IsTask V.seen desk.old task.now }
+        requires indexed { IsIndexed (numbers_in task.now) }
+        requires made { TaskMakes task.now self.old.made desk.old.shadow inlet.now }
         ensures desk { desk.new ≡ record desk.old { shadow = None } }
-        ensures works { (inlet : Received) (feed : List Item)
-            → Works self.old.made desk.old.shadow inlet feed
-            → Works self.new.made None inlet feed }
+        ensures made { StepMakes (after_back (numbers_in task.now)) task.now.stage.drain
+            task.now.copy task.now.capacity self.new.made None inlet.now }
     {
         let Some(shadow) = desk.take_shadow() else {
             return;
         };
-        if let Made::Written(options) = self.made {
-            self.made = Made::Drafted(Draft::of(shadow, options, task.copy, task.capacity));
+        match self.made {
+            Made::Written(options) => self.made = Made::Drafted(Draft { shadow, options }),
+            _ => unreachable!(),
         }
     }
 
@@ -399,9 +420,9 @@ impl Reorg {
         requires begun { IsTask V.seen desk.old task.now }
         requires step { MakesStep task.now.stage task.now.answer (steps.Write granted) }
         requires hears { Hears desk.old inlet.now }
-        requires works { Works self.old.made desk.old.shadow inlet.now desk.old.feed }
+        requires works { Works V.seen self.old.made inlet.now desk.old }
         ensures acts { Acts V.seen desk.old task.now.answer self.new.made inlet.now.taken desk.new }
-        ensures works { Works self.new.made desk.new.shadow inlet.now desk.new.feed }
+        ensures works { Works V.seen self.new.made inlet.now desk.new }
     {
         let event = match self.put(alloc, desk, inlet, task, granted) {
             Ok(pages) => Event::Written { pages },
@@ -421,33 +442,30 @@ impl Reorg {
         granted: DrainFor,
     ) -> Result<u32, PrepareCause>
         requires begun { IsTask V.seen desk.old task.now }
-        requires unswitched { task.now.stage.switched ≡ false }
-        requires drain { task.now.stage.drain ≡ Granted granted }
         requires hears { Hears desk.old inlet.now }
-        requires works { Works self.old.made desk.old.shadow inlet.now desk.old.feed }
+        requires made { TaskMakes task.now self.old.made desk.old.shadow inlet.now }
+        requires due { IsDueAt (steps.Write granted) (numbers_in task.now) task.now.stage.drain }
         ensures writes { Writes V.seen desk.old desk.new }
         ensures kept { IfOk result (λ pages. KeepsWritten V.seen pages desk.new) }
         ensures device { result ≡ Err PrepareCause.Device
             → Rose (V.seen desk.old.volume).faults (V.seen desk.new.volume).faults }
         ensures none { result ≡ Err PrepareCause.NoMemory → desk.new.volume ≡ desk.old.volume }
-        ensures works { Works self.new.made desk.new.shadow inlet.now desk.new.feed }
+        ensures made { IfOk result (λ pages. (drain : DrainState) → IsForAll drain
+            → StepMakes (after_write pages (numbers_in task.now)) drain task.now.copy
+            task.now.capacity self.new.made desk.new.shadow inlet.now) }
     {
         let draft = match mem::replace(&mut self.made, Made::Nothing) {
+            Made::Nothing => unreachable!(),
+            Made::Packing(_) => unreachable!(),
             Made::Drafted(draft) => draft,
-            made => {
-                self.made = made;
-                return Err(PrepareCause::NoMemory);
-            }
+            Made::Written(_) => unreachable!(),
         };
-        let stage = &task.stage;
-        if inlet.backlog() > 0 || stage.copied != stage.pages {
+        if inlet.backlog() > 0 {
             return Err(PrepareCause::NoMemory);
         }
-        if !draft.is_ready(task.copy, task.capacity) {
-            return Err(PrepareCause::NoMemory);
-        }
-        let (pages, options) = (draft.count(), draft.options);
-        match desk.prepare_switch(alloc, draft.into_shadow()) {
+        let pages = draft.count();
+        let Draft { shadow, options } = draft;
+        match desk.prepare_switch(alloc, shadow) {
             Ok(()) => {
                 self.made = Made::Written(options);
                 Ok(pages)
@@ -461,9 +479,9 @@ impl Reorg {
         requires begun { IsTask V.seen desk.old task.now }
         requires step { MakesStep task.now.stage task.now.answer steps.Switch }
         requires hears { Hears desk.old inlet.now }
-        requires works { Works self.old.made desk.old.shadow inlet.now desk.old.feed }
+        requires works { Works V.seen self.old.made inlet.now desk.old }
         ensures acts { Acts V.seen desk.old task.now.answer self.new.made inlet.now.taken desk.new }
-        ensures works { Works self.new.made desk.new.shadow inlet.now desk.new.feed }
+        ensures works { Works V.seen self.new.made inlet.now desk.new }
     {
         match self.sides(desk, inlet, task) {
             Ok(sides) => {
@@ -485,27 +503,16 @@ impl Reorg {
     ) -> Result<Sides, NoMemory>
         requires begun { IsTask V.seen desk.old task.now }
         requires drained { HasDrain desk.old }
-        requires unswitched { task.now.stage.switched ≡ false }
         requires hears { Hears desk.old inlet.now }
-        requires works { Works self.now.made desk.old.shadow inlet.now desk.old.feed }
+        requires made { TaskMakes task.now self.now.made desk.old.shadow inlet.now }
+        requires due { IsDueAt steps.Switch (numbers_in task.now) task.now.stage.drain }
         ensures same { desk.new ≡ desk.old }
         ensures sides { IfOk result (AreSidesToSwitch desk.old task.entry.now.stage) }
     {
-        let Made::Written(options) = self.made else {
-            return Err(NoMemory);
-        };
-        let stage = &task.stage;
-        if inlet.backlog() > 0 || stage.copied != stage.pages || !desk.is_current() {
+        if inlet.backlog() > 0 || !desk.is_current() {
             return Err(NoMemory);
         }
-        if options.pctfree != stage.options.pctfree || options.freepage != stage.options.freepage {
-            return Err(NoMemory);
-        }
-        let sides = desk.sides()?;
-        if sides.new.pages != stage.shadow {
-            return Err(NoMemory);
-        }
-        Ok(sides)
+        desk.sides()
     }
 }
 
@@ -516,7 +523,8 @@ fn end<V: Counts, O: Operator>(desk: &mut Desk<V, O>, task: &Task)
     ensures acts { (made : Made) (taken : ℕ)
         → Acts V.seen desk.old task.now.answer made taken desk.new }
     ensures feed { desk.new.feed ≡ desk.old.feed }
-    ensures shadow { desk.new.shadow ≡ while_running desk.new.stage desk.old.shadow }
+    ensures over { desk.new.stage ≡ None }
+    ensures shadow { desk.new.shadow ≡ None }
 {
     let event = next_event(&task.stage, task.changes, task.holder, &task.answer);
     desk.book(event, Some(task.answer));

@@ -19,7 +19,7 @@ ghost use Rattle.rg_outside.specs.Moments.{IfTold};
 ghost use Rattle.rg_feed.specs.Ends.{Received};
 ghost use Rattle.rg_image.specs.Rules.{limit_of};
 ghost use Rattle.rg_log.specs.Kept.{log_pages};
-ghost use Rattle.rg_phase.specs.Made.{Works};
+ghost use Rattle.rg_phase.specs.Made.{IsBehind, Works};
 ghost use Rattle.rg_run.specs.Asked.{HasAnswered, answers_in};
 ghost use Rattle.rg_run.specs.LogFull.{IsLogFullOnlyFrom};
 ghost use Rattle.rg_run.specs.Space.{AreForSpace};
@@ -242,6 +242,8 @@ fn reopen<V: Counts, O: Operator>(
         (lines ++ Line.Death ∷ []) next) }
     ensures kept { IfOk result (λ next. next.kept ≡ None) }
     ensures shadow { IfOk result (λ next. next.shadow ≡ None) }
+    ensures stage { IfOk result (λ next. next.stage ≡ None) }
+    ensures behind { IfOk result (λ next. IsBehind inlet.new.items next.feed) }
     ensures ring { IfOk result (λ next. next.ring ≡ inlet.new.ring) }
     ensures ends { IfErr result (λ played. (first : DeskState V O) (lines rest : List Line)
         → Going V.seen O.answers first lines desk → IsRun V.seen O.answers first
@@ -270,8 +272,8 @@ fn start<V: Counts, O: Operator>(
     ensures kept { OnOk result (desk.new.kept ≡ desk.old.kept) }
     ensures ring { OnOk result (desk.new.ring ≡ desk.old.ring) }
     ensures works { OnOk result ((inlet : Received)
-        → Works reorg.old.made desk.old.shadow inlet desk.old.feed
-        → Works reorg.new.made desk.new.shadow inlet desk.new.feed) }
+        → Works V.seen reorg.old.made inlet desk.old
+        → Works V.seen reorg.new.made inlet desk.new) }
     ensures err { OnErr result (desk.new ≡ desk.old) }
 {
     if !desk.start(options)? {
@@ -292,6 +294,8 @@ fn play<V: Counts, O: Operator>(
     requires kept { desk.kept ≡ None }
     requires ring { desk.ring ≡ inlet.ring }
     requires shadow { desk.shadow ≡ None }
+    requires stage { desk.stage ≡ None }
+    requires behind { IsBehind inlet.items desk.feed }
     requires going { Going V.seen O.answers desk [] desk }
     ensures { IsRun V.seen O.answers desk lines.items (V.seen result.volume)
         result.operator result.trace.items result.end }
@@ -323,14 +327,13 @@ fn play_line<V: Counts, O: Operator>(
     requires line { IsPlayed line }
     requires kept { desk.kept ≡ None }
     requires ring { desk.ring ≡ inlet.old.ring }
-    requires works { Works reorg.old.made desk.shadow inlet.old desk.feed }
+    requires works { Works V.seen reorg.old.made inlet.old desk }
     ensures goes { IfOk result (λ next. (first : DeskState V O) (lines : List Line)
         → Going V.seen O.answers first lines desk → Going V.seen O.answers first
         (lines ++ line ∷ []) next) }
     ensures kept { IfOk result (λ next. next.kept ≡ None) }
     ensures ring { IfOk result (λ next. next.ring ≡ inlet.new.ring) }
-    ensures works { IfOk result
-        (λ next. Works reorg.new.made next.shadow inlet.new next.feed) }
+    ensures works { IfOk result (λ next. Works V.seen reorg.new.made inlet.new next) }
     ensures ends { IfErr result (λ played. (first : DeskState V O) (lines rest : List Line)
         → Going V.seen O.answers first lines desk
         → IsRun V.seen O.answers first (lines ++ line ∷ rest) (V.seen played.volume)

@@ -1,8 +1,12 @@
-use Rattle.std.proofs.Common.{◌≡◌, ℕ, true, Option, refl, subst}
+use Rattle.std.proofs.Common.{◌≡◌, ◌∙◌, ℕ, true, [], Option, refl, ap, subst}
 use Rattle.rg_base.specs.declared.session.Session.{Session}
 use Rattle.rg_model.specs.Turn.{turn_of}
 use Rattle.rg_rules.specs.Stage.NumbersOf.{numbers_of}
 use Rattle.rg_laws_utility.specs.TraceStage.Tending.{is_plain}
+use Rattle.rg_engine.specs.Prepared.{while_running}
+use Rattle.rg_feed.specs.declared.fold.item.Stage.{Stage}
+use Rattle.rg_phase.proofs.Booking.{follows_task}
+use Rattle.rg_phase.proofs.Eventful.{over_none}
 use Rattle.rg_phase.proofs.Loading.{space_at, space_unfilled}
 use Rattle.rg_phase.proofs.Making.{acts_booked, writes_none}
 use Rattle.rg_phase.proofs.Steps.{next_runs, runs_some}
@@ -37,3 +41,18 @@ returns-clause-acts g c =
     (told_over made old.stage taken old.changes old.covered c.args.task.now.answer s event
     c.requires.over
     next) c.book.ensures
+
+pub returns-clause-over : goal.returns-clause-over
+returns-clause-over g c =
+    let old = c.args.desk.now in
+    let task = c.args.task.now in
+    over_none task.stage task.changes task.holder task.answer c.next_event-event.result
+    c.book.new.self.stage c.requires.over c.next_event-event.ensures.next
+    (follows_task g.V.Volume.seen old old c.book.new.self task c.next_event-event.result []
+    c.requires.begun (writes_none g.V.Volume.seen old) c.book.ensures)
+
+pub returns-clause-shadow : goal.returns-clause-shadow
+returns-clause-shadow g c =
+    c.book.ensures.shadow
+    ∙ ap (λ (o : Option Stage). while_running o c.args.desk.now.shadow)
+    (returns-clause-over g c)

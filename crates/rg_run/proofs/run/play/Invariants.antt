@@ -15,6 +15,6 @@ invariant-loop-line g l =
       left : into_iter_len l.line-iterator ≡ length (into_iter_items l.line-iterator);
       kept : l.desk.kept ≡ None;
       ring : l.desk.ring ≡ l.inlet.ring;
-      works : Works l.reorg.made l.desk.shadow l.inlet l.desk.feed;
+      works : Works g.V.Volume.seen l.reorg.made l.inlet l.desk;
       lines : AllByRecursion IsPlayed (into_iter_items l.line-iterator);
     }

@@ -4,13 +4,12 @@ use Rattle.std.proofs.lemmas.Result.{IfOk-weaker}
 use Rattle.rg_desk.specs.Desk.{DeskState}
 use Rattle.rg_stmt.specs.declared.line.Line.{Line}
 use Rattle.rg_stmt.specs.declared.line.Line.TheVariants.{Death}
-use Rattle.rg_phase.specs.Made.{Works}
 use Rattle.rg_phase.specs.declared.made.Made.{Made}
 use Rattle.rg_run.specs.Parts.{Going, IsRun}
 use Rattle.rg_run.specs.declared.played.RunEnd.{RunEnd}
 use Rattle.rg_run.proofs.Again.{ends_wanting, going_on}
 use Rattle.rg_run.proofs.Plays.{goes_flushed, goes_said, goes_shown, goes_stepped}
-use Rattle.rg_run.proofs.Working.{works_same}
+use Rattle.rg_run.proofs.Working.{opened_works, works_same}
 use Rattle.rg_run.proofs.run.play_line.Goals as goal
 
 pub returns-in-Ok-clause-goes : goal.returns-in-Ok-clause-goes
@@ -163,21 +162,26 @@ returns-in-Err-step-clause-ends g c = λ first lines rest going.
     played.operator left.operator (c.args.line ∷ rest))
 
 pub returns-in-Ok-clause-works : goal.returns-in-Ok-clause-works
-returns-in-Ok-clause-works g c = works_same c.args.reorg.now.made c.args.inlet.now c.args.desk
-    c.exec.new.self c.in-Ok.ensures.made.utility c.requires.works
+returns-in-Ok-clause-works g c =
+    works_same g.V.Volume.seen c.args.reorg.now.made c.args.inlet.now c.args.desk
+    c.exec.new.self c.in-Ok.ensures.made.utility c.in-Ok.ensures.made.stays c.requires.works
 
 pub returns-in-Ok-show-clause-works : goal.returns-in-Ok-show-clause-works
-returns-in-Ok-show-clause-works g c = works_same c.args.reorg.now.made c.args.inlet.now c.args.desk
-    c.show.new.self c.in-Ok-show.ensures.made.utility c.requires.works
+returns-in-Ok-show-clause-works g c =
+    works_same g.V.Volume.seen c.args.reorg.now.made c.args.inlet.now c.args.desk
+    c.show.new.self c.in-Ok-show.ensures.made.utility c.in-Ok-show.ensures.made.stays
+    c.requires.works
 
 pub returns-in-Ok-flush_one-clause-works : goal.returns-in-Ok-flush_one-clause-works
-returns-in-Ok-flush_one-clause-works g c = works_same c.args.reorg.now.made c.args.inlet.now
-    c.args.desk c.flush_one.new.self c.in-Ok-flush_one.ensures.made.utility c.requires.works
+returns-in-Ok-flush_one-clause-works g c =
+    works_same g.V.Volume.seen c.args.reorg.now.made c.args.inlet.now
+    c.args.desk c.flush_one.new.self c.in-Ok-flush_one.ensures.made.utility
+    c.in-Ok-flush_one.ensures.made.stays c.requires.works
 
 pub returns-in-Ok-start-clause-works : goal.returns-in-Ok-start-clause-works
 returns-in-Ok-start-clause-works g c = c.in-Ok-start.ensures.works c.args.inlet.now c.requires.works
 
 pub returns-in-Death-clause-works : goal.returns-in-Death-clause-works
-returns-in-Death-clause-works g c = subst
-    (λ (m : Made). IfOk c.reopen.result (λ next. Works m next.shadow c.reopen.new.inlet next.feed))
-    (sym c.new.ensures) c.reopen.ensures.shadow
+returns-in-Death-clause-works g c =
+    opened_works g.V.Volume.seen c.reopen.result c.new.result.made c.reopen.new.inlet
+    c.reopen.ensures.stage c.reopen.ensures.shadow c.reopen.ensures.behind

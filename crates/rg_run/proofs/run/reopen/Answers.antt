@@ -5,6 +5,7 @@ use Rattle.rg_stmt.specs.declared.event.Entry.{Entry}
 use Rattle.rg_run.specs.Parts.{IsRun}
 use Rattle.rg_stmt.specs.declared.line.Line.TheVariants.{Death}
 use Rattle.rg_run.specs.declared.played.RunEnd.{RunEnd}
+use Rattle.rg_phase.proofs.Receiving.{behind_all}
 use Rattle.rg_run.proofs.Again.{going_again, refused_again}
 use Rattle.rg_run.proofs.run.reopen.Goals as goal
 
@@ -26,6 +27,14 @@ returns-in-Ok-clause-kept g c = c.in-Ok.ensures.opens.opens.kept
 
 pub returns-in-Ok-clause-shadow : goal.returns-in-Ok-clause-shadow
 returns-in-Ok-clause-shadow g c = c.in-Ok.ensures.opens.opens.shadow
+
+pub returns-in-Ok-clause-stage : goal.returns-in-Ok-clause-stage
+returns-in-Ok-clause-stage g c = c.in-Ok.ensures.opens.opens.stage
+
+pub returns-in-Ok-clause-behind : goal.returns-in-Ok-clause-behind
+returns-in-Ok-clause-behind g c =
+    behind_all c.in-Ok.opened.items c.in-Ok.desk.feed
+    (c.in-Ok.ensures.received ∙ sym c.in-Ok.ensures.opens.opens.feed)
 
 pub returns-in-Err-clause-ends : goal.returns-in-Err-clause-ends
 returns-in-Err-clause-ends g c = λ first lines rest going.

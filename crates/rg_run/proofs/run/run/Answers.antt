@@ -6,6 +6,7 @@ use Rattle.rg_restart.specs.Opening.{IsRefused}
 use Rattle.rg_stmt.specs.declared.event.Entry.{Entry}
 use Rattle.rg_run.specs.Asked.{HasAnswered, answers_in}
 use Rattle.rg_run.specs.declared.played.RunEnd.{RunEnd}
+use Rattle.rg_phase.proofs.Receiving.{behind_all}
 use Rattle.rg_run.proofs.Asking.{same_unasked}
 use Rattle.rg_run.specs.Whole.{Whole}
 use Rattle.rg_run.proofs.Wholly.{begun_counted, begun_tidy, going_first, none_recorded}
@@ -33,6 +34,14 @@ play-requires-clause-kept g c = c.in-Ok.ensures.opens.opens.kept
 
 pub play-requires-clause-shadow : goal.play-requires-clause-shadow
 play-requires-clause-shadow g c = c.in-Ok.ensures.opens.opens.shadow
+
+pub play-requires-clause-stage : goal.play-requires-clause-stage
+play-requires-clause-stage g c = c.in-Ok.ensures.opens.opens.stage
+
+pub play-requires-clause-behind : goal.play-requires-clause-behind
+play-requires-clause-behind g c =
+    behind_all c.in-Ok.inlet.items c.in-Ok.desk.feed
+    (c.in-Ok.ensures.received ∙ sym c.in-Ok.ensures.opens.opens.feed)
 
 -- the run that was counted is one of the volume below
 played : (g : given.Over) (c : goal.After-uncounted g)

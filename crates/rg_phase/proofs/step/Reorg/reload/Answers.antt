@@ -1,7 +1,11 @@
-use Rattle.std.proofs.Common.{◌≡◌, ℕ, refl, subst}
+use Rattle.std.proofs.Common.{◌≡◌, ℕ, Option, refl, subst}
 use Rattle.rg_image.specs.Rules.{copy_capacity}
 use Rattle.rg_laws_utility.specs.CopyWeight.Weighed.{weigh_feed}
 use Rattle.rg_base.specs.Copies.{other_of}
+use Rattle.rg_engine.specs.Prepared.{PreparedSeen}
+use Rattle.rg_phase.specs.Made.{TaskMakes}
+use Rattle.rg_phase.proofs.Booking.{task_makes, works_booked}
+use Rattle.rg_phase.proofs.Eventful.{page_makes, reload_kept}
 use Rattle.rg_phase.specs.Step.{HasPagesFor}
 use Rattle.rg_phase.proofs.Loading.{reload_left, space_at}
 use Rattle.rg_phase.proofs.Making.{acts_booked, writes_none}
@@ -47,5 +51,37 @@ returns-clause-acts g c =
     (space_at old.stage s _ (weigh_feed old.feed) event c.requires.begun.stage
     (subst (λ (n : ℕ). HasPagesFor n (weigh_feed old.feed) s event) capacity
     (c.reload_event-event.ensures.space (weigh_feed old.feed))))
-    (told_page c.fill-filled.new.self.made old.stage c.args.inlet.now.taken c.fill-filled.result
-    event c.fill-filled.ensures.filled c.reload_event-event.ensures.told) c.book.ensures
+    (told_page c.fill-filled.new.self.made old.stage s c.args.inlet.now.taken c.fill-filled.result
+    event c.requires.begun.stage c.fill-filled.ensures.filled c.reload_event-event.ensures.told)
+    c.book.ensures
+
+pub fill-filled-requires-clause-made : goal.fill-filled-requires-clause-made
+fill-filled-requires-clause-made g c =
+    let task = c.args.task.now in
+    let made = c.args.self.now.made in
+    let inlet = c.args.inlet.now in
+    let makes = task_makes g.V.Volume.seen c.args.desk.now task made inlet c.requires.begun
+    c.requires.hears c.requires.step.unswitched c.requires.works in
+    subst (λ (k : Option PreparedSeen). TaskMakes task made k inlet)
+    (reload_kept task c.requires.step made c.args.desk.now.shadow inlet makes) makes
+
+pub returns-clause-works : goal.returns-clause-works
+returns-clause-works g c =
+    let look = g.V.Volume.seen in
+    let old = c.args.desk.now in
+    let task = c.args.task.now in
+    let event = c.reload_event-event.result in
+    let is = c.reload_event-event.ensures.event in
+    let made = c.fill-filled.new.self.made in
+    let inlet = c.args.inlet.now in
+    let makes = task_makes look old task c.args.self.now.made inlet c.requires.begun
+    c.requires.hears c.requires.step.unswitched c.requires.works in
+    works_booked look old old c.book.new.self task event made inlet c.requires.begun
+    c.requires.hears.items (writes_none look old) c.book.ensures
+    (next_runs old task.stage task.answer event c.requires.begun.up c.requires.begun.stage
+    is.booked
+    (reload_next task.stage task.answer c.requires.step event is old.changes old.covered))
+    (page_makes task c.requires.step.unswitched c.requires.step c.fill-filled.result event made
+    old.shadow inlet c.reload_event-event.ensures.told
+    (reload_kept task c.requires.step c.args.self.now.made old.shadow inlet makes)
+    c.fill-filled.ensures.made)

@@ -69,7 +69,7 @@ returns-in_err-begin_step-clause-works g c =
     let made = c.args.self.now.made in
     let later = c.begin_step.new.inlet in
     subst
-    (λ (d : DeskState g.row.V.Denot g.row.O.Denot). Works made d.shadow later d.feed)
+    (λ (d : DeskState g.row.V.Denot g.row.O.Denot). Works g.V.Volume.seen made later d)
     (sym c.in_err-begin_step.ensures.err)
     (works_begun g.V.Volume.seen g.O.Operator.answers g.O.Operator.last old made c.args.inlet.now
     later c.begin_step.ensures.grew c.in_err-begin_step.ensures.heard c.requires.works)

@@ -1,11 +1,12 @@
-use Rattle.std.proofs.Common.{◌≡◌, ℕ, true, Option, ◌∙◌, append-nil, ap, subst}
+use Rattle.std.proofs.Common.{◌≡◌, ℕ, true, Option, ◌∙◌, ap, subst}
 use Rattle.rg_base.specs.declared.session.Session.{Session}
 use Rattle.rg_model.specs.Turn.{turn_of}
 use Rattle.rg_rules.specs.Stage.NumbersOf.{numbers_of}
 use Rattle.rg_laws_utility.specs.TraceStage.Tending.{is_plain}
+use Rattle.rg_phase.proofs.Booking.{task_makes, works_booked}
+use Rattle.rg_phase.proofs.Eventful.{makes_or_stop}
 use Rattle.rg_phase.proofs.Loading.{space_at, space_or_stop}
 use Rattle.rg_phase.proofs.Making.{acts_booked, writes_shadow}
-use Rattle.rg_phase.proofs.Receiving.{works_on}
 use Rattle.rg_phase.proofs.Steps.{next_same, or_stop_next, runs_some}
 use Rattle.rg_phase.proofs.Told.{tells_or_stop, told_or_stop}
 use Rattle.rg_phase.proofs.step.Reorg.work.Goals as goal
@@ -68,10 +69,37 @@ returns-clause-acts g c =
     c.or_stop.result c.requires.begun.stage c.make-made.ensures.told c.or_stop.ensures)
     c.book.ensures
 
+pub make-made-requires-clause-made : goal.make-made-requires-clause-made
+make-made-requires-clause-made g c =
+    task_makes g.V.Volume.seen c.args.desk.now c.args.task.now c.args.self.now.made
+    c.args.inlet.now c.requires.begun c.requires.hears c.requires.unswitched c.requires.works
+
 pub returns-clause-works : goal.returns-clause-works
 returns-clause-works g c =
+    let look = g.V.Volume.seen in
+    let old = c.args.desk.now in
+    let task = c.args.task.now in
+    let s = task.stage in
     let mid = c.make-made.new.desk in
-    let new = c.book.new.self in
-    works_on c.make-made.new.self.made new.stage mid.shadow new.shadow c.make-made.new.inlet
-    mid.feed new.feed c.book.ensures.shadow (c.book.ensures.feed ∙ append-nil mid.feed)
-    c.make-made.ensures.works
+    let made = c.make-made.new.self.made in
+    let inlet = c.make-made.new.inlet in
+    let event = c.next_event-event.result in
+    let next =
+    subst
+    (λ (n : ℕ). is_plain (turn_of n old.covered task.answer (numbers_of s) s.drain event)
+    ≡ true)
+    c.requires.begun.changes
+    (subst
+    (λ (o : Option Session).
+    is_plain (turn_of task.changes o task.answer (numbers_of s) s.drain event)
+    ≡ true)
+    c.requires.begun.holder c.next_event-event.ensures.next) in
+    let goes =
+    or_stop_next old s task.answer event _ c.or_stop.result c.requires.begun.up
+    c.requires.begun.stage c.requires.unswitched c.next_event-event.ensures.booked
+    c.next_event-event.ensures.device next c.or_stop.ensures in
+    works_booked look old mid c.book.new.self task c.or_stop.result made inlet c.requires.begun
+    (c.make-made.ensures.items ∙ c.requires.hears.items)
+    (writes_shadow look old mid c.make-made.ensures.desk) c.book.ensures goes.2
+    (makes_or_stop task c.requires.unswitched event _ c.or_stop.result made mid.shadow inlet
+    c.or_stop.ensures c.make-made.ensures.made)

@@ -5,6 +5,10 @@ use Rattle.rg_stmt.specs.declared.event.Event.{Event}
 use Rattle.rg_stmt.specs.declared.event.Event.TheVariants as events
 use Rattle.rg_image.specs.Rules.{copy_capacity}
 use Rattle.rg_base.specs.Copies.{other_of}
+use Rattle.rg_base.specs.declared.step.Step.TheVariants as steps
+use Rattle.rg_phase.proofs.Booking.{task_makes, works_booked}
+use Rattle.rg_phase.proofs.Due.{due_for}
+use Rattle.rg_phase.proofs.Eventful.{stop_makes, written_makes}
 use Rattle.rg_phase.proofs.Loading.{space_at}
 use Rattle.rg_phase.proofs.Making.{acts_booked}
 use Rattle.rg_phase.proofs.Steps.{next_runs, runs_some}
@@ -66,4 +70,59 @@ returns-clause-acts g c =
           (weigh_feed old.feed) event stage tt) tt
           (subst (λ (e : Event). MadeStep look mid (Some answer) e [] new) w.event-is
           c.book.ensures)
+    ]
+
+pub put-requires-clause-made : goal.put-requires-clause-made
+put-requires-clause-made g c =
+    task_makes g.V.Volume.seen c.args.desk.now c.args.task.now c.args.self.now.made
+    c.args.inlet.now c.requires.begun c.requires.hears c.requires.step.unswitched c.requires.works
+
+pub put-requires-clause-due : goal.put-requires-clause-due
+put-requires-clause-due g c =
+    due_for c.args.task.now.stage c.args.task.now.answer (steps.Write c.args.granted)
+    c.requires.step
+
+pub returns-clause-works : goal.returns-clause-works
+returns-clause-works g c =
+    let look = g.V.Volume.seen in
+    let old = c.args.desk.now in
+    let mid = c.put.new.desk in
+    let new = c.book.new.self in
+    let task = c.args.task.now in
+    let s = task.stage in
+    let answer = task.answer in
+    let made = c.put.new.self.made in
+    let inlet = c.args.inlet.now in
+    let up = c.requires.begun.up in
+    let stage = c.requires.begun.stage in
+    let unswitched = c.requires.step.unswitched in
+    elim c.match-put.branch [
+      | in-Ok w ↦
+          let event = events.Written w.in-Ok.pages in
+          works_booked look old mid new task event made inlet c.requires.begun
+          c.requires.hears.items c.put.ensures.writes
+          (subst (λ (e : Event). MadeStep look mid (Some answer) e [] new) w.event-is
+          c.book.ensures)
+          (next_runs old s answer event up stage refl
+          (written_next s answer c.args.granted c.requires.step old.changes w.in-Ok.pages
+          old.covered))
+          (written_makes task unswitched c.args.granted c.requires.step w.in-Ok.pages made
+          mid.shadow inlet w.in-Ok.ensures.made)
+      | in-Err-Device w ↦
+          let event = events.Stop reasons.Device in
+          works_booked look old mid new task event made inlet c.requires.begun
+          c.requires.hears.items c.put.ensures.writes
+          (subst (λ (e : Event). MadeStep look mid (Some answer) e [] new) w.event-is
+          c.book.ensures)
+          (next_runs old s answer event up stage refl
+          (device_next s answer c.args.granted c.requires.step old.changes old.covered))
+          (stop_makes task unswitched reasons.Device made mid.shadow inlet)
+      | in-Err-NoMemory w ↦
+          let event = events.Stop reasons.NoMemory in
+          works_booked look old mid new task event made inlet c.requires.begun
+          c.requires.hears.items c.put.ensures.writes
+          (subst (λ (e : Event). MadeStep look mid (Some answer) e [] new) w.event-is
+          c.book.ensures)
+          (next_runs old s answer event up stage refl (stop_next s old.changes old.covered answer))
+          (stop_makes task unswitched reasons.NoMemory made mid.shadow inlet)
     ]
