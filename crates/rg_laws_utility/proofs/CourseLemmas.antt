@@ -10,5 +10,6 @@ pub mod Granting
 pub mod Taken
 pub mod Told
 pub mod Caught
+pub mod Drained
 pub mod Loaded
 pub mod OnCourse

@@ -1,4 +1,5 @@
 pub mod Course
+pub mod Drained
 pub mod Loading
 pub mod OnCourse
 pub mod Switching

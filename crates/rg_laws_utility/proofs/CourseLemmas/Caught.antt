@@ -38,7 +38,7 @@ use Rattle.rg_laws_utility.proofs.CourseLemmas.Turning.{Leads, LeadsIf, way_lead
 use Rattle.rg_laws_utility.proofs.CourseLemmas.Writers.{AreWriters, writers_after, writers_at_rest}
 
 -- how many LAST follow a grant, where the trace has made so many changes
-abbrev lasts_after : (all : ℕ) → Utility → ℕ
+abbrev pub lasts_after : (all : ℕ) → Utility → ℕ
 lasts_after all u = if u.last then 0 else lasts_for (all - u.done)
 
 -- what lies between the grant and the switch, by the numbers at the grant
@@ -48,7 +48,7 @@ record IsCaught (all : ℕ) (u : Utility) (entries : List Entry) : Type 0 where
 
 -- ---- the state under the drain
 
-record IsDrained (all : ℕ) (past : List Entry) (st : State) (u : Utility) (n : ℕ) : Type 0 where
+pub record IsDrained (all : ℕ) (past : List Entry) (st : State) (u : Utility) (n : ℕ) : Type 0 where
   pub utility : st.utility ≡ Some u
   pub free : NoWriter st.claims
   pub counted : changes past ≡ all
@@ -59,7 +59,7 @@ covers_writer : (d : DrainFor) → is_covered (drains.Granted d) Writer ≡ true
 covers_writer what.Writers = refl
 covers_writer what.All = refl
 
-covered : (all : ℕ) (u : Utility) (drain : DrainState) (n : ℕ) → IsTurning all u drain n
+pub covered : (all : ℕ) (u : Utility) (drain : DrainState) (n : ℕ) → IsTurning all u drain n
     → is_covered drain Writer ≡ true
 covered all u drain n (Takes d is last at) =
     ap (λ (x : DrainState). is_covered x Writer) is ∙ covers_writer d
@@ -70,7 +70,7 @@ covered all u drain n (Taken d last is none) =
 -- ---- one entry
 
 -- what an entry leaves that goes on
-record Next (all : ℕ) (event : Event) (new : State) (n : ℕ) : Type 0 where
+pub record Next (all : ℕ) (event : Event) (new : State) (n : ℕ) : Type 0 where
   pub loads_not : loads event ≡ false
   pub u : Utility
   pub m : ℕ
@@ -200,7 +200,7 @@ module _ (all : ℕ) (past : List Entry) (st new : State) (u : Utility) (n : ℕ
   plus_none : (n k : ℕ) → k ≡ 0 → n ≡ all → n + k ≡ all
   plus_none n k none at = omega arith
 
-  entry_next : (answer : Option Answer) (actor : Actor) (event : Event) → goes_on event ≡ true
+  pub entry_next : (answer : Option Answer) (actor : Actor) (event : Event) → goes_on event ≡ true
       → Allows past answer actor event st new → Next all event new n × Counts actor event
   entry_next answer (actors.Session session) (events.Said stmt reply) goes allowed =
       let quiet = said_quiet st new session is.free (covered all u st.drain n is.way.turning) past
@@ -360,7 +360,7 @@ module _ (past : List Entry) (st new : State) (u : Utility) (at : st.utility ≡
       turning false e = Takes d grants.granted (grants.last ∙ e)
           (ap (λ (k : ℕ). lasts_for (all - k)) (sym grants.done))
 
-  grant_begins : Allows past granted.answer granted.actor granted.event st new
+  pub grant_begins : Allows past granted.answer granted.actor granted.event st new
       → (v : Utility) × IsDrained all (granted ∷ past) new v (lasts_after all u)
   grant_begins allowed = by_actor granted.actor refl
       (subst (λ (e : Event). Allows past granted.answer granted.actor e st new) event allowed)

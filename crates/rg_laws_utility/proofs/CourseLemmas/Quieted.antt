@@ -162,7 +162,7 @@ module _ (st new : State) (session : Session) (free : NoWriter st.claims) where
         (free session.0)
     writes_drained stmt w = absurd (cc w)
 
-    abbrev Quiet : Stmt → Reply → Type 0
+    abbrev pub Quiet : Stmt → Reply → Type 0
     Quiet stmt reply = (is_write stmt reply ≡ false) × Leaves st new
 
     -- an answer that is neither DOWN nor DRAINED
@@ -178,7 +178,8 @@ module _ (st new : State) (session : Session) (free : NoWriter st.claims) where
         go true e = absurd (not_both (is_drained st session stmt) (writes_drained stmt e) admitted)
         go false e = (no_write reply e, may_answer stmt reply e m)
 
-    says_quiet : (stmt : Stmt) (reply : Reply) → Says st session stmt reply new → Quiet stmt reply
+    pub says_quiet : (stmt : Stmt) (reply : Reply) → Says st session stmt reply new
+        → Quiet stmt reply
     says_quiet stmt Down s = (refl, same s.1)
     says_quiet stmt Drained s = (refl, same s.2)
     says_quiet stmt NoMemory s = let_in stmt NoMemory s.1 s.2

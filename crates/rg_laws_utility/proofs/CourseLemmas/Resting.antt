@@ -52,7 +52,7 @@ module _ (past : List Entry) (st new : State) (rest : IsRest st) where
       by_down true e = absurd (cc e)
       by_down false e = by_answer answer e
 
-  entry_rests : (answer : Option Answer) (actor : Actor) (event : Event)
+  pub entry_rests : (answer : Option Answer) (actor : Actor) (event : Event)
       → Allows past answer actor event st new → IsRest new
   entry_rests answer (actors.Session session) (events.Said stmt reply) allowed =
       let keeps = said_keeps st new session stmt reply allowed in

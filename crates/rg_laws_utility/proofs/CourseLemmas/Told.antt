@@ -41,10 +41,10 @@ run_parts past (entry ∷ before) after st new run =
 abbrev pub Tells : (taken : ℕ) → (over : Bool) → State → Type 0
 Tells taken over st = (u : Utility) → st.utility ≡ Some u → (u.done ≡ taken) × (u.last ≡ over)
 
-one_utility : (o : Option Utility) (u v : Utility) → o ≡ Some u → o ≡ Some v → v ≡ u
+pub one_utility : (o : Option Utility) (u v : Utility) → o ≡ Some u → o ≡ Some v → v ≡ u
 one_utility o u v e f = cc (e, f)
 
-no_utility : (o : Option Utility) (u : Utility) → o ≡ None → o ≡ Some u → ⊥
+pub no_utility : (o : Option Utility) (u : Utility) → o ≡ None → o ≡ Some u → ⊥
 no_utility o u e f = absurd (cc (e, f))
 
 module _ (past : List Entry) (st new : State) (taken : ℕ) (over : Bool)

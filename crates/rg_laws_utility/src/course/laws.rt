@@ -1,5 +1,7 @@
 //! Each function's contract is a law of the definitions. None of them runs anything.
 ghost use Rattle.rg_laws_utility.specs.Course.Course.{EndsInTime};
+ghost use Rattle.rg_laws_utility.specs.Course.Drained.{NobodyWritesUnderDrain};
+ghost use Rattle.rg_laws_utility.specs.Course.Drained.{NothingChangesUnderDrain, WrittenAtWritten};
 ghost use Rattle.rg_laws_utility.specs.Course.Loading.{LoadedGoesOn, LoadingGoesOn};
 ghost use Rattle.rg_laws_utility.specs.Course.Switching.{CaughtUpAtSwitch};
 
@@ -21,4 +23,12 @@ pub fn switching_law()
 pub fn loading_law()
     ensures filled { LoadingGoesOn }
     ensures loaded { LoadedGoesOn }
+{}
+
+/// From the grant of a drain up to the switch nobody writes, and the changes that the last LAST
+/// leaves are none. The new copy is written with WRITTEN.
+pub fn drain_law()
+    ensures nobody { NobodyWritesUnderDrain }
+    ensures nothing { NothingChangesUnderDrain }
+    ensures written { WrittenAtWritten }
 {}
