@@ -432,6 +432,7 @@ asks_nothing units session stmt reply old_log log seen none never further leaves
   calls = same_calls seen;
   none = λ e. refl;
   device = λ e. absurd (never e);
+  asked = λ e. absurd (never e);
   forced = λ force e. absurd (cc (force, none));
   further = further;
   one = λ force. absurd (cc (force, none));

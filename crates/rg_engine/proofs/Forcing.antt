@@ -60,6 +60,7 @@ module _ (old new : VolumeSeen) (old_log mid log : Listed) (grows : Grows old_lo
     calls = calls;
     none = λ e. absurd (cc (e, ap is_some has));
     device = device;
+    asked = λ e. ap is_some has;
     forced = λ force done. forced done;
     further = omega (arith, further, same);
     one = λ force. ap (λ (l : Listed). length l.records) is

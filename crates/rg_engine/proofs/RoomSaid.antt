@@ -89,13 +89,13 @@ module _ (st : State) (allowed : ℕ) (d : Engine) (shows : Shows st allowed d) 
   put_needs row plan P is h = λ other e. subst P
       (need_same plan other (Some row) (one_plan plan other (is ∙ put_is (row_size row) ∙ sym e))) h
 
-  -- what is so of the plan is so of the one that the ground says
+  -- what is so of the plan is so of one that the ground says
 
   pub put_planned : (row : Row) (plan : Plan) (P : Plan → Type 0)
-      → Some plan ≡ put_plan unit.tran.0 (row_size row) mid → P plan → (other : Plan)
-      → Some other ≡ plan_to_put (ground_of d) session.0 (row_size row) → P other
-  put_planned row plan P is h other e =
-      subst P (one_plan plan other (is ∙ put_is (row_size row) ∙ sym e)) h
+      → Some plan ≡ put_plan unit.tran.0 (row_size row) mid → P plan
+      → (other : Plan) × (Some other ≡ plan_to_put (ground_of d) session.0 (row_size row))
+      × P other
+  put_planned row plan P is h = (plan, is ∙ put_is (row_size row), h)
 
   same_home : (home : Place) (old : Row) (key : ℕ) → row_at (slot_of (slots_in d)) home ≡ Some old
       → old.key ≡ key → (other : Place) → IsHomeOfKey (ground_of d) key other → home ≡ other
@@ -121,27 +121,29 @@ module _ (st : State) (allowed : ℕ) (d : Engine) (shows : Shows st allowed d) 
 
   pub change_planned : (home : Place) (old row : Row) (plan : Plan) (P : Plan → Type 0)
       → row_at (slot_of (slots_in d)) home ≡ Some old → row.key ≡ old.key
-      → Some plan ≡ change_plan unit.tran.0 (row_size row) home mid → P plan → (other : Place)
-      → IsHomeOfKey (ground_of d) row.key other → (plan2 : Plan)
-      → Some plan2 ≡ plan_to_change (ground_of d) session.0 (row_size row) other → P plan2
-  change_planned home old row plan P there key is h other at plan2 e =
-      let one : home ≡ other = same_home home old row.key there (sym key) other at in
-      subst P
-      (one_plan plan plan2
-      (is ∙ change_is (row_size row) home
-      ∙ ap (plan_to_change (ground_of d) session.0 (row_size row)) one ∙ sym e)) h
+      → Some plan ≡ change_plan unit.tran.0 (row_size row) home mid → P plan
+      → (other : Place) × IsHomeOfKey (ground_of d) row.key other × (plan2 : Plan)
+      × (Some plan2 ≡ plan_to_change (ground_of d) session.0 (row_size row) other) × P plan2
+  change_planned home old row plan P there key is h = (
+    home,
+    record { row = old; there = there; key_is = sym key },
+    plan,
+    is ∙ change_is (row_size row) home,
+    h,
+  )
 
   pub drop_planned : (home : Place) (old : Row) (key : ℕ) (plan : Plan) (P : Plan → Type 0)
       → row_at (slot_of (slots_in d)) home ≡ Some old → old.key ≡ key
-      → plan ≡ drop_plan home mid → P plan → (other : Place)
-      → IsHomeOfKey (ground_of d) key other
-      → P (planned_drop (slots_in d) other (slot_of (slots_in d) other))
-  drop_planned home old key plan P there is_key is h other at =
-      let one : home ≡ other = same_home home old key there is_key other at in
+      → plan ≡ drop_plan home mid → P plan
+      → (other : Place) × IsHomeOfKey (ground_of d) key other
+      × P (planned_drop (slots_in d) other (slot_of (slots_in d) other))
+  drop_planned home old key plan P there is_key is h =
       let drop : drop_plan home mid ≡ planned_drop (slots_in d) home (slot_of (slots_in d) home) =
-      λ i. planned_drop (same.slots i) home (slot_of (same.slots i) home) in
-      subst P
-      (is ∙ drop ∙ ap (λ (p : Place). planned_drop (slots_in d) p (slot_of (slots_in d) p)) one) h
+      λ i. planned_drop (same.slots i) home (slot_of (same.slots i) home) in (
+        home,
+        record { row = old; there = there; key_is = is_key },
+        subst P (is ∙ drop) h,
+      )
 
   pub drop_needs : (home : Place) (old : Row) (key : ℕ) (plan : Plan) (P : ℕ → Type 0)
       → row_at (slot_of (slots_in d)) home ≡ Some old → old.key ≡ key

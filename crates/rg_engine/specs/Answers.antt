@@ -4,9 +4,9 @@
 --    its session does not hold.
 -- 2. A statement that is answered with number 0 registers its classes, and no other does.
 -- 3. Only the COMMIT of a unit that has written calls the volume. At OK all records are forced, and
---    DEVICE comes only where a call of the volume failed. From then on the engine is down, and it
---    is open whether the commit is in: its log stores the committed rows with it, or without, and
---    so does a part of it that has only what was forced before.
+--    DEVICE answers only such a COMMIT, where a call of the volume failed. From then on the engine
+--    is down, and it is open whether the commit is in: its log stores the committed rows with it,
+--    or without, and so does a part of it that has only what was forced before.
 use Rattle.std.specs.Prelude.{◌≡◌, ◌≤◌, ◌<◌, ◌+◌, ◌*◌, ℕ, Bool, true, false, List, [], Option, Some}
 use Rattle.std.specs.Prelude.{None, is_some, length}
 use Rattle.rg_base.specs.declared.session.Class.{Class}
@@ -140,6 +140,7 @@ pub record Asks
   pub calls : CallsLog old new
   pub none : force ≡ false → new ≡ old
   pub device : reply ≡ Device → Rose old.faults new.faults
+  pub asked : reply ≡ Device → force ≡ true
   pub forced : force ≡ true → reply ≡ Done → log.forced ≡ length log.records
   pub further : old_log.forced ≤ log.forced
   pub one : force ≡ true → length log.records ≡ length old_log.records + 1

@@ -1,6 +1,7 @@
 -- What a statement that is answered OK leaves of what writes are planned over.
 --
--- 1. A write leaves the records of its plan, and the pages as these make them. Its session's unit
+-- 1. A write has a plan, at the home of its key's row where it changes or drops one. It leaves
+--    the records of its plan, and the pages as these make them. Its session's unit
 --    has one write more, or begins with it. Its bytes are taken, and those for its undo reserved.
 -- 2. A COMMIT leaves the Commit record of its unit, all records forced, and its session without a
 --    unit. Where the session has none, all is as it was.
@@ -121,15 +122,15 @@ AfterRollback g session (Some unit) h = LeavesUndone g session unit h
 -- what a statement that is answered OK leaves
 abbrev pub Effect : Ground → (session : ℕ) → Stmt → Ground → Type 0
 Effect g session (Insert row) h =
-    (plan : Plan) → Some plan ≡ plan_to_put g session (row_size row)
-    → LeavesPlan g session plan (Some row) h
+    (plan : Plan) × (Some plan ≡ plan_to_put g session (row_size row))
+    × LeavesPlan g session plan (Some row) h
 Effect g session (Update row) h =
-    (home : Place) → IsHomeOfKey g row.key home → (plan : Plan)
-    → Some plan ≡ plan_to_change g session (row_size row) home
-    → LeavesPlan g session plan (Some row) h
+    (home : Place) × IsHomeOfKey g row.key home × (plan : Plan)
+    × (Some plan ≡ plan_to_change g session (row_size row) home)
+    × LeavesPlan g session plan (Some row) h
 Effect g session (Delete key) h =
-    (home : Place) → IsHomeOfKey g key home
-    → LeavesPlan g session (planned_drop g.pages home (slot_of g.pages home)) None h
+    (home : Place) × IsHomeOfKey g key home
+    × LeavesPlan g session (planned_drop g.pages home (slot_of g.pages home)) None h
 Effect g session Commit h = AfterCommit g session (unit_at g.units session) h
 Effect g session Rollback h = AfterRollback g session (unit_at g.units session) h
 Effect g session stmt h = h ≡ g
